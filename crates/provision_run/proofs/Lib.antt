@@ -1,0 +1,3 @@
+mod MessageLaws
+mod AnswerLaws
+mod WrittenLaws

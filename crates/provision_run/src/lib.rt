@@ -1,0 +1,16 @@
+//! One run of the program, from words and an image to messages and an image.
+#![tactic(auto)]
+
+mod answer;
+mod directory;
+mod line;
+mod message;
+mod outcome;
+mod run;
+#[cfg(test)]
+mod tests;
+mod top;
+mod words;
+
+pub use outcome::{Outcome, status};
+pub use top::provision;

@@ -1,0 +1,64 @@
+ghost use Rattle.std.specs.Prelude.{◌≡◌, ◌++◌, IfOk, OnOk};
+ghost use Rattle.provision_run.specs.Answers.{message, messages_text, message_at, bad_image_text, at_line};
+
+use pv_image::ImageFault;
+use pv_text::Messages;
+use std::alloc::{AllocError, Global};
+
+/// Adds a message to a text.
+pub fn add_message(output: &mut Vec<u8>, text: &[u8]) -> Result<(), AllocError>
+    ensures { OnOk result (output.new.items ≡ output.old.items ++ message text.now) }
+{
+    output.extend_from_slice(b": ")?;
+    output.extend_from_slice(text)?;
+    output.push(b'\n')?;
+    Ok(())
+}
+
+/// The text of all messages.
+pub fn print_messages(alloc: Global, messages: &Messages) -> Result<Vec<u8>, AllocError>
+    ensures { IfOk result (λ text. text.items ≡ messages_text messages.now) }
+{
+    let mut output = Vec::new(alloc);
+    for i in 0..messages.len() {
+        add_line(&mut output, messages, i)?;
+    }
+    Ok(output)
+}
+
+/// Adds the message at a place, where there is one.
+fn add_line(output: &mut Vec<u8>, messages: &Messages, i: usize) -> Result<(), AllocError>
+    ensures { OnOk result (output.new.items ≡ output.old.items ++ message_at messages.now i) }
+{
+    match messages.line(i) {
+        Some(text) => add_message(output, text),
+        None => Ok(()),
+    }
+}
+
+/// `bad image at line N: NAME`.
+fn at_line(alloc: Global, number: u64, name: &str) -> Result<Vec<u8>, AllocError>
+    ensures { IfOk result (λ text. text.items ≡ at_line number name.now) }
+{
+    let mut text = Vec::from_slice(alloc, b"bad image at line ")?;
+    let number = number.to_string(alloc)?;
+    text.extend_from_slice(number.as_bytes())?;
+    text.extend_from_slice(b": ")?;
+    text.extend_from_slice(name.as_bytes())?;
+    Ok(text)
+}
+
+/// What is said of an input that is no image.
+pub fn bad_image(alloc: Global, fault: ImageFault) -> Result<Vec<u8>, AllocError>
+    ensures { IfOk result (λ text. text.items ≡ bad_image_text fault) }
+{
+    match fault {
+        ImageFault::TooLong => Vec::from_slice(alloc, b"bad image: TooLong"),
+        ImageFault::BadHeader(n) => at_line(alloc, n, "BadHeader"),
+        ImageFault::BadLine(n) => at_line(alloc, n, "BadLine"),
+        ImageFault::OutOfOrder(n) => at_line(alloc, n, "OutOfOrder"),
+        ImageFault::NoParent(n) => at_line(alloc, n, "NoParent"),
+        ImageFault::Truncated(n) => at_line(alloc, n, "Truncated"),
+        ImageFault::Memory => Ok(Vec::new(alloc)),
+    }
+}

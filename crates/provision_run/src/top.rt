@@ -1,0 +1,42 @@
+ghost use Rattle.std.specs.Prelude.{◌≡◌, ◌≤◌, ◌⊎◌, false, map, string_bytes, IfSome};
+ghost use Rattle.pv_io.specs.Faults.{HasRisen};
+ghost use Rattle.provision_run.specs.Words.{has_meaning};
+ghost use Rattle.provision_run.specs.Answers.{HasWritten};
+
+use crate::answer::{NoAnswer, respond};
+use crate::outcome::Outcome;
+use pv_io::{Sink, Source, write_all_of};
+use std::alloc::Global;
+
+/// Runs the program: reads an image from the source, carries out what the words ask for at the moment of the
+/// clock, and writes the messages and the image of the tree to the sink (systemd-tmpfiles(8)).
+pub fn provision<S: Source, K: Sink>(
+    alloc: Global,
+    words: &[String],
+    clock_micros: u64,
+    source: &mut S,
+    sink: &mut K,
+) -> Outcome
+    // Over a source that tells its bytes: what was written belongs to the words, the input and the outcome.
+    ensures written { IfSome (S.left source.old)
+        (λ input. HasWritten (map string_bytes words.entry.now) input result (K.written sink.old) (K.written sink.new)) }
+
+    // Usage comes exactly for words without a meaning, and then the source is not read.
+    ensures usage { result ≡ Outcome.Usage → has_meaning (map string_bytes words.entry.now) ≡ false }
+    ensures known { has_meaning (map string_bytes words.entry.now) ≡ false →
+        (result ≡ Outcome.Usage) ⊎ ((result ≡ Outcome.WriteFault) ⊎ (result ≡ Outcome.Memory)) }
+    ensures unread { has_meaning (map string_bytes words.entry.now) ≡ false → source.new ≡ source.old }
+
+    // The two ends are blamed only where their counts of faults rose.
+    ensures read_fault { result ≡ Outcome.ReadFault → HasRisen (S.faults source.old) (S.faults source.new) }
+    ensures write_fault { result ≡ Outcome.WriteFault → HasRisen (K.faults sink.old) (K.faults sink.new) }
+{
+    match respond(alloc, words, clock_micros, source) {
+        Ok(answer) => match write_all_of(sink, &answer.output) {
+            Ok(()) => answer.outcome,
+            Err(_fault) => Outcome::WriteFault,
+        },
+        Err(NoAnswer::ReadFault) => Outcome::ReadFault,
+        Err(NoAnswer::Memory) => Outcome::Memory,
+    }
+}

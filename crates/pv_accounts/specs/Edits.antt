@@ -1,0 +1,65 @@
+-- Account files with one more entry or one more member.
+use Rattle.std.specs.Prelude.{ℕ, ◌+◌, Bool, true, false, not, ◌==◌, List, [], ◌∷◌, ◌++◌, if◌then◌else◌}
+use Rattle.std.specs.List.{join_with_byte, list_all, list_any, slice_split}
+use Rattle.std.specs.Option.{option_map_or}
+use Rattle.std.specs.Str.{bytes_eq}
+use Rattle.pv_accounts.specs.Entries.{entry_of, is_group}
+use Rattle.pv_accounts.specs.Kinds.{is_entry_named}
+
+-- the text of lines: line ends between them
+abbrev pub text_of : List (List ℕ) → List ℕ
+text_of lines = join_with_byte 10 lines
+
+-- whether a text has no line end
+abbrev pub lacks_end : List ℕ → Bool
+lacks_end text = list_all (λ b. not (b == 10)) text
+
+-- whether a new entry stands before a line: one that begins with `+`, or the empty one after the last
+-- line end
+abbrev pub is_behind_new : Bool → List ℕ → Bool
+is_behind_new is_last [] = is_last
+is_behind_new is_last (b ∷ bs) = b == 43
+
+abbrev pub is_end : List (List ℕ) → Bool
+is_end [] = true
+is_end (line ∷ lines) = false
+
+-- the lines with an entry before the first that begins with `+`, else at the end, where each line then
+-- has its end; all other lines stay as they are
+abbrev pub with_entry : List ℕ → List (List ℕ) → List (List ℕ)
+with_entry entry [] = entry ∷ [] ∷ []
+with_entry entry (line ∷ lines) = if is_behind_new (is_end lines) line then entry ∷ line ∷ lines else line ∷ with_entry entry lines
+
+-- the members of a group: the last field of its entry
+abbrev pub members_of : List ℕ → List ℕ
+members_of line = option_map_or last_field (entry_of is_group line) []
+  where
+    last_field : List (List ℕ) → List ℕ
+    last_field (name ∷ password ∷ gid ∷ members ∷ fields) = members
+    last_field fields = []
+
+-- whether a user is among members, which stand between commas
+abbrev pub is_member : List ℕ → List ℕ → Bool
+is_member user [] = false
+is_member user (b ∷ bs) = list_any (λ member. bytes_eq member user) (slice_split (λ c. c == 44) (b ∷ bs))
+
+-- members with a user after them, where he is not among them
+abbrev pub member_suffix : List ℕ → List ℕ → List ℕ
+member_suffix user [] = user
+member_suffix user (b ∷ bs) = 44 ∷ user
+
+-- the line of a group with a user at the end of its members, where he is not among them
+abbrev pub longer : List ℕ → List ℕ → List ℕ
+longer user line = if is_member user (members_of line) then line else line ++ member_suffix user (members_of line)
+
+-- the lines with a user among the members of the first entry of a group; all other lines stay as they
+-- are
+abbrev pub with_member : List ℕ → List ℕ → List (List ℕ) → List (List ℕ)
+with_member group user [] = []
+with_member group user (line ∷ lines) =
+    if is_entry_named is_group group line then longer user line ∷ lines else line ∷ with_member group user lines
+
+-- how many lines stand before a new entry
+abbrev pub entry_place : List (List ℕ) → ℕ
+entry_place [] = 0
+entry_place (line ∷ lines) = if is_behind_new (is_end lines) line then 0 else 1 + entry_place lines

@@ -1,0 +1,40 @@
+-- The lines of account files that are entries (passwd(5), group(5), shadow(5)).
+use Rattle.std.specs.Prelude.{◌≡◌, ℕ, Bool, false, not, ◌&&◌, ◌==◌, List, [], ◌∷◌, Option, Some, None, is_some, if◌then◌else◌}
+use Rattle.std.specs.List.{slice_split}
+use Rattle.pv_acl.specs.Spelling.{decimal_id}
+
+-- the fields of a line, between colons
+abbrev pub fields_of : List ℕ → List (List ℕ)
+fields_of line = slice_split (λ b. b == 58) line
+
+-- at least two pieces
+abbrev pub HasMore : List (List ℕ) → Type 0
+HasMore pieces = (a : List ℕ) × ((b : List ℕ) × ((rest : List (List ℕ)) × (pieces ≡ a ∷ b ∷ rest)))
+
+-- a name that an entry may have: not empty, and not beginning with `+`, `-` or `#`
+abbrev pub is_entry_name : List ℕ → Bool
+is_entry_name [] = false
+is_entry_name (b ∷ bs) = not (b == 43) && not (b == 45) && not (b == 35)
+
+-- whether a text is a decimal ID, 0 to 4294967294 without leading zeros
+abbrev pub is_decimal_id : List ℕ → Bool
+is_decimal_id text = is_some (decimal_id text)
+
+-- the seven fields of an entry of /etc/passwd
+abbrev pub is_passwd : List (List ℕ) → Bool
+is_passwd (name ∷ password ∷ uid ∷ gid ∷ gecos ∷ home ∷ shell ∷ []) = is_entry_name name && is_decimal_id uid && is_decimal_id gid
+is_passwd fields = false
+
+-- the four fields of an entry of /etc/group
+abbrev pub is_group : List (List ℕ) → Bool
+is_group (name ∷ password ∷ gid ∷ members ∷ []) = is_entry_name name && is_decimal_id gid
+is_group fields = false
+
+-- the nine fields of an entry of /etc/shadow
+abbrev pub is_shadow : List (List ℕ) → Bool
+is_shadow (name ∷ password ∷ changed ∷ least ∷ most ∷ warn ∷ inactive ∷ expire ∷ reserved ∷ []) = is_entry_name name
+is_shadow fields = false
+
+-- the fields of a line that is an entry by a test
+abbrev pub entry_of : (List (List ℕ) → Bool) → List ℕ → Option (List (List ℕ))
+entry_of test line = if test (fields_of line) then Some (fields_of line) else None

@@ -1,0 +1,5 @@
+pub mod Entries
+pub mod EntryFields
+pub mod Files
+pub mod Kinds
+pub mod Edits

@@ -1,0 +1,175 @@
+ghost use Rattle.std.specs.Prelude.{◌≡◌, ◌≤◌, false, MatchOption, IfSome};
+ghost use Rattle.std.specs.Option.{option_map};
+ghost use Rattle.pv_acl.specs.Spelling.{decimal_id};
+ghost use Rattle.pv_accounts.specs.Entries.{is_entry_name, is_decimal_id, fields_of, entry_of};
+ghost use Rattle.pv_accounts.specs.Entries.{is_passwd, is_group, is_shadow};
+ghost use Rattle.pv_accounts.specs.EntryFields.{passwd_fields, group_fields, shadow_fields};
+
+use crate::cut::{cut, uncut};
+use pv_acl::number;
+
+/// An entry of /etc/passwd (passwd(5)), each field a slice of the file.
+#[derive(Clone, Copy, Debug)]
+pub struct PasswdEntry<'a> {
+    pub name: &'a [u8],
+    pub password: &'a [u8],
+    pub uid: &'a [u8],
+    pub gid: &'a [u8],
+    pub gecos: &'a [u8],
+    pub home: &'a [u8],
+    pub shell: &'a [u8],
+}
+
+/// An entry of /etc/group (group(5)), each field a slice of the file.
+#[derive(Clone, Copy, Debug)]
+pub struct GroupEntry<'a> {
+    pub name: &'a [u8],
+    pub password: &'a [u8],
+    pub gid: &'a [u8],
+    pub members: &'a [u8],
+}
+
+/// An entry of /etc/shadow (shadow(5)), each field a slice of the file.
+#[derive(Clone, Copy, Debug)]
+pub struct ShadowEntry<'a> {
+    pub name: &'a [u8],
+    pub password: &'a [u8],
+    pub changed: &'a [u8],
+    pub least: &'a [u8],
+    pub most: &'a [u8],
+    pub warn: &'a [u8],
+    pub inactive: &'a [u8],
+    pub expire: &'a [u8],
+    pub reserved: &'a [u8],
+}
+
+/// The entry of /etc/passwd that a line is, if it is one.
+pub(crate) fn passwd_entry(line: &[u8]) -> Option<PasswdEntry<'_>>
+    ensures { option_map passwd_fields result ≡ entry_of is_passwd line.now }
+{
+    let entry = seven_fields(line)?;
+    if is_entry_name(entry.name) && is_decimal_id(entry.uid) && is_decimal_id(entry.gid) {
+        Some(entry)
+    } else {
+        None
+    }
+}
+
+/// The entry of /etc/group that a line is, if it is one.
+pub(crate) fn group_entry(line: &[u8]) -> Option<GroupEntry<'_>>
+    ensures { option_map group_fields result ≡ entry_of is_group line.now }
+{
+    let entry = four_fields(line)?;
+    if is_entry_name(entry.name) && is_decimal_id(entry.gid) {
+        Some(entry)
+    } else {
+        None
+    }
+}
+
+/// The entry of /etc/shadow that a line is, if it is one.
+pub(crate) fn shadow_entry(line: &[u8]) -> Option<ShadowEntry<'_>>
+    ensures { option_map shadow_fields result ≡ entry_of is_shadow line.now }
+{
+    let entry = nine_fields(line)?;
+    if is_entry_name(entry.name) {
+        Some(entry)
+    } else {
+        None
+    }
+}
+
+/// The fields of a line that has seven.
+fn seven_fields(line: &[u8]) -> Option<PasswdEntry<'_>>
+    ensures { MatchOption result (is_passwd (fields_of line.now) ≡ false)
+        (λ entry. fields_of line.now ≡ passwd_fields entry) }
+{
+    let (name, rest) = cut(line, b':')?;
+    let (password, rest) = cut(rest, b':')?;
+    let (uid, rest) = cut(rest, b':')?;
+    let (gid, rest) = cut(rest, b':')?;
+    let (gecos, rest) = cut(rest, b':')?;
+    let (home, rest) = cut(rest, b':')?;
+    let shell = uncut(rest, b':')?;
+    Some(PasswdEntry {
+        name,
+        password,
+        uid,
+        gid,
+        gecos,
+        home,
+        shell,
+    })
+}
+
+/// The fields of a line that has four.
+fn four_fields(line: &[u8]) -> Option<GroupEntry<'_>>
+    ensures { MatchOption result (is_group (fields_of line.now) ≡ false)
+        (λ entry. fields_of line.now ≡ group_fields entry) }
+{
+    let (name, rest) = cut(line, b':')?;
+    let (password, rest) = cut(rest, b':')?;
+    let (gid, rest) = cut(rest, b':')?;
+    let members = uncut(rest, b':')?;
+    Some(GroupEntry {
+        name,
+        password,
+        gid,
+        members,
+    })
+}
+
+/// The fields of a line that has nine.
+fn nine_fields(line: &[u8]) -> Option<ShadowEntry<'_>>
+    ensures { MatchOption result (is_shadow (fields_of line.now) ≡ false)
+        (λ entry. fields_of line.now ≡ shadow_fields entry) }
+{
+    let (name, rest) = cut(line, b':')?;
+    let (password, rest) = cut(rest, b':')?;
+    let (changed, rest) = cut(rest, b':')?;
+    let (least, rest) = cut(rest, b':')?;
+    let (most, rest) = cut(rest, b':')?;
+    let (warn, rest) = cut(rest, b':')?;
+    let (inactive, rest) = cut(rest, b':')?;
+    let (expire, rest) = cut(rest, b':')?;
+    let reserved = uncut(rest, b':')?;
+    Some(ShadowEntry {
+        name,
+        password,
+        changed,
+        least,
+        most,
+        warn,
+        inactive,
+        expire,
+        reserved,
+    })
+}
+
+/// Whether a name may be that of an entry: not empty, and not beginning with `+`, `-` or `#`.
+fn is_entry_name(name: &[u8]) -> bool
+    ensures { result ≡ is_entry_name name.now }
+{
+    match name {
+        [] => false,
+        [b, ..] => *b != b'+' && *b != b'-' && *b != b'#',
+    }
+}
+
+/// Whether a text is a decimal ID, 0 to 4294967294 without leading zeros.
+fn is_decimal_id(text: &[u8]) -> bool
+    ensures { result ≡ is_decimal_id text.now }
+{
+    decimal_id(text).is_some()
+}
+
+/// The decimal ID that a text writes, 0 to 4294967294 without leading zeros.
+pub(crate) fn decimal_id(text: &[u8]) -> Option<u32>
+    ensures value { result ≡ decimal_id text.now }
+    ensures small { IfSome result (λ id. id ≤ 4294967294) }
+{
+    match number(text) {
+        Some(n) if n <= 4294967294 => Some(n as u32),
+        _ => None,
+    }
+}

@@ -1,0 +1,164 @@
+ghost use Rattle.std.specs.Prelude.{◌≡◌, ◌≤◌, length, option_and_then, IfSome};
+ghost use Rattle.std.specs.List.{position_or_len};
+ghost use Rattle.std.specs.Option.{option_map};
+ghost use Rattle.pv_accounts.specs.Entries.{entry_of};
+ghost use Rattle.pv_accounts.specs.Files.{lines_of, name_of, entry_named, id_in, id_named, holds_beside, holder_of};
+ghost use Rattle.pv_accounts.specs.Kinds.{test_of, is_entry_named, only_if, chosen_at};
+
+use crate::cut::cut;
+use crate::entry::{decimal_id, group_entry, passwd_entry, shadow_entry};
+
+/// Which account file it is.
+#[derive(Clone, Copy)]
+pub enum Kind {
+    Passwd,
+    Group,
+    Shadow,
+}
+
+/// The name of the entry that a line is, if it is one.
+fn name_in(kind: Kind, line: &[u8]) -> Option<&[u8]>
+    ensures { option_map (λ name. name.now) result ≡ option_map name_of (entry_of (test_of kind) line.now) }
+{
+    match kind {
+        Kind::Passwd => {
+            let entry = passwd_entry(line)?;
+            Some(entry.name)
+        }
+        Kind::Group => {
+            let entry = group_entry(line)?;
+            Some(entry.name)
+        }
+        Kind::Shadow => {
+            let entry = shadow_entry(line)?;
+            Some(entry.name)
+        }
+    }
+}
+
+/// Whether a line is an entry with this name.
+pub(crate) fn is_entry_named(kind: Kind, line: &[u8], name: &[u8]) -> bool
+    ensures { result ≡ is_entry_named (test_of kind) name.now line.now }
+{
+    match name_in(kind, line) {
+        Some(found) => found == name,
+        None => false,
+    }
+}
+
+/// The first line of a file that is an entry with this name.
+pub(crate) fn find_line<'a>(kind: Kind, file: &'a [u8], name: &[u8]) -> Option<&'a [u8]>
+    ensures { let line = option_map (λ line. line.now) result in
+        option_and_then (entry_of (test_of kind)) line ≡ entry_named (test_of kind) file.now name.now }
+{
+    let mut rest = file;
+    while let Some((line, more)) = cut(rest, b'\n') {
+        if is_entry_named(kind, line, name) {
+            return Some(line);
+        }
+        rest = more;
+    }
+    if is_entry_named(kind, rest, name) {
+        Some(rest)
+    } else {
+        None
+    }
+}
+
+/// How many lines of a file stand before the first entry with this name.
+pub(crate) fn place_of(kind: Kind, file: &[u8], name: &[u8]) -> usize
+    ensures { result ≡ position_or_len (is_entry_named (test_of kind) name.now) (lines_of file.now) }
+{
+    let mut rest = file;
+    let mut place = 0;
+    while let Some((line, more)) = cut(rest, b'\n') {
+        if is_entry_named(kind, line, name) {
+            return place;
+        }
+        place += 1;
+        rest = more;
+    }
+    if is_entry_named(kind, rest, name) {
+        place
+    } else {
+        place + 1
+    }
+}
+
+/// The ID of the entry that a line is: its third field, where that is a decimal ID.
+fn id_in(kind: Kind, line: &[u8]) -> Option<u32>
+    ensures { result ≡ option_and_then id_in (entry_of (test_of kind) line.now) }
+{
+    match kind {
+        Kind::Passwd => {
+            let entry = passwd_entry(line)?;
+            decimal_id(entry.uid)
+        }
+        Kind::Group => {
+            let entry = group_entry(line)?;
+            decimal_id(entry.gid)
+        }
+        Kind::Shadow => {
+            let entry = shadow_entry(line)?;
+            decimal_id(entry.changed)
+        }
+    }
+}
+
+/// The ID of the first entry with this name.
+pub(crate) fn find_id(kind: Kind, file: &[u8], name: &[u8]) -> Option<u32>
+    ensures value { result ≡ id_named (test_of kind) file.now name.now }
+    ensures small { IfSome result (λ id. id ≤ 4294967294) }
+{
+    let line = find_line(kind, file, name)?;
+    id_in(kind, line)
+}
+
+/// The name of the entry that a line is, where it has an ID and another name than `but`.
+fn name_beside<'a>(kind: Kind, line: &'a [u8], id: u32, but: &[u8]) -> Option<&'a [u8]>
+    ensures { let held = option_and_then (only_if (holds_beside id but.now)) (entry_of (test_of kind) line.now) in
+        option_map (λ name. name.now) result ≡ option_map name_of held }
+{
+    let name = name_in(kind, line)?;
+    if id_in(kind, line) == Some(id) && name != but {
+        Some(name)
+    } else {
+        None
+    }
+}
+
+/// The same where the entry counts: it is at a place, and no earlier one has its name.
+fn holder_at<'a>(
+    kind: Kind,
+    file: &[u8],
+    place: usize,
+    line: &'a [u8],
+    id: u32,
+    but: &[u8],
+) -> Option<&'a [u8]>
+    ensures { let held = chosen_at (test_of kind) (lines_of file.now) place id but.now line.now in
+        option_map (λ name. name.now) result ≡ option_map name_of held }
+{
+    let name = name_beside(kind, line, id, but)?;
+    if place_of(kind, file, name) == place {
+        Some(name)
+    } else {
+        None
+    }
+}
+
+/// The name of the first entry that counts, has an ID, and has another name than `but`.
+pub(crate) fn find_holder<'a>(kind: Kind, file: &'a [u8], id: u32, but: &[u8]) -> Option<&'a [u8]>
+    ensures { option_map (λ name. name.now) result ≡ holder_of (test_of kind) file.now id but.now }
+{
+    let mut rest = file;
+    let mut place = 0;
+    while let Some((line, more)) = cut(rest, b'\n') {
+        if let Some(name) = holder_at(kind, file, place, line, id, but) {
+            return Some(name);
+        }
+        place += 1;
+        rest = more;
+    }
+    holder_at(kind, file, place, rest, id, but)
+}

@@ -1,0 +1,41 @@
+ghost use Rattle.std.specs.Prelude.{◌≡◌};
+ghost use Rattle.pv_accounts.specs.Entries.{is_passwd, is_group};
+ghost use Rattle.pv_accounts.specs.Files.{id_or_root, is_root};
+
+use crate::views::{GroupView, PasswdView};
+use pv_acl::Names;
+
+/// The lookup of users and groups in two account files, where `root` is 0 whatever they have.
+#[derive(Debug, Drop)]
+pub struct FileNames<'a> {
+    pub passwd: PasswdView<'a>,
+    pub group: GroupView<'a>,
+}
+
+impl<'a> Names for FileNames<'a> {
+    ghost uid_named = { λ names name. id_or_root is_passwd names.passwd name };
+
+    ghost gid_named = { λ names name. id_or_root is_group names.group name };
+
+    fn uid_of(&self, name: &[u8]) -> Option<u32> {
+        if is_root(name) {
+            Some(0)
+        } else {
+            self.passwd.uid_of(name)
+        }
+    }
+
+    fn gid_of(&self, name: &[u8]) -> Option<u32> {
+        if is_root(name) {
+            Some(0)
+        } else {
+            self.group.gid_of(name)
+        }
+    }
+}
+
+fn is_root(name: &[u8]) -> bool
+    ensures { result ≡ is_root name.now }
+{
+    name == b"root".as_slice()
+}

@@ -1,0 +1,10 @@
+pub mod Booleans
+pub mod Order
+pub mod Putting
+pub mod Allowed
+pub mod Joining
+pub mod Numerals
+pub mod Lines
+pub mod Splitting
+pub mod Rereading
+pub mod Spelt

@@ -1,0 +1,30 @@
+//! Access control lists as acl(5) has them: permissions, parts with their named entries, the lines
+//! of a configuration that change them, and their texts.
+#![tactic(auto)]
+
+mod apply;
+mod fault;
+mod line;
+mod list;
+mod names;
+mod numbers;
+mod parse;
+mod part;
+mod perm;
+mod print;
+mod read;
+
+pub use apply::apply_entries;
+pub use fault::AclFault;
+pub use line::{AclLine, Entry, EntryList, How};
+pub use list::NamedList;
+pub use names::Names;
+pub use numbers::{number, written_id};
+pub use parse::parse_acl;
+pub use part::{Acl, Part, effective_mask};
+pub use perm::{Named, Perm, Who};
+pub use print::print_acl;
+pub use read::read_acl;
+
+#[cfg(test)]
+mod tests;

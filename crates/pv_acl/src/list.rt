@@ -1,0 +1,123 @@
+ghost use Rattle.std.specs.Prelude.{◌≡◌, ◌≢◌, ◌≤◌, true, [], ◌∷◌, ◌++◌, length, OnOk, OnErr, IfOk, slice_get};
+ghost use Rattle.std.specs.Bool.{OnTrue, OnFalse};
+ghost use Rattle.std.specs.List.{prefix_len};
+ghost use Rattle.std.specs.Option.{option_copied, option_map};
+ghost use Rattle.pv_acl.specs.NamedEntries.{is_ordered, is_before, all_before, put_named, is_empty};
+
+use crate::perm::Named;
+use std::alloc::{AllocError, Global};
+use std::marker::Model;
+
+/// The named entries of a part in order: users by ID, then groups by ID, each once. Clauses see the
+/// list.
+#[derive(Debug, Drop)]
+pub struct NamedList {
+    items: Vec<Named>,
+}
+
+impl Model for NamedList {
+    ghost use Rattle.std.specs.Prelude.{◌≡◌, true, List};
+    ghost use Rattle.pv_acl.specs.declared.perm.Named.{Named};
+    ghost use Rattle.pv_acl.specs.NamedEntries.{is_ordered};
+
+    ghost Value = { List Named };
+
+    ghost view = { λ l. l.items.items };
+
+    ghost invariant = { λ l. is_ordered l.items.items ≡ true };
+}
+
+impl NamedList {
+    /// The empty list. It takes no memory.
+    pub fn new(alloc: Global) -> NamedList
+        ensures { result ≡ [] }
+    {
+        NamedList {
+            items: Vec::new(alloc),
+        }
+    }
+
+    /// Adds an entry that comes after all others. After want of memory the list is as before.
+    pub fn push(&mut self, item: Named) -> Result<(), AllocError>
+        requires { all_before self.old item ≡ true }
+        ensures ok { OnOk result (self.new ≡ self.old ++ item ∷ []) }
+        ensures err { OnErr result (self.new ≡ self.old) }
+    {
+        self.items.push(item)?;
+        Ok(())
+    }
+
+    /// Puts an entry at its place, over one for the same user or group. After want of memory the list
+    /// is as before.
+    pub fn put(&mut self, item: Named) -> Result<(), AllocError>
+        ensures ok { OnOk result (self.new ≡ put_named item self.old) }
+        ensures err { OnErr result (self.new ≡ self.old) }
+    {
+        let at = place_of(self.items.as_slice(), &item);
+        if speaks_of(self.items.as_slice(), at, &item) {
+            self.items[at] = item;
+            return Ok(());
+        }
+        self.items.insert(at, item)?;
+        Ok(())
+    }
+
+    /// How many entries there are.
+    pub fn len(&self) -> usize
+        ensures { result ≡ length self.now }
+    {
+        self.items.len()
+    }
+
+    pub fn is_empty(&self) -> bool
+        ensures { result ≡ is_empty self.now }
+    {
+        self.items.is_empty()
+    }
+
+    /// The entry at a place counted from 0, or nothing past the end.
+    pub fn get(&self, i: usize) -> Option<&Named>
+        ensures { option_copied result ≡ slice_get self.now i }
+    {
+        self.items.get(i)
+    }
+
+    /// The entries as a slice.
+    pub fn as_slice(&self) -> &[Named]
+        ensures value { result.now ≡ self.now }
+        ensures ordered { is_ordered self.now ≡ true }
+    {
+        self.items.as_slice()
+    }
+
+    /// The same list once more.
+    pub fn copy(&self) -> Result<NamedList, AllocError>
+        ensures { IfOk result (λ copy. copy ≡ self.now) }
+    {
+        Ok(NamedList {
+            items: self.items.clone()?,
+        })
+    }
+}
+
+/// How many of the first entries stand before one.
+fn place_of(items: &[Named], item: &Named) -> usize
+    ensures place { result ≡ prefix_len (λ x. is_before x item.now) items.now }
+    ensures within { result ≤ length items.now }
+{
+    items
+        .iter()
+        .take_while(|x| x.who.is_before(item.who))
+        .count()
+}
+
+/// Whether the entry at a place speaks of the same user or group.
+fn speaks_of(items: &[Named], at: usize, item: &Named) -> bool
+    ensures yes { OnTrue result (option_map (λ x. x.who) (slice_get items.now at) ≡ Some item.now.who) }
+    ensures no { OnFalse result (option_map (λ x. x.who) (slice_get items.now at) ≢ Some item.now.who) }
+{
+    match items.get(at) {
+        Some(x) => x.who == item.who,
+        None => false,
+    }
+}

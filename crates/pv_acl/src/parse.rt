@@ -1,0 +1,284 @@
+ghost use Rattle.std.specs.Prelude.{◌≡◌, ◌≤◌, ◌<◌, ◌==◌, true, ℕ, List, Option, OnOk, IfOk, IfErr, IfSome, map, length, [], ◌∷◌};
+ghost use Rattle.std.specs.List.{list_all, slice_split};
+ghost use Rattle.std.specs.Option.{option_map};
+ghost use Rattle.pv_acl.specs.Applying.{is_entry, is_line};
+ghost use Rattle.pv_acl.specs.Entries.{is_word, times, perm_of, is_perm_text, has_letters_once, is_perm_byte};
+ghost use Rattle.pv_acl.specs.Entries.{named_place, nameless_place, is_place, place_of, entry_at};
+ghost use Rattle.pv_acl.specs.declared.perm.Who.TheVariants as who;
+ghost use Rattle.pv_acl.specs.Entries.{entry_of, part_entry_of, text_entry_of, acl_line_of, added, Gives};
+
+use crate::fault::AclFault;
+use crate::line::{AclLine, Entry, EntryList};
+use crate::names::Names;
+use crate::numbers::written_id;
+use crate::perm::{Named, Perm, Who};
+use std::alloc::{AllocError, Global};
+
+/// Where an entry puts its permission.
+#[derive(Clone, Copy)]
+pub enum Place {
+    Owner,
+    Group,
+    Other,
+    Mask,
+    Named(Who),
+}
+
+/// An entry, and whether it is for the default part.
+#[derive(Clone, Copy)]
+pub struct PartEntry {
+    pub of_default: bool,
+    pub entry: Entry,
+}
+
+/// The entries of a line of configuration: entries `[default:]TAG:NAME:PERM` with commas between them
+/// (acl(5), tmpfiles.d(5)). TAG is `user`, `group`, `mask` or `other` or the first letter of it;
+/// NAME is a decimal ID from 0 to 4294967294 without 65535, or a name that is looked up, or
+/// empty for a base entry, the mask and other; PERM is one to three characters of `r`, `w`, `x` and `-`,
+/// each letter at most once. The answer is the first fault, entry by entry from the left, in the
+/// order of `AclFault`.
+pub fn parse_acl<N: Names>(alloc: Global, text: &[u8], names: &N) -> Result<AclLine, AclFault>
+    ensures reads { Gives result (acl_line_of (N.uid_named names.now) (N.gid_named names.now) text.now) }
+    ensures allowed { IfOk result (λ line. is_line line ≡ true) }
+{
+    let mut line = AclLine {
+        access: EntryList::new(alloc),
+        default_part: EntryList::new(alloc),
+    };
+    let texts = split(alloc, text, b',')?;
+    for text in &texts {
+        add_entry(alloc, &mut line, text, names)?;
+    }
+    Ok(line)
+}
+
+/// Adds the entry of a text to a line.
+fn add_entry<N: Names>(
+    alloc: Global,
+    line: &mut AclLine,
+    text: &[u8],
+    names: &N,
+) -> Result<(), AclFault>
+    ensures ok { let entry = text_entry_of (N.uid_named names.now) (N.gid_named names.now) text.now in
+        OnOk result (added line.old entry ≡ Ok line.new) }
+    ensures err { let entry = text_entry_of (N.uid_named names.now) (N.gid_named names.now) text.now in
+        IfErr result (λ fault. Gives (Err fault) entry) }
+    ensures allowed { is_line line.old ≡ true → OnOk result (is_line line.new ≡ true) }
+{
+    let entry = text_entry_of(alloc, text, names)?;
+    if entry.of_default {
+        line.default_part.push(entry.entry)?;
+        return Ok(());
+    }
+    line.access.push(entry.entry)?;
+    Ok(())
+}
+
+/// Whether a word is written out or as its first letter.
+fn is_word(word: &[u8], long: &[u8], short: &[u8]) -> bool
+    ensures { result ≡ is_word word.now long.now short.now }
+{
+    word == long || word == short
+}
+
+/// How often a byte stands in a text.
+fn times(byte: u8, text: &[u8]) -> usize
+    ensures value { result ≡ times byte text.now }
+    ensures within { result ≤ length text.now }
+{
+    text.iter().filter(|b| **b == byte).count()
+}
+
+/// Whether none of the three letters stands in a text twice.
+fn has_letters_once(text: &[u8]) -> bool
+    ensures { result ≡ has_letters_once text.now }
+{
+    let reads = times(b'r', text);
+    let writes = times(b'w', text);
+    let executes = times(b'x', text);
+    reads <= 1 && writes <= 1 && executes <= 1
+}
+
+/// Whether a text is one to three characters of `r`, `w`, `x` and `-`, each letter at most once.
+fn is_perm_text(text: &[u8]) -> bool
+    ensures { result ≡ is_perm_text text.now }
+{
+    let is_plain = has_perm_bytes(text);
+    let once = has_letters_once(text);
+    !text.is_empty() && text.len() <= 3 && is_plain && once
+}
+
+fn has_perm_bytes(text: &[u8]) -> bool
+    ensures { result ≡ list_all is_perm_byte text.now }
+{
+    text.iter().all(|b| is_perm_byte(*b))
+}
+
+fn is_perm_byte(b: u8) -> bool
+    ensures { result ≡ is_perm_byte b }
+{
+    b == b'r' || b == b'w' || b == b'x' || b == b'-'
+}
+
+/// The permission that a text spells.
+fn perm_of(text: &[u8]) -> Option<Perm>
+    ensures { result ≡ perm_of text.now }
+{
+    if !is_perm_text(text) {
+        return None;
+    }
+    Some(Perm {
+        bits: (4 * times(b'r', text) + 2 * times(b'w', text) + times(b'x', text)) as u8,
+    })
+}
+
+/// The place of a user's entry: the owner's where there is no name.
+fn user_place<N: Names>(name: &[u8], names: &N) -> Result<Place, AclFault>
+    ensures value { result ≡ named_place Place.Owner (λ id. who.User id) (N.uid_named names.now) name.now }
+    ensures allowed { IfOk result (λ place. is_place place ≡ true) }
+{
+    if name.is_empty() {
+        return Ok(Place::Owner);
+    }
+    if let Some(id) = written_id(name) {
+        return Ok(Place::Named(Who::User(id)));
+    }
+    match names.uid_of(name) {
+        Some(id) => Ok(Place::Named(Who::User(id))),
+        None => Err(AclFault::UnknownName),
+    }
+}
+
+/// The place of a group's entry: the owning group's where there is no name.
+fn group_place<N: Names>(name: &[u8], names: &N) -> Result<Place, AclFault>
+    ensures value { result ≡ named_place Place.Group (λ id. who.Group id) (N.gid_named names.now) name.now }
+    ensures allowed { IfOk result (λ place. is_place place ≡ true) }
+{
+    if name.is_empty() {
+        return Ok(Place::Group);
+    }
+    if let Some(id) = written_id(name) {
+        return Ok(Place::Named(Who::Group(id)));
+    }
+    match names.gid_of(name) {
+        Some(id) => Ok(Place::Named(Who::Group(id))),
+        None => Err(AclFault::UnknownName),
+    }
+}
+
+/// A place that takes no name.
+fn nameless_place(place: Place, name: &[u8]) -> Result<Place, AclFault>
+    requires { is_place place ≡ true }
+    ensures value { result ≡ nameless_place place name.now }
+    ensures allowed { IfOk result (λ place. is_place place ≡ true) }
+{
+    if name.is_empty() {
+        Ok(place)
+    } else {
+        Err(AclFault::BadTag)
+    }
+}
+
+/// The place that a tag and a name speak of.
+fn place_of<N: Names>(tag: &[u8], name: &[u8], names: &N) -> Result<Place, AclFault>
+    ensures value { result ≡ place_of (N.uid_named names.now) (N.gid_named names.now) tag.now name.now }
+    ensures allowed { IfOk result (λ place. is_place place ≡ true) }
+{
+    if is_word(tag, b"user", b"u") {
+        user_place(name, names)
+    } else if is_word(tag, b"group", b"g") {
+        group_place(name, names)
+    } else if is_word(tag, b"mask", b"m") {
+        nameless_place(Place::Mask, name)
+    } else if is_word(tag, b"other", b"o") {
+        nameless_place(Place::Other, name)
+    } else {
+        Err(AclFault::BadTag)
+    }
+}
+
+/// The entry that sets a permission at a place.
+fn entry_at(place: Place, perm: Perm) -> Entry
+    requires { is_place place ≡ true }
+    ensures value { result ≡ entry_at place perm }
+    ensures allowed { is_entry result ≡ true }
+{
+    match place {
+        Place::Owner => Entry::Owner(perm),
+        Place::Group => Entry::Group(perm),
+        Place::Other => Entry::Other(perm),
+        Place::Mask => Entry::Mask(perm),
+        Place::Named(who) => Entry::Named(Named { who, perm }),
+    }
+}
+
+/// The entry of the parts TAG, NAME and PERM, or the first fault: the tag, then the name, then the
+/// permissions.
+fn three_parts<N: Names>(tag: &[u8], name: &[u8], perm: &[u8], names: &N) -> Result<Entry, AclFault>
+    ensures value { let parts = tag.now ∷ name.now ∷ perm.now ∷ [] in
+        result ≡ entry_of (N.uid_named names.now) (N.gid_named names.now) parts }
+    ensures allowed { IfOk result (λ entry. is_entry entry ≡ true) }
+{
+    let place = place_of(tag, name, names)?;
+    match perm_of(perm) {
+        Some(perm) => Ok(entry_at(place, perm)),
+        None => Err(AclFault::BadPerm),
+    }
+}
+
+/// The entry of the parts of a text without `default`.
+fn entry_of<N: Names>(parts: &[&[u8]], names: &N) -> Result<Entry, AclFault>
+    ensures value { let texts = map (λ part. part.now) parts.now in
+        result ≡ entry_of (N.uid_named names.now) (N.gid_named names.now) texts }
+    ensures allowed { IfOk result (λ entry. is_entry entry ≡ true) }
+{
+    match parts {
+        [tag, name, perm] => three_parts(tag, name, perm, names),
+        _ => Err(AclFault::BadTag),
+    }
+}
+
+/// The entry of the parts of a text, which may begin with `default` or `d`.
+fn part_entry_of<N: Names>(parts: &[&[u8]], names: &N) -> Result<PartEntry, AclFault>
+    ensures value { let texts = map (λ part. part.now) parts.now in
+        result ≡ part_entry_of (N.uid_named names.now) (N.gid_named names.now) texts }
+    ensures allowed { IfOk result (λ e. is_entry e.entry ≡ true) }
+{
+    match parts {
+        [] => Err(AclFault::BadTag),
+        [word, rest @ ..] => {
+            if is_word(word, b"default", b"d") {
+                let entry = entry_of(rest, names)?;
+                return Ok(PartEntry {
+                    of_default: true,
+                    entry,
+                });
+            }
+            let entry = entry_of(parts, names)?;
+            Ok(PartEntry {
+                of_default: false,
+                entry,
+            })
+        }
+    }
+}
+
+/// The pieces of a text between the places of a byte.
+fn split(alloc: Global, text: &[u8], byte: u8) -> Result<Vec<&[u8]>, AllocError>
+    ensures { let pieces = slice_split (λ b. b == byte) text.now in
+        IfOk result (λ parts. map (λ part. part.now) parts.items ≡ pieces) }
+{
+    text.split(|b| *b == byte).collect(alloc)
+}
+
+/// The entry of a text, whose parts stand between colons.
+fn text_entry_of<N: Names>(alloc: Global, text: &[u8], names: &N) -> Result<PartEntry, AclFault>
+    ensures value { Gives result (text_entry_of (N.uid_named names.now) (N.gid_named names.now) text.now) }
+    ensures allowed { IfOk result (λ e. is_entry e.entry ≡ true) }
+{
+    if text.is_empty() {
+        return Err(AclFault::EmptyEntry);
+    }
+    let parts = split(alloc, text, b':')?;
+    part_entry_of(parts.as_slice(), names)
+}

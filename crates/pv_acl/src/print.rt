@@ -1,0 +1,186 @@
+ghost use Rattle.std.specs.Prelude.{◌≡◌, Some, map, filter, fold, string_bytes, OnOk, IfOk, if◌then◌else◌};
+ghost use Rattle.pv_acl.specs.Texts.{perm_text, who_text, named_text, default_text, is_of};
+ghost use Rattle.pv_acl.specs.Texts.{access_texts, default_texts, default_mask_texts, acl_text, or_dash, with_entry};
+
+use crate::list::NamedList;
+use crate::part::{Acl, Part};
+use crate::perm::{Named, Perm, Who};
+use std::alloc::{AllocError, Global};
+use std::fmt;
+
+impl Perm {
+    /// The three characters of a permission.
+    pub fn as_str(&self) -> &'static str
+        ensures { result.now ≡ perm_text self.now }
+    {
+        match self.bits {
+            0 => "---",
+            1 => "--x",
+            2 => "-w-",
+            3 => "-wx",
+            4 => "r--",
+            5 => "r-x",
+            6 => "rw-",
+            _ => "rwx",
+        }
+    }
+}
+
+impl fmt::Display for Perm {
+    ghost output = { λ perm. Some (perm_text perm) };
+
+    fn fmt<W: fmt::Write>(&self, f: &mut fmt::Formatter<W>) -> fmt::Result {
+        f.write_str(self.as_str())
+    }
+}
+
+impl fmt::Display for Who {
+    ghost output = { λ who. Some (who_text who) };
+
+    fn fmt<W: fmt::Write>(&self, f: &mut fmt::Formatter<W>) -> fmt::Result {
+        match self {
+            Who::User(id) => write!(f, "u:{id}"),
+            Who::Group(id) => write!(f, "g:{id}"),
+        }
+    }
+}
+
+impl fmt::Display for Named {
+    ghost output = { λ named. Some (named_text named) };
+
+    fn fmt<W: fmt::Write>(&self, f: &mut fmt::Formatter<W>) -> fmt::Result {
+        let who = &self.who;
+        let perm = &self.perm;
+        write!(f, "{who}:{perm}")
+    }
+}
+
+/// The one text of an ACL: named users, named groups and the mask of the access part, then the entries
+/// of the default part after `d:`, with commas between them; `-` where there is none of these. The
+/// base entries of the access part stand in the mode.
+pub fn print_acl(alloc: Global, acl: &Acl) -> Result<Vec<u8>, AllocError>
+    ensures { IfOk result (λ text. text.items ≡ acl_text acl.now) }
+{
+    let mut text = String::new(alloc);
+    add_access(alloc, &mut text, &acl.access)?;
+    add_default(alloc, &mut text, &acl.default_part)?;
+    or_dash(alloc, text)
+}
+
+/// The text where there is one, else a dash.
+fn or_dash(alloc: Global, text: String) -> Result<Vec<u8>, AllocError>
+    ensures { IfOk result (λ bytes. bytes.items ≡ or_dash (string_bytes text)) }
+{
+    if text.is_empty() {
+        Vec::from_slice(alloc, b"-")
+    } else {
+        Ok(text.into_bytes())
+    }
+}
+
+/// Adds the entries of an access part but for the base entries.
+fn add_access(alloc: Global, text: &mut String, part: &Part) -> Result<(), AllocError>
+    ensures { OnOk result (string_bytes text.new ≡ fold with_entry (string_bytes text.old) (access_texts part.now)) }
+{
+    add_named(alloc, text, part.named.as_slice())?;
+    if let Some(mask) = &part.mask {
+        add(text, format!(in alloc; "m::{mask}")?.as_str())?;
+    }
+    Ok(())
+}
+
+/// Adds the entries of a default part, where there is one.
+fn add_default(alloc: Global, text: &mut String, part: &Option<Part>) -> Result<(), AllocError>
+    ensures { OnOk result (string_bytes text.new ≡ fold with_entry (string_bytes text.old) (default_texts part.now)) }
+{
+    match part {
+        Some(part) => add_part(alloc, text, part),
+        None => Ok(()),
+    }
+}
+
+/// Adds the entries of a default part.
+fn add_part(alloc: Global, text: &mut String, part: &Part) -> Result<(), AllocError>
+    ensures { let texts = default_texts (Some part.now) in
+        OnOk result (string_bytes text.new ≡ fold with_entry (string_bytes text.old) texts) }
+{
+    let owner = &part.owner;
+    let group = &part.group;
+    let other = &part.other;
+    add(text, format!(in alloc; "d:u::{owner}")?.as_str())?;
+    add_chosen(alloc, text, &part.named, true)?;
+    add(text, format!(in alloc; "d:g::{group}")?.as_str())?;
+    add_chosen(alloc, text, &part.named, false)?;
+    add_default_mask(alloc, text, &part.mask)?;
+    add(text, format!(in alloc; "d:o::{other}")?.as_str())?;
+    Ok(())
+}
+
+/// Adds the mask of a default part, where it is explicit.
+fn add_default_mask(alloc: Global, text: &mut String, mask: &Option<Perm>) -> Result<(), AllocError>
+    ensures { let texts = default_mask_texts mask.now in
+        OnOk result (string_bytes text.new ≡ fold with_entry (string_bytes text.old) texts) }
+{
+    match mask {
+        Some(mask) => add(text, format!(in alloc; "d:m::{mask}")?.as_str()),
+        None => Ok(()),
+    }
+}
+
+/// Adds the users or else the groups among named entries of a default part.
+fn add_chosen(
+    alloc: Global,
+    text: &mut String,
+    named: &NamedList,
+    users: bool,
+) -> Result<(), AllocError>
+    ensures { let texts = map default_text (filter (is_of users) named.now) in
+        OnOk result (string_bytes text.new ≡ fold with_entry (string_bytes text.old) texts) }
+{
+    for x in named.as_slice() {
+        add_if(alloc, text, x, is_of(x, users))?;
+    }
+    Ok(())
+}
+
+/// Adds an entry of a default part, if it is wanted.
+fn add_if(alloc: Global, text: &mut String, x: &Named, wanted: bool) -> Result<(), AllocError>
+    ensures { let old = string_bytes text.old in
+        OnOk result (string_bytes text.new ≡ (if wanted then with_entry old (default_text x.now) else old)) }
+{
+    if wanted {
+        add(text, format!(in alloc; "d:{x}")?.as_str())
+    } else {
+        Ok(())
+    }
+}
+
+/// Whether an entry speaks of a user, or else of a group.
+fn is_of(x: &Named, users: bool) -> bool
+    ensures { result ≡ is_of users x.now }
+{
+    match x.who {
+        Who::User(_) => users,
+        Who::Group(_) => !users,
+    }
+}
+
+/// Adds named entries.
+fn add_named(alloc: Global, text: &mut String, named: &[Named]) -> Result<(), AllocError>
+    ensures { OnOk result (string_bytes text.new ≡ fold with_entry (string_bytes text.old) (map named_text named.now)) }
+{
+    for x in named {
+        add(text, format!(in alloc; "{x}")?.as_str())?;
+    }
+    Ok(())
+}
+
+/// Adds an entry, after a comma where it is not the first.
+fn add(text: &mut String, entry: &str) -> Result<(), AllocError>
+    ensures { OnOk result (string_bytes text.new ≡ with_entry (string_bytes text.old) entry.now) }
+{
+    if !text.is_empty() {
+        text.push_str(",")?;
+    }
+    text.push_str(entry)
+}

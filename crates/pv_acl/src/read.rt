@@ -1,0 +1,100 @@
+ghost use Rattle.std.specs.Prelude.{◌≡◌, ◌≤◌, true, ℕ, List, Option, IfOk, IfSome, IfNone};
+ghost use Rattle.pv_acl.specs.declared.part.Acl.{Acl};
+ghost use Rattle.std.specs.Result.{result_ok};
+ghost use Rattle.std.specs.Str.{bytes_eq};
+ghost use Rattle.pv_acl.specs.Applying.{is_line};
+ghost use Rattle.pv_acl.specs.Entries.{acl_line_of};
+ghost use Rattle.pv_acl.specs.Spelling.{IsSpelt, decimal_id};
+ghost use Rattle.pv_acl.specs.Texts.{acl_text};
+
+use crate::apply::apply_entries;
+use crate::fault::AclFault;
+use crate::line::{AclLine, How};
+use crate::names::Names;
+use crate::numbers::number;
+use crate::parse::parse_acl;
+use crate::part::Acl;
+use crate::print::print_acl;
+use std::alloc::{AllocError, Global};
+
+/// The ACL whose one text is this field, with the base entries of this mode in its access part, and
+/// with a default part only for a directory. Nothing where there is no such ACL, so any other
+/// spelling is refused.
+pub fn read_acl(
+    alloc: Global,
+    field: &[u8],
+    mode: u16,
+    directory: bool,
+) -> Result<Option<Acl>, AllocError>
+    ensures found { IfOk result (λ read. IfSome read (λ acl. IsSpelt field.now mode directory acl)) }
+    ensures none { IfOk result (λ read. IfNone read ((acl : Acl) → IsSpelt field.now mode directory acl → ⊥)) }
+{
+    let plain = Acl::of_mode(alloc, mode);
+    if field == b"-".as_slice() {
+        return Ok(Some(plain));
+    }
+    let line = match line_in(alloc, field)? {
+        Some(line) => line,
+        None => return Ok(None),
+    };
+    let acl = apply_entries(alloc, &plain, &line, How::Add, directory)?;
+    if is_text_of(alloc, field, &acl)? {
+        Ok(Some(acl))
+    } else {
+        Ok(None)
+    }
+}
+
+/// Whether this is the one text of an ACL.
+fn is_text_of(alloc: Global, field: &[u8], acl: &Acl) -> Result<bool, AllocError>
+    ensures { IfOk result (λ same. same ≡ bytes_eq (acl_text acl.now) field.now) }
+{
+    let text = print_acl(alloc, acl)?;
+    Ok(text.as_slice() == field)
+}
+
+/// The entries of a field, where it has entries alone.
+fn line_in(alloc: Global, field: &[u8]) -> Result<Option<AclLine>, AllocError>
+    ensures read { let read = acl_line_of decimal_id decimal_id field.now in
+        IfOk result (λ line. line ≡ result_ok read) }
+    ensures allowed { IfOk result (λ line. IfSome line (λ line. is_line line ≡ true)) }
+{
+    match parse_acl(alloc, field, &Decimals) {
+        Ok(line) => Ok(Some(line)),
+        Err(fault) => match fault {
+            AclFault::EmptyEntry => Ok(None),
+            AclFault::BadTag => Ok(None),
+            AclFault::UnknownName => Ok(None),
+            AclFault::BadPerm => Ok(None),
+            AclFault::Memory => Err(AllocError),
+        },
+    }
+}
+
+/// The lookup of images, where each ID is written in digits.
+struct Decimals;
+
+impl Names for Decimals {
+    ghost uid_named = { λ _ text. decimal_id text };
+
+    ghost gid_named = { λ _ text. decimal_id text };
+
+    fn uid_of(&self, name: &[u8]) -> Option<u32> {
+        decimal_id(name)
+    }
+
+    fn gid_of(&self, name: &[u8]) -> Option<u32> {
+        decimal_id(name)
+    }
+}
+
+/// The ID that a text writes, 0 to 4294967294.
+fn decimal_id(text: &[u8]) -> Option<u32>
+    ensures value { result ≡ decimal_id text.now }
+    ensures small { IfSome result (λ id. id ≤ 4294967294) }
+{
+    match number(text) {
+        Some(n) if n <= 4294967294 => Some(n as u32),
+        _ => None,
+    }
+}

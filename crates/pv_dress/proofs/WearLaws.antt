@@ -1,0 +1,397 @@
+-- Laws of the changes that a dress makes.
+use Rattle.std.specs.Prelude.{◌≡◌, ◌≢◌, ℕ, ◌/◌, ◌%◌, ◌≤◌, true, false, cond, ◌&&◌, List, Option, Some, None, is_some, option_map, Result, Ok, Err, OnOk}
+use Rattle.std.proofs.Common.{refl, sym, ap, subst, ◌∙◌, inl, inr, arith}
+use Rattle.std.proofs.lemmas.Bool.Decides.{nat_tests}
+use Rattle.pv_path.specs.Paths.{Path, same_path}
+use Rattle.pv_path.specs.PathLaws.{both_true}
+use Rattle.pv_acl.specs.declared.part.Part.{Part}
+use Rattle.pv_acl.specs.NamedEntries.{is_perm}
+use Rattle.pv_acl.specs.Parts as parts
+use Rattle.pv_acl.specs.Parts.{is_acl, is_part, mode_of, special_of}
+use Rattle.pv_steps.specs.declared.node.Kind.{Kind}
+use Rattle.pv_steps.specs.declared.node.Kind.TheVariants.{Directory, File, Link, Fifo, CharDevice, BlockDevice}
+use Rattle.pv_steps.specs.declared.node.Node.{Node}
+use Rattle.pv_steps.specs.declared.object.Object.{Object}
+use Rattle.pv_steps.specs.declared.step.Step.{Step}
+use Rattle.pv_steps.specs.declared.step.Step.TheVariants.{SetOwner, SetMode, SetAcl}
+use Rattle.pv_steps.specs.declared.tree.TreeFault.{TreeFault}
+use Rattle.pv_steps.specs.Objects.{bare, changed, with_mode, AclFits}
+use Rattle.pv_steps.specs.Trees.{Files, Places, places, kind_of, node_at, IsPresentIn, IsTree}
+use Rattle.pv_steps.specs.Steps.{Can, TakesAcl, after, after_at, put_at, on_at}
+use Rattle.pv_steps.specs.Runs.{Ran}
+use Rattle.pv_steps.specs.RunLaws.{ran_then, ran_weaken}
+use Rattle.pv_steps.specs.StepLaws.{at_after}
+use Rattle.pv_steps.specs.Same.{bares, Differ}
+use Rattle.pv_dress.specs.declared.attributes.Dress.{Dress}
+use Rattle.pv_dress.specs.Asking.{Tried}
+use Rattle.pv_dress.specs.AskingLaws.{ran_tried}
+use Rattle.pv_dress.specs.EditLaws.{put_at-here, put_at-same, put_at-twice, on_at-here, on_at-put, on_at-twice, bares-on_at, bares-on_both, bares-stamped}
+use Rattle.pv_dress.specs.Dressing.{IsDress, CanWear, dress_mode, wear, wear_owner, wear_mode, wear_acl, Dressing, GivesDress, IsChanged, ChangedAt}
+use Rattle.pv_dress.specs.Wearing.{HasOwner, HasMode, Changing, GivesAcl}
+
+-- ---- objects
+
+-- objects that are the same but for stamps, and have the same stamps, are the same
+restored : (o x : Object) → o.node.stamps ≡ x.node.stamps → bare o ≡ bare x → o ≡ x
+restored o x stamps same = λ i. record (same i) { node = record (same i).node { stamps = stamps i } }
+
+some_of : (a b : Object) → Some a ≡ Some b → a ≡ b
+some_of a b e = cc
+
+-- a change that keeps the stamps
+abbrev pub Keeps : (Object → Object) → Type 0
+Keeps change = (o : Object) → (change o).node.stamps ≡ o.node.stamps
+
+-- ---- one change of an object of a tree
+
+module _ (path : Path) (change : Object → Object) (now : ℕ) (t : Files) (o : Object) (there : places t path ≡ Some o) where
+  changed_none : change o ≡ o → (u : Files) → u ≡ t → ChangedAt change path now t u
+  changed_none same u is = record {
+    old = o;
+    object = o;
+    there = there;
+    is = inl (same, refl);
+    left = ap places is ∙ (λ j q. sym (put_at-same path (Some o) (places t) there q) j);
+  }
+
+  module _ (s : Step) (leaves : after_at (places t) s now ≡ on_at path (λ x. changed now (change x)) (places t)) where
+    -- the change is seen, stamps aside
+    pub change_busy : Keeps change → change o ≢ o → Differ t (after t s now)
+    change_busy keeps differs = (path, λ e. differs (restored (change o) o (keeps o) (some_of (bare (change o)) (bare o) (sym (sym old ∙ e ∙ new)))))
+      where
+        old : bares (places t) path ≡ Some (bare o)
+        old = ap (option_map bare) there
+
+        new : bares (places (after t s now)) path ≡ Some (bare (change o))
+        new = ap (λ p. bares p path) (at_after t s now ∙ leaves) ∙ ap (option_map bare) (on_at-here path (λ x. changed now (change x)) (places t) ∙ ap (option_map (λ x. changed now (change x))) there)
+
+    pub changing_one : (u : Files) → u ≡ after t s now → Changing path change t u
+    changing_one u is = inr (λ q. ap (λ p. bares p q) (ap places is ∙ at_after t s now ∙ leaves) ∙ bares-on_at path (λ x. changed now (change x)) change (λ x. refl) (places t) q)
+
+    changed_one : change o ≢ o → (u : Files) → u ≡ after t s now → ChangedAt change path now t u
+    changed_one differs u is = record {
+      old = o;
+      object = changed now (change o);
+      there = there;
+      is = inr (differs, refl);
+      left = ap places is ∙ at_after t s now ∙ leaves ∙ (λ j q. on_at-put path (λ x. changed now (change x)) o (places t) there q j);
+    }
+
+    pub changed_tried : change o ≢ o → (r : Result (Unit {0}) TreeFault) → (h : List Step) → (u : Files) → (k : List Step) → Tried s now r t h u k → OnOk r (ChangedAt change path now t u)
+    changed_tried differs (Ok x) h u k done = changed_one differs u done.state
+    changed_tried differs (Err e) h u k done = tt
+
+-- ---- one change after another
+
+-- stamps aside, a change leaves what it gives
+pub bares_changed : (path : Path) (change : Object → Object) (now : ℕ) (t u : Files) → ChangedAt change path now t u → (q : Path) → bares (places u) q ≡ bares (on_at path change (places t)) q
+bares_changed path change now t u h q =
+    ap (λ p. bares p q) h.left ∙ by h.is ∙ sym (ap (option_map bare) (on_at-put path change h.old (places t) h.there q))
+  where
+    put : (x y : Object) → bare x ≡ bare y → bares (put_at path (Some x) (places t)) q ≡ bares (put_at path (Some y) (places t)) q
+    put x y e = elim (same_path path q) as (λ c. option_map bare (cond c (Some x) (places t q)) ≡ option_map bare (cond c (Some y) (places t q))) [ true ↦ ap Some e | false ↦ refl ]
+
+    by : IsChanged change now h.old h.object → bares (put_at path (Some h.object) (places t)) q ≡ bares (put_at path (Some (change h.old)) (places t)) q
+    by (inl s) = put h.object (change h.old) (ap bare (s.1 ∙ sym s.0))
+    by (inr s) = put h.object (change h.old) (ap bare s.1)
+
+-- what stands there afterwards
+after_change : (path : Path) (change : Object → Object) (now : ℕ) (t u : Files) → (h : ChangedAt change path now t u) → places u path ≡ Some h.object
+after_change path change now t u h = ap (λ p. p path) h.left ∙ put_at-here path (Some h.object) (places t)
+
+module _ (now : ℕ) (c d : Object → Object) (past : (o : Object) → d (changed now o) ≡ changed now (d o)) (firm : (o : Object) → d (c o) ≡ o → c o ≡ o) where
+  changed_twice : (a b e : Object) → IsChanged c now a b → IsChanged d now b e → IsChanged (λ x. d (c x)) now a e
+  changed_twice a b e (inl f) (inl g) = inl (ap d (f.0 ∙ sym f.1) ∙ g.0 ∙ f.1, g.1 ∙ f.1)
+  changed_twice a b e (inl f) (inr g) = inr (λ h. g.0 (ap d (f.1 ∙ sym f.0) ∙ h ∙ sym f.1), g.1 ∙ ap (λ x. changed now (d x)) (f.1 ∙ sym f.0))
+  changed_twice a b e (inr f) (inl g) = inr (λ h. f.0 (firm a h), g.1 ∙ sym g.0 ∙ ap d f.1 ∙ past (c a))
+  changed_twice a b e (inr f) (inr g) = inr (λ h. f.0 (firm a h), g.1 ∙ ap (changed now) (ap d f.1 ∙ past (c a)))
+
+  pub changed_then : (path : Path) (t u v : Files) → ChangedAt c path now t u → ChangedAt d path now u v → ChangedAt (λ x. d (c x)) path now t v
+  changed_then path t u v h g =
+      let same : g.old ≡ h.object = some_of g.old h.object (sym g.there ∙ after_change path c now t u h) in
+      record {
+        old = h.old;
+        object = g.object;
+        there = h.there;
+        is = changed_twice h.old h.object g.object h.is (subst (λ x. IsChanged d now x g.object) same g.is);
+        left = g.left ∙ ap (put_at path (Some g.object)) h.left ∙ (λ j q. put_at-twice path (Some h.object) (Some g.object) (places t) q j);
+      }
+
+-- ---- on the way
+
+module _ (path : Path) (f c : Object → Object) (past : (o : Object) → bare (c o) ≡ c (bare o)) (t u v : Files) where
+  pub more_changed : ((q : Path) → bares (places u) q ≡ bares (on_at path f (places t)) q) → ((q : Path) → bares (places v) q ≡ bares (on_at path c (places u)) q)
+      → (q : Path) → bares (places v) q ≡ bares (on_at path (λ o. c (f o)) (places t)) q
+  more_changed before step q =
+      step q ∙ bares-on_both path c past (places u) (on_at path f (places t)) q (before q) ∙ ap (option_map bare) (on_at-twice path f c (places t) q)
+
+-- ---- the three changes
+
+le_seven : (n : ℕ) → is_perm n ≡ true → n ≤ 7
+le_seven n h = grind (arith, nat_tests)
+
+record Digits (m special : ℕ) (part : Part) : Type 0 where
+  owner : m / 64 % 8 ≡ part.owner
+  group : m / 8 % 8 ≡ part.group
+  other : m % 8 ≡ part.other
+  bits : m / 512 ≡ special
+  bound : special ≤ 7 → m ≤ 4095
+
+digits : (special : ℕ) (part : Part) → is_part part ≡ true → Digits (mode_of special part) special part
+digits special part h =
+    let bases = (both_true _ _ (both_true _ _ (both_true _ _ h).0).0).0 in
+    let first = (both_true (is_perm part.owner && is_perm part.group) (is_perm part.other) bases) in
+    let o = le_seven part.owner (both_true (is_perm part.owner) (is_perm part.group) first.0).0 in
+    let g = le_seven part.group (both_true (is_perm part.owner) (is_perm part.group) first.0).1 in
+    let a = le_seven part.other first.1 in
+    record { owner = omega arith; group = omega arith; other = omega arith; bits = omega arith; bound = λ s. omega arith }
+
+pub wears_owner : (new : Dress) (o : Object) → HasOwner new o.node → wear_owner new o ≡ o
+wears_owner new o h = λ i. record o { node = record o.node { uid = sym h.uid i; gid = sym h.gid i } }
+
+pub owner_worn : (new : Dress) (o : Object) → wear_owner new o ≡ o → HasOwner new o.node
+owner_worn new o e = record { uid = sym (ap (λ x. x.node.uid) e); gid = sym (ap (λ x. x.node.gid) e) }
+
+module _ (kind : Kind) (new : Dress) (fits : IsDress kind new) where
+  mode_digits : Digits (dress_mode new) new.special new.acl.access
+  mode_digits = digits new.special new.acl.access (both_true (is_part new.acl.access) _ fits.acl).0
+
+  pub mode_bound : dress_mode new ≤ 4095
+  mode_bound = mode_digits.bound fits.special
+
+  pub wears_mode : (o : Object) → HasMode new o.node → wear_mode new o ≡ o
+  wears_mode o h = λ i. record o {
+    node = record o.node {
+      special = sym h.special i;
+      acl = record o.node.acl {
+        access = record o.node.acl.access {
+          owner = (mode_digits.owner ∙ sym h.base.owner) i;
+          group = (mode_digits.group ∙ sym h.base.group) i;
+          other = (mode_digits.other ∙ sym h.base.other) i;
+        };
+      };
+    };
+  }
+
+  pub mode_worn : (o : Object) → wear_mode new o ≡ o → HasMode new o.node
+  mode_worn o e = record {
+    special = sym (ap (λ x. x.node.special) e);
+    base = record {
+      owner = sym (ap (λ x. x.node.acl.access.owner) e) ∙ mode_digits.owner;
+      group = sym (ap (λ x. x.node.acl.access.group) e) ∙ mode_digits.group;
+      other = sym (ap (λ x. x.node.acl.access.other) e) ∙ mode_digits.other;
+    };
+  }
+
+  -- the step gives the special bits of the dress
+  pub mode_leaves : (path : Path) (now : ℕ) (t : Places) → on_at path (with_mode (dress_mode new) now) t ≡ on_at path (λ x. changed now (wear_mode new x)) t
+  mode_leaves path now t = ap (λ s. on_at path (λ o. changed now (record o { node = record o.node { special = s; acl = record o.node.acl { access = parts.with_mode (dress_mode new) o.node.acl.access } } })) t) mode_digits.bits
+
+  -- what wears the whole dress wears the first two changes
+  pub firm_mode : (o : Object) → wear_acl new (wear_mode new (wear_owner new o)) ≡ o → wear_mode new (wear_owner new o) ≡ o
+  firm_mode o e =
+      let acl : o.node.acl ≡ new.acl = sym (ap (λ x. x.node.acl) e) in
+      wears_mode (wear_owner new o) (record {
+        special = sym (ap (λ x. x.node.special) e);
+        base = record { owner = ap (λ a. a.access.owner) acl; group = ap (λ a. a.access.group) acl; other = ap (λ a. a.access.other) acl };
+      }) ∙ wears_owner new o (record { uid = sym (ap (λ x. x.node.uid) e); gid = sym (ap (λ x. x.node.gid) e) })
+
+pub wears_acl : (new : Dress) (o : Object) → o.node.acl ≡ new.acl → wear_acl new o ≡ o
+wears_acl new o e = λ i. record o { node = record o.node { acl = sym e i } }
+
+pub acl_worn : (new : Dress) (o : Object) → wear_acl new o ≡ o → o.node.acl ≡ new.acl
+acl_worn new o e = sym (ap (λ x. x.node.acl) e)
+
+pub firm_owner : (new : Dress) (o : Object) → wear_mode new (wear_owner new o) ≡ o → wear_owner new o ≡ o
+firm_owner new o e = wears_owner new o (record { uid = sym (ap (λ x. x.node.uid) e); gid = sym (ap (λ x. x.node.gid) e) })
+
+-- ---- links, which have one mode and one ACL
+
+link_mode : (new : Dress) (o : Object) → AclFits Link new.special new.acl → AclFits Link o.node.special o.node.acl → HasMode new o.node
+link_mode new o n h =
+    let e : o.node.acl ≡ new.acl = h.1 ∙ sym n.1 in
+    record { special = h.0 ∙ sym n.0; base = record { owner = ap (λ a. a.access.owner) e; group = ap (λ a. a.access.group) e; other = ap (λ a. a.access.other) e } }
+
+link_acl : (new : Dress) (o : Object) → AclFits Link new.special new.acl → AclFits Link o.node.special o.node.acl → o.node.acl ≡ new.acl
+link_acl new o n h = h.1 ∙ sym n.1
+
+-- ---- the object that stands at a path, and the node that is seen there
+
+module _ (path : Path) (new : Dress) (t : Files) (can : CanWear t path new) (node : Node) (seen : Some node ≡ node_at t path) where
+  standing : (o : Object) × ((places t path ≡ Some o) × (node ≡ o.node))
+  standing = by (places t path) refl
+    where
+      by : (v : Option Object) → places t path ≡ v → (o : Object) × ((places t path ≡ Some o) × (node ≡ o.node))
+      by None e = let wrong : Some node ≡ None = seen ∙ ap (option_map (λ o. o.node)) e in cc
+      by (Some o) e = let same : Some node ≡ Some o.node = seen ∙ ap (option_map (λ o. o.node)) e in (o, (e, cc))
+
+  abbrev object : Object
+  object = standing.0
+
+  there : places t path ≡ Some object
+  there = standing.1.0
+
+  pub present : IsPresentIn (places t) path
+  present = ap is_some there
+
+  kind_is : object.node.kind ≡ can.kind
+  kind_is = let e : Some object.node.kind ≡ Some can.kind = sym (ap kind_of there) ∙ can.there in cc
+
+  has_owner : HasOwner new node → HasOwner new object.node
+  has_owner h = subst (HasOwner new) standing.1.1 h
+
+  no_owner : (HasOwner new node → ⊥) → wear_owner new object ≢ object
+  no_owner other e = other (subst (HasOwner new) (sym standing.1.1) (owner_worn new object e))
+
+  -- ---- owners
+
+  pub owner_none : (now : ℕ) → HasOwner new node → ChangedAt (wear_owner new) path now t t
+  owner_none now h = changed_none path (wear_owner new) now t object there (wears_owner new object (has_owner h)) t refl
+
+  module _ (now : ℕ) (other : HasOwner new node → ⊥) (r : Result (Unit {0}) TreeFault) (h : List Step) (u : Files) (k : List Step) (done : Tried (SetOwner path new.uid new.gid) now r t h u k) where
+    pub owner_ran : Ran (Changing path (wear_owner new) t) (λ step. step ≡ SetOwner path new.uid new.gid) now t h u k
+    owner_ran =
+        ran_tried (SetOwner path new.uid new.gid) now r t h u k (Changing path (wear_owner new) t) (λ step. step ≡ SetOwner path new.uid new.gid)
+        done (inl (λ q. refl)) (present, can.dress.owner)
+        (change_busy path (wear_owner new) now t object there (SetOwner path new.uid new.gid) refl (λ o. refl) (no_owner other))
+        (changing_one path (wear_owner new) now t object there (SetOwner path new.uid new.gid) refl u)
+        refl
+
+    pub owner_ok : OnOk r (ChangedAt (wear_owner new) path now t u)
+    owner_ok = changed_tried path (wear_owner new) now t object there (SetOwner path new.uid new.gid) refl (no_owner other) r h u k done
+
+  -- ---- modes
+
+  no_mode : (HasMode new node → ⊥) → wear_mode new object ≢ object
+  no_mode other e = other (subst (HasMode new) (sym standing.1.1) (mode_worn can.kind new can.dress object e))
+
+  pub mode_none : (now : ℕ) → HasMode new node → ChangedAt (wear_mode new) path now t t
+  mode_none now h = changed_none path (wear_mode new) now t object there (wears_mode can.kind new can.dress object (subst (HasMode new) standing.1.1 h)) t refl
+
+  -- what is not the mode or the ACL of the dress stands at no link
+  module _ (tree : IsTree t) where
+    link_fits : kind_of (places t path) ≡ Some Link → AclFits Link new.special new.acl × AclFits Link object.node.special object.node.acl
+    link_fits e =
+        let of_can : can.kind ≡ Link = (let both : Some can.kind ≡ Some Link = sym can.there ∙ e in cc) in (
+          subst (λ v. AclFits v new.special new.acl) of_can can.dress.fits,
+          subst (λ v. AclFits v object.node.special object.node.acl) (kind_is ∙ of_can) (tree.objects path object there).kind_acl,
+        )
+
+    mode_no_link : (HasMode new node → ⊥) → kind_of (places t path) ≢ Some Link
+    mode_no_link other e = let both = link_fits e in other (subst (HasMode new) (sym standing.1.1) (link_mode new object both.0 both.1))
+
+    acl_no_link : node.acl ≢ new.acl → kind_of (places t path) ≢ Some Link
+    acl_no_link other e = let both = link_fits e in other (ap (λ v. v.acl) standing.1.1 ∙ link_acl new object both.0 both.1)
+
+    pub can_mode : (HasMode new node → ⊥) → Can (places t) (SetMode path (dress_mode new))
+    can_mode other = ((present, mode_no_link other), mode_bound can.kind new can.dress)
+
+    takes_acl : (kind : Kind) → kind_of (places t path) ≡ Some kind → (kind ≡ Link → ⊥) → AclFits kind new.special new.acl → TakesAcl (places t) path new.acl
+    takes_acl Directory e real h = inr e
+    takes_acl File e real h = inl h
+    takes_acl Link e real h = absurd (real refl)
+    takes_acl Fifo e real h = inl h
+    takes_acl CharDevice e real h = inl h
+    takes_acl BlockDevice e real h = inl h
+
+    pub can_acl : node.acl ≢ new.acl → Can (places t) (SetAcl path new.acl)
+    can_acl other =
+        let real = acl_no_link other in
+        ((present, real), (takes_acl can.kind can.there (λ e. real (can.there ∙ ap Some e)) can.dress.fits, can.dress.acl))
+
+    module _ (now : ℕ) (other : HasMode new node → ⊥) (mode : ℕ) (is : mode ≡ dress_mode new) (r : Result (Unit {0}) TreeFault) (h : List Step) (u : Files) (k : List Step) (tried : Tried (SetMode path mode) now r t h u k) where
+      mode_tried : Tried (SetMode path (dress_mode new)) now r t h u k
+      mode_tried = subst (λ m. Tried (SetMode path m) now r t h u k) is tried
+
+      pub mode_ran : Ran (Changing path (wear_mode new) t) (λ step. step ≡ SetMode path (dress_mode new)) now t h u k
+      mode_ran =
+          ran_tried (SetMode path (dress_mode new)) now r t h u k (Changing path (wear_mode new) t) (λ step. step ≡ SetMode path (dress_mode new))
+          mode_tried (inl (λ q. refl)) (can_mode other)
+          (change_busy path (wear_mode new) now t object there (SetMode path (dress_mode new)) (mode_leaves can.kind new can.dress path now (places t)) (λ o. refl) (no_mode other))
+          (changing_one path (wear_mode new) now t object there (SetMode path (dress_mode new)) (mode_leaves can.kind new can.dress path now (places t)) u)
+          refl
+
+      pub mode_ok : OnOk r (ChangedAt (wear_mode new) path now t u)
+      mode_ok = changed_tried path (wear_mode new) now t object there (SetMode path (dress_mode new)) (mode_leaves can.kind new can.dress path now (places t)) (no_mode other) r h u k mode_tried
+
+    module _ (now : ℕ) (other : node.acl ≢ new.acl) (r : Result (Unit {0}) TreeFault) (h : List Step) (u : Files) (k : List Step) (tried : Tried (SetAcl path new.acl) now r t h u k) where
+      no_acl : wear_acl new object ≢ object
+      no_acl e = other (ap (λ v. v.acl) standing.1.1 ∙ acl_worn new object e)
+
+      other_acl : (o : Object) → places t path ≡ Some o → o.node.acl ≢ new.acl
+      other_acl o e h = let same : object ≡ o = some_of object o (sym there ∙ e) in other (ap (λ v. v.acl) standing.1.1 ∙ ap (λ v. v.node.acl) same ∙ h)
+
+      pub acl_ran : Ran (Changing path (wear_acl new) t) (GivesAcl path new t) now t h u k
+      acl_ran =
+          ran_tried (SetAcl path new.acl) now r t h u k (Changing path (wear_acl new) t) (GivesAcl path new t)
+          tried (inl (λ q. refl)) (can_acl other)
+          (change_busy path (wear_acl new) now t object there (SetAcl path new.acl) refl (λ o. refl) no_acl)
+          (changing_one path (wear_acl new) now t object there (SetAcl path new.acl) refl u)
+          (record { is = refl; other = other_acl })
+
+      pub acl_ok : OnOk r (ChangedAt (wear_acl new) path now t u)
+      acl_ok = changed_tried path (wear_acl new) now t object there (SetAcl path new.acl) refl no_acl r h u k tried
+
+  pub acl_none : (now : ℕ) → node.acl ≡ new.acl → ChangedAt (wear_acl new) path now t t
+  acl_none now h = changed_none path (wear_acl new) now t object there (wears_acl new object (sym (ap (λ v. v.acl) standing.1.1) ∙ h)) t refl
+
+-- ---- the three changes one after another
+
+module _ (path : Path) (new : Dress) (now : ℕ) (t : Files) where
+  abbrev first_two : Object → Object
+  first_two = λ o. wear_mode new (wear_owner new o)
+
+  dressing_owner : (v : Files) → Changing path (wear_owner new) t v → Dressing path new t v
+  dressing_owner v (inl e) = (0, λ q. e q ∙ sym (bares-stamped path (λ o. o) (λ o. refl) (places t) q))
+  dressing_owner v (inr e) = (1, e)
+
+  dressing_mode : (u v : Files) → ChangedAt (wear_owner new) path now t u → Changing path (wear_mode new) u v → Dressing path new t v
+  dressing_mode u v first (inl e) = (1, λ q. e q ∙ bares_changed path (wear_owner new) now t u first q)
+  dressing_mode u v first (inr e) = (2, more_changed path (wear_owner new) (wear_mode new) (λ o. refl) t u v (bares_changed path (wear_owner new) now t u first) e)
+
+  dressing_acl : (u v : Files) → ChangedAt first_two path now t u → Changing path (wear_acl new) u v → Dressing path new t v
+  dressing_acl u v first (inl e) = (2, λ q. e q ∙ bares_changed path first_two now t u first q)
+  dressing_acl u v first (inr e) = (3, more_changed path first_two (wear_acl new) (λ o. refl) t u v (bares_changed path first_two now t u first) e)
+
+  same_acl : (a b : Object) → IsChanged first_two now a b → b.node.acl ≡ (first_two a).node.acl
+  same_acl a b (inl h) = ap (λ o. o.node.acl) (h.1 ∙ sym h.0)
+  same_acl a b (inr h) = ap (λ o. o.node.acl) h.1
+
+  gives_acl : (u : Files) → ChangedAt first_two path now t u → (s : Step) → GivesAcl path new u s → GivesDress path new t s
+  gives_acl u first s gives = inr (inr (
+    gives.is,
+    λ o e h.
+        let same : first.old ≡ o = some_of first.old o (sym first.there ∙ e) in
+        gives.other first.object (after_change path first_two now t u first) (same_acl first.old first.object first.is ∙ ap (λ x. (first_two x).node.acl) same ∙ h),
+  ))
+
+  two_changed : (u v : Files) → ChangedAt (wear_owner new) path now t u → ChangedAt (wear_mode new) path now u v → ChangedAt first_two path now t v
+  two_changed u v a b = changed_then now (wear_owner new) (wear_mode new) (λ o. refl) (firm_owner new) path t u v a b
+
+  pub owner_dresses : (h : List Step) (u : Files) (k : List Step) → Ran (Changing path (wear_owner new) t) (λ step. step ≡ SetOwner path new.uid new.gid) now t h u k
+      → Ran (Dressing path new t) (GivesDress path new t) now t h u k
+  owner_dresses h u k ran = ran_weaken (Changing path (wear_owner new) t) (Dressing path new t) (λ step. step ≡ SetOwner path new.uid new.gid) (GivesDress path new t) now dressing_owner (λ s e. inl e) ran
+
+  pub mode_dresses : (h : List Step) (u : Files) (k : List Step) (v : Files) (l : List Step)
+      → Ran (Changing path (wear_owner new) t) (λ step. step ≡ SetOwner path new.uid new.gid) now t h u k → ChangedAt (wear_owner new) path now t u
+      → Ran (Changing path (wear_mode new) u) (λ step. step ≡ SetMode path (dress_mode new)) now u k v l → Ran (Dressing path new t) (GivesDress path new t) now t h v l
+  mode_dresses h u k v l ran first after =
+      ran_then (Dressing path new t) (GivesDress path new t) now (owner_dresses h u k ran)
+      (ran_weaken (Changing path (wear_mode new) u) (Dressing path new t) (λ step. step ≡ SetMode path (dress_mode new)) (GivesDress path new t) now (λ w. dressing_mode u w first) (λ s e. inr (inl e)) after)
+
+  pub acl_dresses : (h : List Step) (u : Files) (k : List Step) (v : Files) (l : List Step) (w : Files) (m : List Step)
+      → Ran (Changing path (wear_owner new) t) (λ step. step ≡ SetOwner path new.uid new.gid) now t h u k → ChangedAt (wear_owner new) path now t u
+      → Ran (Changing path (wear_mode new) u) (λ step. step ≡ SetMode path (dress_mode new)) now u k v l → ChangedAt (wear_mode new) path now u v
+      → Ran (Changing path (wear_acl new) v) (GivesAcl path new v) now v l w m → Ran (Dressing path new t) (GivesDress path new t) now t h w m
+  acl_dresses h u k v l w m ran first then second after =
+      ran_then (Dressing path new t) (GivesDress path new t) now (mode_dresses h u k v l ran first then)
+      (ran_weaken (Changing path (wear_acl new) v) (Dressing path new t) (GivesAcl path new v) (GivesDress path new t) now
+      (λ x. dressing_acl v x (two_changed u v first second)) (gives_acl v (two_changed u v first second)) after)
+
+  pub all_changed : (kind : Kind) → IsDress kind new → (u v w : Files) → ChangedAt (wear_owner new) path now t u → ChangedAt (wear_mode new) path now u v → ChangedAt (wear_acl new) path now v w → ChangedAt (wear new) path now t w
+  all_changed kind fits u v w a b c = changed_then now first_two (wear_acl new) (λ o. refl) (firm_mode kind new fits) path t v w (two_changed u v a b) c
+
+  pub all_changed_on : (r : Result (Unit {0}) TreeFault) → (kind : Kind) → IsDress kind new → (u v w : Files) → ChangedAt (wear_owner new) path now t u → ChangedAt (wear_mode new) path now u v
+      → OnOk r (ChangedAt (wear_acl new) path now v w) → OnOk r (ChangedAt (wear new) path now t w)
+  all_changed_on (Ok x) kind fits u v w a b c = all_changed kind fits u v w a b c
+  all_changed_on (Err e) kind fits u v w a b c = tt

@@ -1,0 +1,72 @@
+ghost use Rattle.std.specs.Prelude.{◌≤◌};
+
+use super::*;
+use crate::same::is_same_acl;
+use pv_acl::{Acl, Named, Part, Perm, Who};
+use std::alloc::Global;
+use std::test::Fail;
+
+/// The part of a mode with the permissions of one user, and with a mask where it is given.
+fn part(alloc: Global, mode: u16, bits: u8, mask: Option<u8>) -> Result<Part, Fail>
+    requires { bits ≤ 7 }
+{
+    let mut part = Part::of_mode(alloc, mode);
+    part.named.put(Named {
+        who: Who::User(1000),
+        perm: Perm { bits },
+    })?;
+    if let Some(bits) = mask {
+        part.mask = Some(Perm { bits: bits % 8 });
+    }
+    Ok(part)
+}
+
+#[test]
+fn acls_are_compared_whole(rt: HostRuntime) -> Result<(), Fail> {
+    let alloc = rt.alloc();
+    let sample = Acl {
+        access: part(alloc, 0o750, 6, Some(4))?,
+        default_part: None,
+    };
+    for (mode, bits, mask, same) in [
+        (0o750u16, 6u8, Some(4u8), true),
+        (0o751, 6, Some(4), false),
+        (0o740, 6, Some(4), false),
+        (0o750, 7, Some(4), false),
+        (0o750, 6, Some(5), false),
+        (0o750, 6, None, false),
+    ] {
+        let other = Acl {
+            access: part(alloc, mode, bits % 8, mask)?,
+            default_part: None,
+        };
+        assert!(rt;
+            is_same_acl(&sample, &other) == same,
+            "{mode:o} {bits} {mask:?}"
+        );
+    }
+    let other = Acl {
+        access: sample.access.copy()?,
+        default_part: Some(Part::of_mode(alloc, 0o750)),
+    };
+    assert!(rt; !is_same_acl(&sample, &other));
+    assert!(rt; !is_same_acl(&sample, &Acl::of_mode(alloc, 0o750)));
+    Ok(())
+}
+
+#[test]
+fn dresses_are_copied(rt: HostRuntime) -> Result<(), Fail> {
+    let dress = Dress {
+        uid: 1000,
+        gid: 4,
+        special: 2,
+        acl: Acl {
+            access: part(rt.alloc(), 0o750, 6, Some(4))?,
+            default_part: Some(Part::of_mode(rt.alloc(), 0o700)),
+        },
+    };
+    let copy = dress.copy()?;
+    assert_eq!(rt; (copy.uid, copy.gid, copy.special), (1000, 4, 2));
+    assert!(rt; is_same_acl(&copy.acl, &dress.acl));
+    Ok(())
+}

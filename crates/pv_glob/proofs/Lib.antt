@@ -1,0 +1,4 @@
+pub mod Along
+pub mod Zipped
+pub mod Alone
+pub mod Places

@@ -1,0 +1,68 @@
+ghost use Rattle.std.specs.Prelude.{◌≡◌, IfOk};
+
+use pv_path::Sequence;
+use std::alloc::AllocError;
+
+/// The bytes from `low` to `high`, both included, by value.
+#[derive(Clone, Copy, Debug, PartialEq, Eq)]
+pub struct ByteRange {
+    pub low: u8,
+    pub high: u8,
+}
+
+/// The bytes in some range of a list, or those in none of them.
+#[derive(Debug, Drop)]
+pub struct ByteSet {
+    pub negated: bool,
+    pub ranges: Sequence<ByteRange>,
+}
+
+/// What a pattern is made of between its slashes (glob(7)).
+#[derive(Debug, Drop)]
+pub enum Element {
+    /// This byte.
+    Byte(u8),
+    /// `?`: any one byte.
+    Any,
+    /// `*`: any bytes, or none.
+    Many,
+    /// A bracket: one byte of a set.
+    OneOf(ByteSet),
+}
+
+/// What stands for one name in a pattern.
+pub type Component = Sequence<Element>;
+
+impl ByteSet {
+    /// The same set once more.
+    pub fn copy(&self) -> Result<ByteSet, AllocError>
+        ensures { IfOk result (λ copy. copy ≡ self.now) }
+    {
+        Ok(ByteSet {
+            negated: self.negated,
+            ranges: self.ranges.clone()?,
+        })
+    }
+}
+
+impl Element {
+    /// The same element once more.
+    pub fn copy(&self) -> Result<Element, AllocError>
+        ensures { IfOk result (λ copy. copy ≡ self.now) }
+    {
+        Ok(match self {
+            Element::Byte(byte) => Element::Byte(*byte),
+            Element::Any => Element::Any,
+            Element::Many => Element::Many,
+            Element::OneOf(set) => Element::OneOf(set.copy()?),
+        })
+    }
+}
+
+impl Clone for Element {
+    ghost is_clone = { λ element copy. copy ≡ element };
+
+    fn clone(&self) -> Result<Element, AllocError> {
+        self.copy()
+    }
+}

@@ -1,0 +1,52 @@
+ghost use Rattle.std.specs.Prelude.{◌≡◌};
+ghost use Rattle.pv_glob.specs.declared.fault.PatternFault.TheVariants.{Memory};
+
+use std::alloc::AllocError;
+use thiserror::Error;
+
+/// Why a text is no pattern. The first five are looked for in the text, the next five in its
+/// components, each component by itself; want of memory may come at any time.
+#[derive(Clone, Copy, Debug, PartialEq, Eq, Error)]
+pub enum PatternFault {
+    /// The text does not begin with a slash.
+    #[error("NotAbsolute")]
+    NotAbsolute,
+    /// The text has a NUL.
+    #[error("BadByte")]
+    BadByte,
+    /// The text has more than 4095 bytes.
+    #[error("PathTooLong")]
+    PathTooLong,
+    /// A component is `.` or `..`.
+    #[error("DotComponent")]
+    DotComponent,
+    /// A component begins as staging names do.
+    #[error("StagingName")]
+    StagingName,
+    /// A bracket has no end.
+    #[error("UnclosedBracket")]
+    UnclosedBracket,
+    /// A range in a bracket ends below its start or at a class.
+    #[error("BadRange")]
+    BadRange,
+    /// A bracket names a class that there is not.
+    #[error("BadClass")]
+    BadClass,
+    /// A brace stands outside brackets and not after a backslash.
+    #[error("Brace")]
+    Brace,
+    /// A backslash stands last.
+    #[error("TrailingBackslash")]
+    TrailingBackslash,
+    /// There was not enough memory.
+    #[error("Memory")]
+    Memory,
+}
+
+impl From<AllocError> for PatternFault {
+    ghost from_gives = { λ _ fault. fault ≡ Memory };
+
+    fn from(_error: AllocError) -> PatternFault {
+        PatternFault::Memory
+    }
+}

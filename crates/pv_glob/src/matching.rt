@@ -1,0 +1,134 @@
+ghost use Rattle.std.specs.Prelude.{◌≡◌, ◌∷◌, true, false, length};
+ghost use Rattle.std.specs.List.{list_any};
+ghost use Rattle.std.specs.Cmp.Lexicographic.{pointwise};
+ghost use Rattle.pv_glob.specs.Matching.{byte_matches, component_matches, in_range, in_set, matches, name_matches};
+ghost use Rattle.pv_path.specs.Paths.{has_staging};
+
+use crate::element::{ByteRange, ByteSet, Component, Element};
+use pv_path::{Name, is_staging};
+
+/// Whether a byte lies in a range.
+fn in_range(range: ByteRange, byte: u8) -> bool
+    ensures { result ≡ in_range byte range }
+{
+    range.low <= byte && byte <= range.high
+}
+
+/// Whether a byte lies in some range of a list.
+fn is_listed(ranges: &[ByteRange], byte: u8) -> bool
+    ensures { result ≡ list_any (in_range byte) ranges.now }
+{
+    ranges.iter().any(|range| in_range(*range, byte))
+}
+
+/// Whether a byte belongs to the set of a bracket.
+fn in_set(set: &ByteSet, byte: u8) -> bool
+    ensures { result ≡ in_set set.now byte }
+{
+    let listed = is_listed(set.ranges.as_slice(), byte);
+    if set.negated { !listed } else { listed }
+}
+
+/// Whether an element that stands for one byte matches this byte, which is not the first of a name,
+/// or no period.
+fn byte_matches(element: &Element, byte: u8) -> bool
+    ensures { result ≡ byte_matches element.now false byte }
+{
+    match element {
+        Element::Byte(wanted) => byte == *wanted,
+        Element::Any => true,
+        Element::Many => false,
+        Element::OneOf(set) => in_set(set, byte),
+    }
+}
+
+/// Whether elements match a rest of a name, or a name that does not begin with a period.
+/// The only place to return to is the last `*`.
+fn rest_matches(elements: &[Element], name: &[u8]) -> bool
+    ensures { result ≡ name_matches elements.now false name.now }
+{
+    let mut rest = elements;
+    let mut left = name;
+    let mut last_many: Option<(&[Element], &[u8])> = None;
+    loop {
+        match (rest, left) {
+            ([Element::Many, behind @ ..], _) => {
+                last_many = Some((behind, left));
+                rest = behind;
+            }
+            ([element, behind @ ..], [byte, more @ ..]) if byte_matches(element, *byte) => {
+                rest = behind;
+                left = more;
+            }
+            ([], []) => return true,
+            _ => match last_many {
+                Some((behind, [_, more @ ..])) => {
+                    last_many = Some((behind, more));
+                    rest = behind;
+                    left = more;
+                }
+                _ => return false,
+            },
+        }
+    }
+}
+
+/// Whether elements match a name that is a period and then these bytes.
+fn hidden_matches(elements: &[Element], left: &[u8]) -> bool
+    ensures { result ≡ name_matches elements.now true (46 ∷ left.now) }
+{
+    for (i, element) in elements.iter().enumerate() {
+        match element {
+            Element::Many => {}
+            Element::Byte(wanted) => return *wanted == b'.'
+                && rest_matches(&elements[i + 1..], left),
+            _ => return false,
+        }
+    }
+    false
+}
+
+/// Whether a component matches a whole name.
+fn component_matches(elements: &[Element], name: &[u8]) -> bool
+    ensures { result ≡ component_matches elements.now name.now }
+{
+    match name {
+        [] => rest_matches(elements, name),
+        [first, left @ ..] => {
+            if *first == b'.' {
+                hidden_matches(elements, left)
+            } else {
+                rest_matches(elements, name)
+            }
+        }
+    }
+}
+
+/// Whether each component matches the name at its place.
+fn all_match(components: &[Component], names: &[Name]) -> bool
+    requires { length components.now ≡ length names.now }
+    ensures { result ≡ pointwise component_matches components.now names.now }
+{
+    components.iter().zip(names).all(|(component, name)| component_matches(
+        component.as_slice(),
+        name.bytes(),
+    ))
+}
+
+/// Whether some name is a staging name.
+fn has_staging(names: &[Name]) -> bool
+    ensures { result ≡ has_staging names.now }
+{
+    names.iter().any(|name| is_staging(name.bytes()))
+}
+
+/// Whether components match names: as many, each its own, and no staging name.
+pub(crate) fn names_match(components: &[Component], names: &[Name]) -> bool
+    ensures { result ≡ matches components.now names.now }
+{
+    if has_staging(names) || components.len() != names.len() {
+        false
+    } else {
+        all_match(components, names)
+    }
+}

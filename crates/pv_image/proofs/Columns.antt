@@ -1,0 +1,195 @@
+-- What the columns of a node say of it.
+use Rattle.std.proofs.Common.{◌≡◌, ◌≢◌, ℕ, ◌+◌, ◌*◌, ◌/◌, ◌%◌, ◌≤◌, true, ◌&&◌, ◌==◌, List, [], ◌∷◌, Option, Some, None, refl, sym, ap, ◌∙◌, subst, arith, if◌then◌else◌}
+use Rattle.std.specs.List.{list_all}
+use Rattle.std.specs.Option.{option_map_or}
+use Rattle.std.proofs.lemmas.Bool.Decides.{nat_tests}
+use Rattle.pv_acl.specs.declared.part.Acl.{Acl}
+use Rattle.pv_acl.specs.declared.part.Part.{Part}
+use Rattle.pv_acl.specs.NamedEntries.{is_named, is_ordered, is_perm}
+use Rattle.pv_acl.specs.Parts.{base_of, is_acl, is_part, mode_of, part_of_mode}
+use Rattle.pv_acl.specs.Texts.{acl_text}
+use Rattle.pv_path.specs.Paths.{Path}
+use Rattle.pv_path.specs.Printing.{printed_path}
+use Rattle.pv_path.specs.PathLaws.{both_true}
+use Rattle.pv_steps.specs.declared.node.Kind.{Kind}
+use Rattle.pv_steps.specs.declared.node.Kind.TheVariants.{Directory, File, Link, Fifo, CharDevice, BlockDevice}
+use Rattle.pv_steps.specs.declared.object.Object.{Object}
+use Rattle.pv_steps.specs.Objects.{AclFits, IsObject}
+use Rattle.pv_image.specs.declared.node.Plain.{Plain}
+use Rattle.pv_image.specs.declared.payload.Payload.{Payload}
+use Rattle.pv_image.specs.Spelling.{IsBytePath, IsEntry, IsPayload, columns, kind_text, mode_text, payload_of, payload_text}
+use Rattle.pv_image.specs.Nodes.{IsAclOf, IsPlain, object_of, plain_texts}
+
+-- ---- the letter of a kind, and the digits of a mode
+
+kind_at : ℕ → Option Kind
+kind_at b =
+    if b == 100 then Some Directory
+    else if b == 102 then Some File
+    else if b == 108 then Some Link
+    else if b == 112 then Some Fifo
+    else if b == 99 then Some CharDevice
+    else Some BlockDevice
+
+kind_in : List ℕ → Option Kind
+kind_in [] = None
+kind_in (b ∷ bs) = kind_at b
+
+kind_back : (kind : Kind) → kind_in (kind_text kind) ≡ Some kind
+unfolding kind_in kind_at
+kind_back Directory = refl
+kind_back File = refl
+kind_back Link = refl
+kind_back Fifo = refl
+kind_back CharDevice = refl
+kind_back BlockDevice = refl
+
+pub kind_text-injective : (a b : Kind) → kind_text a ≡ kind_text b → a ≡ b
+kind_text-injective a b e = let same : Some a ≡ Some b = sym (kind_back a) ∙ ap kind_in e ∙ kind_back b in cc
+
+digits_back : (m : ℕ) → m ≤ 4095 → 512 * (m / 512 % 8) + 64 * (m / 64 % 8) + 8 * (m / 8 % 8) + m % 8 ≡ m
+digits_back m small = omega arith
+
+pub mode_text-injective : (m n : ℕ) → m ≤ 4095 → n ≤ 4095 → mode_text m ≡ mode_text n → m ≡ n
+mode_text-injective m n fits small e =
+    let a : 48 + m / 512 % 8 ≡ 48 + n / 512 % 8 = cc in
+    let b : 48 + m / 64 % 8 ≡ 48 + n / 64 % 8 = cc in
+    let c : 48 + m / 8 % 8 ≡ 48 + n / 8 % 8 = cc in
+    let d : 48 + m % 8 ≡ 48 + n % 8 = cc in
+    let x = digits_back m fits in
+    let y = digits_back n small in
+    omega arith
+
+-- ---- what an entry has
+
+-- the base entries of a part are permissions
+pub record BaseFits (part : Part) : Type 0 where
+  pub owner : part.owner ≤ 7
+  pub group : part.group ≤ 7
+  pub other : part.other ≤ 7
+
+perm_is : (p : ℕ) → is_perm p ≡ true → p ≤ 7
+perm_is p e = grind (arith, nat_tests)
+
+base_fits : (part : Part) → is_part part ≡ true → BaseFits part
+base_fits part e =
+    let o = is_perm part.owner in
+    let g = is_perm part.group in
+    let t = is_perm part.other in
+    let n = list_all is_named part.named in
+    let r = is_ordered part.named in
+    let five = (both_true (o && g && t && n && r) (option_map_or is_perm part.mask true) e).0 in
+    let four = (both_true (o && g && t && n) r five).0 in
+    let three = (both_true (o && g && t) n four).0 in
+    let two = both_true (o && g) t three in
+    let one = both_true o g two.0 in
+    record { owner = perm_is part.owner one.0; group = perm_is part.group one.1; other = perm_is part.other two.1 }
+
+access_is : (acl : Acl) → is_acl acl ≡ true → is_part acl.access ≡ true
+access_is acl e = (both_true (is_part acl.access) (option_map_or is_part acl.default_part true) e).0
+
+base_is : (special : ℕ) (part : Part) → BaseFits part → base_of part ≡ part_of_mode (mode_of special part)
+base_is special part fits =
+    let o : part.owner ≡ mode_of special part / 64 % 8 = let a = fits.owner in let b = fits.group in let c = fits.other in omega arith in
+    let g : part.group ≡ mode_of special part / 8 % 8 = let a = fits.owner in let b = fits.group in let c = fits.other in omega arith in
+    let t : part.other ≡ mode_of special part % 8 = let a = fits.owner in let b = fits.group in let c = fits.other in omega arith in
+    λ i. record { owner = o i; group = g i; other = t i; named = []; mask = None }
+
+-- the plain columns of an entry
+abbrev pub mode_at : Object → ℕ
+mode_at o = mode_of o.node.special o.node.acl.access
+
+abbrev pub plain_at : Object → Plain
+plain_at o = record { kind = o.node.kind; mode = mode_at o; uid = o.node.uid; gid = o.node.gid; stamps = o.node.stamps }
+
+pub plain_is : (o : Object) → IsObject o → IsPlain (plain_at o)
+plain_is o is =
+    let fits = base_fits o.node.acl.access (access_is o.node.acl is.acl) in
+    record {
+      mode = let a = fits.owner in let b = fits.group in let c = fits.other in let d = is.special in omega arith;
+      uid = is.owner.0;
+      gid = is.owner.1;
+      stamps = is.stamps;
+    }
+
+pub special_is : (o : Object) → IsObject o → o.node.special ≡ mode_at o / 512
+special_is o is =
+    let fits = base_fits o.node.acl.access (access_is o.node.acl is.acl) in
+    let a = fits.owner in
+    let b = fits.group in
+    let c = fits.other in
+    omega arith
+
+pub acl_is : (o : Object) → IsObject o → IsAclOf o.node.kind (mode_at o) o.node.acl
+acl_is o is = record {
+  base = base_is o.node.special o.node.acl.access (base_fits o.node.acl.access (access_is o.node.acl is.acl));
+  allowed = is.acl;
+  fits = subst (λ (s : ℕ). AclFits o.node.kind s o.node.acl) (special_is o is) is.kind_acl;
+}
+
+pub payload_is : (o : Object) → IsObject o → IsPayload o.node.kind (payload_of o)
+payload_is o is = record { fits = is.payload; are_bytes = is.bytes; numbers = is.numbers }
+
+-- ---- columns that are no entry's
+
+-- the plain columns say the kind and the mode
+pub same_plain : (a b : Plain) → IsPlain a → IsPlain b → plain_texts a ≡ plain_texts b → (a.kind ≡ b.kind) × (a.mode ≡ b.mode)
+same_plain a b is fits e =
+    let kinds : kind_text a.kind ≡ kind_text b.kind = cc in
+    let modes : mode_text a.mode ≡ mode_text b.mode = cc in
+    (kind_text-injective a.kind b.kind kinds, mode_text-injective a.mode b.mode is.mode fits.mode modes)
+
+module _ (kind path mode uid gid stamps acl payload : List ℕ) where
+  abbrev pub plain_columns : List (List ℕ)
+  plain_columns = kind ∷ mode ∷ uid ∷ gid ∷ stamps ∷ []
+
+  abbrev pub all_columns : List (List ℕ)
+  all_columns = kind ∷ path ∷ mode ∷ uid ∷ gid ∷ stamps ∷ acl ∷ payload ∷ []
+
+  plain_part : (e : Path × Object) → all_columns ≡ columns e → plain_columns ≡ plain_texts (plain_at e.1)
+  plain_part e same = cc
+
+  pub none_plain : ((x : Plain) → IsPlain x → plain_columns ≢ plain_texts x) → (e : Path × Object) → IsEntry e → all_columns ≢ columns e
+  none_plain none e is same = none (plain_at e.1) (plain_is e.1 is.object) (plain_part e same)
+
+  pub none_path : ((x : Path) → IsBytePath x → path ≢ printed_path x) → (e : Path × Object) → IsEntry e → all_columns ≢ columns e
+  none_path none e is same = none e.0 is.path (let p : path ≡ printed_path e.0 = cc in p)
+
+  module _ (plain : Plain) (read : IsPlain plain × (plain_columns ≡ plain_texts plain)) where
+    same_as : (e : Path × Object) → IsEntry e → all_columns ≡ columns e → (e.1.node.kind ≡ plain.kind) × (mode_at e.1 ≡ plain.mode)
+    same_as e is same = same_plain (plain_at e.1) plain (plain_is e.1 is.object) read.0 (sym (plain_part e same) ∙ read.1)
+
+    pub none_acl : ((x : Acl) → IsAclOf plain.kind plain.mode x → acl ≢ acl_text x) → (e : Path × Object) → IsEntry e → all_columns ≢ columns e
+    none_acl none e is same =
+        let alike = same_as e is same in
+        let here : acl ≡ acl_text e.1.node.acl = cc in
+        let fits : IsAclOf plain.kind (mode_at e.1) e.1.node.acl = subst (λ (k : Kind). IsAclOf k (mode_at e.1) e.1.node.acl) alike.0 (acl_is e.1 is.object) in
+        none e.1.node.acl (subst (λ (m : ℕ). IsAclOf plain.kind m e.1.node.acl) alike.1 fits) here
+
+    pub none_payload : ((x : Payload) → IsPayload plain.kind x → payload ≢ payload_text plain.kind x) → (e : Path × Object) → IsEntry e → all_columns ≢ columns e
+    none_payload none e is same =
+        let alike = same_as e is same in
+        let here : payload ≡ payload_text e.1.node.kind (payload_of e.1) = cc in
+        none (payload_of e.1) (subst (λ (k : Kind). IsPayload k (payload_of e.1)) alike.0 (payload_is e.1 is.object))
+        (subst (λ (k : Kind). payload ≡ payload_text k (payload_of e.1)) alike.0 here)
+
+    pub entry_is : (names : Path) (list : Acl) (rest : Payload) → IsBytePath names × (path ≡ printed_path names) → IsAclOf plain.kind plain.mode list × (acl ≡ acl_text list)
+        → IsPayload plain.kind rest × (payload ≡ payload_text plain.kind rest) → IsEntry (names, object_of plain list rest) × (all_columns ≡ columns (names, object_of plain list rest))
+    entry_is names list rest p a w =
+        let bits : plain.mode / 512 ≤ 7 = let m = read.0.mode in omega arith in
+        let owner : list.access.owner ≡ plain.mode / 64 % 8 = ap (λ (x : Part). x.owner) a.0.base in
+        let group : list.access.group ≡ plain.mode / 8 % 8 = ap (λ (x : Part). x.group) a.0.base in
+        let other : list.access.other ≡ plain.mode % 8 = ap (λ (x : Part). x.other) a.0.base in
+        let whole : mode_of (plain.mode / 512) list.access ≡ plain.mode = let m = read.0.mode in omega arith in
+        let modes : mode ≡ mode_text (mode_of (plain.mode / 512) list.access) = let here : mode ≡ mode_text plain.mode = cc in here ∙ ap mode_text (sym whole) in
+        let object : IsObject (object_of plain list rest) = record {
+          payload = w.0.fits;
+          bytes = w.0.are_bytes;
+          numbers = w.0.numbers;
+          special = bits;
+          owner = (read.0.uid, read.0.gid);
+          acl = a.0.allowed;
+          kind_acl = a.0.fits;
+          stamps = read.0.stamps;
+        } in
+        (record { path = p.0; object = object }, cc (read.1, p.1, a.1, w.1, modes))

@@ -1,0 +1,37 @@
+-- Decimal numbers and their texts.
+use Rattle.std.proofs.Common.{◌≡◌, ℕ, ◌<◌, ◌^◌, Bool, true, false, ◌&&◌, nat_lt, List, Some, None, sym, subst, ◌∙◌, arith, if◌then◌else◌, refl}
+use Rattle.std.specs.Fmt.{decimal}
+use Rattle.std.specs.Str.{bytes_eq}
+use Rattle.std.specs.Str.Parse.{digits_value}
+use Rattle.std.proofs.lemmas.Bool.Decides.{nat_tests}
+use Rattle.std.proofs.lemmas.Slice.Eq.{bytes_eq-Decides}
+use Rattle.std.proofs.lemmas.Fmt.{decimal_is_IsNumeral, decimal_injective}
+use Rattle.pv_acl.specs.Numbers.{number_of}
+use Rattle.pv_image.specs.Reading.{Reads}
+
+value_is : (n : ℕ) (text : List ℕ) → n < 2 ^ 64 → text ≡ decimal n → digits_value 10 text ≡ n
+value_is n text small e = subst (λ (t : List ℕ). digits_value 10 t ≡ n) (sym e) (decimal_is_IsNumeral n small).1
+
+below : (n : ℕ) → nat_lt n 18446744073709551616 ≡ true → n < 2 ^ 64
+below n h = grind (arith, nat_tests)
+
+not_below : (n : ℕ) → nat_lt n 18446744073709551616 ≡ false → n < 2 ^ 64 → ⊥
+not_below n h small = grind (arith, nat_tests)
+
+-- the number of a text is the one of which the text is the spelling
+pub number_reads : (text : List ℕ) → Reads decimal (λ n. n < 2 ^ 64) text (number_of text)
+number_reads text = by_tests (nat_lt (digits_value 10 text) 18446744073709551616) refl (bytes_eq (decimal (digits_value 10 text)) text) refl
+  where
+    by_tests : (a : Bool) → nat_lt (digits_value 10 text) 18446744073709551616 ≡ a → (b : Bool) → bytes_eq (decimal (digits_value 10 text)) text ≡ b
+        → Reads decimal (λ n. n < 2 ^ 64) text (if a && b then Some (digits_value 10 text) else None)
+    by_tests true small true same = (below (digits_value 10 text) small, sym ((bytes_eq-Decides (decimal (digits_value 10 text)) text).0 same))
+    by_tests true small false same = λ n fits e.
+        let v = value_is n text fits e in
+        let is : decimal (digits_value 10 text) ≡ text = subst (λ (m : ℕ). decimal m ≡ text) (sym v) (sym e) in
+        let yes : bytes_eq (decimal (digits_value 10 text)) text ≡ true = (bytes_eq-Decides (decimal (digits_value 10 text)) text).1 is in
+        cc
+    by_tests false large b same = λ n fits e. not_below (digits_value 10 text) large (subst (λ (m : ℕ). m < 2 ^ 64) (sym (value_is n text fits e)) fits)
+
+-- two numbers of one text are the same
+pub same_number : (m n : ℕ) (text : List ℕ) → m < 2 ^ 64 → n < 2 ^ 64 → text ≡ decimal m → text ≡ decimal n → m ≡ n
+same_number m n text fits small e f = decimal_injective m n fits small (sym e ∙ f)

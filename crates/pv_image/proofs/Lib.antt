@@ -1,0 +1,19 @@
+pub mod Decimals
+pub mod Cutting
+pub mod Letters
+pub mod Printing
+pub mod Paths
+pub mod Contents
+pub mod Columns
+pub mod Solid
+pub mod Feeds
+pub mod Order
+pub mod Facts
+mod Lines
+mod Wholes
+pub mod Stages
+pub mod Once
+pub mod OnceAcl
+pub mod AclLetters
+pub mod OnceLine
+pub mod ImageLaws

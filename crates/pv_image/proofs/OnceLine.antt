@@ -1,0 +1,218 @@
+-- No line says two things.
+use Rattle.std.proofs.Common.{◌≡◌, ◌≢◌, ℕ, ◌/◌, ◌<◌, ◌^◌, true, false, ◌==◌, List, [], ◌∷◌, ◌++◌, map, codes, refl, sym, ap, ◌∙◌, subst, arith}
+use Rattle.std.specs.List.{slice_split, join_with_byte}
+use Rattle.std.specs.Fmt.{decimal}
+use Rattle.std.proofs.lemmas.Bool.Decides.{nat_tests}
+use Rattle.std.proofs.lemmas.Fmt.{decimal_injective}
+use Rattle.pv_acl.specs.Parts.{base_of, part_of_mode}
+use Rattle.pv_acl.specs.Texts.{acl_text}
+use Rattle.pv_path.specs.Names.{is_name}
+use Rattle.pv_path.specs.Paths.{Path, has_names}
+use Rattle.pv_path.specs.PathLaws.{both_true}
+use Rattle.pv_path.specs.Printing.{printed, printed_path}
+use Rattle.pv_steps.specs.declared.node.Kind.{Kind}
+use Rattle.pv_steps.specs.declared.node.Kind.TheVariants.{Directory, File, Link, Fifo, CharDevice, BlockDevice}
+use Rattle.pv_steps.specs.declared.node.Stamps.{Stamps}
+use Rattle.pv_steps.specs.declared.object.Object.{Object}
+use Rattle.pv_steps.specs.Objects.{IsObject, StampsFit}
+use Rattle.pv_image.specs.declared.payload.Payload.{Payload}
+use Rattle.pv_image.specs.Spelling.{IsBytePath, IsEntry, IsPayload, columns, end_text, fact_text, fact_texts, header_text, kind_text, mode_text, node_text, number_texts, numbers_text, path_texts, payload_of, payload_text, stamp_texts, stamps_text}
+use Rattle.pv_image.specs.Images.{IsByteFact, Spells, What, Note, Header, Fact, Node, End, is_note}
+use Rattle.pv_image.proofs.Columns.{acl_is, kind_text-injective, mode_at, mode_text-injective, payload_is, plain_is, special_is}
+use Rattle.pv_image.proofs.Facts.{fact_again}
+use Rattle.pv_image.proofs.Letters.{numbers_again, path_again, path_joined, stamps_again}
+use Rattle.pv_image.proofs.Once.{content_once}
+use Rattle.pv_image.proofs.OnceAcl.{acl_once}
+use Rattle.pv_image.proofs.Printing.{printed_injective, some_printed}
+use Rattle.pv_image.proofs.Solid.{node_again}
+
+-- ---- columns
+
+path_texts_once : (p q : Path) → has_names p ≡ true → has_names q ≡ true → path_texts p ≡ path_texts q → p ≡ q
+path_texts_once [] [] f g e = refl
+path_texts_once [] (m ∷ q) f g e = absurd (no_text m (both_true (is_name m) (has_names q) g).0 (let h : [] ≡ printed m = cc in h))
+  where
+    no_text : (m : List ℕ) → is_name m ≡ true → [] ≡ printed m → ⊥
+    no_text [] f h = let no : is_name [] ≡ false = refl in cc
+    no_text (b ∷ m) f h = some_printed b (printed m) (sym h)
+path_texts_once (n ∷ p) [] f g e = absurd (no_text n (both_true (is_name n) (has_names p) f).0 (let h : [] ≡ printed n = cc in h))
+  where
+    no_text : (m : List ℕ) → is_name m ≡ true → [] ≡ printed m → ⊥
+    no_text [] f h = let no : is_name [] ≡ false = refl in cc
+    no_text (b ∷ m) f h = some_printed b (printed m) (sym h)
+path_texts_once (n ∷ p) (m ∷ q) f g e = names (n ∷ p) (m ∷ q) (let h : map printed (n ∷ p) ≡ map printed (m ∷ q) = cc in h)
+  where
+    names : (p q : Path) → map printed p ≡ map printed q → p ≡ q
+    names [] [] h = refl
+    names [] (m ∷ q) h = cc
+    names (n ∷ p) [] h = cc
+    names (n ∷ p) (m ∷ q) h =
+        let first : printed n ≡ printed m = cc in
+        let rest : map printed p ≡ map printed q = cc in
+        let same : n ≡ m = printed_injective n m first in
+        let below : p ≡ q = names p q rest in
+        cc
+
+path_once : (p q : Path) → IsBytePath p → IsBytePath q → printed_path p ≡ printed_path q → p ≡ q
+path_once p q f g e =
+    let joined : join_with_byte 47 (path_texts p) ≡ join_with_byte 47 (path_texts q) = path_joined p ∙ e ∙ sym (path_joined q) in
+    path_texts_once p q f.names g.names (sym (path_again p f) ∙ ap (slice_split (λ b. b == 47)) joined ∙ path_again q g)
+
+stamps_once : (a b : Stamps) → StampsFit a → StampsFit b → stamps_text a ≡ stamps_text b → a ≡ b
+stamps_once a b f g e =
+    let texts : stamp_texts a ≡ stamp_texts b = sym (stamps_again a f) ∙ ap (slice_split (λ c. c == 44)) e ∙ stamps_again b g in
+    let one : decimal a.access ≡ decimal b.access = cc in
+    let two : decimal a.birth ≡ decimal b.birth = cc in
+    let three : decimal a.change ≡ decimal b.change = cc in
+    let four : decimal a.modify ≡ decimal b.modify = cc in
+    let access = decimal_injective a.access b.access f.access g.access one in
+    let birth = decimal_injective a.birth b.birth f.birth g.birth two in
+    let change = decimal_injective a.change b.change f.change g.change three in
+    let modify = decimal_injective a.modify b.modify f.modify g.modify four in
+    λ i. record { access = access i; birth = birth i; change = change i; modify = modify i }
+
+numbers_once : (a b : ℕ × ℕ) → (a.0 < 2 ^ 32) × (a.1 < 2 ^ 32) → (b.0 < 2 ^ 32) × (b.1 < 2 ^ 32) → numbers_text a ≡ numbers_text b → (a.0 ≡ b.0) × (a.1 ≡ b.1)
+numbers_once a b f g e =
+    let texts : number_texts a ≡ number_texts b = sym (numbers_again a f) ∙ ap (slice_split (λ c. c == 58)) e ∙ numbers_again b g in
+    let one : decimal a.0 ≡ decimal b.0 = cc in
+    let two : decimal a.1 ≡ decimal b.1 = cc in
+    let f0 = f.0 in
+    let f1 = f.1 in
+    let g0 = g.0 in
+    let g1 = g.1 in
+    (decimal_injective a.0 b.0 (omega arith) (omega arith) one, decimal_injective a.1 b.1 (omega arith) (omega arith) two)
+
+made : (x y : Payload) → x.bytes ≡ y.bytes → x.major ≡ y.major → x.minor ≡ y.minor → x ≡ y
+made x y p q r = λ i. record { bytes = p i; major = q i; minor = r i }
+
+payload_once : (kind : Kind) (x y : Payload) → IsPayload kind x → IsPayload kind y → payload_text kind x ≡ payload_text kind y → x ≡ y
+payload_once Directory x y f g e = made x y (f.fits ∙ sym g.fits) (f.numbers.0 ∙ sym g.numbers.0) (f.numbers.1 ∙ sym g.numbers.1)
+payload_once File x y f g e = made x y (content_once x.bytes y.bytes f.are_bytes g.are_bytes e) (f.numbers.0 ∙ sym g.numbers.0) (f.numbers.1 ∙ sym g.numbers.1)
+payload_once Link x y f g e = made x y (printed_injective x.bytes y.bytes e) (f.numbers.0 ∙ sym g.numbers.0) (f.numbers.1 ∙ sym g.numbers.1)
+payload_once Fifo x y f g e = made x y (f.fits ∙ sym g.fits) (f.numbers.0 ∙ sym g.numbers.0) (f.numbers.1 ∙ sym g.numbers.1)
+payload_once CharDevice x y f g e =
+    let both = numbers_once (x.major, x.minor) (y.major, y.minor) f.numbers g.numbers e in
+    made x y (f.fits ∙ sym g.fits) both.0 both.1
+payload_once BlockDevice x y f g e =
+    let both = numbers_once (x.major, x.minor) (y.major, y.minor) f.numbers g.numbers e in
+    made x y (f.fits ∙ sym g.fits) both.0 both.1
+
+-- ---- nodes
+
+-- the columns of an object but for the kind, read as those of one kind
+object_once : (a b : Object) → IsObject a → IsObject b → a.node.kind ≡ b.node.kind → mode_text (mode_at a) ≡ mode_text (mode_at b) → decimal a.node.uid ≡ decimal b.node.uid → decimal a.node.gid ≡ decimal b.node.gid
+    → stamps_text a.node.stamps ≡ stamps_text b.node.stamps → acl_text a.node.acl ≡ acl_text b.node.acl → payload_text a.node.kind (payload_of a) ≡ payload_text b.node.kind (payload_of b) → a ≡ b
+object_once a b f g kind modes uids gids stamps acls payloads =
+    let mode : mode_at a ≡ mode_at b = mode_text-injective (mode_at a) (mode_at b) (plain_is a f).mode (plain_is b g).mode modes in
+    let special : a.node.special ≡ b.node.special = special_is a f ∙ ap (λ (m : ℕ). m / 512) mode ∙ sym (special_is b g) in
+    let fu = f.owner.0 in
+    let fg = f.owner.1 in
+    let gu = g.owner.0 in
+    let gg = g.owner.1 in
+    let uid : a.node.uid ≡ b.node.uid = decimal_injective a.node.uid b.node.uid (omega arith) (omega arith) uids in
+    let gid : a.node.gid ≡ b.node.gid = decimal_injective a.node.gid b.node.gid (omega arith) (omega arith) gids in
+    let times : a.node.stamps ≡ b.node.stamps = stamps_once a.node.stamps b.node.stamps f.stamps g.stamps stamps in
+    let base : base_of a.node.acl.access ≡ base_of b.node.acl.access = (acl_is a f).base ∙ ap part_of_mode mode ∙ sym (acl_is b g).base in
+    let acl : a.node.acl ≡ b.node.acl = acl_once a.node.acl b.node.acl f.acl g.acl base acls in
+    let moved : IsPayload a.node.kind (payload_of b) = subst (λ (k : Kind). IsPayload k (payload_of b)) (sym kind) (payload_is b g) in
+    let text : payload_text a.node.kind (payload_of a) ≡ payload_text a.node.kind (payload_of b) = payloads ∙ ap (λ (k : Kind). payload_text k (payload_of b)) (sym kind) in
+    let payload : payload_of a ≡ payload_of b = payload_once a.node.kind (payload_of a) (payload_of b) (payload_is a f) moved text in
+    λ i. record {
+      node = record { kind = kind i; special = special i; uid = uid i; gid = gid i; acl = acl i; stamps = times i; major = (payload i).major; minor = (payload i).minor };
+      payload = (payload i).bytes;
+    }
+
+pub node_once : (a b : Path × Object) → IsEntry a → IsEntry b → node_text a ≡ node_text b → a ≡ b
+node_once a b f g e =
+    let texts : columns a ≡ columns b = sym (node_again a f) ∙ ap (slice_split (λ c. c == 32)) e ∙ node_again b g in
+    let kinds : kind_text a.1.node.kind ≡ kind_text b.1.node.kind = cc in
+    let paths : printed_path a.0 ≡ printed_path b.0 = cc in
+    let modes : mode_text (mode_at a.1) ≡ mode_text (mode_at b.1) = cc in
+    let uids : decimal a.1.node.uid ≡ decimal b.1.node.uid = cc in
+    let gids : decimal a.1.node.gid ≡ decimal b.1.node.gid = cc in
+    let stamps : stamps_text a.1.node.stamps ≡ stamps_text b.1.node.stamps = cc in
+    let acls : acl_text a.1.node.acl ≡ acl_text b.1.node.acl = cc in
+    let payloads : payload_text a.1.node.kind (payload_of a.1) ≡ payload_text b.1.node.kind (payload_of b.1) = cc in
+    let path : a.0 ≡ b.0 = path_once a.0 b.0 f.path g.path paths in
+    let object : a.1 ≡ b.1 = object_once a.1 b.1 f.object g.object (kind_text-injective a.1.node.kind b.1.node.kind kinds) modes uids gids stamps acls payloads in
+    λ i. (path i, object i)
+
+pub fact_once : (a b : ℕ × List ℕ) → IsByteFact a → IsByteFact b → fact_text a ≡ fact_text b → a ≡ b
+fact_once a b f g e =
+    let texts : fact_texts a ≡ fact_texts b = sym (fact_again a f) ∙ ap (slice_split (λ c. c == 32)) e ∙ fact_again b g in
+    let letter : a.0 ≡ b.0 = cc in
+    let values : printed a.1 ≡ printed b.1 = cc in
+    let value : a.1 ≡ b.1 = printed_injective a.1 b.1 values in
+    λ i. (letter i, value i)
+
+-- ---- the first bytes of a line
+
+-- a line of a node begins with a letter and a space
+record NodeFront (text : List ℕ) : Type 0 where
+  letter : ℕ
+  rest : List ℕ
+  is : text ≡ letter ∷ 32 ∷ rest
+  no_colon : letter ≡ 58 → ⊥
+
+front_of : (kind : Kind) (rest : List ℕ) → NodeFront (kind_text kind ++ 32 ∷ rest)
+front_of Directory rest = record { letter = 100; rest = rest; is = refl; no_colon = omega arith }
+front_of File rest = record { letter = 102; rest = rest; is = refl; no_colon = omega arith }
+front_of Link rest = record { letter = 108; rest = rest; is = refl; no_colon = omega arith }
+front_of Fifo rest = record { letter = 112; rest = rest; is = refl; no_colon = omega arith }
+front_of CharDevice rest = record { letter = 99; rest = rest; is = refl; no_colon = omega arith }
+front_of BlockDevice rest = record { letter = 98; rest = rest; is = refl; no_colon = omega arith }
+
+node_front : (e : Path × Object) → NodeFront (node_text e)
+node_front e = front_of e.1.node.kind _
+
+second_byte : (a b : ℕ) (r s t : List ℕ) → t ≡ a ∷ b ∷ r → NodeFront t → b ≢ 32 → ⊥
+second_byte a b r s t e front other = let h : a ∷ b ∷ r ≡ front.letter ∷ 32 ∷ front.rest = sym e ∙ front.is in other (let k : b ≡ 32 = cc in k)
+
+no_note : (e : Path × Object) → is_note (node_text e) ≡ true → ⊥
+no_note e h =
+    let front = node_front e in
+    let k : is_note (front.letter ∷ 32 ∷ front.rest) ≡ true = subst (λ (t : List ℕ). is_note t ≡ true) front.is h in
+    front.no_colon (colon front.letter front.rest k)
+  where
+    colon : (b : ℕ) (rest : List ℕ) → is_note (b ∷ 32 ∷ rest) ≡ true → b ≡ 58
+    colon b rest k = let one : (58 == b) ≡ true = (both_true (58 == b) true k).0 in grind (arith, nat_tests)
+
+-- ---- what a line says
+
+-- a note is none of the other lines
+note_alone : (text : List ℕ) (what : What) → is_note text ≡ true → Spells text what → what ≡ Note
+note_alone text Note h spells = refl
+note_alone text Header h spells = absurd (let k : is_note header_text ≡ true = subst (λ (t : List ℕ). is_note t ≡ true) spells h in let no : is_note header_text ≡ false = refl in cc)
+note_alone text (Fact fact) h spells = absurd (let k : is_note (fact_text fact) ≡ true = subst (λ (t : List ℕ). is_note t ≡ true) spells.1 h in let no : is_note (fact_text fact) ≡ false = refl in cc)
+note_alone text (Node e) h spells = absurd (no_note e (subst (λ (t : List ℕ). is_note t ≡ true) spells.1 h))
+note_alone text End h spells = absurd (let k : is_note end_text ≡ true = subst (λ (t : List ℕ). is_note t ≡ true) spells h in let no : is_note end_text ≡ false = refl in cc)
+
+node_alone : (text : List ℕ) (e : Path × Object) (what : What) → Spells text (Node e) → Spells text what → what ≡ Node e
+node_alone text e Note is spells = sym (note_alone text (Node e) spells is)
+node_alone text e Header is spells = absurd (let front : NodeFront header_text = subst NodeFront (sym is.1 ∙ spells) (node_front e) in second_byte 116 114 (codes "ee-image 1") [] header_text refl front (omega arith))
+node_alone text e (Fact fact) is spells =
+    absurd (let front : NodeFront (fact_text fact) = subst NodeFront (sym is.1 ∙ spells.1) (node_front e) in second_byte 102 97 (99 ∷ 116 ∷ 32 ∷ fact.0 ∷ 32 ∷ printed fact.1) [] (fact_text fact) refl front (omega arith))
+node_alone text e (Node x) is spells = ap (λ (y : Path × Object). Node y) (node_once x e spells.0 is.0 (sym spells.1 ∙ is.1))
+node_alone text e End is spells = absurd (let front : NodeFront end_text = subst NodeFront (sym is.1 ∙ spells) (node_front e) in second_byte 101 110 (codes "d") [] end_text refl front (omega arith))
+
+differ : (a b : ℕ) (r s : List ℕ) → a ≢ b → a ∷ r ≡ b ∷ s → ⊥
+differ a b r s other e = other (let k : a ≡ b = cc in k)
+
+pub spells_once : (text : List ℕ) (a b : What) → Spells text a → Spells text b → a ≡ b
+spells_once text Note b f g = sym (note_alone text b f g)
+spells_once text (Node e) b f g = sym (node_alone text e b f g)
+spells_once text Header Note f g = note_alone text Header g f
+spells_once text Header Header f g = refl
+spells_once text Header (Fact fact) f g = absurd (let h : header_text ≡ fact_text fact = sym f ∙ g.1 in differ 116 102 _ _ (omega arith) h)
+spells_once text Header (Node e) f g = node_alone text e Header g f
+spells_once text Header End f g = absurd (let h : header_text ≡ end_text = sym f ∙ g in differ 116 101 _ _ (omega arith) h)
+spells_once text (Fact fact) Note f g = note_alone text (Fact fact) g f
+spells_once text (Fact fact) Header f g = absurd (let h : header_text ≡ fact_text fact = sym g ∙ f.1 in differ 116 102 _ _ (omega arith) h)
+spells_once text (Fact fact) (Fact other) f g = ap (λ (x : ℕ × List ℕ). Fact x) (fact_once fact other f.0 g.0 (sym f.1 ∙ g.1))
+spells_once text (Fact fact) (Node e) f g = node_alone text e (Fact fact) g f
+spells_once text (Fact fact) End f g = absurd (let h : fact_text fact ≡ end_text = sym f.1 ∙ g in differ 102 101 _ _ (omega arith) h)
+spells_once text End Note f g = note_alone text End g f
+spells_once text End Header f g = absurd (let h : header_text ≡ end_text = sym g ∙ f in differ 116 101 _ _ (omega arith) h)
+spells_once text End (Fact fact) f g = absurd (let h : fact_text fact ≡ end_text = sym g.1 ∙ f in differ 102 101 _ _ (omega arith) h)
+spells_once text End (Node e) f g = node_alone text e End g f
+spells_once text End End f g = refl

@@ -1,0 +1,58 @@
+-- Paths are read name by name.
+use Rattle.std.proofs.Common.{◌≡◌, ◌≢◌, ℕ, zero, suc, ◌+◌, ◌<◌, ◌≤◌, true, List, [], ◌∷◌, ◌++◌, length, get_or, map, take, refl, sym, ap, ◌∙◌, arith, Bor}
+use Rattle.std.specs.List.{list_all}
+use Rattle.std.proofs.lemmas.List.{take_more, length-map}
+use Rattle.pv_path.specs.Names.{is_name}
+use Rattle.pv_path.specs.Paths.{Path, has_names}
+use Rattle.pv_path.specs.Printing.{printed}
+use Rattle.pv_path.specs.PathLaws.{both_true}
+use Rattle.pv_image.specs.Spelling.{IsByteName, IsBytePath, are_bytes}
+use Rattle.pv_image.specs.Reading.{texts}
+use Rattle.pv_image.proofs.Letters.{both_yes, all_append}
+
+pub get_or-texts : {A : Type 0} (pieces : List (Bor A)) (i : ℕ) (d : Bor A) → get_or (texts pieces) i d.now ≡ (get_or pieces i d).now
+get_or-texts [] i d = refl
+get_or-texts (p ∷ pieces) zero d = refl
+get_or-texts (p ∷ pieces) (suc i) d = get_or-texts pieces i d
+
+map-append_one : {A B : Type 0} (f : A → B) (xs : List A) (x : A) → map f (xs ++ x ∷ []) ≡ map f xs ++ f x ∷ []
+map-append_one f [] x = refl
+map-append_one f (y ∷ xs) x = ap (λ ys. f y ∷ ys) (map-append_one f xs x)
+
+pub names_more : (pieces : List (Bor (List ℕ))) (i : ℕ) (d : Bor (List ℕ)) (path : Path) (name : List ℕ) → i < length pieces → take i (texts pieces) ≡ map printed path → (get_or pieces i d).now ≡ printed name
+    → take (i + 1) (texts pieces) ≡ map printed (path ++ name ∷ [])
+names_more pieces i d path name h so_far is =
+    let fits : i < length (texts pieces) = simp length-map h in
+    let here : get_or (texts pieces) i d.now ≡ printed name = get_or-texts pieces i d ∙ is in
+    take_more (texts pieces) i d.now fits ∙ rw (so_far, here) (sym (map-append_one printed path name))
+
+pub path_more : (path : Path) (name : List ℕ) → IsBytePath path → IsByteName name → IsBytePath (path ++ name ∷ [])
+path_more path name is one = record {
+  names = all_append is_name path (name ∷ []) is.names (both_yes (is_name name) true one.name refl);
+  bytes = all_append are_bytes path (name ∷ []) is.bytes (both_yes (are_bytes name) true one.fit refl);
+}
+
+-- a piece that is no name is in no path
+pub names_none : (pieces : List (Bor (List ℕ))) (i : ℕ) (d : Bor (List ℕ)) → i < length pieces → ((name : List ℕ) → IsByteName name → (get_or pieces i d).now ≢ printed name) → (path : Path) → IsBytePath path → texts pieces ≢ map printed path
+names_none [] i d h none path is e = omega arith
+names_none (p ∷ pieces) i d h none [] is e = cc
+names_none (p ∷ pieces) zero d h none (name ∷ path) is e =
+    let here : p.now ≡ printed name = cc in
+    none name (record { name = (both_true (is_name name) (has_names path) is.names).0; fit = (both_true (are_bytes name) (list_all are_bytes path) is.bytes).0 }) here
+names_none (p ∷ pieces) (suc i) d h none (name ∷ path) is e =
+    let below : texts pieces ≡ map printed path = cc in
+    names_none pieces i d (omega arith) none path (record { names = (both_true (is_name name) (has_names path) is.names).1; bytes = (both_true (are_bytes name) (list_all are_bytes path) is.bytes).1 }) below
+
+-- a list of eight slices is the eight
+pub eight : (ps : List (Bor (List ℕ))) (a b c d e f g h : Bor (List ℕ)) → 8 ≤ length ps → length ps < 9
+    → (get_or ps 0 a).now ∷ (get_or ps 1 b).now ∷ (get_or ps 2 c).now ∷ (get_or ps 3 d).now ∷ (get_or ps 4 e).now ∷ (get_or ps 5 f).now ∷ (get_or ps 6 g).now ∷ (get_or ps 7 h).now ∷ [] ≡ texts ps
+eight [] a b c d e f g h low high = absurd (omega arith)
+eight (p ∷ []) a b c d e f g h low high = absurd (omega arith)
+eight (p ∷ q ∷ []) a b c d e f g h low high = absurd (omega arith)
+eight (p ∷ q ∷ r ∷ []) a b c d e f g h low high = absurd (omega arith)
+eight (p ∷ q ∷ r ∷ s ∷ []) a b c d e f g h low high = absurd (omega arith)
+eight (p ∷ q ∷ r ∷ s ∷ t ∷ []) a b c d e f g h low high = absurd (omega arith)
+eight (p ∷ q ∷ r ∷ s ∷ t ∷ u ∷ []) a b c d e f g h low high = absurd (omega arith)
+eight (p ∷ q ∷ r ∷ s ∷ t ∷ u ∷ v ∷ []) a b c d e f g h low high = absurd (omega arith)
+eight (p ∷ q ∷ r ∷ s ∷ t ∷ u ∷ v ∷ w ∷ []) a b c d e f g h low high = refl
+eight (p ∷ q ∷ r ∷ s ∷ t ∷ u ∷ v ∷ w ∷ x ∷ ps) a b c d e f g h low high = absurd (omega arith)

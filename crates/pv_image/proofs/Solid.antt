@@ -1,0 +1,151 @@
+-- No column of a node has a space or a line feed in it.
+use Rattle.std.proofs.Common.{◌≡◌, ℕ, ◌/◌, ◌%◌, ◌<◌, ◌^◌, Bool, true, false, not, ◌&&◌, ◌||◌, ◌==◌, nat_le, nat_lt, List, [], ◌∷◌, ◌++◌, ◌+◌, refl, arith}
+use Rattle.std.specs.List.{list_all, flat_map, slice_split, join_with_byte}
+use Rattle.std.specs.Fmt.{decimal}
+use Rattle.std.proofs.lemmas.Bool.Decides.{nat_tests}
+use Rattle.pv_acl.specs.declared.part.Acl.{Acl}
+use Rattle.pv_acl.specs.Parts.{is_acl}
+use Rattle.pv_acl.specs.Texts.{access_texts, acl_text, default_texts, or_dash}
+use Rattle.pv_path.specs.Paths.{Path}
+use Rattle.pv_path.specs.Printing.{hex_digit, is_plain, printed, printed_path}
+use Rattle.pv_path.specs.PathLaws.{both_true}
+use Rattle.pv_steps.specs.declared.node.Kind.{Kind}
+use Rattle.pv_steps.specs.declared.node.Kind.TheVariants.{Directory, File, Link, Fifo, CharDevice, BlockDevice}
+use Rattle.pv_steps.specs.declared.node.Stamps.{Stamps}
+use Rattle.pv_steps.specs.declared.object.Object.{Object}
+use Rattle.pv_steps.specs.Objects.{StampsFit}
+use Rattle.pv_image.specs.declared.payload.Payload.{Payload}
+use Rattle.pv_image.specs.Spelling.{IsEntry, IsPayload, columns, content_text, kind_text, lacks, mode_text, node_text, numbers_text, payload_of, payload_text, stamps_text}
+use Rattle.pv_image.proofs.Letters.{all_append, all_joined, all_weaker, both_yes, digits_alone, is_digit, printed_all}
+use Rattle.pv_image.proofs.AclLetters.{PassesEntries, entries_pass}
+use Rattle.pv_image.proofs.Contents.{encoded_all}
+use Rattle.pv_image.proofs.Columns.{mode_at, payload_is}
+use Rattle.pv_image.proofs.Cutting.{are_apart, split_join}
+
+abbrev pub is_solid : ℕ → Bool
+is_solid b = not (b == 10) && not (b == 32)
+
+abbrev pub AreSolid : List ℕ → Type 0
+AreSolid text = list_all is_solid text ≡ true
+
+digit_solid : (b : ℕ) → is_digit b ≡ true → is_solid b ≡ true
+digit_solid b e = grind (arith, nat_tests)
+
+pub decimal_solid : (n : ℕ) → n < 2 ^ 64 → AreSolid (decimal n)
+decimal_solid n small = all_weaker is_digit is_solid digit_solid (decimal n) (digits_alone n small)
+
+-- ---- printed bytes
+
+plain_solid : (b : ℕ) → (not (is_plain b) || is_solid b) ≡ true
+plain_solid b = by_test (is_plain b) refl
+  where
+    by_test : (t : Bool) → is_plain b ≡ t → (not (is_plain b) || is_solid b) ≡ true
+    by_test true e = rw e (let low : nat_le 33 b ≡ true = (both_true (nat_le 33 b) (nat_le b 126) (both_true (nat_le 33 b && nat_le b 126) (not (b == 92)) e).0).0 in grind (arith, nat_tests))
+    by_test false e = rw e refl
+
+all_plain_solid : (bytes : List ℕ) → list_all (λ b. not (is_plain b) || is_solid b) bytes ≡ true
+all_plain_solid [] = refl
+all_plain_solid (b ∷ bytes) = both_yes (not (is_plain b) || is_solid b) (list_all (λ x. not (is_plain x) || is_solid x) bytes) (plain_solid b) (all_plain_solid bytes)
+
+hex_solid : (d : ℕ) → is_solid (hex_digit d) ≡ true
+hex_solid d = by_test (nat_lt d 10) refl
+  where
+    by_test : (t : Bool) → nat_lt d 10 ≡ t → is_solid (hex_digit d) ≡ true
+    by_test true e = rw e (grind (arith, nat_tests))
+    by_test false e = rw e (grind (arith, nat_tests))
+
+pub printed_solid : (bytes : List ℕ) → AreSolid (printed bytes)
+printed_solid bytes = printed_all is_solid refl refl hex_solid bytes (all_plain_solid bytes)
+
+names_solid : (path : Path) → AreSolid (flat_map (λ n. 47 ∷ printed n) path)
+names_solid [] = refl
+names_solid (name ∷ path) = all_append is_solid (47 ∷ printed name) (flat_map (λ n. 47 ∷ printed n) path) (printed_solid name) (names_solid path)
+
+pub path_solid : (path : Path) → AreSolid (printed_path path)
+path_solid [] = refl
+path_solid (name ∷ path) = names_solid (name ∷ path)
+
+-- ---- ACLs
+
+abbrev pub AllSolid : List (List ℕ) → Type 0
+AllSolid texts = list_all (list_all is_solid) texts ≡ true
+
+solid_entries : PassesEntries is_solid
+solid_entries = record { digit = digit_solid; dash = refl; colon = refl; user = refl; group = refl; mask = refl; other = refl; default_mark = refl; read = refl; write = refl; execute = refl }
+
+dash_solid : (text : List ℕ) → AreSolid text → AreSolid (or_dash text)
+dash_solid [] e = refl
+dash_solid (b ∷ bs) e = e
+
+pub acl_solid : (acl : Acl) → is_acl acl ≡ true → AreSolid (acl_text acl)
+acl_solid acl e =
+    let texts = access_texts acl.access ++ default_texts acl.default_part in
+    dash_solid (join_with_byte 44 texts) (all_joined is_solid 44 refl texts (entries_pass is_solid solid_entries acl e))
+
+-- ---- the columns
+
+kind_solid : (kind : Kind) → AreSolid (kind_text kind)
+kind_solid Directory = refl
+kind_solid File = refl
+kind_solid Link = refl
+kind_solid Fifo = refl
+kind_solid CharDevice = refl
+kind_solid BlockDevice = refl
+
+octal_solid : (n : ℕ) → is_solid (48 + n % 8) ≡ true
+octal_solid n = grind (arith, nat_tests)
+
+pub mode_solid : (mode : ℕ) → AreSolid (mode_text mode)
+mode_solid mode = rw (octal_solid (mode / 512), octal_solid (mode / 64), octal_solid (mode / 8), octal_solid mode) refl
+
+pub stamps_solid : (stamps : Stamps) → StampsFit stamps → AreSolid (stamps_text stamps)
+stamps_solid stamps fit =
+    all_joined is_solid 44 refl (decimal stamps.access ∷ decimal stamps.birth ∷ decimal stamps.change ∷ decimal stamps.modify ∷ [])
+    (rw (decimal_solid stamps.access fit.access, decimal_solid stamps.birth fit.birth, decimal_solid stamps.change fit.change, decimal_solid stamps.modify fit.modify) refl)
+
+numbers_solid : (major minor : ℕ) → major < 2 ^ 32 → minor < 2 ^ 32 → AreSolid (numbers_text (major, minor))
+numbers_solid major minor f g =
+    all_joined is_solid 58 refl (decimal major ∷ decimal minor ∷ []) (rw (decimal_solid major (omega arith), decimal_solid minor (omega arith)) refl)
+
+content_solid : (bytes : List ℕ) → AreSolid (content_text bytes)
+content_solid [] = refl
+content_solid (b ∷ bytes) = encoded_all is_solid refl refl refl (b ∷ bytes)
+
+payload_solid : (kind : Kind) (payload : Payload) → IsPayload kind payload → AreSolid (payload_text kind payload)
+payload_solid Directory payload is = refl
+payload_solid File payload is = content_solid payload.bytes
+payload_solid Link payload is = printed_solid payload.bytes
+payload_solid Fifo payload is = refl
+payload_solid CharDevice payload is = numbers_solid payload.major payload.minor is.numbers.0 is.numbers.1
+payload_solid BlockDevice payload is = numbers_solid payload.major payload.minor is.numbers.0 is.numbers.1
+
+pub columns_solid : (e : Path × Object) → IsEntry e → AllSolid (columns e)
+columns_solid e is =
+    let o = e.1 in
+    let uid : o.node.uid < 2 ^ 64 = let f = is.object.owner.0 in omega arith in
+    let gid : o.node.gid < 2 ^ 64 = let f = is.object.owner.1 in omega arith in
+    rw (kind_solid o.node.kind, path_solid e.0, mode_solid (mode_at o), decimal_solid o.node.uid uid, decimal_solid o.node.gid gid, stamps_solid o.node.stamps is.object.stamps, acl_solid o.node.acl is.object.acl, payload_solid o.node.kind (payload_of o) (payload_is o is.object)) refl
+
+solid_apart : (b : ℕ) → is_solid b ≡ true → not (b == 32) ≡ true
+solid_apart b e = (both_true (not (b == 10)) (not (b == 32)) e).1
+
+solid_whole : (b : ℕ) → is_solid b ≡ true → not (b == 10) ≡ true
+solid_whole b e = (both_true (not (b == 10)) (not (b == 32)) e).0
+
+pub pieces_apart : (texts : List (List ℕ)) → AllSolid texts → are_apart 32 texts ≡ true
+pieces_apart texts e = all_weaker (list_all is_solid) (lacks 32) (λ text f. all_weaker is_solid (λ b. not (b == 32)) solid_apart text f) texts e
+
+-- joined by spaces they make a line
+pub pieces_whole : (texts : List (List ℕ)) → AllSolid texts → lacks 10 (join_with_byte 32 texts) ≡ true
+pieces_whole texts e =
+    all_joined (λ b. not (b == 10)) 32 refl texts (all_weaker (list_all is_solid) (lacks 10) (λ text f. all_weaker is_solid (λ b. not (b == 10)) solid_whole text f) texts e)
+
+pub node_again : (e : Path × Object) → IsEntry e → slice_split (λ b. b == 32) (join_with_byte 32 (columns e)) ≡ columns e
+node_again e is =
+    let o = e.1 in
+    split_join 32 (kind_text o.node.kind)
+    (printed_path e.0 ∷ mode_text (mode_at o) ∷ decimal o.node.uid ∷ decimal o.node.gid ∷ stamps_text o.node.stamps ∷ acl_text o.node.acl ∷ payload_text o.node.kind (payload_of o) ∷ [])
+    (pieces_apart (columns e) (columns_solid e is))
+
+pub node_whole : (e : Path × Object) → IsEntry e → lacks 10 (node_text e) ≡ true
+node_whole e is = pieces_whole (columns e) (columns_solid e is)

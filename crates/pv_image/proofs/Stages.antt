@@ -1,0 +1,347 @@
+-- One line more is read, or it has the first fault.
+use Rattle.std.proofs.Common.{◌≡◌, ◌≢◌, ℕ, suc, ◌+◌, ◌≤◌, Bool, true, false, not, ◌&&◌, List, [], ◌∷◌, ◌++◌, length, map, Some, None, Ok, Err, refl, sym, ap, ◌∙◌, subst, arith, add-one, append_assoc, append-nil, length-append}
+use Rattle.std.specs.List.{flat_map, list_all}
+use Rattle.std.proofs.Common.{inl, inr, ◌⊎◌, ◌==◌}
+use Rattle.std.proofs.lemmas.List.{nil_from_length}
+use Rattle.std.specs.Ordering.{is_lt, nat_cmp}
+use Rattle.std.specs.FinMap as fin
+use Rattle.std.proofs.lemmas.List.Concat.{flat_map-append}
+use Rattle.pv_path.specs.PathLaws.{both_true}
+use Rattle.pv_path.specs.Paths.{Path, path_cmp}
+use Rattle.pv_steps.specs.declared.object.Object.{Object}
+use Rattle.pv_steps.specs.Trees.{Files, IsTree}
+use Rattle.pv_text.specs.Facts.{Values}
+use Rattle.pv_image.specs.Spelling.{IsEntry, end_text, fact_text, header_text, line, node_text}
+use Rattle.pv_image.specs.Images.{HasFault, cut_off, misspelt, misplaced, later, IsByteFact, IsCut, IsImage, Spells, Stage, Before, InFacts, InNodes, After, What, Note, Header, Fact, Node, End, are_byte_names, bad, follows, is_byte_fact, is_line, is_note, is_root, has_parent, judged}
+use Rattle.pv_image.specs.Progress.{Fails, FactsRead, HasNoFactNext, IsLast, Leads, NotesRead, Refuses, TreeRead}
+use Rattle.pv_image.specs.declared.fault.ImageFault.{ImageFault}
+use Rattle.pv_image.specs.declared.fault.ImageFault.TheVariants as fault
+use Rattle.pv_image.proofs.Letters.{all_append, both_yes}
+
+-- ---- faults of what is left
+
+pub leads_none : (n : ℕ) (stage : Stage) (bytes : List ℕ) → Leads n stage bytes n stage bytes
+leads_none n stage bytes f h = h
+
+pub leads_on : (n : ℕ) (stage : Stage) (bytes : List ℕ) (m : ℕ) (now next : Stage) (text rest after : List ℕ) (what : What) → Leads n stage bytes m now rest → IsCut rest text after → Spells text what → judged m now what ≡ Some (Ok next)
+    → Leads n stage bytes (m + 1) next after
+leads_on n stage bytes m now next text rest after what lead cut spells is f h = lead f (later what cut spells is (rw add-one at h))
+
+pub fails_later : (n : ℕ) (stage : Stage) (bytes : List ℕ) (m : ℕ) (now : Stage) (rest : List ℕ) (f : ImageFault) → Leads n stage bytes m now rest → Fails m now rest f → Fails n stage bytes f
+fails_later n stage bytes m now rest fault.TooLong lead h = lead fault.TooLong h
+fails_later n stage bytes m now rest (fault.BadHeader k) lead h = lead (fault.BadHeader k) h
+fails_later n stage bytes m now rest (fault.BadLine k) lead h = lead (fault.BadLine k) h
+fails_later n stage bytes m now rest (fault.OutOfOrder k) lead h = lead (fault.OutOfOrder k) h
+fails_later n stage bytes m now rest (fault.NoParent k) lead h = lead (fault.NoParent k) h
+fails_later n stage bytes m now rest (fault.Truncated k) lead h = lead (fault.Truncated k) h
+fails_later n stage bytes m now rest fault.Memory lead h = tt
+
+pub fails_has : (n : ℕ) (stage : Stage) (bytes : List ℕ) (f : ImageFault) → HasFault n stage bytes f → Fails n stage bytes f
+fails_has n stage bytes fault.TooLong h = h
+fails_has n stage bytes (fault.BadHeader k) h = h
+fails_has n stage bytes (fault.BadLine k) h = h
+fails_has n stage bytes (fault.OutOfOrder k) h = h
+fails_has n stage bytes (fault.NoParent k) h = h
+fails_has n stage bytes (fault.Truncated k) h = h
+fails_has n stage bytes fault.Memory h = tt
+
+pub has_fails : (n : ℕ) (stage : Stage) (bytes : List ℕ) (f : ImageFault) → Fails n stage bytes f → f ≢ fault.Memory → HasFault n stage bytes f
+has_fails n stage bytes fault.TooLong h other = h
+has_fails n stage bytes (fault.BadHeader k) h other = h
+has_fails n stage bytes (fault.BadLine k) h other = h
+has_fails n stage bytes (fault.OutOfOrder k) h other = h
+has_fails n stage bytes (fault.NoParent k) h other = h
+has_fails n stage bytes (fault.Truncated k) h other = h
+has_fails n stage bytes fault.Memory h other = absurd (other refl)
+
+pub refuses_fails : (n : ℕ) (stage : Stage) (bytes text rest : List ℕ) (what : What) (f : ImageFault) → IsCut bytes text rest → Spells text what → Refuses n stage what f → Fails n stage bytes f
+refuses_fails n stage bytes text rest what fault.TooLong cut spells is = misplaced what cut spells is
+refuses_fails n stage bytes text rest what (fault.BadHeader k) cut spells is = misplaced what cut spells is
+refuses_fails n stage bytes text rest what (fault.BadLine k) cut spells is = misplaced what cut spells is
+refuses_fails n stage bytes text rest what (fault.OutOfOrder k) cut spells is = misplaced what cut spells is
+refuses_fails n stage bytes text rest what (fault.NoParent k) cut spells is = misplaced what cut spells is
+refuses_fails n stage bytes text rest what (fault.Truncated k) cut spells is = misplaced what cut spells is
+refuses_fails n stage bytes text rest what fault.Memory cut spells is = tt
+
+-- ---- lengths
+
+pub cut_length : (bytes text rest : List ℕ) → IsCut bytes text rest → length rest + 1 ≤ length bytes
+cut_length bytes text rest cut =
+    let whole : length bytes ≡ length (line text ++ rest) = ap length cut.bytes_are in
+    omega (arith, whole, length-append (line text) rest, length-append text (10 ∷ []))
+
+-- ---- before the header
+
+module _ (n : ℕ) (bytes text rest : List ℕ) (cut : IsCut bytes text rest) where
+  pub bad_header : text ≢ header_text → is_note text ≡ false → HasFault n Before bytes (fault.BadHeader n)
+  bad_header other none = misspelt {stage = Before} cut by_what
+    where
+      by_what : (what : What) → Spells text what → judged n Before what ≡ None
+      by_what Note spells = absurd (let bad : true ≡ false = sym spells ∙ none in cc)
+      by_what Header spells = absurd (other spells)
+      by_what (Fact fact) spells = refl
+      by_what (Node e) spells = refl
+      by_what End spells = refl
+
+  -- ---- after facts
+
+  pub bad_first : (facts : List (ℕ × List ℕ)) → ((fact : ℕ × List ℕ) → IsByteFact fact → text ≢ fact_text fact) → ((e : Path × Object) → IsEntry e → text ≢ node_text e) → text ≢ end_text → HasFault n (InFacts facts) bytes (fault.BadLine n)
+  bad_first facts no_fact no_node no_end = misspelt {stage = InFacts facts} cut by_what
+    where
+      by_what : (what : What) → Spells text what → judged n (InFacts facts) what ≡ None
+      by_what Note spells = refl
+      by_what Header spells = refl
+      by_what (Fact fact) spells = absurd (no_fact fact spells.0 spells.1)
+      by_what (Node e) spells = absurd (no_node e spells.0 spells.1)
+      by_what End spells = absurd (no_end spells)
+
+  pub no_nodes : (facts : List (ℕ × List ℕ)) → text ≡ end_text → HasFault n (InFacts facts) bytes (fault.NoParent n)
+  no_nodes facts is = misplaced {stage = InFacts facts} End cut is refl
+
+  pub no_root : (facts : List (ℕ × List ℕ)) (e : Path × Object) → IsEntry e → text ≡ node_text e → is_root e ≡ false → HasFault n (InFacts facts) bytes (fault.NoParent n)
+  no_root facts e is spelt other = misplaced {stage = InFacts facts} (Node e) cut (is, spelt) (rw other refl)
+
+  -- ---- after nodes
+
+  pub bad_node : (entries : List (Path × Object)) → ((e : Path × Object) → IsEntry e → text ≢ node_text e) → text ≢ end_text → HasFault n (InNodes entries) bytes (fault.BadLine n)
+  bad_node entries no_node no_end = misspelt {stage = InNodes entries} cut by_what
+    where
+      by_what : (what : What) → Spells text what → judged n (InNodes entries) what ≡ None
+      by_what Note spells = refl
+      by_what Header spells = refl
+      by_what (Fact fact) spells = refl
+      by_what (Node e) spells = absurd (no_node e spells.0 spells.1)
+      by_what End spells = absurd (no_end spells)
+
+  -- ---- after the end
+
+  pub bad_after : HasFault n After bytes (fault.BadLine n)
+  bad_after = misspelt {stage = After} cut by_what
+    where
+      by_what : (what : What) → Spells text what → judged n After what ≡ None
+      by_what Note spells = refl
+      by_what Header spells = refl
+      by_what (Fact fact) spells = refl
+      by_what (Node e) spells = refl
+      by_what End spells = refl
+
+pub truncated : (n : ℕ) (bytes : List ℕ) → is_line bytes ≡ true → bytes ≢ [] → HasFault n After bytes (fault.Truncated n)
+truncated n [] e some = absurd (some refl)
+truncated n (b ∷ bytes) e some = cut_off e refl
+
+-- ---- what was read
+
+pub notes_none : (bytes : List ℕ) → NotesRead bytes bytes
+notes_none bytes = record { notes = []; are_notes = refl; text = refl }
+
+pub notes_more : (bytes rest text after : List ℕ) → NotesRead bytes rest → IsCut rest text after → is_note text ≡ true → NotesRead bytes after
+notes_more bytes rest text after read cut note = record {
+  notes = read.notes ++ text ∷ [];
+  are_notes = all_append (λ t. is_note t && is_line t) read.notes (text ∷ []) read.are_notes (both_yes (is_note text && is_line text) true (both_yes (is_note text) (is_line text) note cut.whole) refl);
+  text =
+      read.text ∙ ap (λ (t : List ℕ). flat_map line read.notes ++ t) cut.bytes_are
+      ∙ sym (append_assoc (flat_map line read.notes) (line text) after)
+      ∙ ap (λ (t : List ℕ). t ++ after) (ap (λ (t : List ℕ). flat_map line read.notes ++ t) (sym (append-nil (line text))) ∙ sym (flat_map-append line read.notes (text ∷ [])));
+}
+
+map-push : {A B : Type 0} (f : A → B) (xs : List A) (x : A) → map f (xs ++ x ∷ []) ≡ map f xs ++ f x ∷ []
+map-push f [] x = refl
+map-push f (y ∷ xs) x = ap (λ ys. f y ∷ ys) (map-push f xs x)
+
+lines_more : {A : Type 0} (f : A → List ℕ) (xs : List A) (x : A) (bytes rest text after : List ℕ) → bytes ≡ flat_map line (map f xs) ++ rest → IsCut rest text after → text ≡ f x → bytes ≡ flat_map line (map f (xs ++ x ∷ [])) ++ after
+lines_more f xs x bytes rest text after read cut is =
+    let front = flat_map line (map f xs) in
+    read ∙ ap (λ (t : List ℕ). front ++ t) cut.bytes_are ∙ sym (append_assoc front (line text) after)
+    ∙ ap (λ (t : List ℕ). t ++ after)
+    (ap (λ (t : List ℕ). front ++ t) (ap line is ∙ sym (append-nil (line (f x)))) ∙ sym (flat_map-append line (map f xs) (f x ∷ [])) ∙ ap (flat_map line) (sym (map-push f xs x)))
+
+pub facts_more : (bytes : List ℕ) (old new : Values) (fact : ℕ × List ℕ) (rest text after : List ℕ) → FactsRead bytes old rest → fin.entries new ≡ fin.entries old ++ fact ∷ [] → IsByteFact fact → IsCut rest text after → text ≡ fact_text fact → FactsRead bytes new after
+facts_more bytes old new fact rest text after read added fits cut is = record {
+  fit = subst (λ (es : List (ℕ × List ℕ)). list_all is_byte_fact es ≡ true) (sym added) (all_append is_byte_fact (fin.entries old) (fact ∷ []) read.fit (both_yes (is_byte_fact fact) true fits refl));
+  text = subst (λ (es : List (ℕ × List ℕ)). bytes ≡ flat_map line (map fact_text es) ++ after) (sym added) (lines_more fact_text (fin.entries old) fact bytes rest text after read.text cut is);
+}
+
+pub tree_more : (bytes : List ℕ) (old new : Files) (e : Path × Object) (rest text after : List ℕ) → TreeRead bytes old rest → fin.entries new ≡ fin.entries old ++ e ∷ [] → IsEntry e → IsCut rest text after → text ≡ node_text e → TreeRead bytes new after
+tree_more bytes old new e rest text after read added entry cut is = record {
+  fit = subst (λ (es : List (Path × Object)). list_all (λ x. are_byte_names x.0) es ≡ true) (sym added) (all_append (λ x. are_byte_names x.0) (fin.entries old) (e ∷ []) read.fit (both_yes (are_byte_names e.0) true entry.path.bytes refl));
+  text = subst (λ (es : List (Path × Object)). bytes ≡ flat_map line (map node_text es) ++ after) (sym added) (lines_more node_text (fin.entries old) e bytes rest text after read.text cut is);
+}
+
+pub tree_one : (bytes : List ℕ) (files : Files) (e : Path × Object) (text after : List ℕ) → fin.entries files ≡ e ∷ [] → IsEntry e → IsCut bytes text after → text ≡ node_text e → TreeRead bytes files after
+tree_one bytes files e text after one entry cut is = record {
+  fit = subst (λ (es : List (Path × Object)). list_all (λ x. are_byte_names x.0) es ≡ true) (sym one) (both_yes (are_byte_names e.0) true entry.path.bytes refl);
+  text = subst (λ (es : List (Path × Object)). bytes ≡ flat_map line (map node_text es) ++ after) (sym one) (lines_more node_text [] e bytes bytes text after refl cut is);
+}
+
+-- ---- the last letter
+
+follows_push : (es : List (ℕ × List ℕ)) (fact : ℕ × List ℕ) (letter : ℕ) → follows nat_cmp (es ++ fact ∷ []) letter ≡ is_lt (nat_cmp fact.0 letter)
+follows_push [] fact letter = refl
+follows_push (x ∷ []) fact letter = refl
+follows_push (x ∷ y ∷ es) fact letter = follows_push (y ∷ es) fact letter
+
+pub last_more : (old new : Values) (fact : ℕ × List ℕ) → fin.entries new ≡ fin.entries old ++ fact ∷ [] → IsLast new (Some fact.0)
+last_more old new fact added letter = sym (ap (λ (es : List (ℕ × List ℕ)). follows nat_cmp es letter) added ∙ follows_push (fin.entries old) fact letter)
+
+-- ---- the whole
+
+-- an image read to its end is one
+pub whole_image : (bytes : List ℕ) (facts : Values) (files : Files) (after_header after_facts rest : List ℕ) → NotesRead bytes (line header_text ++ after_header) → FactsRead after_header facts after_facts
+    → TreeRead after_facts files (line end_text ++ rest) → rest ≡ [] → IsTree files → IsImage bytes facts files
+whole_image bytes facts files after_header after_facts rest notes read tree none is = record {
+  notes = notes.notes;
+  are_notes = notes.are_notes;
+  fit = record { facts_fit = read.fit; names_fit = names (fin.entries files) tree.fit; tree = is };
+  text =
+      let front = flat_map line notes.notes in
+      let f = flat_map line (map fact_text (fin.entries facts)) in
+      let n = flat_map line (map node_text (fin.entries files)) in
+      let parts : after_header ≡ f ++ (n ++ (line end_text ++ [])) = read.text ∙ ap (λ (t : List ℕ). f ++ t) (tree.text ∙ ap (λ (t : List ℕ). n ++ (line end_text ++ t)) none) in
+      let joined : flat_map line (header_text ∷ map fact_text (fin.entries facts) ++ map node_text (fin.entries files) ++ end_text ∷ []) ≡ line header_text ++ (f ++ (n ++ (line end_text ++ []))) =
+      ap (λ (t : List ℕ). line header_text ++ t) (flat_map-append line (map fact_text (fin.entries facts) ++ map node_text (fin.entries files)) (end_text ∷ [])
+      ∙ ap (λ (t : List ℕ). t ++ (line end_text ++ [])) (flat_map-append line (map fact_text (fin.entries facts)) (map node_text (fin.entries files)))
+      ∙ append_assoc f n (line end_text ++ [])) in
+      notes.text ∙ ap (λ (t : List ℕ). front ++ (line header_text ++ t)) parts ∙ ap (λ (t : List ℕ). front ++ t) (sym joined);
+}
+  where
+    names : (es : List (Path × Object)) → list_all (λ e. are_byte_names e.0) es ≡ true → list_all are_byte_names (map (λ e. e.0) es) ≡ true
+    names [] e = refl
+    names (x ∷ es) e =
+        let parts = both_true (are_byte_names x.0) (list_all (λ y. are_byte_names y.0) es) e in
+        both_yes (are_byte_names x.0) (list_all are_byte_names (map (λ y. y.0) es)) parts.0 (names es parts.1)
+
+-- ---- no line is too long
+
+never_judged : (n : ℕ) (stage : Stage) (what : What) → judged n stage what ≡ Some (Err fault.TooLong) → ⊥
+never_judged n Before Note e = cc
+never_judged n Before Header e = cc
+never_judged n Before (Fact fact) e = cc
+never_judged n Before (Node x) e = cc
+never_judged n Before End e = cc
+never_judged n (InFacts facts) Note e = cc
+never_judged n (InFacts facts) Header e = cc
+never_judged n (InFacts facts) (Fact fact) e = by_test (follows nat_cmp facts fact.0) refl
+  where
+    by_test : (t : Bool) → follows nat_cmp facts fact.0 ≡ t → ⊥
+    by_test true q = let h = rw q at e in cc h
+    by_test false q = let h = rw q at e in cc h
+never_judged n (InFacts facts) (Node x) e = by_test (is_root x) refl
+  where
+    by_test : (t : Bool) → is_root x ≡ t → ⊥
+    by_test true q = let h = rw q at e in cc h
+    by_test false q = let h = rw q at e in cc h
+never_judged n (InFacts facts) End e = cc
+never_judged n (InNodes entries) Note e = cc
+never_judged n (InNodes entries) Header e = cc
+never_judged n (InNodes entries) (Fact fact) e = cc
+never_judged n (InNodes entries) (Node x) e = by_test (follows path_cmp entries x.0) refl (has_parent entries x.0) refl
+  where
+    by_test : (t : Bool) → follows path_cmp entries x.0 ≡ t → (u : Bool) → has_parent entries x.0 ≡ u → ⊥
+    by_test true q true p = let h = rw (q, p) at e in cc h
+    by_test true q false p = let h = rw (q, p) at e in cc h
+    by_test false q u p = let h = rw q at e in cc h
+never_judged n (InNodes entries) End e = cc
+never_judged n After Note e = cc
+never_judged n After Header e = cc
+never_judged n After (Fact fact) e = cc
+never_judged n After (Node x) e = cc
+never_judged n After End e = cc
+
+never_bad : (n : ℕ) (stage : Stage) → bad n stage ≡ fault.TooLong → ⊥
+never_bad n Before e = cc
+never_bad n (InFacts facts) e = cc
+never_bad n (InNodes entries) e = cc
+never_bad n After e = cc
+
+-- no bytes have the fault that the top call gives
+pub never_long : (n : ℕ) (stage : Stage) (bytes : List ℕ) (f : ImageFault) → HasFault n stage bytes f → f ≢ fault.TooLong
+never_long n stage bytes f (cut_off none unended) e = cc
+never_long n stage bytes f (misspelt {stage = s} cut none) e = never_bad n s e
+never_long n stage bytes f (misplaced what cut spells is) e = never_judged n stage what (is ∙ ap (λ (g : ImageFault). Some (Err g)) e)
+never_long n stage bytes f (later {next = next} {rest = rest} what cut spells is more) e = never_long (suc n) next rest f more e
+
+-- ---- the first line is one
+
+feed_first : (x : ℕ) (t : List ℕ) → is_line (x ∷ t) ≡ true → x ≡ 10 → ⊥
+feed_first x t e is = let here : not (x == 10) ≡ true = (both_true (not (x == 10)) (is_line t) e).0 in let bad : not (10 == 10) ≡ true = subst (λ (y : ℕ). not (y == 10) ≡ true) is here in let no : not (10 == 10) ≡ false = refl in cc
+
+one_front : (t u r s : List ℕ) → is_line t ≡ true → is_line u ≡ true → t ++ 10 ∷ r ≡ u ++ 10 ∷ s → (t ≡ u) × (r ≡ s)
+one_front [] [] r s p q e = (refl, cc)
+one_front [] (y ∷ u) r s p q e = absurd (feed_first y u q (let h : y ≡ 10 = cc in h))
+one_front (x ∷ t) [] r s p q e = absurd (feed_first x t p (let h : x ≡ 10 = cc in h))
+one_front (x ∷ t) (y ∷ u) r s p q e =
+    let rest : t ++ 10 ∷ r ≡ u ++ 10 ∷ s = cc in
+    let first : x ≡ y = cc in
+    let below = one_front t u r s (both_true (not (x == 10)) (is_line t) p).1 (both_true (not (y == 10)) (is_line u) q).1 rest in
+    (let same : t ≡ u = below.0 in cc, below.1)
+
+pub one_cut : (bytes t u r s : List ℕ) → IsCut bytes t r → IsCut bytes u s → (t ≡ u) × (r ≡ s)
+one_cut bytes t u r s a b = one_front t u r s a.whole b.whole (sym (append_assoc t (10 ∷ []) r) ∙ sym a.bytes_are ∙ b.bytes_are ∙ append_assoc u (10 ∷ []) s)
+
+-- what is no fact stays none
+pub no_fact_next : (bytes text rest : List ℕ) → IsCut bytes text rest → ((fact : ℕ × List ℕ) → IsByteFact fact → text ≢ fact_text fact) → HasNoFactNext bytes
+no_fact_next bytes text rest cut none other after again fact is e = none fact is ((one_cut bytes text other rest after cut again).0 ∙ e)
+
+-- ---- no facts
+
+facts_none : (facts : Values) → facts ≡ fin.empty → fin.entries facts ≡ []
+facts_none facts e = ap (λ (m : Values). fin.entries m) e ∙ nil_from_length (fin.entries (fin.empty {X = List ℕ} {R = nat_cmp})) (sym (fin.len-entries (fin.empty {X = List ℕ} {R = nat_cmp})) ∙ fin.len-empty nat_cmp (List ℕ))
+
+module _ (facts : Values) (empty : facts ≡ fin.empty) where
+  pub none_leads : (n : ℕ) (bytes : List ℕ) → Leads n (InFacts []) bytes n (InFacts (fin.entries facts)) bytes
+  none_leads n bytes f h = subst (λ (es : List (ℕ × List ℕ)). HasFault n (InFacts es) bytes f) (facts_none facts empty) h
+
+  pub none_read : (bytes : List ℕ) → FactsRead bytes facts bytes
+  none_read bytes = record {
+    fit = subst (λ (es : List (ℕ × List ℕ)). list_all is_byte_fact es ≡ true) (sym (facts_none facts empty)) refl;
+    text = subst (λ (es : List (ℕ × List ℕ)). bytes ≡ flat_map line (map fact_text es) ++ bytes) (sym (facts_none facts empty)) refl;
+  }
+
+  pub none_last : IsLast facts None
+  none_last letter = subst (λ (es : List (ℕ × List ℕ)). true ≡ follows nat_cmp es letter) (sym (facts_none facts empty)) refl
+
+-- ---- the first node
+
+pub root_fails : (n : ℕ) (facts : List (ℕ × List ℕ)) (bytes text rest : List ℕ) (e : Path × Object) (f : ImageFault) → IsCut bytes text rest → IsEntry e × (text ≡ node_text e) → (f ≢ fault.Memory → (is_root e ≡ false) × (f ≡ fault.NoParent n))
+    → Fails n (InFacts facts) bytes f
+root_fails n facts bytes text rest e fault.TooLong cut read refused = let r = refused (λ x. cc) in subst (λ (g : ImageFault). HasFault n (InFacts facts) bytes g) (sym r.1) (no_root n bytes text rest cut facts e read.0 read.1 r.0)
+root_fails n facts bytes text rest e (fault.BadHeader k) cut read refused = let r = refused (λ x. cc) in subst (λ (g : ImageFault). HasFault n (InFacts facts) bytes g) (sym r.1) (no_root n bytes text rest cut facts e read.0 read.1 r.0)
+root_fails n facts bytes text rest e (fault.BadLine k) cut read refused = let r = refused (λ x. cc) in subst (λ (g : ImageFault). HasFault n (InFacts facts) bytes g) (sym r.1) (no_root n bytes text rest cut facts e read.0 read.1 r.0)
+root_fails n facts bytes text rest e (fault.OutOfOrder k) cut read refused = let r = refused (λ x. cc) in subst (λ (g : ImageFault). HasFault n (InFacts facts) bytes g) (sym r.1) (no_root n bytes text rest cut facts e read.0 read.1 r.0)
+root_fails n facts bytes text rest e (fault.NoParent k) cut read refused = let r = refused (λ x. cc) in subst (λ (g : ImageFault). HasFault n (InFacts facts) bytes g) (sym r.1) (no_root n bytes text rest cut facts e read.0 read.1 r.0)
+root_fails n facts bytes text rest e (fault.Truncated k) cut read refused = let r = refused (λ x. cc) in subst (λ (g : ImageFault). HasFault n (InFacts facts) bytes g) (sym r.1) (no_root n bytes text rest cut facts e read.0 read.1 r.0)
+root_fails n facts bytes text rest e fault.Memory cut read refused = tt
+
+pub first_fails : (n : ℕ) (facts : List (ℕ × List ℕ)) (bytes text rest : List ℕ) (f : ImageFault) → IsCut bytes text rest → HasNoFactNext bytes → ((e : Path × Object) → IsEntry e → text ≢ node_text e)
+    → ((f ≡ fault.NoParent n) × (text ≡ end_text)) ⊎ ((f ≡ fault.BadLine n) × (text ≢ end_text)) → Fails n (InFacts facts) bytes f
+first_fails n facts bytes text rest f cut next no_node (inl (is, ended)) =
+    subst (λ (g : ImageFault). Fails n (InFacts facts) bytes g) (sym is) (no_nodes n bytes text rest cut facts ended)
+first_fails n facts bytes text rest f cut next no_node (inr (is, other)) =
+    subst (λ (g : ImageFault). Fails n (InFacts facts) bytes g) (sym is) (bad_first n bytes text rest cut facts (next text rest cut) no_node other)
+
+pub root_leads : (n : ℕ) (facts : List (ℕ × List ℕ)) (bytes text rest : List ℕ) (e : Path × Object) (files : Files) → IsCut bytes text rest → IsEntry e × (text ≡ node_text e) → is_root e ≡ true → fin.entries files ≡ e ∷ []
+    → Leads n (InFacts facts) bytes (n + 1) (InNodes (fin.entries files)) rest
+root_leads n facts bytes text rest e files cut read root one =
+    let is : judged n (InFacts facts) (Node e) ≡ Some (Ok (InNodes (e ∷ []))) = rw root refl in
+    subst (λ (es : List (Path × Object)). Leads n (InFacts facts) bytes (n + 1) (InNodes es) rest) (sym one)
+    (leads_on n (InFacts facts) bytes n (InFacts facts) (InNodes (e ∷ [])) text bytes rest (Node e) (leads_none n (InFacts facts) bytes) cut read is)
+
+-- one node, or one fact, more
+pub nodes_on : (n : ℕ) (stage : Stage) (bytes : List ℕ) (m : ℕ) (old new : Files) (e : Path × Object) (text rest after : List ℕ) → Leads n stage bytes m (InNodes (fin.entries old)) rest → IsCut rest text after → IsEntry e × (text ≡ node_text e)
+    → judged m (InNodes (fin.entries old)) (Node e) ≡ Some (Ok (InNodes (fin.entries old ++ e ∷ []))) → fin.entries new ≡ fin.entries old ++ e ∷ [] → Leads n stage bytes (m + 1) (InNodes (fin.entries new)) after
+nodes_on n stage bytes m old new e text rest after lead cut read is added =
+    subst (λ (es : List (Path × Object)). Leads n stage bytes (m + 1) (InNodes es) after) (sym added)
+    (leads_on n stage bytes m (InNodes (fin.entries old)) (InNodes (fin.entries old ++ e ∷ [])) text rest after (Node e) lead cut read is)
+
+pub facts_on : (n : ℕ) (stage : Stage) (bytes : List ℕ) (m : ℕ) (old new : Values) (fact : ℕ × List ℕ) (text rest after : List ℕ) → Leads n stage bytes m (InFacts (fin.entries old)) rest → IsCut rest text after → IsByteFact fact × (text ≡ fact_text fact)
+    → judged m (InFacts (fin.entries old)) (Fact fact) ≡ Some (Ok (InFacts (fin.entries old ++ fact ∷ []))) → fin.entries new ≡ fin.entries old ++ fact ∷ [] → Leads n stage bytes (m + 1) (InFacts (fin.entries new)) after
+facts_on n stage bytes m old new fact text rest after lead cut read is added =
+    subst (λ (es : List (ℕ × List ℕ)). Leads n stage bytes (m + 1) (InFacts es) after) (sym added)
+    (leads_on n stage bytes m (InFacts (fin.entries old)) (InFacts (fin.entries old ++ fact ∷ [])) text rest after (Fact fact) lead cut read is)
+
+-- the end is read
+pub tree_end : (bytes : List ℕ) (files : Files) (rest text after : List ℕ) → TreeRead bytes files rest → IsCut rest text after → text ≡ end_text → TreeRead bytes files (line end_text ++ after)
+tree_end bytes files rest text after read cut is = record {
+  fit = read.fit;
+  text = read.text ∙ ap (λ (t : List ℕ). flat_map line (map node_text (fin.entries files)) ++ t) (cut.bytes_are ∙ ap (λ (t : List ℕ). line t ++ after) is);
+}

@@ -1,0 +1,206 @@
+-- The text of a whole image, line by line.
+use Rattle.std.specs.Prelude.{◌≡◌, ℕ, ◌+◌, ◌<◌, Bool, true, false, cond, ◌||◌, ◌&&◌, ◌==◌, nat_le, List, [], ◌∷◌, ◌++◌, length, take, map, Option, Some, None, IfSome, option_map, T}
+use Rattle.std.proofs.Common.{refl, sym, ap, subst, ◌∙◌, get_or}
+use Rattle.std.specs.List.{flat_map, filter_map, cons_option, list_any, list_all}
+use Rattle.std.specs.Option.{option_map_or}
+use Rattle.std.specs.Ordering.{nat_cmp, is_lt, is_eq, eq_by_cmp}
+use Rattle.std.specs.declared.cmp.Ordering.{Ordering}
+use Rattle.std.specs.declared.cmp.Ordering.TheVariants.{Less, Equal, Greater}
+use Rattle.std.specs.Cmp.{nat_cmp_total, unsigned_tied}
+use Rattle.std.proofs.lemmas.Bool.{eqb-true, eq-eqb}
+use Rattle.std.proofs.lemmas.List.{flat_map_more, take_more}
+use Rattle.std.proofs.lemmas.Option.{slice_get-get_or}
+use Rattle.std.proofs.lemmas.Grind.{flat_map-append}
+use Rattle.std.specs.FinMap as fin
+use Rattle.std.specs.FinMap.Entries.{find, is_sorted, below_all}
+use Rattle.pv_path.specs.Paths.{Path}
+use Rattle.pv_text.specs.Facts.{Values, fact_letters, is_fact, HasFactsAlone}
+use Rattle.pv_text.specs.SameFacts.{is_fact_letter}
+use Rattle.pv_steps.specs.declared.object.Object.{Object}
+use Rattle.pv_steps.specs.declared.node.Kind.TheVariants.{Directory}
+use Rattle.pv_steps.specs.Objects.{fresh}
+use Rattle.pv_steps.specs.Trees.{Files, IsTree}
+use Rattle.pv_image.specs.Images.{HaveText, are_byte_names, is_byte_fact}
+use Rattle.pv_image.proofs.Letters.{all_append}
+use Rattle.pv_image.specs.Spelling.{header_text, end_text, fact_text, node_text, line, text_of}
+use Rattle.pv_image.specs.Writing.{fact_fits, fact_line, fact_line_of, node_fits, node_line, node_line_at}
+
+some_entry : Path × Object
+some_entry = ([], fresh Directory 0 [] 0 0 0)
+
+-- one more node
+pub nodes_more : (files : Files) (o : List ℕ) (i : ℕ) → i < fin.len files
+    → (o ++ flat_map node_line (take i (fin.entries files))) ++ node_line_at files i ≡ o ++ flat_map node_line (take (i + 1) (fin.entries files))
+nodes_more files o i below =
+    let within : i < length (fin.entries files) = subst (λ n. i < n) (fin.len-entries files) below in
+    ap (λ e. (o ++ flat_map node_line (take i (fin.entries files))) ++ option_map_or node_line e []) (slice_get-get_or (fin.entries files) i some_entry within)
+    ∙ flat_map_more node_line o (take i (fin.entries files)) (get_or (fin.entries files) i some_entry)
+    ∙ ap (λ es. o ++ flat_map node_line es) (sym (take_more (fin.entries files) i some_entry within))
+
+-- one more letter
+pub letters_more : (facts : Values) (o : List ℕ) (i : ℕ) → i < 12
+    → (o ++ flat_map (fact_line_of facts) (take i fact_letters)) ++ fact_line_of facts (get_or fact_letters i 0) ≡ o ++ flat_map (fact_line_of facts) (take (i + 1) fact_letters)
+letters_more facts o i within =
+    flat_map_more (fact_line_of facts) o (take i fact_letters) (get_or fact_letters i 0)
+    ∙ ap (λ ls. o ++ flat_map (fact_line_of facts) ls) (sym (take_more fact_letters i 0 within))
+
+-- ---- facts by their letters
+
+-- the facts with some letters
+abbrev pub listed : Values → List ℕ → List (ℕ × List ℕ)
+listed facts letters = filter_map (λ letter. option_map (λ value. (letter, value)) (fin.get facts letter)) letters
+
+lines_listed : (facts : Values) (letters : List ℕ) → flat_map (fact_line_of facts) letters ≡ flat_map fact_line (listed facts letters)
+lines_listed facts [] = refl
+lines_listed facts (l ∷ ls) =
+    elim (fin.get facts l) as (λ v. option_map_or (λ value. fact_line (l, value)) v [] ++ flat_map (fact_line_of facts) ls
+    ≡ flat_map fact_line (cons_option (option_map (λ value. (l, value)) v) (listed facts ls))) [
+      | None ↦ lines_listed facts ls
+      | Some value ↦ ap (λ r. fact_line (l, value) ++ r) (lines_listed facts ls)
+    ]
+
+-- a letter is below all of some letters; letters rise
+abbrev pub is_below : ℕ → List ℕ → Bool
+is_below x ls = list_all (λ l. is_lt (nat_cmp x l)) ls
+
+abbrev pub rises : List ℕ → Bool
+rises [] = true
+rises (l ∷ ls) = is_below l ls && rises ls
+
+and_first : (a b : Bool) → (a && b) ≡ true → a ≡ true
+and_first true b h = refl
+and_first false b h = h
+
+and_second : (a b : Bool) → (a && b) ≡ true → b ≡ true
+and_second true b h = h
+and_second false b h = let wrong : false ≡ true = h in cc
+
+both_true : (a b : Bool) → a ≡ true → b ≡ true → (a && b) ≡ true
+both_true a b p q = ap (λ x. x && b) p ∙ q
+
+below_listed : (facts : Values) (x : ℕ) (ls : List ℕ) → is_below x ls ≡ true → below_all nat_cmp x (listed facts ls) ≡ true
+below_listed facts x [] h = refl
+below_listed facts x (l ∷ ls) h =
+    let rest = below_listed facts x ls (and_second _ _ h) in
+    elim (fin.get facts l) as (λ v. below_all nat_cmp x (cons_option (option_map (λ value. (l, value)) v) (listed facts ls)) ≡ true) [
+      | None ↦ rest
+      | Some value ↦ both_true _ _ (and_first _ _ h) rest
+    ]
+
+sorted_listed : (facts : Values) (ls : List ℕ) → rises ls ≡ true → is_sorted nat_cmp (listed facts ls) ≡ true
+sorted_listed facts [] h = refl
+sorted_listed facts (l ∷ ls) h =
+    let rest = sorted_listed facts ls (and_second _ _ h) in
+    elim (fin.get facts l) as (λ v. is_sorted nat_cmp (cons_option (option_map (λ value. (l, value)) v) (listed facts ls)) ≡ true) [
+      | None ↦ rest
+      | Some value ↦ both_true _ _ (below_listed facts l ls (and_first _ _ h)) rest
+    ]
+
+-- what is found among listed facts is what the facts have
+equal_tie : (r : Ordering) → is_eq r ≡ true → r ≡ Equal
+equal_tie Less h = let wrong : false ≡ true = h in cc
+equal_tie Equal h = refl
+equal_tie Greater h = let wrong : false ≡ true = h in cc
+
+tied_letters : (q l : ℕ) → eq_by_cmp nat_cmp q l ≡ true → q ≡ l
+tied_letters q l h = fin.nat_cmp-IsAntisymmetric q l (equal_tie (nat_cmp q l) h)
+
+hidden : (b a : Bool) (o : Option (List ℕ)) → (b ≡ true → o ≡ None) → cond a o None ≡ cond (b || a) o None
+hidden false a o h = refl
+hidden true a o h = elim a as (λ v. cond v o None ≡ o) [ true ↦ refl | false ↦ sym (h refl) ]
+
+shown : (b a : Bool) (x : List ℕ) (o : Option (List ℕ)) → (b ≡ true → o ≡ Some x) → cond b (Some x) (cond a o None) ≡ cond (b || a) o None
+shown false a x o h = refl
+shown true a x o h = sym (h refl)
+
+find-listed : (facts : Values) (ls : List ℕ) (q : ℕ) → find nat_cmp q (listed facts ls) ≡ cond (list_any (eq_by_cmp nat_cmp q) ls) (fin.get facts q) None
+find-listed facts [] q = refl
+find-listed facts (l ∷ ls) q =
+    let rest = find-listed facts ls q in
+    let same = λ (h : eq_by_cmp nat_cmp q l ≡ true). ap (fin.get facts) (tied_letters q l h) in
+    elim (fin.get facts l) as (λ v. fin.get facts l ≡ v → find nat_cmp q (cons_option (option_map (λ value. (l, value)) v) (listed facts ls)) ≡ cond (list_any (eq_by_cmp nat_cmp q) (l ∷ ls)) (fin.get facts q) None) [
+      | None ↦ λ e. rest ∙ hidden (eq_by_cmp nat_cmp q l) (list_any (eq_by_cmp nat_cmp q) ls) (fin.get facts q) (λ h. same h ∙ e)
+      | Some x ↦ λ e. ap (cond (eq_by_cmp nat_cmp q l) (Some x)) rest ∙ shown (eq_by_cmp nat_cmp q l) (list_any (eq_by_cmp nat_cmp q) ls) x (fin.get facts q) (λ h. same h ∙ e)
+    ] refl
+
+of_true : (b : Bool) → b ≡ true → T b
+of_true b h = subst T (sym h) tt
+
+tied_any : (q : ℕ) (ls : List ℕ) → list_any (λ l. l == q) ls ≡ true → list_any (eq_by_cmp nat_cmp q) ls ≡ true
+tied_any q [] = λ h. let wrong : false ≡ true = h in cc
+tied_any q (l ∷ ls) =
+    elim (l == q) as (λ b. (l == q) ≡ b → (b || list_any (λ l. l == q) ls) ≡ true → list_any (eq_by_cmp nat_cmp q) (l ∷ ls) ≡ true) [
+      | true ↦ λ e h. ap (λ b. b || list_any (eq_by_cmp nat_cmp q) ls) (unsigned_tied q l ∙ eq-eqb q l (sym (eqb-true l q e)))
+      | false ↦ λ e h. ap (λ b. eq_by_cmp nat_cmp q l || b) (tied_any q ls h) ∙ elim (eq_by_cmp nat_cmp q l) as (λ b. (b || true) ≡ true) [ true ↦ refl | false ↦ refl ]
+    ] refl
+
+nothing : (b : Bool) → cond {A = Option (List ℕ)} b None None ≡ None
+nothing true = refl
+nothing false = refl
+
+-- a letter with a value is one of the twelve
+shows : (q : ℕ) (value : Option (List ℕ)) → IfSome value (λ v. is_fact q v ≡ true) → cond (list_any (eq_by_cmp nat_cmp q) fact_letters) value None ≡ value
+shows q None h = nothing (list_any (eq_by_cmp nat_cmp q) fact_letters)
+shows q (Some v) h =
+    let letter = and_first (is_fact_letter q) (nat_le 1 (length v)) (and_first (is_fact_letter q && nat_le 1 (length v)) (nat_le (length v) 255) h) in
+    ap (λ b. cond b (Some v) None) (tied_any q fact_letters letter)
+
+-- the facts are those with the twelve letters
+entries_listed : (facts : Values) → HasFactsAlone facts → fin.entries facts ≡ listed facts fact_letters
+entries_listed facts alone =
+    let es = listed facts fact_letters in
+    let s = of_true (is_sorted nat_cmp es) (sorted_listed facts fact_letters refl) in
+    let same : fin.from_sorted {R = nat_cmp} es ≡ facts = fin.same_map nat_cmp_total fin.nat_cmp-IsAntisymmetric (fin.from_sorted es) facts
+    (λ q. fin.get-from_sorted nat_cmp es q s ∙ find-listed facts fact_letters q ∙ shows q (fin.get facts q) (alone q)) in
+    ap fin.entries (sym same) ∙ fin.entries-from_sorted nat_cmp es s
+
+pub facts_lines : (facts : Values) → HasFactsAlone facts → flat_map (fact_line_of facts) fact_letters ≡ flat_map fact_line (fin.entries facts)
+facts_lines facts alone = lines_listed facts fact_letters ∙ ap (flat_map fact_line) (sym (entries_listed facts alone))
+
+-- ---- the whole
+
+lines_of_map : {A : Type 0} (f : A → List ℕ) (xs : List A) → flat_map line (map f xs) ≡ flat_map (λ x. line (f x)) xs
+lines_of_map f [] = refl
+lines_of_map f (x ∷ xs) = ap (λ r. line (f x) ++ r) (lines_of_map f xs)
+
+-- the whole text by its parts
+pub parts_of_text : (facts : Values) (files : Files) → ((line header_text ++ flat_map fact_line (fin.entries facts)) ++ flat_map node_line (fin.entries files)) ++ line end_text ≡ text_of facts files
+parts_of_text facts files =
+    let facts_part = map fact_text (fin.entries facts) in
+    let nodes_part = map node_text (fin.entries files) in
+    let whole = flat_map-append line ((header_text ∷ facts_part) ++ nodes_part) (end_text ∷ []) ∙ ap (λ x. x ++ flat_map line (end_text ∷ [])) (flat_map-append line (header_text ∷ facts_part) nodes_part) in
+    let parts = ap (λ x. ((line header_text ++ x) ++ flat_map node_line (fin.entries files)) ++ line end_text) (sym (lines_of_map fact_text (fin.entries facts)))
+    ∙ ap (λ x. ((line header_text ++ flat_map line facts_part) ++ x) ++ line end_text) (sym (lines_of_map node_text (fin.entries files))) in
+    parts ∙ sym whole
+
+-- ---- what the facts and the paths are
+
+listed_fit : (facts : Values) (letters : List ℕ) → list_all (fact_fits facts) letters ≡ true → list_all is_byte_fact (listed facts letters) ≡ true
+listed_fit facts [] e = refl
+listed_fit facts (l ∷ ls) e =
+    let rest = listed_fit facts ls (and_second _ _ e) in
+    let here = and_first _ _ e in
+    elim (fin.get facts l) as (λ v. option_map_or (λ value. is_byte_fact (l, value)) v true ≡ true → list_all is_byte_fact (cons_option (option_map (λ value. (l, value)) v) (listed facts ls)) ≡ true) [
+      | None ↦ λ h. rest
+      | Some value ↦ λ h. both_true _ _ h rest
+    ] here
+
+pub facts_fit : (facts : Values) → HasFactsAlone facts → list_all (fact_fits facts) fact_letters ≡ true → list_all is_byte_fact (fin.entries facts) ≡ true
+facts_fit facts alone e = ap (list_all is_byte_fact) (entries_listed facts alone) ∙ listed_fit facts fact_letters e
+
+-- a test of one item more
+pub fits_more : {A : Type 0} (p : A → Bool) (xs : List A) (i : ℕ) (d : A) → i < length xs → list_all p (take i xs) ≡ true → p (get_or xs i d) ≡ true → list_all p (take (i + 1) xs) ≡ true
+fits_more p xs i d within e f = ap (list_all p) (take_more xs i d within) ∙ all_append p (take i xs) (get_or xs i d ∷ []) e (both_true _ _ f refl)
+
+pub node_fits_more : (files : Files) (i : ℕ) → i < fin.len files → list_all (λ e. are_byte_names e.0) (take i (fin.entries files)) ≡ true → node_fits files i ≡ true → list_all (λ e. are_byte_names e.0) (take (i + 1) (fin.entries files)) ≡ true
+node_fits_more files i below e f =
+    let within : i < length (fin.entries files) = subst (λ n. i < n) (fin.len-entries files) below in
+    let here : are_byte_names (get_or (fin.entries files) i some_entry).0 ≡ true = sym (ap (λ o. option_map_or (λ x. are_byte_names x.0) o true) (slice_get-get_or (fin.entries files) i some_entry within)) ∙ f in
+    fits_more (λ x. are_byte_names x.0) (fin.entries files) i some_entry within e here
+
+keys_fit : (es : List (Path × Object)) → list_all (λ e. are_byte_names e.0) es ≡ true → list_all are_byte_names (map (λ e. e.0) es) ≡ true
+keys_fit [] e = refl
+keys_fit (x ∷ es) e = both_true _ _ (and_first _ _ e) (keys_fit es (and_second _ _ e))
+
+pub have_text : (facts : Values) (files : Files) → list_all is_byte_fact (fin.entries facts) ≡ true → list_all (λ e. are_byte_names e.0) (fin.entries files) ≡ true → IsTree files → HaveText facts files
+have_text facts files f g is = record { facts_fit = f; names_fit = keys_fit (fin.entries files) g; tree = is }

@@ -1,0 +1,137 @@
+-- Which bytes are an image of facts and a tree, and where they are none, the first fault by line.
+use Rattle.std.specs.Prelude.{◌≡◌, ℕ, suc, Bool, true, false, ◌&&◌, List, [], ◌∷◌, ◌++◌, codes, nat_eq, Option, Some, None, Result, Ok, Err, if◌then◌else◌}
+use Rattle.std.specs.List.{flat_map, list_any, list_all, starts_with}
+use Rattle.std.specs.Ordering.{nat_cmp, is_lt}
+use Rattle.std.specs.declared.cmp.Ordering.{Ordering}
+use Rattle.std.specs.FinMap as fin
+use Rattle.pv_path.specs.Paths.{Path, path_cmp, same_path, parent_of}
+use Rattle.pv_text.specs.Facts.{Values, is_fact}
+use Rattle.pv_steps.specs.declared.node.Kind.{Kind}
+use Rattle.pv_steps.specs.declared.node.Kind.TheVariants.{Directory}
+use Rattle.pv_steps.specs.declared.object.Object.{Object}
+use Rattle.pv_steps.specs.Trees.{Files, IsTree}
+use Rattle.pv_image.specs.Spelling.{IsEntry, are_bytes, lacks, header_text, end_text, fact_text, node_text, line, text_of}
+use Rattle.pv_image.specs.declared.fault.ImageFault.{ImageFault}
+use Rattle.pv_image.specs.declared.fault.ImageFault.TheVariants as fault
+
+-- ---- images
+
+-- a note, which reading skips: a line that begins with a colon and a space
+abbrev pub is_note : List ℕ → Bool
+is_note text = starts_with nat_eq text (codes ": ")
+
+-- a text of one line
+abbrev pub is_line : List ℕ → Bool
+is_line text = lacks 10 text
+
+-- a fact of bytes
+abbrev pub is_byte_fact : ℕ × List ℕ → Bool
+is_byte_fact fact = is_fact fact.0 fact.1 && are_bytes fact.1
+
+abbrev pub IsByteFact : ℕ × List ℕ → Type 0
+IsByteFact fact = is_byte_fact fact ≡ true
+
+-- a path whose names are bytes
+abbrev pub are_byte_names : Path → Bool
+are_byte_names path = list_all are_bytes path
+
+-- facts and a tree that have a text: values and names are bytes
+pub record HaveText (facts : Values) (files : Files) : Type 0 where
+  pub facts_fit : list_all is_byte_fact (fin.entries facts) ≡ true
+  pub names_fit : list_all are_byte_names (fin.keys files) ≡ true
+  pub tree : IsTree files
+
+-- bytes are some notes, and then the one text of these facts and this tree
+pub record IsImage (bytes : List ℕ) (facts : Values) (files : Files) : Type 0 where
+  pub notes : List (List ℕ)
+  pub are_notes : list_all (λ note. is_note note && is_line note) notes ≡ true
+  pub fit : HaveText facts files
+  pub text : bytes ≡ flat_map line notes ++ text_of facts files
+
+-- ---- faults
+
+-- what a line may say
+pub data What : Type 0 where
+  Note : What
+  Header : What
+  Fact : ℕ × List ℕ → What
+  Node : Path × Object → What
+  End : What
+
+-- a text is a spelling of it
+abbrev pub Spells : List ℕ → What → Type 0
+Spells text Note = is_note text ≡ true
+Spells text Header = text ≡ header_text
+Spells text (Fact fact) = IsByteFact fact × (text ≡ fact_text fact)
+Spells text (Node e) = IsEntry e × (text ≡ node_text e)
+Spells text End = text ≡ end_text
+
+-- where a line stands: before the header, after some facts, after some nodes, after the end
+pub data Stage : Type 0 where
+  Before : Stage
+  InFacts : List (ℕ × List ℕ) → Stage
+  InNodes : List (Path × Object) → Stage
+  After : Stage
+
+-- a letter, or a path, is greater than the last one before it
+abbrev pub follows : {K X : Type 0} → (K → K → Ordering) → List (K × X) → K → Bool
+follows order [] key = true
+follows order (e ∷ []) key = is_lt (order e.0 key)
+follows order (e ∷ next ∷ es) key = follows order (next ∷ es) key
+
+abbrev pub is_directory : Kind → Bool
+is_directory Directory = true
+is_directory kind = false
+
+-- the directory of a path was read before
+abbrev pub has_parent : List (Path × Object) → Path → Bool
+has_parent entries path = list_any (λ e. same_path e.0 (parent_of path) && is_directory e.1.node.kind) entries
+
+-- the first node of an image is the root, a directory
+abbrev pub is_root : Path × Object → Bool
+is_root e = same_path e.0 [] && is_directory e.1.node.kind
+
+-- what line n does where it stands: the stage after it, or its fault; nothing where it may not stand there
+abbrev pub judged : ℕ → Stage → What → Option (Result Stage ImageFault)
+judged n Before Note = Some (Ok Before)
+judged n Before Header = Some (Ok (InFacts []))
+judged n (InFacts facts) (Fact fact) = Some (if follows nat_cmp facts fact.0 then Ok (InFacts (facts ++ fact ∷ [])) else Err (fault.OutOfOrder n))
+judged n (InFacts facts) (Node e) = Some (if is_root e then Ok (InNodes (e ∷ [])) else Err (fault.NoParent n))
+judged n (InFacts facts) End = Some (Err (fault.NoParent n))
+judged n (InNodes entries) (Node e) =
+    Some (if follows path_cmp entries e.0 then
+    if has_parent entries e.0 then Ok (InNodes (entries ++ e ∷ [])) else Err (fault.NoParent n)
+    else Err (fault.OutOfOrder n))
+judged n (InNodes entries) End = Some (Ok After)
+judged n stage what = None
+
+-- the fault of line n where it is no spelling of what may stand there
+abbrev pub bad : ℕ → Stage → ImageFault
+bad n Before = fault.BadHeader n
+bad n stage = fault.BadLine n
+
+-- whether an image may end here
+abbrev pub may_end : Stage → List ℕ → Bool
+may_end After [] = true
+may_end stage bytes = false
+
+-- bytes begin with a line, and this is what follows
+pub record IsCut (bytes text rest : List ℕ) : Type 0 where
+  pub bytes_are : bytes ≡ line text ++ rest
+  pub whole : is_line text ≡ true
+
+-- from line n on, which stands where the stage says, the first fault of the bytes is this
+pub data HasFault : ℕ → Stage → List ℕ → ImageFault → Type 0 where
+  -- line n has no line feed, or does not begin
+  cut_off : {n : ℕ} {stage : Stage} {bytes : List ℕ} → is_line bytes ≡ true → may_end stage bytes ≡ false → HasFault n stage bytes (fault.Truncated n)
+  -- line n is no spelling of what may stand there
+  misspelt : {n : ℕ} {stage : Stage} {bytes text rest : List ℕ} → IsCut bytes text rest → ((what : What) → Spells text what → judged n stage what ≡ None) → HasFault n stage bytes (bad n stage)
+  -- line n says what may not stand after the lines before it
+  misplaced : {n : ℕ} {stage : Stage} {bytes text rest : List ℕ} {f : ImageFault} (what : What) → IsCut bytes text rest → Spells text what → judged n stage what ≡ Some (Err f) → HasFault n stage bytes f
+  -- a later line has the fault
+  later : {n : ℕ} {stage next : Stage} {bytes text rest : List ℕ} {f : ImageFault} (what : What) → IsCut bytes text rest → Spells text what → judged n stage what ≡ Some (Ok next)
+      → HasFault (suc n) next rest f → HasFault n stage bytes f
+
+-- the first fault of bytes that are no image
+abbrev pub HasImageFault : List ℕ → ImageFault → Type 0
+HasImageFault bytes f = HasFault 1 Before bytes f

@@ -1,0 +1,6 @@
+pub mod Spelling
+pub mod Reading
+pub mod Nodes
+pub mod Images
+pub mod Progress
+pub mod Writing

@@ -1,0 +1,43 @@
+-- How the columns of a node make its object.
+use Rattle.std.specs.Prelude.{◌≡◌, ℕ, ◌/◌, ◌≤◌, true, List, [], ◌∷◌}
+use Rattle.std.specs.Fmt.{decimal}
+use Rattle.pv_acl.specs.declared.part.Acl.{Acl}
+use Rattle.pv_acl.specs.Parts.{base_of, is_acl, part_of_mode}
+use Rattle.pv_steps.specs.declared.node.Kind.{Kind}
+use Rattle.pv_steps.specs.declared.object.Object.{Object}
+use Rattle.pv_steps.specs.Objects.{AclFits, IsId, StampsFit}
+use Rattle.pv_image.specs.declared.node.Plain.{Plain}
+use Rattle.pv_image.specs.declared.payload.Payload.{Payload}
+use Rattle.pv_image.specs.Spelling.{kind_text, mode_text, stamps_text}
+
+-- the columns that are letters and digits alone: kind, mode, user, group and stamps
+abbrev pub plain_texts : Plain → List (List ℕ)
+plain_texts plain = kind_text plain.kind ∷ mode_text plain.mode ∷ decimal plain.uid ∷ decimal plain.gid ∷ stamps_text plain.stamps ∷ []
+
+pub record IsPlain (plain : Plain) : Type 0 where
+  pub mode : plain.mode ≤ 4095
+  pub uid : IsId plain.uid
+  pub gid : IsId plain.gid
+  pub stamps : StampsFit plain.stamps
+
+-- an ACL that an object of a kind may have beside a mode
+pub record IsAclOf (kind : Kind) (mode : ℕ) (acl : Acl) : Type 0 where
+  pub base : base_of acl.access ≡ part_of_mode mode
+  pub allowed : is_acl acl ≡ true
+  pub fits : AclFits kind (mode / 512) acl
+
+-- the object of columns
+abbrev pub object_of : Plain → Acl → Payload → Object
+object_of plain acl payload = record {
+  node = record {
+    kind = plain.kind;
+    special = plain.mode / 512;
+    uid = plain.uid;
+    gid = plain.gid;
+    acl = acl;
+    stamps = plain.stamps;
+    major = payload.major;
+    minor = payload.minor;
+  };
+  payload = payload.bytes;
+}

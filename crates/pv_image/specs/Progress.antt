@@ -1,0 +1,54 @@
+-- How far an image was read.
+use Rattle.std.specs.Prelude.{◌≡◌, ◌≢◌, ℕ, Bool, true, ◌&&◌, List, ◌++◌, map, Option, Some, Err}
+use Rattle.std.specs.List.{flat_map, list_all}
+use Rattle.std.specs.Option.{option_map_or}
+use Rattle.std.specs.Ordering.{is_lt, nat_cmp}
+use Rattle.std.specs.FinMap as fin
+use Rattle.pv_steps.specs.Trees.{Files}
+use Rattle.pv_text.specs.Facts.{Values}
+use Rattle.pv_image.specs.Spelling.{fact_text, line, node_text}
+use Rattle.pv_image.specs.Images.{HasFault, IsByteFact, IsCut, Stage, What, are_byte_names, follows, is_byte_fact, is_line, is_note, judged}
+use Rattle.pv_image.specs.declared.fault.ImageFault.{ImageFault}
+use Rattle.pv_image.specs.declared.fault.ImageFault.TheVariants as fault
+
+-- a fault of what is left is a fault of the whole
+abbrev pub Leads : ℕ → Stage → List ℕ → ℕ → Stage → List ℕ → Type 0
+Leads n stage bytes m next rest = (f : ImageFault) → HasFault m next rest f → HasFault n stage bytes f
+
+-- the fault that was answered is the first one, unless memory ran out
+abbrev pub Fails : ℕ → Stage → List ℕ → ImageFault → Type 0
+Fails n stage bytes fault.Memory = Unit {0}
+Fails n stage bytes f = HasFault n stage bytes f
+
+-- what a line says is faulty where it stands, unless memory ran out
+abbrev pub Refuses : ℕ → Stage → What → ImageFault → Type 0
+Refuses n stage what fault.Memory = Unit {0}
+Refuses n stage what f = judged n stage what ≡ Some (Err f)
+
+-- some notes were read
+pub record NotesRead (bytes rest : List ℕ) : Type 0 where
+  pub notes : List (List ℕ)
+  pub are_notes : list_all (λ note. is_note note && is_line note) notes ≡ true
+  pub text : bytes ≡ flat_map line notes ++ rest
+
+-- the facts were read
+pub record FactsRead (bytes : List ℕ) (facts : Values) (rest : List ℕ) : Type 0 where
+  pub fit : list_all is_byte_fact (fin.entries facts) ≡ true
+  pub text : bytes ≡ flat_map line (map fact_text (fin.entries facts)) ++ rest
+
+-- the nodes of a tree were read
+pub record TreeRead (bytes : List ℕ) (files : Files) (rest : List ℕ) : Type 0 where
+  pub fit : list_all (λ e. are_byte_names e.0) (fin.entries files) ≡ true
+  pub text : bytes ≡ flat_map line (map node_text (fin.entries files)) ++ rest
+
+-- the next line is no fact
+abbrev pub HasNoFactNext : List ℕ → Type 0
+HasNoFactNext bytes = (text rest : List ℕ) → IsCut bytes text rest → (fact : ℕ × List ℕ) → IsByteFact fact → text ≢ fact_text fact
+
+-- whether a letter is greater than the last one, where there is one
+abbrev pub letter_after : Option ℕ → ℕ → Bool
+letter_after last letter = option_map_or (λ l. is_lt (nat_cmp l letter)) last true
+
+-- the last letter of facts
+abbrev pub IsLast : Values → Option ℕ → Type 0
+IsLast facts last = (letter : ℕ) → letter_after last letter ≡ follows nat_cmp (fin.entries facts) letter

@@ -1,0 +1,68 @@
+-- What a reader of one spelling answers.
+use Rattle.std.specs.Prelude.{◌≡◌, ◌≢◌, ℕ, ◌/◌, ◌%◌, ◌<◌, ◌^◌, Bool, true, false, ◌&&◌, ◌==◌, nat_le, length, List, [], ◌∷◌, ◌++◌, map, Option, Some, None}
+use Rattle.std.specs.Borrow.{Bor}
+use Rattle.std.specs.List.{list_any}
+use Rattle.pv_text.specs.Facts.{fact_letters}
+use Rattle.pv_steps.specs.Objects.{IsTarget}
+use Rattle.pv_image.specs.declared.payload.Payload.{Payload}
+use Rattle.pv_image.specs.Spelling.{are_bytes}
+use Rattle.pv_path.specs.Printing.{hex_digit, is_plain, printed_byte}
+
+-- what stands in a text: a value of this kind of which the text is the spelling, or that there is none
+abbrev pub Reads : {A B : Type 0} → (A → B) → (A → Type 0) → B → Option A → Type 0
+Reads spelling Is text (Some x) = Is x × (text ≡ spelling x)
+Reads {A = A} spelling Is text None = (x : A) → Is x → text ≢ spelling x
+
+-- the texts that slices show
+abbrev pub texts : {A : Type 0} → List (Bor A) → List A
+texts slices = map (λ s. s.now) slices
+
+-- the two hexadecimal digits of a byte
+abbrev pub hex_digits : ℕ → List ℕ
+hex_digits b = hex_digit (b / 16) ∷ hex_digit (b % 16) ∷ []
+
+-- a byte that is not printed as itself
+abbrev pub IsEscaped : ℕ → Type 0
+IsEscaped b = (b < 256) × (is_plain b ≡ false)
+
+-- a byte as it is printed, and what stands after it
+abbrev pub printed_front : ℕ × List ℕ → List ℕ
+printed_front front = printed_byte front.0 ++ front.1
+
+abbrev pub IsFront : ℕ × List ℕ → Type 0
+IsFront front = front.0 < 256
+
+-- a byte and what stands after it, as a reader hands them out
+abbrev pub front_of : ℕ × Bor (List ℕ) → ℕ × List ℕ
+front_of front = (front.0, front.1.now)
+
+-- bytes
+abbrev pub IsByteText : List ℕ → Type 0
+IsByteText text = are_bytes text ≡ true
+
+-- bytes of a link's target
+pub record IsByteTarget (text : List ℕ) : Type 0 where
+  pub target : IsTarget text
+  pub bytes : are_bytes text ≡ true
+
+-- two numbers of 32 bits
+abbrev pub AreNumbers : ℕ × ℕ → Type 0
+AreNumbers numbers = (numbers.0 < 2 ^ 32) × (numbers.1 < 2 ^ 32)
+
+-- a payload of bytes alone, and one of numbers alone
+abbrev pub of_bytes : List ℕ → Payload
+of_bytes bytes = record { bytes = bytes; major = 0; minor = 0 }
+
+abbrev pub of_numbers : ℕ × ℕ → Payload
+of_numbers numbers = record { bytes = []; major = numbers.0; minor = numbers.1 }
+
+-- a letter that a fact can have, and a value that one can have
+abbrev pub is_fact_letter : ℕ → Bool
+is_fact_letter letter = list_any (λ l. l == letter) fact_letters
+
+abbrev pub is_fact_value : List ℕ → Bool
+is_fact_value value = nat_le 1 (length value) && nat_le (length value) 255
+
+pub record IsFactValue (value : List ℕ) : Type 0 where
+  pub length_fits : is_fact_value value ≡ true
+  pub bytes : are_bytes value ≡ true

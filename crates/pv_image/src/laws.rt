@@ -1,0 +1,36 @@
+//! What holds of all images: that reading has one answer for all bytes, and that what was written is read
+//! again.
+ghost use Rattle.std.specs.Prelude.{◌≡◌, ℕ, List};
+ghost use Rattle.pv_steps.specs.Trees.{Files};
+ghost use Rattle.pv_text.specs.Facts.{Values};
+ghost use Rattle.pv_image.specs.declared.fault.ImageFault.{ImageFault as Fault};
+ghost use Rattle.pv_image.specs.Spelling.{text_of};
+ghost use Rattle.pv_image.specs.Images.{HasImageFault, HaveText, IsImage, Spells, What};
+
+/// No line says two things.
+pub fn line_says_one_thing()
+    ensures { (text : List ℕ) (a b : What) → Spells text a → Spells text b → a ≡ b }
+{}
+
+/// Bytes are an image of at most one pair of facts and tree.
+pub fn bytes_are_one_image()
+    ensures { (bytes : List ℕ) (f g : Values) (t u : Files) →
+        IsImage bytes f t → IsImage bytes g u → (f ≡ g) × (t ≡ u) }
+{}
+
+/// An image has no fault.
+pub fn image_has_no_fault()
+    ensures { (bytes : List ℕ) (facts : Values) (files : Files) (f : Fault) →
+        IsImage bytes facts files → HasImageFault bytes f → ⊥ }
+{}
+
+/// Bytes have at most one first fault.
+pub fn bytes_have_one_fault()
+    ensures { (bytes : List ℕ) (f g : Fault) → HasImageFault bytes f → HasImageFault bytes g → f ≡ g }
+{}
+
+/// The text of facts and a tree is an image of them.
+pub fn text_is_an_image()
+    ensures { (facts : Values) (files : Files) → HaveText facts files →
+        IsImage (text_of facts files) facts files }
+{}

@@ -1,0 +1,124 @@
+//! Lines, and the lines of an image that are no node.
+ghost use Rattle.std.specs.Prelude.{◌≡◌, ◌↔◌, ◌==◌, true, ◌∷◌, [], IsTrue, IfNone, IfSome, IfOk, codes};
+ghost use Rattle.std.specs.List.{position};
+ghost use Rattle.pv_path.specs.Printing.{printed};
+ghost use Rattle.pv_image.specs.Spelling.{fact_text, fact_texts, header_text, end_text};
+ghost use Rattle.pv_image.specs.Images.{IsByteFact, IsCut, is_line, is_note};
+ghost use Rattle.pv_image.specs.Reading.{IsFactValue, Reads, is_fact_letter, is_fact_value, texts};
+
+use crate::pieces::pieces_of;
+use crate::printed::read_printed;
+use pv_path::Bytes;
+use pv_text::FACT_LETTERS;
+use std::alloc::{AllocError, Global};
+
+/// The place of the first line feed.
+fn feed_at(bytes: &[u8]) -> Option<usize>
+    ensures { result ≡ position (λ b. b == 10) bytes.now }
+{
+    bytes.iter().position(|b| *b == b'\n')
+}
+
+/// The first line of bytes without its line feed, and what follows it.
+pub(crate) fn first_line(bytes: &[u8]) -> Option<(&[u8], &[u8])>
+    ensures some { IfSome result (λ cut. IsCut bytes.now cut.0.now cut.1.now) }
+    ensures none { IfNone result (is_line bytes.now ≡ true) }
+{
+    let at = feed_at(bytes)?;
+    Some((&bytes[..at], &bytes[at + 1..]))
+}
+
+/// Whether a line is a note, which reading skips.
+pub(crate) fn is_note(text: &[u8]) -> bool
+    ensures { result ≡ is_note text.now }
+{
+    text.starts_with(b": ")
+}
+
+pub(crate) fn is_header(text: &[u8]) -> bool
+    ensures { IsTrue result ↔ (text.now ≡ header_text) }
+{
+    text == b"tree-image 1".as_slice()
+}
+
+pub(crate) fn is_end(text: &[u8]) -> bool
+    ensures { IsTrue result ↔ (text.now ≡ end_text) }
+{
+    text == b"end".as_slice()
+}
+
+/// The letter of a fact that a text spells.
+fn read_letter(text: &[u8]) -> Option<u8>
+    ensures { Reads (λ letter. letter ∷ []) (λ letter. is_fact_letter letter ≡ true) text.now result }
+{
+    match text {
+        [letter] if FACT_LETTERS.contains(letter) => Some(*letter),
+        _ => None,
+    }
+}
+
+/// Whether a fact can have this value.
+fn is_value(value: &[u8]) -> bool
+    ensures { result ≡ is_fact_value value.now }
+{
+    !value.is_empty() && value.len() <= 255
+}
+
+/// The value of a fact that a text prints.
+fn read_value(alloc: Global, text: &[u8]) -> Result<Option<Bytes>, AllocError>
+    ensures { IfOk result (Reads printed IsFactValue text.now) }
+{
+    let Some(value) = read_printed(alloc, text)? else {
+        return Ok(None);
+    };
+    if !is_value(value.as_slice()) {
+        return Ok(None);
+    }
+    Ok(Some(value))
+}
+
+fn is_fact_word(text: &[u8]) -> bool
+    ensures { IsTrue result ↔ (text.now ≡ codes "fact") }
+{
+    text == b"fact".as_slice()
+}
+
+/// The fact that three texts spell.
+fn fact_with(
+    alloc: Global,
+    word: &[u8],
+    letter: &[u8],
+    value: &[u8],
+) -> Result<Option<(u8, Bytes)>, AllocError>
+    ensures { let texts = word.now ∷ letter.now ∷ value.now ∷ [] in
+        IfOk result (Reads fact_texts IsByteFact texts) }
+{
+    if !is_fact_word(word) {
+        return Ok(None);
+    }
+    let Some(letter) = read_letter(letter) else {
+        return Ok(None);
+    };
+    let Some(value) = read_value(alloc, value)? else {
+        return Ok(None);
+    };
+    Ok(Some((letter, value)))
+}
+
+/// The fact that texts spell.
+fn fact_of(alloc: Global, pieces: &[&[u8]]) -> Result<Option<(u8, Bytes)>, AllocError>
+    ensures { IfOk result (Reads fact_texts IsByteFact (texts pieces.now)) }
+{
+    match pieces {
+        [word, letter, value] => fact_with(alloc, word, letter, value),
+        _ => Ok(None),
+    }
+}
+
+/// The fact that a line spells.
+pub(crate) fn read_fact(alloc: Global, text: &[u8]) -> Result<Option<(u8, Bytes)>, AllocError>
+    ensures { IfOk result (Reads fact_text IsByteFact text.now) }
+{
+    let pieces = pieces_of(alloc, text, b' ')?;
+    fact_of(alloc, pieces.as_slice())
+}

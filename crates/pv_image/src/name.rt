@@ -1,0 +1,91 @@
+//! Printed names and paths, read back.
+ghost use Rattle.std.specs.Prelude.{◌≡◌, ◌↔◌, IsTrue, true, List, [], ◌∷◌, map, IfOk};
+ghost use Rattle.std.specs.List.{list_all};
+ghost use Rattle.pv_path.specs.Names.{is_dots, is_name, is_name_byte};
+ghost use Rattle.pv_path.specs.Printing.{printed, printed_path};
+ghost use Rattle.pv_image.specs.Spelling.{IsByteName, IsBytePath, path_texts};
+ghost use Rattle.pv_image.specs.Reading.{Reads, texts};
+
+use crate::pieces::pieces_of;
+use crate::printed::read_printed;
+use pv_path::{Name, TreePath};
+use std::alloc::{AllocError, Global};
+
+/// Whether a name may have these bytes.
+fn is_name(bytes: &[u8]) -> bool
+    ensures { result ≡ is_name bytes.now }
+{
+    let plain = has_name_bytes(bytes);
+    let dots = is_dots(bytes);
+    !bytes.is_empty() && bytes.len() <= 255 && plain && !dots
+}
+
+fn has_name_bytes(bytes: &[u8]) -> bool
+    ensures { result ≡ list_all is_name_byte bytes.now }
+{
+    bytes.iter().all(|b| *b != 0 && *b != b'/')
+}
+
+fn is_dots(bytes: &[u8]) -> bool
+    ensures { result ≡ is_dots bytes.now }
+{
+    matches!(bytes, b"." | b"..")
+}
+
+/// The name that a text prints.
+fn read_name(alloc: Global, text: &[u8]) -> Result<Option<Name>, AllocError>
+    ensures { IfOk result (Reads printed IsByteName text.now) }
+{
+    let Some(bytes) = read_printed(alloc, text)? else {
+        return Ok(None);
+    };
+    if !is_name(bytes.as_slice()) {
+        return Ok(None);
+    }
+    Ok(Some(Name::of(alloc, bytes.as_slice())?))
+}
+
+/// The path whose names the texts print.
+fn names_of(alloc: Global, pieces: &[&[u8]]) -> Result<Option<TreePath>, AllocError>
+    ensures { IfOk result (Reads (map printed) IsBytePath (texts pieces.now)) }
+{
+    let mut path = TreePath::root(alloc);
+    for piece in pieces {
+        match read_name(alloc, piece)? {
+            Some(name) => path.push(name)?,
+            None => return Ok(None),
+        }
+    }
+    Ok(Some(path))
+}
+
+/// Whether nothing stands before and after one slash.
+fn is_slash(pieces: &[&[u8]]) -> bool
+    ensures { IsTrue result ↔ (texts pieces.now ≡ [] ∷ [] ∷ []) }
+{
+    match pieces {
+        [before, after] => before.is_empty() && after.is_empty(),
+        _ => false,
+    }
+}
+
+/// The path that texts between slashes print.
+fn path_of(alloc: Global, pieces: &[&[u8]]) -> Result<Option<TreePath>, AllocError>
+    ensures { IfOk result (Reads path_texts IsBytePath (texts pieces.now)) }
+{
+    if is_slash(pieces) {
+        return Ok(Some(TreePath::root(alloc)));
+    }
+    match pieces {
+        [before, names @ ..] if before.is_empty() && !names.is_empty() => names_of(alloc, names),
+        _ => Ok(None),
+    }
+}
+
+/// The path that a text prints.
+pub(crate) fn read_path(alloc: Global, text: &[u8]) -> Result<Option<TreePath>, AllocError>
+    ensures { IfOk result (Reads printed_path IsBytePath text.now) }
+{
+    let pieces = pieces_of(alloc, text, b'/')?;
+    path_of(alloc, pieces.as_slice())
+}

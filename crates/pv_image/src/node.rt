@@ -1,0 +1,165 @@
+//! Nodes, read from their lines.
+ghost use Rattle.std.specs.Prelude.{◌≡◌, ◌≤◌, ℕ, List, ◌∷◌, [], IfOk};
+ghost use Rattle.pv_acl.specs.Texts.{acl_text};
+ghost use Rattle.pv_steps.specs.Objects.{StampsFit};
+ghost use Rattle.pv_image.specs.Spelling.{IsEntry, columns, node_text, stamps_text};
+ghost use Rattle.pv_image.specs.Nodes.{IsAclOf, IsPlain, object_of, plain_texts};
+ghost use Rattle.pv_image.specs.Reading.{Reads, texts};
+
+use crate::column::{read_id, read_kind, read_mode, read_stamps};
+use crate::name::read_path;
+use crate::payload::{Payload, is_dash, read_payload};
+use crate::pieces::pieces_of;
+use pv_acl::{Acl, read_acl};
+use pv_path::TreePath;
+use pv_steps::{Kind, Node, Object, Stamps};
+use std::alloc::{AllocError, Global};
+
+/// The columns of a node that are letters and digits alone.
+#[derive(Clone, Copy)]
+pub struct Plain {
+    pub kind: Kind,
+    pub mode: u16,
+    pub uid: u32,
+    pub gid: u32,
+    pub stamps: Stamps,
+}
+
+/// The plain columns, beside the stamps.
+fn plain_with(
+    kind: &[u8],
+    mode: &[u8],
+    uid: &[u8],
+    gid: &[u8],
+    stamps: Option<Stamps>,
+) -> Option<Plain>
+    ensures { (text : List ℕ) → Reads stamps_text StampsFit text stamps →
+        let texts = kind.now ∷ mode.now ∷ uid.now ∷ gid.now ∷ text ∷ [] in
+        Reads plain_texts IsPlain texts result }
+{
+    Some(Plain {
+        kind: read_kind(kind)?,
+        mode: read_mode(mode)?,
+        uid: read_id(uid)?,
+        gid: read_id(gid)?,
+        stamps: stamps?,
+    })
+}
+
+/// The plain columns that texts spell.
+fn read_plain(
+    alloc: Global,
+    kind: &[u8],
+    mode: &[u8],
+    uid: &[u8],
+    gid: &[u8],
+    stamps: &[u8],
+) -> Result<Option<Plain>, AllocError>
+    ensures { let texts = kind.now ∷ mode.now ∷ uid.now ∷ gid.now ∷ stamps.now ∷ [] in
+        IfOk result (Reads plain_texts IsPlain texts) }
+{
+    let stamps = read_stamps(alloc, stamps)?;
+    Ok(plain_with(kind, mode, uid, gid, stamps))
+}
+
+/// The ACL of a link, which says no more than its mode.
+fn link_acl(alloc: Global, mode: u16, text: &[u8]) -> Option<Acl>
+    requires { mode ≤ 4095 }
+    ensures { Reads acl_text (IsAclOf Kind.Link mode) text.now result }
+{
+    if mode == 0o777 && is_dash(text) {
+        Some(Acl::of_mode(alloc, mode))
+    } else {
+        None
+    }
+}
+
+/// The ACL that a text spells for an object of a kind with a mode.
+fn read_acl_of(alloc: Global, kind: Kind, mode: u16, text: &[u8]) -> Result<Option<Acl>, AllocError>
+    requires { mode ≤ 4095 }
+    ensures { IfOk result (Reads acl_text (IsAclOf kind mode) text.now) }
+{
+    match kind {
+        Kind::Link => Ok(link_acl(alloc, mode, text)),
+        Kind::Directory => read_acl(alloc, text, mode, true),
+        _ => read_acl(alloc, text, mode, false),
+    }
+}
+
+/// The object of what the columns spell.
+fn object_of(plain: Plain, acl: Acl, payload: Payload) -> Object
+    ensures { result ≡ object_of plain acl payload }
+{
+    let Payload {
+        bytes,
+        major,
+        minor,
+    } = payload;
+    Object {
+        node: Node {
+            kind: plain.kind,
+            special: (plain.mode / 512) as u8,
+            uid: plain.uid,
+            gid: plain.gid,
+            acl,
+            stamps: plain.stamps,
+            major,
+            minor,
+        },
+        payload: bytes,
+    }
+}
+
+/// The path and the object that eight texts spell.
+fn entry_with(
+    alloc: Global,
+    kind: &[u8],
+    path: &[u8],
+    mode: &[u8],
+    uid: &[u8],
+    gid: &[u8],
+    stamps: &[u8],
+    acl: &[u8],
+    payload: &[u8],
+) -> Result<Option<(TreePath, Object)>, AllocError>
+    ensures { let texts = kind.now ∷ path.now ∷ mode.now ∷ uid.now ∷ gid.now
+        ∷ stamps.now ∷ acl.now ∷ payload.now ∷ [] in
+        IfOk result (Reads columns IsEntry texts) }
+{
+    let Some(plain) = read_plain(alloc, kind, mode, uid, gid, stamps)? else {
+        return Ok(None);
+    };
+    let Some(path) = read_path(alloc, path)? else {
+        return Ok(None);
+    };
+    let Some(acl) = read_acl_of(alloc, plain.kind, plain.mode, acl)? else {
+        return Ok(None);
+    };
+    let Some(payload) = read_payload(alloc, plain.kind, payload)? else {
+        return Ok(None);
+    };
+    Ok(Some((path, object_of(plain, acl, payload))))
+}
+
+/// The path and the object that columns spell.
+fn entry_of(alloc: Global, pieces: &[&[u8]]) -> Result<Option<(TreePath, Object)>, AllocError>
+    ensures { IfOk result (Reads columns IsEntry (texts pieces.now)) }
+{
+    match pieces {
+        [kind, path, mode, uid, gid, stamps, acl, payload] => {
+            entry_with(alloc, kind, path, mode, uid, gid, stamps, acl, payload)
+        }
+        _ => Ok(None),
+    }
+}
+
+/// The path and the object that a line spells.
+pub(crate) fn read_node(
+    alloc: Global,
+    text: &[u8],
+) -> Result<Option<(TreePath, Object)>, AllocError>
+    ensures { IfOk result (Reads node_text IsEntry text.now) }
+{
+    let pieces = pieces_of(alloc, text, b' ')?;
+    entry_of(alloc, pieces.as_slice())
+}

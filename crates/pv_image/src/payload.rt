@@ -1,0 +1,150 @@
+//! What an object keeps beside its attributes, read from its column.
+ghost use Rattle.std.specs.Prelude.{◌≡◌, ◌↔◌, ◌==◌, not, [], codes, IsTrue, IfOk, option_map};
+ghost use Rattle.std.specs.List.{list_all};
+ghost use Rattle.base64.specs.GeneralPurpose.{encode_of};
+ghost use Rattle.base64.specs.Engines.{standard};
+ghost use Rattle.pv_path.specs.Printing.{printed};
+ghost use Rattle.pv_steps.specs.Objects.{IsTarget};
+ghost use Rattle.pv_image.specs.Spelling.{IsPayload, content_text, number_texts, numbers_text, payload_text};
+ghost use Rattle.pv_image.specs.Reading.{AreNumbers, IsByteTarget, IsByteText, Reads, of_bytes, of_numbers, texts};
+
+use crate::column::read_up_to;
+use crate::pieces::pieces_of;
+use crate::printed::read_printed;
+use base64::DecodeAllocError;
+use base64::engine::general_purpose::STANDARD;
+use pv_path::Bytes;
+use pv_steps::Kind;
+use std::alloc::{AllocError, Global};
+
+/// The bytes of a file or the target of a link, and the numbers of a device.
+#[derive(Debug, Drop)]
+pub struct Payload {
+    pub bytes: Bytes,
+    pub major: u32,
+    pub minor: u32,
+}
+
+/// The bytes that a text encodes in Base64.
+fn decode(alloc: Global, text: &[u8]) -> Result<Option<Bytes>, AllocError>
+    ensures { IfOk result (Reads (encode_of standard) IsByteText text.now) }
+{
+    match STANDARD.decode(alloc, text) {
+        Ok(bytes) => Ok(Some(Bytes::from_vec(bytes))),
+        Err(DecodeAllocError::OutOfMemory) => Err(AllocError),
+        Err(DecodeAllocError::DecodeError(_)) => Ok(None),
+    }
+}
+
+/// Whether a text is a dash alone.
+pub(crate) fn is_dash(text: &[u8]) -> bool
+    ensures { IsTrue result ↔ (text.now ≡ codes "-") }
+{
+    matches!(text, [b'-'])
+}
+
+/// The bytes of a file that a text spells.
+fn read_content(alloc: Global, text: &[u8]) -> Result<Option<Bytes>, AllocError>
+    ensures { IfOk result (Reads content_text IsByteText text.now) }
+{
+    if text.is_empty() {
+        return Ok(None);
+    }
+    if is_dash(text) {
+        return Ok(Some(Bytes::new(alloc)));
+    }
+    decode(alloc, text)
+}
+
+/// Whether bytes can be the target of a link.
+fn is_target(bytes: &[u8]) -> bool
+    ensures { IsTrue result ↔ IsTarget bytes.now }
+{
+    let without_nul = has_no_nul(bytes);
+    !bytes.is_empty() && bytes.len() <= 4095 && without_nul
+}
+
+fn has_no_nul(bytes: &[u8]) -> bool
+    ensures { result ≡ list_all (λ b. not (b == 0)) bytes.now }
+{
+    bytes.iter().all(|b| *b != 0)
+}
+
+/// The target of a link that a text prints.
+fn read_target(alloc: Global, text: &[u8]) -> Result<Option<Bytes>, AllocError>
+    ensures { IfOk result (Reads printed IsByteTarget text.now) }
+{
+    let Some(bytes) = read_printed(alloc, text)? else {
+        return Ok(None);
+    };
+    if !is_target(bytes.as_slice()) {
+        return Ok(None);
+    }
+    Ok(Some(bytes))
+}
+
+/// The two numbers that texts spell.
+fn numbers_of(pieces: &[&[u8]]) -> Option<(u32, u32)>
+    ensures { Reads number_texts AreNumbers (texts pieces.now) result }
+{
+    match pieces {
+        [major, minor] => Some((read_up_to(u32::MAX, major)?, read_up_to(u32::MAX, minor)?)),
+        _ => None,
+    }
+}
+
+/// The numbers of a device that a text spells.
+fn read_numbers(alloc: Global, text: &[u8]) -> Result<Option<(u32, u32)>, AllocError>
+    ensures { IfOk result (Reads numbers_text AreNumbers text.now) }
+{
+    let pieces = pieces_of(alloc, text, b':')?;
+    Ok(numbers_of(pieces.as_slice()))
+}
+
+fn of_bytes(bytes: Option<Bytes>) -> Option<Payload>
+    ensures { result ≡ option_map of_bytes bytes }
+{
+    Some(Payload {
+        bytes: bytes?,
+        major: 0,
+        minor: 0,
+    })
+}
+
+fn of_numbers(alloc: Global, numbers: Option<(u32, u32)>) -> Option<Payload>
+    ensures { result ≡ option_map of_numbers numbers }
+{
+    let (major, minor) = numbers?;
+    Some(Payload {
+        bytes: Bytes::new(alloc),
+        major,
+        minor,
+    })
+}
+
+/// No bytes, which a dash spells.
+fn read_nothing(alloc: Global, text: &[u8]) -> Option<Bytes>
+    ensures { Reads (λ _. codes "-") (λ bytes. bytes ≡ []) text.now result }
+{
+    if is_dash(text) {
+        Some(Bytes::new(alloc))
+    } else {
+        None
+    }
+}
+
+/// The payload of an object of a kind that a text spells.
+pub(crate) fn read_payload(
+    alloc: Global,
+    kind: Kind,
+    text: &[u8],
+) -> Result<Option<Payload>, AllocError>
+    ensures { IfOk result (Reads (payload_text kind) (IsPayload kind) text.now) }
+{
+    match kind {
+        Kind::File => Ok(of_bytes(read_content(alloc, text)?)),
+        Kind::Link => Ok(of_bytes(read_target(alloc, text)?)),
+        Kind::CharDevice | Kind::BlockDevice => Ok(of_numbers(alloc, read_numbers(alloc, text)?)),
+        Kind::Directory | Kind::Fifo => Ok(of_bytes(read_nothing(alloc, text))),
+    }
+}

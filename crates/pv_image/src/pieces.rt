@@ -1,0 +1,12 @@
+ghost use Rattle.std.specs.Prelude.{◌≡◌, ◌==◌, IfOk};
+ghost use Rattle.std.specs.List.{slice_split};
+ghost use Rattle.pv_image.specs.Reading.{texts};
+
+use std::alloc::{AllocError, Global};
+
+/// What stands between the places of a byte.
+pub(crate) fn pieces_of(alloc: Global, text: &[u8], byte: u8) -> Result<Vec<&[u8]>, AllocError>
+    ensures { IfOk result (λ pieces. texts pieces.items ≡ slice_split (λ b. b == byte) text.now) }
+{
+    text.split(|b| *b == byte).collect(alloc)
+}

@@ -1,0 +1,233 @@
+//! Images, read line by line.
+ghost use Rattle.std.specs.Prelude.{◌≡◌, ◌≢◌, ℕ, ◌+◌, ◌<◌, ◌≤◌, ◌^◌, List, [], ◌∷◌, ◌++◌, true, length, Some, Ok, Err, IfOk, IfErr, OnOk, ◌⊎◌};
+ghost use Rattle.std.specs.Ordering.{nat_cmp};
+ghost use Rattle.std.specs.FinMap as fin;
+ghost use Rattle.pv_steps.specs.Trees.{IsTree};
+ghost use Rattle.pv_image.specs.Spelling.{end_text, header_text, line};
+ghost use Rattle.pv_image.specs.Images.{HasFault, HasImageFault, IsByteFact, IsImage, judged};
+ghost use Rattle.pv_image.specs.Images.{Fact, Before, InFacts, InNodes, After};
+ghost use Rattle.pv_image.specs.Progress.{Fails, FactsRead, HasNoFactNext, IsLast, Leads, NotesRead, Refuses, TreeRead, letter_after};
+
+use crate::fault::ImageFault;
+use crate::line::{first_line, is_end, is_header, is_note, read_fact};
+use crate::node::read_node;
+use crate::tree::{add_node, root_tree};
+use pv_path::Bytes;
+use pv_text::Facts;
+use pv_tree::MemTree;
+use std::alloc::Global;
+
+/// What is left to read, and the number of its first line.
+#[derive(Clone, Copy)]
+struct Left<'a> {
+    number: u64,
+    bytes: &'a [u8],
+}
+
+/// Reads the notes and the header.
+fn read_header(bytes: &[u8]) -> Result<Left<'_>, ImageFault>
+    ensures leads { IfOk result (λ left. Leads 1 Before bytes.now left.number (InFacts []) left.bytes.now) }
+    ensures text { IfOk result (λ left. NotesRead bytes.now (line header_text ++ left.bytes.now)) }
+    ensures small { IfOk result (λ left. left.number + length left.bytes.now < 2 ^ 64) }
+    ensures err { IfErr result (HasFault 1 Before bytes.now) }
+{
+    let mut number = 1;
+    let mut rest = bytes;
+    while let Some((text, after)) = first_line(rest) {
+        if is_header(text) {
+            return Ok(Left {
+                number: number + 1,
+                bytes: after,
+            });
+        }
+        if !is_note(text) {
+            return Err(ImageFault::BadHeader(number));
+        }
+        number += 1;
+        rest = after;
+    }
+    Err(ImageFault::Truncated(number))
+}
+
+/// Whether a letter is greater than the last one.
+fn is_after(last: Option<u8>, letter: u8) -> bool
+    ensures { result ≡ letter_after last letter }
+{
+    match last {
+        Some(last) => last < letter,
+        None => true,
+    }
+}
+
+/// Adds a fact, where it may stand after the facts before it.
+fn add_fact(
+    facts: &mut Facts,
+    last: Option<u8>,
+    number: u64,
+    letter: u8,
+    value: &Bytes,
+) -> Result<(), ImageFault>
+    requires fact { IsByteFact (letter, value.now) }
+    requires last { IsLast facts.old last }
+    ensures added { OnOk result (fin.entries facts.new ≡ fin.entries facts.old ++ (letter, value.now) ∷ []) }
+    ensures judged { let es = fin.entries facts.old in
+        OnOk result (judged number (InFacts es) (Fact (letter, value.now))
+        ≡ Some (Ok (InFacts (es ++ (letter, value.now) ∷ [])))) }
+    ensures refused { let es = fin.entries facts.old in
+        IfErr result (Refuses number (InFacts es) (Fact (letter, value.now))) }
+{
+    if !is_after(last, letter) {
+        return Err(ImageFault::OutOfOrder(number));
+    }
+    facts.put(letter, value.as_slice())?;
+    Ok(())
+}
+
+/// Reads the facts, up to a line that is none.
+fn read_facts<'a>(alloc: Global, left: Left<'a>) -> Result<(Facts, Left<'a>), ImageFault>
+    requires { left.number + length left.bytes.now < 2 ^ 64 }
+    ensures leads { IfOk result (λ r. Leads left.entry.number (InFacts []) left.entry.bytes.now
+        r.1.number (InFacts (fin.entries r.0)) r.1.bytes.now) }
+    ensures text { IfOk result (λ r. FactsRead left.entry.bytes.now r.0 r.1.bytes.now) }
+    ensures next { IfOk result (λ r. HasNoFactNext r.1.bytes.now) }
+    ensures small { IfOk result (λ r. r.1.number + length r.1.bytes.now < 2 ^ 64) }
+    ensures err { IfErr result (Fails left.entry.number (InFacts []) left.entry.bytes.now) }
+{
+    let mut facts = Facts::new(alloc);
+    let mut last = None;
+    let mut number = left.number;
+    let mut rest = left.bytes;
+    while let Some((text, after)) = first_line(rest) {
+        let Some((letter, value)) = read_fact(alloc, text)? else {
+            return Ok((
+                facts,
+                Left {
+                    number,
+                    bytes: rest,
+                },
+            ));
+        };
+        add_fact(&mut facts, last, number, letter, &value)?;
+        last = Some(letter);
+        number += 1;
+        rest = after;
+    }
+    Err(ImageFault::Truncated(number))
+}
+
+/// Reads the first node, which is the root, where no fact may stand any more.
+fn read_root<'a>(alloc: Global, left: Left<'a>) -> Result<(MemTree, Left<'a>), ImageFault>
+    requires next { HasNoFactNext left.bytes.now }
+    requires small { left.number + length left.bytes.now < 2 ^ 64 }
+    ensures leads { (facts : List (ℕ × List ℕ)) → IfOk result (λ r. Leads left.entry.number (InFacts facts) left.entry.bytes.now
+        r.1.number (InNodes (fin.entries r.0.files)) r.1.bytes.now) }
+    ensures text { IfOk result (λ r. TreeRead left.entry.bytes.now r.0.files r.1.bytes.now) }
+    ensures steps { IfOk result (λ r. r.0.steps ≡ []) }
+    ensures small { IfOk result (λ r. r.1.number + length r.1.bytes.now < 2 ^ 64) }
+    ensures err { (facts : List (ℕ × List ℕ)) → IfErr result (Fails left.entry.number (InFacts facts) left.entry.bytes.now) }
+{
+    let Some((text, rest)) = first_line(left.bytes) else {
+        return Err(ImageFault::Truncated(left.number));
+    };
+    let Some((path, object)) = read_node(alloc, text)? else {
+        return Err(fault_of(left.number, text));
+    };
+    let tree = root_tree(alloc, left.number, &path, object)?;
+    Ok((
+        tree,
+        Left {
+            number: left.number + 1,
+            bytes: rest,
+        },
+    ))
+}
+
+/// The fault of a line that is no fact and no node, where no node stands before it.
+fn fault_of(number: u64, text: &[u8]) -> ImageFault
+    ensures end { text.now ≡ end_text → result ≡ ImageFault.NoParent number }
+    ensures bad { text.now ≢ end_text → result ≡ ImageFault.BadLine number }
+    ensures either { (result ≡ ImageFault.NoParent number) × (text.now ≡ end_text)
+        ⊎ (result ≡ ImageFault.BadLine number) × (text.now ≢ end_text) }
+{
+    if is_end(text) {
+        ImageFault::NoParent(number)
+    } else {
+        ImageFault::BadLine(number)
+    }
+}
+
+/// Reads the other nodes, and the end.
+fn read_nodes<'a>(alloc: Global, tree: &mut MemTree, left: Left<'a>) -> Result<Left<'a>, ImageFault>
+    requires { left.number + length left.bytes.now < 2 ^ 64 }
+    ensures leads { IfOk result (λ end. Leads left.entry.number (InNodes (fin.entries tree.old.files)) left.entry.bytes.now
+        end.number After end.bytes.now) }
+    ensures text { (bytes : List ℕ) → TreeRead bytes tree.old.files left.entry.bytes.now →
+        IfOk result (λ end. TreeRead bytes tree.new.files (line end_text ++ end.bytes.now)) }
+    ensures steps { tree.new.steps ≡ tree.old.steps }
+    ensures err { IfErr result (Fails left.entry.number (InNodes (fin.entries tree.old.files)) left.entry.bytes.now) }
+{
+    let mut number = left.number;
+    let mut rest = left.bytes;
+    while let Some((text, after)) = first_line(rest) {
+        let Some((path, object)) = read_node(alloc, text)? else {
+            if is_end(text) {
+                return Ok(Left {
+                    number: number + 1,
+                    bytes: after,
+                });
+            }
+            return Err(ImageFault::BadLine(number));
+        };
+        add_node(alloc, tree, number, &path, object)?;
+        number += 1;
+        rest = after;
+    }
+    Err(ImageFault::Truncated(number))
+}
+
+/// Sees that nothing follows the end.
+fn check_end(left: Left<'_>) -> Result<(), ImageFault>
+    ensures ok { OnOk result (left.entry.bytes.now ≡ []) }
+    ensures err { IfErr result (HasFault left.entry.number After left.entry.bytes.now) }
+{
+    if left.bytes.is_empty() {
+        return Ok(());
+    }
+    match first_line(left.bytes) {
+        Some(_) => Err(ImageFault::BadLine(left.number)),
+        None => Err(ImageFault::Truncated(left.number)),
+    }
+}
+
+/// What an image holds: a tree, and facts about the system.
+#[derive(Drop)]
+pub struct Image {
+    pub tree: MemTree,
+    pub facts: Facts,
+}
+
+/// Reads the whole of an image.
+fn read_whole(alloc: Global, bytes: &[u8]) -> Result<Image, ImageFault>
+    ensures image { IfOk result (λ image. IsImage bytes.now image.facts image.tree.files) }
+    ensures steps { IfOk result (λ image. image.tree.steps ≡ []) }
+    ensures err { IfErr result (Fails 1 Before bytes.now) }
+{
+    let left = read_header(bytes)?;
+    let (facts, left) = read_facts(alloc, left)?;
+    let (mut tree, left) = read_root(alloc, left)?;
+    let left = read_nodes(alloc, &mut tree, left)?;
+    check_end(left)?;
+    let _count = tree.len();
+    Ok(Image { tree, facts })
+}
+
+/// Reads an image: the tree and the facts of which the bytes are the one text after some notes, or the
+/// first fault with the number of its line. No step is told in the tree. `TooLong` is never answered.
+pub fn read_image(alloc: Global, bytes: &[u8]) -> Result<Image, ImageFault>
+    ensures image { IfOk result (λ image. IsImage bytes.now image.facts image.tree.files) }
+    ensures steps { IfOk result (λ image. image.tree.steps ≡ []) }
+    ensures fault { IfErr result (λ f. f ≢ ImageFault.Memory → HasImageFault bytes.now f) }
+    ensures bounded { result ≢ Err ImageFault.TooLong }
+{
+    read_whole(alloc, bytes)
+}

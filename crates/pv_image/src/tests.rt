@@ -1,0 +1,193 @@
+use super::*;
+use pv_path::{TreePath, parse_path};
+use pv_text::Facts;
+use pv_tree::MemTree;
+use std::alloc::{AllocError, Global};
+use std::test::Fail;
+
+/// What `read_image` answers for bytes, if it is a fault.
+fn fault_of(alloc: Global, bytes: &[u8]) -> Option<ImageFault> {
+    match read_image(alloc, bytes) {
+        Ok(_) => None,
+        Err(fault) => Some(fault),
+    }
+}
+
+/// The faults of whole texts, line by line.
+#[test]
+fn faults_of_texts(rt: HostRuntime) -> Result<(), Fail> {
+    let rows = [
+        (b"".as_slice(), ImageFault::Truncated(1)),
+        (b"tree-image 9\n", ImageFault::BadHeader(1)),
+        (b"tree-image 1", ImageFault::Truncated(1)),
+        (b": x\ntree-image 1\nend\n", ImageFault::NoParent(3)),
+        (
+            b"tree-image 1\nd / 0755 0 0 0,0,0,0 - -\n",
+            ImageFault::Truncated(3),
+        ),
+        (
+            b"tree-image 1\nd / 0755 0 0 0,0,0,0 - -\nend",
+            ImageFault::Truncated(3),
+        ),
+        (
+            b"tree-image 1\nd / 755 0 0 0,0,0,0 - -\n",
+            ImageFault::BadLine(2),
+        ),
+        (
+            b"tree-image 1\nf / 0644 0 0 0,0,0,0 - -\n",
+            ImageFault::NoParent(2),
+        ),
+        (
+            b"tree-image 1\nd / 0755 0 0 0,0,0,0 - -\nend\nend\n",
+            ImageFault::BadLine(4),
+        ),
+        (b"tree-image 1\n: x\n", ImageFault::BadLine(2)),
+        (
+            b"tree-image 1\nfact m 1\nfact A 1\n",
+            ImageFault::OutOfOrder(3),
+        ),
+        (
+            b"tree-image 1\nfact m 1\nfact m 1\n",
+            ImageFault::OutOfOrder(3),
+        ),
+        (b"tree-image 1\nfact x 1\n", ImageFault::BadLine(2)),
+        (b"tree-image 1\nfact m \n", ImageFault::BadLine(2)),
+    ];
+    for (bytes, want) in rows {
+        assert_eq!(rt; fault_of(rt.alloc(), bytes), Some(want));
+    }
+    Ok(())
+}
+
+/// An image of a root and further lines.
+fn with_lines(alloc: Global, lines: &[u8]) -> Result<Vec<u8>, AllocError> {
+    let mut text = Vec::from_slice(alloc, b"tree-image 1\nd / 0755 0 0 0,0,0,0 - -\n")?;
+    text.extend_from_slice(lines)?;
+    text.extend_from_slice(b"end\n")?;
+    Ok(text)
+}
+
+/// What stands after the root, and the fault that it has, if any.
+#[test]
+fn lines_after_the_root(rt: HostRuntime) -> Result<(), Fail> {
+    let bad = Some(ImageFault::BadLine(3));
+    let rows = [
+        (b"".as_slice(), None),
+        (
+            b"d /b 0755 0 0 0,0,0,0 - -\nd /a 0755 0 0 0,0,0,0 - -\n",
+            Some(ImageFault::OutOfOrder(4)),
+        ),
+        (
+            b"d /b 0755 0 0 0,0,0,0 - -\nd /b 0755 0 0 0,0,0,0 - -\n",
+            Some(ImageFault::OutOfOrder(4)),
+        ),
+        (
+            b"d / 0755 0 0 0,0,0,0 - -\n",
+            Some(ImageFault::OutOfOrder(3)),
+        ),
+        (
+            b"f /a/b 0644 0 0 0,0,0,0 - -\n",
+            Some(ImageFault::NoParent(3)),
+        ),
+        (
+            b"f /a 0644 0 0 0,0,0,0 - -\nf /a/b 0644 0 0 0,0,0,0 - -\n",
+            Some(ImageFault::NoParent(4)),
+        ),
+        (b"fact m 1\n", bad),
+        (b"l /a 0755 0 0 0,0,0,0 - /t\n", bad),
+        (b"l /a 0777 0 0 0,0,0,0 - -\n", None),
+        (b"f /a 0644 0 0 0,0,0,0 - aGk=\n", None),
+        (b"f /a 0644 0 0 0,0,0,0 - aGk\n", bad),
+        (b"f /a 0644 0 0 0,0,0,0 - aGl=\n", bad),
+        (b"f /a 00644 0 0 0,0,0,0 - -\n", bad),
+        (b"f /a 0648 0 0 0,0,0,0 - -\n", bad),
+        (b"f /a 0644 00 0 0,0,0,0 - -\n", bad),
+        (b"f /a 0644 4294967295 0 0,0,0,0 - -\n", bad),
+        (b"f /a 0644 0 4294967294 0,0,0,0 - -\n", None),
+        (b"f /a 0644 0 0 0,0,0 - -\n", bad),
+        (b"f /a 0644 0 0 0,0,0,18446744073709551616 - -\n", bad),
+        (b"f /\\x61 0644 0 0 0,0,0,0 - -\n", bad),
+        (b"f /a\\x0A 0644 0 0 0,0,0,0 - -\n", bad),
+        (b"f /a\\x0a 0644 0 0 0,0,0,0 - -\n", None),
+        (b"f /.. 0644 0 0 0,0,0,0 - -\n", bad),
+        (b"f /a/ 0644 0 0 0,0,0,0 - -\n", bad),
+        (b"f  /a 0644 0 0 0,0,0,0 - -\n", bad),
+        (b"p /a 0644 0 0 0,0,0,0 - x\n", bad),
+        (b"c /a 0644 0 0 0,0,0,0 - 5\n", bad),
+        (b"c /a 0644 0 0 0,0,0,0 - 5:4294967295\n", None),
+        (b"f /a 0644 0 0 0,0,0,0 d:u::rwx,d:g::r-x,d:o::--- -\n", bad),
+        (b"f /a 0644 0 0 0,0,0,0 g:1:r--,u:1:r-- -\n", bad),
+        (b"s /a 0644 0 0 0,0,0,0 - -\n", bad),
+    ];
+    for (lines, want) in rows {
+        let text = with_lines(rt.alloc(), lines)?;
+        assert_eq!(rt; fault_of(rt.alloc(), text.as_slice()), want);
+    }
+    Ok(())
+}
+
+/// An image with all kinds of nodes, facts and ACLs, as the format has it.
+const TEXT: &[u8] = b"tree-image 1
+fact A 1.2
+fact H host\\x20one
+fact m 0123
+d / 0755 0 0 1,2,3,4 - -
+d /dev 0755 0 0 0,0,0,0 - -
+b /dev/sda 0660 0 6 0,0,0,0 - 8:0
+c /dev/tty 0666 0 5 0,0,0,0 - 5:1
+d /etc 1777 0 0 0,0,0,18446744073709551615 u:1000:rwx,g:5:r--,m::rwx,d:u::rwx,d:u:7:r-x,d:g::r-x,d:m::r-x,d:o::--- -
+f /etc/a\\x20b 0644 1000 4294967294 0,0,0,0 - aGk=
+l /etc/link 0777 0 0 0,0,0,0 - /t\\x5c\\xff
+f /etc/none 4755 0 0 0,0,0,0 u:0:---,m::r-- -
+p /run 0600 0 0 0,0,0,0 - -
+end
+";
+
+/// Whether the bytes at a path, or the target, are these.
+fn has_payload(tree: &MemTree, path: &TreePath, want: &[u8]) -> bool {
+    match tree.payload_at(path) {
+        Some(payload) => payload == want,
+        None => false,
+    }
+}
+
+/// Whether a letter has this value.
+fn has_value(facts: &Facts, letter: u8, want: &[u8]) -> bool {
+    match facts.get(letter) {
+        Some(value) => value == want,
+        None => false,
+    }
+}
+
+/// The image is read, and written back byte for byte without its notes.
+#[test]
+fn whole_image(rt: HostRuntime) -> Result<(), Fail> {
+    let alloc = rt.alloc();
+    let mut bytes = Vec::from_slice(alloc, b": a note\n: \n")?;
+    bytes.extend_from_slice(TEXT)?;
+    let image = read_image(alloc, bytes.as_slice()).ok().ok_or("an image")?;
+    assert_eq!(rt; image.tree.len(), 9);
+    assert!(rt; has_value(&image.facts, b'H', b"host one"));
+    assert!(rt; image.facts.get(b'M').is_none());
+    let file = parse_path(alloc, b"/etc/a b").ok().ok_or("a path")?;
+    assert!(rt; has_payload(&image.tree, &file, b"hi"));
+    let link = parse_path(alloc, b"/etc/link").ok().ok_or("a path")?;
+    assert!(rt; has_payload(&image.tree, &link, b"/t\\\xff"));
+    let none = parse_path(alloc, b"/etc/none").ok().ok_or("a path")?;
+    let node = image.tree.node_at(&none).ok_or("a node")?;
+    assert_eq!(rt; node.special, 4);
+    assert_eq!(rt; node.acl.access.other.bits, 5);
+    let text = write_image(alloc, &image.tree, &image.facts)?;
+    assert_eq!(rt; text.as_slice(), TEXT);
+    Ok(())
+}
+
+/// Each fault is named in messages by its name alone.
+#[test]
+fn names_of_faults(rt: HostRuntime) -> Result<(), Fail> {
+    let name = ImageFault::OutOfOrder(7).to_string(rt.alloc())?;
+    assert_eq!(rt; name.as_str(), "OutOfOrder");
+    let name = ImageFault::TooLong.to_string(rt.alloc())?;
+    assert_eq!(rt; name.as_str(), "TooLong");
+    Ok(())
+}

@@ -1,0 +1,19 @@
+-- Counting the calls of a loop.
+use Rattle.std.proofs.Common.{◌≤◌, ◌+◌, ℕ, Option, None, Some, arith}
+use Rattle.pv_io.specs.Calls.{CountsAtMost, CountsCall}
+
+pub CountsAtMost-none : (a : Option ℕ) → CountsAtMost 0 a a
+CountsAtMost-none None = tt
+CountsAtMost-none (Some n) = omega arith
+
+-- one call more
+pub CountsAtMost-call : (k : ℕ) (a b c : Option ℕ) → CountsAtMost k a b → CountsCall b c → CountsAtMost (k + 1) a c
+CountsAtMost-call k None b c p q = tt
+CountsAtMost-call k (Some n) None c p q = absurd p
+CountsAtMost-call k (Some n) (Some m) None p q = absurd q
+CountsAtMost-call k (Some n) (Some m) (Some l) p q = omega arith
+
+pub CountsAtMost-more : (k l : ℕ) (a b : Option ℕ) → k ≤ l → CountsAtMost k a b → CountsAtMost l a b
+CountsAtMost-more k l None b le p = tt
+CountsAtMost-more k l (Some n) None le p = absurd p
+CountsAtMost-more k l (Some n) (Some m) le p = omega arith

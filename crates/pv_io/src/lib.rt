@@ -1,0 +1,21 @@
+//! Where the bytes of a run come from and where they go.
+//!
+//! A [`Source`] gives bytes and a [`Sink`] takes them. [`read_all`] reads a whole content, and
+//! [`write_all_of`] writes one. [`MemSource`] and [`MemSink`] stand over memory and fail at planned
+//! calls; [`StdSource`] and [`StdSink`] stand over any reader and writer.
+#![tactic(auto)]
+
+mod fault;
+mod memory;
+mod plan;
+mod standard;
+#[cfg(test)]
+mod tests;
+mod transfer;
+mod whole;
+
+pub use fault::{Failed, ReadAllFault, WriteFault};
+pub use memory::{MemSink, MemSource};
+pub use standard::{StdSink, StdSource};
+pub use transfer::{Sink, Source};
+pub use whole::{MOST_BYTES, read_all, write_all_of};

@@ -1,0 +1,198 @@
+ghost use Rattle.std.specs.Prelude.{◌≡◌, ◌∷◌, ◌++◌, [], ◌||◌, codes, IfOk, OnOk, OnErr};
+ghost use Rattle.pv_path.specs.Printing.{printed, printed_path};
+ghost use Rattle.pv_layers.specs.Folders.{conf_names, found_in};
+ghost use Rattle.pv_layers.specs.Choices.{chosen, choice_of, choice_of_names, choice_of_word, choice_of_next, choice_of_words, SaidPart};
+
+use crate::folders::{conf_names, folders};
+use crate::found::{Found, found_in};
+use crate::words::found_word;
+use pv_path::{Bytes, Name, PathList, TreePath, WordList, print_bytes, print_path};
+use pv_steps::Tree;
+use pv_text::{Messages, Tool};
+use std::alloc::{AllocError, Global};
+
+/// The files that a run reads as its configuration.
+#[derive(Debug, Drop)]
+pub struct Chosen {
+    /// In the order in which they are read.
+    pub files: PathList,
+    /// Whether a file word was not found.
+    pub missing: bool,
+}
+
+fn say_odd(alloc: Global, path: &TreePath, messages: &mut Messages) -> Result<(), AllocError>
+    ensures ok { OnOk result (messages.new ≡ messages.old ++ (printed_path path.now ++ codes ": not a regular file") ∷ []) }
+    ensures err { OnErr result (messages.new ≡ messages.old) }
+{
+    let mut line = print_path(alloc, path)?;
+    line.extend_from_slice(b": not a regular file")?;
+    messages.push(&line)
+}
+
+fn say_missing(alloc: Global, word: &[u8], messages: &mut Messages) -> Result<(), AllocError>
+    ensures ok { OnOk result (messages.new ≡ messages.old ++ (printed word.now ++ codes ": not found") ∷ []) }
+    ensures err { OnErr result (messages.new ≡ messages.old) }
+{
+    let mut line = print_bytes(alloc, word)?;
+    line.extend_from_slice(b": not found")?;
+    messages.push(&line)
+}
+
+/// Takes a file that a name stands for, or says that it is none.
+fn take_found(
+    alloc: Global,
+    found: Found,
+    chosen: &mut Chosen,
+    messages: &mut Messages,
+) -> Result<(), AllocError>
+    ensures files { OnOk result (chosen.new.files ≡ chosen.old.files ++ (choice_of found).files) }
+    ensures missing { OnOk result (chosen.new.missing ≡ (chosen.old.missing || (choice_of found).missing)) }
+    ensures said { OnOk result (messages.new ≡ messages.old ++ (choice_of found).messages) }
+    ensures err { OnErr result (messages.new ≡ messages.old) }
+{
+    match found {
+        Found::Regular(path) => chosen.files.push(path),
+        Found::Odd(path) => say_odd(alloc, &path, messages),
+        Found::Missing | Found::Masked => Ok(()),
+    }
+}
+
+/// Takes a file that a word stands for, or says that it is not found.
+fn take_word(
+    alloc: Global,
+    word: &[u8],
+    found: Found,
+    chosen: &mut Chosen,
+    messages: &mut Messages,
+) -> Result<(), AllocError>
+    ensures files { OnOk result (chosen.new.files ≡ chosen.old.files ++ (choice_of_word word.now found).files) }
+    ensures missing { OnOk result (chosen.new.missing ≡ (chosen.old.missing || (choice_of_word word.now found).missing)) }
+    ensures said { OnOk result (messages.new ≡ messages.old ++ (choice_of_word word.now found).messages) }
+    ensures err { OnErr result (messages.new ≡ messages.old) }
+{
+    match found {
+        Found::Regular(path) => chosen.files.push(path),
+        Found::Masked => Ok(()),
+        Found::Missing | Found::Odd(_) => {
+            chosen.missing = true;
+            say_missing(alloc, word, messages)
+        }
+    }
+}
+
+/// Takes the file that a name stands for in some folders.
+fn take_name<T: Tree>(
+    alloc: Global,
+    tree: &T,
+    folders: &PathList,
+    name: &Name,
+    chosen: &mut Chosen,
+    messages: &mut Messages,
+) -> Result<(), AllocError>
+    ensures files { OnOk result (chosen.new.files ≡ chosen.old.files ++ (choice_of (found_in (T.state tree.now) folders.now name.now)).files) }
+    ensures missing { OnOk result (chosen.new.missing ≡ (chosen.old.missing || (choice_of (found_in (T.state tree.now) folders.now name.now)).missing)) }
+    ensures said { OnOk result (messages.new ≡ messages.old ++ (choice_of (found_in (T.state tree.now) folders.now name.now)).messages) }
+    ensures err { OnErr result (messages.new ≡ messages.old) }
+{
+    let found = found_in(alloc, tree, folders, name.bytes())?;
+    take_found(alloc, found, chosen, messages)
+}
+
+/// Takes the file that a word stands for, unless the word stood before.
+fn take_next<T: Tree>(
+    alloc: Global,
+    tree: &T,
+    folders: &PathList,
+    before: &[Bytes],
+    word: &Bytes,
+    chosen: &mut Chosen,
+    messages: &mut Messages,
+) -> Result<(), AllocError>
+    ensures files { OnOk result (chosen.new.files ≡ chosen.old.files ++ (choice_of_next (T.state tree.now) folders.now before.now word.now).files) }
+    ensures missing { OnOk result (chosen.new.missing ≡ (chosen.old.missing || (choice_of_next (T.state tree.now) folders.now before.now word.now).missing)) }
+    ensures said { OnOk result (messages.new ≡ messages.old ++ (choice_of_next (T.state tree.now) folders.now before.now word.now).messages) }
+    ensures err { OnErr result (messages.new ≡ messages.old) }
+{
+    if before.contains(word) {
+        return Ok(());
+    }
+    let found = found_word(alloc, tree, folders, word.as_slice())?;
+    take_word(alloc, word.as_slice(), found, chosen, messages)
+}
+
+fn choose_names<T: Tree>(
+    alloc: Global,
+    tree: &T,
+    folders: &PathList,
+    names: &[Name],
+    messages: &mut Messages,
+) -> Result<Chosen, AllocError>
+    ensures files { IfOk result (λ c. c.files ≡ (choice_of_names (T.state tree.now) folders.now names.now).files) }
+    ensures missing { IfOk result (λ c. c.missing ≡ (choice_of_names (T.state tree.now) folders.now names.now).missing) }
+    ensures said { OnOk result (messages.new ≡ messages.old ++ (choice_of_names (T.state tree.now) folders.now names.now).messages) }
+    ensures part { SaidPart (choice_of_names (T.state tree.now) folders.now names.now).messages messages.old messages.new }
+{
+    let mut chosen = Chosen {
+        files: PathList::new(alloc),
+        missing: false,
+    };
+    for name in names {
+        take_name(alloc, tree, folders, name, &mut chosen, messages)?;
+    }
+    Ok(chosen)
+}
+
+fn choose_words<T: Tree>(
+    alloc: Global,
+    tree: &T,
+    folders: &PathList,
+    words: &[Bytes],
+    messages: &mut Messages,
+) -> Result<Chosen, AllocError>
+    ensures files { IfOk result (λ c. c.files ≡ (choice_of_words (T.state tree.now) folders.now [] words.now).files) }
+    ensures missing { IfOk result (λ c. c.missing ≡ (choice_of_words (T.state tree.now) folders.now [] words.now).missing) }
+    ensures said { OnOk result (messages.new ≡ messages.old ++ (choice_of_words (T.state tree.now) folders.now [] words.now).messages) }
+    ensures part { SaidPart (choice_of_words (T.state tree.now) folders.now [] words.now).messages messages.old messages.new }
+{
+    let mut chosen = Chosen {
+        files: PathList::new(alloc),
+        missing: false,
+    };
+    for (i, word) in words.iter().enumerate() {
+        take_next(
+            alloc,
+            tree,
+            folders,
+            &words[..i],
+            word,
+            &mut chosen,
+            messages,
+        )?;
+    }
+    Ok(chosen)
+}
+
+/// The files that a tool reads as its configuration: those that the words name, or without words
+/// those that the tool's folders hold. What is no regular file and no mask is named in a message,
+/// and so is a word without a file.
+pub fn chosen_files<T: Tree>(
+    alloc: Global,
+    tree: &T,
+    tool: Tool,
+    names: &WordList,
+    messages: &mut Messages,
+) -> Result<Chosen, AllocError>
+    ensures files { IfOk result (λ c. c.files ≡ (chosen (T.state tree.now) tool names.now).files) }
+    ensures missing { IfOk result (λ c. c.missing ≡ (chosen (T.state tree.now) tool names.now).missing) }
+    ensures said { OnOk result (messages.new ≡ messages.old ++ (chosen (T.state tree.now) tool names.now).messages) }
+    ensures part { SaidPart (chosen (T.state tree.now) tool names.now).messages messages.old messages.new }
+{
+    let folders = folders(alloc, tool)?;
+    match names.as_slice() {
+        [] => {
+            let names = conf_names(alloc, tree, &folders)?;
+            choose_names(alloc, tree, &folders, &names, messages)
+        }
+        words => choose_words(alloc, tree, &folders, words, messages),
+    }
+}

@@ -1,0 +1,5 @@
+pub mod Names
+pub mod Paths
+pub mod Printing
+pub mod Parsing
+pub mod PathLaws

@@ -1,0 +1,32 @@
+-- Names of directory entries: what stands between the slashes of a path.
+use Rattle.std.specs.Prelude.{ℕ, Bool, not, ◌&&◌, ◌||◌, ◌==◌, nat_le, nat_eq, List, ◌++◌, length, codes}
+use Rattle.std.specs.List.{list_all, starts_with}
+use Rattle.std.specs.Cmp.Lexicographic.{pointwise}
+
+-- whether two names, or two texts, are the same bytes
+abbrev pub same_bytes : List ℕ → List ℕ → Bool
+same_bytes = pointwise nat_eq
+
+-- `.` and `..` stand for a directory itself and its parent, and are no names
+abbrev pub is_dots : List ℕ → Bool
+is_dots name = same_bytes name (codes ".") || same_bytes name (codes "..")
+
+-- a byte of a name: neither NUL nor a slash
+abbrev pub is_name_byte : ℕ → Bool
+is_name_byte b = not (b == 0) && not (b == 47)
+
+-- a name: 1 to 255 bytes without a slash and NUL, and neither `.` nor `..`
+abbrev pub is_name : List ℕ → Bool
+is_name name = nat_le 1 (length name) && nat_le (length name) 255 && list_all is_name_byte name && not (is_dots name)
+
+-- the five bytes with which a staging name begins
+abbrev pub staging_mark : List ℕ
+staging_mark = codes ".#tf-"
+
+-- whether a name is a staging name, which belongs to the program
+abbrev pub is_staging : List ℕ → Bool
+is_staging name = starts_with nat_eq name staging_mark
+
+-- the staging name for a name
+abbrev pub staging_name : List ℕ → List ℕ
+staging_name name = staging_mark ++ name

@@ -1,0 +1,24 @@
+-- How bytes and paths are printed in images and messages.
+use Rattle.std.specs.Prelude.{ℕ, ◌+◌, ◌/◌, ◌%◌, Bool, not, ◌&&◌, ◌==◌, nat_le, nat_lt, List, [], ◌∷◌, ◌++◌, codes, if◌then◌else◌}
+use Rattle.std.specs.List.{flat_map}
+use Rattle.pv_path.specs.Paths.{Path}
+
+-- a byte that stands for itself: printable ASCII without space and backslash
+abbrev pub is_plain : ℕ → Bool
+is_plain b = nat_le 33 b && nat_le b 126 && not (b == 92)
+
+-- a lower case hexadecimal digit
+abbrev pub hex_digit : ℕ → ℕ
+hex_digit d = if nat_lt d 10 then 48 + d else 87 + d
+
+-- a byte as it is printed: itself, or `\x` and two hexadecimal digits
+abbrev pub printed_byte : ℕ → List ℕ
+printed_byte b = if is_plain b then b ∷ [] else codes "\\x" ++ hex_digit (b / 16) ∷ hex_digit (b % 16) ∷ []
+
+abbrev pub printed : List ℕ → List ℕ
+printed bytes = flat_map printed_byte bytes
+
+-- `/` for the root, else `/` and the printed name for each name
+abbrev pub printed_path : Path → List ℕ
+printed_path [] = 47 ∷ []
+printed_path (name ∷ path) = flat_map (λ n. 47 ∷ printed n) (name ∷ path)

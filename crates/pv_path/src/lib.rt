@@ -1,0 +1,33 @@
+//! Names and paths of a tree, how they are read and printed, and the lists that hold them.
+#![tactic(auto)]
+
+mod fault;
+mod name;
+mod parse;
+mod path;
+mod print;
+mod relate;
+mod sequence;
+
+pub use fault::PathFault;
+pub use name::{Name, is_staging};
+pub use parse::parse_path;
+pub use path::TreePath;
+pub use print::{print_bytes, print_path};
+pub use relate::{carry, child, has_staging, is_prefix, names_under, parent, staging};
+pub use sequence::Sequence;
+
+/// Bytes: a content, a link's target, or a text.
+pub type Bytes = Sequence<u8>;
+
+/// Names in some order.
+pub type NameList = Sequence<Name>;
+
+/// Words of a command line, as bytes.
+pub type WordList = Sequence<Bytes>;
+
+/// Paths in some order.
+pub type PathList = Sequence<TreePath>;
+
+#[cfg(test)]
+mod tests;

@@ -1,0 +1,183 @@
+ghost use Rattle.std.specs.Prelude.{◌≡◌, ◌≢◌, ◌↔◌, IsTrue, ℕ, ◌≤◌, List, [], ◌∷◌, ◌++◌, true, length, Some, IfOk, IfSome, OnOk, OnErr, slice_get};
+ghost use Rattle.std.specs.Option.{option_copied, option_map, option_map_or};
+ghost use Rattle.std.specs.Ordering.{as_partial_cmp};
+ghost use Rattle.std.specs.Cmp.{partial_equiv_from_equiv, partial_order_from_own_ties, partial_order_from_total};
+ghost use Rattle.std.specs.Cmp.Lexicographic.{slice_cmp, lists_equiv, lists_ties, nat_list_eq_equiv, texts_ties};
+ghost use Rattle.std.specs.Ordering.{nat_cmp};
+ghost use Rattle.std.specs.Hash as fed;
+ghost use Rattle.std.specs.Hash.{same_Alike};
+ghost use Rattle.std.proofs.Common.{rules, refl};
+ghost use Rattle.pv_path.specs.PathLaws.{same_path-decides};
+ghost use Rattle.pv_path.specs.Paths.{has_names, is_prefix, rest_under, parent_of, last_name, path_cmp, path_total, same_path, has_staging, staging_of};
+
+use crate::name::{Name, is_staging};
+use std::alloc::{AllocError, Global};
+use std::cmp::Ordering;
+use std::hash::{Hash, Hasher};
+use std::marker::Model;
+
+/// A path of a tree: its names from the root, which is the empty list. Clauses see the list of names.
+#[derive(Debug, Drop)]
+pub struct TreePath {
+    names: Vec<Name>,
+}
+
+impl Model for TreePath {
+    ghost Value = { List (List ℕ) };
+
+    ghost view = { λ p. p.names.items };
+
+    ghost invariant = { λ p. has_names p.names.items ≡ true };
+}
+
+impl TreePath {
+    /// The root. It takes no memory.
+    pub fn root(alloc: Global) -> TreePath
+        ensures { result ≡ [] }
+    {
+        TreePath {
+            names: Vec::new(alloc),
+        }
+    }
+
+    /// The path of these names, copied.
+    pub fn of(alloc: Global, names: &[Name]) -> Result<TreePath, AllocError>
+        requires { has_names names.now ≡ true }
+        ensures { IfOk result (λ path. path ≡ names.now) }
+    {
+        Ok(TreePath {
+            names: names.to_vec(alloc)?,
+        })
+    }
+
+    /// How many names the path has.
+    pub fn len(&self) -> usize
+        ensures count { result ≡ length self.now }
+        ensures names { has_names self.now ≡ true }
+    {
+        self.names.len()
+    }
+
+    /// Whether the path is the root.
+    pub fn is_empty(&self) -> bool
+        ensures { IsTrue result ↔ (self.now ≡ []) }
+    {
+        self.names.is_empty()
+    }
+
+    /// The name at a place counted from 0 below the root, or nothing past the end.
+    pub fn get(&self, i: usize) -> Option<&Name>
+        ensures { option_copied result ≡ slice_get self.now i }
+    {
+        self.names.get(i)
+    }
+
+    /// The last name, or nothing for the root.
+    pub fn name(&self) -> Option<&Name>
+        ensures { option_copied result ≡ last_name self.now }
+    {
+        self.names.last()
+    }
+
+    /// The names as a slice.
+    pub fn names(&self) -> &[Name]
+        ensures value { result.now ≡ self.now }
+        ensures names { has_names self.now ≡ true }
+    {
+        self.names.as_slice()
+    }
+
+    /// Adds a name at the end. After want of memory the path is as before.
+    pub fn push(&mut self, name: Name) -> Result<(), AllocError>
+        ensures ok { OnOk result (self.new ≡ self.old ++ name ∷ []) }
+        ensures err { OnErr result (self.new ≡ self.old) }
+    {
+        let _valid = name.bytes();
+        self.names.push(name)?;
+        Ok(())
+    }
+
+    /// The same path once more.
+    pub fn copy(&self) -> Result<TreePath, AllocError>
+        ensures { IfOk result (λ path. path ≡ self.now) }
+    {
+        Ok(TreePath {
+            names: self.names.clone()?,
+        })
+    }
+
+    /// The path followed by further names.
+    pub fn followed_by(&self, names: &[Name]) -> Result<TreePath, AllocError>
+        requires { has_names names.now ≡ true }
+        ensures { IfOk result (λ path. path ≡ self.now ++ names.now) }
+    {
+        let mut path = self.copy()?;
+        for name in names {
+            path.push(name.copy()?)?;
+        }
+        Ok(path)
+    }
+
+    /// How the path stands to another in the order of paths.
+    pub fn order(&self, other: &TreePath) -> Ordering
+        ensures { result ≡ path_cmp self.now other.now }
+    {
+        self.names.cmp(&other.names)
+    }
+}
+
+impl Clone for TreePath {
+    ghost is_clone = { λ path copy. copy ≡ path };
+
+    fn clone(&self) -> Result<TreePath, AllocError> {
+        self.copy()
+    }
+}
+
+impl PartialEq for TreePath {
+    ghost eq = { same_path };
+
+    ghost laws = { partial_equiv_from_equiv (lists_equiv nat_list_eq_equiv) };
+
+    fn eq(&self, other: &TreePath) -> bool {
+        self.names == other.names
+    }
+}
+
+impl Eq for TreePath {
+    ghost laws = { lists_equiv nat_list_eq_equiv };
+}
+
+impl Ord for TreePath {
+    ghost cmp = { path_cmp };
+
+    ghost total = { path_total };
+
+    ghost matches_partial_cmp = { λ _ _. refl };
+
+    ghost matches_eq = { lists_ties (slice_cmp nat_cmp) texts_ties };
+
+    fn cmp(&self, other: &TreePath) -> Ordering {
+        self.order(other)
+    }
+}
+
+impl PartialOrd for TreePath {
+    ghost partial_cmp = { as_partial_cmp path_cmp };
+
+    ghost laws = { partial_order_from_own_ties (partial_order_from_total path_total) (lists_ties (slice_cmp nat_cmp) texts_ties) };
+
+    fn partial_cmp(&self, other: &TreePath) -> Option<Ordering> {
+        Some(self.cmp(other))
+    }
+}
+
+impl Hash for TreePath {
+    ghost hash_input = { fed.slice (fed.slice fed.u8) };
+
+    ghost respects_eq = { (same_Alike (fed.slice (fed.slice fed.u8)) same_path-decides).fed };
+
+    fn hash<H: Hasher>(&self, state: &mut H) {
+        self.names.hash(state);
+    }
+}

@@ -1,0 +1,10 @@
+pub mod Objects
+pub mod Trees
+pub mod Steps
+pub mod Runs
+pub mod Same
+pub mod Refusal
+pub mod StepLaws
+pub mod ObjectLaws
+pub mod TreeLaws
+pub mod RunLaws

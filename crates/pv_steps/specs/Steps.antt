@@ -1,0 +1,145 @@
+-- The thirteen atomic steps: when each may be done, and what it leaves, stamps included.
+use Rattle.std.specs.Prelude.{◌≡◌, ◌≢◌, ◌⊎◌, ℕ, ◌^◌, ◌<◌, ◌≤◌, Bool, true, false, List, [], ◌∷◌, ◌++◌, map, Option, Some, None, nat_lt, option_map, if◌then◌else◌}
+use Rattle.std.specs.List.{list_all}
+use Rattle.std.specs.Option.{option_map_or}
+use Rattle.std.specs.FinMap as fin
+use Rattle.pv_path.specs.Paths.{Path, same_path, is_prefix, rest_under, parent_of, has_names}
+use Rattle.pv_acl.specs.declared.part.Acl.{Acl}
+use Rattle.pv_acl.specs.Parts.{is_acl}
+use Rattle.pv_steps.specs.declared.node.Kind.{Kind}
+use Rattle.pv_steps.specs.declared.node.Kind.TheVariants.{Directory, File, Link, Fifo, CharDevice, BlockDevice}
+use Rattle.pv_steps.specs.declared.object.Object.{Object}
+use Rattle.pv_steps.specs.declared.step.Step.{Step}
+use Rattle.pv_steps.specs.declared.step.Step.TheVariants.{MakeDir, MakeFile, MakeFifo, MakeDevice, MakeLink, Write, SetMode, SetOwner, SetAcl, SetStamps, Rename, Unlink, RemoveDir}
+use Rattle.pv_steps.specs.Objects.{fresh, changed, modified, with_mode, with_owner, with_acl, with_stamps, with_content, IsTarget, IsId}
+use Rattle.pv_steps.specs.Trees.{Files, Places, places, kind_of, tabulate, IsPresentIn, IsAbsentIn, IsKindIn, IsEmptyIn}
+
+-- ---- when a step may be done
+
+-- room for a new object: the path is absent, and its parent is a directory
+abbrev pub HasRoom : Places → Path → Type 0
+HasRoom t path = IsAbsentIn t path × IsKindIn Directory t (parent_of path)
+
+-- present, and of another kind than the one given
+abbrev pub IsOther : Kind → Places → Path → Type 0
+IsOther kind t path = IsPresentIn t path × (kind_of (t path) ≢ Some kind)
+
+-- a default part stands on a directory alone
+abbrev pub TakesAcl : Places → Path → Acl → Type 0
+TakesAcl t path acl = (acl.default_part ≡ None) ⊎ IsKindIn Directory t path
+
+-- what a Rename may put in the place of: nothing, a non-directory by a non-directory, an empty directory by a directory
+pub data Yields (t : Places) (from to : Path) : Type 0 where
+  absent : IsAbsentIn t to → Yields t from to
+  objects : IsOther Directory t from → IsOther Directory t to → Yields t from to
+  directories : IsKindIn Directory t from → IsKindIn Directory t to → IsEmptyIn t to → Yields t from to
+
+-- the condition of a Rename
+pub record Movable (t : Places) (from to : Path) : Type 0 where
+  pub present : IsPresentIn t from
+  pub no_root : from ≢ []
+  pub outside : is_prefix from to ≡ false
+  pub parent : IsKindIn Directory t (parent_of to)
+  pub yields : Yields t from to
+
+abbrev pub Can : Places → Step → Type 0
+Can t (MakeDir path) = HasRoom t path
+Can t (MakeFile path) = HasRoom t path
+Can t (MakeFifo path) = HasRoom t path
+Can t (MakeDevice path block major minor) = HasRoom t path
+Can t (MakeLink path target) = HasRoom t path × IsTarget target
+Can t (Write path content) = IsKindIn File t path
+Can t (SetMode path mode) = IsOther Link t path × (mode ≤ 0o7777)
+Can t (SetOwner path uid gid) = IsPresentIn t path × (IsId uid × IsId gid)
+Can t (SetAcl path acl) = IsOther Link t path × (TakesAcl t path acl × (is_acl acl ≡ true))
+Can t (SetStamps path access modify) = IsPresentIn t path
+Can t (Rename from to) = Movable t from to
+Can t (Unlink path) = IsOther Directory t path
+Can t (RemoveDir path) = IsKindIn Directory t path × (IsEmptyIn t path × (path ≢ []))
+
+-- what the types of a step's parts say: names are names, bytes are bytes, numbers fit
+abbrev pub StepFits : Step → Type 0
+StepFits (MakeDir path) = has_names path ≡ true
+StepFits (MakeFile path) = has_names path ≡ true
+StepFits (MakeFifo path) = has_names path ≡ true
+StepFits (MakeDevice path block major minor) = (has_names path ≡ true) × ((major < 2 ^ 32) × (minor < 2 ^ 32))
+StepFits (MakeLink path target) = (has_names path ≡ true) × (list_all (λ b. nat_lt b 256) target ≡ true)
+StepFits (Write path content) = (has_names path ≡ true) × (list_all (λ b. nat_lt b 256) content ≡ true)
+StepFits (SetMode path mode) = has_names path ≡ true
+StepFits (SetOwner path uid gid) = has_names path ≡ true
+StepFits (SetAcl path acl) = has_names path ≡ true
+StepFits (SetStamps path access modify) = (has_names path ≡ true) × ((access < 2 ^ 64) × (modify < 2 ^ 64))
+StepFits (Rename from to) = (has_names from ≡ true) × (has_names to ≡ true)
+StepFits (Unlink path) = has_names path ≡ true
+StepFits (RemoveDir path) = has_names path ≡ true
+
+-- ---- what a step leaves
+
+-- at one path another object, or none
+abbrev pub put_at : Path → Option Object → Places → Places
+put_at path o t = λ q. if same_path path q then o else t q
+
+-- the object at one path changed, where there is one
+abbrev pub on_at : Path → (Object → Object) → Places → Places
+on_at path f t = λ q. if same_path path q then option_map f (t q) else t q
+
+-- the directory of a path has gained or lost a child
+abbrev pub touched : ℕ → Path → Places → Places
+touched now path t = on_at (parent_of path) (modified now) t
+
+abbrev pub made : ℕ → Path → Object → Places → Places
+made now path o t = touched now path (put_at path (Some o) t)
+
+abbrev pub gone : ℕ → Path → Places → Places
+gone now path t = touched now path (put_at path None t)
+
+-- what comes to lie at the moved object itself, and at each path below it
+abbrev pub carried : ℕ → Path → Places → Path → Option Object
+carried now from t [] = option_map (changed now) (t from)
+carried now from t (name ∷ rest) = t (from ++ name ∷ rest)
+
+-- at a path that has this rest below the new place, what was carried there; elsewhere nothing is left at and below
+-- the old place, and both directories are touched
+abbrev pub moved_at : ℕ → Path → Path → Places → Path → Option Path → Option Object
+moved_at now from to t q (Some rest) = carried now from t rest
+moved_at now from to t q None = if is_prefix from q then None else touched now from (touched now to t) q
+
+-- what lay at and below one path now lies at and below another, in place of what stood there
+abbrev pub moved : ℕ → Path → Path → Places → Places
+moved now from to t = λ q. moved_at now from to t q (rest_under to q)
+
+abbrev pub device_kind : Bool → Kind
+device_kind block = if block then BlockDevice else CharDevice
+
+abbrev pub after_at : Places → Step → ℕ → Places
+after_at t (MakeDir path) now = made now path (fresh Directory 0o700 [] 0 0 now) t
+after_at t (MakeFile path) now = made now path (fresh File 0o600 [] 0 0 now) t
+after_at t (MakeFifo path) now = made now path (fresh Fifo 0o600 [] 0 0 now) t
+after_at t (MakeDevice path block major minor) now = made now path (fresh (device_kind block) 0o600 [] major minor now) t
+after_at t (MakeLink path target) now = made now path (fresh Link 0o777 target 0 0 now) t
+after_at t (Write path content) now = on_at path (with_content content now) t
+after_at t (SetMode path mode) now = on_at path (with_mode mode now) t
+after_at t (SetOwner path uid gid) now = on_at path (with_owner uid gid now) t
+after_at t (SetAcl path acl) now = on_at path (with_acl acl now) t
+after_at t (SetStamps path access modify) now = on_at path (with_stamps access modify now) t
+after_at t (Rename from to) now = moved now from to t
+after_at t (Unlink path) now = gone now path t
+after_at t (RemoveDir path) now = gone now path t
+
+-- where a path comes to lie in a Rename
+abbrev pub moved_path : Path → Path → Path → Path
+moved_path from to path = option_map_or (λ rest. to ++ rest) (rest_under from path) path
+
+-- paths that hold all that a step leaves
+abbrev pub paths_after : List Path → Step → List Path
+paths_after paths (MakeDir path) = path ∷ paths
+paths_after paths (MakeFile path) = path ∷ paths
+paths_after paths (MakeFifo path) = path ∷ paths
+paths_after paths (MakeDevice path block major minor) = path ∷ paths
+paths_after paths (MakeLink path target) = path ∷ paths
+paths_after paths (Rename from to) = map (moved_path from to) paths ++ paths
+paths_after paths step = paths
+
+-- the tree after a step at a moment; what it has at each path is `after_at`
+unfoldable pub after : Files → Step → ℕ → Files
+after files step now = tabulate (paths_after (fin.keys files) step) (after_at (places files) step now)

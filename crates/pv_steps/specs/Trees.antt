@@ -1,0 +1,86 @@
+-- Trees: finite maps from paths to objects.
+use Rattle.std.specs.Prelude.{◌≡◌, ◌≢◌, ℕ, true, List, [], ◌∷◌, ◌++◌, Option, Some, None, is_some, option_map, option_and_then}
+use Rattle.std.specs.List.{filter_map}
+use Rattle.std.specs.FinMap as fin
+use Rattle.pv_path.specs.Paths.{Path, path_cmp, rest_under, parent_of, has_names}
+use Rattle.pv_steps.specs.declared.node.Kind.{Kind}
+use Rattle.pv_steps.specs.declared.node.Kind.TheVariants.{Directory}
+use Rattle.pv_steps.specs.declared.node.Node.{Node}
+use Rattle.pv_steps.specs.declared.object.Object.{Object}
+use Rattle.pv_steps.specs.Objects.{IsObject}
+
+-- a tree as a finite map, and as the function from paths to objects that it answers
+abbrev pub Files : Type 0
+Files = fin.FinMap path_cmp Object
+
+abbrev pub Places : Type 0
+Places = Path → Option Object
+
+abbrev pub places : Files → Places
+places files = fin.get files
+
+-- ---- what stands at a path
+
+abbrev pub node_at : Files → Path → Option Node
+node_at files path = option_map (λ o. o.node) (places files path)
+
+abbrev pub payload_at : Files → Path → Option (List ℕ)
+payload_at files path = option_map (λ o. o.payload) (places files path)
+
+abbrev pub kind_of : Option Object → Option Kind
+kind_of o = option_map (λ o. o.node.kind) o
+
+abbrev pub IsPresentIn : Places → Path → Type 0
+IsPresentIn t path = is_some (t path) ≡ true
+
+abbrev pub IsAbsentIn : Places → Path → Type 0
+IsAbsentIn t path = t path ≡ None
+
+abbrev pub IsKindIn : Kind → Places → Path → Type 0
+IsKindIn kind t path = kind_of (t path) ≡ Some kind
+
+abbrev pub IsKind : Kind → Files → Path → Type 0
+IsKind kind files path = IsKindIn kind (places files) path
+
+abbrev pub IsPresent : Files → Path → Type 0
+IsPresent files path = IsPresentIn (places files) path
+
+-- no object stands in the directory at a path
+abbrev pub IsEmptyIn : Places → Path → Type 0
+IsEmptyIn t path = (name : List ℕ) → IsAbsentIn t (path ++ name ∷ [])
+
+-- the name that a path of one name has
+abbrev pub single : Path → Option (List ℕ)
+single [] = None
+single (name ∷ []) = Some name
+single (name ∷ other ∷ rest) = None
+
+-- the name by which one path lies directly below another
+abbrev pub child_name : Path → Path → Option (List ℕ)
+child_name path q = option_and_then single (rest_under path q)
+
+-- the names in a directory, in byte order
+abbrev pub names_below : Files → Path → List (List ℕ)
+names_below files path = filter_map (child_name path) (fin.keys files)
+
+-- ---- what makes a map a tree
+
+-- the root is a directory, each other path lies in a directory, each path has names, and each object is whole
+pub record IsTreeIn (t : Places) : Type 0 where
+  pub root : IsKindIn Directory t []
+  pub parents : (path : Path) → IsPresentIn t path → path ≢ [] → IsKindIn Directory t (parent_of path)
+  pub names : (path : Path) → IsPresentIn t path → has_names path ≡ true
+  pub objects : (path : Path) (o : Object) → t path ≡ Some o → IsObject o
+
+abbrev pub IsTree : Files → Type 0
+IsTree files = IsTreeIn (places files)
+
+-- ---- trees made from a function
+
+-- the entries that a function has at some paths
+abbrev pub entries_at : List Path → Places → List (Path × Object)
+entries_at paths t = filter_map (λ path. option_map (λ o. (path, o)) (t path)) paths
+
+-- the tree of what a function has at some paths
+abbrev pub tabulate : List Path → Places → Files
+tabulate paths t = fin.from_entries (entries_at paths t)

@@ -1,0 +1,58 @@
+ghost use Rattle.std.specs.Prelude.{◌≡◌, ◌↔◌, IfOk, IsTrue};
+
+use pv_acl::Acl;
+use std::alloc::AllocError;
+
+/// What an object of a tree is.
+#[derive(Clone, Copy, Debug, PartialEq, Eq, Hash)]
+pub enum Kind {
+    Directory,
+    File,
+    Link,
+    Fifo,
+    CharDevice,
+    BlockDevice,
+}
+
+/// The four stamps of an object, in microseconds since 1970.
+#[derive(Clone, Copy, Debug, PartialEq, Eq, Hash)]
+pub struct Stamps {
+    pub access: u64,
+    pub birth: u64,
+    pub change: u64,
+    pub modify: u64,
+}
+
+/// What a tree keeps of an object beside its payload (inode(7)).
+#[derive(Debug, Drop)]
+pub struct Node {
+    pub kind: Kind,
+    /// Set-user-ID 4, set-group-ID 2, sticky 1.
+    pub special: u8,
+    pub uid: u32,
+    pub gid: u32,
+    pub acl: Acl,
+    pub stamps: Stamps,
+    /// A device's major number, else 0.
+    pub major: u32,
+    /// A device's minor number, else 0.
+    pub minor: u32,
+}
+
+impl Node {
+    /// The same node once more.
+    pub fn copy(&self) -> Result<Node, AllocError>
+        ensures { IfOk result (λ node. node ≡ self.now) }
+    {
+        Ok(Node {
+            kind: self.kind,
+            special: self.special,
+            uid: self.uid,
+            gid: self.gid,
+            acl: self.acl.copy()?,
+            stamps: self.stamps,
+            major: self.major,
+            minor: self.minor,
+        })
+    }
+}

@@ -1,0 +1,83 @@
+ghost use Rattle.std.specs.Prelude.{◌≡◌, ℕ, ◌∷◌, ◌++◌, [], ◌≤◌, List, Some, IfOk, OnOk, OnErr, IsErrOf};
+ghost use Rattle.std.specs.Option.{option_copied};
+ghost use Rattle.pv_io.specs.Faults.{HasRisen};
+ghost use Rattle.pv_steps.specs.declared.step.Step.{Step as StepValue};
+ghost use Rattle.pv_steps.specs.declared.tree.TreeFault.TheVariants.{Memory, Failed};
+ghost use Rattle.pv_steps.specs.declared.node.Kind.TheVariants.{Directory, File, Link};
+ghost use Rattle.pv_steps.specs.Trees.{Files, places, IsKind, IsTree, node_at, payload_at, names_below};
+ghost use Rattle.pv_steps.specs.Steps.{Can, StepFits, after};
+
+use crate::node::Node;
+use crate::step::Step;
+use pv_path::{NameList, TreePath};
+use std::alloc::{AllocError, AllocFailed, Global};
+
+/// Why a step was not done.
+#[derive(Clone, Copy, Debug, PartialEq, Eq)]
+pub enum TreeFault {
+    /// The tree refused or could not do it; its count of faults has risen.
+    Failed,
+    /// Memory ran out.
+    Memory,
+}
+
+impl From<AllocError> for TreeFault {
+    ghost from_gives = { λ _ e. e ≡ Memory };
+
+    fn from(_e: AllocError) -> TreeFault {
+        TreeFault::Memory
+    }
+}
+
+impl<T: Drop> From<AllocFailed<T>> for TreeFault {
+    ghost from_gives = { λ _ e. e ≡ Memory };
+
+    fn from(_e: AllocFailed<T>) -> TreeFault {
+        TreeFault::Memory
+    }
+}
+
+/// A tree that can be walked and changed step by step. It tells its state, the list of the steps done since
+/// it was made, and a count of faults that never falls.
+pub trait Tree {
+    ghost state: { Self → Files };
+
+    ghost steps: { Self → List StepValue };
+
+    ghost faults: { Self → ℕ };
+
+    /// The node at a path, or nothing where the path is absent. It takes no memory.
+    fn look(&self, path: &TreePath) -> Option<&Node>
+        ensures node { option_copied result ≡ node_at (state self.now) path.now }
+        ensures tree { IsTree (state self.now) };
+
+    /// The names in a directory, in byte order.
+    fn list(&self, alloc: Global, path: &TreePath) -> Result<NameList, AllocError>
+        requires { IsKind Directory (state self.now) path.now }
+        ensures names { IfOk result (λ names. names ≡ names_below (state self.now) path.now) };
+
+    /// The bytes of a file. It takes no memory.
+    fn bytes(&self, path: &TreePath) -> &[u8]
+        requires { IsKind File (state self.now) path.now }
+        ensures content { Some result.now ≡ payload_at (state self.now) path.now };
+
+    /// The target of a link. It takes no memory.
+    fn target(&self, path: &TreePath) -> &[u8]
+        requires { IsKind Link (state self.now) path.now }
+        ensures target { Some result.now ≡ payload_at (state self.now) path.now };
+
+    /// Does one step at the moment `now`, in microseconds since 1970. After any fault the state and the
+    /// list of steps are as before.
+    fn step(&mut self, step: &Step, now: u64) -> Result<(), TreeFault>
+        requires { Can (places (state self.old)) step.now }
+        ensures state { OnOk result (state self.new ≡ after (state self.old) step.now now) }
+        ensures told { OnOk result (steps self.new ≡ steps self.old ++ step.now ∷ []) }
+        ensures kept { OnErr result (state self.new ≡ state self.old) }
+        ensures untold { OnErr result (steps self.new ≡ steps self.old) }
+
+        // What the types of the step's parts say.
+        ensures fits { StepFits step.now }
+
+        ensures never_falls { faults self.old ≤ faults self.new }
+        ensures cause { IsErrOf result Failed → HasRisen (faults self.old) (faults self.new) };
+}

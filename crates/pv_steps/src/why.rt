@@ -1,0 +1,10 @@
+/// Why a walk along a path is refused at a place.
+#[derive(Clone, Copy, Debug, PartialEq, Eq)]
+pub enum Why {
+    /// A place above the last is a symbolic link.
+    Link,
+    /// A place above the last is present and neither a directory nor a link.
+    NotDirectory,
+    /// The owner of the place above is not root, and the place has another owner.
+    UnsafeOwner,
+}

@@ -1,0 +1,4 @@
+pub mod FactLaws
+pub mod EscapeLaws
+pub mod SpecifierLaws
+pub mod FieldLaws

@@ -1,0 +1,5 @@
+pub mod Facts
+pub mod Escapes
+pub mod Specifiers
+pub mod Fields
+pub mod SameFacts

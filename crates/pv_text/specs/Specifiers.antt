@@ -1,0 +1,66 @@
+-- Specifiers: a percent sign and a letter stand for a text (tmpfiles.d(5), sysusers.d(5)).
+use Rattle.std.specs.Prelude.{◌≡◌, ℕ, Bool, ◌==◌, List, [], ◌∷◌, ◌++◌, codes, Option, Some, None, Result, Ok, Err, if◌then◌else◌}
+use Rattle.std.specs.List.{list_any}
+use Rattle.std.specs.Map.{lookup}
+use Rattle.std.specs.FinMap as map
+use Rattle.pv_text.specs.Facts.{Values}
+use Rattle.pv_text.specs.declared.tool.Tool.{Tool}
+use Rattle.pv_text.specs.declared.tool.Tool.TheVariants.{Tmpfiles, Sysusers}
+use Rattle.pv_text.specs.declared.fault.ExpandFault.{ExpandFault}
+use Rattle.pv_text.specs.declared.fault.ExpandFault.TheVariants.{UnknownSpecifier, MissingFact, Memory}
+
+abbrev pub is_one_of : List ℕ → ℕ → Bool
+is_one_of letters letter = list_any (λ l. l == letter) letters
+
+-- `%%`, `%T` and `%V`
+abbrev pub fixed_for_both : ℕ → Option (List ℕ)
+fixed_for_both letter = lookup (λ l. letter == l) ((37, codes "%") ∷ (84, codes "/tmp") ∷ (86, codes "/var/tmp") ∷ [])
+
+-- `%C`, `%L`, `%S` and `%t`; `%g` and `%u`; `%G` and `%U`; `%h`
+abbrev pub fixed_for_tmpfiles : ℕ → Option (List ℕ)
+fixed_for_tmpfiles letter = lookup (λ l. letter == l)
+    ((67, codes "/var/cache") ∷ (76, codes "/var/log") ∷ (83, codes "/var/lib") ∷ (116, codes "/run")
+    ∷ (103, codes "root") ∷ (117, codes "root") ∷ (71, codes "0") ∷ (85, codes "0") ∷ (104, codes "/root") ∷ [])
+
+-- a fact; where the image has none it is missing for the first letters, and empty for the others
+abbrev pub from_facts : Values → ℕ → Result (List ℕ) ExpandFault
+from_facts facts letter =
+    if is_one_of (codes "abHlmv") letter then told (Err MissingFact) (map.get facts letter)
+    else if is_one_of (codes "ABMowW") letter then told (Ok []) (map.get facts letter)
+    else Err UnknownSpecifier
+  where
+    told : Result (List ℕ) ExpandFault → Option (List ℕ) → Result (List ℕ) ExpandFault
+    told none (Some value) = Ok value
+    told none None = none
+
+-- what a letter after a percent sign stands for
+abbrev pub meaning_of : Tool → Values → ℕ → Result (List ℕ) ExpandFault
+meaning_of tool facts letter = fixed (fixed_for_both letter) (for_tool tool)
+  where
+    fixed : Option (List ℕ) → Result (List ℕ) ExpandFault → Result (List ℕ) ExpandFault
+    fixed (Some text) other = Ok text
+    fixed None other = other
+
+    for_tool : Tool → Result (List ℕ) ExpandFault
+    for_tool Tmpfiles = fixed (fixed_for_tmpfiles letter) (from_facts facts letter)
+    for_tool Sysusers = from_facts facts letter
+
+-- two texts one after the other, or the first fault
+abbrev pub joined : Result (List ℕ) ExpandFault → Result (List ℕ) ExpandFault → Result (List ℕ) ExpandFault
+joined (Err fault) rest = Err fault
+joined (Ok text) (Err fault) = Err fault
+joined (Ok text) (Ok rest) = Ok (text ++ rest)
+
+-- the text with its specifiers expanded, or the first fault from the left; what a specifier stands
+-- for is not expanded again
+abbrev pub expanded : Tool → Values → List ℕ → Result (List ℕ) ExpandFault
+expanded tool facts [] = Ok []
+expanded tool facts (b ∷ []) = if b == 37 then Err UnknownSpecifier else Ok (b ∷ [])
+expanded tool facts (b ∷ letter ∷ rest) =
+    if b == 37 then joined (meaning_of tool facts letter) (expanded tool facts rest)
+    else joined (Ok (b ∷ [])) (expanded tool facts (letter ∷ rest))
+
+-- a fault that a call answers is the one that the definition gives, unless memory ran out
+abbrev pub FailsSo : ExpandFault → Result (List ℕ) ExpandFault → Type 0
+FailsSo Memory read = Unit {0}
+FailsSo fault read = read ≡ Err fault

@@ -1,0 +1,54 @@
+ghost use Rattle.std.specs.Prelude.{◌≡◌};
+ghost use Rattle.pv_text.specs.declared.fault.ExpandFault.TheVariants.{Memory};
+
+use std::alloc::{AllocError, AllocFailed};
+use thiserror::Error;
+
+/// Why a line has no fields. Places are counted from 0.
+#[derive(Clone, Copy, Debug, PartialEq, Eq, Error)]
+pub enum FieldFault {
+    /// A NUL byte stands there.
+    #[error("BadByte")]
+    BadByte(usize),
+    /// A quote there is never closed.
+    #[error("OpenQuote")]
+    OpenQuote(usize),
+    /// A byte other than a blank follows a closing quote there.
+    #[error("GluedQuote")]
+    GluedQuote(usize),
+    /// A backslash there begins no escape.
+    #[error("BadEscape")]
+    BadEscape(usize),
+    /// There is no Type, or no Path.
+    #[error("TooFew")]
+    TooFew,
+}
+
+/// Why the specifiers of a text can't be expanded.
+#[derive(Clone, Copy, Debug, PartialEq, Eq, Error)]
+pub enum ExpandFault {
+    /// A percent sign stands at the end, or before a letter that the tool has no value for.
+    #[error("UnknownSpecifier")]
+    UnknownSpecifier,
+    /// A specifier needs a fact that the image does not give.
+    #[error("MissingFact")]
+    MissingFact,
+    #[error("Memory")]
+    Memory,
+}
+
+impl From<AllocError> for ExpandFault {
+    ghost from_gives = { λ _ e. e ≡ Memory };
+
+    fn from(_e: AllocError) -> ExpandFault {
+        ExpandFault::Memory
+    }
+}
+
+impl<T: Drop> From<AllocFailed<T>> for ExpandFault {
+    ghost from_gives = { λ _ e. e ≡ Memory };
+
+    fn from(_e: AllocFailed<T>) -> ExpandFault {
+        ExpandFault::Memory
+    }
+}

@@ -1,0 +1,25 @@
+ghost use Rattle.std.specs.Prelude.{◌≡◌, IfOk};
+
+use pv_path::Bytes;
+use std::alloc::AllocError;
+
+/// Where a line of a configuration stands.
+#[derive(Debug, Drop)]
+pub struct Place {
+    /// The printed path of the file.
+    pub file: Bytes,
+    /// The number of the line, counted from 1.
+    pub number: u32,
+}
+
+impl Place {
+    /// The same place once more.
+    pub fn copy(&self) -> Result<Place, AllocError>
+        ensures { IfOk result (λ place. place ≡ self.now) }
+    {
+        Ok(Place {
+            file: self.file.copy()?,
+            number: self.number,
+        })
+    }
+}

@@ -1,0 +1,8 @@
+/// Which of the two tools reads a configuration.
+#[derive(Clone, Copy, Debug, PartialEq, Eq)]
+pub enum Tool {
+    /// `systemd-tmpfiles`
+    Tmpfiles,
+    /// `systemd-sysusers`
+    Sysusers,
+}

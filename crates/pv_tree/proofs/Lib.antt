@@ -1,0 +1,5 @@
+pub mod Halving
+pub mod Lists
+pub mod Moving
+pub mod State
+pub mod Looking

@@ -1,0 +1,16 @@
+use Rattle.std.proofs.Common.{refl}
+use Rattle.pv_steps.specs.Objects.{modified}
+use Rattle.pv_tree.proofs.Lists.{changed_there, changed_nowhere, sorted_changed, places_changed}
+use Rattle.pv_tree.proofs.list.touch.Goals as goal
+
+pub returns-in-Ok-clause-sorted : goal.returns-in-Ok-clause-sorted
+returns-in-Ok-clause-sorted c =
+    sorted_changed c.args.path.now (modified c.args.now) c.args.entries.now.items _ c.requires (changed_there c.args.path.now c.args.path.now (modified c.args.now) c.args.entries.now.items c.in-Ok.i c.index_mut.result.now c.touch.new.self refl c.in-Ok.ensures.found c.index_mut.ensures.value c.touch.ensures)
+
+pub returns-in-Ok-clause-places : goal.returns-in-Ok-clause-places
+returns-in-Ok-clause-places c =
+    places_changed c.args.path.now (modified c.args.now) c.args.entries.now.items _ (changed_there c.args.path.now c.args.path.now (modified c.args.now) c.args.entries.now.items c.in-Ok.i c.index_mut.result.now c.touch.new.self refl c.in-Ok.ensures.found c.index_mut.ensures.value c.touch.ensures)
+
+pub returns-in_default-clause-places : goal.returns-in_default-clause-places
+returns-in_default-clause-places c =
+    places_changed c.args.path.now (modified c.args.now) c.args.entries.now.items _ (changed_nowhere c.args.path.now c.args.path.now (modified c.args.now) c.args.entries.now.items c.in_default.field-0 refl c.in_default.ensures.gap)

@@ -1,0 +1,4 @@
+pub mod Finding
+pub mod Entries
+pub mod Held
+pub mod Fuses

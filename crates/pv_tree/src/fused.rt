@@ -1,0 +1,123 @@
+ghost use Rattle.std.specs.Prelude.{◌≡◌, ◌≢◌, ℕ, ◌+◌, ◌<◌, ◌≤◌, ◌↔◌, IsTrue, List, [], ◌∷◌, ◌++◌, length, Some, OnOk, OnErr, IfOk, IsErrOf};
+ghost use Rattle.std.specs.Option.{option_copied};
+ghost use Rattle.pv_io.specs.Faults.{HasRisen};
+ghost use Rattle.pv_steps.specs.declared.node.Kind.TheVariants.{Directory, File, Link};
+ghost use Rattle.pv_steps.specs.declared.tree.TreeFault.TheVariants.{Failed};
+ghost use Rattle.pv_steps.specs.Trees.{places, IsKind, IsTree, node_at, payload_at, names_below};
+ghost use Rattle.pv_steps.specs.Steps.{Can, StepFits, after};
+ghost use Rattle.pv_tree.specs.Fuses.{one_less, capped, refusals_after};
+
+use crate::apply::parts_fit;
+use pv_path::{NameList, TreePath};
+use pv_steps::{Node, Step, Tree, TreeFault};
+use std::alloc::{AllocError, Global};
+
+/// A tree that passes a number of steps and then refuses each further one. Its state and its list of steps
+/// are those of the inner tree.
+#[derive(Drop)]
+pub struct Fused<T> {
+    inner: T,
+    /// How many steps it still passes; without a limit it passes all.
+    left: Option<u64>,
+    /// How many steps it refused, up to the last value.
+    refused: u64,
+}
+
+impl<T: Tree> Fused<T> {
+    /// A tree that passes `limit` steps, or all without a limit. It takes no memory.
+    pub fn new(inner: T, limit: Option<u64>) -> Fused<T>
+        ensures { result ≡ record { inner = inner; left = limit; refused = 0 } }
+    {
+        Fused {
+            inner,
+            left: limit,
+            refused: 0,
+        }
+    }
+
+    /// Whether a step was refused for the limit. It takes no memory.
+    pub fn stopped(&self) -> bool
+        ensures { IsTrue result ↔ (0 < self.now.refused) }
+    {
+        self.refused > 0
+    }
+
+    /// The inner tree. It takes no memory.
+    pub fn inner(&self) -> &T
+        ensures { result.now ≡ self.now.inner }
+    {
+        &self.inner
+    }
+
+    /// Gives the inner tree back. It takes no memory.
+    pub fn into_inner(self) -> T
+        ensures { result ≡ self.inner }
+    {
+        let Fused {
+            inner,
+            left: _,
+            refused: _,
+        } = self;
+        inner
+    }
+}
+
+impl<T: Tree> Tree for Fused<T> {
+    ghost state = { λ f. T.state f.inner };
+
+    ghost steps = { λ f. T.steps f.inner };
+
+    ghost faults = { λ f. capped (T.faults f.inner + f.refused) };
+
+    fn look(&self, path: &TreePath) -> Option<&Node> {
+        self.inner.look(path)
+    }
+
+    fn list(&self, alloc: Global, path: &TreePath) -> Result<NameList, AllocError> {
+        self.inner.list(alloc, path)
+    }
+
+    fn bytes(&self, path: &TreePath) -> &[u8] {
+        self.inner.bytes(path)
+    }
+
+    fn target(&self, path: &TreePath) -> &[u8] {
+        self.inner.target(path)
+    }
+
+    fn step(&mut self, step: &Step, now: u64) -> Result<(), TreeFault>
+        requires { Can (places (T.state self.old.inner)) step.now }
+        ensures state { OnOk result (T.state self.new.inner ≡ after (T.state self.old.inner) step.now now) }
+        ensures told { OnOk result (T.steps self.new.inner ≡ T.steps self.old.inner ++ step.now ∷ []) }
+        ensures kept { OnErr result (T.state self.new.inner ≡ T.state self.old.inner) }
+        ensures untold { OnErr result (T.steps self.new.inner ≡ T.steps self.old.inner) }
+        ensures fits { StepFits step.now }
+        ensures never_falls { capped (T.faults self.old.inner + self.old.refused) ≤ capped (T.faults self.new.inner + self.new.refused) }
+        ensures cause { IsErrOf result Failed → HasRisen (capped (T.faults self.old.inner + self.old.refused)) (capped (T.faults self.new.inner + self.new.refused)) }
+
+        // It refuses each step where nothing is left, and the inner tree is not asked.
+        ensures refused { self.old.left ≡ Some 0 → (result ≡ Err Failed) × (self.new.inner ≡ self.old.inner) }
+        ensures refusals { self.new.refused ≡ refusals_after self.old.left self.old.refused }
+
+        // Else a step fails only where the inner tree does.
+        ensures passed { self.old.left ≢ Some 0 → IsErrOf result Failed → HasRisen (T.faults self.old.inner) (T.faults self.new.inner) }
+
+        // Only a step that succeeds uses up the limit.
+        ensures used { OnOk result (self.new.left ≡ one_less self.old.left) }
+        ensures unused { OnErr result (self.new.left ≡ self.old.left) }
+    {
+        match self.left {
+            Some(0) => {
+                parts_fit(step);
+                self.refused = self.refused.saturating_add(1);
+                Err(TreeFault::Failed)
+            }
+            Some(left) => {
+                self.inner.step(step, now)?;
+                self.left = Some(left - 1);
+                Ok(())
+            }
+            None => self.inner.step(step, now),
+        }
+    }
+}

@@ -1,0 +1,487 @@
+ghost use Rattle.std.specs.Prelude.{◌≡◌, ◌≢◌, ℕ, ◌≤◌, List, [], ◌∷◌, map, true, false};
+ghost use Rattle.std.specs.Ordering.{nat_cmp};
+ghost use Rattle.pv_path.specs.Paths.{is_prefix};
+ghost use Rattle.pv_acl.specs.Parts.{is_acl};
+ghost use Rattle.pv_steps.specs.declared.node.Kind.TheVariants.{Directory, File};
+ghost use Rattle.pv_steps.specs.Objects.{IsTarget, IsId};
+ghost use Rattle.pv_steps.specs.Trees.{places, IsPresentIn, IsAbsentIn, IsEmptyIn, IsKindIn};
+ghost use Rattle.pv_steps.specs.Steps.{HasRoom, IsOther};
+ghost use Rattle.pv_tree.specs.Finding.{IsRising};
+
+use super::*;
+use crate::make::plain;
+use pv_acl::Acl;
+use pv_path::{Bytes, TreePath, is_prefix, parent, parse_path};
+use std::alloc::Global;
+use std::cmp::Ordering;
+use std::process::Abort;
+
+/// The names a, b and c beside one that is sought.
+#[derive(Drop)]
+struct Letters {
+    names: [u8; 3],
+    sought: u8,
+    left: u32,
+}
+
+impl Probe for Letters {
+    ghost orders = { λ p. map (λ n. nat_cmp n p.sought) p.names };
+
+    ghost left = { λ p. p.left };
+
+    fn compare(&mut self, i: usize) -> Ordering {
+        self.left -= 1;
+        self.names[i].cmp(&self.sought)
+    }
+}
+
+/// The place of a name among a, b and c, with two questions.
+fn place_in_abc(sought: u8) -> Option<usize>
+    requires { IsRising (map (λ n. nat_cmp n sought) (97 ∷ 98 ∷ 99 ∷ [])) }
+{
+    let mut probe = Letters {
+        names: *b"abc",
+        sought,
+        left: 2,
+    };
+    find(&mut probe, 3)
+}
+
+/// No names at all, and no question left.
+#[derive(Drop)]
+struct Nothing;
+
+impl Probe for Nothing {
+    ghost orders = { λ _. [] };
+
+    ghost left = { λ _. 0 };
+
+    fn compare(&mut self, _i: usize) -> Ordering {
+        unreachable!()
+    }
+}
+
+#[test]
+fn finds_names_by_halving(rt: HostRuntime) {
+    assert_eq!(rt; place_in_abc(b'b'), Some(1));
+    assert_eq!(rt; place_in_abc(b'd'), None);
+    assert_eq!(rt; find(&mut Nothing, 0), None);
+}
+
+/// The tree of a root alone.
+fn root_tree(rt: &impl Abort, alloc: Global) -> MemTree {
+    let Object { node, payload: _ } = plain(alloc, Kind::Directory, 0o755, 0);
+    MemTree::new(alloc, node).expect(rt, "memory")
+}
+
+fn path_of(rt: &impl Abort, alloc: Global, text: &[u8]) -> TreePath {
+    parse_path(alloc, text).expect(rt, "a path")
+}
+
+/// Stops unless an object of a kind stands at a path.
+fn expect_kind<T: Tree>(rt: &impl Abort, tree: &T, path: &TreePath, kind: Kind)
+    ensures { IsKindIn kind (places (T.state tree.now)) path.now }
+{
+    match tree.look(path) {
+        Some(node) => assert!(rt; node.kind == kind),
+        None => panic!(rt; "absent"),
+    }
+}
+
+/// Stops unless an object of another kind stands at a path.
+fn expect_other<T: Tree>(rt: &impl Abort, tree: &T, path: &TreePath, kind: Kind)
+    ensures { IsOther kind (places (T.state tree.now)) path.now }
+{
+    match tree.look(path) {
+        Some(node) => assert!(rt; node.kind != kind),
+        None => panic!(rt; "absent"),
+    }
+}
+
+/// Stops unless there is room for a new object at a path.
+fn expect_room<T: Tree>(rt: &impl Abort, alloc: Global, tree: &T, path: &TreePath)
+    ensures { HasRoom (places (T.state tree.now)) path.now }
+{
+    assert!(rt; tree.look(path).is_none());
+    match parent(alloc, path).expect(rt, "memory") {
+        Some(up) => expect_kind(rt, tree, &up, Kind::Directory),
+        None => panic!(rt; "the root"),
+    }
+}
+
+/// Stops unless a directory is empty.
+fn expect_empty<T: Tree>(rt: &impl Abort, alloc: Global, tree: &T, path: &TreePath)
+    requires { IsKindIn Directory (places (T.state tree.now)) path.now }
+    ensures { IsEmptyIn (places (T.state tree.now)) path.now }
+{
+    let names = tree.list(alloc, path).expect(rt, "memory");
+    assert!(rt; names.is_empty());
+}
+
+fn make_dir<T: Tree>(
+    rt: &impl Abort,
+    alloc: Global,
+    tree: &mut T,
+    text: &[u8],
+    now: u64,
+) -> Result<(), TreeFault> {
+    let path = path_of(rt, alloc, text);
+    expect_room(rt, alloc, tree, &path);
+    tree.step(&Step::MakeDir { path }, now)
+}
+
+fn make_file(
+    rt: &impl Abort,
+    alloc: Global,
+    tree: &mut MemTree,
+    text: &[u8],
+    now: u64,
+) -> Result<(), TreeFault> {
+    let path = path_of(rt, alloc, text);
+    expect_room(rt, alloc, tree, &path);
+    tree.step(&Step::MakeFile { path }, now)
+}
+
+fn make_fifo(
+    rt: &impl Abort,
+    alloc: Global,
+    tree: &mut MemTree,
+    text: &[u8],
+    now: u64,
+) -> Result<(), TreeFault> {
+    let path = path_of(rt, alloc, text);
+    expect_room(rt, alloc, tree, &path);
+    tree.step(&Step::MakeFifo { path }, now)
+}
+
+fn make_device(
+    rt: &impl Abort,
+    alloc: Global,
+    tree: &mut MemTree,
+    text: &[u8],
+    block: bool,
+    now: u64,
+) -> Result<(), TreeFault> {
+    let path = path_of(rt, alloc, text);
+    expect_room(rt, alloc, tree, &path);
+    let step = Step::MakeDevice {
+        path,
+        block,
+        major: 8,
+        minor: 1,
+    };
+    tree.step(&step, now)
+}
+
+fn make_link(
+    rt: &impl Abort,
+    alloc: Global,
+    tree: &mut MemTree,
+    text: &[u8],
+    target: &[u8],
+    now: u64,
+) -> Result<(), TreeFault>
+    requires { IsTarget target.now }
+{
+    let path = path_of(rt, alloc, text);
+    expect_room(rt, alloc, tree, &path);
+    let target = Bytes::copy_of(alloc, target).expect(rt, "memory");
+    tree.step(&Step::MakeLink { path, target }, now)
+}
+
+fn write(
+    rt: &impl Abort,
+    alloc: Global,
+    tree: &mut MemTree,
+    text: &[u8],
+    content: &[u8],
+    now: u64,
+) -> Result<(), TreeFault> {
+    let path = path_of(rt, alloc, text);
+    expect_kind(rt, tree, &path, Kind::File);
+    let content = Bytes::copy_of(alloc, content).expect(rt, "memory");
+    tree.step(&Step::Write { path, content }, now)
+}
+
+fn set_mode(
+    rt: &impl Abort,
+    alloc: Global,
+    tree: &mut MemTree,
+    text: &[u8],
+    mode: u16,
+    now: u64,
+) -> Result<(), TreeFault>
+    requires { mode ≤ 4095 }
+{
+    let path = path_of(rt, alloc, text);
+    expect_other(rt, tree, &path, Kind::Link);
+    tree.step(&Step::SetMode { path, mode }, now)
+}
+
+fn set_owner(
+    rt: &impl Abort,
+    alloc: Global,
+    tree: &mut MemTree,
+    text: &[u8],
+    uid: u32,
+    gid: u32,
+    now: u64,
+) -> Result<(), TreeFault>
+    requires user { IsId uid }
+    requires group { IsId gid }
+{
+    let path = path_of(rt, alloc, text);
+    expect_other(rt, tree, &path, Kind::Link);
+    tree.step(&Step::SetOwner { path, uid, gid }, now)
+}
+
+fn set_acl(
+    rt: &impl Abort,
+    alloc: Global,
+    tree: &mut MemTree,
+    text: &[u8],
+    acl: Acl,
+    now: u64,
+) -> Result<(), TreeFault>
+    requires { is_acl acl ≡ true }
+{
+    let path = path_of(rt, alloc, text);
+    expect_other(rt, tree, &path, Kind::Link);
+    expect_kind(rt, tree, &path, Kind::Directory);
+    tree.step(&Step::SetAcl { path, acl }, now)
+}
+
+fn set_stamps(
+    rt: &impl Abort,
+    alloc: Global,
+    tree: &mut MemTree,
+    text: &[u8],
+    access: u64,
+    modify: u64,
+    now: u64,
+) -> Result<(), TreeFault> {
+    let path = path_of(rt, alloc, text);
+    expect_other(rt, tree, &path, Kind::Link);
+    tree.step(
+        &Step::SetStamps {
+            path,
+            access,
+            modify,
+        },
+        now,
+    )
+}
+
+/// Renames a path to an absent one.
+fn rename(
+    rt: &impl Abort,
+    alloc: Global,
+    tree: &mut MemTree,
+    from: &[u8],
+    to: &[u8],
+    now: u64,
+) -> Result<(), TreeFault> {
+    let from = path_of(rt, alloc, from);
+    let to = path_of(rt, alloc, to);
+    expect_other(rt, tree, &from, Kind::Link);
+    expect_room(rt, alloc, tree, &to);
+    assert!(rt; !from.is_empty());
+    assert!(rt; !is_prefix(&from, &to));
+    tree.step(&Step::Rename { from, to }, now)
+}
+
+fn unlink(
+    rt: &impl Abort,
+    alloc: Global,
+    tree: &mut MemTree,
+    text: &[u8],
+    now: u64,
+) -> Result<(), TreeFault> {
+    let path = path_of(rt, alloc, text);
+    expect_other(rt, tree, &path, Kind::Directory);
+    tree.step(&Step::Unlink { path }, now)
+}
+
+fn remove_dir(
+    rt: &impl Abort,
+    alloc: Global,
+    tree: &mut MemTree,
+    text: &[u8],
+    now: u64,
+) -> Result<(), TreeFault> {
+    let path = path_of(rt, alloc, text);
+    expect_kind(rt, tree, &path, Kind::Directory);
+    expect_empty(rt, alloc, tree, &path);
+    assert!(rt; !path.is_empty());
+    tree.step(&Step::RemoveDir { path }, now)
+}
+
+/// Adds a file of root with its stamps at 3.
+fn add_file(rt: &impl Abort, alloc: Global, tree: &mut MemTree, text: &[u8]) {
+    let path = path_of(rt, alloc, text);
+    expect_room(rt, alloc, tree, &path);
+    let Object { node, payload: _ } = plain(alloc, Kind::File, 0o644, 3);
+    tree.add(&path, node, b"").expect(rt, "memory");
+}
+
+/// What stands at a path: its kind, its mode and its stamps (access, birth, change, modify).
+fn seen(
+    rt: &impl Abort,
+    alloc: Global,
+    tree: &MemTree,
+    text: &[u8],
+) -> Option<(Kind, u16, [u64; 4])> {
+    let path = path_of(rt, alloc, text);
+    match tree.look(&path) {
+        Some(node) => {
+            assert!(rt; node.special <= 7);
+            let Stamps {
+                access,
+                birth,
+                change,
+                modify,
+            } = node.stamps;
+            let mode = node.acl.access.mode(node.special);
+            Some((node.kind, mode, [access, birth, change, modify]))
+        }
+        None => None,
+    }
+}
+
+/// Whether the bytes of a file or the target of a link are these.
+fn holds(rt: &impl Abort, alloc: Global, tree: &MemTree, text: &[u8], bytes: &[u8]) -> bool {
+    let path = path_of(rt, alloc, text);
+    tree.payload_at(&path)
+        .is_some_and(|payload| payload == bytes)
+}
+
+#[test]
+fn makes_each_kind(rt: HostRuntime) {
+    let alloc = rt.alloc();
+    let mut tree = root_tree(&rt, alloc);
+    assert_eq!(rt; make_dir(&rt, alloc, &mut tree, b"/d", 7), Ok(()));
+    assert_eq!(rt;
+        make_link(&rt, alloc, &mut tree, b"/d/l", b"../x", 8),
+        Ok(())
+    );
+    assert_eq!(rt; make_file(&rt, alloc, &mut tree, b"/d/f", 9), Ok(()));
+    assert_eq!(rt; make_fifo(&rt, alloc, &mut tree, b"/d/p", 10), Ok(()));
+    assert_eq!(rt;
+        make_device(&rt, alloc, &mut tree, b"/d/b", true, 11),
+        Ok(())
+    );
+    for (text, want) in [
+        (
+            b"/".as_slice(),
+            Some((Kind::Directory, 0o755, [0, 0, 7, 7])),
+        ),
+        (b"/d", Some((Kind::Directory, 0o700, [7, 7, 11, 11]))),
+        (b"/d/f", Some((Kind::File, 0o600, [9, 9, 9, 9]))),
+        (b"/d/p", Some((Kind::Fifo, 0o600, [10, 10, 10, 10]))),
+        (b"/d/b", Some((Kind::BlockDevice, 0o600, [11, 11, 11, 11]))),
+        (b"/d/l", Some((Kind::Link, 0o777, [8, 8, 8, 8]))),
+        (b"/d/x", None),
+    ] {
+        assert_eq!(rt; seen(&rt, alloc, &tree, text), want);
+    }
+    assert!(rt; holds(&rt, alloc, &tree, b"/d/l", b"../x"));
+    assert!(rt; holds(&rt, alloc, &tree, b"/d/f", b""));
+}
+
+#[test]
+fn changes_objects(rt: HostRuntime) {
+    let alloc = rt.alloc();
+    let mut tree = root_tree(&rt, alloc);
+    assert_eq!(rt; make_file(&rt, alloc, &mut tree, b"/f", 2), Ok(()));
+    assert_eq!(rt; write(&rt, alloc, &mut tree, b"/f", b"xy", 3), Ok(()));
+    assert_eq!(rt; set_mode(&rt, alloc, &mut tree, b"/f", 0o4640, 4), Ok(()));
+    assert_eq!(rt; set_owner(&rt, alloc, &mut tree, b"/f", 5, 6, 5), Ok(()));
+    assert_eq!(rt; set_stamps(&rt, alloc, &mut tree, b"/f", 60, 61, 6), Ok(()));
+    assert_eq!(rt;
+        set_acl(&rt, alloc, &mut tree, b"/", Acl::of_mode(alloc, 0o750), 7),
+        Ok(())
+    );
+    assert_eq!(rt;
+        seen(&rt, alloc, &tree, b"/f"),
+        Some((Kind::File, 0o4640, [60, 2, 6, 61]))
+    );
+    assert_eq!(rt;
+        seen(&rt, alloc, &tree, b"/"),
+        Some((Kind::Directory, 0o750, [0, 0, 7, 2]))
+    );
+    assert!(rt; holds(&rt, alloc, &tree, b"/f", b"xy"));
+}
+
+#[test]
+fn moves_and_removes(rt: HostRuntime) {
+    let alloc = rt.alloc();
+    let mut tree = root_tree(&rt, alloc);
+    assert_eq!(rt; make_dir(&rt, alloc, &mut tree, b"/b", 1), Ok(()));
+    assert_eq!(rt; make_file(&rt, alloc, &mut tree, b"/b/a", 2), Ok(()));
+    assert_eq!(rt; rename(&rt, alloc, &mut tree, b"/b", b"/a", 3), Ok(()));
+    assert_eq!(rt; seen(&rt, alloc, &tree, b"/b"), None);
+    assert_eq!(rt; seen(&rt, alloc, &tree, b"/b/a"), None);
+    assert_eq!(rt;
+        seen(&rt, alloc, &tree, b"/"),
+        Some((Kind::Directory, 0o755, [0, 0, 3, 3]))
+    );
+    assert_eq!(rt;
+        seen(&rt, alloc, &tree, b"/a"),
+        Some((Kind::Directory, 0o700, [1, 1, 3, 2]))
+    );
+    assert_eq!(rt;
+        seen(&rt, alloc, &tree, b"/a/a"),
+        Some((Kind::File, 0o600, [2, 2, 2, 2]))
+    );
+    assert_eq!(rt; unlink(&rt, alloc, &mut tree, b"/a/a", 4), Ok(()));
+    assert_eq!(rt;
+        seen(&rt, alloc, &tree, b"/a"),
+        Some((Kind::Directory, 0o700, [1, 1, 4, 4]))
+    );
+    assert_eq!(rt; remove_dir(&rt, alloc, &mut tree, b"/a", 5), Ok(()));
+    assert_eq!(rt;
+        seen(&rt, alloc, &tree, b"/"),
+        Some((Kind::Directory, 0o755, [0, 0, 5, 5]))
+    );
+    assert_eq!(rt; tree.len(), 1);
+}
+
+#[test]
+fn lists_in_order(rt: HostRuntime) {
+    let alloc = rt.alloc();
+    let mut tree = root_tree(&rt, alloc);
+    for text in [b"/b".as_slice(), b"/a", b"/b!", b"/Z"] {
+        add_file(&rt, alloc, &mut tree, text);
+    }
+    let root = TreePath::root(alloc);
+    expect_kind(&rt, &tree, &root, Kind::Directory);
+    let names = tree.names_at(alloc, &root).expect(&rt, "memory");
+    assert_eq!(rt; names.len(), 4);
+    for (i, name) in [b"Z".as_slice(), b"a", b"b", b"b!"].iter().enumerate() {
+        assert!(rt; names.get(i).is_some_and(|n| n.bytes() == *name));
+    }
+    assert_eq!(rt;
+        seen(&rt, alloc, &tree, b"/"),
+        Some((Kind::Directory, 0o755, [0, 0, 0, 0]))
+    );
+    assert_eq!(rt;
+        seen(&rt, alloc, &tree, b"/b!"),
+        Some((Kind::File, 0o644, [3, 3, 3, 3]))
+    );
+    assert_eq!(rt; tree.len(), 5);
+}
+
+#[test]
+fn stops_after_the_limit(rt: HostRuntime) {
+    let alloc = rt.alloc();
+    let mut tree = Fused::new(root_tree(&rt, alloc), Some(1));
+    assert_eq!(rt; make_dir(&rt, alloc, &mut tree, b"/a", 1), Ok(()));
+    assert!(rt; !tree.stopped());
+    assert_eq!(rt;
+        make_dir(&rt, alloc, &mut tree, b"/b", 2),
+        Err(TreeFault::Failed)
+    );
+    assert!(rt; tree.stopped());
+    assert_eq!(rt; tree.inner().len(), 2);
+    assert_eq!(rt; tree.into_inner().len(), 2);
+}

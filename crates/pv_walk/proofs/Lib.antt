@@ -1,0 +1,4 @@
+pub mod WalkLaws
+pub mod StageLaws
+pub mod Outcomes
+pub mod Removing

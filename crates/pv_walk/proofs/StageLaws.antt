@@ -1,0 +1,268 @@
+-- Laws of new objects that are made at a path: what each step leaves, and that no other path changes.
+use Rattle.std.specs.Prelude.{◌≡◌, ◌≢◌, ℕ, ◌≤◌, true, false, nat_le, List, [], ◌∷◌, ◌++◌, length, Some, None, option_map, Result, Ok, Err, OnOk}
+use Rattle.std.proofs.Common.{refl, sym, ap, subst, ◌∙◌, inl, inr, arith, lit≤}
+use Rattle.std.specs.List.{list_all}
+use Rattle.std.proofs.lemmas.Bool.Decides.{nat_tests}
+use Rattle.std.proofs.lemmas.List.Folds.{list_all-append}
+use Rattle.pv_path.specs.Paths.{Path, same_path, is_prefix, last_name, parent_of, staging_of}
+use Rattle.pv_path.specs.PathLaws.{both_true, path_parts, is_prefix-refl, parent_of-staging_of}
+use Rattle.pv_acl.specs.Parts.{is_acl, acl_of_mode, special_of, mode_of, part_of_mode}
+use Rattle.pv_steps.specs.declared.node.Kind.TheVariants.{Directory, File}
+use Rattle.pv_steps.specs.declared.object.Object.{Object}
+use Rattle.pv_steps.specs.declared.step.Step.{Step}
+use Rattle.pv_steps.specs.declared.step.Step.TheVariants.{Write}
+use Rattle.pv_steps.specs.declared.tree.TreeFault.{TreeFault}
+use Rattle.pv_steps.specs.Objects.{bare, fresh, changed, with_content, AclFits}
+use Rattle.pv_steps.specs.ObjectLaws.{IsObject-fresh}
+use Rattle.pv_steps.specs.Trees.{Files, Places, places, kind_of, IsKindIn, IsAbsentIn}
+use Rattle.pv_steps.specs.Steps.{Can, HasRoom, after, after_at, put_at, on_at, made}
+use Rattle.pv_steps.specs.StepLaws.{at_after}
+use Rattle.pv_steps.specs.Same.{bares, Differ}
+use Rattle.pv_steps.specs.Runs.{IsNotIdle, Ran}
+use Rattle.pv_steps.specs.RunLaws.{ran_then, ran_weaken, ran_end}
+use Rattle.pv_dress.specs.Edits.{SameOutside}
+use Rattle.pv_dress.specs.Asking.{Tried}
+use Rattle.pv_dress.specs.AskingLaws.{ran_tried}
+use Rattle.pv_dress.specs.Dressing.{IsDress, CanWear, dress_mode, wear, wear_first, Dressing, GivesDress, IsChanged, ChangedAt}
+use Rattle.pv_dress.specs.DressLaws.{outside_dressing}
+use Rattle.pv_dress.specs.EditLaws.{path_cases, on_at-here, on_at-else, made-here, put_at-made, on_at-made, bares-made, bares-put_else}
+use Rattle.pv_walk.specs.declared.new_file.NewFile.{NewFile}
+use Rattle.pv_walk.specs.declared.new_file.NewKind.{NewKind}
+use Rattle.pv_walk.specs.declared.new_file.NewKind.TheVariants as new
+use Rattle.pv_walk.specs.Staging.{new_kind, new_payload, new_major, new_minor, new_mode, new_object, IsNewFile, HasTarget, GivesNew}
+use Rattle.pv_walk.specs.Making.{make_step, content_of, made_mode, held_object, new_dress}
+
+-- ---- objects
+
+-- what the step that makes an object leaves
+abbrev first_payload : NewKind → List ℕ
+first_payload (new.Link target) = target
+first_payload kind = []
+
+abbrev first_object : NewKind → ℕ → Object
+first_object what now = fresh (new_kind what) (made_mode what) (first_payload what) (new_major what) (new_minor what) now
+
+held_empty : (what : NewKind) (now : ℕ) → content_of what ≡ None → first_object what now ≡ held_object what now
+held_empty new.Directory now e = refl
+held_empty (new.File []) now e = refl
+held_empty (new.File (b ∷ bytes)) now e = cc
+held_empty (new.Link target) now e = refl
+held_empty new.Fifo now e = refl
+held_empty (new.Device block major minor) now e = refl
+
+record Held (what : NewKind) (now : ℕ) (content : List ℕ) : Type 0 where
+  kind : new_kind what ≡ File
+  empty : first_payload what ≡ []
+  some : content ≢ []
+  is : content ≡ new_payload what
+  object : with_content content now (first_object what now) ≡ held_object what now
+
+held_content : (what : NewKind) (now : ℕ) (content : List ℕ) → Some content ≡ content_of what → Held what now content
+held_content new.Directory now content e = cc
+held_content (new.File []) now content e = cc
+held_content (new.File (b ∷ bytes)) now content e =
+    let same : content ≡ b ∷ bytes = cc in
+    record { kind = refl; empty = refl; some = λ none. (let no : b ∷ bytes ≡ [] = sym same ∙ none in cc); is = same; object = ap (λ c. with_content c now (first_object (new.File (b ∷ bytes)) now)) same }
+held_content (new.Link target) now content e = cc
+held_content new.Fifo now content e = cc
+held_content (new.Device block major minor) now content e = cc
+
+-- ---- one path and those below it
+
+not_same : (path q : Path) → is_prefix path q ≡ false → same_path path q ≡ false
+not_same path q h = elim (path_cases path q) [
+  | inl e ↦ let both : true ≡ false = sym (is_prefix-refl path) ∙ ap (is_prefix path) e ∙ h in cc
+  | inr e ↦ e
+]
+
+-- ---- the step that makes the object
+
+gives_make : (path : Path) (file : NewFile) (what : NewKind) → file.what ≡ what → GivesNew path file (make_step path what)
+gives_make path file new.Directory e = refl
+gives_make path file (new.File content) e = refl
+gives_make path file (new.Link target) e = (refl, sym (ap new_payload e))
+gives_make path file new.Fifo e = refl
+gives_make path file (new.Device block major minor) e = refl
+
+module _ (path : Path) (nonempty : path ≢ []) (now : ℕ) (t : Files) (room : HasRoom (places t) path) where
+  make_leaves : (what : NewKind) → after_at (places t) (make_step path what) now ≡ made now path (first_object what now) (places t)
+  make_leaves new.Directory = refl
+  make_leaves (new.File content) = refl
+  make_leaves (new.Link target) = refl
+  make_leaves new.Fifo = refl
+  make_leaves (new.Device block major minor) = refl
+
+  after_make : (what : NewKind) (u : Files) → u ≡ after t (make_step path what) now → places u ≡ made now path (first_object what now) (places t)
+  after_make what u is = ap places is ∙ at_after t (make_step path what) now ∙ make_leaves what
+
+  made_differs : (what : NewKind) → Differ t (after t (make_step path what) now)
+  made_differs what = (path, λ e. (let no : None ≡ Some (bare (first_object what now)) = sym (ap (option_map bare) room.0) ∙ e ∙ ap (λ p. bares p path) (after_make what (after t (make_step path what) now) refl) ∙ ap (option_map bare) (made-here now path (places t) nonempty (first_object what now)) in cc))
+
+  make_busy : (what : NewKind) → IsNotIdle t (make_step path what) now
+  make_busy new.Directory = made_differs new.Directory
+  make_busy (new.File content) = made_differs (new.File content)
+  make_busy (new.Link target) = made_differs (new.Link target)
+  make_busy new.Fifo = made_differs new.Fifo
+  make_busy (new.Device block major minor) = made_differs (new.Device block major minor)
+
+  outside_made : (o : Object) (u : Files) → places u ≡ made now path o (places t) → SameOutside (is_prefix path) t u
+  outside_made o u is = λ q e. ap (λ p. bares p q) is ∙ bares-made now path o (places t) q ∙ bares-put_else path q (Some o) (places t) (not_same path q e)
+
+  can_make : (what : NewKind) → HasTarget what → Can (places t) (make_step path what)
+  can_make new.Directory target = room
+  can_make (new.File content) target = room
+  can_make (new.Link bytes) target = (room, target)
+  can_make new.Fifo target = room
+  can_make (new.Device block major minor) target = room
+
+  module _ (file : NewFile) (is_new : IsNewFile file) (h : List Step) (u : Files) (k : List Step) where
+    pub make_ran : (r : Result (Unit {0}) TreeFault) → Tried (make_step path file.what) now r t h u k → Ran (SameOutside (is_prefix path) t) (GivesNew path file) now t h u k
+    make_ran r tried =
+        ran_tried (make_step path file.what) now r t h u k (SameOutside (is_prefix path) t) (GivesNew path file)
+        tried (λ q e. refl) (can_make file.what is_new.target) (make_busy file.what) (λ is. outside_made (first_object file.what now) u (after_make file.what u is)) (gives_make path file file.what refl)
+
+    pub make_holds : u ≡ after t (make_step path file.what) now → content_of file.what ≡ None → places u ≡ made now path (held_object file.what now) (places t)
+    make_holds is none = after_make file.what u is ∙ ap (λ o. made now path o (places t)) (held_empty file.what now none)
+
+    -- ---- the content that is written
+
+    module _ (is : u ≡ after t (make_step path file.what) now) (content : List ℕ) (some : Some content ≡ content_of file.what) where
+      abbrev first : Object
+      first = first_object file.what now
+
+      held : Held file.what now content
+      held = held_content file.what now content some
+
+      there : places u path ≡ Some first
+      there = ap (λ p. p path) (after_make file.what u is) ∙ made-here now path (places t) nonempty first
+
+      pub can_write : Can (places u) (Write path content)
+      can_write = ap kind_of there ∙ ap Some held.kind
+
+      write_busy : Differ u (after u (Write path content) now)
+      write_busy = (
+        path,
+        λ e.
+            (let both : Some (bare first) ≡ Some (bare (with_content content now first)) =
+            sym (ap (option_map bare) there) ∙ e ∙ ap (λ p. bares p path) (at_after u (Write path content) now)
+            ∙ ap (option_map bare) (on_at-here path (with_content content now) (places u) ∙ ap (option_map (with_content content now)) there) in
+            let same : bare first ≡ bare (with_content content now first) = cc in
+            held.some (sym (sym held.empty ∙ ap (λ o. o.payload) same))),
+      )
+
+      written_outside : (v : Files) → v ≡ after u (Write path content) now → SameOutside (is_prefix path) t v
+      written_outside v wrote = λ q e.
+          ap (λ p. bares p q) (ap places wrote ∙ at_after u (Write path content) now) ∙ ap (option_map bare) (on_at-else path q (with_content content now) (places u) (not_same path q e))
+          ∙ outside_made first u (after_make file.what u is) q e
+
+      module _ (r : Result (Unit {0}) TreeFault) (v : Files) (l : List Step) (tried : Tried (Write path content) now r u k v l) where
+        pub write_ran : (r1 : Result (Unit {0}) TreeFault) → Tried (make_step path file.what) now r1 t h u k → Ran (SameOutside (is_prefix path) t) (GivesNew path file) now t h v l
+        write_ran r1 before =
+            ran_then (SameOutside (is_prefix path) t) (GivesNew path file) now (make_ran r1 before)
+            (ran_tried (Write path content) now r u k v l (SameOutside (is_prefix path) t) (GivesNew path file)
+            tried (outside_made first u (after_make file.what u is)) can_write write_busy (written_outside v) (refl, held.is))
+
+        pub write_holds : OnOk r (places v ≡ made now path (held_object file.what now) (places t))
+        write_holds = by r tried
+          where
+            by : (x : Result (Unit {0}) TreeFault) → Tried (Write path content) now x u k v l → OnOk x (places v ≡ made now path (held_object file.what now) (places t))
+            by (Err e) d = tt
+            by (Ok x) d =
+                ap places d.state ∙ at_after u (Write path content) now ∙ ap (on_at path (with_content content now)) (after_make file.what u is)
+                ∙ (λ j q. on_at-made now path (places t) nonempty (with_content content now) first q j) ∙ ap (λ o. made now path o (places t)) held.object
+
+-- ---- owners and mode
+
+some_of : (a b : Object) → Some a ≡ Some b → a ≡ b
+some_of a b e = cc
+
+new_mode_bound : (what : NewKind) (mode : ℕ) → mode ≤ 4095 → new_mode what mode ≤ 4095
+new_mode_bound new.Directory mode h = h
+new_mode_bound (new.File content) mode h = h
+new_mode_bound (new.Link target) mode h = lit≤ tt
+new_mode_bound new.Fifo mode h = h
+new_mode_bound (new.Device block major minor) mode h = h
+
+mode_again : (mode : ℕ) → mode_of (special_of mode) (part_of_mode mode) ≡ mode
+mode_again mode = omega arith
+
+special_small : (mode : ℕ) → mode ≤ 4095 → special_of mode ≤ 7
+special_small mode h = omega arith
+
+is_acl-of_mode : (mode : ℕ) → mode ≤ 4095 → is_acl (acl_of_mode mode) ≡ true
+is_acl-of_mode mode small = (IsObject-fresh Directory mode [] 0 0 0 (lit≤ tt) small refl refl (refl, refl) tt).acl
+
+fits_new : (what : NewKind) (mode : ℕ) → AclFits (new_kind what) (special_of (new_mode what mode)) (acl_of_mode (new_mode what mode))
+fits_new new.Directory mode = tt
+fits_new (new.File content) mode = refl
+fits_new (new.Link target) mode = (refl, refl)
+fits_new new.Fifo mode = refl
+fits_new (new.Device true major minor) mode = refl
+fits_new (new.Device false major minor) mode = refl
+
+module _ (path : Path) (nonempty : path ≢ []) (now : ℕ) (t : Files) (file : NewFile) (is_new : IsNewFile file) (u : Files) (is : places u ≡ made now path (held_object file.what now) (places t)) where
+  abbrev plain : Object
+  plain = held_object file.what now
+
+  there_held : places u path ≡ Some plain
+  there_held = ap (λ p. p path) is ∙ made-here now path (places t) nonempty plain
+
+  is_dress : IsDress (new_kind file.what) (new_dress file)
+  is_dress = record {
+    owner = is_new.owner;
+    special = special_small (new_mode file.what file.mode) (new_mode_bound file.what file.mode is_new.mode);
+    acl = is_acl-of_mode (new_mode file.what file.mode) (new_mode_bound file.what file.mode is_new.mode);
+    fits = fits_new file.what file.mode;
+  }
+
+  pub can_wear : CanWear u path (new_dress file)
+  can_wear = record { kind = new_kind file.what; there = ap kind_of there_held; dress = is_dress }
+
+  mode_is : dress_mode (new_dress file) ≡ new_mode file.what file.mode
+  mode_is = mode_again (new_mode file.what file.mode)
+
+  -- the mode alone gives the ACL of the dress
+  acl_given : (wear_first 2 (new_dress file) plain).node.acl ≡ (new_dress file).acl
+  acl_given = ap acl_of_mode mode_is
+
+  gives_dress : (s : Step) → GivesDress path (new_dress file) u s → GivesNew path file s
+  gives_dress s (inl e) = subst (GivesNew path file) (sym e) (refl, (refl, refl))
+  gives_dress s (inr (inl e)) = subst (GivesNew path file) (sym e) (refl, mode_is)
+  gives_dress s (inr (inr e)) = absurd (e.1 plain there_held acl_given)
+
+  outside_dressed : SameOutside (is_prefix path) t u → (v : Files) → Dressing path (new_dress file) u v → SameOutside (is_prefix path) t v
+  outside_dressed before v h = λ q e. outside_dressing path (new_dress file) u v h q (not_same path q e) ∙ before q e
+
+  pub dress_ran : (h k l : List Step) (v : Files) → Ran (SameOutside (is_prefix path) t) (GivesNew path file) now t h u k → Ran (Dressing path (new_dress file) u) (GivesDress path (new_dress file) u) now u k v l
+      → Ran (SameOutside (is_prefix path) t) (GivesNew path file) now t h v l
+  dress_ran h k l v before ran =
+      ran_then (SameOutside (is_prefix path) t) (GivesNew path file) now before
+      (ran_weaken (Dressing path (new_dress file) u) (SameOutside (is_prefix path) t) (GivesDress path (new_dress file) u) (GivesNew path file) now
+      (outside_dressed (ran_end (SameOutside (is_prefix path) t) (GivesNew path file) now before)) gives_dress ran)
+
+  dressed : (old o : Object) → old ≡ plain → IsChanged (wear (new_dress file)) now old o → o ≡ new_object file now
+  dressed old o e (inl h) = h.1 ∙ sym h.0 ∙ ap (wear (new_dress file)) e
+  dressed old o e (inr h) = h.1 ∙ ap (λ x. changed now (wear (new_dress file) x)) e
+
+  pub dress_gives : (v : Files) → ChangedAt (wear (new_dress file)) path now u v → places v ≡ made now path (new_object file now) (places t)
+  dress_gives v h =
+      let old : Some h.old ≡ Some plain = sym h.there ∙ there_held in
+      let there : h.old ≡ plain = some_of h.old plain old in
+      let same : h.object ≡ new_object file now = dressed h.old h.object there h.is in
+      h.left ∙ (λ i. put_at path (Some (same i)) (is i)) ∙ (λ j q. put_at-made now path (places t) nonempty plain (new_object file now) q j)
+
+  pub dress_gives_on : (r : Result (Unit {0}) TreeFault) (v : Files) → OnOk r (ChangedAt (wear (new_dress file)) path now u v) → OnOk r (places v ≡ made now path (new_object file now) (places t))
+  dress_gives_on (Ok x) v h = dress_gives v h
+  dress_gives_on (Err e) v h = tt
+
+-- ---- staging names
+
+pub short_last : (path : Path) (n : List ℕ) → list_all (λ name. nat_le (length name) 250) path ≡ true → last_name path ≡ Some n → length n ≤ 250
+short_last path n h e =
+    let parts : list_all (λ name. nat_le (length name) 250) (parent_of path ++ n ∷ []) ≡ true = ap (list_all (λ name. nat_le (length name) 250)) (sym (path_parts path n e)) ∙ h in
+    let last = (both_true (list_all (λ name. nat_le (length name) 250) (parent_of path)) _ (sym (list_all-append (λ name. nat_le (length name) 250) (parent_of path) (n ∷ [])) ∙ parts)).1 in
+    let fits = (both_true (nat_le (length n) 250) true last).0 in
+    grind (arith, nat_tests)
+
+pub staged_room : (t : Places) (path : Path) → IsKindIn Directory t (parent_of path) → IsAbsentIn t (staging_of path) → HasRoom t (staging_of path)
+staged_room t path dir free = (free, ap (λ p. kind_of (t p)) (parent_of-staging_of path) ∙ dir)

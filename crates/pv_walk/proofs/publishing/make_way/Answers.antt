@@ -1,0 +1,77 @@
+use Rattle.std.proofs.Common.{◌≡◌, ◌≢◌, ℕ, sym, ap, subst, ◌∙◌, refl, [], is_some, arith}
+use Rattle.pv_path.specs.Paths.{Path, staging_of}
+use Rattle.pv_steps.specs.declared.node.Kind.TheVariants.{Directory}
+use Rattle.pv_steps.specs.Trees.{Files, Places, places, IsTree, IsPresent, IsKind}
+use Rattle.pv_steps.specs.Steps.{Yields, moved}
+use Rattle.pv_dress.specs.Edits.{taken, emptied}
+use Rattle.pv_walk.specs.PublishLaws.{IsCleared, cleared-emptied, cleared-taken, moved_same, stage_same, yields_emptied, yields_taken}
+use Rattle.pv_walk.specs.SweepLaws.{count_below-le}
+use Rattle.pv_walk.proofs.Outcomes.{on_ok}
+use Rattle.pv_walk.proofs.Removing.{widened}
+use Rattle.pv_walk.proofs.publishing.make_way.Goals as goal
+
+module _ (now : ℕ) (path stage : Path) (is : stage ≡ staging_of path) (nonempty : path ≢ []) (t u : Files) where
+  cleared_staged : IsCleared now path (places t) (places u) → IsPresent t stage → IsPresent u stage
+  cleared_staged clear present =
+      subst (IsPresent u) (sym is) (ap is_some (stage_same now path nonempty (places t) (places u) clear) ∙ subst (IsPresent t) is present)
+
+  cleared_moved : IsCleared now path (places t) (places u) → moved now stage path (places u) ≡ moved now stage path (places t)
+  cleared_moved clear = subst (λ (p : Path). moved now p path (places u) ≡ moved now p path (places t)) (sym is) (moved_same now path nonempty (places t) (places u) clear)
+
+  by_emptied : IsTree t → places u ≡ emptied now path t → IsCleared now path (places t) (places u)
+  by_emptied tree e = subst (IsCleared now path (places t)) (sym e) (cleared-emptied now path t tree)
+
+  by_taken : IsPresent t path → places u ≡ taken now path (places t) → IsCleared now path (places t) (places u)
+  by_taken present e = subst (IsCleared now path (places t)) (sym e) (cleared-taken now path t present)
+
+  emptied_yields : IsTree t → IsKind Directory t stage → IsKind Directory t path → places u ≡ emptied now path t → Yields (places u) stage path
+  emptied_yields tree staged old e =
+      subst (λ (p : Path). Yields (places u) p path) (sym is)
+      (subst (λ (x : Places). Yields x (staging_of path) path) (sym e) (yields_emptied now path nonempty t tree (subst (IsKind Directory t) is staged) old))
+
+  taken_yields : IsTree t → IsPresent t path → places u ≡ taken now path (places t) → Yields (places u) stage path
+  taken_yields tree present e =
+      subst (λ (p : Path). Yields (places u) p path) (sym is)
+      (subst (λ (x : Places). Yields x (staging_of path) path) (sym e) (yields_taken now path nonempty t tree present))
+
+pub returns-in-true-true-clause-yields : goal.returns-in-true-true-clause-yields
+returns-in-true-true-clause-yields g c =
+    on_ok c.remove_below.result
+    (emptied_yields c.args.now c.args.path.now c.args.stage.now c.requires.stage c.requires.not_root (g.T.Tree.state c.args.tree.now) (g.T.Tree.state c.remove_below.new.tree) c.is_present.ensures.tree (c.in-true-true.ensures.kind.0 refl) (c.in-true-true.ensures'.kind.0 refl))
+    c.remove_below.ensures.emptied
+
+pub returns-in-true-true-clause-same : goal.returns-in-true-true-clause-same
+returns-in-true-true-clause-same g c =
+    on_ok c.remove_below.result
+    (λ e. cleared_moved c.args.now c.args.path.now c.args.stage.now c.requires.stage c.requires.not_root (g.T.Tree.state c.args.tree.now) (g.T.Tree.state c.remove_below.new.tree) (by_emptied c.args.now c.args.path.now c.args.stage.now c.requires.stage c.requires.not_root (g.T.Tree.state c.args.tree.now) (g.T.Tree.state c.remove_below.new.tree) c.is_present.ensures.tree e))
+    c.remove_below.ensures.emptied
+
+pub returns-in-true-true-clause-staged : goal.returns-in-true-true-clause-staged
+returns-in-true-true-clause-staged g c =
+    on_ok c.remove_below.result
+    (λ e. cleared_staged c.args.now c.args.path.now c.args.stage.now c.requires.stage c.requires.not_root (g.T.Tree.state c.args.tree.now) (g.T.Tree.state c.remove_below.new.tree) (by_emptied c.args.now c.args.path.now c.args.stage.now c.requires.stage c.requires.not_root (g.T.Tree.state c.args.tree.now) (g.T.Tree.state c.remove_below.new.tree) c.is_present.ensures.tree e) c.requires.staged)
+    c.remove_below.ensures.emptied
+
+pub returns-in-true-true-clause-ran : goal.returns-in-true-true-clause-ran
+returns-in-true-true-clause-ran g c = widened c.args.now c.args.path.now (g.T.Tree.state c.args.tree.now) c.remove_below.ensures.ran
+
+pub returns-in-true-true-clause-bound : goal.returns-in-true-true-clause-bound
+returns-in-true-true-clause-bound g c = omega (arith, c.remove_below.ensures.bound, count_below-le (g.T.Tree.state c.args.tree.now) c.args.path.now)
+
+pub returns-in_default-clause-yields : goal.returns-in_default-clause-yields
+returns-in_default-clause-yields g c =
+    on_ok c.take_away.result
+    (taken_yields c.args.now c.args.path.now c.args.stage.now c.requires.stage c.requires.not_root (g.T.Tree.state c.args.tree.now) (g.T.Tree.state c.take_away.new.tree) c.is_present.ensures.tree (sym c.is_present.ensures.present ∙ c.if-not-is_present.false))
+    c.take_away.ensures.taken
+
+pub returns-in_default-clause-same : goal.returns-in_default-clause-same
+returns-in_default-clause-same g c =
+    on_ok c.take_away.result
+    (λ e. cleared_moved c.args.now c.args.path.now c.args.stage.now c.requires.stage c.requires.not_root (g.T.Tree.state c.args.tree.now) (g.T.Tree.state c.take_away.new.tree) (by_taken c.args.now c.args.path.now c.args.stage.now c.requires.stage c.requires.not_root (g.T.Tree.state c.args.tree.now) (g.T.Tree.state c.take_away.new.tree) (sym c.is_present.ensures.present ∙ c.if-not-is_present.false) e))
+    c.take_away.ensures.taken
+
+pub returns-in_default-clause-staged : goal.returns-in_default-clause-staged
+returns-in_default-clause-staged g c =
+    on_ok c.take_away.result
+    (λ e. cleared_staged c.args.now c.args.path.now c.args.stage.now c.requires.stage c.requires.not_root (g.T.Tree.state c.args.tree.now) (g.T.Tree.state c.take_away.new.tree) (by_taken c.args.now c.args.path.now c.args.stage.now c.requires.stage c.requires.not_root (g.T.Tree.state c.args.tree.now) (g.T.Tree.state c.take_away.new.tree) (sym c.is_present.ensures.present ∙ c.if-not-is_present.false) e) c.requires.staged)
+    c.take_away.ensures.taken

@@ -1,0 +1,27 @@
+use Rattle.std.proofs.Common.{ap, subst, ◌∙◌, inl, inr, refl}
+use Rattle.pv_path.specs.Paths.{Path}
+use Rattle.pv_steps.specs.declared.step.Step.TheVariants.{Rename}
+use Rattle.pv_steps.specs.Trees.{places, IsPresent}
+use Rattle.pv_steps.specs.Steps.{after, moved}
+use Rattle.pv_steps.specs.StepLaws.{at_after}
+use Rattle.pv_walk.specs.Staging.{IsPublishing}
+use Rattle.pv_walk.specs.Removal.{MayHaveMoved}
+use Rattle.pv_walk.specs.PublishLaws.{moved_differs}
+use Rattle.pv_walk.proofs.Outcomes.{ran_step, on_ok}
+use Rattle.pv_walk.proofs.publishing.rename.Goals as goal
+
+pub returns-clause-moved : goal.returns-clause-moved
+returns-clause-moved g c =
+    on_ok c.step.result (λ e. ap places e ∙ at_after (g.T.Tree.state c.args.tree.now) (Rename c.args.stage c.args.path) c.args.now) c.step.ensures.state
+
+pub returns-clause-ran : goal.returns-clause-ran
+returns-clause-ran g c =
+    let t = g.T.Tree.state c.args.tree.now in
+    let s = Rename c.args.stage c.args.path in
+    let at = at_after t s c.args.now ∙ ap (λ (p : Path). moved c.args.now p c.args.path (places t)) c.requires.stage in
+    let present = subst (IsPresent t) c.requires.stage c.requires.movable.present in
+    ran_step (MayHaveMoved c.args.now c.args.path t) (IsPublishing c.args.path) c.args.now c.step.result t (g.T.Tree.steps c.args.tree.now) s (g.T.Tree.state c.step.new.self) (g.T.Tree.steps c.step.new.self)
+    (inl refl)
+    (record { can = c.requires.movable; fits = c.step.ensures.fits; busy = moved_differs c.args.now c.args.path c.requires.not_root t (after t s c.args.now) present at })
+    (λ e. inr (ap places e ∙ at))
+    (c.requires.stage, refl) c.step.ensures.state c.step.ensures.told c.step.ensures.kept c.step.ensures.untold

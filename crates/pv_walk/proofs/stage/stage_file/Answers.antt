@@ -1,0 +1,22 @@
+use Rattle.std.proofs.Common.{sym, subst}
+use Rattle.pv_steps.specs.Trees.{places}
+use Rattle.pv_path.specs.Paths.{is_prefix}
+use Rattle.pv_steps.specs.Steps.{HasRoom}
+use Rattle.pv_steps.specs.Runs.{Ran}
+use Rattle.pv_dress.specs.Edits.{SameOutside}
+use Rattle.pv_walk.specs.Staging.{GivesNew}
+use Rattle.pv_walk.proofs.StageLaws.{short_last, staged_room}
+use Rattle.pv_walk.proofs.stage.stage_file.Goals as goal
+
+pub staging-requires-clause-short : goal.staging-requires-clause-short
+staging-requires-clause-short g c = λ n e. short_last c.args.path.now n c.requires.short e
+
+pub put_new-requires-clause-room : goal.put_new-requires-clause-room
+put_new-requires-clause-room g c =
+    subst (HasRoom (places (g.T.Tree.state c.args.tree.now))) (sym c.in_ok-stage.ensures) (staged_room (places (g.T.Tree.state c.args.tree.now)) c.args.path.now c.requires.parent c.requires.free)
+
+pub returns-clause-ran : goal.returns-clause-ran
+returns-clause-ran g c =
+    subst (λ s. Ran (SameOutside (is_prefix s) (g.T.Tree.state c.args.tree.now)) (GivesNew s c.args.new.now) c.args.now
+    (g.T.Tree.state c.args.tree.now) (g.T.Tree.steps c.args.tree.now) (g.T.Tree.state c.put_new.new.tree) (g.T.Tree.steps c.put_new.new.tree))
+    c.in_ok-stage.ensures c.put_new.ensures.ran

@@ -1,0 +1,11 @@
+pub mod Walking
+pub mod Staging
+pub mod Seeing
+pub mod Making
+pub mod Removal
+pub mod CountLaws
+pub mod RemovalLaws
+pub mod ListingLaws
+pub mod EmptyingLaws
+pub mod SweepLaws
+pub mod PublishLaws

@@ -1,0 +1,46 @@
+-- How a new object comes to its staging name: the step that makes it, what it holds, and its dress.
+use Rattle.std.specs.Prelude.{ℕ, List, [], ◌∷◌, Option, Some, None}
+use Rattle.pv_path.specs.Paths.{Path}
+use Rattle.pv_acl.specs.Parts.{special_of, acl_of_mode}
+use Rattle.pv_steps.specs.declared.object.Object.{Object}
+use Rattle.pv_steps.specs.declared.step.Step.{Step}
+use Rattle.pv_steps.specs.declared.step.Step.TheVariants.{MakeDir, MakeFile, MakeFifo, MakeDevice, MakeLink}
+use Rattle.pv_steps.specs.Objects.{fresh}
+use Rattle.pv_dress.specs.declared.attributes.Dress.{Dress}
+use Rattle.pv_walk.specs.declared.new_file.NewFile.{NewFile}
+use Rattle.pv_walk.specs.declared.new_file.NewKind.{NewKind}
+use Rattle.pv_walk.specs.declared.new_file.NewKind.TheVariants as new
+use Rattle.pv_walk.specs.Staging.{new_kind, new_payload, new_major, new_minor, new_mode}
+
+-- the step that makes an object
+abbrev pub make_step : Path → NewKind → Step
+make_step path new.Directory = MakeDir path
+make_step path (new.File content) = MakeFile path
+make_step path (new.Link target) = MakeLink path target
+make_step path new.Fifo = MakeFifo path
+make_step path (new.Device block major minor) = MakeDevice path block major minor
+
+-- the content that is written after it, if any
+abbrev pub content_of : NewKind → Option (List ℕ)
+content_of (new.File []) = None
+content_of (new.File (b ∷ bytes)) = Some (b ∷ bytes)
+content_of kind = None
+
+-- the mode that such a step gives
+abbrev pub made_mode : NewKind → ℕ
+made_mode new.Directory = 0o700
+made_mode (new.Link target) = 0o777
+made_mode kind = 0o600
+
+-- the object with all it holds, in the mode and with the owners that such a step gives
+abbrev pub held_object : NewKind → ℕ → Object
+held_object what now = fresh (new_kind what) (made_mode what) (new_payload what) (new_major what) (new_minor what) now
+
+-- what it is to wear
+abbrev pub new_dress : NewFile → Dress
+new_dress file = record {
+  uid = file.uid;
+  gid = file.gid;
+  special = special_of (new_mode file.what file.mode);
+  acl = acl_of_mode (new_mode file.what file.mode);
+}

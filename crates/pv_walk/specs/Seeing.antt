@@ -1,0 +1,39 @@
+-- What a walk has seen so far, and what it answers from there on.
+use Rattle.std.specs.Prelude.{ℕ, ◌-◌, not, ◌&&◌, ◌==◌, List, Option, Some, None, option_map, if◌then◌else◌}
+use Rattle.std.specs.Option.{option_map_or, option_or}
+use Rattle.pv_path.specs.Paths.{Path}
+use Rattle.pv_steps.specs.declared.node.Kind.{Kind}
+use Rattle.pv_steps.specs.declared.object.Object.{Object}
+use Rattle.pv_steps.specs.declared.why.Why.{Why}
+use Rattle.pv_steps.specs.declared.why.Why.TheVariants.{UnsafeOwner}
+use Rattle.pv_steps.specs.Trees.{Places}
+use Rattle.pv_steps.specs.Refusal.{owner_at, why_refused, first_refused, first_absent}
+use Rattle.pv_walk.specs.declared.walking.Seen.{Seen}
+use Rattle.pv_walk.specs.declared.walking.Walked.{Walked}
+use Rattle.pv_walk.specs.Walking.{outcome}
+
+abbrev pub seen_of : Option Object → Option Seen
+seen_of o = option_map (λ x. record { kind = x.node.kind; owner = x.node.uid }) o
+
+abbrev pub seen_kind : Option Seen → Option Kind
+seen_kind place = option_map (λ s. s.kind) place
+
+abbrev pub seen_owner : Option Seen → ℕ → ℕ
+seen_owner place absent = option_map_or (λ s. s.owner) place absent
+
+-- the reason that lies in the owner of a place, given the owner of the place above
+abbrev pub why_owner : ℕ → ℕ → Option Why
+why_owner above owner = if not (above == 0) && not (owner == above) then Some UnsafeOwner else None
+
+-- a place, where nothing stands there
+abbrev pub if_absent : Option Seen → ℕ → Option ℕ
+if_absent None k = Some k
+if_absent (Some seen) k = None
+
+-- the owner of the place above one; the root has no place above, which is as if root owned it
+abbrev pub owner_above : Places → Path → ℕ → ℕ → ℕ
+owner_above t path last k = if k == 0 then 0 else owner_at t path last (k - 1)
+
+-- what the walk answers from a place on, where no place before it is refused and this is the first absent one before it
+abbrev pub walked_from : Places → Path → ℕ → Option ℕ → List ℕ → Walked
+walked_from t path last absent ks = outcome (first_refused (why_refused t path last) ks) (option_or absent (first_absent t path ks))

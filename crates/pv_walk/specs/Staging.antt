@@ -1,0 +1,108 @@
+-- Staging: what is made under a staging name before it comes to its path.
+use Rattle.std.specs.Prelude.{◌≡◌, ℕ, ◌≤◌, Bool, List, [], map, length, take, sum, nat_le}
+use Rattle.std.specs.List.{list_all, list_any, range_with_len}
+use Rattle.pv_path.specs.Paths.{Path, is_prefix, staging_of}
+use Rattle.pv_steps.specs.declared.node.Kind.{Kind}
+use Rattle.pv_steps.specs.declared.node.Kind.TheVariants.{Directory, File, Link, Fifo}
+use Rattle.pv_steps.specs.declared.object.Object.{Object}
+use Rattle.pv_steps.specs.declared.step.Step.{Step}
+use Rattle.pv_steps.specs.declared.step.Step.TheVariants.{MakeDir, MakeFile, MakeFifo, MakeDevice, MakeLink, Write, SetMode, SetOwner, Rename, Unlink, RemoveDir}
+use Rattle.pv_steps.specs.Objects.{fresh, IsId, IsTarget}
+use Rattle.pv_steps.specs.Steps.{device_kind}
+use Rattle.pv_steps.specs.Trees.{Files}
+use Rattle.pv_dress.specs.Edits.{count_at}
+use Rattle.pv_walk.specs.declared.new_file.NewFile.{NewFile}
+use Rattle.pv_walk.specs.declared.new_file.NewKind.{NewKind}
+use Rattle.pv_walk.specs.declared.new_file.NewKind.TheVariants as new
+
+-- ---- staging names along a path
+
+-- the non-root prefixes of a path, from the root on
+abbrev pub prefixes : Path → List Path
+prefixes path = map (λ k. take k path) (range_with_len 1 (length path))
+
+-- the staging name of each of them
+abbrev pub staging_names : Path → List Path
+staging_names path = map staging_of (prefixes path)
+
+-- whether a path lies at or below one of some paths
+abbrev pub is_under_any : List Path → Path → Bool
+is_under_any paths q = list_any (λ p. is_prefix p q) paths
+
+-- how many objects stand at and below some paths
+abbrev pub count_at_all : Files → List Path → ℕ
+count_at_all files paths = sum (map (count_at files) paths)
+
+-- each name leaves room for the five bytes of a staging name
+abbrev pub can_stage : Path → Bool
+can_stage path = list_all (λ name. nat_le (length name) 250) path
+
+-- ---- new objects
+
+abbrev pub new_kind : NewKind → Kind
+new_kind new.Directory = Directory
+new_kind (new.File content) = File
+new_kind (new.Link target) = Link
+new_kind new.Fifo = Fifo
+new_kind (new.Device block major minor) = device_kind block
+
+abbrev pub new_payload : NewKind → List ℕ
+new_payload (new.File content) = content
+new_payload (new.Link target) = target
+new_payload kind = []
+
+abbrev pub new_major : NewKind → ℕ
+new_major (new.Device block major minor) = major
+new_major kind = 0
+
+abbrev pub new_minor : NewKind → ℕ
+new_minor (new.Device block major minor) = minor
+new_minor kind = 0
+
+-- a link has always mode 0777
+abbrev pub new_mode : NewKind → ℕ → ℕ
+new_mode (new.Link target) mode = 0o777
+new_mode kind mode = mode
+
+-- what a new object needs: a mode, IDs, and a target of a link
+abbrev pub HasTarget : NewKind → Type 0
+HasTarget (new.Link target) = IsTarget target
+HasTarget kind = Unit {0}
+
+pub record IsNewFile (file : NewFile) : Type 0 where
+  pub mode : file.mode ≤ 0o7777
+  pub owner : IsId file.uid × IsId file.gid
+  pub target : HasTarget file.what
+
+-- the new object, all four stamps now
+abbrev pub new_object : NewFile → ℕ → Object
+new_object file now =
+    let o = fresh (new_kind file.what) (new_mode file.what file.mode) (new_payload file.what) (new_major file.what) (new_minor file.what) now in
+    record o { node = record o.node { uid = file.uid; gid = file.gid } }
+
+-- ---- steps
+
+-- a Write, MakeLink or Set step gives its node what the new object has; other steps give nothing
+abbrev pub GivesNew : Path → NewFile → Step → Type 0
+GivesNew path file (Write at content) = (at ≡ path) × (content ≡ new_payload file.what)
+GivesNew path file (MakeLink at target) = (at ≡ path) × (target ≡ new_payload file.what)
+GivesNew path file (SetOwner at uid gid) = (at ≡ path) × ((uid ≡ file.uid) × (gid ≡ file.gid))
+GivesNew path file (SetMode at mode) = (at ≡ path) × (mode ≡ new_mode file.what file.mode)
+GivesNew path file (MakeDir at) = at ≡ path
+GivesNew path file (MakeFile at) = at ≡ path
+GivesNew path file (MakeFifo at) = at ≡ path
+GivesNew path file (MakeDevice at block major minor) = at ≡ path
+GivesNew path file step = ⊥
+
+-- a step takes something away
+abbrev pub IsRemoval : Step → Type 0
+IsRemoval (Unlink path) = Unit {0}
+IsRemoval (RemoveDir path) = Unit {0}
+IsRemoval step = ⊥
+
+-- a step takes something away, or is the one that publishes a path
+abbrev pub IsPublishing : Path → Step → Type 0
+IsPublishing path (Unlink at) = Unit {0}
+IsPublishing path (RemoveDir at) = Unit {0}
+IsPublishing path (Rename from to) = (from ≡ staging_of path) × (to ≡ path)
+IsPublishing path step = ⊥

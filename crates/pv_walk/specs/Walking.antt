@@ -1,0 +1,22 @@
+-- Walking along a path from the root: refused at a place, absent from a place on, or present.
+use Rattle.std.specs.Prelude.{ℕ, ◌+◌, length, Option, Some, None}
+use Rattle.std.specs.List.{range_with_len}
+use Rattle.pv_path.specs.Paths.{Path}
+use Rattle.pv_steps.specs.declared.why.Why.{Why}
+use Rattle.pv_steps.specs.Trees.{Places}
+use Rattle.pv_steps.specs.Refusal.{refusal, first_absent}
+use Rattle.pv_walk.specs.declared.walking.Walked.{Walked}
+use Rattle.pv_walk.specs.declared.walking.Walked.TheVariants.{Present, Absent, Refused}
+
+-- the first absent place of a path that is not refused, or none
+abbrev pub unrefused : Option ℕ → Walked
+unrefused None = Present
+unrefused (Some k) = Absent k
+
+abbrev pub outcome : Option (ℕ × Why) → Option ℕ → Walked
+outcome (Some place) absent = Refused place.0 place.1
+outcome None absent = unrefused absent
+
+-- the walk along a path whose last place, where it is absent, would have the owner `last`
+abbrev pub walked : Places → Path → ℕ → Walked
+walked t path last = outcome (refusal t path last) (first_absent t path (range_with_len 0 (length path + 1)))

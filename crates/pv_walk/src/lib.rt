@@ -1,0 +1,17 @@
+//! Walking along paths, and staging: new objects are made under staging names and come to their paths in one step.
+#![tactic(auto)]
+
+mod new_file;
+mod publishing;
+mod remove;
+mod stage;
+mod sweeping;
+mod walking;
+
+pub use new_file::{NewFile, NewKind};
+pub use publishing::publish;
+pub use pv_steps::Why;
+pub use remove::remove_below;
+pub use stage::stage_file;
+pub use sweeping::sweep;
+pub use walking::{Walked, walk};

@@ -1,0 +1,99 @@
+ghost use Rattle.std.specs.Prelude.{◌≡◌, ◌≢◌, ◌≤◌, ◌+◌, [], true, OnOk, IsErrOf};
+ghost use Rattle.pv_io.specs.Faults.{HasRisen};
+ghost use Rattle.pv_path.specs.Paths.{is_prefix, staging_of};
+ghost use Rattle.pv_steps.specs.declared.tree.TreeFault.TheVariants.{Failed};
+ghost use Rattle.pv_steps.specs.Trees.{places, IsPresent, IsTree};
+ghost use Rattle.pv_steps.specs.Steps.{Movable, Yields, moved};
+ghost use Rattle.pv_steps.specs.Runs.{Ran};
+ghost use Rattle.pv_dress.specs.Edits.{Pruned, count_at};
+ghost use Rattle.pv_dress.specs.Asking.{asked};
+ghost use Rattle.pv_walk.specs.Staging.{IsRemoval, IsPublishing, can_stage};
+ghost use Rattle.pv_walk.specs.Removal.{Publishing, MayHaveMoved};
+
+use crate::remove::{is_directory, is_present, remove_below};
+use crate::sweeping::take_away;
+use pv_path::{TreePath, staging};
+use pv_steps::{Step, Tree, TreeFault};
+use std::alloc::Global;
+
+/// Takes away what stands at a path where a Rename from its staging name cannot replace it: all
+/// below a directory, and the object itself unless both are directories or neither is.
+fn make_way<T: Tree>(
+    alloc: Global,
+    tree: &mut T,
+    stage: &TreePath,
+    path: &TreePath,
+    now: u64,
+) -> Result<(), TreeFault>
+    requires stage { stage.now ≡ staging_of path.now }
+    requires not_root { path.now ≢ [] }
+    requires staged { IsPresent (T.state tree.old) stage.now }
+    ensures yields { OnOk result (Yields (places (T.state tree.new)) stage.now path.now) }
+    ensures same { OnOk result
+        (moved now stage.now path.now (places (T.state tree.new))
+        ≡ moved now stage.now path.now (places (T.state tree.old))) }
+    ensures staged { OnOk result (IsPresent (T.state tree.new) stage.now) }
+    ensures tree { IsTree (T.state tree.old) }
+    ensures ran { Ran (Pruned (is_prefix path.now) (T.state tree.old)) IsRemoval now
+        (T.state tree.old) (T.steps tree.old) (T.state tree.new) (T.steps tree.new) }
+    ensures bound { asked result (T.steps tree.old) (T.steps tree.new)
+        ≤ count_at (T.state tree.old) path.now }
+    ensures cause { IsErrOf result Failed → HasRisen (T.faults tree.old) (T.faults tree.new) }
+    ensures never_falls { T.faults tree.old ≤ T.faults tree.new }
+{
+    if !is_present(tree, path) {
+        return Ok(());
+    }
+    match (is_directory(tree, stage), is_directory(tree, path)) {
+        (true, true) => remove_below(alloc, tree, path, now),
+        (false, false) => Ok(()),
+        _ => take_away(alloc, tree, path, now),
+    }
+}
+
+/// Brings what is staged to its path.
+fn rename<T: Tree>(tree: &mut T, stage: TreePath, path: TreePath, now: u64) -> Result<(), TreeFault>
+    requires stage { stage ≡ staging_of path }
+    requires not_root { path ≢ [] }
+    requires movable { Movable (places (T.state tree.old)) stage path }
+    ensures moved { OnOk result
+        (places (T.state tree.new) ≡ moved now stage path (places (T.state tree.old))) }
+    ensures ran { Ran (MayHaveMoved now path (T.state tree.old)) (IsPublishing path) now
+        (T.state tree.old) (T.steps tree.old) (T.state tree.new) (T.steps tree.new) }
+    ensures bound { asked result (T.steps tree.old) (T.steps tree.new) ≤ 1 }
+    ensures cause { IsErrOf result Failed → HasRisen (T.faults tree.old) (T.faults tree.new) }
+    ensures never_falls { T.faults tree.old ≤ T.faults tree.new }
+{
+    let step = Step::Rename {
+        from: stage,
+        to: path,
+    };
+    tree.step(&step, now)
+}
+
+/// Brings what stands at the staging name of a path to the path, in one step, with all below it.
+/// What stood at the path is taken away before, as far as that step cannot replace it. Each name of
+/// the path has at most 250 bytes.
+pub fn publish<T: Tree>(
+    alloc: Global,
+    tree: &mut T,
+    path: &TreePath,
+    now: u64,
+) -> Result<(), TreeFault>
+    requires short { can_stage path.now ≡ true }
+    requires not_root { path.now ≢ [] }
+    requires staged { IsPresent (T.state tree.old) (staging_of path.now) }
+    ensures moved { OnOk result
+        (places (T.state tree.new)
+        ≡ moved now (staging_of path.now) path.now (places (T.state tree.old))) }
+    ensures ran { Ran (Publishing now path.now (T.state tree.old)) (IsPublishing path.now) now
+        (T.state tree.old) (T.steps tree.old) (T.state tree.new) (T.steps tree.new) }
+    ensures bound { asked result (T.steps tree.old) (T.steps tree.new)
+        ≤ 1 + count_at (T.state tree.old) path.now }
+    ensures cause { IsErrOf result Failed → HasRisen (T.faults tree.old) (T.faults tree.new) }
+    ensures never_falls { T.faults tree.old ≤ T.faults tree.new }
+{
+    let stage = staging(alloc, path)?;
+    make_way(alloc, tree, &stage, path, now)?;
+    rename(tree, stage, path.copy()?, now)
+}

@@ -1,0 +1,206 @@
+ghost use Rattle.std.specs.Prelude.{◌≡◌, ◌≢◌, ◌≤◌, true, [], IfOk, OnOk, IsErrOf};
+ghost use Rattle.std.specs.Option.{option_copied};
+ghost use Rattle.pv_io.specs.Faults.{HasRisen};
+ghost use Rattle.pv_path.specs.Paths.{parent_of, is_prefix, staging_of};
+ghost use Rattle.pv_steps.specs.declared.tree.TreeFault.TheVariants.{Failed};
+ghost use Rattle.pv_steps.specs.declared.step.Step.TheVariants.{Write};
+ghost use Rattle.pv_steps.specs.declared.node.Kind.TheVariants.{Directory};
+ghost use Rattle.pv_steps.specs.Trees.{places, IsKind, IsAbsentIn};
+ghost use Rattle.pv_steps.specs.Steps.{Can, HasRoom, made};
+ghost use Rattle.pv_steps.specs.Runs.{Ran};
+ghost use Rattle.pv_dress.specs.Edits.{SameOutside};
+ghost use Rattle.pv_dress.specs.Asking.{Tried, asked};
+ghost use Rattle.pv_walk.specs.Staging.{IsNewFile, GivesNew, new_object, new_mode, can_stage};
+ghost use Rattle.pv_walk.specs.Making.{make_step, content_of, held_object, new_dress};
+
+use crate::new_file::{NewFile, NewKind};
+use pv_acl::Acl;
+use pv_dress::{Dress, dress};
+use pv_path::{Bytes, TreePath, staging};
+use pv_steps::{Step, Tree, TreeFault};
+use std::alloc::{AllocError, Global};
+
+/// Makes a new object under the staging name of a path, with its content, owners and mode, all four stamps
+/// now. After a fault some of these steps may be done; nothing but the staging name has changed.
+pub fn stage_file<T: Tree>(
+    alloc: Global,
+    tree: &mut T,
+    path: &TreePath,
+    new: &NewFile,
+    now: u64,
+) -> Result<(), TreeFault>
+    requires not_root { path.now ≢ [] }
+    requires short { can_stage path.now ≡ true }
+    requires parent { IsKind Directory (T.state tree.old) (parent_of path.now) }
+    requires free { IsAbsentIn (places (T.state tree.old)) (staging_of path.now) }
+    requires new { IsNewFile new.now }
+    ensures ran { Ran (SameOutside (is_prefix (staging_of path.now)) (T.state tree.old))
+        (GivesNew (staging_of path.now) new.now) now
+        (T.state tree.old) (T.steps tree.old) (T.state tree.new) (T.steps tree.new) }
+    ensures ok { OnOk result (places (T.state tree.new)
+        ≡ made now (staging_of path.now) (new_object new.now now) (places (T.state tree.old))) }
+    ensures bound { asked result (T.steps tree.old) (T.steps tree.new) ≤ 5 }
+    ensures never_falls { T.faults tree.old ≤ T.faults tree.new }
+    ensures cause { IsErrOf result Failed → HasRisen (T.faults tree.old) (T.faults tree.new) }
+{
+    let stage = staging(alloc, path)?;
+    put_new(alloc, tree, &stage, new, now)
+}
+
+/// Makes a new object at a path, with its content, owners and mode.
+fn put_new<T: Tree>(
+    alloc: Global,
+    tree: &mut T,
+    path: &TreePath,
+    new: &NewFile,
+    now: u64,
+) -> Result<(), TreeFault>
+    requires not_root { path.now ≢ [] }
+    requires room { HasRoom (places (T.state tree.old)) path.now }
+    requires new { IsNewFile new.now }
+    ensures ran { Ran (SameOutside (is_prefix path.now) (T.state tree.old)) (GivesNew path.now new.now) now
+        (T.state tree.old) (T.steps tree.old) (T.state tree.new) (T.steps tree.new) }
+    ensures ok { OnOk result (places (T.state tree.new)
+        ≡ made now path.now (new_object new.now now) (places (T.state tree.old))) }
+    ensures bound { asked result (T.steps tree.old) (T.steps tree.new) ≤ 5 }
+    ensures never_falls { T.faults tree.old ≤ T.faults tree.new }
+    ensures cause { IsErrOf result Failed → HasRisen (T.faults tree.old) (T.faults tree.new) }
+{
+    put_held(alloc, tree, path, new, now)?;
+    dress(alloc, tree, path, &dress_of(alloc, new), now)
+}
+
+/// Makes a new object at a path, with its content.
+fn put_held<T: Tree>(
+    alloc: Global,
+    tree: &mut T,
+    path: &TreePath,
+    new: &NewFile,
+    now: u64,
+) -> Result<(), TreeFault>
+    requires not_root { path.now ≢ [] }
+    requires room { HasRoom (places (T.state tree.old)) path.now }
+    requires new { IsNewFile new.now }
+    ensures ran { Ran (SameOutside (is_prefix path.now) (T.state tree.old)) (GivesNew path.now new.now) now
+        (T.state tree.old) (T.steps tree.old) (T.state tree.new) (T.steps tree.new) }
+    ensures ok { OnOk result (places (T.state tree.new)
+        ≡ made now path.now (held_object new.now.what now) (places (T.state tree.old))) }
+    ensures bound { asked result (T.steps tree.old) (T.steps tree.new) ≤ 2 }
+    ensures never_falls { T.faults tree.old ≤ T.faults tree.new }
+    ensures cause { IsErrOf result Failed → HasRisen (T.faults tree.old) (T.faults tree.new) }
+{
+    make(alloc, tree, path, &new.what, now)?;
+    match content_of(&new.what) {
+        Some(content) => write(alloc, tree, path, content, now),
+        None => Ok(()),
+    }
+}
+
+/// The one step that makes an object of a kind.
+fn make<T: Tree>(
+    alloc: Global,
+    tree: &mut T,
+    path: &TreePath,
+    what: &NewKind,
+    now: u64,
+) -> Result<(), TreeFault>
+    requires { Can (places (T.state tree.old)) (make_step path.now what.now) }
+    ensures tried { Tried (make_step path.now what.now) now result
+        (T.state tree.old) (T.steps tree.old) (T.state tree.new) (T.steps tree.new) }
+    ensures never_falls { T.faults tree.old ≤ T.faults tree.new }
+    ensures cause { IsErrOf result Failed → HasRisen (T.faults tree.old) (T.faults tree.new) }
+{
+    let step = make_step(alloc, path, what)?;
+    tree.step(&step, now)
+}
+
+fn make_step(alloc: Global, path: &TreePath, what: &NewKind) -> Result<Step, AllocError>
+    ensures { IfOk result (λ step. step ≡ make_step path.now what.now) }
+{
+    let path = TreePath::of(alloc, path.names())?;
+    match what {
+        NewKind::Directory => Ok(Step::MakeDir { path }),
+        NewKind::File(_) => Ok(Step::MakeFile { path }),
+        NewKind::Link(target) => Ok(Step::MakeLink {
+            path,
+            target: target.copy()?,
+        }),
+        NewKind::Fifo => Ok(Step::MakeFifo { path }),
+        NewKind::Device {
+            block,
+            major,
+            minor,
+        } => Ok(Step::MakeDevice {
+            path,
+            block: *block,
+            major: *major,
+            minor: *minor,
+        }),
+    }
+}
+
+/// One Write step.
+fn write<T: Tree>(
+    alloc: Global,
+    tree: &mut T,
+    path: &TreePath,
+    content: &Bytes,
+    now: u64,
+) -> Result<(), TreeFault>
+    requires { Can (places (T.state tree.old)) (Write path.now content.now) }
+    ensures tried { Tried (Write path.now content.now) now result
+        (T.state tree.old) (T.steps tree.old) (T.state tree.new) (T.steps tree.new) }
+    ensures never_falls { T.faults tree.old ≤ T.faults tree.new }
+    ensures cause { IsErrOf result Failed → HasRisen (T.faults tree.old) (T.faults tree.new) }
+{
+    let step = Step::Write {
+        path: TreePath::of(alloc, path.names())?,
+        content: content.copy()?,
+    };
+    tree.step(&step, now)
+}
+
+/// The content that a new file is to have, if it is to have any.
+fn content_of(what: &NewKind) -> Option<&Bytes>
+    ensures { option_copied result ≡ content_of what.now }
+{
+    match what {
+        NewKind::File(content) => match content.as_slice() {
+            [] => None,
+            [_, ..] => Some(content),
+        },
+        NewKind::Directory => None,
+        NewKind::Link(_) => None,
+        NewKind::Fifo => None,
+        NewKind::Device { .. } => None,
+    }
+}
+
+/// What a new object is to wear: no more than its mode gives.
+fn dress_of(alloc: Global, new: &NewFile) -> Dress
+    requires { new.now.mode ≤ 4095 }
+    ensures { result ≡ new_dress new.now }
+{
+    let mode = mode_of(&new.what, new.mode);
+    Dress {
+        uid: new.uid,
+        gid: new.gid,
+        special: (mode / 512) as u8,
+        acl: Acl::of_mode(alloc, mode),
+    }
+}
+
+/// The mode of a new object: of a link always 0777.
+fn mode_of(what: &NewKind, mode: u16) -> u16
+    requires { mode ≤ 4095 }
+    ensures value { result ≡ new_mode what.now mode }
+    ensures range { result ≤ 4095 }
+{
+    match what {
+        NewKind::Link(_) => 0o777,
+        NewKind::Directory => mode,
+        NewKind::File(_) => mode,
+        NewKind::Fifo => mode,
+        NewKind::Device { .. } => mode,
+    }
+}

@@ -1,0 +1,89 @@
+ghost use Rattle.std.specs.Prelude.{◌≡◌, ◌≢◌, ◌≤◌, ℕ, List, [], true, length, Some, OnOk, IsErrOf};
+ghost use Rattle.pv_io.specs.Faults.{HasRisen};
+ghost use Rattle.pv_path.specs.Paths.{is_prefix, last_name, staging_of};
+ghost use Rattle.pv_steps.specs.declared.tree.TreeFault.TheVariants.{Failed};
+ghost use Rattle.pv_steps.specs.Trees.{places};
+ghost use Rattle.pv_steps.specs.Runs.{Ran};
+ghost use Rattle.pv_dress.specs.Edits.{Pruned, taken, all_taken, count_at};
+ghost use Rattle.pv_dress.specs.Asking.{asked};
+ghost use Rattle.pv_walk.specs.Staging.{IsRemoval, staging_names, is_under_any, count_at_all, can_stage};
+
+use crate::remove::{is_present, remove, remove_below};
+use pv_path::{TreePath, staging};
+use pv_steps::{Tree, TreeFault};
+use std::alloc::Global;
+
+/// Takes away what stands at a path, with all below it, where anything is there.
+pub(crate) fn take_away<T: Tree>(
+    alloc: Global,
+    tree: &mut T,
+    path: &TreePath,
+    now: u64,
+) -> Result<(), TreeFault>
+    requires { path.now ≢ [] }
+    ensures taken { OnOk result
+        (places (T.state tree.new) ≡ taken now path.now (places (T.state tree.old))) }
+    ensures ran { Ran (Pruned (is_prefix path.now) (T.state tree.old)) IsRemoval now
+        (T.state tree.old) (T.steps tree.old) (T.state tree.new) (T.steps tree.new) }
+    ensures bound { asked result (T.steps tree.old) (T.steps tree.new)
+        ≤ count_at (T.state tree.old) path.now }
+    ensures cause { IsErrOf result Failed → HasRisen (T.faults tree.old) (T.faults tree.new) }
+    ensures never_falls { T.faults tree.old ≤ T.faults tree.new }
+{
+    if !is_present(tree, path) {
+        return Ok(());
+    }
+    remove_below(alloc, tree, path, now)?;
+    remove(tree, path.copy()?, now)
+}
+
+/// Takes away the staging name of one place, with all below it.
+fn sweep_place<T: Tree>(
+    alloc: Global,
+    tree: &mut T,
+    place: &TreePath,
+    now: u64,
+) -> Result<(), TreeFault>
+    requires short { (name : List ℕ) → last_name place.now ≡ Some name → length name ≤ 250 }
+    requires not_root { place.now ≢ [] }
+    ensures taken { OnOk result
+        (places (T.state tree.new) ≡ taken now (staging_of place.now) (places (T.state tree.old))) }
+    ensures ran { Ran (Pruned (is_prefix (staging_of place.now)) (T.state tree.old)) IsRemoval now
+        (T.state tree.old) (T.steps tree.old) (T.state tree.new) (T.steps tree.new) }
+    ensures bound { asked result (T.steps tree.old) (T.steps tree.new)
+        ≤ count_at (T.state tree.old) (staging_of place.now) }
+    ensures cause { IsErrOf result Failed → HasRisen (T.faults tree.old) (T.faults tree.new) }
+    ensures never_falls { T.faults tree.old ≤ T.faults tree.new }
+{
+    let stage = staging(alloc, place)?;
+    take_away(alloc, tree, &stage, now)
+}
+
+/// Takes away what an earlier run has left along a path: for each place from the root's child to
+/// the path itself, what stands at its staging name, with all below it. Each name of the path has
+/// at most 250 bytes.
+pub fn sweep<T: Tree>(
+    alloc: Global,
+    tree: &mut T,
+    path: &TreePath,
+    now: u64,
+) -> Result<(), TreeFault>
+    requires { can_stage path.now ≡ true }
+    ensures taken { OnOk result
+        (places (T.state tree.new)
+        ≡ all_taken now (staging_names path.now) (places (T.state tree.old))) }
+    ensures ran { Ran (Pruned (is_under_any (staging_names path.now)) (T.state tree.old))
+        IsRemoval now
+        (T.state tree.old) (T.steps tree.old) (T.state tree.new) (T.steps tree.new) }
+    ensures bound { asked result (T.steps tree.old) (T.steps tree.new)
+        ≤ count_at_all (T.state tree.old) (staging_names path.now) }
+    ensures cause { IsErrOf result Failed → HasRisen (T.faults tree.old) (T.faults tree.new) }
+    ensures never_falls { T.faults tree.old ≤ T.faults tree.new }
+{
+    let mut place = TreePath::root(alloc);
+    for name in path.names() {
+        place.push(name.copy()?)?;
+        sweep_place(alloc, tree, &place, now)?;
+    }
+    Ok(())
+}

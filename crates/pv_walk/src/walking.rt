@@ -1,0 +1,146 @@
+ghost use Rattle.std.specs.Prelude.{◌≡◌, ◌<◌, ◌≤◌, ◌^◌, length, IfOk};
+ghost use Rattle.std.specs.Option.{option_or};
+ghost use Rattle.pv_steps.specs.Trees.{places};
+ghost use Rattle.pv_steps.specs.Refusal.{why_blocked};
+ghost use Rattle.pv_walk.specs.Walking.{walked, unrefused};
+ghost use Rattle.pv_walk.specs.Seeing.{seen_of, seen_kind, seen_owner, why_owner, if_absent};
+
+use pv_path::TreePath;
+use pv_steps::{Kind, Tree, Why};
+use std::alloc::{AllocError, Global};
+
+/// What a walk along a path found. A place is counted by the names that lead to it.
+#[derive(Clone, Copy, Debug, PartialEq, Eq)]
+pub enum Walked {
+    /// Each place is present.
+    Present,
+    /// This is the first place that is absent.
+    Absent(u32),
+    /// The path is refused at this place.
+    Refused(u32, Why),
+}
+
+/// What a walk looks at of an object.
+#[derive(Clone, Copy, Debug, PartialEq, Eq)]
+struct Seen {
+    kind: Kind,
+    owner: u32,
+}
+
+/// Walks along a path from the root, as creating lines do (tmpfiles.d(5) on unsafe path transitions). A path
+/// is refused at its first place where a place above the last is a link or no directory, or where root does
+/// not own the place above and the place has another owner. An absent last place counts as owned by `made`,
+/// any other absent place by root. Else the answer is the first absent place, or that all are present.
+pub fn walk<T: Tree>(
+    alloc: Global,
+    tree: &T,
+    path: &TreePath,
+    made: u32,
+) -> Result<Walked, AllocError>
+    requires { length path.now < 2 ^ 32 }
+    ensures { IfOk result (λ w. w ≡ walked (places (T.state tree.now)) path.now made) }
+{
+    let mut at = TreePath::root(alloc);
+    let mut above = 0;
+    let mut absent = None;
+    for (k, name) in path.names().iter().enumerate() {
+        let place = seen_at(tree, &at);
+        let owner = owner_of(place, 0);
+        if let Some(why) = why_above(place, above, owner) {
+            return Ok(Walked::Refused(k as u32, why));
+        }
+        absent = or_absent(absent, place, k as u32);
+        above = owner;
+        at.push(name.copy()?)?;
+    }
+    let place = seen_at(tree, &at);
+    let last = path.len() as u32;
+    match why_owner(above, owner_of(place, made)) {
+        Some(why) => Ok(Walked::Refused(last, why)),
+        None => Ok(end_of(or_absent(absent, place, last))),
+    }
+}
+
+/// What stands at a path.
+fn seen_at<T: Tree>(tree: &T, at: &TreePath) -> Option<Seen>
+    ensures { result ≡ seen_of (places (T.state tree.now) at.now) }
+{
+    match tree.look(at) {
+        Some(node) => Some(Seen {
+            kind: node.kind,
+            owner: node.uid,
+        }),
+        None => None,
+    }
+}
+
+/// The owner of a place, or the one that it counts as owned by where it is absent.
+fn owner_of(place: Option<Seen>, absent: u32) -> u32
+    ensures { result ≡ seen_owner place absent }
+{
+    match place {
+        Some(seen) => seen.owner,
+        None => absent,
+    }
+}
+
+/// Why a place above the last is refused: for what it is, or else for its owner.
+fn why_above(place: Option<Seen>, above: u32, owner: u32) -> Option<Why>
+    ensures { result ≡ option_or (why_blocked (seen_kind place)) (why_owner above owner) }
+{
+    match why_passed(place) {
+        Some(why) => Some(why),
+        None => why_owner(above, owner),
+    }
+}
+
+/// Why a place above the last can't be passed.
+fn why_passed(place: Option<Seen>) -> Option<Why>
+    ensures { result ≡ why_blocked (seen_kind place) }
+{
+    match place {
+        None => None,
+        Some(seen) => match seen.kind {
+            Kind::Directory => None,
+            Kind::Link => Some(Why::Link),
+            Kind::File => Some(Why::NotDirectory),
+            Kind::Fifo => Some(Why::NotDirectory),
+            Kind::CharDevice => Some(Why::NotDirectory),
+            Kind::BlockDevice => Some(Why::NotDirectory),
+        },
+    }
+}
+
+/// Whether a place may have its owner, given the owner of the place above.
+fn why_owner(above: u32, owner: u32) -> Option<Why>
+    ensures { result ≡ why_owner above owner }
+{
+    if above != 0 && owner != above {
+        Some(Why::UnsafeOwner)
+    } else {
+        None
+    }
+}
+
+/// The first absent place so far.
+fn or_absent(absent: Option<u32>, place: Option<Seen>, k: u32) -> Option<u32>
+    ensures { result ≡ option_or absent (if_absent place k) }
+{
+    match absent {
+        Some(first) => Some(first),
+        None => match place {
+            Some(_) => None,
+            None => Some(k),
+        },
+    }
+}
+
+/// The answer for a path that is not refused.
+fn end_of(absent: Option<u32>) -> Walked
+    ensures { result ≡ unrefused absent }
+{
+    match absent {
+        Some(k) => Walked::Absent(k),
+        None => Walked::Present,
+    }
+}

@@ -1,0 +1,4 @@
+pub mod AnsweredLaws
+pub mod PartsLaws
+pub mod ValueLaws
+pub mod MeaningLaws
