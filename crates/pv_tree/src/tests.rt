@@ -1,4 +1,4 @@
-ghost use Rattle.std.specs.Prelude.{◌≡◌, ◌≢◌, ℕ, ◌≤◌, List, [], ◌∷◌, map, true, false};
+ghost use Rattle.std.specs.Prelude.{◌≡◌, ◌≢◌, ℕ, ◌^◌, ◌<◌, ◌≤◌, List, [], ◌∷◌, map, length, true, false};
 ghost use Rattle.std.specs.Ordering.{nat_cmp};
 ghost use Rattle.pv_path.specs.Paths.{is_prefix};
 ghost use Rattle.pv_acl.specs.Parts.{is_acl};
@@ -16,16 +16,16 @@ use std::alloc::Global;
 use std::cmp::Ordering;
 use std::process::Abort;
 
-/// The names a, b and c beside one that is sought.
+/// Names of one byte beside one that is sought.
 #[derive(Drop)]
-struct Letters {
-    names: [u8; 3],
+struct Letters<'a> {
+    names: &'a [u8],
     sought: u8,
     left: u32,
 }
 
-impl Probe for Letters {
-    ghost orders = { λ p. map (λ n. nat_cmp n p.sought) p.names };
+impl<'a> Probe for Letters<'a> {
+    ghost orders = { λ p. map (λ n. nat_cmp n p.sought) p.names.now };
 
     ghost left = { λ p. p.left };
 
@@ -35,37 +35,24 @@ impl Probe for Letters {
     }
 }
 
-/// The place of a name among a, b and c, with two questions.
-fn place_in_abc(sought: u8) -> Option<usize>
-    requires { IsRising (map (λ n. nat_cmp n sought) (97 ∷ 98 ∷ 99 ∷ [])) }
+/// The place of a name among others, with so many questions.
+fn place_in(names: &[u8], sought: u8, left: u32) -> Option<usize>
+    requires rising { IsRising (map (λ n. nat_cmp n sought) names.now) }
+    requires enough { length names.now < 2 ^ left }
 {
     let mut probe = Letters {
-        names: *b"abc",
+        names,
         sought,
-        left: 2,
+        left,
     };
-    find(&mut probe, 3)
-}
-
-/// No names at all, and no question left.
-#[derive(Drop)]
-struct Nothing;
-
-impl Probe for Nothing {
-    ghost orders = { λ _. [] };
-
-    ghost left = { λ _. 0 };
-
-    fn compare(&mut self, _i: usize) -> Ordering {
-        unreachable!()
-    }
+    find(&mut probe, names.len())
 }
 
 #[test]
 fn finds_names_by_halving(rt: HostRuntime) {
-    assert_eq!(rt; place_in_abc(b'b'), Some(1));
-    assert_eq!(rt; place_in_abc(b'd'), None);
-    assert_eq!(rt; find(&mut Nothing, 0), None);
+    assert_eq!(rt; place_in(b"abc", b'b', 2), Some(1));
+    assert_eq!(rt; place_in(b"abc", b'd', 2), None);
+    assert_eq!(rt; place_in(b"", b'a', 0), None);
 }
 
 /// The tree of a root alone.
