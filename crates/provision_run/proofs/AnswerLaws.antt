@@ -1,65 +1,219 @@
 -- From a run over an image to the answer to its bytes.
-use Rattle.std.specs.Prelude.{◌≡◌, ℕ, ◌≤◌, Bool, true, false, cond, List, ◌++◌, length, Result, Ok, Err, IfOk}
-use Rattle.std.proofs.Common.{sym, subst, refl}
-use Rattle.pv_steps.specs.Trees.{Files, IsTree}
-use Rattle.pv_image.specs.declared.reading.Image.{Image}
+use Rattle.std.specs.Prelude.{◌≡◌, ◌≢◌, ℕ, ◌+◌, ◌-◌, ◌<◌, ◌≤◌, List, [], ◌∷◌, ◌++◌, length, take, drop, Option, Some, None, Result, Ok, Err, IfOk, IfSome}
+use Rattle.std.proofs.Common.{subst, sym, ap, ◌∙◌, arith}
+use Rattle.pv_text.specs.Facts.{Values}
+use Rattle.pv_text.specs.Said.{SaidPart}
+use Rattle.pv_steps.specs.declared.step.Step.{Step}
+use Rattle.pv_steps.specs.Trees.{Files}
+use Rattle.pv_steps.specs.Runs.{Ran}
 use Rattle.pv_image.specs.Images.{IsImage}
 use Rattle.pv_image.specs.Spelling.{text_of}
+use Rattle.pv_lines.specs.declared.line.Line.{Line}
+use Rattle.pv_tree.specs.Held.{Held}
+use Rattle.pv_create.specs.OnWay.{Partway, IsMended}
+use Rattle.pv_words.specs.declared.options.Options.{Options}
 use Rattle.provision_run.specs.declared.answer.Answer.{Answer}
 use Rattle.provision_run.specs.declared.outcome.Outcome.{Outcome}
 use Rattle.provision_run.specs.declared.outcome.Outcome.TheVariants.{Done, ConfigInvalid, NotCarriedOut, Usage, BadImage, NoFreeId, Memory, ReadFault, WriteFault, Stopped}
-use Rattle.provision_run.specs.Answers.{IsAnswer, IsAnswered, IsOwn, messages_text, most_bytes}
+use Rattle.provision_run.specs.declared.run.RunEnd.{RunEnd}
+use Rattle.provision_run.specs.declared.run.RunEnd.TheVariants as end
+use Rattle.provision_run.specs.Words.{moment_of}
+use Rattle.provision_run.specs.Whole.{run_lines, final, read_messages, line_messages, run_messages, run_end, run_work}
+use Rattle.provision_run.specs.Answers.{IsAnswer, IsAnswered, IsRun, IsWhole, IsStopped, IsOwn, outcome_of, outcome, messages_text, stopped_text, most_bytes}
 
--- a finished run has answered
-pub answered : {E : Type 0} (image : Image) (valid : Bool) (texts : List (List ℕ)) (after : Files) → IsTree after → (r : Result Answer E)
-    → IfOk r (λ a. a.output.items ≡ messages_text texts ++ text_of image.facts after) → IfOk r (λ a. a.outcome ≡ cond valid Done ConfigInvalid)
-    → IfOk r (λ a. IsAnswered image a.outcome a.output.items)
-answered image valid texts after tree (Ok a) e o = subst (λ x. IsAnswered image x a.output.items) (sym o) (by valid)
+-- an outcome of a run that was not stopped
+abbrev IsEnd : Outcome → Type 0
+IsEnd Done = Unit {0}
+IsEnd ConfigInvalid = Unit {0}
+IsEnd NotCarriedOut = Unit {0}
+IsEnd (NoFreeId name) = Unit {0}
+IsEnd found = ⊥
+
+ends : (e : RunEnd) → IsEnd (outcome_of e)
+ends end.Done = tt
+ends end.ConfigInvalid = tt
+ends end.NotCarriedOut = tt
+ends (end.NoFreeId name) = tt
+
+-- a run that was not stopped has answered
+whole_of : (options : Options) (facts : Values) (moment : ℕ) (t : Files) (found : Outcome) (out : List ℕ) → IsEnd found
+    → IsWhole options facts moment t found out → IsAnswered options facts moment t found out
+whole_of options facts moment t Done out is h = h
+whole_of options facts moment t ConfigInvalid out is h = h
+whole_of options facts moment t NotCarriedOut out is h = h
+whole_of options facts moment t Usage out is h = h
+whole_of options facts moment t (BadImage f) out is h = h
+whole_of options facts moment t (NoFreeId name) out is h = h
+whole_of options facts moment t Memory out is h = h
+whole_of options facts moment t ReadFault out is h = h
+whole_of options facts moment t WriteFault out is h = h
+whole_of options facts moment t (Stopped n) out is h = absurd is
+
+pub answered_whole : (options : Options) (facts : Values) (moment : ℕ) (t : Files) (e : RunEnd) (found : Outcome) (out : List ℕ) → found ≡ outcome_of e
+    → IsWhole options facts moment t found out → IsAnswered options facts moment t found out
+answered_whole options facts moment t e found out is h = whole_of options facts moment t found out (subst IsEnd (sym is) (ends e)) h
+
+module _ (options : Options) (clock : ℕ) (input : List ℕ) (facts : Values) (t : Files) (image : IsImage input facts t) (fits : length input ≤ most_bytes) where
+  run_of : (found : Outcome) (out : List ℕ) → IsAnswered options facts (moment_of options clock) t found out → IsRun options clock input found out
+  run_of found out h = record { facts = facts; tree = t; image = image; fits = fits; answered = h }
+
+  not_end : (found : Outcome) (out : List ℕ) (moment : ℕ) → IsWhole options facts moment t found out → IsEnd found
+  not_end found out moment h = subst IsEnd (sym h.end) (ends (run_end options facts moment t))
+
+  answer_of : (found : Outcome) (out : List ℕ) → IsAnswered options facts (moment_of options clock) t found out → IsAnswer options clock input found out
+  answer_of Done out h = run_of Done out h
+  answer_of ConfigInvalid out h = run_of ConfigInvalid out h
+  answer_of NotCarriedOut out h = run_of NotCarriedOut out h
+  answer_of Usage out h = not_end Usage out (moment_of options clock) h
+  answer_of (BadImage f) out h = absurd (not_end (BadImage f) out (moment_of options clock) h)
+  answer_of (NoFreeId name) out h = run_of (NoFreeId name) out h
+  answer_of Memory out h = run_of Memory out h
+  answer_of ReadFault out h = run_of ReadFault out h
+  answer_of WriteFault out h = run_of WriteFault out h
+  answer_of (Stopped n) out h = run_of (Stopped n) out h
+
+  -- what was answered over an image is the answer to its bytes
+  pub answers : {E : Type 0} (r : Result Answer E) → IfOk r (λ a. IsAnswered options facts (moment_of options clock) t a.outcome a.output.items)
+      → IfOk r (λ a. IsAnswer options clock input a.outcome a.output.items)
+  answers (Ok a) h = answer_of a.outcome a.output.items h
+  answers (Err f) h = tt
+
+-- an answer to an input has an output of its own, and does not blame the words
+own_of_end : (found : Outcome) → IsEnd found → IsOwn found × (found ≢ Usage)
+own_of_end Done h = (tt, λ e. cc)
+own_of_end ConfigInvalid h = (tt, λ e. cc)
+own_of_end NotCarriedOut h = (tt, λ e. cc)
+own_of_end (NoFreeId name) h = (tt, λ e. cc)
+own_of_end Usage h = absurd h
+own_of_end (BadImage f) h = absurd h
+own_of_end Memory h = absurd h
+own_of_end ReadFault h = absurd h
+own_of_end WriteFault h = absurd h
+own_of_end (Stopped n) h = absurd h
+
+own_of_run : (options : Options) (clock : ℕ) (input : List ℕ) (found : Outcome) (out : List ℕ) → IsRun options clock input found out → IsOwn found × (found ≢ Usage)
+own_of_run options clock input found out run = by found run.answered
   where
-    by : (b : Bool) → IsAnswered image (cond b Done ConfigInvalid) a.output.items
-    by true = (texts, after, tree, e)
-    by false = (texts, after, tree, e)
-answered image valid texts after tree (Err f) e o = tt
+    by : (o : Outcome) → IsAnswered options run.facts (moment_of options clock) run.tree o out → IsOwn o × (o ≢ Usage)
+    by (Stopped n) h = (tt, λ e. cc)
+    by Done h = (tt, λ e. cc)
+    by ConfigInvalid h = (tt, λ e. cc)
+    by NotCarriedOut h = (tt, λ e. cc)
+    by (NoFreeId name) h = (tt, λ e. cc)
+    by (BadImage f) h = (tt, λ e. cc)
+    by Usage h = own_of_end Usage (subst IsEnd (sym h.end) (ends (run_end options run.facts (moment_of options clock) run.tree)))
+    by Memory h = own_of_end Memory (subst IsEnd (sym h.end) (ends (run_end options run.facts (moment_of options clock) run.tree)))
+    by ReadFault h = own_of_end ReadFault (subst IsEnd (sym h.end) (ends (run_end options run.facts (moment_of options clock) run.tree)))
+    by WriteFault h = own_of_end WriteFault (subst IsEnd (sym h.end) (ends (run_end options run.facts (moment_of options clock) run.tree)))
 
-answer_of : (input : List ℕ) (image : Image) → IsImage input image.facts image.tree.files → length input ≤ most_bytes → (outcome : Outcome) (out : List ℕ)
-    → IsAnswered image outcome out → IsAnswer input outcome out
-answer_of input image is fits Done out h = record { facts = image.facts; before = image.tree.files; image = is; fits = fits; texts = h.0; after = h.1; tree = h.2; text = h.3 }
-answer_of input image is fits ConfigInvalid out h = record { facts = image.facts; before = image.tree.files; image = is; fits = fits; texts = h.0; after = h.1; tree = h.2; text = h.3 }
-answer_of input image is fits NotCarriedOut out h = absurd h
-answer_of input image is fits Usage out h = absurd h
-answer_of input image is fits (BadImage f) out h = absurd h
-answer_of input image is fits (NoFreeId name) out h = absurd h
-answer_of input image is fits Memory out h = absurd h
-answer_of input image is fits ReadFault out h = absurd h
-answer_of input image is fits WriteFault out h = absurd h
-answer_of input image is fits (Stopped n) out h = absurd h
+pub own_of_answer : (options : Options) (clock : ℕ) (input : List ℕ) (found : Outcome) (out : List ℕ) → IsAnswer options clock input found out → IsOwn found × (found ≢ Usage)
+own_of_answer options clock input (BadImage f) out h = (tt, λ e. cc)
+own_of_answer options clock input Usage out h = absurd h
+own_of_answer options clock input Done out h = own_of_run options clock input Done out h
+own_of_answer options clock input ConfigInvalid out h = own_of_run options clock input ConfigInvalid out h
+own_of_answer options clock input NotCarriedOut out h = own_of_run options clock input NotCarriedOut out h
+own_of_answer options clock input (NoFreeId name) out h = own_of_run options clock input (NoFreeId name) out h
+own_of_answer options clock input Memory out h = own_of_run options clock input Memory out h
+own_of_answer options clock input ReadFault out h = own_of_run options clock input ReadFault out h
+own_of_answer options clock input WriteFault out h = own_of_run options clock input WriteFault out h
+own_of_answer options clock input (Stopped n) out h = own_of_run options clock input (Stopped n) out h
 
--- what was answered over an image is the answer to its bytes
-pub answers : {E : Type 0} (input : List ℕ) (image : Image) → IsImage input image.facts image.tree.files → length input ≤ most_bytes → (r : Result Answer E)
-    → IfOk r (λ a. IsAnswered image a.outcome a.output.items) → IfOk r (λ a. IsAnswer input a.outcome a.output.items)
-answers input image is fits (Ok a) h = answer_of input image is fits a.outcome a.output.items h
-answers input image is fits (Err f) h = tt
-
-own_of_answer : (input : List ℕ) (outcome : Outcome) (out : List ℕ) → IsAnswer input outcome out → IsOwn outcome
-own_of_answer input Done out h = tt
-own_of_answer input ConfigInvalid out h = tt
-own_of_answer input NotCarriedOut out h = tt
-own_of_answer input Usage out h = tt
-own_of_answer input (BadImage f) out h = tt
-own_of_answer input (NoFreeId name) out h = tt
-own_of_answer input Memory out h = absurd h
-own_of_answer input ReadFault out h = absurd h
-own_of_answer input WriteFault out h = absurd h
-own_of_answer input (Stopped n) out h = tt
-
--- the answer to an input has an output of its own
-pub answers_own : {E : Type 0} (input : List ℕ) (r : Result Answer E) → IfOk r (λ a. IsAnswer input a.outcome a.output.items) → IfOk r (λ a. IsOwn a.outcome)
-answers_own input (Ok a) h = own_of_answer input a.outcome a.output.items h
-answers_own input (Err f) h = tt
+pub answers_own : (options : Options) (clock : ℕ) (input : List ℕ) {E : Type 0} (r : Result Answer E) → IfOk r (λ a. IsAnswer options clock input a.outcome a.output.items)
+    → IfOk r (λ a. IsOwn a.outcome × (a.outcome ≢ Usage))
+answers_own options clock input (Ok a) h = own_of_answer options clock input a.outcome a.output.items h
+answers_own options clock input (Err f) h = tt
 
 -- the two ends are not blamed by an outcome with an output of its own
-pub own_not_read : (outcome : Outcome) → IsOwn outcome → outcome ≡ ReadFault → ⊥
-own_not_read outcome h e = subst IsOwn e h
+pub own_not_read : (found : Outcome) → IsOwn found → found ≡ ReadFault → ⊥
+own_not_read found h e = subst IsOwn e h
 
-pub own_not_written : (outcome : Outcome) → IsOwn outcome → outcome ≡ WriteFault → ⊥
-own_not_written outcome h e = subst IsOwn e h
+pub own_not_written : (found : Outcome) → IsOwn found → found ≡ WriteFault → ⊥
+own_not_written found h e = subst IsOwn e h
+
+-- ---- what a run over any tree says of itself is what belongs to its output
+
+module _ (options : Options) (facts : Values) (moment : ℕ) (t u : Files) (h k : List Step) (Q : Step → Type 0) (start : h ≡ []) (ran : Ran (Partway (run_lines options facts t) moment t) Q moment t h u k) where
+  -- the steps that it added are all that are told
+  all_told : k ≡ ran.steps
+  all_told = ran.told ∙ ap (λ x. x ++ ran.steps) start
+
+  pub whole_run : (found : Outcome) (out : List ℕ) → found ≡ outcome options facts moment t → u ≡ final options facts moment t
+      → out ≡ messages_text (run_messages options facts moment t) ++ text_of facts u → IfSome options.stop_after (λ n. length k ≤ n)
+      → IsWhole options facts moment t found out
+  whole_run found out is end text few = record {
+    end = is;
+    text = text ∙ ap (λ x. messages_text (run_messages options facts moment t) ++ text_of facts x) end;
+    steps = ran.steps;
+    way = ran.along;
+    reached = sym end ∙ ran.reached;
+    within = subst (λ x. IfSome options.stop_after (λ n. length x ≤ n)) all_told few;
+  }
+
+  pub stopped_run : (n : ℕ) (out : List ℕ) (said : List (List ℕ)) → options.stop_after ≡ Some n → length k ≡ n
+      → (length k - length h) + 1 ≤ run_work options facts moment t
+      → SaidPart (line_messages options facts moment t) (read_messages options facts t) said
+      → out ≡ messages_text (said ++ stopped_text n ∷ []) ++ text_of facts u
+      → ((line : Line) → run_lines options facts t ≡ line ∷ [] → IsMended line moment t (drop (length h) k))
+      → IsStopped options facts moment t n out
+  stopped_run n out said limit count bound part text mended = record {
+    limit = limit;
+    fewer = fewer;
+    steps = ran.steps;
+    count = ap length (sym all_told) ∙ count;
+    way = ran.along;
+    told = part.0;
+    text = text ∙ ap (λ x. messages_text (x ++ stopped_text n ∷ []) ++ text_of facts u) part.1
+        ∙ ap (λ x. messages_text (read_messages options facts t ++ take part.0 (line_messages options facts moment t) ++ stopped_text n ∷ []) ++ text_of facts x) ran.reached;
+    mended = λ line one. subst (IsMended line moment t) (ap (λ x. drop (length x) k) start ∙ all_told) (mended line one);
+  }
+    where
+      fewer : n < run_work options facts moment t
+      fewer =
+          let none : length h ≡ 0 = ap length start in
+          omega (arith, count, bound, none)
+
+-- ---- a run over a tree in memory
+
+module _ (options : Options) (facts : Values) (moment : ℕ) (old new : Held) (Q : Step → Type 0) (start : old.steps ≡ [])
+    (ran : Ran (Partway (run_lines options facts old.files) moment old.files) Q moment old.files old.steps new.files new.steps) (kept : Held) (same : kept ≡ new) where
+  pub whole_answered : (e : RunEnd) → e ≡ run_end options facts moment old.files → new.files ≡ final options facts moment old.files
+      → (said : List (List ℕ)) → said ≡ run_messages options facts moment old.files
+      → {E : Type 0} (r : Result Answer E) → IfOk r (λ a. a.outcome ≡ outcome_of e) → IfOk r (λ a. a.output.items ≡ messages_text said ++ text_of facts kept.files)
+      → IfOk r (λ _. IfSome options.stop_after (λ n. length kept.steps ≤ n))
+      → IfOk r (λ a. IsAnswered options facts moment old.files a.outcome a.output.items)
+  whole_answered e is end said all (Err f) found text few = tt
+  whole_answered e is end said all (Ok a) found text few =
+      answered_whole options facts moment old.files e a.outcome a.output.items found
+      (whole_run options facts moment old.files new.files old.steps new.steps Q start ran a.outcome a.output.items
+      (found ∙ ap outcome_of is) end
+      (text ∙ ap (λ x. messages_text x ++ text_of facts kept.files) all ∙ ap (λ (x : Held). messages_text (run_messages options facts moment old.files) ++ text_of facts x.files) same)
+      (subst (λ (x : Held). IfSome options.stop_after (λ n. length x.steps ≤ n)) same few))
+
+  pub stopped_answered : (n : ℕ) (said : List (List ℕ)) → options.stop_after ≡ Some n
+      → (length new.steps - length old.steps) + 1 ≤ run_work options facts moment old.files
+      → SaidPart (line_messages options facts moment old.files) (read_messages options facts old.files) said
+      → ((line : Line) → run_lines options facts old.files ≡ line ∷ [] → IsMended line moment old.files (drop (length old.steps) new.steps))
+      → {E : Type 0} (r : Result Answer E) → IfOk r (λ a. a.outcome ≡ Stopped n) → IfOk r (λ _. length kept.steps ≡ n)
+      → IfOk r (λ a. a.output.items ≡ messages_text (said ++ stopped_text n ∷ []) ++ text_of facts kept.files)
+      → IfOk r (λ a. IsAnswered options facts moment old.files a.outcome a.output.items)
+  stopped_answered n said limit bound part mended (Err f) found count text = tt
+  stopped_answered n said limit bound part mended (Ok a) found count text =
+      subst (λ x. IsAnswered options facts moment old.files x a.output.items) (sym found)
+      (stopped_run options facts moment old.files new.files old.steps new.steps Q start ran n a.output.items said limit
+      (ap (λ (x : Held). length x.steps) (sym same) ∙ count) bound part
+      (text ∙ ap (λ (x : Held). messages_text (said ++ stopped_text n ∷ []) ++ text_of facts x.files) same) mended)
+
+-- the same over a tree that is another by name alone
+pub over_same : (options : Options) (facts : Values) (moment : ℕ) (a b : Held) → a ≡ b → {E : Type 0} (r : Result Answer E)
+    → IfOk r (λ x. IsAnswered options facts moment a.files x.outcome x.output.items) → IfOk r (λ x. IsAnswered options facts moment b.files x.outcome x.output.items)
+over_same options facts moment a b same r h = subst (λ (v : Held). IfOk r (λ x. IsAnswered options facts moment v.files x.outcome x.output.items)) same h
+
+-- without a limit any number of steps is within it
+pub unlimited : (limit : Option ℕ) (n : ℕ) → limit ≡ None → {E : Type 0} (r : Result Answer E) → IfOk r (λ _. IfSome limit (λ m. n ≤ m))
+unlimited None n is (Ok a) = tt
+unlimited None n is (Err f) = tt
+unlimited (Some m) n is r = cc
+
+-- with one the steps are within it where they are no more
+pub limited : (limit : Option ℕ) (most n : ℕ) → limit ≡ Some most → {E : Type 0} (r : Result Answer E) → IfOk r (λ _. n ≤ most) → IfOk r (λ _. IfSome limit (λ m. n ≤ m))
+limited limit most n is r h = subst (λ (x : Option ℕ). IfOk r (λ _. IfSome x (λ m. n ≤ m))) (sym is) h

@@ -1,3 +1,4 @@
-mod MessageLaws
-mod AnswerLaws
-mod WrittenLaws
+pub mod AnswerLaws
+pub mod MessageLaws
+pub mod RunLaws
+pub mod WrittenLaws

@@ -1,19 +1,26 @@
 -- What the program writes for words and an input, and how it ends.
-use Rattle.std.specs.Prelude.{◌≡◌, ℕ, ◌<◌, ◌≤◌, Bool, true, false, List, [], ◌∷◌, ◌++◌, length, take, codes, Option}
+use Rattle.std.specs.Prelude.{◌≡◌, ℕ, ◌<◌, ◌≤◌, List, [], ◌∷◌, ◌++◌, length, take, codes, Option, Some, None, IfSome}
 use Rattle.std.specs.List.{flat_map, slice_get}
 use Rattle.std.specs.Option.{option_map_or}
 use Rattle.std.specs.Fmt.{decimal}
 use Rattle.std.specs.Io.KnownBytes.{Appends}
 use Rattle.pv_text.specs.Facts.{Values}
-use Rattle.pv_steps.specs.Trees.{Files, IsTree}
-use Rattle.pv_image.specs.declared.reading.Image.{Image}
+use Rattle.pv_steps.specs.declared.step.Step.{Step}
+use Rattle.pv_steps.specs.Trees.{Files}
+use Rattle.pv_steps.specs.Runs.{Along, after_all}
+use Rattle.pv_lines.specs.declared.line.Line.{Line}
+use Rattle.pv_create.specs.OnWay.{Partway, IsMended}
+use Rattle.pv_words.specs.declared.options.Options.{Options}
 use Rattle.pv_image.specs.declared.fault.ImageFault.{ImageFault}
 use Rattle.pv_image.specs.declared.fault.ImageFault.TheVariants as fault
 use Rattle.pv_image.specs.Images.{IsImage, HasImageFault}
 use Rattle.pv_image.specs.Spelling.{text_of}
 use Rattle.provision_run.specs.declared.outcome.Outcome.{Outcome}
 use Rattle.provision_run.specs.declared.outcome.Outcome.TheVariants.{Done, ConfigInvalid, NotCarriedOut, Usage, BadImage, NoFreeId, Memory, ReadFault, WriteFault, Stopped}
-use Rattle.provision_run.specs.Words.{has_meaning}
+use Rattle.provision_run.specs.declared.run.RunEnd.{RunEnd}
+use Rattle.provision_run.specs.declared.run.RunEnd.TheVariants as end
+use Rattle.provision_run.specs.Words.{meaning, moment_of}
+use Rattle.provision_run.specs.Whole.{run_lines, final, read_messages, line_messages, run_messages, run_end, run_work}
 
 -- the status with which the program ends
 abbrev pub status_of : Outcome → ℕ
@@ -54,6 +61,52 @@ bad_image_text (fault.NoParent n) = at_line n (codes "NoParent")
 bad_image_text (fault.Truncated n) = at_line n (codes "Truncated")
 bad_image_text fault.Memory = []
 
+-- ---- whole runs
+
+-- the outcome of a run that was not stopped
+abbrev pub outcome_of : RunEnd → Outcome
+outcome_of end.Done = Done
+outcome_of end.ConfigInvalid = ConfigInvalid
+outcome_of end.NotCarriedOut = NotCarriedOut
+outcome_of (end.NoFreeId name) = NoFreeId name
+
+abbrev pub outcome : Options → Values → ℕ → Files → Outcome
+outcome options facts moment t = outcome_of (run_end options facts moment t)
+
+-- all that it says, and then the image of the tree that it leaves, with the facts of the input
+abbrev pub output : Options → Values → ℕ → Files → List ℕ
+output options facts moment t = messages_text (run_messages options facts moment t) ++ text_of facts (final options facts moment t)
+
+-- a run that was not stopped: how it ended and what it has written; legal steps lead to the tree that it leaves, no
+-- more than the limit where one was given
+pub record IsWhole (options : Options) (facts : Values) (moment : ℕ) (t : Files) (found : Outcome) (out : List ℕ) : Type 0 where
+  pub end : found ≡ outcome options facts moment t
+  pub text : out ≡ output options facts moment t
+  pub steps : List Step
+  pub way : Along (Partway (run_lines options facts t) moment t) t steps moment
+  pub reached : final options facts moment t ≡ after_all t steps moment
+  pub within : IfSome options.stop_after (λ n. length steps ≤ n)
+
+-- ---- stopped runs
+
+abbrev pub stopped_text : ℕ → List ℕ
+stopped_text n = codes "stopped after " ++ decimal n ++ codes " steps"
+
+-- what a run has written that was stopped after n steps, which are fewer than the most that it takes: a front part of
+-- what it says, which has at least what is said in reading, that it was stopped, and the image of the tree after the n
+-- steps; and if there is one line alone, a whole run from that tree mends it
+pub record IsStopped (options : Options) (facts : Values) (moment : ℕ) (t : Files) (n : ℕ) (out : List ℕ) : Type 0 where
+  pub limit : options.stop_after ≡ Some n
+  pub fewer : n < run_work options facts moment t
+  pub steps : List Step
+  pub count : length steps ≡ n
+  pub way : Along (Partway (run_lines options facts t) moment t) t steps moment
+  pub told : ℕ
+  pub text : out
+      ≡ messages_text (read_messages options facts t ++ take told (line_messages options facts moment t) ++ stopped_text n ∷ [])
+      ++ text_of facts (after_all t steps moment)
+  pub mended : (line : Line) → run_lines options facts t ≡ line ∷ [] → IsMended line moment t steps
+
 -- ---- answers
 
 -- the most bytes that an input may have
@@ -66,45 +119,44 @@ IsRefused input fault.TooLong = most_bytes < length input
 IsRefused input fault.Memory = ⊥
 IsRefused input f = (length input ≤ most_bytes) × HasImageFault input f
 
--- the text is some messages, and then the image of a tree, with the facts of the input
-pub record IsPrinted (input out : List ℕ) : Type 0 where
+-- the whole output of a run over a tree, with the outcome
+abbrev pub IsAnswered : Options → Values → ℕ → Files → Outcome → List ℕ → Type 0
+IsAnswered options facts moment t (Stopped n) out = IsStopped options facts moment t n out
+IsAnswered options facts moment t found out = IsWhole options facts moment t found out
+
+-- the input is the image of a tree, and this the output of a run over it
+pub record IsRun (options : Options) (clock : ℕ) (input : List ℕ) (found : Outcome) (out : List ℕ) : Type 0 where
   pub facts : Values
-  pub before : Files
-  pub image : IsImage input facts before
+  pub tree : Files
+  pub image : IsImage input facts tree
   pub fits : length input ≤ most_bytes
-  pub texts : List (List ℕ)
-  pub after : Files
-  pub tree : IsTree after
-  pub text : out ≡ messages_text texts ++ text_of facts after
-
--- the whole output of a run over an image
-abbrev pub IsAnswered : Image → Outcome → List ℕ → Type 0
-IsAnswered image Done out = (texts : List (List ℕ)) × (after : Files) × IsTree after × (out ≡ messages_text texts ++ text_of image.facts after)
-IsAnswered image ConfigInvalid out = (texts : List (List ℕ)) × (after : Files) × IsTree after × (out ≡ messages_text texts ++ text_of image.facts after)
-IsAnswered image outcome out = ⊥
-
--- the whole output that belongs to an input and an outcome
-abbrev pub IsAnswer : List ℕ → Outcome → List ℕ → Type 0
-IsAnswer input (BadImage f) out = IsRefused input f × (out ≡ message (bad_image_text f))
-IsAnswer input Done out = IsPrinted input out
-IsAnswer input ConfigInvalid out = IsPrinted input out
-IsAnswer input outcome out = ⊥
+  pub answered : IsAnswered options facts (moment_of options clock) tree found out
 
 -- an outcome that has an output of its own, unlike want of memory and the failures of the two ends
 abbrev pub IsOwn : Outcome → Type 0
 IsOwn Memory = ⊥
 IsOwn ReadFault = ⊥
 IsOwn WriteFault = ⊥
-IsOwn outcome = Unit {0}
+IsOwn found = Unit {0}
 
--- the whole output that belongs to words, an input and an outcome
-abbrev pub HasOutput : List (List ℕ) → List ℕ → Outcome → List ℕ → Type 0
-HasOutput words input Usage out = (has_meaning words ≡ false) × (out ≡ message (codes "usage"))
-HasOutput words input outcome out = (has_meaning words ≡ true) × IsAnswer input outcome out
+-- the whole output that belongs to an input and an outcome
+abbrev pub IsAnswer : Options → ℕ → List ℕ → Outcome → List ℕ → Type 0
+IsAnswer options clock input (BadImage f) out = IsRefused input f × (out ≡ message (bad_image_text f))
+IsAnswer options clock input Usage out = ⊥
+IsAnswer options clock input found out = IsRun options clock input found out
+
+-- words without a meaning have the one message
+abbrev pub HasOutputBy : Option Options → ℕ → List ℕ → Outcome → List ℕ → Type 0
+HasOutputBy None clock input found out = (found ≡ Usage) × (out ≡ message (codes "usage"))
+HasOutputBy (Some options) clock input found out = IsAnswer options clock input found out
+
+-- the whole output that belongs to words, the clock, an input and an outcome
+abbrev pub HasOutput : List (List ℕ) → ℕ → List ℕ → Outcome → List ℕ → Type 0
+HasOutput words clock input found out = IsOwn found × HasOutputBy (meaning words) clock input found out
 
 -- what a call wrote: the whole output, a front part of some output after a failed write, or nothing
-abbrev pub HasWritten : List (List ℕ) → List ℕ → Outcome → Option (List ℕ) → Option (List ℕ) → Type 0
-HasWritten words input WriteFault old new = (outcome : Outcome) × (out : List ℕ) × HasOutput words input outcome out × ((k : ℕ) × Appends old new (take k out))
-HasWritten words input ReadFault old new = Appends old new []
-HasWritten words input Memory old new = Appends old new []
-HasWritten words input outcome old new = (out : List ℕ) × HasOutput words input outcome out × Appends old new out
+abbrev pub HasWritten : List (List ℕ) → ℕ → List ℕ → Outcome → Option (List ℕ) → Option (List ℕ) → Type 0
+HasWritten words clock input WriteFault old new = (found : Outcome) × (out : List ℕ) × HasOutput words clock input found out × ((k : ℕ) × Appends old new (take k out))
+HasWritten words clock input ReadFault old new = Appends old new []
+HasWritten words clock input Memory old new = Appends old new []
+HasWritten words clock input found old new = (out : List ℕ) × HasOutput words clock input found out × Appends old new out

@@ -1,2 +1,3 @@
 pub mod Words
+pub mod Whole
 pub mod Answers

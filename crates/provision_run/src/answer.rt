@@ -1,19 +1,21 @@
 //! What a run says, from the words and the bytes of its input.
-ghost use Rattle.std.specs.Prelude.{◌≡◌, ◌≤◌, ◌↔◌, ◌++◌, true, false, map, string_bytes, length, IfOk, IfSome, IsErrOf, if◌then◌else◌};
+ghost use Rattle.std.specs.Prelude.{◌≡◌, ◌≢◌, ◌≤◌, ◌↔◌, ◌++◌, ◌∷◌, [], true, None, map, string_bytes, length, IfOk, IfSome, IsErrOf, OnOk, OnErr};
 ghost use Rattle.pv_image.specs.Spelling.{text_of};
 ghost use Rattle.pv_io.specs.Faults.{HasRisen};
-ghost use Rattle.provision_run.specs.Words.{has_meaning};
-ghost use Rattle.provision_run.specs.Answers.{HasOutput, IsAnswer, IsAnswered, IsOwn, IsRefused, message, messages_text, bad_image_text, most_bytes};
+ghost use Rattle.provision_run.specs.Words.{is_built, meaning, moment_of};
+ghost use Rattle.provision_run.specs.Answers.{HasOutput, IsAnswer, IsAnswered, IsOwn, IsRefused, message, messages_text, bad_image_text, stopped_text, outcome_of, most_bytes};
 ghost use Rattle.provision_run.specs.declared.answer.NoAnswer.TheVariants.{Memory, ReadFault};
 
-use crate::message::{add_message, bad_image, print_messages};
+use crate::message::{add_message, bad_image, print_messages, say_stopped};
 use crate::outcome::Outcome;
-use crate::run::run_on_tree;
-use crate::words::are_known;
+use crate::run::{RunEnd, run_on_tree};
+use crate::words::meaning;
 use pv_image::{Image, ImageFault, read_image, write_image};
 use pv_io::{ReadAllFault, Source, read_all};
 use pv_steps::TreeFault;
-use pv_text::Messages;
+use pv_text::{Facts, Messages};
+use pv_tree::{Fused, MemTree};
+use pv_words::{Options, WordsFault};
 use std::alloc::{AllocError, AllocFailed, Global};
 
 /// How a run ends, with its whole output.
@@ -65,51 +67,180 @@ fn refuse(alloc: Global, fault: ImageFault) -> Result<Answer, AllocError>
     one_message(alloc, Outcome::BadImage(fault), &text)
 }
 
-/// The messages and the image of a tree that was worked on.
+/// The outcome of a run that was not stopped.
+fn outcome_of(end: RunEnd) -> Outcome
+    ensures { result ≡ outcome_of end }
+{
+    match end {
+        RunEnd::Done => Outcome::Done,
+        RunEnd::ConfigInvalid => Outcome::ConfigInvalid,
+        RunEnd::NotCarriedOut => Outcome::NotCarriedOut,
+        RunEnd::NoFreeId(name) => Outcome::NoFreeId(name),
+    }
+}
+
+/// The messages of a run and the image of its tree.
 fn finish(
     alloc: Global,
-    valid: bool,
+    outcome: Outcome,
     messages: &Messages,
-    image: &Image,
+    tree: &MemTree,
+    facts: &Facts,
 ) -> Result<Answer, AllocError>
-    ensures text { IfOk result (λ answer. answer.output.items ≡ messages_text messages.now ++ text_of image.now.facts image.now.tree.files) }
-    ensures outcome { IfOk result (λ answer. answer.outcome ≡ (if valid then Outcome.Done else Outcome.ConfigInvalid)) }
+    ensures text { IfOk result (λ answer. answer.output.items ≡ messages_text messages.now ++ text_of facts.now tree.now.files) }
+    ensures outcome { IfOk result (λ answer. answer.outcome ≡ outcome) }
 {
     let mut output = print_messages(alloc, messages)?;
-    let text = write_image(alloc, &image.tree, &image.facts)?;
+    let text = write_image(alloc, tree, facts)?;
     output.extend_from_slice(&text)?;
-    let outcome = if valid {
-        Outcome::Done
-    } else {
-        Outcome::ConfigInvalid
-    };
     Ok(Answer { outcome, output })
 }
 
-/// Runs over an image.
-fn run_over(alloc: Global, mut image: Image, moment: u64) -> Result<Answer, AllocError>
-    ensures { IfOk result (λ answer. IsAnswered image answer.outcome answer.output.items) }
+/// Runs over an image without a limit.
+fn run_whole(
+    alloc: Global,
+    image: Image,
+    options: &Options,
+    moment: u64,
+) -> Result<Answer, AllocError>
+    requires built { is_built options.now ≡ true }
+    requires limit { options.now.stop_after ≡ None }
+    requires fresh { image.tree.steps ≡ [] }
+    ensures { IfOk result (λ answer. IsAnswered options.entry.now image.facts moment image.tree.files answer.outcome answer.output.items) }
 {
+    let Image { mut tree, facts } = image;
     let mut messages = Messages::new(alloc);
-    match run_on_tree(alloc, &image.facts, moment, &mut image.tree, &mut messages) {
-        Ok(valid) => {
-            let _count = image.tree.len();
-            finish(alloc, valid, &messages, &image)
-        }
+    match run_on_tree(alloc, options, &facts, moment, &mut tree, &mut messages) {
+        Ok(end) => finish(alloc, outcome_of(end), &messages, &tree, &facts),
         Err(TreeFault::Memory) => Err(AllocError),
         Err(TreeFault::Failed) => unreachable!(),
     }
 }
 
+/// Runs over an image, and stops where a step more than the limit would be done.
+fn run_fused(
+    alloc: Global,
+    image: Image,
+    options: &Options,
+    limit: u64,
+    moment: u64,
+) -> Result<Answer, AllocError>
+    requires built { is_built options.now ≡ true }
+    requires limit { options.now.stop_after ≡ Some limit }
+    requires fresh { image.tree.steps ≡ [] }
+    ensures { IfOk result (λ answer. IsAnswered options.entry.now image.facts moment image.tree.files answer.outcome answer.output.items) }
+{
+    let Image { tree, facts } = image;
+    let mut fused = Fused::new(tree, Some(limit));
+    let mut messages = Messages::new(alloc);
+    match run_on_tree(alloc, options, &facts, moment, &mut fused, &mut messages) {
+        Ok(end) => end_within(
+            alloc,
+            limit,
+            outcome_of(end),
+            &messages,
+            fused.inner(),
+            &facts,
+        ),
+        Err(TreeFault::Memory) => Err(AllocError),
+        Err(TreeFault::Failed) => stop(alloc, limit, &mut messages, fused.inner(), &facts),
+    }
+}
+
+/// Ends a run that was not stopped: no more steps than the limit are told. More are never there, since no more pass.
+fn end_within(
+    alloc: Global,
+    limit: u64,
+    outcome: Outcome,
+    messages: &Messages,
+    tree: &MemTree,
+    facts: &Facts,
+) -> Result<Answer, AllocError>
+    ensures outcome { IfOk result (λ answer. answer.outcome ≡ outcome) }
+    ensures count { IfOk result (λ _. length tree.now.steps ≤ limit) }
+    ensures text { IfOk result (λ answer. answer.output.items ≡ messages_text messages.now ++ text_of facts.now tree.now.files) }
+{
+    if tree.step_count() as u64 > limit {
+        return Err(AllocError);
+    }
+    finish(alloc, outcome, messages, tree, facts)
+}
+
+/// Ends a run that was stopped at its limit: as many steps are told. Another number is never there, since nothing
+/// but the limit refuses a step.
+fn stop(
+    alloc: Global,
+    limit: u64,
+    messages: &mut Messages,
+    tree: &MemTree,
+    facts: &Facts,
+) -> Result<Answer, AllocError>
+    ensures outcome { IfOk result (λ answer. answer.outcome ≡ Outcome.Stopped limit) }
+    ensures count { IfOk result (λ _. length tree.now.steps ≡ limit) }
+    ensures text { IfOk result (λ answer. answer.output.items
+        ≡ messages_text (messages.old ++ stopped_text limit ∷ []) ++ text_of facts.now tree.now.files) }
+{
+    if tree.step_count() as u64 != limit {
+        return Err(AllocError);
+    }
+    say_stopped(alloc, limit, messages)?;
+    finish(alloc, Outcome::Stopped(limit), messages, tree, facts)
+}
+
+/// Runs over an image.
+fn run_over(
+    alloc: Global,
+    image: Image,
+    options: &Options,
+    clock: u64,
+) -> Result<Answer, AllocError>
+    requires built { is_built options.now ≡ true }
+    requires fresh { image.tree.steps ≡ [] }
+    ensures { IfOk result (λ answer. IsAnswered options.entry.now image.facts (moment_of options.entry.now clock) image.tree.files answer.outcome answer.output.items) }
+{
+    let moment = options.now.unwrap_or(clock);
+    match options.stop_after {
+        Some(limit) => run_fused(alloc, image, options, limit, moment),
+        None => run_whole(alloc, image, options, moment),
+    }
+}
+
 /// The answer to the bytes of an input.
-fn answer_bytes(alloc: Global, bytes: &[u8], moment: u64) -> Result<Answer, AllocError>
-    requires { length bytes.now ≤ most_bytes }
-    ensures { IfOk result (λ answer. IsAnswer bytes.now answer.outcome answer.output.items) }
+fn answer_bytes(
+    alloc: Global,
+    bytes: &[u8],
+    options: &Options,
+    clock: u64,
+) -> Result<Answer, AllocError>
+    requires built { is_built options.now ≡ true }
+    requires fits { length bytes.now ≤ most_bytes }
+    ensures { IfOk result (λ answer. IsAnswer options.entry.now clock bytes.now answer.outcome answer.output.items) }
 {
     match read_image(alloc, bytes) {
-        Ok(image) => run_over(alloc, image, moment),
+        Ok(image) => run_over(alloc, image, options, clock),
         Err(ImageFault::Memory) => Err(AllocError),
         Err(fault) => refuse(alloc, fault),
+    }
+}
+
+/// The answer to options and what a source has left.
+fn answer_source<S: Source>(
+    alloc: Global,
+    options: &Options,
+    clock: u64,
+    source: &mut S,
+) -> Result<Answer, NoAnswer>
+    requires built { is_built options.now ≡ true }
+    ensures output { IfOk result (λ answer. IfSome (S.left source.old)
+        (λ input. IsAnswer options.entry.now clock input answer.outcome answer.output.items)) }
+    ensures own { IfOk result (λ answer. IsOwn answer.outcome × (answer.outcome ≢ Outcome.Usage)) }
+    ensures cause { IsErrOf result NoAnswer.ReadFault → HasRisen (S.faults source.old) (S.faults source.new) }
+{
+    match read_all(alloc, source) {
+        Ok(bytes) => Ok(answer_bytes(alloc, &bytes, options, clock)?),
+        Err(ReadAllFault::TooLong) => Ok(refuse(alloc, ImageFault::TooLong)?),
+        Err(ReadAllFault::ReadFault) => Err(NoAnswer::ReadFault),
+        Err(ReadAllFault::Memory) => Err(NoAnswer::Memory),
     }
 }
 
@@ -117,24 +248,20 @@ fn answer_bytes(alloc: Global, bytes: &[u8], moment: u64) -> Result<Answer, Allo
 pub fn respond<S: Source>(
     alloc: Global,
     words: &[String],
-    moment: u64,
+    clock: u64,
     source: &mut S,
 ) -> Result<Answer, NoAnswer>
     ensures output { IfOk result (λ answer. IfSome (S.left source.old)
-        (λ input. HasOutput (map string_bytes words.entry.now) input answer.outcome answer.output.items)) }
+        (λ input. HasOutput (map string_bytes words.now) clock input answer.outcome answer.output.items)) }
     ensures own { IfOk result (λ answer. IsOwn answer.outcome) }
-    ensures usage { IfOk result (λ answer. (answer.outcome ≡ Outcome.Usage) ↔ (has_meaning (map string_bytes words.entry.now) ≡ false)) }
-    ensures known { IsErrOf result NoAnswer.ReadFault → has_meaning (map string_bytes words.entry.now) ≡ true }
+    ensures usage { IfOk result (λ answer. (answer.outcome ≡ Outcome.Usage) ↔ (meaning (map string_bytes words.now) ≡ None)) }
+    ensures known { IsErrOf result NoAnswer.ReadFault → meaning (map string_bytes words.now) ≢ None }
     ensures cause { IsErrOf result NoAnswer.ReadFault → HasRisen (S.faults source.old) (S.faults source.new) }
-    ensures unread { has_meaning (map string_bytes words.entry.now) ≡ false → source.new ≡ source.old }
+    ensures unread { meaning (map string_bytes words.now) ≡ None → source.new ≡ source.old }
 {
-    if !are_known(words) {
-        return Ok(one_message(alloc, Outcome::Usage, b"usage")?);
-    }
-    match read_all(alloc, source) {
-        Ok(bytes) => Ok(answer_bytes(alloc, &bytes, moment)?),
-        Err(ReadAllFault::TooLong) => Ok(refuse(alloc, ImageFault::TooLong)?),
-        Err(ReadAllFault::ReadFault) => Err(NoAnswer::ReadFault),
-        Err(ReadAllFault::Memory) => Err(NoAnswer::Memory),
+    match meaning(alloc, words) {
+        Ok(options) => answer_source(alloc, &options, clock, source),
+        Err(WordsFault::Usage) => Ok(one_message(alloc, Outcome::Usage, b"usage")?),
+        Err(WordsFault::Memory) => Err(NoAnswer::Memory),
     }
 }

@@ -2,8 +2,6 @@
 #![tactic(auto)]
 
 mod answer;
-mod directory;
-mod line;
 mod message;
 mod outcome;
 mod run;
@@ -13,4 +11,5 @@ mod top;
 mod words;
 
 pub use outcome::{Outcome, status};
+pub use run::{RunEnd, run_on_tree};
 pub use top::provision;

@@ -1,5 +1,5 @@
-ghost use Rattle.std.specs.Prelude.{◌≡◌, ◌++◌, IfOk, OnOk};
-ghost use Rattle.provision_run.specs.Answers.{message, messages_text, message_at, bad_image_text, at_line};
+ghost use Rattle.std.specs.Prelude.{◌≡◌, ◌++◌, ◌∷◌, [], IfOk, OnOk};
+ghost use Rattle.provision_run.specs.Answers.{message, messages_text, message_at, bad_image_text, at_line, stopped_text};
 
 use pv_image::ImageFault;
 use pv_text::Messages;
@@ -61,4 +61,23 @@ pub fn bad_image(alloc: Global, fault: ImageFault) -> Result<Vec<u8>, AllocError
         ImageFault::Truncated(n) => at_line(alloc, n, "Truncated"),
         ImageFault::Memory => Ok(Vec::new(alloc)),
     }
+}
+
+/// `stopped after N steps`.
+fn stopped_text(alloc: Global, count: u64) -> Result<Vec<u8>, AllocError>
+    ensures { IfOk result (λ text. text.items ≡ stopped_text count) }
+{
+    let mut text = Vec::from_slice(alloc, b"stopped after ")?;
+    let number = count.to_string(alloc)?;
+    text.extend_from_slice(number.as_bytes())?;
+    text.extend_from_slice(b" steps")?;
+    Ok(text)
+}
+
+/// Says that a run was stopped after so many steps.
+pub fn say_stopped(alloc: Global, count: u64, messages: &mut Messages) -> Result<(), AllocError>
+    ensures ok { OnOk result (messages.new ≡ messages.old ++ stopped_text count ∷ []) }
+{
+    let text = stopped_text(alloc, count)?;
+    messages.push(&text)
 }

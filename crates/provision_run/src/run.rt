@@ -1,111 +1,92 @@
-ghost use Rattle.std.specs.Prelude.{◌≡◌, ◌≤◌, IsErrOf, OnErr};
+ghost use Rattle.std.specs.Prelude.{◌≡◌, ◌≤◌, ◌∷◌, ◌++◌, [], true, drop, length, OnOk, IfOk, IsErrOf};
 ghost use Rattle.pv_io.specs.Faults.{HasRisen};
+ghost use Rattle.pv_text.specs.Said.{SaidPart};
+ghost use Rattle.pv_steps.specs.declared.tree.TreeFault.TheVariants.{Failed};
+ghost use Rattle.pv_steps.specs.Runs.{Ran};
+ghost use Rattle.pv_dress.specs.Asking.{asked};
+ghost use Rattle.pv_lines.specs.declared.line.Line.{Line as LineValue};
+ghost use Rattle.pv_create.specs.OnWay.{Partway, IsStepOfSome, IsMended};
+ghost use Rattle.provision_run.specs.Words.{is_built};
+ghost use Rattle.provision_run.specs.Whole.{run_lines, final, read_messages, line_messages, run_messages, end_of, is_uncarried, run_end, run_work};
 
-use crate::directory::{is_free, make_directory};
-use crate::line::{Unread, read_directory_line};
-use pv_path::{TreePath, child};
-use pv_steps::{Kind, Tree, TreeFault};
+use pv_conf::read_configuration;
+use pv_create::{Carried, create_run};
+use pv_path::{Bytes, TreePath};
+use pv_steps::{Tree, TreeFault};
 use pv_text::{Facts, Messages};
-use std::alloc::{AllocError, Global};
+use pv_words::Options;
+use std::alloc::Global;
 
-/// The one configuration file that is read for now.
-fn configuration_path(alloc: Global) -> Result<TreePath, AllocError> {
-    let etc = child(alloc, &TreePath::root(alloc), b"etc")?;
-    let folder = child(alloc, &etc, b"tmpfiles.d")?;
-    child(alloc, &folder, b"a.conf")
+/// How a run over a tree ended that was not stopped.
+#[derive(Debug, Drop)]
+pub enum RunEnd {
+    /// All that was asked for was done.
+    Done,
+    /// A line of the configuration was refused in reading; all others were done.
+    ConfigInvalid,
+    /// Something that was asked for could not be carried out.
+    NotCarriedOut,
+    /// No number was left for a user or a group of this name.
+    NoFreeId(Bytes),
 }
 
-/// The bytes of the configuration file, or none where no file stands there.
-fn read_configuration<T: Tree>(alloc: Global, tree: &T) -> Result<Vec<u8>, AllocError> {
-    let path = configuration_path(alloc)?;
-    match tree.look(&path) {
-        Some(node) => match node.kind {
-            Kind::File => Vec::from_slice(alloc, tree.bytes(&path)),
-            _ => Ok(Vec::new(alloc)),
-        },
-        None => Ok(Vec::new(alloc)),
-    }
-}
-
-/// Says that a line has a form that is not carried out yet.
-fn say_not_built(alloc: Global, messages: &mut Messages, number: usize) -> Result<(), AllocError> {
-    let text = format!(in alloc; "/etc/tmpfiles.d/a.conf:{number}: NotBuilt")?;
-    messages.push(text.as_bytes())
-}
-
-/// Carries out one line, and answers whether it could.
-fn carry_out<T: Tree>(
-    alloc: Global,
-    tree: &mut T,
-    line: &[u8],
-    facts: &Facts,
-    now: u64,
-) -> Result<bool, TreeFault>
-    ensures cause { IsErrOf result TreeFault.Failed → HasRisen (T.faults tree.old) (T.faults tree.new) }
-    ensures never_falls { T.faults tree.old ≤ T.faults tree.new }
-{
-    let line = match read_directory_line(alloc, line, facts) {
-        Ok(line) => line,
-        Err(Unread::Form) => return Ok(false),
-        Err(Unread::Memory) => return Err(TreeFault::Memory),
-    };
-    if !is_free(alloc, tree, &line.path)? {
-        return Ok(false);
-    }
-    make_directory(alloc, tree, &line, now)?;
-    Ok(true)
-}
-
-/// A text without the line feed at its end.
-fn without_last_feed(text: &[u8]) -> &[u8] {
-    match text {
-        [front @ .., b'\n'] => front,
-        _ => text,
-    }
-}
-
-/// Carries out the lines of the configuration in their order, and answers whether each could be.
+/// Reads the configuration of a tree and carries out its lines (systemd-tmpfiles(8)). The options are such that
+/// all of it is built.
 pub fn run_on_tree<T: Tree>(
     alloc: Global,
+    options: &Options,
     facts: &Facts,
     moment: u64,
     tree: &mut T,
     messages: &mut Messages,
-) -> Result<bool, TreeFault>
-    ensures cause { IsErrOf result TreeFault.Failed → HasRisen (T.faults tree.old) (T.faults tree.new) }
+) -> Result<RunEnd, TreeFault>
+    requires built { is_built options.now ≡ true }
+
+    // What a whole run leaves, stamps and staging names included, what it says and how it ends.
+    ensures ok { OnOk result (T.state tree.new ≡ final options.entry.now facts.now moment (T.state tree.old)) }
+    ensures said { OnOk result (messages.new
+        ≡ messages.old ++ run_messages options.entry.now facts.now moment (T.state tree.old)) }
+    ensures end { IfOk result (λ end. end ≡ run_end options.entry.now facts.now moment (T.state tree.old)) }
+
+    // What any run has said and done, whatever it answers.
+    ensures part { SaidPart (run_messages options.entry.now facts.now moment (T.state tree.old))
+        messages.old messages.new }
+    // Where a step was refused, the configuration was read and all said of it.
+    ensures read { IsErrOf result Failed → SaidPart (line_messages options.entry.now facts.now moment (T.state tree.old))
+        (messages.old ++ read_messages options.entry.now facts.now (T.state tree.old)) messages.new }
+    ensures ran { Ran (Partway (run_lines options.entry.now facts.now (T.state tree.old)) moment (T.state tree.old))
+        (IsStepOfSome (run_lines options.entry.now facts.now (T.state tree.old))) moment
+        (T.state tree.old) (T.steps tree.old) (T.state tree.new) (T.steps tree.new) }
+    ensures bound { asked result (T.steps tree.old) (T.steps tree.new)
+        ≤ run_work options.entry.now facts.now moment (T.state tree.old) }
     ensures never_falls { T.faults tree.old ≤ T.faults tree.new }
+    ensures cause { IsErrOf result Failed → HasRisen (T.faults tree.old) (T.faults tree.new) }
+
+    // The stop law for a configuration of one line.
+    ensures mended { (line : LineValue) → run_lines options.entry.now facts.now (T.state tree.old) ≡ line ∷ []
+        → IsMended line moment (T.state tree.old) (drop (length (T.steps tree.old)) (T.steps tree.new)) }
 {
-    let configuration = read_configuration(alloc, tree)?;
-    if configuration.is_empty() {
-        return Ok(true);
-    }
-    let lines = lines_of(alloc, without_last_feed(&configuration))?;
-    carry_out_all(alloc, tree, &lines, facts, moment, messages)
+    // Whatever the run answers, it began with a tree.
+    let _root = tree.look(&TreePath::root(alloc));
+    let read = read_configuration(alloc, tree, &options.words, facts, messages)?;
+    let carried = create_run(alloc, tree, &read.lines, moment, messages)?;
+    Ok(end_of(carried, read.missing, read.invalid))
 }
 
-/// The lines of a text, between its line feeds.
-fn lines_of(alloc: Global, text: &[u8]) -> Result<Vec<&[u8]>, AllocError> {
-    text.split(|byte| *byte == b'\n').collect(alloc)
-}
-
-/// Carries out lines in their order, and answers whether each could be.
-fn carry_out_all<T: Tree>(
-    alloc: Global,
-    tree: &mut T,
-    lines: &[&[u8]],
-    facts: &Facts,
-    moment: u64,
-    messages: &mut Messages,
-) -> Result<bool, TreeFault>
-    ensures cause { IsErrOf result TreeFault.Failed → HasRisen (T.faults tree.old) (T.faults tree.new) }
-    ensures never_falls { T.faults tree.old ≤ T.faults tree.new }
+/// How a run ended, by what was carried out and read.
+fn end_of(carried: Carried, missing: bool, invalid: bool) -> RunEnd
+    ensures { result ≡ end_of (is_uncarried carried missing) invalid }
 {
-    let mut valid = true;
-    for (i, line) in lines.iter().enumerate() {
-        if !carry_out(alloc, tree, line, facts, moment)? {
-            say_not_built(alloc, messages, i + 1)?;
-            valid = false;
+    match carried {
+        Carried::NotCarriedOut => RunEnd::NotCarriedOut,
+        Carried::Whole => {
+            if missing {
+                RunEnd::NotCarriedOut
+            } else if invalid {
+                RunEnd::ConfigInvalid
+            } else {
+                RunEnd::Done
+            }
         }
     }
-    Ok(valid)
 }

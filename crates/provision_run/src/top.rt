@@ -1,6 +1,6 @@
-ghost use Rattle.std.specs.Prelude.{◌≡◌, ◌≤◌, ◌⊎◌, false, map, string_bytes, IfSome};
+ghost use Rattle.std.specs.Prelude.{◌≡◌, ◌⊎◌, None, map, string_bytes, IfSome};
 ghost use Rattle.pv_io.specs.Faults.{HasRisen};
-ghost use Rattle.provision_run.specs.Words.{has_meaning};
+ghost use Rattle.provision_run.specs.Words.{meaning};
 ghost use Rattle.provision_run.specs.Answers.{HasWritten};
 
 use crate::answer::{NoAnswer, respond};
@@ -17,15 +17,15 @@ pub fn provision<S: Source, K: Sink>(
     source: &mut S,
     sink: &mut K,
 ) -> Outcome
-    // Over a source that tells its bytes: what was written belongs to the words, the input and the outcome.
+    // Over a source that tells its bytes: what was written belongs to the words, the clock, the input and the outcome.
     ensures written { IfSome (S.left source.old)
-        (λ input. HasWritten (map string_bytes words.entry.now) input result (K.written sink.old) (K.written sink.new)) }
+        (λ input. HasWritten (map string_bytes words.now) clock_micros input result (K.written sink.old) (K.written sink.new)) }
 
     // Usage comes exactly for words without a meaning, and then the source is not read.
-    ensures usage { result ≡ Outcome.Usage → has_meaning (map string_bytes words.entry.now) ≡ false }
-    ensures known { has_meaning (map string_bytes words.entry.now) ≡ false →
+    ensures usage { result ≡ Outcome.Usage → meaning (map string_bytes words.now) ≡ None }
+    ensures known { meaning (map string_bytes words.now) ≡ None →
         (result ≡ Outcome.Usage) ⊎ ((result ≡ Outcome.WriteFault) ⊎ (result ≡ Outcome.Memory)) }
-    ensures unread { has_meaning (map string_bytes words.entry.now) ≡ false → source.new ≡ source.old }
+    ensures unread { meaning (map string_bytes words.now) ≡ None → source.new ≡ source.old }
 
     // The two ends are blamed only where their counts of faults rose.
     ensures read_fault { result ≡ Outcome.ReadFault → HasRisen (S.faults source.old) (S.faults source.new) }

@@ -1,1 +1,9 @@
 pub mod WearLaws
+pub mod Settling
+pub mod Cutting
+pub mod Puts
+pub mod PartChanges
+pub mod NodeChanges
+pub mod Absorbing
+pub mod Repeating
+pub mod OperationLaws

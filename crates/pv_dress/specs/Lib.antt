@@ -5,3 +5,7 @@ pub mod Asking
 pub mod EditLaws
 pub mod AskingLaws
 pub mod DressLaws
+pub mod Nodes
+pub mod Masks
+pub mod Operations
+pub mod Reasons

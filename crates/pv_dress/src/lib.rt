@@ -2,12 +2,28 @@
 #![tactic(auto)]
 
 mod attributes;
+mod bare;
+mod laws;
+mod mask;
+mod operation;
+mod run;
 mod same;
 mod tried;
 mod wear;
 
 pub use attributes::Dress;
+pub use bare::{Bare, Body};
+pub use laws::{
+    a_first_renewal_absorbs_what_was_there, a_mask_takes_nothing_from_its_own_mode,
+    an_erasure_without_a_make_leaves_nothing, first_operations_are_absorbed,
+    objects_are_compared_without_stamps,
+};
+pub use mask::{masked_special, set_masked_base};
+pub use operation::{Change, Guard, Operation, Test};
+pub use run::run_operations;
 pub use wear::dress;
 
+#[cfg(test)]
+mod run_tests;
 #[cfg(test)]
 mod tests;

@@ -3,6 +3,7 @@ ghost use Rattle.std.specs.Prelude.{◌≤◌};
 use super::*;
 use crate::same::is_same_acl;
 use pv_acl::{Acl, Named, Part, Perm, Who};
+use pv_steps::{Kind, Node, Stamps};
 use std::alloc::Global;
 use std::test::Fail;
 
@@ -68,5 +69,35 @@ fn dresses_are_copied(rt: HostRuntime) -> Result<(), Fail> {
     let copy = dress.copy()?;
     assert_eq!(rt; (copy.uid, copy.gid, copy.special), (1000, 4, 2));
     assert!(rt; is_same_acl(&copy.acl, &dress.acl));
+    Ok(())
+}
+
+#[test]
+fn stamps_are_left_out(rt: HostRuntime) -> Result<(), Fail> {
+    let node = Node {
+        kind: Kind::BlockDevice,
+        special: 2,
+        uid: 1000,
+        gid: 4,
+        acl: Acl::of_mode(rt.alloc(), 0o640),
+        stamps: Stamps {
+            access: 1,
+            birth: 2,
+            change: 3,
+            modify: 4,
+        },
+        major: 8,
+        minor: 1,
+    };
+    let bare = Bare::of(rt.alloc(), &node, b"")?.copy()?;
+    assert_eq!(rt;
+        (bare.body.kind, bare.body.major, bare.body.minor),
+        (Kind::BlockDevice, 8, 1)
+    );
+    assert_eq!(rt;
+        (bare.dress.uid, bare.dress.gid, bare.dress.special),
+        (1000, 4, 2)
+    );
+    assert!(rt; bare.body.payload.is_empty() && is_same_acl(&bare.dress.acl, &node.acl));
     Ok(())
 }

@@ -5,7 +5,8 @@ use Rattle.std.proofs.Math.Seq.{drop-cons, take-suc}
 use Rattle.pv_path.specs.Paths.{Path}
 use Rattle.pv_steps.specs.Trees.{Files}
 use Rattle.pv_layers.specs.Folders.{found_in}
-use Rattle.pv_layers.specs.Choices.{Choice, nothing, followed, choice_of, choice_of_names, choice_of_next, choice_of_words, SaidPart}
+use Rattle.pv_layers.specs.Choices.{Choice, nothing, followed, choice_of, choice_of_names, choice_of_next, choice_of_words}
+use Rattle.pv_text.specs.Said.{SaidPart}
 
 or_assoc : (a b c : Bool) → ((a || b) || c) ≡ (a || (b || c))
 or_assoc true b c = refl

@@ -75,7 +75,3 @@ choice_of_words files places before (word ∷ words) =
 abbrev pub chosen : Files → Tool → List (List ℕ) → Choice
 chosen files tool [] = choice_of_names files (folders tool) (conf_names files (folders tool))
 chosen files tool (word ∷ words) = choice_of_words files (folders tool) [] (word ∷ words)
-
--- what a call said before it ended: after the old messages the first of all those that were to be said
-abbrev pub SaidPart : List (List ℕ) → List (List ℕ) → List (List ℕ) → Type 0
-SaidPart all old new = (n : ℕ) × (new ≡ old ++ take n all)

@@ -1,7 +1,8 @@
 ghost use Rattle.std.specs.Prelude.{◌≡◌, ◌∷◌, ◌++◌, [], ◌||◌, codes, IfOk, OnOk, OnErr};
 ghost use Rattle.pv_path.specs.Printing.{printed, printed_path};
 ghost use Rattle.pv_layers.specs.Folders.{conf_names, found_in};
-ghost use Rattle.pv_layers.specs.Choices.{chosen, choice_of, choice_of_names, choice_of_word, choice_of_next, choice_of_words, SaidPart};
+ghost use Rattle.pv_layers.specs.Choices.{chosen, choice_of, choice_of_names, choice_of_word, choice_of_next, choice_of_words};
+ghost use Rattle.pv_text.specs.Said.{SaidPart};
 
 use crate::folders::{conf_names, folders};
 use crate::found::{Found, found_in};

@@ -3,3 +3,4 @@ pub mod Escapes
 pub mod Specifiers
 pub mod Fields
 pub mod SameFacts
+pub mod Said

@@ -1,4 +1,4 @@
-ghost use Rattle.std.specs.Prelude.{◌≡◌, ℕ, ◌≤◌, List, [], ◌∷◌, ◌++◌, Some, None, IfOk, OnOk, OnErr, IsErrOf, slice_get, filter_map, map};
+ghost use Rattle.std.specs.Prelude.{◌≡◌, ℕ, ◌≤◌, List, [], ◌∷◌, ◌++◌, length, Some, None, IfOk, OnOk, OnErr, IsErrOf, slice_get, filter_map, map};
 ghost use Rattle.std.specs.Option.{option_copied, option_to_list};
 ghost use Rattle.std.specs.FinMap as fin;
 ghost use Rattle.pv_path.specs.Paths.{parent_of};
@@ -112,6 +112,13 @@ impl MemTree {
         ensures tree { IsTree self.now.files }
     {
         self.entries.len()
+    }
+
+    /// How many steps were done since the tree was made. It takes no memory.
+    pub fn step_count(&self) -> usize
+        ensures { result ≡ length self.now.steps }
+    {
+        self.steps.len()
     }
 
     /// The entry at a place in the order of the paths, counted from 0, or nothing past the end.

@@ -1,6 +1,6 @@
 ghost use Rattle.std.specs.Prelude.{◌≡◌, ◌<◌, ◌≤◌, ◌^◌, length, IfOk};
 ghost use Rattle.std.specs.Option.{option_or};
-ghost use Rattle.pv_steps.specs.Trees.{places};
+ghost use Rattle.pv_steps.specs.Trees.{places, IsTree};
 ghost use Rattle.pv_steps.specs.Refusal.{why_blocked};
 ghost use Rattle.pv_walk.specs.Walking.{walked, unrefused};
 ghost use Rattle.pv_walk.specs.Seeing.{seen_of, seen_kind, seen_owner, why_owner, if_absent};
@@ -38,7 +38,8 @@ pub fn walk<T: Tree>(
     made: u32,
 ) -> Result<Walked, AllocError>
     requires { length path.now < 2 ^ 32 }
-    ensures { IfOk result (λ w. w ≡ walked (places (T.state tree.now)) path.now made) }
+    ensures walked { IfOk result (λ w. w ≡ walked (places (T.state tree.now)) path.now made) }
+    ensures tree { IsTree (T.state tree.now) }
 {
     let mut at = TreePath::root(alloc);
     let mut above = 0;
@@ -63,7 +64,8 @@ pub fn walk<T: Tree>(
 
 /// What stands at a path.
 fn seen_at<T: Tree>(tree: &T, at: &TreePath) -> Option<Seen>
-    ensures { result ≡ seen_of (places (T.state tree.now) at.now) }
+    ensures seen { result ≡ seen_of (places (T.state tree.now) at.now) }
+    ensures tree { IsTree (T.state tree.now) }
 {
     match tree.look(at) {
         Some(node) => Some(Seen {

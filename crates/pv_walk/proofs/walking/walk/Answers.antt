@@ -9,15 +9,15 @@ use Rattle.pv_walk.specs.declared.walking.Walked.TheVariants.{Refused}
 use Rattle.pv_walk.proofs.WalkLaws.{range_next, range_end, walked_end, why_end, walked_refused, walked_next, why_here, owner_before, owner_above-next}
 use Rattle.pv_walk.proofs.walking.walk.Goals as goal
 
-pub returns-in-Some : goal.returns-in-Some
-returns-in-Some g c =
+pub returns-in-Some-clause-walked : goal.returns-in-Some-clause-walked
+returns-in-Some-clause-walked g c =
     let t = places (g.T.Tree.state c.args.tree.now) in
     let path = c.args.path.now in
     let last = c.args.made in
     let k = c.loop-k.k in
     let below : k < length path = omega (arith, c.loop-k-test.true, ap length c.loop-k.invariant.names) in
     let within : k ≤ length path = omega arith in
-    let seen = c.seen_at-place.ensures ∙ ap (λ p. seen_of (t p)) c.loop-k.invariant.at in
+    let seen = c.seen_at-place.ensures.seen ∙ ap (λ p. seen_of (t p)) c.loop-k.invariant.at in
     let found = why_here t path last k below c.seen_at-place.result c.loop-k.above c.owner_of-owner.result c.why_above.result seen c.loop-k.invariant.above c.owner_of-owner.ensures c.why_above.ensures in
     sym (c.loop-k.invariant.rest ∙ ap (walked_from t path last c.loop-k.absent) (range_next k (length path) within)
     ∙ walked_refused t path last c.loop-k.absent k (range_with_len (k + 1) (length path + 1 - (k + 1))) c.in-Some.why (found ∙ c.in-Some.is))
@@ -30,7 +30,7 @@ loop-k-preserved g c =
     let k = c.loop-k.k in
     let below : k < length path = omega (arith, c.loop-k-test.true, ap length c.loop-k.invariant.names) in
     let within : k ≤ length path = omega arith in
-    let seen = c.seen_at-place.ensures ∙ ap (λ p. seen_of (t p)) c.loop-k.invariant.at in
+    let seen = c.seen_at-place.ensures.seen ∙ ap (λ p. seen_of (t p)) c.loop-k.invariant.at in
     let found = why_here t path last k below c.seen_at-place.result c.loop-k.above c.owner_of-owner.result c.why_above.result seen c.loop-k.invariant.above c.owner_of-owner.ensures c.why_above.ensures in
     let absent : c.or_absent-absent.result ≡ option_or c.loop-k.absent (if_absent (seen_of (t (take k path))) k) = c.or_absent-absent.ensures ∙ ap (λ v. option_or c.loop-k.absent (if_absent v k)) seen in
     let item : c.name-item.result ≡ get_or path k c.name-item.result = c.name-item.is ∙ ap (λ v. get_or v k c.name-item.result) c.loop-k.invariant.names in
@@ -44,8 +44,8 @@ loop-k-preserved g c =
           ∙ ap (λ a. walked_from t path last a (range_with_len (k + 1) (length path + 1 - (k + 1)))) (sym absent);
     }
 
-pub returns-in-Some-why_owner : goal.returns-in-Some-why_owner
-returns-in-Some-why_owner g c =
+pub returns-in-Some-why_owner-clause-walked : goal.returns-in-Some-why_owner-clause-walked
+returns-in-Some-why_owner-clause-walked g c =
     let t = places (g.T.Tree.state c.args.tree.now) in
     let path = c.args.path.now in
     let last = c.args.made in
@@ -53,13 +53,13 @@ returns-in-Some-why_owner g c =
     let end : k ≡ length path = omega (arith, c.loop-k-test.false, c.loop-k.auto.k-end, ap length c.loop-k.invariant.names) in
     let within : k ≤ length path = omega arith in
     let here : c.len-last.result ≡ k = c.len-last.ensures.count ∙ sym end in
-    let seen = c.seen_at-place-2.ensures ∙ ap (λ p. seen_of (t p)) c.loop-k.invariant.at in
+    let seen = c.seen_at-place-2.ensures.seen ∙ ap (λ p. seen_of (t p)) c.loop-k.invariant.at in
     let found = why_end t path last k end c.seen_at-place-2.result c.loop-k.above c.owner_of.result c.why_owner.result seen c.loop-k.invariant.above c.owner_of.ensures c.why_owner.ensures in
     ap (λ v. Refused v c.in-Some-why_owner.why) here ∙ sym (c.loop-k.invariant.rest ∙ ap (walked_from t path last c.loop-k.absent) (range_next k (length path) within)
     ∙ walked_refused t path last c.loop-k.absent k (range_with_len (k + 1) (length path + 1 - (k + 1))) c.in-Some-why_owner.why (found ∙ c.in-Some-why_owner.is))
 
-pub returns : goal.returns
-returns g c =
+pub returns-clause-walked : goal.returns-clause-walked
+returns-clause-walked g c =
     let t = places (g.T.Tree.state c.args.tree.now) in
     let path = c.args.path.now in
     let last = c.args.made in
@@ -67,7 +67,7 @@ returns g c =
     let end : k ≡ length path = omega (arith, c.loop-k-test.false, c.loop-k.auto.k-end, ap length c.loop-k.invariant.names) in
     let within : k ≤ length path = omega arith in
     let here : c.len-last.result ≡ k = c.len-last.ensures.count ∙ sym end in
-    let seen = c.seen_at-place-2.ensures ∙ ap (λ p. seen_of (t p)) c.loop-k.invariant.at in
+    let seen = c.seen_at-place-2.ensures.seen ∙ ap (λ p. seen_of (t p)) c.loop-k.invariant.at in
     let found = why_end t path last k end c.seen_at-place-2.result c.loop-k.above c.owner_of.result c.why_owner.result seen c.loop-k.invariant.above c.owner_of.ensures c.why_owner.ensures in
     let absent : c.or_absent.result ≡ option_or c.loop-k.absent (if_absent (seen_of (t (take k path))) k) = c.or_absent.ensures ∙ (λ i. option_or c.loop-k.absent (if_absent (seen i) (here i))) in
     let none : range_with_len (k + 1) (length path + 1 - (k + 1)) ≡ [] = ap (λ n. range_with_len (n + 1) (length path + 1 - (n + 1))) end ∙ range_end (length path) in

@@ -1,0 +1,57 @@
+-- Laws of a run over a tree: what is said when it ends early, and a run that has done nothing.
+use Rattle.std.specs.Prelude.{◌≡◌, ℕ, ◌^◌, ◌<◌, List, [], ◌∷◌, ◌++◌, length, take, drop}
+use Rattle.std.specs.List.{AllByRecursion}
+use Rattle.std.proofs.Common.{zero, suc, refl, ap, subst, ◌∙◌, inl, append_assoc}
+use Rattle.pv_text.specs.Said.{SaidPart}
+use Rattle.pv_text.specs.Facts.{Values}
+use Rattle.pv_steps.specs.declared.step.Step.{Step}
+use Rattle.pv_steps.specs.Trees.{Files, IsTree}
+use Rattle.pv_steps.specs.Runs.{Ran}
+use Rattle.pv_steps.specs.RunLaws.{ran_none}
+use Rattle.pv_lines.specs.declared.line.Line.{Line}
+use Rattle.pv_lines.specs.Lines.{IsLine}
+use Rattle.pv_conf.specs.LineLists.{configured-lines}
+use Rattle.pv_create.specs.OnWay.{Partway, IsStepOfSome, IsMended, kept}
+use Rattle.pv_create.specs.StopLaws.{mended}
+use Rattle.pv_words.specs.declared.options.Options.{Options}
+use Rattle.provision_run.specs.Whole.{run_lines}
+
+-- ---- what is said
+
+front_of : (a b : List (List ℕ)) (n : ℕ) → (m : ℕ) × (take n a ≡ take m (a ++ b))
+front_of [] b zero = (0, refl)
+front_of [] b (suc n) = (0, refl)
+front_of (x ∷ a) b zero = (0, refl)
+front_of (x ∷ a) b (suc n) = let below = front_of a b n in (suc below.0, ap (λ (r : List (List ℕ)). x ∷ r) below.1)
+
+-- a part of what is to be said first is a part of all
+pub said_first : (a b old new : List (List ℕ)) → SaidPart a old new → SaidPart (a ++ b) old new
+said_first a b old new part = let front = front_of a b part.0 in (front.0, part.1 ∙ ap (λ (r : List (List ℕ)). old ++ r) front.1)
+
+back_of : (a b : List (List ℕ)) (n : ℕ) → (m : ℕ) × (a ++ take n b ≡ take m (a ++ b))
+back_of [] b n = (n, refl)
+back_of (x ∷ a) b n = let below = back_of a b n in (suc below.0, ap (λ (r : List (List ℕ)). x ∷ r) below.1)
+
+-- so is all of it and a part of the rest
+pub said_then : (a b old mid new : List (List ℕ)) → mid ≡ old ++ a → SaidPart b mid new → SaidPart (a ++ b) old new
+said_then a b old mid new all part =
+    let back = back_of a b part.0 in (
+      back.0,
+      part.1 ∙ ap (λ (r : List (List ℕ)). r ++ take part.0 b) all ∙ append_assoc old a (take part.0 b) ∙ ap (λ (r : List (List ℕ)). old ++ r) back.1,
+    )
+
+-- ---- nothing done
+
+partway_start : (lines : List Line) (now : ℕ) (t : Files) → Partway lines now t t
+partway_start [] now t = λ q h. refl
+partway_start (line ∷ lines) now t = inl (λ q h. kept refl)
+
+pub ran_nothing : (lines : List Line) (now : ℕ) (t : Files) (h : List Step) → Ran (Partway lines now t) (IsStepOfSome lines) now t h t h
+ran_nothing lines now t h = ran_none (Partway lines now t) (IsStepOfSome lines) now t h t h (partway_start lines now t) refl refl
+
+-- a run that has done nothing is mended
+pub nothing_mended : (options : Options) (facts : Values) (now : ℕ) (t : Files) (h : List Step) → now < 2 ^ 64 → IsTree t
+    → (line : Line) → run_lines options facts t ≡ line ∷ [] → IsMended line now t (drop (length h) h)
+nothing_mended options facts now t h fits tree line one =
+    let is = subst (AllByRecursion IsLine) one (configured-lines t facts options.words) in
+    mended line is.0 (IsStepOfSome (line ∷ [])) now t h t h fits tree (ran_nothing (line ∷ []) now t h)

@@ -1,0 +1,31 @@
+use Rattle.std.proofs.Common.{ap, ◌∙◌, ◌++◌, ◌+◌, ◌-◌, ◌≤◌, length, subst}
+use Rattle.std.specs.Prelude.{◌≡◌, Err, IfOk}
+use Rattle.pv_text.specs.Said.{SaidPart}
+use Rattle.pv_dress.specs.Asking.{refused}
+use Rattle.pv_create.specs.OnWay.{IsStepOfSome}
+use Rattle.provision_run.specs.declared.run.RunEnd.{RunEnd}
+use Rattle.provision_run.specs.Whole.{run_lines, read_messages, line_messages, run_messages, run_work}
+use Rattle.provision_run.proofs.AnswerLaws.{whole_answered, stopped_answered, over_same, limited}
+use Rattle.provision_run.proofs.answer.run_fused.Goals as goal
+
+pub returns-in-Ok : goal.returns-in-Ok
+returns-in-Ok c =
+    let same = ap (λ f. f.inner) c.new-fused.ensures in
+    over_same c.args.options.now c.args.image.facts c.args.moment c.new-fused.result.inner c.args.image.tree same c.end_within.result
+    (whole_answered c.args.options.now c.args.image.facts c.args.moment c.new-fused.result.inner c.run_on_tree.new.tree.inner
+    (IsStepOfSome (run_lines c.args.options.now c.args.image.facts c.new-fused.result.inner.files)) (ap (λ f. f.inner.steps) c.new-fused.ensures ∙ c.requires.fresh) c.in-Ok.ensures.ran c.inner.result.now c.inner.ensures
+    c.in-Ok.end c.in-Ok.ensures.end c.in-Ok.ensures.ok c.run_on_tree.new.messages
+    (c.in-Ok.ensures.said ∙ ap (λ x. x ++ run_messages c.args.options.now c.args.image.facts c.args.moment c.new-fused.result.inner.files) c.new-messages.ensures)
+    c.end_within.result (subst (λ o. IfOk c.end_within.result (λ a. a.outcome ≡ o)) c.outcome_of.ensures c.end_within.ensures.outcome) c.end_within.ensures.text (limited c.args.options.now.stop_after c.args.limit _ c.requires.limit c.end_within.result c.end_within.ensures.count))
+
+pub returns : goal.returns
+returns c =
+    let same = ap (λ f. f.inner) c.new-fused.ensures in
+    over_same c.args.options.now c.args.image.facts c.args.moment c.new-fused.result.inner c.args.image.tree same c.stop.result
+    (stopped_answered c.args.options.now c.args.image.facts c.args.moment c.new-fused.result.inner c.run_on_tree.new.tree.inner
+    (IsStepOfSome (run_lines c.args.options.now c.args.image.facts c.new-fused.result.inner.files)) (ap (λ f. f.inner.steps) c.new-fused.ensures ∙ c.requires.fresh) c.in-Err-Failed.ensures.ran c.inner-in-Err-Failed.result.now c.inner-in-Err-Failed.ensures
+    c.args.limit c.run_on_tree.new.messages c.requires.limit
+    (subst (λ f. (length c.run_on_tree.new.tree.inner.steps - length c.new-fused.result.inner.steps) + refused {A = RunEnd} (Err f) ≤ run_work c.args.options.now c.args.image.facts c.args.moment c.new-fused.result.inner.files) c.in-Err-Failed.field-0-is c.in-Err-Failed.ensures.bound)
+    (subst (λ x. SaidPart (line_messages c.args.options.now c.args.image.facts c.args.moment c.new-fused.result.inner.files) (x ++ read_messages c.args.options.now c.args.image.facts c.new-fused.result.inner.files) c.run_on_tree.new.messages) c.new-messages.ensures (c.in-Err-Failed.ensures.read (ap Err c.in-Err-Failed.field-0-is)))
+    c.in-Err-Failed.ensures.mended
+    c.stop.result c.stop.ensures.outcome c.stop.ensures.count c.stop.ensures.text)

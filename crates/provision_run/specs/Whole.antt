@@ -1,0 +1,48 @@
+-- A whole run over a tree: the lines that it reads of the tree, the tree that it leaves, what it says, how it ends, and
+-- the most steps that it takes.
+use Rattle.std.specs.Prelude.{ℕ, Bool, true, List, ◌++◌, if◌then◌else◌}
+use Rattle.pv_text.specs.Facts.{Values}
+use Rattle.pv_steps.specs.Trees.{Files}
+use Rattle.pv_lines.specs.declared.line.Line.{Line}
+use Rattle.pv_conf.specs.Configuration.{configured}
+use Rattle.pv_create.specs.declared.carried.Carried.{Carried}
+use Rattle.pv_create.specs.declared.carried.Carried.TheVariants as carried
+use Rattle.pv_create.specs.Created.{created, created_messages, some_refused, carried_of, work}
+use Rattle.pv_words.specs.declared.options.Options.{Options}
+use Rattle.provision_run.specs.declared.run.RunEnd.{RunEnd}
+use Rattle.provision_run.specs.declared.run.RunEnd.TheVariants.{Done, ConfigInvalid, NotCarriedOut}
+
+-- the lines of the configuration
+abbrev pub run_lines : Options → Values → Files → List Line
+run_lines options facts t = (configured t facts options.words).lines
+
+-- the tree after all lines
+abbrev pub final : Options → Values → ℕ → Files → Files
+final options facts moment t = created (run_lines options facts t) moment t
+
+-- what is said in reading the configuration, and what is said of its lines
+abbrev pub read_messages : Options → Values → Files → List (List ℕ)
+read_messages options facts t = (configured t facts options.words).messages
+
+abbrev pub line_messages : Options → Values → ℕ → Files → List (List ℕ)
+line_messages options facts moment t = created_messages (run_lines options facts t) moment t
+
+abbrev pub run_messages : Options → Values → ℕ → Files → List (List ℕ)
+run_messages options facts moment t = read_messages options facts t ++ line_messages options facts moment t
+
+-- a line was refused, or a file word was not found
+abbrev pub is_uncarried : Carried → Bool → Bool
+is_uncarried carried.Whole missing = missing
+is_uncarried carried.NotCarriedOut missing = true
+
+-- something could not be carried out, or else a line was refused in reading
+abbrev pub end_of : Bool → Bool → RunEnd
+end_of uncarried invalid = if uncarried then NotCarriedOut else if invalid then ConfigInvalid else Done
+
+abbrev pub run_end : Options → Values → ℕ → Files → RunEnd
+run_end options facts moment t = end_of
+    (is_uncarried (carried_of (some_refused (run_lines options facts t) moment t)) (configured t facts options.words).missing)
+    (configured t facts options.words).invalid
+
+abbrev pub run_work : Options → Values → ℕ → Files → ℕ
+run_work options facts moment t = work (run_lines options facts t) moment t

@@ -1,0 +1,5 @@
+pub mod Faults
+pub mod Stamps
+pub mod Sums
+pub mod Ages
+pub mod Old

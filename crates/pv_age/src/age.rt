@@ -1,0 +1,57 @@
+ghost use Rattle.std.specs.Prelude.{◌≡◌, ◌<◌, ◌==◌, length, position, IfSome};
+ghost use Rattle.pv_age.specs.Ages.{age_of, age_with};
+
+use crate::fault::AgeFault;
+use crate::stamps::{StampSet, stamps_of};
+use crate::sum::micros_of;
+
+/// The letters that stand for a list where an age has none.
+const DEFAULT_LETTERS: &[u8] = b"abcmABM";
+
+/// An age by which objects are cleaned up (tmpfiles.d(5), Age).
+#[derive(Clone, Copy, Debug, PartialEq, Eq, Hash)]
+pub struct Age {
+    /// The age in microseconds. By the age 0 every object is old.
+    pub micros: u64,
+    /// The stamps that it looks at.
+    pub by: StampSet,
+    /// Whether what stands directly in the directory is spared.
+    pub spare_first: bool,
+}
+
+/// The age that a text spells, or its first fault in the order of `AgeFault`: an optional `~` that
+/// spares the first level, an optional list of stamp letters ended by `:`, and one or more decimal
+/// numbers with units, which are added. A number without a unit counts seconds (tmpfiles.d(5), Age).
+pub fn parse_age(text: &[u8]) -> Result<Age, AgeFault>
+    ensures { result ≡ age_of text.now }
+{
+    match text {
+        [b'~', rest @ ..] => age_with(true, rest),
+        _ => age_with(false, text),
+    }
+}
+
+/// The age that a text without its mark spells.
+fn age_with(spare_first: bool, text: &[u8]) -> Result<Age, AgeFault>
+    ensures { result ≡ age_with spare_first text.now }
+{
+    let (list, sum) = match colon_at(text) {
+        Some(at) => (&text[..at], &text[at + 1..]),
+        None => (DEFAULT_LETTERS, text),
+    };
+    let by = stamps_of(list)?;
+    let micros = micros_of(sum)?;
+    Ok(Age {
+        micros,
+        by,
+        spare_first,
+    })
+}
+
+/// The place of the first colon.
+fn colon_at(text: &[u8]) -> Option<usize>
+    ensures place { result ≡ position (λ b. b == 58) text.now }
+    ensures within { IfSome result (λ at. at < length text.now) }
+{
+    text.iter().position(|b| *b == b':')
+}

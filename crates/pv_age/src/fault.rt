@@ -1,0 +1,19 @@
+use thiserror::Error;
+
+/// Why a text is no age. The list of stamps is checked first, then pair by pair the number, its unit
+/// and the sum so far.
+#[derive(Clone, Copy, Debug, PartialEq, Eq, Error)]
+pub enum AgeFault {
+    /// The list of stamps has no letter, or one that stands for no stamp.
+    #[error("BadStampLetter")]
+    BadStampLetter,
+    /// No digit stands where a number must begin.
+    #[error("BadNumber")]
+    BadNumber,
+    /// The letters after a number are no unit.
+    #[error("BadUnit")]
+    BadUnit,
+    /// The microseconds do not fit 64 bits.
+    #[error("Overflow")]
+    Overflow,
+}

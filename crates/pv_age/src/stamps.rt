@@ -1,0 +1,78 @@
+ghost use Rattle.std.specs.Prelude.{⊤, ◌≡◌, ◌==◌, [], ◌∷◌, codes, option_map};
+ghost use Rattle.std.specs.Int.RustNames.{bit_and};
+ghost use Rattle.pv_age.specs.Stamps.{letter_bit, stamps_of, stamps_with};
+
+use crate::fault::AgeFault;
+use bitflags::{Flag, Flags, bitflag_items};
+
+/// The stamps that an age looks at, one for each letter: access, birth, change and modify, of objects
+/// that are no directories by the lower case letter, and of directories by the upper case letter.
+#[derive(Clone, Copy, PartialEq, Eq, Debug, Hash)]
+pub struct StampSet(u8);
+
+bitflag_items! {
+    impl StampSet: u8 {
+        const a = 1;
+        const A = 2;
+        const b = 4;
+        const B = 8;
+        const c = 16;
+        const C = 32;
+        const m = 64;
+        const M = 128;
+    }
+}
+
+impl Flags for StampSet {
+    type Bits = u8;
+
+    ghost exact = { ⊤ };
+
+    ghost table = { (codes "a", 1) ∷ (codes "A", 2) ∷ (codes "b", 4) ∷ (codes "B", 8) ∷ (codes "c", 16) ∷ (codes "C", 32) ∷ (codes "m", 64) ∷ (codes "M", 128) ∷ [] };
+
+    ghost set_of = { λ s. s.0 };
+
+    fn flags<'a>() -> &'a [Flag<StampSet>] {
+        StampSet::FLAGS
+    }
+
+    fn bits(&self) -> u8 {
+        self.0
+    }
+
+    fn from_bits_retain(bits: u8) -> StampSet {
+        StampSet(bits)
+    }
+}
+
+/// The stamps that a list of letters chooses. A repeated letter has no further effect.
+pub(crate) fn stamps_of(list: &[u8]) -> Result<StampSet, AgeFault>
+    ensures { result ≡ stamps_of list.now }
+{
+    if list.is_empty() {
+        return Err(AgeFault::BadStampLetter);
+    }
+    let mut stamps = StampSet(0);
+    for letter in list {
+        let stamp = stamp_of(*letter).ok_or(AgeFault::BadStampLetter)?;
+        stamps.insert(stamp);
+    }
+    Ok(stamps)
+}
+
+/// The stamp of a letter.
+fn stamp_of(letter: u8) -> Option<StampSet>
+    ensures { option_map (λ s. s.0) result ≡ letter_bit letter }
+{
+    match letter {
+        b'a' => Some(StampSet::a),
+        b'A' => Some(StampSet::A),
+        b'b' => Some(StampSet::b),
+        b'B' => Some(StampSet::B),
+        b'c' => Some(StampSet::c),
+        b'C' => Some(StampSet::C),
+        b'm' => Some(StampSet::m),
+        b'M' => Some(StampSet::M),
+        _ => None,
+    }
+}

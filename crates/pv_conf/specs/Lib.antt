@@ -1,0 +1,3 @@
+pub mod Configuration
+pub mod Adding
+pub mod LineLists

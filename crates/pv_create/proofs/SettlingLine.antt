@@ -1,0 +1,148 @@
+-- Laws of one line: what it does at its path after what it does before, and how many steps it takes.
+use Rattle.std.specs.Prelude.{◌≡◌, ◌≢◌, ℕ, ◌+◌, ◌-◌, ◌*◌, ◌≤◌, cond, List, [], ◌∷◌, ◌++◌, map, length, filter, Option, Some, None, is_none, Result, Ok, Err, OnOk}
+use Rattle.std.proofs.Common.{refl, sym, ap, subst, ◌∙◌, inl, inr, ◌⊎◌, arith, length-append}
+use Rattle.std.proofs.lemmas.List.{map-append}
+use Rattle.std.proofs.lemmas.List.Elements.{filter-append}
+use Rattle.pv_path.specs.Paths.{Path, parent_of}
+use Rattle.pv_path.specs.PathLaws.{path_ends, parent_of-push}
+use Rattle.pv_steps.specs.declared.node.Kind.TheVariants.{Directory}
+use Rattle.pv_steps.specs.declared.object.Object.{Object}
+use Rattle.pv_steps.specs.declared.step.Step.{Step}
+use Rattle.pv_steps.specs.declared.tree.TreeFault.{TreeFault}
+use Rattle.pv_steps.specs.declared.why.Why.{Why}
+use Rattle.pv_steps.specs.Trees.{Files, Places, places, kind_of, IsTree}
+use Rattle.pv_steps.specs.Runs.{Ran}
+use Rattle.pv_steps.specs.RunLaws.{ran_then, ran_weaken, ran_end}
+use Rattle.pv_steps.specs.Same.{bares}
+use Rattle.pv_dress.specs.Asking.{asked}
+use Rattle.pv_walk.specs.Staging.{prefixes, staging_names, count_at_all}
+use Rattle.pv_lines.specs.declared.line.Line.{Line}
+use Rattle.pv_create.specs.Effects.{prepared, settled, line_refusal, unless_refused, line_effect, line_after}
+use Rattle.pv_create.specs.EffectLaws.{prefixes-cons, line_after_is}
+use Rattle.pv_create.specs.Created.{new_count, adjust_count, unrefused_work, line_work}
+use Rattle.pv_create.specs.Saying.{left_message, refused_or_left, line_messages, refused_text, said_at}
+use Rattle.pv_create.specs.OnWay.{IsMidway, OnWay, IsStepOf}
+use Rattle.pv_create.specs.Preparing.{IsPreparing, Preparing, parent_count, settle_work}
+
+-- ---- how many places of a path are absent
+
+prefixes_push : (p : Path) (n : List ℕ) → prefixes (p ++ n ∷ []) ≡ prefixes p ++ (p ++ n ∷ []) ∷ []
+prefixes_push [] n = prefixes-cons n []
+prefixes_push (m ∷ p) n =
+    prefixes-cons m (p ++ n ∷ []) ∙ ap (λ ps. (m ∷ []) ∷ map (λ (q : Path). m ∷ q) ps) (prefixes_push p n)
+    ∙ ap (λ ps. (m ∷ []) ∷ ps) (map-append (λ (q : Path). m ∷ q) (prefixes p) ((p ++ n ∷ []) ∷ []))
+    ∙ ap (λ ps. ps ++ (m ∷ p ++ n ∷ []) ∷ []) (sym (prefixes-cons m p))
+
+prefixes_parent : (path : Path) → (path ≡ []) ⊎ (prefixes path ≡ prefixes (parent_of path) ++ path ∷ [])
+prefixes_parent path = elim (path_ends path) [
+  | inl e ↦ inl e
+  | inr (p, n, e) ↦
+      let whole : prefixes path ≡ prefixes p ++ (p ++ n ∷ []) ∷ [] = ap prefixes e ∙ prefixes_push p n in
+      let above : p ≡ parent_of path = sym (ap parent_of e ∙ parent_of-push p n) in
+      inr (whole ∙ (λ i. prefixes (above i) ++ sym e i ∷ []))
+]
+
+module _ (line : Line) (t : Files) where
+  -- the path itself is one more, where it is absent
+  count_more : line.path ≢ [] → new_count line t ≡ parent_count line t + length (filter (λ place. is_none (places t place)) (line.path ∷ []))
+  count_more nonempty = elim (prefixes_parent line.path) [
+    | inl e ↦ absurd (nonempty e)
+    | inr e ↦
+        ap (λ ps. length (filter (λ place. is_none (places t place)) ps)) e
+        ∙ ap length (filter-append (λ place. is_none (places t place)) (prefixes (parent_of line.path)) (line.path ∷ []))
+        ∙ length-append (filter (λ place. is_none (places t place)) (prefixes (parent_of line.path))) (filter (λ place. is_none (places t place)) (line.path ∷ []))
+  ]
+
+  count_root : line.path ≡ [] → new_count line t ≡ parent_count line t
+  count_root e = ap (λ p. length (filter (λ place. is_none (places t place)) (prefixes p))) (e ∙ sym (ap parent_of e))
+
+  root_cases : (line.path ≡ []) ⊎ (line.path ≢ [])
+  root_cases = by line.path
+    where
+      by : (p : Path) → (p ≡ []) ⊎ (p ≢ [])
+      by [] = inl refl
+      by (n ∷ p) = inr (λ e. cc)
+
+  settle_within : (v : Option Object) → places t line.path ≡ v → (v ≡ None → line.path ≢ []) → 6 * parent_count line t + settle_work line v ≤ 6 * new_count line t + 4 * adjust_count line v
+  settle_within None e nonroot =
+      let one : length (filter (λ place. is_none (places t place)) (line.path ∷ [])) ≡ 1 = ap (λ v. length (cond (is_none v) (line.path ∷ []) [])) e in
+      let more = count_more (nonroot refl) in
+      omega (arith, one, more)
+  settle_within (Some o) e nonroot = elim root_cases [
+    | inl root ↦ let same = count_root root in omega (arith, same)
+    | inr nonempty ↦ let more = count_more nonempty in omega (arith, more)
+  ]
+
+-- ---- one line whose path is not refused
+
+module _ (line : Line) (now : ℕ) (t : Files) (free : line_refusal line (places t) ≡ None) where
+  effect_is : line_effect line now (places t) ≡ settled line now (prepared now line.path (places t))
+  effect_is = ap (unless_refused line now (places t)) free
+
+  pub messages_are : (u : Files) → places u ≡ prepared now line.path (places t) → left_message line (kind_of (places u line.path)) ≡ line_messages line now (places t)
+  messages_are u e = ap (λ (p : Places). left_message line (kind_of (p line.path))) e ∙ sym (ap (refused_or_left line now (places t)) free)
+
+  pub line_ok : (r : Result (Unit {0}) TreeFault) (u v : Files) → places u ≡ prepared now line.path (places t) → OnOk r (places v ≡ settled line now (places u)) → OnOk r (v ≡ line_after line now t)
+  line_ok (Ok x) u v before e = line_after_is line now t v (e ∙ ap (settled line now) before ∙ sym effect_is)
+  line_ok (Err f) u v before e = tt
+
+  work_is : line_work line t ≡ count_at_all t (staging_names line.path) + 6 * new_count line t + 4 * adjust_count line (places t line.path)
+  work_is = ap (unrefused_work line t) free
+
+  -- how many steps are asked for when the first part ends with a fault, and when the second has ended
+  pub prepare_bound : (n : ℕ) → n ≤ count_at_all t (staging_names line.path) + 6 * parent_count line t → n ≤ line_work line t
+  prepare_bound n h = subst (λ m. n ≤ m) (sym work_is) (elim (root_cases line t) [
+    | inl root ↦ let same = count_root line t root in omega (arith, same)
+    | inr nonempty ↦ let more = count_more line t nonempty in omega (arith, more)
+  ])
+
+  pub line_bound : (r : Result (Unit {0}) TreeFault) (h k l : List Step) (u : Files) → IsTree u → places u line.path ≡ places t line.path
+      → length h ≤ length k → length k ≤ length l
+      → length k - length h ≤ count_at_all t (staging_names line.path) + 6 * parent_count line t
+      → asked r k l ≤ settle_work line (places u line.path) → asked r h l ≤ line_work line t
+  line_bound r h k l u tree same first second a b =
+      let nonroot : places t line.path ≡ None → line.path ≢ [] = λ none root.
+      (let both : None ≡ Some Directory = ap kind_of (sym none ∙ sym same) ∙ ap (λ p. kind_of (places u p)) root ∙ tree.root in cc) in
+      let within = settle_within line t (places t line.path) refl nonroot in
+      let there : asked r k l ≤ settle_work line (places t line.path) = subst (λ v. asked r k l ≤ settle_work line v) same b in
+      subst (λ m. asked r h l ≤ m) (sym work_is) (omega (arith, within, there, a, first, second))
+
+-- ---- on the way
+
+module _ (line : Line) where
+  pub preparing_way : (t u : Files) → Preparing line t u → OnWay line t u
+  preparing_way t u h q plain = by (h q plain)
+    where
+      by : IsPreparing line q (bares (places t) q) (bares (places u) q) → IsMidway line q (bares (places t) q) (bares (places u) q)
+      by (IsPreparing.kept e) = IsMidway.kept e
+      by (IsPreparing.parent above none is) = IsMidway.parent above none is
+
+  way_then : (q : Path) (old mid new : Option Object) → IsPreparing line q old mid → IsMidway line q mid new → IsMidway line q old new
+  way_then q old mid new (IsPreparing.kept e) m = subst (λ o. IsMidway line q o new) e m
+  way_then q old mid new (IsPreparing.parent above none is) (IsMidway.kept e) = IsMidway.parent above none (e ∙ is)
+  way_then q old mid new (IsPreparing.parent above none is) (IsMidway.parent a n e) = IsMidway.parent above none e
+  way_then q old mid new (IsPreparing.parent above none is) (IsMidway.put here n e) = absurd (above.1 here)
+  way_then q old mid new (IsPreparing.parent above none is) (IsMidway.adjusting o k here n d e) = absurd (above.1 here)
+
+  pub prepare_ran : (now : ℕ) (t : Files) (h : List Step) (u : Files) (k : List Step) → Ran (Preparing line t) (IsStepOf line) now t h u k → Ran (OnWay line t) (IsStepOf line) now t h u k
+  prepare_ran now t h u k ran = ran_weaken (Preparing line t) (OnWay line t) (IsStepOf line) (IsStepOf line) now (preparing_way t) (λ s e. e) ran
+
+  pub line_ran : (now : ℕ) (t : Files) (h : List Step) (u : Files) (k : List Step) (v : Files) (l : List Step) → Ran (Preparing line t) (IsStepOf line) now t h u k → Ran (OnWay line u) (IsStepOf line) now u k v l
+      → Ran (OnWay line t) (IsStepOf line) now t h v l
+  line_ran now t h u k v l first second =
+      let before : Preparing line t u = ran_end (Preparing line t) (IsStepOf line) now first in
+      ran_then (OnWay line t) (IsStepOf line) now (prepare_ran now t h u k first)
+      (ran_weaken (OnWay line u) (OnWay line t) (IsStepOf line) (IsStepOf line) now (λ w way q plain. way_then q (bares (places t) q) (bares (places u) q) (bares (places w) q) (before q plain) (way q plain)) (λ s e. e) second)
+
+-- a run tells no fewer steps
+pub ran_longer : (P : Files → Type 0) (Q : Step → Type 0) (now : ℕ) {t : Files} {h : List Step} {u : Files} {k : List Step} → Ran P Q now t h u k → length h ≤ length k
+ran_longer P Q now {h = h} r = omega (arith, ap length r.told, length-append h r.steps)
+
+-- ---- a refused line
+
+module _ (line : Line) (now : ℕ) (t : Files) (place : ℕ × Why) (refusal : line_refusal line (places t) ≡ Some place) where
+  pub refused_after : t ≡ line_after line now t
+  refused_after = line_after_is line now t t (sym (ap (unless_refused line now (places t)) refusal))
+
+  pub refused_messages : line_messages line now (places t) ≡ said_at line.place (refused_text line.path place.0 place.1) ∷ []
+  refused_messages = ap (refused_or_left line now (places t)) refusal

@@ -1,0 +1,5 @@
+use Rattle.pv_create.specs.FrameLaws.{partway_else}
+use Rattle.pv_create.proofs.laws.a_run_changes_no_other_path.Goals as goal
+
+pub returns : goal.returns
+returns c = partway_else

@@ -1,0 +1,42 @@
+use Rattle.std.proofs.Common.{◌≤◌, ◌+◌, ◌*◌, ◌-◌, length, arith}
+use Rattle.std.proofs.lemmas.Grind.{common_steps}
+use Rattle.pv_dress.specs.Asking.{asked}
+use Rattle.pv_walk.specs.Staging.{staging_names, count_at_all}
+use Rattle.pv_create.specs.OnWay.{OnWay, IsStepOf}
+use Rattle.pv_create.specs.Preparing.{Preparing, parent_count}
+use Rattle.pv_create.proofs.SettlingLine.{prepare_ran, prepare_bound, line_ok, line_ran, line_bound, ran_longer}
+use Rattle.pv_create.proofs.line.carry_out_unrefused.Goals as goal
+
+pub returns-in_err-prepare-clause-ran : goal.returns-in_err-prepare-clause-ran
+returns-in_err-prepare-clause-ran g c =
+    prepare_ran c.args.line.now c.args.now (g.T.Tree.state c.args.tree.now) (g.T.Tree.steps c.args.tree.now) (g.T.Tree.state c.prepare.new.tree) (g.T.Tree.steps c.prepare.new.tree) c.prepare.ensures.ran
+
+pub returns-in_err-prepare-clause-bound : goal.returns-in_err-prepare-clause-bound
+returns-in_err-prepare-clause-bound g c =
+    let t = g.T.Tree.state c.args.tree.now in
+    let line = c.args.line.now in
+    let asked_for : asked c.from_residual.result (g.T.Tree.steps c.args.tree.now) (g.T.Tree.steps c.prepare.new.tree)
+    ≤ count_at_all t (staging_names line.path) + 6 * parent_count line t = grind (arith, common_steps) in
+    prepare_bound line c.args.now t c.requires.unrefused (asked c.from_residual.result (g.T.Tree.steps c.args.tree.now) (g.T.Tree.steps c.prepare.new.tree)) asked_for
+
+pub returns-clause-ok : goal.returns-clause-ok
+returns-clause-ok g c =
+    line_ok c.args.line.now c.args.now (g.T.Tree.state c.args.tree.now) c.requires.unrefused c.settle.result (g.T.Tree.state c.prepare.new.tree) (g.T.Tree.state c.settle.new.tree)
+    c.in_ok-prepare.ensures.ok c.settle.ensures.ok
+
+pub returns-clause-ran : goal.returns-clause-ran
+returns-clause-ran g c =
+    line_ran c.args.line.now c.args.now (g.T.Tree.state c.args.tree.now) (g.T.Tree.steps c.args.tree.now) (g.T.Tree.state c.prepare.new.tree) (g.T.Tree.steps c.prepare.new.tree)
+    (g.T.Tree.state c.settle.new.tree) (g.T.Tree.steps c.settle.new.tree) c.prepare.ensures.ran c.settle.ensures.ran
+
+pub returns-clause-bound : goal.returns-clause-bound
+returns-clause-bound g c =
+    let t = g.T.Tree.state c.args.tree.now in
+    let u = g.T.Tree.state c.prepare.new.tree in
+    let line = c.args.line.now in
+    let first = ran_longer (Preparing line t) (IsStepOf line) c.args.now c.prepare.ensures.ran in
+    let second = ran_longer (OnWay line u) (IsStepOf line) c.args.now c.settle.ensures.ran in
+    let before : length (g.T.Tree.steps c.prepare.new.tree) - length (g.T.Tree.steps c.args.tree.now) ≤ count_at_all t (staging_names line.path) + 6 * parent_count line t =
+    omega (arith, c.in_ok-prepare.ensures.bound) in
+    line_bound line c.args.now t c.requires.unrefused c.settle.result (g.T.Tree.steps c.args.tree.now) (g.T.Tree.steps c.prepare.new.tree) (g.T.Tree.steps c.settle.new.tree)
+    u c.settle.ensures.tree c.in_ok-prepare.ensures.here first second before c.settle.ensures.bound

@@ -1,0 +1,154 @@
+use Rattle.std.proofs.Common.{◌+◌, ◌<◌, ◌≤◌, Err, length, get_or, drop, ap, subst, ◌∙◌, arith}
+use Rattle.std.proofs.lemmas.Result.{err_from_is_err_and}
+use Rattle.pv_dress.specs.Asking.{refused}
+use Rattle.pv_create.specs.Created.{is_refused, line_work}
+use Rattle.pv_create.specs.OnWay.{OnWay, IsStepOf}
+use Rattle.pv_create.proofs.SettlingLine.{ran_longer}
+use Rattle.pv_create.proofs.LinesLaws.{Going, going_start, going_next, next_left, none_left, one_tree, one_ran, one_part, one_bound, passed_on, end_part, end_tree, all_mended}
+use Rattle.pv_create.proofs.lines.create_run.Goals as goal
+
+pub loop-line-init : goal.loop-line-init
+loop-line-init g c = record {
+  items = c.as_slice-line-items.ensures;
+  going = going_start c.args.lines.now c.args.now (g.T.Tree.state c.args.tree.now) (g.T.Tree.steps c.args.tree.now) c.args.messages.now c.requires.lines;
+  faults = omega arith;
+}
+
+pub returns-in_err-one-clause-part : goal.returns-in_err-one-clause-part
+returns-in_err-one-clause-part g c =
+    let all = c.args.lines.now in
+    let i = c.loop-line.line-index in
+    let line = c.line-item.result in
+    let now = c.args.now in
+    let t0 = g.T.Tree.state c.args.tree.now in
+    let h0 = g.T.Tree.steps c.args.tree.now in
+    let m0 = c.args.messages.now in
+    let t = g.T.Tree.state c.loop-line.tree in
+    let h = g.T.Tree.steps c.loop-line.tree in
+    let m = c.loop-line.messages in
+    let u = g.T.Tree.state c.carry_out.new.tree in
+    let k = g.T.Tree.steps c.carry_out.new.tree in
+    let n = c.carry_out.new.messages in
+    let items = c.loop-line.invariant.items in
+    let within : i < length all = omega (arith, c.loop-line-test.true, ap length items) in
+    let next = next_left all i line within (c.line-item.is ∙ ap (λ v. get_or v i line) items) in
+    let going = subst (λ ls. Going all ls now c.loop-line.carried t0 h0 m0 t h m) next c.loop-line.invariant.going in
+    one_part all (drop (i + 1) all) line now c.loop-line.carried t0 h0 m0 t h m going u k n c.carry_out.ensures.part
+
+pub returns-in_err-one-clause-ran : goal.returns-in_err-one-clause-ran
+returns-in_err-one-clause-ran g c =
+    let all = c.args.lines.now in
+    let i = c.loop-line.line-index in
+    let line = c.line-item.result in
+    let now = c.args.now in
+    let t0 = g.T.Tree.state c.args.tree.now in
+    let h0 = g.T.Tree.steps c.args.tree.now in
+    let m0 = c.args.messages.now in
+    let t = g.T.Tree.state c.loop-line.tree in
+    let h = g.T.Tree.steps c.loop-line.tree in
+    let m = c.loop-line.messages in
+    let u = g.T.Tree.state c.carry_out.new.tree in
+    let k = g.T.Tree.steps c.carry_out.new.tree in
+    let n = c.carry_out.new.messages in
+    let items = c.loop-line.invariant.items in
+    let within : i < length all = omega (arith, c.loop-line-test.true, ap length items) in
+    let next = next_left all i line within (c.line-item.is ∙ ap (λ v. get_or v i line) items) in
+    let going = subst (λ ls. Going all ls now c.loop-line.carried t0 h0 m0 t h m) next c.loop-line.invariant.going in
+    one_ran all (drop (i + 1) all) line now c.loop-line.carried t0 h0 m0 t h m going u k n c.carry_out.ensures.ran
+
+pub returns-in_err-one-clause-bound : goal.returns-in_err-one-clause-bound
+returns-in_err-one-clause-bound g c =
+    let all = c.args.lines.now in
+    let i = c.loop-line.line-index in
+    let line = c.line-item.result in
+    let now = c.args.now in
+    let t0 = g.T.Tree.state c.args.tree.now in
+    let h0 = g.T.Tree.steps c.args.tree.now in
+    let m0 = c.args.messages.now in
+    let t = g.T.Tree.state c.loop-line.tree in
+    let h = g.T.Tree.steps c.loop-line.tree in
+    let m = c.loop-line.messages in
+    let u = g.T.Tree.state c.carry_out.new.tree in
+    let k = g.T.Tree.steps c.carry_out.new.tree in
+    let n = c.carry_out.new.messages in
+    let items = c.loop-line.invariant.items in
+    let within : i < length all = omega (arith, c.loop-line-test.true, ap length items) in
+    let next = next_left all i line within (c.line-item.is ∙ ap (λ v. get_or v i line) items) in
+    let going = subst (λ ls. Going all ls now c.loop-line.carried t0 h0 m0 t h m) next c.loop-line.invariant.going in
+    let fault = err_from_is_err_and c.from_residual.result c.from_residual.ensures.1 in
+    let asked_for = passed_on c.from_residual.result c.carry_out.result c.in_err-one.field-0.0 (fault.1 ∙ ap Err fault.2) c.in_err-one.was h k (line_work line t) c.carry_out.ensures.bound in
+    one_bound all (drop (i + 1) all) line now c.loop-line.carried t0 h0 m0 t h m going u k n (refused c.from_residual.result)
+    (ran_longer (OnWay line t) (IsStepOf line) now c.carry_out.ensures.ran) asked_for
+
+pub returns-in_err-one-clause-mended : goal.returns-in_err-one-clause-mended
+returns-in_err-one-clause-mended g c =
+    let all = c.args.lines.now in
+    let i = c.loop-line.line-index in
+    let line = c.line-item.result in
+    let now = c.args.now in
+    let t0 = g.T.Tree.state c.args.tree.now in
+    let h0 = g.T.Tree.steps c.args.tree.now in
+    let m0 = c.args.messages.now in
+    let t = g.T.Tree.state c.loop-line.tree in
+    let h = g.T.Tree.steps c.loop-line.tree in
+    let m = c.loop-line.messages in
+    let u = g.T.Tree.state c.carry_out.new.tree in
+    let k = g.T.Tree.steps c.carry_out.new.tree in
+    let n = c.carry_out.new.messages in
+    let items = c.loop-line.invariant.items in
+    let within : i < length all = omega (arith, c.loop-line-test.true, ap length items) in
+    let next = next_left all i line within (c.line-item.is ∙ ap (λ v. get_or v i line) items) in
+    let going = subst (λ ls. Going all ls now c.loop-line.carried t0 h0 m0 t h m) next c.loop-line.invariant.going in
+    let ran = one_ran all (drop (i + 1) all) line now c.loop-line.carried t0 h0 m0 t h m going u k n c.carry_out.ensures.ran in
+    let tree = one_tree all (drop (i + 1) all) line now c.loop-line.carried t0 h0 m0 t h m going u k n c.carry_out.ensures.tree in
+    λ one is. all_mended all now t0 h0 u k c.ranges.now.fits c.requires.lines ran one is tree
+
+pub loop-line-preserved : goal.loop-line-preserved
+loop-line-preserved g c =
+    let all = c.args.lines.now in
+    let i = c.loop-line.line-index in
+    let line = c.line-item.result in
+    let now = c.args.now in
+    let t0 = g.T.Tree.state c.args.tree.now in
+    let h0 = g.T.Tree.steps c.args.tree.now in
+    let m0 = c.args.messages.now in
+    let t = g.T.Tree.state c.loop-line.tree in
+    let h = g.T.Tree.steps c.loop-line.tree in
+    let m = c.loop-line.messages in
+    let u = g.T.Tree.state c.carry_out.new.tree in
+    let k = g.T.Tree.steps c.carry_out.new.tree in
+    let n = c.carry_out.new.messages in
+    let items = c.loop-line.invariant.items in
+    let within : i < length all = omega (arith, c.loop-line-test.true, ap length items) in
+    let next = next_left all i line within (c.line-item.is ∙ ap (λ v. get_or v i line) items) in
+    let going = subst (λ ls. Going all ls now c.loop-line.carried t0 h0 m0 t h m) next c.loop-line.invariant.going in
+    record {
+      items = items;
+      going =
+          going_next all (drop (i + 1) all) line now c.loop-line.carried t0 h0 m0 t h m going u k n c.with_one-carried.result
+          c.carry_out.ensures.tree c.in_ok-one.ensures.ok c.in_ok-one.ensures.said
+          (λ yet is. c.with_one-carried.ensures yet (is_refused line t) is c.in_ok-one.ensures.carried)
+          c.carry_out.ensures.ran (omega (arith, c.in_ok-one.ensures.bound));
+      faults = omega (arith, c.loop-line.invariant.faults, c.carry_out.ensures.never_falls);
+    }
+
+pub returns-clause-part : goal.returns-clause-part
+returns-clause-part g c =
+    let all = c.args.lines.now in
+    let past : length all ≤ c.loop-line.line-index = omega (arith, c.loop-line-test.false, ap length c.loop-line.invariant.items) in
+    let going = subst (λ ls. Going all ls c.args.now c.loop-line.carried (g.T.Tree.state c.args.tree.now) (g.T.Tree.steps c.args.tree.now) c.args.messages.now (g.T.Tree.state c.loop-line.tree) (g.T.Tree.steps c.loop-line.tree) c.loop-line.messages)
+    (none_left all c.loop-line.line-index past) c.loop-line.invariant.going in
+    end_part all c.args.now c.loop-line.carried (g.T.Tree.state c.args.tree.now) (g.T.Tree.steps c.args.tree.now) c.args.messages.now (g.T.Tree.state c.loop-line.tree) (g.T.Tree.steps c.loop-line.tree) c.loop-line.messages going
+
+pub returns-clause-mended : goal.returns-clause-mended
+returns-clause-mended g c =
+    let all = c.args.lines.now in
+    let now = c.args.now in
+    let t0 = g.T.Tree.state c.args.tree.now in
+    let h0 = g.T.Tree.steps c.args.tree.now in
+    let u = g.T.Tree.state c.loop-line.tree in
+    let k = g.T.Tree.steps c.loop-line.tree in
+    let past : length all ≤ c.loop-line.line-index = omega (arith, c.loop-line-test.false, ap length c.loop-line.invariant.items) in
+    let going = subst (λ ls. Going all ls now c.loop-line.carried t0 h0 c.args.messages.now u k c.loop-line.messages) (none_left all c.loop-line.line-index past) c.loop-line.invariant.going in
+    λ one is. all_mended all now t0 h0 u k c.ranges.now.fits c.requires.lines c.loop-line.invariant.going.ran one is
+    (end_tree all now c.loop-line.carried t0 h0 c.args.messages.now u k c.loop-line.messages going one is)

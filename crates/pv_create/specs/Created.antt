@@ -1,0 +1,65 @@
+-- Lines carried out one after the other: the tree that they leave, what is said, whether one was refused, and the
+-- most steps that it takes.
+use Rattle.std.specs.Prelude.{◌≡◌, ℕ, ◌+◌, ◌*◌, Bool, false, ◌||◌, List, [], ◌∷◌, ◌++◌, length, filter, Option, Some, None, is_some, is_none, if◌then◌else◌}
+use Rattle.pv_steps.specs.declared.node.Kind.{Kind}
+use Rattle.pv_steps.specs.declared.node.Kind.TheVariants.{Directory}
+use Rattle.pv_steps.specs.declared.object.Object.{Object}
+use Rattle.pv_steps.specs.declared.why.Why.{Why}
+use Rattle.pv_steps.specs.Trees.{Files, places}
+use Rattle.pv_walk.specs.Staging.{prefixes, staging_names, count_at_all}
+use Rattle.pv_lines.specs.declared.line.Line.{Line}
+use Rattle.pv_create.specs.declared.carried.Carried.{Carried}
+use Rattle.pv_create.specs.declared.carried.Carried.TheVariants.{Whole, NotCarriedOut}
+use Rattle.pv_create.specs.Effects.{line_refusal, line_after, wears}
+use Rattle.pv_create.specs.Saying.{line_messages}
+
+abbrev pub created : List Line → ℕ → Files → Files
+created [] now t = t
+created (line ∷ lines) now t = created lines now (line_after line now t)
+
+abbrev pub created_messages : List Line → ℕ → Files → List (List ℕ)
+created_messages [] now t = []
+created_messages (line ∷ lines) now t = line_messages line now (places t) ++ created_messages lines now (line_after line now t)
+
+abbrev pub is_refused : Line → Files → Bool
+is_refused line t = is_some (line_refusal line (places t))
+
+-- whether a line is refused at its turn
+abbrev pub some_refused : List Line → ℕ → Files → Bool
+some_refused [] now t = false
+some_refused (line ∷ lines) now t = is_refused line t || some_refused lines now (line_after line now t)
+
+-- a run that refuses no line
+abbrev pub IsQuiet : List Line → ℕ → Files → Type 0
+IsQuiet lines now t = some_refused lines now t ≡ false
+
+-- how a run of lines ended
+abbrev pub carried_of : Bool → Carried
+carried_of refused = if refused then NotCarriedOut else Whole
+
+-- ---- the most steps
+
+-- how many new directories stand along the path
+abbrev pub new_count : Line → Files → ℕ
+new_count line t = length (filter (λ place. is_none (places t place)) (prefixes line.path))
+
+-- whether a directory at the path lacks something of the line
+abbrev pub adjust_kind : Line → Object → Kind → ℕ
+adjust_kind line o Directory = if wears line o then 0 else 1
+adjust_kind line o kind = 0
+
+abbrev pub adjust_count : Line → Option Object → ℕ
+adjust_count line None = 0
+adjust_count line (Some o) = adjust_kind line o o.node.kind
+
+-- one for each object that is swept, six for each new one, four for a directory that is adjusted
+abbrev pub unrefused_work : Line → Files → Option (ℕ × Why) → ℕ
+unrefused_work line t (Some place) = 0
+unrefused_work line t None = count_at_all t (staging_names line.path) + 6 * new_count line t + 4 * adjust_count line (places t line.path)
+
+abbrev pub line_work : Line → Files → ℕ
+line_work line t = unrefused_work line t (line_refusal line (places t))
+
+abbrev pub work : List Line → ℕ → Files → ℕ
+work [] now t = 0
+work (line ∷ lines) now t = line_work line t + work lines now (line_after line now t)

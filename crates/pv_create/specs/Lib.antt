@@ -1,0 +1,12 @@
+pub mod Effects
+pub mod Created
+pub mod Saying
+pub mod OnWay
+pub mod Preparing
+pub mod PreparingParents
+pub mod Settling
+pub mod Points
+pub mod EffectLaws
+pub mod StopLaws
+pub mod Turns
+pub mod FrameLaws

@@ -1,0 +1,72 @@
+-- What a run may have left on its way, stamps and staging names aside, and that a second run mends it.
+use Rattle.std.specs.Prelude.{◌≡◌, ◌≢◌, ◌⊎◌, ℕ, true, false, List, [], ◌∷◌, take, Option, Some, None}
+use Rattle.pv_path.specs.Paths.{Path, is_prefix, has_staging, staging_of}
+use Rattle.pv_steps.specs.declared.node.Kind.TheVariants.{Directory}
+use Rattle.pv_steps.specs.declared.object.Object.{Object}
+use Rattle.pv_steps.specs.declared.step.Step.{Step}
+use Rattle.pv_steps.specs.declared.step.Step.TheVariants.{SetOwner, SetMode}
+use Rattle.pv_steps.specs.Objects.{bare}
+use Rattle.pv_steps.specs.Trees.{Files, places}
+use Rattle.pv_steps.specs.Runs.{after_all}
+use Rattle.pv_steps.specs.Same.{Same, bares}
+use Rattle.pv_dress.specs.Dressing.{wear_first}
+use Rattle.pv_walk.specs.declared.new_file.NewFile.{NewFile}
+use Rattle.pv_walk.specs.Staging.{new_object, GivesNew, IsRemoval, IsPublishing}
+use Rattle.pv_lines.specs.declared.line.Line.{Line}
+use Rattle.pv_create.specs.Effects.{parent_file, line_file, line_dress, line_after}
+use Rattle.pv_create.specs.Created.{created, IsQuiet}
+
+-- ---- on the way
+
+-- a place above a path
+abbrev pub IsAbove : Path → Path → Type 0
+IsAbove q path = (is_prefix q path ≡ true) × (q ≢ path)
+
+-- what stands at a path while a line is at work, from what stood there: the same, a parent that was absent, the new
+-- directory, or the old one that wears the first of owner, mode and ACL
+pub data IsMidway (line : Line) (q : Path) (old new : Option Object) : Type 0 where
+  kept : new ≡ old → IsMidway line q old new
+  parent : IsAbove q line.path → old ≡ None → new ≡ Some (bare (new_object parent_file 0)) → IsMidway line q old new
+  put : q ≡ line.path → old ≡ None → new ≡ Some (bare (new_object (line_file line) 0)) → IsMidway line q old new
+  adjusting : (o : Object) (k : ℕ) → q ≡ line.path → old ≡ Some o → o.node.kind ≡ Directory
+      → new ≡ Some (wear_first k (line_dress line o) o) → IsMidway line q old new
+
+-- on the way of one line, at each path without a staging name
+abbrev pub OnWay : Line → Files → Files → Type 0
+OnWay line t u = (q : Path) → has_staging q ≡ false → IsMidway line q (bares (places t) q) (bares (places u) q)
+
+-- on the way of lines one after the other: some are done, the next is at work
+abbrev pub Partway : List Line → ℕ → Files → Files → Type 0
+Partway [] now t u = Same t u
+Partway (line ∷ lines) now t u = OnWay line t u ⊎ Partway lines now (line_after line now t) u
+
+-- ---- single steps
+
+-- what is made under the staging name for a place: a parent, or the line's directory
+pub data IsStaged (line : Line) (place : Path) (file : NewFile) : Type 0 where
+  above : IsAbove place line.path → file ≡ parent_file → IsStaged line place file
+  last : place ≡ line.path → file ≡ line_file line → IsStaged line place file
+
+-- a step of a line takes something away, makes what is to come under its staging name and gives it what it is to
+-- have, publishes it, or sets the line's owners or mode at its path
+pub data IsStepOf (line : Line) (step : Step) : Type 0 where
+  removes : IsRemoval step → IsStepOf line step
+  stages : (place : Path) (file : NewFile) → IsStaged line place file → GivesNew (staging_of place) file step → IsStepOf line step
+  publishes : (place : Path) → is_prefix place line.path ≡ true → IsPublishing place step → IsStepOf line step
+  owner : step ≡ SetOwner line.path line.uid line.gid → IsStepOf line step
+  mode : step ≡ SetMode line.path line.mode → IsStepOf line step
+
+-- a step of one of some lines
+abbrev pub IsStepOfSome : List Line → Step → Type 0
+IsStepOfSome [] step = ⊥
+IsStepOfSome (line ∷ lines) step = IsStepOf line step ⊎ IsStepOfSome lines step
+
+-- ---- the stop law
+
+-- a run of one line from a tree, stopped after any of its steps: where neither it nor a whole run from there refuses
+-- the line, a whole run from there, at any moment, leaves the tree of a whole run from the start
+abbrev pub IsMended : Line → ℕ → Files → List Step → Type 0
+IsMended line now t steps = (n later : ℕ) →
+    IsQuiet (line ∷ []) now t →
+    IsQuiet (line ∷ []) later (after_all t (take n steps) now) →
+    Same (created (line ∷ []) later (after_all t (take n steps) now)) (created (line ∷ []) now t)

@@ -1,0 +1,19 @@
+//! The create phase: lines that make directories, so that a run cut short is mended by the next.
+#![tactic(auto)]
+
+mod carried;
+mod laws;
+mod line;
+mod lines;
+mod message;
+mod prepare;
+mod put;
+mod settle;
+
+pub use carried::Carried;
+pub use laws::{
+    a_line_changes_each_path_by_itself, a_line_leaves_no_staging_name, a_line_leaves_what_it_says,
+    a_run_changes_no_other_path, a_run_cut_short_is_mended, a_run_leaves_no_staging_name,
+    a_second_run_mends_a_half_done_line,
+};
+pub use lines::create_run;

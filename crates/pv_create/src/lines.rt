@@ -1,0 +1,68 @@
+ghost use Rattle.std.specs.Prelude.{◌≡◌, ◌≤◌, Bool, ◌||◌, ◌++◌, ◌∷◌, [], drop, length, OnOk, IfOk, IsErrOf};
+ghost use Rattle.std.specs.List.{AllByRecursion};
+ghost use Rattle.pv_io.specs.Faults.{HasRisen};
+ghost use Rattle.pv_text.specs.Said.{SaidPart};
+ghost use Rattle.pv_steps.specs.declared.tree.TreeFault.TheVariants.{Failed};
+ghost use Rattle.pv_steps.specs.Runs.{Ran};
+ghost use Rattle.pv_dress.specs.Asking.{asked};
+ghost use Rattle.pv_lines.specs.declared.line.Line.{Line as LineValue};
+ghost use Rattle.pv_lines.specs.Lines.{IsLine};
+ghost use Rattle.pv_create.specs.Created.{created, created_messages, some_refused, carried_of, work};
+ghost use Rattle.pv_create.specs.OnWay.{Partway, IsStepOfSome, IsMended};
+
+use crate::carried::Carried;
+use crate::line::carry_out;
+use pv_lines::LineList;
+use pv_steps::{Tree, TreeFault};
+use pv_text::Messages;
+use std::alloc::Global;
+
+/// Carries out lines in their order (tmpfiles.d(5)): a refused line does nothing and is said; what an earlier run
+/// has staged along a path is taken away; absent parents and the directory of a line are made under their staging
+/// names and come to their paths whole; a directory that is there gets the line's owners and mode; any other
+/// object is left and said.
+pub fn create_run<T: Tree>(
+    alloc: Global,
+    tree: &mut T,
+    lines: &LineList,
+    now: u64,
+    messages: &mut Messages,
+) -> Result<Carried, TreeFault>
+    requires lines { AllByRecursion IsLine lines.now }
+
+    // What a whole run leaves, stamps and staging names included, what it says and how it ends.
+    ensures ok { OnOk result (T.state tree.new ≡ created lines.now now (T.state tree.old)) }
+    ensures said { OnOk result (messages.new
+        ≡ messages.old ++ created_messages lines.now now (T.state tree.old)) }
+    ensures carried { IfOk result (λ c. c ≡ carried_of (some_refused lines.now now (T.state tree.old))) }
+
+    // What any run has said and done, whatever it answers.
+    ensures part { SaidPart (created_messages lines.now now (T.state tree.old)) messages.old messages.new }
+    ensures ran { Ran (Partway lines.now now (T.state tree.old)) (IsStepOfSome lines.now) now
+        (T.state tree.old) (T.steps tree.old) (T.state tree.new) (T.steps tree.new) }
+    ensures bound { asked result (T.steps tree.old) (T.steps tree.new)
+        ≤ work lines.now now (T.state tree.old) }
+    ensures never_falls { T.faults tree.old ≤ T.faults tree.new }
+    ensures cause { IsErrOf result Failed → HasRisen (T.faults tree.old) (T.faults tree.new) }
+
+    // The stop law for one line.
+    ensures mended { (line : LineValue) → lines.now ≡ line ∷ []
+        → IsMended line now (T.state tree.old) (drop (length (T.steps tree.old)) (T.steps tree.new)) }
+{
+    let mut carried = Carried::Whole;
+    for line in lines.as_slice() {
+        let one = carry_out(alloc, tree, line, now, messages)?;
+        carried = with_one(carried, one);
+    }
+    Ok(carried)
+}
+
+/// How lines and then one more ended.
+fn with_one(carried: Carried, one: Carried) -> Carried
+    ensures { (a b : Bool) → carried ≡ carried_of a → one ≡ carried_of b → result ≡ carried_of (a || b) }
+{
+    match one {
+        Carried::Whole => carried,
+        Carried::NotCarriedOut => Carried::NotCarriedOut,
+    }
+}

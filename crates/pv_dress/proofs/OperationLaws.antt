@@ -1,0 +1,70 @@
+-- Laws of operations on one object, for the crates above.
+use Rattle.std.specs.Prelude.{◌≡◌, ℕ, true, false, List, ◌∷◌, ◌++◌, take, Option, Some, None, option_map}
+use Rattle.std.specs.List.{list_all, list_any}
+use Rattle.std.proofs.Common.{ap}
+use Rattle.pv_steps.specs.declared.object.Object.{Object}
+use Rattle.pv_steps.specs.Objects.{bare, stamped}
+use Rattle.pv_dress.specs.declared.bare.Bare.{Bare}
+use Rattle.pv_dress.specs.declared.operation.Test.{Test}
+use Rattle.pv_dress.specs.declared.operation.Operation.{Operation}
+use Rattle.pv_dress.specs.declared.operation.Operation.TheVariants.{Renew, Erase}
+use Rattle.pv_dress.specs.Nodes.{bare_of}
+use Rattle.pv_dress.specs.Operations.{run, stays}
+use Rattle.pv_dress.specs.Reasons.{is_adjusting, is_idle, is_make, is_renewal, is_erasure, IsRepeatable}
+use Rattle.pv_dress.proofs.Repeating as repeating
+
+-- objects that are the same but for their stamps are the same without them
+pub bare_of-same : (a b : Object) → bare a ≡ bare b → bare_of a ≡ bare_of b
+bare_of-same a b e = ap bare_of e
+
+pub bare-same : (a b : Object) → bare_of a ≡ bare_of b → bare a ≡ bare b
+bare-same a b e = λ i. record {
+  node = record {
+    kind = (e i).body.kind;
+    special = (e i).dress.special;
+    uid = (e i).dress.uid;
+    gid = (e i).dress.gid;
+    acl = (e i).dress.acl;
+    stamps = stamped 0;
+    major = (e i).body.major;
+    minor = (e i).body.minor;
+  };
+  payload = (e i).body.payload;
+}
+
+-- the operations of two lists, one after the other
+pub run-append : (xs ys : List Operation) (b : Option Bare) → run (xs ++ ys) b ≡ run ys (run xs b)
+run-append = repeating.run-append
+
+-- the first of operations that nothing is said against; nothing is said against them, either
+pub repeatable-front : (xs ys : List Operation) → IsRepeatable (xs ++ ys) → IsRepeatable xs
+repeatable-front = repeating.repeatable-front
+
+-- without an erasure and without a make that renews an object keeps its kind
+pub kind_stays : (xs : List Operation) → list_any is_erasure xs ≡ false → list_any is_renewal xs ≡ false → (b : Bare) → option_map (λ (n : Bare). n.body.kind) (run xs (Some b)) ≡ Some b.body.kind
+kind_stays = repeating.kind_stays
+
+-- operations that nothing is said against, done twice, are done once
+pub run-twice : (xs : List Operation) → IsRepeatable xs → (b : Option Bare) → run xs (run xs b) ≡ run xs b
+run-twice = repeating.run-twice
+
+-- the first operations of a list are absorbed by the whole list
+pub absorbed : (xs : List Operation) (k : ℕ) (b : Option Bare) → IsRepeatable xs → run xs (run (take k xs) b) ≡ run xs b
+absorbed = repeating.absorbed
+
+-- where an object fails the test of the first make, the list ends as from nothing
+pub from_the_gap : (idle xs : List Operation) (test : Test) (new b : Bare) → list_all (is_adjusting is_idle) idle ≡ true → stays test new.body b.body ≡ false
+    → run (idle ++ Renew test new ∷ xs) (Some b) ≡ run (idle ++ Renew test new ∷ xs) None
+from_the_gap = repeating.from_the_gap
+
+-- what follows an erasure begins with nothing
+pub after_erasure : (xs ys : List Operation) (b : Option Bare) → run (xs ++ Erase ∷ ys) b ≡ run ys None
+after_erasure = repeating.after_erasure
+
+-- and where it makes nothing it ends with nothing
+pub erased : (xs ys : List Operation) (b : Option Bare) → list_any is_make ys ≡ false → run (xs ++ Erase ∷ ys) b ≡ None
+erased = repeating.erased
+
+-- without a make nothing stays nothing
+pub run-none : (xs : List Operation) → list_any is_make xs ≡ false → run xs None ≡ None
+run-none = repeating.run-none

@@ -1,0 +1,23 @@
+-- Masked modes (tmpfiles.d(5), the prefix `~` of a mode).
+use Rattle.std.specs.Prelude.{ℕ, ◌/◌, ◌%◌, bit_and, bit_or, if◌then◌else◌}
+use Rattle.pv_acl.specs.declared.part.Part.{Part}
+use Rattle.pv_acl.specs.Parts.{special_of}
+use Rattle.pv_steps.specs.declared.node.Kind.{Kind}
+use Rattle.pv_dress.specs.Nodes.{is_directory}
+
+-- read, write and execute, each where at least one of the three base entries has it
+abbrev pub granted : Part → ℕ
+granted part = bit_or part.owner (bit_or part.group part.other)
+
+-- a part with the base entries of a masked mode: read, write and execute are lost where the part grants them
+-- to nobody; the named entries and the mask stay
+abbrev pub with_masked : ℕ → Part → Part
+with_masked mode part = record part {
+  owner = bit_and (mode / 64 % 8) (granted part);
+  group = bit_and (mode / 8 % 8) (granted part);
+  other = bit_and (mode % 8) (granted part);
+}
+
+-- the special bits of a masked mode, which only a directory gets
+abbrev pub masked_special : Kind → ℕ → ℕ
+masked_special kind mode = if is_directory kind then special_of mode else 0

@@ -1,0 +1,41 @@
+-- Objects without their stamps, and tests on what they are (inode(7)).
+use Rattle.std.specs.Prelude.{◌==◌, Bool, true, false, not, ◌&&◌, ◌||◌}
+use Rattle.std.specs.Str.{bytes_eq}
+use Rattle.pv_steps.specs.declared.node.Kind.{Kind}
+use Rattle.pv_steps.specs.declared.node.Kind.TheVariants.{Directory, File, Link, Fifo, CharDevice, BlockDevice}
+use Rattle.pv_steps.specs.declared.object.Object.{Object}
+use Rattle.pv_dress.specs.declared.bare.Body.{Body}
+use Rattle.pv_dress.specs.declared.bare.Bare.{Bare}
+
+-- an object without its stamps
+abbrev pub bare_of : Object → Bare
+bare_of o = record {
+  body = record { kind = o.node.kind; payload = o.payload; major = o.node.major; minor = o.node.minor };
+  dress = record { uid = o.node.uid; gid = o.node.gid; special = o.node.special; acl = o.node.acl };
+}
+
+abbrev pub is_directory : Kind → Bool
+is_directory Directory = true
+is_directory kind = false
+
+abbrev pub is_file : Kind → Bool
+is_file File = true
+is_file kind = false
+
+abbrev pub is_link : Kind → Bool
+is_link Link = true
+is_link kind = false
+
+abbrev pub same_kind : Kind → Kind → Bool
+same_kind Directory Directory = true
+same_kind File File = true
+same_kind Link Link = true
+same_kind Fifo Fifo = true
+same_kind CharDevice CharDevice = true
+same_kind BlockDevice BlockDevice = true
+same_kind a b = false
+
+-- the target of a link and the numbers of a device are those that are wanted; a file's bytes do not count
+abbrev pub same_substance : Body → Body → Bool
+same_substance wanted b =
+    (not (is_link b.kind) || bytes_eq wanted.payload b.payload) && wanted.major == b.major && wanted.minor == b.minor

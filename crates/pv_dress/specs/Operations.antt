@@ -1,0 +1,57 @@
+-- What lines of configuration do to the object at one path (tmpfiles.d(5)).
+use Rattle.std.specs.Prelude.{ℕ, Bool, true, false, not, ◌&&◌, ◌||◌, List, ◌++◌, Option, Some, None, unwrap_or, fold, if◌then◌else◌}
+use Rattle.pv_acl.specs.Applying.{acl_after}
+use Rattle.pv_acl.specs.Parts as parts
+use Rattle.pv_acl.specs.Parts.{special_of}
+use Rattle.pv_steps.specs.declared.node.Kind.{Kind}
+use Rattle.pv_dress.specs.declared.attributes.Dress.{Dress}
+use Rattle.pv_dress.specs.declared.bare.Body.{Body}
+use Rattle.pv_dress.specs.declared.bare.Bare.{Bare}
+use Rattle.pv_dress.specs.declared.operation.Guard.{Guard}
+use Rattle.pv_dress.specs.declared.operation.Guard.TheVariants.{Every, NoLink, Only}
+use Rattle.pv_dress.specs.declared.operation.Test.{Test}
+use Rattle.pv_dress.specs.declared.operation.Change.{Change}
+use Rattle.pv_dress.specs.declared.operation.Change.TheVariants.{Write, Append, Owner, Mode, Entries}
+use Rattle.pv_dress.specs.declared.operation.Operation.{Operation}
+use Rattle.pv_dress.specs.declared.operation.Operation.TheVariants.{Make, Renew, Erase, Adjust}
+use Rattle.pv_dress.specs.Masks.{with_masked, masked_special}
+use Rattle.pv_dress.specs.Nodes.{is_directory, is_file, is_link, same_kind, same_substance}
+
+-- whether a change is for objects of a kind
+abbrev pub admits : Guard → Kind → Bool
+admits Every kind = true
+admits NoLink kind = not (is_link kind)
+admits (Only wanted) kind = same_kind wanted kind
+
+-- whether an object stays where a new one is wanted
+abbrev pub stays : Test → Body → Body → Bool
+stays test new old =
+    (same_kind new.kind old.kind && (not test.exact || same_substance new old))
+    || (test.spares_directories && is_directory old.kind)
+
+-- what an object of a kind wears after its mode is set, masked or not
+abbrev pub with_mode : Kind → ℕ → Bool → Dress → Dress
+with_mode kind mode false d = record d { special = special_of mode; acl = record d.acl { access = parts.with_mode mode d.acl.access } }
+with_mode kind mode true d = record d { special = masked_special kind mode; acl = record d.acl { access = with_masked mode d.acl.access } }
+
+-- an object of a kind after a change: bytes are a file's alone, and of a directory alone the default part changes
+abbrev pub changed : Kind → Change → Bare → Bare
+changed kind (Write bytes) b = if is_file kind then record b { body = record b.body { payload = bytes } } else b
+changed kind (Append bytes) b = if is_file kind then record b { body = record b.body { payload = b.body.payload ++ bytes } } else b
+changed kind (Owner uid gid) b = record b { dress = record b.dress { uid = unwrap_or uid b.dress.uid; gid = unwrap_or gid b.dress.gid } }
+changed kind (Mode mode masked) b = record b { dress = with_mode kind mode masked b.dress }
+changed kind (Entries line how) b = record b { dress = record b.dress { acl = acl_after b.dress.acl line how (is_directory kind) } }
+
+-- an object that may be absent, after one operation
+abbrev pub done : Operation → Option Bare → Option Bare
+done (Make new) None = Some new
+done (Make new) (Some b) = Some b
+done (Renew test new) None = Some new
+done (Renew test new) (Some b) = Some (if stays test new.body b.body then b else new)
+done Erase b = None
+done (Adjust guard change) None = None
+done (Adjust guard change) (Some b) = Some (if admits guard b.body.kind then changed b.body.kind change b else b)
+
+-- after all operations of a list, in order
+abbrev pub run : List Operation → Option Bare → Option Bare
+run operations b = fold (λ b operation. done operation b) b operations

@@ -1,0 +1,81 @@
+-- What is said against doing operations again: they might then leave something else.
+use Rattle.std.specs.Prelude.{◌≡◌, Bool, true, false, ◌&&◌, List, [], ◌∷◌, None, if◌then◌else◌}
+use Rattle.std.specs.List.{list_any}
+use Rattle.pv_acl.specs.declared.line.Entry.{Entry}
+use Rattle.pv_acl.specs.declared.line.Entry.TheVariants as entry
+use Rattle.pv_dress.specs.declared.operation.Change.{Change}
+use Rattle.pv_dress.specs.declared.operation.Change.TheVariants.{Append, Owner, Mode, Entries}
+use Rattle.pv_dress.specs.declared.operation.Operation.{Operation}
+use Rattle.pv_dress.specs.declared.operation.Operation.TheVariants.{Make, Renew, Erase, Adjust}
+
+-- whether an operation is a change that passes a test
+abbrev pub is_adjusting : (Change → Bool) → Operation → Bool
+is_adjusting test (Adjust guard change) = test change
+is_adjusting test operation = false
+
+abbrev pub is_append : Change → Bool
+is_append (Append bytes) = true
+is_append change = false
+
+abbrev pub is_masked : Change → Bool
+is_masked (Mode mode masked) = masked
+is_masked change = false
+
+-- whether an entry is that of the owner, the owning group or all others
+abbrev pub is_base : Entry → Bool
+is_base (entry.Owner perm) = true
+is_base (entry.Group perm) = true
+is_base (entry.Other perm) = true
+is_base e = false
+
+-- whether a change puts a base entry into the access part
+abbrev pub gives_base : Change → Bool
+gives_base (Entries line how) = list_any is_base line.access
+gives_base change = false
+
+-- a make, or a make that renews
+abbrev pub is_make : Operation → Bool
+is_make (Make new) = true
+is_make (Renew test new) = true
+is_make operation = false
+
+abbrev pub is_renewal : Operation → Bool
+is_renewal (Renew test new) = true
+is_renewal operation = false
+
+abbrev pub is_erasure : Operation → Bool
+is_erasure Erase = true
+is_erasure operation = false
+
+abbrev pub no_entries : List Entry → Bool
+no_entries [] = true
+no_entries (e ∷ es) = false
+
+-- owners of which none is given, or no entries
+abbrev pub is_idle : Change → Bool
+is_idle (Owner None None) = true
+is_idle (Entries line how) = no_entries line.access && no_entries line.default_part
+is_idle change = false
+
+-- bytes are appended
+abbrev pub has_append : List Operation → Bool
+has_append operations = list_any (is_adjusting is_append) operations
+
+-- a masked mode and a base entry of the access part meet
+abbrev pub has_mixed_mask : List Operation → Bool
+has_mixed_mask operations = list_any (is_adjusting is_masked) operations && list_any (is_adjusting gives_base) operations
+
+-- a make comes behind the first operation that changes anything; behind a make may come only makes that leave
+-- what is present
+abbrev pub has_late_make : List Operation → Bool
+has_late_make [] = false
+has_late_make (x ∷ xs) =
+    if is_adjusting is_idle x then has_late_make xs
+    else if is_make x then list_any is_renewal xs
+    else list_any is_make xs
+
+-- nothing is said against a list of operations
+pub record IsRepeatable (operations : List Operation) : Type 0 where
+  pub append : has_append operations ≡ false
+  pub mask : has_mixed_mask operations ≡ false
+  pub make : has_late_make operations ≡ false

@@ -1,0 +1,74 @@
+ghost use Rattle.std.specs.Prelude.{◌≡◌, IfOk};
+ghost use Rattle.pv_dress.specs.Nodes.{bare_of};
+
+use crate::attributes::Dress;
+use pv_acl::Acl;
+use pv_path::Bytes;
+use pv_steps::{Kind, Node};
+use std::alloc::{AllocError, Global};
+
+/// What an object is and holds: its kind, the bytes of a file or the target of a link, and the numbers of a
+/// device.
+#[derive(Debug, Drop)]
+pub struct Body {
+    pub kind: Kind,
+    /// The bytes of a file or the target of a link, else no bytes.
+    pub payload: Bytes,
+    /// A device's major number, else 0.
+    pub major: u32,
+    /// A device's minor number, else 0.
+    pub minor: u32,
+}
+
+/// An object without its stamps.
+#[derive(Debug, Drop)]
+pub struct Bare {
+    pub body: Body,
+    pub dress: Dress,
+}
+
+impl Body {
+    /// The same body once more.
+    pub fn copy(&self) -> Result<Body, AllocError>
+        ensures { IfOk result (λ body. body ≡ self.now) }
+    {
+        Ok(Body {
+            kind: self.kind,
+            payload: self.payload.copy()?,
+            major: self.major,
+            minor: self.minor,
+        })
+    }
+}
+
+impl Bare {
+    /// An object without its stamps, from its node and its payload.
+    pub fn of(alloc: Global, node: &Node, payload: &[u8]) -> Result<Bare, AllocError>
+        ensures { IfOk result (λ bare. bare ≡ bare_of (record { node = node.now; payload = payload.now })) }
+    {
+        Ok(Bare {
+            body: Body {
+                kind: node.kind,
+                payload: Bytes::copy_of(alloc, payload)?,
+                major: node.major,
+                minor: node.minor,
+            },
+            dress: Dress {
+                uid: node.uid,
+                gid: node.gid,
+                special: node.special,
+                acl: node.acl.copy()?,
+            },
+        })
+    }
+
+    /// The same object once more.
+    pub fn copy(&self) -> Result<Bare, AllocError>
+        ensures { IfOk result (λ bare. bare ≡ self.now) }
+    {
+        Ok(Bare {
+            body: self.body.copy()?,
+            dress: self.dress.copy()?,
+        })
+    }
+}

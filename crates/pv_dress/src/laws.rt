@@ -1,0 +1,46 @@
+//! Laws of operations on one object. Each function does nothing; its contract is the law.
+ghost use Rattle.std.specs.Prelude.{◌≡◌, ℕ, List, ◌∷◌, ◌++◌, take, true, false, Option, Some, None};
+ghost use Rattle.std.specs.List.{list_all, list_any};
+ghost use Rattle.pv_steps.specs.declared.object.Object.{Object as ObjectValue};
+ghost use Rattle.pv_steps.specs.Objects.{bare};
+ghost use Rattle.pv_acl.specs.Parts.{part_of_mode};
+ghost use Rattle.pv_dress.specs.declared.bare.Bare.{Bare as BareValue};
+ghost use Rattle.pv_dress.specs.declared.operation.Operation.{Operation as OperationValue};
+ghost use Rattle.pv_dress.specs.declared.operation.Operation.TheVariants.{Renew, Erase};
+ghost use Rattle.pv_dress.specs.declared.operation.Test.{Test as TestValue};
+ghost use Rattle.pv_dress.specs.Masks.{with_masked};
+ghost use Rattle.pv_dress.specs.Nodes.{bare_of};
+ghost use Rattle.pv_dress.specs.Operations.{run, stays};
+ghost use Rattle.pv_dress.specs.Reasons.{is_adjusting, is_idle, is_make, IsRepeatable};
+
+/// Where nothing is said against a list of operations, doing the first of them and then all of them gives
+/// what doing all of them gives, whatever was there before.
+pub fn first_operations_are_absorbed()
+    ensures { (operations : List OperationValue) (k : ℕ) (b : Option BareValue) → IsRepeatable operations
+        → run operations (run (take k operations) b) ≡ run operations b }
+{}
+
+/// An object that fails the test of the first make, behind operations that change nothing, is as good as
+/// none: the list ends as from the gap that it leaves when it is taken away.
+pub fn a_first_renewal_absorbs_what_was_there()
+    ensures { (idle rest : List OperationValue) (test : TestValue) (new b : BareValue)
+        → list_all (is_adjusting is_idle) idle ≡ true → stays test new.body b.body ≡ false
+        → run (idle ++ Renew test new ∷ rest) (Some b) ≡ run (idle ++ Renew test new ∷ rest) None }
+{}
+
+/// A list with an erasure and no make after it ends in nothing.
+pub fn an_erasure_without_a_make_leaves_nothing()
+    ensures { (before after : List OperationValue) (b : Option BareValue) → list_any is_make after ≡ false
+        → run (before ++ Erase ∷ after) b ≡ None }
+{}
+
+/// A masked mode takes nothing from what it has made itself.
+pub fn a_mask_takes_nothing_from_its_own_mode()
+    ensures { (mode : ℕ) → with_masked mode (part_of_mode mode) ≡ part_of_mode mode }
+{}
+
+/// Two objects are the same but for their stamps exactly where they are the same without them.
+pub fn objects_are_compared_without_stamps()
+    ensures same { (a b : ObjectValue) → bare a ≡ bare b → bare_of a ≡ bare_of b }
+    ensures back { (a b : ObjectValue) → bare_of a ≡ bare_of b → bare a ≡ bare b }
+{}

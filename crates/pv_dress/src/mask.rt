@@ -1,0 +1,59 @@
+ghost use Rattle.std.specs.Prelude.{◌≡◌, bit_and, if◌then◌else◌};
+ghost use Rattle.pv_acl.specs.Parts.{with_mode, special_of};
+ghost use Rattle.pv_dress.specs.Masks.{granted, with_masked, masked_special};
+ghost use Rattle.pv_dress.specs.Nodes.{is_directory};
+
+use pv_acl::{Part, Perm};
+use pv_steps::Kind;
+
+/// Gives a part the base entries of a masked mode: read, write and execute are lost where the part grants
+/// them to nobody (tmpfiles.d(5), the prefix `~` of a mode). The named entries and the mask stay.
+pub fn set_masked_base(part: &mut Part, mode: u16)
+    ensures { part.new ≡ with_masked mode part.old }
+{
+    let granted = granted(part);
+    part.set_base(mode);
+    part.owner = common(part.owner, granted);
+    part.group = common(part.group, granted);
+    part.other = common(part.other, granted);
+}
+
+/// The special bits of a masked mode, which only a directory gets.
+pub fn masked_special(kind: Kind, mode: u16) -> u8
+    ensures { result ≡ masked_special kind mode }
+{
+    if is_directory(kind) {
+        special_bits(mode)
+    } else {
+        0
+    }
+}
+
+/// The special bits of a mode.
+pub(crate) fn special_bits(mode: u16) -> u8
+    ensures { result ≡ special_of mode }
+{
+    (mode / 512) as u8
+}
+
+pub(crate) fn is_directory(kind: Kind) -> bool
+    ensures { result ≡ is_directory kind }
+{
+    matches!(kind, Kind::Directory)
+}
+
+/// Read, write and execute, each where one of the base entries has it.
+fn granted(part: &Part) -> Perm
+    ensures { result ≡ granted part.now }
+{
+    part.owner.union(part.group.union(part.other))
+}
+
+/// What two permissions both grant.
+fn common(a: Perm, b: Perm) -> Perm
+    ensures { result ≡ bit_and a b }
+{
+    Perm {
+        bits: a.bits & b.bits,
+    }
+}

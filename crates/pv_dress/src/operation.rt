@@ -1,0 +1,52 @@
+use crate::bare::Bare;
+use pv_acl::{AclLine, How};
+use pv_path::Bytes;
+use pv_steps::Kind;
+
+/// Which objects a change is for.
+#[derive(Clone, Copy, Debug, PartialEq, Eq)]
+pub enum Guard {
+    /// Any object.
+    Every,
+    /// Any object but a link.
+    NoLink,
+    /// Objects of one kind.
+    Only(Kind),
+}
+
+/// A change of a present object.
+#[derive(Debug, Drop)]
+pub enum Change {
+    /// The bytes of a file become these.
+    Write(Bytes),
+    /// These bytes come after those of a file.
+    Append(Bytes),
+    /// The owner and the owning group, each where it is given.
+    Owner { uid: Option<u32>, gid: Option<u32> },
+    /// The mode; a masked one loses what the object grants to nobody.
+    Mode { mode: u16, masked: bool },
+    /// Entries of an ACL.
+    Entries { line: AclLine, how: How },
+}
+
+/// Which present objects stay where a new one is wanted: those of its kind.
+#[derive(Clone, Copy, Debug, PartialEq, Eq)]
+pub struct Test {
+    /// Links stay only with the new target, devices only with the new numbers.
+    pub exact: bool,
+    /// Directories stay, too.
+    pub spares_directories: bool,
+}
+
+/// What a line of configuration asks of the object at one path.
+#[derive(Debug, Drop)]
+pub enum Operation {
+    /// An absent object becomes this one; a present one stays.
+    Make(Bare),
+    /// An absent object, or one that fails the test, becomes this one.
+    Renew { test: Test, new: Bare },
+    /// The object goes.
+    Erase,
+    /// A present object that the change is for is changed.
+    Adjust { guard: Guard, change: Change },
+}
