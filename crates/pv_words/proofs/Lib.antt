@@ -1,4 +1,10 @@
-pub mod AnsweredLaws
-pub mod PartsLaws
 pub mod ValueLaws
-pub mod MeaningLaws
+pub mod RowLaws
+pub mod RuleLaws
+pub mod FilesLaws
+pub mod WordLaws
+pub mod ParsingLaws
+pub mod HoldingLaws
+pub mod TurnLaws
+pub mod ToldLaws
+pub mod ReadingLaws

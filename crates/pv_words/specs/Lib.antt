@@ -1,6 +1,11 @@
 pub mod Table
 pub mod Values
+pub mod Pieces
+pub mod Part
+pub mod Stage
 pub mod Parts
 pub mod Meaning
 pub mod Answered
 pub mod Plain
+pub mod Command
+pub mod Reading

@@ -10,9 +10,8 @@ use Rattle.pv_words.specs.declared.option.OptionName.{OptionName}
 use Rattle.pv_words.specs.declared.option.OptionName.TheVariants.{Create, Remove, Clean, Report, Boot, Prefix, ExcludePrefix, StopAfter, Now}
 use Rattle.pv_words.specs.declared.options.Options.{Options}
 use Rattle.pv_words.specs.declared.options.Values.{Values}
-use Rattle.pv_words.specs.declared.parts.Given.{Given}
-use Rattle.pv_words.specs.declared.parts.Parts.{Parts}
-use Rattle.pv_words.specs.declared.step.Stage.TheVariants as stage
+use Rattle.pv_words.specs.Pieces.{Given, Parts}
+use Rattle.pv_words.specs.Stage as stage
 
 -- how often an option stands
 abbrev pub times_given : List Given → OptionName → ℕ

@@ -5,12 +5,15 @@ use Rattle.std.specs.Option.{option_map}
 use Rattle.pv_path.specs.Names.{same_bytes}
 use Rattle.pv_words.specs.Table.{row_of, option_named}
 use Rattle.pv_words.specs.declared.option.OptionName.{OptionName}
-use Rattle.pv_words.specs.declared.parts.Parts.{Parts}
-use Rattle.pv_words.specs.declared.step.Part.{Part}
-use Rattle.pv_words.specs.declared.step.Part.TheVariants as part
-use Rattle.pv_words.specs.declared.step.Stage.{Stage}
-use Rattle.pv_words.specs.declared.step.Stage.TheVariants.{Options, ValueOf, Files}
-use Rattle.pv_words.specs.declared.step.Step.{Step}
+use Rattle.pv_words.specs.Pieces.{Parts}
+use Rattle.pv_words.specs.Part.{Part}
+use Rattle.pv_words.specs.Part as part
+use Rattle.pv_words.specs.Stage.{Stage, Options, ValueOf, Files}
+
+-- what a word brings, and what the next may be
+pub record Step : Type 0 where
+  pub stage : Stage
+  pub part : Part
 
 abbrev pub is_dash : List ℕ → Bool
 is_dash word = same_bytes word (codes "-")

@@ -1,71 +1,48 @@
 ghost use Rattle.std.specs.Prelude.{◌≡◌};
 ghost use Rattle.std.specs.List.{list_all, list_any};
-ghost use Rattle.std.specs.Option.{option_map};
-ghost use Rattle.pv_words.specs.Meaning.{has_needed, is_allowed, is_given, may_stand, times_given, value_of};
+ghost use Rattle.clap.specs.Matches.{found_of};
+ghost use Rattle.pv_words.specs.Reading.{has_needed_in, is_allowed_in, is_found, may_be_found};
 ghost use Rattle.pv_words.specs.Table.{all_options, needed_by};
 
 use crate::option::{OptionName, all_options, needed_by};
-use crate::parts::Given;
+use crate::reading::{has_dash, is_given};
+use clap::ArgMatches;
 use pv_text::Tool;
 
-/// How often an option stands.
-fn times_given(given: &[Given], option: OptionName) -> usize
-    ensures { result ≡ times_given given.now option }
-{
-    given.iter().filter(|g| g.option.is_same(option)).count()
-}
-
-/// Whether an option stands.
-pub(crate) fn is_given(given: &[Given], option: OptionName) -> bool
-    ensures { result ≡ is_given given.now option }
-{
-    given.iter().any(|g| g.option.is_same(option))
-}
-
-/// The value of an option that stands.
-pub(crate) fn value_of(given: &[Given], option: OptionName) -> Option<&[u8]>
-    ensures { option_map (λ v. v.now) result ≡ value_of given.now option }
-{
-    let found = given.iter().find(|g| g.option.is_same(option))?;
-    Some(found.value.as_slice())
-}
-
 /// Whether one of the options stands.
-fn is_any_given(given: &[Given], options: &[OptionName]) -> bool
-    ensures { result ≡ list_any (is_given given.now) options.now }
+fn is_any_given(matches: &ArgMatches<'_>, options: &[OptionName]) -> bool
+    ensures { result ≡ list_any (is_found (found_of matches.now)) options.now }
 {
-    options.iter().any(|option| is_given(given, *option))
+    options.iter().any(|option| is_given(matches, *option))
 }
 
 /// Whether an option may stand as it does.
-fn may_stand(tool: Tool, given: &[Given], option: OptionName) -> bool
-    ensures { result ≡ may_stand tool given.now option }
+fn may_stand(tool: Tool, matches: &ArgMatches<'_>, option: OptionName) -> bool
+    ensures { result ≡ may_be_found tool (found_of matches.now) option }
 {
-    times_given(given, option) <= 1
-        && (!is_given(given, option)
-            || (option.is_for(tool) && !is_any_given(given, option.excludes())))
+    !is_given(matches, option) || (option.is_for(tool) && !is_any_given(matches, option.excludes()))
 }
 
-/// Whether the options may stand together, and one stands that the tool needs.
-pub(crate) fn is_allowed(tool: Tool, given: &[Given]) -> bool
-    ensures { result ≡ is_allowed tool given.now }
+/// Whether the options may stand together, one stands that the tool needs, and no file word is one dash.
+pub(crate) fn is_allowed(tool: Tool, matches: &ArgMatches<'_>) -> bool
+    ensures { result ≡ is_allowed_in tool (found_of matches.now) }
 {
-    each_may_stand(tool, given) && has_needed(tool, given)
+    each_may_stand(tool, matches) && has_needed(tool, matches) && !has_dash(matches)
 }
 
 /// Whether each option may stand as it does.
-fn each_may_stand(tool: Tool, given: &[Given]) -> bool
-    ensures { result ≡ list_all (may_stand tool given.now) all_options }
+fn each_may_stand(tool: Tool, matches: &ArgMatches<'_>) -> bool
+    ensures { result ≡ list_all (may_be_found tool (found_of matches.now)) all_options }
 {
     all_options()
         .iter()
-        .all(|option| may_stand(tool, given, *option))
+        .all(|option| may_stand(tool, matches, *option))
 }
 
 /// Whether one option stands that the tool needs.
-fn has_needed(tool: Tool, given: &[Given]) -> bool
-    ensures { result ≡ has_needed given.now (needed_by tool) }
+fn has_needed(tool: Tool, matches: &ArgMatches<'_>) -> bool
+    ensures { result ≡ has_needed_in (found_of matches.now) (needed_by tool) }
 {
     let needed = needed_by(tool);
-    needed.is_empty() || is_any_given(given, needed)
+    needed.is_empty() || is_any_given(matches, needed)
 }

@@ -3,11 +3,11 @@
 #![tactic(auto)]
 
 mod checks;
+mod command;
 mod fault;
 mod option;
 mod options;
-mod parts;
-mod step;
+mod reading;
 #[cfg(test)]
 mod tests;
 mod values;

@@ -1,5 +1,5 @@
 ghost use Rattle.std.specs.Prelude.{◌≡◌};
-ghost use Rattle.pv_words.specs.Table.{all_options, is_for, needed_by, option_named, row_of, same_option, tool_named};
+ghost use Rattle.pv_words.specs.Table.{all_options, is_for, needed_by, row_of, tool_named};
 
 use pv_text::Tool;
 
@@ -32,19 +32,19 @@ const ALL_OPTIONS: [OptionName; 9] = [
 
 impl OptionName {
     /// What the option is called, without its dashes.
-    pub(crate) fn name(self) -> &'static [u8]
+    pub(crate) fn name<'a>(self) -> &'a str
         ensures { result.now ≡ (row_of self).name }
     {
         match self {
-            OptionName::Create => b"create",
-            OptionName::Remove => b"remove",
-            OptionName::Clean => b"clean",
-            OptionName::Report => b"report",
-            OptionName::Boot => b"boot",
-            OptionName::Prefix => b"prefix",
-            OptionName::ExcludePrefix => b"exclude-prefix",
-            OptionName::StopAfter => b"stop-after",
-            OptionName::Now => b"now",
+            OptionName::Create => "create",
+            OptionName::Remove => "remove",
+            OptionName::Clean => "clean",
+            OptionName::Report => "report",
+            OptionName::Boot => "boot",
+            OptionName::Prefix => "prefix",
+            OptionName::ExcludePrefix => "exclude-prefix",
+            OptionName::StopAfter => "stop-after",
+            OptionName::Now => "now",
         }
     }
 
@@ -90,13 +90,6 @@ impl OptionName {
             _ => &[],
         }
     }
-
-    /// Whether the two are the same option.
-    pub(crate) fn is_same(self, other: OptionName) -> bool
-        ensures { result ≡ same_option self other }
-    {
-        self.name() == other.name()
-    }
 }
 
 /// All options of the table.
@@ -119,16 +112,6 @@ pub(crate) fn needed_by(tool: Tool) -> &'static [OptionName]
         ],
         Tool::Sysusers => &[],
     }
-}
-
-/// The option with a name.
-pub(crate) fn option_named(name: &[u8]) -> Option<OptionName>
-    ensures { result ≡ option_named name.now }
-{
-    ALL_OPTIONS
-        .iter()
-        .copied()
-        .find(|option| option.name() == name)
 }
 
 /// The tool with a name.

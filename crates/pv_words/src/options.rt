@@ -1,15 +1,16 @@
-ghost use Rattle.std.specs.Prelude.{◌≡◌, map, option_and_then, string_bytes};
+ghost use Rattle.std.specs.Prelude.{◌≡◌, map, string_bytes};
 ghost use Rattle.std.specs.Option.{option_map};
+ghost use Rattle.clap.specs.Matches.{found_of};
 ghost use Rattle.pv_words.specs.Answered.{Answers};
-ghost use Rattle.pv_words.specs.Meaning.{options_from, options_of, options_with, values_of};
-ghost use Rattle.pv_words.specs.Parts.{parts_of};
-ghost use Rattle.pv_words.specs.declared.step.Stage.TheVariants as stage;
+ghost use Rattle.pv_words.specs.Meaning.{options_of};
+ghost use Rattle.pv_words.specs.Reading.{files_in, meaning_for, options_in, options_told, values_in};
 
-use crate::checks::{is_allowed, is_given, value_of};
+use crate::checks::is_allowed;
 use crate::fault::WordsFault;
 use crate::option::{OptionName, tool_named};
-use crate::parts::{Given, Parts, parts_of};
+use crate::reading::{files_of, is_given, matches_of, value_of};
 use crate::values::{decimal_in, moment_in, path_in};
+use clap::ArgMatches;
 use pv_path::{TreePath, WordList};
 use pv_text::Tool;
 use std::alloc::Global;
@@ -67,59 +68,60 @@ pub fn options_of(alloc: Global, words: &[String]) -> Result<Options, WordsFault
 
 /// What the words after the tool mean.
 fn options_for(alloc: Global, tool: Tool, words: &[String]) -> Result<Options, WordsFault>
-    ensures { Answers result (option_and_then (options_from tool)
-        (parts_of stage.Options (map string_bytes words.now))) }
+    ensures { Answers result (meaning_for tool (map string_bytes words.now)) }
 {
-    options_from(alloc, tool, parts_of(alloc, words)?)
+    let matches = matches_of(alloc, words)?;
+    options_from(alloc, tool, &matches)
 }
 
 /// The options and file words, where the options may stand together and each value is read.
-fn options_from(alloc: Global, tool: Tool, parts: Parts) -> Result<Options, WordsFault>
-    ensures { Answers result (options_from tool parts) }
+fn options_from(alloc: Global, tool: Tool, matches: &ArgMatches<'_>) -> Result<Options, WordsFault>
+    ensures { Answers result (options_in tool (found_of matches.now)) }
 {
-    if is_allowed(tool, parts.given.as_slice()) {
-        read_options(alloc, tool, parts)
+    if is_allowed(tool, matches) {
+        read_options(alloc, tool, matches)
     } else {
         Err(WordsFault::Usage)
     }
 }
 
 /// The options and file words, where each value is read.
-fn read_options(alloc: Global, tool: Tool, parts: Parts) -> Result<Options, WordsFault>
-    ensures { Answers result (option_map (options_with tool parts) (values_of parts.given)) }
+fn read_options(alloc: Global, tool: Tool, matches: &ArgMatches<'_>) -> Result<Options, WordsFault>
+    ensures { Answers result (option_map (options_told tool (found_of matches.now)) (values_in (found_of matches.now))) }
 {
-    let Parts { given, files } = parts;
-    let values = values_of(alloc, given.as_slice())?;
-    Ok(options_with(tool, given.as_slice(), files, values))
+    let values = values_of(alloc, matches)?;
+    let words = files_of(alloc, matches)?;
+    Ok(options_with(tool, matches, words, values))
 }
 
 /// The options that stand, with their values, and the file words.
-fn options_with(tool: Tool, given: &[Given], files: WordList, values: Values) -> Options
-    ensures { result ≡ options_with tool (record { given = given.now; files = files }) values }
+fn options_with(tool: Tool, matches: &ArgMatches<'_>, words: WordList, values: Values) -> Options
+    requires { words ≡ files_in (found_of matches.now) }
+    ensures { result ≡ options_told tool (found_of matches.now) values }
 {
     Options {
         tool,
-        create: is_given(given, OptionName::Create),
-        remove: is_given(given, OptionName::Remove),
-        clean: is_given(given, OptionName::Clean),
-        report: is_given(given, OptionName::Report),
-        boot: is_given(given, OptionName::Boot),
+        create: is_given(matches, OptionName::Create),
+        remove: is_given(matches, OptionName::Remove),
+        clean: is_given(matches, OptionName::Clean),
+        report: is_given(matches, OptionName::Report),
+        boot: is_given(matches, OptionName::Boot),
         prefix: values.prefix,
         exclude_prefix: values.exclude_prefix,
         stop_after: values.stop_after,
         now: values.now,
-        words: files,
+        words,
     }
 }
 
 /// The values of the options that stand, where each is read.
-fn values_of(alloc: Global, given: &[Given]) -> Result<Values, WordsFault>
-    ensures { Answers result (values_of given.now) }
+fn values_of(alloc: Global, matches: &ArgMatches<'_>) -> Result<Values, WordsFault>
+    ensures { Answers result (values_in (found_of matches.now)) }
 {
-    let stop_after = decimal_in(value_of(given, OptionName::StopAfter))?;
-    let now = moment_in(value_of(given, OptionName::Now))?;
-    let prefix = path_in(alloc, value_of(given, OptionName::Prefix))?;
-    let exclude_prefix = path_in(alloc, value_of(given, OptionName::ExcludePrefix))?;
+    let stop_after = decimal_in(value_of(matches, OptionName::StopAfter))?;
+    let now = moment_in(value_of(matches, OptionName::Now))?;
+    let prefix = path_in(alloc, value_of(matches, OptionName::Prefix))?;
+    let exclude_prefix = path_in(alloc, value_of(matches, OptionName::ExcludePrefix))?;
     Ok(Values {
         prefix,
         exclude_prefix,

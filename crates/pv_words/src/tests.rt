@@ -20,6 +20,7 @@ fn refuses_what_means_nothing(rt: HostRuntime) -> Result<(), Fail> {
         "systemd-tmpfiles",
         "systemd-foo",
         "systemd-tmpfiles --create --create",
+        "systemd-tmpfiles --create --prefix /run --prefix=/run",
         "systemd-tmpfiles --report --create",
         "systemd-tmpfiles --report --stop-after=1",
         "systemd-tmpfiles --create --stop-after=x",
