@@ -8,7 +8,6 @@ use Rattle.pv_steps.specs.Trees.{Files}
 use Rattle.pv_steps.specs.Runs.{Ran}
 use Rattle.pv_image.specs.Images.{IsImage}
 use Rattle.pv_image.specs.Spelling.{text_of}
-use Rattle.pv_lines.specs.declared.line.Line.{Line}
 use Rattle.pv_tree.specs.Held.{Held}
 use Rattle.pv_create.specs.OnWay.{Partway, IsMended}
 use Rattle.pv_words.specs.declared.options.Options.{Options}
@@ -153,7 +152,7 @@ module _ (options : Options) (facts : Values) (moment : ℕ) (t u : Files) (h k 
       → (length k - length h) + 1 ≤ run_work options facts moment t
       → SaidPart (line_messages options facts moment t) (read_messages options facts t) said
       → out ≡ messages_text (said ++ stopped_text n ∷ []) ++ text_of facts u
-      → ((line : Line) → run_lines options facts t ≡ line ∷ [] → IsMended line moment t (drop (length h) k))
+      → IsMended (run_lines options facts t) moment t (drop (length h) k)
       → IsStopped options facts moment t n out
   stopped_run n out said limit count bound part text mended = record {
     limit = limit;
@@ -164,7 +163,7 @@ module _ (options : Options) (facts : Values) (moment : ℕ) (t u : Files) (h k 
     told = part.0;
     text = text ∙ ap (λ x. messages_text (x ++ stopped_text n ∷ []) ++ text_of facts u) part.1
         ∙ ap (λ x. messages_text (read_messages options facts t ++ take part.0 (line_messages options facts moment t) ++ stopped_text n ∷ []) ++ text_of facts x) ran.reached;
-    mended = λ line one. subst (IsMended line moment t) (ap (λ x. drop (length x) k) start ∙ all_told) (mended line one);
+    mended = subst (IsMended (run_lines options facts t) moment t) (ap (λ x. drop (length x) k) start ∙ all_told) mended;
   }
     where
       fewer : n < run_work options facts moment t
@@ -192,7 +191,7 @@ module _ (options : Options) (facts : Values) (moment : ℕ) (old new : Held) (Q
   pub stopped_answered : (n : ℕ) (said : List (List ℕ)) → options.stop_after ≡ Some n
       → (length new.steps - length old.steps) + 1 ≤ run_work options facts moment old.files
       → SaidPart (line_messages options facts moment old.files) (read_messages options facts old.files) said
-      → ((line : Line) → run_lines options facts old.files ≡ line ∷ [] → IsMended line moment old.files (drop (length old.steps) new.steps))
+      → IsMended (run_lines options facts old.files) moment old.files (drop (length old.steps) new.steps)
       → {E : Type 0} (r : Result Answer E) → IfOk r (λ a. a.outcome ≡ Stopped n) → IfOk r (λ _. length kept.steps ≡ n)
       → IfOk r (λ a. a.output.items ≡ messages_text (said ++ stopped_text n ∷ []) ++ text_of facts kept.files)
       → IfOk r (λ a. IsAnswered options facts moment old.files a.outcome a.output.items)

@@ -51,7 +51,7 @@ ran_nothing lines now t h = ran_none (Partway lines now t) (IsStepOfSome lines) 
 
 -- a run that has done nothing is mended
 pub nothing_mended : (options : Options) (facts : Values) (now : ℕ) (t : Files) (h : List Step) → now < 2 ^ 64 → IsTree t
-    → (line : Line) → run_lines options facts t ≡ line ∷ [] → IsMended line now t (drop (length h) h)
-nothing_mended options facts now t h fits tree line one =
-    let is = subst (AllByRecursion IsLine) one (configured-lines t facts options.words) in
-    mended line is.0 (IsStepOfSome (line ∷ [])) now t h t h fits tree (ran_nothing (line ∷ []) now t h)
+    → IsMended (run_lines options facts t) now t (drop (length h) h)
+nothing_mended options facts now t h fits tree =
+    let lines = run_lines options facts t in
+    mended lines (configured-lines t facts options.words) (IsStepOfSome lines) now t h t h fits tree (ran_nothing lines now t h)

@@ -8,7 +8,6 @@ use Rattle.pv_text.specs.Facts.{Values}
 use Rattle.pv_steps.specs.declared.step.Step.{Step}
 use Rattle.pv_steps.specs.Trees.{Files}
 use Rattle.pv_steps.specs.Runs.{Along, after_all}
-use Rattle.pv_lines.specs.declared.line.Line.{Line}
 use Rattle.pv_create.specs.OnWay.{Partway, IsMended}
 use Rattle.pv_words.specs.declared.options.Options.{Options}
 use Rattle.pv_image.specs.declared.fault.ImageFault.{ImageFault}
@@ -94,7 +93,7 @@ stopped_text n = codes "stopped after " ++ decimal n ++ codes " steps"
 
 -- what a run has written that was stopped after n steps, which are fewer than the most that it takes: a front part of
 -- what it says, which has at least what is said in reading, that it was stopped, and the image of the tree after the n
--- steps; and if there is one line alone, a whole run from that tree mends it
+-- steps; and a whole run from that tree mends it
 pub record IsStopped (options : Options) (facts : Values) (moment : ℕ) (t : Files) (n : ℕ) (out : List ℕ) : Type 0 where
   pub limit : options.stop_after ≡ Some n
   pub fewer : n < run_work options facts moment t
@@ -105,7 +104,7 @@ pub record IsStopped (options : Options) (facts : Values) (moment : ℕ) (t : Fi
   pub text : out
       ≡ messages_text (read_messages options facts t ++ take told (line_messages options facts moment t) ++ stopped_text n ∷ [])
       ++ text_of facts (after_all t steps moment)
-  pub mended : (line : Line) → run_lines options facts t ≡ line ∷ [] → IsMended line moment t steps
+  pub mended : IsMended (run_lines options facts t) moment t steps
 
 -- ---- answers
 

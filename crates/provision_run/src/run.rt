@@ -4,7 +4,6 @@ ghost use Rattle.pv_text.specs.Said.{SaidPart};
 ghost use Rattle.pv_steps.specs.declared.tree.TreeFault.TheVariants.{Failed};
 ghost use Rattle.pv_steps.specs.Runs.{Ran};
 ghost use Rattle.pv_dress.specs.Asking.{asked};
-ghost use Rattle.pv_lines.specs.declared.line.Line.{Line as LineValue};
 ghost use Rattle.pv_create.specs.OnWay.{Partway, IsStepOfSome, IsMended};
 ghost use Rattle.provision_run.specs.Words.{is_built};
 ghost use Rattle.provision_run.specs.Whole.{run_lines, final, read_messages, line_messages, run_messages, end_of, is_uncarried, run_end, run_work};
@@ -62,9 +61,9 @@ pub fn run_on_tree<T: Tree>(
     ensures never_falls { T.faults tree.old ≤ T.faults tree.new }
     ensures cause { IsErrOf result Failed → HasRisen (T.faults tree.old) (T.faults tree.new) }
 
-    // The stop law for a configuration of one line.
-    ensures mended { (line : LineValue) → run_lines options.entry.now facts.now (T.state tree.old) ≡ line ∷ []
-        → IsMended line moment (T.state tree.old) (drop (length (T.steps tree.old)) (T.steps tree.new)) }
+    // The stop law.
+    ensures mended { IsMended (run_lines options.entry.now facts.now (T.state tree.old)) moment (T.state tree.old)
+        (drop (length (T.steps tree.old)) (T.steps tree.new)) }
 {
     // Whatever the run answers, it began with a tree.
     let _root = tree.look(&TreePath::root(alloc));

@@ -19,7 +19,7 @@ use Rattle.pv_create.specs.Effects.{line_after}
 use Rattle.pv_create.specs.Created.{created, created_messages, is_refused, some_refused, carried_of, line_work, work}
 use Rattle.pv_create.specs.Saying.{line_messages}
 use Rattle.pv_create.specs.OnWay.{IsMidway, OnWay, Partway, IsStepOf, IsStepOfSome, IsMended}
-use Rattle.pv_create.specs.StopLaws.{mended}
+use Rattle.pv_create.specs.StopLaws.{mended, mended-none}
 use Rattle.pv_create.proofs.SettlingLine.{ran_longer}
 
 -- nothing done is on the way
@@ -184,18 +184,11 @@ module _ (all : List Line) (now : ℕ) (carried : Carried) (t0 : Files) (h0 : Li
   pub end_bound : (length h - length h0) + 0 ≤ work all now t0
   end_bound = let rest : (length h - length h0) + 0 ≤ work all now t0 = going.bound in rest
 
-  -- where there was a line, the tree was seen
-  pub end_tree : (line : Line) → all ≡ line ∷ [] → IsTree t0
-  end_tree line e = elim going.seen [
-    | inl none ↦ (let no : ◌≡◌ {A = List Line} [] (line ∷ []) = none.0 ∙ e in cc)
-    | inr tree ↦ tree
-  ]
-
--- ---- the stop law
-
-pub all_mended : (all : List Line) (now : ℕ) (t0 : Files) (h0 : List Step) (u : Files) (k : List Step) → now < 2 ^ 64 → AllByRecursion IsLine all
-    → Ran (Partway all now t0) (IsStepOfSome all) now t0 h0 u k → (line : Line) → all ≡ line ∷ [] → IsTree t0 → IsMended line now t0 (drop (length h0) k)
-all_mended all now t0 h0 u k fits lines ran line one tree =
-    let is : AllByRecursion IsLine (line ∷ []) = subst (AllByRecursion IsLine) one lines in
-    mended line is.0 (IsStepOfSome (line ∷ [])) now t0 h0 u k fits tree
-    (subst (λ ls. Ran (Partway ls now t0) (IsStepOfSome ls) now t0 h0 u k) one ran)
+  -- the stop law
+  pub end_mended : now < 2 ^ 64 → AllByRecursion IsLine all → IsMended all now t0 (drop (length h0) h)
+  end_mended fits lines = by going.seen
+    where
+      by : ((◌≡◌ {A = List Line} [] all) × (t ≡ t0)) ⊎ IsTree t0 → IsMended all now t0 (drop (length h0) h)
+      by (inl none) = subst (λ ls. Ran (Partway ls now t0) (IsStepOfSome all) now t0 h0 t h → IsMended ls now t0 (drop (length h0) h)) none.0
+          (mended-none (IsStepOfSome all) now t0 h0 t h) going.ran
+      by (inr tree) = mended all lines (IsStepOfSome all) now t0 h0 t h fits tree going.ran

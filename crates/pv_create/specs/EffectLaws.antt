@@ -1,5 +1,5 @@
 -- Laws of what a line leaves: the tree after it, and what it leaves at each path by itself.
-use Rattle.std.specs.Prelude.{◌≡◌, ◌≢◌, ℕ, ◌+◌, ◌/◌, ◌%◌, ◌≤◌, Bool, true, false, cond, ◌&&◌, ◌||◌, ◌==◌, List, [], ◌∷◌, ◌++◌, map, length, take, fold, Option, Some, None, is_some, option_map}
+use Rattle.std.specs.Prelude.{◌≡◌, ◌≢◌, ℕ, ◌+◌, ◌/◌, ◌%◌, ◌≤◌, Bool, true, false, cond, ◌&&◌, ◌||◌, ◌==◌, List, [], ◌∷◌, ◌++◌, map, length, take, fold, Option, Some, None, is_some, option_map, IfSome}
 use Rattle.std.proofs.Common.{zero, suc, refl, sym, ap, subst, ◌∙◌, arith, inl, inr}
 use Rattle.std.proofs.lemmas.Bool.Decides.{nat_tests}
 use Rattle.std.specs.List.{list_any, range_with_len, AllByRecursion}
@@ -16,8 +16,8 @@ use Rattle.pv_steps.specs.declared.node.Kind.{Kind}
 use Rattle.pv_steps.specs.declared.node.Kind.TheVariants.{Directory, File, Link, Fifo, CharDevice, BlockDevice}
 use Rattle.pv_steps.specs.declared.object.Object.{Object}
 use Rattle.pv_steps.specs.declared.why.Why.{Why}
-use Rattle.pv_steps.specs.Objects.{IsObject, bare, changed}
-use Rattle.pv_steps.specs.Trees.{Files, Places, places, kind_of, IsTreeIn}
+use Rattle.pv_steps.specs.Objects.{bare, changed}
+use Rattle.pv_steps.specs.Trees.{Files, Places, places, kind_of, IsKindIn, IsTreeIn}
 use Rattle.pv_steps.specs.Steps.{touched, made}
 use Rattle.pv_steps.specs.StepLaws.{same_files, is_among, places-tabulate, among_keys}
 use Rattle.pv_steps.specs.Same.{bares}
@@ -472,7 +472,28 @@ parent_no_prefix (n ∷ path) = by (is_prefix (n ∷ path) (parent_of (n ∷ pat
     by true e = absurd (let l = length-prefix (n ∷ path) (parent_of (n ∷ path)) e in omega (arith, length-parent_of (n ∷ path)))
     by false e = refl
 
-module _ (line : Line) (is : IsLine line) (now : ℕ) (t : Places) (tree : IsTreeIn t) where
+-- what the law of each path needs of a tree, stamps aside: the root is a directory, and what stands at a path without a
+-- staging name has permissions
+pub record IsShaped (t : Places) : Type 0 where
+  pub root : IsKindIn Directory (bares t) []
+  pub perms : (q : Path) → has_staging q ≡ false → IfSome (bares t q) (λ o. HasPerms o.node.acl.access)
+
+-- every tree has it
+pub shape_of_tree : (t : Places) → IsTreeIn t → IsShaped t
+shape_of_tree t tree = record {
+  root = kind (t []) ∙ tree.root;
+  perms = λ q plain. perms q (t q) refl;
+}
+  where
+    kind : (o : Option Object) → kind_of (option_map bare o) ≡ kind_of o
+    kind None = refl
+    kind (Some x) = refl
+
+    perms : (q : Path) (o : Option Object) → t q ≡ o → IfSome (option_map bare o) (λ x. HasPerms x.node.acl.access)
+    perms q None e = tt
+    perms q (Some x) e = part_perms x.node.acl.access (both _ _ (tree.objects q x e).acl).0
+
+module _ (line : Line) (is : IsLine line) (now : ℕ) (t : Places) (shape : IsShaped t) where
   not_taken : (q : Path) → has_staging q ≡ false → bares (swept now line.path t) q ≡ bares t q
   not_taken q plain = all_taken-outside now (staging_names line.path) t q (under_no_stage line.path q plain)
 
@@ -492,31 +513,22 @@ module _ (line : Line) (is : IsLine line) (now : ℕ) (t : Places) (tree : IsTre
       ∙ ap (filled (is_prefix q line.path && has_some q)) (not_taken q plain)
       ∙ by q (is_prefix q line.path)
     where
-      root : (o : Option Object) → kind_of o ≡ Some Directory → option_map bare o ≡ Some (point_above (option_map bare o))
+      root : (o : Option Object) → kind_of o ≡ Some Directory → o ≡ Some (point_above o)
       root None h = cc
       root (Some x) h = refl
 
       by : (r : Path) (b : Bool) → filled (b && has_some r) (bares t r) ≡ filled b (bares t r)
-      by [] true = root (t []) tree.root
+      by [] true = root (bares t []) shape.root
       by [] false = refl
       by (n ∷ r) true = refl
       by (n ∷ r) false = refl
 
-  bare_object : (o : Object) → IsObject o → HasPerms (bare o).node.acl.access
-  bare_object o h = part_perms o.node.acl.access (both _ _ h.acl).0
-
   -- what is prepared at the path has permissions as what stood there has
   prepared_perms : (o : Object) → prepared now line.path t line.path ≡ Some o → HasPerms o.node.acl.access
-  prepared_perms o e = by (t line.path) refl
-    where
-      by : (old : Option Object) → t line.path ≡ old → HasPerms (bare o).node.acl.access
-      by None f = absurd (let no : Some (bare o) ≡ None = sym (ap (option_map bare) e) ∙ prepared-here ∙ ap (option_map bare) f in cc)
-      by (Some y) f =
-          let same : Some (bare o) ≡ Some (bare y) = sym (ap (option_map bare) e) ∙ prepared-here ∙ ap (option_map bare) f in
-          subst (λ (x : Object). HasPerms x.node.acl.access) (sym (some_of (bare o) (bare y) same)) (bare_object y (tree.objects line.path y f))
-        where
-          some_of : (a b : Object) → Some a ≡ Some b → a ≡ b
-          some_of a b h = cc
+  prepared_perms o e =
+      let stood : bares t line.path ≡ Some (bare o) = sym prepared-here ∙ ap (option_map bare) e in
+      let perms : IfSome (Some (bare o)) (λ x. HasPerms x.node.acl.access) = subst (λ v. IfSome v (λ x. HasPerms x.node.acl.access)) stood (shape.perms line.path is.unstaged) in
+      perms
 
   -- what a line that is not refused leaves at a path depends on what stood at this path alone
   pub effect_point : line_refusal line t ≡ None → (q : Path) → has_staging q ≡ false → bares (line_effect line now t) q ≡ point line (bares t) q

@@ -25,7 +25,7 @@ created_absent [] now t q are staged h = h
 created_absent (line ∷ lines) now t q are staged h =
     created_absent lines now (line_after line now t) q are.1 staged (place_after line now t q ∙ stays_absent line now (places t) are.0.unstaged q staged h)
 
-unrefused : (line : Line) (t : Files) → is_refused line t ≡ false → line_refusal line (places t) ≡ None
+pub unrefused : (line : Line) (t : Files) → is_refused line t ≡ false → line_refusal line (places t) ≡ None
 unrefused line t h = by (line_refusal line (places t)) h
   where
     by : {A : Type 0} (r : Option A) → is_some r ≡ false → r ≡ None

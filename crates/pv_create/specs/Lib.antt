@@ -7,6 +7,7 @@ pub mod PreparingParents
 pub mod Settling
 pub mod Points
 pub mod EffectLaws
+pub mod PointLaws
 pub mod StopLaws
 pub mod Turns
 pub mod FrameLaws

@@ -63,10 +63,10 @@ IsStepOfSome (line ∷ lines) step = IsStepOf line step ⊎ IsStepOfSome lines s
 
 -- ---- the stop law
 
--- a run of one line from a tree, stopped after any of its steps: where neither it nor a whole run from there refuses
--- the line, a whole run from there, at any moment, leaves the tree of a whole run from the start
-abbrev pub IsMended : Line → ℕ → Files → List Step → Type 0
-IsMended line now t steps = (n later : ℕ) →
-    IsQuiet (line ∷ []) now t →
-    IsQuiet (line ∷ []) later (after_all t (take n steps) now) →
-    Same (created (line ∷ []) later (after_all t (take n steps) now)) (created (line ∷ []) now t)
+-- a run of lines from a tree, stopped after any of its steps: where neither it nor a whole run from there refuses a
+-- line at its turn, a whole run from there, at any moment, leaves the tree of a whole run from the start
+abbrev pub IsMended : List Line → ℕ → Files → List Step → Type 0
+IsMended lines now t steps = (n later : ℕ) →
+    IsQuiet lines now t →
+    IsQuiet lines later (after_all t (take n steps) now) →
+    Same (created lines later (after_all t (take n steps) now)) (created lines now t)

@@ -1,5 +1,6 @@
--- What a line that is not refused leaves at each path by itself, stamps and staging names aside (tmpfiles.d(5)).
-use Rattle.std.specs.Prelude.{Option, Some, None, unwrap_or, if◌then◌else◌}
+-- What a line that is not refused leaves at each path by itself, stamps and staging names aside (tmpfiles.d(5)); and what
+-- lines leave there one after the other.
+use Rattle.std.specs.Prelude.{List, [], ◌∷◌, Option, Some, None, unwrap_or, if◌then◌else◌}
 use Rattle.pv_path.specs.Paths.{Path, same_path, is_prefix}
 use Rattle.pv_steps.specs.declared.node.Kind.{Kind}
 use Rattle.pv_steps.specs.declared.node.Kind.TheVariants.{Directory}
@@ -32,3 +33,8 @@ point_of line q o =
 
 abbrev pub point : Line → Places → Places
 point line t = λ q. point_of line q (t q)
+
+-- at one path, what lines leave in their order
+abbrev pub points : List Line → Path → Option Object → Option Object
+points [] q o = o
+points (line ∷ lines) q o = points lines q (point_of line q o)

@@ -1,5 +1,5 @@
 //! Laws of what a line leaves, and of runs that were cut short. Each function does nothing; its contract is the law.
-ghost use Rattle.std.specs.Prelude.{◌≡◌, ◌≢◌, ℕ, ◌∷◌, [], ◌^◌, ◌<◌, List, None, true, false, drop, length};
+ghost use Rattle.std.specs.Prelude.{◌≡◌, ◌≢◌, ℕ, [], ◌^◌, ◌<◌, List, None, true, false, drop, length};
 ghost use Rattle.std.specs.List.{AllByRecursion};
 ghost use Rattle.pv_path.specs.Paths.{Path, is_prefix, has_staging, staging_of};
 ghost use Rattle.pv_steps.specs.declared.step.Step.{Step as StepValue};
@@ -12,7 +12,7 @@ ghost use Rattle.pv_create.specs.Effects.{line_refusal, line_effect, line_after}
 ghost use Rattle.pv_create.specs.Points.{point};
 ghost use Rattle.pv_create.specs.Created.{created, IsQuiet};
 ghost use Rattle.pv_create.specs.Turns.{IsCarriedOut, is_on_some_path};
-ghost use Rattle.pv_create.specs.OnWay.{OnWay, Partway, IsStepOfSome, IsMended};
+ghost use Rattle.pv_create.specs.OnWay.{Partway, IsStepOfSome, IsMended};
 
 /// What a tree has at each path after a line is what the line leaves there.
 pub fn a_line_leaves_what_it_says()
@@ -51,18 +51,19 @@ pub fn a_run_changes_no_other_path()
         → bares (places u) q ≡ bares (places t) q }
 {}
 
-/// From a tree that a run of a line may have left on its way, a whole run of the line leaves what it leaves from the
-/// start, where neither refuses the line; stamps and staging names aside.
-pub fn a_second_run_mends_a_half_done_line()
-    ensures { (line : LineValue) (now later : ℕ) (t u : Files) → IsTree t → IsTree u → IsLine line
-        → OnWay line t u → IsQuiet (line ∷ []) now t → IsQuiet (line ∷ []) later u
-        → Same (created (line ∷ []) later u) (created (line ∷ []) now t) }
+/// From a tree that a run of lines may have left on its way, a whole run of the lines leaves what it leaves from the
+/// start, where neither refuses a line at its turn; stamps and staging names aside.
+pub fn a_second_run_mends_half_done_lines()
+    ensures { (lines : List LineValue) (now later : ℕ) (t u : Files) → IsTree t → IsTree u
+        → AllByRecursion IsLine lines → Partway lines now t u
+        → IsQuiet lines now t → IsQuiet lines later u
+        → Same (created lines later u) (created lines now t) }
 {}
 
-/// What a run of a line leaves is mended after each number of its steps.
+/// What a run of lines leaves is mended after each number of its steps.
 pub fn a_run_cut_short_is_mended()
-    ensures { (line : LineValue) (now : ℕ) (t u : Files) (h k : List StepValue) → now < 2 ^ 64
-        → IsTree t → IsLine line
-        → Ran (Partway (line ∷ []) now t) (IsStepOfSome (line ∷ [])) now t h u k
-        → IsMended line now t (drop (length h) k) }
+    ensures { (lines : List LineValue) (now : ℕ) (t u : Files) (h k : List StepValue) → now < 2 ^ 64
+        → IsTree t → AllByRecursion IsLine lines
+        → Ran (Partway lines now t) (IsStepOfSome lines) now t h u k
+        → IsMended lines now t (drop (length h) k) }
 {}

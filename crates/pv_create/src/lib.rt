@@ -14,6 +14,6 @@ pub use carried::Carried;
 pub use laws::{
     a_line_changes_each_path_by_itself, a_line_leaves_no_staging_name, a_line_leaves_what_it_says,
     a_run_changes_no_other_path, a_run_cut_short_is_mended, a_run_leaves_no_staging_name,
-    a_second_run_mends_a_half_done_line,
+    a_second_run_mends_half_done_lines,
 };
 pub use lines::create_run;

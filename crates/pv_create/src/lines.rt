@@ -1,11 +1,10 @@
-ghost use Rattle.std.specs.Prelude.{◌≡◌, ◌≤◌, Bool, ◌||◌, ◌++◌, ◌∷◌, [], drop, length, OnOk, IfOk, IsErrOf};
+ghost use Rattle.std.specs.Prelude.{◌≡◌, ◌≤◌, Bool, ◌||◌, ◌++◌, drop, length, OnOk, IfOk, IsErrOf};
 ghost use Rattle.std.specs.List.{AllByRecursion};
 ghost use Rattle.pv_io.specs.Faults.{HasRisen};
 ghost use Rattle.pv_text.specs.Said.{SaidPart};
 ghost use Rattle.pv_steps.specs.declared.tree.TreeFault.TheVariants.{Failed};
 ghost use Rattle.pv_steps.specs.Runs.{Ran};
 ghost use Rattle.pv_dress.specs.Asking.{asked};
-ghost use Rattle.pv_lines.specs.declared.line.Line.{Line as LineValue};
 ghost use Rattle.pv_lines.specs.Lines.{IsLine};
 ghost use Rattle.pv_create.specs.Created.{created, created_messages, some_refused, carried_of, work};
 ghost use Rattle.pv_create.specs.OnWay.{Partway, IsStepOfSome, IsMended};
@@ -45,9 +44,9 @@ pub fn create_run<T: Tree>(
     ensures never_falls { T.faults tree.old ≤ T.faults tree.new }
     ensures cause { IsErrOf result Failed → HasRisen (T.faults tree.old) (T.faults tree.new) }
 
-    // The stop law for one line.
-    ensures mended { (line : LineValue) → lines.now ≡ line ∷ []
-        → IsMended line now (T.state tree.old) (drop (length (T.steps tree.old)) (T.steps tree.new)) }
+    // The stop law.
+    ensures mended { IsMended lines.now now (T.state tree.old)
+        (drop (length (T.steps tree.old)) (T.steps tree.new)) }
 {
     let mut carried = Carried::Whole;
     for line in lines.as_slice() {

@@ -2,9 +2,10 @@ use Rattle.std.proofs.Common.{◌+◌, ◌<◌, ◌≤◌, Err, length, get_or, 
 use Rattle.std.proofs.lemmas.Result.{err_from_is_err_and}
 use Rattle.pv_dress.specs.Asking.{refused}
 use Rattle.pv_create.specs.Created.{is_refused, line_work}
-use Rattle.pv_create.specs.OnWay.{OnWay, IsStepOf}
+use Rattle.pv_create.specs.OnWay.{OnWay, IsStepOf, IsStepOfSome}
+use Rattle.pv_create.specs.StopLaws.{mended}
 use Rattle.pv_create.proofs.SettlingLine.{ran_longer}
-use Rattle.pv_create.proofs.LinesLaws.{Going, going_start, going_next, next_left, none_left, one_tree, one_ran, one_part, one_bound, passed_on, end_part, end_tree, all_mended}
+use Rattle.pv_create.proofs.LinesLaws.{Going, going_start, going_next, next_left, none_left, one_tree, one_ran, one_part, one_bound, passed_on, end_part, end_mended}
 use Rattle.pv_create.proofs.lines.create_run.Goals as goal
 
 pub loop-line-init : goal.loop-line-init
@@ -101,7 +102,7 @@ returns-in_err-one-clause-mended g c =
     let going = subst (λ ls. Going all ls now c.loop-line.carried t0 h0 m0 t h m) next c.loop-line.invariant.going in
     let ran = one_ran all (drop (i + 1) all) line now c.loop-line.carried t0 h0 m0 t h m going u k n c.carry_out.ensures.ran in
     let tree = one_tree all (drop (i + 1) all) line now c.loop-line.carried t0 h0 m0 t h m going u k n c.carry_out.ensures.tree in
-    λ one is. all_mended all now t0 h0 u k c.ranges.now.fits c.requires.lines ran one is tree
+    mended all c.requires.lines (IsStepOfSome all) now t0 h0 u k c.ranges.now.fits tree ran
 
 pub loop-line-preserved : goal.loop-line-preserved
 loop-line-preserved g c =
@@ -150,5 +151,4 @@ returns-clause-mended g c =
     let k = g.T.Tree.steps c.loop-line.tree in
     let past : length all ≤ c.loop-line.line-index = omega (arith, c.loop-line-test.false, ap length c.loop-line.invariant.items) in
     let going = subst (λ ls. Going all ls now c.loop-line.carried t0 h0 c.args.messages.now u k c.loop-line.messages) (none_left all c.loop-line.line-index past) c.loop-line.invariant.going in
-    λ one is. all_mended all now t0 h0 u k c.ranges.now.fits c.requires.lines c.loop-line.invariant.going.ran one is
-    (end_tree all now c.loop-line.carried t0 h0 c.args.messages.now u k c.loop-line.messages going one is)
+    end_mended all now c.loop-line.carried t0 h0 c.args.messages.now u k c.loop-line.messages going c.ranges.now.fits c.requires.lines
