@@ -11,8 +11,9 @@ use Rattle.pv_steps.specs.RunLaws.{ran_none}
 use Rattle.pv_lines.specs.declared.line.Line.{Line}
 use Rattle.pv_lines.specs.Lines.{IsLine}
 use Rattle.pv_conf.specs.LineLists.{configured-lines}
-use Rattle.pv_create.specs.OnWay.{Partway, IsStepOfSome, IsMended, kept}
+use Rattle.pv_create.specs.OnWay.{Partway, IsStepOfSome, IsMended}
 use Rattle.pv_create.specs.StopLaws.{mended}
+use Rattle.pv_create.proofs.LinesLaws.{partway_start}
 use Rattle.pv_words.specs.declared.options.Options.{Options}
 use Rattle.provision_run.specs.Whole.{run_lines}
 
@@ -41,10 +42,6 @@ said_then a b old mid new all part =
     )
 
 -- ---- nothing done
-
-partway_start : (lines : List Line) (now : ℕ) (t : Files) → Partway lines now t t
-partway_start [] now t = λ q h. refl
-partway_start (line ∷ lines) now t = inl (λ q h. kept refl)
 
 pub ran_nothing : (lines : List Line) (now : ℕ) (t : Files) (h : List Step) → Ran (Partway lines now t) (IsStepOfSome lines) now t h t h
 ran_nothing lines now t h = ran_none (Partway lines now t) (IsStepOfSome lines) now t h t h (partway_start lines now t) refl refl

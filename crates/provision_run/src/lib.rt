@@ -6,6 +6,8 @@ mod message;
 mod outcome;
 mod run;
 #[cfg(test)]
+mod staging_tests;
+#[cfg(test)]
 mod tests;
 mod top;
 mod words;

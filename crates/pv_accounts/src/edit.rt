@@ -116,9 +116,9 @@ fn add_begun(text: &mut Vec<u8>, lines: &[&[u8]]) -> Result<(), AllocError>
     ensures { let added = flat_map (λ line. 10 ∷ line.now) lines.now in
         OnOk result (text.new.items ≡ text.old.items ++ added) }
 {
-    for line in lines {
+    for next in lines {
         text.push(b'\n')?;
-        text.extend_from_slice(line)?;
+        text.extend_from_slice(next)?;
     }
     Ok(())
 }

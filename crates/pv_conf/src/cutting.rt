@@ -1,14 +1,9 @@
 //! The lines of a content.
 ghost use Rattle.std.specs.Prelude.{◌≡◌, ◌==◌, ◌<◌, ◌≤◌, ◌∷◌, length};
 ghost use Rattle.std.specs.List.{position_or_len};
-ghost use Rattle.pv_text.specs.Fields.{is_blank};
 ghost use Rattle.pv_conf.specs.Configuration.{is_skipped, lines_in};
 
-fn is_blank(byte: u8) -> bool
-    ensures { result ≡ is_blank byte }
-{
-    matches!(byte, b' ' | b'\t' | b'\r')
-}
+use pv_text::is_blank;
 
 /// Whether a line is a comment or consists of blanks alone.
 pub(crate) fn is_skipped(line: &[u8]) -> bool

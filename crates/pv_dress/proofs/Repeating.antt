@@ -20,7 +20,8 @@ use Rattle.pv_dress.specs.declared.operation.Change.TheVariants.{Write, Append, 
 use Rattle.pv_dress.specs.declared.operation.Test.{Test}
 use Rattle.pv_dress.specs.declared.operation.Operation.{Operation}
 use Rattle.pv_dress.specs.declared.operation.Operation.TheVariants.{Make, Renew, Erase, Adjust}
-use Rattle.pv_dress.specs.Nodes.{is_directory, is_link, same_kind}
+use Rattle.pv_steps.specs.Objects.{is_directory}
+use Rattle.pv_dress.specs.Nodes.{is_link, same_kind}
 use Rattle.pv_dress.specs.Operations.{admits, stays, changed, done, run}
 use Rattle.pv_dress.specs.Reasons.{is_adjusting, is_append, is_masked, gives_base, is_make, is_renewal, is_erasure, is_idle, no_entries, has_append, has_mixed_mask, has_late_make, IsRepeatable}
 use Rattle.pv_dress.proofs.Settling.{neither}

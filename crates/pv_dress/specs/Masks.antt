@@ -3,7 +3,7 @@ use Rattle.std.specs.Prelude.{ℕ, ◌/◌, ◌%◌, bit_and, bit_or, if◌then�
 use Rattle.pv_acl.specs.declared.part.Part.{Part}
 use Rattle.pv_acl.specs.Parts.{special_of}
 use Rattle.pv_steps.specs.declared.node.Kind.{Kind}
-use Rattle.pv_dress.specs.Nodes.{is_directory}
+use Rattle.pv_steps.specs.Objects.{is_directory}
 
 -- read, write and execute, each where at least one of the three base entries has it
 abbrev pub granted : Part → ℕ

@@ -14,10 +14,6 @@ bare_of o = record {
   dress = record { uid = o.node.uid; gid = o.node.gid; special = o.node.special; acl = o.node.acl };
 }
 
-abbrev pub is_directory : Kind → Bool
-is_directory Directory = true
-is_directory kind = false
-
 abbrev pub is_file : Kind → Bool
 is_file File = true
 is_file kind = false

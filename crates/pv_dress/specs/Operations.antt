@@ -15,7 +15,8 @@ use Rattle.pv_dress.specs.declared.operation.Change.TheVariants.{Write, Append, 
 use Rattle.pv_dress.specs.declared.operation.Operation.{Operation}
 use Rattle.pv_dress.specs.declared.operation.Operation.TheVariants.{Make, Renew, Erase, Adjust}
 use Rattle.pv_dress.specs.Masks.{with_masked, masked_special}
-use Rattle.pv_dress.specs.Nodes.{is_directory, is_file, is_link, same_kind, same_substance}
+use Rattle.pv_steps.specs.Objects.{is_directory}
+use Rattle.pv_dress.specs.Nodes.{is_file, is_link, same_kind, same_substance}
 
 -- whether a change is for objects of a kind
 abbrev pub admits : Guard → Kind → Bool

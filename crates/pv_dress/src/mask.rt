@@ -1,7 +1,6 @@
 ghost use Rattle.std.specs.Prelude.{◌≡◌, bit_and, if◌then◌else◌};
 ghost use Rattle.pv_acl.specs.Parts.{with_mode, special_of};
 ghost use Rattle.pv_dress.specs.Masks.{granted, with_masked, masked_special};
-ghost use Rattle.pv_dress.specs.Nodes.{is_directory};
 
 use pv_acl::{Part, Perm};
 use pv_steps::Kind;
@@ -22,7 +21,7 @@ pub fn set_masked_base(part: &mut Part, mode: u16)
 pub fn masked_special(kind: Kind, mode: u16) -> u8
     ensures { result ≡ masked_special kind mode }
 {
-    if is_directory(kind) {
+    if kind.is_directory() {
         special_bits(mode)
     } else {
         0
@@ -34,12 +33,6 @@ pub(crate) fn special_bits(mode: u16) -> u8
     ensures { result ≡ special_of mode }
 {
     (mode / 512) as u8
-}
-
-pub(crate) fn is_directory(kind: Kind) -> bool
-    ensures { result ≡ is_directory kind }
-{
-    matches!(kind, Kind::Directory)
 }
 
 /// Read, write and execute, each where one of the base entries has it.

@@ -5,7 +5,7 @@ ghost use Rattle.pv_dress.specs.declared.operation.Operation.TheVariants.{Renew,
 
 use crate::attributes::Dress;
 use crate::bare::{Bare, Body};
-use crate::mask::{is_directory, masked_special, set_masked_base, special_bits};
+use crate::mask::{masked_special, set_masked_base, special_bits};
 use crate::operation::{Change, Guard, Operation, Test};
 use pv_acl::apply_entries;
 use pv_path::Bytes;
@@ -95,7 +95,7 @@ fn changed(alloc: Global, change: &Change, old: Bare) -> Result<Bare, AllocError
         }
         Change::Mode { mode, masked } => set_mode(&mut bare.dress, kind, *mode, *masked),
         Change::Entries { line, how } => {
-            bare.dress.acl = apply_entries(alloc, &bare.dress.acl, line, *how, is_directory(kind))?;
+            bare.dress.acl = apply_entries(alloc, &bare.dress.acl, line, *how, kind.is_directory())?;
         }
     }
     Ok(bare)
@@ -139,7 +139,7 @@ fn stays(test: Test, new: &Body, old: &Body) -> bool
     ensures { result ≡ stays test new.now old.now }
 {
     same_kind(new.kind, old.kind) && (!test.exact || same_substance(new, old))
-        || test.spares_directories && is_directory(old.kind)
+        || test.spares_directories && old.kind.is_directory()
 }
 
 /// Whether the target of a link and the numbers of a device are those that are wanted.

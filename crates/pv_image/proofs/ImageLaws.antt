@@ -10,12 +10,13 @@ use Rattle.std.specs.declared.cmp.Ordering.TheVariants.{Less, Equal, Greater}
 use Rattle.std.proofs.lemmas.List.Concat.{flat_map-append}
 use Rattle.pv_path.specs.Paths.{Path, has_names, parent_of, path_cmp, path_total, same_path}
 use Rattle.pv_path.specs.PathLaws.{both_true, parent_of-differs, parent_of-is_prefix, path_cmp-exact, prefix_not_greater}
+use Rattle.pv_steps.specs.Objects.{is_directory}
 use Rattle.pv_steps.specs.declared.node.Kind.TheVariants.{Directory}
 use Rattle.pv_steps.specs.declared.object.Object.{Object}
 use Rattle.pv_steps.specs.Trees.{Files, IsTree, kind_of, places}
 use Rattle.pv_text.specs.Facts.{Values}
 use Rattle.pv_image.specs.Spelling.{IsEntry, end_text, fact_text, header_text, line, node_text, text_of}
-use Rattle.pv_image.specs.Images.{HasFault, cut_off, misspelt, misplaced, later, HasImageFault, HaveText, IsCut, IsImage, Spells, Stage, Before, InFacts, InNodes, After, What, Note, Header, Fact, Node, End, are_byte_names, follows, has_parent, is_byte_fact, is_directory, is_line, is_note, is_root, judged}
+use Rattle.pv_image.specs.Images.{HasFault, cut_off, misspelt, misplaced, later, HasImageFault, HaveText, IsCut, IsImage, Spells, Stage, Before, InFacts, InNodes, After, What, Note, Header, Fact, Node, End, are_byte_names, follows, has_parent, is_byte_fact, is_line, is_note, is_root, judged}
 use Rattle.pv_image.specs.declared.fault.ImageFault.{ImageFault}
 use Rattle.pv_image.proofs.Letters.{all_append, all_back, both_yes}
 use Rattle.pv_image.proofs.Facts.{fact_whole}

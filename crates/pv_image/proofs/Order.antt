@@ -15,10 +15,10 @@ use Rattle.pv_steps.specs.declared.node.Kind.{Kind}
 use Rattle.pv_steps.specs.declared.node.Kind.TheVariants.{Directory, File, Link, Fifo, CharDevice, BlockDevice}
 use Rattle.pv_steps.specs.declared.node.Node.{Node}
 use Rattle.pv_steps.specs.declared.object.Object.{Object}
-use Rattle.pv_steps.specs.Objects.{PayloadFits}
+use Rattle.pv_steps.specs.Objects.{PayloadFits, is_directory}
 use Rattle.std.proofs.lemmas.List.{nil_from_length}
 use Rattle.pv_steps.specs.Trees.{Files, IsKind, node_at, places}
-use Rattle.pv_image.specs.Images.{follows, has_parent, is_directory}
+use Rattle.pv_image.specs.Images.{follows, has_parent}
 use Rattle.pv_image.proofs.Letters.{both_yes}
 
 pub less_is : (r : Ordering) → is_lt r ≡ true → r ≡ Less

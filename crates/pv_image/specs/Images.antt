@@ -6,9 +6,8 @@ use Rattle.std.specs.declared.cmp.Ordering.{Ordering}
 use Rattle.std.specs.FinMap as fin
 use Rattle.pv_path.specs.Paths.{Path, path_cmp, same_path, parent_of}
 use Rattle.pv_text.specs.Facts.{Values, is_fact}
-use Rattle.pv_steps.specs.declared.node.Kind.{Kind}
-use Rattle.pv_steps.specs.declared.node.Kind.TheVariants.{Directory}
 use Rattle.pv_steps.specs.declared.object.Object.{Object}
+use Rattle.pv_steps.specs.Objects.{is_directory}
 use Rattle.pv_steps.specs.Trees.{Files, IsTree}
 use Rattle.pv_image.specs.Spelling.{IsEntry, are_bytes, lacks, header_text, end_text, fact_text, node_text, line, text_of}
 use Rattle.pv_image.specs.declared.fault.ImageFault.{ImageFault}
@@ -78,10 +77,6 @@ abbrev pub follows : {K X : Type 0} → (K → K → Ordering) → List (K × X)
 follows order [] key = true
 follows order (e ∷ []) key = is_lt (order e.0 key)
 follows order (e ∷ next ∷ es) key = follows order (next ∷ es) key
-
-abbrev pub is_directory : Kind → Bool
-is_directory Directory = true
-is_directory kind = false
 
 -- the directory of a path was read before
 abbrev pub has_parent : List (Path × Object) → Path → Bool

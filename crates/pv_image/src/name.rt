@@ -1,36 +1,13 @@
 //! Printed names and paths, read back.
 ghost use Rattle.std.specs.Prelude.{◌≡◌, ◌↔◌, IsTrue, true, List, [], ◌∷◌, map, IfOk};
-ghost use Rattle.std.specs.List.{list_all};
-ghost use Rattle.pv_path.specs.Names.{is_dots, is_name, is_name_byte};
 ghost use Rattle.pv_path.specs.Printing.{printed, printed_path};
 ghost use Rattle.pv_image.specs.Spelling.{IsByteName, IsBytePath, path_texts};
 ghost use Rattle.pv_image.specs.Reading.{Reads, texts};
 
 use crate::pieces::pieces_of;
 use crate::printed::read_printed;
-use pv_path::{Name, TreePath};
+use pv_path::{Name, TreePath, is_name};
 use std::alloc::{AllocError, Global};
-
-/// Whether a name may have these bytes.
-fn is_name(bytes: &[u8]) -> bool
-    ensures { result ≡ is_name bytes.now }
-{
-    let plain = has_name_bytes(bytes);
-    let dots = is_dots(bytes);
-    !bytes.is_empty() && bytes.len() <= 255 && plain && !dots
-}
-
-fn has_name_bytes(bytes: &[u8]) -> bool
-    ensures { result ≡ list_all is_name_byte bytes.now }
-{
-    bytes.iter().all(|b| *b != 0 && *b != b'/')
-}
-
-fn is_dots(bytes: &[u8]) -> bool
-    ensures { result ≡ is_dots bytes.now }
-{
-    matches!(bytes, b"." | b"..")
-}
 
 /// The name that a text prints.
 fn read_name(alloc: Global, text: &[u8]) -> Result<Option<Name>, AllocError>

@@ -6,7 +6,7 @@ ghost use Rattle.std.specs.FinMap as fin;
 ghost use Rattle.pv_path.specs.Paths.{parent_of, path_cmp};
 ghost use Rattle.pv_steps.specs.Trees.{IsTree, node_at};
 ghost use Rattle.pv_image.specs.Spelling.{IsEntry};
-ghost use Rattle.pv_image.specs.Images.{follows, has_parent, is_directory, is_root, judged};
+ghost use Rattle.pv_image.specs.Images.{follows, has_parent, is_root, judged};
 ghost use Rattle.pv_image.specs.Images.{Node as NodeLine, InNodes};
 ghost use Rattle.pv_image.specs.Progress.{Refuses};
 
@@ -15,12 +15,6 @@ use pv_path::{TreePath, parent};
 use pv_steps::{Kind, Object};
 use pv_tree::{Entry, MemTree};
 use std::alloc::{AllocError, Global};
-
-fn is_directory(kind: Kind) -> bool
-    ensures { result ≡ is_directory kind }
-{
-    matches!(kind, Kind::Directory)
-}
 
 /// The path of the directory that a path lies in; of the root the root.
 fn parent_path(alloc: Global, path: &TreePath) -> Result<TreePath, AllocError>
@@ -59,7 +53,7 @@ fn has_parent(alloc: Global, tree: &MemTree, path: &TreePath) -> Result<bool, Al
 {
     let up = parent_path(alloc, path)?;
     match tree.node_at(&up) {
-        Some(node) => Ok(is_directory(node.kind)),
+        Some(node) => Ok(node.kind.is_directory()),
         None => Ok(false),
     }
 }
@@ -107,7 +101,7 @@ pub(crate) fn root_tree(
     ensures refused { IfErr result (λ f. f ≢ ImageFault.Memory → (is_root (path.now, object) ≡ false) × (f ≡ ImageFault.NoParent number)) }
 {
     let Object { node, payload: _ } = object;
-    if !path.is_empty() || !is_directory(node.kind) {
+    if !path.is_empty() || !node.kind.is_directory() {
         return Err(ImageFault::NoParent(number));
     }
     Ok(MemTree::new(alloc, node)?)

@@ -1,35 +1,12 @@
 ghost use Rattle.std.specs.Prelude.{◌≡◌, ◌==◌, IfOk};
-ghost use Rattle.std.specs.List.{list_all};
 ghost use Rattle.std.specs.Result.{result_ok};
-ghost use Rattle.pv_path.specs.Names.{is_dots, is_name, is_name_byte};
 ghost use Rattle.pv_path.specs.Parsing.{path_of};
 ghost use Rattle.pv_layers.specs.Choices.{found_word};
 
 use crate::found::{Found, found_at, found_in};
-use pv_path::{PathFault, PathList, TreePath, parse_path};
+use pv_path::{PathFault, PathList, TreePath, is_name, parse_path};
 use pv_steps::Tree;
 use std::alloc::{AllocError, Global};
-
-fn has_name_bytes(bytes: &[u8]) -> bool
-    ensures { result ≡ list_all is_name_byte bytes.now }
-{
-    bytes.iter().all(|b| *b != 0 && *b != b'/')
-}
-
-fn is_dots(bytes: &[u8]) -> bool
-    ensures { result ≡ is_dots bytes.now }
-{
-    matches!(bytes, b"." | b"..")
-}
-
-/// Whether a name may have these bytes.
-fn is_name(bytes: &[u8]) -> bool
-    ensures { result ≡ is_name bytes.now }
-{
-    let plain = has_name_bytes(bytes);
-    let dots = is_dots(bytes);
-    !bytes.is_empty() && bytes.len() <= 255 && plain && !dots
-}
 
 /// The path that a text spells, or nothing.
 fn read_path(alloc: Global, text: &[u8]) -> Result<Option<TreePath>, AllocError>

@@ -10,7 +10,7 @@ mod relate;
 mod sequence;
 
 pub use fault::PathFault;
-pub use name::{Name, is_staging};
+pub use name::{Name, is_name, is_staging};
 pub use parse::parse_path;
 pub use path::TreePath;
 pub use print::{print_bytes, print_path};

@@ -4,12 +4,35 @@ ghost use Rattle.std.specs.Cmp.{partial_equiv_from_equiv};
 ghost use Rattle.std.specs.Cmp.Lexicographic.{slice_cmp, nat_list_cmp_total, nat_list_eq_equiv, texts_ties, texts_po};
 ghost use Rattle.std.specs.Hash as fed;
 ghost use Rattle.std.proofs.Common.{rules, refl};
-ghost use Rattle.pv_path.specs.Names.{is_name, is_staging, staging_name, same_bytes};
+ghost use Rattle.std.specs.List.{list_all};
+ghost use Rattle.pv_path.specs.Names.{is_dots, is_name, is_name_byte, is_staging, staging_name, same_bytes};
 
 use std::alloc::{AllocError, Global};
 use std::cmp::Ordering;
 use std::hash::{Hash, Hasher};
 use std::marker::Model;
+
+fn has_name_bytes(bytes: &[u8]) -> bool
+    ensures { result ≡ list_all is_name_byte bytes.now }
+{
+    bytes.iter().all(|b| *b != 0 && *b != b'/')
+}
+
+fn is_dots(bytes: &[u8]) -> bool
+    ensures { result ≡ is_dots bytes.now }
+{
+    matches!(bytes, b"." | b"..")
+}
+
+/// Whether a name may have these bytes: 1 to 255, without a slash and NUL, and neither `.` nor `..`. It takes
+/// no memory.
+pub fn is_name(bytes: &[u8]) -> bool
+    ensures { result ≡ is_name bytes.now }
+{
+    let plain = has_name_bytes(bytes);
+    let dots = is_dots(bytes);
+    !bytes.is_empty() && bytes.len() <= 255 && plain && !dots
+}
 
 /// Whether a name is a staging name, which belongs to the program. It takes no memory.
 pub fn is_staging(name: &[u8]) -> bool

@@ -1,5 +1,5 @@
 -- Objects of a tree, and what each kind of change does to one (inode(7), acl(5)).
-use Rattle.std.specs.Prelude.{◌≡◌, ℕ, ◌^◌, ◌<◌, ◌≤◌, true, not, ◌==◌, List, [], length, None, nat_lt}
+use Rattle.std.specs.Prelude.{◌≡◌, ℕ, ◌^◌, ◌<◌, ◌≤◌, Bool, true, false, not, ◌==◌, List, [], length, None, nat_lt}
 use Rattle.std.specs.List.{list_all}
 use Rattle.pv_acl.specs.declared.part.Acl.{Acl}
 use Rattle.pv_acl.specs.Parts as parts
@@ -10,6 +10,10 @@ use Rattle.pv_steps.specs.declared.node.Stamps.{Stamps}
 use Rattle.pv_steps.specs.declared.object.Object.{Object}
 
 -- ---- objects as such
+
+abbrev pub is_directory : Kind → Bool
+is_directory Directory = true
+is_directory kind = false
 
 -- all four stamps at one moment
 abbrev pub stamped : ℕ → Stamps

@@ -1,4 +1,5 @@
 ghost use Rattle.std.specs.Prelude.{◌≡◌, ◌↔◌, IfOk, IsTrue};
+ghost use Rattle.pv_steps.specs.Objects.{is_directory};
 
 use pv_acl::Acl;
 use std::alloc::AllocError;
@@ -12,6 +13,15 @@ pub enum Kind {
     Fifo,
     CharDevice,
     BlockDevice,
+}
+
+impl Kind {
+    /// Whether it is a directory.
+    pub fn is_directory(self) -> bool
+        ensures { result ≡ is_directory self }
+    {
+        matches!(self, Kind::Directory)
+    }
 }
 
 /// The four stamps of an object, in microseconds since 1970.

@@ -19,7 +19,7 @@ pub use fault::{ExpandFault, FieldFault};
 pub use lent::Fields;
 pub use messages::Messages;
 pub use place::Place;
-pub use reading::fields;
+pub use reading::{fields, is_blank};
 pub use specifiers::expand;
 pub use tool::Tool;
 

@@ -7,7 +7,8 @@ use crate::fault::FieldFault;
 use crate::lent::Fields;
 use crate::spans::Spans;
 
-fn is_blank(byte: u8) -> bool
+/// Whether a byte stands between fields: a space, a tab or a carriage return.
+pub fn is_blank(byte: u8) -> bool
     ensures { result ≡ is_blank byte }
 {
     matches!(byte, b' ' | b'\t' | b'\r')
