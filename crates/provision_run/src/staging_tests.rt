@@ -1,12 +1,14 @@
 //! The steps of removal, of staging and of publishing, over trees in memory.
-ghost use Rattle.std.specs.Prelude.{◌≡◌, ◌≢◌, [], true};
+ghost use Rattle.std.specs.Prelude.{◌≡◌, ◌≢◌, ◌==◌, ◌↔◌, IsTrue, [], true, not, length, nat_le};
+ghost use Rattle.std.specs.List.{list_all};
 ghost use Rattle.pv_path.specs.Paths.{parent_of, staging_of};
 ghost use Rattle.pv_steps.specs.declared.node.Kind.TheVariants.{Directory};
-ghost use Rattle.pv_steps.specs.Trees.{places, IsAbsentIn, IsKind, IsPresent};
-ghost use Rattle.pv_walk.specs.Staging.{IsNewFile, can_stage};
+ghost use Rattle.pv_steps.specs.Objects.{IsTarget};
+ghost use Rattle.pv_steps.specs.Trees.{IsKind};
+ghost use Rattle.pv_walk.specs.Staging.{HasTarget, IsNewFile, can_stage};
 
 use pv_image::{read_image, write_image};
-use pv_path::{Bytes, TreePath, parent, parse_path, print_path, staging};
+use pv_path::{Bytes, Name, TreePath, parent, parse_path, print_path, staging};
 use pv_steps::{Kind, Tree};
 use pv_text::Facts;
 use pv_tree::{Fused, MemTree};
@@ -37,11 +39,24 @@ fn printed(alloc: Global, tree: &MemTree) -> Result<Vec<u8>, Fail> {
     Ok(text)
 }
 
+/// Whether a name leaves room for the five bytes of a staging name.
+fn is_short(name: &Name) -> bool
+    ensures { result ≡ nat_le (length name.now) 250 }
+{
+    name.bytes().len() <= 250
+}
+
+fn are_short(names: &[Name]) -> bool
+    ensures { result ≡ list_all (λ name. nat_le (length name) 250) names.now }
+{
+    names.iter().all(|name| is_short(name))
+}
+
 /// Stops unless each name of a path leaves room for a staging name.
 fn expect_short(rt: &impl Abort, path: &TreePath)
     ensures { can_stage path.now ≡ true }
 {
-    assert!(rt; path.names().iter().all(|name| name.bytes().len() <= 250));
+    assert!(rt; are_short(path.names()));
 }
 
 /// Stops at the path of the root.
@@ -75,13 +90,40 @@ fn expect_parent<T: Tree>(rt: &impl Abort, alloc: Global, tree: &T, path: &TreeP
     }
 }
 
+/// Whether bytes can be the target of a link.
+fn is_target(bytes: &[u8]) -> bool
+    ensures { IsTrue result ↔ IsTarget bytes.now }
+{
+    let without_nul = has_no_nul(bytes);
+    !bytes.is_empty() && bytes.len() <= 4095 && without_nul
+}
+
+fn has_no_nul(bytes: &[u8]) -> bool
+    ensures { result ≡ list_all (λ b. not (b == 0)) bytes.now }
+{
+    bytes.iter().all(|b| *b != 0)
+}
+
+/// Stops unless a target is one that a link may have.
+fn expect_target(rt: &impl Abort, what: &NewKind)
+    ensures { HasTarget what.now }
+{
+    if let NewKind::Link(target) = what {
+        assert!(rt; is_target(target.as_slice()));
+    }
+}
+
+/// Stops unless an object may be made so.
+fn expect_new(rt: &impl Abort, new: &NewFile)
+    ensures { IsNewFile new.now }
+{
+    assert!(rt; new.mode <= 0o7777);
+    assert!(rt; new.uid < u32::MAX && new.gid < u32::MAX);
+    expect_target(rt, &new.what);
+}
+
 /// Publishes what is staged for a path.
-fn publish_at(
-    rt: &impl Abort,
-    alloc: Global,
-    tree: &mut Fused<MemTree>,
-    text: &[u8],
-) -> bool {
+fn publish_at(rt: &impl Abort, alloc: Global, tree: &mut Fused<MemTree>, text: &[u8]) -> bool {
     let path = path_of(rt, alloc, text);
     expect_short(rt, &path);
     expect_below_root(rt, &path);
@@ -91,9 +133,14 @@ fn publish_at(
 }
 
 /// Stages a new object for a path.
-fn stage_at(rt: &impl Abort, alloc: Global, tree: &mut MemTree, text: &[u8], new: &NewFile) -> bool
-    requires { IsNewFile new.now }
-{
+fn stage_at(
+    rt: &impl Abort,
+    alloc: Global,
+    tree: &mut MemTree,
+    text: &[u8],
+    new: &NewFile,
+) -> bool {
+    expect_new(rt, new);
     let path = path_of(rt, alloc, text);
     expect_short(rt, &path);
     expect_below_root(rt, &path);
@@ -151,7 +198,10 @@ fn staging_names_are_swept_from_the_root(rt: HostRuntime) -> Result<(), Fail> {
     let path = path_of(&rt, alloc, b"/a/b");
     expect_short(&rt, &path);
     for (limit, left) in [
-        (1, b"/ /.#tf-a /.#tf-z /a /a/.#tf-b /a/.#tf-c /a/b ".as_slice()),
+        (
+            1,
+            b"/ /.#tf-a /.#tf-z /a /a/.#tf-b /a/.#tf-c /a/b ".as_slice(),
+        ),
         (2, b"/ /.#tf-z /a /a/.#tf-b /a/.#tf-c /a/b "),
         (3, b"/ /.#tf-z /a /a/.#tf-c /a/b "),
     ] {
@@ -187,8 +237,18 @@ fn what_is_staged_comes_to_its_path(rt: HostRuntime) -> Result<(), Fail> {
     for (stage, old, steps, left) in [
         (FILE, b"".as_slice(), 1, b"/ /a ".as_slice()),
         (FILE, b"f /a 0600 0 0 2,2,2,2 - -\n", 1, b"/ /a "),
-        (FILE, b"d /a 0700 0 0 2,2,2,2 - -\nd /a/x 0700 0 0 2,2,2,2 - -\nf /a/x/y 0600 0 0 2,2,2,2 - -\n", 4, b"/ /a "),
-        (FULL, b"d /a 0700 0 0 2,2,2,2 - -\nf /a/x 0600 0 0 2,2,2,2 - -\n", 2, b"/ /a /a/z "),
+        (
+            FILE,
+            b"d /a 0700 0 0 2,2,2,2 - -\nd /a/x 0700 0 0 2,2,2,2 - -\nf /a/x/y 0600 0 0 2,2,2,2 - -\n",
+            4,
+            b"/ /a ",
+        ),
+        (
+            FULL,
+            b"d /a 0700 0 0 2,2,2,2 - -\nf /a/x 0600 0 0 2,2,2,2 - -\n",
+            2,
+            b"/ /a /a/z ",
+        ),
         (FULL, b"f /a 0600 0 0 2,2,2,2 - -\n", 2, b"/ /a /a/z "),
     ] {
         let mut lines = Vec::from_slice(alloc, stage)?;
@@ -207,9 +267,7 @@ fn what_is_staged_comes_to_its_path(rt: HostRuntime) -> Result<(), Fail> {
 }
 
 /// The image after a new object was staged for `/x` in an empty root.
-fn staged(rt: &impl Abort, alloc: Global, new: &NewFile) -> Result<Vec<u8>, Fail>
-    requires { IsNewFile new.now }
-{
+fn staged(rt: &impl Abort, alloc: Global, new: &NewFile) -> Result<Vec<u8>, Fail> {
     let mut tree = tree_of(rt, alloc, &image_of(alloc, ROOT, b"")?);
     assert!(rt; stage_at(rt, alloc, &mut tree, b"/x", new));
     Ok(write_image(alloc, &tree, &Facts::new(alloc))?)
@@ -220,19 +278,47 @@ fn objects_of_all_kinds_are_staged(rt: HostRuntime) -> Result<(), Fail> {
     let alloc = rt.alloc();
     let bytes = Bytes::copy_of(alloc, b"hi")?;
     let target = Bytes::copy_of(alloc, b"/t")?;
-    let device = NewKind::Device { block: false, major: 5, minor: 1 };
-    let disk = NewKind::Device { block: true, major: 8, minor: 0 };
+    let device = NewKind::Device {
+        block: false,
+        major: 5,
+        minor: 1,
+    };
+    let disk = NewKind::Device {
+        block: true,
+        major: 8,
+        minor: 0,
+    };
     for (what, mode, line) in [
-        (NewKind::Directory, 0o1750, b"d /.#tf-x 1750 5 6 9,9,9,9 - -\n".as_slice()),
-        (NewKind::File(bytes), 0o4640, b"f /.#tf-x 4640 5 6 9,9,9,9 - aGk=\n"),
-        (NewKind::Link(target), 0o600, b"l /.#tf-x 0777 5 6 9,9,9,9 - /t\n"),
+        (
+            NewKind::Directory,
+            0o1750,
+            b"d /.#tf-x 1750 5 6 9,9,9,9 - -\n".as_slice(),
+        ),
+        (
+            NewKind::File(bytes),
+            0o4640,
+            b"f /.#tf-x 4640 5 6 9,9,9,9 - aGk=\n",
+        ),
+        (
+            NewKind::Link(target),
+            0o600,
+            b"l /.#tf-x 0777 5 6 9,9,9,9 - /t\n",
+        ),
         (NewKind::Fifo, 0o644, b"p /.#tf-x 0644 5 6 9,9,9,9 - -\n"),
         (device, 0o666, b"c /.#tf-x 0666 5 6 9,9,9,9 - 5:1\n"),
         (disk, 0o660, b"b /.#tf-x 0660 5 6 9,9,9,9 - 8:0\n"),
     ] {
-        let new = NewFile { what, mode, uid: 5, gid: 6 };
+        let new = NewFile {
+            what,
+            mode,
+            uid: 5,
+            gid: 6,
+        };
         let image = staged(&rt, alloc, &new)?;
-        assert_eq!(rt; image.as_slice(), image_of(alloc, TOUCHED, line)?.as_slice());
+        assert_eq!(rt;
+            image.as_slice(),
+            image_of(alloc, TOUCHED, line)?.as_slice()
+        );
     }
     Ok(())
 }
