@@ -45,13 +45,16 @@ fn fault_of(kind: ErrorKind) -> WordsFault
 fn has_short(words: &[String]) -> bool
     ensures { result ≡ has_short (map string_bytes words.now) }
 {
-    match words {
-        [] => false,
-        [word, rest @ ..] => {
-            let word = word.as_str();
-            word != "--" && (is_short(word) || has_short(rest))
+    for word in words {
+        let word = word.as_str();
+        if word == "--" {
+            return false;
+        }
+        if is_short(word) {
+            return true;
         }
     }
+    false
 }
 
 /// Whether a word is one dash and more.
