@@ -6,6 +6,5 @@ pub mod Stage
 pub mod Parts
 pub mod Meaning
 pub mod Answered
-pub mod Plain
 pub mod Command
 pub mod Reading
