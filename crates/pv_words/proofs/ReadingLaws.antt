@@ -1,8 +1,8 @@
 -- What `clap` reads of words is what they mean.
-use Rattle.std.proofs.Common.{◌≡◌, ◌∙◌, ◌&&◌, ◌||◌, ◌⊎◌, ℕ, Bool, cond, true, false, not, refl, sym, ap, ap₂, subst, List, [], ◌∷◌, Option, Some, None, Err, is_some, inl, inr, nat_le, true≢false}
+use Rattle.std.proofs.Common.{◌≡◌, ◌∙◌, ◌&&◌, ◌⊎◌, ℕ, Bool, cond, true, false, not, refl, sym, ap, subst, List, [], ◌∷◌, Option, Some, None, Err, is_some, inl, inr, nat_le, true≢false}
 use Rattle.std.specs.Prelude.{option_and_then, slice_get, if◌then◌else◌, fold}
 use Rattle.std.specs.List.{find, list_all, list_any}
-use Rattle.std.specs.Option.{option_map}
+use Rattle.std.specs.Option.{option_map, unwrap_or}
 use Rattle.std.specs.Str.{bytes_eq}
 use Rattle.clap.specs.Facts.{Entry}
 use Rattle.clap.specs.Faults.{check_fault, fault_of, is_simple_and_free, settle_fault, walk_fault}
@@ -18,24 +18,24 @@ use Rattle.clap.proofs.FaultLemmas.{leaf_fault}
 use Rattle.clap.proofs.WalkLemmas.{both, find_row, first_value-rows, raw_values-rows}
 use Rattle.pv_text.specs.declared.tool.Tool.{Tool}
 use Rattle.pv_words.specs.Command.{words_app}
-use Rattle.pv_words.specs.Meaning.{has_needed, is_given, may_stand, options_from, options_with, times_given, value_of, values_of}
+use Rattle.pv_path.specs.Names.{same_bytes}
+use Rattle.pv_words.specs.Meaning.{is_allowed, is_given, meaning_for, options_from, options_with, times_given, value_of}
 use Rattle.pv_words.specs.Parts.{is_dash}
 use Rattle.pv_words.specs.Pieces.{Given, Parts}
-use Rattle.pv_words.specs.Reading.{Reads, fault_of as fault_for, files_in, has_needed_in, has_short, is_found, is_from_words, meaning_for, options_in, value_in}
+use Rattle.pv_words.specs.Reading.{Reads, fault_of as fault_for, files_in, has_short, is_found, is_from_words, options_in, value_in}
 use Rattle.pv_words.specs.Stage as stage
-use Rattle.pv_words.specs.Table.{all_options, is_for, needed_by, row_of as table_row, same_option}
-use Rattle.pv_words.specs.Values.{decimal_value, moment_value, optional, path_value}
+use Rattle.pv_words.specs.Table.{all_options, same_option}
+use Rattle.pv_words.specs.Values.{values_read}
 use Rattle.pv_words.specs.declared.fault.WordsFault.{WordsFault}
 use Rattle.pv_words.specs.declared.fault.WordsFault.TheVariants.{Usage, Memory}
 use Rattle.pv_words.specs.declared.option.OptionName.{OptionName}
-use Rattle.pv_words.specs.declared.option.OptionName.TheVariants.{Create, Remove, Clean, Report, Boot, Prefix, ExcludePrefix, StopAfter, Now}
 use Rattle.pv_words.specs.declared.options.Options.{Options}
 use Rattle.pv_words.specs.declared.options.Values.{Values}
 use Rattle.pv_words.proofs.FilesLaws.{all_or_none, files-or}
 use Rattle.pv_words.proofs.HoldingLaws.{Holds, Repeats, files_row, is_some-map, option_row}
 use Rattle.pv_words.proofs.ParsingLaws.{free_parts, parts-free, short-none, undashed}
 use Rattle.pv_words.proofs.RowLaws.{any-find, defaults-no_use, defaults-other, seen, source_of}
-use Rattle.pv_words.proofs.RuleLaws.{app-simple, defaults-pass, files-free, files_id, name_of, stands_for, subs-none, top, top-table, valued, valued-free}
+use Rattle.pv_words.proofs.RuleLaws.{app-simple, defaults-pass, files-free, files_id, name_of, named-own, stands_for, subs-none, top, top-table, valued, valued-free}
 use Rattle.pv_words.proofs.ToldLaws.{NoMeaning, Told, fails, passes, told}
 use Rattle.pv_words.proofs.TurnLaws.{at, rows_from, walk_from_fault}
 
@@ -81,142 +81,75 @@ module _ (found : Found) (rows : List Row) (parts : Parts) (are : rows_of found 
       go [] = refl
       go (f ∷ fs) = refl
 
--- ---- the options, by which of them stand, the values and the file words
+-- ---- the options, by which of them stand, the file words and the values
 
-abbrev may_by : Tool → (OptionName → Bool) → OptionName → Bool
-may_by tool stands option = not (stands option) || (is_for tool option && not (list_any stands (table_row option).excludes))
+abbrev options_by : Tool → (OptionName → Bool) → List (List ℕ) → Option Values → Option Options
+options_by tool stands files values =
+    if is_allowed tool stands && not (list_any is_dash files) then option_map (options_with tool stands files) values else None
 
-abbrev needed_in : (OptionName → Bool) → List OptionName → Bool
-needed_in stands [] = true
-needed_in stands (option ∷ options) = list_any stands (option ∷ options)
+-- values are read of the options that take one
+values-same : (f g : OptionName → Option (List ℕ)) → ((o : OptionName) → valued o ≡ true → f o ≡ g o) → values_read f ≡ values_read g
+values-same f g same = λ i. values_read (λ o. by_kind o (valued o) refl i)
+  where
+    by_kind : (o : OptionName) (b : Bool) → valued o ≡ b → cond b (f o) None ≡ cond b (g o) None
+    by_kind o true takes = same o takes
+    by_kind o false takes = refl
 
-abbrev values_by : Option (List ℕ) → Option (List ℕ) → Option (List ℕ) → Option (List ℕ) → Option Values
-values_by stop moment prefix exclude =
-    option_and_then (λ stop_after.
-    option_and_then (λ now.
-    option_and_then (λ p.
-    option_map (λ e. record { prefix = p; exclude_prefix = e; stop_after = stop_after; now = now })
-    (optional path_value exclude))
-    (optional path_value prefix))
-    (optional moment_value moment))
-    (optional decimal_value stop)
-
-abbrev options_by : Tool → (OptionName → Bool) → List (List ℕ) → Values → Options
-options_by tool stands files values = record {
-  tool = tool;
-  create = stands Create;
-  remove = stands Remove;
-  clean = stands Clean;
-  report = stands Report;
-  boot = stands Boot;
-  prefix = values.prefix;
-  exclude_prefix = values.exclude_prefix;
-  stop_after = values.stop_after;
-  now = values.now;
-  words = files;
-}
-
-abbrev all_by : Tool → (OptionName → Bool) → Option Values → List (List ℕ) → Option Options
-all_by tool stands values files =
-    if list_all (may_by tool stands) all_options && (needed_in stands (needed_by tool) && not (list_any is_dash files))
-    then option_map (options_by tool stands files) values else None
-
-needed-found : (found : Found) (options : List OptionName) → has_needed_in found options ≡ needed_in (is_found found) options
-needed-found found [] = refl
-needed-found found (o ∷ os) = refl
-
-needed-given : (given : List Given) (options : List OptionName) → needed_in (is_given given) options ≡ has_needed given options
-needed-given given [] = refl
-needed-given given (o ∷ os) = refl
-
-options-found : (tool : Tool) (found : Found) → options_in tool found
-    ≡ all_by tool (is_found found) (values_by (value_in found StopAfter) (value_in found Now) (value_in found Prefix) (value_in found ExcludePrefix)) (files_in found)
-options-found tool found =
-    ap (λ (b : Bool). if list_all (may_by tool (is_found found)) all_options && (b && not (list_any is_dash (files_in found)))
-    then option_map (options_by tool (is_found found) (files_in found)) (values_by (value_in found StopAfter) (value_in found Now) (value_in found Prefix) (value_in found ExcludePrefix)) else None)
-    (needed-found found (needed_by tool))
+every : {X : Type 0} (f : X → Bool) (xs : List X) → ((x : X) → f x ≡ true) → list_all f xs ≡ true
+every f [] h = refl
+every f (x ∷ xs) h = rw (h x) (every f xs h)
 
 -- where each option stands at most once, they are the options of the parts
 options-given : (tool : Tool) (parts : Parts) → ((o : OptionName) → nat_le (times_given parts.given o) 1 ≡ true)
-    → all_by tool (is_given parts.given) (values_of parts.given) parts.files ≡ option_and_then (options_from tool) (undashed (Some parts))
+    → options_by tool (is_given parts.given) parts.files (values_read (value_of parts.given)) ≡ option_and_then (options_from tool) (undashed (Some parts))
 options-given tool parts once =
-    ap₂ (λ (m : OptionName → Bool) (n : Bool). if list_all m all_options && (n && not (list_any is_dash parts.files))
-    then option_map (options_by tool (is_given parts.given) parts.files) (values_of parts.given) else None)
-    may (needed-given parts.given (needed_by tool))
-    ∙ allowed (list_all (may_stand tool parts.given) all_options) (has_needed parts.given (needed_by tool)) (list_any is_dash parts.files)
-    (option_map (options_with tool parts) (values_of parts.given))
-    ∙ dashed (list_any is_dash parts.files) (options_from tool parts) refl
+    allowed (is_allowed tool (is_given parts.given)) (list_any is_dash parts.files) read
+    ∙ dashed (list_any is_dash parts.files) (cond (is_allowed tool (is_given parts.given)) read None) from
   where
-    may : may_by tool (is_given parts.given) ≡ may_stand tool parts.given
-    may = λ i o. sym (ap (λ (b : Bool). b && may_by tool (is_given parts.given) o) (once o)) i
+    read : Option Options
+    read = option_map (options_with tool (is_given parts.given) parts.files) (values_read (value_of parts.given))
+
+    from : options_from tool parts ≡ cond (is_allowed tool (is_given parts.given)) read None
+    from = ap (λ (b : Bool). cond (b && is_allowed tool (is_given parts.given)) read None)
+        (every (λ (o : OptionName). nat_le (times_given parts.given o) 1) all_options once)
 
     dashed : (d : Bool) (x : Option Options) → options_from tool parts ≡ x → cond d None x ≡ option_and_then (options_from tool) (cond d None (Some parts))
     dashed true x e = refl
     dashed false x e = sym e
 
-    allowed : (a n d : Bool) (x : Option Options) → cond (a && (n && not d)) x None ≡ cond d None (cond (a && n) x None)
-    allowed true true true x = refl
-    allowed true true false x = refl
-    allowed true false true x = refl
-    allowed true false false x = refl
-    allowed false true true x = refl
-    allowed false true false x = refl
-    allowed false false true x = refl
-    allowed false false false x = refl
+    allowed : (a d : Bool) (x : Option Options) → cond (a && not d) x None ≡ cond d None (cond a x None)
+    allowed true true x = refl
+    allowed true false x = refl
+    allowed false true x = refl
+    allowed false false x = refl
 
 -- ---- an option that stands twice
 
-each : (f : OptionName → Bool) → list_all f all_options ≡ true → (o : OptionName) → f o ≡ true
-each f e o = go o
+-- what all pass, one that is found among them passes
+found-passes : {X : Type 0} (f p : X → Bool) (xs : List X) (x : X) → find p xs ≡ Some x → list_all f xs ≡ true → f x ≡ true
+found-passes f p [] x found all = absurd (true≢false (ap is_some (sym found)))
+found-passes f p (y ∷ ys) x found all = go (p y) found (both (f y) (list_all f ys) all) (found-passes f p ys x)
   where
-    from_remove : list_all f (Remove ∷ Clean ∷ Report ∷ Boot ∷ Prefix ∷ ExcludePrefix ∷ StopAfter ∷ Now ∷ []) ≡ true
-    from_remove = (both (f Create) _ e).1
-
-    from_clean : list_all f (Clean ∷ Report ∷ Boot ∷ Prefix ∷ ExcludePrefix ∷ StopAfter ∷ Now ∷ []) ≡ true
-    from_clean = (both (f Remove) _ from_remove).1
-
-    from_report : list_all f (Report ∷ Boot ∷ Prefix ∷ ExcludePrefix ∷ StopAfter ∷ Now ∷ []) ≡ true
-    from_report = (both (f Clean) _ from_clean).1
-
-    from_boot : list_all f (Boot ∷ Prefix ∷ ExcludePrefix ∷ StopAfter ∷ Now ∷ []) ≡ true
-    from_boot = (both (f Report) _ from_report).1
-
-    from_prefix : list_all f (Prefix ∷ ExcludePrefix ∷ StopAfter ∷ Now ∷ []) ≡ true
-    from_prefix = (both (f Boot) _ from_boot).1
-
-    from_exclude : list_all f (ExcludePrefix ∷ StopAfter ∷ Now ∷ []) ≡ true
-    from_exclude = (both (f Prefix) _ from_prefix).1
-
-    from_stop : list_all f (StopAfter ∷ Now ∷ []) ≡ true
-    from_stop = (both (f ExcludePrefix) _ from_exclude).1
-
-    from_now : list_all f (Now ∷ []) ≡ true
-    from_now = (both (f StopAfter) _ from_stop).1
-
-    go : (o : OptionName) → f o ≡ true
-    go Create = (both (f Create) _ e).0
-    go Remove = (both (f Remove) _ from_remove).0
-    go Clean = (both (f Clean) _ from_clean).0
-    go Report = (both (f Report) _ from_report).0
-    go Boot = (both (f Boot) _ from_boot).0
-    go Prefix = (both (f Prefix) _ from_prefix).0
-    go ExcludePrefix = (both (f ExcludePrefix) _ from_exclude).0
-    go StopAfter = (both (f StopAfter) _ from_stop).0
-    go Now = (both (f Now) _ from_now).0
+    go : (b : Bool) → cond b (Some y) (find p ys) ≡ Some x → (f y ≡ true) × (list_all f ys ≡ true)
+        → (find p ys ≡ Some x → list_all f ys ≡ true → f x ≡ true) → f x ≡ true
+    go true is pair more = ap f (sym (ap (λ (o : Option _). unwrap_or o y) is)) ∙ pair.0
+    go false is pair more = more is pair.1
 
 one_fails : (f : OptionName → Bool) (o : OptionName) → f o ≡ false → list_all f all_options ≡ false
 one_fails f o e = go (list_all f all_options) refl
   where
     go : (b : Bool) → list_all f all_options ≡ b → b ≡ false
     go false all = refl
-    go true all = absurd (true≢false (sym (each f all o) ∙ e))
+    go true all =
+        let passed = found-passes f (λ (p : OptionName). same_bytes (name_of p) (name_of o)) all_options o (named-own o) all in
+        absurd (true≢false (sym passed ∙ e))
 
 refused-twice : (tool : Tool) (parts : Parts) → Repeats parts.given → options_from tool parts ≡ None
 refused-twice tool parts repeats =
     let o = repeats.0 in
-    let no_stand : may_stand tool parts.given o ≡ false = ap (λ (b : Bool). b && may_by tool (is_given parts.given) o) repeats.1 in
-    ap (λ (b : Bool). if b && has_needed parts.given (needed_by tool) then option_map (options_with tool parts) (values_of parts.given) else None)
-    (one_fails (may_stand tool parts.given) o no_stand)
+    ap (λ (b : Bool). if b && is_allowed tool (is_given parts.given)
+    then option_map (options_with tool (is_given parts.given) parts.files) (values_read (value_of parts.given)) else None)
+    (one_fails (λ (p : OptionName). nat_le (times_given parts.given p) 1) o repeats.1)
 
 refused : (tool : Tool) (meaning : Option Parts) → NoMeaning meaning → option_and_then (options_from tool) (undashed meaning) ≡ None
 refused tool None none = refl
@@ -255,10 +188,8 @@ reads-matches words m none passed has tool =
         let found = found_of m in
         let rows = rows_from top (at nothing_held idle false) words in
         let are : rows_of found ≡ fold with_default rows top.rules = (has refl).0 in
-        let value = value-is found rows parts are holds in
-        options-found tool found
-        ∙ (λ i. all_by tool (λ o. found-is found rows parts are holds o i)
-        (values_by (value StopAfter refl i) (value Now refl i) (value Prefix refl i) (value ExcludePrefix refl i)) (files-is found rows parts are holds i))
+        (λ i. options_by tool (λ o. found-is found rows parts are holds o i) (files-is found rows parts are holds i)
+        (values-same (value_in found) (value_of parts.given) (value-is found rows parts are holds) i))
         ∙ options-given tool parts holds.once
         ∙ ap (λ (p : Option Parts). option_and_then (options_from tool) (undashed p)) (sym some)
 

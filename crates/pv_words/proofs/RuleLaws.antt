@@ -11,16 +11,17 @@ use Rattle.clap.specs.declared.builder.value_parser.Reading.TheVariants.{AsWritt
 use Rattle.clap.specs.declared.error.kind.ErrorKind.TheVariants.{ArgumentConflict, InvalidValue}
 use Rattle.clap.specs.declared.parser.matches.ValueSource.TheVariants.{CommandLine}
 use Rattle.pv_words.specs.Command.{action_for, files_rule, rule_named, words_app}
-use Rattle.pv_words.specs.Table.{all_options, option_named, row_of}
+use Rattle.pv_words.specs.Table.{all_options, option_named, row_of, takes_value}
 use Rattle.pv_words.specs.declared.option.OptionName.{OptionName}
 use Rattle.pv_words.specs.declared.option.OptionName.TheVariants.{Create, Remove, Clean, Report, Boot, Prefix, ExcludePrefix, StopAfter, Now}
 use Rattle.pv_words.proofs.RowLaws.{leaves}
 
+-- what an option is called, and whether it takes a value
 abbrev pub name_of : OptionName → List ℕ
 name_of option = (row_of option).name
 
 abbrev pub valued : OptionName → Bool
-valued option = (row_of option).takes_value
+valued option = takes_value (row_of option)
 
 -- an option as it is built, and the file words
 abbrev pub made : List ℕ → Bool → Rule

@@ -2,6 +2,7 @@
 -- end of the options.
 use Rattle.pv_words.specs.declared.option.OptionName.{OptionName}
 
+-- where one stands among the words
 pub data Stage : Type 0 where
   Options : Stage
   ValueOf : OptionName → Stage

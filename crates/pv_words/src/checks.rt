@@ -1,10 +1,11 @@
-ghost use Rattle.std.specs.Prelude.{◌≡◌};
+ghost use Rattle.std.specs.Prelude.{◌≡◌, ◌&&◌};
 ghost use Rattle.std.specs.List.{list_all, list_any};
 ghost use Rattle.clap.specs.Matches.{found_of};
-ghost use Rattle.pv_words.specs.Reading.{has_needed_in, is_allowed_in, is_found, may_be_found};
-ghost use Rattle.pv_words.specs.Table.{all_options, needed_by};
+ghost use Rattle.pv_words.specs.Meaning.{has_needed, may_stand};
+ghost use Rattle.pv_words.specs.Reading.{is_allowed_in, is_found};
+ghost use Rattle.pv_words.specs.Table.{all_options, needed_by, suffices_for};
 
-use crate::option::{OptionName, all_options, needed_by};
+use crate::option::{OptionName, all_options};
 use crate::reading::{has_dash, is_given};
 use clap::ArgMatches;
 use pv_text::Tool;
@@ -18,7 +19,7 @@ fn is_any_given(matches: &ArgMatches<'_>, options: &[OptionName]) -> bool
 
 /// Whether an option may stand as it does.
 fn may_stand(tool: Tool, matches: &ArgMatches<'_>, option: OptionName) -> bool
-    ensures { result ≡ may_be_found tool (found_of matches.now) option }
+    ensures { result ≡ may_stand tool (is_found (found_of matches.now)) option }
 {
     !is_given(matches, option) || (option.is_for(tool) && !is_any_given(matches, option.excludes()))
 }
@@ -32,17 +33,32 @@ pub(crate) fn is_allowed(tool: Tool, matches: &ArgMatches<'_>) -> bool
 
 /// Whether each option may stand as it does.
 fn each_may_stand(tool: Tool, matches: &ArgMatches<'_>) -> bool
-    ensures { result ≡ list_all (may_be_found tool (found_of matches.now)) all_options }
+    ensures { result ≡ list_all (may_stand tool (is_found (found_of matches.now))) all_options }
 {
     all_options()
         .iter()
         .all(|option| may_stand(tool, matches, *option))
 }
 
-/// Whether one option stands that the tool needs.
+/// Whether one option stands that the tool needs, if it needs one.
 fn has_needed(tool: Tool, matches: &ArgMatches<'_>) -> bool
-    ensures { result ≡ has_needed_in (found_of matches.now) (needed_by tool) }
+    ensures { result ≡ has_needed (is_found (found_of matches.now)) (needed_by tool) }
 {
-    let needed = needed_by(tool);
-    needed.is_empty() || is_any_given(matches, needed)
+    !needs_one(tool) || is_one_given(tool, matches)
+}
+
+/// Whether the tool needs one of its options.
+fn needs_one(tool: Tool) -> bool
+    ensures { result ≡ list_any (suffices_for tool) all_options }
+{
+    all_options().iter().any(|option| option.suffices_for(tool))
+}
+
+/// Whether an option stands that suffices for the tool.
+fn is_one_given(tool: Tool, matches: &ArgMatches<'_>) -> bool
+    ensures { result ≡ list_any (λ option. suffices_for tool option && is_found (found_of matches.now) option) all_options }
+{
+    all_options()
+        .iter()
+        .any(|option| option.suffices_for(tool) && is_given(matches, *option))
 }

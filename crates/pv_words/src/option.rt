@@ -1,7 +1,9 @@
 ghost use Rattle.std.specs.Prelude.{◌≡◌};
-ghost use Rattle.pv_words.specs.Table.{all_options, is_for, needed_by, row_of, tool_named};
+ghost use Rattle.pv_words.specs.Table.{Row as RowValue};
+ghost use Rattle.pv_words.specs.Table.{all_options, is_flag, is_for, of_both, of_tmpfiles, row_of, suffices_for, takes_value, tool_named};
 
 use pv_text::Tool;
+use std::marker::Model;
 
 /// An option of the table.
 #[derive(Clone, Copy, Debug)]
@@ -17,6 +19,43 @@ pub(crate) enum OptionName {
     Now,
 }
 
+/// How the value of an option is read.
+#[derive(Clone, Copy, Debug)]
+pub(crate) enum Reader {
+    /// The option is a flag, which has no value.
+    Flag,
+    /// The value is a path.
+    PathOf,
+    /// The value is a decimal of 64 bits.
+    Decimal,
+    /// The value is a moment, from 1970 on.
+    Moment,
+}
+
+/// A row of the table.
+#[derive(Drop)]
+struct Row<'a> {
+    /// What the option is called, without its dashes.
+    name: &'a str,
+    /// Whether `systemd-tmpfiles` knows it.
+    for_tmpfiles: bool,
+    /// Whether `systemd-sysusers` knows it.
+    for_sysusers: bool,
+    /// How its value is read.
+    reader: Reader,
+    /// Whether it suffices as the one that a tool needs.
+    suffices: bool,
+    /// The options beside which it may not stand.
+    excludes: &'a [OptionName],
+}
+
+impl<'a> Model for Row<'a> {
+    ghost Value = { RowValue };
+    ghost view = { λ r. record {
+        name = r.name.now; for_tmpfiles = r.for_tmpfiles; for_sysusers = r.for_sysusers;
+        reader = r.reader; suffices = r.suffices; excludes = r.excludes.now } };
+}
+
 /// All options of the table.
 const ALL_OPTIONS: [OptionName; 9] = [
     OptionName::Create,
@@ -30,66 +69,120 @@ const ALL_OPTIONS: [OptionName; 9] = [
     OptionName::Now,
 ];
 
+impl<'a> Row<'a> {
+    /// A row for an option of `systemd-tmpfiles` alone.
+    fn of_tmpfiles(
+        name: &'a str,
+        reader: Reader,
+        suffices: bool,
+        excludes: &'a [OptionName],
+    ) -> Row<'a>
+        ensures { result ≡ of_tmpfiles name.now reader suffices excludes.now }
+    {
+        Row {
+            name,
+            for_tmpfiles: true,
+            for_sysusers: false,
+            reader,
+            suffices,
+            excludes,
+        }
+    }
+
+    /// A row for an option of both tools.
+    fn of_both(
+        name: &'a str,
+        reader: Reader,
+        suffices: bool,
+        excludes: &'a [OptionName],
+    ) -> Row<'a>
+        ensures { result ≡ of_both name.now reader suffices excludes.now }
+    {
+        Row {
+            name,
+            for_tmpfiles: true,
+            for_sysusers: true,
+            reader,
+            suffices,
+            excludes,
+        }
+    }
+}
+
 impl OptionName {
+    /// The row of the option: its name, its reader, whether it suffices, and what it excludes.
+    fn row<'a>(self) -> Row<'a>
+        ensures { result ≡ row_of self }
+    {
+        match self {
+            OptionName::Create => Row::of_tmpfiles("create", Reader::Flag, true, &[]),
+            OptionName::Remove => Row::of_tmpfiles("remove", Reader::Flag, true, &[]),
+            OptionName::Clean => Row::of_tmpfiles("clean", Reader::Flag, true, &[]),
+            OptionName::Report => Row::of_tmpfiles(
+                "report",
+                Reader::Flag,
+                true,
+                &[
+                    OptionName::Create,
+                    OptionName::Remove,
+                    OptionName::Clean,
+                    OptionName::StopAfter,
+                ],
+            ),
+            OptionName::Boot => Row::of_tmpfiles("boot", Reader::Flag, false, &[]),
+            OptionName::Prefix => Row::of_tmpfiles("prefix", Reader::PathOf, false, &[]),
+            OptionName::ExcludePrefix => {
+                Row::of_tmpfiles("exclude-prefix", Reader::PathOf, false, &[])
+            }
+            OptionName::StopAfter => Row::of_both("stop-after", Reader::Decimal, false, &[]),
+            OptionName::Now => Row::of_both("now", Reader::Moment, false, &[]),
+        }
+    }
+
     /// What the option is called, without its dashes.
     pub(crate) fn name<'a>(self) -> &'a str
         ensures { result.now ≡ (row_of self).name }
     {
-        match self {
-            OptionName::Create => "create",
-            OptionName::Remove => "remove",
-            OptionName::Clean => "clean",
-            OptionName::Report => "report",
-            OptionName::Boot => "boot",
-            OptionName::Prefix => "prefix",
-            OptionName::ExcludePrefix => "exclude-prefix",
-            OptionName::StopAfter => "stop-after",
-            OptionName::Now => "now",
-        }
+        self.row().name
     }
 
     /// Whether a value follows the option.
     pub(crate) fn takes_value(self) -> bool
-        ensures { result ≡ (row_of self).takes_value }
+        ensures { result ≡ takes_value (row_of self) }
     {
-        match self {
-            OptionName::Prefix
-            | OptionName::ExcludePrefix
-            | OptionName::StopAfter
-            | OptionName::Now => true,
-            OptionName::Create
-            | OptionName::Remove
-            | OptionName::Clean
-            | OptionName::Report
-            | OptionName::Boot => false,
-        }
+        !is_flag(self.row().reader)
     }
 
     /// Whether the tool knows the option.
     pub(crate) fn is_for(self, tool: Tool) -> bool
         ensures { result ≡ is_for tool self }
     {
-        match (tool, self) {
-            (Tool::Tmpfiles, _) => true,
-            (Tool::Sysusers, OptionName::StopAfter | OptionName::Now) => true,
-            (Tool::Sysusers, _) => false,
+        match tool {
+            Tool::Tmpfiles => self.row().for_tmpfiles,
+            Tool::Sysusers => self.row().for_sysusers,
         }
+    }
+
+    /// Whether the option suffices as the one that the tool needs.
+    pub(crate) fn suffices_for(self, tool: Tool) -> bool
+        ensures { result ≡ suffices_for tool self }
+    {
+        self.is_for(tool) && self.row().suffices
     }
 
     /// The options beside which this one may not stand.
     pub(crate) fn excludes(self) -> &'static [OptionName]
         ensures { result.now ≡ (row_of self).excludes }
     {
-        match self {
-            OptionName::Report => &[
-                OptionName::Create,
-                OptionName::Remove,
-                OptionName::Clean,
-                OptionName::StopAfter,
-            ],
-            _ => &[],
-        }
+        self.row().excludes
     }
+}
+
+/// Whether a reader is the one of flags.
+fn is_flag(reader: Reader) -> bool
+    ensures { result ≡ is_flag reader }
+{
+    matches!(reader, Reader::Flag)
 }
 
 /// All options of the table.
@@ -97,21 +190,6 @@ pub(crate) fn all_options() -> [OptionName; 9]
     ensures { result ≡ all_options }
 {
     ALL_OPTIONS
-}
-
-/// The options of which the tool needs at least one, if there are any.
-pub(crate) fn needed_by(tool: Tool) -> &'static [OptionName]
-    ensures { result.now ≡ needed_by tool }
-{
-    match tool {
-        Tool::Tmpfiles => &[
-            OptionName::Create,
-            OptionName::Remove,
-            OptionName::Clean,
-            OptionName::Report,
-        ],
-        Tool::Sysusers => &[],
-    }
 }
 
 /// The tool with a name.

@@ -2,8 +2,9 @@ ghost use Rattle.std.specs.Prelude.{◌≡◌, map, string_bytes};
 ghost use Rattle.std.specs.Option.{option_map};
 ghost use Rattle.clap.specs.Matches.{found_of};
 ghost use Rattle.pv_words.specs.Answered.{Answers};
-ghost use Rattle.pv_words.specs.Meaning.{options_of};
-ghost use Rattle.pv_words.specs.Reading.{files_in, meaning_for, options_in, options_told, values_in};
+ghost use Rattle.pv_words.specs.Meaning.{meaning_for, options_of, options_with};
+ghost use Rattle.pv_words.specs.Reading.{files_in, is_found, options_in, value_in};
+ghost use Rattle.pv_words.specs.Values.{values_read};
 
 use crate::checks::is_allowed;
 use crate::fault::WordsFault;
@@ -87,7 +88,9 @@ fn options_from(alloc: Global, tool: Tool, matches: &ArgMatches<'_>) -> Result<O
 
 /// The options and file words, where each value is read.
 fn read_options(alloc: Global, tool: Tool, matches: &ArgMatches<'_>) -> Result<Options, WordsFault>
-    ensures { Answers result (option_map (options_told tool (found_of matches.now)) (values_in (found_of matches.now))) }
+    ensures { Answers result
+        (option_map (options_with tool (is_found (found_of matches.now)) (files_in (found_of matches.now)))
+        (values_read (value_in (found_of matches.now)))) }
 {
     let values = values_of(alloc, matches)?;
     let words = files_of(alloc, matches)?;
@@ -96,8 +99,7 @@ fn read_options(alloc: Global, tool: Tool, matches: &ArgMatches<'_>) -> Result<O
 
 /// The options that stand, with their values, and the file words.
 fn options_with(tool: Tool, matches: &ArgMatches<'_>, words: WordList, values: Values) -> Options
-    requires { words ≡ files_in (found_of matches.now) }
-    ensures { result ≡ options_told tool (found_of matches.now) values }
+    ensures { result ≡ options_with tool (is_found (found_of matches.now)) words values }
 {
     Options {
         tool,
@@ -116,7 +118,7 @@ fn options_with(tool: Tool, matches: &ArgMatches<'_>, words: WordList, values: V
 
 /// The values of the options that stand, where each is read.
 fn values_of(alloc: Global, matches: &ArgMatches<'_>) -> Result<Values, WordsFault>
-    ensures { Answers result (values_in (found_of matches.now)) }
+    ensures { Answers result (values_read (value_in (found_of matches.now))) }
 {
     let stop_after = decimal_in(value_of(matches, OptionName::StopAfter))?;
     let now = moment_in(value_of(matches, OptionName::Now))?;

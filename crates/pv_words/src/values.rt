@@ -20,6 +20,7 @@ pub(crate) fn path_in(alloc: Global, value: Option<&[u8]>) -> Result<Option<Tree
     }
 }
 
+/// The path that a text spells.
 fn path_value(alloc: Global, text: &[u8]) -> Result<TreePath, WordsFault>
     ensures { Answers result (path_value text.now) }
 {
@@ -91,6 +92,7 @@ fn moment_value(text: &[u8]) -> Option<u64>
     }
 }
 
+/// The moment that a text of UTF-8 spells, in microseconds since 1970.
 fn timestamp_value(text: &str) -> Option<u64>
     ensures { result ≡ timestamp_value text.now }
 {
