@@ -13,35 +13,40 @@ fn words_of(alloc: Global, line: &str) -> Result<Vec<String>, Fail> {
     Ok(words)
 }
 
+/// Lines of words that mean nothing to any tool.
+const MEANINGLESS: [&str; 27] = [
+    "",
+    "systemd-tmpfiles",
+    "systemd-foo",
+    "systemd-tmpfiles --create --create",
+    "systemd-tmpfiles --create --prefix /run --prefix=/run",
+    "systemd-tmpfiles --report --create",
+    "systemd-tmpfiles --report --remove",
+    "systemd-tmpfiles --report --clean",
+    "systemd-tmpfiles --report --stop-after=1",
+    "systemd-tmpfiles --create --stop-after=x",
+    "systemd-tmpfiles --create --stop-after=+1",
+    "systemd-tmpfiles --create --stop-after=",
+    "systemd-tmpfiles --create --stop-after",
+    "systemd-tmpfiles --create --stop-after -- 1",
+    "systemd-tmpfiles --create --stop-after=18446744073709551616",
+    "systemd-tmpfiles --create --prefix=run",
+    "systemd-tmpfiles --create --prefix -",
+    "systemd-tmpfiles --create --now=1969-12-31T23:59:59Z",
+    "systemd-tmpfiles --create --now=",
+    "systemd-tmpfiles --create -",
+    "systemd-tmpfiles --create -- -",
+    "systemd-tmpfiles --create=",
+    "systemd-tmpfiles --creat",
+    "systemd-tmpfiles --create --help",
+    "systemd-tmpfiles -create",
+    "systemd-sysusers --boot",
+    "systemd-sysusers --create",
+];
+
 #[test]
 fn refuses_what_means_nothing(rt: HostRuntime) -> Result<(), Fail> {
-    for line in [
-        "",
-        "systemd-tmpfiles",
-        "systemd-foo",
-        "systemd-tmpfiles --create --create",
-        "systemd-tmpfiles --create --prefix /run --prefix=/run",
-        "systemd-tmpfiles --report --create",
-        "systemd-tmpfiles --report --stop-after=1",
-        "systemd-tmpfiles --create --stop-after=x",
-        "systemd-tmpfiles --create --stop-after=+1",
-        "systemd-tmpfiles --create --stop-after=",
-        "systemd-tmpfiles --create --stop-after",
-        "systemd-tmpfiles --create --stop-after -- 1",
-        "systemd-tmpfiles --create --stop-after=18446744073709551616",
-        "systemd-tmpfiles --create --prefix=run",
-        "systemd-tmpfiles --create --prefix -",
-        "systemd-tmpfiles --create --now=1969-12-31T23:59:59Z",
-        "systemd-tmpfiles --create --now=",
-        "systemd-tmpfiles --create -",
-        "systemd-tmpfiles --create -- -",
-        "systemd-tmpfiles --create=",
-        "systemd-tmpfiles --creat",
-        "systemd-tmpfiles --create --help",
-        "systemd-tmpfiles -create",
-        "systemd-sysusers --boot",
-        "systemd-sysusers --create",
-    ] {
+    for line in MEANINGLESS {
         let words = words_of(rt.alloc(), line)?;
         let fault = options_of(rt.alloc(), words.as_slice()).err();
         assert_eq!(rt; fault, Some(WordsFault::Usage), "at {line}");
@@ -84,19 +89,53 @@ fn reads_each_option(rt: HostRuntime) -> Result<(), Fail> {
 }
 
 #[test]
-fn reads_moments(rt: HostRuntime) -> Result<(), Fail> {
-    for (line, want) in [
-        ("systemd-sysusers", None),
-        ("systemd-sysusers --now=1970-01-01T00:00:00Z", Some(0)),
+fn reads_a_report_alone(rt: HostRuntime) -> Result<(), Fail> {
+    let words = words_of(rt.alloc(), "systemd-tmpfiles --report")?;
+    let options = options_of(rt.alloc(), words.as_slice())?;
+    assert_eq!(rt; options.tool, Tool::Tmpfiles);
+    let flags = [
+        options.create,
+        options.remove,
+        options.clean,
+        options.report,
+        options.boot,
+    ];
+    assert_eq!(rt; flags, [false, false, false, true, false]);
+    assert_eq!(rt; options.stop_after, None);
+    assert_eq!(rt; options.now, None);
+    assert_eq!(rt; options.words.len(), 0);
+    Ok(())
+}
+
+#[test]
+fn reads_an_empty_file_word(rt: HostRuntime) -> Result<(), Fail> {
+    let mut words = words_of(rt.alloc(), "systemd-tmpfiles --create")?;
+    words.push(String::new(rt.alloc()))?;
+    let options = options_of(rt.alloc(), words.as_slice())?;
+    assert_eq!(rt; options.words.len(), 1);
+    for word in options.words.as_slice() {
+        assert_eq!(rt; word.len(), 0);
+    }
+    Ok(())
+}
+
+#[test]
+fn reads_numbers_and_moments(rt: HostRuntime) -> Result<(), Fail> {
+    for (line, steps, moment) in [
+        ("systemd-sysusers", None, None),
+        ("systemd-sysusers --stop-after=3", Some(3), None),
+        ("systemd-sysusers --now=1970-01-01T00:00:00Z", None, Some(0)),
         (
             "systemd-sysusers --now 1970-01-01T01:00:00.0000019+01",
+            None,
             Some(1),
         ),
     ] {
         let words = words_of(rt.alloc(), line)?;
         let options = options_of(rt.alloc(), words.as_slice())?;
         assert_eq!(rt; options.tool, Tool::Sysusers);
-        assert_eq!(rt; options.now, want, "at {line}");
+        assert_eq!(rt; options.stop_after, steps, "at {line}");
+        assert_eq!(rt; options.now, moment, "at {line}");
     }
     Ok(())
 }
