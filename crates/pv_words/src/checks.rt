@@ -58,7 +58,5 @@ fn needs_one(tool: Tool) -> bool
 fn is_one_given(tool: Tool, matches: &ArgMatches<'_>) -> bool
     ensures { result ≡ list_any (λ option. suffices_for tool option && is_found (found_of matches.now) option) all_options }
 {
-    all_options()
-        .iter()
-        .any(|option| option.suffices_for(tool) && is_given(matches, *option))
+    all_options().iter().any(|option| option.suffices_for(tool) && is_given(matches, *option))
 }

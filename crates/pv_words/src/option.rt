@@ -51,9 +51,15 @@ struct Row<'a> {
 
 impl<'a> Model for Row<'a> {
     ghost Value = { RowValue };
+
     ghost view = { λ r. record {
-        name = r.name.now; for_tmpfiles = r.for_tmpfiles; for_sysusers = r.for_sysusers;
-        reader = r.reader; suffices = r.suffices; excludes = r.excludes.now } };
+      name = r.name.now;
+      for_tmpfiles = r.for_tmpfiles;
+      for_sysusers = r.for_sysusers;
+      reader = r.reader;
+      suffices = r.suffices;
+      excludes = r.excludes.now;
+    } };
 }
 
 /// All options of the table.
@@ -90,12 +96,7 @@ impl<'a> Row<'a> {
     }
 
     /// A row for an option of both tools.
-    fn of_both(
-        name: &'a str,
-        reader: Reader,
-        suffices: bool,
-        excludes: &'a [OptionName],
-    ) -> Row<'a>
+    fn of_both(name: &'a str, reader: Reader, suffices: bool, excludes: &'a [OptionName]) -> Row<'a>
         ensures { result ≡ of_both name.now reader suffices excludes.now }
     {
         Row {
