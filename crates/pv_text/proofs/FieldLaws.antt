@@ -1,23 +1,41 @@
 -- Fields, read one after the other.
-use Rattle.std.proofs.Common.{◌≡◌, ℕ, zero, suc, ◌+◌, ◌-◌, ◌<◌, ◌≤◌, ◌++◌, append_assoc, Result, Ok, Err, le-ltb, lt-ltb, Bool, true, false, List, [], ◌∷◌, drop, length, get_or, nat_eq, refl, sym, ap, ◌∙◌, arith, ne_eqb, add-one}
+use Rattle.std.proofs.Common.{◌≡◌, ℕ, zero, suc, ◌+◌, ◌-◌, ◌<◌, ◌≤◌, ◌++◌, append_assoc, Result, Ok, Err, le-ltb, lt-ltb, Bool, true, false, List, [], ◌∷◌, drop, length, get_or, nat_eq, refl, sym, ap, ◌∙◌, Option, None, if◌then◌else◌, ◌==◌, arith, ne_eqb, add-one}
 use Rattle.std.specs.List.{AllByRecursion}
 use Rattle.std.proofs.Math.Seq.{drop-cons}
 use Rattle.pv_text.specs.declared.fault.FieldFault.{FieldFault}
 use Rattle.pv_text.specs.Fields.{closing, Span, next_place, field_at, argument_at, fields_from, with_front, IsChecked}
 
--- past a byte that is out of play, and past a byte that is no closing quote
+-- the first quote of what is left of a text, of which a backslash may hide the first byte
+abbrev pub closing_left : ℕ → Bool → ℕ → List ℕ → Option ℕ
+closing_left quote false at bytes = closing quote at bytes
+closing_left quote true at [] = None
+closing_left quote true at (b ∷ bytes) = closing quote (at + 1) bytes
+
+none_left_over : (quote : ℕ) (hidden : Bool) (at : ℕ) → closing_left quote hidden at [] ≡ None
+none_left_over quote true at = refl
+none_left_over quote false at = refl
+
+no_quote_here : (quote at b : ℕ) (bytes : List ℕ) → (b ≡ quote → ⊥) → closing quote at (b ∷ bytes) ≡ closing_left quote (b == 92) (at + 1) bytes
+no_quote_here quote at b [] other = rw (ne_eqb b quote other) (sym (none_left_over quote (b == 92) (at + 1)))
+no_quote_here quote at b (c ∷ bytes) other = rw (ne_eqb b quote other) (by (b == 92))
+  where
+    by : (hides : Bool) → (if hides then closing quote (at + 2) bytes else closing quote (at + 1) (c ∷ bytes)) ≡ closing_left quote hides (at + 1) (c ∷ bytes)
+    by true = let place : at + 2 ≡ at + 1 + 1 = omega arith in ap (λ n. closing quote n bytes) place
+    by false = refl
+
+-- the turns of the loop: past a hidden byte, and past another byte
 pub past_hidden : (quote at i : ℕ) (text : List ℕ) (hidden next : Bool) → i < length text → hidden ≡ true → next ≡ false
-    → closing quote hidden (at + i) (drop i text) ≡ closing quote next (at + (i + 1)) (drop (i + 1) text)
+    → closing_left quote hidden (at + i) (drop i text) ≡ closing_left quote next (at + (i + 1)) (drop (i + 1) text)
 past_hidden quote at i text hidden next below is is_next =
     let place : at + i + 1 ≡ at + suc i = omega arith in
-    rw (is, is_next, drop-cons text i 0 below, add-one i) (ap (λ n. closing quote false n (drop (suc i) text)) place)
+    rw (is, is_next, drop-cons text i 0 below, add-one i) (ap (λ n. closing quote n (drop (suc i) text)) place)
 
 pub past_other : (quote at i : ℕ) (text : List ℕ) (hidden next : Bool) → i < length text → hidden ≡ false → (get_or text i 0 ≡ quote → ⊥) → next ≡ nat_eq (get_or text i 0) 92
-    → closing quote hidden (at + i) (drop i text) ≡ closing quote next (at + (i + 1)) (drop (i + 1) text)
+    → closing_left quote hidden (at + i) (drop i text) ≡ closing_left quote next (at + (i + 1)) (drop (i + 1) text)
 past_other quote at i text hidden next below is other is_next =
     let place : at + i + 1 ≡ at + suc i = omega arith in
-    rw (is, is_next, drop-cons text i 0 below, ne_eqb (get_or text i 0) quote other, add-one i)
-    (ap (λ n. closing quote (nat_eq (get_or text i 0) 92) n (drop (suc i) text)) place)
+    rw (is, is_next, drop-cons text i 0 below, add-one i)
+    (no_quote_here quote (at + i) (get_or text i 0) (drop (suc i) text) other ∙ ap (λ n. closing_left quote (get_or text i 0 == 92) n (drop (suc i) text)) place)
 
 -- the fields from a place on, by what stands there
 pub none_left : (left : ℕ) (line : List ℕ) (at : ℕ) → length line ≤ next_place line at → fields_from left line at ≡ Ok []

@@ -1,6 +1,6 @@
 -- The fields of a configuration line: Type, Path, Mode, User, Group, Age and Argument (tmpfiles.d(5)).
 -- Places are counted from 0.
-use Rattle.std.specs.Prelude.{ℕ, zero, suc, ◌+◌, ◌-◌, ◌≤◌, Bool, true, false, ◌||◌, ◌==◌, nat_lt, List, [], ◌∷◌, ◌++◌, drop, length, slice_range, Option, Some, None, Result, Ok, Err, if◌then◌else◌, refl}
+use Rattle.std.specs.Prelude.{ℕ, zero, suc, ◌+◌, ◌-◌, ◌≤◌, Bool, true, ◌||◌, ◌==◌, nat_lt, List, [], ◌∷◌, ◌++◌, drop, length, slice_range, Option, Some, None, Result, Ok, Err, if◌then◌else◌, refl}
 use Rattle.std.specs.Coded.{Coded, code_by, coded×, coded_list, coded_ℕ}
 use Rattle.std.specs.List.{prefix_len, suffix_len, position_or_len, position}
 use Rattle.pv_text.specs.declared.fault.FieldFault.{FieldFault}
@@ -26,12 +26,14 @@ Span = ℕ × ℕ
 abbrev pub text_at : List ℕ → Span → List ℕ
 text_at line span = slice_range line span.0 span.1
 
--- the place of the next byte that is the quote, in a text that begins at a place; the byte after a
--- backslash is out of play
-abbrev pub closing : ℕ → Bool → ℕ → List ℕ → Option ℕ
-closing quote hidden at [] = None
-closing quote true at (b ∷ bytes) = closing quote false (at + 1) bytes
-closing quote false at (b ∷ bytes) = if b == quote then Some at else closing quote (b == 92) (at + 1) bytes
+-- the place of the first quote, in a text that begins at a place; a backslash hides the byte after it
+abbrev pub closing : ℕ → ℕ → List ℕ → Option ℕ
+closing quote at [] = None
+closing quote at (b ∷ []) = if b == quote then Some at else None
+closing quote at (b ∷ c ∷ bytes) =
+    if b == quote then Some at
+    else if b == 92 then closing quote (at + 2) bytes
+    else closing quote (at + 1) (c ∷ bytes)
 
 -- the span, where each backslash in its text begins an escape
 abbrev pub escaped : List ℕ → Span → Result Span FieldFault
@@ -65,7 +67,7 @@ field_at line at = by_first (drop at line)
   where
     by_first : List ℕ → Result (Span × ℕ) FieldFault
     by_first [] = bare_at line at
-    by_first (b ∷ bytes) = if is_quote b then quoted_at line at (closing b false (at + 1) bytes) else bare_at line at
+    by_first (b ∷ bytes) = if is_quote b then quoted_at line at (closing b (at + 1) bytes) else bare_at line at
 
 -- the place of the next byte that is no blank, or the end
 abbrev pub next_place : List ℕ → ℕ → ℕ

@@ -52,7 +52,7 @@ fn kept_length(text: &[u8]) -> usize
 /// The place of the quote that closes a field which begins at a place.
 fn closing(quote: u8, at: usize, text: &[u8]) -> Option<usize>
     requires { at + length text.now < 2 ^ 64 }
-    ensures value { result ≡ closing quote false at text.now }
+    ensures value { result ≡ closing quote at text.now }
     ensures within { IfSome result (λ close. (at ≤ close) × (close < at + length text.now)) }
 {
     let mut hidden = false;
@@ -104,7 +104,7 @@ fn bare_at(line: &[u8], at: usize) -> Result<((usize, usize), usize), FieldFault
 /// A field with a quote at its beginning: its span, and the place after it.
 fn quoted_at(line: &[u8], at: usize, quote: u8) -> Result<((usize, usize), usize), FieldFault>
     requires { at < length line.now }
-    ensures value { result ≡ quoted_at line.now at (closing quote false (at + 1) (drop (at + 1) line.now)) }
+    ensures value { result ≡ quoted_at line.now at (closing quote (at + 1) (drop (at + 1) line.now)) }
     ensures within { IfOk result (λ field. IsChecked line.now field.0 × (field.1 ≤ length line.now)) }
 {
     let Some(close) = closing(quote, at + 1, &line[at + 1..]) else {
@@ -144,7 +144,8 @@ fn argument_at(line: &[u8], at: usize) -> Result<(usize, usize), FieldFault>
 /// The fields before the Argument, and the place after them.
 fn leading(line: &[u8]) -> Result<(Spans, usize), FieldFault>
     ensures ok { IfOk result (λ r. with_front r.0 (fields_from 0 line.now r.1) ≡ fields_from 6 line.now 0) }
-    ensures within { IfOk result (λ r. (length r.0 ≤ 6) × (r.1 ≤ length line.now) × AllByRecursion (IsChecked line.now) r.0) }
+    ensures within { IfOk result (λ r. (length r.0 ≤ 6) × (r.1 ≤ length line.now)
+        × AllByRecursion (IsChecked line.now) r.0) }
     ensures err { IfErr result (λ e. fields_from 6 line.now 0 ≡ Err e) }
 {
     let mut spans = Spans::new();
