@@ -4,7 +4,7 @@ use Rattle.std.specs.List.{list_all, list_any, slice_split, join_with_byte}
 use Rattle.std.proofs.lemmas.Bool.Decides.{nat_tests}
 use Rattle.pv_path.specs.PathLaws.{both_true}
 use Rattle.pv_path.specs.Printing.{printed}
-use Rattle.pv_text.specs.Facts.{fact_letters}
+use Rattle.pv_text.specs.Facts.{fact_letters, is_fact_letter, is_fact_value}
 use Rattle.pv_image.specs.Spelling.{are_bytes, fact_text, fact_texts}
 use Rattle.pv_image.specs.Images.{IsByteFact, is_line}
 use Rattle.pv_image.proofs.Cutting.{split_join}
@@ -20,11 +20,10 @@ solid_any (l ∷ letters) letter all e = by_test (solid_any letters letter (both
 
 letter_solid : (fact : ℕ × List ℕ) → IsByteFact fact → is_solid fact.0 ≡ true
 letter_solid fact is =
-    let a = list_any (λ l. l == fact.0) fact_letters in
-    let b = nat_le 1 (length fact.1) in
-    let c = nat_le (length fact.1) 255 in
-    let known = (both_true (a && b && c) (are_bytes fact.1) is).0 in
-    solid_any fact_letters fact.0 refl (both_true a b (both_true (a && b) c known).0).0
+    let letter = is_fact_letter fact.0 in
+    let value = is_fact_value fact.1 in
+    let known = (both_true (letter && value) (are_bytes fact.1) is).0 in
+    solid_any fact_letters fact.0 refl (both_true letter value known).0
 
 pub fact_solid : (fact : ℕ × List ℕ) → IsByteFact fact → AllSolid (fact_texts fact)
 fact_solid fact is = rw (letter_solid fact is, printed_solid fact.1) refl

@@ -14,8 +14,7 @@ use Rattle.std.proofs.lemmas.Grind.{flat_map-append}
 use Rattle.std.specs.FinMap as fin
 use Rattle.std.specs.FinMap.Entries.{find, is_sorted, below_all}
 use Rattle.pv_path.specs.Paths.{Path}
-use Rattle.pv_text.specs.Facts.{Values, fact_letters, is_fact, HasFactsAlone}
-use Rattle.pv_text.specs.SameFacts.{is_fact_letter}
+use Rattle.pv_text.specs.Facts.{Values, fact_letters, is_fact, is_fact_letter, is_fact_value, HasFactsAlone}
 use Rattle.pv_steps.specs.declared.object.Object.{Object}
 use Rattle.pv_steps.specs.declared.node.Kind.TheVariants.{Directory}
 use Rattle.pv_steps.specs.Objects.{fresh}
@@ -142,7 +141,7 @@ nothing false = refl
 shows : (q : ℕ) (value : Option (List ℕ)) → IfSome value (λ v. is_fact q v ≡ true) → cond (list_any (eq_by_cmp nat_cmp q) fact_letters) value None ≡ value
 shows q None h = nothing (list_any (eq_by_cmp nat_cmp q) fact_letters)
 shows q (Some v) h =
-    let letter = and_first (is_fact_letter q) (nat_le 1 (length v)) (and_first (is_fact_letter q && nat_le 1 (length v)) (nat_le (length v) 255) h) in
+    let letter = and_first (is_fact_letter q) (is_fact_value v) h in
     ap (λ b. cond b (Some v) None) (tied_any q fact_letters letter)
 
 -- the facts are those with the twelve letters

@@ -2,7 +2,7 @@
 use Rattle.std.specs.Prelude.{◌≡◌, ◌≢◌, ℕ, ◌/◌, ◌%◌, ◌<◌, ◌^◌, Bool, true, false, ◌&&◌, ◌==◌, nat_le, length, List, [], ◌∷◌, ◌++◌, map, Option, Some, None}
 use Rattle.std.specs.Borrow.{Bor}
 use Rattle.std.specs.List.{list_any}
-use Rattle.pv_text.specs.Facts.{fact_letters}
+use Rattle.pv_text.specs.Facts.{is_fact_value}
 use Rattle.pv_steps.specs.Objects.{IsTarget}
 use Rattle.pv_image.specs.declared.payload.Payload.{Payload}
 use Rattle.pv_image.specs.Spelling.{are_bytes}
@@ -56,13 +56,7 @@ of_bytes bytes = record { bytes = bytes; major = 0; minor = 0 }
 abbrev pub of_numbers : ℕ × ℕ → Payload
 of_numbers numbers = record { bytes = []; major = numbers.0; minor = numbers.1 }
 
--- a letter that a fact can have, and a value that one can have
-abbrev pub is_fact_letter : ℕ → Bool
-is_fact_letter letter = list_any (λ l. l == letter) fact_letters
-
-abbrev pub is_fact_value : List ℕ → Bool
-is_fact_value value = nat_le 1 (length value) && nat_le (length value) 255
-
+-- a value that a fact can have, of bytes
 pub record IsFactValue (value : List ℕ) : Type 0 where
   pub length_fits : is_fact_value value ≡ true
   pub bytes : are_bytes value ≡ true

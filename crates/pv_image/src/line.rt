@@ -4,13 +4,17 @@ ghost use Rattle.std.specs.List.{position};
 ghost use Rattle.pv_path.specs.Printing.{printed};
 ghost use Rattle.pv_image.specs.Spelling.{fact_text, fact_texts, header_text, end_text};
 ghost use Rattle.pv_image.specs.Images.{IsByteFact, IsCut, is_line, is_note};
-ghost use Rattle.pv_image.specs.Reading.{IsFactValue, Reads, is_fact_letter, is_fact_value, texts};
+ghost use Rattle.pv_text.specs.Facts.{is_fact_letter, is_fact_value};
+ghost use Rattle.pv_image.specs.Reading.{IsFactValue, Reads, texts};
 
 use crate::pieces::pieces_of;
 use crate::printed::read_printed;
 use pv_path::Bytes;
 use pv_text::FACT_LETTERS;
 use std::alloc::{AllocError, Global};
+
+/// The header of an image, without its line feed.
+pub(crate) const HEADER: [u8; 12] = *b"tree-image 1";
 
 /// The place of the first line feed.
 fn feed_at(bytes: &[u8]) -> Option<usize>
@@ -35,12 +39,14 @@ pub(crate) fn is_note(text: &[u8]) -> bool
     text.starts_with(b": ")
 }
 
+/// Whether a line is the header.
 pub(crate) fn is_header(text: &[u8]) -> bool
     ensures { IsTrue result ↔ (text.now ≡ header_text) }
 {
-    text == b"tree-image 1".as_slice()
+    text == HEADER.as_slice()
 }
 
+/// Whether a line is the end of an image.
 pub(crate) fn is_end(text: &[u8]) -> bool
     ensures { IsTrue result ↔ (text.now ≡ end_text) }
 {

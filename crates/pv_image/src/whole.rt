@@ -8,6 +8,7 @@ ghost use Rattle.pv_steps.specs.Trees.{IsTree};
 ghost use Rattle.pv_image.specs.Spelling.{text_of};
 ghost use Rattle.pv_image.specs.Images.{IsImage, are_byte_names, is_byte_fact};
 
+use crate::line::HEADER;
 use crate::write::{add_fact, add_node};
 use pv_text::{FACT_LETTERS, Facts};
 use pv_tree::MemTree;
@@ -18,7 +19,8 @@ pub fn write_image(alloc: Global, tree: &MemTree, facts: &Facts) -> Result<Vec<u
     ensures text { IfOk result (λ text. text.items ≡ text_of facts.now tree.now.files) }
     ensures image { IfOk result (λ text. IsImage text.items facts.now tree.now.files) }
 {
-    let mut output = Vec::from_slice(alloc, b"tree-image 1\n")?;
+    let mut output = Vec::from_slice(alloc, &HEADER)?;
+    output.push(b'\n')?;
     add_facts(alloc, &mut output, facts)?;
     add_nodes(alloc, &mut output, tree)?;
     output.extend_from_slice(b"end\n")?;
@@ -27,7 +29,8 @@ pub fn write_image(alloc: Global, tree: &MemTree, facts: &Facts) -> Result<Vec<u
 
 /// Adds the lines of all facts, in the order of their letters.
 fn add_facts(alloc: Global, output: &mut Vec<u8>, facts: &Facts) -> Result<(), AllocError>
-    ensures text { OnOk result (output.new.items ≡ output.old.items ++ flat_map fact_line (fin.entries facts.now)) }
+    ensures text { let lines = flat_map fact_line (fin.entries facts.now) in
+        OnOk result (output.new.items ≡ output.old.items ++ lines) }
     ensures fit { OnOk result (list_all is_byte_fact (fin.entries facts.now) ≡ true) }
 {
     for letter in &FACT_LETTERS {
@@ -55,7 +58,8 @@ fn add_fact_of(
 
 /// Adds the lines of all nodes, in the order of their paths.
 fn add_nodes(alloc: Global, output: &mut Vec<u8>, tree: &MemTree) -> Result<(), AllocError>
-    ensures text { OnOk result (output.new.items ≡ output.old.items ++ flat_map node_line (fin.entries tree.now.files)) }
+    ensures text { let lines = flat_map node_line (fin.entries tree.now.files) in
+        OnOk result (output.new.items ≡ output.old.items ++ lines) }
     ensures fit { OnOk result (list_all (λ e. are_byte_names e.0) (fin.entries tree.now.files) ≡ true) }
     ensures tree { IsTree tree.now.files }
 {

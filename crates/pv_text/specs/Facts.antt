@@ -1,4 +1,5 @@
--- What an image says about the system: a value for some of twelve letters.
+-- What an image says about the system: a value for some of twelve letters. The form is this project's own; the
+-- letters are specifiers of tmpfiles.d(5).
 use Rattle.std.specs.Prelude.{◌≡◌, ℕ, Bool, true, ◌&&◌, ◌==◌, nat_le, List, codes, length, IfSome}
 use Rattle.std.specs.List.{list_all, list_any}
 use Rattle.std.specs.Ordering.{nat_cmp}
@@ -8,9 +9,17 @@ use Rattle.std.specs.FinMap as map
 abbrev pub fact_letters : List ℕ
 fact_letters = codes "ABHMWablmovw"
 
--- a fact: one of the twelve letters, and a value of 1 to 255 bytes
+-- a letter that a fact can have
+abbrev pub is_fact_letter : ℕ → Bool
+is_fact_letter letter = list_any (λ l. l == letter) fact_letters
+
+-- a value that a fact can have: 1 to 255 bytes
+abbrev pub is_fact_value : List ℕ → Bool
+is_fact_value value = nat_le 1 (length value) && nat_le (length value) 255
+
+-- a fact: a letter and its value
 abbrev pub is_fact : ℕ → List ℕ → Bool
-is_fact letter value = list_any (λ l. l == letter) fact_letters && nat_le 1 (length value) && nat_le (length value) 255
+is_fact letter value = is_fact_letter letter && is_fact_value value
 
 -- whether each letter with its value is a fact
 abbrev pub are_facts : List (ℕ × List ℕ) → Bool

@@ -1,5 +1,5 @@
 use Rattle.std.proofs.Common.{◌≡◌, true, false, ◌∙◌, sym, ap}
-use Rattle.pv_image.specs.Reading.{is_fact_value}
+use Rattle.pv_text.specs.Facts.{is_fact_value}
 use Rattle.pv_image.proofs.Printing.{printed_injective}
 use Rattle.pv_image.proofs.line.read_value.Goals as goal
 
