@@ -2,13 +2,14 @@
 ghost use Rattle.std.specs.Prelude.{◌≡◌, ◌≤◌, ◌+◌, ◌∷◌, ◌++◌, [], true, IfOk, OnOk};
 ghost use Rattle.std.specs.Fmt.{decimal};
 ghost use Rattle.pv_acl.specs.Parts.{mode_of};
+ghost use Rattle.pv_acl.specs.Texts.{acl_text};
 ghost use Rattle.std.specs.List.{flat_map};
 ghost use Rattle.pv_path.specs.Printing.{printed, printed_path};
 ghost use Rattle.pv_image.specs.Images.{are_byte_names};
 ghost use Rattle.pv_image.specs.Spelling.{are_bytes, kind_text, mode_text, stamps_text, content_text, numbers_text, payload_text, fact_text, node_text, line};
 
 use base64::engine::general_purpose::STANDARD;
-use pv_acl::{Part, print_acl};
+use pv_acl::{Acl, Part, print_acl};
 use pv_path::{TreePath, print_bytes};
 use pv_steps::{Kind, Node, Stamps};
 use std::alloc::{AllocError, Global};
@@ -162,6 +163,14 @@ fn add_path(alloc: Global, output: &mut Vec<u8>, path: &TreePath) -> Result<(), 
     add_names(alloc, output, path)
 }
 
+/// Adds a space and the entries of an ACL, or a dash where its mode says all of it (acl(5)).
+fn add_acl(alloc: Global, output: &mut Vec<u8>, acl: &Acl) -> Result<(), AllocError>
+    ensures { OnOk result (output.new.items ≡ output.old.items ++ 32 ∷ acl_text acl.now) }
+{
+    let text = print_acl(alloc, acl)?;
+    add_column(output, text.as_slice())
+}
+
 /// Adds the line of a node.
 pub(crate) fn add_node(
     alloc: Global,
@@ -180,7 +189,7 @@ pub(crate) fn add_node(
     add_number(alloc, output, u64::from(node.uid))?;
     add_number(alloc, output, u64::from(node.gid))?;
     add_stamps(alloc, output, &node.stamps)?;
-    add_column(output, print_acl(alloc, &node.acl)?.as_slice())?;
+    add_acl(alloc, output, &node.acl)?;
     add_column(output, print_payload(alloc, node, payload)?.as_slice())?;
     output.push(b'\n')?;
     Ok(())

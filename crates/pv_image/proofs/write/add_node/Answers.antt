@@ -26,6 +26,6 @@ returns-clause-text c =
     let e4 = column_added _ _ _ _ (decimal n.uid) c.in_ok-add_number.ensures e3 (ap decimal c.from.ensures) in
     let e5 = column_added _ _ _ _ (decimal n.gid) c.in_ok-add_number-2.ensures e4 (ap decimal c.from-2.ensures) in
     let e6 = column_added _ _ _ _ s c.in_ok-add_stamps.ensures e5 refl in
-    let e7 = column_added _ _ _ _ a c.in_ok-add_column.ensures e6 (c.as_slice.ensures.value ∙ c.in_ok-print_acl.ensures) in
-    let e8 = column_added _ _ _ _ y c.in_ok-add_column-2.ensures e7 (c.as_slice-2.ensures.value ∙ c.in_ok-print_payload.ensures) in
+    let e7 = column_added _ _ _ _ a c.in_ok-add_acl.ensures e6 refl in
+    let e8 = column_added _ _ _ _ y c.in_ok-add_column.ensures e7 (c.as_slice.ensures.value ∙ c.in_ok-print_payload.ensures) in
     c.in_ok-push-2.ensures.items ∙ ap (λ x. x ++ 10 ∷ []) e8 ∙ joined_columns o (kind_text n.kind) (p ∷ m ∷ decimal n.uid ∷ decimal n.gid ∷ s ∷ a ∷ y ∷ []) (10 ∷ [])
