@@ -1,5 +1,5 @@
 -- An image has no fault, and bytes are an image of one pair of facts and tree, or have one fault.
-use Rattle.std.proofs.Common.{◌≡◌, ◌≢◌, ℕ, suc, Bool, true, false, not, ◌&&◌, ◌==◌, List, [], ◌∷◌, ◌++◌, map, Option, Some, None, Ok, Err, is_some, cond, refl, sym, ap, ◌∙◌, subst, T, append_assoc, append-nil}
+use Rattle.std.proofs.Common.{◌≡◌, ◌≢◌, ℕ, suc, Bool, true, false, not, ◌&&◌, ◌==◌, List, [], ◌∷◌, ◌++◌, map, Option, Some, None, Result, Ok, Err, IfOk, IfErr, inl, inr, ◌⊎◌, is_some, cond, refl, sym, ap, ◌∙◌, subst, T, append_assoc, append-nil}
 use Rattle.std.specs.List.{AllByRecursion, cons_option, filter_map, flat_map, list_all}
 use Rattle.std.specs.Ordering.{eq_by_cmp, is_lt, nat_cmp}
 use Rattle.std.specs.Cmp.{IsTotalOrder, tied_itself}
@@ -17,7 +17,9 @@ use Rattle.pv_steps.specs.Trees.{Files, IsTree, kind_of, places}
 use Rattle.pv_text.specs.Facts.{Values}
 use Rattle.pv_image.specs.Spelling.{IsEntry, end_text, fact_text, header_text, line, node_text, text_of}
 use Rattle.pv_image.specs.Images.{HasFault, cut_off, misspelt, misplaced, later, HasImageFault, HaveText, IsCut, IsImage, Spells, Stage, Before, InFacts, InNodes, After, What, Note, Header, Fact, Node, End, are_byte_names, follows, has_parent, is_byte_fact, is_line, is_note, is_root, judged}
+use Rattle.pv_image.specs.Progress.{Fails}
 use Rattle.pv_image.specs.declared.fault.ImageFault.{ImageFault}
+use Rattle.pv_image.specs.declared.fault.ImageFault.TheVariants as fault
 use Rattle.pv_image.proofs.Letters.{all_append, all_back, both_yes}
 use Rattle.pv_image.proofs.Facts.{fact_whole}
 use Rattle.pv_image.proofs.Order.{any_dir, dir_at, first_of_T, less_true, second_of_T, turned}
@@ -475,3 +477,43 @@ one_image bytes f g t u a b =
 
 pub text_image : (facts : Values) (files : Files) → HaveText facts files → IsImage (text_of facts files) facts files
 text_image facts files fit = record { notes = []; are_notes = refl; fit = fit; text = refl }
+
+pub read_again : (facts : Values) (files : Files) → HaveText facts files → (g : Values) (t : Files) → IsImage (text_of facts files) g t → (g ≡ facts) × (t ≡ files)
+read_again facts files fit g t is = one_image (text_of facts files) g facts t files is (text_image facts files fit)
+
+-- ---- answers
+
+-- a fault that was answered is want of memory, or the first one of the bytes
+memory_or_first : (bytes : List ℕ) (f : ImageFault) → Fails 1 Before bytes f → (f ≡ fault.Memory) ⊎ HasImageFault bytes f
+memory_or_first bytes fault.TooLong h = inr h
+memory_or_first bytes (fault.BadHeader k) h = inr h
+memory_or_first bytes (fault.BadLine k) h = inr h
+memory_or_first bytes (fault.OutOfOrder k) h = inr h
+memory_or_first bytes (fault.NoParent k) h = inr h
+memory_or_first bytes (fault.Truncated k) h = inr h
+memory_or_first bytes fault.Memory h = inl refl
+
+-- an image is refused for want of memory alone
+pub refused_image : (bytes : List ℕ) (facts : Values) (files : Files) (f : ImageFault) → IsImage bytes facts files → Fails 1 Before bytes f → f ≡ fault.Memory
+refused_image bytes facts files f image h = by (memory_or_first bytes f h)
+  where
+    by : (f ≡ fault.Memory) ⊎ HasImageFault bytes f → f ≡ fault.Memory
+    by (inl is) = is
+    by (inr first) = absurd (image_sound bytes facts files f image first)
+
+-- bytes with a fault are answered with it, or for want of memory
+pub refused_fault : (bytes : List ℕ) (f g : ImageFault) → HasImageFault bytes f → Fails 1 Before bytes g → (g ≡ f) ⊎ (g ≡ fault.Memory)
+refused_fault bytes f g h failed = by (memory_or_first bytes g failed)
+  where
+    by : (g ≡ fault.Memory) ⊎ HasImageFault bytes g → (g ≡ f) ⊎ (g ≡ fault.Memory)
+    by (inl is) = inr is
+    by (inr first) = inl (one_fault 1 Before bytes g f first h)
+
+pub answered_fault : {A : Type 0} (bytes : List ℕ) (f : ImageFault) (r : Result A ImageFault) (facts : A → Values) (files : A → Files) → HasImageFault bytes f
+    → IfOk r (λ a. IsImage bytes (facts a) (files a)) → IfErr r (Fails 1 Before bytes) → (r ≡ Err f) ⊎ (r ≡ Err fault.Memory)
+answered_fault bytes f (Ok a) facts files h ok err = absurd (image_sound bytes (facts a) (files a) f ok h)
+answered_fault {A = A} bytes f (Err g) facts files h ok err = by (refused_fault bytes f g h err)
+  where
+    by : (g ≡ f) ⊎ (g ≡ fault.Memory) → ◌≡◌ {A = Result A ImageFault} (Err g) (Err f) ⊎ ◌≡◌ {A = Result A ImageFault} (Err g) (Err fault.Memory)
+    by (inl is) = inl (ap Err is)
+    by (inr is) = inr (ap Err is)

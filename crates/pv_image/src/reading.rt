@@ -2,7 +2,9 @@
 ghost use Rattle.std.specs.Prelude.{◌≡◌, ◌≢◌, ℕ, ◌+◌, ◌<◌, ◌≤◌, ◌^◌, List, [], ◌∷◌, ◌++◌, true, length, Some, Ok, Err, IfOk, IfErr, OnOk, ◌⊎◌};
 ghost use Rattle.std.specs.Ordering.{nat_cmp};
 ghost use Rattle.std.specs.FinMap as fin;
-ghost use Rattle.pv_steps.specs.Trees.{IsTree};
+ghost use Rattle.pv_steps.specs.Trees.{Files, IsTree};
+ghost use Rattle.pv_text.specs.Facts.{Values};
+ghost use Rattle.pv_image.specs.declared.fault.ImageFault.{ImageFault as Fault};
 ghost use Rattle.pv_image.specs.Spelling.{end_text, header_text, line};
 ghost use Rattle.pv_image.specs.Images.{HasFault, HasImageFault, IsByteFact, IsImage, judged};
 ghost use Rattle.pv_image.specs.Images.{Fact, Before, InFacts, InNodes, After};
@@ -86,8 +88,8 @@ fn add_fact(
 /// Reads the facts, up to a line that is none.
 fn read_facts<'a>(alloc: Global, left: Left<'a>) -> Result<(Facts, Left<'a>), ImageFault>
     requires { left.number + length left.bytes.now < 2 ^ 64 }
-    ensures leads { IfOk result (λ r. Leads left.entry.number (InFacts []) left.entry.bytes.now
-        r.1.number (InFacts (fin.entries r.0)) r.1.bytes.now) }
+    ensures leads { let n = left.entry.number in let bytes = left.entry.bytes.now in
+        IfOk result (λ r. Leads n (InFacts []) bytes r.1.number (InFacts (fin.entries r.0)) r.1.bytes.now) }
     ensures text { IfOk result (λ r. FactsRead left.entry.bytes.now r.0 r.1.bytes.now) }
     ensures next { IfOk result (λ r. HasNoFactNext r.1.bytes.now) }
     ensures small { IfOk result (λ r. r.1.number + length r.1.bytes.now < 2 ^ 64) }
@@ -119,12 +121,14 @@ fn read_facts<'a>(alloc: Global, left: Left<'a>) -> Result<(Facts, Left<'a>), Im
 fn read_root<'a>(alloc: Global, left: Left<'a>) -> Result<(MemTree, Left<'a>), ImageFault>
     requires next { HasNoFactNext left.bytes.now }
     requires small { left.number + length left.bytes.now < 2 ^ 64 }
-    ensures leads { (facts : List (ℕ × List ℕ)) → IfOk result (λ r. Leads left.entry.number (InFacts facts) left.entry.bytes.now
+    ensures leads { (facts : List (ℕ × List ℕ)) →
+        IfOk result (λ r. Leads left.entry.number (InFacts facts) left.entry.bytes.now
         r.1.number (InNodes (fin.entries r.0.files)) r.1.bytes.now) }
     ensures text { IfOk result (λ r. TreeRead left.entry.bytes.now r.0.files r.1.bytes.now) }
     ensures steps { IfOk result (λ r. r.0.steps ≡ []) }
     ensures small { IfOk result (λ r. r.1.number + length r.1.bytes.now < 2 ^ 64) }
-    ensures err { (facts : List (ℕ × List ℕ)) → IfErr result (Fails left.entry.number (InFacts facts) left.entry.bytes.now) }
+    ensures err { (facts : List (ℕ × List ℕ)) →
+        IfErr result (Fails left.entry.number (InFacts facts) left.entry.bytes.now) }
 {
     let Some((text, rest)) = first_line(left.bytes) else {
         return Err(ImageFault::Truncated(left.number));
@@ -159,12 +163,13 @@ fn fault_of(number: u64, text: &[u8]) -> ImageFault
 /// Reads the other nodes, and the end.
 fn read_nodes<'a>(alloc: Global, tree: &mut MemTree, left: Left<'a>) -> Result<Left<'a>, ImageFault>
     requires { left.number + length left.bytes.now < 2 ^ 64 }
-    ensures leads { IfOk result (λ end. Leads left.entry.number (InNodes (fin.entries tree.old.files)) left.entry.bytes.now
-        end.number After end.bytes.now) }
+    ensures leads { let stage = InNodes (fin.entries tree.old.files) in
+        IfOk result (λ end. Leads left.entry.number stage left.entry.bytes.now end.number After end.bytes.now) }
     ensures text { (bytes : List ℕ) → TreeRead bytes tree.old.files left.entry.bytes.now →
         IfOk result (λ end. TreeRead bytes tree.new.files (line end_text ++ end.bytes.now)) }
     ensures steps { tree.new.steps ≡ tree.old.steps }
-    ensures err { IfErr result (Fails left.entry.number (InNodes (fin.entries tree.old.files)) left.entry.bytes.now) }
+    ensures err { let stage = InNodes (fin.entries tree.old.files) in
+        IfErr result (Fails left.entry.number stage left.entry.bytes.now) }
 {
     let mut number = left.number;
     let mut rest = left.bytes;
@@ -202,7 +207,9 @@ fn check_end(left: Left<'_>) -> Result<(), ImageFault>
 /// What an image holds: a tree, and facts about the system.
 #[derive(Drop)]
 pub struct Image {
+    /// The nodes, as a tree that tells no step.
     pub tree: MemTree,
+    /// The values of the letters that have one.
     pub facts: Facts,
 }
 
@@ -222,11 +229,16 @@ fn read_whole(alloc: Global, bytes: &[u8]) -> Result<Image, ImageFault>
 }
 
 /// Reads an image: the tree and the facts of which the bytes are the one text after some notes, or the
-/// first fault with the number of its line. No step is told in the tree. `TooLong` is never answered.
+/// first fault with the number of its line. Bytes that are an image are refused for want of memory alone.
+/// No step is told in the tree. `TooLong` is never answered.
 pub fn read_image(alloc: Global, bytes: &[u8]) -> Result<Image, ImageFault>
     ensures image { IfOk result (λ image. IsImage bytes.now image.facts image.tree.files) }
     ensures steps { IfOk result (λ image. image.tree.steps ≡ []) }
     ensures fault { IfErr result (λ f. f ≢ ImageFault.Memory → HasImageFault bytes.now f) }
+    ensures accepts { (facts : Values) (files : Files) → IsImage bytes.now facts files →
+        IfErr result (λ f. f ≡ ImageFault.Memory) }
+    ensures refuses { (f : Fault) → HasImageFault bytes.now f →
+        (result ≡ Err f) ⊎ (result ≡ Err ImageFault.Memory) }
     ensures bounded { result ≢ Err ImageFault.TooLong }
 {
     read_whole(alloc, bytes)
