@@ -1,6 +1,6 @@
 use super::*;
 use pv_path::{TreePath, parse_path};
-use pv_text::Facts;
+use pv_text::{Facts, Tool, expand};
 use pv_tree::MemTree;
 use std::alloc::{AllocError, Global};
 use std::test::Fail;
@@ -27,6 +27,10 @@ fn faults_of_texts(rt: HostRuntime) -> Result<(), Fail> {
         ),
         (
             b"tree-image 1\nd / 0755 0 0 0,0,0,0 - -\nend",
+            ImageFault::Truncated(3),
+        ),
+        (
+            b"tree-image 1\nd / 0755 0 0 0,0,0,0 - -\nen",
             ImageFault::Truncated(3),
         ),
         (
@@ -179,6 +183,48 @@ fn whole_image(rt: HostRuntime) -> Result<(), Fail> {
     assert_eq!(rt; node.acl.access.other.bits, 5);
     let text = write_image(alloc, &image.tree, &image.facts)?;
     assert_eq!(rt; text.as_slice(), TEXT);
+    Ok(())
+}
+
+/// An image with a value for each letter, of which one has a percent sign.
+const FACTS: &[u8] = b"tree-image 1
+fact A image
+fact B build
+fact H host
+fact M metal
+fact W variant
+fact a %t
+fact b boot
+fact l short
+fact m 0123
+fact o system
+fact v 6.12
+fact w 42
+d / 0755 0 0 0,0,0,0 - -
+end
+";
+
+/// A specifier stands for the fact of the image as it is written there, for both tools.
+#[test]
+fn facts_for_specifiers(rt: HostRuntime) -> Result<(), Fail> {
+    let image = read_image(rt.alloc(), FACTS).ok().ok_or("an image")?;
+    for tool in [Tool::Tmpfiles, Tool::Sysusers] {
+        for (text, want) in [
+            (b"%a,%b,%H".as_slice(), b"%t,boot,host".as_slice()),
+            (b"%l,%m,%v", b"short,0123,6.12"),
+            (b"%A,%B,%M", b"image,build,metal"),
+            (b"%o,%w,%W", b"system,42,variant"),
+            (
+                b"%a%b%H%l%m%v%A%B%M%o%w%W",
+                b"%tboothostshort01236.12imagebuildmetalsystem42variant",
+            ),
+        ] {
+            let read = expand(rt.alloc(), text, &image.facts, tool)
+                .ok()
+                .ok_or("expanded")?;
+            assert!(rt; read.as_slice() == want, "{text:?}");
+        }
+    }
     Ok(())
 }
 

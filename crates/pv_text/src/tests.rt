@@ -21,6 +21,8 @@ fn lines_have_fields(rt: HostRuntime) -> Result<(), Fail> {
         ),
         (b"f \"/a b\" 0644 - - - x  y ", 1, b"/a b"),
         (b"f \"/a b\" 0644 - - - x  y ", 2, b"0644"),
+        (b"f \"/a b\" 0644 - - - x  y ", 3, b"-"),
+        (b"f \"/a b\" 0644 - - - x  y ", 4, b"-"),
         (b"f \"/a b\" 0644 - - - x  y ", 5, b"-"),
         (b"f \"/a b\" 0644 - - - x  y ", 6, b"x  y"),
         (b"f /a\\x41 - - - - \"q\"", 1, b"/aA"),
@@ -164,24 +166,41 @@ fn sysusers_knows_fewer_specifiers(rt: HostRuntime) -> Result<(), Fail> {
             .ok_or("expanded")?;
         assert!(rt; read.as_slice() == wanted, "{text:?}");
     }
-    for text in [
-        b"%t/x-%m".as_slice(),
-        b"%C",
-        b"%L",
-        b"%S",
-        b"%g",
-        b"%u",
-        b"%G",
-        b"%U",
-        b"%h",
+    let other = expand(rt.alloc(), b"%t/x-%m", &facts, Tool::Sysusers);
+    assert!(rt; other.err() == Some(ExpandFault::UnknownSpecifier));
+    Ok(())
+}
+
+#[test]
+fn sysusers_specifiers_have_their_first_fault(rt: HostRuntime) {
+    let facts = Facts::new(rt.alloc());
+    for (text, fault) in [
+        (b"%t".as_slice(), ExpandFault::UnknownSpecifier),
+        (b"%C", ExpandFault::UnknownSpecifier),
+        (b"%L", ExpandFault::UnknownSpecifier),
+        (b"%S", ExpandFault::UnknownSpecifier),
+        (b"%g", ExpandFault::UnknownSpecifier),
+        (b"%u", ExpandFault::UnknownSpecifier),
+        (b"%G", ExpandFault::UnknownSpecifier),
+        (b"%U", ExpandFault::UnknownSpecifier),
+        (b"%h", ExpandFault::UnknownSpecifier),
+        (b"%q", ExpandFault::UnknownSpecifier),
+        (b"a%", ExpandFault::UnknownSpecifier),
+        (b"%H", ExpandFault::MissingFact),
+        (b"%a", ExpandFault::MissingFact),
+        (b"%b", ExpandFault::MissingFact),
+        (b"%l", ExpandFault::MissingFact),
+        (b"%m", ExpandFault::MissingFact),
+        (b"%v", ExpandFault::MissingFact),
+        (b"%H%q", ExpandFault::MissingFact),
+        (b"%q%H", ExpandFault::UnknownSpecifier),
+        (b"%m%t", ExpandFault::MissingFact),
     ] {
         assert!(rt;
-            expand(rt.alloc(), text, &facts, Tool::Sysusers).err()
-                == Some(ExpandFault::UnknownSpecifier),
+            expand(rt.alloc(), text, &facts, Tool::Sysusers).err() == Some(fault),
             "{text:?}"
         );
     }
-    Ok(())
 }
 
 #[test]
