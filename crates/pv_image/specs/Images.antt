@@ -1,4 +1,5 @@
--- Which bytes are an image of facts and a tree, and where they are none, the first fault by line.
+-- Which bytes are an image of facts and a tree, and where they are none, the first fault by line. The form of an image
+-- and its faults are this project's own.
 use Rattle.std.specs.Prelude.{◌≡◌, ℕ, suc, Bool, true, false, ◌&&◌, List, [], ◌∷◌, ◌++◌, codes, nat_eq, Option, Some, None, Result, Ok, Err, if◌then◌else◌}
 use Rattle.std.specs.List.{flat_map, list_any, list_all, starts_with}
 use Rattle.std.specs.Ordering.{nat_cmp, is_lt}

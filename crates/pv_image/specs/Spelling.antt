@@ -1,4 +1,5 @@
--- How facts and nodes are spelled in a tree image.
+-- How facts and nodes are spelled in a tree image. The form is this project's own: the ACL column as in the texts of
+-- acl(5), without the base entries, and the bytes of files in Base64 as the engine `STANDARD` encodes them.
 use Rattle.std.specs.Prelude.{◌≡◌, ℕ, ◌+◌, ◌/◌, ◌%◌, Bool, true, not, ◌==◌, nat_lt, List, [], ◌∷◌, ◌++◌, map, codes}
 use Rattle.std.specs.List.{flat_map, join_with_byte, list_all}
 use Rattle.std.specs.Fmt.{decimal}

@@ -18,10 +18,15 @@ use std::alloc::{AllocError, Global};
 /// The columns of a node that are letters and digits alone.
 #[derive(Clone, Copy)]
 pub struct Plain {
+    /// The kind of the object.
     pub kind: Kind,
+    /// The special bits and the permissions, 0 to 4095.
     pub mode: u16,
+    /// The ID of the owner, 0 to 4294967294.
     pub uid: u32,
+    /// The ID of the owning group, 0 to 4294967294.
     pub gid: u32,
+    /// The four stamps.
     pub stamps: Stamps,
 }
 

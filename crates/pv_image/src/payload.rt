@@ -20,8 +20,11 @@ use std::alloc::{AllocError, Global};
 /// The bytes of a file or the target of a link, and the numbers of a device.
 #[derive(Debug, Drop)]
 pub struct Payload {
+    /// The bytes of a file or the target of a link; else none.
     pub bytes: Bytes,
+    /// The major number of a device; else 0.
     pub major: u32,
+    /// The minor number of a device; else 0.
     pub minor: u32,
 }
 

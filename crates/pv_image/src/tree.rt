@@ -28,7 +28,8 @@ fn parent_path(alloc: Global, path: &TreePath) -> Result<TreePath, AllocError>
 
 /// The last node of a tree in the order of the paths.
 fn last_entry(tree: &MemTree) -> Option<&Entry>
-    ensures { option_copied result ≡ slice_get (fin.entries tree.now.files) (length (fin.entries tree.now.files) - 1) }
+    ensures { let nodes = fin.entries tree.now.files in
+        option_copied result ≡ slice_get nodes (length nodes - 1) }
 {
     let count = tree.len();
     if count == 0 {
@@ -98,7 +99,8 @@ pub(crate) fn root_tree(
     ensures root { IfOk result (λ tree. fin.entries tree.files ≡ (path.now, object) ∷ []) }
     ensures steps { IfOk result (λ tree. tree.steps ≡ []) }
     ensures is_root { OnOk result (is_root (path.now, object) ≡ true) }
-    ensures refused { IfErr result (λ f. f ≢ ImageFault.Memory → (is_root (path.now, object) ≡ false) × (f ≡ ImageFault.NoParent number)) }
+    ensures refused { IfErr result (λ f. f ≢ ImageFault.Memory →
+        (is_root (path.now, object) ≡ false) × (f ≡ ImageFault.NoParent number)) }
 {
     let Object { node, payload: _ } = object;
     if !path.is_empty() || !node.kind.is_directory() {

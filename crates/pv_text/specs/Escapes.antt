@@ -1,4 +1,5 @@
--- Escapes in the fields of a configuration line: a backslash and what follows it stand for one byte.
+-- Escapes in the fields of a configuration line: a backslash and what follows it stand for one byte
+-- (tmpfiles.d(5); the table is this project's own).
 use Rattle.std.specs.Prelude.{◌≡◌, ℕ, zero, suc, ◌+◌, ◌*◌, ◌&&◌, ◌==◌, nat_le, List, [], ◌∷◌, codes, Option, Some, None, if◌then◌else◌}
 use Rattle.std.specs.List.{zip}
 use Rattle.std.specs.Map.{lookup}

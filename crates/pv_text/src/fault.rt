@@ -33,6 +33,7 @@ pub enum ExpandFault {
     /// A specifier needs a fact that the image does not give.
     #[error("MissingFact")]
     MissingFact,
+    /// Memory ran out.
     #[error("Memory")]
     Memory,
 }

@@ -47,7 +47,8 @@ impl<'a> Fields<'a> {
     /// The bytes of a field, with their escapes. There are none where the field is not there, and
     /// from the place 7 on.
     pub fn field(&self, i: usize) -> Option<&'a [u8]>
-        ensures value { option_map (λ text. text.now) result ≡ option_map (text_at self.now.line) (slice_get self.now.spans i) }
+        ensures value { let spelt = option_map (text_at self.now.line) (slice_get self.now.spans i) in
+            option_map (λ text. text.now) result ≡ spelt }
         ensures checked { IfSome result (λ text. HasGoodEscapes text.now) }
         ensures seven { 7 ≤ i → result ≡ None }
     {

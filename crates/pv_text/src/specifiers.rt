@@ -34,7 +34,8 @@ fn fixed_for_tmpfiles(letter: u8) -> Option<&'static [u8]>
 }
 
 fn from_facts(letter: u8, facts: &Facts) -> Result<&[u8], ExpandFault>
-    ensures { MatchResult result (λ text. from_facts facts.now letter ≡ Ok text.now) (λ e. from_facts facts.now letter ≡ Err e) }
+    ensures { let meant = from_facts facts.now letter in
+        MatchResult result (λ text. meant ≡ Ok text.now) (λ e. meant ≡ Err e) }
 {
     match letter {
         b'a' | b'b' | b'H' | b'l' | b'm' | b'v' => {
@@ -47,7 +48,8 @@ fn from_facts(letter: u8, facts: &Facts) -> Result<&[u8], ExpandFault>
 
 /// What a letter after a percent sign stands for.
 fn meaning_of(letter: u8, facts: &Facts, tool: Tool) -> Result<&[u8], ExpandFault>
-    ensures { MatchResult result (λ text. meaning_of tool facts.now letter ≡ Ok text.now) (λ e. meaning_of tool facts.now letter ≡ Err e) }
+    ensures { let meant = meaning_of tool facts.now letter in
+        MatchResult result (λ text. meant ≡ Ok text.now) (λ e. meant ≡ Err e) }
 {
     if let Some(text) = fixed_for_both(letter) {
         return Ok(text);
