@@ -13,54 +13,55 @@ fn fault_of(alloc: Global, bytes: &[u8]) -> Option<ImageFault> {
     }
 }
 
+/// Whole texts and their faults.
+const FAULTS: [(&[u8], ImageFault); 15] = [
+    (b"", ImageFault::Truncated(1)),
+    (b"tree-image 9\n", ImageFault::BadHeader(1)),
+    (b"tree-image 1", ImageFault::Truncated(1)),
+    (b": x\ntree-image 1\nend\n", ImageFault::NoParent(3)),
+    (
+        b"tree-image 1\nd / 0755 0 0 0,0,0,0 - -\n",
+        ImageFault::Truncated(3),
+    ),
+    (
+        b"tree-image 1\nd / 0755 0 0 0,0,0,0 - -\nend",
+        ImageFault::Truncated(3),
+    ),
+    (
+        b"tree-image 1\nd / 0755 0 0 0,0,0,0 - -\nen",
+        ImageFault::Truncated(3),
+    ),
+    (
+        b"tree-image 1\nd / 755 0 0 0,0,0,0 - -\n",
+        ImageFault::BadLine(2),
+    ),
+    (
+        b"tree-image 1\nf / 0644 0 0 0,0,0,0 - -\n",
+        ImageFault::NoParent(2),
+    ),
+    (
+        b"tree-image 1\nd / 0755 0 0 0,0,0,0 - -\nend\nend\n",
+        ImageFault::BadLine(4),
+    ),
+    (b"tree-image 1\n: x\n", ImageFault::BadLine(2)),
+    (
+        b"tree-image 1\nfact m 1\nfact A 1\n",
+        ImageFault::OutOfOrder(3),
+    ),
+    (
+        b"tree-image 1\nfact m 1\nfact m 1\n",
+        ImageFault::OutOfOrder(3),
+    ),
+    (b"tree-image 1\nfact x 1\n", ImageFault::BadLine(2)),
+    (b"tree-image 1\nfact m \n", ImageFault::BadLine(2)),
+];
+
 /// The faults of whole texts, line by line.
 #[test]
-fn faults_of_texts(rt: HostRuntime) -> Result<(), Fail> {
-    let rows = [
-        (b"".as_slice(), ImageFault::Truncated(1)),
-        (b"tree-image 9\n", ImageFault::BadHeader(1)),
-        (b"tree-image 1", ImageFault::Truncated(1)),
-        (b": x\ntree-image 1\nend\n", ImageFault::NoParent(3)),
-        (
-            b"tree-image 1\nd / 0755 0 0 0,0,0,0 - -\n",
-            ImageFault::Truncated(3),
-        ),
-        (
-            b"tree-image 1\nd / 0755 0 0 0,0,0,0 - -\nend",
-            ImageFault::Truncated(3),
-        ),
-        (
-            b"tree-image 1\nd / 0755 0 0 0,0,0,0 - -\nen",
-            ImageFault::Truncated(3),
-        ),
-        (
-            b"tree-image 1\nd / 755 0 0 0,0,0,0 - -\n",
-            ImageFault::BadLine(2),
-        ),
-        (
-            b"tree-image 1\nf / 0644 0 0 0,0,0,0 - -\n",
-            ImageFault::NoParent(2),
-        ),
-        (
-            b"tree-image 1\nd / 0755 0 0 0,0,0,0 - -\nend\nend\n",
-            ImageFault::BadLine(4),
-        ),
-        (b"tree-image 1\n: x\n", ImageFault::BadLine(2)),
-        (
-            b"tree-image 1\nfact m 1\nfact A 1\n",
-            ImageFault::OutOfOrder(3),
-        ),
-        (
-            b"tree-image 1\nfact m 1\nfact m 1\n",
-            ImageFault::OutOfOrder(3),
-        ),
-        (b"tree-image 1\nfact x 1\n", ImageFault::BadLine(2)),
-        (b"tree-image 1\nfact m \n", ImageFault::BadLine(2)),
-    ];
-    for (bytes, want) in rows {
+fn faults_of_texts(rt: HostRuntime) {
+    for (bytes, want) in FAULTS {
         assert_eq!(rt; fault_of(rt.alloc(), bytes), Some(want));
     }
-    Ok(())
 }
 
 /// An image of a root and further lines.
@@ -71,59 +72,63 @@ fn with_lines(alloc: Global, lines: &[u8]) -> Result<Vec<u8>, AllocError> {
     Ok(text)
 }
 
+/// The fault of a line after the root that is spelled wrong.
+const BAD: Option<ImageFault> = Some(ImageFault::BadLine(3));
+
 /// What stands after the root, and the fault that it has, if any.
+const LINES: [(&[u8], Option<ImageFault>); 31] = [
+    (b"", None),
+    (
+        b"d /b 0755 0 0 0,0,0,0 - -\nd /a 0755 0 0 0,0,0,0 - -\n",
+        Some(ImageFault::OutOfOrder(4)),
+    ),
+    (
+        b"d /b 0755 0 0 0,0,0,0 - -\nd /b 0755 0 0 0,0,0,0 - -\n",
+        Some(ImageFault::OutOfOrder(4)),
+    ),
+    (
+        b"d / 0755 0 0 0,0,0,0 - -\n",
+        Some(ImageFault::OutOfOrder(3)),
+    ),
+    (
+        b"f /a/b 0644 0 0 0,0,0,0 - -\n",
+        Some(ImageFault::NoParent(3)),
+    ),
+    (
+        b"f /a 0644 0 0 0,0,0,0 - -\nf /a/b 0644 0 0 0,0,0,0 - -\n",
+        Some(ImageFault::NoParent(4)),
+    ),
+    (b"fact m 1\n", BAD),
+    (b"l /a 0755 0 0 0,0,0,0 - /t\n", BAD),
+    (b"l /a 0777 0 0 0,0,0,0 - -\n", None),
+    (b"f /a 0644 0 0 0,0,0,0 - aGk=\n", None),
+    (b"f /a 0644 0 0 0,0,0,0 - aGk\n", BAD),
+    (b"f /a 0644 0 0 0,0,0,0 - aGl=\n", BAD),
+    (b"f /a 00644 0 0 0,0,0,0 - -\n", BAD),
+    (b"f /a 0648 0 0 0,0,0,0 - -\n", BAD),
+    (b"f /a 0644 00 0 0,0,0,0 - -\n", BAD),
+    (b"f /a 0644 4294967295 0 0,0,0,0 - -\n", BAD),
+    (b"f /a 0644 0 4294967294 0,0,0,0 - -\n", None),
+    (b"f /a 0644 0 0 0,0,0 - -\n", BAD),
+    (b"f /a 0644 0 0 0,0,0,18446744073709551616 - -\n", BAD),
+    (b"f /\\x61 0644 0 0 0,0,0,0 - -\n", BAD),
+    (b"f /a\\x0A 0644 0 0 0,0,0,0 - -\n", BAD),
+    (b"f /a\\x0a 0644 0 0 0,0,0,0 - -\n", None),
+    (b"f /.. 0644 0 0 0,0,0,0 - -\n", BAD),
+    (b"f /a/ 0644 0 0 0,0,0,0 - -\n", BAD),
+    (b"f  /a 0644 0 0 0,0,0,0 - -\n", BAD),
+    (b"p /a 0644 0 0 0,0,0,0 - x\n", BAD),
+    (b"c /a 0644 0 0 0,0,0,0 - 5\n", BAD),
+    (b"c /a 0644 0 0 0,0,0,0 - 5:4294967295\n", None),
+    (b"f /a 0644 0 0 0,0,0,0 d:u::rwx,d:g::r-x,d:o::--- -\n", BAD),
+    (b"f /a 0644 0 0 0,0,0,0 g:1:r--,u:1:r-- -\n", BAD),
+    (b"s /a 0644 0 0 0,0,0,0 - -\n", BAD),
+];
+
+/// Lines after the root are taken, or have their fault.
 #[test]
 fn lines_after_the_root(rt: HostRuntime) -> Result<(), Fail> {
-    let bad = Some(ImageFault::BadLine(3));
-    let rows = [
-        (b"".as_slice(), None),
-        (
-            b"d /b 0755 0 0 0,0,0,0 - -\nd /a 0755 0 0 0,0,0,0 - -\n",
-            Some(ImageFault::OutOfOrder(4)),
-        ),
-        (
-            b"d /b 0755 0 0 0,0,0,0 - -\nd /b 0755 0 0 0,0,0,0 - -\n",
-            Some(ImageFault::OutOfOrder(4)),
-        ),
-        (
-            b"d / 0755 0 0 0,0,0,0 - -\n",
-            Some(ImageFault::OutOfOrder(3)),
-        ),
-        (
-            b"f /a/b 0644 0 0 0,0,0,0 - -\n",
-            Some(ImageFault::NoParent(3)),
-        ),
-        (
-            b"f /a 0644 0 0 0,0,0,0 - -\nf /a/b 0644 0 0 0,0,0,0 - -\n",
-            Some(ImageFault::NoParent(4)),
-        ),
-        (b"fact m 1\n", bad),
-        (b"l /a 0755 0 0 0,0,0,0 - /t\n", bad),
-        (b"l /a 0777 0 0 0,0,0,0 - -\n", None),
-        (b"f /a 0644 0 0 0,0,0,0 - aGk=\n", None),
-        (b"f /a 0644 0 0 0,0,0,0 - aGk\n", bad),
-        (b"f /a 0644 0 0 0,0,0,0 - aGl=\n", bad),
-        (b"f /a 00644 0 0 0,0,0,0 - -\n", bad),
-        (b"f /a 0648 0 0 0,0,0,0 - -\n", bad),
-        (b"f /a 0644 00 0 0,0,0,0 - -\n", bad),
-        (b"f /a 0644 4294967295 0 0,0,0,0 - -\n", bad),
-        (b"f /a 0644 0 4294967294 0,0,0,0 - -\n", None),
-        (b"f /a 0644 0 0 0,0,0 - -\n", bad),
-        (b"f /a 0644 0 0 0,0,0,18446744073709551616 - -\n", bad),
-        (b"f /\\x61 0644 0 0 0,0,0,0 - -\n", bad),
-        (b"f /a\\x0A 0644 0 0 0,0,0,0 - -\n", bad),
-        (b"f /a\\x0a 0644 0 0 0,0,0,0 - -\n", None),
-        (b"f /.. 0644 0 0 0,0,0,0 - -\n", bad),
-        (b"f /a/ 0644 0 0 0,0,0,0 - -\n", bad),
-        (b"f  /a 0644 0 0 0,0,0,0 - -\n", bad),
-        (b"p /a 0644 0 0 0,0,0,0 - x\n", bad),
-        (b"c /a 0644 0 0 0,0,0,0 - 5\n", bad),
-        (b"c /a 0644 0 0 0,0,0,0 - 5:4294967295\n", None),
-        (b"f /a 0644 0 0 0,0,0,0 d:u::rwx,d:g::r-x,d:o::--- -\n", bad),
-        (b"f /a 0644 0 0 0,0,0,0 g:1:r--,u:1:r-- -\n", bad),
-        (b"s /a 0644 0 0 0,0,0,0 - -\n", bad),
-    ];
-    for (lines, want) in rows {
+    for (lines, want) in LINES {
         let text = with_lines(rt.alloc(), lines)?;
         assert_eq!(rt; fault_of(rt.alloc(), text.as_slice()), want);
     }
