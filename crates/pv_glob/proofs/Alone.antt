@@ -7,5 +7,5 @@ use Rattle.pv_glob.specs.declared.element.Element.TheVariants.{Byte}
 use Rattle.pv_glob.specs.Matching.{literal_of}
 
 -- the pattern that was made of all names
-pub literal_whole : (made plain : List (List Element)) (items path : Path) (i : ℕ) → made ≡ plain → plain ≡ map (map (λ b. Byte b)) (take i items) → items ≡ path → length items ≤ i → made ≡ literal_of path
-literal_whole made plain items path i is whole same l = is ∙ whole ∙ ap literal_of (take_all i items l ∙ same)
+pub literal_whole : (plain : List (List Element)) (items path : Path) (i : ℕ) → plain ≡ map (map (λ b. Byte b)) (take i items) → items ≡ path → length items ≤ i → plain ≡ literal_of path
+literal_whole plain items path i whole same l = whole ∙ ap literal_of (take_all i items l ∙ same)

@@ -9,11 +9,13 @@ mod fault;
 mod matching;
 mod parse;
 mod pattern;
+mod plain;
 
 pub use element::{ByteRange, ByteSet, Component, Element};
 pub use fault::PatternFault;
 pub use parse::parse_pattern;
-pub use pattern::{Pattern, Plain, literal, matches, matches_first};
+pub use pattern::{Pattern, literal, matches, matches_first};
+pub use plain::Plain;
 
 #[cfg(test)]
 mod tests;

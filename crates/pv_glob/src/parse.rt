@@ -3,7 +3,8 @@ ghost use Rattle.pv_glob.specs.Parsing.{Gives, component_fault, components_of, e
 
 use crate::component::{component_fault, component_of, name_fault};
 use crate::fault::PatternFault;
-use crate::pattern::{Pattern, Plain};
+use crate::pattern::Pattern;
+use crate::plain::Plain;
 use std::alloc::{AllocError, Global};
 
 /// The longest text that may spell a pattern, in bytes.
@@ -70,16 +71,16 @@ fn pattern_with(alloc: Global, components: &[&[u8]]) -> Result<Pattern, PatternF
     if let Some(fault) = first_component_fault(components) {
         return Err(fault);
     }
-    Ok(plain_of(alloc, components)?)
+    Ok(Pattern::of(plain_of(alloc, components)?))
 }
 
 /// The pattern of components without faults.
-fn plain_of(alloc: Global, components: &[&[u8]]) -> Result<Pattern, AllocError>
-    ensures { IfOk result (λ pattern. pattern ≡ map elements_in (map (λ s. s.now) components.now)) }
+fn plain_of(alloc: Global, components: &[&[u8]]) -> Result<Plain, AllocError>
+    ensures { IfOk result (λ plain. plain ≡ map elements_in (map (λ s. s.now) components.now)) }
 {
     let mut plain = Plain::root(alloc);
     for component in components {
         plain.push(component_of(alloc, component)?)?;
     }
-    Ok(Pattern::of(plain))
+    Ok(plain)
 }

@@ -1,6 +1,6 @@
 use Rattle.std.proofs.Common.{◌∙◌}
 use Rattle.std.proofs.lemmas.List.Elements.{same_from_all_zip}
-use Rattle.pv_glob.proofs.pattern.Plain.copy.Goals as goal
+use Rattle.pv_glob.proofs.plain.Plain.copy.Goals as goal
 
 pub returns : goal.returns
 returns c =
