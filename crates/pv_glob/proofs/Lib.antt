@@ -1,4 +1,5 @@
 pub mod Along
 pub mod Zipped
 pub mod Alone
+pub mod Escaped
 pub mod Places

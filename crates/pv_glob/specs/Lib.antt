@@ -1,3 +1,4 @@
+pub mod Escaping
 pub mod Matching
 pub mod MatchingLaws
 pub mod Parsing

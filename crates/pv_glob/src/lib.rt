@@ -6,6 +6,7 @@ mod class;
 mod component;
 mod element;
 mod fault;
+mod laws;
 mod matching;
 mod parse;
 mod pattern;
@@ -13,6 +14,7 @@ mod plain;
 
 pub use element::{ByteRange, ByteSet, Component, Element};
 pub use fault::PatternFault;
+pub use laws::an_escaped_path_spells_its_literal;
 pub use parse::parse_pattern;
 pub use pattern::{Pattern, literal, matches, matches_first};
 pub use plain::Plain;
