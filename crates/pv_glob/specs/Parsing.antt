@@ -50,6 +50,7 @@ abbrev pub has_sign : List ℕ → Bool
 has_sign [] = false
 has_sign (b ∷ text) = b == 33 || b == 94
 
+-- how many bytes the sign of negation has
 abbrev pub sign_length : List ℕ → ℕ
 sign_length text = if has_sign text then 1 else 0
 
@@ -72,6 +73,7 @@ item_length place =
 abbrev pub is_bad_range : List ℕ → Bool
 is_bad_range place = is_range place && (opens_class (drop 2 place) || nat_lt (slice_index place 2) (slice_index place 0))
 
+-- the bytes from one to another, both included
 abbrev pub range : ℕ → ℕ → ByteRange
 range low high = record { low = low; high = high }
 
@@ -92,6 +94,7 @@ classes =
     ∷ (codes "xdigit", range 48 57 ∷ range 65 70 ∷ range 97 102 ∷ [])
     ∷ []
 
+-- the bytes of the class of a name, if there is one
 abbrev pub class_named : List ℕ → Option (List ByteRange)
 class_named name = option_map (λ class. class.1) (find (λ class. same_bytes name class.0) classes)
 
@@ -99,6 +102,7 @@ class_named name = option_map (λ class. class.1) (find (λ class. same_bytes na
 abbrev pub class_at : List ℕ → Option (List ByteRange)
 class_at place = if slice_index place 1 == 58 then class_named (take (item_length place - 4) (drop 2 place)) else None
 
+-- whether a class stands here that there is not
 abbrev pub is_bad_class : List ℕ → Bool
 is_bad_class place = opens_class place && is_none (class_at place)
 

@@ -6,14 +6,18 @@ use std::alloc::AllocError;
 /// The bytes from `low` to `high`, both included, by value.
 #[derive(Clone, Copy, Debug, PartialEq, Eq)]
 pub struct ByteRange {
+    /// The least byte.
     pub low: u8,
+    /// The greatest byte.
     pub high: u8,
 }
 
 /// The bytes in some range of a list, or those in none of them.
 #[derive(Debug, Drop)]
 pub struct ByteSet {
+    /// Whether the bytes are those in no range: the bracket begins with `!` or `^`.
     pub negated: bool,
+    /// The ranges that the bracket spells, in its order.
     pub ranges: Sequence<ByteRange>,
 }
 
