@@ -1,25 +1,27 @@
--- Account files with one more entry or one more member.
+-- Account files with one more entry or one more member (passwd(5), group(5), shadow(5)).
 use Rattle.std.specs.Prelude.{ℕ, ◌+◌, Bool, true, false, not, ◌==◌, List, [], ◌∷◌, ◌++◌, if◌then◌else◌}
 use Rattle.std.specs.List.{join_with_byte, list_all, list_any, slice_split}
 use Rattle.std.specs.Option.{option_map_or}
 use Rattle.std.specs.Str.{bytes_eq}
+use Rattle.pv_accounts.specs.Bytes.{comma, line_end, plus}
 use Rattle.pv_accounts.specs.Entries.{entry_of, is_group}
 use Rattle.pv_accounts.specs.Kinds.{is_entry_named}
 
 -- the text of lines: line ends between them
 abbrev pub text_of : List (List ℕ) → List ℕ
-text_of lines = join_with_byte 10 lines
+text_of lines = join_with_byte line_end lines
 
 -- whether a text has no line end
 abbrev pub lacks_end : List ℕ → Bool
-lacks_end text = list_all (λ b. not (b == 10)) text
+lacks_end text = list_all (λ b. not (b == line_end)) text
 
 -- whether a new entry stands before a line: one that begins with `+`, or the empty one after the last
 -- line end
 abbrev pub is_behind_new : Bool → List ℕ → Bool
 is_behind_new is_last [] = is_last
-is_behind_new is_last (b ∷ bs) = b == 43
+is_behind_new is_last (b ∷ bs) = b == plus
 
+-- whether no line is left
 abbrev pub is_end : List (List ℕ) → Bool
 is_end [] = true
 is_end (line ∷ lines) = false
@@ -41,12 +43,12 @@ members_of line = option_map_or last_field (entry_of is_group line) []
 -- whether a user is among members, which stand between commas
 abbrev pub is_member : List ℕ → List ℕ → Bool
 is_member user [] = false
-is_member user (b ∷ bs) = list_any (λ member. bytes_eq member user) (slice_split (λ c. c == 44) (b ∷ bs))
+is_member user (b ∷ bs) = list_any (λ member. bytes_eq member user) (slice_split (λ c. c == comma) (b ∷ bs))
 
 -- members with a user after them, where he is not among them
 abbrev pub member_suffix : List ℕ → List ℕ → List ℕ
 member_suffix user [] = user
-member_suffix user (b ∷ bs) = 44 ∷ user
+member_suffix user (b ∷ bs) = comma ∷ user
 
 -- the line of a group with a user at the end of its members, where he is not among them
 abbrev pub longer : List ℕ → List ℕ → List ℕ

@@ -2,10 +2,11 @@
 use Rattle.std.specs.Prelude.{◌≡◌, ℕ, Bool, false, not, ◌&&◌, ◌==◌, List, [], ◌∷◌, Option, Some, None, is_some, if◌then◌else◌}
 use Rattle.std.specs.List.{slice_split}
 use Rattle.pv_acl.specs.Spelling.{decimal_id}
+use Rattle.pv_accounts.specs.Bytes.{colon, plus, minus, number_sign}
 
 -- the fields of a line, between colons
 abbrev pub fields_of : List ℕ → List (List ℕ)
-fields_of line = slice_split (λ b. b == 58) line
+fields_of line = slice_split (λ b. b == colon) line
 
 -- at least two pieces
 abbrev pub HasMore : List (List ℕ) → Type 0
@@ -14,7 +15,7 @@ HasMore pieces = (a : List ℕ) × ((b : List ℕ) × ((rest : List (List ℕ)) 
 -- a name that an entry may have: not empty, and not beginning with `+`, `-` or `#`
 abbrev pub is_entry_name : List ℕ → Bool
 is_entry_name [] = false
-is_entry_name (b ∷ bs) = not (b == 43) && not (b == 45) && not (b == 35)
+is_entry_name (b ∷ bs) = not (b == plus) && not (b == minus) && not (b == number_sign)
 
 -- whether a text is a decimal ID, 0 to 4294967294 without leading zeros
 abbrev pub is_decimal_id : List ℕ → Bool

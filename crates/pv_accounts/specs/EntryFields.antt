@@ -1,4 +1,4 @@
--- Entries of account files as lists of their fields.
+-- Entries of account files as lists of their fields, in the order of the line (passwd(5), group(5), shadow(5)).
 use Rattle.std.specs.Prelude.{ℕ, List, [], ◌∷◌}
 use Rattle.pv_accounts.specs.declared.entry.GroupEntry.{GroupEntry}
 use Rattle.pv_accounts.specs.declared.entry.PasswdEntry.{PasswdEntry}

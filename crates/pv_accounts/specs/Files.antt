@@ -1,14 +1,15 @@
--- The entries of an account file, and the holders of IDs in it.
+-- The entries of an account file, and the holders of IDs in it (passwd(5), group(5), shadow(5)).
 use Rattle.std.specs.Prelude.{ℕ, Bool, false, not, ◌&&◌, ◌==◌, List, [], ◌∷◌, Option, Some, None, filter, find, option_and_then, codes, if◌then◌else◌}
 use Rattle.std.specs.List.{slice_split, filter_map}
 use Rattle.std.specs.Option.{option_map}
 use Rattle.std.specs.Str.{bytes_eq}
 use Rattle.pv_acl.specs.Spelling.{decimal_id}
+use Rattle.pv_accounts.specs.Bytes.{line_end}
 use Rattle.pv_accounts.specs.Entries.{entry_of}
 
 -- the lines of a file: what stands between line ends; after a last line end stands an empty line
 abbrev pub lines_of : List ℕ → List (List ℕ)
-lines_of file = slice_split (λ b. b == 10) file
+lines_of file = slice_split (λ b. b == line_end) file
 
 -- the entries among lines, by a test, in order
 abbrev pub entries_of : (List (List ℕ) → Bool) → List (List ℕ) → List (List (List ℕ))
@@ -19,6 +20,7 @@ abbrev pub name_of : List (List ℕ) → List ℕ
 name_of [] = []
 name_of (name ∷ fields) = name
 
+-- whether an entry has this name
 abbrev pub has_name : List ℕ → List (List ℕ) → Bool
 has_name name entry = bytes_eq (name_of entry) name
 
@@ -52,6 +54,7 @@ holds_beside id but entry = has_id (id_in entry) && not (has_name but entry)
 abbrev pub holder_of : (List (List ℕ) → Bool) → List ℕ → ℕ → List ℕ → Option (List ℕ)
 holder_of test file id but = option_map name_of (find (holds_beside id but) (counting (entries_of test (lines_of file))))
 
+-- whether a name is that of the superuser
 abbrev pub is_root : List ℕ → Bool
 is_root name = bytes_eq name (codes "root")
 

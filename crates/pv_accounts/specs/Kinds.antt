@@ -1,4 +1,4 @@
--- The kinds of account files.
+-- The kinds of account files, and what an entry is in each (passwd(5), group(5), shadow(5)).
 use Rattle.std.specs.Prelude.{ℕ, Bool, false, ◌&&◌, ◌==◌, List, Option, Some, None, option_and_then, if◌then◌else◌}
 use Rattle.std.specs.List.{position_or_len}
 use Rattle.std.specs.Option.{option_map_or}

@@ -1,6 +1,7 @@
 ghost use Rattle.std.specs.Prelude.{◌≡◌, ◌<◌, ◌≤◌, ◌==◌, ◌∷◌, [], ◌++◌, true, map, length, OnOk, IfOk};
 ghost use Rattle.std.specs.List.{flat_map, list_any, slice_split};
 ghost use Rattle.std.specs.Str.{bytes_eq};
+ghost use Rattle.pv_accounts.specs.Bytes.{comma, line_end};
 ghost use Rattle.pv_accounts.specs.Edits.{text_of, lacks_end, is_behind_new, with_entry, entry_place};
 ghost use Rattle.pv_accounts.specs.Edits.{members_of, is_member, member_suffix, longer, with_member};
 ghost use Rattle.pv_accounts.specs.Files.{lines_of};
@@ -101,7 +102,7 @@ fn joined(
 
 /// Adds lines, each with its end.
 fn add_ended(text: &mut Vec<u8>, lines: &[&[u8]]) -> Result<(), AllocError>
-    ensures { let added = flat_map (λ line. line.now ++ 10 ∷ []) lines.now in
+    ensures { let added = flat_map (λ line. line.now ++ line_end ∷ []) lines.now in
         OnOk result (text.new.items ≡ text.old.items ++ added) }
 {
     for line in lines {
@@ -113,7 +114,7 @@ fn add_ended(text: &mut Vec<u8>, lines: &[&[u8]]) -> Result<(), AllocError>
 
 /// Adds lines, each after the end of the one before.
 fn add_begun(text: &mut Vec<u8>, lines: &[&[u8]]) -> Result<(), AllocError>
-    ensures { let added = flat_map (λ line. 10 ∷ line.now) lines.now in
+    ensures { let added = flat_map (λ line. line_end ∷ line.now) lines.now in
         OnOk result (text.new.items ≡ text.old.items ++ added) }
 {
     for next in lines {
@@ -158,7 +159,7 @@ fn is_member(user: &[u8], members: &[u8]) -> bool
 
 /// Whether a word is one of those between commas.
 fn is_piece(word: &[u8], text: &[u8]) -> bool
-    ensures { result ≡ list_any (λ piece. bytes_eq piece word.now) (slice_split (λ c. c == 44) text.now) }
+    ensures { result ≡ list_any (λ piece. bytes_eq piece word.now) (slice_split (λ c. c == comma) text.now) }
 {
     let mut rest = text;
     while let Some((piece, more)) = cut(rest, b',') {
