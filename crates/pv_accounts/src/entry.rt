@@ -11,35 +11,55 @@ use pv_acl::number;
 /// An entry of /etc/passwd (passwd(5)), each field a slice of the file.
 #[derive(Clone, Copy, Debug)]
 pub struct PasswdEntry<'a> {
+    /// The login name.
     pub name: &'a [u8],
+    /// The encrypted password, or `x` where it stands in /etc/shadow.
     pub password: &'a [u8],
+    /// The numeric user ID, in decimal.
     pub uid: &'a [u8],
+    /// The numeric ID of the user's primary group, in decimal.
     pub gid: &'a [u8],
+    /// The user's full name, or another comment.
     pub gecos: &'a [u8],
+    /// The path of the user's home directory.
     pub home: &'a [u8],
+    /// The path of the program that a login starts.
     pub shell: &'a [u8],
 }
 
 /// An entry of /etc/group (group(5)), each field a slice of the file.
 #[derive(Clone, Copy, Debug)]
 pub struct GroupEntry<'a> {
+    /// The name of the group.
     pub name: &'a [u8],
+    /// The encrypted password of the group, or `x` where it stands in /etc/gshadow.
     pub password: &'a [u8],
+    /// The numeric group ID, in decimal.
     pub gid: &'a [u8],
+    /// The names of the users that are members, with commas between them.
     pub members: &'a [u8],
 }
 
 /// An entry of /etc/shadow (shadow(5)), each field a slice of the file.
 #[derive(Clone, Copy, Debug)]
 pub struct ShadowEntry<'a> {
+    /// The login name.
     pub name: &'a [u8],
+    /// The encrypted password, or a text with which nobody can log in, as `!` or `*`.
     pub password: &'a [u8],
+    /// The day of the last change of the password, in days since 1970-01-01.
     pub changed: &'a [u8],
+    /// The least age at which the password may be changed, in days.
     pub least: &'a [u8],
+    /// The greatest age at which the password must be changed, in days.
     pub most: &'a [u8],
+    /// How many days before the password ends the user is warned.
     pub warn: &'a [u8],
+    /// How many days after the password has ended it is still accepted.
     pub inactive: &'a [u8],
+    /// The day on which the account ends, in days since 1970-01-01.
     pub expire: &'a [u8],
+    /// Kept for later use.
     pub reserved: &'a [u8],
 }
 

@@ -8,7 +8,9 @@ use pv_acl::Names;
 /// The lookup of users and groups in two account files, where `root` is 0 whatever they have.
 #[derive(Debug, Drop)]
 pub struct FileNames<'a> {
+    /// Where users are looked up.
     pub passwd: PasswdView<'a>,
+    /// Where groups are looked up.
     pub group: GroupView<'a>,
 }
 
