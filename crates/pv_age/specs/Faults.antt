@@ -2,6 +2,7 @@
 use Rattle.std.specs.Prelude.{Option, Some, None, Result, Ok, Err}
 use Rattle.pv_age.specs.declared.fault.AgeFault.{AgeFault}
 
+-- what a check gives, and then another check of it
 infixl 10 ◌>>=◌
 abbrev pub ◌>>=◌ : {A B : Type 0} → Result A AgeFault → (A → Result B AgeFault) → Result B AgeFault
 (Ok x) >>= f = f x

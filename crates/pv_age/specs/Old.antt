@@ -17,6 +17,7 @@ of_directory stamps = (2, stamps.access) ∷ (8, stamps.birth) ∷ (32, stamps.c
 abbrev pub of_other : Stamps → List (ℕ × ℕ)
 of_other stamps = (1, stamps.access) ∷ (4, stamps.birth) ∷ (16, stamps.change) ∷ (64, stamps.modify) ∷ []
 
+-- the stamps of an object of a kind with the bits of their letters
 abbrev pub stamps_of_kind : Kind → Stamps → List (ℕ × ℕ)
 stamps_of_kind Directory stamps = of_directory stamps
 stamps_of_kind File stamps = of_other stamps

@@ -1,18 +1,15 @@
 -- The sum of numbers with units that an age is (tmpfiles.d(5), Age).
-use Rattle.std.specs.Prelude.{ℕ, zero, suc, ◌+◌, ◌-◌, ◌*◌, ◌^◌, Bool, ◌==◌, nat_eq, nat_lt, List, [], ◌∷◌, codes, take, drop, find, Option, Result, Ok, Err, if◌then◌else◌}
+use Rattle.std.specs.Prelude.{ℕ, zero, suc, ◌+◌, ◌-◌, ◌*◌, ◌^◌, Bool, ◌==◌, nat_lt, List, [], ◌∷◌, codes, take, drop, find, Option, Result, Ok, Err, if◌then◌else◌}
 use Rattle.std.specs.Char.{is_ascii_digit, is_ascii_alphabetic}
-use Rattle.std.specs.Cmp.Lexicographic.{pointwise}
 use Rattle.std.specs.List.{list_any, prefix_len}
 use Rattle.std.specs.Option.{option_map}
+use Rattle.std.specs.Str.{bytes_eq}
 use Rattle.std.specs.Str.Parse.{digits_value}
 use Rattle.pv_age.specs.declared.fault.AgeFault.{AgeFault}
 use Rattle.pv_age.specs.declared.fault.AgeFault.TheVariants.{BadNumber, BadUnit, Overflow}
 use Rattle.pv_age.specs.Faults.{◌>>=◌, or_fault}
 use Rattle.pv_age.specs.declared.unit.Unit.{Unit}
 use Rattle.pv_age.specs.declared.unit.Unit.TheVariants.{Microsecond, Millisecond, Second, Minute, Hour, Day, Week}
-
-abbrev pub same_bytes : List ℕ → List ℕ → Bool
-same_bytes = pointwise nat_eq
 
 -- the table of units: their names, where no name at all stands for the second
 abbrev pub names_of : Unit → List (List ℕ)
@@ -24,7 +21,7 @@ names_of Hour = codes "h" ∷ codes "hr" ∷ codes "hour" ∷ codes "hours" ∷ 
 names_of Day = codes "d" ∷ codes "day" ∷ codes "days" ∷ []
 names_of Week = codes "w" ∷ codes "week" ∷ codes "weeks" ∷ []
 
--- and how many microseconds each has
+-- how many microseconds a unit has
 abbrev pub micros_in : Unit → ℕ
 micros_in Microsecond = 1
 micros_in Millisecond = 1000
@@ -34,12 +31,15 @@ micros_in Hour = 3600000000
 micros_in Day = 86400000000
 micros_in Week = 604800000000
 
+-- whether a unit has this name
 abbrev pub is_called : List ℕ → Unit → Bool
-is_called name unit = list_any (same_bytes name) (names_of unit)
+is_called name unit = list_any (bytes_eq name) (names_of unit)
 
+-- the unit of a name, if there is one
 abbrev pub unit_named : List ℕ → Option Unit
 unit_named name = find (is_called name) (Microsecond ∷ Millisecond ∷ Second ∷ Minute ∷ Hour ∷ Day ∷ Week ∷ [])
 
+-- the microseconds of the unit of a name
 abbrev pub unit_micros : List ℕ → Option ℕ
 unit_micros name = option_map micros_in (unit_named name)
 
@@ -47,10 +47,11 @@ unit_micros name = option_map micros_in (unit_named name)
 abbrev pub fitting : ℕ → Result ℕ AgeFault
 fitting n = if nat_lt n (2 ^ 64) then Ok n else Err Overflow
 
--- the digits that a text begins with, how many, and what follows them
+-- how many digits a text begins with
 abbrev pub digit_count : List ℕ → ℕ
 digit_count text = prefix_len is_ascii_digit text
 
+-- what follows the digits that a text begins with
 abbrev pub behind_digits : List ℕ → List ℕ
 behind_digits text = drop (digit_count text) text
 
@@ -58,9 +59,11 @@ behind_digits text = drop (digit_count text) text
 abbrev pub letter_count : List ℕ → ℕ
 letter_count text = prefix_len is_ascii_alphabetic (behind_digits text)
 
+-- the number that the digits spell
 abbrev pub number_at : List ℕ → ℕ
 number_at text = digits_value 10 (take (digit_count text) text)
 
+-- the microseconds of the unit after the digits, if it is one
 abbrev pub unit_at : List ℕ → Option ℕ
 unit_at text = unit_micros (take (letter_count text) (behind_digits text))
 

@@ -1,5 +1,6 @@
 ghost use Rattle.std.specs.Prelude.{◌≡◌, ◌<◌, ◌||◌, IfSome};
-ghost use Rattle.pv_age.specs.Sums.{is_called, micros_in, names_of, same_bytes, unit_micros, unit_named};
+ghost use Rattle.std.specs.Str.{bytes_eq};
+ghost use Rattle.pv_age.specs.Sums.{is_called, micros_in, names_of, unit_micros, unit_named};
 
 /// A unit of an age.
 #[derive(Clone, Copy, Debug)]
@@ -63,7 +64,7 @@ impl Unit {
 
 /// Whether a text is one of two names.
 fn is_either(text: &[u8], name: &[u8], other: &[u8]) -> bool
-    ensures { result ≡ (same_bytes text.now name.now || same_bytes text.now other.now) }
+    ensures { result ≡ (bytes_eq text.now name.now || bytes_eq text.now other.now) }
 {
     text == name || text == other
 }
