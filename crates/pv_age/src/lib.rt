@@ -3,6 +3,7 @@
 
 mod age;
 mod fault;
+mod laws;
 mod old;
 mod stamps;
 mod sum;
@@ -10,6 +11,7 @@ mod unit;
 
 pub use age::{Age, parse_age};
 pub use fault::AgeFault;
+pub use laws::printed_numbers_with_units_read_back_as_their_sum;
 pub use old::is_old;
 pub use stamps::StampSet;
 
