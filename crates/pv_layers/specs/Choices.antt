@@ -1,5 +1,6 @@
--- The files that a run reads as its configuration, and what it says about the others.
-use Rattle.std.specs.Prelude.{ℕ, Bool, true, false, ◌||◌, List, [], ◌∷◌, ◌++◌, codes, Option, Some, None, if◌then◌else◌}
+-- The files that a run reads as its configuration, and what it says about the others (tmpfiles.d(5),
+-- sysusers.d(5)).
+use Rattle.std.specs.Prelude.{◌≡◌, ℕ, Bool, true, false, ◌||◌, List, [], ◌∷◌, ◌++◌, codes, Option, Some, None, if◌then◌else◌}
 use Rattle.std.specs.Result.{result_ok}
 use Rattle.std.specs.List.{list_any}
 use Rattle.pv_path.specs.Names.{same_bytes, is_name}
@@ -7,6 +8,7 @@ use Rattle.pv_path.specs.Paths.{Path}
 use Rattle.pv_path.specs.Printing.{printed, printed_path}
 use Rattle.pv_path.specs.Parsing.{begins_with_slash, path_of}
 use Rattle.pv_steps.specs.Trees.{Files}
+use Rattle.pv_layers.specs.declared.chosen.Chosen.{Chosen}
 use Rattle.pv_layers.specs.declared.found.Found.{Found}
 use Rattle.pv_layers.specs.declared.found.Found.TheVariants.{Missing, Masked, Odd, Regular}
 use Rattle.pv_layers.specs.Folders.{folders, conf_names, found_at, found_in}
@@ -18,14 +20,23 @@ pub record Choice : Type 0 where
   pub missing : Bool
   pub messages : List (List ℕ)
 
+-- no file, and nothing said
 abbrev pub nothing : Choice
 nothing = record { files = []; missing = false; messages = [] }
 
+-- one file alone
 abbrev pub one_file : Path → Choice
 one_file path = record { files = path ∷ []; missing = false; messages = [] }
 
+-- a choice, and then another
 abbrev pub followed : Choice → Choice → Choice
 followed a b = record { files = a.files ++ b.files; missing = a.missing || b.missing; messages = a.messages ++ b.messages }
+
+-- a choice is made: its files come after those chosen before, a missing word stays missing, and what it
+-- says comes after what was said
+abbrev pub IsMade : Choice → Chosen → Chosen → List (List ℕ) → List (List ℕ) → Type 0
+IsMade choice old new said says =
+    (new.files ≡ old.files ++ choice.files) × (new.missing ≡ (old.missing || choice.missing)) × (says ≡ said ++ choice.messages)
 
 -- ---- without words
 
@@ -35,6 +46,7 @@ choice_of (Regular path) = one_file path
 choice_of (Odd path) = record { files = []; missing = false; messages = (printed_path path ++ codes ": not a regular file") ∷ [] }
 choice_of _ = nothing
 
+-- the choices of names in some folders, in order
 abbrev pub choice_of_names : Files → List Path → List (List ℕ) → Choice
 choice_of_names files places [] = nothing
 choice_of_names files places (name ∷ names) = followed (choice_of (found_in files places name)) (choice_of_names files places names)

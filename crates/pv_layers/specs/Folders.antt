@@ -17,6 +17,7 @@ use Rattle.pv_layers.specs.declared.found.Found.TheVariants.{Missing, Masked, Od
 
 -- ---- the folders
 
+-- the name in which the folders of a tool end
 abbrev pub last_folder : Tool → List ℕ
 last_folder Tmpfiles = codes "tmpfiles.d"
 last_folder Sysusers = codes "sysusers.d"
@@ -42,6 +43,7 @@ names_in files folder = by (kind_of (places files folder))
 abbrev pub is_conf : List ℕ → Bool
 is_conf name = ends_with nat_eq name (codes ".conf") && not (starts_with nat_eq name (codes "."))
 
+-- the names of the configuration files in a folder
 abbrev pub conf_names_in : Files → Path → List (List ℕ)
 conf_names_in files folder = filter is_conf (names_in files folder)
 
@@ -72,6 +74,7 @@ judged path object = by object.node.kind
     by Link = masks (same_bytes object.payload mask_target)
     by _ = Odd path
 
+-- what a path stands for as a configuration file
 abbrev pub found_at : Files → Path → Found
 found_at files path = by (places files path)
   where
@@ -79,6 +82,7 @@ found_at files path = by (places files path)
     by None = Missing
     by (Some object) = judged path object
 
+-- what is found, or the other where nothing is
 abbrev pub or_else : Found → Found → Found
 or_else Missing other = other
 or_else found other = found

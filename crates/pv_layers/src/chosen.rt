@@ -1,7 +1,7 @@
 ghost use Rattle.std.specs.Prelude.{◌≡◌, ◌∷◌, ◌++◌, [], ◌||◌, codes, IfOk, OnOk, OnErr};
 ghost use Rattle.pv_path.specs.Printing.{printed, printed_path};
 ghost use Rattle.pv_layers.specs.Folders.{conf_names, found_in};
-ghost use Rattle.pv_layers.specs.Choices.{chosen, choice_of, choice_of_names, choice_of_word, choice_of_next, choice_of_words};
+ghost use Rattle.pv_layers.specs.Choices.{chosen, choice_of, choice_of_names, choice_of_word, choice_of_next, choice_of_words, IsMade};
 ghost use Rattle.pv_text.specs.Said.{SaidPart};
 
 use crate::folders::{conf_names, folders};
@@ -21,8 +21,10 @@ pub struct Chosen {
     pub missing: bool,
 }
 
+/// Says that a path is no regular file.
 fn say_odd(alloc: Global, path: &TreePath, messages: &mut Messages) -> Result<(), AllocError>
-    ensures ok { OnOk result (messages.new ≡ messages.old ++ (printed_path path.now ++ codes ": not a regular file") ∷ []) }
+    ensures ok { let line = printed_path path.now ++ codes ": not a regular file" in
+        OnOk result (messages.new ≡ messages.old ++ line ∷ []) }
     ensures err { OnErr result (messages.new ≡ messages.old) }
 {
     let mut line = print_path(alloc, path)?;
@@ -30,8 +32,10 @@ fn say_odd(alloc: Global, path: &TreePath, messages: &mut Messages) -> Result<()
     messages.push(&line)
 }
 
+/// Says that a word is not found.
 fn say_missing(alloc: Global, word: &[u8], messages: &mut Messages) -> Result<(), AllocError>
-    ensures ok { OnOk result (messages.new ≡ messages.old ++ (printed word.now ++ codes ": not found") ∷ []) }
+    ensures ok { let line = printed word.now ++ codes ": not found" in
+        OnOk result (messages.new ≡ messages.old ++ line ∷ []) }
     ensures err { OnErr result (messages.new ≡ messages.old) }
 {
     let mut line = print_bytes(alloc, word)?;
@@ -46,9 +50,8 @@ fn take_found(
     chosen: &mut Chosen,
     messages: &mut Messages,
 ) -> Result<(), AllocError>
-    ensures files { OnOk result (chosen.new.files ≡ chosen.old.files ++ (choice_of found).files) }
-    ensures missing { OnOk result (chosen.new.missing ≡ (chosen.old.missing || (choice_of found).missing)) }
-    ensures said { OnOk result (messages.new ≡ messages.old ++ (choice_of found).messages) }
+    ensures made { let choice = choice_of found in
+        OnOk result (IsMade choice chosen.old chosen.new messages.old messages.new) }
     ensures err { OnErr result (messages.new ≡ messages.old) }
 {
     match found {
@@ -66,9 +69,8 @@ fn take_word(
     chosen: &mut Chosen,
     messages: &mut Messages,
 ) -> Result<(), AllocError>
-    ensures files { OnOk result (chosen.new.files ≡ chosen.old.files ++ (choice_of_word word.now found).files) }
-    ensures missing { OnOk result (chosen.new.missing ≡ (chosen.old.missing || (choice_of_word word.now found).missing)) }
-    ensures said { OnOk result (messages.new ≡ messages.old ++ (choice_of_word word.now found).messages) }
+    ensures made { let choice = choice_of_word word.now found in
+        OnOk result (IsMade choice chosen.old chosen.new messages.old messages.new) }
     ensures err { OnErr result (messages.new ≡ messages.old) }
 {
     match found {
@@ -90,9 +92,8 @@ fn take_name<T: Tree>(
     chosen: &mut Chosen,
     messages: &mut Messages,
 ) -> Result<(), AllocError>
-    ensures files { OnOk result (chosen.new.files ≡ chosen.old.files ++ (choice_of (found_in (T.state tree.now) folders.now name.now)).files) }
-    ensures missing { OnOk result (chosen.new.missing ≡ (chosen.old.missing || (choice_of (found_in (T.state tree.now) folders.now name.now)).missing)) }
-    ensures said { OnOk result (messages.new ≡ messages.old ++ (choice_of (found_in (T.state tree.now) folders.now name.now)).messages) }
+    ensures made { let choice = choice_of (found_in (T.state tree.now) folders.now name.now) in
+        OnOk result (IsMade choice chosen.old chosen.new messages.old messages.new) }
     ensures err { OnErr result (messages.new ≡ messages.old) }
 {
     let found = found_in(alloc, tree, folders, name.bytes())?;
@@ -109,9 +110,8 @@ fn take_next<T: Tree>(
     chosen: &mut Chosen,
     messages: &mut Messages,
 ) -> Result<(), AllocError>
-    ensures files { OnOk result (chosen.new.files ≡ chosen.old.files ++ (choice_of_next (T.state tree.now) folders.now before.now word.now).files) }
-    ensures missing { OnOk result (chosen.new.missing ≡ (chosen.old.missing || (choice_of_next (T.state tree.now) folders.now before.now word.now).missing)) }
-    ensures said { OnOk result (messages.new ≡ messages.old ++ (choice_of_next (T.state tree.now) folders.now before.now word.now).messages) }
+    ensures made { let choice = choice_of_next (T.state tree.now) folders.now before.now word.now in
+        OnOk result (IsMade choice chosen.old chosen.new messages.old messages.new) }
     ensures err { OnErr result (messages.new ≡ messages.old) }
 {
     if before.contains(word) {
@@ -121,6 +121,7 @@ fn take_next<T: Tree>(
     take_word(alloc, word.as_slice(), found, chosen, messages)
 }
 
+/// Takes the files that names stand for in some folders.
 fn choose_names<T: Tree>(
     alloc: Global,
     tree: &T,
@@ -128,10 +129,14 @@ fn choose_names<T: Tree>(
     names: &[Name],
     messages: &mut Messages,
 ) -> Result<Chosen, AllocError>
-    ensures files { IfOk result (λ c. c.files ≡ (choice_of_names (T.state tree.now) folders.now names.now).files) }
-    ensures missing { IfOk result (λ c. c.missing ≡ (choice_of_names (T.state tree.now) folders.now names.now).missing) }
-    ensures said { OnOk result (messages.new ≡ messages.old ++ (choice_of_names (T.state tree.now) folders.now names.now).messages) }
-    ensures part { SaidPart (choice_of_names (T.state tree.now) folders.now names.now).messages messages.old messages.new }
+    ensures files { let choice = choice_of_names (T.state tree.now) folders.now names.now in
+        IfOk result (λ c. c.files ≡ choice.files) }
+    ensures missing { let choice = choice_of_names (T.state tree.now) folders.now names.now in
+        IfOk result (λ c. c.missing ≡ choice.missing) }
+    ensures said { let choice = choice_of_names (T.state tree.now) folders.now names.now in
+        OnOk result (messages.new ≡ messages.old ++ choice.messages) }
+    ensures part { let choice = choice_of_names (T.state tree.now) folders.now names.now in
+        SaidPart choice.messages messages.old messages.new }
 {
     let mut chosen = Chosen {
         files: PathList::new(alloc),
@@ -143,6 +148,7 @@ fn choose_names<T: Tree>(
     Ok(chosen)
 }
 
+/// Takes the files that words stand for, each word once.
 fn choose_words<T: Tree>(
     alloc: Global,
     tree: &T,
@@ -150,10 +156,14 @@ fn choose_words<T: Tree>(
     words: &[Bytes],
     messages: &mut Messages,
 ) -> Result<Chosen, AllocError>
-    ensures files { IfOk result (λ c. c.files ≡ (choice_of_words (T.state tree.now) folders.now [] words.now).files) }
-    ensures missing { IfOk result (λ c. c.missing ≡ (choice_of_words (T.state tree.now) folders.now [] words.now).missing) }
-    ensures said { OnOk result (messages.new ≡ messages.old ++ (choice_of_words (T.state tree.now) folders.now [] words.now).messages) }
-    ensures part { SaidPart (choice_of_words (T.state tree.now) folders.now [] words.now).messages messages.old messages.new }
+    ensures files { let choice = choice_of_words (T.state tree.now) folders.now [] words.now in
+        IfOk result (λ c. c.files ≡ choice.files) }
+    ensures missing { let choice = choice_of_words (T.state tree.now) folders.now [] words.now in
+        IfOk result (λ c. c.missing ≡ choice.missing) }
+    ensures said { let choice = choice_of_words (T.state tree.now) folders.now [] words.now in
+        OnOk result (messages.new ≡ messages.old ++ choice.messages) }
+    ensures part { let choice = choice_of_words (T.state tree.now) folders.now [] words.now in
+        SaidPart choice.messages messages.old messages.new }
 {
     let mut chosen = Chosen {
         files: PathList::new(alloc),
@@ -183,10 +193,14 @@ pub fn chosen_files<T: Tree>(
     names: &WordList,
     messages: &mut Messages,
 ) -> Result<Chosen, AllocError>
-    ensures files { IfOk result (λ c. c.files ≡ (chosen (T.state tree.now) tool names.now).files) }
-    ensures missing { IfOk result (λ c. c.missing ≡ (chosen (T.state tree.now) tool names.now).missing) }
-    ensures said { OnOk result (messages.new ≡ messages.old ++ (chosen (T.state tree.now) tool names.now).messages) }
-    ensures part { SaidPart (chosen (T.state tree.now) tool names.now).messages messages.old messages.new }
+    ensures files { let choice = chosen (T.state tree.now) tool names.now in
+        IfOk result (λ c. c.files ≡ choice.files) }
+    ensures missing { let choice = chosen (T.state tree.now) tool names.now in
+        IfOk result (λ c. c.missing ≡ choice.missing) }
+    ensures said { let choice = chosen (T.state tree.now) tool names.now in
+        OnOk result (messages.new ≡ messages.old ++ choice.messages) }
+    ensures part { let choice = chosen (T.state tree.now) tool names.now in
+        SaidPart choice.messages messages.old messages.new }
 {
     let folders = folders(alloc, tool)?;
     match names.as_slice() {

@@ -10,6 +10,7 @@ use pv_text::Tool;
 use std::alloc::{AllocError, Global};
 use std::collections::BTreeSet;
 
+/// The name in which the folders of a tool end.
 fn last_folder(tool: Tool) -> &'static [u8]
     ensures value { result.now ≡ last_folder tool }
     ensures name { is_name result.now ≡ true }

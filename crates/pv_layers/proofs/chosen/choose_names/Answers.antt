@@ -8,7 +8,7 @@ loop-name-init g c = rw c.new.ensures (partly_start _ _)
 pub loop-name-preserved : goal.loop-name-preserved
 loop-name-preserved g c =
     partly_more c.loop-name.invariant _ _ _ _ _ (next_name (g.T.Tree.state c.args.tree.now) c.args.folders.now c.args.names.now c.loop-name.name-index c.name-item.result c.loop-name-test.true c.name-item.is)
-    c.in_ok-take_name.ensures.files c.in_ok-take_name.ensures.missing c.in_ok-take_name.ensures.said
+    c.in_ok-take_name.ensures.made.0 c.in_ok-take_name.ensures.made.1 c.in_ok-take_name.ensures.made.2
 
 pub returns-in_err-take_name-clause-part : goal.returns-in_err-take_name-clause-part
 returns-in_err-take_name-clause-part g c = let said = partly_said c.loop-name.invariant in (said.0, c.in_err-take_name.ensures.err ∙ said.1)
