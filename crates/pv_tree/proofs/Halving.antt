@@ -102,6 +102,31 @@ position_found orders i h = ap (position is_eq) h.is ∙ place_found i h.greater
 pub position_none : (orders : List Ordering) (i : ℕ) → IsGapAt orders i → position is_eq orders ≡ None
 position_none orders i h = ap (position is_eq) h.is ∙ place_none i h.greater
 
+-- where the orders rise, the place of the Equal is where it is found, and none is a gap
+pub rising_found : (orders : List Ordering) (i : ℕ) → IsRising orders → position is_eq orders ≡ Some i → IsFoundAt orders i
+rising_found orders i h e = by_count h.equal h.once h.is
+  where
+    by_count : (c : ℕ) → c ≤ 1 → orders ≡ replicate h.less Less ++ (replicate c Equal ++ replicate h.greater Greater) → IsFoundAt orders i
+    by_count zero once is =
+        let none : None ≡ Some i = sym (position_none orders h.less (record { greater = h.greater; is = is })) ∙ e in
+        absurd cc
+    by_count (suc zero) once is =
+        let at : IsFoundAt orders h.less = record { greater = h.greater; is = is } in
+        let both : Some h.less ≡ Some i = sym (position_found orders h.less at) ∙ e in
+        let same : h.less ≡ i = cc in
+        subst (IsFoundAt orders) same at
+    by_count (suc (suc c)) once is = absurd (omega (arith, once))
+
+pub rising_none : (orders : List Ordering) (h : IsRising orders) → position is_eq orders ≡ None → IsGapAt orders h.less
+rising_none orders h e = by_count h.equal h.once h.is
+  where
+    by_count : (c : ℕ) → c ≤ 1 → orders ≡ replicate h.less Less ++ (replicate c Equal ++ replicate h.greater Greater) → IsGapAt orders h.less
+    by_count zero once is = record { greater = h.greater; is = is }
+    by_count (suc zero) once is =
+        let some : Some h.less ≡ None = sym (position_found orders h.less (record { greater = h.greater; is = is })) ∙ e in
+        absurd cc
+    by_count (suc (suc c)) once is = absurd (omega (arith, once))
+
 -- ---- how many questions are needed
 
 -- k more questions suffice for n places, where d sufficed in all

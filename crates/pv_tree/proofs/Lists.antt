@@ -1,5 +1,5 @@
 -- The sorted list of entries: what looking for a path tells, and what each edit leaves.
-use Rattle.std.proofs.Common.{◌≡◌, ◌≢◌, Result, Ok, Err, MatchResult, ℕ, suc, zero, ◌<◌, ◌≤◌, Bool, true, false, cond, not, ◌&&◌, T, List, [], ◌∷◌, ◌++◌, length, replicate, filter, set, get_or, Option, Some, None, option_map, refl, sym, ap, subst, ◌∙◌, arith, length-append, insert, remove}
+use Rattle.std.proofs.Common.{◌≡◌, ◌≢◌, Result, Ok, Err, MatchResult, ℕ, suc, zero, ◌<◌, ◌≤◌, Bool, true, false, cond, not, ◌&&◌, T, List, [], ◌∷◌, ◌++◌, length, replicate, filter, set, get_or, map, position, Option, Some, None, option_map, refl, sym, ap, subst, ◌∙◌, arith, length-append, insert, remove}
 use Rattle.std.proofs.lemmas.List.{length-replicate, length-map}
 use Rattle.std.specs.Ordering.{is_eq, is_lt, ordering_reverse, eq_by_cmp}
 use Rattle.std.specs.declared.cmp.Ordering.{Ordering}
@@ -11,7 +11,8 @@ use Rattle.pv_path.specs.PathLaws.{path_cmp-refl, path_cmp-exact, same_path-deci
 use Rattle.pv_steps.specs.declared.object.Object.{Object}
 use Rattle.pv_steps.specs.Steps.{put_at, on_at}
 use Rattle.pv_tree.specs.Finding.{IsRising, IsFoundAt, IsGapAt}
-use Rattle.pv_tree.specs.Entries.{Entries, IsSorted, orders_of, places_in, with_entry, without, with_change}
+use Rattle.pv_tree.proofs.Halving.{rising_found, rising_none}
+use Rattle.pv_tree.specs.Entries.{Entries, IsSorted, orders_of, places_in, with_entry, without}
 
 -- ---- the order of paths
 
@@ -239,6 +240,10 @@ find_without path es q = find_filter (λ p. not (same_path path p)) es q ∙ tur
 
 -- ---- an object changed
 
+-- the entries with the object at one path changed
+abbrev pub with_change : Path → (Object → Object) → Entries → Entries
+with_change path f es = map (λ e. cond (same_path path e.0) (e.0, f e.1) e) es
+
 module _ (path : Path) (f : Object → Object) where
   change_greater : (es : Entries) (g : ℕ) → orders_of path es ≡ replicate g Greater → es ≡ with_change path f es
   change_greater [] g h = refl
@@ -328,12 +333,16 @@ put_there names e es i same h = put_found e es i (subst (λ (p : Path). IsFoundA
 pub put_between : (names : Path) (e : Path × Object) (es new : Entries) (i : ℕ) → names ≡ e.0 → IsGapAt (orders_of names es) i → new ≡ insert es i e → new ≡ with_entry e es
 put_between names e es new i same h is = is ∙ put_gap e es i (subst (λ (p : Path). IsGapAt (orders_of p es) i) same h)
 
-pub read_there : (path names : Path) (es : Entries) (i : ℕ) (e : Path × Object) → names ≡ path → IsFoundAt (orders_of names es) i → e ≡ get_or es i e → Some e.1 ≡ places_in es path
-read_there path names es i e same h at =
-    ap (λ (x : Path × Object). Some x.1) at ∙ sym (object_found path es i e (subst (λ (p : Path). IsFoundAt (orders_of p es) i) same h)).1
+pub read_there : (path names : Path) (es : Entries) (i : ℕ) (e : Path × Object) → IsSorted es → names ≡ path → Some i ≡ position is_eq (orders_of names es) → e ≡ get_or es i e → Some e.1 ≡ places_in es path
+read_there path names es i e h same found at =
+    let there : IsFoundAt (orders_of names es) i = rising_found (orders_of names es) i (rising names es h) (sym found) in
+    ap (λ (x : Path × Object). Some x.1) at ∙ sym (object_found path es i e (subst (λ (p : Path). IsFoundAt (orders_of p es) i) same there)).1
 
-pub read_nowhere : (path names : Path) (es : Entries) (i : ℕ) → names ≡ path → IsGapAt (orders_of names es) i → None ≡ places_in es path
-read_nowhere path names es i same h = sym (object_missed path es i (subst (λ (p : Path). IsGapAt (orders_of p es) i) same h))
+pub read_nowhere : (path names : Path) (es : Entries) → IsSorted es → names ≡ path → None ≡ position is_eq (orders_of names es) → None ≡ places_in es path
+read_nowhere path names es h same none =
+    let order : IsRising (orders_of names es) = rising names es h in
+    let gap : IsGapAt (orders_of names es) order.less = rising_none (orders_of names es) order (sym none) in
+    sym (object_missed path es order.less (subst (λ (p : Path). IsGapAt (orders_of p es) order.less) same gap))
 
 -- ---- what an edit leaves at each path, and that the order stays
 

@@ -7,6 +7,7 @@ use Rattle.pv_steps.specs.declared.object.Object.{Object}
 use Rattle.pv_steps.specs.Objects.{changed}
 use Rattle.pv_steps.specs.Trees.{Places}
 
+-- entries: paths with what stands there
 abbrev pub Entries : Type 0
 Entries = List (Path × Object)
 
@@ -30,10 +31,6 @@ with_entry e es = fin.put path_cmp e.0 e.1 es
 abbrev pub without : Path → Entries → Entries
 without path es = filter (λ e. not (same_path path e.0)) es
 
--- the object at one path changed
-abbrev pub with_change : Path → (Object → Object) → Entries → Entries
-with_change path f es = map (λ e. if same_path path e.0 then (e.0, f e.1) else e) es
-
 -- ---- what a Rename does to entries
 
 -- where a path goes
@@ -47,7 +44,8 @@ renewed now (name ∷ rest) o = o
 
 -- the entries that go elsewhere, as they come to lie
 abbrev pub moved_entries : ℕ → Path → Path → Entries → Entries
-moved_entries now from to es = filter_map (λ e. option_map (λ rest. (to ++ rest, renewed now rest e.1)) (rest_under from e.0)) es
+moved_entries now from to es =
+    filter_map (λ e. option_map (λ rest. (to ++ rest, renewed now rest e.1)) (rest_under from e.0)) es
 
 -- the entries that are neither moved nor under the new path
 abbrev pub kept_entries : Path → Path → Entries → Entries

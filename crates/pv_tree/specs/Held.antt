@@ -14,6 +14,7 @@ pub record Held : Type 0 where
   pub files : Files
   pub steps : List Step
 
+-- a tree and its steps as data
 abbrev pub held_code : Coded Held
 held_code =
     code_by (Files × List Step)

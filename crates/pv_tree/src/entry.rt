@@ -30,12 +30,14 @@ impl Entry {
         Entry { path, object }
     }
 
+    /// The path at which the object stands.
     pub fn path(&self) -> &TreePath
         ensures { result.now ≡ self.now.0 }
     {
         &self.path
     }
 
+    /// The node of the object.
     pub fn node(&self) -> &Node
         ensures { result.now ≡ self.now.1.node }
     {

@@ -92,15 +92,19 @@ impl<T: Tree> Tree for Fused<T> {
         ensures kept { OnErr result (T.state self.new.inner ≡ T.state self.old.inner) }
         ensures untold { OnErr result (T.steps self.new.inner ≡ T.steps self.old.inner) }
         ensures fits { StepFits step.now }
-        ensures never_falls { capped (T.faults self.old.inner + self.old.refused) ≤ capped (T.faults self.new.inner + self.new.refused) }
-        ensures cause { IsErrOf result Failed → HasRisen (capped (T.faults self.old.inner + self.old.refused)) (capped (T.faults self.new.inner + self.new.refused)) }
+        ensures never_falls { capped (T.faults self.old.inner + self.old.refused)
+            ≤ capped (T.faults self.new.inner + self.new.refused) }
+        ensures cause { IsErrOf result Failed →
+            HasRisen (capped (T.faults self.old.inner + self.old.refused))
+            (capped (T.faults self.new.inner + self.new.refused)) }
 
         // It refuses each step where nothing is left, and the inner tree is not asked.
         ensures refused { self.old.left ≡ Some 0 → (result ≡ Err Failed) × (self.new.inner ≡ self.old.inner) }
         ensures refusals { self.new.refused ≡ refusals_after self.old.left self.old.refused }
 
         // Else a step fails only where the inner tree does.
-        ensures passed { self.old.left ≢ Some 0 → IsErrOf result Failed → HasRisen (T.faults self.old.inner) (T.faults self.new.inner) }
+        ensures passed { self.old.left ≢ Some 0 → IsErrOf result Failed →
+            HasRisen (T.faults self.old.inner) (T.faults self.new.inner) }
 
         // Only a step that succeeds uses up the limit.
         ensures used { OnOk result (self.new.left ≡ one_less self.old.left) }

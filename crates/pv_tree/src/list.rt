@@ -10,7 +10,7 @@ ghost use Rattle.pv_tree.specs.Finding.{IsFoundAt, IsGapAt};
 ghost use Rattle.pv_tree.specs.Entries.{IsSorted, orders_of, places_in};
 
 use crate::entry::Entry;
-use crate::probe::{Probe, place_of};
+use crate::probe::{Probe, find, place_of};
 use pv_acl::Acl;
 use pv_path::{Bytes, Name, TreePath};
 use pv_steps::Object;
@@ -61,14 +61,19 @@ pub(crate) fn parent_names(path: &TreePath) -> &[Name]
     }
 }
 
-/// The object at a path.
+/// The entry at a path, or nothing where the path is absent.
 pub(crate) fn entry_at<'a>(entries: &'a Vec<Entry>, path: &TreePath) -> Option<&'a Entry>
     requires { IsSorted entries.now.items }
     ensures { option_map (λ e. e.now.1) result ≡ places_in entries.now.items path.now }
 {
-    match place(entries, path.names()) {
-        Ok(i) => Some(&entries[i]),
-        Err(_) => None,
+    let mut probe = PathProbe {
+        entries: entries.as_slice(),
+        path: path.names(),
+        left: 64,
+    };
+    match find(&mut probe, entries.len()) {
+        Some(i) => Some(&entries[i]),
+        None => None,
     }
 }
 
@@ -76,7 +81,8 @@ pub(crate) fn entry_at<'a>(entries: &'a Vec<Entry>, path: &TreePath) -> Option<&
 pub(crate) fn put(entries: &mut Vec<Entry>, entry: Entry) -> Result<(), AllocError>
     requires { IsSorted entries.old.items }
     ensures sorted { IsSorted entries.new.items }
-    ensures ok { OnOk result (places_in entries.new.items ≡ put_at entry.0 (Some entry.1) (places_in entries.old.items)) }
+    ensures ok { OnOk result
+        (places_in entries.new.items ≡ put_at entry.0 (Some entry.1) (places_in entries.old.items)) }
     ensures err { OnErr result (entries.new.items ≡ entries.old.items) }
     ensures room { vec_len entries.old < vec_capacity entries.old → IsOk result }
     ensures capacity { vec_capacity entries.old ≤ vec_capacity entries.new }
@@ -126,7 +132,8 @@ pub(crate) fn set_mode(entries: &mut Vec<Entry>, path: &TreePath, mode: u16, now
 pub(crate) fn set_owner(entries: &mut Vec<Entry>, path: &TreePath, uid: u32, gid: u32, now: u64)
     requires { IsSorted entries.old.items }
     ensures sorted { IsSorted entries.new.items }
-    ensures places { places_in entries.new.items ≡ on_at path.now (with_owner uid gid now) (places_in entries.old.items) }
+    ensures places { places_in entries.new.items
+        ≡ on_at path.now (with_owner uid gid now) (places_in entries.old.items) }
 {
     if let Ok(i) = place(entries, path.names()) {
         entries[i].set_owner(uid, gid, now);
@@ -152,7 +159,8 @@ pub(crate) fn set_stamps(
 )
     requires { IsSorted entries.old.items }
     ensures sorted { IsSorted entries.new.items }
-    ensures places { places_in entries.new.items ≡ on_at path.now (with_stamps access modify now) (places_in entries.old.items) }
+    ensures places { places_in entries.new.items
+        ≡ on_at path.now (with_stamps access modify now) (places_in entries.old.items) }
 {
     if let Ok(i) = place(entries, path.names()) {
         entries[i].set_stamps(access, modify, now);
@@ -162,7 +170,8 @@ pub(crate) fn set_stamps(
 pub(crate) fn set_content(entries: &mut Vec<Entry>, path: &TreePath, content: Bytes, now: u64)
     requires { IsSorted entries.old.items }
     ensures sorted { IsSorted entries.new.items }
-    ensures places { places_in entries.new.items ≡ on_at path.now (with_content content now) (places_in entries.old.items) }
+    ensures places { places_in entries.new.items
+        ≡ on_at path.now (with_content content now) (places_in entries.old.items) }
 {
     if let Ok(i) = place(entries, path.names()) {
         entries[i].set_content(content, now);

@@ -65,7 +65,9 @@ impl MemTree {
         requires absent { places self.old.files path.now ≡ None }
         requires parent { IsKind Directory self.old.files (parent_of path.now) }
         requires object { IsObject (record { node = node; payload = payload.now }) }
-        ensures ok { OnOk result (self.new ≡ record self.old { files = fin.insert self.old.files path.now (record { node = node; payload = payload.now }) }) }
+        ensures ok { OnOk result (self.new ≡ record self.old {
+          files = fin.insert self.old.files path.now (record { node = node; payload = payload.now });
+        }) }
         ensures err { OnErr result (self.new ≡ self.old) }
     {
         let _names = path.names();

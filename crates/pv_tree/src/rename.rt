@@ -93,9 +93,13 @@ fn split_at(
 )
     requires place { i < vec_len entries.old }
     requires room { vec_len carried.old < vec_capacity carried.old }
-    requires path { (d : List (List ℕ) × ObjectValue) → path ≡ new_path from.now to.now (get_or entries.old.items i d).0 }
-    ensures entries { (d : List (List ℕ) × ObjectValue) → entries.new.items ≡ kept_at from.now to.now entries.old.items i (get_or entries.old.items i d).0 }
-    ensures carried { (d : List (List ℕ) × ObjectValue) → carried.new.items ≡ carried.old.items ++ moved_entries now from.now to.now (get_or entries.old.items i d ∷ []) }
+    requires path { (d : List (List ℕ) × ObjectValue) →
+        path ≡ new_path from.now to.now (get_or entries.old.items i d).0 }
+    ensures entries { (d : List (List ℕ) × ObjectValue) →
+        entries.new.items ≡ kept_at from.now to.now entries.old.items i (get_or entries.old.items i d).0 }
+    ensures carried { (d : List (List ℕ) × ObjectValue) →
+        carried.new.items
+        ≡ carried.old.items ++ moved_entries now from.now to.now (get_or entries.old.items i d ∷ []) }
     ensures capacity { vec_capacity entries.new ≡ vec_capacity entries.old }
     ensures carried_capacity { vec_capacity carried.old ≤ vec_capacity carried.new }
     ensures carried_len { vec_len carried.new ≤ vec_len carried.old + 1 }

@@ -1,6 +1,6 @@
 ghost use Rattle.std.specs.Prelude.{◌≡◌, ◌≢◌, ℕ, ◌^◌, ◌<◌, ◌≤◌, List, [], ◌∷◌, map, length, true, false};
 ghost use Rattle.std.specs.Ordering.{nat_cmp};
-ghost use Rattle.pv_path.specs.Paths.{is_prefix};
+ghost use Rattle.pv_path.specs.Paths.{is_prefix, parent_of};
 ghost use Rattle.pv_acl.specs.Parts.{is_acl};
 ghost use Rattle.pv_steps.specs.declared.node.Kind.TheVariants.{Directory, File};
 ghost use Rattle.pv_steps.specs.Objects.{IsTarget, IsId};
@@ -9,8 +9,8 @@ ghost use Rattle.pv_steps.specs.Steps.{HasRoom, IsOther};
 ghost use Rattle.pv_tree.specs.Finding.{IsRising};
 
 use super::*;
-use crate::make::plain;
-use pv_acl::Acl;
+use crate::make::{fresh, plain};
+use pv_acl::{Acl, print_acl, read_acl};
 use pv_path::{Bytes, TreePath, is_prefix, parent, parse_path};
 use std::alloc::Global;
 use std::cmp::Ordering;
@@ -90,6 +90,13 @@ fn expect_room<T: Tree>(rt: &impl Abort, alloc: Global, tree: &T, path: &TreePat
     ensures { HasRoom (places (T.state tree.now)) path.now }
 {
     assert!(rt; tree.look(path).is_none());
+    expect_parent(rt, alloc, tree, path);
+}
+
+/// Stops unless a path lies in a directory.
+fn expect_parent<T: Tree>(rt: &impl Abort, alloc: Global, tree: &T, path: &TreePath)
+    ensures { IsKindIn Directory (places (T.state tree.now)) (parent_of path.now) }
+{
     match parent(alloc, path).expect(rt, "memory") {
         Some(up) => expect_kind(rt, tree, &up, Kind::Directory),
         None => panic!(rt; "the root"),
@@ -155,7 +162,7 @@ fn make_device(
         path,
         block,
         major: 8,
-        minor: 1,
+        minor: 17,
     };
     tree.step(&step, now)
 }
@@ -277,6 +284,45 @@ fn rename(
     tree.step(&Step::Rename { from, to }, now)
 }
 
+/// Renames an object over another one; neither is a directory.
+fn rename_over_object(
+    rt: &impl Abort,
+    alloc: Global,
+    tree: &mut MemTree,
+    from: &[u8],
+    to: &[u8],
+    now: u64,
+) -> Result<(), TreeFault> {
+    let from = path_of(rt, alloc, from);
+    let to = path_of(rt, alloc, to);
+    expect_other(rt, tree, &from, Kind::Directory);
+    expect_other(rt, tree, &to, Kind::Directory);
+    expect_parent(rt, alloc, tree, &to);
+    assert!(rt; !from.is_empty());
+    assert!(rt; !is_prefix(&from, &to));
+    tree.step(&Step::Rename { from, to }, now)
+}
+
+/// Renames a directory over an empty one.
+fn rename_over_directory(
+    rt: &impl Abort,
+    alloc: Global,
+    tree: &mut MemTree,
+    from: &[u8],
+    to: &[u8],
+    now: u64,
+) -> Result<(), TreeFault> {
+    let from = path_of(rt, alloc, from);
+    let to = path_of(rt, alloc, to);
+    expect_kind(rt, tree, &from, Kind::Directory);
+    expect_kind(rt, tree, &to, Kind::Directory);
+    expect_empty(rt, alloc, tree, &to);
+    expect_parent(rt, alloc, tree, &to);
+    assert!(rt; !from.is_empty());
+    assert!(rt; !is_prefix(&from, &to));
+    tree.step(&Step::Rename { from, to }, now)
+}
+
 fn unlink(
     rt: &impl Abort,
     alloc: Global,
@@ -311,27 +357,56 @@ fn add_file(rt: &impl Abort, alloc: Global, tree: &mut MemTree, text: &[u8]) {
     tree.add(&path, node, b"").expect(rt, "memory");
 }
 
-/// What stands at a path: its kind, its mode and its stamps (access, birth, change, modify).
-fn seen(
-    rt: &impl Abort,
-    alloc: Global,
-    tree: &MemTree,
-    text: &[u8],
-) -> Option<(Kind, u16, [u64; 4])> {
+/// A kind, a mode, the numbers uid, gid, major and minor, and the stamps access, birth, change and modify.
+type Seen = (Kind, u16, [u32; 4], [u64; 4]);
+
+/// What a node tells.
+fn node_seen(rt: &impl Abort, node: &Node) -> Seen {
+    assert!(rt; node.special <= 7);
+    let Stamps {
+        access,
+        birth,
+        change,
+        modify,
+    } = node.stamps;
+    (
+        node.kind,
+        node.acl.access.mode(node.special),
+        [node.uid, node.gid, node.major, node.minor],
+        [access, birth, change, modify],
+    )
+}
+
+/// What stands at a path.
+fn seen(rt: &impl Abort, alloc: Global, tree: &MemTree, text: &[u8]) -> Option<Seen> {
     let path = path_of(rt, alloc, text);
     match tree.look(&path) {
-        Some(node) => {
-            assert!(rt; node.special <= 7);
-            let Stamps {
-                access,
-                birth,
-                change,
-                modify,
-            } = node.stamps;
-            let mode = node.acl.access.mode(node.special);
-            Some((node.kind, mode, [access, birth, change, modify]))
-        }
+        Some(node) => Some(node_seen(rt, node)),
         None => None,
+    }
+}
+
+/// Whether an ACL has this text in images.
+fn has_text(rt: &impl Abort, alloc: Global, acl: &Acl, text: &[u8]) -> bool {
+    print_acl(alloc, acl).expect(rt, "memory").as_slice() == text
+}
+
+/// Whether the object at a path has an ACL of this text.
+fn has_acl(rt: &impl Abort, alloc: Global, tree: &MemTree, text: &[u8], acl: &[u8]) -> bool {
+    let path = path_of(rt, alloc, text);
+    match tree.look(&path) {
+        Some(node) => has_text(rt, alloc, &node.acl, acl),
+        None => false,
+    }
+}
+
+/// The ACL that a field spells beside a mode.
+fn acl_of(rt: &impl Abort, alloc: Global, field: &[u8], mode: u16) -> Acl
+    ensures { is_acl result ≡ true }
+{
+    match read_acl(alloc, field, mode, true).expect(rt, "memory") {
+        Some(acl) => acl,
+        None => panic!(rt; "no ACL"),
     }
 }
 
@@ -340,6 +415,11 @@ fn holds(rt: &impl Abort, alloc: Global, tree: &MemTree, text: &[u8], bytes: &[u
     let path = path_of(rt, alloc, text);
     tree.payload_at(&path)
         .is_some_and(|payload| payload == bytes)
+}
+
+/// A root directory of root, with its mode and its stamps.
+fn root_seen(mode: u16, stamps: [u64; 4]) -> Option<Seen> {
+    Some((Kind::Directory, mode, [0, 0, 0, 0], stamps))
 }
 
 #[test]
@@ -353,50 +433,98 @@ fn makes_each_kind(rt: HostRuntime) {
     );
     assert_eq!(rt; make_file(&rt, alloc, &mut tree, b"/d/f", 9), Ok(()));
     assert_eq!(rt; make_fifo(&rt, alloc, &mut tree, b"/d/p", 10), Ok(()));
-    assert_eq!(rt;
-        make_device(&rt, alloc, &mut tree, b"/d/b", true, 11),
-        Ok(())
-    );
-    for (text, want) in [
+    for (text, block, now) in [(b"/d/b".as_slice(), true, 11), (b"/d/c", false, 12)] {
+        assert_eq!(rt;
+            make_device(&rt, alloc, &mut tree, text, block, now),
+            Ok(())
+        );
+    }
+    for (text, kind, mode, numbers, stamps) in [
         (
             b"/".as_slice(),
-            Some((Kind::Directory, 0o755, [0, 0, 7, 7])),
+            Kind::Directory,
+            0o755,
+            [0, 0, 0, 0],
+            [0, 0, 7, 7],
         ),
-        (b"/d", Some((Kind::Directory, 0o700, [7, 7, 11, 11]))),
-        (b"/d/f", Some((Kind::File, 0o600, [9, 9, 9, 9]))),
-        (b"/d/p", Some((Kind::Fifo, 0o600, [10, 10, 10, 10]))),
-        (b"/d/b", Some((Kind::BlockDevice, 0o600, [11, 11, 11, 11]))),
-        (b"/d/l", Some((Kind::Link, 0o777, [8, 8, 8, 8]))),
-        (b"/d/x", None),
+        (b"/d", Kind::Directory, 0o700, [0, 0, 0, 0], [7, 7, 12, 12]),
+        (b"/d/f", Kind::File, 0o600, [0, 0, 0, 0], [9, 9, 9, 9]),
+        (b"/d/p", Kind::Fifo, 0o600, [0, 0, 0, 0], [10, 10, 10, 10]),
+        (
+            b"/d/b",
+            Kind::BlockDevice,
+            0o600,
+            [0, 0, 8, 17],
+            [11, 11, 11, 11],
+        ),
+        (
+            b"/d/c",
+            Kind::CharDevice,
+            0o600,
+            [0, 0, 8, 17],
+            [12, 12, 12, 12],
+        ),
+        (b"/d/l", Kind::Link, 0o777, [0, 0, 0, 0], [8, 8, 8, 8]),
     ] {
+        let want = Some((kind, mode, numbers, stamps));
         assert_eq!(rt; seen(&rt, alloc, &tree, text), want);
+        assert!(rt; has_acl(&rt, alloc, &tree, text, b"-"));
     }
+    assert_eq!(rt; seen(&rt, alloc, &tree, b"/d/x"), None);
     assert!(rt; holds(&rt, alloc, &tree, b"/d/l", b"../x"));
     assert!(rt; holds(&rt, alloc, &tree, b"/d/f", b""));
 }
 
 #[test]
-fn changes_objects(rt: HostRuntime) {
+fn changes_files(rt: HostRuntime) {
     let alloc = rt.alloc();
     let mut tree = root_tree(&rt, alloc);
     assert_eq!(rt; make_file(&rt, alloc, &mut tree, b"/f", 2), Ok(()));
     assert_eq!(rt; write(&rt, alloc, &mut tree, b"/f", b"xy", 3), Ok(()));
+    let written = (Kind::File, 0o600, [0, 0, 0, 0], [2, 2, 3, 3]);
+    assert_eq!(rt; seen(&rt, alloc, &tree, b"/f"), Some(written));
     assert_eq!(rt; set_mode(&rt, alloc, &mut tree, b"/f", 0o4640, 4), Ok(()));
+    let moded = (Kind::File, 0o4640, [0, 0, 0, 0], [2, 2, 4, 3]);
+    assert_eq!(rt; seen(&rt, alloc, &tree, b"/f"), Some(moded));
     assert_eq!(rt; set_owner(&rt, alloc, &mut tree, b"/f", 5, 6, 5), Ok(()));
+    let owned = (Kind::File, 0o4640, [5, 6, 0, 0], [2, 2, 5, 3]);
+    assert_eq!(rt; seen(&rt, alloc, &tree, b"/f"), Some(owned));
     assert_eq!(rt; set_stamps(&rt, alloc, &mut tree, b"/f", 60, 61, 6), Ok(()));
-    assert_eq!(rt;
-        set_acl(&rt, alloc, &mut tree, b"/", Acl::of_mode(alloc, 0o750), 7),
-        Ok(())
-    );
-    assert_eq!(rt;
-        seen(&rt, alloc, &tree, b"/f"),
-        Some((Kind::File, 0o4640, [60, 2, 6, 61]))
-    );
+    let stamped = (Kind::File, 0o4640, [5, 6, 0, 0], [60, 2, 6, 61]);
+    assert_eq!(rt; seen(&rt, alloc, &tree, b"/f"), Some(stamped));
+    assert!(rt; holds(&rt, alloc, &tree, b"/f", b"xy"));
     assert_eq!(rt;
         seen(&rt, alloc, &tree, b"/"),
-        Some((Kind::Directory, 0o750, [0, 0, 7, 2]))
+        root_seen(0o755, [0, 0, 2, 2])
     );
-    assert!(rt; holds(&rt, alloc, &tree, b"/f", b"xy"));
+    assert_eq!(rt; tree.step_count(), 5);
+}
+
+#[test]
+fn modes_leave_named_entries(rt: HostRuntime) {
+    let alloc = rt.alloc();
+    let text = b"u:1000:rw-,m::r--,d:u::rwx,d:u:5:r--,d:g::r-x,d:o::---".as_slice();
+    let mut tree = root_tree(&rt, alloc);
+    let acl = acl_of(&rt, alloc, text, 0o750);
+    assert_eq!(rt; set_acl(&rt, alloc, &mut tree, b"/", acl, 7), Ok(()));
+    assert_eq!(rt;
+        seen(&rt, alloc, &tree, b"/"),
+        root_seen(0o750, [0, 0, 7, 0])
+    );
+    assert!(rt; has_acl(&rt, alloc, &tree, b"/", text));
+    assert_eq!(rt; set_mode(&rt, alloc, &mut tree, b"/", 0o1604, 8), Ok(()));
+    assert_eq!(rt;
+        seen(&rt, alloc, &tree, b"/"),
+        root_seen(0o1604, [0, 0, 8, 0])
+    );
+    assert!(rt; has_acl(&rt, alloc, &tree, b"/", text));
+    let acl = Acl::of_mode(alloc, 0o711);
+    assert_eq!(rt; set_acl(&rt, alloc, &mut tree, b"/", acl, 9), Ok(()));
+    assert_eq!(rt;
+        seen(&rt, alloc, &tree, b"/"),
+        root_seen(0o1711, [0, 0, 9, 0])
+    );
+    assert!(rt; has_acl(&rt, alloc, &tree, b"/", b"-"));
 }
 
 #[test]
@@ -410,27 +538,84 @@ fn moves_and_removes(rt: HostRuntime) {
     assert_eq!(rt; seen(&rt, alloc, &tree, b"/b/a"), None);
     assert_eq!(rt;
         seen(&rt, alloc, &tree, b"/"),
-        Some((Kind::Directory, 0o755, [0, 0, 3, 3]))
+        root_seen(0o755, [0, 0, 3, 3])
     );
     assert_eq!(rt;
         seen(&rt, alloc, &tree, b"/a"),
-        Some((Kind::Directory, 0o700, [1, 1, 3, 2]))
+        root_seen(0o700, [1, 1, 3, 2])
     );
     assert_eq!(rt;
         seen(&rt, alloc, &tree, b"/a/a"),
-        Some((Kind::File, 0o600, [2, 2, 2, 2]))
+        Some((Kind::File, 0o600, [0, 0, 0, 0], [2, 2, 2, 2]))
     );
     assert_eq!(rt; unlink(&rt, alloc, &mut tree, b"/a/a", 4), Ok(()));
     assert_eq!(rt;
         seen(&rt, alloc, &tree, b"/a"),
-        Some((Kind::Directory, 0o700, [1, 1, 4, 4]))
+        root_seen(0o700, [1, 1, 4, 4])
     );
     assert_eq!(rt; remove_dir(&rt, alloc, &mut tree, b"/a", 5), Ok(()));
     assert_eq!(rt;
         seen(&rt, alloc, &tree, b"/"),
-        Some((Kind::Directory, 0o755, [0, 0, 5, 5]))
+        root_seen(0o755, [0, 0, 5, 5])
     );
     assert_eq!(rt; tree.len(), 1);
+}
+
+#[test]
+fn moves_over_a_file(rt: HostRuntime) {
+    let alloc = rt.alloc();
+    let mut tree = root_tree(&rt, alloc);
+    assert_eq!(rt; make_dir(&rt, alloc, &mut tree, b"/d", 1), Ok(()));
+    assert_eq!(rt; make_file(&rt, alloc, &mut tree, b"/d/f", 2), Ok(()));
+    assert_eq!(rt; write(&rt, alloc, &mut tree, b"/d/f", b"old", 3), Ok(()));
+    assert_eq!(rt; make_file(&rt, alloc, &mut tree, b"/g", 4), Ok(()));
+    assert_eq!(rt; write(&rt, alloc, &mut tree, b"/g", b"new", 5), Ok(()));
+    assert_eq!(rt;
+        rename_over_object(&rt, alloc, &mut tree, b"/g", b"/d/f", 6),
+        Ok(())
+    );
+    assert_eq!(rt; seen(&rt, alloc, &tree, b"/g"), None);
+    assert_eq!(rt;
+        seen(&rt, alloc, &tree, b"/d/f"),
+        Some((Kind::File, 0o600, [0, 0, 0, 0], [4, 4, 6, 5]))
+    );
+    assert!(rt; holds(&rt, alloc, &tree, b"/d/f", b"new"));
+    assert_eq!(rt;
+        seen(&rt, alloc, &tree, b"/d"),
+        root_seen(0o700, [1, 1, 6, 6])
+    );
+    assert_eq!(rt;
+        seen(&rt, alloc, &tree, b"/"),
+        root_seen(0o755, [0, 0, 6, 6])
+    );
+    assert_eq!(rt; tree.len(), 3);
+}
+
+#[test]
+fn moves_over_an_empty_directory(rt: HostRuntime) {
+    let alloc = rt.alloc();
+    let mut tree = root_tree(&rt, alloc);
+    assert_eq!(rt; make_dir(&rt, alloc, &mut tree, b"/a", 1), Ok(()));
+    assert_eq!(rt; make_dir(&rt, alloc, &mut tree, b"/b", 2), Ok(()));
+    assert_eq!(rt; make_file(&rt, alloc, &mut tree, b"/b/f", 3), Ok(()));
+    assert_eq!(rt;
+        rename_over_directory(&rt, alloc, &mut tree, b"/b", b"/a", 4),
+        Ok(())
+    );
+    assert_eq!(rt; seen(&rt, alloc, &tree, b"/b"), None);
+    assert_eq!(rt;
+        seen(&rt, alloc, &tree, b"/a"),
+        root_seen(0o700, [2, 2, 4, 3])
+    );
+    assert_eq!(rt;
+        seen(&rt, alloc, &tree, b"/a/f"),
+        Some((Kind::File, 0o600, [0, 0, 0, 0], [3, 3, 3, 3]))
+    );
+    assert_eq!(rt;
+        seen(&rt, alloc, &tree, b"/"),
+        root_seen(0o755, [0, 0, 4, 4])
+    );
+    assert_eq!(rt; tree.len(), 3);
 }
 
 #[test]
@@ -449,26 +634,101 @@ fn lists_in_order(rt: HostRuntime) {
     }
     assert_eq!(rt;
         seen(&rt, alloc, &tree, b"/"),
-        Some((Kind::Directory, 0o755, [0, 0, 0, 0]))
+        root_seen(0o755, [0, 0, 0, 0])
     );
     assert_eq!(rt;
         seen(&rt, alloc, &tree, b"/b!"),
-        Some((Kind::File, 0o644, [3, 3, 3, 3]))
+        Some((Kind::File, 0o644, [0, 0, 0, 0], [3, 3, 3, 3]))
     );
     assert_eq!(rt; tree.len(), 5);
+    assert_eq!(rt; tree.step_count(), 0);
+}
+
+/// Whether a tree lends these bytes of a file.
+fn lends_bytes<T: Tree>(
+    rt: &impl Abort,
+    alloc: Global,
+    tree: &T,
+    text: &[u8],
+    want: &[u8],
+) -> bool {
+    let path = path_of(rt, alloc, text);
+    expect_kind(rt, tree, &path, Kind::File);
+    tree.bytes(&path) == want
+}
+
+/// Whether a tree lends this target of a link.
+fn lends_target<T: Tree>(
+    rt: &impl Abort,
+    alloc: Global,
+    tree: &T,
+    text: &[u8],
+    want: &[u8],
+) -> bool {
+    let path = path_of(rt, alloc, text);
+    expect_kind(rt, tree, &path, Kind::Link);
+    tree.target(&path) == want
+}
+
+#[test]
+fn lends_payloads(rt: HostRuntime) {
+    let alloc = rt.alloc();
+    let mut tree = root_tree(&rt, alloc);
+    assert_eq!(rt; make_file(&rt, alloc, &mut tree, b"/f", 1), Ok(()));
+    assert_eq!(rt; write(&rt, alloc, &mut tree, b"/f", b"xy", 2), Ok(()));
+    assert_eq!(rt; make_link(&rt, alloc, &mut tree, b"/l", b"../x", 3), Ok(()));
+    assert!(rt; lends_bytes(&rt, alloc, &tree, b"/f", b"xy"));
+    assert!(rt; lends_target(&rt, alloc, &tree, b"/l", b"../x"));
+    let tree = Fused::new(tree, Some(0));
+    assert!(rt; lends_bytes(&rt, alloc, &tree, b"/f", b"xy"));
+    assert!(rt; lends_target(&rt, alloc, &tree, b"/l", b"../x"));
 }
 
 #[test]
 fn stops_after_the_limit(rt: HostRuntime) {
     let alloc = rt.alloc();
-    let mut tree = Fused::new(root_tree(&rt, alloc), Some(1));
-    assert_eq!(rt; make_dir(&rt, alloc, &mut tree, b"/a", 1), Ok(()));
-    assert!(rt; !tree.stopped());
-    assert_eq!(rt;
-        make_dir(&rt, alloc, &mut tree, b"/b", 2),
-        Err(TreeFault::Failed)
-    );
-    assert!(rt; tree.stopped());
-    assert_eq!(rt; tree.inner().len(), 2);
-    assert_eq!(rt; tree.into_inner().len(), 2);
+    for (limit, first, second, stopped, count) in [
+        (None, Ok(()), Ok(()), false, 3),
+        (
+            Some(0),
+            Err(TreeFault::Failed),
+            Err(TreeFault::Failed),
+            true,
+            1,
+        ),
+        (Some(1), Ok(()), Err(TreeFault::Failed), true, 2),
+        (Some(2), Ok(()), Ok(()), false, 3),
+    ] {
+        let mut tree = Fused::new(root_tree(&rt, alloc), limit);
+        assert_eq!(rt; make_dir(&rt, alloc, &mut tree, b"/a", 1), first);
+        assert_eq!(rt; make_dir(&rt, alloc, &mut tree, b"/b", 2), second);
+        assert_eq!(rt; tree.stopped(), stopped);
+        assert_eq!(rt; tree.inner().len(), count);
+        assert_eq!(rt; tree.into_inner().len(), count);
+    }
+}
+
+#[test]
+fn copies_are_the_same(rt: HostRuntime) {
+    let alloc = rt.alloc();
+    let payload = Bytes::copy_of(alloc, b"xy").expect(&rt, "memory");
+    let mut object = fresh(alloc, Kind::CharDevice, 0o4640, payload, 8, 17, 0);
+    let text = b"u:1000:rw-,m::r--,d:u::rwx,d:g::r-x,d:o::---".as_slice();
+    object.node.acl = acl_of(&rt, alloc, text, 0o640);
+    object.node.uid = 5;
+    object.node.gid = 6;
+    object.node.stamps = Stamps {
+        access: 1,
+        birth: 2,
+        change: 3,
+        modify: 4,
+    };
+    let copy = object.copy().expect(&rt, "memory");
+    let want = (Kind::CharDevice, 0o4640, [5, 6, 8, 17], [1, 2, 3, 4]);
+    assert_eq!(rt; node_seen(&rt, &copy.node), want);
+    assert!(rt; has_text(&rt, alloc, &copy.node.acl, text));
+    assert!(rt; copy.payload.as_slice() == b"xy".as_slice());
+    let node = copy.node.copy().expect(&rt, "memory");
+    assert_eq!(rt; node_seen(&rt, &node), want);
+    assert!(rt; has_text(&rt, alloc, &node.acl, text));
 }
