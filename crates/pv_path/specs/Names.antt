@@ -1,4 +1,4 @@
--- Names of directory entries: what stands between the slashes of a path.
+-- Names of directory entries: what stands between the slashes of a path (path_resolution(7)).
 use Rattle.std.specs.Prelude.{ℕ, Bool, not, ◌&&◌, ◌||◌, ◌==◌, nat_le, nat_eq, List, ◌++◌, length, codes}
 use Rattle.std.specs.List.{list_all, starts_with}
 use Rattle.std.specs.Cmp.Lexicographic.{pointwise}

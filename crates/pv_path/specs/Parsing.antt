@@ -1,4 +1,5 @@
--- The path that a text spells in a configuration line or a word, or the first fault.
+-- The path that a text spells in a configuration line or a word, or the first fault (tmpfiles.d(5),
+-- path_resolution(7)).
 use Rattle.std.specs.Prelude.{◌≡◌, ℕ, Bool, false, ◌==◌, nat_lt, List, [], ◌∷◌, ◌++◌, length, Option, Some, None, Result, Ok, Err, if◌then◌else◌}
 use Rattle.std.specs.List.{list_any, slice_split}
 use Rattle.std.specs.Option.{option_map_or}
@@ -31,6 +32,7 @@ abbrev pub names_of : List (List ℕ) → Result Path PathFault
 names_of [] = Ok []
 names_of (piece ∷ pieces) = joined (piece_of piece) (names_of pieces)
 
+-- whether a text is that of an absolute path
 abbrev pub begins_with_slash : List ℕ → Bool
 begins_with_slash [] = false
 begins_with_slash (b ∷ bs) = b == 47

@@ -1,4 +1,4 @@
--- Paths as lists of names from the root, which is the empty list.
+-- Paths as lists of names from the root, which is the empty list (path_resolution(7)).
 use Rattle.std.specs.Prelude.{ℕ, ◌-◌, Bool, true, false, ◌&&◌, List, [], ◌∷◌, length, take, Option, Some, None, slice_get, if◌then◌else◌}
 use Rattle.std.specs.List.{list_all, list_any}
 use Rattle.std.specs.Ordering.{nat_cmp}
@@ -8,6 +8,7 @@ use Rattle.std.specs.FinMap.{IsAntisymmetric, slice_cmp-IsAntisymmetric, nat_cmp
 use Rattle.std.specs.declared.cmp.Ordering.{Ordering}
 use Rattle.pv_path.specs.Names.{same_bytes, is_name, is_staging, staging_name}
 
+-- a path: its names, each as its bytes
 abbrev pub Path : Type 0
 Path = List (List ℕ)
 
@@ -19,9 +20,11 @@ has_names path = list_all is_name path
 abbrev pub path_cmp : Path → Path → Ordering
 path_cmp = slice_cmp (slice_cmp nat_cmp)
 
+-- the order of paths is total
 pub path_total : IsTotalOrder path_cmp
 path_total = lists_total nat_list_cmp_total
 
+-- paths that the order finds equal are the same
 pub path_exact : IsAntisymmetric path_cmp
 path_exact = slice_cmp-IsAntisymmetric (slice_cmp-IsAntisymmetric nat_cmp-IsAntisymmetric)
 

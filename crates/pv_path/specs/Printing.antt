@@ -15,6 +15,7 @@ hex_digit d = if nat_lt d 10 then 48 + d else 87 + d
 abbrev pub printed_byte : ℕ → List ℕ
 printed_byte b = if is_plain b then b ∷ [] else codes "\\x" ++ hex_digit (b / 16) ∷ hex_digit (b % 16) ∷ []
 
+-- bytes as they are printed, one after the other
 abbrev pub printed : List ℕ → List ℕ
 printed bytes = flat_map printed_byte bytes
 

@@ -7,18 +7,25 @@ use thiserror::Error;
 /// Why a text is no path, in the order in which the checks are made.
 #[derive(Clone, Copy, Debug, PartialEq, Eq, Error)]
 pub enum PathFault {
+    /// The text does not begin with a slash.
     #[error("NotAbsolute")]
     NotAbsolute,
+    /// The text has a NUL.
     #[error("BadByte")]
     BadByte,
+    /// The text has more than 4095 bytes.
     #[error("PathTooLong")]
     PathTooLong,
+    /// A name is `.` or `..`.
     #[error("DotComponent")]
     DotComponent,
+    /// A name has more than 240 bytes.
     #[error("NameTooLong")]
     NameTooLong,
+    /// A name is a staging name, which belongs to the program.
     #[error("StagingName")]
     StagingName,
+    /// Memory ran out.
     #[error("Memory")]
     Memory,
 }

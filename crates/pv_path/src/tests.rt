@@ -71,6 +71,26 @@ fn names_and_texts_have_most_bytes(rt: HostRuntime) -> Result<(), Fail> {
 }
 
 #[test]
+fn names_are_told_from_other_bytes(rt: HostRuntime) -> Result<(), Fail> {
+    for (bytes, is) in [
+        (b"".as_slice(), false),
+        (b".", false),
+        (b"..", false),
+        (b"...", true),
+        (b"a/b", false),
+        (b"a\0", false),
+        (b".#tf-a", true),
+    ] {
+        assert!(rt; is_name(bytes) == is, "{bytes:?}");
+    }
+    for (count, is) in [(1, true), (255, true), (256, false)] {
+        let bytes = vec![in rt.alloc(); b'a'; count]?;
+        assert!(rt; is_name(bytes.as_slice()) == is, "{count}");
+    }
+    Ok(())
+}
+
+#[test]
 fn bytes_are_printed(rt: HostRuntime) -> Result<(), Fail> {
     for (bytes, printed) in [
         (b"a b".as_slice(), b"a\\x20b".as_slice()),
@@ -94,7 +114,9 @@ fn paths_have_parents_and_children(rt: HostRuntime) -> Result<(), Fail> {
     assert!(rt; parent(alloc, &root)?.is_none());
     assert!(rt; parent(alloc, &path)? == Some(above.copy()?));
     let below = child(alloc, &above, b".#tf-x")?;
-    assert!(rt; below.name().map(|name| name.bytes()) == Some(b".#tf-x".as_slice()));
+    assert!(rt; print_path(alloc, &below)?.as_slice() == b"/a/.#tf-x".as_slice());
+    let blank = child(alloc, &root, b"a b")?;
+    assert!(rt; print_path(alloc, &blank)?.as_slice() == b"/a\\x20b".as_slice());
     assert!(rt; has_staging(&below) && is_staging(b".#tf-") && !is_staging(b".#tf"));
     assert!(rt; staging(alloc, &path)? == child(alloc, &above, b".#tf-b")?);
     assert!(rt; is_prefix(&above, &path) && is_prefix(&above, &above) && !is_prefix(&path, &above));
