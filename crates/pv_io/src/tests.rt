@@ -178,3 +178,18 @@ fn stands_over_readers_and_writers(rt: HostRuntime) -> Result<(), Fail> {
     }
     Ok(())
 }
+
+#[test]
+fn faults_have_names(rt: HostRuntime) -> Result<(), Fail> {
+    let alloc = rt.alloc();
+    assert_eq!(rt; Failed.to_string(alloc)?.as_str(), "Failed");
+    assert_eq!(rt; WriteFault.to_string(alloc)?.as_str(), "WriteFault");
+    for (fault, name) in [
+        (ReadAllFault::ReadFault, "ReadFault"),
+        (ReadAllFault::TooLong, "TooLong"),
+        (ReadAllFault::Memory, "Memory"),
+    ] {
+        assert_eq!(rt; fault.to_string(alloc)?.as_str(), name);
+    }
+    Ok(())
+}
