@@ -11,6 +11,7 @@ use Rattle.pv_steps.specs.declared.object.Object.{Object}
 
 -- ---- objects as such
 
+-- whether a kind is that of directories
 abbrev pub is_directory : Kind → Bool
 is_directory Directory = true
 is_directory kind = false
@@ -58,15 +59,19 @@ with_mode mode now o = changed now (record o {
   };
 })
 
+-- owner and owning group changed
 abbrev pub with_owner : ℕ → ℕ → ℕ → Object → Object
 with_owner uid gid now o = changed now (record o { node = record o.node { uid = uid; gid = gid } })
 
+-- the whole ACL changed
 abbrev pub with_acl : Acl → ℕ → Object → Object
 with_acl acl now o = changed now (record o { node = record o.node { acl = acl } })
 
+-- the stamps of access and modification changed
 abbrev pub with_stamps : ℕ → ℕ → ℕ → Object → Object
 with_stamps access modify now o = changed now (record o { node = record o.node { stamps = record o.node.stamps { access = access; modify = modify } } })
 
+-- the bytes of a file changed
 abbrev pub with_content : List ℕ → ℕ → Object → Object
 with_content content now o = modified now (record o { payload = content })
 
@@ -96,6 +101,7 @@ AclFits Directory special acl = Unit {0}
 AclFits Link special acl = (special ≡ 0) × (acl ≡ acl_of_mode 0o777)
 AclFits kind special acl = acl.default_part ≡ None
 
+-- each stamp is a number below 2^64
 pub record StampsFit (stamps : Stamps) : Type 0 where
   pub access : stamps.access < 2 ^ 64
   pub birth : stamps.birth < 2 ^ 64
@@ -106,6 +112,7 @@ pub record StampsFit (stamps : Stamps) : Type 0 where
 abbrev pub IsId : ℕ → Type 0
 IsId id = id ≤ 4294967294
 
+-- an object whose parts fit each other and their types
 pub record IsObject (o : Object) : Type 0 where
   pub payload : PayloadFits o.node.kind o.payload
   pub bytes : list_all (λ b. nat_lt b 256) o.payload ≡ true

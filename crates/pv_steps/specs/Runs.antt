@@ -8,6 +8,7 @@ use Rattle.pv_steps.specs.Trees.{Files, places}
 use Rattle.pv_steps.specs.Steps.{Can, StepFits, after}
 use Rattle.pv_steps.specs.Same.{Differ}
 
+-- the tree after steps done one after the other, all at one moment
 abbrev pub after_all : Files → List Step → ℕ → Files
 after_all t [] now = t
 after_all t (step ∷ steps) now = after_all (after t step now) steps now

@@ -1,4 +1,5 @@
--- The thirteen atomic steps: when each may be done, and what it leaves, stamps included.
+-- The thirteen atomic steps: when each may be done, and what it leaves (mkdir(2), mknod(2), symlink(2), rename(2),
+-- unlink(2), rmdir(2), chmod(2), chown(2), utimensat(2); acl(5) for ACLs), stamps included (inode(7)).
 use Rattle.std.specs.Prelude.{◌≡◌, ◌≢◌, ◌⊎◌, ℕ, ◌^◌, ◌<◌, ◌≤◌, Bool, true, false, List, [], ◌∷◌, ◌++◌, map, Option, Some, None, nat_lt, option_map, if◌then◌else◌}
 use Rattle.std.specs.List.{list_all}
 use Rattle.std.specs.Option.{option_map_or}
@@ -42,6 +43,7 @@ pub record Movable (t : Places) (from to : Path) : Type 0 where
   pub parent : IsKindIn Directory t (parent_of to)
   pub yields : Yields t from to
 
+-- the condition of each step
 abbrev pub Can : Places → Step → Type 0
 Can t (MakeDir path) = HasRoom t path
 Can t (MakeFile path) = HasRoom t path
@@ -87,9 +89,11 @@ on_at path f t = λ q. if same_path path q then option_map f (t q) else t q
 abbrev pub touched : ℕ → Path → Places → Places
 touched now path t = on_at (parent_of path) (modified now) t
 
+-- a new object stands at a path, and its directory has gained a child
 abbrev pub made : ℕ → Path → Object → Places → Places
 made now path o t = touched now path (put_at path (Some o) t)
 
+-- nothing stands at a path any more, and its directory has lost a child
 abbrev pub gone : ℕ → Path → Places → Places
 gone now path t = touched now path (put_at path None t)
 
@@ -108,9 +112,11 @@ moved_at now from to t q None = if is_prefix from q then None else touched now f
 abbrev pub moved : ℕ → Path → Path → Places → Places
 moved now from to t = λ q. moved_at now from to t q (rest_under to q)
 
+-- the kind of a block device, or else of a character device
 abbrev pub device_kind : Bool → Kind
 device_kind block = if block then BlockDevice else CharDevice
 
+-- what stands at each path after a step at a moment
 abbrev pub after_at : Places → Step → ℕ → Places
 after_at t (MakeDir path) now = made now path (fresh Directory 0o700 [] 0 0 now) t
 after_at t (MakeFile path) now = made now path (fresh File 0o600 [] 0 0 now) t

@@ -1,4 +1,4 @@
--- Trees: finite maps from paths to objects.
+-- Trees: finite maps from paths to objects, in which each path lies in a directory (inode(7), path_resolution(7)).
 use Rattle.std.specs.Prelude.{◌≡◌, ◌≢◌, ℕ, true, List, [], ◌∷◌, ◌++◌, Option, Some, None, is_some, option_map, option_and_then}
 use Rattle.std.specs.List.{filter_map}
 use Rattle.std.specs.FinMap as fin
@@ -9,39 +9,49 @@ use Rattle.pv_steps.specs.declared.node.Node.{Node}
 use Rattle.pv_steps.specs.declared.object.Object.{Object}
 use Rattle.pv_steps.specs.Objects.{IsObject}
 
--- a tree as a finite map, and as the function from paths to objects that it answers
+-- a tree as a finite map
 abbrev pub Files : Type 0
 Files = fin.FinMap path_cmp Object
 
+-- a tree as the function that gives what stands at each path
 abbrev pub Places : Type 0
 Places = Path → Option Object
 
+-- what stands at each path of a tree
 abbrev pub places : Files → Places
 places files = fin.get files
 
 -- ---- what stands at a path
 
+-- the node at a path
 abbrev pub node_at : Files → Path → Option Node
 node_at files path = option_map (λ o. o.node) (places files path)
 
+-- the payload of what stands at a path: the bytes of a file, the target of a link, else no bytes
 abbrev pub payload_at : Files → Path → Option (List ℕ)
 payload_at files path = option_map (λ o. o.payload) (places files path)
 
+-- the kind of what stands at a path, if something does
 abbrev pub kind_of : Option Object → Option Kind
 kind_of o = option_map (λ o. o.node.kind) o
 
+-- something stands at a path
 abbrev pub IsPresentIn : Places → Path → Type 0
 IsPresentIn t path = is_some (t path) ≡ true
 
+-- nothing stands at a path
 abbrev pub IsAbsentIn : Places → Path → Type 0
 IsAbsentIn t path = t path ≡ None
 
+-- an object of this kind stands at a path
 abbrev pub IsKindIn : Kind → Places → Path → Type 0
 IsKindIn kind t path = kind_of (t path) ≡ Some kind
 
+-- in a tree an object of this kind stands at a path
 abbrev pub IsKind : Kind → Files → Path → Type 0
 IsKind kind files path = IsKindIn kind (places files) path
 
+-- in a tree something stands at a path
 abbrev pub IsPresent : Files → Path → Type 0
 IsPresent files path = IsPresentIn (places files) path
 
@@ -72,6 +82,7 @@ pub record IsTreeIn (t : Places) : Type 0 where
   pub names : (path : Path) → IsPresentIn t path → has_names path ≡ true
   pub objects : (path : Path) (o : Object) → t path ≡ Some o → IsObject o
 
+-- a map that is a tree
 abbrev pub IsTree : Files → Type 0
 IsTree files = IsTreeIn (places files)
 

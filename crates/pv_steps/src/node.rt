@@ -4,19 +4,25 @@ ghost use Rattle.pv_steps.specs.Objects.{is_directory};
 use pv_acl::Acl;
 use std::alloc::AllocError;
 
-/// What an object of a tree is.
+/// What an object of a tree is (inode(7)).
 #[derive(Clone, Copy, Debug, PartialEq, Eq, Hash)]
 pub enum Kind {
+    /// A directory.
     Directory,
+    /// A regular file.
     File,
+    /// A symbolic link.
     Link,
+    /// A named pipe.
     Fifo,
+    /// A character device.
     CharDevice,
+    /// A block device.
     BlockDevice,
 }
 
 impl Kind {
-    /// Whether it is a directory.
+    /// Whether it is a directory. It takes no memory.
     pub fn is_directory(self) -> bool
         ensures { result ≡ is_directory self }
     {
@@ -24,7 +30,7 @@ impl Kind {
     }
 }
 
-/// The four stamps of an object, in microseconds since 1970.
+/// The four stamps of an object, in microseconds since 1970 (inode(7)).
 #[derive(Clone, Copy, Debug, PartialEq, Eq, Hash)]
 pub struct Stamps {
     pub access: u64,

@@ -7,54 +7,70 @@ use std::alloc::AllocError;
 /// One atomic change of a tree. The definitions `Can` and `after` say when it may be done and what it leaves.
 #[derive(Debug, Drop)]
 pub enum Step {
+    /// An empty directory with mode 0700 that root owns comes to stand at an absent path (mkdir(2)).
     MakeDir {
         path: TreePath,
     },
+    /// An empty file with mode 0600 that root owns comes to stand at an absent path (mknod(2)).
     MakeFile {
         path: TreePath,
     },
+    /// A named pipe with mode 0600 that root owns comes to stand at an absent path (mknod(2)).
     MakeFifo {
         path: TreePath,
     },
+    /// A block device, or else a character device, with mode 0600 that root owns comes to stand at an absent
+    /// path (mknod(2)).
     MakeDevice {
         path: TreePath,
         block: bool,
         major: u32,
         minor: u32,
     },
+    /// A symbolic link that root owns comes to stand at an absent path (symlink(2)).
     MakeLink {
         path: TreePath,
         target: Bytes,
     },
+    /// A file gets a new content.
     Write {
         path: TreePath,
         content: Bytes,
     },
+    /// The special bits and the base entries of what is no link change; named entries, mask and default part
+    /// stay (chmod(2), but for the mask).
     SetMode {
         path: TreePath,
         mode: u16,
     },
+    /// The owner and the owning group change (chown(2)).
     SetOwner {
         path: TreePath,
         uid: u32,
         gid: u32,
     },
+    /// The whole ACL of what is no link changes; a default part is for a directory alone (acl(5)).
     SetAcl {
         path: TreePath,
         acl: Acl,
     },
+    /// The stamps of access and modification change (utimensat(2)).
     SetStamps {
         path: TreePath,
         access: u64,
         modify: u64,
     },
+    /// What stands at and below a path comes to lie at and below another, in place of what stood there
+    /// (rename(2)).
     Rename {
         from: TreePath,
         to: TreePath,
     },
+    /// What is no directory goes (unlink(2)).
     Unlink {
         path: TreePath,
     },
+    /// An empty directory goes (rmdir(2)).
     RemoveDir {
         path: TreePath,
     },
