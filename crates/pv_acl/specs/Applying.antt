@@ -41,7 +41,10 @@ default_after how access None (e ∷ es) = Some (part_after how (base_of access)
 abbrev pub acl_after : Acl → AclLine → How → Bool → Acl
 acl_after acl line how directory =
     let access = part_after how acl.access line.access in
-    record { access = access; default_part = if directory then default_after how access acl.default_part line.default_part else acl.default_part }
+    record {
+      access = access;
+      default_part = if directory then default_after how access acl.default_part line.default_part else acl.default_part;
+    }
 
 -- an entry that a line may hold
 abbrev pub is_entry : Entry → Bool

@@ -24,6 +24,7 @@ is_word word long short = bytes_eq word long || bytes_eq word short
 abbrev pub times : ℕ → List ℕ → ℕ
 times b text = count_by (λ c. c == b) text
 
+-- a character of a permission: `r`, `w`, `x` or `-`
 abbrev pub is_perm_byte : ℕ → Bool
 is_perm_byte b = b == 114 || b == 119 || b == 120 || b == 45
 
@@ -33,7 +34,8 @@ has_letters_once text = nat_le (times 114 text) 1 && nat_le (times 119 text) 1 &
 
 -- one to three characters of `r`, `w`, `x` and `-`, each letter at most once, in any order
 abbrev pub is_perm_text : List ℕ → Bool
-is_perm_text text = nat_le 1 (length text) && nat_le (length text) 3 && list_all is_perm_byte text && has_letters_once text
+is_perm_text text =
+    nat_le 1 (length text) && nat_le (length text) 3 && list_all is_perm_byte text && has_letters_once text
 
 -- the permission that a text spells
 abbrev pub perm_of : List ℕ → Option ℕ
@@ -120,7 +122,8 @@ line_of (e ∷ es) = joined e (line_of es)
 
 -- the line that a text spells, whose entries stand between commas, or its first fault
 abbrev pub acl_line_of : (List ℕ → Option ℕ) → (List ℕ → Option ℕ) → List ℕ → Result AclLine AclFault
-acl_line_of uid_named gid_named text = line_of (map (text_entry_of uid_named gid_named) (slice_split (λ b. b == 44) text))
+acl_line_of uid_named gid_named text =
+    line_of (map (text_entry_of uid_named gid_named) (slice_split (λ b. b == 44) text))
 
 -- what a call answered is what the definition gives, unless memory ran out
 abbrev pub Gives : {A : Type 0} → Result A AclFault → Result A AclFault → Type 0

@@ -33,6 +33,7 @@ is_ordered (x ∷ xs) = list_all (is_before x) xs && is_ordered xs
 abbrev pub put_named : Named → List Named → List Named
 put_named y xs = filter (λ x. is_before x y) xs ++ y ∷ filter (is_before y) xs
 
+-- whether there are no named entries
 abbrev pub is_empty : List Named → Bool
 is_empty [] = true
 is_empty (x ∷ xs) = false
@@ -49,6 +50,7 @@ is_perm perm = nat_le perm 7
 abbrev pub is_id : ℕ → Bool
 is_id id = nat_le id 4294967294
 
+-- the ID of the user or the group
 abbrev pub id_of : Who → ℕ
 id_of (User id) = id
 id_of (Group id) = id

@@ -15,7 +15,8 @@ part_mask part = unwrap_or part.mask (union_with part.group part.named)
 -- in order
 abbrev pub is_part : Part → Bool
 is_part part =
-    is_perm part.owner && is_perm part.group && is_perm part.other && list_all is_named part.named && is_ordered part.named
+    is_perm part.owner && is_perm part.group && is_perm part.other
+    && list_all is_named part.named && is_ordered part.named
     && option_map_or is_perm part.mask true
 
 -- an ACL of such parts

@@ -1,4 +1,4 @@
--- The one text of an ACL, as images of a tree have it.
+-- The one text of an ACL, as images of a tree have it: the short text form of acl(5), with one spelling.
 use Rattle.std.specs.Prelude.{ℕ, ◌==◌, Bool, true, false, List, [], ◌∷◌, ◌++◌, map, filter, Option, Some, None, bit_and, codes, if◌then◌else◌}
 use Rattle.std.specs.List.{join_with_byte}
 use Rattle.std.specs.Fmt.{decimal}
@@ -34,6 +34,7 @@ mask_texts (Some perm) = (codes "m::" ++ perm_text perm) ∷ []
 abbrev pub access_texts : Part → List (List ℕ)
 access_texts part = map named_text part.named ++ mask_texts part.mask
 
+-- whether an entry speaks of a user
 abbrev pub is_user : Named → Bool
 is_user x = is_user_id x.who
   where
@@ -41,6 +42,7 @@ is_user x = is_user_id x.who
     is_user_id (User id) = true
     is_user_id (Group id) = false
 
+-- whether an entry speaks of a group
 abbrev pub is_group : Named → Bool
 is_group x = is_group_id x.who
   where

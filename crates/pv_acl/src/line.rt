@@ -1,4 +1,4 @@
-ghost use Rattle.std.specs.Prelude.{◌↔◌, IsTrue, ◌≡◌, ℕ, List, [], ◌∷◌, ◌++◌, length, OnOk, OnErr, IfOk, slice_get};
+ghost use Rattle.std.specs.Prelude.{◌↔◌, IsTrue, ◌≡◌, ℕ, List, [], ◌∷◌, ◌++◌, length, OnOk, OnErr, slice_get};
 ghost use Rattle.std.specs.Option.{option_copied};
 
 use crate::perm::{Named, Perm};
@@ -8,10 +8,15 @@ use std::marker::Model;
 /// What one entry of a line sets: a base entry, a named entry or the mask.
 #[derive(Clone, Copy, Debug, PartialEq, Eq)]
 pub enum Entry {
+    /// The permissions of the owner.
     Owner(Perm),
+    /// The permissions of the owning group.
     Group(Perm),
+    /// The permissions of all others.
     Other(Perm),
+    /// The permissions of a named user or group.
     Named(Named),
+    /// The mask: the most that the owning group and the named entries get.
     Mask(Perm),
 }
 
@@ -56,6 +61,7 @@ impl EntryList {
         self.items.len()
     }
 
+    /// Whether there is no entry.
     pub fn is_empty(&self) -> bool
         ensures { IsTrue result ↔ (self.now ≡ []) }
     {
@@ -75,15 +81,6 @@ impl EntryList {
     {
         self.items.as_slice()
     }
-
-    /// The same list once more.
-    pub fn copy(&self) -> Result<EntryList, AllocError>
-        ensures { IfOk result (λ copy. copy ≡ self.now) }
-    {
-        Ok(EntryList {
-            items: self.items.clone()?,
-        })
-    }
 }
 
 /// The entries of a line of configuration: those for the access part and those for the default part.
@@ -93,21 +90,11 @@ pub struct AclLine {
     pub default_part: EntryList,
 }
 
-impl AclLine {
-    /// The same entries once more.
-    pub fn copy(&self) -> Result<AclLine, AllocError>
-        ensures { IfOk result (λ copy. copy ≡ self.now) }
-    {
-        Ok(AclLine {
-            access: self.access.copy()?,
-            default_part: self.default_part.copy()?,
-        })
-    }
-}
-
 /// How the named entries and the mask of a line meet those of a part: in their place, or over them.
 #[derive(Clone, Copy, Debug, PartialEq, Eq)]
 pub enum How {
+    /// In their place: none of the old named entries and no old mask stays.
     Replace,
+    /// Over them: the old ones stay where the line has none for the same place.
     Add,
 }

@@ -69,6 +69,7 @@ impl NamedList {
         self.items.len()
     }
 
+    /// Whether there is no entry.
     pub fn is_empty(&self) -> bool
         ensures { result ≡ is_empty self.now }
     {

@@ -1,3 +1,5 @@
+ghost use Rattle.std.specs.Prelude.{◌≡◌, ◌≤◌};
+
 use super::*;
 use std::alloc::Global;
 use std::test::Fail;
@@ -26,17 +28,10 @@ impl Names for Groups {
     }
 }
 
-/// The text of an ACL of this mode after the entries of a line.
-fn changed(
-    alloc: Global,
-    old: &Acl,
-    line: &[u8],
-    how: How,
-    directory: bool,
-) -> Result<Vec<u8>, Fail> {
+/// An ACL after the entries of a line.
+fn changed(alloc: Global, old: &Acl, line: &[u8], how: How, directory: bool) -> Result<Acl, Fail> {
     let line = parse_acl(alloc, line, &Groups)?;
-    let acl = apply_entries(alloc, old, &line, how, directory)?;
-    Ok(print_acl(alloc, &acl)?)
+    Ok(apply_entries(alloc, old, &line, how, directory)?)
 }
 
 /// Access `rwxr-x---` with user 1000 `rw-` and the mask `r--`.
@@ -88,36 +83,77 @@ fn texts_have_their_first_fault(rt: HostRuntime) {
 }
 
 #[test]
-fn lines_change_acls(rt: HostRuntime) -> Result<(), Fail> {
+fn lines_change_access_parts(rt: HostRuntime) -> Result<(), Fail> {
     let alloc = rt.alloc();
     let old = sample(alloc)?;
-    for (line, how, directory, text) in [
+    for (line, how, base, text) in [
         (
             b"u:5:r".as_slice(),
             How::Replace,
-            false,
+            0o750,
             b"u:5:r--".as_slice(),
         ),
-        (b"u:5:r", How::Add, false, b"u:5:r--,u:1000:rw-,m::r--"),
+        (b"u:5:r", How::Add, 0o750, b"u:5:r--,u:1000:rw-,m::r--"),
+        (b"u:1000:x,u:1000:w", How::Add, 0o750, b"u:1000:-w-,m::r--"),
+        (b"g:9:r,u:7:-", How::Replace, 0o750, b"u:7:---,g:9:r--"),
+        (b"u::r,g::w,o::x", How::Add, 0o421, b"u:1000:rw-,m::r--"),
+        (b"o::r", How::Replace, 0o754, b"-"),
+        (b"d:u:5:r", How::Add, 0o750, b"u:1000:rw-,m::r--"),
+    ] {
+        let after = changed(alloc, &old, line, how, false)?;
+        assert!(rt; after.access.mode(0) == base, "{line:?}");
+        assert!(rt; print_acl(alloc, &after)?.as_slice() == text, "{line:?}");
+    }
+    Ok(())
+}
+
+#[test]
+fn lines_change_default_parts(rt: HostRuntime) -> Result<(), Fail> {
+    let alloc = rt.alloc();
+    let old = sample(alloc)?;
+    for (line, text) in [
         (
-            b"d:u:5:r",
-            How::Add,
-            true,
-            b"u:1000:rw-,m::r--,d:u::rwx,d:u:5:r--,d:g::r-x,d:o::---",
+            b"d:u:5:r".as_slice(),
+            b"u:1000:rw-,m::r--,d:u::rwx,d:u:5:r--,d:g::r-x,d:o::---".as_slice(),
         ),
-        (b"d:u:5:r", How::Add, false, b"u:1000:rw-,m::r--"),
-        (b"u:1000:x,u:1000:w", How::Add, false, b"u:1000:-w-,m::r--"),
-        (b"g:9:r,u:7:-", How::Replace, false, b"u:7:---,g:9:r--"),
         (
             b"d:group::r-x,d:group:adm:r-x",
-            How::Add,
-            true,
             b"u:1000:rw-,m::r--,d:u::rwx,d:g::r-x,d:g:4:r-x,d:o::---",
         ),
     ] {
-        let after = changed(alloc, &old, line, how, directory)?;
-        assert!(rt; after.as_slice() == text, "{line:?}");
+        let after = changed(alloc, &old, line, How::Add, true)?;
+        assert!(rt; after.access.mode(0) == 0o750, "{line:?}");
+        assert!(rt; print_acl(alloc, &after)?.as_slice() == text, "{line:?}");
     }
+    Ok(())
+}
+
+/// A named entry with these permissions.
+fn named(who: Who, bits: u8) -> Named
+    requires { bits ≤ 7 }
+    ensures { result ≡ record { who = who; perm = bits } }
+{
+    Named {
+        who,
+        perm: Perm { bits },
+    }
+}
+
+#[test]
+fn named_entries_stand_in_order(rt: HostRuntime) -> Result<(), Fail> {
+    let mut list = NamedList::new(rt.alloc());
+    list.push(named(Who::User(1), 4))?;
+    list.push(named(Who::Group(1), 2))?;
+    let pushed = [named(Who::User(1), 4), named(Who::Group(1), 2)];
+    assert!(rt; list.as_slice() == pushed.as_slice());
+    list.put(named(Who::User(0), 1))?;
+    list.put(named(Who::User(1), 7))?;
+    let put = [
+        named(Who::User(0), 1),
+        named(Who::User(1), 7),
+        named(Who::Group(1), 2),
+    ];
+    assert!(rt; list.as_slice() == put.as_slice());
     Ok(())
 }
 
