@@ -235,7 +235,7 @@ fn runs_stop_after_their_limit(rt: HostRuntime) -> Result<(), Fail> {
 
 #[test]
 fn words_choose_the_moment_and_the_files(rt: HostRuntime) -> Result<(), Fail> {
-    let rows: [(&[&str], &str, &str, &str, u8); 9] = [
+    let rows: [(&[&str], &str, &str, &str, u8); 10] = [
         (&["--now=1970-01-12T13:46:40Z"], APP, "", APP_MADE, 0),
         (&["--now", "1970-01-12T13:46:40Z"], APP, "", APP_MADE, 0),
         (
@@ -254,6 +254,7 @@ fn words_choose_the_moment_and_the_files(rt: HostRuntime) -> Result<(), Fail> {
         ),
         (&["m.conf"], FOLDERS, "", FOLDERS, 0),
         (&["n.conf"], FOLDERS, ": n.conf: not found\n", FOLDERS, 73),
+        (&[""], FOLDERS, ": : not found\n", FOLDERS, 73),
         (
             &["--now=1970-01-12T13:46:40Z", "r.conf", "m.conf", "r.conf"],
             FOLDERS,
@@ -329,7 +330,7 @@ fn failing_ends_are_told(rt: HostRuntime) -> Result<(), Fail> {
 
 #[test]
 fn other_words_have_no_meaning(rt: HostRuntime) -> Result<(), Fail> {
-    let rows: [&[&str]; 14] = [
+    let rows: [&[&str]; 15] = [
         &[],
         &["systemd-tmpfiles"],
         &["systemd-foo"],
@@ -344,6 +345,7 @@ fn other_words_have_no_meaning(rt: HostRuntime) -> Result<(), Fail> {
         &["systemd-tmpfiles", "--create", "--clean"],
         &["systemd-tmpfiles", "--report"],
         &["systemd-tmpfiles", "--create", "--prefix=/run"],
+        &["systemd-tmpfiles", "--create", "--exclude-prefix=/run"],
         &["systemd-sysusers"],
     ];
     for row in rows {
