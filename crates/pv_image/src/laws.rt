@@ -35,7 +35,7 @@ pub fn text_is_an_image()
         IsImage (text_of facts files) facts files }
 {}
 
-/// The text of facts and a tree is an image of nothing else: who reads it finds them again.
+/// The text of facts and a tree is an image of them alone, so that reading it gives them again.
 pub fn text_is_read_again()
     ensures { (facts : Values) (files : Files) → HaveText facts files → (g : Values) (t : Files) →
         IsImage (text_of facts files) g t → (g ≡ facts) × (t ≡ files) }
