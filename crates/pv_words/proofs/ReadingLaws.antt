@@ -2,7 +2,7 @@
 use Rattle.std.proofs.Common.{◌≡◌, ◌∙◌, ◌&&◌, ◌⊎◌, ℕ, Bool, cond, true, false, not, refl, sym, ap, subst, List, [], ◌∷◌, Option, Some, None, Err, is_some, inl, inr, nat_le, true≢false}
 use Rattle.std.specs.Prelude.{option_and_then, slice_get, if◌then◌else◌, fold}
 use Rattle.std.specs.List.{find, list_all, list_any}
-use Rattle.std.specs.Option.{option_map, unwrap_or}
+use Rattle.std.specs.Option.{option_map}
 use Rattle.std.specs.Str.{bytes_eq}
 use Rattle.clap.specs.Facts.{Entry}
 use Rattle.clap.specs.Faults.{check_fault, fault_of, is_simple_and_free, settle_fault, walk_fault}
@@ -15,10 +15,9 @@ use Rattle.clap.specs.declared.error.kind.ErrorKind.TheVariants.{OutOfMemory}
 use Rattle.clap.specs.declared.parser.matches.ArgMatches.{ArgMatches}
 use Rattle.clap.specs.declared.parser.matches.Found.{Found}
 use Rattle.clap.proofs.FaultLemmas.{leaf_fault}
-use Rattle.clap.proofs.WalkLemmas.{both, find_row, first_value-rows, raw_values-rows}
+use Rattle.clap.proofs.WalkLemmas.{find_row, first_value-rows, raw_values-rows}
 use Rattle.pv_text.specs.declared.tool.Tool.{Tool}
 use Rattle.pv_words.specs.Command.{words_app}
-use Rattle.pv_path.specs.Names.{same_bytes}
 use Rattle.pv_words.specs.Meaning.{is_allowed, is_given, meaning_for, options_from, options_with, times_given, value_of}
 use Rattle.pv_words.specs.Parts.{is_dash}
 use Rattle.pv_words.specs.Pieces.{Given, Parts}
@@ -35,7 +34,7 @@ use Rattle.pv_words.proofs.FilesLaws.{all_or_none, files-or}
 use Rattle.pv_words.proofs.HoldingLaws.{Holds, Repeats, files_row, is_some-map, option_row}
 use Rattle.pv_words.proofs.ParsingLaws.{free_parts, parts-free, short-none, undashed}
 use Rattle.pv_words.proofs.RowLaws.{any-find, defaults-no_use, defaults-other, seen, source_of}
-use Rattle.pv_words.proofs.RuleLaws.{app-simple, defaults-pass, files-free, files_id, name_of, named-own, stands_for, subs-none, top, top-table, valued, valued-free}
+use Rattle.pv_words.proofs.RuleLaws.{app-simple, defaults-pass, each, files-free, files_id, name_of, stands_for, subs-none, top, top-table, valued, valued-free}
 use Rattle.pv_words.proofs.ToldLaws.{NoMeaning, Told, fails, passes, told}
 use Rattle.pv_words.proofs.TurnLaws.{at, rows_from, walk_from_fault}
 
@@ -125,24 +124,12 @@ options-given tool parts once =
 
 -- ---- an option that stands twice
 
--- what all pass, one that is found among them passes
-found-passes : {X : Type 0} (f p : X → Bool) (xs : List X) (x : X) → find p xs ≡ Some x → list_all f xs ≡ true → f x ≡ true
-found-passes f p [] x found all = absurd (true≢false (ap is_some (sym found)))
-found-passes f p (y ∷ ys) x found all = go (p y) found (both (f y) (list_all f ys) all) (found-passes f p ys x)
-  where
-    go : (b : Bool) → cond b (Some y) (find p ys) ≡ Some x → (f y ≡ true) × (list_all f ys ≡ true)
-        → (find p ys ≡ Some x → list_all f ys ≡ true → f x ≡ true) → f x ≡ true
-    go true is pair more = ap f (sym (ap (λ (o : Option _). unwrap_or o y) is)) ∙ pair.0
-    go false is pair more = more is pair.1
-
 one_fails : (f : OptionName → Bool) (o : OptionName) → f o ≡ false → list_all f all_options ≡ false
 one_fails f o e = go (list_all f all_options) refl
   where
     go : (b : Bool) → list_all f all_options ≡ b → b ≡ false
     go false all = refl
-    go true all =
-        let passed = found-passes f (λ (p : OptionName). same_bytes (name_of p) (name_of o)) all_options o (named-own o) all in
-        absurd (true≢false (sym passed ∙ e))
+    go true all = absurd (true≢false (sym (each f all o) ∙ e))
 
 refused-twice : (tool : Tool) (parts : Parts) → Repeats parts.given → options_from tool parts ≡ None
 refused-twice tool parts repeats =

@@ -1,7 +1,7 @@
 -- The rules of the command as `clap` builds it.
-use Rattle.std.proofs.Common.{◌≡◌, ◌||◌, ℕ, Bool, cond, true, false, refl, sym, List, [], ◌∷◌, ◌++◌, Option, Some, codes, map, true≢false}
-use Rattle.std.specs.List.{list_all}
-use Rattle.std.specs.Option.{option_map}
+use Rattle.std.proofs.Common.{◌≡◌, ◌∙◌, ◌||◌, ℕ, Bool, cond, true, false, not, refl, sym, ap, List, [], ◌∷◌, ◌++◌, Option, Some, codes, is_some, map, true≢false}
+use Rattle.std.specs.List.{find, list_all}
+use Rattle.std.specs.Option.{option_map, unwrap_or}
 use Rattle.std.specs.Str.{bytes_eq}
 use Rattle.clap.specs.Walk.{Row, Rule, arg_by_id, arg_by_index, arg_by_long, has_row, takes_values, used, with_default, with_values, without}
 use Rattle.clap.specs.Simple.{Shape, built, filled, with_index}
@@ -10,6 +10,8 @@ use Rattle.clap.specs.Faults.{check_fault, default_fault, defaults_fault, is_sim
 use Rattle.clap.specs.declared.builder.value_parser.Reading.TheVariants.{AsWritten}
 use Rattle.clap.specs.declared.error.kind.ErrorKind.TheVariants.{ArgumentConflict, InvalidValue}
 use Rattle.clap.specs.declared.parser.matches.ValueSource.TheVariants.{CommandLine}
+use Rattle.clap.proofs.WalkLemmas.{both}
+use Rattle.pv_path.specs.Names.{same_bytes}
 use Rattle.pv_words.specs.Command.{action_for, files_rule, rule_named, words_app}
 use Rattle.pv_words.specs.Table.{all_options, option_named, row_of, takes_value}
 use Rattle.pv_words.specs.declared.option.OptionName.{OptionName}
@@ -96,50 +98,38 @@ named-own ExcludePrefix = refl
 named-own StopAfter = refl
 named-own Now = refl
 
+-- what all pass, one that is found among them passes
+found-passes : {X : Type 0} (f p : X → Bool) (xs : List X) (x : X) → find p xs ≡ Some x → list_all f xs ≡ true → f x ≡ true
+found-passes f p [] x found all = absurd (true≢false (ap is_some (sym found)))
+found-passes f p (y ∷ ys) x found all = go (p y) found (both (f y) (list_all f ys) all) (found-passes f p ys x)
+  where
+    go : (b : Bool) → cond b (Some y) (find p ys) ≡ Some x → (f y ≡ true) × (list_all f ys ≡ true)
+        → (find p ys ≡ Some x → list_all f ys ≡ true → f x ≡ true) → f x ≡ true
+    go true is pair more = ap f (sym (ap (λ (o : Option _). unwrap_or o y) is)) ∙ pair.0
+    go false is pair more = more is pair.1
+
+-- what the whole table passes, each option passes
+pub each : (f : OptionName → Bool) → list_all f all_options ≡ true → (option : OptionName) → f option ≡ true
+each f all option = found-passes f (λ (o : OptionName). same_bytes (name_of o) (name_of option)) all_options option (named-own option) all
+
+is_no : (b : Bool) → not b ≡ true → b ≡ false
+is_no false e = refl
+is_no true e = sym e
+
 pub id-own : (option : OptionName) → bytes_eq (name_of option) (name_of option) ≡ true
-id-own Create = refl
-id-own Remove = refl
-id-own Clean = refl
-id-own Report = refl
-id-own Boot = refl
-id-own Prefix = refl
-id-own ExcludePrefix = refl
-id-own StopAfter = refl
-id-own Now = refl
+id-own = each (λ (o : OptionName). bytes_eq (name_of o) (name_of o)) refl
 
 pub id-files : (option : OptionName) → bytes_eq (name_of option) files_id ≡ false
-id-files Create = refl
-id-files Remove = refl
-id-files Clean = refl
-id-files Report = refl
-id-files Boot = refl
-id-files Prefix = refl
-id-files ExcludePrefix = refl
-id-files StopAfter = refl
-id-files Now = refl
+id-files option = is_no (bytes_eq (name_of option) files_id) (each (λ (o : OptionName). not (bytes_eq (name_of o) files_id)) refl option)
 
 pub files-id : (option : OptionName) → bytes_eq files_id (name_of option) ≡ false
-files-id Create = refl
-files-id Remove = refl
-files-id Clean = refl
-files-id Report = refl
-files-id Boot = refl
-files-id Prefix = refl
-files-id ExcludePrefix = refl
-files-id StopAfter = refl
-files-id Now = refl
+files-id option = is_no (bytes_eq files_id (name_of option)) (each (λ (o : OptionName). not (bytes_eq files_id (name_of o))) refl option)
 
 -- no default stands for an option with a value, nor for file words
 pub valued-free : (option : OptionName) → valued option ≡ true → list_all (leaves (name_of option)) top.rules ≡ true
-valued-free Create e = absurd (true≢false (sym e))
-valued-free Remove e = absurd (true≢false (sym e))
-valued-free Clean e = absurd (true≢false (sym e))
-valued-free Report e = absurd (true≢false (sym e))
-valued-free Boot e = absurd (true≢false (sym e))
-valued-free Prefix e = refl
-valued-free ExcludePrefix e = refl
-valued-free StopAfter e = refl
-valued-free Now e = refl
+valued-free option takes =
+    sym (ap (λ (b : Bool). not b || list_all (leaves (name_of option)) top.rules) takes)
+    ∙ each (λ (o : OptionName). not (valued o) || list_all (leaves (name_of o)) top.rules) refl option
 
 pub files-free : list_all (leaves files_id) top.rules ≡ true
 files-free = refl
