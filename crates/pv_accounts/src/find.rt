@@ -11,8 +11,11 @@ use crate::entry::{decimal_id, group_entry, passwd_entry, shadow_entry};
 /// Which account file it is.
 #[derive(Clone, Copy)]
 pub enum Kind {
+    /// /etc/passwd, with an entry for each user.
     Passwd,
+    /// /etc/group, with an entry for each group.
     Group,
+    /// /etc/shadow, with the password of each user.
     Shadow,
 }
 
