@@ -95,7 +95,13 @@ fn changed(alloc: Global, change: &Change, old: Bare) -> Result<Bare, AllocError
         }
         Change::Mode { mode, masked } => set_mode(&mut bare.dress, kind, *mode, *masked),
         Change::Entries { line, how } => {
-            bare.dress.acl = apply_entries(alloc, &bare.dress.acl, line, *how, kind.is_directory())?;
+            bare.dress.acl = apply_entries(
+                alloc,
+                &bare.dress.acl,
+                line,
+                *how,
+                kind.is_directory(),
+            )?;
         }
     }
     Ok(bare)
