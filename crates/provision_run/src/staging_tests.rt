@@ -1,18 +1,21 @@
 //! The steps of removal, of staging and of publishing, over trees in memory.
 ghost use Rattle.std.specs.Prelude.{◌≡◌, ◌≢◌, ◌==◌, ◌↔◌, IsTrue, [], true, not, length, nat_le};
 ghost use Rattle.std.specs.List.{list_all};
+ghost use Rattle.pv_acl.specs.Parts.{is_acl};
 ghost use Rattle.pv_path.specs.Paths.{parent_of, staging_of};
 ghost use Rattle.pv_steps.specs.declared.node.Kind.TheVariants.{Directory};
 ghost use Rattle.pv_steps.specs.Objects.{IsTarget};
 ghost use Rattle.pv_steps.specs.Trees.{IsKind};
 ghost use Rattle.pv_walk.specs.Staging.{HasTarget, IsNewFile, can_stage};
 
+use pv_acl::{Acl, read_acl};
+use pv_dress::{Dress, dress};
 use pv_image::{read_image, write_image};
 use pv_path::{Bytes, Name, TreePath, parent, parse_path, print_path, staging};
-use pv_steps::{Kind, Tree};
+use pv_steps::{Kind, Tree, Why};
 use pv_text::Facts;
 use pv_tree::{Fused, MemTree};
-use pv_walk::{NewFile, NewKind, publish, remove_below, stage_file, sweep};
+use pv_walk::{NewFile, NewKind, Walked, publish, remove_below, stage_file, sweep, walk};
 use std::alloc::Global;
 use std::process::Abort;
 use std::test::Fail;
@@ -77,6 +80,16 @@ fn staging_of(rt: &impl Abort, alloc: Global, path: &TreePath) -> TreePath
     staging(alloc, path).expect(rt, "memory")
 }
 
+/// Stops unless a directory stands at a path.
+fn expect_directory<T: Tree>(rt: &impl Abort, tree: &T, path: &TreePath)
+    ensures { IsKind Directory (T.state tree.now) path.now }
+{
+    match tree.look(path) {
+        Some(node) => assert!(rt; node.kind == Kind::Directory),
+        None => panic!(rt; "absent"),
+    }
+}
+
 /// Stops unless a directory stands above a path.
 fn expect_parent<T: Tree>(rt: &impl Abort, alloc: Global, tree: &T, path: &TreePath)
     ensures { IsKind Directory (T.state tree.now) (parent_of path.now) }
@@ -84,10 +97,7 @@ fn expect_parent<T: Tree>(rt: &impl Abort, alloc: Global, tree: &T, path: &TreeP
     let Some(up) = parent(alloc, path).expect(rt, "memory") else {
         panic!(rt; "the root")
     };
-    match tree.look(&up) {
-        Some(node) => assert!(rt; node.kind == Kind::Directory),
-        None => panic!(rt; "absent"),
-    }
+    expect_directory(rt, tree, &up);
 }
 
 /// Whether bytes can be the target of a link.
@@ -319,6 +329,88 @@ fn objects_of_all_kinds_are_staged(rt: HostRuntime) -> Result<(), Fail> {
             image.as_slice(),
             image_of(alloc, TOUCHED, line)?.as_slice()
         );
+    }
+    Ok(())
+}
+
+/// Directories of another owner, a file and a link.
+const OWNED: &[u8] = b"tree-image 1
+d / 0755 0 0 0,0,0,0 - -
+f /f 0644 0 0 0,0,0,0 - -
+l /s 0777 0 0 0,0,0,0 - /u
+d /u 0755 1000 0 0,0,0,0 - -
+d /u/a 0755 1000 0 0,0,0,0 - -
+end
+";
+
+#[test]
+fn walks_have_their_answers(rt: HostRuntime) -> Result<(), Fail> {
+    let alloc = rt.alloc();
+    let tree = tree_of(&rt, alloc, OWNED);
+    for (text, made, wanted) in [
+        (b"/".as_slice(), 0, Walked::Present),
+        (b"/u/a", 0, Walked::Present),
+        (b"/n/m", 5, Walked::Absent(1)),
+        (b"/u/x", 1000, Walked::Absent(2)),
+        (b"/u/x", 0, Walked::Refused(2, Why::UnsafeOwner)),
+        (b"/u/x/y", 1000, Walked::Refused(2, Why::UnsafeOwner)),
+        (b"/f/x", 0, Walked::Refused(1, Why::NotDirectory)),
+        (b"/s/x", 0, Walked::Refused(1, Why::Link)),
+    ] {
+        let path = path_of(&rt, alloc, text);
+        assert!(rt; path.len() < 4096);
+        let walked = walk(alloc, &tree, &path, made)?;
+        assert!(rt; walked == wanted, "{text:?}");
+    }
+    Ok(())
+}
+
+/// The ACL that a field spells beside a mode.
+fn acl_of(rt: &impl Abort, alloc: Global, field: &[u8], mode: u16) -> Acl
+    ensures { is_acl result ≡ true }
+{
+    match read_acl(alloc, field, mode, true).expect(rt, "memory") {
+        Some(acl) => acl,
+        None => panic!(rt; "no ACL"),
+    }
+}
+
+/// Dresses the directory at a path in owners, a mode and an ACL.
+fn dress_at(
+    rt: &impl Abort,
+    alloc: Global,
+    tree: &mut MemTree,
+    uid: u32,
+    field: &[u8],
+    mode: u16,
+) -> bool {
+    let path = path_of(rt, alloc, b"/a");
+    expect_directory(rt, tree, &path);
+    assert!(rt; uid < u32::MAX);
+    let new = Dress {
+        uid,
+        gid: 0,
+        special: 0,
+        acl: acl_of(rt, alloc, field, mode),
+    };
+    dress(alloc, tree, &path, &new, NOW).is_ok()
+}
+
+#[test]
+fn directories_are_dressed_by_what_they_lack(rt: HostRuntime) -> Result<(), Fail> {
+    let alloc = rt.alloc();
+    let plain = b"d /a 0755 0 0 0,0,0,0 - -\n";
+    for (uid, field, mode, steps, line) in [
+        (0, b"-".as_slice(), 0o755, 0, plain.as_slice()),
+        (0, b"u:5:r--", 0o755, 1, b"d /a 0755 0 0 0,0,9,0 u:5:r-- -\n"),
+        (7, b"-", 0o700, 2, b"d /a 0700 7 0 0,0,9,0 - -\n"),
+        (7, b"m::r--", 0o700, 3, b"d /a 0700 7 0 0,0,9,0 m::r-- -\n"),
+    ] {
+        let mut tree = tree_of(&rt, alloc, &image_of(alloc, ROOT, plain)?);
+        assert!(rt; dress_at(&rt, alloc, &mut tree, uid, field, mode));
+        assert_eq!(rt; tree.step_count(), steps);
+        let image = write_image(alloc, &tree, &Facts::new(alloc))?;
+        assert_eq!(rt; image.as_slice(), image_of(alloc, ROOT, line)?.as_slice());
     }
     Ok(())
 }

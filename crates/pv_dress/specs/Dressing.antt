@@ -74,10 +74,6 @@ abbrev pub IsChanged : (Object → Object) → ℕ → Object → Object → Typ
 IsChanged change now old o =
     ((change old ≡ old) × (o ≡ old)) ⊎ ((change old ≢ old) × (o ≡ changed now (change old)))
 
--- the object in its new dress
-abbrev pub IsDressed : Dress → ℕ → Object → Object → Type 0
-IsDressed new now old o = IsChanged (wear new) now old o
-
 -- the object at a path after a change, and nothing else of the tree has changed
 pub record ChangedAt (change : Object → Object) (path : Path) (now : ℕ) (t u : Files) : Type 0 where
   pub old : Object
