@@ -1,4 +1,4 @@
--- What the program writes for words and an input, and how it ends.
+-- What the program writes for words and an input, and how it ends (systemd-tmpfiles(8)).
 use Rattle.std.specs.Prelude.{◌≡◌, ℕ, ◌<◌, ◌≤◌, List, [], ◌∷◌, ◌++◌, length, take, codes, Option, Some, None, IfSome}
 use Rattle.std.specs.List.{flat_map, slice_get}
 use Rattle.std.specs.Option.{option_map_or}
@@ -40,6 +40,7 @@ status_of (Stopped steps) = 75
 abbrev pub message : List ℕ → List ℕ
 message text = codes ": " ++ text ++ 10 ∷ []
 
+-- the text of messages, one after the other
 abbrev pub messages_text : List (List ℕ) → List ℕ
 messages_text texts = flat_map message texts
 
@@ -47,6 +48,7 @@ messages_text texts = flat_map message texts
 abbrev pub message_at : List (List ℕ) → ℕ → List ℕ
 message_at texts i = option_map_or message (slice_get texts i) []
 
+-- what is said of a bad image, by the number of the line and the name of its fault
 abbrev pub at_line : ℕ → List ℕ → List ℕ
 at_line n name = codes "bad image at line " ++ decimal n ++ codes ": " ++ name
 
@@ -69,6 +71,7 @@ outcome_of end.ConfigInvalid = ConfigInvalid
 outcome_of end.NotCarriedOut = NotCarriedOut
 outcome_of (end.NoFreeId name) = NoFreeId name
 
+-- the outcome of a run over a tree that was not stopped
 abbrev pub outcome : Options → Values → ℕ → Files → Outcome
 outcome options facts moment t = outcome_of (run_end options facts moment t)
 
@@ -88,6 +91,7 @@ pub record IsWhole (options : Options) (facts : Values) (moment : ℕ) (t : File
 
 -- ---- stopped runs
 
+-- what is said of a run that was stopped after n steps
 abbrev pub stopped_text : ℕ → List ℕ
 stopped_text n = codes "stopped after " ++ decimal n ++ codes " steps"
 

@@ -1,5 +1,5 @@
 -- A whole run over a tree: the lines that it reads of the tree, the tree that it leaves, what it says, how it ends, and
--- the most steps that it takes.
+-- the most steps that it takes (systemd-tmpfiles(8)).
 use Rattle.std.specs.Prelude.{ℕ, Bool, true, List, ◌++◌, if◌then◌else◌}
 use Rattle.pv_text.specs.Facts.{Values}
 use Rattle.pv_steps.specs.Trees.{Files}
@@ -20,13 +20,15 @@ run_lines options facts t = (configured t facts options.words).lines
 abbrev pub final : Options → Values → ℕ → Files → Files
 final options facts moment t = created (run_lines options facts t) moment t
 
--- what is said in reading the configuration, and what is said of its lines
+-- what is said in reading the configuration
 abbrev pub read_messages : Options → Values → Files → List (List ℕ)
 read_messages options facts t = (configured t facts options.words).messages
 
+-- what is said of the lines of the configuration, each at its turn
 abbrev pub line_messages : Options → Values → ℕ → Files → List (List ℕ)
 line_messages options facts moment t = created_messages (run_lines options facts t) moment t
 
+-- all that is said, the configuration first
 abbrev pub run_messages : Options → Values → ℕ → Files → List (List ℕ)
 run_messages options facts moment t = read_messages options facts t ++ line_messages options facts moment t
 
@@ -39,10 +41,12 @@ is_uncarried carried.NotCarriedOut missing = true
 abbrev pub end_of : Bool → Bool → RunEnd
 end_of uncarried invalid = if uncarried then NotCarriedOut else if invalid then ConfigInvalid else Done
 
+-- how a run over a tree ends
 abbrev pub run_end : Options → Values → ℕ → Files → RunEnd
 run_end options facts moment t = end_of
     (is_uncarried (carried_of (some_refused (run_lines options facts t) moment t)) (configured t facts options.words).missing)
     (configured t facts options.words).invalid
 
+-- the most steps that a run over a tree takes
 abbrev pub run_work : Options → Values → ℕ → Files → ℕ
 run_work options facts moment t = work (run_lines options facts t) moment t

@@ -1,10 +1,11 @@
--- The words that the program has a meaning for, and the moment of a run.
+-- The words that the program has a meaning for, and the moment of a run (systemd-tmpfiles(8)).
 use Rattle.std.specs.Prelude.{ℕ, Bool, true, false, not, ◌&&◌, ◌||◌, List, Option, Some, None, is_none, option_and_then, unwrap_or, if◌then◌else◌}
 use Rattle.pv_text.specs.declared.tool.Tool.{Tool}
 use Rattle.pv_text.specs.declared.tool.Tool.TheVariants.{Tmpfiles, Sysusers}
 use Rattle.pv_words.specs.Meaning.{options_of}
 use Rattle.pv_words.specs.declared.options.Options.{Options}
 
+-- whether a tool is systemd-tmpfiles
 abbrev pub is_tmpfiles : Tool → Bool
 is_tmpfiles Tmpfiles = true
 is_tmpfiles Sysusers = false

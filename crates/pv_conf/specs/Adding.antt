@@ -1,4 +1,4 @@
--- What reading adds to a configuration and to the messages.
+-- What reading adds to a configuration and to the messages (this project's own).
 use Rattle.std.specs.Prelude.{◌≡◌, ℕ, ◌||◌, List, ◌++◌}
 use Rattle.pv_conf.specs.Configuration.{Reading}
 use Rattle.pv_conf.specs.declared.configuration.Configuration.{Configuration}

@@ -52,9 +52,11 @@ pub record Reading : Type 0 where
   pub invalid : Bool
   pub messages : List (List ℕ)
 
+-- no line is read, none is refused, and nothing is said
 abbrev pub nothing : Reading
 nothing = record { lines = []; invalid = false; messages = [] }
 
+-- two readings, one after the other
 abbrev pub followed : Reading → Reading → Reading
 followed a b = record { lines = a.lines ++ b.lines; invalid = a.invalid || b.invalid; messages = a.messages ++ b.messages }
 

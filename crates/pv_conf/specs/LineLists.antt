@@ -13,6 +13,7 @@ use Rattle.pv_text.specs.declared.place.Place.{Place}
 use Rattle.pv_text.specs.declared.tool.Tool.TheVariants.{Tmpfiles}
 use Rattle.pv_conf.specs.Configuration.{configured, content_at, is_skipped, lines_in, nothing, reading_by, reading_of, reading_of_file, reading_of_files, reading_of_lines}
 
+-- each of some lines has a path, a mode and IDs as a line that was read has them
 abbrev pub AreLines : List Line → Type 0
 AreLines lines = AllByRecursion IsLine lines
 

@@ -1,5 +1,5 @@
 -- Lines carried out one after the other: the tree that they leave, what is said, whether one was refused, and the
--- most steps that it takes.
+-- most steps that it takes (tmpfiles.d(5)).
 use Rattle.std.specs.Prelude.{◌≡◌, ℕ, ◌+◌, ◌*◌, Bool, false, ◌||◌, List, [], ◌∷◌, ◌++◌, length, filter, Option, Some, None, is_some, is_none, if◌then◌else◌}
 use Rattle.pv_steps.specs.declared.node.Kind.{Kind}
 use Rattle.pv_steps.specs.declared.node.Kind.TheVariants.{Directory}
@@ -13,14 +13,17 @@ use Rattle.pv_create.specs.declared.carried.Carried.TheVariants.{Whole, NotCarri
 use Rattle.pv_create.specs.Effects.{line_refusal, line_after, wears}
 use Rattle.pv_create.specs.Saying.{line_messages}
 
+-- the tree after lines, each at its turn
 abbrev pub created : List Line → ℕ → Files → Files
 created [] now t = t
 created (line ∷ lines) now t = created lines now (line_after line now t)
 
+-- what is said of lines, each at its turn
 abbrev pub created_messages : List Line → ℕ → Files → List (List ℕ)
 created_messages [] now t = []
 created_messages (line ∷ lines) now t = line_messages line now (places t) ++ created_messages lines now (line_after line now t)
 
+-- whether a line is refused over a tree
 abbrev pub is_refused : Line → Files → Bool
 is_refused line t = is_some (line_refusal line (places t))
 
@@ -39,27 +42,30 @@ carried_of refused = if refused then NotCarriedOut else Whole
 
 -- ---- the most steps
 
--- how many new directories stand along the path
+-- how many places of the path are absent, each of which becomes a new directory
 abbrev pub new_count : Line → Files → ℕ
 new_count line t = length (filter (λ place. is_none (places t place)) (prefixes line.path))
 
--- whether a directory at the path lacks something of the line
+-- one for a directory that lacks something of the line, none for any other object
 abbrev pub adjust_kind : Line → Object → Kind → ℕ
 adjust_kind line o Directory = if wears line o then 0 else 1
 adjust_kind line o kind = 0
 
+-- the same by what stands at the path: none where nothing does
 abbrev pub adjust_count : Line → Option Object → ℕ
 adjust_count line None = 0
 adjust_count line (Some o) = adjust_kind line o o.node.kind
 
--- one for each object that is swept, six for each new one, four for a directory that is adjusted
+-- none for a refused line; else one for each swept object, six for each new one, four for an adjusted directory
 abbrev pub unrefused_work : Line → Files → Option (ℕ × Why) → ℕ
 unrefused_work line t (Some place) = 0
 unrefused_work line t None = count_at_all t (staging_names line.path) + 6 * new_count line t + 4 * adjust_count line (places t line.path)
 
+-- the most steps of a line over a tree
 abbrev pub line_work : Line → Files → ℕ
 line_work line t = unrefused_work line t (line_refusal line (places t))
 
+-- the most steps of lines: the sum of those of each at its turn
 abbrev pub work : List Line → ℕ → Files → ℕ
 work [] now t = 0
 work (line ∷ lines) now t = line_work line t + work lines now (line_after line now t)

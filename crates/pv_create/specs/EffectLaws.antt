@@ -52,6 +52,7 @@ prefixes-cons name path =
 abbrev pub stands_in : Path → List Path → Bool
 stands_in q paths = list_any (λ p. same_path p q) paths
 
+-- whether a path has a name, and so is not the root
 abbrev pub has_some : Path → Bool
 has_some [] = false
 has_some (name ∷ path) = true

@@ -30,9 +30,11 @@ parents_of path = prefixes (parent_of path)
 abbrev pub parent_file : NewFile
 parent_file = record { what = new.Directory; mode = 0o755; uid = 0; gid = 0 }
 
+-- where nothing stands at a place, a parent is put there
 abbrev pub with_parent : ℕ → Places → Path → Places
 with_parent now t place = if is_some (t place) then t else made now place (new_object parent_file now) t
 
+-- the same at each place above a path but the root, from the root on
 abbrev pub with_parents : ℕ → Path → Places → Places
 with_parents now path t = fold (with_parent now) t (parents_of path)
 
@@ -59,6 +61,7 @@ line_dress line o = record {
 abbrev pub wears : Line → Object → Bool
 wears line o = (o.node.uid == line.uid && o.node.gid == line.gid) && mode_of o.node.special o.node.acl.access == line.mode
 
+-- a directory that has all that already stays as it is; one that lacks some of it gets it, and its change stamp is now
 abbrev pub adjusted : Line → ℕ → Object → Object
 adjusted line now o = if wears line o then o else changed now (wear (line_dress line o) o)
 
@@ -72,6 +75,7 @@ abbrev pub settled_at : Line → ℕ → Places → Option Object → Places
 settled_at line now t None = made now line.path (new_object (line_file line) now) t
 settled_at line now t (Some o) = settled_kind line now t o o.node.kind
 
+-- what a line does at its path, by what stands there
 abbrev pub settled : Line → ℕ → Places → Places
 settled line now t = settled_at line now t (t line.path)
 
@@ -86,6 +90,7 @@ abbrev pub unless_refused : Line → ℕ → Places → Option (ℕ × Why) → 
 unless_refused line now t (Some place) = t
 unless_refused line now t None = settled line now (prepared now line.path t)
 
+-- the tree after a line, by whether it is refused
 abbrev pub line_effect : Line → ℕ → Places → Places
 line_effect line now t = unless_refused line now t (line_refusal line t)
 

@@ -1,4 +1,5 @@
--- What a run may have left on its way, stamps and staging names aside, and that a second run mends it.
+-- What a run may have left on its way, stamps and staging names aside, and that a second run mends it
+-- (tmpfiles.d(5)).
 use Rattle.std.specs.Prelude.{◌≡◌, ◌≢◌, ◌⊎◌, ℕ, true, false, List, [], ◌∷◌, take, Option, Some, None}
 use Rattle.pv_path.specs.Paths.{Path, is_prefix, has_staging, staging_of}
 use Rattle.pv_steps.specs.declared.node.Kind.TheVariants.{Directory}

@@ -31,6 +31,7 @@ abbrev pub point_of : Line → Path → Option Object → Option Object
 point_of line q o =
     if same_path line.path q then Some (point_here line o) else if is_prefix q line.path then Some (point_above o) else o
 
+-- what a line leaves at each path by itself
 abbrev pub point : Line → Places → Places
 point line t = λ q. point_of line q (t q)
 

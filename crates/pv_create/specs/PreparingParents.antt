@@ -1,4 +1,4 @@
--- What putting the parents of a path needs of a tree.
+-- What putting the parents of a path needs of a tree (tmpfiles.d(5)).
 use Rattle.std.specs.Prelude.{◌≡◌, ◌≢◌, true, []}
 use Rattle.pv_path.specs.Paths.{Path, is_prefix, staging_of}
 use Rattle.pv_steps.specs.declared.node.Kind.TheVariants.{Directory}

@@ -1,4 +1,4 @@
--- What a run says of its lines.
+-- What a run says of its lines; the texts are this project's own.
 use Rattle.std.specs.Prelude.{ℕ, List, [], ◌∷◌, ◌++◌, codes, take, Option, Some, None}
 use Rattle.std.specs.Fmt.{decimal}
 use Rattle.pv_path.specs.Paths.{Path}
@@ -16,6 +16,7 @@ use Rattle.pv_create.specs.Effects.{line_refusal, prepared}
 abbrev pub said_at : Place → List ℕ → List ℕ
 said_at place text = place.file ++ codes ":" ++ decimal place.number ++ codes ": " ++ text
 
+-- the words for a kind
 abbrev pub kind_text : Kind → List ℕ
 kind_text Directory = codes "directory"
 kind_text File = codes "file"
@@ -24,6 +25,7 @@ kind_text Fifo = codes "fifo"
 kind_text CharDevice = codes "character device"
 kind_text BlockDevice = codes "block device"
 
+-- the words for the reason of a refusal
 abbrev pub why_text : Why → List ℕ
 why_text why.Link = codes "link"
 why_text why.NotDirectory = codes "not a directory"
@@ -48,5 +50,6 @@ abbrev pub refused_or_left : Line → ℕ → Places → Option (ℕ × Why) →
 refused_or_left line now t (Some place) = said_at line.place (refused_text line.path place.0 place.1) ∷ []
 refused_or_left line now t None = left_message line (kind_of (prepared now line.path t line.path))
 
+-- what is said of a line over a tree
 abbrev pub line_messages : Line → ℕ → Places → List (List ℕ)
 line_messages line now t = refused_or_left line now t (line_refusal line t)

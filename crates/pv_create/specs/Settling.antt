@@ -1,4 +1,4 @@
--- What a directory that is there is to wear, seen by its node.
+-- What a directory that is there is to wear, seen by its node (tmpfiles.d(5)).
 use Rattle.pv_acl.specs.Parts as parts
 use Rattle.pv_acl.specs.Parts.{special_of}
 use Rattle.pv_steps.specs.declared.node.Node.{Node}

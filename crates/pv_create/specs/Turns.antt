@@ -1,4 +1,4 @@
--- Lines at their turns, one after the other.
+-- Lines at their turns, one after the other (tmpfiles.d(5)).
 use Rattle.std.specs.Prelude.{◌≡◌, ◌⊎◌, ℕ, Bool, false, List, [], ◌∷◌}
 use Rattle.std.specs.List.{list_any}
 use Rattle.pv_path.specs.Paths.{Path, is_prefix}

@@ -1,4 +1,4 @@
--- Calls that ask for steps: one step tried, and how many a call has asked for.
+-- Calls that ask for steps: one step tried, and how many a call has asked for (this project's own).
 use Rattle.std.specs.Prelude.{◌≡◌, ℕ, ◌+◌, ◌-◌, List, [], ◌∷◌, ◌++◌, length, Result, Err, OnOk, OnErr}
 use Rattle.pv_steps.specs.declared.step.Step.{Step}
 use Rattle.pv_steps.specs.declared.tree.TreeFault.{TreeFault}
@@ -14,6 +14,7 @@ pub record Tried (step : Step) (now : ℕ) (r : Result (Unit {0}) TreeFault) (t 
   pub kept : OnErr r (u ≡ t)
   pub untold : OnErr r (k ≡ h)
 
+-- one where the tree refused a step, else none
 abbrev pub refused : {A : Type 0} → Result A TreeFault → ℕ
 refused (Err Failed) = 1
 refused r = 0

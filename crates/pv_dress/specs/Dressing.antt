@@ -1,4 +1,5 @@
--- Dressing an object: its owner, its mode and its ACL, each set only where that changes something.
+-- Dressing an object: its owner, its mode and its ACL, each set only where that changes something (chown(2),
+-- chmod(2), acl(5)).
 use Rattle.std.specs.Prelude.{◌≡◌, ◌≢◌, ◌⊎◌, ℕ, ◌≤◌, true, [], ◌∷◌, take, fold, Some}
 use Rattle.pv_path.specs.Paths.{Path}
 use Rattle.pv_acl.specs.Parts as parts
@@ -26,13 +27,15 @@ pub record IsDress (kind : Kind) (new : Dress) : Type 0 where
 abbrev pub dress_mode : Dress → ℕ
 dress_mode new = mode_of new.special new.acl.access
 
--- the three changes, stamps left as they are
+-- an object with the owners of a dress, stamps left as they are
 abbrev pub wear_owner : Dress → Object → Object
 wear_owner new o = record o { node = record o.node { uid = new.uid; gid = new.gid } }
 
+-- an object with the mode of a dress, stamps left as they are
 abbrev pub wear_mode : Dress → Object → Object
 wear_mode new o = record o { node = record o.node { special = new.special; acl = record o.node.acl { access = parts.with_mode (dress_mode new) o.node.acl.access } } }
 
+-- an object with the ACL of a dress, stamps left as they are
 abbrev pub wear_acl : Dress → Object → Object
 wear_acl new o = record o { node = record o.node { acl = new.acl } }
 

@@ -1,4 +1,4 @@
--- Edits of a tree, stamps included, and what a run may have left on the way to one.
+-- Edits of a tree, stamps included, and what a run may have left on the way to one (this project's own).
 use Rattle.std.specs.Prelude.{◌≡◌, ◌⊎◌, ℕ, Bool, true, false, List, [], ◌∷◌, length, filter, None, is_some, fold, if◌then◌else◌}
 use Rattle.std.specs.FinMap as fin
 use Rattle.pv_path.specs.Paths.{Path, is_prefix, same_path}

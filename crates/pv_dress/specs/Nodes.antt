@@ -14,14 +14,17 @@ bare_of o = record {
   dress = record { uid = o.node.uid; gid = o.node.gid; special = o.node.special; acl = o.node.acl };
 }
 
+-- whether a kind is that of regular files
 abbrev pub is_file : Kind → Bool
 is_file File = true
 is_file kind = false
 
+-- whether a kind is that of symbolic links
 abbrev pub is_link : Kind → Bool
 is_link Link = true
 is_link kind = false
 
+-- whether two kinds are the same
 abbrev pub same_kind : Kind → Kind → Bool
 same_kind Directory Directory = true
 same_kind File File = true

@@ -1,4 +1,4 @@
--- What is said against doing operations again: they might then leave something else.
+-- What is said against doing operations again: they might then leave something else (tmpfiles.d(5)).
 use Rattle.std.specs.Prelude.{◌≡◌, Bool, true, false, ◌&&◌, List, [], ◌∷◌, None, if◌then◌else◌}
 use Rattle.std.specs.List.{list_any}
 use Rattle.pv_acl.specs.declared.line.Entry.{Entry}
@@ -13,10 +13,12 @@ abbrev pub is_adjusting : (Change → Bool) → Operation → Bool
 is_adjusting test (Adjust guard change) = test change
 is_adjusting test operation = false
 
+-- whether a change appends bytes
 abbrev pub is_append : Change → Bool
 is_append (Append bytes) = true
 is_append change = false
 
+-- whether a change sets a masked mode
 abbrev pub is_masked : Change → Bool
 is_masked (Mode mode masked) = masked
 is_masked change = false
@@ -39,14 +41,17 @@ is_make (Make new) = true
 is_make (Renew test new) = true
 is_make operation = false
 
+-- a make that renews
 abbrev pub is_renewal : Operation → Bool
 is_renewal (Renew test new) = true
 is_renewal operation = false
 
+-- an erasure
 abbrev pub is_erasure : Operation → Bool
 is_erasure Erase = true
 is_erasure operation = false
 
+-- whether there are no entries
 abbrev pub no_entries : List Entry → Bool
 no_entries [] = true
 no_entries (e ∷ es) = false

@@ -1,4 +1,5 @@
--- One change at a time: what a node has of a dress already, and what a change may have left on the way.
+-- One change at a time: what a node has of a dress already, and what a change may have left on the way (chown(2),
+-- chmod(2), acl(5)).
 use Rattle.std.specs.Prelude.{◌≡◌, ◌≢◌, ◌⊎◌, Some}
 use Rattle.pv_path.specs.Paths.{Path}
 use Rattle.pv_acl.specs.declared.part.Part.{Part}
@@ -17,11 +18,12 @@ pub record SameBase (a b : Part) : Type 0 where
   pub group : a.group ≡ b.group
   pub other : a.other ≡ b.other
 
--- a node has the owners of a dress; and its mode
+-- a node has the owners of a dress
 pub record HasOwner (new : Dress) (node : Node) : Type 0 where
   pub uid : node.uid ≡ new.uid
   pub gid : node.gid ≡ new.gid
 
+-- a node has the special bits and the base entries of a dress
 pub record HasMode (new : Dress) (node : Node) : Type 0 where
   pub special : node.special ≡ new.special
   pub base : SameBase node.acl.access new.acl.access

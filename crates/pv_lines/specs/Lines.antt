@@ -22,9 +22,11 @@ use Rattle.pv_lines.specs.declared.line.Line.{Line}
 abbrev pub texts_of : List ℕ → Option (List (List ℕ))
 texts_of line = option_map (map (λ span. unescaped (text_at line span))) (result_ok (fields_of line))
 
+-- the value of a byte that is an octal digit
 abbrev pub octal_digit : ℕ → Option ℕ
 octal_digit b = if is_digit b 8 then Some (digit_value b) else None
 
+-- the number that four octal digits make, the highest first
 abbrev pub octal_number : Option ℕ → Option ℕ → Option ℕ → Option ℕ → Option ℕ
 octal_number (Some a) (Some b) (Some c) (Some d) = Some (((a * 8 + b) * 8 + c) * 8 + d)
 octal_number _ _ _ _ = None

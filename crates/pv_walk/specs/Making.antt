@@ -1,4 +1,5 @@
--- How a new object comes to its staging name: the step that makes it, what it holds, and its dress.
+-- How a new object comes to its staging name: the step that makes it, what it holds, and its dress (mkdir(2), mknod(2),
+-- symlink(2)).
 use Rattle.std.specs.Prelude.{ℕ, List, [], ◌∷◌, Option, Some, None}
 use Rattle.pv_path.specs.Paths.{Path}
 use Rattle.pv_acl.specs.Parts.{special_of, acl_of_mode}

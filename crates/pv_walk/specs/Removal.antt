@@ -1,4 +1,5 @@
--- Removal: what stands below a path is taken away, and what publishing a path may have done on the way.
+-- Removal: what stands below a path is taken away, and what publishing a path may have done on the way
+-- (unlink(2), rmdir(2), rename(2)).
 use Rattle.std.specs.Prelude.{◌≡◌, ◌⊎◌, ℕ, Bool, not, ◌&&◌, length, filter}
 use Rattle.std.specs.FinMap as fin
 use Rattle.pv_path.specs.Paths.{Path, is_prefix, same_path, staging_of}

@@ -135,6 +135,7 @@ module _ (now : ℕ) (p : Path) (x : Places) where
 
 -- ---- objects gone one after the other, the last of the list first
 
+-- the tree after each object of a list is gone
 abbrev pub all_gone : ℕ → List Path → Places → Places
 all_gone now [] t = t
 all_gone now (p ∷ ps) t = gone now p (all_gone now ps t)

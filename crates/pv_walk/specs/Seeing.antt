@@ -1,4 +1,4 @@
--- What a walk has seen so far, and what it answers from there on.
+-- What a walk has seen so far, and what it answers from there on (tmpfiles.d(5) on unsafe path transitions).
 use Rattle.std.specs.Prelude.{ℕ, ◌-◌, not, ◌&&◌, ◌==◌, List, Option, Some, None, option_map, if◌then◌else◌}
 use Rattle.std.specs.Option.{option_map_or, option_or}
 use Rattle.pv_path.specs.Paths.{Path}
@@ -12,12 +12,15 @@ use Rattle.pv_walk.specs.declared.walking.Seen.{Seen}
 use Rattle.pv_walk.specs.declared.walking.Walked.{Walked}
 use Rattle.pv_walk.specs.Walking.{outcome}
 
+-- what a walk looks at of an object, where one stands: its kind and its owner
 abbrev pub seen_of : Option Object → Option Seen
 seen_of o = option_map (λ x. record { kind = x.node.kind; owner = x.node.uid }) o
 
+-- the kind of what was seen, where something was
 abbrev pub seen_kind : Option Seen → Option Kind
 seen_kind place = option_map (λ s. s.kind) place
 
+-- the owner of what was seen, or the given one where nothing was
 abbrev pub seen_owner : Option Seen → ℕ → ℕ
 seen_owner place absent = option_map_or (λ s. s.owner) place absent
 

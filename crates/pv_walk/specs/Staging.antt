@@ -1,4 +1,4 @@
--- Staging: what is made under a staging name before it comes to its path.
+-- Staging: what is made under a staging name before it comes to its path (rename(2)).
 use Rattle.std.specs.Prelude.{◌≡◌, ℕ, ◌≤◌, Bool, List, [], map, length, take, sum, nat_le}
 use Rattle.std.specs.List.{list_all, list_any, range_with_len}
 use Rattle.pv_path.specs.Paths.{Path, is_prefix, staging_of}
@@ -39,6 +39,7 @@ can_stage path = list_all (λ name. nat_le (length name) 250) path
 
 -- ---- new objects
 
+-- the kind of a new object
 abbrev pub new_kind : NewKind → Kind
 new_kind new.Directory = Directory
 new_kind (new.File content) = File
@@ -46,15 +47,18 @@ new_kind (new.Link target) = Link
 new_kind new.Fifo = Fifo
 new_kind (new.Device block major minor) = device_kind block
 
+-- the content of a file, the target of a link, else no bytes
 abbrev pub new_payload : NewKind → List ℕ
 new_payload (new.File content) = content
 new_payload (new.Link target) = target
 new_payload kind = []
 
+-- a device's major number, else 0
 abbrev pub new_major : NewKind → ℕ
 new_major (new.Device block major minor) = major
 new_major kind = 0
 
+-- a device's minor number, else 0
 abbrev pub new_minor : NewKind → ℕ
 new_minor (new.Device block major minor) = minor
 new_minor kind = 0
@@ -64,11 +68,12 @@ abbrev pub new_mode : NewKind → ℕ → ℕ
 new_mode (new.Link target) mode = 0o777
 new_mode kind mode = mode
 
--- what a new object needs: a mode, IDs, and a target of a link
+-- what a new link needs: a target; any other object needs none
 abbrev pub HasTarget : NewKind → Type 0
 HasTarget (new.Link target) = IsTarget target
 HasTarget kind = Unit {0}
 
+-- what a new object needs: a mode, IDs, and of a link a target
 pub record IsNewFile (file : NewFile) : Type 0 where
   pub mode : file.mode ≤ 0o7777
   pub owner : IsId file.uid × IsId file.gid

@@ -1,4 +1,5 @@
--- Walking along a path from the root: refused at a place, absent from a place on, or present.
+-- Walking along a path from the root: refused at a place, absent from a place on, or present (tmpfiles.d(5) on
+-- unsafe path transitions).
 use Rattle.std.specs.Prelude.{ℕ, ◌+◌, length, Option, Some, None}
 use Rattle.std.specs.List.{range_with_len}
 use Rattle.pv_path.specs.Paths.{Path}
@@ -13,6 +14,7 @@ abbrev pub unrefused : Option ℕ → Walked
 unrefused None = Present
 unrefused (Some k) = Absent k
 
+-- refused at the refused place, if any, or else absent from the absent one on, if any
 abbrev pub outcome : Option (ℕ × Why) → Option ℕ → Walked
 outcome (Some place) absent = Refused place.0 place.1
 outcome None absent = unrefused absent
