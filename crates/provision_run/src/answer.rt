@@ -21,7 +21,9 @@ use std::alloc::{AllocError, AllocFailed, Global};
 /// How a run ends, with its whole output.
 #[derive(Debug, Drop)]
 pub struct Answer {
+    /// How it ends.
     pub outcome: Outcome,
+    /// All that is written: the messages, and where the input is an image, that of the tree that the run leaves.
     pub output: Vec<u8>,
 }
 

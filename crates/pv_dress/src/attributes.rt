@@ -7,10 +7,13 @@ use std::alloc::AllocError;
 /// of the mode.
 #[derive(Debug, Drop)]
 pub struct Dress {
+    /// The owner's user ID.
     pub uid: u32,
+    /// The owning group's ID.
     pub gid: u32,
     /// Set-user-ID 4, set-group-ID 2, sticky 1.
     pub special: u8,
+    /// The access part, and the default part of a directory.
     pub acl: Acl,
 }
 

@@ -11,6 +11,7 @@ use std::alloc::{AllocError, Global};
 /// device.
 #[derive(Debug, Drop)]
 pub struct Body {
+    /// The kind of the object.
     pub kind: Kind,
     /// The bytes of a file or the target of a link, else no bytes.
     pub payload: Bytes,
@@ -23,7 +24,9 @@ pub struct Body {
 /// An object without its stamps.
 #[derive(Debug, Drop)]
 pub struct Bare {
+    /// What it is and holds.
     pub body: Body,
+    /// Its owner, owning group, special bits and ACL.
     pub dress: Dress,
 }
 

@@ -1,4 +1,5 @@
-//! Owner, mode and ACL of an object, and the edits of a tree that runs are measured by.
+//! Owner, mode and ACL of an object, the operations that lines of configuration do on one object, and the edits of a
+//! tree that runs are measured by.
 #![tactic(auto)]
 
 mod attributes;

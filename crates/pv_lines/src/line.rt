@@ -7,10 +7,13 @@ use std::alloc::AllocError;
 /// A line of the form `d PATH MODE USER GROUP`: a directory that is to be there (tmpfiles.d(5)).
 #[derive(Debug, Drop)]
 pub struct Line {
+    /// Where the directory is to be.
     pub path: TreePath,
     /// At most 07777.
     pub mode: u16,
+    /// The owner, at most 4294967294.
     pub uid: u32,
+    /// The owning group, at most 4294967294.
     pub gid: u32,
     /// Where the line stands.
     pub place: Place,
