@@ -72,23 +72,46 @@ fn dresses_are_copied(rt: HostRuntime) -> Result<(), Fail> {
     Ok(())
 }
 
-#[test]
-fn stamps_are_left_out(rt: HostRuntime) -> Result<(), Fail> {
-    let node = Node {
-        kind: Kind::BlockDevice,
+/// A node of a user and a group.
+fn node_of(alloc: Global, kind: Kind, major: u32, minor: u32) -> Node {
+    Node {
+        kind,
         special: 2,
         uid: 1000,
         gid: 4,
-        acl: Acl::of_mode(rt.alloc(), 0o640),
+        acl: Acl::of_mode(alloc, 0o640),
         stamps: Stamps {
             access: 1,
             birth: 2,
             change: 3,
             modify: 4,
         },
-        major: 8,
-        minor: 1,
-    };
+        major,
+        minor,
+    }
+}
+
+#[test]
+fn payloads_stay(rt: HostRuntime) -> Result<(), Fail> {
+    for (kind, payload) in [
+        (Kind::File, b"hi".as_slice()),
+        (Kind::Link, b"/t"),
+        (Kind::Directory, b""),
+    ] {
+        let node = node_of(rt.alloc(), kind, 0, 0);
+        let bare = Bare::of(rt.alloc(), &node, payload)?.copy()?;
+        assert!(rt; bare.body.payload.as_slice() == payload);
+        assert_eq!(rt;
+            (bare.body.kind, bare.body.major, bare.body.minor),
+            (kind, 0, 0)
+        );
+    }
+    Ok(())
+}
+
+#[test]
+fn stamps_are_left_out(rt: HostRuntime) -> Result<(), Fail> {
+    let node = node_of(rt.alloc(), Kind::BlockDevice, 8, 1);
     let bare = Bare::of(rt.alloc(), &node, b"")?.copy()?;
     assert_eq!(rt;
         (bare.body.kind, bare.body.major, bare.body.minor),

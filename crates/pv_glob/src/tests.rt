@@ -62,6 +62,18 @@ fn prefixes_of_paths_are_matched(rt: HostRuntime) -> Result<(), Fail> {
 }
 
 #[test]
+fn copies_match_the_same_paths(rt: HostRuntime) -> Result<(), Fail> {
+    let alloc = rt.alloc();
+    let pattern = parse_pattern(alloc, b"/a/[!x]*")?;
+    let path = parse_path(alloc, b"/a/by")?;
+    let other = parse_path(alloc, b"/a/xy")?;
+    for copy in [pattern.copy()?, pattern.clone()?] {
+        assert!(rt; matches(&copy, &path) && !matches(&copy, &other));
+    }
+    Ok(())
+}
+
+#[test]
 fn literals_match_their_path(rt: HostRuntime) -> Result<(), Fail> {
     let alloc = rt.alloc();
     let path: TreePath = parse_path(alloc, b"/a/*")?;

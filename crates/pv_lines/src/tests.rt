@@ -4,10 +4,12 @@ use pv_text::{Facts, Place};
 use std::alloc::{AllocError, Global};
 use std::test::Fail;
 
+const FILE: &[u8] = b"/etc/tmpfiles.d/a.conf";
+
 /// Reads a text as the seventh line of a file.
 fn read(alloc: Global, text: &[u8]) -> Result<Option<Line>, AllocError> {
     let place = Place {
-        file: Bytes::copy_of(alloc, b"/etc/tmpfiles.d/a.conf")?,
+        file: Bytes::copy_of(alloc, FILE)?,
         number: 7,
     };
     read_line(alloc, text, place, &Facts::new(alloc))
@@ -55,6 +57,7 @@ fn lines_are_read(rt: HostRuntime) -> Result<(), Fail> {
                     "{text:?}"
                 );
                 assert!(rt; line.place.number == 7, "{text:?}");
+                assert!(rt; line.place.file.as_slice() == FILE, "{text:?}");
             }
             None => assert!(rt; false, "{text:?}"),
         }
