@@ -402,7 +402,13 @@ fn directories_are_dressed_by_what_they_lack(rt: HostRuntime) -> Result<(), Fail
     let plain = b"d /a 0755 0 0 0,0,0,0 - -\n";
     for (uid, field, mode, steps, line) in [
         (0, b"-".as_slice(), 0o755, 0, plain.as_slice()),
-        (0, b"u:5:r--", 0o755, 1, b"d /a 0755 0 0 0,0,9,0 u:5:r-- -\n"),
+        (
+            0,
+            b"u:5:r--",
+            0o755,
+            1,
+            b"d /a 0755 0 0 0,0,9,0 u:5:r-- -\n",
+        ),
         (7, b"-", 0o700, 2, b"d /a 0700 7 0 0,0,9,0 - -\n"),
         (7, b"m::r--", 0o700, 3, b"d /a 0700 7 0 0,0,9,0 m::r-- -\n"),
     ] {
