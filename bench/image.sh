@@ -1,6 +1,7 @@
 #!/usr/bin/env bash
-# Reads and writes images of more and more nodes. Prints a line for each: the seconds, how many times those of the line
-# before, the most memory as a multiple of the image's length, and whether the same bytes came out.
+# Reads and writes images of more and more nodes. Prints a line for each: the seconds of processor time (the least of
+# five runs), how many times those of the line before, the most memory as a multiple of the image's length, and whether
+# the same bytes came out.
 # With a folder as its argument it only makes the images there.
 set -eu
 
@@ -25,15 +26,23 @@ build() {
   [ -x "$program" ] || { echo "bench: the program could not be built" >&2; exit 1; }
 }
 
-# measure IMAGE OUTPUT: the seconds, and the most memory in KiB, or 0 where it can't be told
-measure() {
+# run_once IMAGE OUTPUT: the seconds of processor time, and the most memory in KiB, or 0 where it can't be told
+run_once() {
   if [ -x /usr/bin/time ]; then
-    /usr/bin/time -q -f '%e %M' -o "$2.time" "$program" systemd-tmpfiles --create < "$1" > "$2" || true
+    /usr/bin/time -q -f '%U %S %M' -o "$2.time" "$program" systemd-tmpfiles --create < "$1" > "$2" || true
     cat "$2.time"
   else
-    TIMEFORMAT='%R 0'
+    TIMEFORMAT='%U %S 0'
     { time "$program" systemd-tmpfiles --create < "$1" > "$2" || true; } 2>&1
   fi
+}
+
+# measure IMAGE OUTPUT: the least seconds of five runs, and the most memory in KiB
+measure() {
+  for _ in 1 2 3 4 5; do
+    run_once "$1" "$2"
+  done | awk '{ seconds = $1 + $2; if (NR == 1 || seconds < least) least = seconds; if ($3 > most) most = $3 }
+    END { print least, most }'
 }
 
 # report NODES LENGTH SECONDS SECONDS_BEFORE KIB SAME
