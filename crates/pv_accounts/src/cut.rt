@@ -1,3 +1,4 @@
+//! Texts cut at a byte.
 ghost use Rattle.std.specs.Prelude.{◌≡◌, ◌<◌, ◌≤◌, ◌==◌, [], ◌∷◌, not, length, MatchOption, IfSome};
 ghost use Rattle.std.specs.List.{prefix_len, slice_split};
 ghost use Rattle.pv_accounts.specs.Entries.{HasMore};

@@ -1,3 +1,4 @@
+//! New entries and new members, with all other lines kept byte for byte.
 ghost use Rattle.std.specs.Prelude.{◌≡◌, ◌<◌, ◌≤◌, ◌==◌, ◌∷◌, [], ◌++◌, true, map, length, OnOk, IfOk};
 ghost use Rattle.std.specs.List.{flat_map, list_any, slice_split};
 ghost use Rattle.std.specs.Str.{bytes_eq};

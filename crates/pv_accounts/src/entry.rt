@@ -1,3 +1,4 @@
+//! Which lines are entries, and their fields (passwd(5), group(5), shadow(5)).
 ghost use Rattle.std.specs.Prelude.{◌≡◌, ◌≤◌, false, MatchOption, IfSome};
 ghost use Rattle.std.specs.Option.{option_map};
 ghost use Rattle.pv_acl.specs.Spelling.{decimal_id};

@@ -1,3 +1,4 @@
+//! IDs of users and groups by the account files.
 ghost use Rattle.std.specs.Prelude.{◌≡◌};
 ghost use Rattle.pv_accounts.specs.Entries.{is_passwd, is_group};
 ghost use Rattle.pv_accounts.specs.Files.{id_or_root, is_root};

@@ -1,3 +1,4 @@
+//! Worked rows of account files.
 use super::*;
 use pv_acl::Names;
 use std::test::Fail;

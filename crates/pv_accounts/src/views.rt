@@ -1,3 +1,4 @@
+//! The account files as their callers see them, lent and not copied.
 ghost use Rattle.std.specs.Prelude.{◌≡◌, ◌≤◌, IfSome};
 ghost use Rattle.std.specs.Option.{option_map};
 ghost use Rattle.pv_accounts.specs.Entries.{is_passwd, is_group, is_shadow};

@@ -1,3 +1,4 @@
+//! What the entries of a line make of an ACL (tmpfiles.d(5), types a and A).
 ghost use Rattle.std.specs.Prelude.{◌≡◌, true, IfOk, if◌then◌else◌};
 ghost use Rattle.pv_acl.specs.Parts.{is_acl};
 ghost use Rattle.pv_acl.specs.Applying.{part_after, default_after, acl_after, kept, is_line};
@@ -73,21 +74,11 @@ fn change_default(
         IfOk result (λ new. new ≡ (if directory then changed else part.now)) }
 {
     if !directory || entries.is_empty() {
-        return copy_default(part);
+        return part.clone();
     }
     let new = match part {
         Some(part) => change_part(alloc, part, entries, how)?,
         None => change_part(alloc, &access.base(alloc), entries, how)?,
     };
     Ok(Some(new))
-}
-
-/// A default part once more.
-pub(crate) fn copy_default(part: &Option<Part>) -> Result<Option<Part>, AllocError>
-    ensures { IfOk result (λ copy. copy ≡ part.now) }
-{
-    match part {
-        Some(part) => Ok(Some(part.copy()?)),
-        None => Ok(None),
-    }
 }

@@ -1,3 +1,4 @@
+//! Why a text is no list of ACL entries.
 ghost use Rattle.std.specs.Prelude.{◌≡◌};
 ghost use Rattle.pv_acl.specs.declared.fault.AclFault.TheVariants.{Memory};
 

@@ -1,7 +1,11 @@
+//! Named entries in their order: users by ID, then groups by ID.
 ghost use Rattle.std.specs.Prelude.{◌≡◌, ◌≢◌, ◌≤◌, true, [], ◌∷◌, ◌++◌, length, OnOk, OnErr, IfOk, slice_get};
 ghost use Rattle.std.specs.Bool.{OnTrue, OnFalse};
 ghost use Rattle.std.specs.List.{prefix_len};
+ghost use Rattle.std.specs.Cmp.Lexicographic.{pointwise, lists_per, lists_equiv};
 ghost use Rattle.std.specs.Option.{option_copied, option_map};
+ghost use Rattle.pv_acl.specs.contracts.perm.NamedEq.TheImpl.Laws as named_equiv;
+ghost use Rattle.pv_acl.specs.contracts.perm.NamedPartialEq.TheImpl.Laws as named_per;
 ghost use Rattle.pv_acl.specs.NamedEntries.{is_ordered, is_before, all_before, put_named, is_empty};
 
 use crate::perm::Named;
@@ -10,7 +14,7 @@ use std::marker::Model;
 
 /// The named entries of a part in order: users by ID, then groups by ID, each once. Clauses see the
 /// list.
-#[derive(Debug, Drop)]
+#[derive(Clone, Debug, Drop)]
 pub struct NamedList {
     items: Vec<Named>,
 }
@@ -95,10 +99,22 @@ impl NamedList {
     pub fn copy(&self) -> Result<NamedList, AllocError>
         ensures { IfOk result (λ copy. copy ≡ self.now) }
     {
-        Ok(NamedList {
-            items: self.items.clone()?,
-        })
+        self.clone()
     }
+}
+
+impl PartialEq for NamedList {
+    ghost eq = { pointwise ⟦<Named as PartialEq>⟧.eq };
+
+    ghost laws = { lists_per named_per.laws-law };
+
+    fn eq(&self, other: &NamedList) -> bool {
+        self.items == other.items
+    }
+}
+
+impl Eq for NamedList {
+    ghost laws = { lists_equiv named_equiv.laws-law };
 }
 
 /// How many of the first entries stand before one.

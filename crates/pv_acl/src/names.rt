@@ -1,3 +1,4 @@
+//! Where the IDs of users and groups are looked up.
 ghost use Rattle.std.specs.Prelude.{◌≡◌, ◌≤◌, ℕ, List, Option, IfSome};
 
 /// A lookup of users and groups by name, as account files have them.

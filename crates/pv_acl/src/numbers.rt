@@ -1,3 +1,4 @@
+//! Decimal numbers and IDs, in their one spelling.
 ghost use Rattle.std.specs.Prelude.{◌≡◌, ◌≤◌, IfSome};
 ghost use Rattle.pv_acl.specs.Numbers.{number_of, odd_start, written_id};
 

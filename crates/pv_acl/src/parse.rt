@@ -1,3 +1,4 @@
+//! From a text to the ACL entries that it spells, or its first fault.
 ghost use Rattle.std.specs.Prelude.{◌≡◌, ◌≤◌, ◌<◌, ◌==◌, true, ℕ, List, Option, OnOk, IfOk, IfErr, IfSome, map, length, [], ◌∷◌};
 ghost use Rattle.std.specs.List.{list_all, slice_split};
 ghost use Rattle.std.specs.Option.{option_map};

@@ -1,9 +1,9 @@
+//! The parts of an ACL: base entries, named entries and mask (acl(5)), and the mode that they have.
 ghost use Rattle.std.specs.Prelude.{◌≡◌, ◌≤◌, ◌/◌, ◌%◌, true, OnOk, OnErr, IfOk};
 ghost use Rattle.pv_acl.specs.Parts.{part_mask, is_part, mode_of, with_mode, base_of, part_of_mode};
 ghost use Rattle.pv_acl.specs.Parts.{acl_of_mode, is_acl, is_minimal};
 ghost use Rattle.pv_acl.specs.Applying.{put_entry};
 
-use crate::apply::copy_default;
 use crate::line::Entry;
 use crate::list::NamedList;
 use crate::perm::Perm;
@@ -11,7 +11,7 @@ use std::alloc::{AllocError, Global};
 
 /// One part of an ACL: the base entries of the owner, the owning group and all others, the named
 /// entries, and the mask where an entry gives one (acl(5)).
-#[derive(Debug, Drop)]
+#[derive(Clone, Debug, Drop, PartialEq, Eq)]
 pub struct Part {
     pub owner: Perm,
     pub group: Perm,
@@ -21,7 +21,7 @@ pub struct Part {
 }
 
 /// An ACL: the access part, and for directories the part that new objects in it begin with.
-#[derive(Debug, Drop)]
+#[derive(Clone, Debug, Drop, PartialEq, Eq)]
 pub struct Acl {
     pub access: Part,
     pub default_part: Option<Part>,
@@ -94,13 +94,7 @@ impl Part {
     pub fn copy(&self) -> Result<Part, AllocError>
         ensures { IfOk result (λ copy. copy ≡ self.now) }
     {
-        Ok(Part {
-            owner: self.owner,
-            group: self.group,
-            other: self.other,
-            named: self.named.copy()?,
-            mask: self.mask,
-        })
+        self.clone()
     }
 }
 
@@ -127,10 +121,7 @@ impl Acl {
     pub fn copy(&self) -> Result<Acl, AllocError>
         ensures { IfOk result (λ copy. copy ≡ self.now) }
     {
-        Ok(Acl {
-            access: self.access.copy()?,
-            default_part: copy_default(&self.default_part)?,
-        })
+        self.clone()
     }
 }
 

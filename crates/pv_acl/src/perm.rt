@@ -1,3 +1,4 @@
+//! Permissions, and whom a named entry speaks of.
 ghost use Rattle.std.specs.Prelude.{◌≡◌, ◌≤◌, ◌*◌, ◌%◌, bit_or};
 ghost use Rattle.std.specs.Ordering.{is_lt};
 ghost use Rattle.pv_acl.specs.NamedEntries.{who_cmp};

@@ -1,3 +1,4 @@
+//! The one text of an ACL.
 ghost use Rattle.std.specs.Prelude.{◌≡◌, Some, map, filter, fold, string_bytes, OnOk, IfOk, if◌then◌else◌};
 ghost use Rattle.pv_acl.specs.Texts.{perm_text, who_text, named_text, default_text, is_of};
 ghost use Rattle.pv_acl.specs.Texts.{access_texts, default_texts, default_mask_texts, acl_text, or_dash, with_entry};

@@ -1,3 +1,4 @@
+//! From the one text of an ACL and a mode back to the ACL.
 ghost use Rattle.std.specs.Prelude.{◌≡◌, ◌≤◌, true, ℕ, List, Option, IfOk, IfSome, IfNone};
 ghost use Rattle.pv_acl.specs.declared.part.Acl.{Acl};
 ghost use Rattle.std.specs.Result.{result_ok};

@@ -1,3 +1,4 @@
+//! Worked rows of ACL texts and of what lines make of ACLs.
 ghost use Rattle.std.specs.Prelude.{◌≡◌, ◌≤◌};
 
 use super::*;

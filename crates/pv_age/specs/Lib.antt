@@ -1,4 +1,3 @@
-pub mod Faults
 pub mod Stamps
 pub mod Sums
 pub mod Ages

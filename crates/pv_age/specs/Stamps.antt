@@ -5,7 +5,7 @@ use Rattle.std.specs.Option.{option_map}
 use Rattle.std.specs.Int.RustNames.{bit_and, bit_or}
 use Rattle.pv_age.specs.declared.fault.AgeFault.{AgeFault}
 use Rattle.pv_age.specs.declared.fault.AgeFault.TheVariants.{BadStampLetter}
-use Rattle.pv_age.specs.Faults.{◌>>=◌, or_fault}
+use Rattle.pv_path.specs.Results.{◌>>=◌, or_fault}
 use Rattle.pv_age.specs.declared.stamps.StampSet.{StampSet}
 
 -- the bit of a letter, by its place among the letters

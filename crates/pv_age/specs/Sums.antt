@@ -7,7 +7,7 @@ use Rattle.std.specs.Str.{bytes_eq}
 use Rattle.std.specs.Str.Parse.{digits_value}
 use Rattle.pv_age.specs.declared.fault.AgeFault.{AgeFault}
 use Rattle.pv_age.specs.declared.fault.AgeFault.TheVariants.{BadNumber, BadUnit, Overflow}
-use Rattle.pv_age.specs.Faults.{◌>>=◌, or_fault}
+use Rattle.pv_path.specs.Results.{◌>>=◌, or_fault}
 use Rattle.pv_age.specs.declared.unit.Unit.{Unit}
 use Rattle.pv_age.specs.declared.unit.Unit.TheVariants.{Microsecond, Millisecond, Second, Minute, Hour, Day, Week}
 

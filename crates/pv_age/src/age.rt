@@ -1,3 +1,4 @@
+//! From a text to the age that it spells, or its first fault (tmpfiles.d(5)).
 ghost use Rattle.std.specs.Prelude.{◌≡◌, ◌<◌, ◌==◌, length, position, IfSome};
 ghost use Rattle.pv_age.specs.Ages.{age_of, age_with};
 

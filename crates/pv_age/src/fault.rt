@@ -1,3 +1,4 @@
+//! Why a text is no age.
 use thiserror::Error;
 
 /// Why a text is no age. The list of stamps is checked first, then pair by pair the number, its unit

@@ -1,3 +1,4 @@
+//! Whether an object is old for an age at a moment.
 ghost use Rattle.std.specs.Prelude.{◌≡◌, ◌||◌, not, nat_lt};
 ghost use Rattle.std.specs.List.{list_all};
 ghost use Rattle.pv_age.specs.Stamps.{has};

@@ -1,3 +1,4 @@
+//! The stamps that an age looks at, by their letters.
 ghost use Rattle.std.specs.Prelude.{⊤, ◌≡◌, ◌==◌, [], ◌∷◌, codes, option_map};
 ghost use Rattle.std.specs.Int.RustNames.{bit_and};
 ghost use Rattle.pv_age.specs.Stamps.{letter_bit, stamps_of, stamps_with};

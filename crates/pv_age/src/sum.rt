@@ -1,3 +1,4 @@
+//! Sums of numbers with units, in microseconds.
 ghost use Rattle.std.specs.Prelude.{◌≡◌, ◌<◌, ◌≤◌, ◌+◌, ◌*◌, true, drop, length, take, IfOk, MatchResult, Ok, Err};
 ghost use Rattle.std.specs.Char.{is_ascii_alphabetic, is_ascii_digit};
 ghost use Rattle.std.specs.List.{prefix_len};

@@ -1,7 +1,8 @@
+//! Worked rows of ages and of what is old.
 use super::*;
 use bitflags::Flags;
 use pv_acl::Acl;
-use pv_steps::{Kind, Node, Stamps};
+use pv_steps::{AttrList, Kind, LetterSet, Node, Stamps};
 use std::alloc::Global;
 use std::test::Fail;
 
@@ -116,6 +117,8 @@ fn object(alloc: Global, kind: Kind, stamps: Stamps) -> Node {
         stamps,
         major: 0,
         minor: 0,
+        attrs: AttrList::new(alloc),
+        letters: LetterSet::new(),
     }
 }
 

@@ -1,3 +1,4 @@
+//! The units of ages and their names (systemd.time(7)).
 ghost use Rattle.std.specs.Prelude.{◌≡◌, ◌<◌, ◌||◌, IfSome};
 ghost use Rattle.std.specs.Str.{bytes_eq};
 ghost use Rattle.pv_age.specs.Sums.{is_called, micros_in, names_of, unit_micros, unit_named};

@@ -1,6 +1,5 @@
 -- What a run reads as its configuration: the lines of all chosen files (tmpfiles.d(5)).
 use Rattle.std.specs.Prelude.{ℕ, ◌+◌, Bool, true, false, not, ◌||◌, ◌==◌, List, [], ◌∷◌, ◌++◌, codes, find, Option, Some, None, if◌then◌else◌}
-use Rattle.std.specs.Fmt.{decimal}
 use Rattle.std.specs.List.{onto_first}
 use Rattle.pv_layers.specs.Choices.{Choice, chosen}
 use Rattle.pv_lines.specs.Lines.{line_of}
@@ -13,6 +12,7 @@ use Rattle.pv_steps.specs.declared.node.Kind.TheVariants.{File}
 use Rattle.pv_steps.specs.declared.object.Object.{Object}
 use Rattle.pv_text.specs.Facts.{Values}
 use Rattle.pv_text.specs.Fields.{is_blank}
+use Rattle.pv_text.specs.Said.{said_at}
 use Rattle.pv_text.specs.declared.place.Place.{Place}
 use Rattle.pv_text.specs.declared.tool.Tool.TheVariants.{Tmpfiles}
 
@@ -62,7 +62,7 @@ followed a b = record { lines = a.lines ++ b.lines; invalid = a.invalid || b.inv
 
 -- the message for a line of a form that is not built yet
 abbrev pub not_built : Place → List ℕ
-not_built place = place.file ++ codes ":" ++ decimal place.number ++ codes ": NotBuilt"
+not_built place = said_at place (codes "NotBuilt")
 
 -- a line of a form that is built is read, and any other is refused
 abbrev pub reading_by : Place → Option Line → Reading

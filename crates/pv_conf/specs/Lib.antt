@@ -1,3 +1,2 @@
 pub mod Configuration
 pub mod Adding
-pub mod LineLists

@@ -1,3 +1,4 @@
+//! What reading the configuration gives.
 use pv_lines::LineList;
 
 /// What a run reads as its configuration.

@@ -7,6 +7,3 @@ mod reading;
 
 pub use configuration::Configuration;
 pub use reading::read_configuration;
-
-#[cfg(test)]
-mod tests;

@@ -1,8 +1,9 @@
+//! From the chosen files to their lines, with the messages of reading.
 ghost use Rattle.std.specs.Prelude.{◌≡◌, ◌+◌, ◌∷◌, ◌++◌, [], IfOk, OnOk, OnErr};
 ghost use Rattle.std.specs.List.{AllByRecursion};
 ghost use Rattle.pv_text.specs.Said.{SaidPart};
 ghost use Rattle.pv_lines.specs.Lines.{IsLine};
-ghost use Rattle.pv_conf.specs.Configuration.{configured, content_at, lines_in, not_built, reading_of, reading_of_file, reading_of_files, reading_of_lines};
+ghost use Rattle.pv_conf.specs.Configuration.{configured, content_at, lines_in, reading_of, reading_of_file, reading_of_files, reading_of_lines};
 ghost use Rattle.pv_conf.specs.Adding.{Adds};
 
 use crate::configuration::Configuration;
@@ -13,19 +14,6 @@ use pv_path::{Bytes, TreePath, WordList, print_path};
 use pv_steps::{Kind, Tree};
 use pv_text::{Facts, Messages, Place, Tool};
 use std::alloc::{AllocError, Global};
-
-/// Says that a line has a form that is not built yet.
-fn say_not_built(alloc: Global, place: &Place, messages: &mut Messages) -> Result<(), AllocError>
-    ensures ok { OnOk result (messages.new ≡ messages.old ++ not_built place.now ∷ []) }
-    ensures err { OnErr result (messages.new ≡ messages.old) }
-{
-    let number = place.number.to_string(alloc)?;
-    let mut text = Vec::from_slice(alloc, place.file.as_slice())?;
-    text.extend_from_slice(b":")?;
-    text.extend_from_slice(number.as_bytes())?;
-    text.extend_from_slice(b": NotBuilt")?;
-    messages.push(&text)
-}
 
 /// Reads one line, or says that it is not built yet.
 fn add_line(
@@ -46,7 +34,7 @@ fn add_line(
         Some(line) => configuration.lines.push(line),
         None => {
             configuration.invalid = true;
-            say_not_built(alloc, place, messages)
+            messages.push_at(place, b"NotBuilt")
         }
     }
 }

@@ -1,3 +1,4 @@
+//! Why a transfer failed.
 ghost use Rattle.std.specs.Prelude.{◌≡◌};
 ghost use Rattle.pv_io.specs.declared.fault.ReadAllFault.TheVariants.{Memory, ReadFault};
 

@@ -1,3 +1,4 @@
+//! A source and a sink in memory, which fail at planned calls.
 ghost use Rattle.std.specs.Prelude.{◌≡◌, ◌<◌, ◌≤◌, ◌-◌, ◌↔◌, ◌⊎◌, ◌++◌, [], length, min, take, drop, Contains, IsErr, IfOk, OnErr, Some};
 ghost use Rattle.std.specs.Io.KnownBytes.{Appends, Consumes, IsAtEnd, Keeps};
 ghost use Rattle.pv_io.specs.Calls.{call_after, CountsCall};

@@ -1,3 +1,4 @@
+//! Which calls of an object in memory fail, and how many did.
 ghost use Rattle.std.specs.Prelude.{◌≡◌, ◌≤◌, ◌^◌, ◌↔◌, Contains, IsTrue, unwrap_or};
 ghost use Rattle.pv_io.specs.Calls.{call_after};
 ghost use Rattle.pv_io.specs.Faults.{HasRisen, fault_after};

@@ -1,3 +1,4 @@
+//! The edge: a source and a sink over a reader and a writer of std.
 ghost use Rattle.std.specs.Prelude.{◌≡◌, None};
 
 use crate::fault::Failed;

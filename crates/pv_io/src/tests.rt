@@ -1,3 +1,4 @@
+//! Transfers over objects that fail, give little or take little.
 ghost use Rattle.std.specs.Prelude.{◌≡◌, ◌≤◌, IfOk, None};
 
 use super::*;

@@ -1,3 +1,4 @@
+//! The choice of configuration files, from the folders or by file words (tmpfiles.d(5)).
 ghost use Rattle.std.specs.Prelude.{◌≡◌, ◌∷◌, ◌++◌, [], ◌||◌, codes, IfOk, OnOk, OnErr};
 ghost use Rattle.pv_path.specs.Printing.{printed, printed_path};
 ghost use Rattle.pv_layers.specs.Folders.{conf_names, found_in};

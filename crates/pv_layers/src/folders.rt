@@ -1,11 +1,11 @@
+//! The folders of configuration files, and the names in them that count.
 ghost use Rattle.std.specs.Prelude.{◌≡◌, ℕ, true, List, IfOk, OnOk};
 ghost use Rattle.std.specs.List.{fold, flat_map};
 ghost use Rattle.pv_path.specs.Names.{is_name};
 ghost use Rattle.pv_layers.specs.Folders.{last_folder, folders, is_conf, conf_names_in, with_name, conf_names};
 
-use crate::found::kind_at;
 use pv_path::{Name, PathList, TreePath, child};
-use pv_steps::{Kind, Tree};
+use pv_steps::{Kind, Tree, kind_at};
 use pv_text::Tool;
 use std::alloc::{AllocError, Global};
 use std::collections::BTreeSet;

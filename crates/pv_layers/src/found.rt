@@ -1,6 +1,6 @@
+//! What stands where a configuration file is looked for: a file, a mask, something else, or nothing.
 ghost use Rattle.std.specs.Prelude.{◌≡◌, ◌∷◌, ◌++◌, [], true, IfOk};
 ghost use Rattle.pv_path.specs.Names.{is_name, same_bytes};
-ghost use Rattle.pv_steps.specs.Trees.{kind_of, places};
 ghost use Rattle.pv_layers.specs.Folders.{found_at, found_in, mask_target};
 
 use pv_path::{PathList, TreePath, child};
@@ -18,16 +18,6 @@ pub(crate) enum Found {
     Odd(TreePath),
     /// A regular file.
     Regular(TreePath),
-}
-
-/// The kind of the object at a path.
-pub(crate) fn kind_at<T: Tree>(tree: &T, path: &TreePath) -> Option<Kind>
-    ensures { result ≡ kind_of (places (T.state tree.now) path.now) }
-{
-    match tree.look(path) {
-        Some(node) => Some(node.kind),
-        None => None,
-    }
 }
 
 /// What stands at a path.

@@ -7,6 +7,3 @@ mod found;
 mod words;
 
 pub use chosen::{Chosen, chosen_files};
-
-#[cfg(test)]
-mod tests;

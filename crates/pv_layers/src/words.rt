@@ -1,3 +1,4 @@
+//! What a file word finds.
 ghost use Rattle.std.specs.Prelude.{◌≡◌, ◌==◌, IfOk};
 ghost use Rattle.std.specs.Result.{result_ok};
 ghost use Rattle.pv_path.specs.Parsing.{path_of};

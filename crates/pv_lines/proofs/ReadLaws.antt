@@ -10,7 +10,7 @@ use Rattle.pv_text.specs.declared.fault.FieldFault.{FieldFault}
 use Rattle.pv_text.specs.declared.place.Place.{Place}
 use Rattle.pv_lines.specs.declared.line.Line.{Line}
 use Rattle.pv_lines.specs.Lines.{IsLine, line_by, line_of}
-use Rattle.pv_lines.specs.LineLaws.{line_of-are_lines}
+use Rattle.pv_lines.proofs.LineLaws.{line_of-are_lines}
 
 -- where nothing stands a list is at its end
 nothing_left : {A : Type 0} (g : A → List ℕ) (xs : List A) (i : ℕ) → None ≡ option_map g (slice_get xs i) → drop i xs ≡ []

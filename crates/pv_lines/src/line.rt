@@ -1,3 +1,4 @@
+//! A line as it is carried out.
 ghost use Rattle.std.specs.Prelude.{◌≡◌, IfOk};
 
 use pv_path::TreePath;

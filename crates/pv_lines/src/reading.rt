@@ -1,3 +1,4 @@
+//! From the bytes of a line to the line (tmpfiles.d(5)).
 ghost use Rattle.std.specs.Prelude.{◌≡◌, ◌≤◌, map, option_map, IfOk, IfSome};
 ghost use Rattle.std.specs.Result.{result_ok};
 ghost use Rattle.pv_acl.specs.Numbers.{written_id};

@@ -1,3 +1,4 @@
+//! Worked rows of lines.
 use super::*;
 use pv_path::{Bytes, print_path};
 use pv_text::{Facts, Place};

@@ -1,2 +1,4 @@
 pub mod Relating
 pub mod Pieces
+pub mod PathLaws
+pub mod Printed

@@ -6,7 +6,7 @@ use Rattle.pv_path.specs.declared.fault.PathFault.TheVariants as fault
 use Rattle.pv_path.specs.declared.fault.PathFault.{PathFault}
 use Rattle.pv_path.specs.Names.{is_name_byte}
 use Rattle.pv_path.specs.Paths.{Path}
-use Rattle.pv_path.specs.PathLaws.{both_true}
+use Rattle.pv_path.proofs.PathLaws.{both_true}
 use Rattle.pv_path.specs.Parsing.{Gives, joined, names_of, piece_of}
 
 pub joined-assoc : (a b c : Result Path PathFault) → joined (joined a b) c ≡ joined a (joined b c)

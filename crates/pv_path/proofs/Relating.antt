@@ -4,7 +4,7 @@ use Rattle.std.proofs.Math.Seq.{take-append_seam}
 use Rattle.std.specs.Option.{option_map}
 use Rattle.pv_path.specs.Names.{staging_name}
 use Rattle.pv_path.specs.Paths.{Path, is_prefix, rest_under, staging_of}
-use Rattle.pv_path.specs.PathLaws.{is_some-rest_under, path_ends, staging_of-push}
+use Rattle.pv_path.proofs.PathLaws.{is_some-rest_under, path_ends, staging_of-push}
 
 -- a path has a prefix exactly where a slice of names follows it
 pub prefix_from_rest : (o : Option (Bor Path)) (p q : Path) → option_map (λ s. s.now) o ≡ rest_under p q → is_some o ≡ is_prefix p q

@@ -2,4 +2,4 @@ pub mod Names
 pub mod Paths
 pub mod Printing
 pub mod Parsing
-pub mod PathLaws
+pub mod Results

@@ -1,9 +1,10 @@
 -- Paths as lists of names from the root, which is the empty list (path_resolution(7)).
-use Rattle.std.specs.Prelude.{ℕ, ◌-◌, Bool, true, false, ◌&&◌, List, [], ◌∷◌, length, take, Option, Some, None, slice_get, if◌then◌else◌}
+use Rattle.std.specs.Prelude.{◌≡◌, ℕ, ◌-◌, Bool, true, false, ◌&&◌, List, [], ◌∷◌, length, take, Option, Some, None, slice_get, if◌then◌else◌}
 use Rattle.std.specs.List.{list_all, list_any}
+use Rattle.std.specs.Bool.{Decides}
 use Rattle.std.specs.Ordering.{nat_cmp}
 use Rattle.std.specs.Cmp.{IsTotalOrder}
-use Rattle.std.specs.Cmp.Lexicographic.{slice_cmp, pointwise, lists_total, nat_list_cmp_total}
+use Rattle.std.specs.Cmp.Lexicographic.{slice_cmp, pointwise, pointwise_decides, bytes_decides, lists_total, nat_list_cmp_total}
 use Rattle.std.specs.FinMap.{IsAntisymmetric, slice_cmp-IsAntisymmetric, nat_cmp-IsAntisymmetric}
 use Rattle.std.specs.declared.cmp.Ordering.{Ordering}
 use Rattle.pv_path.specs.Names.{same_bytes, is_name, is_staging, staging_name}
@@ -31,6 +32,10 @@ path_exact = slice_cmp-IsAntisymmetric (slice_cmp-IsAntisymmetric nat_cmp-IsAnti
 -- whether two paths are the same
 abbrev pub same_path : Path → Path → Bool
 same_path = pointwise same_bytes
+
+-- the test decides whether two paths are the same
+pub same_path-decides : (p q : Path) → Decides (same_path p q) (p ≡ q)
+same_path-decides = pointwise_decides bytes_decides
 
 -- what a path has after a prefix, or nothing where it does not begin so
 abbrev pub rest_under : Path → Path → Option Path

@@ -1,3 +1,4 @@
+//! Why a text spells no path.
 ghost use Rattle.std.specs.Prelude.{◌≡◌};
 ghost use Rattle.pv_path.specs.declared.fault.PathFault.TheVariants.{Memory};
 

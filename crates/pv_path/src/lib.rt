@@ -13,7 +13,7 @@ pub use fault::PathFault;
 pub use name::{Name, is_name, is_staging};
 pub use parse::parse_path;
 pub use path::TreePath;
-pub use print::{print_bytes, print_path};
+pub use print::{add_plain, add_printed, add_printed_but, is_plain, print_bytes, print_path};
 pub use relate::{carry, child, has_staging, is_prefix, names_under, parent, staging};
 pub use sequence::Sequence;
 

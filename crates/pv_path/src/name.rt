@@ -1,3 +1,4 @@
+//! Names: what stands between the slashes of a path (path_resolution(7)), and staging names.
 ghost use Rattle.std.specs.Prelude.{◌≡◌, ℕ, ◌≤◌, List, true, length, IfOk};
 ghost use Rattle.std.specs.Ordering.{nat_cmp, as_partial_cmp};
 ghost use Rattle.std.specs.Cmp.{partial_equiv_from_equiv};
@@ -43,7 +44,7 @@ pub fn is_staging(name: &[u8]) -> bool
 
 /// A name of a directory entry: 1 to 255 bytes without a slash and NUL, and neither `.` nor `..`.
 /// Clauses see its bytes.
-#[derive(Debug, Drop)]
+#[derive(Clone, Debug, Drop)]
 pub struct Name {
     bytes: Vec<u8>,
 }
@@ -79,9 +80,7 @@ impl Name {
     pub fn copy(&self) -> Result<Name, AllocError>
         ensures { IfOk result (λ name. name ≡ self.now) }
     {
-        Ok(Name {
-            bytes: self.bytes.clone()?,
-        })
+        self.clone()
     }
 
     /// The staging name for this name.
@@ -92,14 +91,6 @@ impl Name {
         let mut bytes = Vec::from_slice(alloc, b".#tf-")?;
         bytes.extend_from_slice(self.bytes.as_slice())?;
         Ok(Name { bytes })
-    }
-}
-
-impl Clone for Name {
-    ghost is_clone = { λ name copy. copy ≡ name };
-
-    fn clone(&self) -> Result<Name, AllocError> {
-        self.copy()
     }
 }
 

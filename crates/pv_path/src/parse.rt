@@ -1,3 +1,4 @@
+//! From a text to the path that it spells, or its first fault.
 ghost use Rattle.std.specs.Prelude.{◌≡◌, ◌==◌, true, false, map, IfOk, OnOk, IfErr};
 ghost use Rattle.std.specs.List.{list_all, list_any, slice_split};
 ghost use Rattle.pv_path.specs.Names.{is_name_byte};

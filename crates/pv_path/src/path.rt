@@ -1,3 +1,4 @@
+//! Paths as lists of names, with their order, equality and hash.
 ghost use Rattle.std.specs.Prelude.{◌≡◌, ◌≢◌, ◌↔◌, IsTrue, ℕ, ◌≤◌, List, [], ◌∷◌, ◌++◌, true, length, Some, IfOk, IfSome, OnOk, OnErr, slice_get};
 ghost use Rattle.std.specs.Option.{option_copied, option_map, option_map_or};
 ghost use Rattle.std.specs.Ordering.{as_partial_cmp};
@@ -7,8 +8,7 @@ ghost use Rattle.std.specs.Ordering.{nat_cmp};
 ghost use Rattle.std.specs.Hash as fed;
 ghost use Rattle.std.specs.Hash.{same_Alike};
 ghost use Rattle.std.proofs.Common.{rules, refl};
-ghost use Rattle.pv_path.specs.PathLaws.{same_path-decides};
-ghost use Rattle.pv_path.specs.Paths.{has_names, is_prefix, rest_under, parent_of, last_name, path_cmp, path_total, same_path, has_staging, staging_of};
+ghost use Rattle.pv_path.specs.Paths.{has_names, is_prefix, rest_under, parent_of, last_name, path_cmp, path_total, same_path, has_staging, staging_of, same_path-decides};
 
 use crate::name::{Name, is_staging};
 use std::alloc::{AllocError, Global};
@@ -17,7 +17,7 @@ use std::hash::{Hash, Hasher};
 use std::marker::Model;
 
 /// A path of a tree: its names from the root, which is the empty list. Clauses see the list of names.
-#[derive(Debug, Drop)]
+#[derive(Clone, Debug, Drop)]
 pub struct TreePath {
     names: Vec<Name>,
 }
@@ -101,9 +101,7 @@ impl TreePath {
     pub fn copy(&self) -> Result<TreePath, AllocError>
         ensures { IfOk result (λ path. path ≡ self.now) }
     {
-        Ok(TreePath {
-            names: self.names.clone()?,
-        })
+        self.clone()
     }
 
     /// The path followed by further names.
@@ -123,14 +121,6 @@ impl TreePath {
         ensures { result ≡ path_cmp self.now other.now }
     {
         self.names.cmp(&other.names)
-    }
-}
-
-impl Clone for TreePath {
-    ghost is_clone = { λ path copy. copy ≡ path };
-
-    fn clone(&self) -> Result<TreePath, AllocError> {
-        self.copy()
     }
 }
 

@@ -1,3 +1,4 @@
+//! How paths lie to each other: parent, child, prefix, staging name, and where a moved path goes.
 ghost use Rattle.std.specs.Prelude.{◌≡◌, ◌≢◌, ℕ, List, ◌≤◌, [], ◌∷◌, ◌++◌, true, length, Some, map, IsNone, IfSome, IfOk, ◌↔◌};
 ghost use Rattle.std.specs.Option.{option_map};
 ghost use Rattle.pv_path.specs.Names.{is_name};

@@ -1,3 +1,4 @@
+//! Worked rows of paths, names and printed texts.
 use super::*;
 use std::alloc::Global;
 use std::cmp::Ordering;
@@ -102,6 +103,9 @@ fn bytes_are_printed(rt: HostRuntime) -> Result<(), Fail> {
             "{bytes:?}"
         );
     }
+    let mut text = Vec::from_slice(rt.alloc(), b"a=")?;
+    add_printed_but(&mut text, b"=b,c d", b",=")?;
+    assert!(rt; text.as_slice() == b"a=\\x3db\\x2cc\\x20d".as_slice());
     Ok(())
 }
 

@@ -3,14 +3,10 @@
 use Rattle.std.specs.Prelude.{ℕ, zero, suc, ◌+◌, ◌-◌, ◌≤◌, Bool, true, ◌||◌, ◌==◌, nat_lt, List, [], ◌∷◌, ◌++◌, drop, length, slice_range, Option, Some, None, Result, Ok, Err, if◌then◌else◌, refl}
 use Rattle.std.specs.Coded.{Coded, code_by, coded×, coded_list, coded_ℕ}
 use Rattle.std.specs.List.{prefix_len, suffix_len, position_or_len, position}
+use Rattle.pv_path.specs.Results.{◌>>=◌}
 use Rattle.pv_text.specs.declared.fault.FieldFault.{FieldFault}
 use Rattle.pv_text.specs.declared.fault.FieldFault.TheVariants.{BadByte, OpenQuote, GluedQuote, BadEscape, TooFew}
 use Rattle.pv_text.specs.Escapes.{bad_escape, HasGoodEscapes}
-
-infixl 10 ◌>>=◌
-abbrev pub ◌>>=◌ : {A B : Type 0} → Result A FieldFault → (A → Result B FieldFault) → Result B FieldFault
-(Ok x) >>= f = f x
-(Err e) >>= f = Err e
 
 -- a blank: space, tab or carriage return
 abbrev pub is_blank : ℕ → Bool

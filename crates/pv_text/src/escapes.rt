@@ -1,3 +1,4 @@
+//! Escapes in fields, and what they stand for (systemd.syntax(7)).
 ghost use Rattle.std.specs.Prelude.{◌≡◌, ◌+◌, ◌^◌, ◌<◌, ◌≤◌, length, IfOk, IfSome, None};
 ghost use Rattle.pv_text.specs.Escapes.{HasGoodEscapes, bad_escape, digits_escape, escape_of, hex_escape, named_escape, numbered, octal_escape, unescaped, unit_of};
 

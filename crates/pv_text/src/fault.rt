@@ -1,3 +1,4 @@
+//! Why a line has no fields, and why a text has no expansion.
 ghost use Rattle.std.specs.Prelude.{◌≡◌};
 ghost use Rattle.pv_text.specs.declared.fault.ExpandFault.TheVariants.{Memory};
 

@@ -1,6 +1,9 @@
-ghost use Rattle.std.specs.Prelude.{◌≡◌, ℕ, List, [], ◌∷◌, ◌++◌, length, OnOk, OnErr, slice_get};
+//! The messages of a run, in the order in which they are said.
+ghost use Rattle.std.specs.Prelude.{◌≡◌, ℕ, List, [], ◌∷◌, ◌++◌, length, IfOk, OnOk, OnErr, slice_get};
 ghost use Rattle.std.specs.Option.{option_copied};
+ghost use Rattle.pv_text.specs.Said.{said_at};
 
+use crate::place::Place;
 use pv_path::Bytes;
 use std::alloc::{AllocError, Global};
 use std::marker::Model;
@@ -40,6 +43,16 @@ impl Messages {
         Ok(())
     }
 
+    /// Adds what is said of the line at a place, `FILE:N: TEXT`. After want of memory the lines are as
+    /// before.
+    pub fn push_at(&mut self, place: &Place, text: &[u8]) -> Result<(), AllocError>
+        ensures ok { OnOk result (self.new ≡ self.old ++ said_at place.now text.now ∷ []) }
+        ensures err { OnErr result (self.new ≡ self.old) }
+    {
+        let line = line_at(self.alloc, place, text)?;
+        self.push(&line)
+    }
+
     /// How many lines there are.
     pub fn len(&self) -> usize
         ensures { result ≡ length self.now }
@@ -56,4 +69,17 @@ impl Messages {
             None => None,
         }
     }
+}
+
+/// `FILE:N: TEXT`.
+fn line_at(alloc: Global, place: &Place, text: &[u8]) -> Result<Vec<u8>, AllocError>
+    ensures { IfOk result (λ line. line.items ≡ said_at place.now text.now) }
+{
+    let mut line = Vec::from_slice(alloc, place.file.as_slice())?;
+    line.push(b':')?;
+    let number = place.number.to_string(alloc)?;
+    line.extend_from_slice(number.as_bytes())?;
+    line.extend_from_slice(b": ")?;
+    line.extend_from_slice(text)?;
+    Ok(line)
 }

@@ -1,10 +1,11 @@
+//! Where a line stands: file and number.
 ghost use Rattle.std.specs.Prelude.{◌≡◌, IfOk};
 
 use pv_path::Bytes;
 use std::alloc::AllocError;
 
 /// Where a line of a configuration stands.
-#[derive(Debug, Drop)]
+#[derive(Clone, Debug, Drop)]
 pub struct Place {
     /// The printed path of the file.
     pub file: Bytes,
@@ -17,9 +18,6 @@ impl Place {
     pub fn copy(&self) -> Result<Place, AllocError>
         ensures { IfOk result (λ place. place ≡ self.now) }
     {
-        Ok(Place {
-            file: self.file.copy()?,
-            number: self.number,
-        })
+        self.clone()
     }
 }

@@ -1,3 +1,4 @@
+//! How a line is cut into fields: blanks, quotes, escapes, and the argument at its end.
 ghost use Rattle.std.specs.Prelude.{◌≡◌, ℕ, ◌==◌, ◌+◌, ◌-◌, ◌^◌, ◌<◌, ◌≤◌, false, IsTrue, ◌↔◌, List, [], ◌∷◌, ◌++◌, drop, length, IfOk, IfErr, IfSome, Ok, Err, MatchResult};
 ghost use Rattle.std.specs.List.{prefix_len, suffix_len, position, position_or_len, AllByRecursion};
 ghost use Rattle.pv_text.specs.Fields.{is_blank, is_quote, text_at, closing, escaped, is_ended, bare_at, quoted_at, field_at, next_place, argument_at, fields_from, enough, fields_of, with_front, IsChecked};

@@ -1,3 +1,4 @@
+//! Where in a line its fields stand.
 ghost use Rattle.std.specs.Prelude.{◌≡◌, ℕ, ◌<◌, ◌≤◌, List, [], ◌∷◌, ◌++◌, take, length, slice_get};
 
 use std::marker::Model;

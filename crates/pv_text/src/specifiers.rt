@@ -1,3 +1,4 @@
+//! Specifiers and their expansion (tmpfiles.d(5), sysusers.d(5)).
 ghost use Rattle.std.specs.Prelude.{◌≡◌, Ok, Err, IfOk, IfErr, MatchResult};
 ghost use Rattle.std.specs.Option.{option_map};
 ghost use Rattle.pv_text.specs.Specifiers.{fixed_for_both, fixed_for_tmpfiles, from_facts, meaning_of, expanded, FailsSo};

@@ -1,3 +1,4 @@
+//! Worked rows of fields, escapes and specifiers.
 use super::*;
 use std::alloc::Global;
 use std::test::Fail;

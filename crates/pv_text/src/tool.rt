@@ -1,3 +1,4 @@
+//! The two tools.
 /// Which of the two tools reads a configuration.
 #[derive(Clone, Copy, Debug, PartialEq, Eq)]
 pub enum Tool {

@@ -1,3 +1,4 @@
+//! Why words mean nothing.
 ghost use Rattle.std.specs.Prelude.{◌≡◌};
 ghost use Rattle.pv_words.specs.declared.fault.WordsFault.TheVariants.{Memory};
 

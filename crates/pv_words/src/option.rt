@@ -1,3 +1,4 @@
+//! The option table: a row for each option.
 ghost use Rattle.std.specs.Prelude.{◌≡◌};
 ghost use Rattle.pv_words.specs.Table.{Row as RowValue};
 ghost use Rattle.pv_words.specs.Table.{all_options, is_flag, is_for, of_both, of_tmpfiles, row_of, suffices_for, takes_value, tool_named};

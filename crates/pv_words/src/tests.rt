@@ -1,3 +1,4 @@
+//! Worked rows of words.
 use super::*;
 use pv_path::print_path;
 use pv_text::Tool;

@@ -1,3 +1,4 @@
+//! The values of options: paths, decimals and moments.
 ghost use Rattle.std.specs.Prelude.{◌≡◌, true};
 ghost use Rattle.std.specs.Option.{option_map};
 ghost use Rattle.std.specs.Str.{all_ascii_digits};

@@ -8,7 +8,7 @@ use Rattle.pv_path.specs.Paths.{Path}
 use Rattle.pv_text.specs.declared.tool.Tool.TheVariants.{Tmpfiles}
 use Rattle.pv_conf.specs.Configuration.{configured, reading_of_files}
 use Rattle.pv_conf.proofs.ReadingLaws.{said_first, said_then, said_all}
-use Rattle.pv_conf.specs.LineLists.{configured-lines}
+use Rattle.pv_conf.proofs.LineLists.{configured-lines}
 use Rattle.pv_conf.proofs.reading.read_configuration.Goals as goal
 
 pub returns-in_err-chosen-clause-part : goal.returns-in_err-chosen-clause-part

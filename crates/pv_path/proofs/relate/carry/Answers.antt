@@ -1,6 +1,6 @@
 use Rattle.std.proofs.Common.{◌≡◌, Some}
 use Rattle.pv_path.specs.Paths.{rest_under}
-use Rattle.pv_path.specs.PathLaws.{has_names-rest}
+use Rattle.pv_path.proofs.PathLaws.{has_names-rest}
 use Rattle.pv_path.proofs.Relating.{rest_of_prefix}
 use Rattle.pv_path.proofs.relate.carry.Goals as goal
 

@@ -1,5 +1,5 @@
 use Rattle.std.proofs.Common.{◌-◌, length}
-use Rattle.pv_path.specs.PathLaws.{has_names-take}
+use Rattle.pv_path.proofs.PathLaws.{has_names-take}
 use Rattle.pv_path.proofs.relate.parent.Goals as goal
 
 pub of-requires : goal.of-requires
