@@ -1,7 +1,7 @@
-pub mod PreparingLaws
-pub mod PreparingSweep
-pub mod PuttingLaws
-pub mod PuttingRuns
 pub mod SettlingLaws
 pub mod LinesLaws
 pub mod SettlingLine
+pub mod EffectLaws
+pub mod FrameLaws
+pub mod PointLaws
+pub mod StopLaws

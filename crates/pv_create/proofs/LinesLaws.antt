@@ -10,7 +10,7 @@ use Rattle.pv_steps.specs.declared.tree.TreeFault.{TreeFault}
 use Rattle.pv_steps.specs.declared.tree.TreeFault.TheVariants.{Failed, Memory}
 use Rattle.pv_steps.specs.Trees.{Files, places, IsTree}
 use Rattle.pv_steps.specs.Runs.{Ran}
-use Rattle.pv_steps.specs.RunLaws.{ran_none, ran_then, ran_weaken}
+use Rattle.pv_steps.proofs.RunLaws.{ran_none, ran_then, ran_weaken}
 use Rattle.pv_dress.specs.Asking.{asked}
 use Rattle.pv_lines.specs.declared.line.Line.{Line}
 use Rattle.pv_lines.specs.Lines.{IsLine}
@@ -19,7 +19,7 @@ use Rattle.pv_create.specs.Effects.{line_after}
 use Rattle.pv_create.specs.Created.{created, created_messages, is_refused, some_refused, carried_of, line_work, work}
 use Rattle.pv_create.specs.Saying.{line_messages}
 use Rattle.pv_create.specs.OnWay.{IsMidway, OnWay, Partway, IsStepOf, IsStepOfSome, IsMended}
-use Rattle.pv_create.specs.StopLaws.{mended, mended-none}
+use Rattle.pv_create.proofs.StopLaws.{mended, mended-none}
 use Rattle.pv_create.proofs.SettlingLine.{ran_longer}
 
 -- nothing done is on the way

@@ -5,7 +5,7 @@ use Rattle.std.proofs.Common.{zero, suc, refl, sym, ap, subst, ◌∙◌, inl, i
 use Rattle.std.proofs.lemmas.Bool.{eqb-true, eq-eqb}
 use Rattle.std.proofs.lemmas.Bool.Decides.{nat_tests}
 use Rattle.pv_path.specs.Paths.{Path}
-use Rattle.pv_path.specs.PathLaws.{both_true, is_prefix-refl}
+use Rattle.pv_path.proofs.PathLaws.{both_true}
 use Rattle.pv_acl.specs.declared.part.Part.{Part}
 use Rattle.pv_acl.specs.NamedEntries.{is_perm}
 use Rattle.pv_acl.specs.Parts as parts
@@ -15,24 +15,25 @@ use Rattle.pv_steps.specs.declared.object.Object.{Object}
 use Rattle.pv_steps.specs.declared.step.Step.{Step}
 use Rattle.pv_steps.specs.declared.step.Step.TheVariants.{SetMode}
 use Rattle.pv_steps.specs.declared.tree.TreeFault.{TreeFault}
-use Rattle.pv_steps.specs.Objects.{bare, changed, IsObject}
-use Rattle.pv_steps.specs.ObjectLaws.{is_acl-with_mode}
+use Rattle.pv_steps.specs.Objects.{bare, changed, IsObject, AttrsFit, LettersFit}
+use Rattle.pv_steps.proofs.ObjectLaws.{is_acl-with_mode}
 use Rattle.pv_steps.specs.Trees.{Files, places, kind_of, node_at, IsKind, IsTree}
 use Rattle.pv_steps.specs.Steps.{on_at, put_at}
 use Rattle.pv_steps.specs.Runs.{Ran}
-use Rattle.pv_steps.specs.RunLaws.{ran_weaken}
+use Rattle.pv_steps.proofs.RunLaws.{ran_weaken}
 use Rattle.pv_steps.specs.Same.{bares}
-use Rattle.pv_dress.specs.declared.attributes.Dress.{Dress}
+use Rattle.pv_dress.specs.declared.bare.Dress.{Dress}
 use Rattle.pv_dress.specs.Asking.{asked}
-use Rattle.pv_dress.specs.EditLaws.{path_cases, on_at-here, on_at-else}
-use Rattle.pv_dress.specs.Dressing.{IsDress, CanWear, dress_mode, wear, wear_first, Dressing, GivesDress, IsChanged, ChangedAt, IsKeptBy}
+use Rattle.pv_dress.proofs.EditLaws.{path_cases, on_at-here, on_at-else}
+use Rattle.pv_dress.specs.Dressing.{IsDress, CanWear, dress_mode, wear, wear_attrs, wear_letters, wear_first, Dressing, GivesDress, IsChanged, ChangedAt, IsKeptBy}
 use Rattle.pv_walk.specs.Staging.{can_stage}
 use Rattle.pv_lines.specs.declared.line.Line.{Line}
 use Rattle.pv_lines.specs.Lines.{IsLine}
 use Rattle.pv_create.specs.Effects.{line_file, line_dress, wears, adjusted, settled, settled_at, settled_kind}
 use Rattle.pv_create.specs.Created.{adjust_kind}
-use Rattle.pv_create.specs.OnWay.{IsMidway, OnWay, IsStepOf, IsStaged}
-use Rattle.pv_create.specs.Preparing.{IsPutting, Putting, IsPutStep, settle_work}
+use Rattle.pv_create.specs.OnWay.{IsMidway, OnWay, IsStepOf}
+use Rattle.pv_walk.specs.Putting.{IsPutting, Putting, IsPutStep}
+use Rattle.pv_create.specs.Preparing.{settle_work}
 use Rattle.pv_create.specs.Settling.{node_dress}
 
 some_of : (a b : Object) → Some a ≡ Some b → a ≡ b
@@ -67,13 +68,21 @@ special_small mode h = omega arith
 
 -- ---- the dress of a line
 
-module _ (line : Line) (is : IsLine line) (o : Object) (whole : IsObject o) where
+module _ (line : Line) (is : IsLine line) (o : Object) (whole : IsObject o) (directory : o.node.kind ≡ Directory) where
+  fits_attrs : AttrsFit Directory o.node.attrs
+  fits_attrs = subst (λ k. AttrsFit k o.node.attrs) directory whole.attrs
+
+  fits_letters : LettersFit Directory o.node.letters
+  fits_letters = subst (λ k. LettersFit k o.node.letters) directory whole.letters
+
   pub line_is_dress : IsDress Directory (line_dress line o)
   line_is_dress = record {
     owner = (is.uid, is.gid);
     special = special_small line.mode is.mode;
     acl = is_acl-with_mode line.mode o.node.acl whole.acl;
     fits = tt;
+    attrs = fits_attrs;
+    letters = fits_letters;
   }
 
   pub dress_mode_is : dress_mode (line_dress line o) ≡ line.mode
@@ -137,8 +146,10 @@ pub bare_first : (k : ℕ) (line : Line) (o : Object) → bare (wear_first k (li
 bare_first zero line o = refl
 bare_first (suc zero) line o = refl
 bare_first (suc (suc zero)) line o = refl
-bare_first (suc (suc (suc k))) line o =
-    subst (λ xs. bare (fold (λ x change. change x) (wear_first 3 (line_dress line o) o) xs) ≡ fold (λ x change. change x) (wear_first 3 (line_dress line (bare o)) (bare o)) xs)
+bare_first (suc (suc (suc zero))) line o = refl
+bare_first (suc (suc (suc (suc zero)))) line o = refl
+bare_first (suc (suc (suc (suc (suc k))))) line o =
+    subst (λ xs. bare (fold (λ x change. change x) (wear_first 5 (line_dress line o) o) xs) ≡ fold (λ x change. change x) (wear_first 5 (line_dress line (bare o)) (bare o)) xs)
     (sym (take_none k)) refl
 
 -- ---- a directory that is there
@@ -167,7 +178,7 @@ module _ (line : Line) (is : IsLine line) (t : Files) (tree : IsTree t) (here : 
   new_is = let e : Some new ≡ Some (line_dress line o) = dress ∙ ap (λ v. option_map (node_dress line) (option_map (λ x. x.node) v)) there in cc
 
   pub can_wear : CanWear t line.path new
-  can_wear = record { kind = Directory; there = here; dress = subst (IsDress Directory) (sym new_is) (line_is_dress line is o whole) }
+  can_wear = record { kind = Directory; there = here; dress = subst (IsDress Directory) (sym new_is) (line_is_dress line is o whole kind) }
 
   settled_is : (now : ℕ) → settled line now (places t) ≡ put_at line.path (Some (adjusted line now o)) (places t)
   settled_is now = ap (settled_at line now (places t)) there ∙ ap (settled_kind line now (places t) o) kind
@@ -176,7 +187,7 @@ module _ (line : Line) (is : IsLine line) (t : Files) (tree : IsTree t) (here : 
   adjust_one now u h =
       let same : h.old ≡ o = some_of h.old o (sym h.there ∙ there) in
       let change : IsChanged (wear (line_dress line o)) now o h.object = subst (λ x. IsChanged (wear (line_dress line o)) now x h.object) same (subst (λ d. IsChanged (wear d) now h.old h.object) new_is h.is) in
-      h.left ∙ ap (λ x. put_at line.path (Some x) (places t)) (adjusted_is line is o whole now h.object change) ∙ sym (settled_is now)
+      h.left ∙ ap (λ x. put_at line.path (Some x) (places t)) (adjusted_is line is o whole kind now h.object change) ∙ sym (settled_is now)
 
   pub adjust_ok : (now : ℕ) (r : Result (Unit {0}) TreeFault) (u : Files) → OnOk r (ChangedAt (wear new) line.path now t u) → OnOk r (places u ≡ settled line now (places t))
   adjust_ok now (Ok x) u h = adjust_one now u h
@@ -195,28 +206,35 @@ module _ (line : Line) (is : IsLine line) (t : Files) (tree : IsTree t) (here : 
 
   gives : (s : Step) → GivesDress line.path (line_dress line o) t s → IsStepOf line s
   gives s (inl e) = IsStepOf.owner e
-  gives s (inr (inl e)) = IsStepOf.mode (e ∙ ap (SetMode line.path) (dress_mode_is line is o whole))
-  gives s (inr (inr e)) = absurd (e.1 o there (acl_given line is o whole))
+  gives s (inr (inl e)) = IsStepOf.mode (e ∙ ap (SetMode line.path) (dress_mode_is line is o whole kind))
+  gives s (inr (inr (inl e))) = absurd (e.1 o there (acl_given line is o whole kind))
+  gives s (inr (inr (inr (inl e)))) = absurd (e.1 o there refl)
+  gives s (inr (inr (inr (inr e)))) = absurd (e.1 o there refl)
 
   pub adjust_ran : (now : ℕ) (h : List Step) (u : Files) (k : List Step) → Ran (Dressing line.path new t) (GivesDress line.path new t) now t h u k → Ran (OnWay line t) (IsStepOf line) now t h u k
   adjust_ran now h u k ran =
       ran_weaken (Dressing line.path (line_dress line o) t) (OnWay line t) (GivesDress line.path (line_dress line o) t) (IsStepOf line) now on_way gives
       (subst (λ d. Ran (Dressing line.path d t) (GivesDress line.path d t) now t h u k) new_is ran)
 
-  pub adjust_bound : (r : Result (Unit {0}) TreeFault) (h k : List Step) → asked r h k ≤ 3 → (IsKeptBy (wear new) line.path t → asked r h k ≡ 0) → asked r h k ≤ settle_work line (places t line.path)
-  adjust_bound r h k most idle = subst (λ n. asked r h k ≤ n) (sym work) (by (wears line o) refl)
+  pub adjust_bound : (r : Result (Unit {0}) TreeFault) (h k : List Step) → (IsKeptBy (wear_attrs new) line.path t → IsKeptBy (wear_letters new) line.path t → asked r h k ≤ 3) → (IsKeptBy (wear new) line.path t → asked r h k ≡ 0) → asked r h k ≤ settle_work line (places t line.path)
+  adjust_bound r h k few idle = subst (λ n. asked r h k ≤ n) (sym work) (by (wears line o) refl)
     where
       work : settle_work line (places t line.path) ≡ 4 * cond (wears line o) 0 1
       work = ap (settle_work line) there ∙ ap (λ v. 4 * adjust_kind line o v) kind
 
+      kept_part : (wearing : Dress → Object → Object) → ((x : Object) → wearing (line_dress line x) x ≡ x) → IsKeptBy (wearing new) line.path t
+      kept_part wearing own x at =
+          let same : o ≡ x = some_of o x (sym there ∙ at) in
+          subst (λ v. wearing new v ≡ v) same (ap (λ d. wearing d o) new_is ∙ own o)
+
       keeps : wears line o ≡ true → IsKeptBy (wear new) line.path t
       keeps e x at =
           let same : o ≡ x = some_of o x (sym there ∙ at) in
-          subst (λ v. wear new v ≡ v) same (ap (λ d. wear d o) new_is ∙ wears_kept line is o whole e)
+          subst (λ v. wear new v ≡ v) same (ap (λ d. wear d o) new_is ∙ wears_kept line is o whole kind e)
 
       by : (b : Bool) → wears line o ≡ b → asked r h k ≤ 4 * cond b 0 1
       by true e = let none = idle (keeps e) in omega (arith, none)
-      by false e = omega (arith, most)
+      by false e = let most = few (kept_part wear_attrs (λ x. refl)) (kept_part wear_letters (λ x. refl)) in omega (arith, most)
 
 -- ---- a new directory
 
@@ -242,9 +260,5 @@ module _ (line : Line) where
       by (IsPutting.kept e) = IsMidway.kept e
       by (IsPutting.put e old new) = IsMidway.put e old new
 
-  put_step : (s : Step) → IsPutStep line.path (line_file line) s → IsStepOf line s
-  put_step s (inl e) = IsStepOf.stages line.path (line_file line) (IsStaged.last refl refl) e
-  put_step s (inr e) = IsStepOf.publishes line.path (is_prefix-refl line.path) e
-
   pub put_ran : (now : ℕ) (t : Files) (h : List Step) (u : Files) (k : List Step) → Ran (Putting line.path (line_file line) t) (IsPutStep line.path (line_file line)) now t h u k → Ran (OnWay line t) (IsStepOf line) now t h u k
-  put_ran now t h u k ran = ran_weaken (Putting line.path (line_file line) t) (OnWay line t) (IsPutStep line.path (line_file line)) (IsStepOf line) now (put_way t) put_step ran
+  put_ran now t h u k ran = ran_weaken (Putting line.path (line_file line) t) (OnWay line t) (IsPutStep line.path (line_file line)) (IsStepOf line) now (put_way t) (λ s e. IsStepOf.puts e) ran

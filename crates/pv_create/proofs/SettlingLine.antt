@@ -4,7 +4,7 @@ use Rattle.std.proofs.Common.{refl, sym, ap, subst, ◌∙◌, inl, inr, ◌⊎�
 use Rattle.std.proofs.lemmas.List.{map-append}
 use Rattle.std.proofs.lemmas.List.Elements.{filter-append}
 use Rattle.pv_path.specs.Paths.{Path, parent_of}
-use Rattle.pv_path.specs.PathLaws.{path_ends, parent_of-push}
+use Rattle.pv_path.proofs.PathLaws.{path_ends, parent_of-push}
 use Rattle.pv_steps.specs.declared.node.Kind.TheVariants.{Directory}
 use Rattle.pv_steps.specs.declared.object.Object.{Object}
 use Rattle.pv_steps.specs.declared.step.Step.{Step}
@@ -12,17 +12,19 @@ use Rattle.pv_steps.specs.declared.tree.TreeFault.{TreeFault}
 use Rattle.pv_steps.specs.declared.why.Why.{Why}
 use Rattle.pv_steps.specs.Trees.{Files, Places, places, kind_of, IsTree}
 use Rattle.pv_steps.specs.Runs.{Ran}
-use Rattle.pv_steps.specs.RunLaws.{ran_then, ran_weaken, ran_end}
+use Rattle.pv_steps.proofs.RunLaws.{ran_then, ran_weaken, ran_end}
 use Rattle.pv_steps.specs.Same.{bares}
 use Rattle.pv_dress.specs.Asking.{asked}
 use Rattle.pv_walk.specs.Staging.{prefixes, staging_names, count_at_all}
 use Rattle.pv_lines.specs.declared.line.Line.{Line}
-use Rattle.pv_create.specs.Effects.{prepared, settled, line_refusal, unless_refused, line_effect, line_after}
-use Rattle.pv_create.specs.EffectLaws.{prefixes-cons, line_after_is}
+use Rattle.pv_walk.specs.Preparing.{prepared, IsPreparing, Preparing, IsPrepareStep, parent_count}
+use Rattle.pv_create.specs.Effects.{settled, line_refusal, unless_refused, line_effect, line_after}
+use Rattle.pv_create.proofs.EffectLaws.{prefixes-cons, line_after_is}
 use Rattle.pv_create.specs.Created.{new_count, adjust_count, unrefused_work, line_work}
-use Rattle.pv_create.specs.Saying.{left_message, refused_or_left, line_messages, refused_text, said_at}
+use Rattle.pv_create.specs.Saying.{left_message, refused_or_left, line_messages, refused_text}
+use Rattle.pv_text.specs.Said.{said_at}
 use Rattle.pv_create.specs.OnWay.{IsMidway, OnWay, IsStepOf}
-use Rattle.pv_create.specs.Preparing.{IsPreparing, Preparing, parent_count, settle_work}
+use Rattle.pv_create.specs.Preparing.{settle_work}
 
 -- ---- how many places of a path are absent
 
@@ -44,7 +46,7 @@ prefixes_parent path = elim (path_ends path) [
 
 module _ (line : Line) (t : Files) where
   -- the path itself is one more, where it is absent
-  count_more : line.path ≢ [] → new_count line t ≡ parent_count line t + length (filter (λ place. is_none (places t place)) (line.path ∷ []))
+  count_more : line.path ≢ [] → new_count line t ≡ parent_count line.path t + length (filter (λ place. is_none (places t place)) (line.path ∷ []))
   count_more nonempty = elim (prefixes_parent line.path) [
     | inl e ↦ absurd (nonempty e)
     | inr e ↦
@@ -53,7 +55,7 @@ module _ (line : Line) (t : Files) where
         ∙ length-append (filter (λ place. is_none (places t place)) (prefixes (parent_of line.path))) (filter (λ place. is_none (places t place)) (line.path ∷ []))
   ]
 
-  count_root : line.path ≡ [] → new_count line t ≡ parent_count line t
+  count_root : line.path ≡ [] → new_count line t ≡ parent_count line.path t
   count_root e = ap (λ p. length (filter (λ place. is_none (places t place)) (prefixes p))) (e ∙ sym (ap parent_of e))
 
   root_cases : (line.path ≡ []) ⊎ (line.path ≢ [])
@@ -63,7 +65,7 @@ module _ (line : Line) (t : Files) where
       by [] = inl refl
       by (n ∷ p) = inr (λ e. cc)
 
-  settle_within : (v : Option Object) → places t line.path ≡ v → (v ≡ None → line.path ≢ []) → 6 * parent_count line t + settle_work line v ≤ 6 * new_count line t + 4 * adjust_count line v
+  settle_within : (v : Option Object) → places t line.path ≡ v → (v ≡ None → line.path ≢ []) → 8 * parent_count line.path t + settle_work line v ≤ 8 * new_count line t + 4 * adjust_count line v
   settle_within None e nonroot =
       let one : length (filter (λ place. is_none (places t place)) (line.path ∷ [])) ≡ 1 = ap (λ v. length (cond (is_none v) (line.path ∷ []) [])) e in
       let more = count_more (nonroot refl) in
@@ -86,11 +88,11 @@ module _ (line : Line) (now : ℕ) (t : Files) (free : line_refusal line (places
   line_ok (Ok x) u v before e = line_after_is line now t v (e ∙ ap (settled line now) before ∙ sym effect_is)
   line_ok (Err f) u v before e = tt
 
-  work_is : line_work line t ≡ count_at_all t (staging_names line.path) + 6 * new_count line t + 4 * adjust_count line (places t line.path)
+  work_is : line_work line t ≡ count_at_all t (staging_names line.path) + 8 * new_count line t + 4 * adjust_count line (places t line.path)
   work_is = ap (unrefused_work line t) free
 
   -- how many steps are asked for when the first part ends with a fault, and when the second has ended
-  pub prepare_bound : (n : ℕ) → n ≤ count_at_all t (staging_names line.path) + 6 * parent_count line t → n ≤ line_work line t
+  pub prepare_bound : (n : ℕ) → n ≤ count_at_all t (staging_names line.path) + 8 * parent_count line.path t → n ≤ line_work line t
   prepare_bound n h = subst (λ m. n ≤ m) (sym work_is) (elim (root_cases line t) [
     | inl root ↦ let same = count_root line t root in omega (arith, same)
     | inr nonempty ↦ let more = count_more line t nonempty in omega (arith, more)
@@ -98,7 +100,7 @@ module _ (line : Line) (now : ℕ) (t : Files) (free : line_refusal line (places
 
   pub line_bound : (r : Result (Unit {0}) TreeFault) (h k l : List Step) (u : Files) → IsTree u → places u line.path ≡ places t line.path
       → length h ≤ length k → length k ≤ length l
-      → length k - length h ≤ count_at_all t (staging_names line.path) + 6 * parent_count line t
+      → length k - length h ≤ count_at_all t (staging_names line.path) + 8 * parent_count line.path t
       → asked r k l ≤ settle_work line (places u line.path) → asked r h l ≤ line_work line t
   line_bound r h k l u tree same first second a b =
       let nonroot : places t line.path ≡ None → line.path ≢ [] = λ none root.
@@ -110,27 +112,27 @@ module _ (line : Line) (now : ℕ) (t : Files) (free : line_refusal line (places
 -- ---- on the way
 
 module _ (line : Line) where
-  pub preparing_way : (t u : Files) → Preparing line t u → OnWay line t u
+  pub preparing_way : (t u : Files) → Preparing line.path t u → OnWay line t u
   preparing_way t u h q plain = by (h q plain)
     where
-      by : IsPreparing line q (bares (places t) q) (bares (places u) q) → IsMidway line q (bares (places t) q) (bares (places u) q)
+      by : IsPreparing line.path q (bares (places t) q) (bares (places u) q) → IsMidway line q (bares (places t) q) (bares (places u) q)
       by (IsPreparing.kept e) = IsMidway.kept e
       by (IsPreparing.parent above none is) = IsMidway.parent above none is
 
-  way_then : (q : Path) (old mid new : Option Object) → IsPreparing line q old mid → IsMidway line q mid new → IsMidway line q old new
+  way_then : (q : Path) (old mid new : Option Object) → IsPreparing line.path q old mid → IsMidway line q mid new → IsMidway line q old new
   way_then q old mid new (IsPreparing.kept e) m = subst (λ o. IsMidway line q o new) e m
   way_then q old mid new (IsPreparing.parent above none is) (IsMidway.kept e) = IsMidway.parent above none (e ∙ is)
   way_then q old mid new (IsPreparing.parent above none is) (IsMidway.parent a n e) = IsMidway.parent above none e
   way_then q old mid new (IsPreparing.parent above none is) (IsMidway.put here n e) = absurd (above.1 here)
   way_then q old mid new (IsPreparing.parent above none is) (IsMidway.adjusting o k here n d e) = absurd (above.1 here)
 
-  pub prepare_ran : (now : ℕ) (t : Files) (h : List Step) (u : Files) (k : List Step) → Ran (Preparing line t) (IsStepOf line) now t h u k → Ran (OnWay line t) (IsStepOf line) now t h u k
-  prepare_ran now t h u k ran = ran_weaken (Preparing line t) (OnWay line t) (IsStepOf line) (IsStepOf line) now (preparing_way t) (λ s e. e) ran
+  pub prepare_ran : (now : ℕ) (t : Files) (h : List Step) (u : Files) (k : List Step) → Ran (Preparing line.path t) (IsPrepareStep line.path) now t h u k → Ran (OnWay line t) (IsStepOf line) now t h u k
+  prepare_ran now t h u k ran = ran_weaken (Preparing line.path t) (OnWay line t) (IsPrepareStep line.path) (IsStepOf line) now (preparing_way t) (λ s e. IsStepOf.prepares e) ran
 
-  pub line_ran : (now : ℕ) (t : Files) (h : List Step) (u : Files) (k : List Step) (v : Files) (l : List Step) → Ran (Preparing line t) (IsStepOf line) now t h u k → Ran (OnWay line u) (IsStepOf line) now u k v l
+  pub line_ran : (now : ℕ) (t : Files) (h : List Step) (u : Files) (k : List Step) (v : Files) (l : List Step) → Ran (Preparing line.path t) (IsPrepareStep line.path) now t h u k → Ran (OnWay line u) (IsStepOf line) now u k v l
       → Ran (OnWay line t) (IsStepOf line) now t h v l
   line_ran now t h u k v l first second =
-      let before : Preparing line t u = ran_end (Preparing line t) (IsStepOf line) now first in
+      let before : Preparing line.path t u = ran_end (Preparing line.path t) (IsPrepareStep line.path) now first in
       ran_then (OnWay line t) (IsStepOf line) now (prepare_ran now t h u k first)
       (ran_weaken (OnWay line u) (OnWay line t) (IsStepOf line) (IsStepOf line) now (λ w way q plain. way_then q (bares (places t) q) (bares (places u) q) (bares (places w) q) (before q plain) (way q plain)) (λ s e. e) second)
 

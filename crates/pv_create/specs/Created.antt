@@ -6,7 +6,7 @@ use Rattle.pv_steps.specs.declared.node.Kind.TheVariants.{Directory}
 use Rattle.pv_steps.specs.declared.object.Object.{Object}
 use Rattle.pv_steps.specs.declared.why.Why.{Why}
 use Rattle.pv_steps.specs.Trees.{Files, places}
-use Rattle.pv_walk.specs.Staging.{prefixes, staging_names, count_at_all}
+use Rattle.pv_walk.specs.Staging.{prefixes, staging_names, count_at_all, most_new}
 use Rattle.pv_lines.specs.declared.line.Line.{Line}
 use Rattle.pv_create.specs.declared.carried.Carried.{Carried}
 use Rattle.pv_create.specs.declared.carried.Carried.TheVariants.{Whole, NotCarriedOut}
@@ -56,10 +56,14 @@ abbrev pub adjust_count : Line → Option Object → ℕ
 adjust_count line None = 0
 adjust_count line (Some o) = adjust_kind line o o.node.kind
 
--- none for a refused line; else one for each swept object, six for each new one, four for an adjusted directory
+-- at most how many steps one line asks for an object that stays
+abbrev pub most_changed : ℕ
+most_changed = 4
+
+-- none for a refused line; else one for each swept object, the most for each new one and for an adjusted directory
 abbrev pub unrefused_work : Line → Files → Option (ℕ × Why) → ℕ
 unrefused_work line t (Some place) = 0
-unrefused_work line t None = count_at_all t (staging_names line.path) + 6 * new_count line t + 4 * adjust_count line (places t line.path)
+unrefused_work line t None = count_at_all t (staging_names line.path) + most_new * new_count line t + most_changed * adjust_count line (places t line.path)
 
 -- the most steps of a line over a tree
 abbrev pub line_work : Line → Files → ℕ

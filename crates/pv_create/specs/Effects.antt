@@ -1,7 +1,6 @@
 -- What a creating line leaves of a tree, stamps included (tmpfiles.d(5)). It knows no staged object and no half-done run.
-use Rattle.std.specs.Prelude.{ℕ, Bool, ◌&&◌, ◌==◌, List, ◌∷◌, ◌++◌, fold, Option, Some, None, is_some, if◌then◌else◌}
+use Rattle.std.specs.Prelude.{ℕ, Bool, ◌&&◌, ◌==◌, ◌∷◌, ◌++◌, Option, Some, None, if◌then◌else◌}
 use Rattle.std.specs.FinMap as fin
-use Rattle.pv_path.specs.Paths.{Path, parent_of}
 use Rattle.pv_acl.specs.Parts as parts
 use Rattle.pv_acl.specs.Parts.{mode_of, special_of}
 use Rattle.pv_steps.specs.declared.node.Kind.{Kind}
@@ -12,35 +11,13 @@ use Rattle.pv_steps.specs.Objects.{changed}
 use Rattle.pv_steps.specs.Trees.{Files, Places, places, tabulate}
 use Rattle.pv_steps.specs.Steps.{put_at, made}
 use Rattle.pv_steps.specs.Refusal.{refusal}
-use Rattle.pv_dress.specs.declared.attributes.Dress.{Dress}
+use Rattle.pv_dress.specs.declared.bare.Dress.{Dress}
 use Rattle.pv_dress.specs.Dressing.{wear}
-use Rattle.pv_dress.specs.Edits.{all_taken}
 use Rattle.pv_walk.specs.declared.new_file.NewFile.{NewFile}
 use Rattle.pv_walk.specs.declared.new_file.NewKind.TheVariants as new
-use Rattle.pv_walk.specs.Staging.{prefixes, staging_names, new_object}
+use Rattle.pv_walk.specs.Staging.{new_object}
+use Rattle.pv_walk.specs.Preparing.{parents_of, prepared}
 use Rattle.pv_lines.specs.declared.line.Line.{Line}
-
--- ---- above the path
-
--- the places above a path but the root, from the root on
-abbrev pub parents_of : Path → List Path
-parents_of path = prefixes (parent_of path)
-
--- an absent parent is made a directory 0755 of root
-abbrev pub parent_file : NewFile
-parent_file = record { what = new.Directory; mode = 0o755; uid = 0; gid = 0 }
-
--- where nothing stands at a place, a parent is put there
-abbrev pub with_parent : ℕ → Places → Path → Places
-with_parent now t place = if is_some (t place) then t else made now place (new_object parent_file now) t
-
--- the same at each place above a path but the root, from the root on
-abbrev pub with_parents : ℕ → Path → Places → Places
-with_parents now path t = fold (with_parent now) t (parents_of path)
-
--- what an earlier run has staged along the path is taken away, and absent parents are put
-abbrev pub prepared : ℕ → Path → Places → Places
-prepared now path t = with_parents now path (all_taken now (staging_names path) t)
 
 -- ---- at the path
 
@@ -48,13 +25,16 @@ prepared now path t = with_parents now path (all_taken now (staging_names path) 
 abbrev pub line_file : Line → NewFile
 line_file line = record { what = new.Directory; mode = line.mode; uid = line.uid; gid = line.gid }
 
--- what a directory that is there is to wear: the line's owners and mode; named entries, mask and default part stay
+-- what a directory that is there is to wear: the line's owners and mode; named entries, mask, default part, extended
+-- attributes and letters stay
 abbrev pub line_dress : Line → Object → Dress
 line_dress line o = record {
   uid = line.uid;
   gid = line.gid;
   special = special_of line.mode;
   acl = record o.node.acl { access = parts.with_mode line.mode o.node.acl.access };
+  attrs = o.node.attrs;
+  letters = o.node.letters;
 }
 
 -- whether it has all that already

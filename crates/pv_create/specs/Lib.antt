@@ -3,11 +3,6 @@ pub mod Created
 pub mod Saying
 pub mod OnWay
 pub mod Preparing
-pub mod PreparingParents
 pub mod Settling
 pub mod Points
-pub mod EffectLaws
-pub mod PointLaws
-pub mod StopLaws
 pub mod Turns
-pub mod FrameLaws

@@ -1,7 +1,7 @@
 -- What a run may have left on its way, stamps and staging names aside, and that a second run mends it
 -- (tmpfiles.d(5)).
-use Rattle.std.specs.Prelude.{◌≡◌, ◌≢◌, ◌⊎◌, ℕ, true, false, List, [], ◌∷◌, take, Option, Some, None}
-use Rattle.pv_path.specs.Paths.{Path, is_prefix, has_staging, staging_of}
+use Rattle.std.specs.Prelude.{◌≡◌, ◌⊎◌, ℕ, false, List, [], ◌∷◌, take, Option, Some, None}
+use Rattle.pv_path.specs.Paths.{Path, has_staging}
 use Rattle.pv_steps.specs.declared.node.Kind.TheVariants.{Directory}
 use Rattle.pv_steps.specs.declared.object.Object.{Object}
 use Rattle.pv_steps.specs.declared.step.Step.{Step}
@@ -11,17 +11,14 @@ use Rattle.pv_steps.specs.Trees.{Files, places}
 use Rattle.pv_steps.specs.Runs.{after_all}
 use Rattle.pv_steps.specs.Same.{Same, bares}
 use Rattle.pv_dress.specs.Dressing.{wear_first}
-use Rattle.pv_walk.specs.declared.new_file.NewFile.{NewFile}
-use Rattle.pv_walk.specs.Staging.{new_object, GivesNew, IsRemoval, IsPublishing}
+use Rattle.pv_walk.specs.Staging.{new_object}
+use Rattle.pv_walk.specs.Putting.{IsPutStep}
+use Rattle.pv_walk.specs.Preparing.{IsAbove, IsPrepareStep, parent_file}
 use Rattle.pv_lines.specs.declared.line.Line.{Line}
-use Rattle.pv_create.specs.Effects.{parent_file, line_file, line_dress, line_after}
+use Rattle.pv_create.specs.Effects.{line_file, line_dress, line_after}
 use Rattle.pv_create.specs.Created.{created, IsQuiet}
 
 -- ---- on the way
-
--- a place above a path
-abbrev pub IsAbove : Path → Path → Type 0
-IsAbove q path = (is_prefix q path ≡ true) × (q ≢ path)
 
 -- what stands at a path while a line is at work, from what stood there: the same, a parent that was absent, the new
 -- directory, or the old one that wears the first of owner, mode and ACL
@@ -43,17 +40,10 @@ Partway (line ∷ lines) now t u = OnWay line t u ⊎ Partway lines now (line_af
 
 -- ---- single steps
 
--- what is made under the staging name for a place: a parent, or the line's directory
-pub data IsStaged (line : Line) (place : Path) (file : NewFile) : Type 0 where
-  above : IsAbove place line.path → file ≡ parent_file → IsStaged line place file
-  last : place ≡ line.path → file ≡ line_file line → IsStaged line place file
-
--- a step of a line takes something away, makes what is to come under its staging name and gives it what it is to
--- have, publishes it, or sets the line's owners or mode at its path
+-- a step of a line prepares its path, puts its directory there, or sets the line's owners or mode
 pub data IsStepOf (line : Line) (step : Step) : Type 0 where
-  removes : IsRemoval step → IsStepOf line step
-  stages : (place : Path) (file : NewFile) → IsStaged line place file → GivesNew (staging_of place) file step → IsStepOf line step
-  publishes : (place : Path) → is_prefix place line.path ≡ true → IsPublishing place step → IsStepOf line step
+  prepares : IsPrepareStep line.path step → IsStepOf line step
+  puts : IsPutStep line.path (line_file line) step → IsStepOf line step
   owner : step ≡ SetOwner line.path line.uid line.gid → IsStepOf line step
   mode : step ≡ SetMode line.path line.mode → IsStepOf line step
 

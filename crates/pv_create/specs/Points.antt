@@ -10,7 +10,8 @@ use Rattle.pv_steps.specs.Trees.{Places}
 use Rattle.pv_dress.specs.Dressing.{wear}
 use Rattle.pv_walk.specs.Staging.{new_object}
 use Rattle.pv_lines.specs.declared.line.Line.{Line}
-use Rattle.pv_create.specs.Effects.{parent_file, line_file, line_dress}
+use Rattle.pv_walk.specs.Preparing.{parent_file}
+use Rattle.pv_create.specs.Effects.{line_file, line_dress}
 
 -- a directory that stood at the line's path wears the line's owners and mode, any other object stays
 abbrev pub point_kind : Line → Object → Kind → Object

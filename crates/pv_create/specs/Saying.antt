@@ -1,20 +1,16 @@
 -- What a run says of its lines; the texts are this project's own.
 use Rattle.std.specs.Prelude.{ℕ, List, [], ◌∷◌, ◌++◌, codes, take, Option, Some, None}
-use Rattle.std.specs.Fmt.{decimal}
 use Rattle.pv_path.specs.Paths.{Path}
 use Rattle.pv_path.specs.Printing.{printed_path}
-use Rattle.pv_text.specs.declared.place.Place.{Place}
+use Rattle.pv_text.specs.Said.{said_at}
 use Rattle.pv_steps.specs.declared.node.Kind.{Kind}
 use Rattle.pv_steps.specs.declared.node.Kind.TheVariants.{Directory, File, Link, Fifo, CharDevice, BlockDevice}
 use Rattle.pv_steps.specs.declared.why.Why.{Why}
 use Rattle.pv_steps.specs.declared.why.Why.TheVariants as why
 use Rattle.pv_steps.specs.Trees.{Places, kind_of}
 use Rattle.pv_lines.specs.declared.line.Line.{Line}
-use Rattle.pv_create.specs.Effects.{line_refusal, prepared}
-
--- a text said of the line at a place: `FILE:N: TEXT`
-abbrev pub said_at : Place → List ℕ → List ℕ
-said_at place text = place.file ++ codes ":" ++ decimal place.number ++ codes ": " ++ text
+use Rattle.pv_walk.specs.Preparing.{prepared}
+use Rattle.pv_create.specs.Effects.{line_refusal}
 
 -- the words for a kind
 abbrev pub kind_text : Kind → List ℕ

@@ -2,14 +2,16 @@
 use Rattle.pv_acl.specs.Parts as parts
 use Rattle.pv_acl.specs.Parts.{special_of}
 use Rattle.pv_steps.specs.declared.node.Node.{Node}
-use Rattle.pv_dress.specs.declared.attributes.Dress.{Dress}
+use Rattle.pv_dress.specs.declared.bare.Dress.{Dress}
 use Rattle.pv_lines.specs.declared.line.Line.{Line}
 
--- the line's owners and mode; named entries, mask and default part stay
+-- the line's owners and mode; named entries, mask, default part, extended attributes and letters stay
 abbrev pub node_dress : Line → Node → Dress
 node_dress line node = record {
   uid = line.uid;
   gid = line.gid;
   special = special_of line.mode;
   acl = record node.acl { access = parts.with_mode line.mode node.acl.access };
+  attrs = node.attrs;
+  letters = node.letters;
 }

@@ -1,3 +1,4 @@
+//! How a run of lines ended.
 /// Whether each line could be carried out.
 #[derive(Clone, Copy, Debug, PartialEq, Eq)]
 pub enum Carried {

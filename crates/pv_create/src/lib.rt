@@ -6,8 +6,6 @@ mod laws;
 mod line;
 mod lines;
 mod message;
-mod prepare;
-mod put;
 mod settle;
 
 pub use carried::Carried;

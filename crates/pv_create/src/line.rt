@@ -1,3 +1,4 @@
+//! One line carried out.
 ghost use Rattle.std.specs.Prelude.{◌≡◌, ◌<◌, ◌≤◌, ◌^◌, ◌++◌, length, None, OnOk, IfOk, IsErrOf};
 ghost use Rattle.pv_io.specs.Faults.{HasRisen};
 ghost use Rattle.pv_text.specs.Said.{SaidPart};
@@ -13,12 +14,11 @@ ghost use Rattle.pv_create.specs.OnWay.{OnWay, IsStepOf};
 
 use crate::carried::Carried;
 use crate::message::say_refused;
-use crate::prepare::prepare;
 use crate::settle::settle;
 use pv_lines::Line;
 use pv_steps::{Tree, TreeFault, Why};
 use pv_text::Messages;
-use pv_walk::{Walked, walk};
+use pv_walk::{Walked, prepare, walk};
 use std::alloc::{AllocError, Global};
 
 /// Carries out one line. A refused line does nothing but say so.
@@ -41,7 +41,7 @@ pub(crate) fn carry_out<T: Tree>(
     ensures bound { asked result (T.steps tree.old) (T.steps tree.new)
         ≤ line_work line.now (T.state tree.old) }
     ensures tree { IsTree (T.state tree.old) }
-    ensures never_falls { T.faults tree.old ≤ T.faults tree.new }
+    ensures reaches { T.reaches tree.old tree.new }
     ensures cause { IsErrOf result Failed → HasRisen (T.faults tree.old) (T.faults tree.new) }
 {
     match refusal_of(alloc, tree, line)? {
@@ -91,9 +91,9 @@ fn carry_out_unrefused<T: Tree>(
         (T.state tree.old) (T.steps tree.old) (T.state tree.new) (T.steps tree.new) }
     ensures bound { asked result (T.steps tree.old) (T.steps tree.new)
         ≤ line_work line.now (T.state tree.old) }
-    ensures never_falls { T.faults tree.old ≤ T.faults tree.new }
+    ensures reaches { T.reaches tree.old tree.new }
     ensures cause { IsErrOf result Failed → HasRisen (T.faults tree.old) (T.faults tree.new) }
 {
-    prepare(alloc, tree, line, now)?;
+    prepare(alloc, tree, &line.path, now)?;
     settle(alloc, tree, line, now, messages)
 }

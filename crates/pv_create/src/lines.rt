@@ -1,3 +1,4 @@
+//! Lines carried out in their order.
 ghost use Rattle.std.specs.Prelude.{◌≡◌, ◌≤◌, Bool, ◌||◌, ◌++◌, drop, length, OnOk, IfOk, IsErrOf};
 ghost use Rattle.std.specs.List.{AllByRecursion};
 ghost use Rattle.pv_io.specs.Faults.{HasRisen};
@@ -41,7 +42,7 @@ pub fn create_run<T: Tree>(
         (T.state tree.old) (T.steps tree.old) (T.state tree.new) (T.steps tree.new) }
     ensures bound { asked result (T.steps tree.old) (T.steps tree.new)
         ≤ work lines.now now (T.state tree.old) }
-    ensures never_falls { T.faults tree.old ≤ T.faults tree.new }
+    ensures reaches { T.reaches tree.old tree.new }
     ensures cause { IsErrOf result Failed → HasRisen (T.faults tree.old) (T.faults tree.new) }
 
     // The stop law.

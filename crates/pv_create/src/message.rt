@@ -1,31 +1,14 @@
+//! What is said of lines.
 ghost use Rattle.std.specs.Prelude.{◌≡◌, ◌++◌, ◌∷◌, [], take, IfOk, OnOk, OnErr};
 ghost use Rattle.pv_path.specs.Printing.{printed_path};
-ghost use Rattle.pv_create.specs.Saying.{said_at, kind_text, why_text, left_text, refused_text};
+ghost use Rattle.pv_text.specs.Said.{said_at};
+ghost use Rattle.pv_create.specs.Saying.{kind_text, why_text, left_text, refused_text};
 
 use pv_lines::Line;
 use pv_path::{TreePath, print_path};
 use pv_steps::{Kind, Why};
-use pv_text::{Messages, Place};
+use pv_text::Messages;
 use std::alloc::{AllocError, Global};
-
-/// Says a text of the line at a place: `FILE:N: TEXT`.
-fn say_at(
-    alloc: Global,
-    place: &Place,
-    text: &[u8],
-    messages: &mut Messages,
-) -> Result<(), AllocError>
-    ensures ok { OnOk result (messages.new ≡ messages.old ++ said_at place.now text.now ∷ []) }
-    ensures err { OnErr result (messages.new ≡ messages.old) }
-{
-    let mut line = Vec::from_slice(alloc, place.file.as_slice())?;
-    line.extend_from_slice(b":")?;
-    let number = place.number.to_string(alloc)?;
-    line.extend_from_slice(number.as_bytes())?;
-    line.extend_from_slice(b": ")?;
-    line.extend_from_slice(text)?;
-    messages.push(&line)
-}
 
 fn kind_text(kind: Kind) -> &'static [u8]
     ensures { result.now ≡ kind_text kind }
@@ -72,8 +55,7 @@ pub(crate) fn say_left(
         ≡ messages.old ++ said_at line.now.place (left_text line.now.path kind) ∷ []) }
     ensures err { OnErr result (messages.new ≡ messages.old) }
 {
-    let text = left_text(alloc, &line.path, kind)?;
-    say_at(alloc, &line.place, &text, messages)
+    messages.push_at(&line.place, &left_text(alloc, &line.path, kind)?)
 }
 
 /// The path of the first names of a path.
@@ -118,5 +100,5 @@ pub(crate) fn say_refused(
     ensures err { OnErr result (messages.new ≡ messages.old) }
 {
     let text = refused_text(alloc, &line.path, place, why)?;
-    say_at(alloc, &line.place, &text, messages)
+    messages.push_at(&line.place, &text)
 }

@@ -1,3 +1,4 @@
+//! What a line does at its path itself.
 ghost use Rattle.std.specs.Prelude.{◌≡◌, ◌≢◌, ◌≤◌, ◌++◌, [], Some, IfOk, OnOk, IsErrOf, option_map};
 ghost use Rattle.pv_io.specs.Faults.{HasRisen};
 ghost use Rattle.pv_path.specs.Paths.{parent_of, staging_of};
@@ -15,13 +16,12 @@ ghost use Rattle.pv_create.specs.Preparing.{settle_work};
 ghost use Rattle.pv_create.specs.Settling.{node_dress};
 
 use crate::message::say_left;
-use crate::put::put_new;
 use pv_dress::{Dress, dress};
 use pv_lines::Line;
 use pv_path::TreePath;
-use pv_steps::{Kind, Node, Tree, TreeFault};
+use pv_steps::{Kind, Node, Tree, TreeFault, kind_at, special_bits};
 use pv_text::Messages;
-use pv_walk::{NewFile, NewKind};
+use pv_walk::{NewFile, NewKind, put_new};
 use std::alloc::{AllocError, Global};
 
 /// Does what a line asks for at its path itself: puts the new directory, adjusts a directory that is there, or
@@ -46,24 +46,13 @@ pub(crate) fn settle<T: Tree>(
     ensures bound { asked result (T.steps tree.old) (T.steps tree.new)
         ≤ settle_work line.now (places (T.state tree.old) line.now.path) }
     ensures tree { IsTree (T.state tree.old) }
-    ensures never_falls { T.faults tree.old ≤ T.faults tree.new }
+    ensures reaches { T.reaches tree.old tree.new }
     ensures cause { IsErrOf result Failed → HasRisen (T.faults tree.old) (T.faults tree.new) }
 {
     match kind_at(tree, &line.path) {
         None => put_new(alloc, tree, &line.path, &directory_of(line), now),
         Some(Kind::Directory) => adjust(alloc, tree, line, now),
         Some(kind) => Ok(say_left(alloc, line, kind, messages)?),
-    }
-}
-
-/// What stands at a path, or nothing.
-fn kind_at<T: Tree>(tree: &T, path: &TreePath) -> Option<Kind>
-    ensures kind { result ≡ kind_of (places (T.state tree.now) path.now) }
-    ensures tree { IsTree (T.state tree.now) }
-{
-    match tree.look(path) {
-        Some(node) => Some(node.kind),
-        None => None,
     }
 }
 
@@ -88,7 +77,7 @@ fn adjust<T: Tree>(alloc: Global, tree: &mut T, line: &Line, now: u64) -> Result
         (T.state tree.old) (T.steps tree.old) (T.state tree.new) (T.steps tree.new) }
     ensures bound { asked result (T.steps tree.old) (T.steps tree.new)
         ≤ settle_work line.now (places (T.state tree.old) line.now.path) }
-    ensures never_falls { T.faults tree.old ≤ T.faults tree.new }
+    ensures reaches { T.reaches tree.old tree.new }
     ensures cause { IsErrOf result Failed → HasRisen (T.faults tree.old) (T.faults tree.new) }
 {
     let new = dress_here(tree, line)?;
@@ -108,7 +97,8 @@ fn dress_here<T: Tree>(tree: &T, line: &Line) -> Result<Dress, AllocError>
     }
 }
 
-/// What an object is to wear: the line's owners and mode; named entries, mask and default part stay.
+/// What an object is to wear: the line's owners and mode; named entries, mask, default part, extended attributes
+/// and letters stay.
 fn dress_of(line: &Line, node: &Node) -> Result<Dress, AllocError>
     ensures { IfOk result (λ new. new ≡ node_dress line.now node.now) }
 {
@@ -117,7 +107,9 @@ fn dress_of(line: &Line, node: &Node) -> Result<Dress, AllocError>
     Ok(Dress {
         uid: line.uid,
         gid: line.gid,
-        special: (line.mode / 512) as u8,
+        special: special_bits(line.mode),
         acl,
+        attrs: node.attrs.copy()?,
+        letters: node.letters,
     })
 }

@@ -2,6 +2,8 @@
 use Rattle.std.specs.Prelude.{◌≡◌, ℕ, Bool, true, false, List, [], ◌∷◌, fold, ◌⊎◌, if◌then◌else◌}
 use Rattle.std.proofs.Common.{refl, inl, inr}
 use Rattle.std.specs.List.{list_any}
+use Rattle.std.specs.Int.{bit_at}
+use Rattle.std.proofs.lemmas.Nat.Bits.{same_from_bits}
 use Rattle.pv_acl.specs.declared.part.Part.{Part}
 use Rattle.pv_acl.specs.Parts.{part_of_mode}
 use Rattle.pv_steps.specs.declared.node.Kind.{Kind}
@@ -14,9 +16,9 @@ use Rattle.pv_dress.specs.Operations.{admits, changed}
 use Rattle.pv_dress.specs.Reasons.{is_adjusting, is_append, is_masked, gives_base}
 use Rattle.pv_dress.proofs.Settling.{Settled, settled_twice, settled-chained, IsChained, chained_all}
 use Rattle.pv_dress.proofs.Cutting.{cut-self, Cuts, cuts_twice, cuts-chained}
-use Rattle.pv_dress.proofs.Puts.{Puts, puts_twice, puts-chained}
+use Rattle.pv_dress.proofs.Puts.{Puts, puts_twice, puts-chained, PutsAttrs, puts_attrs_twice, puts_attrs-chained}
 use Rattle.pv_dress.proofs.PartChanges.{plain-part_after, base}
-use Rattle.pv_dress.proofs.NodeChanges.{Keeps, keeps-chained, keeps-changed, settled-payload, settled-uid, settled-gid, settled-special, settled-base, settled-mask, cuts-base, puts-named, MayFill, fills-chained, fills_twice, fills-changed}
+use Rattle.pv_dress.proofs.NodeChanges.{Keeps, keeps-chained, keeps-changed, settled-payload, settled-uid, settled-gid, settled-special, settled-base, settled-mask, cuts-base, puts-named, puts-attrs, settled-letters, MayFill, fills-chained, fills_twice, fills-changed}
 
 -- ---- the changes of a list, for an object of a kind
 
@@ -88,6 +90,12 @@ module _ (kind : Kind) (xs : List Operation) where
   named_twice : (b : Bare) → (all (all b)).dress.acl.access.named ≡ (all b).dress.acl.access.named
   named_twice b = puts_twice (λ (b : Bare). b.dress.acl.access.named) all (chained_any (Puts (λ (b : Bare). b.dress.acl.access.named)) (puts-chained (λ (b : Bare). b.dress.acl.access.named)) kind (puts-named kind) xs) b
 
+  attrs_twice : (b : Bare) → (all (all b)).dress.attrs ≡ (all b).dress.attrs
+  attrs_twice b = puts_attrs_twice (λ (b : Bare). b.dress.attrs) all (chained_any (PutsAttrs (λ (b : Bare). b.dress.attrs)) (puts_attrs-chained (λ (b : Bare). b.dress.attrs)) kind (puts-attrs kind) xs) b
+
+  letters_twice : (b : Bare) → (all (all b)).dress.letters ≡ (all b).dress.letters
+  letters_twice b = same_from_bits (all (all b)).dress.letters (all b).dress.letters (λ i. settled_any (λ b. bit_at b.dress.letters i) (settled-letters i kind) b)
+
   default_twice : (b : Bare) → (all (all b)).dress.acl.default_part ≡ (all b).dress.acl.default_part
   default_twice b = fills_twice all (chained_any MayFill fills-chained kind (fills-changed kind) xs) b
 
@@ -108,6 +116,8 @@ module _ (kind : Kind) (xs : List Operation) where
         };
         default_part = default_twice b i;
       };
+      attrs = attrs_twice b i;
+      letters = letters_twice b i;
     };
   }
     where

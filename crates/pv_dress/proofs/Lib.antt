@@ -1,9 +1,15 @@
 pub mod WearLaws
 pub mod Settling
 pub mod Cutting
+pub mod Placing
 pub mod Puts
+pub mod LetterChanges
 pub mod PartChanges
 pub mod NodeChanges
 pub mod Absorbing
 pub mod Repeating
+pub mod Dividing
 pub mod OperationLaws
+pub mod AskingLaws
+pub mod DressLaws
+pub mod EditLaws

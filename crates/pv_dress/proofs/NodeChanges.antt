@@ -1,5 +1,5 @@
 -- What changes make of an object of a kind, attribute by attribute.
-use Rattle.std.specs.Prelude.{◌≡◌, ℕ, ◌/◌, ◌%◌, true, false, List, [], ◌∷◌, Option, Some, None, ◌⊎◌}
+use Rattle.std.specs.Prelude.{◌≡◌, ℕ, ◌/◌, ◌%◌, Bool, true, false, if◌then◌else◌, List, [], ◌∷◌, Option, Some, None, ◌⊎◌}
 use Rattle.std.proofs.Common.{refl, sym, ap, ◌∙◌, inl, inr}
 use Rattle.pv_acl.specs.declared.line.Entry.{Entry}
 use Rattle.pv_acl.specs.declared.line.How.{How}
@@ -7,17 +7,23 @@ use Rattle.pv_acl.specs.declared.part.Part.{Part}
 use Rattle.pv_acl.specs.Parts as parts
 use Rattle.pv_acl.specs.Parts.{base_of}
 use Rattle.pv_acl.specs.Applying.{part_after, default_after}
+use Rattle.pv_steps.specs.declared.attr.Attr.{Attr}
+use Rattle.pv_steps.specs.declared.letters.LetterHow.{LetterHow}
+use Rattle.pv_steps.specs.Attributes.{put_attrs}
+use Rattle.pv_steps.specs.Letters.{letters_after}
 use Rattle.pv_steps.specs.declared.node.Kind.{Kind}
 use Rattle.pv_steps.specs.declared.node.Kind.TheVariants.{Directory, File}
 use Rattle.pv_dress.specs.declared.bare.Bare.{Bare}
 use Rattle.pv_dress.specs.declared.operation.Change.{Change}
-use Rattle.pv_dress.specs.declared.operation.Change.TheVariants.{Write, Append, Owner, Mode, Entries}
-use Rattle.pv_dress.specs.Nodes.{is_link}
+use Rattle.pv_dress.specs.declared.operation.Change.TheVariants.{Write, Append, Owner, Mode, Entries, Attrs, Letters}
+use Rattle.pv_dress.specs.Nodes.{carries_letters, is_link}
 use Rattle.pv_dress.specs.Operations.{changed}
 use Rattle.pv_dress.specs.Reasons.{is_append, is_masked, gives_base}
 use Rattle.pv_dress.proofs.Settling.{Settled, IsChained}
 use Rattle.pv_dress.proofs.Cutting.{Cuts}
-use Rattle.pv_dress.proofs.Puts.{Puts}
+use Rattle.std.specs.Int.{bit_at}
+use Rattle.pv_dress.proofs.LetterChanges.{settled-letter}
+use Rattle.pv_dress.proofs.Puts.{Puts, PutsAttrs}
 use Rattle.pv_dress.proofs.PartChanges.{IsPlain, plain_twice, plain-chained, plain-part_after, base, base-part_after}
 
 -- ---- what stays: the kind, the numbers of a device, the target of a link
@@ -48,8 +54,34 @@ keeps-changed kind (Owner uid gid) = record { same = λ b. refl; major = λ b. r
 keeps-changed kind (Mode mode false) = record { same = λ b. refl; major = λ b. refl; minor = λ b. refl; target = λ l b. refl }
 keeps-changed kind (Mode mode true) = record { same = λ b. refl; major = λ b. refl; minor = λ b. refl; target = λ l b. refl }
 keeps-changed kind (Entries line how) = record { same = λ b. refl; major = λ b. refl; minor = λ b. refl; target = λ l b. refl }
+keeps-changed kind (Attrs attrs) = by (is_link kind)
+  where
+    by : (t : Bool) → Keeps kind (λ b. if t then b else record b { dress = record b.dress { attrs = put_attrs attrs b.dress.attrs } })
+    by true = (keeps-chained kind).none
+    by false = record { same = λ b. refl; major = λ b. refl; minor = λ b. refl; target = λ l b. refl }
+keeps-changed kind (Letters how letters) = by (carries_letters kind)
+  where
+    by : (t : Bool) → Keeps kind (λ b. if t then record b { dress = record b.dress { letters = letters_after how letters b.dress.letters } } else b)
+    by true = record { same = λ b. refl; major = λ b. refl; minor = λ b. refl; target = λ l b. refl }
+    by false = (keeps-chained kind).none
 
 -- ---- what is given one value or stays
+
+-- changes of extended attributes and letters leave what lies beside them
+module _ {B : Type 0} (attribute : Bare → B) where
+  beside_attrs : ((new : List Attr) (b : Bare) → attribute (record b { dress = record b.dress { attrs = new } }) ≡ attribute b) → (kind : Kind) (attrs : List Attr) (b : Bare) → attribute (changed kind (Attrs attrs) b) ≡ attribute b
+  beside_attrs stays kind attrs b = by (is_link kind)
+    where
+      by : (t : Bool) → attribute (if t then b else record b { dress = record b.dress { attrs = put_attrs attrs b.dress.attrs } }) ≡ attribute b
+      by true = refl
+      by false = stays (put_attrs attrs b.dress.attrs) b
+
+  beside_letters : ((new : ℕ) (b : Bare) → attribute (record b { dress = record b.dress { letters = new } }) ≡ attribute b) → (kind : Kind) (how : LetterHow) (letters : ℕ) (b : Bare) → attribute (changed kind (Letters how letters) b) ≡ attribute b
+  beside_letters stays kind how letters b = by (carries_letters kind)
+    where
+      by : (t : Bool) → attribute (if t then record b { dress = record b.dress { letters = letters_after how letters b.dress.letters } } else b) ≡ attribute b
+      by true = stays (letters_after how letters b.dress.letters) b
+      by false = refl
 
 pub settled-payload : (kind : Kind) (c : Change) → is_append c ≡ false → Settled (λ (b : Bare). b.body.payload) (changed kind c)
 settled-payload File (Write bytes) h = inr (λ a b. refl)
@@ -59,6 +91,8 @@ settled-payload kind (Owner uid gid) h = inl (λ b. refl)
 settled-payload kind (Mode mode false) h = inl (λ b. refl)
 settled-payload kind (Mode mode true) h = inl (λ b. refl)
 settled-payload kind (Entries line how) h = inl (λ b. refl)
+settled-payload kind (Attrs attrs) h = inl (beside_attrs (λ (b : Bare). b.body.payload) (λ n b. refl) kind attrs)
+settled-payload kind (Letters how letters) h = inl (beside_letters (λ (b : Bare). b.body.payload) (λ n b. refl) kind how letters)
 
 pub settled-uid : (kind : Kind) (c : Change) → Settled (λ (b : Bare). b.dress.uid) (changed kind c)
 settled-uid File (Write bytes) = inl (λ b. refl)
@@ -70,6 +104,8 @@ settled-uid kind (Owner (Some uid) gid) = inr (λ a b. refl)
 settled-uid kind (Mode mode false) = inl (λ b. refl)
 settled-uid kind (Mode mode true) = inl (λ b. refl)
 settled-uid kind (Entries line how) = inl (λ b. refl)
+settled-uid kind (Attrs attrs) = inl (beside_attrs (λ (b : Bare). b.dress.uid) (λ n b. refl) kind attrs)
+settled-uid kind (Letters how letters) = inl (beside_letters (λ (b : Bare). b.dress.uid) (λ n b. refl) kind how letters)
 
 pub settled-gid : (kind : Kind) (c : Change) → Settled (λ (b : Bare). b.dress.gid) (changed kind c)
 settled-gid File (Write bytes) = inl (λ b. refl)
@@ -81,6 +117,8 @@ settled-gid kind (Owner uid (Some gid)) = inr (λ a b. refl)
 settled-gid kind (Mode mode false) = inl (λ b. refl)
 settled-gid kind (Mode mode true) = inl (λ b. refl)
 settled-gid kind (Entries line how) = inl (λ b. refl)
+settled-gid kind (Attrs attrs) = inl (beside_attrs (λ (b : Bare). b.dress.gid) (λ n b. refl) kind attrs)
+settled-gid kind (Letters how letters) = inl (beside_letters (λ (b : Bare). b.dress.gid) (λ n b. refl) kind how letters)
 
 pub settled-special : (kind : Kind) (c : Change) → Settled (λ (b : Bare). b.dress.special) (changed kind c)
 settled-special File (Write bytes) = inl (λ b. refl)
@@ -91,6 +129,8 @@ settled-special kind (Owner uid gid) = inl (λ b. refl)
 settled-special kind (Mode mode false) = inr (λ a b. refl)
 settled-special kind (Mode mode true) = inr (λ a b. refl)
 settled-special kind (Entries line how) = inl (λ b. refl)
+settled-special kind (Attrs attrs) = inl (beside_attrs (λ (b : Bare). b.dress.special) (λ n b. refl) kind attrs)
+settled-special kind (Letters how letters) = inl (beside_letters (λ (b : Bare). b.dress.special) (λ n b. refl) kind how letters)
 
 -- ---- the access part
 
@@ -112,6 +152,8 @@ module _ {B : Type 0} (attribute : Part → B) (one : (m : ℕ) (a b : Part) →
   settled-base kind (Mode mode false) h = inr (λ a b. one mode a.dress.acl.access b.dress.acl.access)
   settled-base kind (Mode mode true) h = cc
   settled-base kind (Entries line how) h = at_access attribute (λ p. part_after how p line.access) (entries how line.access) (changed kind (Entries line how)) (λ b. refl)
+  settled-base kind (Attrs attrs) h = inl (beside_attrs (λ (b : Bare). attribute b.dress.acl.access) (λ n b. refl) kind attrs)
+  settled-base kind (Letters how letters) h = inl (beside_letters (λ (b : Bare). attribute b.dress.acl.access) (λ n b. refl) kind how letters)
 
 -- without base entries of lines the base entries together
 pub cuts-base : (kind : Kind) (c : Change) → gives_base c ≡ false → Cuts (λ (b : Bare). base b.dress.acl.access) (changed kind c)
@@ -123,6 +165,8 @@ cuts-base kind (Owner uid gid) h = inl (inl (λ b. refl))
 cuts-base kind (Mode mode false) h = inl (inr (λ a b. refl))
 cuts-base kind (Mode mode true) h = inr (record { owner = mode / 64 % 8; group = mode / 8 % 8; other = mode % 8 }, λ b. refl)
 cuts-base kind (Entries line how) h = inl (inl (λ b. base-part_after how line.access h b.dress.acl.access))
+cuts-base kind (Attrs attrs) h = inl (inl (beside_attrs (λ (b : Bare). base b.dress.acl.access) (λ n b. refl) kind attrs))
+cuts-base kind (Letters how letters) h = inl (inl (beside_letters (λ (b : Bare). base b.dress.acl.access) (λ n b. refl) kind how letters))
 
 pub settled-mask : (kind : Kind) (c : Change) → Settled (λ (b : Bare). b.dress.acl.access.mask) (changed kind c)
 settled-mask File (Write bytes) = inl (λ b. refl)
@@ -133,6 +177,8 @@ settled-mask kind (Owner uid gid) = inl (λ b. refl)
 settled-mask kind (Mode mode false) = inl (λ b. refl)
 settled-mask kind (Mode mode true) = inl (λ b. refl)
 settled-mask kind (Entries line how) = at_access (λ (p : Part). p.mask) (λ p. part_after how p line.access) (plain-part_after how line.access).mask (changed kind (Entries line how)) (λ b. refl)
+settled-mask kind (Attrs attrs) = inl (beside_attrs (λ (b : Bare). b.dress.acl.access.mask) (λ n b. refl) kind attrs)
+settled-mask kind (Letters how letters) = inl (beside_letters (λ (b : Bare). b.dress.acl.access.mask) (λ n b. refl) kind how letters)
 
 named_at_access : (f : Part → Part) → Puts (λ (p : Part). p.named) f → (g : Bare → Bare) → ((b : Bare) → (g b).dress.acl.access ≡ f b.dress.acl.access) → Puts (λ (b : Bare). b.dress.acl.access.named) g
 named_at_access f (inl p) g e = inl (p.0, λ b. ap (λ (x : Part). x.named) (e b) ∙ p.1 b.dress.acl.access)
@@ -147,6 +193,44 @@ puts-named kind (Owner uid gid) = inl ([], λ b. refl)
 puts-named kind (Mode mode false) = inl ([], λ b. refl)
 puts-named kind (Mode mode true) = inl ([], λ b. refl)
 puts-named kind (Entries line how) = named_at_access (λ p. part_after how p line.access) (plain-part_after how line.access).named (changed kind (Entries line how)) (λ b. refl)
+puts-named kind (Attrs attrs) = inl ([], beside_attrs (λ (b : Bare). b.dress.acl.access.named) (λ n b. refl) kind attrs)
+puts-named kind (Letters how letters) = inl ([], beside_letters (λ (b : Bare). b.dress.acl.access.named) (λ n b. refl) kind how letters)
+
+-- ---- extended attributes, and letters
+
+pub puts-attrs : (kind : Kind) (c : Change) → PutsAttrs (λ (b : Bare). b.dress.attrs) (changed kind c)
+puts-attrs File (Write bytes) = inl ([], λ b. refl)
+puts-attrs kind (Write bytes) = inl ([], λ b. refl)
+puts-attrs File (Append bytes) = inl ([], λ b. refl)
+puts-attrs kind (Append bytes) = inl ([], λ b. refl)
+puts-attrs kind (Owner uid gid) = inl ([], λ b. refl)
+puts-attrs kind (Mode mode false) = inl ([], λ b. refl)
+puts-attrs kind (Mode mode true) = inl ([], λ b. refl)
+puts-attrs kind (Entries line how) = inl ([], λ b. refl)
+puts-attrs kind (Attrs attrs) = by (is_link kind)
+  where
+    by : (t : Bool) → PutsAttrs (λ (b : Bare). b.dress.attrs) (λ b. if t then b else record b { dress = record b.dress { attrs = put_attrs attrs b.dress.attrs } })
+    by true = inl ([], λ b. refl)
+    by false = inl (attrs, λ b. refl)
+puts-attrs kind (Letters how letters) = inl ([], beside_letters (λ (b : Bare). b.dress.attrs) (λ n b. refl) kind how letters)
+
+pub settled-letters : (i : ℕ) (kind : Kind) (c : Change) → Settled (λ (b : Bare). bit_at b.dress.letters i) (changed kind c)
+settled-letters i File (Write bytes) = inl (λ b. refl)
+settled-letters i kind (Write bytes) = inl (λ b. refl)
+settled-letters i File (Append bytes) = inl (λ b. refl)
+settled-letters i kind (Append bytes) = inl (λ b. refl)
+settled-letters i kind (Owner uid gid) = inl (λ b. refl)
+settled-letters i kind (Mode mode false) = inl (λ b. refl)
+settled-letters i kind (Mode mode true) = inl (λ b. refl)
+settled-letters i kind (Entries line how) = inl (λ b. refl)
+settled-letters i kind (Attrs attrs) = inl (beside_attrs (λ (b : Bare). bit_at b.dress.letters i) (λ n b. refl) kind attrs)
+settled-letters i kind (Letters how letters) = by (carries_letters kind) (settled-letter how letters i)
+  where
+    by : (t : Bool) → Settled (λ (set : ℕ). bit_at set i) (λ set. letters_after how letters set)
+        → Settled (λ (b : Bare). bit_at b.dress.letters i) (λ b. if t then record b { dress = record b.dress { letters = letters_after how letters b.dress.letters } } else b)
+    by true (inl p) = inl (λ b. p b.dress.letters)
+    by true (inr p) = inr (λ a b. p a.dress.letters b.dress.letters)
+    by false p = inl (λ b. refl)
 
 -- ---- the default part
 
@@ -203,3 +287,5 @@ fills-changed kind (Mode mode false) = inl (λ b. refl)
 fills-changed kind (Mode mode true) = inl (λ b. refl)
 fills-changed Directory (Entries line how) = fills_entries how line.default_part (changed Directory (Entries line how)) (λ b. part_after how b.dress.acl.access line.access) (λ b. refl)
 fills-changed kind (Entries line how) = inl (λ b. refl)
+fills-changed kind (Attrs attrs) = inl (beside_attrs (λ (b : Bare). b.dress.acl.default_part) (λ n b. refl) kind attrs)
+fills-changed kind (Letters how letters) = inl (beside_letters (λ (b : Bare). b.dress.acl.default_part) (λ n b. refl) kind how letters)

@@ -1,14 +1,17 @@
 -- Laws of operations on one object, for the crates above.
 use Rattle.std.specs.Prelude.{◌≡◌, ℕ, true, false, List, ◌∷◌, ◌++◌, take, Option, Some, None, option_map}
 use Rattle.std.specs.List.{list_all, list_any}
-use Rattle.std.proofs.Common.{ap}
+use Rattle.std.proofs.Common.{ap, sym, ◌∙◌, refl}
+use Rattle.pv_path.specs.Paths.{Path}
+use Rattle.pv_steps.specs.Trees.{Places}
+use Rattle.pv_steps.specs.Same.{bares}
 use Rattle.pv_steps.specs.declared.object.Object.{Object}
 use Rattle.pv_steps.specs.Objects.{bare, stamped}
 use Rattle.pv_dress.specs.declared.bare.Bare.{Bare}
 use Rattle.pv_dress.specs.declared.operation.Test.{Test}
 use Rattle.pv_dress.specs.declared.operation.Operation.{Operation}
 use Rattle.pv_dress.specs.declared.operation.Operation.TheVariants.{Renew, Erase}
-use Rattle.pv_dress.specs.Nodes.{bare_of}
+use Rattle.pv_dress.specs.Nodes.{bare_of, bares_of}
 use Rattle.pv_dress.specs.Operations.{run, stays}
 use Rattle.pv_dress.specs.Reasons.{is_adjusting, is_idle, is_make, is_renewal, is_erasure, IsRepeatable}
 use Rattle.pv_dress.proofs.Repeating as repeating
@@ -28,9 +31,28 @@ bare-same a b e = λ i. record {
     stamps = stamped 0;
     major = (e i).body.major;
     minor = (e i).body.minor;
+    attrs = (e i).dress.attrs;
+    letters = (e i).dress.letters;
   };
   payload = (e i).body.payload;
 }
+
+-- what stands at a path is compared without stamps in one way
+pub bares_of-same : (t u : Places) (q : Path) → bares t q ≡ bares u q → bares_of t q ≡ bares_of u q
+bares_of-same t u q e = sym (again (t q)) ∙ ap (option_map bare_of) e ∙ again (u q)
+  where
+    again : (o : Option Object) → option_map bare_of (option_map bare o) ≡ option_map bare_of o
+    again None = refl
+    again (Some x) = refl
+
+pub bares-same : (t u : Places) (q : Path) → bares_of t q ≡ bares_of u q → bares t q ≡ bares u q
+bares-same t u q e = by (t q) (u q) e
+  where
+    by : (a b : Option Object) → option_map bare_of a ≡ option_map bare_of b → option_map bare a ≡ option_map bare b
+    by None None e = refl
+    by None (Some y) e = let no : None ≡ Some (bare_of y) = e in cc
+    by (Some x) None e = let no : Some (bare_of x) ≡ None = e in cc
+    by (Some x) (Some y) e = let same : bare_of x ≡ bare_of y = cc in ap Some (bare-same x y same)
 
 -- the operations of two lists, one after the other
 pub run-append : (xs ys : List Operation) (b : Option Bare) → run (xs ++ ys) b ≡ run ys (run xs b)

@@ -16,7 +16,7 @@ use Rattle.pv_steps.specs.declared.node.Kind.TheVariants.{Directory, File, Link,
 use Rattle.pv_dress.specs.declared.bare.Body.{Body}
 use Rattle.pv_dress.specs.declared.bare.Bare.{Bare}
 use Rattle.pv_dress.specs.declared.operation.Change.{Change}
-use Rattle.pv_dress.specs.declared.operation.Change.TheVariants.{Write, Append, Owner, Mode, Entries}
+use Rattle.pv_dress.specs.declared.operation.Change.TheVariants.{Write, Append, Owner, Mode, Entries, Attrs, Letters}
 use Rattle.pv_dress.specs.declared.operation.Test.{Test}
 use Rattle.pv_dress.specs.declared.operation.Operation.{Operation}
 use Rattle.pv_dress.specs.declared.operation.Operation.TheVariants.{Make, Renew, Erase, Adjust}
@@ -155,6 +155,8 @@ idle-changed : (kind : Kind) (c : Change) → is_idle c ≡ true → (b : Bare) 
 idle-changed kind (Write bytes) h b = cc
 idle-changed kind (Append bytes) h b = cc
 idle-changed kind (Mode mode masked) h b = cc
+idle-changed kind (Attrs attrs) h b = cc
+idle-changed kind (Letters how letters) h b = cc
 idle-changed kind (Owner None None) h b = refl
 idle-changed kind (Owner None (Some gid)) h b = cc
 idle-changed kind (Owner (Some uid) gid) h b = cc

@@ -1,33 +1,34 @@
 -- Laws of the changes that a dress makes.
-use Rattle.std.specs.Prelude.{◌≡◌, ◌≢◌, ℕ, ◌/◌, ◌%◌, ◌≤◌, true, false, cond, ◌&&◌, List, Option, Some, None, is_some, option_map, Result, Ok, Err, OnOk}
+use Rattle.std.specs.Prelude.{◌≡◌, ◌≢◌, ℕ, ◌/◌, ◌%◌, ◌≤◌, true, false, cond, ◌&&◌, List, Option, Some, None, is_some, option_map, Result, Ok, Err, OnOk, [], ◌⊎◌}
 use Rattle.std.proofs.Common.{refl, sym, ap, subst, ◌∙◌, inl, inr, arith}
 use Rattle.std.proofs.lemmas.Bool.Decides.{nat_tests}
 use Rattle.pv_path.specs.Paths.{Path, same_path}
-use Rattle.pv_path.specs.PathLaws.{both_true}
+use Rattle.pv_path.proofs.PathLaws.{both_true}
 use Rattle.pv_acl.specs.declared.part.Part.{Part}
 use Rattle.pv_acl.specs.NamedEntries.{is_perm}
 use Rattle.pv_acl.specs.Parts as parts
 use Rattle.pv_acl.specs.Parts.{is_acl, is_part, mode_of, special_of}
+use Rattle.pv_steps.specs.Attributes.{are_attrs}
 use Rattle.pv_steps.specs.declared.node.Kind.{Kind}
 use Rattle.pv_steps.specs.declared.node.Kind.TheVariants.{Directory, File, Link, Fifo, CharDevice, BlockDevice}
 use Rattle.pv_steps.specs.declared.node.Node.{Node}
 use Rattle.pv_steps.specs.declared.object.Object.{Object}
 use Rattle.pv_steps.specs.declared.step.Step.{Step}
-use Rattle.pv_steps.specs.declared.step.Step.TheVariants.{SetOwner, SetMode, SetAcl}
+use Rattle.pv_steps.specs.declared.step.Step.TheVariants.{SetOwner, SetMode, SetAcl, SetAttrs, SetLetters}
 use Rattle.pv_steps.specs.declared.tree.TreeFault.{TreeFault}
-use Rattle.pv_steps.specs.Objects.{bare, changed, with_mode, AclFits}
-use Rattle.pv_steps.specs.Trees.{Files, Places, places, kind_of, node_at, IsPresentIn, IsTree}
+use Rattle.pv_steps.specs.Objects.{bare, changed, with_mode, AclFits, AttrsFit, LettersFit}
+use Rattle.pv_steps.specs.Trees.{Files, Places, places, kind_of, node_at, IsPresentIn, IsKindIn, IsTree}
 use Rattle.pv_steps.specs.Steps.{Can, TakesAcl, after, after_at, put_at, on_at}
-use Rattle.pv_steps.specs.Runs.{Ran}
-use Rattle.pv_steps.specs.RunLaws.{ran_then, ran_weaken}
-use Rattle.pv_steps.specs.StepLaws.{at_after}
+use Rattle.pv_steps.specs.Runs.{IsNotIdle, Ran}
+use Rattle.pv_steps.proofs.RunLaws.{ran_then, ran_weaken}
+use Rattle.pv_steps.proofs.StepLaws.{at_after}
 use Rattle.pv_steps.specs.Same.{bares, Differ}
-use Rattle.pv_dress.specs.declared.attributes.Dress.{Dress}
+use Rattle.pv_dress.specs.declared.bare.Dress.{Dress}
 use Rattle.pv_dress.specs.Asking.{Tried}
-use Rattle.pv_dress.specs.AskingLaws.{ran_tried}
-use Rattle.pv_dress.specs.EditLaws.{put_at-here, put_at-same, put_at-twice, on_at-here, on_at-put, on_at-twice, bares-on_at, bares-on_both, bares-stamped}
-use Rattle.pv_dress.specs.Dressing.{IsDress, CanWear, dress_mode, wear, wear_owner, wear_mode, wear_acl, Dressing, GivesDress, IsChanged, ChangedAt}
-use Rattle.pv_dress.specs.Wearing.{HasOwner, HasMode, Changing, GivesAcl}
+use Rattle.pv_dress.proofs.AskingLaws.{ran_tried}
+use Rattle.pv_dress.proofs.EditLaws.{put_at-here, put_at-same, put_at-twice, on_at-here, on_at-put, on_at-twice, bares-on_at, bares-on_both, bares-stamped}
+use Rattle.pv_dress.specs.Dressing.{IsDress, CanWear, dress_mode, wear, wear_owner, wear_mode, wear_acl, wear_attrs, wear_letters, Lacks, Dressing, GivesDress, IsChanged, IsKeptBy, ChangedAt}
+use Rattle.pv_dress.specs.Wearing.{HasOwner, HasMode, Changing, Gives, GivesAcl, GivesAttrs, GivesLetters, wear_access}
 
 -- ---- objects
 
@@ -205,6 +206,28 @@ acl_worn new o e = sym (ap (λ x. x.node.acl) e)
 pub firm_owner : (new : Dress) (o : Object) → wear_mode new (wear_owner new o) ≡ o → wear_owner new o ≡ o
 firm_owner new o e = wears_owner new o (record { uid = sym (ap (λ x. x.node.uid) e); gid = sym (ap (λ x. x.node.gid) e) })
 
+pub wears_attrs : (new : Dress) (o : Object) → o.node.attrs ≡ new.attrs → wear_attrs new o ≡ o
+wears_attrs new o e = λ i. record o { node = record o.node { attrs = sym e i } }
+
+pub attrs_worn : (new : Dress) (o : Object) → wear_attrs new o ≡ o → o.node.attrs ≡ new.attrs
+attrs_worn new o e = sym (ap (λ x. x.node.attrs) e)
+
+pub wears_letters : (new : Dress) (o : Object) → o.node.letters ≡ new.letters → wear_letters new o ≡ o
+wears_letters new o e = λ i. record o { node = record o.node { letters = sym e i } }
+
+pub letters_worn : (new : Dress) (o : Object) → wear_letters new o ≡ o → o.node.letters ≡ new.letters
+letters_worn new o e = sym (ap (λ x. x.node.letters) e)
+
+-- what wears owner, mode and ACL, and more, wears these
+wears_access : (new : Dress) (o x : Object) → wear_access new x ≡ x → x ≡ o → wear_access new o ≡ o
+wears_access new o x e same = subst (λ y. wear_access new y ≡ y) same e
+
+firm_access : (new : Dress) (o : Object) → wear_attrs new (wear_access new o) ≡ o → wear_access new o ≡ o
+firm_access new o e = wears_access new o (wear_attrs new (wear_access new o)) refl e
+
+firm_attrs : (new : Dress) (o : Object) → wear_letters new (wear_attrs new (wear_access new o)) ≡ o → wear_attrs new (wear_access new o) ≡ o
+firm_attrs new o e = subst (λ y. wear_attrs new (wear_access new y) ≡ y) e refl
+
 -- ---- links, which have one mode and one ACL
 
 link_mode : (new : Dress) (o : Object) → AclFits Link new.special new.acl → AclFits Link o.node.special o.node.acl → HasMode new o.node
@@ -332,10 +355,92 @@ module _ (path : Path) (new : Dress) (t : Files) (can : CanWear t path new) (nod
       pub acl_ok : OnOk r (ChangedAt (wear_acl new) path now t u)
       acl_ok = changed_tried path (wear_acl new) now t object there (SetAcl path new.acl) refl no_acl r h u k tried
 
+  -- ---- extended attributes, and letters
+
+  module _ (tree : IsTree t) where
+    of_kind : (kind : Kind) → kind_of (places t path) ≡ Some kind → can.kind ≡ kind
+    of_kind kind e = let both : Some can.kind ≡ Some kind = sym can.there ∙ e in cc
+
+    attrs_no_link : node.attrs ≢ new.attrs → kind_of (places t path) ≢ Some Link
+    attrs_no_link other e =
+        let is = of_kind Link e in
+        let a : new.attrs ≡ [] = subst (λ v. AttrsFit v new.attrs) is can.dress.attrs in
+        let b : object.node.attrs ≡ [] = subst (λ v. AttrsFit v object.node.attrs) (kind_is ∙ is) (tree.objects path object there).attrs in
+        other (ap (λ v. v.attrs) standing.1.1 ∙ b ∙ sym a)
+
+    are_new : (kind : Kind) → (kind ≡ Link → ⊥) → AttrsFit kind new.attrs → are_attrs new.attrs ≡ true
+    are_new Directory real h = h
+    are_new File real h = h
+    are_new Link real h = absurd (real refl)
+    are_new Fifo real h = h
+    are_new CharDevice real h = h
+    are_new BlockDevice real h = h
+
+    pub can_attrs : node.attrs ≢ new.attrs → Can (places t) (SetAttrs path new.attrs)
+    can_attrs other = let real = attrs_no_link other in ((present, real), are_new can.kind (λ e. real (can.there ∙ ap Some e)) can.dress.attrs)
+
+    no_letters : (kind : Kind) → can.kind ≡ kind → ((l : ℕ) → LettersFit kind l → l ≡ 0) → node.letters ≡ new.letters
+    no_letters kind e zero =
+        ap (λ v. v.letters) standing.1.1 ∙ zero object.node.letters (subst (λ v. LettersFit v object.node.letters) (kind_is ∙ e) (tree.objects path object there).letters)
+        ∙ sym (zero new.letters (subst (λ v. LettersFit v new.letters) e can.dress.letters))
+
+    pub can_letters : node.letters ≢ new.letters → Can (places t) (SetLetters path new.letters)
+    can_letters other = by can.kind refl
+      where
+        by : (kind : Kind) → can.kind ≡ kind → IsKindIn File (places t) path ⊎ IsKindIn Directory (places t) path
+        by File e = inl (can.there ∙ ap Some e)
+        by Directory e = inr (can.there ∙ ap Some e)
+        by Link e = absurd (other (no_letters Link e (λ l h. h)))
+        by Fifo e = absurd (other (no_letters Fifo e (λ l h. h)))
+        by CharDevice e = absurd (other (no_letters CharDevice e (λ l h. h)))
+        by BlockDevice e = absurd (other (no_letters BlockDevice e (λ l h. h)))
+
+  -- one part of a node, which a step gives where the object lacks it
+  module _ {A : Type 0} (part : Node → A) (wanted : A) (change : Object → Object) (keeps : Keeps change) (wears : (o : Object) → part o.node ≡ wanted → change o ≡ o) (worn : (o : Object) → change o ≡ o → part o.node ≡ wanted)
+      (step : Step) (leaves : (now : ℕ) → after_at (places t) step now ≡ on_at path (λ x. changed now (change x)) (places t)) (busy : (now : ℕ) → Differ t (after t step now) → IsNotIdle t step now) where
+    pub part_none : (now : ℕ) → part node ≡ wanted → ChangedAt change path now t t
+    part_none now h = changed_none path change now t object there (wears object (sym (ap part standing.1.1) ∙ h)) t refl
+
+    module _ (now : ℕ) (other : part node ≢ wanted) (r : Result (Unit {0}) TreeFault) (h : List Step) (u : Files) (k : List Step) (tried : Tried step now r t h u k) where
+      no_part : change object ≢ object
+      no_part e = other (ap part standing.1.1 ∙ worn object e)
+
+      other_part : Lacks (λ o. part o.node) wanted path t
+      other_part o e h = let same : object ≡ o = some_of object o (sym there ∙ e) in other (ap part standing.1.1 ∙ ap (λ v. part v.node) same ∙ h)
+
+      pub part_ran : Can (places t) step → Ran (Changing path change t) (Gives (λ o. part o.node) wanted step path t) now t h u k
+      part_ran able =
+          ran_tried step now r t h u k (Changing path change t) (Gives (λ o. part o.node) wanted step path t)
+          tried (inl (λ q. refl)) able
+          (busy now (change_busy path change now t object there step (leaves now) keeps no_part))
+          (changing_one path change now t object there step (leaves now) u)
+          (record { is = refl; other = other_part })
+
+      pub part_ok : OnOk r (ChangedAt change path now t u)
+      part_ok = changed_tried path change now t object there step (leaves now) no_part r h u k tried
+
   pub acl_none : (now : ℕ) → node.acl ≡ new.acl → ChangedAt (wear_acl new) path now t t
   acl_none now h = changed_none path (wear_acl new) now t object there (wears_acl new object (sym (ap (λ v. v.acl) standing.1.1) ∙ h)) t refl
 
--- ---- the three changes one after another
+-- ---- parts that a change leaves as they are
+
+module _ (path : Path) (now : ℕ) (t u : Files) {A : Type 0} (part : Object → A) (change : Object → Object) (stays : (o : Object) → part (change o) ≡ part o) (past : (o : Object) → part (changed now o) ≡ part o)
+    (first : ChangedAt change path now t u) where
+  part_kept : (a b : Object) → IsChanged change now a b → part b ≡ part a
+  part_kept a b (inl h) = ap part h.1
+  part_kept a b (inr h) = ap part h.1 ∙ past (change a) ∙ stays a
+
+  pub lacks_before : (wanted : A) → Lacks part wanted path u → Lacks part wanted path t
+  lacks_before wanted lacks o e h =
+      let same : first.old ≡ o = some_of first.old o (sym first.there ∙ e) in
+      lacks first.object (after_change path change now t u first) (part_kept first.old first.object first.is ∙ ap part same ∙ h)
+
+  pub kept_after : (c : Object → Object) (wanted : A) → ((o : Object) → part o ≡ wanted → c o ≡ o) → ((o : Object) → c o ≡ o → part o ≡ wanted) → IsKeptBy c path t → IsKeptBy c path u
+  kept_after c wanted wears worn kept o e =
+      let same : first.object ≡ o = some_of first.object o (sym (after_change path change now t u first) ∙ e) in
+      wears o (ap part (sym same) ∙ part_kept first.old first.object first.is ∙ worn first.old (kept first.old first.there))
+
+-- ---- the changes one after another
 
 module _ (path : Path) (new : Dress) (now : ℕ) (t : Files) where
   abbrev first_two : Object → Object
@@ -358,12 +463,12 @@ module _ (path : Path) (new : Dress) (now : ℕ) (t : Files) where
   same_acl a b (inr h) = ap (λ o. o.node.acl) h.1
 
   gives_acl : (u : Files) → ChangedAt first_two path now t u → (s : Step) → GivesAcl path new u s → GivesDress path new t s
-  gives_acl u first s gives = inr (inr (
+  gives_acl u first s gives = inr (inr (inl (
     gives.is,
     λ o e h.
         let same : first.old ≡ o = some_of first.old o (sym first.there ∙ e) in
         gives.other first.object (after_change path first_two now t u first) (same_acl first.old first.object first.is ∙ ap (λ x. (first_two x).node.acl) same ∙ h),
-  ))
+  )))
 
   two_changed : (u v : Files) → ChangedAt (wear_owner new) path now t u → ChangedAt (wear_mode new) path now u v → ChangedAt first_two path now t v
   two_changed u v a b = changed_then now (wear_owner new) (wear_mode new) (λ o. refl) (firm_owner new) path t u v a b
@@ -388,10 +493,51 @@ module _ (path : Path) (new : Dress) (now : ℕ) (t : Files) where
       (ran_weaken (Changing path (wear_acl new) v) (Dressing path new t) (GivesAcl path new v) (GivesDress path new t) now
       (λ x. dressing_acl v x (two_changed u v first second)) (gives_acl v (two_changed u v first second)) after)
 
-  pub all_changed : (kind : Kind) → IsDress kind new → (u v w : Files) → ChangedAt (wear_owner new) path now t u → ChangedAt (wear_mode new) path now u v → ChangedAt (wear_acl new) path now v w → ChangedAt (wear new) path now t w
+  pub all_changed : (kind : Kind) → IsDress kind new → (u v w : Files) → ChangedAt (wear_owner new) path now t u → ChangedAt (wear_mode new) path now u v → ChangedAt (wear_acl new) path now v w → ChangedAt (wear_access new) path now t w
   all_changed kind fits u v w a b c = changed_then now first_two (wear_acl new) (λ o. refl) (firm_mode kind new fits) path t v w (two_changed u v a b) c
 
   pub all_changed_on : (r : Result (Unit {0}) TreeFault) → (kind : Kind) → IsDress kind new → (u v w : Files) → ChangedAt (wear_owner new) path now t u → ChangedAt (wear_mode new) path now u v
-      → OnOk r (ChangedAt (wear_acl new) path now v w) → OnOk r (ChangedAt (wear new) path now t w)
+      → OnOk r (ChangedAt (wear_acl new) path now v w) → OnOk r (ChangedAt (wear_access new) path now t w)
   all_changed_on (Ok x) kind fits u v w a b c = all_changed kind fits u v w a b c
   all_changed_on (Err e) kind fits u v w a b c = tt
+
+  -- ---- extended attributes and letters after these
+
+  abbrev first_four : Object → Object
+  first_four = λ o. wear_attrs new (wear_access new o)
+
+  dressing_attrs : (u v : Files) → ChangedAt (wear_access new) path now t u → Changing path (wear_attrs new) u v → Dressing path new t v
+  dressing_attrs u v first (inl e) = (3, λ q. e q ∙ bares_changed path (wear_access new) now t u first q)
+  dressing_attrs u v first (inr e) = (4, more_changed path (wear_access new) (wear_attrs new) (λ o. refl) t u v (bares_changed path (wear_access new) now t u first) e)
+
+  dressing_letters : (u v : Files) → ChangedAt first_four path now t u → Changing path (wear_letters new) u v → Dressing path new t v
+  dressing_letters u v first (inl e) = (4, λ q. e q ∙ bares_changed path first_four now t u first q)
+  dressing_letters u v first (inr e) = (5, more_changed path first_four (wear_letters new) (λ o. refl) t u v (bares_changed path first_four now t u first) e)
+
+  gives_attrs : (u : Files) → ChangedAt (wear_access new) path now t u → (s : Step) → GivesAttrs path new u s → GivesDress path new t s
+  gives_attrs u first s gives = inr (inr (inr (inl (gives.is, lacks_before path now t u (λ o. o.node.attrs) (wear_access new) (λ o. refl) (λ o. refl) first new.attrs gives.other))))
+
+  gives_letters : (u : Files) → ChangedAt first_four path now t u → (s : Step) → GivesLetters path new u s → GivesDress path new t s
+  gives_letters u first s gives = inr (inr (inr (inr (gives.is, lacks_before path now t u (λ o. o.node.letters) first_four (λ o. refl) (λ o. refl) first new.letters gives.other))))
+
+  pub four_changed : (u v : Files) → ChangedAt (wear_access new) path now t u → ChangedAt (wear_attrs new) path now u v → ChangedAt first_four path now t v
+  four_changed u v a b = changed_then now (wear_access new) (wear_attrs new) (λ o. refl) (firm_access new) path t u v a b
+
+  pub attrs_dresses : (h : List Step) (u : Files) (k : List Step) (v : Files) (l : List Step) → Ran (Dressing path new t) (GivesDress path new t) now t h u k → ChangedAt (wear_access new) path now t u
+      → Ran (Changing path (wear_attrs new) u) (GivesAttrs path new u) now u k v l → Ran (Dressing path new t) (GivesDress path new t) now t h v l
+  attrs_dresses h u k v l ran first after =
+      ran_then (Dressing path new t) (GivesDress path new t) now ran
+      (ran_weaken (Changing path (wear_attrs new) u) (Dressing path new t) (GivesAttrs path new u) (GivesDress path new t) now (λ w. dressing_attrs u w first) (gives_attrs u first) after)
+
+  pub letters_dresses : (h : List Step) (u : Files) (k : List Step) (v : Files) (l : List Step) (w : Files) (m : List Step) → Ran (Dressing path new t) (GivesDress path new t) now t h u k → ChangedAt (wear_access new) path now t u
+      → Ran (Changing path (wear_attrs new) u) (GivesAttrs path new u) now u k v l → ChangedAt (wear_attrs new) path now u v
+      → Ran (Changing path (wear_letters new) v) (GivesLetters path new v) now v l w m → Ran (Dressing path new t) (GivesDress path new t) now t h w m
+  letters_dresses h u k v l w m ran first then second after =
+      ran_then (Dressing path new t) (GivesDress path new t) now (attrs_dresses h u k v l ran first then)
+      (ran_weaken (Changing path (wear_letters new) v) (Dressing path new t) (GivesLetters path new v) (GivesDress path new t) now
+      (λ x. dressing_letters v x (four_changed u v first second)) (gives_letters v (four_changed u v first second)) after)
+
+  pub dressed_on : (r : Result (Unit {0}) TreeFault) → (u v w : Files) → ChangedAt (wear_access new) path now t u → ChangedAt (wear_attrs new) path now u v
+      → OnOk r (ChangedAt (wear_letters new) path now v w) → OnOk r (ChangedAt (wear new) path now t w)
+  dressed_on (Ok x) u v w a b c = changed_then now first_four (wear_letters new) (λ o. refl) (firm_attrs new) path t v w (four_changed u v a b) c
+  dressed_on (Err e) u v w a b c = tt

@@ -1,18 +1,18 @@
--- Dressing an object: its owner, its mode and its ACL, each set only where that changes something (chown(2),
--- chmod(2), acl(5)).
-use Rattle.std.specs.Prelude.{◌≡◌, ◌≢◌, ◌⊎◌, ℕ, ◌≤◌, true, [], ◌∷◌, take, fold, Some}
+-- Dressing an object: its owner, mode, ACL, extended attributes and letters, each set only where that changes something
+-- (chown(2), chmod(2), acl(5), xattr(7), chattr(1)).
+use Rattle.std.specs.Prelude.{◌≡◌, ◌≢◌, ◌⊎◌, ℕ, ◌≤◌, true, List, [], ◌∷◌, take, fold, Some}
 use Rattle.pv_path.specs.Paths.{Path}
 use Rattle.pv_acl.specs.Parts as parts
 use Rattle.pv_acl.specs.Parts.{is_acl, mode_of}
 use Rattle.pv_steps.specs.declared.node.Kind.{Kind}
 use Rattle.pv_steps.specs.declared.object.Object.{Object}
 use Rattle.pv_steps.specs.declared.step.Step.{Step}
-use Rattle.pv_steps.specs.declared.step.Step.TheVariants.{SetOwner, SetMode, SetAcl}
-use Rattle.pv_steps.specs.Objects.{IsId, AclFits, changed}
+use Rattle.pv_steps.specs.declared.step.Step.TheVariants.{SetOwner, SetMode, SetAcl, SetAttrs, SetLetters}
+use Rattle.pv_steps.specs.Objects.{IsId, AclFits, AttrsFit, LettersFit, changed}
 use Rattle.pv_steps.specs.Trees.{Files, places, IsKind}
 use Rattle.pv_steps.specs.Steps.{on_at, put_at}
 use Rattle.pv_steps.specs.Same.{bares}
-use Rattle.pv_dress.specs.declared.attributes.Dress.{Dress}
+use Rattle.pv_dress.specs.declared.bare.Dress.{Dress}
 
 -- ---- what an object is to wear
 
@@ -22,6 +22,8 @@ pub record IsDress (kind : Kind) (new : Dress) : Type 0 where
   pub special : new.special ≤ 7
   pub acl : is_acl new.acl ≡ true
   pub fits : AclFits kind new.special new.acl
+  pub attrs : AttrsFit kind new.attrs
+  pub letters : LettersFit kind new.letters
 
 -- the mode of a dress
 abbrev pub dress_mode : Dress → ℕ
@@ -39,13 +41,25 @@ wear_mode new o = record o { node = record o.node { special = new.special; acl =
 abbrev pub wear_acl : Dress → Object → Object
 wear_acl new o = record o { node = record o.node { acl = new.acl } }
 
+-- an object with the extended attributes of a dress, stamps left as they are
+abbrev pub wear_attrs : Dress → Object → Object
+wear_attrs new o = record o { node = record o.node { attrs = new.attrs } }
+
+-- an object with the letters of a dress, stamps left as they are
+abbrev pub wear_letters : Dress → Object → Object
+wear_letters new o = record o { node = record o.node { letters = new.letters } }
+
 -- an object in its new dress, stamps left as they are
 abbrev pub wear : Dress → Object → Object
-wear new o = record o { node = record o.node { uid = new.uid; gid = new.gid; special = new.special; acl = new.acl } }
+wear new o = record o { node = record o.node { uid = new.uid; gid = new.gid; special = new.special; acl = new.acl; attrs = new.attrs; letters = new.letters } }
 
--- the first changes, in the order owner, mode, ACL
+-- the changes that a dress makes, in order
+abbrev pub wear_changes : Dress → List (Object → Object)
+wear_changes new = wear_owner new ∷ wear_mode new ∷ wear_acl new ∷ wear_attrs new ∷ wear_letters new ∷ []
+
+-- an object after the first of them
 abbrev pub wear_first : ℕ → Dress → Object → Object
-wear_first k new o = fold (λ x change. change x) o (take k (wear_owner new ∷ wear_mode new ∷ wear_acl new ∷ []))
+wear_first k new o = fold (λ x change. change x) o (take k (wear_changes new))
 
 -- an object stands at a path, and the dress is one for its kind
 pub record CanWear (t : Files) (path : Path) (new : Dress) : Type 0 where
@@ -63,14 +77,20 @@ IsKeptBy change path t = (o : Object) → places t path ≡ Some o → change o 
 abbrev pub Dressing : Path → Dress → Files → Files → Type 0
 Dressing path new t u = (k : ℕ) × ((q : Path) → bares (places u) q ≡ bares (on_at path (wear_first k new) (places t)) q)
 
+-- the object at a path lacks a part of a dress
+abbrev pub Lacks : {A : Type 0} → (Object → A) → A → Path → Files → Type 0
+Lacks part new path t = (o : Object) → places t path ≡ Some o → part o ≢ new
+
 -- owner and mode alone do not give the object at a path the ACL of the dress
 abbrev pub NeedsAcl : Path → Dress → Files → Type 0
-NeedsAcl path new t = (o : Object) → places t path ≡ Some o → (wear_first 2 new o).node.acl ≢ new.acl
+NeedsAcl path new t = Lacks (λ o. (wear_first 2 new o).node.acl) new.acl path t
 
--- a step gives the object at the path what the dress has, the ACL only where owner and mode do not give it
+-- a step gives the object at the path what the dress has, the ACL only where owner and mode do not give it,
+-- extended attributes and letters only where it has others
 abbrev pub GivesDress : Path → Dress → Files → Step → Type 0
 GivesDress path new t step =
-    (step ≡ SetOwner path new.uid new.gid) ⊎ ((step ≡ SetMode path (dress_mode new)) ⊎ ((step ≡ SetAcl path new.acl) × NeedsAcl path new t))
+    (step ≡ SetOwner path new.uid new.gid) ⊎ ((step ≡ SetMode path (dress_mode new)) ⊎ (((step ≡ SetAcl path new.acl) × NeedsAcl path new t)
+    ⊎ (((step ≡ SetAttrs path new.attrs) × Lacks (λ o. o.node.attrs) new.attrs path t) ⊎ ((step ≡ SetLetters path new.letters) × Lacks (λ o. o.node.letters) new.letters path t))))
 
 -- an object after a change: the same object where the change changes nothing, else its change stamp is now
 abbrev pub IsChanged : (Object → Object) → ℕ → Object → Object → Type 0

@@ -2,10 +2,8 @@ pub mod Edits
 pub mod Dressing
 pub mod Wearing
 pub mod Asking
-pub mod EditLaws
-pub mod AskingLaws
-pub mod DressLaws
 pub mod Nodes
 pub mod Masks
 pub mod Operations
 pub mod Reasons
+pub mod Dividing

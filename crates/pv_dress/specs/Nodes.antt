@@ -1,6 +1,8 @@
 -- Objects without their stamps, and tests on what they are (inode(7)).
-use Rattle.std.specs.Prelude.{◌==◌, Bool, true, false, not, ◌&&◌, ◌||◌}
+use Rattle.std.specs.Prelude.{◌==◌, Bool, true, false, not, ◌&&◌, ◌||◌, Option, option_map}
 use Rattle.std.specs.Str.{bytes_eq}
+use Rattle.pv_path.specs.Paths.{Path}
+use Rattle.pv_steps.specs.Trees.{Places}
 use Rattle.pv_steps.specs.declared.node.Kind.{Kind}
 use Rattle.pv_steps.specs.declared.node.Kind.TheVariants.{Directory, File, Link, Fifo, CharDevice, BlockDevice}
 use Rattle.pv_steps.specs.declared.object.Object.{Object}
@@ -11,13 +13,23 @@ use Rattle.pv_dress.specs.declared.bare.Bare.{Bare}
 abbrev pub bare_of : Object → Bare
 bare_of o = record {
   body = record { kind = o.node.kind; payload = o.payload; major = o.node.major; minor = o.node.minor };
-  dress = record { uid = o.node.uid; gid = o.node.gid; special = o.node.special; acl = o.node.acl };
+  dress = record { uid = o.node.uid; gid = o.node.gid; special = o.node.special; acl = o.node.acl; attrs = o.node.attrs; letters = o.node.letters };
 }
+
+-- what stands at each path, without stamps
+abbrev pub bares_of : Places → Path → Option Bare
+bares_of t = λ path. option_map bare_of (t path)
 
 -- whether a kind is that of regular files
 abbrev pub is_file : Kind → Bool
 is_file File = true
 is_file kind = false
+
+-- whether objects of a kind have letters
+abbrev pub carries_letters : Kind → Bool
+carries_letters File = true
+carries_letters Directory = true
+carries_letters kind = false
 
 -- whether a kind is that of symbolic links
 abbrev pub is_link : Kind → Bool

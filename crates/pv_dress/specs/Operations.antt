@@ -3,20 +3,22 @@ use Rattle.std.specs.Prelude.{ℕ, Bool, true, false, not, ◌&&◌, ◌||◌, L
 use Rattle.pv_acl.specs.Applying.{acl_after}
 use Rattle.pv_acl.specs.Parts as parts
 use Rattle.pv_acl.specs.Parts.{special_of}
+use Rattle.pv_steps.specs.Attributes.{put_attrs}
+use Rattle.pv_steps.specs.Letters.{letters_after}
 use Rattle.pv_steps.specs.declared.node.Kind.{Kind}
-use Rattle.pv_dress.specs.declared.attributes.Dress.{Dress}
+use Rattle.pv_dress.specs.declared.bare.Dress.{Dress}
 use Rattle.pv_dress.specs.declared.bare.Body.{Body}
 use Rattle.pv_dress.specs.declared.bare.Bare.{Bare}
 use Rattle.pv_dress.specs.declared.operation.Guard.{Guard}
 use Rattle.pv_dress.specs.declared.operation.Guard.TheVariants.{Every, NoLink, Only}
 use Rattle.pv_dress.specs.declared.operation.Test.{Test}
 use Rattle.pv_dress.specs.declared.operation.Change.{Change}
-use Rattle.pv_dress.specs.declared.operation.Change.TheVariants.{Write, Append, Owner, Mode, Entries}
+use Rattle.pv_dress.specs.declared.operation.Change.TheVariants.{Write, Append, Owner, Mode, Entries, Attrs, Letters}
 use Rattle.pv_dress.specs.declared.operation.Operation.{Operation}
 use Rattle.pv_dress.specs.declared.operation.Operation.TheVariants.{Make, Renew, Erase, Adjust}
 use Rattle.pv_dress.specs.Masks.{with_masked, masked_special}
 use Rattle.pv_steps.specs.Objects.{is_directory}
-use Rattle.pv_dress.specs.Nodes.{is_file, is_link, same_kind, same_substance}
+use Rattle.pv_dress.specs.Nodes.{carries_letters, is_file, is_link, same_kind, same_substance}
 
 -- whether a change is for objects of a kind
 abbrev pub admits : Guard → Kind → Bool
@@ -35,13 +37,16 @@ abbrev pub with_mode : Kind → ℕ → Bool → Dress → Dress
 with_mode kind mode false d = record d { special = special_of mode; acl = record d.acl { access = parts.with_mode mode d.acl.access } }
 with_mode kind mode true d = record d { special = masked_special kind mode; acl = record d.acl { access = with_masked mode d.acl.access } }
 
--- an object of a kind after a change: bytes are a file's alone, and of a directory alone the default part changes
+-- an object of a kind after a change: bytes are a file's alone, a default part is a directory's, a link has no extended
+-- attributes, and files and directories alone have letters
 abbrev pub changed : Kind → Change → Bare → Bare
 changed kind (Write bytes) b = if is_file kind then record b { body = record b.body { payload = bytes } } else b
 changed kind (Append bytes) b = if is_file kind then record b { body = record b.body { payload = b.body.payload ++ bytes } } else b
 changed kind (Owner uid gid) b = record b { dress = record b.dress { uid = unwrap_or uid b.dress.uid; gid = unwrap_or gid b.dress.gid } }
 changed kind (Mode mode masked) b = record b { dress = with_mode kind mode masked b.dress }
 changed kind (Entries line how) b = record b { dress = record b.dress { acl = acl_after b.dress.acl line how (is_directory kind) } }
+changed kind (Attrs attrs) b = if is_link kind then b else record b { dress = record b.dress { attrs = put_attrs attrs b.dress.attrs } }
+changed kind (Letters how letters) b = if carries_letters kind then record b { dress = record b.dress { letters = letters_after how letters b.dress.letters } } else b
 
 -- an object that may be absent, after one operation
 abbrev pub done : Operation → Option Bare → Option Bare

@@ -1,16 +1,17 @@
 -- One change at a time: what a node has of a dress already, and what a change may have left on the way (chown(2),
 -- chmod(2), acl(5)).
-use Rattle.std.specs.Prelude.{◌≡◌, ◌≢◌, ◌⊎◌, Some}
+use Rattle.std.specs.Prelude.{◌≡◌, ◌⊎◌}
 use Rattle.pv_path.specs.Paths.{Path}
 use Rattle.pv_acl.specs.declared.part.Part.{Part}
 use Rattle.pv_steps.specs.declared.node.Node.{Node}
 use Rattle.pv_steps.specs.declared.object.Object.{Object}
 use Rattle.pv_steps.specs.declared.step.Step.{Step}
-use Rattle.pv_steps.specs.declared.step.Step.TheVariants.{SetAcl}
+use Rattle.pv_steps.specs.declared.step.Step.TheVariants.{SetAcl, SetAttrs, SetLetters}
 use Rattle.pv_steps.specs.Trees.{Files, places}
 use Rattle.pv_steps.specs.Steps.{on_at}
 use Rattle.pv_steps.specs.Same.{bares}
-use Rattle.pv_dress.specs.declared.attributes.Dress.{Dress}
+use Rattle.pv_dress.specs.declared.bare.Dress.{Dress}
+use Rattle.pv_dress.specs.Dressing.{Lacks}
 
 -- the same base entries
 pub record SameBase (a b : Part) : Type 0 where
@@ -33,7 +34,23 @@ abbrev pub Changing : Path → (Object → Object) → Files → Files → Type 
 Changing path change t u =
     ((q : Path) → bares (places u) q ≡ bares (places t) q) ⊎ ((q : Path) → bares (places u) q ≡ bares (on_at path change (places t)) q)
 
--- a step gives the object at a path, which has another ACL, the ACL of a dress
-pub record GivesAcl (path : Path) (new : Dress) (t : Files) (step : Step) : Type 0 where
-  pub is : step ≡ SetAcl path new.acl
-  pub other : (o : Object) → places t path ≡ Some o → o.node.acl ≢ new.acl
+-- a step gives the object at a path a part of a dress that it lacks
+pub record Gives {A : Type 0} (part : Object → A) (new : A) (given : Step) (path : Path) (t : Files) (step : Step) : Type 0 where
+  pub is : step ≡ given
+  pub other : Lacks part new path t
+
+-- the ACL of a dress
+abbrev pub GivesAcl : Path → Dress → Files → Step → Type 0
+GivesAcl path new t step = Gives (λ o. o.node.acl) new.acl (SetAcl path new.acl) path t step
+
+-- the extended attributes of a dress
+abbrev pub GivesAttrs : Path → Dress → Files → Step → Type 0
+GivesAttrs path new t step = Gives (λ o. o.node.attrs) new.attrs (SetAttrs path new.attrs) path t step
+
+-- the letters of a dress
+abbrev pub GivesLetters : Path → Dress → Files → Step → Type 0
+GivesLetters path new t step = Gives (λ o. o.node.letters) new.letters (SetLetters path new.letters) path t step
+
+-- an object with the owner, the mode and the ACL of a dress, stamps left as they are
+abbrev pub wear_access : Dress → Object → Object
+wear_access new o = record o { node = record o.node { uid = new.uid; gid = new.gid; special = new.special; acl = new.acl } }

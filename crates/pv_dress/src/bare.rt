@@ -1,10 +1,10 @@
+//! Objects without their stamps: what they are and hold, and their dress.
 ghost use Rattle.std.specs.Prelude.{◌≡◌, IfOk};
 ghost use Rattle.pv_dress.specs.Nodes.{bare_of};
 
-use crate::attributes::Dress;
 use pv_acl::Acl;
 use pv_path::Bytes;
-use pv_steps::{Kind, Node};
+use pv_steps::{AttrList, Kind, LetterSet, Node};
 use std::alloc::{AllocError, Global};
 
 /// What an object is and holds: its kind, the bytes of a file or the target of a link, and the numbers of a
@@ -21,12 +21,30 @@ pub struct Body {
     pub minor: u32,
 }
 
+/// What an object is to have: owner, owning group, special bits, the ACL whose base entries are the rest of the
+/// mode, extended attributes, and letters.
+#[derive(Debug, Drop)]
+pub struct Dress {
+    /// The owner's user ID.
+    pub uid: u32,
+    /// The owning group's ID.
+    pub gid: u32,
+    /// Set-user-ID 4, set-group-ID 2, sticky 1.
+    pub special: u8,
+    /// The access part, and the default part of a directory.
+    pub acl: Acl,
+    /// The extended attributes (xattr(7)).
+    pub attrs: AttrList,
+    /// The letters (chattr(1)).
+    pub letters: LetterSet,
+}
+
 /// An object without its stamps.
 #[derive(Debug, Drop)]
 pub struct Bare {
     /// What it is and holds.
     pub body: Body,
-    /// Its owner, owning group, special bits and ACL.
+    /// Its owner, owning group, special bits, ACL, extended attributes and letters.
     pub dress: Dress,
 }
 
@@ -40,6 +58,22 @@ impl Body {
             payload: self.payload.copy()?,
             major: self.major,
             minor: self.minor,
+        })
+    }
+}
+
+impl Dress {
+    /// The same dress once more.
+    pub fn copy(&self) -> Result<Dress, AllocError>
+        ensures { IfOk result (λ dress. dress ≡ self.now) }
+    {
+        Ok(Dress {
+            uid: self.uid,
+            gid: self.gid,
+            special: self.special,
+            acl: self.acl.copy()?,
+            attrs: self.attrs.copy()?,
+            letters: self.letters,
         })
     }
 }
@@ -61,6 +95,8 @@ impl Bare {
                 gid: node.gid,
                 special: node.special,
                 acl: node.acl.copy()?,
+                attrs: node.attrs.copy()?,
+                letters: node.letters,
             },
         })
     }

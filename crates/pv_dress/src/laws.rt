@@ -3,13 +3,18 @@ ghost use Rattle.std.specs.Prelude.{◌≡◌, ℕ, List, ◌∷◌, ◌++◌, t
 ghost use Rattle.std.specs.List.{list_all, list_any};
 ghost use Rattle.pv_steps.specs.declared.object.Object.{Object as ObjectValue};
 ghost use Rattle.pv_steps.specs.Objects.{bare};
-ghost use Rattle.pv_acl.specs.Parts.{part_of_mode};
+ghost use Rattle.pv_acl.specs.declared.part.Part.{Part as PartValue};
+ghost use Rattle.pv_acl.specs.Parts.{part_of_mode, with_mode};
 ghost use Rattle.pv_dress.specs.declared.bare.Bare.{Bare as BareValue};
 ghost use Rattle.pv_dress.specs.declared.operation.Operation.{Operation as OperationValue};
 ghost use Rattle.pv_dress.specs.declared.operation.Operation.TheVariants.{Renew, Erase};
 ghost use Rattle.pv_dress.specs.declared.operation.Test.{Test as TestValue};
+ghost use Rattle.pv_dress.specs.Dividing.{parts};
 ghost use Rattle.pv_dress.specs.Masks.{with_masked};
-ghost use Rattle.pv_dress.specs.Nodes.{bare_of};
+ghost use Rattle.pv_path.specs.Paths.{Path};
+ghost use Rattle.pv_steps.specs.Trees.{Places};
+ghost use Rattle.pv_steps.specs.Same.{bares};
+ghost use Rattle.pv_dress.specs.Nodes.{bare_of, bares_of};
 ghost use Rattle.pv_dress.specs.Operations.{run, stays};
 ghost use Rattle.pv_dress.specs.Reasons.{is_adjusting, is_idle, is_make, IsRepeatable};
 
@@ -39,8 +44,23 @@ pub fn a_mask_takes_nothing_from_its_own_mode()
     ensures { (mode : ℕ) → with_masked mode (part_of_mode mode) ≡ part_of_mode mode }
 {}
 
-/// Two objects are the same but for their stamps exactly where they are the same without them.
+/// Two objects are the same but for their stamps exactly where they are the same without them; and so is what stands
+/// at a path of two trees.
 pub fn objects_are_compared_without_stamps()
     ensures same { (a b : ObjectValue) → bare a ≡ bare b → bare_of a ≡ bare_of b }
     ensures back { (a b : ObjectValue) → bare_of a ≡ bare_of b → bare a ≡ bare b }
+    ensures places_same { (t u : Places) (path : Path) → bares t path ≡ bares u path → bares_of t path ≡ bares_of u path }
+    ensures places_back { (t u : Places) (path : Path) → bares_of t path ≡ bares_of u path → bares t path ≡ bares u path }
+{}
+
+/// Operations do in parts what they do as they are; and where nothing is said against them, nothing is said
+/// against them in parts.
+pub fn operations_do_the_same_in_parts()
+    ensures same { (operations : List OperationValue) (b : Option BareValue) → run (parts operations) b ≡ run operations b }
+    ensures quiet { (operations : List OperationValue) → IsRepeatable operations → IsRepeatable (parts operations) }
+{}
+
+/// A masked mode takes nothing from a part that has the base entries of this mode.
+pub fn a_mask_takes_nothing_from_a_part_with_its_mode()
+    ensures { (mode : ℕ) (part : PartValue) → with_masked mode (with_mode mode part) ≡ with_mode mode part }
 {}

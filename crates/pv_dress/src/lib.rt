@@ -1,8 +1,7 @@
-//! Owner, mode and ACL of an object, the operations that lines of configuration do on one object, and the edits of a
-//! tree that runs are measured by.
+//! The dress of an object (owner, mode, ACL, extended attributes and letters), the operations that lines of
+//! configuration do on one object, and the edits of a tree that runs are measured by.
 #![tactic(auto)]
 
-mod attributes;
 mod bare;
 mod laws;
 mod mask;
@@ -12,12 +11,12 @@ mod same;
 mod tried;
 mod wear;
 
-pub use attributes::Dress;
-pub use bare::{Bare, Body};
+pub use bare::{Bare, Body, Dress};
 pub use laws::{
-    a_first_renewal_absorbs_what_was_there, a_mask_takes_nothing_from_its_own_mode,
-    an_erasure_without_a_make_leaves_nothing, first_operations_are_absorbed,
-    objects_are_compared_without_stamps,
+    a_first_renewal_absorbs_what_was_there, a_mask_takes_nothing_from_a_part_with_its_mode,
+    a_mask_takes_nothing_from_its_own_mode, an_erasure_without_a_make_leaves_nothing,
+    first_operations_are_absorbed, objects_are_compared_without_stamps,
+    operations_do_the_same_in_parts,
 };
 pub use mask::{masked_special, set_masked_base};
 pub use operation::{Change, Guard, Operation, Test};

@@ -1,9 +1,10 @@
+//! Masked modes.
 ghost use Rattle.std.specs.Prelude.{◌≡◌, bit_and, if◌then◌else◌};
-ghost use Rattle.pv_acl.specs.Parts.{with_mode, special_of};
+ghost use Rattle.pv_acl.specs.Parts.{with_mode};
 ghost use Rattle.pv_dress.specs.Masks.{granted, with_masked, masked_special};
 
 use pv_acl::{Part, Perm};
-use pv_steps::Kind;
+use pv_steps::{Kind, special_bits};
 
 /// Gives a part the base entries of a masked mode: read, write and execute are lost where the part grants
 /// them to nobody (tmpfiles.d(5), the prefix `~` of a mode). The named entries and the mask stay.
@@ -26,13 +27,6 @@ pub fn masked_special(kind: Kind, mode: u16) -> u8
     } else {
         0
     }
-}
-
-/// The special bits of a mode.
-pub(crate) fn special_bits(mode: u16) -> u8
-    ensures { result ≡ special_of mode }
-{
-    (mode / 512) as u8
 }
 
 /// Read, write and execute, each where one of the base entries has it.

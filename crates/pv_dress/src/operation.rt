@@ -1,7 +1,8 @@
+//! What lines of configuration ask of the object at one path.
 use crate::bare::Bare;
 use pv_acl::{AclLine, How};
 use pv_path::Bytes;
-use pv_steps::Kind;
+use pv_steps::{AttrList, Kind, LetterHow, LetterSet};
 
 /// Which objects a change is for.
 #[derive(Clone, Copy, Debug, PartialEq, Eq)]
@@ -27,6 +28,10 @@ pub enum Change {
     Mode { mode: u16, masked: bool },
     /// Entries of an ACL.
     Entries { line: AclLine, how: How },
+    /// Extended attributes of what is no link, each over one of the same name.
+    Attrs(AttrList),
+    /// Letters of a file or a directory.
+    Letters { how: LetterHow, letters: LetterSet },
 }
 
 /// Which present objects stay where a new one is wanted: those of its kind.

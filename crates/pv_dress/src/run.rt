@@ -1,15 +1,16 @@
+//! Operations done on one object.
 ghost use Rattle.std.specs.Prelude.{◌≡◌, ◌++◌, Some, IfOk};
-ghost use Rattle.pv_dress.specs.Nodes.{is_file, is_link, same_kind, same_substance};
+ghost use Rattle.pv_steps.specs.Letters.{letters_after};
+ghost use Rattle.pv_dress.specs.Nodes.{carries_letters, is_file, is_link, same_kind, same_substance};
 ghost use Rattle.pv_dress.specs.Operations.{admits, stays, with_mode, changed, done, run};
 ghost use Rattle.pv_dress.specs.declared.operation.Operation.TheVariants.{Renew, Adjust};
 
-use crate::attributes::Dress;
-use crate::bare::{Bare, Body};
-use crate::mask::{masked_special, set_masked_base, special_bits};
+use crate::bare::{Bare, Body, Dress};
+use crate::mask::{masked_special, set_masked_base};
 use crate::operation::{Change, Guard, Operation, Test};
 use pv_acl::apply_entries;
 use pv_path::Bytes;
-use pv_steps::Kind;
+use pv_steps::{Kind, LetterHow, LetterSet, special_bits};
 use std::alloc::{AllocError, Global};
 
 /// What operations, in order, make of an object that may be absent.
@@ -72,7 +73,8 @@ fn adjusted(alloc: Global, guard: Guard, change: &Change, old: Bare) -> Result<B
     }
 }
 
-/// An object after a change: bytes are a file's alone, and of a directory alone the default part changes.
+/// An object after a change: bytes are a file's alone, a default part is a directory's, a link has no extended
+/// attributes, and files and directories alone have letters.
 fn changed(alloc: Global, change: &Change, old: Bare) -> Result<Bare, AllocError>
     ensures { IfOk result (λ new. new ≡ changed old.body.kind change.now old) }
 {
@@ -103,6 +105,16 @@ fn changed(alloc: Global, change: &Change, old: Bare) -> Result<Bare, AllocError
                 kind.is_directory(),
             )?;
         }
+        Change::Attrs(attrs) => {
+            if !is_link(kind) {
+                bare.dress.attrs = bare.dress.attrs.with_all(attrs)?;
+            }
+        }
+        Change::Letters { how, letters } => {
+            if carries_letters(kind) {
+                change_letters(&mut bare.dress, *how, *letters);
+            }
+        }
     }
     Ok(bare)
 }
@@ -118,6 +130,13 @@ fn set_mode(dress: &mut Dress, kind: Kind, mode: u16, masked: bool)
         dress.special = special_bits(mode);
         dress.acl.access.set_base(mode);
     }
+}
+
+/// Adds letters to those of an object, takes them from these, or puts them in their place.
+fn change_letters(dress: &mut Dress, how: LetterHow, letters: LetterSet)
+    ensures { dress.new ≡ record dress.old { letters = letters_after how letters dress.old.letters } }
+{
+    dress.letters = dress.letters.after(how, letters);
 }
 
 /// The bytes of one list and after them those of another.
@@ -161,6 +180,13 @@ fn same_kind(a: Kind, b: Kind) -> bool
     ensures { result ≡ same_kind a b }
 {
     a == b
+}
+
+/// Whether objects of a kind have letters.
+fn carries_letters(kind: Kind) -> bool
+    ensures { result ≡ carries_letters kind }
+{
+    matches!(kind, Kind::File | Kind::Directory)
 }
 
 fn is_file(kind: Kind) -> bool

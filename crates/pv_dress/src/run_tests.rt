@@ -1,7 +1,8 @@
+//! Tests of operations on one object.
 use super::*;
 use pv_acl::{Acl, How, Names, parse_acl, print_acl};
 use pv_path::Bytes;
-use pv_steps::Kind;
+use pv_steps::{Attr, AttrList, Kind, LetterHow, LetterSet, is_attr};
 use std::alloc::Global;
 use std::test::Fail;
 
@@ -36,6 +37,8 @@ enum Ask<'a> {
     Set(u16),
     Mask(u16),
     Put(&'a [u8], How),
+    Attr(&'a [u8], &'a [u8]),
+    Letters(LetterHow, &'a [u8]),
 }
 
 /// An object with mode 0644.
@@ -52,8 +55,33 @@ fn object(alloc: Global, kind: Kind, payload: &[u8], uid: u32) -> Result<Bare, F
             gid: uid,
             special: 0,
             acl: Acl::of_mode(alloc, 0o644),
+            attrs: AttrList::new(alloc),
+            letters: LetterSet::new(),
         },
     })
+}
+
+/// The list of one attribute, where that is allowed.
+fn attrs(alloc: Global, name: &[u8], value: &[u8]) -> Result<AttrList, Fail> {
+    let mut list = AttrList::new(alloc);
+    if is_attr(name, value) {
+        let attr = Attr {
+            name: Bytes::copy_of(alloc, name)?,
+            value: Bytes::copy_of(alloc, value)?,
+        };
+        list.put(attr)?;
+    }
+    Ok(list)
+}
+
+fn letters(bytes: &[u8]) -> LetterSet {
+    let mut letters = LetterSet::new();
+    for byte in bytes {
+        if let Some(one) = LetterSet::of(*byte) {
+            letters = letters.union(one);
+        }
+    }
+    letters
 }
 
 fn change(alloc: Global, ask: Ask<'_>) -> Result<Change, Fail> {
@@ -70,6 +98,11 @@ fn change(alloc: Global, ask: Ask<'_>) -> Result<Change, Fail> {
             how,
         },
         Ask::Owner(uid, gid) => Change::Owner { uid, gid },
+        Ask::Attr(name, value) => Change::Attrs(attrs(alloc, name, value)?),
+        Ask::Letters(how, bytes) => Change::Letters {
+            how,
+            letters: letters(bytes),
+        },
         _ => Change::Owner {
             uid: None,
             gid: None,
@@ -390,4 +423,46 @@ fn wrong_objects_are_renewed(rt: HostRuntime) -> Result<(), Fail> {
         assert!(rt; is_owned(&seen, owner), "{what}");
     }
     Ok(())
+}
+
+#[test]
+fn attributes_and_letters_change(rt: HostRuntime) -> Result<(), Fail> {
+    let alloc = rt.alloc();
+    let value = Ask::Attr(b"user.a", b"1");
+    let later = Ask::Attr(b"user.a", b"2");
+    let add = Ask::Letters(LetterHow::Add, b"ai");
+    let take = Ask::Letters(LetterHow::Take, b"a");
+    let put = Ask::Letters(LetterHow::Put, b"uA");
+    for (kind, asks, values, wanted) in [
+        (
+            Kind::File,
+            [value, later, add, take],
+            b"2".as_slice(),
+            b"i".as_slice(),
+        ),
+        (Kind::Directory, [add, put, value, take], b"1", b"Au"),
+        (Kind::Fifo, [value, add, put, later], b"2", b""),
+        (Kind::Link, [value, add, put, later], b"", b""),
+    ] {
+        let seen = left(alloc, Some((kind, b"".as_slice())), asks.as_slice())?;
+        assert!(rt; has_extras(alloc, &seen, values, wanted)?, "{kind:?}");
+    }
+    Ok(())
+}
+
+/// Whether an object has these letters and one attribute with this value, or none where the value is empty.
+fn has_extras(
+    alloc: Global,
+    bare: &Option<Bare>,
+    value: &[u8],
+    letters: &[u8],
+) -> Result<bool, Fail> {
+    let Some(bare) = bare else {
+        return Ok(false);
+    };
+    let seen = match bare.dress.attrs.as_slice() {
+        [] => b"".as_slice(),
+        [attr, ..] => attr.value.as_slice(),
+    };
+    Ok(seen == value && bare.dress.letters.letters(alloc)?.as_slice() == letters)
 }

@@ -1,3 +1,4 @@
+//! Whether ACLs are the same.
 ghost use Rattle.std.specs.Prelude.{◌≡◌, ◌↔◌, IsTrue};
 ghost use Rattle.pv_dress.specs.Wearing.{SameBase};
 

@@ -1,9 +1,11 @@
+//! Tests of dresses and of objects without stamps.
 ghost use Rattle.std.specs.Prelude.{◌≤◌};
 
 use super::*;
 use crate::same::is_same_acl;
 use pv_acl::{Acl, Named, Part, Perm, Who};
-use pv_steps::{Kind, Node, Stamps};
+use pv_path::Bytes;
+use pv_steps::{Attr, AttrList, Kind, LetterSet, Node, Stamps, is_attr};
 use std::alloc::Global;
 use std::test::Fail;
 
@@ -55,6 +57,26 @@ fn acls_are_compared_whole(rt: HostRuntime) -> Result<(), Fail> {
     Ok(())
 }
 
+/// The list of one attribute, where that is allowed.
+fn attrs(alloc: Global, name: &[u8], value: &[u8]) -> Result<AttrList, Fail> {
+    let mut list = AttrList::new(alloc);
+    if is_attr(name, value) {
+        let attr = Attr {
+            name: Bytes::copy_of(alloc, name)?,
+            value: Bytes::copy_of(alloc, value)?,
+        };
+        list.put(attr)?;
+    }
+    Ok(list)
+}
+
+fn letter(byte: u8) -> LetterSet {
+    match LetterSet::of(byte) {
+        Some(set) => set,
+        None => LetterSet::new(),
+    }
+}
+
 #[test]
 fn dresses_are_copied(rt: HostRuntime) -> Result<(), Fail> {
     let dress = Dress {
@@ -65,8 +87,11 @@ fn dresses_are_copied(rt: HostRuntime) -> Result<(), Fail> {
             access: part(rt.alloc(), 0o750, 6, Some(4))?,
             default_part: Some(Part::of_mode(rt.alloc(), 0o700)),
         },
+        attrs: attrs(rt.alloc(), b"user.a", b"1")?,
+        letters: letter(b'a'),
     };
     let copy = dress.copy()?;
+    assert!(rt; copy.attrs.is_same(&dress.attrs) && copy.letters.has(b'a'));
     assert_eq!(rt; (copy.uid, copy.gid, copy.special), (1000, 4, 2));
     assert!(rt; is_same_acl(&copy.acl, &dress.acl));
     Ok(())
@@ -88,6 +113,8 @@ fn node_of(alloc: Global, kind: Kind, major: u32, minor: u32) -> Node {
         },
         major,
         minor,
+        attrs: AttrList::new(alloc),
+        letters: letter(b'i'),
     }
 }
 
@@ -122,5 +149,6 @@ fn stamps_are_left_out(rt: HostRuntime) -> Result<(), Fail> {
         (1000, 4, 2)
     );
     assert!(rt; bare.body.payload.is_empty() && is_same_acl(&bare.dress.acl, &node.acl));
+    assert!(rt; bare.dress.attrs.is_empty());
     Ok(())
 }

@@ -1,10 +1,9 @@
+pub mod Attributes
+pub mod Letters
 pub mod Objects
 pub mod Trees
 pub mod Steps
 pub mod Runs
 pub mod Same
+pub mod Content
 pub mod Refusal
-pub mod StepLaws
-pub mod ObjectLaws
-pub mod TreeLaws
-pub mod RunLaws

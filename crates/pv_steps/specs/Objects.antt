@@ -1,9 +1,11 @@
--- Objects of a tree, and what each kind of change does to one (inode(7), acl(5)).
+-- Objects of a tree, and what each kind of change does to one (inode(7), acl(5), xattr(7), chattr(1)).
 use Rattle.std.specs.Prelude.{◌≡◌, ℕ, ◌^◌, ◌<◌, ◌≤◌, Bool, true, false, not, ◌==◌, List, [], length, None, nat_lt}
 use Rattle.std.specs.List.{list_all}
 use Rattle.pv_acl.specs.declared.part.Acl.{Acl}
 use Rattle.pv_acl.specs.Parts as parts
 use Rattle.pv_acl.specs.Parts.{is_acl, special_of, acl_of_mode}
+use Rattle.pv_steps.specs.declared.attr.Attr.{Attr}
+use Rattle.pv_steps.specs.Attributes.{are_attrs}
 use Rattle.pv_steps.specs.declared.node.Kind.{Kind}
 use Rattle.pv_steps.specs.declared.node.Kind.TheVariants.{Directory, File, Link, CharDevice, BlockDevice}
 use Rattle.pv_steps.specs.declared.node.Stamps.{Stamps}
@@ -24,7 +26,8 @@ stamped now = record { access = now; birth = now; change = now; modify = now }
 abbrev pub bare : Object → Object
 bare o = record o { node = record o.node { stamps = stamped 0 } }
 
--- a new object of a kind: owned by root, with a mode, a payload and a device's numbers
+-- a new object of a kind: owned by root, with a mode, a payload and a device's numbers, no extended attributes and
+-- no letters
 abbrev pub fresh : Kind → ℕ → List ℕ → ℕ → ℕ → ℕ → Object
 fresh kind mode payload major minor now = record {
   node = record {
@@ -36,6 +39,8 @@ fresh kind mode payload major minor now = record {
     stamps = stamped now;
     major = major;
     minor = minor;
+    attrs = [];
+    letters = 0;
   };
   payload = payload;
 }
@@ -66,6 +71,14 @@ with_owner uid gid now o = changed now (record o { node = record o.node { uid = 
 -- the whole ACL changed
 abbrev pub with_acl : Acl → ℕ → Object → Object
 with_acl acl now o = changed now (record o { node = record o.node { acl = acl } })
+
+-- the whole list of extended attributes changed
+abbrev pub with_attrs : List Attr → ℕ → Object → Object
+with_attrs attrs now o = changed now (record o { node = record o.node { attrs = attrs } })
+
+-- the whole set of letters changed
+abbrev pub with_letters : ℕ → ℕ → Object → Object
+with_letters letters now o = changed now (record o { node = record o.node { letters = letters } })
 
 -- the stamps of access and modification changed
 abbrev pub with_stamps : ℕ → ℕ → ℕ → Object → Object
@@ -101,6 +114,17 @@ AclFits Directory special acl = Unit {0}
 AclFits Link special acl = (special ≡ 0) × (acl ≡ acl_of_mode 0o777)
 AclFits kind special acl = acl.default_part ≡ None
 
+-- the extended attributes are allowed; a link has none
+abbrev pub AttrsFit : Kind → List Attr → Type 0
+AttrsFit Link attrs = attrs ≡ []
+AttrsFit kind attrs = are_attrs attrs ≡ true
+
+-- the letters are known; files and directories alone have some
+abbrev pub LettersFit : Kind → ℕ → Type 0
+LettersFit Directory letters = letters < 2 ^ 15
+LettersFit File letters = letters < 2 ^ 15
+LettersFit kind letters = letters ≡ 0
+
 -- each stamp is a number below 2^64
 pub record StampsFit (stamps : Stamps) : Type 0 where
   pub access : stamps.access < 2 ^ 64
@@ -122,3 +146,5 @@ pub record IsObject (o : Object) : Type 0 where
   pub acl : is_acl o.node.acl ≡ true
   pub kind_acl : AclFits o.node.kind o.node.special o.node.acl
   pub stamps : StampsFit o.node.stamps
+  pub attrs : AttrsFit o.node.kind o.node.attrs
+  pub letters : LettersFit o.node.kind o.node.letters

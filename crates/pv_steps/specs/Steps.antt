@@ -1,5 +1,6 @@
--- The thirteen atomic steps: when each may be done, and what it leaves (mkdir(2), mknod(2), symlink(2), rename(2),
--- unlink(2), rmdir(2), chmod(2), chown(2), utimensat(2); acl(5) for ACLs), stamps included (inode(7)).
+-- The fifteen atomic steps: when each may be done, and what it leaves (mkdir(2), mknod(2), symlink(2), rename(2),
+-- unlink(2), rmdir(2), chmod(2), chown(2), setxattr(2), chattr(1), utimensat(2); acl(5) for ACLs), stamps included
+-- (inode(7)).
 use Rattle.std.specs.Prelude.{◌≡◌, ◌≢◌, ◌⊎◌, ℕ, ◌^◌, ◌<◌, ◌≤◌, Bool, true, false, List, [], ◌∷◌, ◌++◌, map, Option, Some, None, nat_lt, option_map, if◌then◌else◌}
 use Rattle.std.specs.List.{list_all}
 use Rattle.std.specs.Option.{option_map_or}
@@ -7,12 +8,13 @@ use Rattle.std.specs.FinMap as fin
 use Rattle.pv_path.specs.Paths.{Path, same_path, is_prefix, rest_under, parent_of, has_names}
 use Rattle.pv_acl.specs.declared.part.Acl.{Acl}
 use Rattle.pv_acl.specs.Parts.{is_acl}
+use Rattle.pv_steps.specs.Attributes.{are_attrs}
 use Rattle.pv_steps.specs.declared.node.Kind.{Kind}
 use Rattle.pv_steps.specs.declared.node.Kind.TheVariants.{Directory, File, Link, Fifo, CharDevice, BlockDevice}
 use Rattle.pv_steps.specs.declared.object.Object.{Object}
 use Rattle.pv_steps.specs.declared.step.Step.{Step}
-use Rattle.pv_steps.specs.declared.step.Step.TheVariants.{MakeDir, MakeFile, MakeFifo, MakeDevice, MakeLink, Write, SetMode, SetOwner, SetAcl, SetStamps, Rename, Unlink, RemoveDir}
-use Rattle.pv_steps.specs.Objects.{fresh, changed, modified, with_mode, with_owner, with_acl, with_stamps, with_content, IsTarget, IsId}
+use Rattle.pv_steps.specs.declared.step.Step.TheVariants.{MakeDir, MakeFile, MakeFifo, MakeDevice, MakeLink, Write, SetMode, SetOwner, SetAcl, SetAttrs, SetLetters, SetStamps, Rename, Unlink, RemoveDir}
+use Rattle.pv_steps.specs.Objects.{fresh, changed, modified, with_mode, with_owner, with_acl, with_attrs, with_letters, with_stamps, with_content, IsTarget, IsId}
 use Rattle.pv_steps.specs.Trees.{Files, Places, places, kind_of, tabulate, IsPresentIn, IsAbsentIn, IsKindIn, IsEmptyIn}
 
 -- ---- when a step may be done
@@ -54,6 +56,8 @@ Can t (Write path content) = IsKindIn File t path
 Can t (SetMode path mode) = IsOther Link t path × (mode ≤ 0o7777)
 Can t (SetOwner path uid gid) = IsPresentIn t path × (IsId uid × IsId gid)
 Can t (SetAcl path acl) = IsOther Link t path × (TakesAcl t path acl × (is_acl acl ≡ true))
+Can t (SetAttrs path attrs) = IsOther Link t path × (are_attrs attrs ≡ true)
+Can t (SetLetters path letters) = IsKindIn File t path ⊎ IsKindIn Directory t path
 Can t (SetStamps path access modify) = IsPresentIn t path
 Can t (Rename from to) = Movable t from to
 Can t (Unlink path) = IsOther Directory t path
@@ -70,6 +74,8 @@ StepFits (Write path content) = (has_names path ≡ true) × (list_all (λ b. na
 StepFits (SetMode path mode) = has_names path ≡ true
 StepFits (SetOwner path uid gid) = has_names path ≡ true
 StepFits (SetAcl path acl) = has_names path ≡ true
+StepFits (SetAttrs path attrs) = has_names path ≡ true
+StepFits (SetLetters path letters) = (has_names path ≡ true) × (letters < 2 ^ 15)
 StepFits (SetStamps path access modify) = (has_names path ≡ true) × ((access < 2 ^ 64) × (modify < 2 ^ 64))
 StepFits (Rename from to) = (has_names from ≡ true) × (has_names to ≡ true)
 StepFits (Unlink path) = has_names path ≡ true
@@ -127,6 +133,8 @@ after_at t (Write path content) now = on_at path (with_content content now) t
 after_at t (SetMode path mode) now = on_at path (with_mode mode now) t
 after_at t (SetOwner path uid gid) now = on_at path (with_owner uid gid now) t
 after_at t (SetAcl path acl) now = on_at path (with_acl acl now) t
+after_at t (SetAttrs path attrs) now = on_at path (with_attrs attrs now) t
+after_at t (SetLetters path letters) now = on_at path (with_letters letters now) t
 after_at t (SetStamps path access modify) now = on_at path (with_stamps access modify now) t
 after_at t (Rename from to) now = moved now from to t
 after_at t (Unlink path) now = gone now path t

@@ -2,19 +2,29 @@
 //! and the trait of the trees that can be walked and changed.
 #![tactic(auto)]
 
+mod attr;
 mod laws;
+mod letters;
+mod looking;
 mod node;
 mod object;
 mod step;
 mod tree;
 mod why;
 
+pub use attr::{Attr, AttrList, is_attr, is_attr_name};
 pub use laws::{
-    a_run_passes_trees, a_run_passes_trees_on_the_way, a_step_leaves_a_tree,
-    a_step_leaves_what_it_says,
+    a_run_leaves_what_it_does_not_alter, a_run_outside_leaves_contents, a_run_passes_trees,
+    a_run_passes_trees_on_the_way, a_step_leaves_a_tree, a_step_leaves_what_it_says,
+    names_are_of_what_stands_there, names_rise_strictly, presence_decides_names,
 };
-pub use node::{Kind, Node, Stamps};
+pub use letters::{LetterHow, LetterSet};
+pub use looking::{is_directory, is_present, kind_at};
+pub use node::{Kind, Node, Stamps, special_bits};
 pub use object::Object;
 pub use step::Step;
 pub use tree::{Tree, TreeFault};
 pub use why::Why;
+
+#[cfg(test)]
+mod tests;

@@ -1,6 +1,10 @@
-ghost use Rattle.std.specs.Prelude.{◌≡◌, ◌↔◌, IfOk, IsTrue};
+//! Nodes: what a tree keeps of an object beside its payload.
+ghost use Rattle.std.specs.Prelude.{◌≡◌, IfOk};
+ghost use Rattle.pv_acl.specs.Parts.{special_of};
 ghost use Rattle.pv_steps.specs.Objects.{is_directory};
 
+use crate::attr::AttrList;
+use crate::letters::LetterSet;
 use pv_acl::Acl;
 use std::alloc::AllocError;
 
@@ -30,6 +34,13 @@ impl Kind {
     }
 }
 
+/// The special bits of a mode: set-user-ID 4, set-group-ID 2, sticky 1 (inode(7)).
+pub fn special_bits(mode: u16) -> u8
+    ensures { result ≡ special_of mode }
+{
+    (mode / 512) as u8
+}
+
 /// The four stamps of an object, in microseconds since 1970 (inode(7)).
 #[derive(Clone, Copy, Debug, PartialEq, Eq, Hash)]
 pub struct Stamps {
@@ -53,6 +64,10 @@ pub struct Node {
     pub major: u32,
     /// A device's minor number, else 0.
     pub minor: u32,
+    /// The extended attributes, which a link has none of (xattr(7)).
+    pub attrs: AttrList,
+    /// The letters, which files and directories alone have (chattr(1)).
+    pub letters: LetterSet,
 }
 
 impl Node {
@@ -69,6 +84,8 @@ impl Node {
             stamps: self.stamps,
             major: self.major,
             minor: self.minor,
+            attrs: self.attrs.copy()?,
+            letters: self.letters,
         })
     }
 }

@@ -1,3 +1,4 @@
+//! Objects of a tree: a node and its payload.
 ghost use Rattle.std.specs.Prelude.{◌≡◌, IfOk};
 
 use crate::node::Node;

@@ -1,5 +1,8 @@
+//! Steps: the atomic changes of a tree.
 ghost use Rattle.std.specs.Prelude.{◌≡◌, IfOk};
 
+use crate::attr::AttrList;
+use crate::letters::LetterSet;
 use pv_acl::Acl;
 use pv_path::{Bytes, TreePath};
 use std::alloc::AllocError;
@@ -53,6 +56,16 @@ pub enum Step {
     SetAcl {
         path: TreePath,
         acl: Acl,
+    },
+    /// The whole list of extended attributes of what is no link changes (setxattr(2)).
+    SetAttrs {
+        path: TreePath,
+        attrs: AttrList,
+    },
+    /// The whole set of letters of a file or a directory changes (chattr(1)).
+    SetLetters {
+        path: TreePath,
+        letters: LetterSet,
     },
     /// The stamps of access and modification change (utimensat(2)).
     SetStamps {
@@ -116,6 +129,14 @@ impl Step {
             Step::SetAcl { path, acl } => Step::SetAcl {
                 path: path.copy()?,
                 acl: acl.copy()?,
+            },
+            Step::SetAttrs { path, attrs } => Step::SetAttrs {
+                path: path.copy()?,
+                attrs: attrs.copy()?,
+            },
+            Step::SetLetters { path, letters } => Step::SetLetters {
+                path: path.copy()?,
+                letters: *letters,
             },
             Step::SetStamps {
                 path,

@@ -1,3 +1,4 @@
+//! Trees that can be walked and changed: what a caller may ask of one, and why a step is not done.
 ghost use Rattle.std.specs.Prelude.{◌≡◌, ℕ, ◌∷◌, ◌++◌, [], ◌≤◌, List, Some, IfOk, OnOk, OnErr, IsErrOf};
 ghost use Rattle.std.specs.Option.{option_copied};
 ghost use Rattle.pv_io.specs.Faults.{HasRisen};
@@ -11,13 +12,16 @@ use crate::node::Node;
 use crate::step::Step;
 use pv_path::{NameList, TreePath};
 use std::alloc::{AllocError, AllocFailed, Global};
+use thiserror::Error;
 
 /// Why a step was not done.
-#[derive(Clone, Copy, Debug, PartialEq, Eq)]
+#[derive(Clone, Copy, Debug, PartialEq, Eq, Error)]
 pub enum TreeFault {
     /// The tree refused or could not do it; its count of faults has risen.
+    #[error("Failed")]
     Failed,
     /// Memory ran out.
+    #[error("Memory")]
     Memory,
 }
 
@@ -45,6 +49,9 @@ pub trait Tree {
     ghost steps: { Self → List StepValue };
 
     ghost faults: { Self → ℕ };
+
+    /// How calls move a tree: what holds between a tree and what it is after any number of them.
+    ghost reaches: { Self → Self → Type 0 };
 
     /// The node at a path, or nothing where the path is absent. It takes no memory.
     fn look(&self, path: &TreePath) -> Option<&Node>
@@ -78,6 +85,13 @@ pub trait Tree {
         // What the types of the step's parts say.
         ensures fits { StepFits step.now }
 
-        ensures never_falls { faults self.old ≤ faults self.new }
+        ensures reaches { reaches self.old self.new }
         ensures cause { IsErrOf result Failed → HasRisen (faults self.old) (faults self.new) };
+
+    ghost reaches_self: { (a : Self) → reaches a a };
+
+    ghost reaches_on: { (a b c : Self) → reaches a b → reaches b c → reaches a c };
+
+    // The count of faults never falls.
+    ghost never_falls: { (a b : Self) → reaches a b → faults a ≤ faults b };
 }

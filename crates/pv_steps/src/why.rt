@@ -1,3 +1,4 @@
+//! Why a walk along a path is refused.
 /// Why a walk along a path is refused at a place.
 #[derive(Clone, Copy, Debug, PartialEq, Eq)]
 pub enum Why {

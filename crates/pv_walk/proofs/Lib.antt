@@ -2,3 +2,12 @@ pub mod WalkLaws
 pub mod StageLaws
 pub mod Outcomes
 pub mod Removing
+pub mod CountLaws
+pub mod EmptyingLaws
+pub mod ListingLaws
+pub mod PublishLaws
+pub mod RemovalLaws
+pub mod SweepLaws
+pub mod PuttingLaws
+pub mod PreparingLaws
+pub mod PreparingSweep

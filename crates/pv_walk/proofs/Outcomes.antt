@@ -11,10 +11,10 @@ use Rattle.pv_steps.specs.Objects.{bare}
 use Rattle.pv_steps.specs.Trees.{Files, Places, places, IsPresent, IsTree}
 use Rattle.pv_steps.specs.Steps.{after, gone}
 use Rattle.pv_steps.specs.Runs.{Legal, Ran}
-use Rattle.pv_steps.specs.RunLaws.{ran_none, ran_one, along_trees, along_end}
+use Rattle.pv_steps.proofs.RunLaws.{ran_none, ran_one, along_trees, along_end}
 use Rattle.pv_steps.specs.Same.{Differ}
 use Rattle.pv_dress.specs.Asking.{asked, refused}
-use Rattle.pv_walk.specs.RemovalLaws.{apart, gone-here}
+use Rattle.pv_walk.proofs.RemovalLaws.{apart, gone-here}
 
 module _ (P : Files → Type 0) (Q : Step → Type 0) (now : ℕ) where
   -- one step was asked for

@@ -5,7 +5,7 @@ use Rattle.std.specs.List.{list_all}
 use Rattle.std.proofs.lemmas.Bool.Decides.{nat_tests}
 use Rattle.std.proofs.lemmas.List.Folds.{list_all-append}
 use Rattle.pv_path.specs.Paths.{Path, same_path, is_prefix, last_name, parent_of, staging_of}
-use Rattle.pv_path.specs.PathLaws.{both_true, path_parts, is_prefix-refl, parent_of-staging_of}
+use Rattle.pv_path.proofs.PathLaws.{both_true, path_parts, is_prefix-refl, parent_of-staging_of}
 use Rattle.pv_acl.specs.Parts.{is_acl, acl_of_mode, special_of, mode_of, part_of_mode}
 use Rattle.pv_steps.specs.declared.node.Kind.TheVariants.{Directory, File}
 use Rattle.pv_steps.specs.declared.object.Object.{Object}
@@ -13,19 +13,19 @@ use Rattle.pv_steps.specs.declared.step.Step.{Step}
 use Rattle.pv_steps.specs.declared.step.Step.TheVariants.{Write}
 use Rattle.pv_steps.specs.declared.tree.TreeFault.{TreeFault}
 use Rattle.pv_steps.specs.Objects.{bare, fresh, changed, with_content, AclFits}
-use Rattle.pv_steps.specs.ObjectLaws.{IsObject-fresh}
+use Rattle.pv_steps.proofs.ObjectLaws.{IsObject-fresh, no_attrs, no_letters}
 use Rattle.pv_steps.specs.Trees.{Files, Places, places, kind_of, IsKindIn, IsAbsentIn}
 use Rattle.pv_steps.specs.Steps.{Can, HasRoom, after, after_at, put_at, on_at, made}
-use Rattle.pv_steps.specs.StepLaws.{at_after}
+use Rattle.pv_steps.proofs.StepLaws.{at_after}
 use Rattle.pv_steps.specs.Same.{bares, Differ}
 use Rattle.pv_steps.specs.Runs.{IsNotIdle, Ran}
-use Rattle.pv_steps.specs.RunLaws.{ran_then, ran_weaken, ran_end}
+use Rattle.pv_steps.proofs.RunLaws.{ran_then, ran_weaken, ran_end}
 use Rattle.pv_dress.specs.Edits.{SameOutside}
 use Rattle.pv_dress.specs.Asking.{Tried}
-use Rattle.pv_dress.specs.AskingLaws.{ran_tried}
+use Rattle.pv_dress.proofs.AskingLaws.{ran_tried}
 use Rattle.pv_dress.specs.Dressing.{IsDress, CanWear, dress_mode, wear, wear_first, Dressing, GivesDress, IsChanged, ChangedAt}
-use Rattle.pv_dress.specs.DressLaws.{outside_dressing}
-use Rattle.pv_dress.specs.EditLaws.{path_cases, on_at-here, on_at-else, made-here, put_at-made, on_at-made, bares-made, bares-put_else}
+use Rattle.pv_dress.proofs.DressLaws.{outside_dressing}
+use Rattle.pv_dress.proofs.EditLaws.{path_cases, on_at-here, on_at-else, made-here, put_at-made, on_at-made, bares-made, bares-put_else}
 use Rattle.pv_walk.specs.declared.new_file.NewFile.{NewFile}
 use Rattle.pv_walk.specs.declared.new_file.NewKind.{NewKind}
 use Rattle.pv_walk.specs.declared.new_file.NewKind.TheVariants as new
@@ -213,6 +213,8 @@ module _ (path : Path) (nonempty : path ≢ []) (now : ℕ) (t : Files) (file : 
     special = special_small (new_mode file.what file.mode) (new_mode_bound file.what file.mode is_new.mode);
     acl = is_acl-of_mode (new_mode file.what file.mode) (new_mode_bound file.what file.mode is_new.mode);
     fits = fits_new file.what file.mode;
+    attrs = no_attrs (new_kind file.what);
+    letters = no_letters (new_kind file.what);
   }
 
   pub can_wear : CanWear u path (new_dress file)
@@ -228,7 +230,9 @@ module _ (path : Path) (nonempty : path ≢ []) (now : ℕ) (t : Files) (file : 
   gives_dress : (s : Step) → GivesDress path (new_dress file) u s → GivesNew path file s
   gives_dress s (inl e) = subst (GivesNew path file) (sym e) (refl, (refl, refl))
   gives_dress s (inr (inl e)) = subst (GivesNew path file) (sym e) (refl, mode_is)
-  gives_dress s (inr (inr e)) = absurd (e.1 plain there_held acl_given)
+  gives_dress s (inr (inr (inl e))) = absurd (e.1 plain there_held acl_given)
+  gives_dress s (inr (inr (inr (inl e)))) = absurd (e.1 plain there_held refl)
+  gives_dress s (inr (inr (inr (inr e)))) = absurd (e.1 plain there_held refl)
 
   outside_dressed : SameOutside (is_prefix path) t u → (v : Files) → Dressing path (new_dress file) u v → SameOutside (is_prefix path) t v
   outside_dressed before v h = λ q e. outside_dressing path (new_dress file) u v h q (not_same path q e) ∙ before q e

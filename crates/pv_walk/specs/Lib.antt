@@ -3,9 +3,6 @@ pub mod Staging
 pub mod Seeing
 pub mod Making
 pub mod Removal
-pub mod CountLaws
-pub mod RemovalLaws
-pub mod ListingLaws
-pub mod EmptyingLaws
-pub mod SweepLaws
-pub mod PublishLaws
+pub mod Listing
+pub mod Putting
+pub mod Preparing

@@ -7,7 +7,7 @@ use Rattle.pv_steps.specs.declared.object.Object.{Object}
 use Rattle.pv_steps.specs.declared.step.Step.{Step}
 use Rattle.pv_steps.specs.declared.step.Step.TheVariants.{MakeDir, MakeFile, MakeFifo, MakeDevice, MakeLink}
 use Rattle.pv_steps.specs.Objects.{fresh}
-use Rattle.pv_dress.specs.declared.attributes.Dress.{Dress}
+use Rattle.pv_dress.specs.declared.bare.Dress.{Dress}
 use Rattle.pv_walk.specs.declared.new_file.NewFile.{NewFile}
 use Rattle.pv_walk.specs.declared.new_file.NewKind.{NewKind}
 use Rattle.pv_walk.specs.declared.new_file.NewKind.TheVariants as new
@@ -44,4 +44,6 @@ new_dress file = record {
   gid = file.gid;
   special = special_of (new_mode file.what file.mode);
   acl = acl_of_mode (new_mode file.what file.mode);
+  attrs = [];
+  letters = 0;
 }

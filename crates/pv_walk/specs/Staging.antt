@@ -1,5 +1,5 @@
 -- Staging: what is made under a staging name before it comes to its path (rename(2)).
-use Rattle.std.specs.Prelude.{◌≡◌, ℕ, ◌≤◌, Bool, List, [], map, length, take, sum, nat_le}
+use Rattle.std.specs.Prelude.{◌≡◌, ℕ, ◌≤◌, Bool, true, List, [], map, length, take, sum, nat_le}
 use Rattle.std.specs.List.{list_all, list_any, range_with_len}
 use Rattle.pv_path.specs.Paths.{Path, is_prefix, staging_of}
 use Rattle.pv_steps.specs.declared.node.Kind.{Kind}
@@ -87,6 +87,14 @@ new_object file now =
 
 -- ---- steps
 
+-- at most how many steps make a new object, with its content and its dress
+abbrev pub most_staged : ℕ
+most_staged = 7
+
+-- and with the Rename that brings it to its path
+abbrev pub most_new : ℕ
+most_new = 8
+
 -- a Write, MakeLink or Set step gives its node what the new object has; other steps give nothing
 abbrev pub GivesNew : Path → NewFile → Step → Type 0
 GivesNew path file (Write at content) = (at ≡ path) × (content ≡ new_payload file.what)
@@ -99,15 +107,9 @@ GivesNew path file (MakeFifo at) = at ≡ path
 GivesNew path file (MakeDevice at block major minor) = at ≡ path
 GivesNew path file step = ⊥
 
--- a step takes something away
-abbrev pub IsRemoval : Step → Type 0
-IsRemoval (Unlink path) = Unit {0}
-IsRemoval (RemoveDir path) = Unit {0}
-IsRemoval step = ⊥
-
--- a step takes something away, or is the one that publishes a path
+-- a step takes something away at or below a path, or is the one that publishes the path
 abbrev pub IsPublishing : Path → Step → Type 0
-IsPublishing path (Unlink at) = Unit {0}
-IsPublishing path (RemoveDir at) = Unit {0}
+IsPublishing path (Unlink at) = is_prefix path at ≡ true
+IsPublishing path (RemoveDir at) = is_prefix path at ≡ true
 IsPublishing path (Rename from to) = (from ≡ staging_of path) × (to ≡ path)
 IsPublishing path step = ⊥

@@ -2,14 +2,18 @@
 #![tactic(auto)]
 
 mod new_file;
+mod preparing;
 mod publishing;
+mod put;
 mod remove;
 mod stage;
 mod sweeping;
 mod walking;
 
 pub use new_file::{NewFile, NewKind};
+pub use preparing::prepare;
 pub use publishing::publish;
+pub use put::put_new;
 pub use pv_steps::Why;
 pub use remove::remove_below;
 pub use stage::stage_file;

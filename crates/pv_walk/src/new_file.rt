@@ -1,3 +1,4 @@
+//! New objects, as a caller asks for them.
 use pv_path::Bytes;
 
 /// A new object with its mode and owners.

@@ -1,47 +1,21 @@
+//! Removal of what stands below a path.
 ghost use Rattle.std.specs.Prelude.{◌≡◌, ◌≢◌, ◌≤◌, [], ◌++◌, Some, is_some, IfOk, OnOk, IsErrOf, IsTrue, ◌↔◌};
+ghost use Rattle.pv_path.specs.Paths.{same_path};
 ghost use Rattle.pv_io.specs.Faults.{HasRisen};
 ghost use Rattle.pv_steps.specs.declared.tree.TreeFault.TheVariants.{Failed};
 ghost use Rattle.pv_steps.specs.declared.node.Kind.TheVariants.{Directory};
 ghost use Rattle.pv_steps.specs.Trees.{places, kind_of, IsKind, IsPresent, IsEmptyIn, IsTree};
 ghost use Rattle.pv_steps.specs.Steps.{IsOther, gone};
+ghost use Rattle.pv_steps.specs.Content.{Removes};
 ghost use Rattle.pv_steps.specs.Runs.{Ran};
 ghost use Rattle.pv_dress.specs.Edits.{Pruned, emptied};
 ghost use Rattle.pv_dress.specs.Asking.{asked};
-ghost use Rattle.pv_walk.specs.Staging.{IsRemoval};
 ghost use Rattle.pv_walk.specs.Removal.{is_below, count_below, MayHaveGone};
-ghost use Rattle.pv_walk.specs.CountLaws.{children_of};
-ghost use Rattle.pv_walk.specs.ListingLaws.{IsListing};
+ghost use Rattle.pv_walk.specs.Listing.{children_of, IsListing};
 
 use pv_path::{TreePath, child};
-use pv_steps::{Kind, Step, Tree, TreeFault};
+use pv_steps::{Step, Tree, TreeFault, is_directory};
 use std::alloc::{AllocError, Global};
-
-/// What stands at a path, or nothing.
-fn kind_at<T: Tree>(tree: &T, path: &TreePath) -> Option<Kind>
-    ensures kind { result ≡ kind_of (places (T.state tree.now) path.now) }
-    ensures tree { IsTree (T.state tree.now) }
-{
-    match tree.look(path) {
-        Some(node) => Some(node.kind),
-        None => None,
-    }
-}
-
-/// Whether something stands at a path.
-pub(crate) fn is_present<T: Tree>(tree: &T, path: &TreePath) -> bool
-    ensures present { result ≡ is_some (places (T.state tree.now) path.now) }
-    ensures tree { IsTree (T.state tree.now) }
-{
-    kind_at(tree, path).is_some()
-}
-
-/// Whether a directory stands at a path.
-pub(crate) fn is_directory<T: Tree>(tree: &T, path: &TreePath) -> bool
-    ensures kind { IsTrue result ↔ IsKind Directory (T.state tree.now) path.now }
-    ensures tree { IsTree (T.state tree.now) }
-{
-    matches!(kind_at(tree, path), Some(Kind::Directory))
-}
 
 /// Adds the paths of what stands in the directory at a path, in byte order; nothing where no
 /// directory is there.
@@ -86,11 +60,11 @@ fn unlink<T: Tree>(tree: &mut T, path: TreePath, now: u64) -> Result<(), TreeFau
     requires { IsOther Directory (places (T.state tree.old)) path }
     ensures gone { OnOk result
         (places (T.state tree.new) ≡ gone now path (places (T.state tree.old))) }
-    ensures ran { Ran (MayHaveGone now path (T.state tree.old)) IsRemoval now
+    ensures ran { Ran (MayHaveGone now path (T.state tree.old)) (Removes (same_path path)) now
         (T.state tree.old) (T.steps tree.old) (T.state tree.new) (T.steps tree.new) }
     ensures bound { asked result (T.steps tree.old) (T.steps tree.new) ≤ 1 }
     ensures cause { IsErrOf result Failed → HasRisen (T.faults tree.old) (T.faults tree.new) }
-    ensures never_falls { T.faults tree.old ≤ T.faults tree.new }
+    ensures reaches { T.reaches tree.old tree.new }
 {
     let step = Step::Unlink { path };
     tree.step(&step, now)
@@ -103,11 +77,11 @@ fn remove_dir<T: Tree>(tree: &mut T, path: TreePath, now: u64) -> Result<(), Tre
     requires not_root { path ≢ [] }
     ensures gone { OnOk result
         (places (T.state tree.new) ≡ gone now path (places (T.state tree.old))) }
-    ensures ran { Ran (MayHaveGone now path (T.state tree.old)) IsRemoval now
+    ensures ran { Ran (MayHaveGone now path (T.state tree.old)) (Removes (same_path path)) now
         (T.state tree.old) (T.steps tree.old) (T.state tree.new) (T.steps tree.new) }
     ensures bound { asked result (T.steps tree.old) (T.steps tree.new) ≤ 1 }
     ensures cause { IsErrOf result Failed → HasRisen (T.faults tree.old) (T.faults tree.new) }
-    ensures never_falls { T.faults tree.old ≤ T.faults tree.new }
+    ensures reaches { T.reaches tree.old tree.new }
 {
     let step = Step::RemoveDir { path };
     tree.step(&step, now)
@@ -120,11 +94,11 @@ pub(crate) fn remove<T: Tree>(tree: &mut T, path: TreePath, now: u64) -> Result<
     requires not_root { path ≢ [] }
     ensures gone { OnOk result
         (places (T.state tree.new) ≡ gone now path (places (T.state tree.old))) }
-    ensures ran { Ran (MayHaveGone now path (T.state tree.old)) IsRemoval now
+    ensures ran { Ran (MayHaveGone now path (T.state tree.old)) (Removes (same_path path)) now
         (T.state tree.old) (T.steps tree.old) (T.state tree.new) (T.steps tree.new) }
     ensures bound { asked result (T.steps tree.old) (T.steps tree.new) ≤ 1 }
     ensures cause { IsErrOf result Failed → HasRisen (T.faults tree.old) (T.faults tree.new) }
-    ensures never_falls { T.faults tree.old ≤ T.faults tree.new }
+    ensures reaches { T.reaches tree.old tree.new }
 {
     if is_directory(tree, &path) {
         remove_dir(tree, path, now)
@@ -143,12 +117,12 @@ pub fn remove_below<T: Tree>(
 ) -> Result<(), TreeFault>
     ensures emptied { OnOk result
         (places (T.state tree.new) ≡ emptied now path.now (T.state tree.old)) }
-    ensures ran { Ran (Pruned (is_below path.now) (T.state tree.old)) IsRemoval now
+    ensures ran { Ran (Pruned (is_below path.now) (T.state tree.old)) (Removes (is_below path.now)) now
         (T.state tree.old) (T.steps tree.old) (T.state tree.new) (T.steps tree.new) }
     ensures bound { asked result (T.steps tree.old) (T.steps tree.new)
         ≤ count_below (T.state tree.old) path.now }
     ensures cause { IsErrOf result Failed → HasRisen (T.faults tree.old) (T.faults tree.new) }
-    ensures never_falls { T.faults tree.old ≤ T.faults tree.new }
+    ensures reaches { T.reaches tree.old tree.new }
 {
     let mut paths = below(alloc, tree, path)?;
     while let Some(last) = paths.pop() {

@@ -1,3 +1,4 @@
+//! New objects, made under a staging name.
 ghost use Rattle.std.specs.Prelude.{◌≡◌, ◌≢◌, ◌≤◌, true, [], IfOk, OnOk, IsErrOf};
 ghost use Rattle.std.specs.Option.{option_copied};
 ghost use Rattle.pv_io.specs.Faults.{HasRisen};
@@ -10,14 +11,14 @@ ghost use Rattle.pv_steps.specs.Steps.{Can, HasRoom, made};
 ghost use Rattle.pv_steps.specs.Runs.{Ran};
 ghost use Rattle.pv_dress.specs.Edits.{SameOutside};
 ghost use Rattle.pv_dress.specs.Asking.{Tried, asked};
-ghost use Rattle.pv_walk.specs.Staging.{IsNewFile, GivesNew, new_object, new_mode, can_stage};
+ghost use Rattle.pv_walk.specs.Staging.{IsNewFile, GivesNew, new_object, new_mode, can_stage, most_staged};
 ghost use Rattle.pv_walk.specs.Making.{make_step, content_of, held_object, new_dress};
 
 use crate::new_file::{NewFile, NewKind};
 use pv_acl::Acl;
 use pv_dress::{Dress, dress};
 use pv_path::{Bytes, TreePath, staging};
-use pv_steps::{Step, Tree, TreeFault};
+use pv_steps::{AttrList, LetterSet, Step, Tree, TreeFault, special_bits};
 use std::alloc::{AllocError, Global};
 
 /// Makes a new object under the staging name of a path, with its content, owners and mode, all four stamps
@@ -39,16 +40,16 @@ pub fn stage_file<T: Tree>(
         (T.state tree.old) (T.steps tree.old) (T.state tree.new) (T.steps tree.new) }
     ensures ok { OnOk result (places (T.state tree.new)
         ≡ made now (staging_of path.now) (new_object new.now now) (places (T.state tree.old))) }
-    ensures bound { asked result (T.steps tree.old) (T.steps tree.new) ≤ 5 }
-    ensures never_falls { T.faults tree.old ≤ T.faults tree.new }
+    ensures bound { asked result (T.steps tree.old) (T.steps tree.new) ≤ most_staged }
+    ensures reaches { T.reaches tree.old tree.new }
     ensures cause { IsErrOf result Failed → HasRisen (T.faults tree.old) (T.faults tree.new) }
 {
     let stage = staging(alloc, path)?;
-    put_new(alloc, tree, &stage, new, now)
+    make_new(alloc, tree, &stage, new, now)
 }
 
 /// Makes a new object at a path, with its content, owners and mode.
-fn put_new<T: Tree>(
+fn make_new<T: Tree>(
     alloc: Global,
     tree: &mut T,
     path: &TreePath,
@@ -62,8 +63,8 @@ fn put_new<T: Tree>(
         (T.state tree.old) (T.steps tree.old) (T.state tree.new) (T.steps tree.new) }
     ensures ok { OnOk result (places (T.state tree.new)
         ≡ made now path.now (new_object new.now now) (places (T.state tree.old))) }
-    ensures bound { asked result (T.steps tree.old) (T.steps tree.new) ≤ 5 }
-    ensures never_falls { T.faults tree.old ≤ T.faults tree.new }
+    ensures bound { asked result (T.steps tree.old) (T.steps tree.new) ≤ most_staged }
+    ensures reaches { T.reaches tree.old tree.new }
     ensures cause { IsErrOf result Failed → HasRisen (T.faults tree.old) (T.faults tree.new) }
 {
     put_held(alloc, tree, path, new, now)?;
@@ -86,7 +87,7 @@ fn put_held<T: Tree>(
     ensures ok { OnOk result (places (T.state tree.new)
         ≡ made now path.now (held_object new.now.what now) (places (T.state tree.old))) }
     ensures bound { asked result (T.steps tree.old) (T.steps tree.new) ≤ 2 }
-    ensures never_falls { T.faults tree.old ≤ T.faults tree.new }
+    ensures reaches { T.reaches tree.old tree.new }
     ensures cause { IsErrOf result Failed → HasRisen (T.faults tree.old) (T.faults tree.new) }
 {
     make(alloc, tree, path, &new.what, now)?;
@@ -107,7 +108,7 @@ fn make<T: Tree>(
     requires { Can (places (T.state tree.old)) (make_step path.now what.now) }
     ensures tried { Tried (make_step path.now what.now) now result
         (T.state tree.old) (T.steps tree.old) (T.state tree.new) (T.steps tree.new) }
-    ensures never_falls { T.faults tree.old ≤ T.faults tree.new }
+    ensures reaches { T.reaches tree.old tree.new }
     ensures cause { IsErrOf result Failed → HasRisen (T.faults tree.old) (T.faults tree.new) }
 {
     let step = make_step(alloc, path, what)?;
@@ -150,7 +151,7 @@ fn write<T: Tree>(
     requires { Can (places (T.state tree.old)) (Write path.now content.now) }
     ensures tried { Tried (Write path.now content.now) now result
         (T.state tree.old) (T.steps tree.old) (T.state tree.new) (T.steps tree.new) }
-    ensures never_falls { T.faults tree.old ≤ T.faults tree.new }
+    ensures reaches { T.reaches tree.old tree.new }
     ensures cause { IsErrOf result Failed → HasRisen (T.faults tree.old) (T.faults tree.new) }
 {
     let step = Step::Write {
@@ -176,7 +177,7 @@ fn content_of(what: &NewKind) -> Option<&Bytes>
     }
 }
 
-/// What a new object is to wear: no more than its mode gives.
+/// What a new object is to wear: no more than its mode gives, no extended attributes and no letters.
 fn dress_of(alloc: Global, new: &NewFile) -> Dress
     requires { new.now.mode ≤ 4095 }
     ensures { result ≡ new_dress new.now }
@@ -185,8 +186,10 @@ fn dress_of(alloc: Global, new: &NewFile) -> Dress
     Dress {
         uid: new.uid,
         gid: new.gid,
-        special: (mode / 512) as u8,
+        special: special_bits(mode),
         acl: Acl::of_mode(alloc, mode),
+        attrs: AttrList::new(alloc),
+        letters: LetterSet::new(),
     }
 }
 

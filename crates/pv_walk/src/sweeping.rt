@@ -1,16 +1,18 @@
+//! Staging names that an earlier run has left, taken away.
 ghost use Rattle.std.specs.Prelude.{◌≡◌, ◌≢◌, ◌≤◌, ℕ, List, [], true, length, Some, OnOk, IsErrOf};
 ghost use Rattle.pv_io.specs.Faults.{HasRisen};
 ghost use Rattle.pv_path.specs.Paths.{is_prefix, last_name, staging_of};
 ghost use Rattle.pv_steps.specs.declared.tree.TreeFault.TheVariants.{Failed};
 ghost use Rattle.pv_steps.specs.Trees.{places};
+ghost use Rattle.pv_steps.specs.Content.{Removes};
 ghost use Rattle.pv_steps.specs.Runs.{Ran};
 ghost use Rattle.pv_dress.specs.Edits.{Pruned, taken, all_taken, count_at};
 ghost use Rattle.pv_dress.specs.Asking.{asked};
-ghost use Rattle.pv_walk.specs.Staging.{IsRemoval, staging_names, is_under_any, count_at_all, can_stage};
+ghost use Rattle.pv_walk.specs.Staging.{staging_names, is_under_any, count_at_all, can_stage};
 
-use crate::remove::{is_present, remove, remove_below};
+use crate::remove::{remove, remove_below};
 use pv_path::{TreePath, staging};
-use pv_steps::{Tree, TreeFault};
+use pv_steps::{Tree, TreeFault, is_present};
 use std::alloc::Global;
 
 /// Takes away what stands at a path, with all below it, where anything is there.
@@ -23,12 +25,12 @@ pub(crate) fn take_away<T: Tree>(
     requires { path.now ≢ [] }
     ensures taken { OnOk result
         (places (T.state tree.new) ≡ taken now path.now (places (T.state tree.old))) }
-    ensures ran { Ran (Pruned (is_prefix path.now) (T.state tree.old)) IsRemoval now
+    ensures ran { Ran (Pruned (is_prefix path.now) (T.state tree.old)) (Removes (is_prefix path.now)) now
         (T.state tree.old) (T.steps tree.old) (T.state tree.new) (T.steps tree.new) }
     ensures bound { asked result (T.steps tree.old) (T.steps tree.new)
         ≤ count_at (T.state tree.old) path.now }
     ensures cause { IsErrOf result Failed → HasRisen (T.faults tree.old) (T.faults tree.new) }
-    ensures never_falls { T.faults tree.old ≤ T.faults tree.new }
+    ensures reaches { T.reaches tree.old tree.new }
 {
     if !is_present(tree, path) {
         return Ok(());
@@ -48,12 +50,12 @@ fn sweep_place<T: Tree>(
     requires not_root { place.now ≢ [] }
     ensures taken { OnOk result
         (places (T.state tree.new) ≡ taken now (staging_of place.now) (places (T.state tree.old))) }
-    ensures ran { Ran (Pruned (is_prefix (staging_of place.now)) (T.state tree.old)) IsRemoval now
+    ensures ran { Ran (Pruned (is_prefix (staging_of place.now)) (T.state tree.old)) (Removes (is_prefix (staging_of place.now))) now
         (T.state tree.old) (T.steps tree.old) (T.state tree.new) (T.steps tree.new) }
     ensures bound { asked result (T.steps tree.old) (T.steps tree.new)
         ≤ count_at (T.state tree.old) (staging_of place.now) }
     ensures cause { IsErrOf result Failed → HasRisen (T.faults tree.old) (T.faults tree.new) }
-    ensures never_falls { T.faults tree.old ≤ T.faults tree.new }
+    ensures reaches { T.reaches tree.old tree.new }
 {
     let stage = staging(alloc, place)?;
     take_away(alloc, tree, &stage, now)
@@ -73,12 +75,12 @@ pub fn sweep<T: Tree>(
         (places (T.state tree.new)
         ≡ all_taken now (staging_names path.now) (places (T.state tree.old))) }
     ensures ran { Ran (Pruned (is_under_any (staging_names path.now)) (T.state tree.old))
-        IsRemoval now
+        (Removes (is_under_any (staging_names path.now))) now
         (T.state tree.old) (T.steps tree.old) (T.state tree.new) (T.steps tree.new) }
     ensures bound { asked result (T.steps tree.old) (T.steps tree.new)
         ≤ count_at_all (T.state tree.old) (staging_names path.now) }
     ensures cause { IsErrOf result Failed → HasRisen (T.faults tree.old) (T.faults tree.new) }
-    ensures never_falls { T.faults tree.old ≤ T.faults tree.new }
+    ensures reaches { T.reaches tree.old tree.new }
 {
     let mut place = TreePath::root(alloc);
     for name in path.names() {

@@ -1,5 +1,5 @@
 use Rattle.pv_steps.specs.Trees.{places}
-use Rattle.pv_create.specs.EffectLaws.{effect_point, shape_of_tree}
+use Rattle.pv_create.proofs.EffectLaws.{effect_point, shape_of_tree}
 use Rattle.pv_create.proofs.laws.a_line_changes_each_path_by_itself.Goals as goal
 
 pub returns : goal.returns

@@ -1,5 +1,5 @@
 use Rattle.pv_steps.specs.Trees.{places}
-use Rattle.pv_create.specs.EffectLaws.{no_stage_left}
+use Rattle.pv_create.proofs.EffectLaws.{no_stage_left}
 use Rattle.pv_create.proofs.laws.a_line_leaves_no_staging_name.Goals as goal
 
 pub returns : goal.returns

@@ -1,5 +1,5 @@
 use Rattle.pv_create.specs.OnWay.{IsStepOfSome}
-use Rattle.pv_create.specs.StopLaws.{mended}
+use Rattle.pv_create.proofs.StopLaws.{mended}
 use Rattle.pv_create.proofs.laws.a_run_cut_short_is_mended.Goals as goal
 
 pub returns : goal.returns

@@ -1,4 +1,4 @@
-use Rattle.pv_create.specs.FrameLaws.{created_no_stage}
+use Rattle.pv_create.proofs.FrameLaws.{created_no_stage}
 use Rattle.pv_create.proofs.laws.a_run_leaves_no_staging_name.Goals as goal
 
 pub returns : goal.returns

@@ -1,4 +1,4 @@
-use Rattle.pv_create.specs.StopLaws.{mends}
+use Rattle.pv_create.proofs.StopLaws.{mends}
 use Rattle.pv_create.proofs.laws.a_second_run_mends_half_done_lines.Goals as goal
 
 pub returns : goal.returns

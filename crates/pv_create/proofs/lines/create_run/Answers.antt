@@ -3,7 +3,7 @@ use Rattle.std.proofs.lemmas.Result.{err_from_is_err_and}
 use Rattle.pv_dress.specs.Asking.{refused}
 use Rattle.pv_create.specs.Created.{is_refused, line_work}
 use Rattle.pv_create.specs.OnWay.{OnWay, IsStepOf, IsStepOfSome}
-use Rattle.pv_create.specs.StopLaws.{mended}
+use Rattle.pv_create.proofs.StopLaws.{mended}
 use Rattle.pv_create.proofs.SettlingLine.{ran_longer}
 use Rattle.pv_create.proofs.LinesLaws.{Going, going_start, going_next, next_left, none_left, one_tree, one_ran, one_part, one_bound, passed_on, end_part, end_mended}
 use Rattle.pv_create.proofs.lines.create_run.Goals as goal
@@ -12,7 +12,7 @@ pub loop-line-init : goal.loop-line-init
 loop-line-init g c = record {
   items = c.as_slice-line-items.ensures;
   going = going_start c.args.lines.now c.args.now (g.T.Tree.state c.args.tree.now) (g.T.Tree.steps c.args.tree.now) c.args.messages.now c.requires.lines;
-  faults = omega arith;
+  reaches = g.met.T.Tree.reaches_self c.args.tree.now;
 }
 
 pub returns-in_err-one-clause-part : goal.returns-in_err-one-clause-part
@@ -130,7 +130,7 @@ loop-line-preserved g c =
           c.carry_out.ensures.tree c.in_ok-one.ensures.ok c.in_ok-one.ensures.said
           (λ yet is. c.with_one-carried.ensures yet (is_refused line t) is c.in_ok-one.ensures.carried)
           c.carry_out.ensures.ran (omega (arith, c.in_ok-one.ensures.bound));
-      faults = omega (arith, c.loop-line.invariant.faults, c.carry_out.ensures.never_falls);
+      reaches = g.met.T.Tree.reaches_on _ _ _ c.loop-line.invariant.reaches c.carry_out.ensures.reaches;
     }
 
 pub returns-clause-part : goal.returns-clause-part
@@ -152,3 +152,6 @@ returns-clause-mended g c =
     let past : length all ≤ c.loop-line.line-index = omega (arith, c.loop-line-test.false, ap length c.loop-line.invariant.items) in
     let going = subst (λ ls. Going all ls now c.loop-line.carried t0 h0 c.args.messages.now u k c.loop-line.messages) (none_left all c.loop-line.line-index past) c.loop-line.invariant.going in
     end_mended all now c.loop-line.carried t0 h0 c.args.messages.now u k c.loop-line.messages going c.ranges.now.fits c.requires.lines
+
+pub returns-in_err-one-clause-reaches : goal.returns-in_err-one-clause-reaches
+returns-in_err-one-clause-reaches g c = g.met.T.Tree.reaches_on _ _ _ c.loop-line.invariant.reaches c.carry_out.ensures.reaches

@@ -1,6 +1,6 @@
 use Rattle.std.proofs.Common.{◌≡◌, true, sym, subst}
 use Rattle.pv_path.specs.Paths.{has_names}
-use Rattle.pv_path.specs.PathLaws.{has_names-take}
+use Rattle.pv_path.proofs.PathLaws.{has_names-take}
 use Rattle.pv_create.proofs.message.first_names.Goals as goal
 
 pub of-requires : goal.of-requires

@@ -18,4 +18,4 @@ returns-clause-ran g c =
 pub returns-clause-bound : goal.returns-clause-bound
 returns-clause-bound g c =
     adjust_bound c.args.line.now c.requires.line (g.T.Tree.state c.args.tree.now) c.dress_here.ensures.tree c.requires.directory c.in_ok-new.new c.in_ok-new.ensures.dress
-    c.dress.result (g.T.Tree.steps c.args.tree.now) (g.T.Tree.steps c.dress.new.tree) c.dress.ensures.bound c.dress.ensures.idle
+    c.dress.result (g.T.Tree.steps c.args.tree.now) (g.T.Tree.steps c.dress.new.tree) c.dress.ensures.few c.dress.ensures.idle

@@ -1,6 +1,6 @@
 use Rattle.std.proofs.Common.{sym, subst, ◌∙◌}
 use Rattle.pv_steps.specs.Runs.{Ran}
-use Rattle.pv_create.specs.Preparing.{Putting, IsPutStep}
+use Rattle.pv_walk.specs.Putting.{Putting, IsPutStep}
 use Rattle.pv_create.proofs.SettlingLaws.{stageable, absent_nonroot, put_ran}
 use Rattle.pv_create.proofs.settle.settle.Goals as goal
 
@@ -23,3 +23,6 @@ returns-in-None-clause-ran g c =
     let k = g.T.Tree.steps c.put_new.new.tree in
     let path = c.args.line.now.path in
     put_ran c.args.line.now c.args.now t h u k (subst (λ file. Ran (Putting path file t) (IsPutStep path file) c.args.now t h u k) c.directory_of.ensures c.put_new.ensures.ran)
+
+pub returns-in_ok-say_left-in-Some-clause-reaches : goal.returns-in_ok-say_left-in-Some-clause-reaches
+returns-in_ok-say_left-in-Some-clause-reaches g c = g.met.T.Tree.reaches_self _

@@ -1,5 +1,5 @@
 use Rattle.std.specs.Prelude.{⊤}
-use Rattle.pv_steps.specs.RunLaws.{along_trees}
+use Rattle.pv_steps.proofs.RunLaws.{along_trees}
 use Rattle.pv_steps.proofs.laws.a_run_passes_trees.Goals as goal
 
 pub returns : goal.returns

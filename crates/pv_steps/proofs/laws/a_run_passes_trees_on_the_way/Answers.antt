@@ -1,5 +1,5 @@
 use Rattle.pv_steps.specs.Trees.{IsTree}
-use Rattle.pv_steps.specs.RunLaws.{along_prefix}
+use Rattle.pv_steps.proofs.RunLaws.{along_prefix}
 use Rattle.pv_steps.proofs.laws.a_run_passes_trees_on_the_way.Goals as goal
 
 pub returns : goal.returns

@@ -1,4 +1,4 @@
-use Rattle.pv_steps.specs.TreeLaws.{tree_after}
+use Rattle.pv_steps.proofs.TreeLaws.{tree_after}
 use Rattle.pv_steps.proofs.laws.a_step_leaves_a_tree.Goals as goal
 
 pub returns : goal.returns

@@ -1,4 +1,4 @@
-use Rattle.pv_steps.specs.StepLaws.{at_after}
+use Rattle.pv_steps.proofs.StepLaws.{at_after}
 use Rattle.pv_steps.proofs.laws.a_step_leaves_what_it_says.Goals as goal
 
 pub returns : goal.returns

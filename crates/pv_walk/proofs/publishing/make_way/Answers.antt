@@ -4,8 +4,8 @@ use Rattle.pv_steps.specs.declared.node.Kind.TheVariants.{Directory}
 use Rattle.pv_steps.specs.Trees.{Files, Places, places, IsTree, IsPresent, IsKind}
 use Rattle.pv_steps.specs.Steps.{Yields, moved}
 use Rattle.pv_dress.specs.Edits.{taken, emptied}
-use Rattle.pv_walk.specs.PublishLaws.{IsCleared, cleared-emptied, cleared-taken, moved_same, stage_same, yields_emptied, yields_taken}
-use Rattle.pv_walk.specs.SweepLaws.{count_below-le}
+use Rattle.pv_walk.proofs.PublishLaws.{IsCleared, cleared-emptied, cleared-taken, moved_same, stage_same, yields_emptied, yields_taken}
+use Rattle.pv_walk.proofs.SweepLaws.{count_below-le}
 use Rattle.pv_walk.proofs.Outcomes.{on_ok}
 use Rattle.pv_walk.proofs.Removing.{widened}
 use Rattle.pv_walk.proofs.publishing.make_way.Goals as goal

@@ -3,10 +3,10 @@ use Rattle.pv_path.specs.Paths.{Path}
 use Rattle.pv_steps.specs.declared.step.Step.TheVariants.{Rename}
 use Rattle.pv_steps.specs.Trees.{places, IsPresent}
 use Rattle.pv_steps.specs.Steps.{after, moved}
-use Rattle.pv_steps.specs.StepLaws.{at_after}
+use Rattle.pv_steps.proofs.StepLaws.{at_after}
 use Rattle.pv_walk.specs.Staging.{IsPublishing}
 use Rattle.pv_walk.specs.Removal.{MayHaveMoved}
-use Rattle.pv_walk.specs.PublishLaws.{moved_differs}
+use Rattle.pv_walk.proofs.PublishLaws.{moved_differs}
 use Rattle.pv_walk.proofs.Outcomes.{ran_step, on_ok}
 use Rattle.pv_walk.proofs.publishing.rename.Goals as goal
 

@@ -1,7 +1,7 @@
 use Rattle.std.proofs.Common.{◌≡◌, sym, ap, ◌∙◌, [], ◌∷◌, ◌++◌, length, arith}
 use Rattle.std.proofs.Common.{length-append}
 use Rattle.std.proofs.lemmas.List.{nil_from_length}
-use Rattle.pv_walk.specs.ListingLaws.{listing_start, listing_next, listing_room, listing_end}
+use Rattle.pv_walk.proofs.ListingLaws.{listing_start, listing_next, listing_room, listing_end}
 use Rattle.pv_walk.proofs.remove.below.Goals as goal
 
 pub loop-next-init : goal.loop-next-init

@@ -1,6 +1,6 @@
 use Rattle.std.proofs.Common.{◌-◌, length}
 use Rattle.std.specs.FinMap as fin
-use Rattle.pv_walk.specs.ListingLaws.{Listing}
+use Rattle.pv_walk.proofs.ListingLaws.{Listing}
 use Rattle.pv_walk.proofs.remove.below.Given as goal
 
 abbrev pub invariant-loop-next : goal.invariant-loop-next

@@ -1,6 +1,6 @@
 use Rattle.std.proofs.Common.{◌≡◌, sym, ap, ◌∙◌, List, [], ◌∷◌, ◌++◌, map, ℕ, true, false}
 use Rattle.std.proofs.lemmas.List.{append-nil, take_all}
-use Rattle.pv_walk.specs.EmptyingLaws.{no_names}
+use Rattle.pv_walk.proofs.EmptyingLaws.{no_names}
 use Rattle.pv_walk.proofs.remove.push_children.Goals as goal
 
 pub returns-then-not-is_directory-clause-added : goal.returns-then-not-is_directory-clause-added

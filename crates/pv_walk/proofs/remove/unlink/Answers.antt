@@ -2,8 +2,10 @@ use Rattle.std.proofs.Common.{ap, ◌∙◌, inl, inr, refl}
 use Rattle.pv_steps.specs.declared.step.Step.TheVariants.{Unlink}
 use Rattle.pv_steps.specs.Trees.{places}
 use Rattle.pv_steps.specs.Steps.{after}
-use Rattle.pv_steps.specs.StepLaws.{at_after}
-use Rattle.pv_walk.specs.Staging.{IsRemoval}
+use Rattle.pv_steps.proofs.StepLaws.{at_after}
+use Rattle.pv_path.specs.Paths.{same_path}
+use Rattle.pv_path.proofs.PathLaws.{same_path-refl}
+use Rattle.pv_steps.specs.Content.{Removes}
 use Rattle.pv_walk.specs.Removal.{MayHaveGone}
 use Rattle.pv_walk.proofs.Outcomes.{ran_step, on_ok, gone_differs}
 use Rattle.pv_walk.proofs.remove.unlink.Goals as goal
@@ -17,8 +19,8 @@ returns-clause-ran g c =
     let t = g.T.Tree.state c.args.tree.now in
     let s = Unlink c.args.path in
     let at = at_after t s c.args.now in
-    ran_step (MayHaveGone c.args.now c.args.path t) IsRemoval c.args.now c.step.result t (g.T.Tree.steps c.args.tree.now) s (g.T.Tree.state c.step.new.self) (g.T.Tree.steps c.step.new.self)
+    ran_step (MayHaveGone c.args.now c.args.path t) (Removes (same_path c.args.path)) c.args.now c.step.result t (g.T.Tree.steps c.args.tree.now) s (g.T.Tree.state c.step.new.self) (g.T.Tree.steps c.step.new.self)
     (inl refl)
     (record { can = c.requires; fits = c.step.ensures.fits; busy = gone_differs t (after t s c.args.now) c.args.path c.args.now c.requires.0 at })
     (λ e. inr (ap places e ∙ at))
-    tt c.step.ensures.state c.step.ensures.told c.step.ensures.kept c.step.ensures.untold
+    (same_path-refl c.args.path) c.step.ensures.state c.step.ensures.told c.step.ensures.kept c.step.ensures.untold

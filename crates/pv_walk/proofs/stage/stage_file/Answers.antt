@@ -11,12 +11,12 @@ use Rattle.pv_walk.proofs.stage.stage_file.Goals as goal
 pub staging-requires-clause-short : goal.staging-requires-clause-short
 staging-requires-clause-short g c = λ n e. short_last c.args.path.now n c.requires.short e
 
-pub put_new-requires-clause-room : goal.put_new-requires-clause-room
-put_new-requires-clause-room g c =
+pub make_new-requires-clause-room : goal.make_new-requires-clause-room
+make_new-requires-clause-room g c =
     subst (HasRoom (places (g.T.Tree.state c.args.tree.now))) (sym c.in_ok-stage.ensures) (staged_room (places (g.T.Tree.state c.args.tree.now)) c.args.path.now c.requires.parent c.requires.free)
 
 pub returns-clause-ran : goal.returns-clause-ran
 returns-clause-ran g c =
     subst (λ s. Ran (SameOutside (is_prefix s) (g.T.Tree.state c.args.tree.now)) (GivesNew s c.args.new.now) c.args.now
-    (g.T.Tree.state c.args.tree.now) (g.T.Tree.steps c.args.tree.now) (g.T.Tree.state c.put_new.new.tree) (g.T.Tree.steps c.put_new.new.tree))
-    c.in_ok-stage.ensures c.put_new.ensures.ran
+    (g.T.Tree.state c.args.tree.now) (g.T.Tree.steps c.args.tree.now) (g.T.Tree.state c.make_new.new.tree) (g.T.Tree.steps c.make_new.new.tree))
+    c.in_ok-stage.ensures c.make_new.ensures.ran

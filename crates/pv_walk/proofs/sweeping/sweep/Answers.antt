@@ -4,11 +4,12 @@ use Rattle.std.proofs.lemmas.List.{take_more, take_all}
 use Rattle.pv_path.specs.Paths.{Path, is_prefix, last_name, staging_of}
 use Rattle.pv_steps.specs.declared.step.Step.{Step}
 use Rattle.pv_steps.specs.Trees.{Files, places}
+use Rattle.pv_steps.specs.Content.{Removes}
 use Rattle.pv_steps.specs.Runs.{Ran}
-use Rattle.pv_steps.specs.RunLaws.{ran_end}
+use Rattle.pv_steps.proofs.RunLaws.{ran_end}
 use Rattle.pv_dress.specs.Edits.{Pruned, taken, all_taken, count_at}
-use Rattle.pv_walk.specs.Staging.{IsRemoval, staging_names, is_under_any, count_at_all, can_stage}
-use Rattle.pv_walk.specs.SweepLaws.{short_last, all_taken-more, count-more, count-le, under_any, pruned_count, length-staging_names}
+use Rattle.pv_walk.specs.Staging.{staging_names, is_under_any, count_at_all, can_stage}
+use Rattle.pv_walk.proofs.SweepLaws.{short_last, all_taken-more, count-more, count-le, under_any, pruned_count, length-staging_names}
 use Rattle.pv_walk.proofs.Outcomes.{ran-length}
 use Rattle.pv_walk.proofs.Removing.{prune_then}
 use Rattle.pv_walk.proofs.sweeping.sweep.Goals as goal
@@ -46,16 +47,16 @@ sweep_place-requires-clause-short g c last e =
 
 -- one more staging name is swept
 swept_more : (now : ℕ) (t : Files) (path next : Path) (i : ℕ) {h : List Step} {u : Files} {k : List Step} {v : Files} {l : List Step} → next ≡ take (i + 1) path → i < length path
-    → Ran (Pruned (is_under_any (staging_names path)) t) IsRemoval now t h u k → Ran (Pruned (is_prefix (staging_of next)) u) IsRemoval now u k v l → Ran (Pruned (is_under_any (staging_names path)) t) IsRemoval now t h v l
+    → Ran (Pruned (is_under_any (staging_names path)) t) (Removes (is_under_any (staging_names path))) now t h u k → Ran (Pruned (is_prefix (staging_of next)) u) (Removes (is_prefix (staging_of next))) now u k v l → Ran (Pruned (is_under_any (staging_names path)) t) (Removes (is_under_any (staging_names path))) now t h v l
 swept_more now t path next i is lt before last =
     prune_then now (is_under_any (staging_names path)) t before (is_prefix (staging_of next)) (λ q e. under_any path i lt q (subst (λ (p : Path). is_prefix (staging_of p) q ≡ true) is e)) last
 
 -- it counts no more objects than stood there in the beginning
 counted : (now : ℕ) (t : Files) (path next : Path) (i : ℕ) {h : List Step} {u : Files} {k : List Step} → next ≡ take (i + 1) path → i < length path
-    → Ran (Pruned (is_under_any (staging_names path)) t) IsRemoval now t h u k
+    → Ran (Pruned (is_under_any (staging_names path)) t) (Removes (is_under_any (staging_names path))) now t h u k
     → count_at_all t (take i (staging_names path)) + count_at u (staging_of next) ≤ count_at_all t (take (i + 1) (staging_names path))
 counted now t path next i {u = u} is lt before =
-    let here = pruned_count (is_under_any (staging_names path)) t u (ran_end (Pruned (is_under_any (staging_names path)) t) IsRemoval now before) (staging_of next) in
+    let here = pruned_count (is_under_any (staging_names path)) t u (ran_end (Pruned (is_under_any (staging_names path)) t) (Removes (is_under_any (staging_names path))) now before) (staging_of next) in
     let same : count_at t (staging_of next) ≡ count_at t (staging_of (take (i + 1) path)) = ap (λ (p : Path). count_at t (staging_of p)) is in
     omega (arith, here, same, count-more path t i lt)
 
@@ -70,8 +71,8 @@ returns-in_err-sweep_place-clause-bound g c =
     let next = next_place c.args.path.now c.loop-name.place c.push.new.self c.names-name-items.result.now c.loop-name.name-index c.in_ok-copy.field-0 c.name-item.result c.names-name-items.ensures.value c.loop-name.invariant.place c.in_ok-copy.ensures c.name-item.is c.loop-name-test.true c.in_ok-push.ensures.ok in
     let lt = within c.args.path.now c.names-name-items.result.now c.loop-name.name-index c.names-name-items.ensures.value c.loop-name-test.true in
     let count = counted c.args.now t c.args.path.now c.push.new.self c.loop-name.name-index next lt c.loop-name.invariant.ran in
-    let first = ran-length (Pruned (is_under_any (staging_names c.args.path.now)) t) IsRemoval c.args.now c.loop-name.invariant.ran in
-    let last = ran-length (Pruned (is_prefix (staging_of c.push.new.self)) (g.T.Tree.state c.loop-name.tree)) IsRemoval c.args.now c.sweep_place.ensures.ran in
+    let first = ran-length (Pruned (is_under_any (staging_names c.args.path.now)) t) (Removes (is_under_any (staging_names c.args.path.now))) c.args.now c.loop-name.invariant.ran in
+    let last = ran-length (Pruned (is_prefix (staging_of c.push.new.self)) (g.T.Tree.state c.loop-name.tree)) (Removes (is_prefix (staging_of c.push.new.self))) c.args.now c.sweep_place.ensures.ran in
     let p = err_from_is_err_and c.from_residual-in_err-sweep_place.result c.from_residual-in_err-sweep_place.ensures.1 in
     rw (p.1, p.2) (omega (arith, count, first, last, c.loop-name.invariant.room, c.in_err-sweep_place.ensures.bound, count-le c.args.path.now t (c.loop-name.name-index + 1)))
 
@@ -90,9 +91,9 @@ loop-name-preserved g c =
       ran = swept_more c.args.now t c.args.path.now c.push.new.self c.loop-name.name-index next lt c.loop-name.invariant.ran c.sweep_place.ensures.ran;
       room =
           let count = counted c.args.now t c.args.path.now c.push.new.self c.loop-name.name-index next lt c.loop-name.invariant.ran in
-          let last = ran-length (Pruned (is_prefix (staging_of c.push.new.self)) (g.T.Tree.state c.loop-name.tree)) IsRemoval c.args.now c.sweep_place.ensures.ran in
+          let last = ran-length (Pruned (is_prefix (staging_of c.push.new.self)) (g.T.Tree.state c.loop-name.tree)) (Removes (is_prefix (staging_of c.push.new.self))) c.args.now c.sweep_place.ensures.ran in
           omega (arith, count, last, c.loop-name.invariant.room, c.in_ok-sweep_place.ensures.bound);
-      never_falls = omega (arith, c.loop-name.invariant.never_falls, c.sweep_place.ensures.never_falls);
+      reaches = g.met.T.Tree.reaches_on _ _ _ c.loop-name.invariant.reaches c.sweep_place.ensures.reaches;
     }
 
 -- at the end all staging names are swept

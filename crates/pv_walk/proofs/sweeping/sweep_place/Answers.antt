@@ -1,6 +1,6 @@
 use Rattle.std.proofs.Common.{◌≡◌, sym, ap, ◌∙◌, [], ◌∷◌, length, arith}
 use Rattle.pv_path.specs.Paths.{Path, staging_of}
-use Rattle.pv_path.specs.PathLaws.{length-staging_of}
+use Rattle.pv_path.proofs.PathLaws.{length-staging_of}
 use Rattle.pv_walk.proofs.sweeping.sweep_place.Goals as goal
 
 no_root : (place : Path) → (place ≡ [] → ⊥) → staging_of place ≡ [] → ⊥

@@ -1,15 +1,15 @@
 use Rattle.std.proofs.Common.{◌≡◌, ℕ, true, sym, ap, subst, ◌∙◌, [], ◌∷◌, ◌++◌, is_some, arith}
 use Rattle.std.proofs.lemmas.Result.{err_from_is_err_and}
-use Rattle.pv_path.specs.Paths.{Path, is_prefix}
-use Rattle.pv_path.specs.PathLaws.{is_prefix-refl}
+use Rattle.pv_path.specs.Paths.{Path, is_prefix, same_path}
+use Rattle.pv_path.proofs.PathLaws.{is_prefix-refl}
 use Rattle.pv_steps.specs.Trees.{Files, Places, places, IsTree, IsPresent, IsEmptyIn}
 use Rattle.pv_steps.specs.Steps.{gone}
 use Rattle.pv_dress.specs.Edits.{Pruned, taken, emptied}
-use Rattle.pv_walk.specs.Staging.{IsRemoval}
+use Rattle.pv_steps.specs.Content.{Removes}
 use Rattle.pv_walk.specs.Removal.{MayHaveGone, is_below}
-use Rattle.pv_walk.specs.RemovalLaws.{not_below_itself, is_below-append, kept-present}
-use Rattle.pv_walk.specs.EmptyingLaws.{emptied-below, emptied-kept, gone-emptied}
-use Rattle.pv_walk.specs.SweepLaws.{count_below-le, count_below-lt}
+use Rattle.pv_walk.proofs.RemovalLaws.{not_below_itself, is_below-append, kept-present}
+use Rattle.pv_walk.proofs.EmptyingLaws.{emptied-below, emptied-kept, gone-emptied}
+use Rattle.pv_walk.proofs.SweepLaws.{count_below-le, count_below-lt}
 use Rattle.pv_walk.proofs.Outcomes.{ran-length, on_ok}
 use Rattle.pv_walk.proofs.Removing.{widened, remove_then}
 use Rattle.pv_walk.proofs.sweeping.take_away.Goals as goal
@@ -65,6 +65,6 @@ returns-clause-ran g c =
 pub returns-clause-bound : goal.returns-clause-bound
 returns-clause-bound g c =
     let t = g.T.Tree.state c.args.tree.now in
-    let first = ran-length (Pruned (is_below c.args.path.now) t) IsRemoval c.args.now c.remove_below.ensures.ran in
-    let last = ran-length (MayHaveGone c.args.now c.in_ok-copy.field-0 (g.T.Tree.state c.remove_below.new.tree)) IsRemoval c.args.now c.remove.ensures.ran in
+    let first = ran-length (Pruned (is_below c.args.path.now) t) (Removes (is_below c.args.path.now)) c.args.now c.remove_below.ensures.ran in
+    let last = ran-length (MayHaveGone c.args.now c.in_ok-copy.field-0 (g.T.Tree.state c.remove_below.new.tree)) (Removes (same_path c.in_ok-copy.field-0)) c.args.now c.remove.ensures.ran in
     omega (arith, first, last, c.in_ok-remove_below.ensures.bound, c.remove.ensures.bound, count_below-lt t c.args.path.now (sym c.is_present.ensures.present ∙ c.if-not-is_present.false))

@@ -1,0 +1,9 @@
+pub mod AttrOrder
+pub mod AttrPutting
+pub mod ObjectLaws
+pub mod StepLaws
+pub mod TreeLaws
+pub mod RunLaws
+pub mod NameLaws
+pub mod ContentLaws
+pub mod LeavingLaws

@@ -1,0 +1,51 @@
+-- Extended attributes of an object: their names, their values, and lists of them in order (xattr(7)).
+use Rattle.std.specs.Prelude.{ℕ, ◌-◌, Bool, true, not, ◌&&◌, ◌==◌, nat_le, nat_lt, nat_eq, List, [], ◌∷◌, ◌++◌, length, take, drop, filter, fold, codes}
+use Rattle.std.specs.List.{list_all, list_any, starts_with}
+use Rattle.std.specs.Ordering.{nat_cmp, is_lt}
+use Rattle.std.specs.Cmp.Lexicographic.{slice_cmp}
+use Rattle.pv_steps.specs.declared.attr.Attr.{Attr}
+
+-- the bytes of a name but for the first and the last
+abbrev pub inner_bytes : List ℕ → List ℕ
+inner_bytes name = drop 1 (take (length name - 1) name)
+
+-- a name: 1 to 255 bytes without NUL, with a period that is neither first nor last, and not in the namespace
+-- `system`, in which ACLs lie
+abbrev pub is_attr_name : List ℕ → Bool
+is_attr_name name =
+    nat_le 1 (length name) && nat_le (length name) 255 && list_all (λ b. not (b == 0)) name
+    && list_any (λ b. b == 46) (inner_bytes name) && not (starts_with nat_eq name (codes "system."))
+
+-- whether numbers are bytes
+abbrev pub are_bytes : List ℕ → Bool
+are_bytes numbers = list_all (λ b. nat_lt b 256) numbers
+
+-- a name with a value of at most 65536 bytes
+abbrev pub is_attr : List ℕ → List ℕ → Bool
+is_attr name value = is_attr_name name && nat_le (length value) 65536 && are_bytes name && are_bytes value
+
+-- whether the name of an attribute comes before that of another, byte by byte
+abbrev pub comes_before : Attr → Attr → Bool
+comes_before x y = is_lt (slice_cmp nat_cmp x.name y.name)
+
+-- whether each of some attributes comes before this one
+abbrev pub all_before : List Attr → Attr → Bool
+all_before xs y = list_all (λ x. comes_before x y) xs
+
+-- whether attributes are in order, each name at most once
+abbrev pub is_ordered : List Attr → Bool
+is_ordered [] = true
+is_ordered (x ∷ xs) = list_all (comes_before x) xs && is_ordered xs
+
+-- the attributes that an object may have: allowed, and in order
+abbrev pub are_attrs : List Attr → Bool
+are_attrs xs = list_all (λ x. is_attr x.name x.value) xs && is_ordered xs
+
+-- an attribute put among others: after those that come before it, in the place of one of its name, and before the
+-- rest
+abbrev pub put_attr : Attr → List Attr → List Attr
+put_attr y xs = filter (λ x. comes_before x y) xs ++ y ∷ filter (comes_before y) xs
+
+-- attributes put among others, one after another
+abbrev pub put_attrs : List Attr → List Attr → List Attr
+put_attrs given xs = fold (λ xs y. put_attr y xs) xs given

@@ -1,0 +1,240 @@
+-- Laws of putting absent parents, from the root on: what stands above a path is a directory then, and the path itself is as it was.
+use Rattle.std.specs.Prelude.{◌≡◌, ◌≢◌, ℕ, ◌+◌, ◌-◌, ◌*◌, ◌≤◌, ◌<◌, Bool, true, false, cond, ◌||◌, List, [], ◌∷◌, ◌++◌, length, take, drop, fold, filter, get_or, nat_le, Option, Some, None, is_some, is_none}
+use Rattle.std.proofs.Common.{zero, suc, refl, sym, ap, subst, ◌∙◌, arith, inl, inr}
+use Rattle.std.proofs.lemmas.List.{take-append-drop, length-take, take_more, take_all}
+use Rattle.std.proofs.lemmas.List.Sums.{fold_more}
+use Rattle.std.proofs.lemmas.List.Folds.{list_all-append}
+use Rattle.std.proofs.lemmas.List.FromFn.{get_or-map-range_with_len, length-map-range_with_len}
+use Rattle.std.proofs.lemmas.List.Filters.{length-filter_more}
+use Rattle.pv_path.specs.Paths.{Path, same_path, is_prefix, parent_of, has_staging, staging_of}
+use Rattle.pv_path.proofs.PathLaws.{both_true, is_prefix-append, length-parent_of, has_staging-append, has_staging-staging_of, length-prefix}
+use Rattle.pv_steps.specs.declared.node.Kind.TheVariants.{Directory}
+use Rattle.pv_steps.specs.declared.object.Object.{Object}
+use Rattle.pv_steps.specs.declared.step.Step.{Step}
+use Rattle.pv_steps.specs.Objects.{bare, modified}
+use Rattle.pv_steps.specs.Trees.{Files, Places, places, kind_of, IsAbsentIn, IsKind}
+use Rattle.pv_steps.proofs.TreeLaws.{kind_of-touched}
+use Rattle.pv_steps.proofs.StepLaws.{is_some-touched}
+use Rattle.pv_steps.specs.Steps.{put_at, made}
+use Rattle.pv_steps.specs.Same.{bares}
+use Rattle.pv_steps.specs.Runs.{Ran}
+use Rattle.pv_steps.proofs.RunLaws.{ran_then, ran_weaken, ran_end}
+use Rattle.pv_dress.proofs.EditLaws.{path_cases, put_at-else, on_at-else, made-here}
+use Rattle.pv_walk.specs.Staging.{new_object, can_stage}
+use Rattle.pv_walk.proofs.RemovalLaws.{no_same}
+use Rattle.pv_walk.specs.Putting as putting
+use Rattle.pv_walk.specs.Putting.{IsPutting, put, Putting, IsPutStep}
+use Rattle.pv_walk.specs.Preparing.{parent_file, parents_of, with_parent, IsAbove, CanPass, IsSwept, IsPreparing, parent, Preparing, parent_count, IsPrepareStep, puts}
+use Rattle.pv_walk.proofs.PuttingLaws.{made-none}
+
+-- ---- the places above a path
+
+pub prefix_take : (k : ℕ) (path : Path) → is_prefix (take k path) path ≡ true
+prefix_take k path = subst (λ (p : Path). is_prefix (take k path) p ≡ true) (take-append-drop k path) (is_prefix-append (take k path) (drop k path))
+
+pub nonempty_take : (k : ℕ) (path : Path) → 1 ≤ k → k ≤ length path → take k path ≢ []
+nonempty_take k path some le e = (let l = ap length e in omega (arith, length-take k path))
+
+pub above_take : (k : ℕ) (path : Path) → k < length path → IsAbove (take k path) path
+above_take k path lt = (prefix_take k path, λ e. (let l = ap length e in omega (arith, length-take k path)))
+
+some_names : (path : Path) → path ≢ [] → 1 ≤ length path
+some_names [] some = absurd (some refl)
+some_names (n ∷ path) some = omega arith
+
+-- what lies above a path has no staging name where the path has none, and short names where it has short ones
+pub plain_take : (k : ℕ) (path : Path) → has_staging path ≡ false → has_staging (take k path) ≡ false
+plain_take k path plain = by (has_staging (take k path)) (has_staging (drop k path)) (sym (has_staging-append (take k path) (drop k path)) ∙ ap has_staging (take-append-drop k path) ∙ plain)
+  where
+    by : (a b : Bool) → (a || b) ≡ false → a ≡ false
+    by true b e = e
+    by false b e = refl
+
+pub short_take : (k : ℕ) (path : Path) → can_stage path ≡ true → can_stage (take k path) ≡ true
+short_take k path short =
+    (both_true (can_stage (take k path)) (can_stage (drop k path)) (sym (list_all-append (λ name. nat_le (length name) 250) (take k path) (drop k path)) ∙ ap can_stage (take-append-drop k path) ∙ short)).0
+
+take_within : (i m : ℕ) (path : Path) → i ≤ m → take i (take m path) ≡ take i path
+take_within zero m path le = refl
+take_within (suc i) zero path le = absurd (omega arith)
+take_within (suc i) (suc m) [] le = refl
+take_within (suc i) (suc m) (n ∷ path) le = ap (λ (p : Path). n ∷ p) (take_within i m path (omega arith))
+
+-- the first names of the directory that a path lies in
+pub take_parent : (i : ℕ) (path : Path) → i < length path → take i (parent_of path) ≡ take i path
+take_parent i path lt = take_within i (length path - 1) path (omega arith)
+
+-- a place above a path that is one name longer than the last
+pub next_parent : (path place next items : Path) (i : ℕ) (copied name : List ℕ) → items ≡ parent_of path → place ≡ take i path → copied ≡ name → name ≡ get_or items i name → i < length items
+    → next ≡ place ++ copied ∷ [] → (i + 1 < length path) × (next ≡ take (i + 1) path)
+next_parent path place next items i copied name same at copy item lt is =
+    let below : i < length (parent_of path) = subst (λ (xs : Path). i < length xs) same lt in
+    let within : i + 1 < length path = omega (arith, below, length-parent_of path) in (
+      within,
+      is
+          ∙ ap (λ (p : Path). p ++ copied ∷ []) (at ∙ sym (take_parent i path (omega arith)))
+          ∙ ap (λ (n : List ℕ). take i (parent_of path) ++ n ∷ []) (copy ∙ item ∙ ap (λ (xs : Path). get_or xs i name) same)
+          ∙ sym (take_more (parent_of path) i name below)
+          ∙ take_parent (i + 1) path within,
+    )
+
+-- ---- the places above a path, one after the other
+
+module _ (path : Path) where
+  pub length-parents : length (parents_of path) ≡ length path - 1
+  length-parents = omega (arith, length-map-range_with_len (λ k. take k (parent_of path)) 1 (length (parent_of path)), length-parent_of path)
+
+  parent-at : (i : ℕ) (d : Path) → i + 1 < length path → get_or (parents_of path) i d ≡ take (i + 1) path
+  parent-at i d lt =
+      get_or-map-range_with_len (λ k. take k (parent_of path)) 1 (length (parent_of path)) i (i + 1) d (omega (arith, length-parent_of path)) (omega arith)
+      ∙ take_parent (i + 1) path lt
+
+  pub with_parents-more : (now i : ℕ) (t : Places) → i + 1 < length path
+      → fold (with_parent now) t (take (i + 1) (parents_of path)) ≡ with_parent now (fold (with_parent now) t (take i (parents_of path))) (take (i + 1) path)
+  with_parents-more now i t lt =
+      fold_more (with_parent now) t (parents_of path) i [] (omega (arith, length-parents))
+      ∙ ap (with_parent now (fold (with_parent now) t (take i (parents_of path)))) (parent-at i [] lt)
+
+  -- how many of the first places are absent
+  abbrev pub absent_parents : Files → ℕ → ℕ
+  absent_parents t i = length (filter (λ place. is_none (places t place)) (take i (parents_of path)))
+
+-- ---- one parent more
+
+module _ (now : ℕ) (path p : Path) (plain : has_staging path ≡ false) (nonempty : p ≢ []) (over : IsAbove p path) (unstaged : has_staging p ≡ false) (u v : Files) where
+  not_there : (place : Path) → place ≢ [] → same_path p (staging_of place) ≡ false
+  not_there place some = no_same p (staging_of place) (λ e. (let both : true ≡ false = sym (has_staging-staging_of place some) ∙ ap has_staging (sym e) ∙ unstaged in cc))
+
+  module _ (none : IsAbsentIn (places u) p) (is : places v ≡ made now p (new_object parent_file now) (places u)) where
+    new_directory : IsKind Directory v p
+    new_directory = ap (λ (x : Places). kind_of (x p)) is ∙ ap kind_of (made-here now p (places u) nonempty (new_object parent_file now))
+
+    new_kind_else : (q : Path) → same_path p q ≡ false → kind_of (places v q) ≡ kind_of (places u q)
+    new_kind_else q d =
+        ap (λ (x : Places). kind_of (x q)) is ∙ kind_of-touched now p (put_at p (Some (new_object parent_file now)) (places u)) q
+        ∙ ap kind_of (put_at-else p q (Some (new_object parent_file now)) (places u) d)
+
+    new_present_else : (q : Path) → same_path p q ≡ false → is_some (places v q) ≡ is_some (places u q)
+    new_present_else q d =
+        ap (λ (x : Places). is_some (x q)) is ∙ is_some-touched now p (put_at p (Some (new_object parent_file now)) (places u)) q
+        ∙ ap is_some (put_at-else p q (Some (new_object parent_file now)) (places u) d)
+
+    new_pass : CanPass path u → CanPass path v
+    new_pass pass = λ q high there. elim (path_cases p q) [
+      | inl e ↦ subst (IsKind Directory v) e new_directory
+      | inr d ↦ new_kind_else q d ∙ pass q high (sym (new_present_else q d) ∙ there)
+    ]
+
+    new_swept : IsSwept path u → IsSwept path v
+    new_swept swept = λ q some high.
+        ap (λ (x : Places). x (staging_of q)) is ∙ made-none now p (new_object parent_file now) (places u) (staging_of q) (not_there q some) (swept q some high)
+
+    new_here : places v path ≡ places u path
+    new_here =
+        ap (λ (x : Places). x path) is
+        ∙ on_at-else (parent_of p) path (modified now) (put_at p (Some (new_object parent_file now)) (places u)) (no_same (parent_of p) path higher)
+        ∙ put_at-else p path (Some (new_object parent_file now)) (places u) (no_same p path over.1)
+      where
+        higher : parent_of p ≡ path → ⊥
+        higher e = (let l = ap length e in omega (arith, length-parent_of p, length-prefix p path over.0, some_names p nonempty))
+
+-- the first places above a path have been put: the last of them is a directory, and what is to come is as it was
+pub record Parented (now : ℕ) (path : Path) (t : Files) (i : ℕ) (u : Files) : Type 0 where
+  pub here : places u ≡ fold (with_parent now) (places t) (take i (parents_of path))
+  pub directory : IsKind Directory u (take i path)
+  pub at : places u path ≡ places t path
+  pub pass : CanPass path u
+  pub swept : IsSwept path u
+  pub ahead : (k : ℕ) → i < k → k < length path → is_some (places u (take k path)) ≡ is_some (places t (take k path))
+
+module _ (now : ℕ) (path : Path) (plain : has_staging path ≡ false) (t : Files) (i : ℕ) (lt : i + 1 < length path) (u : Files) (before : Parented now path t i u) where
+  abbrev next : Path
+  next = take (i + 1) path
+
+  other_take : (k : ℕ) → i + 1 < k → k < length path → same_path (take (i + 1) path) (take k path) ≡ false
+  other_take k more le = no_same (take (i + 1) path) (take k path) (λ e. (let l = ap length e in omega (arith, length-take (i + 1) path, length-take k path)))
+
+  module _ (v : Files) (is : places v ≡ with_parent now (places u) (take (i + 1) path)) where
+    here_then : places v ≡ fold (with_parent now) (places t) (take (i + 1) (parents_of path))
+    here_then = is ∙ ap (λ (x : Places). with_parent now x (take (i + 1) path)) before.here ∙ sym (with_parents-more path now i (places t) lt)
+
+    unchanged : (o : Option Object) → places u (take (i + 1) path) ≡ o → is_some o ≡ true → Parented now path t (i + 1) v
+    unchanged o e some =
+        let same : places v ≡ places u = is ∙ ap (λ b. cond b (places u) (made now (take (i + 1) path) (new_object parent_file now) (places u))) (ap is_some e ∙ some) in
+        record {
+          here = here_then;
+          directory = ap (λ (x : Places). kind_of (x (take (i + 1) path))) same ∙ before.pass (take (i + 1) path) (above_take (i + 1) path lt) (ap is_some e ∙ some);
+          at = ap (λ (x : Places). x path) same ∙ before.at;
+          pass = λ q high there. ap (λ (x : Places). kind_of (x q)) same ∙ before.pass q high (sym (ap (λ (x : Places). is_some (x q)) same) ∙ there);
+          swept = λ q some_name high. ap (λ (x : Places). x (staging_of q)) same ∙ before.swept q some_name high;
+          ahead = λ k more le. ap (λ (x : Places). is_some (x (take k path))) same ∙ before.ahead k (omega arith) le;
+        }
+
+    put_new : places u (take (i + 1) path) ≡ None → Parented now path t (i + 1) v
+    put_new e =
+        let new : places v ≡ made now (take (i + 1) path) (new_object parent_file now) (places u) =
+        is ∙ ap (λ b. cond b (places u) (made now (take (i + 1) path) (new_object parent_file now) (places u))) (ap is_some e) in
+        let some : take (i + 1) path ≢ [] = nonempty_take (i + 1) path (omega arith) (omega arith) in
+        let over : IsAbove (take (i + 1) path) path = above_take (i + 1) path lt in
+        let unstaged : has_staging (take (i + 1) path) ≡ false = plain_take (i + 1) path plain in
+        record {
+          here = here_then;
+          directory = new_directory now path (take (i + 1) path) plain some over unstaged u v e new;
+          at = new_here now path (take (i + 1) path) plain some over unstaged u v e new ∙ before.at;
+          pass = new_pass now path (take (i + 1) path) plain some over unstaged u v e new before.pass;
+          swept = new_swept now path (take (i + 1) path) plain some over unstaged u v e new before.swept;
+          ahead = λ k more le.
+              new_present_else now path (take (i + 1) path) plain some over unstaged u v e new (take k path) (other_take k more le)
+              ∙ before.ahead k (omega arith) le;
+        }
+
+    pub parented_next : Parented now path t (i + 1) v
+    parented_next = by (places u (take (i + 1) path)) refl
+      where
+        by : (o : Option Object) → places u (take (i + 1) path) ≡ o → Parented now path t (i + 1) v
+        by None e = put_new e
+        by (Some x) e = unchanged (Some x) e refl
+
+  -- eight steps for each that was absent
+  pub room_next : cond (is_some (places u (take (i + 1) path))) 0 8 + 8 * absent_parents path t i ≡ 8 * absent_parents path t (i + 1)
+  room_next =
+      ap (λ b. cond b 0 8 + 8 * absent_parents path t i) (before.ahead (i + 1) (omega arith) lt)
+      ∙ omega (arith, eight (places t (take (i + 1) path)), more)
+    where
+      eight : (o : Option Object) → cond (is_some o) 0 8 ≡ 8 * cond (is_none o) 1 0
+      eight None = refl
+      eight (Some x) = refl
+
+      more : absent_parents path t (i + 1) ≡ absent_parents path t i + cond (is_none (places t (take (i + 1) path))) 1 0
+      more =
+          length-filter_more (λ place. is_none (places t place)) (parents_of path) i [] (omega (arith, length-parents path))
+          ∙ ap (λ (p : Path). absent_parents path t i + cond (is_none (places t p)) 1 0) (parent-at path i [] lt)
+
+absent_le : (f : Path → Bool) (i : ℕ) (xs : List Path) → length (filter f (take i xs)) ≤ length (filter f xs)
+absent_le f zero xs = omega arith
+absent_le f (suc i) [] = omega arith
+absent_le f (suc i) (x ∷ xs) =
+    let rest = absent_le f i xs in
+    elim (f x) as (λ b. length (cond b (x ∷ filter f (take i xs)) (filter f (take i xs))) ≤ length (cond b (x ∷ filter f xs) (filter f xs))) [ true ↦ omega (arith, rest) | false ↦ rest ]
+
+pub absent_parents-le : (path : Path) (t : Files) (i : ℕ) → absent_parents path t i ≤ parent_count path t
+absent_parents-le path t i = absent_le (λ place. is_none (places t place)) i (parents_of path)
+
+-- at the end all parents are put
+pub parented_end : (path : Path) (items : Path) (i : ℕ) → items ≡ parent_of path → length items ≤ i → take i (parents_of path) ≡ parents_of path
+parented_end path items i same le = take_all i (parents_of path) (omega (arith, ap length same, length-parent_of path, length-parents path))
+
+-- ---- on the way
+
+module _ (path p : Path) (over : IsAbove p path) where
+  one_more : (q : Path) (a b c : Option Object) → IsPreparing path q a b → IsPutting p parent_file q b c → IsPreparing path q a c
+  one_more q a b c x (putting.kept e) = subst (IsPreparing path q a) (sym e) x
+  one_more q a b c (IsPreparing.kept e) (put s none new) = parent (subst (λ (r : Path). IsAbove r path) (sym s) over) (sym e ∙ none) new
+  one_more q a b c (parent high old is) (put s none new) = absurd (let no : Some (bare (new_object parent_file 0)) ≡ None = sym is ∙ none in cc)
+
+  pub parent_ran : (now : ℕ) (t : Files) {h : List Step} {u : Files} {k : List Step} {v : Files} {l : List Step} → Ran (Preparing path t) (IsPrepareStep path) now t h u k
+      → Ran (Putting p parent_file u) (IsPutStep p parent_file) now u k v l → Ran (Preparing path t) (IsPrepareStep path) now t h v l
+  parent_ran now t {u = u} before last =
+      ran_then (Preparing path t) (IsPrepareStep path) now before
+      (ran_weaken (Putting p parent_file u) (Preparing path t) (IsPutStep p parent_file) (IsPrepareStep path) now
+      (λ w more q plain. one_more q (bares (places t) q) (bares (places u) q) (bares (places w) q) (ran_end (Preparing path t) (IsPrepareStep path) now before q plain) (more q plain)) (λ s g. puts p over g) last)

@@ -1,0 +1,206 @@
+-- Laws of taking away whole subtrees one after the other, and of their counts.
+use Rattle.std.specs.Prelude.{◌≡◌, ℕ, ◌+◌, ◌≤◌, ◌<◌, Bool, true, false, cond, not, ◌&&◌, ◌||◌, List, [], ◌∷◌, ◌++◌, map, length, take, drop, sum_by, get_or, filter, Option, Some, None, is_some, option_map, nat_le}
+use Rattle.std.proofs.Common.{refl, sym, ap, subst, ◌∙◌, arith, inl, inr}
+use Rattle.std.specs.List.{list_any}
+use Rattle.std.proofs.lemmas.List.{take_more, take-append-drop, get_or-map}
+use Rattle.std.proofs.lemmas.List.Sums.{fold_more, sum-map, AllPass-from_list_all, sum_by_more, sum_by-take-le}
+use Rattle.std.proofs.lemmas.List.Folds.{list_any-append}
+use Rattle.std.proofs.lemmas.List.FromFn.{get_or-map-range_with_len, length-map-range_with_len}
+use Rattle.std.specs.FinMap as fin
+use Rattle.pv_path.specs.Paths.{Path, same_path, is_prefix, parent_of, last_name, staging_of}
+use Rattle.std.proofs.lemmas.Bool.Decides.{nat_tests}
+use Rattle.std.proofs.lemmas.List.Elements.{All-get_or}
+use Rattle.pv_path.proofs.PathLaws.{is_prefix-refl, last_name-push, path_parts}
+use Rattle.pv_steps.specs.declared.object.Object.{Object}
+use Rattle.pv_steps.specs.Objects.{bare}
+use Rattle.pv_steps.specs.Trees.{Files, Places, places, IsPresent}
+use Rattle.pv_dress.specs.Edits.{taken, all_taken, count_at, Pruned}
+use Rattle.pv_walk.specs.Staging.{prefixes, can_stage, staging_names, is_under_any, count_at_all}
+use Rattle.pv_walk.specs.Removal.{is_below, count_below}
+use Rattle.pv_walk.specs.Listing.{times, stands_below}
+use Rattle.pv_walk.proofs.CountLaws.{times-filter, times-keys, length-times, same_or_not}
+use Rattle.pv_walk.proofs.RemovalLaws.{both, true_or_false}
+use Rattle.pv_walk.proofs.ListingLaws.{times-below, cond-zero}
+
+-- ---- pruning composes
+
+bare_present : (a b : Option Object) → option_map bare a ≡ option_map bare b → is_some a ≡ is_some b
+bare_present None None e = refl
+bare_present None (Some y) e = cc
+bare_present (Some x) None e = cc
+bare_present (Some x) (Some y) e = refl
+
+module _ (inside : Path → Bool) (t u : Files) (p : Pruned inside t u) where
+  -- what is still there was there
+  pub pruned_present : (q : Path) → IsPresent u q → IsPresent t q
+  pruned_present q h = elim (true_or_false (inside q)) [
+    | inl e ↦ elim (p.within q e) [
+      | inl gone ↦ absurd (let no : false ≡ true = sym (ap is_some gone) ∙ h in cc)
+      | inr same ↦ sym (bare_present (places u q) (places t q) same) ∙ h
+    ]
+    | inr e ↦ sym (bare_present (places u q) (places t q) (p.outside q e)) ∙ h
+  ]
+
+  -- and what is pruned again, within the same, is pruned
+  pub pruned_then : (narrow : Path → Bool) → ((q : Path) → narrow q ≡ true → inside q ≡ true) → (v : Files) → Pruned narrow u v → Pruned inside t v
+  pruned_then narrow within v n = record {
+    outside = λ q e. n.outside q (unless (narrow q) (inside q) (within q) e) ∙ p.outside q e;
+    within = λ q e. elim (true_or_false (narrow q)) [
+      | inl h ↦ elim (n.within q h) [
+        | inl gone ↦ inl gone
+        | inr same ↦ elim (p.within q e) [
+          | inl gone ↦ inl (absent (places u q) (places v q) same gone)
+          | inr old ↦ inr (same ∙ old)
+        ]
+      ]
+      | inr h ↦ elim (p.within q e) [
+        | inl gone ↦ inl (absent (places u q) (places v q) (n.outside q h) gone)
+        | inr old ↦ inr (n.outside q h ∙ old)
+      ]
+    ];
+  }
+    where
+      unless : (a b : Bool) → (a ≡ true → b ≡ true) → b ≡ false → a ≡ false
+      unless true b f h = sym (f refl) ∙ h
+      unless false b f h = refl
+
+      absent : (x y : Option Object) → option_map bare y ≡ option_map bare x → x ≡ None → y ≡ None
+      absent x None same gone = refl
+      absent x (Some y) same gone = let no : Some (bare y) ≡ None = same ∙ ap (option_map bare) gone in cc
+
+  -- there are no more objects than before
+  pub pruned_count : (path : Path) → count_at u path ≤ count_at t path
+  pruned_count path = length-times (filter (is_prefix path) (fin.keys u)) (filter (is_prefix path) (fin.keys t)) (λ q. omega (arith, times-filter (is_prefix path) q (fin.keys u), times-filter (is_prefix path) q (fin.keys t), fewer q))
+    where
+      fewer : (q : Path) → cond (is_prefix path q) (times q (fin.keys u)) 0 ≤ cond (is_prefix path q) (times q (fin.keys t)) 0
+      fewer q = elim (is_prefix path q) as (λ b. cond b (times q (fin.keys u)) 0 ≤ cond b (times q (fin.keys t)) 0) [
+        | true ↦ omega (arith, times-keys u q, times-keys t q, monotone (is_some (places u q)) (is_some (places t q)) (pruned_present q))
+        | false ↦ omega arith
+      ]
+        where
+          monotone : (a b : Bool) → (a ≡ true → b ≡ true) → cond a 1 0 ≤ cond b 1 0
+          monotone true b f = subst (λ c. 1 ≤ cond c 1 0) (sym (f refl)) (omega arith)
+          monotone false b f = omega arith
+
+pub pruned-none : (inside : Path → Bool) (t : Files) → Pruned inside t t
+pruned-none inside t = record { outside = λ q e. refl; within = λ q e. inr refl }
+
+-- a wider region
+pub pruned-wider : (narrow inside : Path → Bool) → ((q : Path) → narrow q ≡ true → inside q ≡ true) → (t u : Files) → Pruned narrow t u → Pruned inside t u
+pruned-wider narrow inside within t u p = pruned_then inside t t (pruned-none inside t) narrow within u p
+
+pub below_prefix : (path q : Path) → is_below path q ≡ true → is_prefix path q ≡ true
+below_prefix path q h = (both (is_prefix path q) _ h).0
+
+-- ---- counts
+
+module _ (files : Files) (path : Path) where
+  times-at : (q : Path) → times q (filter (is_prefix path) (fin.keys files)) ≡ cond (is_prefix path q) (cond (is_some (places files q)) 1 0) 0
+  times-at q = times-filter (is_prefix path) q (fin.keys files) ∙ ap (λ n. cond (is_prefix path q) n 0) (times-keys files q)
+
+  below_within : (q : Path) → cond (stands_below files path q) 1 0 ≤ cond (is_prefix path q) (cond (is_some (places files q)) 1 0) 0
+  below_within q = by (is_prefix path q) (not (same_path path q)) (is_some (places files q))
+    where
+      by : (a b c : Bool) → cond ((a && b) && c) 1 0 ≤ cond a (cond c 1 0) 0
+      by true true c = omega arith
+      by true false c = omega arith
+      by false b c = omega arith
+
+  -- what is below is among what is at and below
+  pub count_below-le : count_below files path ≤ count_at files path
+  count_below-le = length-times (filter (is_below path) (fin.keys files)) (filter (is_prefix path) (fin.keys files)) (λ q. omega (arith, times-at q, times-below files path q, below_within q))
+
+  -- and a present path counts for one more
+  pub count_below-lt : IsPresent files path → count_below files path < count_at files path
+  count_below-lt present =
+      omega (arith, length-times (path ∷ filter (is_below path) (fin.keys files)) (filter (is_prefix path) (fin.keys files)) (λ q. omega (arith, times-at q, times-below files path q, fits q)))
+    where
+      fits : (q : Path) → cond (same_path path q) 1 0 + cond (stands_below files path q) 1 0 ≤ cond (is_prefix path q) (cond (is_some (places files q)) 1 0) 0
+      fits q = elim (same_or_not path q) [
+        | inl s ↦
+            let prefix : is_prefix path q ≡ true = subst (λ r. is_prefix path r ≡ true) s.0 (is_prefix-refl path) in
+            let there : is_some (places files q) ≡ true = subst (IsPresent files) s.0 present in
+            by (is_prefix path q) (same_path path q) (is_some (places files q)) prefix there
+        | inr d ↦ omega (arith, below_within q, cond-zero (same_path path q) d)
+      ]
+        where
+          by : (a b c : Bool) → a ≡ true → c ≡ true → cond b 1 0 + cond ((a && not b) && c) 1 0 ≤ cond a (cond c 1 0) 0
+          by true true true e f = omega arith
+          by true false true e f = omega arith
+          by true b false e f = absurd (let no : false ≡ true = f in cc)
+          by false b c e f = absurd (let no : false ≡ true = e in cc)
+
+-- ---- the staging names along a path
+
+module _ (path : Path) where
+  pub length-staging_names : length (staging_names path) ≡ length path
+  length-staging_names = omega (arith, length-map-range_with_len (λ k. take k path) 1 (length path), length_map (prefixes path))
+    where
+      length_map : (ps : List Path) → length (map staging_of ps) ≡ length ps
+      length_map [] = refl
+      length_map (p ∷ ps) = omega (arith, length_map ps)
+
+  pub staging_name-at : (i : ℕ) (d : Path) → i < length path → get_or (staging_names path) i d ≡ staging_of (take (i + 1) path)
+  staging_name-at i d h =
+      get_or-map staging_of (prefixes path) i [] d (omega (arith, length-map-range_with_len (λ k. take k path) 1 (length path)))
+      ∙ ap staging_of (get_or-map-range_with_len (λ k. take k path) 1 (length path) i (i + 1) [] h (omega arith))
+
+  -- one more subtree taken
+  pub all_taken-more : (now i : ℕ) (t : Places) → i < length path
+      → all_taken now (take (i + 1) (staging_names path)) t ≡ taken now (staging_of (take (i + 1) path)) (all_taken now (take i (staging_names path)) t)
+  all_taken-more now i t h =
+      fold_more (λ u p. taken now p u) t (staging_names path) i [] (omega (arith, length-staging_names))
+      ∙ ap (λ p. taken now p (all_taken now (take i (staging_names path)) t)) (staging_name-at i [] h)
+
+  pub count-more : (files : Files) (i : ℕ) → i < length path
+      → count_at_all files (take (i + 1) (staging_names path)) ≡ count_at_all files (take i (staging_names path)) + count_at files (staging_of (take (i + 1) path))
+  count-more files i h =
+      sum-map (count_at files) (take (i + 1) (staging_names path))
+      ∙ sum_by_more (count_at files) (staging_names path) i [] (omega (arith, length-staging_names))
+      ∙ ap (λ p. sum_by (count_at files) (take i (staging_names path)) + count_at files p) (staging_name-at i [] h)
+      ∙ ap (λ n. n + count_at files (staging_of (take (i + 1) path))) (sym (sum-map (count_at files) (take i (staging_names path))))
+
+  pub count-le : (files : Files) (i : ℕ) → count_at_all files (take i (staging_names path)) ≤ count_at_all files (staging_names path)
+  count-le files i = omega (arith, sum-map (count_at files) (take i (staging_names path)), sum-map (count_at files) (staging_names path), sum_by-take-le (count_at files) (staging_names path) i)
+
+  -- what lies at or below one of them lies at or below any
+  pub under_any : (i : ℕ) → i < length path → (q : Path) → is_prefix (staging_of (take (i + 1) path)) q ≡ true → is_under_any (staging_names path) q ≡ true
+  under_any i h q e =
+      let more = take_more (staging_names path) i [] (omega (arith, length-staging_names)) in
+      let split : staging_names path ≡ take (i + 1) (staging_names path) ++ drop (i + 1) (staging_names path) = sym (take-append-drop (i + 1) (staging_names path)) in
+      ap (list_any (λ p. is_prefix p q)) split
+      ∙ list_any-append (λ p. is_prefix p q) (take (i + 1) (staging_names path)) (drop (i + 1) (staging_names path))
+      ∙ ap (λ b. b || list_any (λ p. is_prefix p q) (drop (i + 1) (staging_names path)))
+      (ap (list_any (λ p. is_prefix p q)) more
+      ∙ list_any-append (λ p. is_prefix p q) (take i (staging_names path)) (get_or (staging_names path) i [] ∷ [])
+      ∙ last (list_any (λ p. is_prefix p q) (take i (staging_names path))) (is_prefix (get_or (staging_names path) i []) q) (ap (λ p. is_prefix p q) (staging_name-at i [] h) ∙ e))
+    where
+      last : (a b : Bool) → b ≡ true → (a || (b || false)) ≡ true
+      last true b g = refl
+      last false b g = ap (λ c. c || false) g
+
+all_end : (xs : Path) (n : List ℕ) → can_stage (xs ++ n ∷ []) ≡ true → nat_le (length n) 250 ≡ true
+all_end [] n h = (both (nat_le (length n) 250) true h).0
+all_end (x ∷ xs) n h = all_end xs n (both (nat_le (length x) 250) (can_stage (xs ++ n ∷ [])) h).1
+
+-- the last name of a path whose names are short is short
+pub short_name : (path : Path) → can_stage path ≡ true → (n : List ℕ) → last_name path ≡ Some n → length n ≤ 250
+short_name path short n e = le_from (length n) (all_end (parent_of path) n (subst (λ (p : Path). can_stage p ≡ true) (path_parts path n e) short))
+  where
+    le_from : (k : ℕ) → nat_le k 250 ≡ true → k ≤ 250
+    le_from k h = grind (arith, nat_tests)
+
+-- a place that is reached along a path whose names are short has a short last name
+pub short_last : (path : Path) → can_stage path ≡ true → (i : ℕ) (name : List ℕ) → i < length path → name ≡ get_or path i name
+    → (last : List ℕ) → last_name (take i path ++ name ∷ []) ≡ Some last → length last ≤ 250
+short_last path short i name h is last e =
+    let here = All-get_or (λ n. nat_le (length n) 250 ≡ true) path i name h (AllPass-from_list_all (λ n. nat_le (length n) 250) path short) in
+    let fits : nat_le (length name) 250 ≡ true = subst (λ n. nat_le (length n) 250 ≡ true) (sym is) here in
+    let same : Some name ≡ Some last = sym (last_name-push (take i path) name) ∙ e in
+    subst (λ n. length n ≤ 250) (some_same name last same) (le_from (length name) fits)
+  where
+    some_same : (a b : List ℕ) → Some a ≡ Some b → a ≡ b
+    some_same a b e = cc
+
+    le_from : (n : ℕ) → nat_le n 250 ≡ true → n ≤ 250
+    le_from n h = grind (arith, nat_tests)

@@ -1,0 +1,125 @@
+//! What goes before the last name of a path: staging names swept, absent parents put.
+ghost use Rattle.std.specs.Prelude.{◌≡◌, ◌≢◌, ◌≤◌, ◌+◌, ◌*◌, [], true, false, is_some, OnOk, IsErrOf, if◌then◌else◌};
+ghost use Rattle.pv_io.specs.Faults.{HasRisen};
+ghost use Rattle.pv_path.specs.Paths.{parent_of, has_staging, staging_of};
+ghost use Rattle.pv_steps.specs.declared.tree.TreeFault.TheVariants.{Failed};
+ghost use Rattle.pv_steps.specs.declared.node.Kind.TheVariants.{Directory};
+ghost use Rattle.pv_steps.specs.Trees.{places, IsKind, IsAbsentIn};
+ghost use Rattle.pv_steps.specs.Runs.{Ran};
+ghost use Rattle.pv_dress.specs.Asking.{asked};
+ghost use Rattle.pv_walk.specs.Staging.{staging_names, count_at_all, can_stage, most_new};
+ghost use Rattle.pv_walk.specs.Putting.{Putting, IsPutStep};
+ghost use Rattle.pv_walk.specs.Preparing.{prepared, with_parent, with_parents, parent_file, Preparing, IsPrepareStep, parent_count, CanPass, IsSwept};
+
+use crate::new_file::{NewFile, NewKind};
+use crate::put::put_new;
+use crate::sweeping::sweep;
+use pv_path::TreePath;
+use pv_steps::{Tree, TreeFault, is_present};
+use std::alloc::Global;
+
+/// Makes ready for what is to come to a path: takes away what an earlier run has staged along the path, and puts
+/// a directory 0755 of root at each absent place above it. Each name of the path has at most 250 bytes.
+pub fn prepare<T: Tree>(
+    alloc: Global,
+    tree: &mut T,
+    path: &TreePath,
+    now: u64,
+) -> Result<(), TreeFault>
+    requires short { can_stage path.now ≡ true }
+    requires unstaged { has_staging path.now ≡ false }
+    requires pass { CanPass path.now (T.state tree.old) }
+    ensures ok { OnOk result (places (T.state tree.new)
+        ≡ prepared now path.now (places (T.state tree.old))) }
+    // What the path itself needs then.
+    ensures here { OnOk result (places (T.state tree.new) path.now
+        ≡ places (T.state tree.old) path.now) }
+    ensures parent { OnOk result (path.now ≢ []
+        → IsKind Directory (T.state tree.new) (parent_of path.now)) }
+    ensures free { OnOk result (path.now ≢ []
+        → IsAbsentIn (places (T.state tree.new)) (staging_of path.now)) }
+    ensures ran { Ran (Preparing path.now (T.state tree.old)) (IsPrepareStep path.now) now
+        (T.state tree.old) (T.steps tree.old) (T.state tree.new) (T.steps tree.new) }
+    ensures bound { asked result (T.steps tree.old) (T.steps tree.new)
+        ≤ count_at_all (T.state tree.old) (staging_names path.now)
+        + most_new * parent_count path.now (T.state tree.old) }
+    ensures reaches { T.reaches tree.old tree.new }
+    ensures cause { IsErrOf result Failed → HasRisen (T.faults tree.old) (T.faults tree.new) }
+{
+    sweep(alloc, tree, path, now)?;
+    put_parents(alloc, tree, path, now)
+}
+
+/// Puts a directory at each absent place above a path but the root, from the root on.
+fn put_parents<T: Tree>(
+    alloc: Global,
+    tree: &mut T,
+    path: &TreePath,
+    now: u64,
+) -> Result<(), TreeFault>
+    requires short { can_stage path.now ≡ true }
+    requires unstaged { has_staging path.now ≡ false }
+    requires pass { CanPass path.now (T.state tree.old) }
+    requires swept { IsSwept path.now (T.state tree.old) }
+    ensures ok { OnOk result (places (T.state tree.new)
+        ≡ with_parents now path.now (places (T.state tree.old))) }
+    ensures here { OnOk result (places (T.state tree.new) path.now
+        ≡ places (T.state tree.old) path.now) }
+    ensures parent { OnOk result (IsKind Directory (T.state tree.new) (parent_of path.now)) }
+    ensures swept { OnOk result (IsSwept path.now (T.state tree.new)) }
+    ensures ran { Ran (Preparing path.now (T.state tree.old)) (IsPrepareStep path.now) now
+        (T.state tree.old) (T.steps tree.old) (T.state tree.new) (T.steps tree.new) }
+    ensures bound { asked result (T.steps tree.old) (T.steps tree.new)
+        ≤ most_new * parent_count path.now (T.state tree.old) }
+    ensures reaches { T.reaches tree.old tree.new }
+    ensures cause { IsErrOf result Failed → HasRisen (T.faults tree.old) (T.faults tree.new) }
+{
+    let mut place = TreePath::root(alloc);
+    // In a tree the root is a directory.
+    let _root = tree.look(&place);
+    let names = path.names();
+    for name in &names[..names.len().saturating_sub(1)] {
+        place.push(name.copy()?)?;
+        put_parent(alloc, tree, &place, now)?;
+    }
+    Ok(())
+}
+
+/// Puts a directory that root owns at a place where nothing stands.
+fn put_parent<T: Tree>(
+    alloc: Global,
+    tree: &mut T,
+    place: &TreePath,
+    now: u64,
+) -> Result<(), TreeFault>
+    requires not_root { place.now ≢ [] }
+    requires short { can_stage place.now ≡ true }
+    requires unstaged { has_staging place.now ≡ false }
+    requires parent { IsKind Directory (T.state tree.old) (parent_of place.now) }
+    requires free { IsAbsentIn (places (T.state tree.old)) (staging_of place.now) }
+    ensures ok { OnOk result (places (T.state tree.new)
+        ≡ with_parent now (places (T.state tree.old)) place.now) }
+    ensures ran { Ran (Putting place.now parent_file (T.state tree.old)) (IsPutStep place.now parent_file) now
+        (T.state tree.old) (T.steps tree.old) (T.state tree.new) (T.steps tree.new) }
+    ensures bound { asked result (T.steps tree.old) (T.steps tree.new)
+        ≤ (if is_some (places (T.state tree.old) place.now) then 0 else most_new) }
+    ensures reaches { T.reaches tree.old tree.new }
+    ensures cause { IsErrOf result Failed → HasRisen (T.faults tree.old) (T.faults tree.new) }
+{
+    if is_present(tree, place) {
+        return Ok(());
+    }
+    put_new(alloc, tree, place, &parent_file(), now)
+}
+
+/// What an absent parent becomes.
+fn parent_file() -> NewFile
+    ensures { result ≡ parent_file }
+{
+    NewFile {
+        what: NewKind::Directory,
+        mode: 0o755,
+        uid: 0,
+        gid: 0,
+    }
+}

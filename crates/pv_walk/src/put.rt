@@ -1,0 +1,49 @@
+//! New objects, put at absent paths.
+ghost use Rattle.std.specs.Prelude.{◌≡◌, ◌≢◌, ◌≤◌, [], true, false, OnOk, IsErrOf};
+ghost use Rattle.pv_io.specs.Faults.{HasRisen};
+ghost use Rattle.pv_path.specs.Paths.{parent_of, has_staging, staging_of};
+ghost use Rattle.pv_steps.specs.declared.tree.TreeFault.TheVariants.{Failed};
+ghost use Rattle.pv_steps.specs.declared.node.Kind.TheVariants.{Directory};
+ghost use Rattle.pv_steps.specs.Trees.{places, IsKind, IsAbsentIn};
+ghost use Rattle.pv_steps.specs.Steps.{made};
+ghost use Rattle.pv_steps.specs.Runs.{Ran};
+ghost use Rattle.pv_dress.specs.Asking.{asked};
+ghost use Rattle.pv_walk.specs.Staging.{IsNewFile, new_object, can_stage, most_new};
+ghost use Rattle.pv_walk.specs.Putting.{Putting, IsPutStep};
+
+use crate::new_file::NewFile;
+use crate::publishing::publish;
+use crate::stage::stage_file;
+use pv_path::TreePath;
+use pv_steps::{Tree, TreeFault};
+use std::alloc::Global;
+
+/// Puts a new object at an absent path in a directory: it is made under its staging name, gets all that it is
+/// to have there, and comes to its path in one step.
+pub fn put_new<T: Tree>(
+    alloc: Global,
+    tree: &mut T,
+    path: &TreePath,
+    new: &NewFile,
+    now: u64,
+) -> Result<(), TreeFault>
+    requires not_root { path.now ≢ [] }
+    requires short { can_stage path.now ≡ true }
+    requires unstaged { has_staging path.now ≡ false }
+    requires parent { IsKind Directory (T.state tree.old) (parent_of path.now) }
+    requires absent { IsAbsentIn (places (T.state tree.old)) path.now }
+    requires free { IsAbsentIn (places (T.state tree.old)) (staging_of path.now) }
+    requires new { IsNewFile new.now }
+    ensures ok { OnOk result (places (T.state tree.new)
+        ≡ made now path.now (new_object new.now now) (places (T.state tree.old))) }
+    ensures ran { Ran (Putting path.now new.now (T.state tree.old)) (IsPutStep path.now new.now) now
+        (T.state tree.old) (T.steps tree.old) (T.state tree.new) (T.steps tree.new) }
+    ensures bound { asked result (T.steps tree.old) (T.steps tree.new) ≤ most_new }
+    ensures reaches { T.reaches tree.old tree.new }
+    ensures cause { IsErrOf result Failed → HasRisen (T.faults tree.old) (T.faults tree.new) }
+{
+    // In a tree nothing stands below an absent path.
+    let _absent = tree.look(path);
+    stage_file(alloc, tree, path, new, now)?;
+    publish(alloc, tree, path, now)
+}
