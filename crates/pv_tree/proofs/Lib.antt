@@ -1,5 +1,11 @@
 pub mod Halving
-pub mod Lists
-pub mod Moving
+pub mod Names
+pub mod EdgeLaws
+pub mod PlaceLaws
+pub mod SlotLaws
+pub mod ForestLaws
+pub mod Files
 pub mod State
+pub mod WalkLaws
 pub mod Looking
+pub mod FuseLaws

@@ -1,164 +1,277 @@
--- The tree of a list of entries: what it has, and what an edit of the list makes of it.
-use Rattle.std.proofs.Common.{◌≡◌, ◌≢◌, ℕ, ◌^◌, ◌<◌, true, false, cond, List, [], ◌∷◌, length, map, Option, Some, None, option_map, is_some, Result, Ok, Err, OnOk, OnErr, refl, sym, ap, subst, ◌∙◌, arith, suc, zero, ◌+◌, ◌≤◌, ◌++◌, take, get_or, slice_get, nat_lt, IfOk, MatchOption, Bor}
-use Rattle.std.specs.List.{filter_map, cons_option, list_all, HoldsAt}
-use Rattle.std.specs.Option.{option_to_list, option_copied}
-use Rattle.std.proofs.lemmas.Option.{slice_get_past}
-use Rattle.std.proofs.lemmas.List.{take_more, map-append}
-use Rattle.std.proofs.lemmas.List.Elements.{filter_map-append}
+-- The tree in memory: what its reads tell, and what a step makes of it.
+use Rattle.std.proofs.Common.{◌≡◌, ◌≢◌, ℕ, ◌^◌, ◌<◌, Bool, true, false, cond, ◌&&◌, T, List, [], ◌∷◌, ◌++◌, map, Option, Some, None, option_map, is_some, Result, Ok, Err, OnOk, OnErr, IfOk, refl, sym, ap, subst, ◌∙◌, arith, suc, get_or, slice_get, nat_lt}
+use Rattle.std.specs.List.{list_all, AllByRecursion}
+use Rattle.std.specs.List.Sorted.{IsStrictlySortedBy}
+use Rattle.std.specs.Option.{option_and_then}
+use Rattle.std.specs.Ordering.{eq_by_cmp, is_eq, is_lt}
+use Rattle.std.specs.declared.cmp.Ordering.{Ordering}
+use Rattle.std.specs.declared.cmp.Ordering.TheVariants.{Less, Equal, Greater}
 use Rattle.std.proofs.lemmas.Bool.Decides.{nat_tests}
+use Rattle.std.proofs.lemmas.Map.Lookups.{btree_set_from_contains, exact_bytes}
+use Rattle.std.specs.Cmp.Lexicographic.{nat_list_cmp_total}
 use Rattle.std.specs.FinMap as fin
-use Rattle.pv_path.specs.Paths.{Path, path_cmp, path_total, has_names, parent_of}
-use Rattle.pv_steps.specs.declared.node.Kind.TheVariants.{Directory}
-use Rattle.pv_steps.specs.declared.node.Node.{Node}
+use Rattle.std.specs.FinMap.Entries.{below_all, is_sorted}
+use Rattle.pv_path.specs.Paths.{Path, path_cmp, path_total, has_names, parent_of, same_path, same_path-decides}
+use Rattle.pv_path.proofs.PathLaws.{path_cmp-refl, path_cmp-exact}
+use Rattle.pv_steps.specs.declared.node.Kind.{Kind}
+use Rattle.pv_steps.specs.declared.node.Kind.TheVariants.{Directory, File, Link, Fifo, CharDevice, BlockDevice}
 use Rattle.pv_steps.specs.declared.object.Object.{Object}
 use Rattle.pv_steps.specs.declared.step.Step.{Step}
-use Rattle.pv_steps.specs.Objects.{IsObject}
-use Rattle.pv_steps.specs.Trees.{Files, Places, places, kind_of, IsTree, IsTreeIn, IsKind, node_at, payload_at, child_name, names_below}
-use Rattle.pv_steps.specs.Steps.{Can, StepFits, after, after_at, put_at}
-use Rattle.pv_steps.specs.StepLaws.{same_files, places_after}
-use Rattle.pv_steps.specs.TreeLaws.{tree_after, IsTreeIn-put}
-use Rattle.pv_tree.specs.Entries.{Entries, IsSorted, places_in}
-use Rattle.pv_tree.specs.Held.{Held, files_of, IsTreeList}
-use Rattle.pv_tree.proofs.Lists.{same_tied, same_sym}
+use Rattle.pv_steps.specs.Objects.{IsObject, is_directory}
+use Rattle.pv_steps.specs.Trees.{Files, Places, places, kind_of, IsTree, IsTreeIn, IsKind, IsKindIn, IsEmptyIn, names_below}
+use Rattle.pv_steps.specs.Steps.{Can, StepFits, after, after_at, put_at, IsOther}
+use Rattle.pv_steps.proofs.StepLaws.{same_files, places_after}
+use Rattle.pv_steps.proofs.TreeLaws.{tree_after, IsTreeIn-put, not_absent, present_of_kind, present_above, directory_above}
+use Rattle.pv_steps.proofs.NameLaws.{names_below-rise, names_below-are}
+use Rattle.pv_tree.specs.declared.slot.Slot.{Slot}
+use Rattle.pv_tree.specs.Changes.{IsRemovable}
+use Rattle.pv_tree.specs.Children.{Children, name_cmp}
+use Rattle.pv_tree.specs.Edges.{led}
+use Rattle.pv_tree.specs.Held.{Held}
+use Rattle.pv_tree.specs.Slots.{child_in, object_in, number_in, slot_in, places_in, files_of, IsForest, AreFree, IsTreeOf}
+use Rattle.pv_tree.proofs.EdgeLaws.{led-on}
+use Rattle.pv_tree.proofs.Files.{places_of}
+use Rattle.pv_tree.proofs.ForestLaws.{object_within}
 
-pub places_of_list : (es : Entries) → places (files_of es) ≡ places_in es
-places_of_list es = λ j q. fin.get-from_entries path_total es q j
+pub files_from : (slots : List Slot) (t : Files) → IsForest slots → places_in slots ≡ places t → files_of slots ≡ t
+files_from slots t forest is = same_files (files_of slots) t (λ q. ap (λ (p : Places). p q) (places_of slots forest ∙ is))
 
-pub files_from : (es : Entries) (t : Files) → places_in es ≡ places t → files_of es ≡ t
-files_from es t is = same_files (files_of es) t (λ q. ap (λ (p : Places). p q) (places_of_list es ∙ is))
+-- ---- what may be removed
 
--- ---- the entries of the tree are the list
+pub removable_object : (t : Places) (path : Path) → IsTreeIn t → IsOther Directory t path → IsRemovable t path
+removable_object t path tree can =
+    let below_root : path ≢ [] = λ e. can.1 (ap (λ (p : Path). kind_of (t p)) e ∙ tree.root) in
+    record {
+      no_root = below_root;
+      parent = present_of_kind t (parent_of path) Directory (tree.parents path can.0 below_root);
+      alone = λ name rest. none (t (path ++ name ∷ rest)) (λ some. can.1 (directory_above t tree path name rest some));
+    }
+  where
+    none : (o : Option Object) → (is_some o ≡ true → ⊥) → o ≡ None
+    none None h = refl
+    none (Some x) h = absurd (h refl)
 
-as_sorted : (es : Entries) → IsSorted es → files_of es ≡ fin.from_sorted es
-as_sorted es h = files_from es (fin.from_sorted es) (λ j q. sym (fin.get-from_sorted path_cmp es q h) j)
+pub removable_directory : (t : Places) (path : Path) → IsTreeIn t → IsKindIn Directory t path → IsEmptyIn t path → path ≢ [] → IsRemovable t path
+removable_directory t path tree dir empty below_root = record {
+  no_root = below_root;
+  parent = present_of_kind t (parent_of path) Directory (tree.parents path (present_of_kind t path Directory dir) below_root);
+  alone = λ name rest. none (t (path ++ name ∷ rest)) (λ some.
+      not_absent t (path ++ name ∷ []) (present_above t tree (path ++ name ∷ []) rest (subst (λ (p : Path). is_some (t p) ≡ true) (onto path name rest) some)) (empty name));
+}
+  where
+    none : (o : Option Object) → (is_some o ≡ true → ⊥) → o ≡ None
+    none None h = refl
+    none (Some x) h = absurd (h refl)
 
-pub entries_of : (es : Entries) → IsSorted es → fin.entries (files_of es) ≡ es
-entries_of es h = ap fin.entries (as_sorted es h) ∙ fin.entries-from_sorted path_cmp es h
-
-pub len_of : (es : Entries) → IsSorted es → fin.len (files_of es) ≡ length es
-len_of es h = fin.len-entries (files_of es) ∙ ap length (entries_of es h)
-
-pub keys_of : (es : Entries) → IsSorted es → fin.keys (files_of es) ≡ map (λ e. e.0) es
-keys_of es h = ap (map (λ (e : Path × Object). e.0)) (entries_of es h)
+    onto : (p : Path) (n : List ℕ) (r : Path) → p ++ n ∷ r ≡ (p ++ n ∷ []) ++ r
+    onto [] n r = refl
+    onto (m ∷ p) n r = ap (λ (s : Path). m ∷ s) (onto p n r)
 
 -- ---- reads
 
-pub read_node : (es : Entries) (t : Files) (path : Path) (o : Object) (node : Node) → files_of es ≡ t → Some o ≡ places_in es path → node ≡ o.node → Some node ≡ node_at t path
-read_node es t path o node same there is =
-    ap Some is ∙ ap (option_map (λ (x : Object). x.node)) (there ∙ sym (ap (λ (p : Places). p path) (places_of_list es)) ∙ ap (λ (f : Files). places f path) same)
+pub slot_object : (slots : List Slot) (path : Path) → option_map (λ (s : Slot). s.object) (slot_in slots path) ≡ places_in slots path
+slot_object slots path = elim (number_in slots path) as (λ o. option_map (λ (s : Slot). s.object) (option_and_then (slice_get slots) o) ≡ option_and_then (object_in slots) o) [ None ↦ refl | Some i ↦ refl ]
 
-pub read_payload : (es : Entries) (t : Files) (path : Path) (o : Object) (payload : List ℕ) → files_of es ≡ t → Some o ≡ places_in es path → payload ≡ o.payload → Some payload ≡ payload_at t path
-read_payload es t path o payload same there is =
-    ap Some is ∙ ap (option_map (λ (x : Object). x.payload)) (there ∙ sym (ap (λ (p : Places). p path) (places_of_list es)) ∙ ap (λ (f : Files). places f path) same)
+module _ (slots : List Slot) (t : Files) (path : Path) (forest : IsForest slots) (same : files_of slots ≡ t) where
+  pub object_there : places_in slots path ≡ places t path
+  object_there = sym (ap (λ (p : Places). p path) (places_of slots forest)) ∙ ap (λ (f : Files). places f path) same
 
-pub read_absent : (es : Entries) (t : Files) (path : Path) → files_of es ≡ t → None ≡ places_in es path → None ≡ places t path
-read_absent es t path same none = none ∙ sym (ap (λ (p : Places). p path) (places_of_list es)) ∙ ap (λ (f : Files). places f path) same
+  pub read_object : (s : Slot) → Some s ≡ slot_in slots path → Some s.object ≡ places t path
+  read_object s is = ap (option_map (λ (x : Slot). x.object)) is ∙ slot_object slots path ∙ object_there
 
--- ---- a step
-
-pub stepped : (es new : Entries) (step : Step) (now : ℕ) → places_in new ≡ after_at (places_in es) step now → files_of new ≡ after (files_of es) step now
-stepped es new step now is =
-    files_from new (after (files_of es) step now)
-    (is ∙ ap (λ (t : Places). after_at t step now) (sym (places_of_list es)) ∙ (λ j q. sym (places_after (files_of es) step now q) j))
-
-pub told_tree : {E : Type 0} → (r : Result (Unit {0}) E) (es new : Entries) (t : Files) (step : Step) (now : ℕ) → files_of es ≡ t → IsTreeList es → IsSorted new
-    → OnOk r (places_in new ≡ after_at (places_in es) step now) → OnErr r (new ≡ es) → Can (places t) step → StepFits step → now < 2 ^ 64 → IsTreeList new
-told_tree (Ok u) es new t step now same h sorted ok err can fits small = record {
-  sorted = sorted;
-  tree = subst IsTree (sym (stepped es new step now ok)) (tree_after (files_of es) step now h.tree (subst (λ (f : Files). Can (places f) step) (sym same) can) fits small);
-}
-told_tree (Err e) es new t step now same h sorted ok err can fits small = subst IsTreeList (sym err) h
-
-pub told_state : {E : Type 0} → (r : Result (Unit {0}) E) (es new : Entries) (t : Files) (step : Step) (now : ℕ) → files_of es ≡ t
-    → OnOk r (places_in new ≡ after_at (places_in es) step now) → OnOk r (files_of new ≡ after t step now)
-told_state (Ok u) es new t step now same ok = stepped es new step now ok ∙ ap (λ (f : Files). after f step now) same
-told_state (Err e) es new t step now same ok = tt
-
-pub told_kept : {E : Type 0} → (r : Result (Unit {0}) E) (es new : Entries) (t : Files) → files_of es ≡ t → OnErr r (new ≡ es) → OnErr r (files_of new ≡ t)
-told_kept (Ok u) es new t same err = tt
-told_kept (Err e) es new t same err = ap files_of err ∙ same
-
--- ---- an object added
-
-module _ (es new : Entries) (t : Files) (path : Path) (o : Object) (same : files_of es ≡ t) where
-  pub added_files : places_in new ≡ put_at path (Some o) (places_in es) → files_of new ≡ fin.insert t path o
-  added_files is =
-      files_from new (fin.insert t path o)
-      (is ∙ ap (put_at path (Some o)) (sym (places_of_list es) ∙ ap places same)
-      ∙ (λ j q. (ap (λ b. cond b (Some o) (places t q)) (same_sym path q ∙ sym (same_tied q path)) ∙ sym (fin.get-insert path_total t path o q)) j))
-
-  pub added_tree : {E : Type 0} → (r : Result (Unit {0}) E) → IsTreeList es → IsSorted new → OnOk r (places_in new ≡ put_at path (Some o) (places_in es)) → OnErr r (new ≡ es)
-      → places t path ≡ None → IsKind Directory t (parent_of path) → has_names path ≡ true → IsObject o → IsTreeList new
-  added_tree (Ok u) h sorted ok err absent parent named whole =
-      let tree : IsTreeIn (places t) = subst IsTree same h.tree in
-      let place : places (files_of new) ≡ put_at path (Some o) (places t) = places_of_list new ∙ ok ∙ ap (put_at path (Some o)) (sym (places_of_list es) ∙ ap places same) in
-      record { sorted = sorted; tree = subst IsTreeIn (sym place) (IsTreeIn-put path (places t) tree o (absent, parent) named whole) }
-  added_tree (Err e) h sorted ok err absent parent named whole = subst IsTreeList (sym err) h
-
-  pub added_state : {E : Type 0} → (r : Result (Unit {0}) E) → OnOk r (places_in new ≡ put_at path (Some o) (places_in es)) → OnOk r (files_of new ≡ fin.insert t path o)
-  added_state (Ok u) ok = added_files ok
-  added_state (Err e) ok = tt
-
--- ---- a root alone
-
-module _ (o : Object) (directory : o.node.kind ≡ Directory) (whole : IsObject o) where
-  alone : Entries
-  alone = ([], o) ∷ []
-
-  root_tree : IsTreeIn (places_in (([], o) ∷ []))
-  root_tree = record {
-    root = ap Some directory;
-    parents = λ path. elim path as (λ (p : Path). is_some (places_in (([], o) ∷ []) p) ≡ true → p ≢ [] → kind_of (places_in (([], o) ∷ []) (parent_of p)) ≡ Some Directory) [
-      | [] ↦ λ h other. absurd (other refl)
-      | n ∷ p ↦ λ h other. let no : false ≡ true = h in cc
-    ];
-    names = λ path. elim path as (λ (p : Path). is_some (places_in (([], o) ∷ []) p) ≡ true → has_names p ≡ true) [
-      | [] ↦ λ h. refl
-      | n ∷ p ↦ λ h. let no : false ≡ true = h in cc
-    ];
-    objects = λ path. elim path as (λ (p : Path). (x : Object) → places_in (([], o) ∷ []) p ≡ Some x → IsObject x) [
-      | [] ↦ λ x h. subst IsObject (let is : o ≡ x = cc in is) whole
-      | n ∷ p ↦ λ x h. cc
-    ];
-  }
-
-  pub alone_tree : (new : Entries) → new ≡ ([], o) ∷ [] → IsTreeList new
-  alone_tree new is = subst IsTreeList (sym is) (record { sorted = tt; tree = subst IsTreeIn (sym (places_of_list (([], o) ∷ []))) root_tree })
-
--- ---- a tree with its steps
-
-pub added_held : {E : Type 0} → (r : Result (Unit {0}) E) (es new : Entries) (steps : List Step) (held : Held) (path : Path) (o : Object) → record { files = files_of es; steps = steps } ≡ held
-    → OnOk r (places_in new ≡ put_at path (Some o) (places_in es)) → OnOk r (record { files = files_of new; steps = steps } ≡ record held { files = fin.insert held.files path o })
-added_held (Ok u) es new steps held path o same ok =
-    let files : files_of new ≡ fin.insert held.files path o = added_files es new held.files path o (ap (λ (h : Held). h.files) same) ok in
-    let told : steps ≡ held.steps = ap (λ (h : Held). h.steps) same in
-    λ j. record { files = files j; steps = told j }
-added_held (Err e) es new steps held path o same ok = tt
+  pub read_none : None ≡ slot_in slots path → None ≡ places t path
+  read_none is = ap (option_map (λ (x : Slot). x.object)) is ∙ slot_object slots path ∙ object_there
 
 -- ---- names in a directory
 
-pub names_step : (path : Path) (es : Entries) (i : ℕ) (e : Path × Object) (old new : List (List ℕ)) (name : Option (List ℕ)) → i < length es → e ≡ get_or es i e
-    → old ≡ filter_map (child_name path) (map (λ (x : Path × Object). x.0) (take i es)) → name ≡ child_name path e.0 → new ≡ old ++ option_to_list name
-    → new ≡ filter_map (child_name path) (map (λ (x : Path × Object). x.0) (take (i + 1) es))
-names_step path es i e old new name within at so is added =
-    let paths : List Path = map (λ (x : Path × Object). x.0) (take i es) in
-    let more : map (λ (x : Path × Object). x.0) (take (i + 1) es) ≡ paths ++ e.0 ∷ [] =
-    ap (map (λ (x : Path × Object). x.0)) (take_more es i e within ∙ ap (λ (x : Path × Object). take i es ++ x ∷ []) (sym at)) ∙ map-append (λ (x : Path × Object). x.0) (take i es) (e ∷ []) in
-    let one : option_to_list (child_name path e.0) ≡ filter_map (child_name path) (e.0 ∷ []) = as_list (child_name path e.0) in
-    added
-    ∙ ap (λ (v : List (List ℕ)). v ++ option_to_list name) so
-    ∙ ap (λ (v : List (List ℕ)). filter_map (child_name path) paths ++ v) (ap option_to_list is ∙ one)
-    ∙ sym (filter_map-append (child_name path) paths (e.0 ∷ []))
-    ∙ ap (filter_map (child_name path)) (sym more)
-  where
-    as_list : (o : Option (List ℕ)) → option_to_list o ≡ cons_option o []
-    as_list None = refl
-    as_list (Some n) = refl
+both_parts : (a b : Bool) → T (a && b) → (T a) × (T b)
+both_parts true b h = (tt, h)
+both_parts false b h = absurd h
 
-pub names_are : {E : Type 0} → (r : Result (List (List ℕ)) E) (es : Entries) (t : Files) (path : Path) → files_of es ≡ t → IsSorted es
-    → IfOk r (λ names. names ≡ filter_map (child_name path) (map (λ e. e.0) es)) → IfOk r (λ names. names ≡ names_below t path)
-names_are (Ok names) es t path same h is = is ∙ ap (filter_map (child_name path)) (sym (keys_of es h)) ∙ ap (λ (f : Files). names_below f path) same
-names_are (Err e) es t path same h is = tt
+less_of : (o : Ordering) → T (is_lt o) → o ≡ Less
+less_of Less h = refl
+less_of Equal h = absurd h
+less_of Greater h = absurd h
+
+sorted_keys : (es : List (List ℕ × ℕ)) → T (is_sorted name_cmp es) → IsStrictlySortedBy name_cmp (map (λ e. e.0) es)
+unfolding IsStrictlySortedBy
+sorted_keys [] h = tt
+sorted_keys (e ∷ es) h =
+    let parts = both_parts (below_all name_cmp e.0 es) (is_sorted name_cmp es) h in
+    (above e.0 es parts.0, sorted_keys es parts.1)
+  where
+    above : (n : List ℕ) (es : List (List ℕ × ℕ)) → T (below_all name_cmp n es) → AllByRecursion (λ m. name_cmp n m ≡ Less) (map (λ e. e.0) es)
+    above n [] h = tt
+    above n (x ∷ es) h = let parts = both_parts (is_lt (name_cmp n x.0)) (below_all name_cmp n es) h in (less_of (name_cmp n x.0) parts.0, above n es parts.1)
+
+module _ (slots : List Slot) (t : Files) (path : Path) (s : Slot) (forest : IsForest slots) (same : files_of slots ≡ t) (is : Some s ≡ slot_in slots path) where
+  child_present : (n : List ℕ) → is_some (fin.get s.children n) ≡ is_some (places t (path ++ n ∷ []))
+  child_present n = by (number_in slots path) refl is ∙ ap is_some (object_there slots t (path ++ n ∷ []) forest same)
+    where
+      held : (k : ℕ) → number_in slots path ≡ Some k → (o : Option ℕ) → number_in slots (path ++ n ∷ []) ≡ o → is_some o ≡ is_some (option_and_then (object_in slots) o)
+      held k at None e = refl
+      held k at (Some j) e = sym (object_within slots j (forest.within (path ++ n ∷ []) j e))
+
+      end : (o : Option ℕ) → option_and_then (λ j. led (child_in slots) j []) o ≡ o
+      end None = refl
+      end (Some j) = refl
+
+      by : (o : Option ℕ) → number_in slots path ≡ o → Some s ≡ option_and_then (slice_get slots) o → is_some (fin.get s.children n) ≡ is_some (places_in slots (path ++ n ∷ []))
+      by None at e = absurd (let no : Some s ≡ None = e in cc)
+      by (Some k) at e =
+          let child : fin.get s.children n ≡ number_in slots (path ++ n ∷ []) =
+          ap (option_and_then (λ (x : Slot). fin.get x.children n)) e ∙ sym (led-on (child_in slots) 0 k path (n ∷ []) at ∙ end (child_in slots k n)) in
+          ap is_some child ∙ held k at (number_in slots (path ++ n ∷ [])) refl
+
+  pub names_same : fin.keys s.children ≡ names_below t path
+  names_same =
+      btree_set_from_contains nat_list_cmp_total (record { keys = fin.keys s.children }) (record { keys = names_below t path })
+      (sorted_keys (fin.entries s.children) (fin.entries_sorted s.children)) (names_below-rise t path)
+      (λ n. sym (fin.contains_key-keys s.children n) ∙ child_present n ∙ sym (names_below-are t path n)) exact_bytes
+
+pub names_are : {E : Type 0} → (r : Result (List (List ℕ)) E) (slots : List Slot) (t : Files) (path : Path) (s : Slot) → IsForest slots → files_of slots ≡ t → Some s ≡ slot_in slots path
+    → IfOk r (λ names. names ≡ fin.keys s.children) → IfOk r (λ names. names ≡ names_below t path)
+names_are (Ok names) slots t path s forest same is ok = ok ∙ names_same slots t path s forest same is
+names_are (Err e) slots t path s forest same is ok = tt
+
+-- a directory has a slot
+pub slot_of_kind : (slots : List Slot) (t : Files) (path : Path) → IsForest slots → files_of slots ≡ t → IsKind Directory t path → None ≡ slot_in slots path → ⊥
+slot_of_kind slots t path forest same kind none =
+    not_absent (places t) path (present_of_kind (places t) path Directory kind) (sym (read_none slots t path forest same none))
+
+-- ---- a step
+
+pub tree_in : (slots : List Slot) (free : List ℕ) → IsTreeOf slots free → IsTreeIn (places_in slots)
+tree_in slots free h = subst IsTreeIn (places_of slots h.forest) h.tree
+
+pub can_in : (slots : List Slot) (t : Files) (step : Step) → IsForest slots → files_of slots ≡ t → Can (places t) step → Can (places_in slots) step
+can_in slots t step forest same can = subst (λ (p : Places). Can p step) (sym (ap places same) ∙ places_of slots forest) can
+
+pub stepped : (slots new : List Slot) (step : Step) (now : ℕ) → IsForest slots → IsForest new → places_in new ≡ after_at (places_in slots) step now → files_of new ≡ after (files_of slots) step now
+stepped slots new step now forest kept is =
+    files_from new (after (files_of slots) step now) kept
+    (is ∙ ap (λ (t : Places). after_at t step now) (sym (places_of slots forest)) ∙ (λ j q. sym (places_after (files_of slots) step now q) j))
+
+pub told_tree : {E : Type 0} → (r : Result (Unit {0}) E) (slots new : List Slot) (free rest : List ℕ) (t : Files) (step : Step) (now : ℕ) → files_of slots ≡ t → IsTreeOf slots free
+    → IsForest new → AreFree new rest → OnOk r (places_in new ≡ after_at (places_in slots) step now) → OnErr r (new ≡ slots) → Can (places t) step → StepFits step → now < 2 ^ 64 → IsTreeOf new rest
+told_tree (Ok u) slots new free rest t step now same h forest spare ok err can fits small = record {
+  forest = forest;
+  spare = spare;
+  tree = subst IsTree (sym (stepped slots new step now h.forest forest ok)) (tree_after (files_of slots) step now h.tree (subst (λ (f : Files). Can (places f) step) (sym same) can) fits small);
+}
+told_tree (Err e) slots new free rest t step now same h forest spare ok err can fits small = record {
+  forest = forest;
+  spare = spare;
+  tree = subst (λ (v : List Slot). IsTree (files_of v)) (sym err) h.tree;
+}
+
+pub told_state : {E : Type 0} → (r : Result (Unit {0}) E) (slots new : List Slot) (t : Files) (step : Step) (now : ℕ) → files_of slots ≡ t → IsForest slots → IsForest new
+    → OnOk r (places_in new ≡ after_at (places_in slots) step now) → OnOk r (files_of new ≡ after t step now)
+told_state (Ok u) slots new t step now same forest kept ok = stepped slots new step now forest kept ok ∙ ap (λ (f : Files). after f step now) same
+told_state (Err e) slots new t step now same forest kept ok = tt
+
+-- ---- an object added
+
+same_tied : (p q : Path) → eq_by_cmp path_cmp q p ≡ same_path p q
+same_tied p q = by (same_path p q) refl (path_cmp q p) refl
+  where
+    by : (t : Bool) → same_path p q ≡ t → (o : Ordering) → path_cmp q p ≡ o → is_eq o ≡ t
+    by true s o e = let is : p ≡ q = (same_path-decides p q).0 s in let equal : Equal ≡ o = sym (path_cmp-refl q) ∙ ap (path_cmp q) (sym is) ∙ e in rw (← equal) refl
+    by false s Less e = refl
+    by false s Equal e = absurd (let t : same_path p q ≡ true = (same_path-decides p q).1 (sym (path_cmp-exact q p e)) in cc)
+    by false s Greater e = refl
+
+module _ (slots new : List Slot) (t : Files) (path : Path) (o : Object) (same : files_of slots ≡ t) (forest : IsForest slots) (kept : IsForest new) where
+  places_then : places_in slots ≡ places t
+  places_then = sym (places_of slots forest) ∙ ap places same
+
+  pub added_files : places_in new ≡ put_at path (Some o) (places_in slots) → files_of new ≡ fin.insert t path o
+  added_files is =
+      files_from new (fin.insert t path o) kept
+      (is ∙ ap (put_at path (Some o)) places_then
+      ∙ (λ j q. (ap (λ b. cond b (Some o) (places t q)) (sym (same_tied path q)) ∙ sym (fin.get-insert path_total t path o q)) j))
+
+  pub added_tree : {A E : Type 0} → (r : Result A E) (free rest : List ℕ) → IsTreeOf slots free → AreFree new rest → OnOk r (places_in new ≡ put_at path (Some o) (places_in slots)) → OnErr r (new ≡ slots)
+      → places t path ≡ None → IsKind Directory t (parent_of path) → has_names path ≡ true → IsObject o → IsTreeOf new rest
+  added_tree (Ok u) free rest h spare ok err absent parent named whole =
+      let tree : IsTreeIn (places t) = subst IsTree same h.tree in
+      let place : places (files_of new) ≡ put_at path (Some o) (places t) = places_of new kept ∙ ok ∙ ap (put_at path (Some o)) places_then in
+      record { forest = kept; spare = spare; tree = subst IsTreeIn (sym place) (IsTreeIn-put path (places t) tree o (absent, parent) named whole) }
+  added_tree (Err e) free rest h spare ok err absent parent named whole = record {
+    forest = kept;
+    spare = spare;
+    tree = subst (λ (v : List Slot). IsTree (files_of v)) (sym err) h.tree;
+  }
+
+pub added_held : (slots new : List Slot) (steps : List Step) (held : Held) (path : Path) (o : Object) → record { files = files_of slots; steps = steps } ≡ held
+    → IsForest slots → IsForest new → places_in new ≡ put_at path (Some o) (places_in slots)
+    → record { files = files_of new; steps = steps } ≡ record held { files = fin.insert held.files path o }
+added_held slots new steps held path o same forest kept ok =
+    let files : files_of new ≡ fin.insert held.files path o = added_files slots new held.files path o (ap (λ (h : Held). h.files) same) forest kept ok in
+    let told : steps ≡ held.steps = ap (λ (h : Held). h.steps) same in
+    λ j. record { files = files j; steps = told j }
+
+-- ---- a root alone
+
+abbrev alone : Object → Places
+alone o [] = Some o
+alone o (n ∷ p) = None
+
+module _ (s : Slot) (bare : s.children ≡ fin.empty) where
+  no_child : (n : List ℕ) → child_in (s ∷ []) 0 n ≡ None
+  no_child n = ap (λ (c : Children). fin.get c n) bare ∙ fin.get-empty name_cmp n
+
+  root_numbers : (q : Path) (i : ℕ) → number_in (s ∷ []) q ≡ Some i → (q ≡ []) × (i ≡ 0)
+  root_numbers [] i e = (refl, let both : Some i ≡ Some 0 = sym e in cc)
+  root_numbers (n ∷ p) i e = absurd (let no : None ≡ Some i = sym (ap (option_and_then (λ k. led (child_in (s ∷ [])) k p)) (no_child n)) ∙ e in cc)
+
+  pub root_forest : IsForest (s ∷ [])
+  root_forest = record {
+    within = λ q i e. let at = (root_numbers q i e).1 in omega arith;
+    once = λ p q i a b. (root_numbers p i a).0 ∙ sym (root_numbers q i b).0;
+  }
+
+  pub root_free : AreFree (s ∷ []) []
+  root_free = record {
+    within = λ k i e. absurd (let no : None ≡ Some i = e in cc);
+    apart = λ k i e. absurd (let no : None ≡ Some i = e in cc);
+    once = λ k m i e f. absurd (let no : None ≡ Some i = e in cc);
+  }
+
+  root_at : (q : Path) → places_in (s ∷ []) q ≡ alone s.object q
+  root_at [] = refl
+  root_at (n ∷ p) = ap (λ o. option_and_then (object_in (s ∷ [])) (option_and_then (λ k. led (child_in (s ∷ [])) k p) o)) (no_child n)
+
+  root_map : (q : Path) → alone s.object q ≡ places (fin.insert fin.empty [] s.object) q
+  root_map [] = sym (fin.get-insert path_total fin.empty [] s.object [])
+  root_map (n ∷ p) = sym (fin.get-insert path_total fin.empty [] s.object (n ∷ p) ∙ fin.get-empty path_cmp (n ∷ p))
+
+  pub root_files : files_of (s ∷ []) ≡ fin.insert fin.empty [] s.object
+  root_files = files_from (s ∷ []) (fin.insert fin.empty [] s.object) root_forest (λ j q. (root_at q ∙ root_map q) j)
+
+  pub root_tree : s.object.node.kind ≡ Directory → IsObject s.object → IsTreeOf (s ∷ []) []
+  root_tree directory whole = record {
+    forest = root_forest;
+    spare = root_free;
+    tree = subst IsTreeIn (sym (places_of (s ∷ []) root_forest ∙ (λ j q. root_at q j))) (record {
+      root = ap Some directory;
+      parents = parents;
+      names = names;
+      objects = objects;
+    });
+  }
+    where
+      parents : (p : Path) → is_some (alone s.object p) ≡ true → p ≢ [] → kind_of (alone s.object (parent_of p)) ≡ Some Directory
+      parents [] h other = absurd (other refl)
+      parents (n ∷ p) h other = absurd (let no : false ≡ true = h in cc)
+
+      names : (p : Path) → is_some (alone s.object p) ≡ true → has_names p ≡ true
+      names [] h = refl
+      names (n ∷ p) h = absurd (let no : false ≡ true = h in cc)
+
+      objects : (p : Path) (x : Object) → alone s.object p ≡ Some x → IsObject x
+      objects [] x h = subst IsObject (let is : s.object ≡ x = cc in is) whole
+      objects (n ∷ p) x h = absurd (let no : None ≡ Some x = h in cc)
 
 -- ---- bytes
 
@@ -168,13 +281,41 @@ all_small (x ∷ xs) h =
     let first : nat_lt x 256 ≡ true = let small : x < 256 = h 0 in grind (arith, nat_tests) in
     rw first (all_small xs (λ i. h (suc i)))
 
--- ---- an item read
+-- ---- by the result of a call
 
-pub item_read : {X : Type 0} → (xs : List X) (i : ℕ) (r : Option (Bor X)) → MatchOption r (length xs ≤ i) (λ x. (i < length xs) × HoldsAt (λ y. x.now ≡ y) xs i) → option_copied r ≡ slice_get xs i
-item_read xs i None h = sym (slice_get_past xs i h)
-item_read xs i (Some x) h = ap Some (h.1 x.now) ∙ item xs i x.now h.0
-  where
-    item : {X : Type 0} → (ys : List X) (k : ℕ) (d : X) → k < length ys → Some (get_or ys k d) ≡ slice_get ys k
-    item [] k d l = absurd (omega arith)
-    item (y ∷ ys) zero d l = refl
-    item (y ∷ ys) (suc k) d l = item ys k d (omega arith)
+pub done : {E : Type 0} → (r : Result (Unit {0}) E) (a b c : Places) → b ≡ c → OnOk r (a ≡ b) → OnOk r (a ≡ c)
+done (Ok u) a b c is ok = ok ∙ is
+done (Err e) a b c is ok = tt
+
+pub new_tree : (s : Slot) (slots : List Slot) (free : List ℕ) (o : Object) → s.children ≡ fin.empty → s.object ≡ o → slots ≡ s ∷ [] → free ≡ [] → o.node.kind ≡ Directory → IsObject o → IsTreeOf slots free
+new_tree s slots free o bare is one none directory whole =
+    subst (λ (v : List Slot). IsTreeOf v free) (sym one) (subst (λ (v : List ℕ). IsTreeOf (s ∷ []) v) (sym none)
+    (root_tree s bare (ap (λ (x : Object). x.node.kind) is ∙ directory) (subst IsObject (sym is) whole)))
+
+pub new_files : (s : Slot) (slots : List Slot) (o : Object) → s.children ≡ fin.empty → s.object ≡ o → slots ≡ s ∷ [] → files_of slots ≡ fin.insert fin.empty [] o
+new_files s slots o bare is one = ap files_of one ∙ root_files s bare ∙ ap (fin.insert fin.empty []) is
+
+-- ---- the directory of a path
+
+directory_of : (k : Kind) → is_directory k ≡ true → k ≡ Directory
+directory_of Directory h = refl
+directory_of File h = absurd (let no : false ≡ true = h in cc)
+directory_of Link h = absurd (let no : false ≡ true = h in cc)
+directory_of Fifo h = absurd (let no : false ≡ true = h in cc)
+directory_of CharDevice h = absurd (let no : false ≡ true = h in cc)
+directory_of BlockDevice h = absurd (let no : false ≡ true = h in cc)
+
+pub kind_there : (slots : List Slot) (t : Files) (path : Path) (s : Slot) (b : Bool) → IsForest slots → files_of slots ≡ t → Some s ≡ slot_in slots path → b ≡ is_directory s.object.node.kind
+    → (b ≡ true → IsKind Directory t path) × (IsKind Directory t path → b ≡ true)
+kind_there slots t path s b forest same is test =
+    let kind : Some s.object.node.kind ≡ kind_of (places t path) = ap kind_of (read_object slots t path forest same s is) in (
+      λ h. sym kind ∙ ap Some (directory_of s.object.node.kind (sym test ∙ h)),
+      λ h. let directory : s.object.node.kind ≡ Directory = (let both : Some s.object.node.kind ≡ Some Directory = kind ∙ h in cc) in test ∙ ap is_directory directory,
+    )
+
+pub kind_absent : (slots : List Slot) (t : Files) (path : Path) → IsForest slots → files_of slots ≡ t → None ≡ slot_in slots path
+    → (false ≡ true → IsKind Directory t path) × (IsKind Directory t path → false ≡ true)
+kind_absent slots t path forest same none = (
+  λ h. absurd (let no : false ≡ true = h in cc),
+  λ h. absurd (slot_of_kind slots t path forest same h none),
+)

@@ -6,8 +6,7 @@ use Rattle.pv_steps.specs.contracts.object.Object as object
 use Rattle.pv_steps.specs.contracts.step.Step as step
 use Rattle.pv_steps.specs.declared.node.Node.{Node}
 use Rattle.pv_steps.specs.declared.step.Step.{Step}
-use Rattle.pv_steps.specs.Trees.{Files, IsTree}
-use Rattle.pv_tree.specs.Entries.{Entries, IsSorted}
+use Rattle.pv_steps.specs.Trees.{Files}
 
 -- the tree, and the steps done since it was made
 pub record Held : Type 0 where
@@ -22,15 +21,6 @@ held_code =
     (λ h. (h.files, h.steps))
     (λ p. record { files = p.0; steps = p.1 })
     (λ _. refl)
-
--- the tree of a list of entries
-abbrev pub files_of : Entries → Files
-files_of es = fin.from_entries es
-
--- entries in order that make a tree
-pub record IsTreeList (es : Entries) : Type 0 where
-  pub sorted : IsSorted es
-  pub tree : IsTree (files_of es)
 
 -- the tree that has a root alone
 abbrev pub root_alone : Node → Files

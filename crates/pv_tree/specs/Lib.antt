@@ -1,4 +1,8 @@
 pub mod Finding
-pub mod Entries
+pub mod Children
+pub mod Edges
+pub mod Slots
+pub mod Walks
 pub mod Held
+pub mod Changes
 pub mod Fuses

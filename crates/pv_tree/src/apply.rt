@@ -1,39 +1,43 @@
-//! One step done on the entries, and told.
+//! One step done on the slots, and told.
 ghost use Rattle.std.specs.Prelude.{◌≡◌, ℕ, List, ◌∷◌, [], ◌++◌, OnOk, OnErr, IsErrOf, nat_lt, true};
 ghost use Rattle.std.specs.List.{list_all};
 ghost use Rattle.pv_path.specs.Paths.{has_names};
-ghost use Rattle.pv_steps.specs.Steps.{after_at, device_kind, StepFits};
+ghost use Rattle.pv_steps.specs.Steps.{Can, after_at, device_kind, StepFits};
 ghost use Rattle.pv_steps.specs.Objects.{fresh};
+ghost use Rattle.pv_steps.specs.Trees.{IsTreeIn};
 ghost use Rattle.pv_steps.specs.declared.tree.TreeFault.TheVariants.{Failed};
-ghost use Rattle.pv_tree.specs.Entries.{IsSorted, places_in};
+ghost use Rattle.pv_tree.specs.Slots.{IsForest, AreFree, places_in};
 
-use crate::entry::Entry;
-use crate::list::{set_acl, set_content, set_mode, set_owner, set_stamps};
-use crate::make::{fresh, make, plain, unmake};
-use crate::rename::rename;
+use crate::edits::{change_at, fresh, make, plain, rename, unmake};
+use crate::slot::Slot;
 use pv_path::{Bytes, TreePath};
 use pv_steps::{Kind, Step, TreeFault};
 use std::alloc::{AllocError, Global};
 
-/// Does a step on the entries, and tells it at the end of the list of steps. The step is copied first. After
+/// Does a step on the slots, and tells it at the end of the list of steps. The step is copied first. After
 /// want of memory, which is the only fault, both are as before.
 pub(crate) fn do_told(
     alloc: Global,
-    entries: &mut Vec<Entry>,
+    slots: &mut Vec<Slot>,
+    free: &mut Vec<usize>,
     steps: &mut Vec<Step>,
     step: &Step,
     now: u64,
 ) -> Result<(), TreeFault>
-    requires { IsSorted entries.old.items }
-    ensures sorted { IsSorted entries.new.items }
-    ensures ok { OnOk result (places_in entries.new.items ≡ after_at (places_in entries.old.items) step.now now) }
+    requires forest { IsForest slots.old.items }
+    requires free { AreFree slots.old.items free.old.items }
+    requires tree { IsTreeIn (places_in slots.old.items) }
+    requires can { Can (places_in slots.old.items) step.now }
+    ensures forest { IsForest slots.new.items }
+    ensures free { AreFree slots.new.items free.new.items }
+    ensures ok { OnOk result (places_in slots.new.items ≡ after_at (places_in slots.old.items) step.now now) }
     ensures told { OnOk result (steps.new.items ≡ steps.old.items ++ step.now ∷ []) }
-    ensures err { OnErr result (entries.new.items ≡ entries.old.items) }
+    ensures err { OnErr result (slots.new.items ≡ slots.old.items) }
     ensures untold { OnErr result (steps.new.items ≡ steps.old.items) }
     ensures fault { IsErrOf result Failed → ⊥ }
 {
     steps.push(step.copy()?)?;
-    match do_step(alloc, entries, step, now) {
+    match do_step(alloc, slots, free, step, now) {
         Ok(()) => Ok(()),
         Err(fault) => {
             let _untold = steps.pop();
@@ -42,22 +46,36 @@ pub(crate) fn do_told(
     }
 }
 
-/// Does a step on the entries. After want of memory they are as before.
-fn do_step(alloc: Global, entries: &mut Vec<Entry>, step: &Step, now: u64) -> Result<(), AllocError>
-    requires { IsSorted entries.old.items }
-    ensures sorted { IsSorted entries.new.items }
-    ensures ok { OnOk result (places_in entries.new.items ≡ after_at (places_in entries.old.items) step.now now) }
-    ensures err { OnErr result (entries.new.items ≡ entries.old.items) }
+/// Does a step on the slots. After want of memory they are as before.
+fn do_step(
+    alloc: Global,
+    slots: &mut Vec<Slot>,
+    free: &mut Vec<usize>,
+    step: &Step,
+    now: u64,
+) -> Result<(), AllocError>
+    requires forest { IsForest slots.old.items }
+    requires free { AreFree slots.old.items free.old.items }
+    requires tree { IsTreeIn (places_in slots.old.items) }
+    requires can { Can (places_in slots.old.items) step.now }
+    ensures forest { IsForest slots.new.items }
+    ensures free { AreFree slots.new.items free.new.items }
+    ensures ok { OnOk result (places_in slots.new.items ≡ after_at (places_in slots.old.items) step.now now) }
+    ensures err { OnErr result (slots.new.items ≡ slots.old.items) }
 {
     match step {
-        Step::MakeDir { path } => make(
-            entries,
-            path,
-            plain(alloc, Kind::Directory, 0o700, now),
-            now,
-        )?,
-        Step::MakeFile { path } => make(entries, path, plain(alloc, Kind::File, 0o600, now), now)?,
-        Step::MakeFifo { path } => make(entries, path, plain(alloc, Kind::Fifo, 0o600, now), now)?,
+        Step::MakeDir { path } => {
+            let object = plain(alloc, Kind::Directory, 0o700, now);
+            make(alloc, slots, free, path, object, now)
+        }
+        Step::MakeFile { path } => {
+            let object = plain(alloc, Kind::File, 0o600, now);
+            make(alloc, slots, free, path, object, now)
+        }
+        Step::MakeFifo { path } => {
+            let object = plain(alloc, Kind::Fifo, 0o600, now);
+            make(alloc, slots, free, path, object, now)
+        }
         Step::MakeDevice {
             path,
             block,
@@ -65,35 +83,24 @@ fn do_step(alloc: Global, entries: &mut Vec<Entry>, step: &Step, now: u64) -> Re
             minor,
         } => {
             let kind = device_kind(*block);
-            make(
-                entries,
-                path,
-                fresh(alloc, kind, 0o600, Bytes::new(alloc), *major, *minor, now),
-                now,
-            )?;
+            let object = fresh(alloc, kind, 0o600, Bytes::new(alloc), *major, *minor, now);
+            make(alloc, slots, free, path, object, now)
         }
         Step::MakeLink { path, target } => {
-            make(
-                entries,
-                path,
-                fresh(alloc, Kind::Link, 0o777, target.copy()?, 0, 0, now),
-                now,
-            )?;
+            let object = fresh(alloc, Kind::Link, 0o777, target.copy()?, 0, 0, now);
+            make(alloc, slots, free, path, object, now)
         }
-        Step::Write { path, content } => set_content(entries, path, content.copy()?, now),
-        Step::SetMode { path, mode } => set_mode(entries, path, *mode, now),
-        Step::SetOwner { path, uid, gid } => set_owner(entries, path, *uid, *gid, now),
-        Step::SetAcl { path, acl } => set_acl(entries, path, acl.copy()?, now),
-        Step::SetStamps {
-            path,
-            access,
-            modify,
-        } => set_stamps(entries, path, *access, *modify, now),
-        Step::Rename { from, to } => rename(alloc, entries, from, to, now)?,
-        Step::Unlink { path } => unmake(entries, path, now),
-        Step::RemoveDir { path } => unmake(entries, path, now),
+        Step::Write { path, .. } => change_at(slots, path, step, now),
+        Step::SetMode { path, .. } => change_at(slots, path, step, now),
+        Step::SetOwner { path, .. } => change_at(slots, path, step, now),
+        Step::SetAcl { path, .. } => change_at(slots, path, step, now),
+        Step::SetAttrs { path, .. } => change_at(slots, path, step, now),
+        Step::SetLetters { path, .. } => change_at(slots, path, step, now),
+        Step::SetStamps { path, .. } => change_at(slots, path, step, now),
+        Step::Rename { from, to } => rename(slots, free, from, to, now),
+        Step::Unlink { path } => unmake(slots, free, path, now),
+        Step::RemoveDir { path } => unmake(slots, free, path, now),
     }
-    Ok(())
 }
 
 fn device_kind(block: bool) -> Kind
@@ -134,6 +141,11 @@ pub(crate) fn parts_fit(step: &Step)
         Step::SetMode { path, .. } => names_fit(path),
         Step::SetOwner { path, .. } => names_fit(path),
         Step::SetAcl { path, .. } => names_fit(path),
+        Step::SetAttrs { path, .. } => names_fit(path),
+        Step::SetLetters { path, letters } => {
+            names_fit(path);
+            let _bits = letters.bits();
+        }
         Step::SetStamps {
             path,
             access,

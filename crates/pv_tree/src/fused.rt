@@ -5,7 +5,8 @@ ghost use Rattle.pv_steps.specs.declared.node.Kind.TheVariants.{Directory, File,
 ghost use Rattle.pv_steps.specs.declared.tree.TreeFault.TheVariants.{Failed};
 ghost use Rattle.pv_steps.specs.Trees.{places, IsKind, IsTree, node_at, payload_at, names_below};
 ghost use Rattle.pv_steps.specs.Steps.{Can, StepFits, after};
-ghost use Rattle.pv_tree.specs.Fuses.{one_less, capped, refusals_after};
+ghost use Rattle.pv_tree.specs.Fuses.{Burnt, burnt_refl, burnt_trans, one_less, capped, refusals_after};
+ghost use Rattle.std.proofs.Common.{arith};
 
 use crate::apply::parts_fit;
 use pv_path::{NameList, TreePath};
@@ -69,6 +70,9 @@ impl<T: Tree> Tree for Fused<T> {
 
     ghost faults = { λ f. capped (T.faults f.inner + f.refused) };
 
+    ghost reaches = { λ f g. T.reaches f.inner g.inner
+        × Burnt f.left f.refused (length (T.steps f.inner)) g.left g.refused (length (T.steps g.inner)) };
+
     fn look(&self, path: &TreePath) -> Option<&Node> {
         self.inner.look(path)
     }
@@ -92,8 +96,9 @@ impl<T: Tree> Tree for Fused<T> {
         ensures kept { OnErr result (T.state self.new.inner ≡ T.state self.old.inner) }
         ensures untold { OnErr result (T.steps self.new.inner ≡ T.steps self.old.inner) }
         ensures fits { StepFits step.now }
-        ensures never_falls { capped (T.faults self.old.inner + self.old.refused)
-            ≤ capped (T.faults self.new.inner + self.new.refused) }
+        ensures reaches { T.reaches self.old.inner self.new.inner
+            × Burnt self.old.left self.old.refused (length (T.steps self.old.inner))
+            self.new.left self.new.refused (length (T.steps self.new.inner)) }
         ensures cause { IsErrOf result Failed →
             HasRisen (capped (T.faults self.old.inner + self.old.refused))
             (capped (T.faults self.new.inner + self.new.refused)) }
@@ -124,4 +129,10 @@ impl<T: Tree> Tree for Fused<T> {
             None => self.inner.step(step, now),
         }
     }
+
+    ghost reaches_self = { λ f. (T.reaches_self f.inner, burnt_refl _ _ _) };
+
+    ghost reaches_on = { λ _ _ _ p q. (T.reaches_on _ _ _ p.0 q.0, burnt_trans _ _ _ _ _ _ _ _ _ p.1 q.1) };
+
+    ghost never_falls = { λ _ _ p. Prim.omega (arith, T.never_falls _ _ p.0, p.1.refusals) };
 }

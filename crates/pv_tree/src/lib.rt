@@ -1,20 +1,20 @@
-//! The tree in memory, a list of entries in the order of their paths, and the fuse that stops a tree
-//! after a number of steps.
+//! The tree in memory as numbered slots, and the fuse that stops a tree after a number of steps.
 #![tactic(auto)]
 
 mod apply;
-mod entry;
+mod children;
+mod edits;
 mod fused;
-mod list;
-mod make;
 mod mem_tree;
 mod probe;
-mod rename;
+mod slot;
+mod slots;
 #[cfg(test)]
 mod tests;
+mod walk;
 
-pub use entry::Entry;
 pub use fused::Fused;
 pub use mem_tree::MemTree;
 pub use probe::{Probe, find};
 pub use pv_steps::{Kind, Node, Object, Stamps, Step, Tree, TreeFault, Why};
+pub use walk::{Place, Walk};

@@ -1,4 +1,6 @@
-ghost use Rattle.std.specs.Prelude.{◌≡◌, ℕ, ◌≤◌, List, [], ◌∷◌, ◌++◌, length, Some, None, IfOk, OnOk, OnErr, IsErrOf, slice_get, filter_map, map};
+//! The tree in memory.
+ghost use Rattle.std.specs.Prelude.{◌≡◌, ◌↔◌, IsTrue, ℕ, ◌≤◌, List, [], ◌∷◌, ◌++◌, length, Some, None, IfOk, OnOk, OnErr, IsErrOf, slice_get, filter_map, map, ⊤};
+ghost use Rattle.std.proofs.Common.{arith};
 ghost use Rattle.std.specs.Option.{option_copied, option_to_list};
 ghost use Rattle.std.specs.FinMap as fin;
 ghost use Rattle.pv_path.specs.Paths.{parent_of};
@@ -7,13 +9,15 @@ ghost use Rattle.pv_steps.specs.declared.tree.TreeFault.TheVariants.{Failed};
 ghost use Rattle.pv_steps.specs.Objects.{IsObject};
 ghost use Rattle.pv_steps.specs.Trees.{places, IsKind, IsTree, node_at, payload_at, names_below, child_name};
 ghost use Rattle.pv_steps.specs.Steps.{Can, StepFits, after};
-ghost use Rattle.pv_tree.specs.Entries.{IsSorted, places_in};
 ghost use Rattle.pv_tree.specs.Held.{root_alone};
 
 use crate::apply::{do_told, parts_fit};
-use crate::entry::Entry;
-use crate::list::{entry_at, put};
-use pv_path::{Bytes, Name, NameList, TreePath, names_under};
+use crate::children::Children;
+use crate::edits::put;
+use crate::slot::Slot;
+use crate::slots::{parent_slot, slot_at};
+use crate::walk::Walk;
+use pv_path::{Bytes, NameList, TreePath};
 use pv_steps::{Node, Object, Step, Tree, TreeFault};
 use std::alloc::{AllocError, Global};
 use std::marker::Model;
@@ -22,21 +26,24 @@ use std::marker::Model;
 #[derive(Drop)]
 pub struct MemTree {
     alloc: Global,
-    /// In the order of the paths, each path once.
-    entries: Vec<Entry>,
+    /// The root has the number 0.
+    slots: Vec<Slot>,
+    /// The numbers of slots to which no path leads.
+    free: Vec<usize>,
     steps: Vec<Step>,
 }
 
 impl Model for MemTree {
-    ghost use Rattle.pv_tree.specs.Held.{Held, held_code, files_of, IsTreeList};
+    ghost use Rattle.pv_tree.specs.Held.{Held, held_code};
+    ghost use Rattle.pv_tree.specs.Slots.{files_of, IsTreeOf};
 
     ghost Value = { Held };
 
     ghost coded = { held_code };
 
-    ghost view = { λ t. record { files = files_of t.entries.items; steps = t.steps.items } };
+    ghost view = { λ t. record { files = files_of t.slots.items; steps = t.steps.items } };
 
-    ghost invariant = { λ t. IsTreeList t.entries.items };
+    ghost invariant = { λ t. IsTreeOf t.slots.items t.free.items };
 }
 
 impl MemTree {
@@ -50,11 +57,15 @@ impl MemTree {
             node: root,
             payload: Bytes::new(alloc),
         };
-        let mut entries = Vec::new(alloc);
-        entries.push(Entry::new(TreePath::root(alloc), object))?;
+        let mut slots = Vec::new(alloc);
+        slots.push(Slot {
+            object,
+            children: Children::new(alloc),
+        })?;
         Ok(MemTree {
             alloc,
-            entries,
+            slots,
+            free: Vec::new(alloc),
             steps: Vec::new(alloc),
         })
     }
@@ -70,12 +81,21 @@ impl MemTree {
         }) }
         ensures err { OnErr result (self.new ≡ self.old) }
     {
-        let _names = path.names();
         let payload = Bytes::copy_of(self.alloc, payload)?;
-        put(
-            &mut self.entries,
-            Entry::new(path.copy()?, Object { node, payload }),
-        )
+        self.add_object(path, Object { node, payload })
+    }
+
+    /// Puts an object at an absent path in a directory, as `add` does, and takes its payload over.
+    pub fn add_object(&mut self, path: &TreePath, object: Object) -> Result<(), AllocError>
+        requires absent { places self.old.files path.now ≡ None }
+        requires parent { IsKind Directory self.old.files (parent_of path.now) }
+        requires object { IsObject object }
+        ensures ok { OnOk result (self.new ≡ record self.old { files = fin.insert self.old.files path.now object }) }
+        ensures err { OnErr result (self.new ≡ self.old) }
+    {
+        let _names = path.names();
+        put(self.alloc, &mut self.slots, &mut self.free, path, object)?;
+        Ok(())
     }
 
     /// The node at a path, or nothing where the path is absent. It takes no memory.
@@ -83,8 +103,8 @@ impl MemTree {
         ensures node { option_copied result ≡ node_at self.now.files path.now }
         ensures tree { IsTree self.now.files }
     {
-        match entry_at(&self.entries, path) {
-            Some(entry) => Some(entry.node()),
+        match slot_at(&self.slots, path) {
+            Some(slot) => Some(&slot.object.node),
             None => None,
         }
     }
@@ -94,7 +114,10 @@ impl MemTree {
         requires { IsKind Directory self.now.files path.now }
         ensures { IfOk result (λ names. names ≡ names_below self.now.files path.now) }
     {
-        names_in(alloc, &self.entries, path)
+        match slot_at(&self.slots, path) {
+            Some(slot) => slot.children.names(alloc),
+            None => unreachable!(),
+        }
     }
 
     /// The bytes of a file, the target of a link, or no bytes for what is neither; nothing where the path
@@ -102,18 +125,28 @@ impl MemTree {
     pub fn payload_at(&self, path: &TreePath) -> Option<&[u8]>
         ensures { option_copied result ≡ payload_at self.now.files path.now }
     {
-        match entry_at(&self.entries, path) {
-            Some(entry) => Some(entry.payload()),
+        match slot_at(&self.slots, path) {
+            Some(slot) => Some(slot.object.payload.as_slice()),
             None => None,
         }
     }
 
-    /// How many objects the tree has.
-    pub fn len(&self) -> usize
-        ensures count { result ≡ fin.len self.now.files }
+    /// Whether the directory that a path lies in is there. It takes no memory.
+    pub fn has_parent(&self, path: &TreePath) -> bool
+        ensures { IsTrue result ↔ IsKind Directory self.now.files (parent_of path.now) }
+    {
+        match parent_slot(&self.slots, path) {
+            Some(slot) => slot.object.node.kind.is_directory(),
+            None => false,
+        }
+    }
+
+    /// A walk over the tree, which stands at the root.
+    pub fn walk(&self, alloc: Global) -> Result<Walk<'_>, AllocError>
+        ensures entries { IfOk result (λ walk. walk ≡ fin.entries self.now.files) }
         ensures tree { IsTree self.now.files }
     {
-        self.entries.len()
+        Walk::of(alloc, &self.slots)
     }
 
     /// How many steps were done since the tree was made. It takes no memory.
@@ -121,14 +154,6 @@ impl MemTree {
         ensures { result ≡ length self.now.steps }
     {
         self.steps.len()
-    }
-
-    /// The entry at a place in the order of the paths, counted from 0, or nothing past the end.
-    pub fn entry(&self, i: usize) -> Option<&Entry>
-        ensures entry { option_copied result ≡ slice_get (fin.entries self.now.files) i }
-        ensures tree { IsTree self.now.files }
-    {
-        self.entries.get(i)
     }
 }
 
@@ -138,6 +163,8 @@ impl Tree for MemTree {
     ghost steps = { λ t. t.steps };
 
     ghost faults = { λ t. 0 };
+
+    ghost reaches = { λ _ _. ⊤ };
 
     fn look(&self, path: &TreePath) -> Option<&Node>
         ensures node { option_copied result ≡ node_at self.now.files path.now }
@@ -176,37 +203,19 @@ impl Tree for MemTree {
         ensures cause { IsErrOf result Failed → ⊥ }
     {
         parts_fit(step);
-        do_told(self.alloc, &mut self.entries, &mut self.steps, step, now)
+        do_told(
+            self.alloc,
+            &mut self.slots,
+            &mut self.free,
+            &mut self.steps,
+            step,
+            now,
+        )
     }
-}
 
-/// The names directly below a path.
-fn names_in(alloc: Global, entries: &Vec<Entry>, path: &TreePath) -> Result<NameList, AllocError>
-    ensures { IfOk result (λ names. names ≡ filter_map (child_name path.now) (map (λ e. e.0) entries.now.items)) }
-{
-    let mut names = NameList::new(alloc);
-    for entry in entries {
-        add_name(&mut names, child_name(path, entry.path()))?;
-    }
-    Ok(names)
-}
+    ghost reaches_self = { λ _. tt };
 
-/// Adds a copy of a name, if there is one.
-fn add_name(names: &mut NameList, name: Option<&Name>) -> Result<(), AllocError>
-    ensures { OnOk result (names.new ≡ names.old ++ option_to_list (option_copied name.entry)) }
-{
-    match name {
-        Some(name) => names.push(name.copy()?),
-        None => Ok(()),
-    }
-}
+    ghost reaches_on = { λ _ _ _ _ _. tt };
 
-/// The name by which a path lies directly below another.
-fn child_name<'a>(path: &TreePath, other: &'a TreePath) -> Option<&'a Name>
-    ensures { option_copied result ≡ child_name path.now other.now }
-{
-    match names_under(path.names(), other.names()) {
-        Some([name]) => Some(name),
-        _ => None,
-    }
+    ghost never_falls = { λ _ _ _. Prim.omega arith };
 }

@@ -1,3 +1,4 @@
+//! Tests of the tree in memory and of fuses.
 ghost use Rattle.std.specs.Prelude.{◌≡◌, ◌≢◌, ℕ, ◌^◌, ◌<◌, ◌≤◌, List, [], ◌∷◌, map, length, true, false};
 ghost use Rattle.std.specs.Ordering.{nat_cmp};
 ghost use Rattle.pv_path.specs.Paths.{is_prefix, parent_of};
@@ -9,9 +10,10 @@ ghost use Rattle.pv_steps.specs.Steps.{HasRoom, IsOther};
 ghost use Rattle.pv_tree.specs.Finding.{IsRising};
 
 use super::*;
-use crate::make::{fresh, plain};
+use crate::edits::{fresh, plain};
 use pv_acl::{Acl, print_acl, read_acl};
-use pv_path::{Bytes, TreePath, is_prefix, parent, parse_path};
+use pv_path::{Bytes, Name, TreePath, is_prefix, parent, parse_path};
+use pv_steps::{Attr, AttrList, LetterSet, is_attr};
 use std::alloc::Global;
 use std::cmp::Ordering;
 use std::process::Abort;
@@ -245,6 +247,33 @@ fn set_acl(
     tree.step(&Step::SetAcl { path, acl }, now)
 }
 
+fn set_attrs(
+    rt: &impl Abort,
+    alloc: Global,
+    tree: &mut MemTree,
+    text: &[u8],
+    attrs: AttrList,
+    now: u64,
+) -> Result<(), TreeFault> {
+    let path = path_of(rt, alloc, text);
+    expect_other(rt, tree, &path, Kind::Link);
+    let _allowed = attrs.as_slice();
+    tree.step(&Step::SetAttrs { path, attrs }, now)
+}
+
+fn set_letters(
+    rt: &impl Abort,
+    alloc: Global,
+    tree: &mut MemTree,
+    text: &[u8],
+    letters: LetterSet,
+    now: u64,
+) -> Result<(), TreeFault> {
+    let path = path_of(rt, alloc, text);
+    expect_kind(rt, tree, &path, Kind::File);
+    tree.step(&Step::SetLetters { path, letters }, now)
+}
+
 fn set_stamps(
     rt: &impl Abort,
     alloc: Global,
@@ -417,6 +446,24 @@ fn holds(rt: &impl Abort, alloc: Global, tree: &MemTree, text: &[u8], bytes: &[u
         .is_some_and(|payload| payload == bytes)
 }
 
+/// Whether names are those of the path that a text spells.
+fn are_names(rt: &impl Abort, alloc: Global, names: &[Name], text: &[u8]) -> bool {
+    path_of(rt, alloc, text).names() == names
+}
+
+/// Stops unless a tree has these paths, in this order.
+fn expect_walk(rt: &impl Abort, alloc: Global, tree: &MemTree, paths: &[&[u8]]) {
+    let mut walk = tree.walk(alloc).expect(rt, "memory");
+    for path in paths {
+        match walk.place() {
+            Some(place) => assert!(rt; are_names(rt, alloc, place.names, path)),
+            None => panic!(rt; "the end"),
+        }
+        walk.advance().expect(rt, "memory");
+    }
+    assert!(rt; walk.place().is_none());
+}
+
 /// A root directory of root, with its mode and its stamps.
 fn root_seen(mode: u16, stamps: [u64; 4]) -> Option<Seen> {
     Some((Kind::Directory, mode, [0, 0, 0, 0], stamps))
@@ -500,6 +547,45 @@ fn changes_files(rt: HostRuntime) {
     assert_eq!(rt; tree.step_count(), 5);
 }
 
+/// The list of one attribute.
+fn attr_of(rt: &impl Abort, alloc: Global, name: &[u8], value: &[u8]) -> AttrList {
+    let name = Bytes::copy_of(alloc, name).expect(rt, "memory");
+    let value = Bytes::copy_of(alloc, value).expect(rt, "memory");
+    assert!(rt; is_attr(name.as_slice(), value.as_slice()));
+    let mut attrs = AttrList::new(alloc);
+    attrs.put(Attr { name, value }).expect(rt, "memory");
+    attrs
+}
+
+/// Whether the object at a path has this one attribute and this one letter.
+fn has_attr(rt: &impl Abort, alloc: Global, tree: &MemTree, name: &[u8], letter: u8) -> bool {
+    let path = path_of(rt, alloc, b"/f");
+    match tree.look(&path) {
+        Some(node) => match node.attrs.as_slice() {
+            [attr] => attr.name.as_slice() == name && node.letters.has(letter),
+            _ => false,
+        },
+        None => false,
+    }
+}
+
+#[test]
+fn sets_attributes_and_letters(rt: HostRuntime) {
+    let alloc = rt.alloc();
+    let mut tree = root_tree(&rt, alloc);
+    assert_eq!(rt; make_file(&rt, alloc, &mut tree, b"/f", 2), Ok(()));
+    let attrs = attr_of(&rt, alloc, b"user.a", b"1");
+    assert_eq!(rt; set_attrs(&rt, alloc, &mut tree, b"/f", attrs, 3), Ok(()));
+    let letters = LetterSet::of(b'i').expect(&rt, "a letter");
+    assert_eq!(rt;
+        set_letters(&rt, alloc, &mut tree, b"/f", letters, 4),
+        Ok(())
+    );
+    assert!(rt; has_attr(&rt, alloc, &tree, b"user.a", b'i'));
+    let set = (Kind::File, 0o600, [0, 0, 0, 0], [2, 2, 4, 2]);
+    assert_eq!(rt; seen(&rt, alloc, &tree, b"/f"), Some(set));
+}
+
 #[test]
 fn modes_leave_named_entries(rt: HostRuntime) {
     let alloc = rt.alloc();
@@ -558,7 +644,7 @@ fn moves_and_removes(rt: HostRuntime) {
         seen(&rt, alloc, &tree, b"/"),
         root_seen(0o755, [0, 0, 5, 5])
     );
-    assert_eq!(rt; tree.len(), 1);
+    expect_walk(&rt, alloc, &tree, &[b"/"]);
 }
 
 #[test]
@@ -588,7 +674,7 @@ fn moves_over_a_file(rt: HostRuntime) {
         seen(&rt, alloc, &tree, b"/"),
         root_seen(0o755, [0, 0, 6, 6])
     );
-    assert_eq!(rt; tree.len(), 3);
+    expect_walk(&rt, alloc, &tree, &[b"/", b"/d", b"/d/f"]);
 }
 
 #[test]
@@ -615,7 +701,7 @@ fn moves_over_an_empty_directory(rt: HostRuntime) {
         seen(&rt, alloc, &tree, b"/"),
         root_seen(0o755, [0, 0, 4, 4])
     );
-    assert_eq!(rt; tree.len(), 3);
+    expect_walk(&rt, alloc, &tree, &[b"/", b"/a", b"/a/f"]);
 }
 
 #[test]
@@ -640,7 +726,7 @@ fn lists_in_order(rt: HostRuntime) {
         seen(&rt, alloc, &tree, b"/b!"),
         Some((Kind::File, 0o644, [0, 0, 0, 0], [3, 3, 3, 3]))
     );
-    assert_eq!(rt; tree.len(), 5);
+    expect_walk(&rt, alloc, &tree, &[b"/", b"/Z", b"/a", b"/b", b"/b!"]);
     assert_eq!(rt; tree.step_count(), 0);
 }
 
@@ -687,24 +773,36 @@ fn lends_payloads(rt: HostRuntime) {
 #[test]
 fn stops_after_the_limit(rt: HostRuntime) {
     let alloc = rt.alloc();
-    for (limit, first, second, stopped, count) in [
-        (None, Ok(()), Ok(()), false, 3),
+    for (limit, first, second, stopped, paths) in [
+        (
+            None,
+            Ok(()),
+            Ok(()),
+            false,
+            [b"/".as_slice(), b"/a", b"/b"].as_slice(),
+        ),
         (
             Some(0),
             Err(TreeFault::Failed),
             Err(TreeFault::Failed),
             true,
-            1,
+            &[b"/"],
         ),
-        (Some(1), Ok(()), Err(TreeFault::Failed), true, 2),
-        (Some(2), Ok(()), Ok(()), false, 3),
+        (
+            Some(1),
+            Ok(()),
+            Err(TreeFault::Failed),
+            true,
+            &[b"/", b"/a"],
+        ),
+        (Some(2), Ok(()), Ok(()), false, &[b"/", b"/a", b"/b"]),
     ] {
         let mut tree = Fused::new(root_tree(&rt, alloc), limit);
         assert_eq!(rt; make_dir(&rt, alloc, &mut tree, b"/a", 1), first);
         assert_eq!(rt; make_dir(&rt, alloc, &mut tree, b"/b", 2), second);
         assert_eq!(rt; tree.stopped(), stopped);
-        assert_eq!(rt; tree.inner().len(), count);
-        assert_eq!(rt; tree.into_inner().len(), count);
+        expect_walk(&rt, alloc, tree.inner(), paths);
+        expect_walk(&rt, alloc, &tree.into_inner(), paths);
     }
 }
 

@@ -1,0 +1,45 @@
+use Rattle.std.proofs.Common.{◌≡◌, Some, List, ℕ, subst, sym, ◌∙◌, arith}
+use Rattle.pv_steps.specs.Steps.{moved}
+use Rattle.pv_tree.specs.Edges.{IsSet}
+use Rattle.pv_tree.specs.Slots.{child_in, number_in, places_in}
+use Rattle.pv_tree.proofs.ForestLaws.{Kept, rename_kept, no_root, present_child, number_of_child}
+use Rattle.pv_tree.proofs.edits.rename.Goals as goal
+
+pub location-target-requires-clause-no_root : goal.location-target-requires-clause-no_root
+location-target-requires-clause-no_root c = no_root (places_in c.args.slots.now.items) c.args.from.now c.args.to.now c.requires.tree c.requires.movable
+
+pub unreachable-requires : goal.unreachable-requires
+unreachable-requires c =
+    present_child c.args.slots.now.items c.location-source.result.0 c.location-source.result.1.now c.args.from.now c.requires.forest c.location-source.ensures.number c.location-source.ensures.name
+    c.requires.movable.present (sym c.in_default.ensures)
+
+pub renew-requires : goal.renew-requires
+renew-requires c =
+    let at : number_in c.args.slots.now.items c.args.from.now ≡ Some c.in-Some.number =
+    number_of_child c.args.slots.now.items c.location-source.result.0 c.location-source.result.1.now c.args.from.now c.location-source.ensures.number c.location-source.ensures.name ∙ sym c.in-Some.ensures in
+    let small = c.requires.forest.within c.args.from.now c.in-Some.number at in
+    omega (arith, small, c.put_child.ensures.length, c.remove_child.ensures.length, c.touch.ensures.length, c.touch-2.ensures.length)
+
+edges : (c : goal.After-release) → IsSet c.location-target.result.0 c.location-target.result.1.now (Some c.in-Some.number) (child_in c.args.slots.now.items) (child_in c.put_child.new.slots.items)
+edges c = subst (λ (n : List ℕ). IsSet c.location-target.result.0 n (Some c.in-Some.number) (child_in c.args.slots.now.items) (child_in c.put_child.new.slots.items)) c.in_ok-copy.ensures c.in_ok-replaced.ensures.edges
+
+kept : (c : goal.After-release) → Kept c.renew.new.slots.items c.release.new.free.items (moved c.args.now c.args.from.now c.args.to.now (places_in c.args.slots.now.items))
+kept c = rename_kept c.args.slots.now.items c.put_child.new.slots.items c.remove_child.new.slots.items c.touch.new.slots.items c.touch-2.new.slots.items c.renew.new.slots.items
+    c.args.free.now.items c.reserve.new.self.items c.release.new.free.items c.args.now c.location-source.result.0 c.location-target.result.0 c.in-Some.number c.in_ok-replaced.replaced
+    c.location-source.result.1.now c.location-target.result.1.now c.args.from.now c.args.to.now c.requires.forest c.requires.free
+    c.location-source.ensures.number c.location-source.ensures.name c.location-target.ensures.number c.location-target.ensures.name c.in-Some.ensures c.requires.movable.outside
+    (edges c) c.put_child.ensures.objects c.put_child.ensures.length
+    (subst (λ (n : List ℕ). c.in_ok-replaced.replaced ≡ child_in c.args.slots.now.items c.location-target.result.0 n) c.in_ok-copy.ensures c.in_ok-replaced.ensures.old)
+    c.remove_child.ensures.edges c.remove_child.ensures.objects c.remove_child.ensures.length
+    c.touch.ensures.objects c.touch.ensures.edges c.touch.ensures.length
+    c.touch-2.ensures.objects c.touch-2.ensures.edges c.touch-2.ensures.length
+    c.renew.ensures.objects c.renew.ensures.edges c.renew.ensures.length c.reserve.ensures.items c.release.ensures
+
+pub returns-clause-forest : goal.returns-clause-forest
+returns-clause-forest c = (kept c).forest
+
+pub returns-clause-free : goal.returns-clause-free
+returns-clause-free c = (kept c).spare
+
+pub returns-clause-ok : goal.returns-clause-ok
+returns-clause-ok c = (kept c).places

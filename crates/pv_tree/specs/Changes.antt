@@ -1,0 +1,26 @@
+-- What a step that changes one object leaves of it (chmod(2), chown(2), setxattr(2), chattr(1),
+-- utimensat(2), write(2); acl(5)).
+use Rattle.std.specs.Prelude.{◌≢◌, ℕ, List, [], ◌∷◌, ◌++◌}
+use Rattle.pv_path.specs.Paths.{Path, parent_of}
+use Rattle.pv_steps.specs.declared.object.Object.{Object}
+use Rattle.pv_steps.specs.declared.step.Step.{Step}
+use Rattle.pv_steps.specs.declared.step.Step.TheVariants.{Write, SetMode, SetOwner, SetAcl, SetAttrs, SetLetters, SetStamps}
+use Rattle.pv_steps.specs.Trees.{Places, IsPresentIn, IsAbsentIn}
+use Rattle.pv_steps.specs.Objects.{with_mode, with_owner, with_acl, with_attrs, with_letters, with_stamps, with_content}
+
+-- the object after the step; each other kind of step leaves it as it is
+abbrev pub change_of : Step → ℕ → Object → Object
+change_of (Write path content) now o = with_content content now o
+change_of (SetMode path mode) now o = with_mode mode now o
+change_of (SetOwner path uid gid) now o = with_owner uid gid now o
+change_of (SetAcl path acl) now o = with_acl acl now o
+change_of (SetAttrs path attrs) now o = with_attrs attrs now o
+change_of (SetLetters path letters) now o = with_letters letters now o
+change_of (SetStamps path access modify) now o = with_stamps access modify now o
+change_of step now o = o
+
+-- an object in a directory, below which nothing lies
+pub record IsRemovable (t : Places) (path : Path) : Type 0 where
+  pub no_root : path ≢ []
+  pub parent : IsPresentIn t (parent_of path)
+  pub alone : (name : List ℕ) (rest : Path) → IsAbsentIn t (path ++ name ∷ rest)

@@ -1,0 +1,197 @@
+//! The children of a directory: names with the numbers of their slots, in byte order of the names.
+ghost use Rattle.std.specs.Prelude.{◌≡◌, ℕ, ◌+◌, ◌^◌, ◌<◌, ◌≤◌, List, [], ◌++◌, ◌∷◌, length, map, Some, IfOk, IfSome, IfErr, OnOk, OnErr, MatchResult, slice_get, true};
+ghost use Rattle.std.specs.Option.{option_copied};
+ghost use Rattle.std.specs.FinMap as fin;
+ghost use Rattle.pv_tree.specs.Finding.{IsFoundAt, IsGapAt};
+ghost use Rattle.pv_tree.specs.Children.{name_cmp, IsSorted, orders_of, without};
+
+use crate::probe::{Probe, find, place_of};
+use pv_path::{Name, NameList};
+use std::alloc::{AllocError, Global};
+use std::cmp::Ordering;
+use std::marker::Model;
+use std::mem::replace;
+
+/// The names of children beside one that is sought.
+#[derive(Drop)]
+struct NameProbe<'a> {
+    entries: &'a [(Name, usize)],
+    name: &'a Name,
+    left: u32,
+}
+
+impl<'a> Probe for NameProbe<'a> {
+    ghost orders = { λ p. orders_of p.name.now p.entries.now };
+
+    ghost left = { λ p. p.left };
+
+    fn compare(&mut self, i: usize) -> Ordering {
+        self.left -= 1;
+        self.entries[i].0.cmp(self.name)
+    }
+}
+
+/// The number that stands at a name, or nothing where it is absent. It asks at most 64 questions.
+fn number_of(entries: &Vec<(Name, usize)>, name: &Name) -> Option<usize>
+    requires { IsSorted entries.now.items }
+    ensures { result ≡ fin.find name_cmp name.now entries.now.items }
+{
+    let mut probe = NameProbe {
+        entries: entries.as_slice(),
+        name,
+        left: 64,
+    };
+    match find(&mut probe, entries.len()) {
+        Some(i) => Some(entries[i].1),
+        None => None,
+    }
+}
+
+/// Whether each name stands before one.
+fn is_after_all(entries: &Vec<(Name, usize)>, name: &Name) -> bool
+    requires { IsSorted entries.now.items }
+    ensures { result ≡ true → IsGapAt (orders_of name.now entries.now.items) (length entries.now.items) }
+{
+    match entries.last() {
+        Some(last) => last.0.cmp(name).is_lt(),
+        None => true,
+    }
+}
+
+/// The place of a name, or else the place at which it would be put. A name after all others costs one
+/// question.
+fn place(entries: &Vec<(Name, usize)>, name: &Name) -> Result<usize, usize>
+    requires { IsSorted entries.now.items }
+    ensures found { IfOk result (IsFoundAt (orders_of name.now entries.now.items)) }
+    ensures gap { IfErr result (IsGapAt (orders_of name.now entries.now.items)) }
+    ensures within { MatchResult result (λ i. i < length entries.now.items) (λ i. i ≤ length entries.now.items) }
+{
+    if is_after_all(entries, name) {
+        return Err(entries.len());
+    }
+    let mut probe = NameProbe {
+        entries: entries.as_slice(),
+        name,
+        left: 64,
+    };
+    place_of(&mut probe, entries.len())
+}
+
+/// Puts a number at a name, and gives back the one that stood there.
+fn put_in(
+    entries: &mut Vec<(Name, usize)>,
+    name: Name,
+    number: usize,
+) -> Result<Option<usize>, AllocError>
+    requires { IsSorted entries.old.items }
+    ensures ok { OnOk result (entries.new.items ≡ fin.put name_cmp name number entries.old.items) }
+    ensures old { IfOk result (λ old. old ≡ fin.find name_cmp name entries.old.items) }
+    ensures err { OnErr result (entries.new.items ≡ entries.old.items) }
+{
+    match place(entries, &name) {
+        Ok(i) => {
+            let entry = &mut entries[i];
+            Ok(Some(replace(&mut entry.1, number)))
+        }
+        Err(i) => {
+            entries.insert(i, (name, number))?;
+            Ok(None)
+        }
+    }
+}
+
+/// Takes the entry of a name out, where there is one.
+fn take_out(entries: &mut Vec<(Name, usize)>, name: &Name) -> Option<usize>
+    requires { IsSorted entries.old.items }
+    ensures items { entries.new.items ≡ without name.now entries.old.items }
+    ensures old { result ≡ fin.find name_cmp name.now entries.old.items }
+{
+    match place(entries, name) {
+        Ok(i) => Some(entries.remove(i).1),
+        Err(_) => None,
+    }
+}
+
+/// The children of a directory. Clauses see the map from their names to their numbers.
+#[derive(Drop)]
+pub(crate) struct Children {
+    /// In byte order of the names, each name once.
+    entries: Vec<(Name, usize)>,
+}
+
+impl Model for Children {
+    ghost use Rattle.std.specs.FinMap as fin;
+    ghost use Rattle.pv_tree.specs.Children as kids;
+    ghost use Rattle.pv_tree.specs.Children.{children_code, IsSorted};
+
+    ghost Value = { kids.Children };
+
+    ghost coded = { children_code };
+
+    ghost view = { λ c. fin.from_sorted c.entries.items };
+
+    ghost invariant = { λ c. IsSorted c.entries.items };
+}
+
+impl Children {
+    /// No children. It takes no memory.
+    pub(crate) fn new(alloc: Global) -> Children
+        ensures { result ≡ fin.empty }
+    {
+        Children {
+            entries: Vec::new(alloc),
+        }
+    }
+
+    /// The number of the child with a name, or nothing where there is none. It takes no memory.
+    pub(crate) fn get(&self, name: &Name) -> Option<usize>
+        ensures { result ≡ fin.get self.now name.now }
+    {
+        number_of(&self.entries, name)
+    }
+
+    /// Puts a child at a name, and gives back the number of the one that it replaces. After want of memory
+    /// the children are as before.
+    pub(crate) fn put(&mut self, name: Name, number: usize) -> Result<Option<usize>, AllocError>
+        ensures ok { OnOk result (self.new ≡ fin.insert self.old name number) }
+        ensures old { IfOk result (λ old. old ≡ fin.get self.old name) }
+        ensures err { OnErr result (self.new ≡ self.old) }
+    {
+        put_in(&mut self.entries, name, number)
+    }
+
+    /// Takes the child with a name out, and gives back its number, where there is one.
+    pub(crate) fn remove(&mut self, name: &Name) -> Option<usize>
+        ensures items { self.new ≡ fin.remove self.old name.now }
+        ensures old { result ≡ fin.get self.old name.now }
+    {
+        take_out(&mut self.entries, name)
+    }
+
+    /// The names, in byte order.
+    pub(crate) fn names(&self, alloc: Global) -> Result<NameList, AllocError>
+        ensures { IfOk result (λ names. names ≡ fin.keys self.now) }
+    {
+        names_of(alloc, &self.entries)
+    }
+
+    /// The child at a place in byte order of the names, counted from 0, or nothing past the end. It takes
+    /// no memory.
+    pub(crate) fn child(&self, i: usize) -> Option<&(Name, usize)>
+        ensures child { option_copied result ≡ slice_get (fin.entries self.now) i }
+        ensures within { IfSome result (λ _. i + 1 < 2 ^ 64) }
+    {
+        self.entries.get(i)
+    }
+}
+
+/// Copies of the names of entries.
+fn names_of(alloc: Global, entries: &Vec<(Name, usize)>) -> Result<NameList, AllocError>
+    ensures { IfOk result (λ names. names ≡ map (λ e. e.0) entries.now.items) }
+{
+    let mut names = NameList::new(alloc);
+    for entry in entries {
+        names.push(entry.0.copy()?)?;
+    }
+    Ok(names)
+}

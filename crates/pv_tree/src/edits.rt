@@ -1,0 +1,196 @@
+//! The edits of the tree: an object changes, comes, goes, or moves with all that lies below it.
+ghost use Rattle.std.specs.Prelude.{◌≡◌, ◌≢◌, ℕ, ◌<◌, List, [], ◌∷◌, ◌++◌, vec_len, vec_capacity, Some, IfOk, OnOk, OnErr};
+ghost use Rattle.std.specs.Option.{option_to_list};
+ghost use Rattle.pv_path.specs.Paths.{parent_of};
+ghost use Rattle.pv_steps.specs.Objects.{fresh};
+ghost use Rattle.pv_steps.specs.Trees.{IsPresentIn, IsTreeIn};
+ghost use Rattle.pv_steps.specs.Steps.{HasRoom, Movable, put_at, on_at, made, gone, moved};
+ghost use Rattle.pv_tree.specs.Changes.{IsRemovable, change_of};
+ghost use Rattle.pv_tree.specs.Slots.{IsForest, AreFree, number_in, places_in};
+
+use crate::slot::Slot;
+use crate::slots::{
+    change_slot, child_of, location, next_number, number_at, place, push_within, put_child,
+    remove_child, renew, touch,
+};
+use pv_acl::Acl;
+use pv_path::{Bytes, TreePath};
+use pv_steps::{AttrList, Kind, LetterSet, Node, Object, Stamps, Step, special_bits};
+use std::alloc::{AllocError, Global};
+
+/// A new object that root owns, with a device's numbers. It takes no memory.
+pub(crate) fn fresh(
+    alloc: Global,
+    kind: Kind,
+    mode: u16,
+    payload: Bytes,
+    major: u32,
+    minor: u32,
+    now: u64,
+) -> Object
+    ensures { result ≡ fresh kind mode payload major minor now }
+{
+    Object {
+        node: Node {
+            kind,
+            special: special_bits(mode),
+            uid: 0,
+            gid: 0,
+            acl: Acl::of_mode(alloc, mode),
+            stamps: Stamps {
+                access: now,
+                birth: now,
+                change: now,
+                modify: now,
+            },
+            major,
+            minor,
+            attrs: AttrList::new(alloc),
+            letters: LetterSet::new(),
+        },
+        payload,
+    }
+}
+
+/// A new object without a payload, which is no device.
+pub(crate) fn plain(alloc: Global, kind: Kind, mode: u16, now: u64) -> Object
+    ensures { result ≡ fresh kind mode [] 0 0 now }
+{
+    fresh(alloc, kind, mode, Bytes::new(alloc), 0, 0, now)
+}
+
+/// Puts an object at an absent path in a directory, and gives the number of the directory. After want of
+/// memory the slots are as before.
+pub(crate) fn put(
+    alloc: Global,
+    slots: &mut Vec<Slot>,
+    free: &mut Vec<usize>,
+    path: &TreePath,
+    object: Object,
+) -> Result<usize, AllocError>
+    requires forest { IsForest slots.old.items }
+    requires free { AreFree slots.old.items free.old.items }
+    requires room { HasRoom (places_in slots.old.items) path.now }
+    ensures forest { IsForest slots.new.items }
+    ensures free { AreFree slots.new.items free.new.items }
+    ensures ok { OnOk result (places_in slots.new.items ≡ put_at path.now (Some object) (places_in slots.old.items)) }
+    ensures directory { IfOk result (λ k. number_in slots.new.items (parent_of path.now) ≡ Some k) }
+    ensures err { OnErr result (slots.new.items ≡ slots.old.items) }
+{
+    let (directory, name) = location(slots, path);
+    slots.reserve(1)?;
+    let number = next_number(slots, free);
+    put_child(slots, directory, name.copy()?, number)?;
+    place(alloc, slots, free, object);
+    Ok(directory)
+}
+
+/// Puts a new object at an absent path in a directory, and notes it there. After want of memory the slots
+/// are as before.
+pub(crate) fn make(
+    alloc: Global,
+    slots: &mut Vec<Slot>,
+    free: &mut Vec<usize>,
+    path: &TreePath,
+    object: Object,
+    now: u64,
+) -> Result<(), AllocError>
+    requires forest { IsForest slots.old.items }
+    requires free { AreFree slots.old.items free.old.items }
+    requires room { HasRoom (places_in slots.old.items) path.now }
+    ensures forest { IsForest slots.new.items }
+    ensures free { AreFree slots.new.items free.new.items }
+    ensures ok { OnOk result (places_in slots.new.items ≡ made now path.now object (places_in slots.old.items)) }
+    ensures err { OnErr result (slots.new.items ≡ slots.old.items) }
+{
+    let directory = put(alloc, slots, free, path, object)?;
+    touch(slots, directory, now);
+    Ok(())
+}
+
+/// Does a step that changes the object at a path, where there is one. After want of memory the slots are
+/// as before.
+pub(crate) fn change_at(
+    slots: &mut Vec<Slot>,
+    path: &TreePath,
+    step: &Step,
+    now: u64,
+) -> Result<(), AllocError>
+    requires { IsForest slots.old.items }
+    ensures forest { IsForest slots.new.items }
+    ensures free { (free : List ℕ) → AreFree slots.old.items free → AreFree slots.new.items free }
+    ensures ok { OnOk result
+        (places_in slots.new.items ≡ on_at path.now (change_of step.now now) (places_in slots.old.items)) }
+    ensures err { OnErr result (slots.new.items ≡ slots.old.items) }
+{
+    match number_at(slots, path.names()) {
+        Some(number) => change_slot(slots, number, step, now),
+        None => Ok(()),
+    }
+}
+
+/// Adds a number to those that are free, if there is one. There must be room.
+fn release(free: &mut Vec<usize>, number: Option<usize>)
+    requires { vec_len free.old < vec_capacity free.old }
+    ensures { free.new.items ≡ free.old.items ++ option_to_list number }
+{
+    if let Some(number) = number {
+        push_within(free, number);
+    }
+}
+
+/// Takes the object at a path away, below which nothing lies, and notes it at its directory. After want of
+/// memory the slots are as before.
+pub(crate) fn unmake(
+    slots: &mut Vec<Slot>,
+    free: &mut Vec<usize>,
+    path: &TreePath,
+    now: u64,
+) -> Result<(), AllocError>
+    requires forest { IsForest slots.old.items }
+    requires free { AreFree slots.old.items free.old.items }
+    requires removable { IsRemovable (places_in slots.old.items) path.now }
+    ensures forest { IsForest slots.new.items }
+    ensures free { AreFree slots.new.items free.new.items }
+    ensures ok { OnOk result (places_in slots.new.items ≡ gone now path.now (places_in slots.old.items)) }
+    ensures err { OnErr result (slots.new.items ≡ slots.old.items) }
+{
+    free.reserve(1)?;
+    let (directory, name) = location(slots, path);
+    let number = remove_child(slots, directory, name);
+    touch(slots, directory, now);
+    release(free, number);
+    Ok(())
+}
+
+/// Moves what stands at and below a path to another. After want of memory the slots are as before.
+pub(crate) fn rename(
+    slots: &mut Vec<Slot>,
+    free: &mut Vec<usize>,
+    from: &TreePath,
+    to: &TreePath,
+    now: u64,
+) -> Result<(), AllocError>
+    requires forest { IsForest slots.old.items }
+    requires free { AreFree slots.old.items free.old.items }
+    requires tree { IsTreeIn (places_in slots.old.items) }
+    requires movable { Movable (places_in slots.old.items) from.now to.now }
+    ensures forest { IsForest slots.new.items }
+    ensures free { AreFree slots.new.items free.new.items }
+    ensures ok { OnOk result (places_in slots.new.items ≡ moved now from.now to.now (places_in slots.old.items)) }
+    ensures err { OnErr result (slots.new.items ≡ slots.old.items) }
+{
+    free.reserve(1)?;
+    let (source, old_name) = location(slots, from);
+    let (target, new_name) = location(slots, to);
+    let Some(number) = child_of(slots, source, old_name) else {
+        unreachable!();
+    };
+    let replaced = put_child(slots, target, new_name.copy()?, number)?;
+    remove_child(slots, source, old_name);
+    touch(slots, target, now);
+    touch(slots, source, now);
+    renew(slots, number, now);
+    release(free, replaced);
+    Ok(())
+}

@@ -1,0 +1,79 @@
+//! One numbered slot of the tree, and what is changed in it.
+ghost use Rattle.std.specs.Prelude.{◌≡◌, ℕ, OnOk, OnErr};
+ghost use Rattle.pv_steps.specs.Objects.{modified, changed};
+ghost use Rattle.pv_tree.specs.Changes.{change_of};
+
+use crate::children::Children;
+use pv_steps::{Object, Step, special_bits};
+use std::alloc::AllocError;
+
+/// An object with the numbers of its children by name, of which only a directory has any.
+#[derive(Drop)]
+pub(crate) struct Slot {
+    pub(crate) object: Object,
+    pub(crate) children: Children,
+}
+
+/// Notes at a directory that it gained or lost a child.
+pub(crate) fn note_content(object: &mut Object, now: u64)
+    ensures { object.new ≡ modified now object.old }
+{
+    let stamps = &mut object.node.stamps;
+    stamps.change = now;
+    stamps.modify = now;
+}
+
+/// Notes at an object that it got a new name.
+pub(crate) fn note_name(object: &mut Object, now: u64)
+    ensures { object.new ≡ changed now object.old }
+{
+    object.node.stamps.change = now;
+}
+
+/// Does a step that changes one object. After want of memory the object is as before.
+pub(crate) fn change(object: &mut Object, step: &Step, now: u64) -> Result<(), AllocError>
+    ensures ok { OnOk result (object.new ≡ change_of step.now now object.old) }
+    ensures err { OnErr result (object.new ≡ object.old) }
+{
+    match step {
+        Step::Write { content, .. } => {
+            object.payload = content.copy()?;
+            note_content(object, now);
+        }
+        Step::SetMode { mode, .. } => {
+            let node = &mut object.node;
+            node.special = special_bits(*mode);
+            node.acl.access.set_base(*mode);
+            node.stamps.change = now;
+        }
+        Step::SetOwner { uid, gid, .. } => {
+            let node = &mut object.node;
+            node.uid = *uid;
+            node.gid = *gid;
+            node.stamps.change = now;
+        }
+        Step::SetAcl { acl, .. } => {
+            let node = &mut object.node;
+            node.acl = acl.copy()?;
+            node.stamps.change = now;
+        }
+        Step::SetAttrs { attrs, .. } => {
+            let node = &mut object.node;
+            node.attrs = attrs.copy()?;
+            node.stamps.change = now;
+        }
+        Step::SetLetters { letters, .. } => {
+            let node = &mut object.node;
+            node.letters = *letters;
+            node.stamps.change = now;
+        }
+        Step::SetStamps { access, modify, .. } => {
+            let stamps = &mut object.node.stamps;
+            stamps.access = *access;
+            stamps.modify = *modify;
+            stamps.change = now;
+        }
+        _ => {}
+    }
+    Ok(())
+}

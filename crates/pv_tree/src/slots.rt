@@ -1,0 +1,194 @@
+//! The slots of the tree: where a path leads among them, and the edits of one slot.
+ghost use Rattle.std.specs.Prelude.{◌≡◌, ◌≢◌, ℕ, ◌+◌, ◌-◌, ◌<◌, ◌≤◌, List, [], ◌∷◌, ◌++◌, length, take, vec_len, vec_capacity, Some, None, IfOk, OnOk, OnErr, slice_get};
+ghost use Rattle.std.specs.Option.{option_copied};
+ghost use Rattle.pv_path.specs.Paths.{parent_of};
+ghost use Rattle.pv_steps.specs.Objects.{modified, changed};
+ghost use Rattle.pv_steps.specs.Trees.{IsPresentIn};
+ghost use Rattle.pv_tree.specs.Changes.{change_of};
+ghost use Rattle.pv_tree.specs.Edges.{IsSet, IsChanged, IsPlaced};
+ghost use Rattle.pv_tree.specs.Slots.{child_in, object_in, number_in, slot_in, places_in, next_number};
+
+use crate::children::Children;
+use crate::slot::{Slot, change, note_content, note_name};
+use pv_path::{Name, TreePath};
+use pv_steps::{Object, Step};
+use std::alloc::{AllocError, Global};
+
+/// The number of the child that a slot has by a name, or nothing where it has none.
+pub(crate) fn child_of(slots: &Vec<Slot>, number: usize, name: &Name) -> Option<usize>
+    ensures { result ≡ child_in slots.now.items number name.now }
+{
+    match slots.get(number) {
+        Some(slot) => slot.children.get(name),
+        None => None,
+    }
+}
+
+/// The number at the path of some names, or nothing where it is absent. It asks each directory once.
+pub(crate) fn number_at(slots: &Vec<Slot>, names: &[Name]) -> Option<usize>
+    ensures { result ≡ number_in slots.now.items names.now }
+{
+    let mut number = 0;
+    for name in names {
+        number = child_of(slots, number, name)?;
+    }
+    Some(number)
+}
+
+/// The slot at a path, or nothing where the path is absent.
+pub(crate) fn slot_at<'a>(slots: &'a Vec<Slot>, path: &TreePath) -> Option<&'a Slot>
+    ensures { option_copied result ≡ slot_in slots.now.items path.now }
+{
+    match number_at(slots, path.names()) {
+        Some(number) => slots.get(number),
+        None => None,
+    }
+}
+
+/// The slot of the directory that a path lies in, or nothing where this is absent.
+pub(crate) fn parent_slot<'a>(slots: &'a Vec<Slot>, path: &TreePath) -> Option<&'a Slot>
+    ensures { option_copied result ≡ slot_in slots.now.items (parent_of path.now) }
+{
+    match number_at(slots, parent_names(path)) {
+        Some(number) => slots.get(number),
+        None => None,
+    }
+}
+
+/// The names of the directory that a path lies in.
+fn parent_names(path: &TreePath) -> &[Name]
+    ensures { result.now ≡ parent_of path.now }
+{
+    match path.names() {
+        [] => path.names(),
+        [names @ .., _] => names,
+    }
+}
+
+/// The number of the directory that a path lies in, and the last name of the path.
+pub(crate) fn location<'a>(slots: &Vec<Slot>, path: &'a TreePath) -> (usize, &'a Name)
+    requires present { IsPresentIn (places_in slots.now.items) (parent_of path.now) }
+    requires no_root { path.now ≢ [] }
+    ensures number { number_in slots.now.items (parent_of path.now) ≡ Some result.0 }
+    ensures name { path.now ≡ parent_of path.now ++ result.1.now ∷ [] }
+{
+    match (number_at(slots, parent_names(path)), path.name()) {
+        (Some(number), Some(name)) => (number, name),
+        _ => unreachable!(),
+    }
+}
+
+/// Puts a child into a slot, and gives back the number of the one that it replaces. After want of memory
+/// the slots are as before.
+pub(crate) fn put_child(
+    slots: &mut Vec<Slot>,
+    number: usize,
+    name: Name,
+    child: usize,
+) -> Result<Option<usize>, AllocError>
+    requires { number < length slots.old.items }
+    ensures edges { OnOk result
+        (IsSet number name (Some child) (child_in slots.old.items) (child_in slots.new.items)) }
+    ensures objects { object_in slots.new.items ≡ object_in slots.old.items }
+    ensures old { IfOk result (λ old. old ≡ child_in slots.old.items number name) }
+    ensures err { OnErr result (slots.new.items ≡ slots.old.items) }
+    ensures length { length slots.new.items ≡ length slots.old.items }
+    ensures capacity { vec_capacity slots.new ≡ vec_capacity slots.old }
+{
+    let slot = &mut slots[number];
+    slot.children.put(name, child)
+}
+
+/// Takes a child out of a slot, and gives back its number, where there is one.
+pub(crate) fn remove_child(slots: &mut Vec<Slot>, number: usize, name: &Name) -> Option<usize>
+    requires { number < length slots.old.items }
+    ensures edges { IsSet number name.now None (child_in slots.old.items) (child_in slots.new.items) }
+    ensures objects { object_in slots.new.items ≡ object_in slots.old.items }
+    ensures old { result ≡ child_in slots.old.items number name.now }
+    ensures length { length slots.new.items ≡ length slots.old.items }
+{
+    let slot = &mut slots[number];
+    slot.children.remove(name)
+}
+
+/// Notes at a directory that it gained or lost a child.
+pub(crate) fn touch(slots: &mut Vec<Slot>, number: usize, now: u64)
+    requires { number < length slots.old.items }
+    ensures objects { IsChanged number (modified now) (object_in slots.old.items) (object_in slots.new.items) }
+    ensures edges { child_in slots.new.items ≡ child_in slots.old.items }
+    ensures length { length slots.new.items ≡ length slots.old.items }
+{
+    let slot = &mut slots[number];
+    note_content(&mut slot.object, now);
+}
+
+/// Notes at an object that it got a new name.
+pub(crate) fn renew(slots: &mut Vec<Slot>, number: usize, now: u64)
+    requires { number < length slots.old.items }
+    ensures objects { IsChanged number (changed now) (object_in slots.old.items) (object_in slots.new.items) }
+    ensures edges { child_in slots.new.items ≡ child_in slots.old.items }
+    ensures length { length slots.new.items ≡ length slots.old.items }
+{
+    let slot = &mut slots[number];
+    note_name(&mut slot.object, now);
+}
+
+/// Does a step that changes the object with a number. After want of memory the slots are as before.
+pub(crate) fn change_slot(
+    slots: &mut Vec<Slot>,
+    number: usize,
+    step: &Step,
+    now: u64,
+) -> Result<(), AllocError>
+    requires { number < length slots.old.items }
+    ensures objects { OnOk result
+        (IsChanged number (change_of step.now now) (object_in slots.old.items) (object_in slots.new.items)) }
+    ensures edges { child_in slots.new.items ≡ child_in slots.old.items }
+    ensures err { OnErr result (slots.new.items ≡ slots.old.items) }
+    ensures length { length slots.new.items ≡ length slots.old.items }
+{
+    let slot = &mut slots[number];
+    change(&mut slot.object, step, now)
+}
+
+/// The number that the next new slot gets.
+pub(crate) fn next_number(slots: &Vec<Slot>, free: &Vec<usize>) -> usize
+    ensures { result ≡ next_number slots.now.items free.now.items }
+{
+    match free.last() {
+        Some(number) => *number,
+        None => slots.len(),
+    }
+}
+
+/// Gives an object without children the next number. With room it takes no memory.
+pub(crate) fn place(alloc: Global, slots: &mut Vec<Slot>, free: &mut Vec<usize>, object: Object)
+    requires room { vec_len slots.old < vec_capacity slots.old }
+    requires within { (i : ℕ) → slice_get free.old.items (length free.old.items - 1) ≡ Some i
+        → i < length slots.old.items }
+    ensures placed { IsPlaced (next_number slots.old.items free.old.items) object
+        (child_in slots.old.items) (object_in slots.old.items) (child_in slots.new.items) (object_in slots.new.items) }
+    ensures free { free.new.items ≡ take (length free.old.items - 1) free.old.items }
+    ensures length { length slots.old.items ≤ length slots.new.items }
+    ensures number { next_number slots.old.items free.old.items < length slots.new.items }
+{
+    let slot = Slot {
+        object,
+        children: Children::new(alloc),
+    };
+    match free.pop() {
+        Some(number) => slots[number] = slot,
+        None => push_within(slots, slot),
+    }
+}
+
+/// Adds an item where there is room for it.
+pub(crate) fn push_within<T: Drop>(items: &mut Vec<T>, item: T)
+    requires { vec_len items.old < vec_capacity items.old }
+    ensures { items.new.items ≡ items.old.items ++ item ∷ [] }
+{
+    match items.push(item) {
+        Ok(()) => {}
+        Err(_) => unreachable!(),
+    }
+}

@@ -1,0 +1,129 @@
+//! A walk over all objects of a tree, in the order of their paths.
+ghost use Rattle.std.specs.Prelude.{◌≡◌, ℕ, ◌+◌, ◌<◌, ◌^◌, List, [], ◌∷◌, length, drop, true, false, Some, None, IfOk, IfSome, OnOk, OnErr, slice_get};
+ghost use Rattle.std.specs.Option.{option_copied, option_map};
+ghost use Rattle.pv_tree.specs.Slots.{IsForest, entries_in};
+ghost use Rattle.pv_tree.specs.Walks.{IsWay, children_in, left_in};
+
+use crate::slot::Slot;
+use pv_path::Name;
+use pv_steps::Node;
+use std::alloc::{AllocError, Global};
+use std::marker::Model;
+
+/// What stands at a path of a tree.
+#[derive(Clone, Copy, Debug)]
+pub struct Place<'a> {
+    /// The names of the path.
+    pub names: &'a [Name],
+    /// The node of the object.
+    pub node: &'a Node,
+    /// The bytes of a file or the target of a link, else no bytes.
+    pub payload: &'a [u8],
+}
+
+/// A walk over all objects of a tree, in the order of their paths. Clauses see the paths and objects that are
+/// left, the present one first.
+#[derive(Drop)]
+pub struct Walk<'a> {
+    slots: &'a Vec<Slot>,
+    /// The path of the present object.
+    names: Vec<Name>,
+    /// The slots from the root to the present object, each with the place of the child where the walk goes on.
+    opened: Vec<(usize, usize)>,
+}
+
+impl<'a> Model for Walk<'a> {
+    ghost use Rattle.std.specs.Prelude.{List, ℕ, length, true};
+    ghost use Rattle.pv_steps.specs.declared.object.Object.{Object as ObjectValue};
+
+    ghost Value = { List (List (List ℕ) × ObjectValue) };
+
+    ghost use Rattle.pv_tree.specs.Walks.{left_in, IsWalk};
+
+    ghost view = { λ w. left_in true (length w.slots.now.items) w.slots.now.items w.names.items w.opened.items };
+
+    ghost invariant = { λ w. IsWalk w.slots.now.items w.names.items w.opened.items };
+}
+
+impl<'a> Walk<'a> {
+    /// A walk over slots that make a tree, which stands at the root.
+    pub(crate) fn of(alloc: Global, slots: &'a Vec<Slot>) -> Result<Walk<'a>, AllocError>
+        requires { IsForest slots.now.items }
+        ensures { IfOk result (λ walk. walk ≡ entries_in (length slots.now.items) slots.now.items 0) }
+    {
+        let mut opened = Vec::new(alloc);
+        opened.push((0, 0))?;
+        Ok(Walk {
+            slots,
+            names: Vec::new(alloc),
+            opened,
+        })
+    }
+
+    /// Where the walk stands, or nothing at its end. It takes no memory.
+    pub fn place(&self) -> Option<Place<'_>>
+        ensures { option_map (λ p. (p.names.now, record { node = p.node.now; payload = p.payload.now })) result
+            ≡ slice_get self.now 0 }
+    {
+        match self.opened.last() {
+            Some(last) => {
+                let object = &self.slots[last.0].object;
+                Some(Place {
+                    names: self.names.as_slice(),
+                    node: &object.node,
+                    payload: object.payload.as_slice(),
+                })
+            }
+            None => None,
+        }
+    }
+
+    /// Goes on to the next path. After want of memory the walk is at its end.
+    pub fn advance(&mut self) -> Result<(), AllocError>
+        ensures ok { OnOk result (self.new ≡ drop 1 self.old) }
+        ensures err { OnErr result (self.new ≡ []) }
+    {
+        match go_on(self.slots, &mut self.names, &mut self.opened) {
+            Ok(()) => Ok(()),
+            Err(fault) => {
+                self.opened.clear();
+                Err(fault)
+            }
+        }
+    }
+}
+
+/// The child of a slot at a place in the order of the names, if there is one.
+fn child_at(slots: &Vec<Slot>, number: usize, i: usize) -> Option<&(Name, usize)>
+    ensures child { option_copied result ≡ slice_get (children_in slots.now.items number) i }
+    ensures within { IfSome result (λ _. i + 1 < 2 ^ 64) }
+{
+    match slots.get(number) {
+        Some(slot) => slot.children.child(i),
+        None => None,
+    }
+}
+
+/// Opens the next child of the deepest slot that has one left, and closes those that have none.
+fn go_on(
+    slots: &Vec<Slot>,
+    names: &mut Vec<Name>,
+    opened: &mut Vec<(usize, usize)>,
+) -> Result<(), AllocError>
+    requires { IsWay slots.now.items names.old.items opened.old.items }
+    ensures way { OnOk result (IsWay slots.now.items names.new.items opened.new.items) }
+    ensures left { OnOk result
+        (left_in true (length slots.now.items) slots.now.items names.new.items opened.new.items
+        ≡ left_in false (length slots.now.items) slots.now.items names.old.items opened.old.items) }
+{
+    while let Some((number, next)) = opened.pop() {
+        if let Some(child) = child_at(slots, number, next) {
+            opened.push((number, next + 1))?;
+            opened.push((child.1, 0))?;
+            names.push(child.0.copy()?)?;
+            return Ok(());
+        }
+        let _closed = names.pop();
+    }
+    Ok(())
+}
