@@ -216,3 +216,8 @@ unlimited (Some m) n is r = cc
 -- with one the steps are within it where they are no more
 pub limited : (limit : Option ℕ) (most n : ℕ) → limit ≡ Some most → {E : Type 0} (r : Result Answer E) → IfOk r (λ _. n ≤ most) → IfOk r (λ _. IfSome limit (λ m. n ≤ m))
 limited limit most n is r h = subst (λ (x : Option ℕ). IfOk r (λ _. IfSome x (λ m. n ≤ m))) (sym is) h
+
+-- what holds whatever is answered
+pub always : {E : Type 0} (r : Result Answer E) {P : Type 0} → P → IfOk r (λ _. P)
+always (Ok a) p = p
+always (Err f) p = tt

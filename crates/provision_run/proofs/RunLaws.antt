@@ -7,12 +7,12 @@ use Rattle.pv_text.specs.Facts.{Values}
 use Rattle.pv_steps.specs.declared.step.Step.{Step}
 use Rattle.pv_steps.specs.Trees.{Files, IsTree}
 use Rattle.pv_steps.specs.Runs.{Ran}
-use Rattle.pv_steps.specs.RunLaws.{ran_none}
+use Rattle.pv_steps.proofs.RunLaws.{ran_none}
 use Rattle.pv_lines.specs.declared.line.Line.{Line}
 use Rattle.pv_lines.specs.Lines.{IsLine}
-use Rattle.pv_conf.specs.LineLists.{configured-lines}
+use Rattle.pv_conf.proofs.LineLists.{configured-lines}
 use Rattle.pv_create.specs.OnWay.{Partway, IsStepOfSome, IsMended}
-use Rattle.pv_create.specs.StopLaws.{mended}
+use Rattle.pv_create.proofs.StopLaws.{mended}
 use Rattle.pv_create.proofs.LinesLaws.{partway_start}
 use Rattle.pv_words.specs.declared.options.Options.{Options}
 use Rattle.provision_run.specs.Whole.{run_lines}

@@ -136,40 +136,13 @@ fn run_fused(
     let mut fused = Fused::new(tree, Some(limit));
     let mut messages = Messages::new(alloc);
     match run_on_tree(alloc, options, &facts, moment, &mut fused, &mut messages) {
-        Ok(end) => end_within(
-            alloc,
-            limit,
-            outcome_of(end),
-            &messages,
-            fused.inner(),
-            &facts,
-        ),
+        Ok(end) => finish(alloc, outcome_of(end), &messages, fused.inner(), &facts),
         Err(TreeFault::Memory) => Err(AllocError),
         Err(TreeFault::Failed) => stop(alloc, limit, &mut messages, fused.inner(), &facts),
     }
 }
 
-/// Ends a run that was not stopped: no more steps than the limit are told. More are never there, since no more pass.
-fn end_within(
-    alloc: Global,
-    limit: u64,
-    outcome: Outcome,
-    messages: &Messages,
-    tree: &MemTree,
-    facts: &Facts,
-) -> Result<Answer, AllocError>
-    ensures outcome { IfOk result (λ answer. answer.outcome ≡ outcome) }
-    ensures count { IfOk result (λ _. length tree.now.steps ≤ limit) }
-    ensures text { IfOk result (λ answer. answer.output.items ≡ messages_text messages.now ++ text_of facts.now tree.now.files) }
-{
-    if tree.step_count() as u64 > limit {
-        return Err(AllocError);
-    }
-    finish(alloc, outcome, messages, tree, facts)
-}
-
-/// Ends a run that was stopped at its limit: as many steps are told. Another number is never there, since nothing
-/// but the limit refuses a step.
+/// Ends a run that was stopped at its limit.
 fn stop(
     alloc: Global,
     limit: u64,
@@ -178,13 +151,9 @@ fn stop(
     facts: &Facts,
 ) -> Result<Answer, AllocError>
     ensures outcome { IfOk result (λ answer. answer.outcome ≡ Outcome.Stopped limit) }
-    ensures count { IfOk result (λ _. length tree.now.steps ≡ limit) }
     ensures text { IfOk result (λ answer. answer.output.items
         ≡ messages_text (messages.old ++ stopped_text limit ∷ []) ++ text_of facts.now tree.now.files) }
 {
-    if tree.step_count() as u64 != limit {
-        return Err(AllocError);
-    }
     say_stopped(alloc, limit, messages)?;
     finish(alloc, Outcome::Stopped(limit), messages, tree, facts)
 }

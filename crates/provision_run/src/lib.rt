@@ -2,8 +2,12 @@
 #![tactic(auto)]
 
 mod answer;
+#[cfg(test)]
+mod images;
 mod message;
 mod outcome;
+#[cfg(test)]
+mod reading_tests;
 mod run;
 #[cfg(test)]
 mod staging_tests;

@@ -1,3 +1,4 @@
+//! The texts of messages, and how they are printed.
 ghost use Rattle.std.specs.Prelude.{◌≡◌, ◌++◌, ◌∷◌, [], IfOk, OnOk};
 ghost use Rattle.provision_run.specs.Answers.{message, messages_text, message_at, bad_image_text, at_line, stopped_text};
 

@@ -1,3 +1,4 @@
+//! A run over any tree: reading, then the phases that are asked.
 ghost use Rattle.std.specs.Prelude.{◌≡◌, ◌≤◌, ◌∷◌, ◌++◌, [], true, drop, length, OnOk, IfOk, IsErrOf};
 ghost use Rattle.pv_io.specs.Faults.{HasRisen};
 ghost use Rattle.pv_text.specs.Said.{SaidPart};
@@ -58,7 +59,7 @@ pub fn run_on_tree<T: Tree>(
         (T.state tree.old) (T.steps tree.old) (T.state tree.new) (T.steps tree.new) }
     ensures bound { asked result (T.steps tree.old) (T.steps tree.new)
         ≤ run_work options.entry.now facts.now moment (T.state tree.old) }
-    ensures never_falls { T.faults tree.old ≤ T.faults tree.new }
+    ensures reaches { T.reaches tree.old tree.new }
     ensures cause { IsErrOf result Failed → HasRisen (T.faults tree.old) (T.faults tree.new) }
 
     // The stop law.

@@ -11,12 +11,12 @@ ghost use Rattle.pv_walk.specs.Staging.{HasTarget, IsNewFile, can_stage};
 use pv_acl::{Acl, read_acl};
 use pv_dress::{Dress, dress};
 use pv_image::{read_image, write_image};
-use pv_path::{Bytes, Name, TreePath, parent, parse_path, print_path, staging};
-use pv_steps::{Kind, Tree, Why};
+use pv_path::{Bytes, Name, TreePath, parent, parse_path, staging};
+use pv_steps::{AttrList, Kind, LetterSet, Tree, Why};
 use pv_text::Facts;
 use pv_tree::{Fused, MemTree};
 use pv_walk::{NewFile, NewKind, Walked, publish, remove_below, stage_file, sweep, walk};
-use std::alloc::Global;
+use std::alloc::{AllocError, Global};
 use std::process::Abort;
 use std::test::Fail;
 
@@ -30,14 +30,26 @@ fn tree_of(rt: &impl Abort, alloc: Global, image: &[u8]) -> MemTree {
     read_image(alloc, image).expect(rt, "an image").tree
 }
 
-/// The printed paths of a tree, with a blank after each.
+/// Adds the path of these names to a text.
+fn add_path(text: &mut Vec<u8>, names: &[Name]) -> Result<(), AllocError> {
+    if names.is_empty() {
+        text.push(b'/')?;
+    }
+    for name in names {
+        text.push(b'/')?;
+        text.extend_from_slice(name.bytes())?;
+    }
+    Ok(())
+}
+
+/// The paths of a tree, with a blank after each.
 fn printed(alloc: Global, tree: &MemTree) -> Result<Vec<u8>, Fail> {
     let mut text = Vec::new(alloc);
-    for i in 0..tree.len() {
-        if let Some(entry) = tree.entry(i) {
-            text.extend_from_slice(print_path(alloc, entry.path())?.as_slice())?;
-            text.push(b' ')?;
-        }
+    let mut walk = tree.walk(alloc)?;
+    while let Some(place) = walk.place() {
+        add_path(&mut text, place.names)?;
+        text.push(b' ')?;
+        walk.advance()?;
     }
     Ok(text)
 }
@@ -225,41 +237,41 @@ fn staging_names_are_swept_from_the_root(rt: HostRuntime) -> Result<(), Fail> {
 
 /// An image of the root and of some lines.
 fn image_of(alloc: Global, root: &[u8], lines: &[u8]) -> Result<Vec<u8>, Fail> {
-    let mut image = Vec::from_slice(alloc, b"tree-image 1\n")?;
+    let mut image = Vec::from_slice(alloc, b"tree-image 2\n")?;
     image.extend_from_slice(root)?;
     image.extend_from_slice(lines)?;
     image.extend_from_slice(b"end\n")?;
     Ok(image)
 }
 
-const ROOT: &[u8] = b"d / 0755 0 0 0,0,0,0 - -\n";
+const ROOT: &[u8] = b"d / 0755 0 0 0,0,0,0 - - - -\n";
 
 /// The root after a new name in it.
-const TOUCHED: &[u8] = b"d / 0755 0 0 0,0,9,9 - -\n";
+const TOUCHED: &[u8] = b"d / 0755 0 0 0,0,9,9 - - - -\n";
 
-const FILE: &[u8] = b"f /.#tf-a 0644 0 0 1,1,1,1 - -\n";
+const FILE: &[u8] = b"f /.#tf-a 0644 0 0 1,1,1,1 - - - -\n";
 
-const FULL: &[u8] = b"d /.#tf-a 0755 0 0 1,1,1,1 - -\nf /.#tf-a/z 0644 0 0 1,1,1,1 - -\n";
+const FULL: &[u8] = b"d /.#tf-a 0755 0 0 1,1,1,1 - - - -\nf /.#tf-a/z 0644 0 0 1,1,1,1 - - - -\n";
 
 #[test]
 fn what_is_staged_comes_to_its_path(rt: HostRuntime) -> Result<(), Fail> {
     let alloc = rt.alloc();
     for (stage, old, steps, left) in [
         (FILE, b"".as_slice(), 1, b"/ /a ".as_slice()),
-        (FILE, b"f /a 0600 0 0 2,2,2,2 - -\n", 1, b"/ /a "),
+        (FILE, b"f /a 0600 0 0 2,2,2,2 - - - -\n", 1, b"/ /a "),
         (
             FILE,
-            b"d /a 0700 0 0 2,2,2,2 - -\nd /a/x 0700 0 0 2,2,2,2 - -\nf /a/x/y 0600 0 0 2,2,2,2 - -\n",
+            b"d /a 0700 0 0 2,2,2,2 - - - -\nd /a/x 0700 0 0 2,2,2,2 - - - -\nf /a/x/y 0600 0 0 2,2,2,2 - - - -\n",
             4,
             b"/ /a ",
         ),
         (
             FULL,
-            b"d /a 0700 0 0 2,2,2,2 - -\nf /a/x 0600 0 0 2,2,2,2 - -\n",
+            b"d /a 0700 0 0 2,2,2,2 - - - -\nf /a/x 0600 0 0 2,2,2,2 - - - -\n",
             2,
             b"/ /a /a/z ",
         ),
-        (FULL, b"f /a 0600 0 0 2,2,2,2 - -\n", 2, b"/ /a /a/z "),
+        (FULL, b"f /a 0600 0 0 2,2,2,2 - - - -\n", 2, b"/ /a /a/z "),
     ] {
         let mut lines = Vec::from_slice(alloc, stage)?;
         lines.extend_from_slice(old)?;
@@ -302,21 +314,25 @@ fn objects_of_all_kinds_are_staged(rt: HostRuntime) -> Result<(), Fail> {
         (
             NewKind::Directory,
             0o1750,
-            b"d /.#tf-x 1750 5 6 9,9,9,9 - -\n".as_slice(),
+            b"d /.#tf-x 1750 5 6 9,9,9,9 - - - -\n".as_slice(),
         ),
         (
             NewKind::File(bytes),
             0o4640,
-            b"f /.#tf-x 4640 5 6 9,9,9,9 - aGk=\n",
+            b"f /.#tf-x 4640 5 6 9,9,9,9 - - - aGk=\n",
         ),
         (
             NewKind::Link(target),
             0o600,
-            b"l /.#tf-x 0777 5 6 9,9,9,9 - /t\n",
+            b"l /.#tf-x 0777 5 6 9,9,9,9 - - - /t\n",
         ),
-        (NewKind::Fifo, 0o644, b"p /.#tf-x 0644 5 6 9,9,9,9 - -\n"),
-        (device, 0o666, b"c /.#tf-x 0666 5 6 9,9,9,9 - 5:1\n"),
-        (disk, 0o660, b"b /.#tf-x 0660 5 6 9,9,9,9 - 8:0\n"),
+        (
+            NewKind::Fifo,
+            0o644,
+            b"p /.#tf-x 0644 5 6 9,9,9,9 - - - -\n",
+        ),
+        (device, 0o666, b"c /.#tf-x 0666 5 6 9,9,9,9 - - - 5:1\n"),
+        (disk, 0o660, b"b /.#tf-x 0660 5 6 9,9,9,9 - - - 8:0\n"),
     ] {
         let new = NewFile {
             what,
@@ -392,6 +408,8 @@ fn dress_at(
         gid: 0,
         special: 0,
         acl: acl_of(rt, alloc, field, mode),
+        attrs: AttrList::new(alloc),
+        letters: LetterSet::new(),
     };
     dress(alloc, tree, &path, &new, NOW).is_ok()
 }
@@ -399,7 +417,7 @@ fn dress_at(
 #[test]
 fn directories_are_dressed_by_what_they_lack(rt: HostRuntime) -> Result<(), Fail> {
     let alloc = rt.alloc();
-    let plain = b"d /a 0755 0 0 0,0,0,0 - -\n";
+    let plain = b"d /a 0755 0 0 0,0,0,0 - - - -\n";
     for (uid, field, mode, steps, line) in [
         (0, b"-".as_slice(), 0o755, 0, plain.as_slice()),
         (
@@ -407,10 +425,16 @@ fn directories_are_dressed_by_what_they_lack(rt: HostRuntime) -> Result<(), Fail
             b"u:5:r--",
             0o755,
             1,
-            b"d /a 0755 0 0 0,0,9,0 u:5:r-- -\n",
+            b"d /a 0755 0 0 0,0,9,0 u:5:r-- - - -\n",
         ),
-        (7, b"-", 0o700, 2, b"d /a 0700 7 0 0,0,9,0 - -\n"),
-        (7, b"m::r--", 0o700, 3, b"d /a 0700 7 0 0,0,9,0 m::r-- -\n"),
+        (7, b"-", 0o700, 2, b"d /a 0700 7 0 0,0,9,0 - - - -\n"),
+        (
+            7,
+            b"m::r--",
+            0o700,
+            3,
+            b"d /a 0700 7 0 0,0,9,0 m::r-- - - -\n",
+        ),
     ] {
         let mut tree = tree_of(&rt, alloc, &image_of(alloc, ROOT, plain)?);
         assert!(rt; dress_at(&rt, alloc, &mut tree, uid, field, mode));

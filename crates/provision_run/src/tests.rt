@@ -1,32 +1,10 @@
+//! Worked rows of whole runs, byte for byte.
+use crate::images::{NOW, image};
 use crate::{provision, status};
 use pv_io::{MemSink, MemSource};
 use std::alloc::{AllocError, Global};
 use std::process::Abort;
 use std::test::Fail;
-
-const CLOCK: u64 = 1_000_000_000_000;
-
-const ROOT: &[u8] = b"tree-image 1\nd / 0755 0 0 0,0,0,0 - -\nend\n";
-
-/// One line, `d /run/app 0750 0 0`; then a whole run, and one that was stopped after its first step.
-const APP: &str =
-    "tree-image 1\nd / 0755 0 0 0,0,0,0 - -\nd /etc 0755 0 0 0,0,0,0 - -\nd /etc/tmpfiles.d 0755 0 0 0,0,0,0 - -\nf /etc/tmpfiles.d/a.conf 0644 0 0 0,0,0,0 - ZCAvcnVuL2FwcCAwNzUwIDAgMAo=\nend\n";
-
-const APP_MADE: &str =
-    "tree-image 1\nd / 0755 0 0 0,0,1000000000000,1000000000000 - -\nd /etc 0755 0 0 0,0,0,0 - -\nd /etc/tmpfiles.d 0755 0 0 0,0,0,0 - -\nf /etc/tmpfiles.d/a.conf 0644 0 0 0,0,0,0 - ZCAvcnVuL2FwcCAwNzUwIDAgMAo=\nd /run 0755 0 0 1000000000000,1000000000000,1000000000000,1000000000000 - -\nd /run/app 0750 0 0 1000000000000,1000000000000,1000000000000,1000000000000 - -\nend\n";
-
-const APP_STAGED: &str =
-    ": stopped after 1 steps\ntree-image 1\nd / 0755 0 0 0,0,1000000000000,1000000000000 - -\nd /.#tf-run 0700 0 0 1000000000000,1000000000000,1000000000000,1000000000000 - -\nd /etc 0755 0 0 0,0,0,0 - -\nd /etc/tmpfiles.d 0755 0 0 0,0,0,0 - -\nf /etc/tmpfiles.d/a.conf 0644 0 0 0,0,0,0 - ZCAvcnVuL2FwcCAwNzUwIDAgMAo=\nend\n";
-
-/// Folders with a mask and with a file above another of its name; then a run of all, and one of the lower file.
-const FOLDERS: &str =
-    "tree-image 1\nd / 0755 0 0 0,0,0,0 - -\nd /etc 0755 0 0 0,0,0,0 - -\nd /etc/tmpfiles.d 0755 0 0 0,0,0,0 - -\nl /etc/tmpfiles.d/m.conf 0777 0 0 0,0,0,0 - /dev/null\nf /etc/tmpfiles.d/r.conf 0644 0 0 0,0,0,0 - ZCAvciAwNzAwIDAgMAo=\nd /usr 0755 0 0 0,0,0,0 - -\nd /usr/lib 0755 0 0 0,0,0,0 - -\nd /usr/lib/tmpfiles.d 0755 0 0 0,0,0,0 - -\nf /usr/lib/tmpfiles.d/m.conf 0644 0 0 0,0,0,0 - ZCAvbSAwNzU1IDAgMAo=\nf /usr/lib/tmpfiles.d/r.conf 0644 0 0 0,0,0,0 - ZCAvciAwNzExIDAgMApkIC9zIDA3NTUgMCAwCg==\nend\n";
-
-const FOLDERS_MADE: &str =
-    "tree-image 1\nd / 0755 0 0 0,0,1000000000000,1000000000000 - -\nd /etc 0755 0 0 0,0,0,0 - -\nd /etc/tmpfiles.d 0755 0 0 0,0,0,0 - -\nl /etc/tmpfiles.d/m.conf 0777 0 0 0,0,0,0 - /dev/null\nf /etc/tmpfiles.d/r.conf 0644 0 0 0,0,0,0 - ZCAvciAwNzAwIDAgMAo=\nd /r 0700 0 0 1000000000000,1000000000000,1000000000000,1000000000000 - -\nd /usr 0755 0 0 0,0,0,0 - -\nd /usr/lib 0755 0 0 0,0,0,0 - -\nd /usr/lib/tmpfiles.d 0755 0 0 0,0,0,0 - -\nf /usr/lib/tmpfiles.d/m.conf 0644 0 0 0,0,0,0 - ZCAvbSAwNzU1IDAgMAo=\nf /usr/lib/tmpfiles.d/r.conf 0644 0 0 0,0,0,0 - ZCAvciAwNzExIDAgMApkIC9zIDA3NTUgMCAwCg==\nend\n";
-
-const FOLDERS_LOWER: &str =
-    "tree-image 1\nd / 0755 0 0 0,0,1000000000000,1000000000000 - -\nd /etc 0755 0 0 0,0,0,0 - -\nd /etc/tmpfiles.d 0755 0 0 0,0,0,0 - -\nl /etc/tmpfiles.d/m.conf 0777 0 0 0,0,0,0 - /dev/null\nf /etc/tmpfiles.d/r.conf 0644 0 0 0,0,0,0 - ZCAvciAwNzAwIDAgMAo=\nd /r 0711 0 0 1000000000000,1000000000000,1000000000000,1000000000000 - -\nd /s 0755 0 0 1000000000000,1000000000000,1000000000000,1000000000000 - -\nd /usr 0755 0 0 0,0,0,0 - -\nd /usr/lib 0755 0 0 0,0,0,0 - -\nd /usr/lib/tmpfiles.d 0755 0 0 0,0,0,0 - -\nf /usr/lib/tmpfiles.d/m.conf 0644 0 0 0,0,0,0 - ZCAvbSAwNzU1IDAgMAo=\nf /usr/lib/tmpfiles.d/r.conf 0644 0 0 0,0,0,0 - ZCAvciAwNzExIDAgMApkIC9zIDA3NTUgMCAwCg==\nend\n";
 
 /// The words as the program gets them.
 fn words_of(alloc: Global, words: &[&str]) -> Result<Vec<String>, AllocError> {
@@ -37,292 +15,383 @@ fn words_of(alloc: Global, words: &[&str]) -> Result<Vec<String>, AllocError> {
     Ok(all)
 }
 
-/// The words of a run that creates.
-fn create(alloc: Global) -> Result<Vec<String>, AllocError> {
-    words_of(alloc, &["systemd-tmpfiles", "--create"])
-}
-
-/// A directory that hides a lower file of its name.
-const ODD: &str =
-    "tree-image 1\nd / 0755 0 0 0,0,0,0 - -\nd /etc 0755 0 0 0,0,0,0 - -\nd /etc/tmpfiles.d 0755 0 0 0,0,0,0 - -\nd /etc/tmpfiles.d/o.conf 0755 0 0 0,0,0,0 - -\nd /usr 0755 0 0 0,0,0,0 - -\nd /usr/lib 0755 0 0 0,0,0,0 - -\nd /usr/lib/tmpfiles.d 0755 0 0 0,0,0,0 - -\nf /usr/lib/tmpfiles.d/o.conf 0644 0 0 0,0,0,0 - ZCAvbyAwNzU1IDAgMAo=\nend\n";
-
-#[test]
-fn images_are_worked_on(rt: HostRuntime) -> Result<(), Fail> {
-    let words = create(rt.alloc())?;
-    let rows: [(&str, &str, u8); 16] = [
-        // A directory with its absent parent.
-        (
-            "tree-image 1\nd / 0755 0 0 0,0,0,0 - -\nd /etc 0755 0 0 0,0,0,0 - -\nd /etc/tmpfiles.d 0755 0 0 0,0,0,0 - -\nf /etc/tmpfiles.d/a.conf 0644 0 0 0,0,0,0 - ZCAvcnVuL2FwcCAwNzUwIDAgMAo=\nend\n",
-            "tree-image 1\nd / 0755 0 0 0,0,1000000000000,1000000000000 - -\nd /etc 0755 0 0 0,0,0,0 - -\nd /etc/tmpfiles.d 0755 0 0 0,0,0,0 - -\nf /etc/tmpfiles.d/a.conf 0644 0 0 0,0,0,0 - ZCAvcnVuL2FwcCAwNzUwIDAgMAo=\nd /run 0755 0 0 1000000000000,1000000000000,1000000000000,1000000000000 - -\nd /run/app 0750 0 0 1000000000000,1000000000000,1000000000000,1000000000000 - -\nend\n",
-            0,
-        ),
-        // A line that is not built.
-        (
-            "tree-image 1\nd / 0755 0 0 0,0,0,0 - -\nd /etc 0755 0 0 0,0,0,0 - -\nd /etc/tmpfiles.d 0755 0 0 0,0,0,0 - -\nf /etc/tmpfiles.d/a.conf 0644 0 0 0,0,0,0 - ZCAvYiAwNzU1IDAgMApxIC9jCg==\nend\n",
-            ": /etc/tmpfiles.d/a.conf:2: NotBuilt\ntree-image 1\nd / 0755 0 0 0,0,1000000000000,1000000000000 - -\nd /b 0755 0 0 1000000000000,1000000000000,1000000000000,1000000000000 - -\nd /etc 0755 0 0 0,0,0,0 - -\nd /etc/tmpfiles.d 0755 0 0 0,0,0,0 - -\nf /etc/tmpfiles.d/a.conf 0644 0 0 0,0,0,0 - ZCAvYiAwNzU1IDAgMApxIC9jCg==\nend\n",
-            65,
-        ),
-        // A parent that a later line adjusts.
-        (
-            "tree-image 1\nd / 0755 0 0 0,0,0,0 - -\nd /etc 0755 0 0 0,0,0,0 - -\nd /etc/tmpfiles.d 0755 0 0 0,0,0,0 - -\nf /etc/tmpfiles.d/a.conf 0644 0 0 0,0,0,0 - ZCAvYS9iIDA3MDAgMCAwCmQgL2EgMDcxMSA1IDYK\nend\n",
-            "tree-image 1\nd / 0755 0 0 0,0,1000000000000,1000000000000 - -\nd /a 0711 5 6 1000000000000,1000000000000,1000000000000,1000000000000 - -\nd /a/b 0700 0 0 1000000000000,1000000000000,1000000000000,1000000000000 - -\nd /etc 0755 0 0 0,0,0,0 - -\nd /etc/tmpfiles.d 0755 0 0 0,0,0,0 - -\nf /etc/tmpfiles.d/a.conf 0644 0 0 0,0,0,0 - ZCAvYS9iIDA3MDAgMCAwCmQgL2EgMDcxMSA1IDYK\nend\n",
-            0,
-        ),
-        // A directory that is there.
-        (
-            "tree-image 1\nd / 0755 0 0 0,0,0,0 - -\nd /etc 0755 0 0 0,0,0,0 - -\nd /etc/tmpfiles.d 0755 0 0 0,0,0,0 - -\nf /etc/tmpfiles.d/a.conf 0644 0 0 0,0,0,0 - ZCAvciAxNzUwIDcgOAo=\nd /r 0711 0 0 5,6,7,8 u:1000:rw-,m::r--,d:u::rwx,d:g::r-x,d:o::--- -\nend\n",
-            "tree-image 1\nd / 0755 0 0 0,0,0,0 - -\nd /etc 0755 0 0 0,0,0,0 - -\nd /etc/tmpfiles.d 0755 0 0 0,0,0,0 - -\nf /etc/tmpfiles.d/a.conf 0644 0 0 0,0,0,0 - ZCAvciAxNzUwIDcgOAo=\nd /r 1750 7 8 5,6,1000000000000,8 u:1000:rw-,m::r--,d:u::rwx,d:g::r-x,d:o::--- -\nend\n",
-            0,
-        ),
-        // A directory that has all of it.
-        (
-            "tree-image 1\nd / 0755 0 0 0,0,0,0 - -\nd /etc 0755 0 0 0,0,0,0 - -\nd /etc/tmpfiles.d 0755 0 0 0,0,0,0 - -\nf /etc/tmpfiles.d/a.conf 0644 0 0 0,0,0,0 - ZCAvciAwNzExIDcgOAo=\nd /r 0711 7 8 5,6,7,8 - -\nend\n",
-            "tree-image 1\nd / 0755 0 0 0,0,0,0 - -\nd /etc 0755 0 0 0,0,0,0 - -\nd /etc/tmpfiles.d 0755 0 0 0,0,0,0 - -\nf /etc/tmpfiles.d/a.conf 0644 0 0 0,0,0,0 - ZCAvciAwNzExIDcgOAo=\nd /r 0711 7 8 5,6,7,8 - -\nend\n",
-            0,
-        ),
-        // The root.
-        (
-            "tree-image 1\nd / 0755 0 0 0,0,0,0 - -\nd /etc 0755 0 0 0,0,0,0 - -\nd /etc/tmpfiles.d 0755 0 0 0,0,0,0 - -\nf /etc/tmpfiles.d/a.conf 0644 0 0 0,0,0,0 - ZCAvIDA3MDAgMCAwCg==\nend\n",
-            "tree-image 1\nd / 0700 0 0 0,0,1000000000000,0 - -\nd /etc 0755 0 0 0,0,0,0 - -\nd /etc/tmpfiles.d 0755 0 0 0,0,0,0 - -\nf /etc/tmpfiles.d/a.conf 0644 0 0 0,0,0,0 - ZCAvIDA3MDAgMCAwCg==\nend\n",
-            0,
-        ),
-        // Comments and blank lines.
-        (
-            "tree-image 1\nd / 0755 0 0 0,0,0,0 - -\nd /etc 0755 0 0 0,0,0,0 - -\nd /etc/tmpfiles.d 0755 0 0 0,0,0,0 - -\nf /etc/tmpfiles.d/a.conf 0644 0 0 0,0,0,0 - IyBhIGNvbW1lbnQKCiAJDQogICMgYW5vdGhlcgpkIC94IDA3NTUgMCAw\nend\n",
-            "tree-image 1\nd / 0755 0 0 0,0,1000000000000,1000000000000 - -\nd /etc 0755 0 0 0,0,0,0 - -\nd /etc/tmpfiles.d 0755 0 0 0,0,0,0 - -\nf /etc/tmpfiles.d/a.conf 0644 0 0 0,0,0,0 - IyBhIGNvbW1lbnQKCiAJDQogICMgYW5vdGhlcgpkIC94IDA3NTUgMCAw\nd /x 0755 0 0 1000000000000,1000000000000,1000000000000,1000000000000 - -\nend\n",
-            0,
-        ),
-        // What an earlier run has staged.
-        (
-            "tree-image 1\nd / 0755 0 0 0,0,0,0 - -\nd /.#tf-x 0755 0 0 0,0,0,0 - -\nf /.#tf-x/k 0644 0 0 0,0,0,0 - dg==\nd /etc 0755 0 0 0,0,0,0 - -\nd /etc/tmpfiles.d 0755 0 0 0,0,0,0 - -\nf /etc/tmpfiles.d/a.conf 0644 0 0 0,0,0,0 - ZCAveC95IDA3NTUgMCAwCg==\nd /x 0755 0 0 0,0,0,0 - -\nf /x/.#tf-y 0644 0 0 0,0,0,0 - -\nend\n",
-            "tree-image 1\nd / 0755 0 0 0,0,1000000000000,1000000000000 - -\nd /etc 0755 0 0 0,0,0,0 - -\nd /etc/tmpfiles.d 0755 0 0 0,0,0,0 - -\nf /etc/tmpfiles.d/a.conf 0644 0 0 0,0,0,0 - ZCAveC95IDA3NTUgMCAwCg==\nd /x 0755 0 0 0,0,1000000000000,1000000000000 - -\nd /x/y 0755 0 0 1000000000000,1000000000000,1000000000000,1000000000000 - -\nend\n",
-            0,
-        ),
-        // A directory of another user.
-        (
-            "tree-image 1\nd / 0755 0 0 0,0,0,0 - -\nd /etc 0755 0 0 0,0,0,0 - -\nd /etc/tmpfiles.d 0755 0 0 0,0,0,0 - -\nf /etc/tmpfiles.d/a.conf 0644 0 0 0,0,0,0 - ZCAvaG9tZS91L3ggMDc1NSAwIDAK\nd /home 0755 0 0 0,0,0,0 - -\nd /home/u 0755 1000 1000 0,0,0,0 - -\nend\n",
-            ": /etc/tmpfiles.d/a.conf:1: /home/u/x refused at /home/u/x: unsafe owner\ntree-image 1\nd / 0755 0 0 0,0,0,0 - -\nd /etc 0755 0 0 0,0,0,0 - -\nd /etc/tmpfiles.d 0755 0 0 0,0,0,0 - -\nf /etc/tmpfiles.d/a.conf 0644 0 0 0,0,0,0 - ZCAvaG9tZS91L3ggMDc1NSAwIDAK\nd /home 0755 0 0 0,0,0,0 - -\nd /home/u 0755 1000 1000 0,0,0,0 - -\nend\n",
-            73,
-        ),
-        // A directory of the same user.
-        (
-            "tree-image 1\nd / 0755 0 0 0,0,0,0 - -\nd /etc 0755 0 0 0,0,0,0 - -\nd /etc/tmpfiles.d 0755 0 0 0,0,0,0 - -\nf /etc/tmpfiles.d/a.conf 0644 0 0 0,0,0,0 - ZCAvaG9tZS91L3ggMDcwMCAxMDAwIDEwMDAK\nd /home 0755 0 0 0,0,0,0 - -\nd /home/u 0755 1000 1000 0,0,0,0 - -\nend\n",
-            "tree-image 1\nd / 0755 0 0 0,0,0,0 - -\nd /etc 0755 0 0 0,0,0,0 - -\nd /etc/tmpfiles.d 0755 0 0 0,0,0,0 - -\nf /etc/tmpfiles.d/a.conf 0644 0 0 0,0,0,0 - ZCAvaG9tZS91L3ggMDcwMCAxMDAwIDEwMDAK\nd /home 0755 0 0 0,0,0,0 - -\nd /home/u 0755 1000 1000 0,0,1000000000000,1000000000000 - -\nd /home/u/x 0700 1000 1000 1000000000000,1000000000000,1000000000000,1000000000000 - -\nend\n",
-            0,
-        ),
-        // A link and a file above.
-        (
-            "tree-image 1\nd / 0755 0 0 0,0,0,0 - -\nd /etc 0755 0 0 0,0,0,0 - -\nd /etc/tmpfiles.d 0755 0 0 0,0,0,0 - -\nf /etc/tmpfiles.d/a.conf 0644 0 0 0,0,0,0 - ZCAvcy94IDA3NTUgMCAwCnogL3EKZCAvZi94IDA3NTUgMCAwCmQgL29rIDA3NTUgMCAwCg==\nf /f 0644 0 0 0,0,0,0 - dg==\nl /s 0777 0 0 0,0,0,0 - /t\nend\n",
-            ": /etc/tmpfiles.d/a.conf:2: NotBuilt\n: /etc/tmpfiles.d/a.conf:1: /s/x refused at /s: link\n: /etc/tmpfiles.d/a.conf:3: /f/x refused at /f: not a directory\ntree-image 1\nd / 0755 0 0 0,0,1000000000000,1000000000000 - -\nd /etc 0755 0 0 0,0,0,0 - -\nd /etc/tmpfiles.d 0755 0 0 0,0,0,0 - -\nf /etc/tmpfiles.d/a.conf 0644 0 0 0,0,0,0 - ZCAvcy94IDA3NTUgMCAwCnogL3EKZCAvZi94IDA3NTUgMCAwCmQgL29rIDA3NTUgMCAwCg==\nf /f 0644 0 0 0,0,0,0 - dg==\nd /ok 0755 0 0 1000000000000,1000000000000,1000000000000,1000000000000 - -\nl /s 0777 0 0 0,0,0,0 - /t\nend\n",
-            73,
-        ),
-        // A file at the path.
-        (
-            "tree-image 1\nd / 0755 0 0 0,0,0,0 - -\nd /etc 0755 0 0 0,0,0,0 - -\nd /etc/tmpfiles.d 0755 0 0 0,0,0,0 - -\nf /etc/tmpfiles.d/a.conf 0644 0 0 0,0,0,0 - ZCAvbyAwNzU1IDAgMAo=\nf /o 0644 0 0 0,0,0,0 - -\nend\n",
-            ": /etc/tmpfiles.d/a.conf:1: /o is a file, left\ntree-image 1\nd / 0755 0 0 0,0,0,0 - -\nd /etc 0755 0 0 0,0,0,0 - -\nd /etc/tmpfiles.d 0755 0 0 0,0,0,0 - -\nf /etc/tmpfiles.d/a.conf 0644 0 0 0,0,0,0 - ZCAvbyAwNzU1IDAgMAo=\nf /o 0644 0 0 0,0,0,0 - -\nend\n",
-            0,
-        ),
-        // A link at the path.
-        (
-            "tree-image 1\nd / 0755 0 0 0,0,0,0 - -\nd /etc 0755 0 0 0,0,0,0 - -\nd /etc/tmpfiles.d 0755 0 0 0,0,0,0 - -\nf /etc/tmpfiles.d/a.conf 0644 0 0 0,0,0,0 - ZCAvbyAwNzU1IDAgMAo=\nl /o 0777 0 0 0,0,0,0 - /t\nend\n",
-            ": /etc/tmpfiles.d/a.conf:1: /o is a link, left\ntree-image 1\nd / 0755 0 0 0,0,0,0 - -\nd /etc 0755 0 0 0,0,0,0 - -\nd /etc/tmpfiles.d 0755 0 0 0,0,0,0 - -\nf /etc/tmpfiles.d/a.conf 0644 0 0 0,0,0,0 - ZCAvbyAwNzU1IDAgMAo=\nl /o 0777 0 0 0,0,0,0 - /t\nend\n",
-            0,
-        ),
-        // A fifo at the path.
-        (
-            "tree-image 1\nd / 0755 0 0 0,0,0,0 - -\nd /etc 0755 0 0 0,0,0,0 - -\nd /etc/tmpfiles.d 0755 0 0 0,0,0,0 - -\nf /etc/tmpfiles.d/a.conf 0644 0 0 0,0,0,0 - ZCAvbyAwNzU1IDAgMAo=\np /o 0644 0 0 0,0,0,0 - -\nend\n",
-            ": /etc/tmpfiles.d/a.conf:1: /o is a fifo, left\ntree-image 1\nd / 0755 0 0 0,0,0,0 - -\nd /etc 0755 0 0 0,0,0,0 - -\nd /etc/tmpfiles.d 0755 0 0 0,0,0,0 - -\nf /etc/tmpfiles.d/a.conf 0644 0 0 0,0,0,0 - ZCAvbyAwNzU1IDAgMAo=\np /o 0644 0 0 0,0,0,0 - -\nend\n",
-            0,
-        ),
-        // A character device at the path.
-        (
-            "tree-image 1\nd / 0755 0 0 0,0,0,0 - -\nd /etc 0755 0 0 0,0,0,0 - -\nd /etc/tmpfiles.d 0755 0 0 0,0,0,0 - -\nf /etc/tmpfiles.d/a.conf 0644 0 0 0,0,0,0 - ZCAvbyAwNzU1IDAgMAo=\nc /o 0644 0 0 0,0,0,0 - 1:3\nend\n",
-            ": /etc/tmpfiles.d/a.conf:1: /o is a character device, left\ntree-image 1\nd / 0755 0 0 0,0,0,0 - -\nd /etc 0755 0 0 0,0,0,0 - -\nd /etc/tmpfiles.d 0755 0 0 0,0,0,0 - -\nf /etc/tmpfiles.d/a.conf 0644 0 0 0,0,0,0 - ZCAvbyAwNzU1IDAgMAo=\nc /o 0644 0 0 0,0,0,0 - 1:3\nend\n",
-            0,
-        ),
-        // A block device at the path.
-        (
-            "tree-image 1\nd / 0755 0 0 0,0,0,0 - -\nd /etc 0755 0 0 0,0,0,0 - -\nd /etc/tmpfiles.d 0755 0 0 0,0,0,0 - -\nf /etc/tmpfiles.d/a.conf 0644 0 0 0,0,0,0 - ZCAvbyAwNzU1IDAgMAo=\nb /o 0644 0 0 0,0,0,0 - 8:0\nend\n",
-            ": /etc/tmpfiles.d/a.conf:1: /o is a block device, left\ntree-image 1\nd / 0755 0 0 0,0,0,0 - -\nd /etc 0755 0 0 0,0,0,0 - -\nd /etc/tmpfiles.d 0755 0 0 0,0,0,0 - -\nf /etc/tmpfiles.d/a.conf 0644 0 0 0,0,0,0 - ZCAvbyAwNzU1IDAgMAo=\nb /o 0644 0 0 0,0,0,0 - 8:0\nend\n",
-            0,
-        ),
-    ];
-    for (input, output, end) in rows {
-        expect(
-            &rt,
-            rt.alloc(),
-            &words,
-            input.as_bytes(),
-            output.as_bytes(),
-            end,
-        )?;
-    }
-    expect(&rt, rt.alloc(), &words, ROOT, ROOT, 0)
-}
-
 /// What a run with these words makes of an input, and its status.
 fn run(
     rt: &impl Abort,
     alloc: Global,
     words: &[&str],
-    clock: u64,
     input: &[u8],
 ) -> Result<(Vec<u8>, u8), Fail> {
     let words = words_of(alloc, words)?;
     let mut source = MemSource::new(Vec::from_slice(alloc, input)?, Vec::new(alloc));
     let mut sink = MemSink::new(alloc, 4096, 4096, Vec::new(alloc))?;
-    let outcome = provision(alloc, &words, clock, &mut source, &mut sink);
+    let outcome = provision(alloc, &words, NOW, &mut source, &mut sink);
+    assert!(rt; sink.written().len() < 4096);
     Ok((Vec::from_slice(alloc, sink.written())?, status(&outcome)))
+}
+
+/// A run over a configuration of one file.
+#[derive(Drop)]
+struct Row<'a> {
+    words: &'a [&'a str],
+    lines: &'a str,
+    before: &'a [&'a str],
+    said: &'a str,
+    after: &'a [&'a str],
+    status: u8,
+}
+
+/// Runs a row and compares all that is written.
+fn expect(rt: &impl Abort, alloc: Global, row: &Row<'_>) -> Result<(), Fail> {
+    let input = image(rt, alloc, row.lines, row.before)?;
+    let (output, found) = run(rt, alloc, row.words, input.as_bytes())?;
+    let after = image(rt, alloc, row.lines, row.after)?;
+    let said = row.said;
+    let wanted = format!(in alloc; "{said}{after}")?;
+    assert!(rt; found == row.status, "{:?}: {found}", row.lines);
+    assert!(rt; output.as_slice() == wanted.as_bytes(), "{:?}", row.lines);
+    Ok(())
+}
+
+const CREATE: &[&str] = &["systemd-tmpfiles", "--create"];
+
+/// Lines, the objects before, what is said, the objects after, and the status.
+const LINES: [(&str, &[&str], &str, &[&str], u8); 11] = [
+    // A directory with its absent parent.
+    (
+        "d /run/app 0750 0 0\n",
+        &["d / 0755 0 0 -", "etc"],
+        "",
+        &[
+            "d / 0755 0 0 child",
+            "etc",
+            "d /run 0755 0 0 new",
+            "d /run/app 0750 0 0 new",
+        ],
+        0,
+    ),
+    // A line that is not built.
+    (
+        "d /b 0755 0 0\nq /c\n",
+        &["d / 0755 0 0 -", "etc"],
+        ": /etc/tmpfiles.d/a.conf:2: NotBuilt\n",
+        &["d / 0755 0 0 child", "d /b 0755 0 0 new", "etc"],
+        65,
+    ),
+    // A parent that a later line adjusts.
+    (
+        "d /a/b 0700 0 0\nd /a 0711 5 6\n",
+        &["d / 0755 0 0 -", "etc"],
+        "",
+        &[
+            "d / 0755 0 0 child",
+            "d /a 0711 5 6 new",
+            "d /a/b 0700 0 0 new",
+            "etc",
+        ],
+        0,
+    ),
+    // A directory that is there, with an ACL.
+    (
+        "d /r 1750 7 8\n",
+        &[
+            "d / 0755 0 0 -",
+            "etc",
+            "d /r 0711 0 0 5,6,7,8 u:1000:rw-,m::r--,d:u::rwx,d:g::r-x,d:o::--- -",
+        ],
+        "",
+        &[
+            "d / 0755 0 0 -",
+            "etc",
+            "d /r 1750 7 8 5,6,1000000000000,8 u:1000:rw-,m::r--,d:u::rwx,d:g::r-x,d:o::--- -",
+        ],
+        0,
+    ),
+    // A directory that has all of it.
+    (
+        "d /r 0711 7 8\n",
+        &["d / 0755 0 0 -", "etc", "d /r 0711 7 8 5,6,7,8"],
+        "",
+        &["d / 0755 0 0 -", "etc", "d /r 0711 7 8 5,6,7,8"],
+        0,
+    ),
+    // The root.
+    (
+        "d / 0700 0 0\n",
+        &["d / 0755 0 0 -", "etc"],
+        "",
+        &["d / 0700 0 0 set", "etc"],
+        0,
+    ),
+    // Comments and blank lines.
+    (
+        "# a comment\n\n \t\r\n  # another\nd /x 0755 0 0",
+        &["d / 0755 0 0 -", "etc"],
+        "",
+        &["d / 0755 0 0 child", "etc", "d /x 0755 0 0 new"],
+        0,
+    ),
+    // What an earlier run has staged.
+    (
+        "d /x/y 0755 0 0\n",
+        &[
+            "d / 0755 0 0 -",
+            "d /.#tf-x 0755 0 0 -",
+            "f /.#tf-x/k 0644 0 0 - =v",
+            "etc",
+            "d /x 0755 0 0 -",
+            "f /x/.#tf-y 0644 0 0 -",
+        ],
+        "",
+        &[
+            "d / 0755 0 0 child",
+            "etc",
+            "d /x 0755 0 0 child",
+            "d /x/y 0755 0 0 new",
+        ],
+        0,
+    ),
+    // A directory of another user.
+    (
+        "d /home/u/x 0755 0 0\n",
+        &[
+            "d / 0755 0 0 -",
+            "etc",
+            "d /home 0755 0 0 -",
+            "d /home/u 0755 1000 1000 -",
+        ],
+        ": /etc/tmpfiles.d/a.conf:1: /home/u/x refused at /home/u/x: unsafe owner\n",
+        &[
+            "d / 0755 0 0 -",
+            "etc",
+            "d /home 0755 0 0 -",
+            "d /home/u 0755 1000 1000 -",
+        ],
+        73,
+    ),
+    // A directory of the same user.
+    (
+        "d /home/u/x 0700 1000 1000\n",
+        &[
+            "d / 0755 0 0 -",
+            "etc",
+            "d /home 0755 0 0 -",
+            "d /home/u 0755 1000 1000 -",
+        ],
+        "",
+        &[
+            "d / 0755 0 0 -",
+            "etc",
+            "d /home 0755 0 0 -",
+            "d /home/u 0755 1000 1000 child",
+            "d /home/u/x 0700 1000 1000 new",
+        ],
+        0,
+    ),
+    // A link and a file above.
+    (
+        "d /s/x 0755 0 0\nz /q\nd /f/x 0755 0 0\nd /ok 0755 0 0\n",
+        &[
+            "d / 0755 0 0 -",
+            "etc",
+            "f /f 0644 0 0 - =v",
+            "l /s 0777 0 0 - - /t",
+        ],
+        ": /etc/tmpfiles.d/a.conf:2: NotBuilt\n: /etc/tmpfiles.d/a.conf:1: /s/x refused at /s: link\n: /etc/tmpfiles.d/a.conf:3: /f/x refused at /f: not a directory\n",
+        &[
+            "d / 0755 0 0 child",
+            "etc",
+            "f /f 0644 0 0 - =v",
+            "d /ok 0755 0 0 new",
+            "l /s 0777 0 0 - - /t",
+        ],
+        73,
+    ),
+];
+
+#[test]
+fn lines_are_carried_out(rt: HostRuntime) -> Result<(), Fail> {
+    for (lines, before, said, after, status) in LINES {
+        let row = Row {
+            words: CREATE,
+            lines,
+            before,
+            said,
+            after,
+            status,
+        };
+        expect(&rt, rt.alloc(), &row)?;
+    }
+    Ok(())
+}
+
+#[test]
+fn other_kinds_are_left(rt: HostRuntime) -> Result<(), Fail> {
+    for (object, name) in [
+        ("f /o 0644 0 0 -", "file"),
+        ("l /o 0777 0 0 - - /t", "link"),
+        ("p /o 0644 0 0 -", "fifo"),
+        ("c /o 0644 0 0 - - 1:3", "character device"),
+        ("b /o 0644 0 0 - - 8:0", "block device"),
+    ] {
+        let said = format!(in rt.alloc(); ": /etc/tmpfiles.d/a.conf:1: /o is a {name}, left\n")?;
+        let row = Row {
+            words: CREATE,
+            lines: "d /o 0755 0 0\n",
+            before: &["d / 0755 0 0 -", "etc", object],
+            said: &said,
+            after: &["d / 0755 0 0 -", "etc", object],
+            status: 0,
+        };
+        expect(&rt, rt.alloc(), &row)?;
+    }
+    Ok(())
+}
+
+const APP: &str = "d /run/app 0750 0 0\n";
+
+const ALONE: &[&str] = &["d / 0755 0 0 -", "etc"];
+
+const APP_MADE: &[&str] = &[
+    "d / 0755 0 0 child",
+    "etc",
+    "d /run 0755 0 0 new",
+    "d /run/app 0750 0 0 new",
+];
+
+/// The tree after the first step of making `/run/app`.
+const APP_BEGUN: &[&str] = &["d / 0755 0 0 child", "d /.#tf-run 0700 0 0 new", "etc"];
+
+#[test]
+fn runs_stop_after_their_limit(rt: HostRuntime) -> Result<(), Fail> {
+    for (stop, said, after, status) in [
+        ("--stop-after=0", ": stopped after 0 steps\n", ALONE, 75),
+        ("--stop-after=1", ": stopped after 1 steps\n", APP_BEGUN, 75),
+        ("--stop-after=6", "", APP_MADE, 0),
+        ("--stop-after=18446744073709551615", "", APP_MADE, 0),
+    ] {
+        let row = Row {
+            words: &["systemd-tmpfiles", "--create", stop],
+            lines: APP,
+            before: ALONE,
+            said,
+            after,
+            status,
+        };
+        expect(&rt, rt.alloc(), &row)?;
+    }
+    Ok(())
 }
 
 #[test]
 fn each_stop_is_mended_by_a_whole_run(rt: HostRuntime) -> Result<(), Fail> {
+    let input = image(&rt, rt.alloc(), APP, ALONE)?;
+    let wanted = image(&rt, rt.alloc(), APP, APP_MADE)?;
     // How many steps are done before the stop, and how many the run after it takes.
-    let rows = [
+    for (stop, enough, too_few) in [
         ("--stop-after=0", "--stop-after=6", "--stop-after=5"),
         ("--stop-after=1", "--stop-after=7", "--stop-after=6"),
         ("--stop-after=2", "--stop-after=7", "--stop-after=6"),
         ("--stop-after=3", "--stop-after=3", "--stop-after=2"),
         ("--stop-after=4", "--stop-after=4", "--stop-after=3"),
         ("--stop-after=5", "--stop-after=4", "--stop-after=3"),
-    ];
-    for (stop, enough, too_few) in rows {
-        let (half, end) = run(
-            &rt,
-            rt.alloc(),
-            &["systemd-tmpfiles", "--create", stop],
-            CLOCK,
-            APP.as_bytes(),
-        )?;
+    ] {
+        let words = ["systemd-tmpfiles", "--create", stop];
+        let (half, end) = run(&rt, rt.alloc(), &words, input.as_bytes())?;
         assert_eq!(rt; end, 75);
-        for again in [
-            &["systemd-tmpfiles", "--create"] as &[&str],
-            &["systemd-tmpfiles", "--create", enough],
+        for (words, status) in [
+            (CREATE, 0),
+            (&["systemd-tmpfiles", "--create", enough] as &[&str], 0),
+            (&["systemd-tmpfiles", "--create", too_few], 75),
         ] {
-            let (whole, end) = run(&rt, rt.alloc(), again, CLOCK, &half)?;
-            assert_eq!(rt; end, 0);
-            assert!(rt; whole.as_slice() == APP_MADE.as_bytes());
+            let (whole, end) = run(&rt, rt.alloc(), words, &half)?;
+            assert_eq!(rt; end, status);
+            assert!(rt; end == 75 || whole.as_slice() == wanted.as_bytes());
         }
-        let (_, end) = run(
-            &rt,
-            rt.alloc(),
-            &["systemd-tmpfiles", "--create", too_few],
-            CLOCK,
-            &half,
-        )?;
-        assert_eq!(rt; end, 75);
     }
     Ok(())
 }
 
-#[test]
-fn runs_stop_after_their_limit(rt: HostRuntime) -> Result<(), Fail> {
-    let rows: [(&str, &str, &str, u8); 4] = [
-        ("--stop-after=1", "", APP_STAGED, 75),
-        ("--stop-after=6", "", APP_MADE, 0),
-        ("--stop-after=0", ": stopped after 0 steps\n", APP, 75),
-        ("--stop-after=18446744073709551615", "", APP_MADE, 0),
-    ];
-    for (stop, said, image, end) in rows {
-        let words = ["systemd-tmpfiles", "--create", stop];
-        let (output, found) = run(&rt, rt.alloc(), &words, CLOCK, APP.as_bytes())?;
-        assert_eq!(rt; found, end);
-        let expected = format!(in rt.alloc(); "{said}{image}")?;
-        assert!(rt; output.as_slice() == expected.as_bytes());
-    }
-    Ok(())
-}
+/// Folders with a mask, and with a file above another of its name.
+const FOLDERS: &[&str] = &[
+    "d / 0755 0 0 -",
+    "d /etc 0755 0 0 -",
+    "d /etc/tmpfiles.d 0755 0 0 -",
+    "l /etc/tmpfiles.d/m.conf 0777 0 0 - - /dev/null",
+    "f /etc/tmpfiles.d/r.conf 0644 0 0 - =d / 0700 0 0\n",
+    "d /usr 0755 0 0 -",
+    "d /usr/lib 0755 0 0 -",
+    "d /usr/lib/tmpfiles.d 0755 0 0 -",
+    "f /usr/lib/tmpfiles.d/m.conf 0644 0 0 - =d /m 0755 0 0\n",
+    "f /usr/lib/tmpfiles.d/r.conf 0644 0 0 - =d /usr 0711 0 0\nd / 0755 0 0\n",
+];
 
 #[test]
 fn words_choose_the_moment_and_the_files(rt: HostRuntime) -> Result<(), Fail> {
-    let rows: [(&[&str], &str, &str, &str, u8); 10] = [
-        (&["--now=1970-01-12T13:46:40Z"], APP, "", APP_MADE, 0),
-        (&["--now", "1970-01-12T13:46:40Z"], APP, "", APP_MADE, 0),
-        (
-            &["--boot", "--now=1970-01-12T13:46:40Z"],
-            APP,
-            "",
-            APP_MADE,
-            0,
-        ),
-        (
-            &["--now=1970-01-12T13:46:40Z"],
-            FOLDERS,
-            "",
-            FOLDERS_MADE,
-            0,
-        ),
-        (&["m.conf"], FOLDERS, "", FOLDERS, 0),
-        (&["n.conf"], FOLDERS, ": n.conf: not found\n", FOLDERS, 73),
-        (&[""], FOLDERS, ": : not found\n", FOLDERS, 73),
-        (
-            &["--now=1970-01-12T13:46:40Z", "r.conf", "m.conf", "r.conf"],
-            FOLDERS,
-            "",
-            FOLDERS_MADE,
-            0,
-        ),
-        (
-            &[
-                "--now=1970-01-12T13:46:40Z",
-                "--",
-                "/usr/lib/tmpfiles.d/r.conf",
-            ],
-            FOLDERS,
-            "",
-            FOLDERS_LOWER,
-            0,
-        ),
-        (
-            &[],
-            ODD,
-            ": /etc/tmpfiles.d/o.conf: not a regular file\n",
-            ODD,
-            0,
-        ),
+    let all = ["d / 0700 0 0 0,0,5000000,0"];
+    let lower = ["d /usr 0711 0 0 0,0,5000000,0"];
+    let rows: [(&[&str], &str, usize, &str, u8); 7] = [
+        (&[], "", 0, all[0], 0),
+        (&["--boot"], "", 0, all[0], 0),
+        (&["r.conf", "m.conf", "r.conf"], "", 0, all[0], 0),
+        (&["--", "/usr/lib/tmpfiles.d/r.conf"], "", 5, lower[0], 0),
+        (&["m.conf"], "", 0, FOLDERS[0], 0),
+        (&["n.conf"], ": n.conf: not found\n", 0, FOLDERS[0], 73),
+        (&[""], ": : not found\n", 0, FOLDERS[0], 73),
     ];
-    for (more, input, said, image, end) in rows {
-        let mut words: Vec<&str> = Vec::new(rt.alloc());
-        words.push("systemd-tmpfiles")?;
-        words.push("--create")?;
+    for (more, said, place, object, status) in rows {
+        let mut words = vec![in rt.alloc();
+            "systemd-tmpfiles",
+            "--create",
+            "--now=1970-01-01T00:00:05Z",
+        ]?;
         words.extend_from_slice(more)?;
-        let (output, found) = run(&rt, rt.alloc(), &words, 5, input.as_bytes())?;
-        assert_eq!(rt; found, end);
-        let expected = format!(in rt.alloc(); "{said}{image}")?;
-        assert!(rt; output.as_slice() == expected.as_bytes());
+        let mut after = Vec::from_slice(rt.alloc(), FOLDERS)?;
+        if let Some(line) = after.get_mut(place) {
+            *line = object;
+        }
+        let row = Row {
+            words: &words,
+            lines: "",
+            before: FOLDERS,
+            said,
+            after: &after,
+            status,
+        };
+        expect(&rt, rt.alloc(), &row)?;
     }
     Ok(())
 }
 
+/// An image of a root alone, in the first version.
+const ROOT: &[u8] = b"tree-image 1\nd / 0755 0 0 0,0,0,0 - -\nend\n";
+
 #[test]
-fn input_that_ends_early_is_no_image(rt: HostRuntime) -> Result<(), Fail> {
-    let words = create(rt.alloc())?;
-    let cut = &ROOT[..ROOT.len() - 2];
-    expect(
-        &rt,
-        rt.alloc(),
-        &words,
-        cut,
-        b": bad image at line 3: Truncated\n",
-        66,
-    )
+fn an_old_image_is_written_anew(rt: HostRuntime) -> Result<(), Fail> {
+    let wanted = b"tree-image 2\nd / 0755 0 0 0,0,0,0 - - - -\nend\n";
+    for input in [ROOT, wanted] {
+        let (output, end) = run(&rt, rt.alloc(), CREATE, input)?;
+        assert_eq!(rt; end, 0);
+        assert!(rt; output.as_slice() == wanted.as_slice());
+    }
+    Ok(())
 }
 
 #[test]
 fn failing_ends_are_told(rt: HostRuntime) -> Result<(), Fail> {
-    let words = create(rt.alloc())?;
+    let words = words_of(rt.alloc(), CREATE)?;
     let mut broken = MemSource::new(
         Vec::from_slice(rt.alloc(), ROOT)?,
         vec![in rt.alloc(); 0u64]?,
     );
     let mut sink = MemSink::new(rt.alloc(), 4096, 4096, Vec::new(rt.alloc()))?;
-    let outcome = provision(rt.alloc(), &words, CLOCK, &mut broken, &mut sink);
+    let outcome = provision(rt.alloc(), &words, NOW, &mut broken, &mut sink);
     assert_eq!(rt; status(&outcome), 74);
     assert!(rt; sink.written().is_empty());
 
     let mut source = MemSource::new(Vec::from_slice(rt.alloc(), ROOT)?, Vec::new(rt.alloc()));
     let mut short = MemSink::new(rt.alloc(), 10, 64, vec![in rt.alloc(); 1u64]?)?;
-    let outcome = provision(rt.alloc(), &words, CLOCK, &mut source, &mut short);
+    let outcome = provision(rt.alloc(), &words, NOW, &mut source, &mut short);
     assert_eq!(rt; status(&outcome), 76);
     assert!(rt; short.written() == b"tree-image".as_slice());
     Ok(())
@@ -348,82 +417,30 @@ fn other_words_have_no_meaning(rt: HostRuntime) -> Result<(), Fail> {
         &["systemd-tmpfiles", "--create", "--exclude-prefix=/run"],
         &["systemd-sysusers"],
     ];
-    for row in rows {
-        let words = words_of(rt.alloc(), row)?;
-        let mut source = MemSource::new(
-            Vec::from_slice(rt.alloc(), ROOT)?,
-            vec![in rt.alloc(); 0u64]?,
-        );
-        let mut sink = MemSink::new(rt.alloc(), 4096, 4096, Vec::new(rt.alloc()))?;
-        let outcome = provision(rt.alloc(), &words, CLOCK, &mut source, &mut sink);
-        assert_eq!(rt; status(&outcome), 1);
-        assert!(rt; sink.written() == b": usage\n".as_slice());
+    for words in rows {
+        let (output, end) = run(&rt, rt.alloc(), words, ROOT)?;
+        assert_eq!(rt; end, 1);
+        assert!(rt; output.as_slice() == b": usage\n".as_slice());
     }
-    Ok(())
-}
-
-/// Gives the program an input and compares what it writes and how it ends.
-fn expect(
-    rt: &impl Abort,
-    alloc: Global,
-    words: &[String],
-    input: &[u8],
-    output: &[u8],
-    end: u8,
-) -> Result<(), Fail> {
-    let mut source = MemSource::new(Vec::from_slice(alloc, input)?, Vec::new(alloc));
-    let mut sink = MemSink::new(alloc, 4096, 4096, Vec::new(alloc))?;
-    let outcome = provision(alloc, words, CLOCK, &mut source, &mut sink);
-    assert_eq!(rt; status(&outcome), end);
-    assert!(rt; sink.written() == output);
     Ok(())
 }
 
 #[test]
 fn what_is_no_image_is_refused_at_its_first_fault(rt: HostRuntime) -> Result<(), Fail> {
-    let words = create(rt.alloc())?;
-    let rows: [(&[u8], &[u8]); 11] = [
-        (b"", b": bad image at line 1: Truncated\n"),
-        (b"tree-image 9\n", b": bad image at line 1: BadHeader\n"),
+    for (lines, said) in [
+        ("", "1: Truncated"),
+        ("tree-image 9\n", "1: BadHeader"),
+        (": x\ntree-image 1\nend\n", "3: NoParent"),
+        ("tree-image 1\nd / 0755 0 0 0,0,0,0 - -\nen", "3: Truncated"),
         (
-            b": x\ntree-image 1\nend\n",
-            b": bad image at line 3: NoParent\n",
+            "tree-image 1\nd / 0755 0 0 0,0,0,0 - -\nend\nend\n",
+            "4: BadLine",
         ),
-        (
-            b"tree-image 1\nd / 0755 0 0 0,0,0,0 - -\n",
-            b": bad image at line 3: Truncated\n",
-        ),
-        (
-            b"tree-image 1\nd / 0755 0 0 0,0,0,0 - -\nd /b 0755 0 0 0,0,0,0 - -\nd /a 0755 0 0 0,0,0,0 - -\n",
-            b": bad image at line 4: OutOfOrder\n",
-        ),
-        (
-            b"tree-image 1\nd / 0755 0 0 0,0,0,0 - -\nd /b 0755 0 0 0,0,0,0 - -\nd /b 0755 0 0 0,0,0,0 - -\n",
-            b": bad image at line 4: OutOfOrder\n",
-        ),
-        (
-            b"tree-image 1\nd / 0755 0 0 0,0,0,0 - -\nf /a/b 0644 0 0 0,0,0,0 - -\n",
-            b": bad image at line 3: NoParent\n",
-        ),
-        (
-            b"tree-image 1\nd / 755 0 0 0,0,0,0 - -\n",
-            b": bad image at line 2: BadLine\n",
-        ),
-        (
-            b"tree-image 1\nf / 0644 0 0 0,0,0,0 - -\n",
-            b": bad image at line 2: NoParent\n",
-        ),
-        (
-            b"tree-image 1\nd / 0755 0 0 0,0,0,0 - -\nend\nend\n",
-            b": bad image at line 4: BadLine\n",
-        ),
-        (
-            b"tree-image 1\nd / 0755 0 0 0,0,0,0 - -\nl /a 0755 0 0 0,0,0,0 - /t\n",
-            b": bad image at line 3: BadLine\n",
-        ),
-    ];
-    for (input, output) in rows {
-        expect(&rt, rt.alloc(), &words, input, output, 66)?;
+    ] {
+        let (output, end) = run(&rt, rt.alloc(), CREATE, lines.as_bytes())?;
+        let wanted = format!(in rt.alloc(); ": bad image at line {said}\n")?;
+        assert_eq!(rt; end, 66);
+        assert!(rt; output.as_slice() == wanted.as_bytes(), "{lines}");
     }
     Ok(())
 }

@@ -1,3 +1,4 @@
+//! The top call: words, clock, source and sink.
 ghost use Rattle.std.specs.Prelude.{◌≡◌, ◌⊎◌, None, map, string_bytes, IfSome};
 ghost use Rattle.pv_io.specs.Faults.{HasRisen};
 ghost use Rattle.provision_run.specs.Words.{meaning};

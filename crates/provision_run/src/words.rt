@@ -1,3 +1,4 @@
+//! What words mean to the program as far as it is built.
 ghost use Rattle.std.specs.Prelude.{◌≡◌, true, map, string_bytes, IfOk};
 ghost use Rattle.pv_words.specs.Answered.{Answers};
 ghost use Rattle.provision_run.specs.Words.{is_built, meaning};

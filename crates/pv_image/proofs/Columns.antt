@@ -1,5 +1,5 @@
 -- What the columns of a node say of it.
-use Rattle.std.proofs.Common.{◌≡◌, ◌≢◌, ℕ, ◌+◌, ◌*◌, ◌/◌, ◌%◌, ◌≤◌, true, ◌&&◌, ◌==◌, List, [], ◌∷◌, Option, Some, None, refl, sym, ap, ◌∙◌, subst, arith, if◌then◌else◌}
+use Rattle.std.proofs.Common.{◌≡◌, ◌≢◌, ℕ, ◌+◌, ◌*◌, ◌/◌, ◌%◌, ◌≤◌, true, ◌&&◌, ◌==◌, List, [], ◌∷◌, ◌++◌, Option, Some, None, refl, sym, ap, ◌∙◌, subst, arith, if◌then◌else◌}
 use Rattle.std.specs.List.{list_all}
 use Rattle.std.specs.Option.{option_map_or}
 use Rattle.std.proofs.lemmas.Bool.Decides.{nat_tests}
@@ -10,14 +10,16 @@ use Rattle.pv_acl.specs.Parts.{base_of, is_acl, is_part, mode_of, part_of_mode}
 use Rattle.pv_acl.specs.Texts.{acl_text}
 use Rattle.pv_path.specs.Paths.{Path}
 use Rattle.pv_path.specs.Printing.{printed_path}
-use Rattle.pv_path.specs.PathLaws.{both_true}
+use Rattle.pv_path.proofs.PathLaws.{both_true}
 use Rattle.pv_steps.specs.declared.node.Kind.{Kind}
 use Rattle.pv_steps.specs.declared.node.Kind.TheVariants.{Directory, File, Link, Fifo, CharDevice, BlockDevice}
 use Rattle.pv_steps.specs.declared.object.Object.{Object}
 use Rattle.pv_steps.specs.Objects.{AclFits, IsObject}
 use Rattle.pv_image.specs.declared.node.Plain.{Plain}
+use Rattle.pv_image.specs.declared.extras.Extras.{Extras}
 use Rattle.pv_image.specs.declared.payload.Payload.{Payload}
-use Rattle.pv_image.specs.Spelling.{IsBytePath, IsEntry, IsPayload, columns, kind_text, mode_text, payload_of, payload_text}
+use Rattle.pv_image.specs.declared.version.Version.{Version}
+use Rattle.pv_image.specs.Spelling.{IsBytePath, IsEntry, IsExtras, IsPayload, columns, extra_texts, extras_of, kind_text, mode_text, payload_of, payload_text}
 use Rattle.pv_image.specs.Nodes.{IsAclOf, IsPlain, object_of, plain_texts}
 
 -- ---- the letter of a kind, and the digits of a mode
@@ -139,50 +141,76 @@ same_plain a b is fits e =
     let modes : mode_text a.mode ≡ mode_text b.mode = cc in
     (kind_text-injective a.kind b.kind kinds, mode_text-injective a.mode b.mode is.mode fits.mode modes)
 
-module _ (kind path mode uid gid stamps acl payload : List ℕ) where
+-- the last element of a list, and those before it
+pub last_apart : {A : Type 0} (xs ys : List A) (x y : A) → xs ++ x ∷ [] ≡ ys ++ y ∷ [] → (xs ≡ ys) × (x ≡ y)
+last_apart [] [] x y e = (refl, cc)
+last_apart [] (b ∷ []) x y e = cc
+last_apart [] (b ∷ c ∷ ys) x y e = cc
+last_apart (a ∷ []) [] x y e = cc
+last_apart (a ∷ b ∷ xs) [] x y e = cc
+last_apart (a ∷ xs) (b ∷ ys) x y e =
+    let rest : xs ++ x ∷ [] ≡ ys ++ y ∷ [] = cc in
+    let first : a ≡ b = cc in
+    let below = last_apart xs ys x y rest in
+    (let same : xs ≡ ys = below.0 in cc, below.1)
+
+pub extras_is : (version : Version) (e : Path × Object) → IsEntry version e → IsExtras version e.1.node.kind (extras_of e.1)
+extras_is version e is = record { attrs = is.object.attrs; letters = is.object.letters; shown = is.shown }
+
+module _ (version : Version) (kind path mode uid gid stamps acl : List ℕ) (more : List (List ℕ)) (payload : List ℕ) where
   abbrev pub plain_columns : List (List ℕ)
   plain_columns = kind ∷ mode ∷ uid ∷ gid ∷ stamps ∷ []
 
   abbrev pub all_columns : List (List ℕ)
-  all_columns = kind ∷ path ∷ mode ∷ uid ∷ gid ∷ stamps ∷ acl ∷ payload ∷ []
+  all_columns = kind ∷ path ∷ mode ∷ uid ∷ gid ∷ stamps ∷ acl ∷ more ++ payload ∷ []
 
-  plain_part : (e : Path × Object) → all_columns ≡ columns e → plain_columns ≡ plain_texts (plain_at e.1)
+  plain_part : (e : Path × Object) → all_columns ≡ columns version e → plain_columns ≡ plain_texts (plain_at e.1)
   plain_part e same = cc
 
-  pub none_plain : ((x : Plain) → IsPlain x → plain_columns ≢ plain_texts x) → (e : Path × Object) → IsEntry e → all_columns ≢ columns e
+  last_part : (e : Path × Object) → all_columns ≡ columns version e → (more ≡ extra_texts version (extras_of e.1)) × (payload ≡ payload_text e.1.node.kind (payload_of e.1))
+  last_part e same =
+      let rest : more ++ payload ∷ [] ≡ extra_texts version (extras_of e.1) ++ payload_text e.1.node.kind (payload_of e.1) ∷ [] = cc in
+      last_apart more (extra_texts version (extras_of e.1)) payload (payload_text e.1.node.kind (payload_of e.1)) rest
+
+  pub none_plain : ((x : Plain) → IsPlain x → plain_columns ≢ plain_texts x) → (e : Path × Object) → IsEntry version e → all_columns ≢ columns version e
   none_plain none e is same = none (plain_at e.1) (plain_is e.1 is.object) (plain_part e same)
 
-  pub none_path : ((x : Path) → IsBytePath x → path ≢ printed_path x) → (e : Path × Object) → IsEntry e → all_columns ≢ columns e
+  pub none_path : ((x : Path) → IsBytePath x → path ≢ printed_path x) → (e : Path × Object) → IsEntry version e → all_columns ≢ columns version e
   none_path none e is same = none e.0 is.path (let p : path ≡ printed_path e.0 = cc in p)
 
   module _ (plain : Plain) (read : IsPlain plain × (plain_columns ≡ plain_texts plain)) where
-    same_as : (e : Path × Object) → IsEntry e → all_columns ≡ columns e → (e.1.node.kind ≡ plain.kind) × (mode_at e.1 ≡ plain.mode)
+    same_as : (e : Path × Object) → IsEntry version e → all_columns ≡ columns version e → (e.1.node.kind ≡ plain.kind) × (mode_at e.1 ≡ plain.mode)
     same_as e is same = same_plain (plain_at e.1) plain (plain_is e.1 is.object) read.0 (sym (plain_part e same) ∙ read.1)
 
-    pub none_acl : ((x : Acl) → IsAclOf plain.kind plain.mode x → acl ≢ acl_text x) → (e : Path × Object) → IsEntry e → all_columns ≢ columns e
+    pub none_acl : ((x : Acl) → IsAclOf plain.kind plain.mode x → acl ≢ acl_text x) → (e : Path × Object) → IsEntry version e → all_columns ≢ columns version e
     none_acl none e is same =
         let alike = same_as e is same in
         let here : acl ≡ acl_text e.1.node.acl = cc in
         let fits : IsAclOf plain.kind (mode_at e.1) e.1.node.acl = subst (λ (k : Kind). IsAclOf k (mode_at e.1) e.1.node.acl) alike.0 (acl_is e.1 is.object) in
         none e.1.node.acl (subst (λ (m : ℕ). IsAclOf plain.kind m e.1.node.acl) alike.1 fits) here
 
-    pub none_payload : ((x : Payload) → IsPayload plain.kind x → payload ≢ payload_text plain.kind x) → (e : Path × Object) → IsEntry e → all_columns ≢ columns e
+    pub none_extras : ((x : Extras) → IsExtras version plain.kind x → more ≢ extra_texts version x) → (e : Path × Object) → IsEntry version e → all_columns ≢ columns version e
+    none_extras none e is same =
+        none (extras_of e.1) (subst (λ (k : Kind). IsExtras version k (extras_of e.1)) (same_as e is same).0 (extras_is version e is)) (last_part e same).0
+
+    pub none_payload : ((x : Payload) → IsPayload plain.kind x → payload ≢ payload_text plain.kind x) → (e : Path × Object) → IsEntry version e → all_columns ≢ columns version e
     none_payload none e is same =
         let alike = same_as e is same in
-        let here : payload ≡ payload_text e.1.node.kind (payload_of e.1) = cc in
+        let here : payload ≡ payload_text e.1.node.kind (payload_of e.1) = (last_part e same).1 in
         none (payload_of e.1) (subst (λ (k : Kind). IsPayload k (payload_of e.1)) alike.0 (payload_is e.1 is.object))
         (subst (λ (k : Kind). payload ≡ payload_text k (payload_of e.1)) alike.0 here)
 
-    pub entry_is : (names : Path) (list : Acl) (rest : Payload) → IsBytePath names × (path ≡ printed_path names) → IsAclOf plain.kind plain.mode list × (acl ≡ acl_text list)
-        → IsPayload plain.kind rest × (payload ≡ payload_text plain.kind rest) → IsEntry (names, object_of plain list rest) × (all_columns ≡ columns (names, object_of plain list rest))
-    entry_is names list rest p a w =
+    pub entry_is : (names : Path) (list : Acl) (extras : Extras) (rest : Payload) → IsBytePath names × (path ≡ printed_path names) → IsAclOf plain.kind plain.mode list × (acl ≡ acl_text list)
+        → IsExtras version plain.kind extras × (more ≡ extra_texts version extras)
+        → IsPayload plain.kind rest × (payload ≡ payload_text plain.kind rest) → IsEntry version (names, object_of plain list extras rest) × (all_columns ≡ columns version (names, object_of plain list extras rest))
+    entry_is names list extras rest p a x w =
         let bits : plain.mode / 512 ≤ 7 = let m = read.0.mode in omega arith in
         let owner : list.access.owner ≡ plain.mode / 64 % 8 = ap (λ (x : Part). x.owner) a.0.base in
         let group : list.access.group ≡ plain.mode / 8 % 8 = ap (λ (x : Part). x.group) a.0.base in
         let other : list.access.other ≡ plain.mode % 8 = ap (λ (x : Part). x.other) a.0.base in
         let whole : mode_of (plain.mode / 512) list.access ≡ plain.mode = let m = read.0.mode in omega arith in
         let modes : mode ≡ mode_text (mode_of (plain.mode / 512) list.access) = let here : mode ≡ mode_text plain.mode = cc in here ∙ ap mode_text (sym whole) in
-        let object : IsObject (object_of plain list rest) = record {
+        let object : IsObject (object_of plain list extras rest) = record {
           payload = w.0.fits;
           bytes = w.0.are_bytes;
           numbers = w.0.numbers;
@@ -191,5 +219,7 @@ module _ (kind path mode uid gid stamps acl payload : List ℕ) where
           acl = a.0.allowed;
           kind_acl = a.0.fits;
           stamps = read.0.stamps;
+          attrs = x.0.attrs;
+          letters = x.0.letters;
         } in
-        (record { path = p.0; object = object }, cc (read.1, p.1, a.1, w.1, modes))
+        (record { path = p.0; object = object; shown = x.0.shown }, cc (read.1, p.1, a.1, x.1, w.1, modes))

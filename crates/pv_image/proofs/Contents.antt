@@ -1,17 +1,19 @@
 -- The bytes of a file in Base64, and the other payloads.
-use Rattle.std.proofs.Common.{◌≡◌, ◌≢◌, ℕ, zero, suc, ◌<◌, ◌%◌, ◌/◌, ◌*◌, ◌+◌, Bool, true, false, not, ◌==◌, nat_lt, List, [], ◌∷◌, length, get_or, replicate, Option, Some, None, option_map, codes, refl, sym, ◌∙◌, subst, inl, inr, ◌⊎◌, arith}
+use Rattle.std.proofs.Common.{◌≡◌, ◌≢◌, ℕ, zero, suc, ◌<◌, ◌%◌, ◌/◌, ◌*◌, ◌+◌, Bool, true, false, not, ◌==◌, nat_lt, List, [], ◌∷◌, length, get_or, replicate, Option, Some, None, option_map, codes, refl, sym, ◌∙◌, subst, inl, inr, ◌⊎◌, arith, ◌++◌, ◌≤◌, take, drop, ap, append_assoc}
 use Rattle.std.specs.List.{list_all}
 use Rattle.std.proofs.lemmas.Bool.Decides.{nat_tests}
+use Rattle.std.proofs.lemmas.List.{length-take-le, take-append-drop}
+use Rattle.base64.proofs.EngineFacts.{encode_of-append}
 use Rattle.base64.specs.GeneralPurpose.{IsBytes, encode_of}
 use Rattle.base64.specs.Engines.{standard}
 use Rattle.base64.specs.Rfc4648.{encode_symbols, padding_len}
-use Rattle.pv_path.specs.PathLaws.{both_true}
+use Rattle.pv_path.proofs.PathLaws.{both_true}
 use Rattle.pv_path.specs.Printing.{printed}
 use Rattle.pv_steps.specs.declared.node.Kind.{Kind}
 use Rattle.pv_steps.specs.declared.node.Kind.TheVariants.{Directory, File, Link, Fifo, CharDevice, BlockDevice}
 use Rattle.pv_image.specs.Spelling.{IsPayload, are_bytes, content_text, numbers_text, payload_text}
 use Rattle.pv_image.specs.Reading.{AreNumbers, IsByteTarget, IsByteText, Reads, of_bytes, of_numbers}
-use Rattle.pv_image.proofs.Letters.{all_append, both_yes}
+use Rattle.pv_image.proofs.Characters.{all_append, both_yes}
 
 -- ---- bytes, by index and as a test
 
@@ -72,6 +74,15 @@ encoded_no_dash m e =
     let bad : list_all (λ c. not (c == 45)) (codes "-") ≡ true = rw e at all in
     let is : list_all (λ c. not (c == 45)) (codes "-") ≡ false = refl in
     cc
+
+-- the first bytes, some threes, are encoded, and then the others
+pub encoded_more : (whole old new rest front back : List ℕ) → 3072 ≤ length rest → whole ≡ old ++ encode_of standard rest → front ≡ take 3072 rest → back ≡ drop 3072 rest → new ≡ old ++ encode_of standard front → whole ≡ new ++ encode_of standard back
+encoded_more whole old new rest front back long so_far is others grown =
+    let threes : length (take 3072 rest) % 3 ≡ 0 = rw (length-take-le 3072 rest long) refl in
+    let parts : encode_of standard rest ≡ encode_of standard front ++ encode_of standard back =
+    ap (encode_of standard) (sym (take-append-drop 3072 rest)) ∙ encode_of-append standard (take 3072 rest) (drop 3072 rest) threes
+    ∙ ap (λ (t : List ℕ). encode_of standard t ++ encode_of standard (drop 3072 rest)) (sym is) ∙ ap (λ (t : List ℕ). encode_of standard front ++ encode_of standard t) (sym others) in
+    so_far ∙ ap (λ (t : List ℕ). old ++ t) parts ∙ sym (append_assoc old (encode_of standard front) (encode_of standard back)) ∙ ap (λ (t : List ℕ). t ++ encode_of standard back) (sym grown)
 
 -- no text, and the dash, beside what Base64 reads
 pub nothing_reads : Reads content_text IsByteText [] None

@@ -2,7 +2,7 @@
 use Rattle.std.proofs.Common.{◌≡◌, ℕ, Bool, true, false, not, ◌==◌, List, [], ◌∷◌, ◌++◌, Option, Some, None, refl, sym, ap, ◌∙◌, arith}
 use Rattle.std.specs.List.{list_all, slice_split, join_with_byte}
 use Rattle.std.proofs.lemmas.List.Splits.{join_with_byte-slice_split}
-use Rattle.pv_path.specs.PathLaws.{both_true}
+use Rattle.pv_path.proofs.PathLaws.{both_true}
 use Rattle.pv_image.specs.Spelling.{lacks}
 use Rattle.pv_image.specs.Reading.{Reads}
 

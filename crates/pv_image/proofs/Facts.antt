@@ -2,7 +2,7 @@
 use Rattle.std.proofs.Common.{◌≡◌, ℕ, Bool, true, false, ◌&&◌, ◌==◌, List, [], ◌∷◌, codes, refl, subst, arith}
 use Rattle.std.specs.List.{list_all, list_any, slice_split, join_with_byte}
 use Rattle.std.proofs.lemmas.Bool.Decides.{nat_tests}
-use Rattle.pv_path.specs.PathLaws.{both_true}
+use Rattle.pv_path.proofs.PathLaws.{both_true}
 use Rattle.pv_path.specs.Printing.{printed}
 use Rattle.pv_text.specs.Facts.{fact_letters, is_fact_letter, is_fact_value}
 use Rattle.pv_image.specs.Spelling.{are_bytes, fact_text, fact_texts}

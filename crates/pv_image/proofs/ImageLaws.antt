@@ -9,22 +9,24 @@ use Rattle.std.specs.declared.cmp.Ordering.{Ordering}
 use Rattle.std.specs.declared.cmp.Ordering.TheVariants.{Less, Equal, Greater}
 use Rattle.std.proofs.lemmas.List.Concat.{flat_map-append}
 use Rattle.pv_path.specs.Paths.{Path, has_names, parent_of, path_cmp, path_total, same_path}
-use Rattle.pv_path.specs.PathLaws.{both_true, parent_of-differs, parent_of-is_prefix, path_cmp-exact, prefix_not_greater}
+use Rattle.pv_path.proofs.PathLaws.{both_true, parent_of-differs, parent_of-is_prefix, path_cmp-exact, prefix_not_greater}
 use Rattle.pv_steps.specs.Objects.{is_directory}
 use Rattle.pv_steps.specs.declared.node.Kind.TheVariants.{Directory}
 use Rattle.pv_steps.specs.declared.object.Object.{Object}
 use Rattle.pv_steps.specs.Trees.{Files, IsTree, kind_of, places}
 use Rattle.pv_text.specs.Facts.{Values}
-use Rattle.pv_image.specs.Spelling.{IsEntry, end_text, fact_text, header_text, line, node_text, text_of}
+use Rattle.pv_image.specs.Spelling.{IsEntry, Shows, end_text, extras_of, fact_text, header_text, line, node_text, old_text_of, text_in, text_of}
 use Rattle.pv_image.specs.Images.{HasFault, cut_off, misspelt, misplaced, later, HasImageFault, HaveText, IsCut, IsImage, Spells, Stage, Before, InFacts, InNodes, After, What, Note, Header, Fact, Node, End, are_byte_names, follows, has_parent, is_byte_fact, is_line, is_note, is_root, judged}
 use Rattle.pv_image.specs.Progress.{Fails}
 use Rattle.pv_image.specs.declared.fault.ImageFault.{ImageFault}
 use Rattle.pv_image.specs.declared.fault.ImageFault.TheVariants as fault
-use Rattle.pv_image.proofs.Letters.{all_append, all_back, both_yes}
+use Rattle.pv_image.specs.declared.version.Version.{Version}
+use Rattle.pv_image.specs.declared.version.Version.TheVariants.{One, Two}
+use Rattle.pv_image.proofs.Characters.{all_append, all_back, both_yes}
 use Rattle.pv_image.proofs.Facts.{fact_whole}
 use Rattle.pv_image.proofs.Order.{any_dir, dir_at, first_of_T, less_true, second_of_T, turned}
 use Rattle.pv_image.proofs.Solid.{node_whole}
-use Rattle.pv_image.proofs.Stages.{one_cut}
+use Rattle.pv_image.proofs.Stages.{one_cut, same_version-self}
 use Rattle.pv_image.proofs.OnceLine.{spells_once}
 
 both_T : (a b : Bool) → T a → T b → T (a && b)
@@ -127,13 +129,13 @@ module _ (files : Files) (is : IsTree files) where
   there done e es whole =
       fin.get-entries files e.0 ∙ ap (fin.find path_cmp e.0) whole ∙ find_at path_cmp path_total done e es (sorted_at done (e ∷ es) whole)
 
-  entries_are : (done es : List (Path × Object)) → all ≡ done ++ es → list_all (λ e. are_byte_names e.0) es ≡ true → AllByRecursion IsEntry es
-  entries_are done [] whole fit = tt
-  entries_are done (e ∷ es) whole fit =
+  entries_are : (version : Version) → ((path : Path) (o : Object) → places files path ≡ Some o → Shows version (extras_of o)) → (done es : List (Path × Object)) → all ≡ done ++ es → list_all (λ e. are_byte_names e.0) es ≡ true → AllByRecursion (IsEntry version) es
+  entries_are version shown done [] whole fit = tt
+  entries_are version shown done (e ∷ es) whole fit =
       let here = there done e es whole in
       let parts = both_true (are_byte_names e.0) (list_all (λ x. are_byte_names x.0) es) fit in
       let names : has_names e.0 ≡ true = is.names e.0 (ap is_some here) in
-      (record { path = record { names = names; bytes = parts.0 }; object = is.objects e.0 e.1 here }, entries_are (done ++ e ∷ []) es (whole ∙ sym (append_assoc done (e ∷ []) es)) parts.1)
+      (record { path = record { names = names; bytes = parts.0 }; object = is.objects e.0 e.1 here; shown = shown e.0 e.1 here }, entries_are version shown (done ++ e ∷ []) es (whole ∙ sym (append_assoc done (e ∷ []) es)) parts.1)
 
   -- the directory of each path but the root is among those before it
   parent_before : (done : List (Path × Object)) (e : Path × Object) (es : List (Path × Object)) → all ≡ done ++ e ∷ es → e.0 ≢ [] → has_parent done e.0 ≡ true
@@ -195,49 +197,53 @@ end_lines = line end_text ++ []
 abbrev Sound : Stage → List ℕ → Type 0
 Sound stage bytes = (n : ℕ) (f : ImageFault) → HasFault n stage bytes f → ⊥
 
-end_sound : (entries : List (Path × Object)) → Sound (InNodes entries) end_lines
-end_sound entries n f h = ended (suc n) f (step_on n (InNodes entries) After end_lines end_text [] End f (first_cut end_text [] refl) refl refl h)
+end_sound : (version : Version) → (entries : List (Path × Object)) → Sound (InNodes version entries) end_lines
+end_sound version entries n f h = ended (suc n) f (step_on n (InNodes version entries) After end_lines end_text [] End f (first_cut end_text [] refl) refl refl h)
 
-nodes_sound : (files : Files) (is : IsTree files) (x : Path × Object) (done es : List (Path × Object)) → fin.entries files ≡ (x ∷ done) ++ es → AllByRecursion IsEntry es → Sound (InNodes (x ∷ done)) (flat_map line (map node_text es) ++ end_lines)
-nodes_sound files is x done [] whole are n f h = end_sound (x ∷ done) n f h
-nodes_sound files is x done (e ∷ es) whole are n f h =
-    let tail = flat_map line (map node_text es) ++ end_lines in
-    let glued : flat_map line (map node_text (e ∷ es)) ++ end_lines ≡ line (node_text e) ++ tail = append_assoc (line (node_text e)) (flat_map line (map node_text es)) end_lines in
+nodes_sound : (version : Version) → (files : Files) (is : IsTree files) (x : Path × Object) (done es : List (Path × Object)) → fin.entries files ≡ (x ∷ done) ++ es → AllByRecursion (IsEntry version) es → Sound (InNodes version (x ∷ done)) (flat_map line (map (node_text version) es) ++ end_lines)
+nodes_sound version files is x done [] whole are n f h = end_sound version (x ∷ done) n f h
+nodes_sound version files is x done (e ∷ es) whole are n f h =
+    let tail = flat_map line (map (node_text version) es) ++ end_lines in
+    let glued : flat_map line (map (node_text version) (e ∷ es)) ++ end_lines ≡ line (node_text version e) ++ tail = append_assoc (line (node_text version e)) (flat_map line (map (node_text version) es)) end_lines in
     let last : follows path_cmp (x ∷ done) e.0 ≡ true = follows_sorted path_cmp (x ∷ done) e es (sorted_at files is (x ∷ done) (e ∷ es) whole) in
     let up : has_parent (x ∷ done) e.0 ≡ true = parent_before files is (x ∷ done) e es whole (not_root files is x done e es whole) in
-    let says : judged n (InNodes (x ∷ done)) (Node e) ≡ Some (Ok (InNodes ((x ∷ done) ++ e ∷ []))) = rw (last, up) refl in
-    nodes_sound files is x (done ++ e ∷ []) es (whole ∙ sym (append_assoc (x ∷ done) (e ∷ []) es)) are.1 (suc n) f
-    (step_on n (InNodes (x ∷ done)) (InNodes ((x ∷ done) ++ e ∷ [])) (line (node_text e) ++ tail) (node_text e) tail (Node e) f (first_cut (node_text e) tail (node_whole e are.0)) (are.0, refl) says
-    (subst (λ (t : List ℕ). HasFault n (InNodes (x ∷ done)) t f) glued h))
+    let says : judged n (InNodes version (x ∷ done)) (Node version e) ≡ Some (Ok (InNodes version ((x ∷ done) ++ e ∷ []))) = rw (same_version-self version, last, up) refl in
+    nodes_sound version files is x (done ++ e ∷ []) es (whole ∙ sym (append_assoc (x ∷ done) (e ∷ []) es)) are.1 (suc n) f
+    (step_on n (InNodes version (x ∷ done)) (InNodes version ((x ∷ done) ++ e ∷ [])) (line (node_text version e) ++ tail) (node_text version e) tail (Node version e) f (first_cut (node_text version e) tail (node_whole version e are.0)) (are.0, refl) says
+    (subst (λ (t : List ℕ). HasFault n (InNodes version (x ∷ done)) t f) glued h))
 
-tree_sound : (files : Files) (is : IsTree files) (facts : List (ℕ × List ℕ)) → AllByRecursion IsEntry (fin.entries files) → Sound (InFacts facts) (flat_map line (map node_text (fin.entries files)) ++ end_lines)
-tree_sound files is facts are = by_first (root_first files is (fin.entries files) refl)
+tree_sound : (version : Version) → (files : Files) (is : IsTree files) (facts : List (ℕ × List ℕ)) → AllByRecursion (IsEntry version) (fin.entries files) → Sound (InFacts version facts) (flat_map line (map (node_text version) (fin.entries files)) ++ end_lines)
+tree_sound version files is facts are = by_first (root_first files is (fin.entries files) refl)
   where
-    by_first : (e : Path × Object) × (rest : List (Path × Object)) × (fin.entries files ≡ e ∷ rest) × (is_root e ≡ true) → Sound (InFacts facts) (flat_map line (map node_text (fin.entries files)) ++ end_lines)
+    by_first : (e : Path × Object) × (rest : List (Path × Object)) × (fin.entries files ≡ e ∷ rest) × (is_root e ≡ true) → Sound (InFacts version facts) (flat_map line (map (node_text version) (fin.entries files)) ++ end_lines)
     by_first (e, rest, whole, root) n f h =
-        let tail = flat_map line (map node_text rest) ++ end_lines in
-        let mine : AllByRecursion IsEntry (e ∷ rest) = subst (AllByRecursion IsEntry) whole are in
-        let glued : flat_map line (map node_text (e ∷ rest)) ++ end_lines ≡ line (node_text e) ++ tail = append_assoc (line (node_text e)) (flat_map line (map node_text rest)) end_lines in
-        let says : judged n (InFacts facts) (Node e) ≡ Some (Ok (InNodes (e ∷ []))) = rw root refl in
-        let here : HasFault n (InFacts facts) (line (node_text e) ++ tail) f = subst (λ (t : List ℕ). HasFault n (InFacts facts) t f) (ap (λ (es : List (Path × Object)). flat_map line (map node_text es) ++ end_lines) whole ∙ glued) h in
-        nodes_sound files is e [] rest whole mine.1 (suc n) f
-        (step_on n (InFacts facts) (InNodes (e ∷ [])) (line (node_text e) ++ tail) (node_text e) tail (Node e) f (first_cut (node_text e) tail (node_whole e mine.0)) (mine.0, refl) says here)
+        let tail = flat_map line (map (node_text version) rest) ++ end_lines in
+        let mine : AllByRecursion (IsEntry version) (e ∷ rest) = subst (AllByRecursion (IsEntry version)) whole are in
+        let glued : flat_map line (map (node_text version) (e ∷ rest)) ++ end_lines ≡ line (node_text version e) ++ tail = append_assoc (line (node_text version e)) (flat_map line (map (node_text version) rest)) end_lines in
+        let says : judged n (InFacts version facts) (Node version e) ≡ Some (Ok (InNodes version (e ∷ []))) = rw (same_version-self version, root) refl in
+        let here : HasFault n (InFacts version facts) (line (node_text version e) ++ tail) f = subst (λ (t : List ℕ). HasFault n (InFacts version facts) t f) (ap (λ (es : List (Path × Object)). flat_map line (map (node_text version) es) ++ end_lines) whole ∙ glued) h in
+        nodes_sound version files is e [] rest whole mine.1 (suc n) f
+        (step_on n (InFacts version facts) (InNodes version (e ∷ [])) (line (node_text version e) ++ tail) (node_text version e) tail (Node version e) f (first_cut (node_text version e) tail (node_whole version e mine.0)) (mine.0, refl) says here)
 
-facts_sound : (facts : Values) (tail : List ℕ) → Sound (InFacts (fin.entries facts)) tail → (done es : List (ℕ × List ℕ)) → fin.entries facts ≡ done ++ es → list_all is_byte_fact es ≡ true → Sound (InFacts done) (flat_map line (map fact_text es) ++ tail)
-facts_sound facts tail sound done [] whole fit n f h = sound n f (subst (λ (es : List (ℕ × List ℕ)). HasFault n (InFacts es) tail f) (sym (whole ∙ append-nil done)) h)
-facts_sound facts tail sound done (x ∷ es) whole fit n f h =
+facts_sound : (version : Version) → (facts : Values) (tail : List ℕ) → Sound (InFacts version (fin.entries facts)) tail → (done es : List (ℕ × List ℕ)) → fin.entries facts ≡ done ++ es → list_all is_byte_fact es ≡ true → Sound (InFacts version done) (flat_map line (map fact_text es) ++ tail)
+facts_sound version facts tail sound done [] whole fit n f h = sound n f (subst (λ (es : List (ℕ × List ℕ)). HasFault n (InFacts version es) tail f) (sym (whole ∙ append-nil done)) h)
+facts_sound version facts tail sound done (x ∷ es) whole fit n f h =
     let parts = both_true (is_byte_fact x) (list_all is_byte_fact es) fit in
     let after = flat_map line (map fact_text es) ++ tail in
     let glued : flat_map line (map fact_text (x ∷ es)) ++ tail ≡ line (fact_text x) ++ after = append_assoc (line (fact_text x)) (flat_map line (map fact_text es)) tail in
     let in_order : T (fin.is_sorted nat_cmp (done ++ x ∷ es)) = subst (λ (xs : List (ℕ × List ℕ)). T (fin.is_sorted nat_cmp xs)) whole (fin.entries_sorted facts) in
     let last : follows nat_cmp done x.0 ≡ true = follows_sorted nat_cmp done x es in_order in
-    let says : judged n (InFacts done) (Fact x) ≡ Some (Ok (InFacts (done ++ x ∷ []))) = rw last refl in
-    facts_sound facts tail sound (done ++ x ∷ []) es (whole ∙ sym (append_assoc done (x ∷ []) es)) parts.1 (suc n) f
-    (step_on n (InFacts done) (InFacts (done ++ x ∷ [])) (line (fact_text x) ++ after) (fact_text x) after (Fact x) f (first_cut (fact_text x) after (fact_whole x parts.0)) (parts.0, refl) says
-    (subst (λ (t : List ℕ). HasFault n (InFacts done) t f) glued h))
+    let says : judged n (InFacts version done) (Fact x) ≡ Some (Ok (InFacts version (done ++ x ∷ []))) = rw last refl in
+    facts_sound version facts tail sound (done ++ x ∷ []) es (whole ∙ sym (append_assoc done (x ∷ []) es)) parts.1 (suc n) f
+    (step_on n (InFacts version done) (InFacts version (done ++ x ∷ [])) (line (fact_text x) ++ after) (fact_text x) after (Fact x) f (first_cut (fact_text x) after (fact_whole x parts.0)) (parts.0, refl) says
+    (subst (λ (t : List ℕ). HasFault n (InFacts version done) t f) glued h))
 
-header_sound : (tail : List ℕ) → Sound (InFacts []) tail → Sound Before (line header_text ++ tail)
-header_sound tail sound n f h = sound (suc n) f (step_on n Before (InFacts []) (line header_text ++ tail) header_text tail Header f (first_cut header_text tail refl) refl refl h)
+header_whole : (version : Version) → is_line (header_text version) ≡ true
+header_whole One = refl
+header_whole Two = refl
+
+header_sound : (version : Version) → (tail : List ℕ) → Sound (InFacts version []) tail → Sound Before (line (header_text version) ++ tail)
+header_sound version tail sound n f h = sound (suc n) f (step_on n Before (InFacts version []) (line (header_text version) ++ tail) (header_text version) tail (Header version) f (first_cut (header_text version) tail (header_whole version)) refl refl h)
 
 notes_sound : (tail : List ℕ) → Sound Before tail → (notes : List (List ℕ)) → list_all (λ note. is_note note && is_line note) notes ≡ true → Sound Before (flat_map line notes ++ tail)
 notes_sound tail sound [] fit n f h = sound n f h
@@ -249,11 +255,11 @@ notes_sound tail sound (note ∷ notes) fit n f h =
     notes_sound tail sound notes parts.1 (suc n) f
     (step_on n Before Before (line note ++ after) note after Note f (first_cut note after own.1) own.0 refl (subst (λ (t : List ℕ). HasFault n Before t f) glued h))
 
-text_parts : (facts : Values) (files : Files) → text_of facts files ≡ line header_text ++ (flat_map line (map fact_text (fin.entries facts)) ++ (flat_map line (map node_text (fin.entries files)) ++ end_lines))
-text_parts facts files =
-    ap (λ (t : List ℕ). line header_text ++ t) (flat_map-append line (map fact_text (fin.entries facts) ++ map node_text (fin.entries files)) (end_text ∷ [])
-    ∙ ap (λ (t : List ℕ). t ++ end_lines) (flat_map-append line (map fact_text (fin.entries facts)) (map node_text (fin.entries files)))
-    ∙ append_assoc (flat_map line (map fact_text (fin.entries facts))) (flat_map line (map node_text (fin.entries files))) end_lines)
+text_parts : (version : Version) (facts : Values) (files : Files) → text_in version facts files ≡ line (header_text version) ++ (flat_map line (map fact_text (fin.entries facts)) ++ (flat_map line (map (node_text version) (fin.entries files)) ++ end_lines))
+text_parts version facts files =
+    ap (λ (t : List ℕ). line (header_text version) ++ t) (flat_map-append line (map fact_text (fin.entries facts) ++ map (node_text version) (fin.entries files)) (end_text ∷ [])
+    ∙ ap (λ (t : List ℕ). t ++ end_lines) (flat_map-append line (map fact_text (fin.entries facts)) (map (node_text version) (fin.entries files)))
+    ∙ append_assoc (flat_map line (map fact_text (fin.entries facts))) (flat_map line (map (node_text version) (fin.entries files))) end_lines)
 
 names_back : (es : List (Path × Object)) → list_all are_byte_names (map (λ e. e.0) es) ≡ true → list_all (λ e. are_byte_names e.0) es ≡ true
 names_back [] e = refl
@@ -261,19 +267,20 @@ names_back (x ∷ es) e =
     let parts = both_true (are_byte_names x.0) (list_all are_byte_names (map (λ y. y.0) es)) e in
     both_yes (are_byte_names x.0) (list_all (λ y. are_byte_names y.0) es) parts.0 (names_back es parts.1)
 
-tree_entries : (files : Files) → IsTree files → list_all are_byte_names (fin.keys files) ≡ true → AllByRecursion IsEntry (fin.entries files)
-tree_entries files is fit = entries_are files is [] (fin.entries files) refl (names_back (fin.entries files) fit)
+tree_entries : (version : Version) (facts : Values) (files : Files) → HaveText version facts files → AllByRecursion (IsEntry version) (fin.entries files)
+tree_entries version facts files fit = entries_are files fit.tree version fit.shown [] (fin.entries files) refl (names_back (fin.entries files) fit.names_fit)
 
 pub image_sound : (bytes : List ℕ) (facts : Values) (files : Files) (f : ImageFault) → IsImage bytes facts files → HasImageFault bytes f → ⊥
 image_sound bytes facts files f image h =
     let fit = image.fit in
-    let nodes = flat_map line (map node_text (fin.entries files)) ++ end_lines in
+    let version = image.version in
+    let nodes = flat_map line (map (node_text version) (fin.entries files)) ++ end_lines in
     let facts_lines = flat_map line (map fact_text (fin.entries facts)) in
-    notes_sound (line header_text ++ (facts_lines ++ nodes))
-    (header_sound (facts_lines ++ nodes)
-    (facts_sound facts nodes (tree_sound files fit.tree (fin.entries facts) (tree_entries files fit.tree fit.names_fit)) [] (fin.entries facts) refl fit.facts_fit))
+    notes_sound (line (header_text version) ++ (facts_lines ++ nodes))
+    (header_sound version (facts_lines ++ nodes)
+    (facts_sound version facts nodes (tree_sound version files fit.tree (fin.entries facts) (tree_entries version facts files fit)) [] (fin.entries facts) refl fit.facts_fit))
     image.notes image.are_notes 1 f
-    (subst (λ (t : List ℕ). HasFault 1 Before t f) (image.text ∙ ap (λ (t : List ℕ). flat_map line image.notes ++ t) (text_parts facts files)) h)
+    (subst (λ (t : List ℕ). HasFault 1 Before t f) (image.text ∙ ap (λ (t : List ℕ). flat_map line image.notes ++ t) (text_parts version facts files)) h)
 
 -- ---- bytes have one fault
 
@@ -347,16 +354,16 @@ spell_append (t ∷ ts) us (w ∷ ws) vs f g = (f.0, spell_append ts us ws vs f.
 -- the facts, and the nodes, among what lines say
 abbrev fact_in : What → Option (ℕ × List ℕ)
 fact_in Note = None
-fact_in Header = None
+fact_in (Header version) = None
 fact_in (Fact fact) = Some fact
-fact_in (Node e) = None
+fact_in (Node version e) = None
 fact_in End = None
 
 abbrev node_in : What → Option (Path × Object)
 node_in Note = None
-node_in Header = None
+node_in (Header version) = None
 node_in (Fact fact) = None
-node_in (Node e) = Some e
+node_in (Node version e) = Some e
 node_in End = None
 
 cons_append : {B : Type 0} (o : Option B) (xs ys zs : List B) → zs ≡ xs ++ ys → cons_option o zs ≡ cons_option o xs ++ ys
@@ -368,11 +375,11 @@ found_append f [] ys = refl
 found_append f (x ∷ xs) ys = cons_append (f x) (filter_map f xs) (filter_map f ys) (filter_map f (xs ++ ys)) (found_append f xs ys)
 
 -- the lines of an image, and what they say
-abbrev texts_of : List (List ℕ) → List (ℕ × List ℕ) → List (Path × Object) → List (List ℕ)
-texts_of notes facts nodes = notes ++ (header_text ∷ (map fact_text facts ++ (map node_text nodes ++ end_text ∷ [])))
+abbrev texts_of : Version → List (List ℕ) → List (ℕ × List ℕ) → List (Path × Object) → List (List ℕ)
+texts_of version notes facts nodes = notes ++ (header_text version ∷ (map fact_text facts ++ (map (node_text version) nodes ++ end_text ∷ [])))
 
-abbrev whats_of : List (List ℕ) → List (ℕ × List ℕ) → List (Path × Object) → List What
-whats_of notes facts nodes = map (λ note. Note) notes ++ (Header ∷ (map (λ fact. Fact fact) facts ++ (map (λ e. Node e) nodes ++ End ∷ [])))
+abbrev whats_of : Version → List (List ℕ) → List (ℕ × List ℕ) → List (Path × Object) → List What
+whats_of version notes facts nodes = map (λ note. Note) notes ++ (Header version ∷ (map (λ fact. Fact fact) facts ++ (map (λ e. Node version e) nodes ++ End ∷ [])))
 
 notes_spell : (notes : List (List ℕ)) → list_all (λ note. is_note note && is_line note) notes ≡ true → AllSpell notes (map (λ note. Note) notes) × (list_all is_line notes ≡ true)
 notes_spell [] e = (tt, refl)
@@ -389,35 +396,35 @@ facts_spell (fact ∷ facts) e =
     let below = facts_spell facts parts.1 in
     (((parts.0, refl), below.0), both_yes (is_line (fact_text fact)) (list_all is_line (map fact_text facts)) (fact_whole fact parts.0) below.1)
 
-nodes_spell : (nodes : List (Path × Object)) → AllByRecursion IsEntry nodes → AllSpell (map node_text nodes) (map (λ e. Node e) nodes) × (list_all is_line (map node_text nodes) ≡ true)
-nodes_spell [] are = (tt, refl)
-nodes_spell (e ∷ nodes) are =
-    let below = nodes_spell nodes are.1 in
-    (((are.0, refl), below.0), both_yes (is_line (node_text e)) (list_all is_line (map node_text nodes)) (node_whole e are.0) below.1)
+nodes_spell : (version : Version) (nodes : List (Path × Object)) → AllByRecursion (IsEntry version) nodes → AllSpell (map (node_text version) nodes) (map (λ e. Node version e) nodes) × (list_all is_line (map (node_text version) nodes) ≡ true)
+nodes_spell version [] are = (tt, refl)
+nodes_spell version (e ∷ nodes) are =
+    let below = nodes_spell version nodes are.1 in
+    (((are.0, refl), below.0), both_yes (is_line (node_text version e)) (list_all is_line (map (node_text version) nodes)) (node_whole version e are.0) below.1)
 
-module _ (notes : List (List ℕ)) (facts : List (ℕ × List ℕ)) (nodes : List (Path × Object)) where
-  texts_spell : list_all (λ note. is_note note && is_line note) notes ≡ true → list_all is_byte_fact facts ≡ true → AllByRecursion IsEntry nodes → AllSpell (texts_of notes facts nodes) (whats_of notes facts nodes) × (list_all is_line (texts_of notes facts nodes) ≡ true)
+module _ (version : Version) (notes : List (List ℕ)) (facts : List (ℕ × List ℕ)) (nodes : List (Path × Object)) where
+  texts_spell : list_all (λ note. is_note note && is_line note) notes ≡ true → list_all is_byte_fact facts ≡ true → AllByRecursion (IsEntry version) nodes → AllSpell (texts_of version notes facts nodes) (whats_of version notes facts nodes) × (list_all is_line (texts_of version notes facts nodes) ≡ true)
   texts_spell f g h =
       let a = notes_spell notes f in
       let b = facts_spell facts g in
-      let c = nodes_spell nodes h in
-      let last = map node_text nodes ++ end_text ∷ [] in
-      let says = map (λ e. Node e) nodes ++ End ∷ [] in
-      let tail : AllSpell last says = spell_append (map node_text nodes) (end_text ∷ []) (map (λ e. Node e) nodes) (End ∷ []) c.0 (refl, tt) in
-      let tail_lines : list_all is_line last ≡ true = all_append is_line (map node_text nodes) (end_text ∷ []) c.1 refl in
+      let c = nodes_spell version nodes h in
+      let last = map (node_text version) nodes ++ end_text ∷ [] in
+      let says = map (λ e. Node version e) nodes ++ End ∷ [] in
+      let tail : AllSpell last says = spell_append (map (node_text version) nodes) (end_text ∷ []) (map (λ e. Node version e) nodes) (End ∷ []) c.0 (refl, tt) in
+      let tail_lines : list_all is_line last ≡ true = all_append is_line (map (node_text version) nodes) (end_text ∷ []) c.1 refl in
       let more : AllSpell (map fact_text facts ++ last) (map (λ fact. Fact fact) facts ++ says) = spell_append (map fact_text facts) last (map (λ fact. Fact fact) facts) says b.0 tail in
       let more_lines : list_all is_line (map fact_text facts ++ last) ≡ true = all_append is_line (map fact_text facts) last b.1 tail_lines in (
-        spell_append notes (header_text ∷ (map fact_text facts ++ last)) (map (λ note. Note) notes) (Header ∷ (map (λ fact. Fact fact) facts ++ says)) a.0 (refl, more),
-        all_append is_line notes (header_text ∷ (map fact_text facts ++ last)) a.1 more_lines,
+        spell_append notes (header_text version ∷ (map fact_text facts ++ last)) (map (λ note. Note) notes) (Header version ∷ (map (λ fact. Fact fact) facts ++ says)) a.0 (refl, more),
+        all_append is_line notes (header_text version ∷ (map fact_text facts ++ last)) a.1 (both_yes (is_line (header_text version)) (list_all is_line (map fact_text facts ++ last)) (header_whole version) more_lines),
       )
 
-  all_facts : filter_map fact_in (whats_of notes facts nodes) ≡ facts
+  all_facts : filter_map fact_in (whats_of version notes facts nodes) ≡ facts
   all_facts =
-      let says = map (λ e. Node e) nodes ++ End ∷ [] in
-      let rest = Header ∷ (map (λ fact. Fact fact) facts ++ says) in
+      let says = map (λ e. Node version e) nodes ++ End ∷ [] in
+      let rest = Header version ∷ (map (λ fact. Fact fact) facts ++ says) in
       found_append fact_in (map (λ note. Note) notes) rest ∙ ap (λ (xs : List (ℕ × List ℕ)). xs ++ filter_map fact_in rest) (none notes)
       ∙ found_append fact_in (map (λ fact. Fact fact) facts) says ∙ ap (λ (xs : List (ℕ × List ℕ)). xs ++ filter_map fact_in says) (own facts)
-      ∙ ap (λ (xs : List (ℕ × List ℕ)). facts ++ xs) (found_append fact_in (map (λ e. Node e) nodes) (End ∷ []) ∙ ap (λ (xs : List (ℕ × List ℕ)). xs ++ []) (others nodes)) ∙ append-nil facts
+      ∙ ap (λ (xs : List (ℕ × List ℕ)). facts ++ xs) (found_append fact_in (map (λ e. Node version e) nodes) (End ∷ []) ∙ ap (λ (xs : List (ℕ × List ℕ)). xs ++ []) (others nodes)) ∙ append-nil facts
     where
       none : (xs : List (List ℕ)) → filter_map fact_in (map (λ note. Note) xs) ≡ []
       none [] = refl
@@ -427,23 +434,23 @@ module _ (notes : List (List ℕ)) (facts : List (ℕ × List ℕ)) (nodes : Lis
       own [] = refl
       own (x ∷ xs) = ap (λ (ys : List (ℕ × List ℕ)). x ∷ ys) (own xs)
 
-      others : (xs : List (Path × Object)) → filter_map fact_in (map (λ e. Node e) xs) ≡ []
+      others : (xs : List (Path × Object)) → filter_map fact_in (map (λ e. Node version e) xs) ≡ []
       others [] = refl
       others (x ∷ xs) = others xs
 
-  all_nodes : filter_map node_in (whats_of notes facts nodes) ≡ nodes
+  all_nodes : filter_map node_in (whats_of version notes facts nodes) ≡ nodes
   all_nodes =
-      let says = map (λ e. Node e) nodes ++ End ∷ [] in
-      let rest = Header ∷ (map (λ fact. Fact fact) facts ++ says) in
+      let says = map (λ e. Node version e) nodes ++ End ∷ [] in
+      let rest = Header version ∷ (map (λ fact. Fact fact) facts ++ says) in
       found_append node_in (map (λ note. Note) notes) rest ∙ ap (λ (xs : List (Path × Object)). xs ++ filter_map node_in rest) (none notes)
       ∙ found_append node_in (map (λ fact. Fact fact) facts) says ∙ ap (λ (xs : List (Path × Object)). xs ++ filter_map node_in says) (others facts)
-      ∙ found_append node_in (map (λ e. Node e) nodes) (End ∷ []) ∙ ap (λ (xs : List (Path × Object)). xs ++ []) (own nodes) ∙ append-nil nodes
+      ∙ found_append node_in (map (λ e. Node version e) nodes) (End ∷ []) ∙ ap (λ (xs : List (Path × Object)). xs ++ []) (own nodes) ∙ append-nil nodes
     where
       none : (xs : List (List ℕ)) → filter_map node_in (map (λ note. Note) xs) ≡ []
       none [] = refl
       none (x ∷ xs) = none xs
 
-      own : (xs : List (Path × Object)) → filter_map node_in (map (λ e. Node e) xs) ≡ xs
+      own : (xs : List (Path × Object)) → filter_map node_in (map (λ e. Node version e) xs) ≡ xs
       own [] = refl
       own (x ∷ xs) = ap (λ (ys : List (Path × Object)). x ∷ ys) (own xs)
 
@@ -452,34 +459,50 @@ module _ (notes : List (List ℕ)) (facts : List (ℕ × List ℕ)) (nodes : Lis
       others (x ∷ xs) = others xs
 
   -- the bytes are these lines
-  lines_of_parts : flat_map line (texts_of notes facts nodes) ≡ flat_map line notes ++ (line header_text ++ (flat_map line (map fact_text facts) ++ (flat_map line (map node_text nodes) ++ end_lines)))
+  lines_of_parts : flat_map line (texts_of version notes facts nodes) ≡ flat_map line notes ++ (line (header_text version) ++ (flat_map line (map fact_text facts) ++ (flat_map line (map (node_text version) nodes) ++ end_lines)))
   lines_of_parts =
-      let last = map node_text nodes ++ end_text ∷ [] in
-      flat_map-append line notes (header_text ∷ (map fact_text facts ++ last))
-      ∙ ap (λ (t : List ℕ). flat_map line notes ++ (line header_text ++ t)) (flat_map-append line (map fact_text facts) last
-      ∙ ap (λ (t : List ℕ). flat_map line (map fact_text facts) ++ t) (flat_map-append line (map node_text nodes) (end_text ∷ [])))
+      let last = map (node_text version) nodes ++ end_text ∷ [] in
+      flat_map-append line notes (header_text version ∷ (map fact_text facts ++ last))
+      ∙ ap (λ (t : List ℕ). flat_map line notes ++ (line (header_text version) ++ t)) (flat_map-append line (map fact_text facts) last
+      ∙ ap (λ (t : List ℕ). flat_map line (map fact_text facts) ++ t) (flat_map-append line (map (node_text version) nodes) (end_text ∷ [])))
 
-image_lines : (bytes : List ℕ) (facts : Values) (files : Files) (image : IsImage bytes facts files) → bytes ≡ flat_map line (texts_of image.notes (fin.entries facts) (fin.entries files))
+image_lines : (bytes : List ℕ) (facts : Values) (files : Files) (image : IsImage bytes facts files) → bytes ≡ flat_map line (texts_of image.version image.notes (fin.entries facts) (fin.entries files))
 image_lines bytes facts files image =
-    image.text ∙ ap (λ (t : List ℕ). flat_map line image.notes ++ t) (text_parts facts files) ∙ sym (lines_of_parts image.notes (fin.entries facts) (fin.entries files))
+    image.text ∙ ap (λ (t : List ℕ). flat_map line image.notes ++ t) (text_parts image.version facts files) ∙ sym (lines_of_parts image.version image.notes (fin.entries facts) (fin.entries files))
 
 pub one_image : (bytes : List ℕ) (f g : Values) (t u : Files) → IsImage bytes f t → IsImage bytes g u → (f ≡ g) × (t ≡ u)
 one_image bytes f g t u a b =
-    let x = texts_spell a.notes (fin.entries f) (fin.entries t) a.are_notes a.fit.facts_fit (tree_entries t a.fit.tree a.fit.names_fit) in
-    let y = texts_spell b.notes (fin.entries g) (fin.entries u) b.are_notes b.fit.facts_fit (tree_entries u b.fit.tree b.fit.names_fit) in
-    let texts : texts_of a.notes (fin.entries f) (fin.entries t) ≡ texts_of b.notes (fin.entries g) (fin.entries u) = lines_once (texts_of a.notes (fin.entries f) (fin.entries t)) (texts_of b.notes (fin.entries g) (fin.entries u)) x.1 y.1 (sym (image_lines bytes f t a) ∙ image_lines bytes g u b) in
-    let whats : whats_of a.notes (fin.entries f) (fin.entries t) ≡ whats_of b.notes (fin.entries g) (fin.entries u) = whats_once (texts_of b.notes (fin.entries g) (fin.entries u)) (whats_of a.notes (fin.entries f) (fin.entries t)) (whats_of b.notes (fin.entries g) (fin.entries u)) (subst (λ (ts : List (List ℕ)). AllSpell ts (whats_of a.notes (fin.entries f) (fin.entries t))) texts x.0) y.0 in
-    let facts : fin.entries f ≡ fin.entries g = sym (all_facts a.notes (fin.entries f) (fin.entries t)) ∙ ap (filter_map fact_in) whats ∙ all_facts b.notes (fin.entries g) (fin.entries u) in
-    let nodes : fin.entries t ≡ fin.entries u = sym (all_nodes a.notes (fin.entries f) (fin.entries t)) ∙ ap (filter_map node_in) whats ∙ all_nodes b.notes (fin.entries g) (fin.entries u) in
+    let own = texts_of a.version a.notes (fin.entries f) (fin.entries t) in
+    let other = texts_of b.version b.notes (fin.entries g) (fin.entries u) in
+    let said = whats_of a.version a.notes (fin.entries f) (fin.entries t) in
+    let says = whats_of b.version b.notes (fin.entries g) (fin.entries u) in
+    let x = texts_spell a.version a.notes (fin.entries f) (fin.entries t) a.are_notes a.fit.facts_fit (tree_entries a.version f t a.fit) in
+    let y = texts_spell b.version b.notes (fin.entries g) (fin.entries u) b.are_notes b.fit.facts_fit (tree_entries b.version g u b.fit) in
+    let texts : own ≡ other = lines_once own other x.1 y.1 (sym (image_lines bytes f t a) ∙ image_lines bytes g u b) in
+    let whats : said ≡ says = whats_once other said says (subst (λ (ts : List (List ℕ)). AllSpell ts said) texts x.0) y.0 in
+    let facts : fin.entries f ≡ fin.entries g = sym (all_facts a.version a.notes (fin.entries f) (fin.entries t)) ∙ ap (filter_map fact_in) whats ∙ all_facts b.version b.notes (fin.entries g) (fin.entries u) in
+    let nodes : fin.entries t ≡ fin.entries u = sym (all_nodes a.version a.notes (fin.entries f) (fin.entries t)) ∙ ap (filter_map node_in) whats ∙ all_nodes b.version b.notes (fin.entries g) (fin.entries u) in
     (fin.same_entries_map f g facts, fin.same_entries_map t u nodes)
 
 -- ---- what was written is read again
 
-pub text_image : (facts : Values) (files : Files) → HaveText facts files → IsImage (text_of facts files) facts files
-text_image facts files fit = record { notes = []; are_notes = refl; fit = fit; text = refl }
+pub image_in : (version : Version) (facts : Values) (files : Files) → HaveText version facts files → IsImage (text_in version facts files) facts files
+image_in version facts files fit = record { version = version; notes = []; are_notes = refl; fit = fit; text = refl }
 
-pub read_again : (facts : Values) (files : Files) → HaveText facts files → (g : Values) (t : Files) → IsImage (text_of facts files) g t → (g ≡ facts) × (t ≡ files)
-read_again facts files fit g t is = one_image (text_of facts files) g facts t files is (text_image facts files fit)
+again_in : (version : Version) (facts : Values) (files : Files) → HaveText version facts files → (g : Values) (t : Files) → IsImage (text_in version facts files) g t → (g ≡ facts) × (t ≡ files)
+again_in version facts files fit g t is = one_image (text_in version facts files) g facts t files is (image_in version facts files fit)
+
+pub text_image : (facts : Values) (files : Files) → HaveText Two facts files → IsImage (text_of facts files) facts files
+text_image = image_in Two
+
+pub read_again : (facts : Values) (files : Files) → HaveText Two facts files → (g : Values) (t : Files) → IsImage (text_of facts files) g t → (g ≡ facts) × (t ≡ files)
+read_again = again_in Two
+
+pub old_text_image : (facts : Values) (files : Files) → HaveText One facts files → IsImage (old_text_of facts files) facts files
+old_text_image = image_in One
+
+pub old_read_again : (facts : Values) (files : Files) → HaveText One facts files → (g : Values) (t : Files) → IsImage (old_text_of facts files) g t → (g ≡ facts) × (t ≡ files)
+old_read_again = again_in One
 
 -- ---- answers
 

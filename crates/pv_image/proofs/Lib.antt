@@ -1,6 +1,6 @@
 pub mod Decimals
 pub mod Cutting
-pub mod Letters
+pub mod Characters
 pub mod Printing
 pub mod Paths
 pub mod Contents
@@ -12,6 +12,8 @@ pub mod Facts
 mod Lines
 mod Wholes
 pub mod Stages
+pub mod AttrTexts
+pub mod LetterTexts
 pub mod Once
 pub mod OnceAcl
 pub mod AclLetters

@@ -1,11 +1,7 @@
 -- Lines that are written column by column.
 use Rattle.std.proofs.Common.{◌≡◌, ℕ, List, [], ◌∷◌, ◌++◌, append_assoc, sym, ap, ◌∙◌}
 use Rattle.std.specs.List.{join_with_byte}
-
--- a text with columns added, each after a space
-abbrev pub with_columns : List ℕ → List (List ℕ) → List ℕ
-with_columns text [] = text
-with_columns text (column ∷ columns) = with_columns (text ++ 32 ∷ column) columns
+use Rattle.pv_image.specs.Writing.{with_columns}
 
 pub joined_columns : (o k : List ℕ) (ts : List (List ℕ)) (r : List ℕ) → with_columns (o ++ k) ts ++ r ≡ o ++ (join_with_byte 32 (k ∷ ts) ++ r)
 joined_columns o k [] r = append_assoc o k r

@@ -6,7 +6,7 @@ use Rattle.std.proofs.lemmas.Bool.Decides.{nat_tests}
 use Rattle.base64.specs.GeneralPurpose.{encode_of}
 use Rattle.base64.specs.Engines.{standard}
 use Rattle.base64.specs.Rfc4648.{encode_symbols, padding_len}
-use Rattle.pv_path.specs.PathLaws.{both_true}
+use Rattle.pv_path.proofs.PathLaws.{both_true}
 use Rattle.pv_image.specs.Spelling.{are_bytes, content_text, lacks}
 use Rattle.pv_image.proofs.Contents.{byte_below, encoded_all, symbols_all}
 
@@ -63,11 +63,11 @@ value c =
     else if nat_lt c 91 then c - 65
     else c - 71
 
-all_to : (ℕ → Bool) → ℕ → Bool
+unfoldable pub all_to : (ℕ → Bool) → ℕ → Bool
 all_to p zero = true
 all_to p (suc n) = p n && all_to p n
 
-all_to_is : (p : ℕ → Bool) (n i : ℕ) → all_to p n ≡ true → i < n → p i ≡ true
+pub all_to_is : (p : ℕ → Bool) (n i : ℕ) → all_to p n ≡ true → i < n → p i ≡ true
 unfolding all_to
 all_to_is p zero i e h = absurd (omega arith)
 all_to_is p (suc n) i e h = by_test (i == n) refl (both_true (p n) (all_to p n) e).0 (all_to_is p n i (both_true (p n) (all_to p n) e).1)

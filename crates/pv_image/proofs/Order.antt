@@ -9,17 +9,17 @@ use Rattle.std.specs.FinMap as fin
 use Rattle.std.specs.FinMap.Entries.{below_all}
 use Rattle.std.specs.declared.cmp.Ordering.{Ordering}
 use Rattle.std.specs.declared.cmp.Ordering.TheVariants.{Less, Equal, Greater}
-use Rattle.pv_path.specs.Paths.{Path, path_cmp, path_total, same_path, parent_of}
-use Rattle.pv_path.specs.PathLaws.{both_true, path_cmp-exact, path_cmp-refl, same_path-decides}
+use Rattle.pv_path.specs.Paths.{Path, path_cmp, path_total, same_path, parent_of, same_path-decides}
+use Rattle.pv_path.proofs.PathLaws.{both_true, path_cmp-exact, path_cmp-refl}
 use Rattle.pv_steps.specs.declared.node.Kind.{Kind}
 use Rattle.pv_steps.specs.declared.node.Kind.TheVariants.{Directory, File, Link, Fifo, CharDevice, BlockDevice}
 use Rattle.pv_steps.specs.declared.node.Node.{Node}
 use Rattle.pv_steps.specs.declared.object.Object.{Object}
 use Rattle.pv_steps.specs.Objects.{PayloadFits, is_directory}
 use Rattle.std.proofs.lemmas.List.{nil_from_length}
-use Rattle.pv_steps.specs.Trees.{Files, IsKind, node_at, places}
+use Rattle.pv_steps.specs.Trees.{Files, IsKind, kind_of, node_at, places}
 use Rattle.pv_image.specs.Images.{follows, has_parent}
-use Rattle.pv_image.proofs.Letters.{both_yes}
+use Rattle.pv_image.proofs.Characters.{both_yes}
 
 pub less_is : (r : Ordering) → is_lt r ≡ true → r ≡ Less
 less_is Less e = refl
@@ -167,6 +167,22 @@ has_parent-kind files path e = by_place (places files (parent_of path)) refl
     by_place : (o : Option Object) → places files (parent_of path) ≡ o → IsKind Directory files (parent_of path)
     by_place None q = absurd (let bad : false ≡ true = rw q at dir in cc)
     by_place (Some o) q = let is : is_directory o.node.kind ≡ true = rw q at dir in rw q (ap Some (directory_is o.node.kind is))
+
+-- a test of the directory of a path tells whether it was read before
+pub has_parent-from_kind : (files : Files) (path : Path) (b : Bool) → (b ≡ true → IsKind Directory files (parent_of path)) → (IsKind Directory files (parent_of path) → b ≡ true) → b ≡ has_parent (fin.entries files) path
+has_parent-from_kind files path b to from = by b refl (has_parent (fin.entries files) path) refl
+  where
+    held : (o : Option Object) → places files (parent_of path) ≡ o → IsKind Directory files (parent_of path) → has_parent (fin.entries files) path ≡ true
+    held None q kind = absurd (let no : None ≡ Some Directory = sym (ap kind_of q) ∙ kind in cc)
+    held (Some o) q kind =
+        let is : o.node.kind ≡ Directory = (let both : Some o.node.kind ≡ Some Directory = sym (ap kind_of q) ∙ kind in cc) in
+        has_parent-some files path o.node (sym (ap (option_map (λ (x : Object). x.node)) q)) ∙ ap is_directory is
+
+    by : (c : Bool) → b ≡ c → (d : Bool) → has_parent (fin.entries files) path ≡ d → c ≡ d
+    by true e true f = refl
+    by false e false f = refl
+    by true e false f = (let no : false ≡ true = sym f ∙ held (places files (parent_of path)) refl (to e) in cc)
+    by false e true f = (let no : false ≡ true = sym e ∙ from (has_parent-kind files path f) in cc)
 
 -- what follows the last entry of a map is absent, and is put at the end
 module _ {K X : Type 0} {R : K → K → Ordering} (o : IsTotalOrder R) (m : fin.FinMap R X) (k : K) (last : follows R (fin.entries m) k ≡ true) where

@@ -1,14 +1,14 @@
 -- Paths are read name by name.
-use Rattle.std.proofs.Common.{◌≡◌, ◌≢◌, ℕ, zero, suc, ◌+◌, ◌<◌, ◌≤◌, true, List, [], ◌∷◌, ◌++◌, length, get_or, map, take, refl, sym, ap, ◌∙◌, arith, Bor}
+use Rattle.std.proofs.Common.{◌≡◌, ◌≢◌, ℕ, zero, suc, ◌+◌, ◌<◌, ◌≤◌, true, List, [], ◌∷◌, ◌++◌, ◌-◌, length, get_or, map, take, drop, refl, sym, ap, ◌∙◌, arith, Bor}
 use Rattle.std.specs.List.{list_all}
 use Rattle.std.proofs.lemmas.List.{take_more, length-map}
 use Rattle.pv_path.specs.Names.{is_name}
 use Rattle.pv_path.specs.Paths.{Path, has_names}
 use Rattle.pv_path.specs.Printing.{printed}
-use Rattle.pv_path.specs.PathLaws.{both_true}
+use Rattle.pv_path.proofs.PathLaws.{both_true}
 use Rattle.pv_image.specs.Spelling.{IsByteName, IsBytePath, are_bytes}
 use Rattle.pv_image.specs.Reading.{texts}
-use Rattle.pv_image.proofs.Letters.{both_yes, all_append}
+use Rattle.pv_image.proofs.Characters.{both_yes, all_append}
 
 pub get_or-texts : {A : Type 0} (pieces : List (Bor A)) (i : ℕ) (d : Bor A) → get_or (texts pieces) i d.now ≡ (get_or pieces i d).now
 get_or-texts [] i d = refl
@@ -43,16 +43,27 @@ names_none (p ∷ pieces) (suc i) d h none (name ∷ path) is e =
     let below : texts pieces ≡ map printed path = cc in
     names_none pieces i d (omega arith) none path (record { names = (both_true (is_name name) (has_names path) is.names).1; bytes = (both_true (are_bytes name) (list_all are_bytes path) is.bytes).1 }) below
 
--- a list of eight slices is the eight
-pub eight : (ps : List (Bor (List ℕ))) (a b c d e f g h : Bor (List ℕ)) → 8 ≤ length ps → length ps < 9
-    → (get_or ps 0 a).now ∷ (get_or ps 1 b).now ∷ (get_or ps 2 c).now ∷ (get_or ps 3 d).now ∷ (get_or ps 4 e).now ∷ (get_or ps 5 f).now ∷ (get_or ps 6 g).now ∷ (get_or ps 7 h).now ∷ [] ≡ texts ps
-eight [] a b c d e f g h low high = absurd (omega arith)
-eight (p ∷ []) a b c d e f g h low high = absurd (omega arith)
-eight (p ∷ q ∷ []) a b c d e f g h low high = absurd (omega arith)
-eight (p ∷ q ∷ r ∷ []) a b c d e f g h low high = absurd (omega arith)
-eight (p ∷ q ∷ r ∷ s ∷ []) a b c d e f g h low high = absurd (omega arith)
-eight (p ∷ q ∷ r ∷ s ∷ t ∷ []) a b c d e f g h low high = absurd (omega arith)
-eight (p ∷ q ∷ r ∷ s ∷ t ∷ u ∷ []) a b c d e f g h low high = absurd (omega arith)
-eight (p ∷ q ∷ r ∷ s ∷ t ∷ u ∷ v ∷ []) a b c d e f g h low high = absurd (omega arith)
-eight (p ∷ q ∷ r ∷ s ∷ t ∷ u ∷ v ∷ w ∷ []) a b c d e f g h low high = refl
-eight (p ∷ q ∷ r ∷ s ∷ t ∷ u ∷ v ∷ w ∷ x ∷ ps) a b c d e f g h low high = absurd (omega arith)
+-- a list is its last slice after those before it
+last_of : (ps : List (Bor (List ℕ))) (m : ℕ) (h : Bor (List ℕ)) → length ps ≡ suc m → texts (take m ps) ++ (get_or ps m h).now ∷ [] ≡ texts ps
+last_of [] m h e = cc
+last_of (p ∷ []) zero h e = refl
+last_of (p ∷ []) (suc m) h e = cc
+last_of (p ∷ q ∷ ps) zero h e = cc
+last_of (p ∷ q ∷ ps) (suc m) h e = ap (λ (ts : List (List ℕ)). p.now ∷ ts) (last_of (q ∷ ps) m h (let below : length (q ∷ ps) ≡ suc m = cc in below))
+
+-- seven slices, some more, and a last one are the list
+pub seven_and_last : (ps : List (Bor (List ℕ))) (a b c d e f g h : Bor (List ℕ)) → 8 ≤ length ps
+    → (get_or ps 0 a).now ∷ (get_or ps 1 b).now ∷ (get_or ps 2 c).now ∷ (get_or ps 3 d).now ∷ (get_or ps 4 e).now ∷ (get_or ps 5 f).now ∷ (get_or ps 6 g).now ∷ texts (take (length ps - 1 - 7) (drop 7 ps)) ++ (get_or ps (length ps - 1) h).now ∷ [] ≡ texts ps
+seven_and_last [] a b c d e f g h low = absurd (omega arith)
+seven_and_last (p ∷ []) a b c d e f g h low = absurd (omega arith)
+seven_and_last (p ∷ q ∷ []) a b c d e f g h low = absurd (omega arith)
+seven_and_last (p ∷ q ∷ r ∷ []) a b c d e f g h low = absurd (omega arith)
+seven_and_last (p ∷ q ∷ r ∷ s ∷ []) a b c d e f g h low = absurd (omega arith)
+seven_and_last (p ∷ q ∷ r ∷ s ∷ t ∷ []) a b c d e f g h low = absurd (omega arith)
+seven_and_last (p ∷ q ∷ r ∷ s ∷ t ∷ u ∷ []) a b c d e f g h low = absurd (omega arith)
+seven_and_last (p ∷ q ∷ r ∷ s ∷ t ∷ u ∷ v ∷ []) a b c d e f g h low = absurd (omega arith)
+seven_and_last (p ∷ q ∷ r ∷ s ∷ t ∷ u ∷ v ∷ w ∷ ps) a b c d e f g h low =
+    let n = length ps in
+    let count : suc (suc (suc (suc (suc (suc (suc n)))))) - 7 ≡ n = omega arith in
+    let place : suc (suc (suc (suc (suc (suc (suc (suc n))))))) - 1 ≡ suc (suc (suc (suc (suc (suc (suc n)))))) = omega arith in
+    rw (place, count) (ap (λ (ts : List (List ℕ)). p.now ∷ q.now ∷ r.now ∷ s.now ∷ t.now ∷ u.now ∷ v.now ∷ ts) (last_of (w ∷ ps) n h refl))

@@ -1,5 +1,5 @@
 -- No column of a node has a space or a line feed in it.
-use Rattle.std.proofs.Common.{◌≡◌, ℕ, ◌/◌, ◌%◌, ◌<◌, ◌^◌, Bool, true, false, not, ◌&&◌, ◌||◌, ◌==◌, nat_le, nat_lt, List, [], ◌∷◌, ◌++◌, ◌+◌, refl, arith}
+use Rattle.std.proofs.Common.{◌≡◌, ℕ, ◌/◌, ◌%◌, ◌<◌, ◌^◌, Bool, true, false, not, ◌&&◌, ◌||◌, ◌==◌, nat_le, nat_lt, List, [], ◌∷◌, ◌++◌, ◌+◌, map, codes, refl, arith}
 use Rattle.std.specs.List.{list_all, flat_map, slice_split, join_with_byte}
 use Rattle.std.specs.Fmt.{decimal}
 use Rattle.std.proofs.lemmas.Bool.Decides.{nat_tests}
@@ -7,17 +7,22 @@ use Rattle.pv_acl.specs.declared.part.Acl.{Acl}
 use Rattle.pv_acl.specs.Parts.{is_acl}
 use Rattle.pv_acl.specs.Texts.{access_texts, acl_text, default_texts, or_dash}
 use Rattle.pv_path.specs.Paths.{Path}
-use Rattle.pv_path.specs.Printing.{hex_digit, is_plain, printed, printed_path}
-use Rattle.pv_path.specs.PathLaws.{both_true}
+use Rattle.pv_path.specs.Printing.{hex_digit, is_plain, is_plain_but, printed, printed_by, printed_path}
+use Rattle.pv_path.proofs.PathLaws.{both_true}
 use Rattle.pv_steps.specs.declared.node.Kind.{Kind}
 use Rattle.pv_steps.specs.declared.node.Kind.TheVariants.{Directory, File, Link, Fifo, CharDevice, BlockDevice}
 use Rattle.pv_steps.specs.declared.node.Stamps.{Stamps}
 use Rattle.pv_steps.specs.declared.object.Object.{Object}
 use Rattle.pv_steps.specs.Objects.{StampsFit}
+use Rattle.pv_steps.specs.declared.attr.Attr.{Attr}
+use Rattle.pv_steps.specs.Letters.{all_letters, has_letter, letters_of}
+use Rattle.pv_image.specs.declared.extras.Extras.{Extras}
 use Rattle.pv_image.specs.declared.payload.Payload.{Payload}
-use Rattle.pv_image.specs.Spelling.{IsEntry, IsPayload, columns, content_text, kind_text, lacks, mode_text, node_text, numbers_text, payload_of, payload_text, stamps_text}
-use Rattle.pv_image.proofs.Letters.{all_append, all_joined, all_weaker, both_yes, digits_alone, is_digit, printed_all}
-use Rattle.pv_image.proofs.AclLetters.{PassesEntries, entries_pass}
+use Rattle.pv_image.specs.declared.version.Version.{Version}
+use Rattle.pv_image.specs.declared.version.Version.TheVariants.{One, Two}
+use Rattle.pv_image.specs.Spelling.{IsEntry, IsPayload, attr_text, attr_texts, attrs_text, columns, content_text, extra_texts, extras_of, kind_text, lacks, letters_text, mode_text, node_text, numbers_text, payload_of, payload_text, stamps_text}
+use Rattle.pv_image.proofs.Characters.{all_append, all_joined, all_weaker, both_yes, digits_alone, is_digit, printed_all}
+use Rattle.pv_image.proofs.AclLetters.{PassesEntries, all_filter, entries_pass}
 use Rattle.pv_image.proofs.Contents.{encoded_all}
 use Rattle.pv_image.proofs.Columns.{mode_at, payload_is}
 use Rattle.pv_image.proofs.Cutting.{are_apart, split_join}
@@ -55,7 +60,26 @@ hex_solid d = by_test (nat_lt d 10) refl
     by_test false e = rw e (grind (arith, nat_tests))
 
 pub printed_solid : (bytes : List ℕ) → AreSolid (printed bytes)
-printed_solid bytes = printed_all is_solid refl refl hex_solid bytes (all_plain_solid bytes)
+printed_solid bytes = printed_all is_plain is_solid refl refl hex_solid bytes (all_plain_solid bytes)
+
+hidden_solid : (hidden : List ℕ) (b : ℕ) → (not (is_plain_but hidden b) || is_solid b) ≡ true
+hidden_solid hidden b = by_test (is_plain b) refl (plain_solid b)
+  where
+    or_yes : (t : Bool) → (not t || true) ≡ true
+    or_yes true = refl
+    or_yes false = refl
+
+    by_test : (t : Bool) → is_plain b ≡ t → (not (is_plain b) || is_solid b) ≡ true → (not (is_plain_but hidden b) || is_solid b) ≡ true
+    by_test true e f = let is : is_solid b ≡ true = rw e at f in rw is (or_yes (is_plain_but hidden b))
+    by_test false e f = rw e refl
+
+all_hidden_solid : (hidden bytes : List ℕ) → list_all (λ b. not (is_plain_but hidden b) || is_solid b) bytes ≡ true
+all_hidden_solid hidden [] = refl
+all_hidden_solid hidden (b ∷ bytes) = both_yes (not (is_plain_but hidden b) || is_solid b) (list_all (λ x. not (is_plain_but hidden x) || is_solid x) bytes) (hidden_solid hidden b) (all_hidden_solid hidden bytes)
+
+-- more hidden bytes change nothing
+pub printed_but_solid : (hidden bytes : List ℕ) → AreSolid (printed_by (is_plain_but hidden) bytes)
+printed_but_solid hidden bytes = printed_all (is_plain_but hidden) is_solid refl refl hex_solid bytes (all_hidden_solid hidden bytes)
 
 names_solid : (path : Path) → AreSolid (flat_map (λ n. 47 ∷ printed n) path)
 names_solid [] = refl
@@ -119,12 +143,33 @@ payload_solid Fifo payload is = refl
 payload_solid CharDevice payload is = numbers_solid payload.major payload.minor is.numbers.0 is.numbers.1
 payload_solid BlockDevice payload is = numbers_solid payload.major payload.minor is.numbers.0 is.numbers.1
 
-pub columns_solid : (e : Path × Object) → IsEntry e → AllSolid (columns e)
-columns_solid e is =
+attr_solid : (attr : Attr) → AreSolid (attr_text attr)
+attr_solid attr =
+    all_joined is_solid 61 refl (attr_texts attr) (rw (printed_but_solid (codes ",=") attr.name, printed_but_solid (codes ",=") attr.value) refl)
+
+all_attrs_solid : (attrs : List Attr) → AllSolid (map attr_text attrs)
+all_attrs_solid [] = refl
+all_attrs_solid (attr ∷ attrs) = both_yes (list_all is_solid (attr_text attr)) (list_all (list_all is_solid) (map attr_text attrs)) (attr_solid attr) (all_attrs_solid attrs)
+
+attrs_solid : (attrs : List Attr) → AreSolid (attrs_text attrs)
+attrs_solid [] = refl
+attrs_solid (attr ∷ attrs) = all_joined is_solid 44 refl (map attr_text (attr ∷ attrs)) (all_attrs_solid (attr ∷ attrs))
+
+letters_solid : (letters : ℕ) → AreSolid (letters_text letters)
+letters_solid letters = dash_solid (letters_of letters) (all_filter is_solid (has_letter letters) all_letters refl)
+
+extras_solid : (version : Version) (extras : Extras) → AllSolid (extra_texts version extras)
+extras_solid One extras = refl
+extras_solid Two extras = rw (attrs_solid extras.attrs, letters_solid extras.letters) refl
+
+pub columns_solid : (version : Version) (e : Path × Object) → IsEntry version e → AllSolid (columns version e)
+columns_solid version e is =
     let o = e.1 in
     let uid : o.node.uid < 2 ^ 64 = let f = is.object.owner.0 in omega arith in
     let gid : o.node.gid < 2 ^ 64 = let f = is.object.owner.1 in omega arith in
-    rw (kind_solid o.node.kind, path_solid e.0, mode_solid (mode_at o), decimal_solid o.node.uid uid, decimal_solid o.node.gid gid, stamps_solid o.node.stamps is.object.stamps, acl_solid o.node.acl is.object.acl, payload_solid o.node.kind (payload_of o) (payload_is o is.object)) refl
+    let last : AllSolid (payload_text o.node.kind (payload_of o) ∷ []) = rw (payload_solid o.node.kind (payload_of o) (payload_is o is.object)) refl in
+    rw (kind_solid o.node.kind, path_solid e.0, mode_solid (mode_at o), decimal_solid o.node.uid uid, decimal_solid o.node.gid gid, stamps_solid o.node.stamps is.object.stamps, acl_solid o.node.acl is.object.acl)
+    (all_append (list_all is_solid) (extra_texts version (extras_of o)) (payload_text o.node.kind (payload_of o) ∷ []) (extras_solid version (extras_of o)) last)
 
 solid_apart : (b : ℕ) → is_solid b ≡ true → not (b == 32) ≡ true
 solid_apart b e = (both_true (not (b == 10)) (not (b == 32)) e).1
@@ -140,12 +185,12 @@ pub pieces_whole : (texts : List (List ℕ)) → AllSolid texts → lacks 10 (jo
 pieces_whole texts e =
     all_joined (λ b. not (b == 10)) 32 refl texts (all_weaker (list_all is_solid) (lacks 10) (λ text f. all_weaker is_solid (λ b. not (b == 10)) solid_whole text f) texts e)
 
-pub node_again : (e : Path × Object) → IsEntry e → slice_split (λ b. b == 32) (join_with_byte 32 (columns e)) ≡ columns e
-node_again e is =
+pub node_again : (version : Version) (e : Path × Object) → IsEntry version e → slice_split (λ b. b == 32) (join_with_byte 32 (columns version e)) ≡ columns version e
+node_again version e is =
     let o = e.1 in
     split_join 32 (kind_text o.node.kind)
-    (printed_path e.0 ∷ mode_text (mode_at o) ∷ decimal o.node.uid ∷ decimal o.node.gid ∷ stamps_text o.node.stamps ∷ acl_text o.node.acl ∷ payload_text o.node.kind (payload_of o) ∷ [])
-    (pieces_apart (columns e) (columns_solid e is))
+    (printed_path e.0 ∷ mode_text (mode_at o) ∷ decimal o.node.uid ∷ decimal o.node.gid ∷ stamps_text o.node.stamps ∷ acl_text o.node.acl ∷ extra_texts version (extras_of o) ++ payload_text o.node.kind (payload_of o) ∷ [])
+    (pieces_apart (columns version e) (columns_solid version e is))
 
-pub node_whole : (e : Path × Object) → IsEntry e → lacks 10 (node_text e) ≡ true
-node_whole e is = pieces_whole (columns e) (columns_solid e is)
+pub node_whole : (version : Version) (e : Path × Object) → IsEntry version e → lacks 10 (node_text version e) ≡ true
+node_whole version e is = pieces_whole (columns version e) (columns_solid version e is)

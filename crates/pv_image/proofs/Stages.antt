@@ -1,22 +1,37 @@
 -- One line more is read, or it has the first fault.
-use Rattle.std.proofs.Common.{◌≡◌, ◌≢◌, ℕ, suc, ◌+◌, ◌≤◌, Bool, true, false, not, ◌&&◌, List, [], ◌∷◌, ◌++◌, length, map, Some, None, Ok, Err, refl, sym, ap, ◌∙◌, subst, arith, add-one, append_assoc, append-nil, length-append}
-use Rattle.std.specs.List.{flat_map, list_all}
+use Rattle.std.proofs.Common.{◌≡◌, ◌≢◌, ℕ, suc, ◌+◌, ◌≤◌, Bool, true, false, not, ◌&&◌, List, [], ◌∷◌, ◌++◌, length, map, Some, None, Result, Ok, Err, if◌then◌else◌, refl, sym, ap, ◌∙◌, subst, arith, add-one, append_assoc, append-nil, length-append}
+use Rattle.std.specs.List.{AllByRecursion, flat_map, list_all}
 use Rattle.std.proofs.Common.{inl, inr, ◌⊎◌, ◌==◌}
 use Rattle.std.proofs.lemmas.List.{nil_from_length}
-use Rattle.std.specs.Ordering.{is_lt, nat_cmp}
+use Rattle.std.specs.Ordering.{eq_by_cmp, is_lt, nat_cmp}
+use Rattle.std.specs.declared.cmp.Ordering.{Ordering}
 use Rattle.std.specs.FinMap as fin
 use Rattle.std.proofs.lemmas.List.Concat.{flat_map-append}
-use Rattle.pv_path.specs.PathLaws.{both_true}
-use Rattle.pv_path.specs.Paths.{Path, path_cmp}
+use Rattle.pv_path.proofs.PathLaws.{both_true}
+use Rattle.pv_path.specs.Paths.{Path, path_cmp, same_path, same_path-decides}
 use Rattle.pv_steps.specs.declared.object.Object.{Object}
+use Rattle.pv_steps.specs.Objects.{is_directory}
 use Rattle.pv_steps.specs.Trees.{Files, IsTree}
 use Rattle.pv_text.specs.Facts.{Values}
-use Rattle.pv_image.specs.Spelling.{IsEntry, end_text, fact_text, header_text, line, node_text}
-use Rattle.pv_image.specs.Images.{HasFault, cut_off, misspelt, misplaced, later, IsByteFact, IsCut, IsImage, Spells, Stage, Before, InFacts, InNodes, After, What, Note, Header, Fact, Node, End, are_byte_names, bad, follows, is_byte_fact, is_line, is_note, is_root, has_parent, judged}
-use Rattle.pv_image.specs.Progress.{Fails, FactsRead, HasNoFactNext, IsLast, Leads, NotesRead, Refuses, TreeRead}
+use Rattle.pv_image.specs.Spelling.{IsEntry, Shows, end_text, extras_of, fact_text, header_text, line, node_text}
+use Rattle.pv_image.specs.Images.{HasFault, cut_off, misspelt, misplaced, later, IsByteFact, IsCut, IsImage, Spells, Stage, Before, InFacts, InNodes, After, What, Note, Header, Fact, Node, End, are_byte_names, bad, follows, is_byte_fact, is_line, is_note, is_root, has_parent, judged, after_root, after_node, same_version}
+use Rattle.pv_image.specs.Progress.{Fails, FactsRead, HasNoFactNext, IsLast, IsLastPath, Leads, NotesRead, Refuses, TreeRead}
 use Rattle.pv_image.specs.declared.fault.ImageFault.{ImageFault}
 use Rattle.pv_image.specs.declared.fault.ImageFault.TheVariants as fault
-use Rattle.pv_image.proofs.Letters.{all_append, both_yes}
+use Rattle.pv_image.specs.declared.version.Version.{Version}
+use Rattle.pv_image.specs.declared.version.Version.TheVariants.{One, Two}
+use Rattle.pv_image.proofs.Characters.{all_append, both_yes}
+
+-- a version is the same as itself
+pub same_version-self : (version : Version) → same_version version version ≡ true
+same_version-self One = refl
+same_version-self Two = refl
+
+pub same_version-is : (a b : Version) → same_version a b ≡ true → a ≡ b
+same_version-is One One e = refl
+same_version-is One Two e = cc
+same_version-is Two One e = cc
+same_version-is Two Two e = refl
 
 -- ---- faults of what is left
 
@@ -73,45 +88,54 @@ cut_length bytes text rest cut =
 -- ---- before the header
 
 module _ (n : ℕ) (bytes text rest : List ℕ) (cut : IsCut bytes text rest) where
-  pub bad_header : text ≢ header_text → is_note text ≡ false → HasFault n Before bytes (fault.BadHeader n)
+  pub bad_header : ((version : Version) → text ≢ header_text version) → is_note text ≡ false → HasFault n Before bytes (fault.BadHeader n)
   bad_header other none = misspelt {stage = Before} cut by_what
     where
       by_what : (what : What) → Spells text what → judged n Before what ≡ None
       by_what Note spells = absurd (let bad : true ≡ false = sym spells ∙ none in cc)
-      by_what Header spells = absurd (other spells)
+      by_what (Header version) spells = absurd (other version spells)
       by_what (Fact fact) spells = refl
-      by_what (Node e) spells = refl
+      by_what (Node version e) spells = refl
       by_what End spells = refl
 
-  -- ---- after facts
+  module _ (version : Version) where
+    -- ---- after facts
 
-  pub bad_first : (facts : List (ℕ × List ℕ)) → ((fact : ℕ × List ℕ) → IsByteFact fact → text ≢ fact_text fact) → ((e : Path × Object) → IsEntry e → text ≢ node_text e) → text ≢ end_text → HasFault n (InFacts facts) bytes (fault.BadLine n)
-  bad_first facts no_fact no_node no_end = misspelt {stage = InFacts facts} cut by_what
-    where
-      by_what : (what : What) → Spells text what → judged n (InFacts facts) what ≡ None
-      by_what Note spells = refl
-      by_what Header spells = refl
-      by_what (Fact fact) spells = absurd (no_fact fact spells.0 spells.1)
-      by_what (Node e) spells = absurd (no_node e spells.0 spells.1)
-      by_what End spells = absurd (no_end spells)
+    pub bad_first : (facts : List (ℕ × List ℕ)) → ((fact : ℕ × List ℕ) → IsByteFact fact → text ≢ fact_text fact) → ((e : Path × Object) → IsEntry version e → text ≢ node_text version e) → text ≢ end_text → HasFault n (InFacts version facts) bytes (fault.BadLine n)
+    bad_first facts no_fact no_node no_end = misspelt {stage = InFacts version facts} cut by_what
+      where
+        by_version : (other : Version) (e : Path × Object) → IsEntry other e × (text ≡ node_text other e) → (t : Bool) → same_version version other ≡ t → judged n (InFacts version facts) (Node other e) ≡ None
+        by_version other e spells true q = let same = same_version-is version other q in absurd (no_node e (subst (λ (v : Version). IsEntry v e) (sym same) spells.0) (subst (λ (v : Version). text ≡ node_text v e) (sym same) spells.1))
+        by_version other e spells false q = rw q refl
 
-  pub no_nodes : (facts : List (ℕ × List ℕ)) → text ≡ end_text → HasFault n (InFacts facts) bytes (fault.NoParent n)
-  no_nodes facts is = misplaced {stage = InFacts facts} End cut is refl
+        by_what : (what : What) → Spells text what → judged n (InFacts version facts) what ≡ None
+        by_what Note spells = refl
+        by_what (Header other) spells = refl
+        by_what (Fact fact) spells = absurd (no_fact fact spells.0 spells.1)
+        by_what (Node other e) spells = by_version other e spells (same_version version other) refl
+        by_what End spells = absurd (no_end spells)
 
-  pub no_root : (facts : List (ℕ × List ℕ)) (e : Path × Object) → IsEntry e → text ≡ node_text e → is_root e ≡ false → HasFault n (InFacts facts) bytes (fault.NoParent n)
-  no_root facts e is spelt other = misplaced {stage = InFacts facts} (Node e) cut (is, spelt) (rw other refl)
+    pub no_nodes : (facts : List (ℕ × List ℕ)) → text ≡ end_text → HasFault n (InFacts version facts) bytes (fault.NoParent n)
+    no_nodes facts is = misplaced {stage = InFacts version facts} End cut is refl
 
-  -- ---- after nodes
+    pub no_root : (facts : List (ℕ × List ℕ)) (e : Path × Object) → IsEntry version e → text ≡ node_text version e → is_root e ≡ false → HasFault n (InFacts version facts) bytes (fault.NoParent n)
+    no_root facts e is spelt other = misplaced {stage = InFacts version facts} (Node version e) cut (is, spelt) (rw (same_version-self version, other) refl)
 
-  pub bad_node : (entries : List (Path × Object)) → ((e : Path × Object) → IsEntry e → text ≢ node_text e) → text ≢ end_text → HasFault n (InNodes entries) bytes (fault.BadLine n)
-  bad_node entries no_node no_end = misspelt {stage = InNodes entries} cut by_what
-    where
-      by_what : (what : What) → Spells text what → judged n (InNodes entries) what ≡ None
-      by_what Note spells = refl
-      by_what Header spells = refl
-      by_what (Fact fact) spells = refl
-      by_what (Node e) spells = absurd (no_node e spells.0 spells.1)
-      by_what End spells = absurd (no_end spells)
+    -- ---- after nodes
+
+    pub bad_node : (entries : List (Path × Object)) → ((e : Path × Object) → IsEntry version e → text ≢ node_text version e) → text ≢ end_text → HasFault n (InNodes version entries) bytes (fault.BadLine n)
+    bad_node entries no_node no_end = misspelt {stage = InNodes version entries} cut by_what
+      where
+        by_version : (other : Version) (e : Path × Object) → IsEntry other e × (text ≡ node_text other e) → (t : Bool) → same_version version other ≡ t → judged n (InNodes version entries) (Node other e) ≡ None
+        by_version other e spells true q = let same = same_version-is version other q in absurd (no_node e (subst (λ (v : Version). IsEntry v e) (sym same) spells.0) (subst (λ (v : Version). text ≡ node_text v e) (sym same) spells.1))
+        by_version other e spells false q = rw q refl
+
+        by_what : (what : What) → Spells text what → judged n (InNodes version entries) what ≡ None
+        by_what Note spells = refl
+        by_what (Header other) spells = refl
+        by_what (Fact fact) spells = refl
+        by_what (Node other e) spells = by_version other e spells (same_version version other) refl
+        by_what End spells = absurd (no_end spells)
 
   -- ---- after the end
 
@@ -120,9 +144,9 @@ module _ (n : ℕ) (bytes text rest : List ℕ) (cut : IsCut bytes text rest) wh
     where
       by_what : (what : What) → Spells text what → judged n After what ≡ None
       by_what Note spells = refl
-      by_what Header spells = refl
+      by_what (Header version) spells = refl
       by_what (Fact fact) spells = refl
-      by_what (Node e) spells = refl
+      by_what (Node version e) spells = refl
       by_what End spells = refl
 
 pub truncated : (n : ℕ) (bytes : List ℕ) → is_line bytes ≡ true → bytes ≢ [] → HasFault n After bytes (fault.Truncated n)
@@ -161,47 +185,72 @@ facts_more bytes old new fact rest text after read added fits cut is = record {
   text = subst (λ (es : List (ℕ × List ℕ)). bytes ≡ flat_map line (map fact_text es) ++ after) (sym added) (lines_more fact_text (fin.entries old) fact bytes rest text after read.text cut is);
 }
 
-pub tree_more : (bytes : List ℕ) (old new : Files) (e : Path × Object) (rest text after : List ℕ) → TreeRead bytes old rest → fin.entries new ≡ fin.entries old ++ e ∷ [] → IsEntry e → IsCut rest text after → text ≡ node_text e → TreeRead bytes new after
-tree_more bytes old new e rest text after read added entry cut is = record {
+all_by_append : {A : Type 0} (P : A → Type 0) (xs : List A) (x : A) → AllByRecursion P xs → P x → AllByRecursion P (xs ++ x ∷ [])
+all_by_append P [] x all is = (is, tt)
+all_by_append P (y ∷ ys) x all is = (all.0, all_by_append P ys x all.1 is)
+
+pub tree_more : (version : Version) (bytes : List ℕ) (old new : Files) (e : Path × Object) (rest text after : List ℕ) → TreeRead version bytes old rest → fin.entries new ≡ fin.entries old ++ e ∷ [] → IsEntry version e → IsCut rest text after → text ≡ node_text version e
+    → TreeRead version bytes new after
+tree_more version bytes old new e rest text after read added entry cut is = record {
   fit = subst (λ (es : List (Path × Object)). list_all (λ x. are_byte_names x.0) es ≡ true) (sym added) (all_append (λ x. are_byte_names x.0) (fin.entries old) (e ∷ []) read.fit (both_yes (are_byte_names e.0) true entry.path.bytes refl));
-  text = subst (λ (es : List (Path × Object)). bytes ≡ flat_map line (map node_text es) ++ after) (sym added) (lines_more node_text (fin.entries old) e bytes rest text after read.text cut is);
+  shown = subst (AllByRecursion (λ x. Shows version (extras_of x.1))) (sym added) (all_by_append (λ x. Shows version (extras_of x.1)) (fin.entries old) e read.shown entry.shown);
+  text = subst (λ (es : List (Path × Object)). bytes ≡ flat_map line (map (node_text version) es) ++ after) (sym added) (lines_more (node_text version) (fin.entries old) e bytes rest text after read.text cut is);
 }
 
-pub tree_one : (bytes : List ℕ) (files : Files) (e : Path × Object) (text after : List ℕ) → fin.entries files ≡ e ∷ [] → IsEntry e → IsCut bytes text after → text ≡ node_text e → TreeRead bytes files after
-tree_one bytes files e text after one entry cut is = record {
+pub tree_one : (version : Version) (bytes : List ℕ) (files : Files) (e : Path × Object) (text after : List ℕ) → fin.entries files ≡ e ∷ [] → IsEntry version e → IsCut bytes text after → text ≡ node_text version e → TreeRead version bytes files after
+tree_one version bytes files e text after one entry cut is = record {
   fit = subst (λ (es : List (Path × Object)). list_all (λ x. are_byte_names x.0) es ≡ true) (sym one) (both_yes (are_byte_names e.0) true entry.path.bytes refl);
-  text = subst (λ (es : List (Path × Object)). bytes ≡ flat_map line (map node_text es) ++ after) (sym one) (lines_more node_text [] e bytes bytes text after refl cut is);
+  shown = subst (AllByRecursion (λ x. Shows version (extras_of x.1))) (sym one) (entry.shown, tt);
+  text = subst (λ (es : List (Path × Object)). bytes ≡ flat_map line (map (node_text version) es) ++ after) (sym one) (lines_more (node_text version) [] e bytes bytes text after refl cut is);
 }
 
 -- ---- the last letter
 
-follows_push : (es : List (ℕ × List ℕ)) (fact : ℕ × List ℕ) (letter : ℕ) → follows nat_cmp (es ++ fact ∷ []) letter ≡ is_lt (nat_cmp fact.0 letter)
-follows_push [] fact letter = refl
-follows_push (x ∷ []) fact letter = refl
-follows_push (x ∷ y ∷ es) fact letter = follows_push (y ∷ es) fact letter
+follows_push : {K X : Type 0} → (R : K → K → Ordering) (es : List (K × X)) (e : K × X) (key : K) → follows R (es ++ e ∷ []) key ≡ is_lt (R e.0 key)
+follows_push R [] e key = refl
+follows_push R (x ∷ []) e key = refl
+follows_push R (x ∷ y ∷ es) e key = follows_push R (y ∷ es) e key
+
+pub path_more : (old new : Files) (e : Path × Object) → fin.entries new ≡ fin.entries old ++ e ∷ [] → IsLastPath new e.0
+path_more old new e added path = sym (ap (λ (es : List (Path × Object)). follows path_cmp es path) added ∙ follows_push path_cmp (fin.entries old) e path)
+
+pub root_last : (files : Files) (e : Path × Object) → is_root e ≡ true → fin.entries files ≡ e ∷ [] → IsLastPath files []
+root_last files e root one path =
+    let is : e.0 ≡ [] = (same_path-decides e.0 []).0 (both_true (same_path e.0 []) (is_directory e.1.node.kind) root).0 in
+    ap (λ (p : Path). is_lt (path_cmp p path)) (sym is) ∙ sym (ap (λ (es : List (Path × Object)). follows path_cmp es path) one)
 
 pub last_more : (old new : Values) (fact : ℕ × List ℕ) → fin.entries new ≡ fin.entries old ++ fact ∷ [] → IsLast new (Some fact.0)
-last_more old new fact added letter = sym (ap (λ (es : List (ℕ × List ℕ)). follows nat_cmp es letter) added ∙ follows_push (fin.entries old) fact letter)
+last_more old new fact added letter = sym (ap (λ (es : List (ℕ × List ℕ)). follows nat_cmp es letter) added ∙ follows_push nat_cmp (fin.entries old) fact letter)
 
 -- ---- the whole
 
+-- what holds of each object of a list holds of what is found there
+found_all : (P : Object → Type 0) (es : List (Path × Object)) (path : Path) (o : Object) → AllByRecursion (λ e. P e.1) es → fin.find path_cmp path es ≡ Some o → P o
+found_all P [] path o all here = cc
+found_all P (e ∷ es) path o all here = by_test (found_all P es path o all.1) (eq_by_cmp path_cmp path e.0) refl
+  where
+    by_test : (fin.find path_cmp path es ≡ Some o → P o) → (t : Bool) → eq_by_cmp path_cmp path e.0 ≡ t → P o
+    by_test below true q = let first : Some e.1 ≡ Some o = rw q at here in let same : e.1 ≡ o = cc in subst P same all.0
+    by_test below false q = below (rw q at here)
+
 -- an image read to its end is one
-pub whole_image : (bytes : List ℕ) (facts : Values) (files : Files) (after_header after_facts rest : List ℕ) → NotesRead bytes (line header_text ++ after_header) → FactsRead after_header facts after_facts
-    → TreeRead after_facts files (line end_text ++ rest) → rest ≡ [] → IsTree files → IsImage bytes facts files
-whole_image bytes facts files after_header after_facts rest notes read tree none is = record {
+pub whole_image : (version : Version) (bytes : List ℕ) (facts : Values) (files : Files) (after_header after_facts rest : List ℕ) → NotesRead bytes (line (header_text version) ++ after_header) → FactsRead after_header facts after_facts
+    → TreeRead version after_facts files (line end_text ++ rest) → rest ≡ [] → IsTree files → IsImage bytes facts files
+whole_image version bytes facts files after_header after_facts rest notes read tree none is = record {
+  version = version;
   notes = notes.notes;
   are_notes = notes.are_notes;
-  fit = record { facts_fit = read.fit; names_fit = names (fin.entries files) tree.fit; tree = is };
+  fit = record { facts_fit = read.fit; names_fit = names (fin.entries files) tree.fit; tree = is; shown = λ path o here. found_all (λ x. Shows version (extras_of x)) (fin.entries files) path o tree.shown (sym (fin.get-entries files path) ∙ here) };
   text =
       let front = flat_map line notes.notes in
       let f = flat_map line (map fact_text (fin.entries facts)) in
-      let n = flat_map line (map node_text (fin.entries files)) in
+      let n = flat_map line (map (node_text version) (fin.entries files)) in
       let parts : after_header ≡ f ++ (n ++ (line end_text ++ [])) = read.text ∙ ap (λ (t : List ℕ). f ++ t) (tree.text ∙ ap (λ (t : List ℕ). n ++ (line end_text ++ t)) none) in
-      let joined : flat_map line (header_text ∷ map fact_text (fin.entries facts) ++ map node_text (fin.entries files) ++ end_text ∷ []) ≡ line header_text ++ (f ++ (n ++ (line end_text ++ []))) =
-      ap (λ (t : List ℕ). line header_text ++ t) (flat_map-append line (map fact_text (fin.entries facts) ++ map node_text (fin.entries files)) (end_text ∷ [])
-      ∙ ap (λ (t : List ℕ). t ++ (line end_text ++ [])) (flat_map-append line (map fact_text (fin.entries facts)) (map node_text (fin.entries files)))
+      let joined : flat_map line (header_text version ∷ map fact_text (fin.entries facts) ++ map (node_text version) (fin.entries files) ++ end_text ∷ []) ≡ line (header_text version) ++ (f ++ (n ++ (line end_text ++ []))) =
+      ap (λ (t : List ℕ). line (header_text version) ++ t) (flat_map-append line (map fact_text (fin.entries facts) ++ map (node_text version) (fin.entries files)) (end_text ∷ [])
+      ∙ ap (λ (t : List ℕ). t ++ (line end_text ++ [])) (flat_map-append line (map fact_text (fin.entries facts)) (map (node_text version) (fin.entries files)))
       ∙ append_assoc f n (line end_text ++ [])) in
-      notes.text ∙ ap (λ (t : List ℕ). front ++ (line header_text ++ t)) parts ∙ ap (λ (t : List ℕ). front ++ t) (sym joined);
+      notes.text ∙ ap (λ (t : List ℕ). front ++ (line (header_text version) ++ t)) parts ∙ ap (λ (t : List ℕ). front ++ t) (sym joined);
 }
   where
     names : (es : List (Path × Object)) → list_all (λ e. are_byte_names e.0) es ≡ true → list_all are_byte_names (map (λ e. e.0) es) ≡ true
@@ -212,45 +261,56 @@ whole_image bytes facts files after_header after_facts rest notes read tree none
 
 -- ---- no line is too long
 
-never_judged : (n : ℕ) (stage : Stage) (what : What) → judged n stage what ≡ Some (Err fault.TooLong) → ⊥
-never_judged n Before Note e = cc
-never_judged n Before Header e = cc
-never_judged n Before (Fact fact) e = cc
-never_judged n Before (Node x) e = cc
-never_judged n Before End e = cc
-never_judged n (InFacts facts) Note e = cc
-never_judged n (InFacts facts) Header e = cc
-never_judged n (InFacts facts) (Fact fact) e = by_test (follows nat_cmp facts fact.0) refl
-  where
-    by_test : (t : Bool) → follows nat_cmp facts fact.0 ≡ t → ⊥
-    by_test true q = let h = rw q at e in cc h
-    by_test false q = let h = rw q at e in cc h
-never_judged n (InFacts facts) (Node x) e = by_test (is_root x) refl
+never_rooted : (n : ℕ) (version : Version) (x : Path × Object) → after_root n version x ≡ Err fault.TooLong → ⊥
+never_rooted n version x e = by_test (is_root x) refl
   where
     by_test : (t : Bool) → is_root x ≡ t → ⊥
     by_test true q = let h = rw q at e in cc h
     by_test false q = let h = rw q at e in cc h
-never_judged n (InFacts facts) End e = cc
-never_judged n (InNodes entries) Note e = cc
-never_judged n (InNodes entries) Header e = cc
-never_judged n (InNodes entries) (Fact fact) e = cc
-never_judged n (InNodes entries) (Node x) e = by_test (follows path_cmp entries x.0) refl (has_parent entries x.0) refl
+
+never_added : (n : ℕ) (version : Version) (entries : List (Path × Object)) (x : Path × Object) → after_node n version entries x ≡ Err fault.TooLong → ⊥
+never_added n version entries x e = by_test (follows path_cmp entries x.0) refl (has_parent entries x.0) refl
   where
     by_test : (t : Bool) → follows path_cmp entries x.0 ≡ t → (u : Bool) → has_parent entries x.0 ≡ u → ⊥
     by_test true q true p = let h = rw (q, p) at e in cc h
     by_test true q false p = let h = rw (q, p) at e in cc h
     by_test false q u p = let h = rw q at e in cc h
-never_judged n (InNodes entries) End e = cc
+
+-- what is some result under a test
+under_test : (t : Bool) (r s : Result Stage ImageFault) → (if t then Some r else None) ≡ Some s → r ≡ s
+under_test true r s e = cc
+under_test false r s e = cc
+
+never_judged : (n : ℕ) (stage : Stage) (what : What) → judged n stage what ≡ Some (Err fault.TooLong) → ⊥
+never_judged n Before Note e = cc
+never_judged n Before (Header version) e = cc
+never_judged n Before (Fact fact) e = cc
+never_judged n Before (Node version x) e = cc
+never_judged n Before End e = cc
+never_judged n (InFacts version facts) Note e = cc
+never_judged n (InFacts version facts) (Header other) e = cc
+never_judged n (InFacts version facts) (Fact fact) e = by_test (follows nat_cmp facts fact.0) refl
+  where
+    by_test : (t : Bool) → follows nat_cmp facts fact.0 ≡ t → ⊥
+    by_test true q = let h = rw q at e in cc h
+    by_test false q = let h = rw q at e in cc h
+never_judged n (InFacts version facts) (Node other x) e = never_rooted n version x (under_test (same_version version other) (after_root n version x) (Err fault.TooLong) e)
+never_judged n (InFacts version facts) End e = cc
+never_judged n (InNodes version entries) Note e = cc
+never_judged n (InNodes version entries) (Header other) e = cc
+never_judged n (InNodes version entries) (Fact fact) e = cc
+never_judged n (InNodes version entries) (Node other x) e = never_added n version entries x (under_test (same_version version other) (after_node n version entries x) (Err fault.TooLong) e)
+never_judged n (InNodes version entries) End e = cc
 never_judged n After Note e = cc
-never_judged n After Header e = cc
+never_judged n After (Header version) e = cc
 never_judged n After (Fact fact) e = cc
-never_judged n After (Node x) e = cc
+never_judged n After (Node version x) e = cc
 never_judged n After End e = cc
 
 never_bad : (n : ℕ) (stage : Stage) → bad n stage ≡ fault.TooLong → ⊥
 never_bad n Before e = cc
-never_bad n (InFacts facts) e = cc
-never_bad n (InNodes entries) e = cc
+never_bad n (InFacts version facts) e = cc
+never_bad n (InNodes version entries) e = cc
 never_bad n After e = cc
 
 -- no bytes have the fault that the top call gives
@@ -288,8 +348,8 @@ facts_none : (facts : Values) → facts ≡ fin.empty → fin.entries facts ≡ 
 facts_none facts e = ap (λ (m : Values). fin.entries m) e ∙ nil_from_length (fin.entries (fin.empty {X = List ℕ} {R = nat_cmp})) (sym (fin.len-entries (fin.empty {X = List ℕ} {R = nat_cmp})) ∙ fin.len-empty nat_cmp (List ℕ))
 
 module _ (facts : Values) (empty : facts ≡ fin.empty) where
-  pub none_leads : (n : ℕ) (bytes : List ℕ) → Leads n (InFacts []) bytes n (InFacts (fin.entries facts)) bytes
-  none_leads n bytes f h = subst (λ (es : List (ℕ × List ℕ)). HasFault n (InFacts es) bytes f) (facts_none facts empty) h
+  pub none_leads : (version : Version) (n : ℕ) (bytes : List ℕ) → Leads n (InFacts version []) bytes n (InFacts version (fin.entries facts)) bytes
+  none_leads version n bytes f h = subst (λ (es : List (ℕ × List ℕ)). HasFault n (InFacts version es) bytes f) (facts_none facts empty) h
 
   pub none_read : (bytes : List ℕ) → FactsRead bytes facts bytes
   none_read bytes = record {
@@ -302,46 +362,47 @@ module _ (facts : Values) (empty : facts ≡ fin.empty) where
 
 -- ---- the first node
 
-pub root_fails : (n : ℕ) (facts : List (ℕ × List ℕ)) (bytes text rest : List ℕ) (e : Path × Object) (f : ImageFault) → IsCut bytes text rest → IsEntry e × (text ≡ node_text e) → (f ≢ fault.Memory → (is_root e ≡ false) × (f ≡ fault.NoParent n))
-    → Fails n (InFacts facts) bytes f
-root_fails n facts bytes text rest e fault.TooLong cut read refused = let r = refused (λ x. cc) in subst (λ (g : ImageFault). HasFault n (InFacts facts) bytes g) (sym r.1) (no_root n bytes text rest cut facts e read.0 read.1 r.0)
-root_fails n facts bytes text rest e (fault.BadHeader k) cut read refused = let r = refused (λ x. cc) in subst (λ (g : ImageFault). HasFault n (InFacts facts) bytes g) (sym r.1) (no_root n bytes text rest cut facts e read.0 read.1 r.0)
-root_fails n facts bytes text rest e (fault.BadLine k) cut read refused = let r = refused (λ x. cc) in subst (λ (g : ImageFault). HasFault n (InFacts facts) bytes g) (sym r.1) (no_root n bytes text rest cut facts e read.0 read.1 r.0)
-root_fails n facts bytes text rest e (fault.OutOfOrder k) cut read refused = let r = refused (λ x. cc) in subst (λ (g : ImageFault). HasFault n (InFacts facts) bytes g) (sym r.1) (no_root n bytes text rest cut facts e read.0 read.1 r.0)
-root_fails n facts bytes text rest e (fault.NoParent k) cut read refused = let r = refused (λ x. cc) in subst (λ (g : ImageFault). HasFault n (InFacts facts) bytes g) (sym r.1) (no_root n bytes text rest cut facts e read.0 read.1 r.0)
-root_fails n facts bytes text rest e (fault.Truncated k) cut read refused = let r = refused (λ x. cc) in subst (λ (g : ImageFault). HasFault n (InFacts facts) bytes g) (sym r.1) (no_root n bytes text rest cut facts e read.0 read.1 r.0)
-root_fails n facts bytes text rest e fault.Memory cut read refused = tt
+pub root_fails : (version : Version) (n : ℕ) (facts : List (ℕ × List ℕ)) (bytes text rest : List ℕ) (e : Path × Object) (f : ImageFault) → IsCut bytes text rest → IsEntry version e × (text ≡ node_text version e) → (f ≢ fault.Memory → (is_root e ≡ false) × (f ≡ fault.NoParent n))
+    → Fails n (InFacts version facts) bytes f
+root_fails version n facts bytes text rest e fault.TooLong cut read refused = let r = refused (λ x. cc) in subst (λ (g : ImageFault). HasFault n (InFacts version facts) bytes g) (sym r.1) (no_root n bytes text rest cut version facts e read.0 read.1 r.0)
+root_fails version n facts bytes text rest e (fault.BadHeader k) cut read refused = let r = refused (λ x. cc) in subst (λ (g : ImageFault). HasFault n (InFacts version facts) bytes g) (sym r.1) (no_root n bytes text rest cut version facts e read.0 read.1 r.0)
+root_fails version n facts bytes text rest e (fault.BadLine k) cut read refused = let r = refused (λ x. cc) in subst (λ (g : ImageFault). HasFault n (InFacts version facts) bytes g) (sym r.1) (no_root n bytes text rest cut version facts e read.0 read.1 r.0)
+root_fails version n facts bytes text rest e (fault.OutOfOrder k) cut read refused = let r = refused (λ x. cc) in subst (λ (g : ImageFault). HasFault n (InFacts version facts) bytes g) (sym r.1) (no_root n bytes text rest cut version facts e read.0 read.1 r.0)
+root_fails version n facts bytes text rest e (fault.NoParent k) cut read refused = let r = refused (λ x. cc) in subst (λ (g : ImageFault). HasFault n (InFacts version facts) bytes g) (sym r.1) (no_root n bytes text rest cut version facts e read.0 read.1 r.0)
+root_fails version n facts bytes text rest e (fault.Truncated k) cut read refused = let r = refused (λ x. cc) in subst (λ (g : ImageFault). HasFault n (InFacts version facts) bytes g) (sym r.1) (no_root n bytes text rest cut version facts e read.0 read.1 r.0)
+root_fails version n facts bytes text rest e fault.Memory cut read refused = tt
 
-pub first_fails : (n : ℕ) (facts : List (ℕ × List ℕ)) (bytes text rest : List ℕ) (f : ImageFault) → IsCut bytes text rest → HasNoFactNext bytes → ((e : Path × Object) → IsEntry e → text ≢ node_text e)
-    → ((f ≡ fault.NoParent n) × (text ≡ end_text)) ⊎ ((f ≡ fault.BadLine n) × (text ≢ end_text)) → Fails n (InFacts facts) bytes f
-first_fails n facts bytes text rest f cut next no_node (inl (is, ended)) =
-    subst (λ (g : ImageFault). Fails n (InFacts facts) bytes g) (sym is) (no_nodes n bytes text rest cut facts ended)
-first_fails n facts bytes text rest f cut next no_node (inr (is, other)) =
-    subst (λ (g : ImageFault). Fails n (InFacts facts) bytes g) (sym is) (bad_first n bytes text rest cut facts (next text rest cut) no_node other)
+pub first_fails : (version : Version) (n : ℕ) (facts : List (ℕ × List ℕ)) (bytes text rest : List ℕ) (f : ImageFault) → IsCut bytes text rest → HasNoFactNext bytes → ((e : Path × Object) → IsEntry version e → text ≢ node_text version e)
+    → ((f ≡ fault.NoParent n) × (text ≡ end_text)) ⊎ ((f ≡ fault.BadLine n) × (text ≢ end_text)) → Fails n (InFacts version facts) bytes f
+first_fails version n facts bytes text rest f cut next no_node (inl (is, ended)) =
+    subst (λ (g : ImageFault). Fails n (InFacts version facts) bytes g) (sym is) (no_nodes n bytes text rest cut version facts ended)
+first_fails version n facts bytes text rest f cut next no_node (inr (is, other)) =
+    subst (λ (g : ImageFault). Fails n (InFacts version facts) bytes g) (sym is) (bad_first n bytes text rest cut version facts (next text rest cut) no_node other)
 
-pub root_leads : (n : ℕ) (facts : List (ℕ × List ℕ)) (bytes text rest : List ℕ) (e : Path × Object) (files : Files) → IsCut bytes text rest → IsEntry e × (text ≡ node_text e) → is_root e ≡ true → fin.entries files ≡ e ∷ []
-    → Leads n (InFacts facts) bytes (n + 1) (InNodes (fin.entries files)) rest
-root_leads n facts bytes text rest e files cut read root one =
-    let is : judged n (InFacts facts) (Node e) ≡ Some (Ok (InNodes (e ∷ []))) = rw root refl in
-    subst (λ (es : List (Path × Object)). Leads n (InFacts facts) bytes (n + 1) (InNodes es) rest) (sym one)
-    (leads_on n (InFacts facts) bytes n (InFacts facts) (InNodes (e ∷ [])) text bytes rest (Node e) (leads_none n (InFacts facts) bytes) cut read is)
+pub root_leads : (version : Version) (n : ℕ) (facts : List (ℕ × List ℕ)) (bytes text rest : List ℕ) (e : Path × Object) (files : Files) → IsCut bytes text rest → IsEntry version e × (text ≡ node_text version e) → is_root e ≡ true → fin.entries files ≡ e ∷ []
+    → Leads n (InFacts version facts) bytes (n + 1) (InNodes version (fin.entries files)) rest
+root_leads version n facts bytes text rest e files cut read root one =
+    let is : judged n (InFacts version facts) (Node version e) ≡ Some (Ok (InNodes version (e ∷ []))) = rw (same_version-self version, root) refl in
+    subst (λ (es : List (Path × Object)). Leads n (InFacts version facts) bytes (n + 1) (InNodes version es) rest) (sym one)
+    (leads_on n (InFacts version facts) bytes n (InFacts version facts) (InNodes version (e ∷ [])) text bytes rest (Node version e) (leads_none n (InFacts version facts) bytes) cut read is)
 
 -- one node, or one fact, more
-pub nodes_on : (n : ℕ) (stage : Stage) (bytes : List ℕ) (m : ℕ) (old new : Files) (e : Path × Object) (text rest after : List ℕ) → Leads n stage bytes m (InNodes (fin.entries old)) rest → IsCut rest text after → IsEntry e × (text ≡ node_text e)
-    → judged m (InNodes (fin.entries old)) (Node e) ≡ Some (Ok (InNodes (fin.entries old ++ e ∷ []))) → fin.entries new ≡ fin.entries old ++ e ∷ [] → Leads n stage bytes (m + 1) (InNodes (fin.entries new)) after
-nodes_on n stage bytes m old new e text rest after lead cut read is added =
-    subst (λ (es : List (Path × Object)). Leads n stage bytes (m + 1) (InNodes es) after) (sym added)
-    (leads_on n stage bytes m (InNodes (fin.entries old)) (InNodes (fin.entries old ++ e ∷ [])) text rest after (Node e) lead cut read is)
+pub nodes_on : (version : Version) (n : ℕ) (stage : Stage) (bytes : List ℕ) (m : ℕ) (old new : Files) (e : Path × Object) (text rest after : List ℕ) → Leads n stage bytes m (InNodes version (fin.entries old)) rest → IsCut rest text after → IsEntry version e × (text ≡ node_text version e)
+    → judged m (InNodes version (fin.entries old)) (Node version e) ≡ Some (Ok (InNodes version (fin.entries old ++ e ∷ []))) → fin.entries new ≡ fin.entries old ++ e ∷ [] → Leads n stage bytes (m + 1) (InNodes version (fin.entries new)) after
+nodes_on version n stage bytes m old new e text rest after lead cut read is added =
+    subst (λ (es : List (Path × Object)). Leads n stage bytes (m + 1) (InNodes version es) after) (sym added)
+    (leads_on n stage bytes m (InNodes version (fin.entries old)) (InNodes version (fin.entries old ++ e ∷ [])) text rest after (Node version e) lead cut read is)
 
-pub facts_on : (n : ℕ) (stage : Stage) (bytes : List ℕ) (m : ℕ) (old new : Values) (fact : ℕ × List ℕ) (text rest after : List ℕ) → Leads n stage bytes m (InFacts (fin.entries old)) rest → IsCut rest text after → IsByteFact fact × (text ≡ fact_text fact)
-    → judged m (InFacts (fin.entries old)) (Fact fact) ≡ Some (Ok (InFacts (fin.entries old ++ fact ∷ []))) → fin.entries new ≡ fin.entries old ++ fact ∷ [] → Leads n stage bytes (m + 1) (InFacts (fin.entries new)) after
-facts_on n stage bytes m old new fact text rest after lead cut read is added =
-    subst (λ (es : List (ℕ × List ℕ)). Leads n stage bytes (m + 1) (InFacts es) after) (sym added)
-    (leads_on n stage bytes m (InFacts (fin.entries old)) (InFacts (fin.entries old ++ fact ∷ [])) text rest after (Fact fact) lead cut read is)
+pub facts_on : (version : Version) (n : ℕ) (stage : Stage) (bytes : List ℕ) (m : ℕ) (old new : Values) (fact : ℕ × List ℕ) (text rest after : List ℕ) → Leads n stage bytes m (InFacts version (fin.entries old)) rest → IsCut rest text after → IsByteFact fact × (text ≡ fact_text fact)
+    → judged m (InFacts version (fin.entries old)) (Fact fact) ≡ Some (Ok (InFacts version (fin.entries old ++ fact ∷ []))) → fin.entries new ≡ fin.entries old ++ fact ∷ [] → Leads n stage bytes (m + 1) (InFacts version (fin.entries new)) after
+facts_on version n stage bytes m old new fact text rest after lead cut read is added =
+    subst (λ (es : List (ℕ × List ℕ)). Leads n stage bytes (m + 1) (InFacts version es) after) (sym added)
+    (leads_on n stage bytes m (InFacts version (fin.entries old)) (InFacts version (fin.entries old ++ fact ∷ [])) text rest after (Fact fact) lead cut read is)
 
 -- the end is read
-pub tree_end : (bytes : List ℕ) (files : Files) (rest text after : List ℕ) → TreeRead bytes files rest → IsCut rest text after → text ≡ end_text → TreeRead bytes files (line end_text ++ after)
-tree_end bytes files rest text after read cut is = record {
+pub tree_end : (version : Version) (bytes : List ℕ) (files : Files) (rest text after : List ℕ) → TreeRead version bytes files rest → IsCut rest text after → text ≡ end_text → TreeRead version bytes files (line end_text ++ after)
+tree_end version bytes files rest text after read cut is = record {
   fit = read.fit;
-  text = read.text ∙ ap (λ (t : List ℕ). flat_map line (map node_text (fin.entries files)) ++ t) (cut.bytes_are ∙ ap (λ (t : List ℕ). line t ++ after) is);
+  shown = read.shown;
+  text = read.text ∙ ap (λ (t : List ℕ). flat_map line (map (node_text version) (fin.entries files)) ++ t) (cut.bytes_are ∙ ap (λ (t : List ℕ). line t ++ after) is);
 }

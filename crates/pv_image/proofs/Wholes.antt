@@ -1,6 +1,6 @@
 -- The text of a whole image, line by line.
-use Rattle.std.specs.Prelude.{◌≡◌, ℕ, ◌+◌, ◌<◌, Bool, true, false, cond, ◌||◌, ◌&&◌, ◌==◌, List, [], ◌∷◌, ◌++◌, length, take, map, Option, Some, None, IfSome, option_map, T}
-use Rattle.std.proofs.Common.{refl, sym, ap, subst, ◌∙◌, get_or}
+use Rattle.std.specs.Prelude.{◌≡◌, ℕ, ◌+◌, ◌<◌, Bool, true, false, cond, ◌||◌, ◌&&◌, ◌==◌, List, [], ◌∷◌, ◌++◌, length, take, drop, map, Option, Some, None, IfSome, option_map, slice_get, T}
+use Rattle.std.proofs.Common.{refl, sym, ap, subst, ◌∙◌, get_or, arith, append_assoc}
 use Rattle.std.specs.List.{flat_map, filter_map, cons_option, list_any, list_all}
 use Rattle.std.specs.Option.{option_map_or}
 use Rattle.std.specs.Ordering.{nat_cmp, is_lt, is_eq, eq_by_cmp}
@@ -9,32 +9,18 @@ use Rattle.std.specs.declared.cmp.Ordering.TheVariants.{Less, Equal, Greater}
 use Rattle.std.specs.Cmp.{nat_cmp_total, unsigned_tied}
 use Rattle.std.proofs.lemmas.Bool.{eqb-true, eq-eqb}
 use Rattle.std.proofs.lemmas.List.{flat_map_more, take_more}
-use Rattle.std.proofs.lemmas.Option.{slice_get-get_or}
 use Rattle.std.proofs.lemmas.Grind.{flat_map-append}
 use Rattle.std.specs.FinMap as fin
 use Rattle.std.specs.FinMap.Entries.{find, is_sorted, below_all}
 use Rattle.pv_path.specs.Paths.{Path}
 use Rattle.pv_text.specs.Facts.{Values, fact_letters, is_fact, is_fact_letter, is_fact_value, HasFactsAlone}
 use Rattle.pv_steps.specs.declared.object.Object.{Object}
-use Rattle.pv_steps.specs.declared.node.Kind.TheVariants.{Directory}
-use Rattle.pv_steps.specs.Objects.{fresh}
 use Rattle.pv_steps.specs.Trees.{Files, IsTree}
 use Rattle.pv_image.specs.Images.{HaveText, are_byte_names, is_byte_fact}
-use Rattle.pv_image.proofs.Letters.{all_append}
+use Rattle.pv_image.proofs.Characters.{all_append}
 use Rattle.pv_image.specs.Spelling.{header_text, end_text, fact_text, node_text, line, text_of}
-use Rattle.pv_image.specs.Writing.{fact_fits, fact_line, fact_line_of, node_fits, node_line, node_line_at}
-
-some_entry : Path × Object
-some_entry = ([], fresh Directory 0 [] 0 0 0)
-
--- one more node
-pub nodes_more : (files : Files) (o : List ℕ) (i : ℕ) → i < fin.len files
-    → (o ++ flat_map node_line (take i (fin.entries files))) ++ node_line_at files i ≡ o ++ flat_map node_line (take (i + 1) (fin.entries files))
-nodes_more files o i below =
-    let within : i < length (fin.entries files) = subst (λ n. i < n) (fin.len-entries files) below in
-    ap (λ e. (o ++ flat_map node_line (take i (fin.entries files))) ++ option_map_or node_line e []) (slice_get-get_or (fin.entries files) i some_entry within)
-    ∙ flat_map_more node_line o (take i (fin.entries files)) (get_or (fin.entries files) i some_entry)
-    ∙ ap (λ es. o ++ flat_map node_line es) (sym (take_more (fin.entries files) i some_entry within))
+use Rattle.pv_image.specs.declared.version.Version.TheVariants.{Two}
+use Rattle.pv_image.specs.Writing.{fact_fits, fact_line, fact_line_of, node_line}
 
 -- one more letter
 pub letters_more : (facts : Values) (o : List ℕ) (i : ℕ) → i < 12
@@ -163,13 +149,13 @@ lines_of_map f [] = refl
 lines_of_map f (x ∷ xs) = ap (λ r. line (f x) ++ r) (lines_of_map f xs)
 
 -- the whole text by its parts
-pub parts_of_text : (facts : Values) (files : Files) → ((line header_text ++ flat_map fact_line (fin.entries facts)) ++ flat_map node_line (fin.entries files)) ++ line end_text ≡ text_of facts files
+pub parts_of_text : (facts : Values) (files : Files) → ((line (header_text Two) ++ flat_map fact_line (fin.entries facts)) ++ flat_map node_line (fin.entries files)) ++ line end_text ≡ text_of facts files
 parts_of_text facts files =
     let facts_part = map fact_text (fin.entries facts) in
-    let nodes_part = map node_text (fin.entries files) in
-    let whole = flat_map-append line ((header_text ∷ facts_part) ++ nodes_part) (end_text ∷ []) ∙ ap (λ x. x ++ flat_map line (end_text ∷ [])) (flat_map-append line (header_text ∷ facts_part) nodes_part) in
-    let parts = ap (λ x. ((line header_text ++ x) ++ flat_map node_line (fin.entries files)) ++ line end_text) (sym (lines_of_map fact_text (fin.entries facts)))
-    ∙ ap (λ x. ((line header_text ++ flat_map line facts_part) ++ x) ++ line end_text) (sym (lines_of_map node_text (fin.entries files))) in
+    let nodes_part = map (node_text Two) (fin.entries files) in
+    let whole = flat_map-append line ((header_text Two ∷ facts_part) ++ nodes_part) (end_text ∷ []) ∙ ap (λ x. x ++ flat_map line (end_text ∷ [])) (flat_map-append line (header_text Two ∷ facts_part) nodes_part) in
+    let parts = ap (λ x. ((line (header_text Two) ++ x) ++ flat_map node_line (fin.entries files)) ++ line end_text) (sym (lines_of_map fact_text (fin.entries facts)))
+    ∙ ap (λ x. ((line (header_text Two) ++ flat_map line facts_part) ++ x) ++ line end_text) (sym (lines_of_map (node_text Two) (fin.entries files))) in
     parts ∙ sym whole
 
 -- ---- what the facts and the paths are
@@ -191,15 +177,33 @@ facts_fit facts alone e = ap (list_all is_byte_fact) (entries_listed facts alone
 pub fits_more : {A : Type 0} (p : A → Bool) (xs : List A) (i : ℕ) (d : A) → i < length xs → list_all p (take i xs) ≡ true → p (get_or xs i d) ≡ true → list_all p (take (i + 1) xs) ≡ true
 fits_more p xs i d within e f = ap (list_all p) (take_more xs i d within) ∙ all_append p (take i xs) (get_or xs i d ∷ []) e (both_true _ _ f refl)
 
-pub node_fits_more : (files : Files) (i : ℕ) → i < fin.len files → list_all (λ e. are_byte_names e.0) (take i (fin.entries files)) ≡ true → node_fits files i ≡ true → list_all (λ e. are_byte_names e.0) (take (i + 1) (fin.entries files)) ≡ true
-node_fits_more files i below e f =
-    let within : i < length (fin.entries files) = subst (λ n. i < n) (fin.len-entries files) below in
-    let here : are_byte_names (get_or (fin.entries files) i some_entry).0 ≡ true = sym (ap (λ o. option_map_or (λ x. are_byte_names x.0) o true) (slice_get-get_or (fin.entries files) i some_entry within)) ∙ f in
-    fits_more (λ x. are_byte_names x.0) (fin.entries files) i some_entry within e here
-
 keys_fit : (es : List (Path × Object)) → list_all (λ e. are_byte_names e.0) es ≡ true → list_all are_byte_names (map (λ e. e.0) es) ≡ true
 keys_fit [] e = refl
 keys_fit (x ∷ es) e = both_true _ _ (and_first _ _ e) (keys_fit es (and_second _ _ e))
 
-pub have_text : (facts : Values) (files : Files) → list_all is_byte_fact (fin.entries facts) ≡ true → list_all (λ e. are_byte_names e.0) (fin.entries files) ≡ true → IsTree files → HaveText facts files
-have_text facts files f g is = record { facts_fit = f; names_fit = keys_fit (fin.entries files) g; tree = is }
+pub have_text : (facts : Values) (files : Files) → list_all is_byte_fact (fin.entries facts) ≡ true → list_all (λ e. are_byte_names e.0) (fin.entries files) ≡ true → IsTree files → HaveText Two facts files
+have_text facts files f g is = record { facts_fit = f; names_fit = keys_fit (fin.entries files) g; tree = is; shown = λ path o here. tt }
+
+-- ---- the nodes of a walk
+
+module _ (o : List ℕ) (es all : List (Path × Object)) (e : Path × Object) (next : Some e ≡ slice_get es 0) where
+  walk_parts : es ≡ e ∷ drop 1 es
+  walk_parts = by es next
+    where
+      by : (xs : List (Path × Object)) → Some e ≡ slice_get xs 0 → xs ≡ e ∷ drop 1 xs
+      by [] is = absurd (let no : Some e ≡ None = is in cc)
+      by (x ∷ xs) is = let same : x ≡ e = cc in ap (λ (v : Path × Object). v ∷ xs) same
+
+  pub walk_line : (done : List ℕ) → done ++ flat_map node_line es ≡ o ++ flat_map node_line all → (done ++ node_line e) ++ flat_map node_line (drop 1 es) ≡ o ++ flat_map node_line all
+  walk_line done is = append_assoc done (node_line e) (flat_map node_line (drop 1 es)) ∙ sym (ap (λ (v : List (Path × Object)). done ++ flat_map node_line v) walk_parts) ∙ is
+
+  pub walk_fits : list_all (λ x. are_byte_names x.0) all ≡ list_all (λ x. are_byte_names x.0) es → are_byte_names e.0 ≡ true → list_all (λ x. are_byte_names x.0) all ≡ list_all (λ x. are_byte_names x.0) (drop 1 es)
+  walk_fits is fit =
+      is ∙ ap (list_all (λ (x : Path × Object). are_byte_names x.0)) walk_parts ∙ ap (λ b. b && list_all (λ (x : Path × Object). are_byte_names x.0) (drop 1 es)) fit
+
+  pub walk_shorter : length (drop 1 es) < length es
+  walk_shorter = let l = ap length walk_parts in omega (arith, l)
+
+pub walk_over : (es : List (Path × Object)) → None ≡ slice_get es 0 → es ≡ []
+walk_over [] is = refl
+walk_over (x ∷ xs) is = absurd (let no : None ≡ Some x = is in cc)

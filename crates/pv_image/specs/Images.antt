@@ -9,10 +9,12 @@ use Rattle.pv_path.specs.Paths.{Path, path_cmp, same_path, parent_of}
 use Rattle.pv_text.specs.Facts.{Values, is_fact}
 use Rattle.pv_steps.specs.declared.object.Object.{Object}
 use Rattle.pv_steps.specs.Objects.{is_directory}
-use Rattle.pv_steps.specs.Trees.{Files, IsTree}
-use Rattle.pv_image.specs.Spelling.{IsEntry, are_bytes, lacks, header_text, end_text, fact_text, node_text, line, text_of}
+use Rattle.pv_steps.specs.Trees.{Files, IsTree, places}
+use Rattle.pv_image.specs.Spelling.{IsEntry, Shows, are_bytes, extras_of, lacks, header_text, end_text, fact_text, node_text, line, text_in}
 use Rattle.pv_image.specs.declared.fault.ImageFault.{ImageFault}
 use Rattle.pv_image.specs.declared.fault.ImageFault.TheVariants as fault
+use Rattle.pv_image.specs.declared.version.Version.{Version}
+use Rattle.pv_image.specs.declared.version.Version.TheVariants.{One, Two}
 
 -- ---- images
 
@@ -35,42 +37,44 @@ IsByteFact fact = is_byte_fact fact ≡ true
 abbrev pub are_byte_names : Path → Bool
 are_byte_names path = list_all are_bytes path
 
--- facts and a tree that have a text: values and names are bytes
-pub record HaveText (facts : Values) (files : Files) : Type 0 where
+-- facts and a tree that have a text of a version: values and names are bytes, and the version shows each object
+pub record HaveText (version : Version) (facts : Values) (files : Files) : Type 0 where
   pub facts_fit : list_all is_byte_fact (fin.entries facts) ≡ true
   pub names_fit : list_all are_byte_names (fin.keys files) ≡ true
   pub tree : IsTree files
+  pub shown : (path : Path) (o : Object) → places files path ≡ Some o → Shows version (extras_of o)
 
--- bytes are some notes, and then the one text of these facts and this tree
+-- bytes are some notes, and then the one text of a version of these facts and this tree
 pub record IsImage (bytes : List ℕ) (facts : Values) (files : Files) : Type 0 where
+  pub version : Version
   pub notes : List (List ℕ)
   pub are_notes : list_all (λ note. is_note note && is_line note) notes ≡ true
-  pub fit : HaveText facts files
-  pub text : bytes ≡ flat_map line notes ++ text_of facts files
+  pub fit : HaveText version facts files
+  pub text : bytes ≡ flat_map line notes ++ text_in version facts files
 
 -- ---- faults
 
 -- what a line may say
 pub data What : Type 0 where
   Note : What
-  Header : What
+  Header : Version → What
   Fact : ℕ × List ℕ → What
-  Node : Path × Object → What
+  Node : Version → Path × Object → What
   End : What
 
 -- a text is a spelling of it
 abbrev pub Spells : List ℕ → What → Type 0
 Spells text Note = is_note text ≡ true
-Spells text Header = text ≡ header_text
+Spells text (Header version) = text ≡ header_text version
 Spells text (Fact fact) = IsByteFact fact × (text ≡ fact_text fact)
-Spells text (Node e) = IsEntry e × (text ≡ node_text e)
+Spells text (Node version e) = IsEntry version e × (text ≡ node_text version e)
 Spells text End = text ≡ end_text
 
--- where a line stands: before the header, after some facts, after some nodes, after the end
+-- where a line stands: before the header, in a version after some facts or after some nodes, after the end
 pub data Stage : Type 0 where
   Before : Stage
-  InFacts : List (ℕ × List ℕ) → Stage
-  InNodes : List (Path × Object) → Stage
+  InFacts : Version → List (ℕ × List ℕ) → Stage
+  InNodes : Version → List (Path × Object) → Stage
   After : Stage
 
 -- a letter, or a path, is greater than the last one before it
@@ -87,18 +91,32 @@ has_parent entries path = list_any (λ e. same_path e.0 (parent_of path) && is_d
 abbrev pub is_root : Path × Object → Bool
 is_root e = same_path e.0 [] && is_directory e.1.node.kind
 
+-- whether two versions are the same
+abbrev pub same_version : Version → Version → Bool
+same_version One One = true
+same_version Two Two = true
+same_version a b = false
+
+-- the stage after the first node, or its fault
+abbrev pub after_root : ℕ → Version → Path × Object → Result Stage ImageFault
+after_root n version e = if is_root e then Ok (InNodes version (e ∷ [])) else Err (fault.NoParent n)
+
+-- the stage after a later node, or its fault
+abbrev pub after_node : ℕ → Version → List (Path × Object) → Path × Object → Result Stage ImageFault
+after_node n version entries e =
+    if follows path_cmp entries e.0 then
+    if has_parent entries e.0 then Ok (InNodes version (entries ++ e ∷ [])) else Err (fault.NoParent n)
+    else Err (fault.OutOfOrder n)
+
 -- what line n does where it stands: the stage after it, or its fault; nothing where it may not stand there
 abbrev pub judged : ℕ → Stage → What → Option (Result Stage ImageFault)
 judged n Before Note = Some (Ok Before)
-judged n Before Header = Some (Ok (InFacts []))
-judged n (InFacts facts) (Fact fact) = Some (if follows nat_cmp facts fact.0 then Ok (InFacts (facts ++ fact ∷ [])) else Err (fault.OutOfOrder n))
-judged n (InFacts facts) (Node e) = Some (if is_root e then Ok (InNodes (e ∷ [])) else Err (fault.NoParent n))
-judged n (InFacts facts) End = Some (Err (fault.NoParent n))
-judged n (InNodes entries) (Node e) =
-    Some (if follows path_cmp entries e.0 then
-    if has_parent entries e.0 then Ok (InNodes (entries ++ e ∷ [])) else Err (fault.NoParent n)
-    else Err (fault.OutOfOrder n))
-judged n (InNodes entries) End = Some (Ok After)
+judged n Before (Header version) = Some (Ok (InFacts version []))
+judged n (InFacts version facts) (Fact fact) = Some (if follows nat_cmp facts fact.0 then Ok (InFacts version (facts ++ fact ∷ [])) else Err (fault.OutOfOrder n))
+judged n (InFacts version facts) (Node other e) = if same_version version other then Some (after_root n version e) else None
+judged n (InFacts version facts) End = Some (Err (fault.NoParent n))
+judged n (InNodes version entries) (Node other e) = if same_version version other then Some (after_node n version entries e) else None
+judged n (InNodes version entries) End = Some (Ok After)
 judged n stage what = None
 
 -- the fault of line n where it is no spelling of what may stand there

@@ -6,6 +6,7 @@ use Rattle.pv_acl.specs.Parts.{base_of, is_acl, part_of_mode}
 use Rattle.pv_steps.specs.declared.node.Kind.{Kind}
 use Rattle.pv_steps.specs.declared.object.Object.{Object}
 use Rattle.pv_steps.specs.Objects.{AclFits, IsId, StampsFit}
+use Rattle.pv_image.specs.declared.extras.Extras.{Extras}
 use Rattle.pv_image.specs.declared.node.Plain.{Plain}
 use Rattle.pv_image.specs.declared.payload.Payload.{Payload}
 use Rattle.pv_image.specs.Spelling.{kind_text, mode_text, stamps_text}
@@ -27,8 +28,8 @@ pub record IsAclOf (kind : Kind) (mode : ℕ) (acl : Acl) : Type 0 where
   pub fits : AclFits kind (mode / 512) acl
 
 -- the object of columns
-abbrev pub object_of : Plain → Acl → Payload → Object
-object_of plain acl payload = record {
+abbrev pub object_of : Plain → Acl → Extras → Payload → Object
+object_of plain acl extras payload = record {
   node = record {
     kind = plain.kind;
     special = plain.mode / 512;
@@ -38,6 +39,8 @@ object_of plain acl payload = record {
     stamps = plain.stamps;
     major = payload.major;
     minor = payload.minor;
+    attrs = extras.attrs;
+    letters = extras.letters;
   };
   payload = payload.bytes;
 }

@@ -1,14 +1,16 @@
 -- How far an image was read.
 use Rattle.std.specs.Prelude.{◌≡◌, ◌≢◌, ℕ, Bool, true, ◌&&◌, List, ◌++◌, map, Option, Some, Err}
-use Rattle.std.specs.List.{flat_map, list_all}
+use Rattle.std.specs.List.{AllByRecursion, flat_map, list_all}
 use Rattle.std.specs.Option.{option_map_or}
 use Rattle.std.specs.Ordering.{is_lt, nat_cmp}
 use Rattle.std.specs.FinMap as fin
+use Rattle.pv_path.specs.Paths.{Path, path_cmp}
 use Rattle.pv_steps.specs.Trees.{Files}
 use Rattle.pv_text.specs.Facts.{Values}
-use Rattle.pv_image.specs.Spelling.{fact_text, line, node_text}
+use Rattle.pv_image.specs.Spelling.{Shows, extras_of, fact_text, line, node_text}
 use Rattle.pv_image.specs.Images.{HasFault, IsByteFact, IsCut, Stage, What, are_byte_names, follows, is_byte_fact, is_line, is_note, judged}
 use Rattle.pv_image.specs.declared.fault.ImageFault.{ImageFault}
+use Rattle.pv_image.specs.declared.version.Version.{Version}
 use Rattle.pv_image.specs.declared.fault.ImageFault.TheVariants as fault
 
 -- a fault of what is left is a fault of the whole
@@ -36,10 +38,11 @@ pub record FactsRead (bytes : List ℕ) (facts : Values) (rest : List ℕ) : Typ
   pub fit : list_all is_byte_fact (fin.entries facts) ≡ true
   pub text : bytes ≡ flat_map line (map fact_text (fin.entries facts)) ++ rest
 
--- the nodes of a tree were read
-pub record TreeRead (bytes : List ℕ) (files : Files) (rest : List ℕ) : Type 0 where
+-- the nodes of a tree were read in a version
+pub record TreeRead (version : Version) (bytes : List ℕ) (files : Files) (rest : List ℕ) : Type 0 where
   pub fit : list_all (λ e. are_byte_names e.0) (fin.entries files) ≡ true
-  pub text : bytes ≡ flat_map line (map node_text (fin.entries files)) ++ rest
+  pub shown : AllByRecursion (λ e. Shows version (extras_of e.1)) (fin.entries files)
+  pub text : bytes ≡ flat_map line (map (node_text version) (fin.entries files)) ++ rest
 
 -- the next line is no fact
 abbrev pub HasNoFactNext : List ℕ → Type 0
@@ -48,6 +51,10 @@ HasNoFactNext bytes = (text rest : List ℕ) → IsCut bytes text rest → (fact
 -- whether a letter is greater than the last one, where there is one
 abbrev pub letter_after : Option ℕ → ℕ → Bool
 letter_after last letter = option_map_or (λ l. is_lt (nat_cmp l letter)) last true
+
+-- the last path of a tree, by what may follow
+abbrev pub IsLastPath : Files → Path → Type 0
+IsLastPath files last = (path : Path) → is_lt (path_cmp last path) ≡ follows path_cmp (fin.entries files) path
 
 -- the last letter of facts
 abbrev pub IsLast : Values → Option ℕ → Type 0

@@ -2,10 +2,12 @@
 use Rattle.std.specs.Prelude.{◌≡◌, ◌≢◌, ℕ, ◌/◌, ◌%◌, ◌<◌, ◌^◌, true, false, List, [], ◌∷◌, ◌++◌, map, Option, Some, None}
 use Rattle.std.specs.Borrow.{Bor}
 use Rattle.pv_text.specs.Facts.{is_fact_value}
+use Rattle.pv_steps.specs.declared.attr.Attr.{Attr}
+use Rattle.pv_steps.specs.Attributes.{are_attrs, is_attr}
 use Rattle.pv_steps.specs.Objects.{IsTarget}
 use Rattle.pv_image.specs.declared.payload.Payload.{Payload}
 use Rattle.pv_image.specs.Spelling.{are_bytes}
-use Rattle.pv_path.specs.Printing.{hex_digit, is_plain, printed_byte}
+use Rattle.pv_path.specs.Printing.{hex_digit, is_plain_but, printed_byte_by}
 
 -- what stands in a text: a value of this kind of which the text is the spelling, or that there is none
 abbrev pub Reads : {A B : Type 0} → (A → B) → (A → Type 0) → B → Option A → Type 0
@@ -20,13 +22,13 @@ texts slices = map (λ s. s.now) slices
 abbrev pub hex_digits : ℕ → List ℕ
 hex_digits b = hex_digit (b / 16) ∷ hex_digit (b % 16) ∷ []
 
--- a byte that is not printed as itself
-abbrev pub IsEscaped : ℕ → Type 0
-IsEscaped b = (b < 256) × (is_plain b ≡ false)
+-- a byte that is not printed as itself where some more bytes are hidden
+abbrev pub IsEscaped : List ℕ → ℕ → Type 0
+IsEscaped hidden b = (b < 256) × (is_plain_but hidden b ≡ false)
 
--- a byte as it is printed, and what stands after it
-abbrev pub printed_front : ℕ × List ℕ → List ℕ
-printed_front front = printed_byte front.0 ++ front.1
+-- a byte as it is printed where some more bytes are hidden, and what stands after it
+abbrev pub printed_front : List ℕ → ℕ × List ℕ → List ℕ
+printed_front hidden front = printed_byte_by (is_plain_but hidden) front.0 ++ front.1
 
 abbrev pub IsFront : ℕ × List ℕ → Type 0
 IsFront front = front.0 < 256
@@ -54,6 +56,16 @@ of_bytes bytes = record { bytes = bytes; major = 0; minor = 0 }
 
 abbrev pub of_numbers : ℕ × ℕ → Payload
 of_numbers numbers = record { bytes = []; major = numbers.0; minor = numbers.1 }
+
+-- an attribute that an object may have, several, and a set of letters
+abbrev pub IsAttr : Attr → Type 0
+IsAttr attr = is_attr attr.name attr.value ≡ true
+
+abbrev pub AreAttrs : List Attr → Type 0
+AreAttrs attrs = are_attrs attrs ≡ true
+
+abbrev pub IsLetters : ℕ → Type 0
+IsLetters letters = letters < 2 ^ 15
 
 -- a value that a fact can have, of bytes
 pub record IsFactValue (value : List ℕ) : Type 0 where

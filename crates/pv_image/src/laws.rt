@@ -4,7 +4,8 @@ ghost use Rattle.std.specs.Prelude.{◌≡◌, ℕ, List};
 ghost use Rattle.pv_steps.specs.Trees.{Files};
 ghost use Rattle.pv_text.specs.Facts.{Values};
 ghost use Rattle.pv_image.specs.declared.fault.ImageFault.{ImageFault as Fault};
-ghost use Rattle.pv_image.specs.Spelling.{text_of};
+ghost use Rattle.pv_image.specs.declared.version.Version.TheVariants.{One, Two};
+ghost use Rattle.pv_image.specs.Spelling.{old_text_of, text_of};
 ghost use Rattle.pv_image.specs.Images.{HasImageFault, HaveText, IsImage, Spells, What};
 
 /// No line says two things.
@@ -31,12 +32,21 @@ pub fn bytes_have_one_fault()
 
 /// The text of facts and a tree is an image of them.
 pub fn text_is_an_image()
-    ensures { (facts : Values) (files : Files) → HaveText facts files →
+    ensures { (facts : Values) (files : Files) → HaveText Two facts files →
         IsImage (text_of facts files) facts files }
 {}
 
 /// The text of facts and a tree is an image of them alone, so that reading it gives them again.
 pub fn text_is_read_again()
-    ensures { (facts : Values) (files : Files) → HaveText facts files → (g : Values) (t : Files) →
+    ensures { (facts : Values) (files : Files) → HaveText Two facts files → (g : Values) (t : Files) →
         IsImage (text_of facts files) g t → (g ≡ facts) × (t ≡ files) }
+{}
+
+/// The text in version 1 of facts and a tree without attributes and letters is an image of them, and of them
+/// alone: so an image of version 1 is written again as the text of the same tree.
+pub fn an_old_text_is_an_image()
+    ensures image { (facts : Values) (files : Files) → HaveText One facts files →
+        IsImage (old_text_of facts files) facts files }
+    ensures alone { (facts : Values) (files : Files) → HaveText One facts files → (g : Values) (t : Files) →
+        IsImage (old_text_of facts files) g t → (g ≡ facts) × (t ≡ files) }
 {}

@@ -1,9 +1,12 @@
 //! The tree image: one text that holds facts about a system and a whole file tree.
 #![tactic(auto)]
 
+mod attrs;
 mod column;
+mod extras;
 mod fault;
 mod laws;
+mod letters;
 mod line;
 mod name;
 mod node;
@@ -12,16 +15,19 @@ mod pieces;
 mod printed;
 mod reading;
 mod tree;
+mod version;
 mod whole;
 mod write;
 
 pub use fault::ImageFault;
 pub use laws::{
-    bytes_are_one_image, bytes_have_one_fault, image_has_no_fault, line_says_one_thing,
-    text_is_an_image, text_is_read_again,
+    an_old_text_is_an_image, bytes_are_one_image, bytes_have_one_fault, image_has_no_fault,
+    line_says_one_thing, text_is_an_image, text_is_read_again,
 };
 pub use reading::{Image, read_image};
+pub use version::Version;
 pub use whole::write_image;
+pub use write::print_node;
 
 #[cfg(test)]
 mod tests;

@@ -9,12 +9,10 @@ ghost use Rattle.pv_image.specs.Reading.{IsFactValue, Reads, texts};
 
 use crate::pieces::pieces_of;
 use crate::printed::read_printed;
+use crate::version::Version;
 use pv_path::Bytes;
 use pv_text::FACT_LETTERS;
 use std::alloc::{AllocError, Global};
-
-/// The header of an image, without its line feed.
-pub(crate) const HEADER: [u8; 12] = *b"tree-image 1";
 
 /// The place of the first line feed.
 fn feed_at(bytes: &[u8]) -> Option<usize>
@@ -39,11 +37,34 @@ pub(crate) fn is_note(text: &[u8]) -> bool
     text.starts_with(b": ")
 }
 
-/// Whether a line is the header.
-pub(crate) fn is_header(text: &[u8]) -> bool
-    ensures { IsTrue result ↔ (text.now ≡ header_text) }
+/// The header of a version, without its line feed.
+pub(crate) fn header(version: Version) -> &'static [u8]
+    ensures { result.now ≡ header_text version }
 {
-    text == HEADER.as_slice()
+    match version {
+        Version::One => b"tree-image 1",
+        Version::Two => b"tree-image 2",
+    }
+}
+
+/// Whether a line is the header of a version.
+fn is_header(text: &[u8], version: Version) -> bool
+    ensures { IsTrue result ↔ (text.now ≡ header_text version) }
+{
+    text == header(version)
+}
+
+/// The version that a header names.
+pub(crate) fn read_version(text: &[u8]) -> Option<Version>
+    ensures { Reads header_text (λ _. Unit {0}) text.now result }
+{
+    if is_header(text, Version::One) {
+        return Some(Version::One);
+    }
+    if is_header(text, Version::Two) {
+        return Some(Version::Two);
+    }
+    None
 }
 
 /// Whether a line is the end of an image.

@@ -1,5 +1,5 @@
 //! Nodes, read from their lines.
-ghost use Rattle.std.specs.Prelude.{◌≡◌, ◌≤◌, ℕ, List, ◌∷◌, [], IfOk};
+ghost use Rattle.std.specs.Prelude.{◌≡◌, ◌≤◌, ℕ, List, ◌∷◌, ◌++◌, [], IfOk};
 ghost use Rattle.pv_acl.specs.Texts.{acl_text};
 ghost use Rattle.pv_steps.specs.Objects.{StampsFit};
 ghost use Rattle.pv_image.specs.Spelling.{IsEntry, columns, node_text, stamps_text};
@@ -7,9 +7,11 @@ ghost use Rattle.pv_image.specs.Nodes.{IsAclOf, IsPlain, object_of, plain_texts}
 ghost use Rattle.pv_image.specs.Reading.{Reads, texts};
 
 use crate::column::{read_id, read_kind, read_mode, read_stamps};
+use crate::extras::{Extras, read_extras};
 use crate::name::read_path;
 use crate::payload::{Payload, is_dash, read_payload};
 use crate::pieces::pieces_of;
+use crate::version::Version;
 use pv_acl::{Acl, read_acl};
 use pv_path::TreePath;
 use pv_steps::{Kind, Node, Object, Stamps};
@@ -92,9 +94,10 @@ fn read_acl_of(alloc: Global, kind: Kind, mode: u16, text: &[u8]) -> Result<Opti
 }
 
 /// The object of what the columns spell.
-fn object_of(plain: Plain, acl: Acl, payload: Payload) -> Object
-    ensures { result ≡ object_of plain acl payload }
+fn object_of(plain: Plain, acl: Acl, extras: Extras, payload: Payload) -> Object
+    ensures { result ≡ object_of plain acl extras payload }
 {
+    let Extras { attrs, letters } = extras;
     let Payload {
         bytes,
         major,
@@ -110,14 +113,17 @@ fn object_of(plain: Plain, acl: Acl, payload: Payload) -> Object
             stamps: plain.stamps,
             major,
             minor,
+            attrs,
+            letters,
         },
         payload: bytes,
     }
 }
 
-/// The path and the object that eight texts spell.
+/// The path and the object that texts spell, of which some are the columns that a version has more.
 fn entry_with(
     alloc: Global,
+    version: Version,
     kind: &[u8],
     path: &[u8],
     mode: &[u8],
@@ -125,11 +131,12 @@ fn entry_with(
     gid: &[u8],
     stamps: &[u8],
     acl: &[u8],
+    extras: &[&[u8]],
     payload: &[u8],
 ) -> Result<Option<(TreePath, Object)>, AllocError>
-    ensures { let texts = kind.now ∷ path.now ∷ mode.now ∷ uid.now ∷ gid.now
-        ∷ stamps.now ∷ acl.now ∷ payload.now ∷ [] in
-        IfOk result (Reads columns IsEntry texts) }
+    ensures { let spelled = kind.now ∷ path.now ∷ mode.now ∷ uid.now ∷ gid.now
+        ∷ stamps.now ∷ acl.now ∷ texts extras.now ++ payload.now ∷ [] in
+        IfOk result (Reads (columns version) (IsEntry version) spelled) }
 {
     let Some(plain) = read_plain(alloc, kind, mode, uid, gid, stamps)? else {
         return Ok(None);
@@ -140,31 +147,49 @@ fn entry_with(
     let Some(acl) = read_acl_of(alloc, plain.kind, plain.mode, acl)? else {
         return Ok(None);
     };
+    let Some(extras) = read_extras(alloc, version, plain.kind, extras)? else {
+        return Ok(None);
+    };
     let Some(payload) = read_payload(alloc, plain.kind, payload)? else {
         return Ok(None);
     };
-    Ok(Some((path, object_of(plain, acl, payload))))
+    Ok(Some((path, object_of(plain, acl, extras, payload))))
 }
 
-/// The path and the object that columns spell.
-fn entry_of(alloc: Global, pieces: &[&[u8]]) -> Result<Option<(TreePath, Object)>, AllocError>
-    ensures { IfOk result (Reads columns IsEntry (texts pieces.now)) }
+/// The path and the object that the columns of a version spell.
+fn entry_of(
+    alloc: Global,
+    version: Version,
+    pieces: &[&[u8]],
+) -> Result<Option<(TreePath, Object)>, AllocError>
+    ensures { IfOk result (Reads (columns version) (IsEntry version) (texts pieces.now)) }
 {
     match pieces {
-        [kind, path, mode, uid, gid, stamps, acl, payload] => {
-            entry_with(alloc, kind, path, mode, uid, gid, stamps, acl, payload)
-        }
+        [
+            kind,
+            path,
+            mode,
+            uid,
+            gid,
+            stamps,
+            acl,
+            extras @ ..,
+            payload,
+        ] => entry_with(
+            alloc, version, kind, path, mode, uid, gid, stamps, acl, extras, payload,
+        ),
         _ => Ok(None),
     }
 }
 
-/// The path and the object that a line spells.
+/// The path and the object that a line of a version spells.
 pub(crate) fn read_node(
     alloc: Global,
+    version: Version,
     text: &[u8],
 ) -> Result<Option<(TreePath, Object)>, AllocError>
-    ensures { IfOk result (Reads node_text IsEntry text.now) }
+    ensures { IfOk result (Reads (node_text version) (IsEntry version) text.now) }
 {
     let pieces = pieces_of(alloc, text, b' ')?;
-    entry_of(alloc, pieces.as_slice())
+    entry_of(alloc, version, pieces.as_slice())
 }

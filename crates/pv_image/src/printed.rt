@@ -1,10 +1,9 @@
-//! Printed bytes, names and paths, read back.
-ghost use Rattle.std.specs.Prelude.{◌≡◌, ◌<◌, ◌∷◌, [], true, IfOk, option_map};
-ghost use Rattle.pv_path.specs.Printing.{hex_digit, is_plain, printed};
-ghost use Rattle.pv_image.specs.Spelling.{are_bytes};
-ghost use Rattle.pv_image.specs.Reading.{Reads, hex_digits, IsEscaped, printed_front, IsFront, front_of};
+//! Printed bytes, read back.
+ghost use Rattle.std.specs.Prelude.{◌≡◌, ◌<◌, ◌∷◌, [], IfOk, option_map};
+ghost use Rattle.pv_path.specs.Printing.{hex_digit, is_plain_but, printed, printed_by};
+ghost use Rattle.pv_image.specs.Reading.{IsByteText, IsEscaped, IsFront, Reads, front_of, hex_digits, printed_front};
 
-use pv_path::Bytes;
+use pv_path::{Bytes, add_plain, is_plain};
 use std::alloc::{AllocError, Global};
 
 /// The number that a lower case hexadecimal digit spells.
@@ -18,49 +17,53 @@ fn read_hex(byte: u8) -> Option<u8>
     }
 }
 
-/// Whether a byte is printed as itself.
-fn is_plain(byte: u8) -> bool
-    ensures { result ≡ is_plain byte }
-{
-    matches!(byte, 0x21..=0x7e) && byte != b'\\'
-}
-
 /// The byte that two hexadecimal digits spell, where it is not printed as itself.
-fn read_escaped(high: u8, low: u8) -> Option<u8>
-    ensures { Reads hex_digits IsEscaped (high ∷ low ∷ []) result }
+fn read_escaped(high: u8, low: u8, hidden: &[u8]) -> Option<u8>
+    ensures { Reads hex_digits (IsEscaped hidden.now) (high ∷ low ∷ []) result }
 {
     let byte = read_hex(high)? * 16 + read_hex(low)?;
-    if is_plain(byte) {
+    if is_plain(byte, hidden) {
         return None;
     }
     Some(byte)
 }
 
 /// The byte that a text begins with as it is printed, and what stands after it.
-fn next_byte(text: &[u8]) -> Option<(u8, &[u8])>
-    ensures { Reads printed_front IsFront text.now (option_map front_of result) }
+fn next_byte<'a>(text: &'a [u8], hidden: &[u8]) -> Option<(u8, &'a [u8])>
+    ensures { Reads (printed_front hidden.now) IsFront text.now (option_map front_of result) }
 {
     match text {
-        [b'\\', b'x', high, low, rest @ ..] => Some((read_escaped(*high, *low)?, rest)),
-        [byte, rest @ ..] if is_plain(*byte) => Some((*byte, rest)),
+        [b'\\', b'x', high, low, rest @ ..] => Some((read_escaped(*high, *low, hidden)?, rest)),
+        [byte, rest @ ..] if is_plain(*byte, hidden) => Some((*byte, rest)),
         _ => None,
     }
 }
 
-/// The bytes that a text prints.
-pub(crate) fn read_printed(alloc: Global, text: &[u8]) -> Result<Option<Bytes>, AllocError>
-    ensures { IfOk result (Reads printed (λ bytes. are_bytes bytes ≡ true) text.now) }
+/// The bytes that a text prints where some more bytes are hidden.
+pub(crate) fn read_printed_but(
+    alloc: Global,
+    text: &[u8],
+    hidden: &[u8],
+) -> Result<Option<Bytes>, AllocError>
+    ensures { IfOk result (Reads (printed_by (is_plain_but hidden.now)) IsByteText text.now) }
 {
-    let mut bytes = Bytes::new(alloc);
+    let mut bytes = Vec::new(alloc);
     let mut rest = text;
     while !rest.is_empty() {
-        match next_byte(rest) {
+        match next_byte(rest, hidden) {
             Some((byte, after)) => {
                 bytes.push(byte)?;
-                rest = after;
+                rest = add_plain(&mut bytes, after, hidden)?;
             }
             None => return Ok(None),
         }
     }
-    Ok(Some(bytes))
+    Ok(Some(Bytes::from_vec(bytes)))
+}
+
+/// The bytes that a text prints.
+pub(crate) fn read_printed(alloc: Global, text: &[u8]) -> Result<Option<Bytes>, AllocError>
+    ensures { IfOk result (Reads printed IsByteText text.now) }
+{
+    read_printed_but(alloc, text, b"")
 }

@@ -5,16 +5,18 @@ ghost use Rattle.std.specs.FinMap as fin;
 ghost use Rattle.pv_steps.specs.Trees.{Files, IsTree};
 ghost use Rattle.pv_text.specs.Facts.{Values};
 ghost use Rattle.pv_image.specs.declared.fault.ImageFault.{ImageFault as Fault};
+ghost use Rattle.pv_image.specs.declared.version.Version.{Version as VersionValue};
 ghost use Rattle.pv_image.specs.Spelling.{end_text, header_text, line};
 ghost use Rattle.pv_image.specs.Images.{HasFault, HasImageFault, IsByteFact, IsImage, judged};
 ghost use Rattle.pv_image.specs.Images.{Fact, Before, InFacts, InNodes, After};
-ghost use Rattle.pv_image.specs.Progress.{Fails, FactsRead, HasNoFactNext, IsLast, Leads, NotesRead, Refuses, TreeRead, letter_after};
+ghost use Rattle.pv_image.specs.Progress.{Fails, FactsRead, HasNoFactNext, IsLast, IsLastPath, Leads, NotesRead, Refuses, TreeRead, letter_after};
 
 use crate::fault::ImageFault;
-use crate::line::{first_line, is_end, is_header, is_note, read_fact};
+use crate::line::{first_line, is_end, is_note, read_fact, read_version};
 use crate::node::read_node;
 use crate::tree::{add_node, root_tree};
-use pv_path::Bytes;
+use crate::version::Version;
+use pv_path::{Bytes, TreePath};
 use pv_text::Facts;
 use pv_tree::MemTree;
 use std::alloc::Global;
@@ -26,24 +28,28 @@ struct Left<'a> {
     bytes: &'a [u8],
 }
 
-/// Reads the notes and the header.
-fn read_header(bytes: &[u8]) -> Result<Left<'_>, ImageFault>
-    ensures leads { IfOk result (λ left. Leads 1 Before bytes.now left.number (InFacts []) left.bytes.now) }
-    ensures text { IfOk result (λ left. NotesRead bytes.now (line header_text ++ left.bytes.now)) }
-    ensures small { IfOk result (λ left. left.number + length left.bytes.now < 2 ^ 64) }
+/// Reads the notes and the header, which names the version.
+fn read_header(bytes: &[u8]) -> Result<(Version, Left<'_>), ImageFault>
+    ensures leads { IfOk result (λ r. Leads 1 Before bytes.now r.1.number (InFacts r.0 []) r.1.bytes.now) }
+    ensures text { IfOk result (λ r. NotesRead bytes.now (line (header_text r.0) ++ r.1.bytes.now)) }
+    ensures small { IfOk result (λ r. r.1.number + length r.1.bytes.now < 2 ^ 64) }
     ensures err { IfErr result (HasFault 1 Before bytes.now) }
 {
     let mut number = 1;
     let mut rest = bytes;
     while let Some((text, after)) = first_line(rest) {
-        if is_header(text) {
-            return Ok(Left {
-                number: number + 1,
-                bytes: after,
-            });
-        }
-        if !is_note(text) {
-            return Err(ImageFault::BadHeader(number));
+        match read_version(text) {
+            Some(version) => {
+                return Ok((
+                    version,
+                    Left {
+                        number: number + 1,
+                        bytes: after,
+                    },
+                ));
+            }
+            None if is_note(text) => {}
+            None => return Err(ImageFault::BadHeader(number)),
         }
         number += 1;
         rest = after;
@@ -72,11 +78,11 @@ fn add_fact(
     requires fact { IsByteFact (letter, value.now) }
     requires last { IsLast facts.old last }
     ensures added { OnOk result (fin.entries facts.new ≡ fin.entries facts.old ++ (letter, value.now) ∷ []) }
-    ensures judged { let es = fin.entries facts.old in
-        OnOk result (judged number (InFacts es) (Fact (letter, value.now))
-        ≡ Some (Ok (InFacts (es ++ (letter, value.now) ∷ [])))) }
-    ensures refused { let es = fin.entries facts.old in
-        IfErr result (Refuses number (InFacts es) (Fact (letter, value.now))) }
+    ensures judged { (version : VersionValue) → let es = fin.entries facts.old in
+        OnOk result (judged number (InFacts version es) (Fact (letter, value.now))
+        ≡ Some (Ok (InFacts version (es ++ (letter, value.now) ∷ [])))) }
+    ensures refused { (version : VersionValue) → let es = fin.entries facts.old in
+        IfErr result (Refuses number (InFacts version es) (Fact (letter, value.now))) }
 {
     if !is_after(last, letter) {
         return Err(ImageFault::OutOfOrder(number));
@@ -88,12 +94,14 @@ fn add_fact(
 /// Reads the facts, up to a line that is none.
 fn read_facts<'a>(alloc: Global, left: Left<'a>) -> Result<(Facts, Left<'a>), ImageFault>
     requires { left.number + length left.bytes.now < 2 ^ 64 }
-    ensures leads { let n = left.entry.number in let bytes = left.entry.bytes.now in
-        IfOk result (λ r. Leads n (InFacts []) bytes r.1.number (InFacts (fin.entries r.0)) r.1.bytes.now) }
+    ensures leads { (version : VersionValue) → let n = left.entry.number in let bytes = left.entry.bytes.now in
+        IfOk result (λ r. Leads n (InFacts version []) bytes
+        r.1.number (InFacts version (fin.entries r.0)) r.1.bytes.now) }
     ensures text { IfOk result (λ r. FactsRead left.entry.bytes.now r.0 r.1.bytes.now) }
     ensures next { IfOk result (λ r. HasNoFactNext r.1.bytes.now) }
     ensures small { IfOk result (λ r. r.1.number + length r.1.bytes.now < 2 ^ 64) }
-    ensures err { IfErr result (Fails left.entry.number (InFacts []) left.entry.bytes.now) }
+    ensures err { (version : VersionValue) →
+        IfErr result (Fails left.entry.number (InFacts version []) left.entry.bytes.now) }
 {
     let mut facts = Facts::new(alloc);
     let mut last = None;
@@ -118,22 +126,27 @@ fn read_facts<'a>(alloc: Global, left: Left<'a>) -> Result<(Facts, Left<'a>), Im
 }
 
 /// Reads the first node, which is the root, where no fact may stand any more.
-fn read_root<'a>(alloc: Global, left: Left<'a>) -> Result<(MemTree, Left<'a>), ImageFault>
+fn read_root<'a>(
+    alloc: Global,
+    version: Version,
+    left: Left<'a>,
+) -> Result<(MemTree, Left<'a>), ImageFault>
     requires next { HasNoFactNext left.bytes.now }
     requires small { left.number + length left.bytes.now < 2 ^ 64 }
     ensures leads { (facts : List (ℕ × List ℕ)) →
-        IfOk result (λ r. Leads left.entry.number (InFacts facts) left.entry.bytes.now
-        r.1.number (InNodes (fin.entries r.0.files)) r.1.bytes.now) }
-    ensures text { IfOk result (λ r. TreeRead left.entry.bytes.now r.0.files r.1.bytes.now) }
+        IfOk result (λ r. Leads left.entry.number (InFacts version facts) left.entry.bytes.now
+        r.1.number (InNodes version (fin.entries r.0.files)) r.1.bytes.now) }
+    ensures text { IfOk result (λ r. TreeRead version left.entry.bytes.now r.0.files r.1.bytes.now) }
+    ensures last { IfOk result (λ r. IsLastPath r.0.files []) }
     ensures steps { IfOk result (λ r. r.0.steps ≡ []) }
     ensures small { IfOk result (λ r. r.1.number + length r.1.bytes.now < 2 ^ 64) }
     ensures err { (facts : List (ℕ × List ℕ)) →
-        IfErr result (Fails left.entry.number (InFacts facts) left.entry.bytes.now) }
+        IfErr result (Fails left.entry.number (InFacts version facts) left.entry.bytes.now) }
 {
     let Some((text, rest)) = first_line(left.bytes) else {
         return Err(ImageFault::Truncated(left.number));
     };
-    let Some((path, object)) = read_node(alloc, text)? else {
+    let Some((path, object)) = read_node(alloc, version, text)? else {
         return Err(fault_of(left.number, text));
     };
     let tree = root_tree(alloc, left.number, &path, object)?;
@@ -160,21 +173,28 @@ fn fault_of(number: u64, text: &[u8]) -> ImageFault
     }
 }
 
-/// Reads the other nodes, and the end.
-fn read_nodes<'a>(alloc: Global, tree: &mut MemTree, left: Left<'a>) -> Result<Left<'a>, ImageFault>
-    requires { left.number + length left.bytes.now < 2 ^ 64 }
-    ensures leads { let stage = InNodes (fin.entries tree.old.files) in
+/// Reads the other nodes, and the end, where the tree has a root alone.
+fn read_nodes<'a>(
+    alloc: Global,
+    version: Version,
+    tree: &mut MemTree,
+    left: Left<'a>,
+) -> Result<Left<'a>, ImageFault>
+    requires small { left.number + length left.bytes.now < 2 ^ 64 }
+    requires last { IsLastPath tree.old.files [] }
+    ensures leads { let stage = InNodes version (fin.entries tree.old.files) in
         IfOk result (λ end. Leads left.entry.number stage left.entry.bytes.now end.number After end.bytes.now) }
-    ensures text { (bytes : List ℕ) → TreeRead bytes tree.old.files left.entry.bytes.now →
-        IfOk result (λ end. TreeRead bytes tree.new.files (line end_text ++ end.bytes.now)) }
+    ensures text { (bytes : List ℕ) → TreeRead version bytes tree.old.files left.entry.bytes.now →
+        IfOk result (λ end. TreeRead version bytes tree.new.files (line end_text ++ end.bytes.now)) }
     ensures steps { tree.new.steps ≡ tree.old.steps }
-    ensures err { let stage = InNodes (fin.entries tree.old.files) in
+    ensures err { let stage = InNodes version (fin.entries tree.old.files) in
         IfErr result (Fails left.entry.number stage left.entry.bytes.now) }
 {
     let mut number = left.number;
     let mut rest = left.bytes;
+    let mut last = TreePath::root(alloc);
     while let Some((text, after)) = first_line(rest) {
-        let Some((path, object)) = read_node(alloc, text)? else {
+        let Some((path, object)) = read_node(alloc, version, text)? else {
             if is_end(text) {
                 return Ok(Left {
                     number: number + 1,
@@ -183,7 +203,8 @@ fn read_nodes<'a>(alloc: Global, tree: &mut MemTree, left: Left<'a>) -> Result<L
             }
             return Err(ImageFault::BadLine(number));
         };
-        add_node(alloc, tree, number, &path, object)?;
+        add_node(tree, &last, number, &path, object)?;
+        last = path;
         number += 1;
         rest = after;
     }
@@ -219,17 +240,17 @@ fn read_whole(alloc: Global, bytes: &[u8]) -> Result<Image, ImageFault>
     ensures steps { IfOk result (λ image. image.tree.steps ≡ []) }
     ensures err { IfErr result (Fails 1 Before bytes.now) }
 {
-    let left = read_header(bytes)?;
+    let (version, left) = read_header(bytes)?;
     let (facts, left) = read_facts(alloc, left)?;
-    let (mut tree, left) = read_root(alloc, left)?;
-    let left = read_nodes(alloc, &mut tree, left)?;
+    let (mut tree, left) = read_root(alloc, version, left)?;
+    let left = read_nodes(alloc, version, &mut tree, left)?;
     check_end(left)?;
-    let _count = tree.len();
+    let _root = tree.node_at(&TreePath::root(alloc));
     Ok(Image { tree, facts })
 }
 
-/// Reads an image: the tree and the facts of which the bytes are the one text after some notes, or the
-/// first fault with the number of its line. Bytes that are an image are refused for want of memory alone.
+/// Reads an image of either version: the tree and the facts of which the bytes are the one text after some
+/// notes, or the first fault with the number of its line. Bytes that are an image are refused for want of memory alone.
 /// No step is told in the tree. `TooLong` is never answered.
 pub fn read_image(alloc: Global, bytes: &[u8]) -> Result<Image, ImageFault>
     ensures image { IfOk result (λ image. IsImage bytes.now image.facts image.tree.files) }

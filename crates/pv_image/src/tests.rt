@@ -13,14 +13,20 @@ fn fault_of(alloc: Global, bytes: &[u8]) -> Option<ImageFault> {
     }
 }
 
-/// Whole texts and their faults.
-const FAULTS: [(&[u8], ImageFault); 15] = [
+/// Whole texts of both versions and their faults.
+const FAULTS: [(&[u8], ImageFault); 22] = [
     (b"", ImageFault::Truncated(1)),
     (b"tree-image 9\n", ImageFault::BadHeader(1)),
+    (b"tree-image 2 \n", ImageFault::BadHeader(1)),
     (b"tree-image 1", ImageFault::Truncated(1)),
     (b": x\ntree-image 1\nend\n", ImageFault::NoParent(3)),
+    (b"tree-image 2\nend\n", ImageFault::NoParent(2)),
     (
         b"tree-image 1\nd / 0755 0 0 0,0,0,0 - -\n",
+        ImageFault::Truncated(3),
+    ),
+    (
+        b"tree-image 2\nd / 0755 0 0 0,0,0,0 - - - -\n",
         ImageFault::Truncated(3),
     ),
     (
@@ -28,7 +34,7 @@ const FAULTS: [(&[u8], ImageFault); 15] = [
         ImageFault::Truncated(3),
     ),
     (
-        b"tree-image 1\nd / 0755 0 0 0,0,0,0 - -\nen",
+        b"tree-image 2\nd / 0755 0 0 0,0,0,0 - - - -\nen",
         ImageFault::Truncated(3),
     ),
     (
@@ -36,11 +42,27 @@ const FAULTS: [(&[u8], ImageFault); 15] = [
         ImageFault::BadLine(2),
     ),
     (
+        b"tree-image 1\nd / 0755 0 0 0,0,0,0 - - - -\n",
+        ImageFault::BadLine(2),
+    ),
+    (
+        b"tree-image 2\nd / 0755 0 0 0,0,0,0 - -\n",
+        ImageFault::BadLine(2),
+    ),
+    (
         b"tree-image 1\nf / 0644 0 0 0,0,0,0 - -\n",
         ImageFault::NoParent(2),
     ),
     (
+        b"tree-image 2\nf / 0644 0 0 0,0,0,0 - - - -\n",
+        ImageFault::NoParent(2),
+    ),
+    (
         b"tree-image 1\nd / 0755 0 0 0,0,0,0 - -\nend\nend\n",
+        ImageFault::BadLine(4),
+    ),
+    (
+        b"tree-image 2\nd / 0755 0 0 0,0,0,0 - - - -\nend\nend\n",
         ImageFault::BadLine(4),
     ),
     (b"tree-image 1\n: x\n", ImageFault::BadLine(2)),
@@ -49,24 +71,24 @@ const FAULTS: [(&[u8], ImageFault); 15] = [
         ImageFault::OutOfOrder(3),
     ),
     (
-        b"tree-image 1\nfact m 1\nfact m 1\n",
+        b"tree-image 2\nfact m 1\nfact m 1\n",
         ImageFault::OutOfOrder(3),
     ),
     (b"tree-image 1\nfact x 1\n", ImageFault::BadLine(2)),
-    (b"tree-image 1\nfact m \n", ImageFault::BadLine(2)),
+    (b"tree-image 2\nfact m \n", ImageFault::BadLine(2)),
 ];
 
 /// The faults of whole texts, line by line.
 #[test]
 fn faults_of_texts(rt: HostRuntime) {
     for (bytes, want) in FAULTS {
-        assert_eq!(rt; fault_of(rt.alloc(), bytes), Some(want));
+        assert!(rt; fault_of(rt.alloc(), bytes) == Some(want), "{bytes:?}");
     }
 }
 
 /// An image of a root and further lines.
-fn with_lines(alloc: Global, lines: &[u8]) -> Result<Vec<u8>, AllocError> {
-    let mut text = Vec::from_slice(alloc, b"tree-image 1\nd / 0755 0 0 0,0,0,0 - -\n")?;
+fn with_lines(alloc: Global, front: &[u8], lines: &[u8]) -> Result<Vec<u8>, AllocError> {
+    let mut text = Vec::from_slice(alloc, front)?;
     text.extend_from_slice(lines)?;
     text.extend_from_slice(b"end\n")?;
     Ok(text)
@@ -75,7 +97,7 @@ fn with_lines(alloc: Global, lines: &[u8]) -> Result<Vec<u8>, AllocError> {
 /// The fault of a line after the root that is spelled wrong.
 const BAD: Option<ImageFault> = Some(ImageFault::BadLine(3));
 
-/// What stands after the root, and the fault that it has, if any.
+/// What stands after the root in version 1, and the fault that it has, if any.
 const LINES: [(&[u8], Option<ImageFault>); 31] = [
     (b"", None),
     (
@@ -125,30 +147,81 @@ const LINES: [(&[u8], Option<ImageFault>); 31] = [
     (b"s /a 0644 0 0 0,0,0,0 - -\n", BAD),
 ];
 
-/// Lines after the root are taken, or have their fault.
+/// What stands after the root in version 2, and the fault that it has, if any.
+const NEW_LINES: [(&[u8], Option<ImageFault>); 26] = [
+    (
+        b"d /b 0755 0 0 0,0,0,0 - - - -\nd /a 0755 0 0 0,0,0,0 - - - -\n",
+        Some(ImageFault::OutOfOrder(4)),
+    ),
+    (
+        b"f /a/b 0644 0 0 0,0,0,0 - - - -\n",
+        Some(ImageFault::NoParent(3)),
+    ),
+    (
+        b"f /a 0644 0 0 0,0,0,0 - user.a=1,user.b=x\\x20y i -\n",
+        None,
+    ),
+    (b"f /a 0644 0 0 0,0,0,0 - user.a= Aai aGk=\n", None),
+    (b"f /a 0644 0 0 0,0,0,0 - user.a=b\\x3dc - -\n", None),
+    (b"f /a 0644 0 0 0,0,0,0 - user.a\\x2c=\\xff - -\n", None),
+    (b"f /a 0644 0 0 0,0,0,0 - user.a=b=c - -\n", BAD),
+    (b"f /a 0644 0 0 0,0,0,0 - user.a=\\x61 - -\n", BAD),
+    (b"f /a 0644 0 0 0,0,0,0 - user.a=\\x3D - -\n", BAD),
+    (b"f /a 0644 0 0 0,0,0,0 - user.b=1,user.a=1 - -\n", BAD),
+    (b"f /a 0644 0 0 0,0,0,0 - user.a=1,user.a=2 - -\n", BAD),
+    (b"f /a 0644 0 0 0,0,0,0 - user.a=1, - -\n", BAD),
+    (b"f /a 0644 0 0 0,0,0,0 - user.a - -\n", BAD),
+    (b"f /a 0644 0 0 0,0,0,0 - user=1 - -\n", BAD),
+    (b"f /a 0644 0 0 0,0,0,0 - system.a=1 - -\n", BAD),
+    (b"f /a 0644 0 0 0,0,0,0 -  - -\n", BAD),
+    (b"f /a 0644 0 0 0,0,0,0 - -  -\n", BAD),
+    (b"f /a 0644 0 0 0,0,0,0 - - ia -\n", BAD),
+    (b"f /a 0644 0 0 0,0,0,0 - - ii -\n", BAD),
+    (b"f /a 0644 0 0 0,0,0,0 - - x -\n", BAD),
+    (b"l /a 0777 0 0 0,0,0,0 - - - /t\n", None),
+    (b"l /a 0777 0 0 0,0,0,0 - user.a=1 - /t\n", BAD),
+    (b"l /a 0777 0 0 0,0,0,0 - - i /t\n", BAD),
+    (b"p /a 0644 0 0 0,0,0,0 - user.a=1 - -\n", None),
+    (b"p /a 0644 0 0 0,0,0,0 - - i -\n", BAD),
+    (b"f /a 0644 0 0 0,0,0,0 - -\n", BAD),
+];
+
+/// Lines after the root are taken, or have their fault, by the version.
 #[test]
 fn lines_after_the_root(rt: HostRuntime) -> Result<(), Fail> {
     for (lines, want) in LINES {
-        let text = with_lines(rt.alloc(), lines)?;
-        assert_eq!(rt; fault_of(rt.alloc(), text.as_slice()), want);
+        let text = with_lines(
+            rt.alloc(),
+            b"tree-image 1\nd / 0755 0 0 0,0,0,0 - -\n",
+            lines,
+        )?;
+        assert!(rt; fault_of(rt.alloc(), text.as_slice()) == want, "{lines:?}");
+    }
+    for (lines, want) in NEW_LINES {
+        let text = with_lines(
+            rt.alloc(),
+            b"tree-image 2\nd / 0755 0 0 0,0,0,0 - - - -\n",
+            lines,
+        )?;
+        assert!(rt; fault_of(rt.alloc(), text.as_slice()) == want, "{lines:?}");
     }
     Ok(())
 }
 
-/// An image with all kinds of nodes, facts and ACLs, as the format has it.
-const TEXT: &[u8] = b"tree-image 1
+/// An image with all kinds of nodes, facts, ACLs, attributes and letters, as the format has it.
+const TEXT: &[u8] = b"tree-image 2
 fact A 1.2
 fact H host\\x20one
 fact m 0123
-d / 0755 0 0 1,2,3,4 - -
-d /dev 0755 0 0 0,0,0,0 - -
-b /dev/sda 0660 0 6 0,0,0,0 - 8:0
-c /dev/tty 0666 0 5 0,0,0,0 - 5:1
-d /etc 1777 0 0 0,0,0,18446744073709551615 u:1000:rwx,g:5:r--,m::rwx,d:u::rwx,d:u:7:r-x,d:g::r-x,d:m::r-x,d:o::--- -
-f /etc/a\\x20b 0644 1000 4294967294 0,0,0,0 - aGk=
-l /etc/link 0777 0 0 0,0,0,0 - /t\\x5c\\xff
-f /etc/none 4755 0 0 0,0,0,0 u:0:---,m::r-- -
-p /run 0600 0 0 0,0,0,0 - -
+d / 0755 0 0 1,2,3,4 - - - -
+d /dev 0755 0 0 0,0,0,0 - - - -
+b /dev/sda 0660 0 6 0,0,0,0 - - - 8:0
+c /dev/tty 0666 0 5 0,0,0,0 - trusted.t=1 - 5:1
+d /etc 1777 0 0 0,0,0,18446744073709551615 u:1000:rwx,g:5:r--,m::rwx,d:u::rwx,d:u:7:r-x,d:g::r-x,d:m::r-x,d:o::--- user.a=1,user.b=x\\x20y DTi -
+f /etc/a\\x20b 0644 1000 4294967294 0,0,0,0 - user.\\x2c\\x3d=,user.a= i aGk=
+l /etc/link 0777 0 0 0,0,0,0 - - - /t\\x5c\\xff
+f /etc/none 4755 0 0 0,0,0,0 u:0:---,m::r-- - - -
+p /run 0600 0 0 0,0,0,0 - - - -
 end
 ";
 
@@ -175,7 +248,6 @@ fn whole_image(rt: HostRuntime) -> Result<(), Fail> {
     let mut bytes = Vec::from_slice(alloc, b": a note\n: \n")?;
     bytes.extend_from_slice(TEXT)?;
     let image = read_image(alloc, bytes.as_slice()).ok().ok_or("an image")?;
-    assert_eq!(rt; image.tree.len(), 9);
     assert!(rt; has_value(&image.facts, b'H', b"host one"));
     assert!(rt; image.facts.get(b'M').is_none());
     let file = parse_path(alloc, b"/etc/a b").ok().ok_or("a path")?;
@@ -191,8 +263,58 @@ fn whole_image(rt: HostRuntime) -> Result<(), Fail> {
     Ok(())
 }
 
+/// An image of version 1 is written as version 2 of the same tree.
+#[test]
+fn old_image(rt: HostRuntime) -> Result<(), Fail> {
+    let alloc = rt.alloc();
+    for (old, new) in [
+        (
+            b"tree-image 1\nd / 0755 0 0 0,0,0,0 - -\nend\n".as_slice(),
+            b"tree-image 2\nd / 0755 0 0 0,0,0,0 - - - -\nend\n".as_slice(),
+        ),
+        (
+            b": x\ntree-image 1\nfact m 1\nd / 0755 0 0 0,0,0,0 - -\nf /a 0644 1 2 1,2,3,4 m::r-- aGk=\nend\n",
+            b"tree-image 2\nfact m 1\nd / 0755 0 0 0,0,0,0 - - - -\nf /a 0644 1 2 1,2,3,4 m::r-- - - aGk=\nend\n",
+        ),
+    ] {
+        let image = read_image(alloc, old).ok().ok_or("an image")?;
+        let text = write_image(alloc, &image.tree, &image.facts)?;
+        assert!(rt; text.as_slice() == new, "{old:?}");
+    }
+    Ok(())
+}
+
+/// An object is printed without its path and its stamps.
+#[test]
+fn printed_nodes(rt: HostRuntime) -> Result<(), Fail> {
+    let alloc = rt.alloc();
+    for (line, want) in [
+        (
+            b"f /f 0640 0 0 1,2,3,4 u:1000:rw- - - -\n".as_slice(),
+            b"f 0640 0 0 u:1000:rw- - - -".as_slice(),
+        ),
+        (
+            b"f /f 4755 1 2 0,0,0,0 - user.a=x\\x2c ai aGk=\n",
+            b"f 4755 1 2 - user.a=x\\x2c ai aGk=",
+        ),
+        (
+            b"c /f 0600 0 0 0,0,0,0 - - - 5:1\n",
+            b"c 0600 0 0 - - - 5:1",
+        ),
+    ] {
+        let text = with_lines(alloc, b"tree-image 2\nd / 0755 0 0 0,0,0,0 - - - -\n", line)?;
+        let image = read_image(alloc, text.as_slice()).ok().ok_or("an image")?;
+        let mut walk = image.tree.walk(alloc)?;
+        walk.advance()?;
+        let place = walk.place().ok_or("a node")?;
+        let printed = print_node(alloc, place.node, place.payload)?;
+        assert!(rt; printed.as_slice() == want, "{line:?}");
+    }
+    Ok(())
+}
+
 /// An image with a value for each letter, of which one has a percent sign.
-const FACTS: &[u8] = b"tree-image 1
+const FACTS: &[u8] = b"tree-image 2
 fact A image
 fact B build
 fact H host
@@ -205,7 +327,7 @@ fact m 0123
 fact o system
 fact v 6.12
 fact w 42
-d / 0755 0 0 0,0,0,0 - -
+d / 0755 0 0 0,0,0,0 - - - -
 end
 ";
 

@@ -3,55 +3,51 @@ ghost use Rattle.std.specs.Prelude.{◌≡◌, ◌++◌, true, IfOk, OnOk};
 ghost use Rattle.std.specs.List.{flat_map, list_all};
 ghost use Rattle.std.specs.FinMap as fin;
 ghost use Rattle.pv_text.specs.Facts.{HasFactsAlone};
-ghost use Rattle.pv_image.specs.Writing.{fact_fits, fact_line, fact_line_of, node_fits, node_line, node_line_at};
+ghost use Rattle.pv_image.specs.Writing.{fact_fits, fact_line, fact_line_of, node_line};
 ghost use Rattle.pv_steps.specs.Trees.{IsTree};
 ghost use Rattle.pv_image.specs.Spelling.{text_of};
 ghost use Rattle.pv_image.specs.Images.{IsImage, are_byte_names, is_byte_fact};
 
-use crate::line::HEADER;
+use crate::line::header;
+use crate::version::Version;
 use crate::write::{add_fact, add_node};
 use pv_text::{FACT_LETTERS, Facts};
 use pv_tree::MemTree;
 use std::alloc::{AllocError, Global};
 
-/// Writes the one text of facts and a tree, which is an image of them.
+/// Writes the one text of facts and a tree, in version 2, which is an image of them.
 pub fn write_image(alloc: Global, tree: &MemTree, facts: &Facts) -> Result<Vec<u8>, AllocError>
     ensures text { IfOk result (λ text. text.items ≡ text_of facts.now tree.now.files) }
     ensures image { IfOk result (λ text. IsImage text.items facts.now tree.now.files) }
 {
-    let mut output = Vec::from_slice(alloc, &HEADER)?;
+    let mut output = Vec::from_slice(alloc, header(Version::Two))?;
     output.push(b'\n')?;
-    add_facts(alloc, &mut output, facts)?;
+    add_facts(&mut output, facts)?;
     add_nodes(alloc, &mut output, tree)?;
     output.extend_from_slice(b"end\n")?;
     Ok(output)
 }
 
 /// Adds the lines of all facts, in the order of their letters.
-fn add_facts(alloc: Global, output: &mut Vec<u8>, facts: &Facts) -> Result<(), AllocError>
+fn add_facts(output: &mut Vec<u8>, facts: &Facts) -> Result<(), AllocError>
     ensures text { let lines = flat_map fact_line (fin.entries facts.now) in
         OnOk result (output.new.items ≡ output.old.items ++ lines) }
     ensures fit { OnOk result (list_all is_byte_fact (fin.entries facts.now) ≡ true) }
 {
     for letter in &FACT_LETTERS {
-        add_fact_of(alloc, output, facts, *letter)?;
+        add_fact_of(output, facts, *letter)?;
     }
     Ok(())
 }
 
 /// Adds the line of the fact with a letter, where it has a value.
-fn add_fact_of(
-    alloc: Global,
-    output: &mut Vec<u8>,
-    facts: &Facts,
-    letter: u8,
-) -> Result<(), AllocError>
+fn add_fact_of(output: &mut Vec<u8>, facts: &Facts, letter: u8) -> Result<(), AllocError>
     ensures ok { OnOk result (output.new.items ≡ output.old.items ++ fact_line_of facts.now letter) }
     ensures facts { HasFactsAlone facts.now }
     ensures fits { OnOk result (fact_fits facts.now letter ≡ true) }
 {
     match facts.get(letter) {
-        Some(value) => add_fact(alloc, output, letter, value),
+        Some(value) => add_fact(output, letter, value),
         None => Ok(()),
     }
 }
@@ -63,24 +59,10 @@ fn add_nodes(alloc: Global, output: &mut Vec<u8>, tree: &MemTree) -> Result<(), 
     ensures fit { OnOk result (list_all (λ e. are_byte_names e.0) (fin.entries tree.now.files) ≡ true) }
     ensures tree { IsTree tree.now.files }
 {
-    for i in 0..tree.len() {
-        add_node_at(alloc, output, tree, i)?;
+    let mut walk = tree.walk(alloc)?;
+    while let Some(place) = walk.place() {
+        add_node(alloc, output, place.names, place.node, place.payload)?;
+        walk.advance()?;
     }
     Ok(())
-}
-
-/// Adds the line of the node at a place, where there is one.
-fn add_node_at(
-    alloc: Global,
-    output: &mut Vec<u8>,
-    tree: &MemTree,
-    i: usize,
-) -> Result<(), AllocError>
-    ensures text { OnOk result (output.new.items ≡ output.old.items ++ node_line_at tree.now.files i) }
-    ensures fits { OnOk result (node_fits tree.now.files i ≡ true) }
-{
-    match tree.entry(i) {
-        Some(entry) => add_node(alloc, output, entry.path(), entry.node(), entry.payload()),
-        None => Ok(()),
-    }
 }

@@ -1,17 +1,21 @@
 //! Facts and nodes, written as an image spells them.
 ghost use Rattle.std.specs.Prelude.{◌≡◌, ◌≤◌, ◌+◌, ◌∷◌, ◌++◌, [], true, IfOk, OnOk};
 ghost use Rattle.std.specs.Fmt.{decimal};
+ghost use Rattle.std.specs.List.{flat_map};
+ghost use Rattle.base64.specs.GeneralPurpose.{encode_of};
+ghost use Rattle.base64.specs.Engines.{standard};
 ghost use Rattle.pv_acl.specs.Parts.{mode_of};
 ghost use Rattle.pv_acl.specs.Texts.{acl_text};
-ghost use Rattle.std.specs.List.{flat_map};
 ghost use Rattle.pv_path.specs.Printing.{printed, printed_path};
+ghost use Rattle.pv_image.specs.declared.version.Version.TheVariants.{Two};
 ghost use Rattle.pv_image.specs.Images.{are_byte_names};
-ghost use Rattle.pv_image.specs.Spelling.{are_bytes, kind_text, mode_text, stamps_text, content_text, numbers_text, payload_text, fact_text, node_text, line};
+ghost use Rattle.pv_image.specs.Spelling.{are_bytes, attr_text, attrs_text, content_text, fact_text, kind_text, letters_text, line, mode_text, node_text, numbers_text, object_text, payload_text, stamps_text};
+ghost use Rattle.pv_image.specs.Writing.{with_columns};
 
 use base64::engine::general_purpose::STANDARD;
 use pv_acl::{Acl, Part, print_acl};
-use pv_path::{TreePath, print_bytes};
-use pv_steps::{Kind, Node, Stamps};
+use pv_path::{Name, add_printed, add_printed_but};
+use pv_steps::{Attr, Kind, LetterSet, Node, Stamps};
 use std::alloc::{AllocError, Global};
 
 /// The letter of a kind.
@@ -37,41 +41,80 @@ fn add_column(output: &mut Vec<u8>, text: &[u8]) -> Result<(), AllocError>
     Ok(())
 }
 
-/// The bytes of a file in Base64, or a dash for none.
-fn print_content(alloc: Global, content: &[u8]) -> Result<Vec<u8>, AllocError>
-    ensures { IfOk result (λ text. text.items ≡ content_text content.now) }
+/// Adds a space and printed bytes.
+fn add_printed_column(output: &mut Vec<u8>, bytes: &[u8]) -> Result<(), AllocError>
+    ensures { OnOk result (output.new.items ≡ output.old.items ++ 32 ∷ printed bytes.now) }
+{
+    output.push(b' ')?;
+    add_printed(output, bytes)
+}
+
+/// Adds some bytes in Base64.
+fn add_encoded(alloc: Global, output: &mut Vec<u8>, bytes: &[u8]) -> Result<(), AllocError>
+    ensures { OnOk result (output.new.items ≡ output.old.items ++ encode_of standard bytes.now) }
+{
+    let text = STANDARD.encode(alloc, bytes)?;
+    output.extend_from_slice(text.as_bytes())?;
+    Ok(())
+}
+
+/// Adds bytes in Base64, so many at a time that no second text of their length is made.
+fn add_base64(alloc: Global, output: &mut Vec<u8>, content: &[u8]) -> Result<(), AllocError>
+    ensures { OnOk result (output.new.items ≡ output.old.items ++ encode_of standard content.now) }
+{
+    let mut rest = content;
+    while rest.len() > 3072 {
+        let (front, back) = rest.split_at(3072);
+        add_encoded(alloc, output, front)?;
+        rest = back;
+    }
+    add_encoded(alloc, output, rest)?;
+    Ok(())
+}
+
+/// Adds a space and the bytes of a file in Base64, or a dash for none.
+fn add_content(alloc: Global, output: &mut Vec<u8>, content: &[u8]) -> Result<(), AllocError>
+    ensures { OnOk result (output.new.items ≡ output.old.items ++ 32 ∷ content_text content.now) }
 {
     match content {
-        [] => Vec::from_slice(alloc, b"-"),
+        [] => add_column(output, b"-"),
         [_, ..] => {
-            let text = STANDARD.encode(alloc, content)?;
-            Vec::from_slice(alloc, text.as_bytes())
+            output.push(b' ')?;
+            add_base64(alloc, output, content)
         }
     }
 }
 
-/// Two numbers with a colon between them.
-fn print_numbers(alloc: Global, major: u32, minor: u32) -> Result<Vec<u8>, AllocError>
-    ensures { IfOk result (λ text. text.items ≡ numbers_text (major, minor)) }
+/// Adds a space and two numbers with a colon between them.
+fn add_numbers(
+    alloc: Global,
+    output: &mut Vec<u8>,
+    major: u32,
+    minor: u32,
+) -> Result<(), AllocError>
+    ensures { OnOk result (output.new.items ≡ output.old.items ++ 32 ∷ numbers_text (major, minor)) }
 {
-    let major = major.to_string(alloc)?;
-    let minor = minor.to_string(alloc)?;
-    let mut text = Vec::from_slice(alloc, major.as_bytes())?;
-    text.push(b':')?;
-    text.extend_from_slice(minor.as_bytes())?;
-    Ok(text)
+    add_number(alloc, output, b' ', u64::from(major))?;
+    add_number(alloc, output, b':', u64::from(minor))
 }
 
-/// What an object keeps beside its attributes.
-fn print_payload(alloc: Global, node: &Node, payload: &[u8]) -> Result<Vec<u8>, AllocError>
-    ensures { IfOk result (λ text. text.items ≡ payload_text node.now.kind
+/// Adds a space and what an object keeps beside its attributes.
+fn add_payload(
+    alloc: Global,
+    output: &mut Vec<u8>,
+    node: &Node,
+    payload: &[u8],
+) -> Result<(), AllocError>
+    ensures { OnOk result (output.new.items ≡ output.old.items ++ 32 ∷ payload_text node.now.kind
         (record { bytes = payload.now; major = node.now.major; minor = node.now.minor })) }
 {
     match node.kind {
-        Kind::File => print_content(alloc, payload),
-        Kind::Link => print_bytes(alloc, payload),
-        Kind::CharDevice | Kind::BlockDevice => print_numbers(alloc, node.major, node.minor),
-        Kind::Directory | Kind::Fifo => Vec::from_slice(alloc, b"-"),
+        Kind::File => add_content(alloc, output, payload),
+        Kind::Link => add_printed_column(output, payload),
+        Kind::CharDevice | Kind::BlockDevice => {
+            add_numbers(alloc, output, node.major, node.minor)
+        }
+        Kind::Directory | Kind::Fifo => add_column(output, b"-"),
     }
 }
 
@@ -96,24 +139,16 @@ fn add_mode(output: &mut Vec<u8>, special: u8, access: &Part) -> Result<(), Allo
     add_column(output, &digits)
 }
 
-/// Adds a space and a decimal number.
-fn add_number(alloc: Global, output: &mut Vec<u8>, number: u64) -> Result<(), AllocError>
-    ensures { OnOk result (output.new.items ≡ output.old.items ++ 32 ∷ decimal number) }
-{
-    let text = number.to_string(alloc)?;
-    add_column(output, text.as_bytes())
-}
-
 /// Adds a separator and a decimal number.
-fn add_stamp(
+fn add_number(
     alloc: Global,
     output: &mut Vec<u8>,
     separator: u8,
-    stamp: u64,
+    number: u64,
 ) -> Result<(), AllocError>
-    ensures { OnOk result (output.new.items ≡ output.old.items ++ separator ∷ decimal stamp) }
+    ensures { OnOk result (output.new.items ≡ output.old.items ++ separator ∷ decimal number) }
 {
-    let text = stamp.to_string(alloc)?;
+    let text = number.to_string(alloc)?;
     output.push(separator)?;
     output.extend_from_slice(text.as_bytes())?;
     Ok(())
@@ -123,36 +158,36 @@ fn add_stamp(
 fn add_stamps(alloc: Global, output: &mut Vec<u8>, stamps: &Stamps) -> Result<(), AllocError>
     ensures { OnOk result (output.new.items ≡ output.old.items ++ 32 ∷ stamps_text stamps.now) }
 {
-    add_stamp(alloc, output, b' ', stamps.access)?;
-    add_stamp(alloc, output, b',', stamps.birth)?;
-    add_stamp(alloc, output, b',', stamps.change)?;
-    add_stamp(alloc, output, b',', stamps.modify)
+    add_number(alloc, output, b' ', stamps.access)?;
+    add_number(alloc, output, b',', stamps.birth)?;
+    add_number(alloc, output, b',', stamps.change)?;
+    add_number(alloc, output, b',', stamps.modify)
 }
 
 /// Adds a slash and printed bytes.
-fn add_name(alloc: Global, output: &mut Vec<u8>, name: &[u8]) -> Result<(), AllocError>
+fn add_name(output: &mut Vec<u8>, name: &[u8]) -> Result<(), AllocError>
     ensures text { OnOk result (output.new.items ≡ output.old.items ++ 47 ∷ printed name.now) }
     ensures bytes { OnOk result (are_bytes name.now ≡ true) }
 {
     output.push(b'/')?;
-    output.extend_from_slice(print_bytes(alloc, name)?.as_slice())?;
+    add_printed(output, name)?;
     Ok(())
 }
 
 /// Adds the printed names of a path, each after a slash.
-fn add_names(alloc: Global, output: &mut Vec<u8>, path: &TreePath) -> Result<(), AllocError>
+fn add_names(output: &mut Vec<u8>, path: &[Name]) -> Result<(), AllocError>
     ensures text { let names = flat_map (λ n. 47 ∷ printed n) path.now in
         OnOk result (output.new.items ≡ output.old.items ++ names) }
     ensures bytes { OnOk result (are_byte_names path.now ≡ true) }
 {
-    for name in path.names() {
-        add_name(alloc, output, name.bytes())?;
+    for name in path {
+        add_name(output, name.bytes())?;
     }
     Ok(())
 }
 
 /// Adds a space and a printed path.
-fn add_path(alloc: Global, output: &mut Vec<u8>, path: &TreePath) -> Result<(), AllocError>
+fn add_path(output: &mut Vec<u8>, path: &[Name]) -> Result<(), AllocError>
     ensures text { OnOk result (output.new.items ≡ output.old.items ++ 32 ∷ printed_path path.now) }
     ensures bytes { OnOk result (are_byte_names path.now ≡ true) }
 {
@@ -160,7 +195,7 @@ fn add_path(alloc: Global, output: &mut Vec<u8>, path: &TreePath) -> Result<(), 
         return add_column(output, b"/");
     }
     output.push(b' ')?;
-    add_names(alloc, output, path)
+    add_names(output, path)
 }
 
 /// Adds a space and the entries of an ACL, or a dash where its mode says all of it (acl(5)).
@@ -171,43 +206,123 @@ fn add_acl(alloc: Global, output: &mut Vec<u8>, acl: &Acl) -> Result<(), AllocEr
     add_column(output, text.as_slice())
 }
 
+/// Adds an attribute, with an equals sign after its name (xattr(7)).
+fn add_attr(output: &mut Vec<u8>, attr: &Attr) -> Result<(), AllocError>
+    ensures { OnOk result (output.new.items ≡ output.old.items ++ attr_text attr.now) }
+{
+    add_printed_but(output, attr.name.as_slice(), b",=")?;
+    output.push(b'=')?;
+    add_printed_but(output, attr.value.as_slice(), b",=")
+}
+
+/// Adds attributes, each after a comma.
+fn add_more_attrs(output: &mut Vec<u8>, attrs: &[Attr]) -> Result<(), AllocError>
+    ensures { let texts = flat_map (λ attr. 44 ∷ attr_text attr) attrs.now in
+        OnOk result (output.new.items ≡ output.old.items ++ texts) }
+{
+    for attr in attrs {
+        output.push(b',')?;
+        add_attr(output, attr)?;
+    }
+    Ok(())
+}
+
+/// Adds a space and attributes, or a dash for none.
+fn add_attrs(output: &mut Vec<u8>, attrs: &[Attr]) -> Result<(), AllocError>
+    ensures { OnOk result (output.new.items ≡ output.old.items ++ 32 ∷ attrs_text attrs.now) }
+{
+    match attrs {
+        [] => add_column(output, b"-"),
+        [attr, attrs @ ..] => {
+            output.push(b' ')?;
+            add_attr(output, attr)?;
+            add_more_attrs(output, attrs)?;
+            Ok(())
+        }
+    }
+}
+
+/// Adds a space and letters, or a dash for none (chattr(1)).
+fn add_letters(alloc: Global, output: &mut Vec<u8>, letters: LetterSet) -> Result<(), AllocError>
+    ensures { OnOk result (output.new.items ≡ output.old.items ++ 32 ∷ letters_text letters) }
+{
+    let text = letters.letters(alloc)?;
+    match text.as_slice() {
+        [] => add_column(output, b"-"),
+        text => add_column(output, text),
+    }
+}
+
+/// Adds the columns of the mode, the owner and the owning group.
+fn add_owner(alloc: Global, output: &mut Vec<u8>, node: &Node) -> Result<(), AllocError>
+    ensures { let n = node.now in let mode = mode_of n.special n.acl.access in
+        let texts = mode_text mode ∷ decimal n.uid ∷ decimal n.gid ∷ [] in
+        OnOk result (output.new.items ≡ with_columns output.old.items texts) }
+{
+    add_mode(output, node.special, &node.acl.access)?;
+    add_number(alloc, output, b' ', u64::from(node.uid))?;
+    add_number(alloc, output, b' ', u64::from(node.gid))
+}
+
+/// Adds the columns of the ACL, the attributes, the letters and the payload.
+fn add_others(
+    alloc: Global,
+    output: &mut Vec<u8>,
+    node: &Node,
+    payload: &[u8],
+) -> Result<(), AllocError>
+    ensures { let n = node.now in
+        let kept = payload_text n.kind (record { bytes = payload.now; major = n.major; minor = n.minor }) in
+        let texts = acl_text n.acl ∷ attrs_text n.attrs ∷ letters_text n.letters ∷ kept ∷ [] in
+        OnOk result (output.new.items ≡ with_columns output.old.items texts) }
+{
+    add_acl(alloc, output, &node.acl)?;
+    add_attrs(output, node.attrs.as_slice())?;
+    add_letters(alloc, output, node.letters)?;
+    add_payload(alloc, output, node, payload)
+}
+
 /// Adds the line of a node.
 pub(crate) fn add_node(
     alloc: Global,
     output: &mut Vec<u8>,
-    path: &TreePath,
+    path: &[Name],
     node: &Node,
     payload: &[u8],
 ) -> Result<(), AllocError>
-    ensures text { OnOk result (output.new.items ≡ output.old.items ++ line (node_text
+    ensures text { OnOk result (output.new.items ≡ output.old.items ++ line (node_text Two
         (path.now, record { node = node.now; payload = payload.now }))) }
     ensures bytes { OnOk result (are_byte_names path.now ≡ true) }
 {
     output.push(kind_letter(node.kind))?;
-    add_path(alloc, output, path)?;
-    add_mode(output, node.special, &node.acl.access)?;
-    add_number(alloc, output, u64::from(node.uid))?;
-    add_number(alloc, output, u64::from(node.gid))?;
+    add_path(output, path)?;
+    add_owner(alloc, output, node)?;
     add_stamps(alloc, output, &node.stamps)?;
-    add_acl(alloc, output, &node.acl)?;
-    add_column(output, print_payload(alloc, node, payload)?.as_slice())?;
+    add_others(alloc, output, node, payload)?;
     output.push(b'\n')?;
     Ok(())
 }
 
+/// An object as an image spells it, without its path and its stamps: kind, mode, owner, owning group, ACL,
+/// attributes, letters and payload, with one space between them.
+pub fn print_node(alloc: Global, node: &Node, payload: &[u8]) -> Result<Vec<u8>, AllocError>
+    ensures { IfOk result (λ text. text.items ≡ object_text (record { node = node.now; payload = payload.now })) }
+{
+    let mut text = Vec::new(alloc);
+    text.push(kind_letter(node.kind))?;
+    add_owner(alloc, &mut text, node)?;
+    add_others(alloc, &mut text, node, payload)?;
+    Ok(text)
+}
+
 /// Adds the line of a fact.
-pub(crate) fn add_fact(
-    alloc: Global,
-    output: &mut Vec<u8>,
-    letter: u8,
-    value: &[u8],
-) -> Result<(), AllocError>
+pub(crate) fn add_fact(output: &mut Vec<u8>, letter: u8, value: &[u8]) -> Result<(), AllocError>
     ensures text { OnOk result (output.new.items ≡ output.old.items ++ line (fact_text (letter, value.now))) }
     ensures bytes { OnOk result (are_bytes value.now ≡ true) }
 {
     output.extend_from_slice(b"fact ")?;
     output.push(letter)?;
-    add_column(output, print_bytes(alloc, value)?.as_slice())?;
+    add_printed_column(output, value)?;
     output.push(b'\n')?;
     Ok(())
 }

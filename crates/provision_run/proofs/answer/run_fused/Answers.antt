@@ -5,18 +5,19 @@ use Rattle.pv_dress.specs.Asking.{refused}
 use Rattle.pv_create.specs.OnWay.{IsStepOfSome}
 use Rattle.provision_run.specs.declared.run.RunEnd.{RunEnd}
 use Rattle.provision_run.specs.Whole.{run_lines, read_messages, line_messages, run_messages, run_work}
-use Rattle.provision_run.proofs.AnswerLaws.{whole_answered, stopped_answered, over_same, limited}
+use Rattle.pv_tree.proofs.FuseLaws.{burnt_within, burnt_out}
+use Rattle.provision_run.proofs.AnswerLaws.{always, whole_answered, stopped_answered, over_same, limited}
 use Rattle.provision_run.proofs.answer.run_fused.Goals as goal
 
 pub returns-in-Ok : goal.returns-in-Ok
 returns-in-Ok c =
     let same = ap (λ f. f.inner) c.new-fused.ensures in
-    over_same c.args.options.now c.args.image.facts c.args.moment c.new-fused.result.inner c.args.image.tree same c.end_within.result
+    over_same c.args.options.now c.args.image.facts c.args.moment c.new-fused.result.inner c.args.image.tree same c.finish.result
     (whole_answered c.args.options.now c.args.image.facts c.args.moment c.new-fused.result.inner c.run_on_tree.new.tree.inner
     (IsStepOfSome (run_lines c.args.options.now c.args.image.facts c.new-fused.result.inner.files)) (ap (λ f. f.inner.steps) c.new-fused.ensures ∙ c.requires.fresh) c.in-Ok.ensures.ran c.inner.result.now c.inner.ensures
     c.in-Ok.end c.in-Ok.ensures.end c.in-Ok.ensures.ok c.run_on_tree.new.messages
     (c.in-Ok.ensures.said ∙ ap (λ x. x ++ run_messages c.args.options.now c.args.image.facts c.args.moment c.new-fused.result.inner.files) c.new-messages.ensures)
-    c.end_within.result (subst (λ o. IfOk c.end_within.result (λ a. a.outcome ≡ o)) c.outcome_of.ensures c.end_within.ensures.outcome) c.end_within.ensures.text (limited c.args.options.now.stop_after c.args.limit _ c.requires.limit c.end_within.result c.end_within.ensures.count))
+    c.finish.result (subst (λ o. IfOk c.finish.result (λ a. a.outcome ≡ o)) c.outcome_of.ensures c.finish.ensures.outcome) c.finish.ensures.text (limited c.args.options.now.stop_after c.args.limit (length c.inner.result.now.steps) c.requires.limit c.finish.result (always c.finish.result (rw c.inner.ensures (burnt_within _ _ _ _ (rw (c.new-fused.ensures, c.requires.fresh) at c.in-Ok.ensures.reaches.1))))))
 
 pub returns : goal.returns
 returns c =
@@ -28,4 +29,4 @@ returns c =
     (subst (λ f. (length c.run_on_tree.new.tree.inner.steps - length c.new-fused.result.inner.steps) + refused {A = RunEnd} (Err f) ≤ run_work c.args.options.now c.args.image.facts c.args.moment c.new-fused.result.inner.files) c.in-Err-Failed.field-0-is c.in-Err-Failed.ensures.bound)
     (subst (λ x. SaidPart (line_messages c.args.options.now c.args.image.facts c.args.moment c.new-fused.result.inner.files) (x ++ read_messages c.args.options.now c.args.image.facts c.new-fused.result.inner.files) c.run_on_tree.new.messages) c.new-messages.ensures (c.in-Err-Failed.ensures.read (ap Err c.in-Err-Failed.field-0-is)))
     c.in-Err-Failed.ensures.mended
-    c.stop.result c.stop.ensures.outcome c.stop.ensures.count c.stop.ensures.text)
+    c.stop.result c.stop.ensures.outcome (always c.stop.result (rw c.inner-in-Err-Failed.ensures (burnt_out _ _ _ _ (rw (c.new-fused.ensures, c.requires.fresh) at c.in-Err-Failed.ensures.reaches.1) (rw c.new-fused.ensures at (c.in-Err-Failed.ensures.cause (ap Err c.in-Err-Failed.field-0-is)))))) c.stop.ensures.text)

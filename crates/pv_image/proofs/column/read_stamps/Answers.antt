@@ -3,7 +3,7 @@ use Rattle.pv_steps.specs.Objects.{StampsFit}
 use Rattle.pv_image.specs.Spelling.{stamp_texts}
 use Rattle.pv_image.specs.Reading.{Reads, texts}
 use Rattle.pv_image.proofs.Cutting.{reads_joined}
-use Rattle.pv_image.proofs.Letters.{stamps_again}
+use Rattle.pv_image.proofs.Characters.{stamps_again}
 use Rattle.pv_image.proofs.column.read_stamps.Goals as goal
 
 pub returns : goal.returns

@@ -5,7 +5,7 @@ use Rattle.std.specs.List.{join_with_byte}
 use Rattle.pv_image.specs.Spelling.{IsBytePath, path_texts}
 use Rattle.pv_image.specs.Reading.{Reads, texts}
 use Rattle.pv_image.proofs.Cutting.{reads_joined, reads_same}
-use Rattle.pv_image.proofs.Letters.{path_again, path_joined}
+use Rattle.pv_image.proofs.Characters.{path_again, path_joined}
 use Rattle.pv_image.proofs.name.read_path.Goals as goal
 
 pub returns : goal.returns

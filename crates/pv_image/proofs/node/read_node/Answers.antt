@@ -9,8 +9,9 @@ use Rattle.pv_image.proofs.node.read_node.Goals as goal
 pub returns : goal.returns
 returns c =
     let text = c.args.text.now in
-    IfOk-weaker c.entry_of.result (Reads columns IsEntry (texts c.as_slice.result.now)) (Reads node_text IsEntry text)
+    let version = c.args.version in
+    IfOk-weaker c.entry_of.result (Reads (columns version) (IsEntry version) (texts c.as_slice.result.now)) (Reads (node_text version) (IsEntry version) text)
     (λ o read.
-    reads_joined 32 columns IsEntry text o node_again
-    (subst (λ (ts : List (List ℕ)). Reads columns IsEntry ts o) (ap texts c.as_slice.ensures.value ∙ c.in_ok-pieces.ensures) read))
+    reads_joined 32 (columns version) (IsEntry version) text o (node_again version)
+    (subst (λ (ts : List (List ℕ)). Reads (columns version) (IsEntry version) ts o) (ap texts c.as_slice.ensures.value ∙ c.in_ok-pieces.ensures) read))
     c.entry_of.ensures

@@ -2,7 +2,7 @@ use Rattle.std.proofs.Common.{List, ℕ, subst, ap, ◌∙◌}
 use Rattle.pv_image.specs.Spelling.{number_texts}
 use Rattle.pv_image.specs.Reading.{AreNumbers, Reads, texts}
 use Rattle.pv_image.proofs.Cutting.{reads_joined}
-use Rattle.pv_image.proofs.Letters.{numbers_again}
+use Rattle.pv_image.proofs.Characters.{numbers_again}
 use Rattle.pv_image.proofs.payload.read_numbers.Goals as goal
 
 pub returns : goal.returns

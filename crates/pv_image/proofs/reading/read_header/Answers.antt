@@ -1,22 +1,22 @@
-use Rattle.std.proofs.Common.{◌≡◌, true, false, sym, ◌∙◌, arith, refl}
+use Rattle.std.proofs.Common.{◌≡◌, true, sym, arith, refl, []}
 use Rattle.pv_image.specs.Images.{Before, InFacts, Header, Note, cut_off}
-use Rattle.std.proofs.Common.{[]}
 use Rattle.pv_image.proofs.Stages.{bad_header, cut_length, leads_on, notes_more}
 use Rattle.pv_image.proofs.reading.read_header.Goals as goal
 
-pub returns-then-is_header-clause-leads : goal.returns-then-is_header-clause-leads
-returns-then-is_header-clause-leads c =
-    leads_on 1 Before c.args.bytes.now c.loop-text.number Before (InFacts []) c.in-Some.text.now c.loop-text.rest.now c.in-Some.after.now Header c.loop-text.invariant.leads c.in-Some.ensures.some
-    (c.is_header.ensures.0 c.if-is_header.true) refl
+pub returns-in-Some-read_version-clause-leads : goal.returns-in-Some-read_version-clause-leads
+returns-in-Some-read_version-clause-leads c =
+    let version = c.in-Some-read_version.version in
+    leads_on 1 Before c.args.bytes.now c.loop-text.number Before (InFacts version []) c.in-Some.text.now c.loop-text.rest.now c.in-Some.after.now (Header version) c.loop-text.invariant.leads c.in-Some.ensures.some
+    c.in-Some-read_version.ensures.1 refl
 
-pub returns-then-not-is_note-clause-err : goal.returns-then-not-is_note-clause-err
-returns-then-not-is_note-clause-err c =
+pub returns-in-None-2-clause-err : goal.returns-in-None-2-clause-err
+returns-in-None-2-clause-err c =
     c.loop-text.invariant.leads _ (bad_header c.loop-text.number c.loop-text.rest.now c.in-Some.text.now c.in-Some.after.now c.in-Some.ensures.some
-    (λ e. let bad : true ≡ false = sym (c.is_header.ensures.1 e) ∙ c.if-is_header.false in cc) (sym c.is_note.ensures ∙ c.if-not-is_note.true))
+    (λ version. c.in-None-2.ensures version tt) (sym c.if-is_note.ensures))
 
 pub loop-text-preserved : goal.loop-text-preserved
 loop-text-preserved c =
-    let note : _ ≡ true = sym c.is_note.ensures ∙ c.if-not-is_note.false in
+    let note : _ ≡ true = sym c.if-is_note.ensures in
     record {
       leads = leads_on 1 Before c.args.bytes.now c.loop-text.number Before Before c.in-Some.text.now c.loop-text.rest.now c.in-Some.after.now Note c.loop-text.invariant.leads c.in-Some.ensures.some note refl;
       notes = notes_more c.args.bytes.now c.loop-text.rest.now c.in-Some.text.now c.in-Some.after.now c.loop-text.invariant.notes c.in-Some.ensures.some note;

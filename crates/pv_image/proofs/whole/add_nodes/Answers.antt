@@ -1,27 +1,32 @@
-use Rattle.std.proofs.Common.{◌<◌, ◌≤◌, ◌++◌, length, arith, sym, ap, ◌∙◌}
-use Rattle.std.proofs.lemmas.List.{take_all}
+use Rattle.std.proofs.Common.{◌++◌, List, ℕ, drop, sym, ap, ◌∙◌, append-nil}
 use Rattle.std.specs.List.{flat_map, list_all}
-use Rattle.pv_image.specs.Images.{are_byte_names}
 use Rattle.std.specs.FinMap as fin
-use Rattle.pv_image.specs.Writing.{node_line, node_line_at}
-use Rattle.pv_image.proofs.Wholes.{node_fits_more, nodes_more}
+use Rattle.pv_path.specs.Paths.{Path}
+use Rattle.pv_steps.specs.declared.object.Object.{Object}
+use Rattle.pv_image.specs.Images.{are_byte_names}
+use Rattle.pv_image.specs.Writing.{node_line}
+use Rattle.pv_image.proofs.Wholes.{walk_line, walk_fits, walk_over}
 use Rattle.pv_image.proofs.whole.add_nodes.Goals as goal
 
-pub loop-i-preserved : goal.loop-i-preserved
-loop-i-preserved c =
-    let below : c.loop-i.i < fin.len c.args.tree.now.files = omega (arith, c.len-i-end.ensures.count) in
+pub loop-place-preserved : goal.loop-place-preserved
+loop-place-preserved c =
+    let all : List (Path × Object) = fin.entries c.args.tree.now.files in
+    let e : Path × Object = (c.in-Some.place.names.now, record { node = c.in-Some.place.node.now; payload = c.in-Some.place.payload.now }) in
     record {
-      written = c.in_ok-add_node_at.ensures.text ∙ ap (λ x. x ++ node_line_at c.args.tree.now.files c.loop-i.i) c.loop-i.invariant.written
-          ∙ nodes_more c.args.tree.now.files c.args.output.now.items c.loop-i.i below;
-      fit = node_fits_more c.args.tree.now.files c.loop-i.i below c.loop-i.invariant.fit c.in_ok-add_node_at.ensures.fits;
+      written =
+          ap (λ (v : List (Path × Object)). c.add_node.new.output.items ++ flat_map node_line v) c.in_ok-advance.ensures.ok
+          ∙ ap (λ (x : List ℕ). x ++ flat_map node_line (drop 1 c.loop-place.walk)) c.in_ok-add_node.ensures.text
+          ∙ walk_line c.args.output.now.items c.loop-place.walk all e c.in-Some.ensures c.loop-place.output.items c.loop-place.invariant.written;
+      fit =
+          walk_fits c.args.output.now.items c.loop-place.walk all e c.in-Some.ensures c.loop-place.invariant.fit c.in_ok-add_node.ensures.bytes
+          ∙ ap (list_all (λ (x : Path × Object). are_byte_names x.0)) (sym c.in_ok-advance.ensures.ok);
     }
 
 pub returns-clause-text : goal.returns-clause-text
 returns-clause-text c =
-    let past : length (fin.entries c.args.tree.now.files) ≤ c.loop-i.i = omega (arith, c.len-i-end.ensures.count, fin.len-entries c.args.tree.now.files) in
-    c.loop-i.invariant.written ∙ ap (λ es. c.args.output.now.items ++ flat_map node_line es) (take_all _ _ past)
+    sym (append-nil c.loop-place.output.items)
+    ∙ ap (λ (v : List (Path × Object)). c.loop-place.output.items ++ flat_map node_line v) (sym (walk_over c.loop-place.walk c.in_default.ensures))
+    ∙ c.loop-place.invariant.written
 
 pub returns-clause-fit : goal.returns-clause-fit
-returns-clause-fit c =
-    let past : length (fin.entries c.args.tree.now.files) ≤ c.loop-i.i = omega (arith, c.len-i-end.ensures.count, fin.len-entries c.args.tree.now.files) in
-    sym (ap (list_all (λ e. are_byte_names e.0)) (take_all _ _ past)) ∙ c.loop-i.invariant.fit
+returns-clause-fit c = c.loop-place.invariant.fit ∙ ap (list_all (λ (x : Path × Object). are_byte_names x.0)) (walk_over c.loop-place.walk c.in_default.ensures)

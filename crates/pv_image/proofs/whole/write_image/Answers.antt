@@ -12,7 +12,7 @@ pub returns-clause-text : goal.returns-clause-text
 returns-clause-text c =
     let facts = c.args.facts.now in
     let files = c.args.tree.now.files in
-    let e1 = c.in_ok-add_facts.ensures.text ∙ ap (λ x. x ++ flat_map fact_line (fin.entries facts)) (c.in_ok-push.ensures.items ∙ ap (λ x. x ++ 10 ∷ []) c.in_ok-output.ensures.items) in
+    let e1 = c.in_ok-add_facts.ensures.text ∙ ap (λ x. x ++ flat_map fact_line (fin.entries facts)) (c.in_ok-push.ensures.items ∙ ap (λ x. x ++ 10 ∷ []) (c.in_ok-output.ensures.items ∙ c.header.ensures)) in
     let e2 = c.in_ok-add_nodes.ensures.text ∙ ap (λ x. x ++ flat_map node_line (fin.entries files)) e1 in
     c.in_ok-extend_from_slice.ensures.items ∙ ap (λ x. x ++ line end_text) e2 ∙ parts_of_text facts files
 

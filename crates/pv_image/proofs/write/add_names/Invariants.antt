@@ -6,6 +6,6 @@ use Rattle.pv_image.proofs.write.add_names.Given as goal
 
 abbrev pub invariant-loop-name : goal.invariant-loop-name
 invariant-loop-name l = record {
-  written : l.output.items ≡ l.initial.output.items ++ flat_map (λ n. 47 ∷ printed n) (take l.name-index l.name-items);
-  bytes : are_byte_names (take l.name-index l.name-items) ≡ true;
+  written : l.output.items ≡ l.initial.output.items ++ flat_map (λ n. 47 ∷ printed n) (take l.name-index l.path);
+  bytes : are_byte_names (take l.name-index l.path) ≡ true;
 }

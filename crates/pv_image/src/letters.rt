@@ -1,0 +1,47 @@
+//! The column of letters (chattr(1)).
+ghost use Rattle.std.specs.Prelude.{◌≡◌, ℕ, ◌<◌, ◌^◌, bit_or, IfOk, if◌then◌else◌};
+ghost use Rattle.std.specs.Option.{option_map_or};
+ghost use Rattle.pv_steps.specs.Letters.{letter_bit, letters_of};
+ghost use Rattle.pv_image.specs.Spelling.{letters_text};
+ghost use Rattle.pv_image.specs.Reading.{IsLetters, Reads};
+
+use crate::payload::is_dash;
+use pv_steps::LetterSet;
+use std::alloc::{AllocError, Global};
+
+/// A set with one letter more, where that is wanted.
+fn with_letter(set: LetterSet, letter: u8, wanted: bool) -> LetterSet
+    ensures { result ≡ option_map_or (λ bit. if wanted then bit_or set bit else set) (letter_bit letter) set }
+{
+    match LetterSet::of(letter) {
+        Some(one) => { if wanted { set.union(one) } else { set } }
+        None => set,
+    }
+}
+
+/// The letters that stand in a text.
+fn letters_in(text: &[u8]) -> LetterSet
+    ensures { (s : ℕ) → s < 2 ^ 15 → letters_of s ≡ text.now → result ≡ s }
+{
+    let mut set = LetterSet::new();
+    for letter in b"ACDPSTacdeijstu" {
+        set = with_letter(set, *letter, text.contains(letter));
+    }
+    set
+}
+
+/// The set of letters that a text spells.
+pub(crate) fn read_letters(alloc: Global, text: &[u8]) -> Result<Option<LetterSet>, AllocError>
+    ensures { IfOk result (Reads letters_text IsLetters text.now) }
+{
+    if is_dash(text) {
+        return Ok(Some(LetterSet::new()));
+    }
+    let set = letters_in(text);
+    let _range = set.bits();
+    let letters = set.letters(alloc)?;
+    if text.is_empty() || letters.as_slice() != text {
+        return Ok(None);
+    }
+    Ok(Some(set))
+}
