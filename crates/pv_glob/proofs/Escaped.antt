@@ -1,19 +1,21 @@
 -- The text of a path with a backslash before each special byte spells the path's literal pattern.
-use Rattle.std.proofs.Common.{◌≡◌, ℕ, suc, ◌≤◌, Bool, true, false, not, ◌&&◌, ◌||◌, ◌==◌, nat_eq, nat_lt, List, [], ◌∷◌, ◌++◌, map, filter, length, None, Ok, refl, sym, ap, ◌∙◌, arith}
-use Rattle.std.specs.Prelude.{find}
+use Rattle.std.proofs.Common.{◌≡◌, ℕ, suc, ◌≤◌, Bool, true, false, not, ◌&&◌, ◌||◌, ◌==◌, nat_eq, nat_lt, List, [], ◌∷◌, ◌++◌, map, filter, length, Some, None, Ok, refl, sym, ap, ◌∙◌, arith}
+use Rattle.std.specs.Prelude.{find, unwrap_or}
 use Rattle.std.specs.List.{flat_map, list_all, list_any, slice_split, starts_with, onto_first}
 use Rattle.std.proofs.lemmas.Bool.Decides.{nat_tests}
 use Rattle.std.proofs.lemmas.List.Folds.{list_any-append}
 use Rattle.pv_path.specs.Names.{same_bytes, is_dots, is_name, is_name_byte, is_staging, staging_mark}
 use Rattle.pv_path.specs.Paths.{Path, has_names, has_staging}
-use Rattle.pv_path.specs.PathLaws.{both_true, is_name-parts}
+use Rattle.pv_path.proofs.PathLaws.{both_true, is_name-parts}
 use Rattle.pv_glob.specs.declared.element.Element.{Element}
 use Rattle.pv_glob.specs.declared.element.Element.TheVariants.{Byte}
 use Rattle.pv_glob.specs.declared.fault.PatternFault.{PatternFault}
 use Rattle.pv_glob.specs.declared.fault.PatternFault.TheVariants as fault
 use Rattle.pv_glob.specs.Escaping.{is_special, escaped_byte, escaped, escaped_path}
 use Rattle.pv_glob.specs.Matching.{literal_of}
-use Rattle.pv_glob.specs.Parsing.{element_at, elements_of, elements_in, has_fault_at, component_fault, name_fault, components_of, first_fault, pattern_of}
+use Rattle.pv_glob.specs.Elements.{element_at, elements_of, has_fault_at}
+use Rattle.pv_glob.specs.Braces.{Rest, expansions_of, rests_of, whole, with_place}
+use Rattle.pv_glob.specs.Parsing.{component_fault, components_of, first_fault, has_fault, name_fault, pattern_of, plains_of, words_of}
 
 both_false : (a b : Bool) → (a || b) ≡ false → (a ≡ false) × (b ≡ false)
 both_false true b e = absurd (let no_way : true ≡ false = e in cc)
@@ -67,12 +69,33 @@ element_is b rest = by_test (is_special b) refl
     by_test true e = rw e refl
     by_test false e = let o = ordinary b e in rw (e, o.backslash, o.star, o.mark, o.bracket) refl
 
-elements_are : (bytes : List ℕ) → elements_in (escaped bytes) ≡ map (λ b. Byte b) bytes
-elements_are [] = refl
-elements_are (b ∷ bytes) =
-    ap (map element_at) (elements_step b bytes)
-    ∙ ap (λ (e : Element). e ∷ elements_in (escaped bytes)) (element_is b (escaped bytes))
-    ∙ ap (λ (es : List Element). Byte b ∷ es) (elements_are bytes)
+-- before a place without braces stands one word, and no other
+abbrev alone : List Element → List Rest
+alone word = record { words = word ∷ []; others = [] } ∷ []
+
+place_is : (b : ℕ) (rest : List ℕ) (word : List Element) → with_place (escaped_byte b ++ rest) (alone word) ≡ alone (Byte b ∷ word)
+place_is b rest word = by_test (is_special b) refl
+  where
+    by_comma : (t : Bool) → (b == 44) ≡ t → is_special b ≡ false → with_place (escaped_byte b ++ rest) (alone word) ≡ alone (Byte b ∷ word)
+    by_comma true is e =
+        let o = ordinary b e in
+        let comma : 44 ≡ b = grind (arith, nat_tests) in
+        rw (e, o.brace, is) (ap (λ (c : ℕ). alone (Byte c ∷ word)) comma)
+    by_comma false is e = let o = ordinary b e in rw (e, o.brace, is, o.end, o.backslash, o.star, o.mark, o.bracket) refl
+
+    by_test : (t : Bool) → is_special b ≡ t → with_place (escaped_byte b ++ rest) (alone word) ≡ alone (Byte b ∷ word)
+    by_test true e = rw e refl
+    by_test false e = by_comma (b == 44) refl e
+
+rests_are : (bytes : List ℕ) → rests_of (elements_of (escaped bytes)) ≡ alone (map (λ b. Byte b) bytes)
+rests_are [] = refl
+rests_are (b ∷ bytes) =
+    ap rests_of (elements_step b bytes)
+    ∙ ap (with_place (escaped_byte b ++ escaped bytes)) (rests_are bytes)
+    ∙ place_is b (escaped bytes) (map (λ b. Byte b) bytes)
+
+words_are : (bytes : List ℕ) → expansions_of (escaped bytes) ≡ Some (map (λ b. Byte b) bytes ∷ [])
+words_are bytes = ap whole (rests_are bytes)
 
 -- ---- faults of elements
 
@@ -91,7 +114,7 @@ ordinary_fault : (f : PatternFault) (b : ℕ) (rest : List ℕ) → IsOrdinary b
 ordinary_fault fault.UnclosedBracket b rest o = rw o.bracket refl
 ordinary_fault fault.BadRange b rest o = rw o.bracket refl
 ordinary_fault fault.BadClass b rest o = rw o.bracket refl
-ordinary_fault fault.Brace b rest o = rw (o.brace, o.end) refl
+ordinary_fault fault.Brace b rest o = rw o.brace refl
 ordinary_fault fault.TrailingBackslash b rest o = rw o.backslash refl
 ordinary_fault f b rest o = refl
 
@@ -113,10 +136,14 @@ find_none : {A : Type 0} (test : A → Bool) (xs : List A) → ((x : A) → test
 find_none test [] h = refl
 find_none test (x ∷ xs) h = rw (h x) (find_none test xs h)
 
-component_clear : (bytes : List ℕ) → component_fault (escaped bytes) ≡ None
+no_fault_of : (bytes : List ℕ) (f : PatternFault) → has_fault 1 (escaped bytes) f ≡ false
+no_fault_of bytes fault.Brace = rw (no_fault fault.Brace bytes, words_are bytes) refl
+no_fault_of bytes f = no_fault f bytes
+
+component_clear : (bytes : List ℕ) → component_fault 1 (escaped bytes) ≡ None
 component_clear bytes =
-    find_none (λ f. list_any (has_fault_at f) (elements_of (escaped bytes)))
-    (fault.UnclosedBracket ∷ fault.BadRange ∷ fault.BadClass ∷ fault.Brace ∷ fault.TrailingBackslash ∷ []) (λ f. no_fault f bytes)
+    find_none (has_fault 1 (escaped bytes))
+    (fault.UnclosedBracket ∷ fault.BadRange ∷ fault.BadClass ∷ fault.Brace ∷ fault.TrailingBackslash ∷ []) (no_fault_of bytes)
 
 -- ---- names
 
@@ -239,18 +266,14 @@ names_clear (name ∷ path) h none =
     let v = both_false (is_staging name) (has_staging path) none in
     rw (name_clear name u.0 v.0) (names_clear path u.1 v.1)
 
-components_clear : (path : Path) → first_fault component_fault (map escaped path) ≡ None
-components_clear [] = refl
-components_clear (name ∷ path) = rw (component_clear name) (components_clear path)
+plains_are : (path : Path) → plains_of 1 (map escaped path) ≡ Ok (literal_of path ∷ [])
+plains_are [] = refl
+plains_are (name ∷ path) =
+    let words : words_of (escaped name) ≡ map (λ b. Byte b) name ∷ [] = ap (λ o. unwrap_or o []) (words_are name) in
+    rw (component_clear name, words, plains_are path) refl
 
-all_elements : (path : Path) → map elements_in (map escaped path) ≡ literal_of path
-all_elements [] = refl
-all_elements (name ∷ path) =
-    ap (λ (c : List Element). c ∷ map elements_in (map escaped path)) (elements_are name)
-    ∙ ap (λ (cs : List (List Element)). map (λ b. Byte b) name ∷ cs) (all_elements path)
-
-pub spells_literal : (path : Path) → has_names path ≡ true → has_staging path ≡ false → length (escaped_path path) ≤ 4095 → pattern_of (escaped_path path) ≡ Ok (literal_of path)
+pub spells_literal : (path : Path) → has_names path ≡ true → has_staging path ≡ false → length (escaped_path path) ≤ 4095 → pattern_of (escaped_path path) ≡ Ok (literal_of path ∷ [])
 spells_literal [] h none l = refl
 spells_literal (name ∷ path) h none l =
     let short : nat_lt 4095 (length (slashed (name ∷ path))) ≡ false = grind (arith, nat_tests) in
-    rw (clear_of_nul (name ∷ path) h, short, components_are (name ∷ path) h, names_clear (name ∷ path) h none, components_clear (name ∷ path), all_elements (name ∷ path)) refl
+    rw (clear_of_nul (name ∷ path) h, short, components_are (name ∷ path) h, names_clear (name ∷ path) h none, plains_are (name ∷ path)) refl

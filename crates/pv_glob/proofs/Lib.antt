@@ -1,5 +1,10 @@
 pub mod Along
 pub mod Zipped
 pub mod Alone
+pub mod BraceLaws
+pub mod Copies
+pub mod Loops
+pub mod PatternLaws
 pub mod Escaped
 pub mod Places
+pub mod MatchingLaws

@@ -4,7 +4,7 @@ use Rattle.std.specs.List.{list_any, flat_map}
 use Rattle.std.specs.Option.{option_map}
 use Rattle.std.proofs.lemmas.List.{length-drop}
 use Rattle.std.proofs.lemmas.Bool.Decides.{nat_tests}
-use Rattle.pv_glob.specs.Parsing.{places, length_to_end, token_length, body_length}
+use Rattle.pv_glob.specs.Elements.{places, length_to_end, token_length, body_length}
 
 pub places-skip : (part_length : List ℕ → ℕ) (skip : ℕ) (text : List ℕ) → places part_length skip text ≡ places part_length 0 (drop skip text)
 places-skip part_length zero text = refl

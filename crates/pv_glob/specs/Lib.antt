@@ -1,4 +1,6 @@
+pub mod Braces
+pub mod Elements
 pub mod Escaping
 pub mod Matching
-pub mod MatchingLaws
 pub mod Parsing
+pub mod Reading

@@ -1,6 +1,6 @@
 -- Which names and which paths a pattern matches (glob(7)).
-use Rattle.std.specs.Prelude.{ℕ, Bool, true, false, not, ◌&&◌, ◌||◌, ◌==◌, nat_le, List, [], ◌∷◌, map, if◌then◌else◌}
-use Rattle.std.specs.List.{list_any}
+use Rattle.std.specs.Prelude.{ℕ, Bool, true, false, not, ◌&&◌, ◌||◌, ◌==◌, nat_le, List, [], ◌∷◌, map, length, if◌then◌else◌}
+use Rattle.std.specs.List.{list_all, list_any}
 use Rattle.std.specs.Cmp.Lexicographic.{pointwise}
 use Rattle.pv_path.specs.Paths.{Path, has_staging}
 use Rattle.pv_glob.specs.declared.element.ByteRange.{ByteRange}
@@ -51,3 +51,12 @@ matches components path = not (has_staging path) && pointwise component_matches 
 -- the pattern that matches one path alone
 abbrev pub literal_of : Path → List (List Element)
 literal_of path = map (map (λ b. Byte b)) path
+
+-- whether a pattern matches a path: some expansion of it does
+abbrev pub some_matches : List (List (List Element)) → Path → Bool
+some_matches plains path = list_any (λ plain. matches plain path) plains
+
+-- whether plains are the expansions of a pattern: at least one, and all with as many components
+abbrev pub are_expansions : List (List (List Element)) → Bool
+are_expansions [] = false
+are_expansions (plain ∷ plains) = list_all (λ other. length other == length plain) plains

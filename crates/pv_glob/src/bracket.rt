@@ -1,7 +1,8 @@
+//! How brackets are read.
 ghost use Rattle.std.specs.Prelude.{◌≡◌, ℕ, ◌+◌, ◌<◌, ◌≤◌, ◌++◌, length, take, drop, slice_index, IfSome, IfOk, OnOk, unwrap_or};
 ghost use Rattle.std.specs.List.{flat_map, list_any};
 ghost use Rattle.std.specs.Option.{option_map};
-ghost use Rattle.pv_glob.specs.Parsing.{body_length, body_of, class_at, class_named, has_sign, is_bad_class, is_bad_range, is_range, item_length, item_ranges, items_of, length_to_mark, opens_class, sign_length, token_length};
+ghost use Rattle.pv_glob.specs.Elements.{body_length, body_of, class_at, class_named, has_sign, is_bad_class, is_bad_range, is_range, item_length, item_ranges, items_of, length_to_mark, opens_class, sign_length, token_length};
 
 use crate::class::class_named;
 use crate::element::ByteRange;

@@ -1,6 +1,7 @@
+//! The named classes of ASCII bytes.
 ghost use Rattle.std.specs.Prelude.{◌≡◌};
 ghost use Rattle.std.specs.Option.{option_map};
-ghost use Rattle.pv_glob.specs.Parsing.{class_named};
+ghost use Rattle.pv_glob.specs.Elements.{class_named};
 
 use crate::element::ByteRange;
 

@@ -1,17 +1,20 @@
-ghost use Rattle.std.specs.Prelude.{◌≡◌, ℕ, ◌<◌, length, map, IfOk};
+//! Elements of a component: what stands at a place, and which faults it has.
+ghost use Rattle.std.specs.Prelude.{◌≡◌, [], ◌∷◌, ◌<◌, find, length, IfOk};
 ghost use Rattle.std.specs.List.{list_any};
-ghost use Rattle.pv_glob.specs.Parsing.{component_fault, element_at, element_length, elements_in, elements_of, has_fault_at, name_fault, set_of};
+ghost use Rattle.pv_glob.specs.declared.fault.PatternFault.TheVariants.{UnclosedBracket, BadRange, BadClass, Brace};
+ghost use Rattle.pv_glob.specs.Elements.{element_at, element_length, elements_of, has_fault_at, set_of};
+ghost use Rattle.pv_glob.specs.Parsing.{name_fault};
 
 use crate::bracket::{
     behind, body_of, byte_at, has_bad_class, has_bad_range, has_sign, ranges_of, sign_length,
 };
-use crate::element::{ByteSet, Component, Element};
+use crate::element::{ByteSet, Element};
 use crate::fault::PatternFault;
 use pv_path::is_staging;
 use std::alloc::{AllocError, Global};
 
 /// How many bytes stand here for one element.
-fn element_length(place: &[u8]) -> usize
+pub(crate) fn element_length(place: &[u8]) -> usize
     requires { 0 < length place.now }
     ensures value { result ≡ element_length place.now }
     ensures positive { 0 < result }
@@ -39,7 +42,7 @@ fn set_of(alloc: Global, text: &[u8]) -> Result<ByteSet, AllocError>
 }
 
 /// The element that stands here.
-fn element_at(alloc: Global, place: &[u8]) -> Result<Element, AllocError>
+pub(crate) fn element_at(alloc: Global, place: &[u8]) -> Result<Element, AllocError>
     requires { 0 < length place.now }
     ensures { IfOk result (λ element. element ≡ element_at place.now) }
 {
@@ -63,14 +66,14 @@ fn has_fault_at(place: &[u8], fault: PatternFault) -> bool
         PatternFault::UnclosedBracket => first == b'[' && body_of(text).is_none(),
         PatternFault::BadRange => first == b'[' && has_bad_range(body_of(text).unwrap_or(&[])),
         PatternFault::BadClass => first == b'[' && has_bad_class(body_of(text).unwrap_or(&[])),
-        PatternFault::Brace => first == b'{' || first == b'}',
+        PatternFault::Brace => first == b'{' && byte_at(text, 0) == b'}',
         PatternFault::TrailingBackslash => first == b'\\' && text.is_empty(),
         _ => false,
     }
 }
 
 /// Whether some element of a component has a fault.
-fn has_fault(component: &[u8], fault: PatternFault) -> bool
+pub(crate) fn has_fault(component: &[u8], fault: PatternFault) -> bool
     ensures { result ≡ list_any (has_fault_at fault) (elements_of component.now) }
 {
     let mut rest = component;
@@ -83,9 +86,9 @@ fn has_fault(component: &[u8], fault: PatternFault) -> bool
     false
 }
 
-/// The fault of a component, or nothing where its elements have none.
-pub(crate) fn component_fault(component: &[u8]) -> Option<PatternFault>
-    ensures { result ≡ component_fault component.now }
+/// The first fault of a component that its elements show before its braces are paired.
+pub(crate) fn early_fault(component: &[u8]) -> Option<PatternFault>
+    ensures { result ≡ find (λ f. list_any (has_fault_at f) (elements_of component.now)) (UnclosedBracket ∷ BadRange ∷ BadClass ∷ Brace ∷ []) }
 {
     if has_fault(component, PatternFault::UnclosedBracket) {
         Some(PatternFault::UnclosedBracket)
@@ -95,8 +98,6 @@ pub(crate) fn component_fault(component: &[u8]) -> Option<PatternFault>
         Some(PatternFault::BadClass)
     } else if has_fault(component, PatternFault::Brace) {
         Some(PatternFault::Brace)
-    } else if has_fault(component, PatternFault::TrailingBackslash) {
-        Some(PatternFault::TrailingBackslash)
     } else {
         None
     }
@@ -113,17 +114,4 @@ pub(crate) fn name_fault(component: &[u8]) -> Option<PatternFault>
     } else {
         None
     }
-}
-
-/// The elements of a component.
-pub(crate) fn component_of(alloc: Global, component: &[u8]) -> Result<Component, AllocError>
-    ensures { IfOk result (λ elements. elements ≡ elements_in component.now) }
-{
-    let mut elements = Component::new(alloc);
-    let mut rest = component;
-    while !rest.is_empty() {
-        elements.push(element_at(alloc, rest)?)?;
-        rest = behind(rest, element_length(rest));
-    }
-    Ok(elements)
 }

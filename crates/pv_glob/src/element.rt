@@ -1,3 +1,4 @@
+//! What patterns are made of: bytes, wildcards and sets of bytes.
 ghost use Rattle.std.specs.Prelude.{◌≡◌, IfOk};
 
 use pv_path::Sequence;
@@ -13,7 +14,7 @@ pub struct ByteRange {
 }
 
 /// The bytes in some range of a list, or those in none of them.
-#[derive(Debug, Drop)]
+#[derive(Clone, Debug, Drop)]
 pub struct ByteSet {
     /// Whether the bytes are those in no range: the bracket begins with `!` or `^`.
     pub negated: bool,
@@ -22,7 +23,7 @@ pub struct ByteSet {
 }
 
 /// What a pattern is made of between its slashes (glob(7)).
-#[derive(Debug, Drop)]
+#[derive(Clone, Debug, Drop)]
 pub enum Element {
     /// This byte.
     Byte(u8),
@@ -37,36 +38,18 @@ pub enum Element {
 /// What stands for one name in a pattern.
 pub type Component = Sequence<Element>;
 
-impl ByteSet {
-    /// The same set once more.
-    pub fn copy(&self) -> Result<ByteSet, AllocError>
-        ensures { IfOk result (λ copy. copy ≡ self.now) }
-    {
-        Ok(ByteSet {
-            negated: self.negated,
-            ranges: self.ranges.clone()?,
-        })
-    }
-}
-
 impl Element {
     /// The same element once more.
     pub fn copy(&self) -> Result<Element, AllocError>
         ensures { IfOk result (λ copy. copy ≡ self.now) }
     {
-        Ok(match self {
-            Element::Byte(byte) => Element::Byte(*byte),
-            Element::Any => Element::Any,
-            Element::Many => Element::Many,
-            Element::OneOf(set) => Element::OneOf(set.copy()?),
-        })
+        self.clone()
     }
 }
 
-impl Clone for Element {
-    ghost is_clone = { λ element copy. copy ≡ element };
-
-    fn clone(&self) -> Result<Element, AllocError> {
-        self.copy()
-    }
+/// The same component once more.
+pub(crate) fn copy_of(component: &Component) -> Result<Component, AllocError>
+    ensures { IfOk result (λ copy. copy ≡ component.now) }
+{
+    component.clone()
 }

@@ -1,3 +1,4 @@
+//! Why a text is no pattern.
 ghost use Rattle.std.specs.Prelude.{◌≡◌};
 ghost use Rattle.pv_glob.specs.declared.fault.PatternFault.TheVariants.{Memory};
 
@@ -5,7 +6,7 @@ use std::alloc::AllocError;
 use thiserror::Error;
 
 /// Why a text is no pattern. The first five are looked for in the text, the next five in its
-/// components, each component by itself; want of memory may come at any time.
+/// components from the left; want of memory may come at any time.
 #[derive(Clone, Copy, Debug, PartialEq, Eq, Error)]
 pub enum PatternFault {
     /// The text does not begin with a slash.
@@ -32,7 +33,8 @@ pub enum PatternFault {
     /// A bracket names a class that there is not.
     #[error("BadClass")]
     BadClass,
-    /// A brace stands outside brackets and not after a backslash.
+    /// The braces of a component are not balanced, a pair of them holds nothing, or this component and
+    /// those before it have more than 256 expansions together.
     #[error("Brace")]
     Brace,
     /// A backslash stands last.

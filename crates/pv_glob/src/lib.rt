@@ -1,6 +1,7 @@
 //! Patterns of paths, as in glob(7): how they are read, and which paths they match.
 #![tactic(auto)]
 
+mod braces;
 mod bracket;
 mod class;
 mod component;
@@ -11,6 +12,8 @@ mod matching;
 mod parse;
 mod pattern;
 mod plain;
+mod reading;
+mod words;
 
 pub use element::{ByteRange, ByteSet, Component, Element};
 pub use fault::PatternFault;

@@ -1,3 +1,4 @@
+//! Which names and paths elements match.
 ghost use Rattle.std.specs.Prelude.{◌≡◌, ◌∷◌, true, false, length};
 ghost use Rattle.std.specs.List.{list_any};
 ghost use Rattle.std.specs.Cmp.Lexicographic.{pointwise};
@@ -126,9 +127,8 @@ fn has_staging(names: &[Name]) -> bool
 pub(crate) fn names_match(components: &[Component], names: &[Name]) -> bool
     ensures { result ≡ matches components.now names.now }
 {
-    if has_staging(names) || components.len() != names.len() {
-        false
-    } else {
-        all_match(components, names)
+    if components.len() != names.len() {
+        return false;
     }
+    !has_staging(names) && all_match(components, names)
 }

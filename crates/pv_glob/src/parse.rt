@@ -1,14 +1,20 @@
-ghost use Rattle.std.specs.Prelude.{◌≡◌, map, IfOk};
-ghost use Rattle.pv_glob.specs.Parsing.{Gives, component_fault, components_of, elements_in, first_fault, name_fault, pattern_of, pattern_with};
+//! How a pattern is read from a text.
+ghost use Rattle.std.specs.Prelude.{◌≡◌, ◌<◌, length, map, IfOk};
+ghost use Rattle.pv_glob.specs.Parsing.{Gives, component_of, components_of, first_fault, name_fault, pattern_of, pattern_with};
 
-use crate::component::{component_fault, component_of, name_fault};
+use crate::braces::expansions_within;
+use crate::component::{early_fault, has_fault, name_fault};
 use crate::fault::PatternFault;
 use crate::pattern::Pattern;
 use crate::plain::Plain;
+use crate::words::Words;
 use std::alloc::{AllocError, Global};
 
 /// The longest text that may spell a pattern, in bytes.
 const MOST_TEXT_BYTES: usize = 4095;
+
+/// The most expansions that a pattern may have.
+const MOST_EXPANSIONS: usize = 256;
 
 /// The pattern that a text spells, or the first fault in the order of `PatternFault` (glob(7)).
 /// Slashes in a row count as one, and a last slash is dropped.
@@ -49,16 +55,22 @@ fn first_name_fault(components: &[&[u8]]) -> Option<PatternFault>
     None
 }
 
-/// The fault of the first component that has one.
-fn first_component_fault(components: &[&[u8]]) -> Option<PatternFault>
-    ensures { result ≡ first_fault component_fault (map (λ s. s.now) components.now) }
+/// The expansions of a component where the components before it have `before`, or its fault.
+fn component_of(alloc: Global, component: &[u8], before: usize) -> Result<Words, PatternFault>
+    requires { 0 < before }
+    ensures value { Gives result (component_of before component.now) }
+    ensures some { IfOk result (λ words. 0 < length words) }
 {
-    for component in components {
-        if let Some(fault) = component_fault(component) {
-            return Some(fault);
-        }
+    if let Some(fault) = early_fault(component) {
+        return Err(fault);
     }
-    None
+    let Some(words) = expansions_within(alloc, component, MOST_EXPANSIONS / before)? else {
+        return Err(PatternFault::Brace);
+    };
+    if has_fault(component, PatternFault::TrailingBackslash) {
+        return Err(PatternFault::TrailingBackslash);
+    }
+    Ok(words)
 }
 
 /// The pattern of these components, or their first fault.
@@ -68,19 +80,10 @@ fn pattern_with(alloc: Global, components: &[&[u8]]) -> Result<Pattern, PatternF
     if let Some(fault) = first_name_fault(components) {
         return Err(fault);
     }
-    if let Some(fault) = first_component_fault(components) {
-        return Err(fault);
-    }
-    Ok(Pattern::of(plain_of(alloc, components)?))
-}
-
-/// The pattern of components without faults.
-fn plain_of(alloc: Global, components: &[&[u8]]) -> Result<Plain, AllocError>
-    ensures { IfOk result (λ plain. plain ≡ map elements_in (map (λ s. s.now) components.now)) }
-{
-    let mut plain = Plain::root(alloc);
+    let mut pattern = Pattern::of(alloc, Plain::root(alloc))?;
     for component in components {
-        plain.push(component_of(alloc, component)?)?;
+        let words = component_of(alloc, component, pattern.plains().len())?;
+        pattern = pattern.followed(alloc, words.as_slice())?;
     }
-    Ok(plain)
+    Ok(pattern)
 }

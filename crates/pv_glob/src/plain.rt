@@ -1,3 +1,4 @@
+//! Patterns without braces.
 ghost use Rattle.std.specs.Prelude.{◌≡◌, ℕ, ◌≤◌, List, [], ◌∷◌, ◌++◌, false, take, length, map, IfOk, OnOk, OnErr};
 ghost use Rattle.pv_path.specs.Paths.{Path, has_staging, same_path};
 ghost use Rattle.pv_glob.specs.Matching.{literal_of, matches};
@@ -85,6 +86,14 @@ impl Plain {
         ensures { result ≡ matches self.now (take count names.now) }
     {
         self.matches(&names[..count])
+    }
+}
+
+impl Clone for Plain {
+    ghost is_clone = { λ plain copy. copy ≡ plain };
+
+    fn clone(&self) -> Result<Plain, AllocError> {
+        self.copy()
     }
 }
 

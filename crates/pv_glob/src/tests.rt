@@ -1,3 +1,4 @@
+//! Tests of patterns against worked rows.
 use super::*;
 use pv_path::{TreePath, child, parse_path};
 use std::test::Fail;
@@ -30,6 +31,15 @@ fn patterns_match_paths(rt: HostRuntime) -> Result<(), Fail> {
         (b"//a///b/", b"/a/b", true),
         (b"/", b"/", true),
         (b"/*", b"/", false),
+        (b"/a/{b,c}*", b"/a/cx", true),
+        (b"/a/{b,c}*", b"/a/d", false),
+        (b"/a/{b}", b"/a/b", true),
+        (b"/{a,b{c,d}e}{,f}", b"/bdef", true),
+        (b"/{a,b{c,d}e}{,f}", b"/bcde", false),
+        (b"/a/{,b}", b"/a", false),
+        (b"/a/{[,}],?}", b"/a/}", true),
+        (b"/a/b,\\{", b"/a/b,{", true),
+        (b"/{a,b}/{c,d}", b"/b/c", true),
     ] {
         let parsed = parse_pattern(alloc, pattern)?;
         let path = parse_path(alloc, path)?;
@@ -79,6 +89,7 @@ fn literals_match_their_path(rt: HostRuntime) -> Result<(), Fail> {
     let path: TreePath = parse_path(alloc, b"/a/*")?;
     assert!(rt; !pv_path::has_staging(&path));
     let pattern = literal(alloc, &path)?;
+    assert!(rt; pattern.plains().len() == 1);
     assert!(rt; matches(&pattern, &path) && !matches(&pattern, &parse_path(alloc, b"/a/b")?));
     Ok(())
 }
@@ -99,7 +110,12 @@ fn texts_have_their_first_fault(rt: HostRuntime) {
         (b"/a/[[:foo:]]", PatternFault::BadClass),
         (b"/a/[[.x.]]", PatternFault::BadClass),
         (b"/a/[[=x=]]", PatternFault::BadClass),
-        (b"/a/{b,c}", PatternFault::Brace),
+        (b"/a/{b", PatternFault::Brace),
+        (b"/a/{}", PatternFault::Brace),
+        (b"/{a,{}}", PatternFault::Brace),
+        (b"/{[,a}b]", PatternFault::Brace),
+        (b"/{a,/b}", PatternFault::Brace),
+        (b"/{b\\", PatternFault::Brace),
         (b"/a}/[b", PatternFault::Brace),
         (b"/a/b\\", PatternFault::TrailingBackslash),
         (b"/a\\/b", PatternFault::TrailingBackslash),
@@ -109,6 +125,34 @@ fn texts_have_their_first_fault(rt: HostRuntime) {
             "{text:?}"
         );
     }
+}
+
+#[test]
+fn as_many_as_256_expansions(rt: HostRuntime) -> Result<(), Fail> {
+    let alloc = rt.alloc();
+    let path = parse_path(alloc, b"/abba/baab")?;
+    for (text, count) in [
+        (
+            b"/{a,b}{a,b}{a,b}{a,b}{a,b}{a,b}{a,b}{a,b}".as_slice(),
+            Some((256, false)),
+        ),
+        (b"/{a,b}{a,b}{a,b}{a,b}{a,b}{a,b}{a,b}{a,b}{a,b}", None),
+        (
+            b"/{a,b}{a,b}{a,b}{a,b}/{a,b}{a,b}{a,b}{a,b}",
+            Some((256, true)),
+        ),
+        (b"/{a,b}{a,b}{a,b}{a,b}/{a,b}{a,b}{a,b}{a,b}{a,b}", None),
+    ] {
+        let found = match parse_pattern(alloc, text) {
+            Ok(pattern) => Some((pattern.plains().len(), matches(&pattern, &path))),
+            Err(fault) => {
+                assert!(rt; fault == PatternFault::Brace, "{text:?}");
+                None
+            }
+        };
+        assert!(rt; found == count, "{text:?}");
+    }
+    Ok(())
 }
 
 #[test]

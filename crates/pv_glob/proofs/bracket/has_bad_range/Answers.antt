@@ -1,5 +1,5 @@
 use Rattle.std.proofs.Common.{◌∙◌, sym, rules}
-use Rattle.pv_glob.specs.Parsing.{is_bad_range, item_length}
+use Rattle.pv_glob.specs.Elements.{is_bad_range, item_length}
 use Rattle.pv_glob.proofs.Places.{any_step}
 use Rattle.pv_glob.proofs.bracket.has_bad_range.Goals as goal
 

@@ -1,6 +1,6 @@
 use Rattle.std.proofs.Common.{◌≡◌, ◌+◌, drop}
 use Rattle.std.specs.Option.{option_map}
-use Rattle.pv_glob.specs.Parsing.{length_to_mark}
+use Rattle.pv_glob.specs.Elements.{length_to_mark}
 use Rattle.pv_glob.proofs.bracket.length_to_mark.Given as goal
 
 abbrev pub invariant-loop-i : goal.invariant-loop-i

@@ -1,5 +1,5 @@
 use Rattle.std.proofs.Common.{rules}
-use Rattle.pv_glob.specs.Parsing.{item_length, item_ranges}
+use Rattle.pv_glob.specs.Elements.{item_length, item_ranges}
 use Rattle.pv_glob.proofs.Places.{flat_step}
 use Rattle.pv_glob.proofs.bracket.ranges_of.Goals as goal
 

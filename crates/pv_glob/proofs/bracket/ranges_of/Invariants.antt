@@ -1,6 +1,6 @@
 use Rattle.std.proofs.Common.{◌≡◌, ◌++◌, length}
 use Rattle.std.specs.List.{flat_map}
-use Rattle.pv_glob.specs.Parsing.{item_ranges, items_of}
+use Rattle.pv_glob.specs.Elements.{item_ranges, items_of}
 use Rattle.pv_glob.proofs.bracket.ranges_of.Given as goal
 
 abbrev pub invariant-loop-rest : goal.invariant-loop-rest

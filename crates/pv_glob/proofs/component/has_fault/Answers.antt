@@ -1,5 +1,5 @@
 use Rattle.std.proofs.Common.{◌∙◌, sym, rules}
-use Rattle.pv_glob.specs.Parsing.{has_fault_at, element_length}
+use Rattle.pv_glob.specs.Elements.{has_fault_at, element_length}
 use Rattle.pv_glob.proofs.Places.{any_step}
 use Rattle.pv_glob.proofs.component.has_fault.Goals as goal
 

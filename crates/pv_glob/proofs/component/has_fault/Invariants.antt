@@ -1,6 +1,6 @@
 use Rattle.std.proofs.Common.{◌≡◌, length}
 use Rattle.std.specs.List.{list_any}
-use Rattle.pv_glob.specs.Parsing.{elements_of, has_fault_at}
+use Rattle.pv_glob.specs.Elements.{elements_of, has_fault_at}
 use Rattle.pv_glob.proofs.component.has_fault.Given as goal
 
 abbrev pub invariant-loop-rest : goal.invariant-loop-rest

@@ -1,4 +1,4 @@
-use Rattle.pv_glob.specs.MatchingLaws.{literal_alone}
+use Rattle.pv_glob.proofs.MatchingLaws.{literal_alone}
 use Rattle.pv_glob.proofs.Alone.{literal_whole}
 use Rattle.pv_glob.proofs.plain.Plain.literal.Goals as goal
 

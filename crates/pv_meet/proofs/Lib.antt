@@ -1,0 +1,13 @@
+pub mod Disjoint
+pub mod Expansions
+pub mod Beginnings
+pub mod Components
+pub mod Levels
+pub mod Members
+pub mod Reaches
+pub mod Noting
+pub mod Orders
+pub mod PairLaws
+pub mod Runs
+pub mod Shared
+pub mod Shortlex

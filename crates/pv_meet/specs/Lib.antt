@@ -1,0 +1,5 @@
+pub mod Machines
+pub mod Meeting
+pub mod Pairs
+pub mod Search
+pub mod Words

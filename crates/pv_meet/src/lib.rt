@@ -1,0 +1,22 @@
+//! The first path that two patterns share, found by machines that read the names of both.
+#![tactic(auto)]
+
+mod apart;
+mod beginning;
+mod earlier;
+mod meeting;
+mod moves;
+mod pair;
+mod rank;
+mod search;
+mod spot;
+mod taker;
+mod word;
+
+pub use meeting::{Reach, meet};
+pub use moves::{Move, MoveList, Moves};
+pub use pair::PairMachine;
+pub use search::least_word;
+
+#[cfg(test)]
+mod tests;

@@ -1,0 +1,4 @@
+pub mod HeadLaws
+pub mod Related
+pub mod Sorted
+pub mod Walking

@@ -1,0 +1,76 @@
+use Rattle.std.proofs.Common.{◌≡◌, ◌<◌, ◌+◌, ◌∷◌, ◌++◌, [], ℕ, List, All, true, length, filter, rules, subst, sym, ap, ◌∙◌}
+use Rattle.std.proofs.lemmas.List.Elements.{All-filter, All-weaker, filter_passes}
+use Rattle.pv_path.specs.Paths.{Path, is_prefix}
+use Rattle.pv_overlap.specs.declared.walk.Head.{Head}
+use Rattle.pv_overlap.specs.Walk.{Grown, HasAnswer, IsOrderOf, IsSound, Walked, head_at}
+use Rattle.pv_overlap.proofs.Walking.{all_answered, all_told, grown_same, has_same, same_on, sound_same, walked_next, walked_all}
+use Rattle.pv_overlap.proofs.walk.pairs_by.Goals as goal
+
+pub ask_open-requires-clause-below : goal.ask_open-requires-clause-below
+ask_open-requires-clause-below g c =
+    let at = c.loop-at.at in
+    let order = c.as_slice-in-loop-at.result.now in
+    let open' = c.as_slice-in-loop-at-2.result.now in
+    let begins = λ (q : ℕ). is_prefix (head_at order q).path (head_at order at).path in
+    let below = subst (λ (xs : List ℕ). All (λ q. q < at) xs) (sym c.as_slice-in-loop-at-2.ensures.value) c.loop-at.invariant.walked.is_open.below in
+    subst (λ (xs : List ℕ). All (λ q. q < at) xs) (sym (c.as_slice-in-loop-at-4.ensures.value ∙ c.in_ok-kept.ensures)) (All-filter begins (λ q. q < at) open' below)
+
+pub ask_open-requires-clause-prefixes : goal.ask_open-requires-clause-prefixes
+ask_open-requires-clause-prefixes g c =
+    let at = c.loop-at.at in
+    let order = c.as_slice-in-loop-at.result.now in
+    let open' = c.as_slice-in-loop-at-2.result.now in
+    let begins = λ (q : ℕ). is_prefix (head_at order q).path (head_at order at).path in
+    let same : order ≡ c.as_slice-in-loop-at-3.result.now = c.as_slice-in-loop-at.ensures.value ∙ sym c.as_slice-in-loop-at-3.ensures.value in
+    subst (λ (o : List Head). All (λ q. is_prefix (head_at o q).path (head_at o at).path ≡ true) c.as_slice-in-loop-at-4.result.now) same
+    (subst (λ (xs : List ℕ). All (λ q. begins q ≡ true) xs) (sym (c.as_slice-in-loop-at-4.ensures.value ∙ c.in_ok-kept.ensures)) (filter_passes begins open'))
+
+pub loop-at-preserved : goal.loop-at-preserved
+loop-at-preserved g c =
+    let answers = g.A.Asker.answers c.args.asker.now in
+    let heads = c.args.heads.now in
+    let order = c.in_ok-order.order.items in
+    let at = c.loop-at.at in
+    let open' = c.loop-at.opened.items in
+    let inv = c.loop-at.invariant in
+    let told = c.in_ok-ask_open.ensures in
+    let is_order : IsOrderOf heads order = subst (λ (x : List Path). IsOrderOf x order) c.as_slice.ensures c.in_ok-order.ensures in
+    let begins = λ (q : ℕ). is_prefix (head_at order q).path (head_at order at).path in
+    let kept : c.in_ok-kept.kept.items ≡ filter begins open' =
+    c.in_ok-kept.ensures
+    ∙ ap (λ (x : List Head). filter (λ q. is_prefix (head_at x q).path (head_at x at).path) c.as_slice-in-loop-at-2.result.now) c.as_slice-in-loop-at.ensures.value
+    ∙ ap (filter begins) c.as_slice-in-loop-at-2.ensures.value in
+    let grown : Grown answers (length heads) c.loop-at.found c.ask_open.new.found =
+    grown_same (g.A.Asker.answers c.loop-at.asker) answers (length heads) c.loop-at.found c.ask_open.new.found inv.answers
+    (subst (λ (x : List Path). Grown (g.A.Asker.answers c.loop-at.asker) (length x) c.loop-at.found c.ask_open.new.found) (inv.heads ∙ sym c.requires.heads) told.grown) in
+    let same : c.as_slice-in-loop-at-3.result.now ≡ order = c.as_slice-in-loop-at-3.ensures.value in
+    let told_order : All (λ q. HasAnswer (g.A.Asker.answers c.loop-at.asker) c.ask_open.new.found (head_at order q).index (head_at order at).index) c.as_slice-in-loop-at-4.result.now =
+    subst (λ (o : List Head). All (λ q. HasAnswer (g.A.Asker.answers c.loop-at.asker) c.ask_open.new.found (head_at o q).index (head_at o at).index) c.as_slice-in-loop-at-4.result.now) same told.noted in
+    let noted : All (λ q. HasAnswer answers c.ask_open.new.found (head_at order q).index (head_at order at).index) (filter begins open') =
+    All-weaker (λ q. HasAnswer (g.A.Asker.answers c.loop-at.asker) c.ask_open.new.found (head_at order q).index (head_at order at).index) (λ q. HasAnswer answers c.ask_open.new.found (head_at order q).index (head_at order at).index)
+    (λ q has. has_same (g.A.Asker.answers c.loop-at.asker) answers c.ask_open.new.found inv.answers (head_at order q).index (head_at order at).index has) (filter begins open')
+    (subst (λ (xs : List ℕ). All (λ q. HasAnswer (g.A.Asker.answers c.loop-at.asker) c.ask_open.new.found (head_at order q).index (head_at order at).index) xs) (c.as_slice-in-loop-at-4.ensures.value ∙ kept) told_order) in
+    let next = walked_next answers heads order is_order at (search rules) open' c.loop-at.found c.ask_open.new.found c.requires.unrelated inv.walked grown noted in
+    record {
+      walked = subst (λ (xs : List ℕ). Walked answers (length heads) order (at + 1) xs c.ask_open.new.found) (sym (c.in_ok-push.ensures.items ∙ ap (λ (xs : List ℕ). xs ++ at ∷ []) kept)) next;
+      heads = c.ask_open.ensures.heads ∙ inv.heads;
+      answers = same_on answers (g.A.Asker.answers c.loop-at.asker) (g.A.Asker.answers c.ask_open.new.asker) inv.answers c.ask_open.ensures.answers;
+    }
+
+pub returns-clause-listed : goal.returns-clause-listed
+returns-clause-listed g c =
+    all_answered c.loop-at.found (g.A.Asker.answers c.args.asker.now) (length c.args.heads.now) c.listed.result c.loop-at.invariant.walked.sound c.listed.ensures.exact
+
+pub returns-clause-all : goal.returns-clause-all
+returns-clause-all g c =
+    let answers = g.A.Asker.answers c.args.asker.now in
+    let heads = c.args.heads.now in
+    let order = c.in_ok-order.order.items in
+    let is_order : IsOrderOf heads order = subst (λ (x : List Path). IsOrderOf x order) c.as_slice.ensures c.in_ok-order.ensures in
+    all_told c.loop-at.found answers (length heads) c.listed.result (walked_all answers heads order is_order c.loop-at.at (search rules) c.loop-at.opened.items c.loop-at.found c.loop-at.invariant.walked) c.listed.ensures.exact
+
+pub ask_open-requires-clause-sound : goal.ask_open-requires-clause-sound
+ask_open-requires-clause-sound g c =
+    let inv = c.loop-at.invariant in
+    sound_same (g.A.Asker.answers c.args.asker.now) (g.A.Asker.answers c.loop-at.asker) (length (g.A.Asker.heads c.loop-at.asker)) c.loop-at.found inv.answers
+    (subst (λ (x : List Path). IsSound (g.A.Asker.answers c.args.asker.now) (length x) c.loop-at.found) (c.requires.heads ∙ sym inv.heads) inv.walked.sound)

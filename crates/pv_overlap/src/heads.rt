@@ -1,0 +1,78 @@
+//! The heads of patterns.
+ghost use Rattle.std.specs.Prelude.{◌≡◌, ℕ, List, [], ◌∷◌, ◌++◌, true, Option, Some, None, IfOk, take};
+ghost use Rattle.pv_path.specs.Names.{is_name};
+ghost use Rattle.pv_overlap.specs.Heads.{common, common_with, head_of, head_of_all, written};
+
+use pv_glob::{Component, Element, Pattern, Plain};
+use pv_path::{Bytes, Name, TreePath, is_name};
+use std::alloc::{AllocError, Global};
+
+/// The bytes of a component of written bytes alone, or nothing where it has another element.
+fn written(alloc: Global, component: &Component) -> Result<Option<Bytes>, AllocError>
+    ensures { IfOk result (λ bytes. bytes ≡ written component.now) }
+{
+    let mut bytes = Bytes::new(alloc);
+    for element in component.as_slice() {
+        match element {
+            Element::Byte(byte) => bytes.push(*byte)?,
+            _ => return Ok(None),
+        }
+    }
+    Ok(Some(bytes))
+}
+
+/// The head of the pattern of these components.
+fn head_of(alloc: Global, components: &[Component]) -> Result<TreePath, AllocError>
+    ensures { IfOk result (λ head. head ≡ head_of components.now) }
+{
+    let mut head = TreePath::root(alloc);
+    for component in components {
+        match written(alloc, component)? {
+            Some(bytes) if is_name(bytes.as_slice()) => head.push(Name::of(
+                alloc,
+                bytes.as_slice(),
+            )?)?,
+            _ => return Ok(head),
+        }
+    }
+    Ok(head)
+}
+
+/// The longest path that is a prefix of both.
+fn common(alloc: Global, a: &TreePath, b: &TreePath) -> Result<TreePath, AllocError>
+    ensures { IfOk result (λ path. path ≡ common a.now b.now) }
+{
+    let others = b.names();
+    let mut path = TreePath::root(alloc);
+    for (i, name) in a.names().iter().enumerate() {
+        if i >= others.len() || *name != others[i] {
+            return Ok(path);
+        }
+        path.push(name.copy()?)?;
+    }
+    Ok(path)
+}
+
+/// The longest path that is a prefix of a path and of the heads of some patterns without braces.
+fn common_with(alloc: Global, path: TreePath, plains: &[Plain]) -> Result<TreePath, AllocError>
+    ensures { IfOk result (λ head. head ≡ common_with path plains.now) }
+{
+    let mut head = path;
+    for plain in plains {
+        let other = head_of(alloc, plain.components())?;
+        head = common(alloc, &head, &other)?;
+    }
+    Ok(head)
+}
+
+/// The head of a pattern: the longest path that is a prefix of the head of each expansion. The head of a pattern
+/// without braces is the path of its leading components that spell one name alone (glob(7)), ended before the first
+/// whose bytes are no name; of one that matches one path alone it is that path.
+pub fn head(alloc: Global, pattern: &Pattern) -> Result<TreePath, AllocError>
+    ensures { IfOk result (λ head. head ≡ head_of_all pattern.now) }
+{
+    match pattern.plains() {
+        [] => Ok(TreePath::root(alloc)),
+        [plain, plains @ ..] => common_with(alloc, head_of(alloc, plain.components())?, plains),
+    }
+}
