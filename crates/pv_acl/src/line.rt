@@ -1,5 +1,5 @@
 //! ACL entries as configuration lines give them.
-ghost use Rattle.std.specs.Prelude.{◌↔◌, IsTrue, ◌≡◌, ℕ, List, [], ◌∷◌, ◌++◌, length, OnOk, OnErr, slice_get};
+ghost use Rattle.std.specs.Prelude.{◌↔◌, IsTrue, ◌≡◌, ℕ, List, [], ◌∷◌, ◌++◌, length, IfOk, OnOk, OnErr, slice_get};
 ghost use Rattle.std.specs.Option.{option_copied};
 
 use crate::perm::{Named, Perm};
@@ -22,7 +22,7 @@ pub enum Entry {
 }
 
 /// Entries of a line in the order in which they stand there. Clauses see the list.
-#[derive(Debug, Drop)]
+#[derive(Clone, Debug, Drop)]
 pub struct EntryList {
     items: Vec<Entry>,
 }
@@ -85,10 +85,19 @@ impl EntryList {
 }
 
 /// The entries of a line of configuration: those for the access part and those for the default part.
-#[derive(Debug, Drop)]
+#[derive(Clone, Debug, Drop)]
 pub struct AclLine {
     pub access: EntryList,
     pub default_part: EntryList,
+}
+
+impl AclLine {
+    /// The same entries once more.
+    pub fn copy(&self) -> Result<AclLine, AllocError>
+        ensures { IfOk result (λ line. line ≡ self.now) }
+    {
+        self.clone()
+    }
 }
 
 /// How the named entries and the mask of a line meet those of a part: in their place, or over them.

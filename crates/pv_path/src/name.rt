@@ -8,6 +8,7 @@ ghost use Rattle.std.proofs.Common.{rules, refl};
 ghost use Rattle.std.specs.List.{list_all};
 ghost use Rattle.pv_path.specs.Names.{is_dots, is_name, is_name_byte, is_staging, staging_name, same_bytes};
 
+use smallvec::SmallVec;
 use std::alloc::{AllocError, Global};
 use std::cmp::Ordering;
 use std::hash::{Hash, Hasher};
@@ -43,10 +44,10 @@ pub fn is_staging(name: &[u8]) -> bool
 }
 
 /// A name of a directory entry: 1 to 255 bytes without a slash and NUL, and neither `.` nor `..`.
-/// Clauses see its bytes.
-#[derive(Clone, Debug, Drop)]
+/// One of up to 16 bytes takes no memory of its own. Clauses see its bytes.
+#[derive(Debug, Drop)]
 pub struct Name {
-    bytes: Vec<u8>,
+    bytes: SmallVec<u8, 16>,
 }
 
 impl Model for Name {
@@ -64,7 +65,7 @@ impl Name {
         ensures { IfOk result (λ name. name ≡ bytes.now) }
     {
         Ok(Name {
-            bytes: Vec::from_slice(alloc, bytes)?,
+            bytes: SmallVec::from_slice(alloc, bytes)?,
         })
     }
 
@@ -80,7 +81,9 @@ impl Name {
     pub fn copy(&self) -> Result<Name, AllocError>
         ensures { IfOk result (λ name. name ≡ self.now) }
     {
-        self.clone()
+        Ok(Name {
+            bytes: SmallVec::from_slice(*self.bytes.allocator(), self.bytes.as_slice())?,
+        })
     }
 
     /// The staging name for this name.
@@ -88,9 +91,17 @@ impl Name {
         requires { length self.now ≤ 250 }
         ensures { IfOk result (λ name. name ≡ staging_name self.now) }
     {
-        let mut bytes = Vec::from_slice(alloc, b".#tf-")?;
+        let mut bytes = SmallVec::from_slice(alloc, b".#tf-")?;
         bytes.extend_from_slice(self.bytes.as_slice())?;
         Ok(Name { bytes })
+    }
+}
+
+impl Clone for Name {
+    ghost is_clone = { λ name copy. copy ≡ name };
+
+    fn clone(&self) -> Result<Name, AllocError> {
+        self.copy()
     }
 }
 
