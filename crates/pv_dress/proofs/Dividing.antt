@@ -1,5 +1,5 @@
 -- Entries of a line, done after the base entries among them, are done once.
-use Rattle.std.specs.Prelude.{◌≡◌, Bool, true, false, ◌&&◌, ◌||◌, List, [], ◌∷◌, ◌++◌, fold, filter, Option, Some, None, if◌then◌else◌}
+use Rattle.std.specs.Prelude.{◌≡◌, Bool, true, false, not, ◌&&◌, ◌||◌, List, [], ◌∷◌, ◌++◌, fold, filter, Option, Some, None, if◌then◌else◌}
 use Rattle.std.proofs.Common.{refl, sym, ap, ◌∙◌}
 use Rattle.pv_acl.specs.declared.line.Entry.{Entry}
 use Rattle.pv_acl.specs.declared.line.Entry.TheVariants as entry
@@ -19,7 +19,7 @@ use Rattle.pv_dress.specs.declared.operation.Operation.{Operation}
 use Rattle.pv_dress.specs.declared.operation.Operation.TheVariants.{Make, Renew, Erase, Adjust}
 use Rattle.pv_steps.specs.Objects.{is_directory}
 use Rattle.pv_dress.specs.Operations.{run, done, changed, admits}
-use Rattle.pv_dress.specs.Reasons.{is_base, is_adjusting, is_append, is_masked, gives_base, is_make, is_renewal, is_idle, no_entries, has_late_make, IsRepeatable}
+use Rattle.pv_dress.specs.Reasons.{is_base, is_adjusting, is_append, is_masked, gives_base, is_make, is_renewal, is_idle, is_erasure, no_entries, makes_late, IsRepeatable}
 use Rattle.pv_dress.specs.Dividing.{base_line, parts_of, parts}
 use Rattle.pv_dress.proofs.Settling.{settled_twice}
 use Rattle.pv_dress.proofs.Repeating.{run-append}
@@ -234,7 +234,7 @@ some_entry : (es : List Entry) → list_any is_base es ≡ true → no_entries e
 some_entry [] e = let no : false ≡ true = e in cc
 some_entry (x ∷ es) e = refl
 
-late-parts : (xs : List Operation) → has_late_make (parts xs) ≡ has_late_make xs
+late-parts : (xs : List Operation) → makes_late (parts xs) ≡ makes_late xs
 late-parts [] = refl
 late-parts (Make new ∷ xs) = any-parts is_renewal (λ guard line how e. refl) xs
 late-parts (Renew test new ∷ xs) = any-parts is_renewal (λ guard line how e. refl) xs
@@ -243,23 +243,23 @@ late-parts (Adjust guard (Write bytes) ∷ xs) = no_makes xs
 late-parts (Adjust guard (Append bytes) ∷ xs) = no_makes xs
 late-parts (Adjust guard (Owner uid gid) ∷ xs) = by (is_idle (Owner uid gid)) (late-parts xs)
   where
-    by : (t : Bool) → has_late_make (parts xs) ≡ has_late_make xs → (if t then has_late_make (parts xs) else list_any is_make (parts xs)) ≡ (if t then has_late_make xs else list_any is_make xs)
+    by : (t : Bool) → makes_late (parts xs) ≡ makes_late xs → (if t then makes_late (parts xs) else list_any is_make (parts xs)) ≡ (if t then makes_late xs else list_any is_make xs)
     by true rest = rest
     by false rest = no_makes xs
 late-parts (Adjust guard (Mode mode masked) ∷ xs) = no_makes xs
 late-parts (Adjust guard (Entries line how) ∷ xs) = by (list_any is_base line.access) refl (late-parts xs)
   where
-    one : (t : Bool) → has_late_make (parts xs) ≡ has_late_make xs → (if t then has_late_make (parts xs) else list_any is_make (parts xs)) ≡ (if t then has_late_make xs else list_any is_make xs)
+    one : (t : Bool) → makes_late (parts xs) ≡ makes_late xs → (if t then makes_late (parts xs) else list_any is_make (parts xs)) ≡ (if t then makes_late xs else list_any is_make xs)
     one true rest = rest
     one false rest = no_makes xs
 
-    by : (t : Bool) → list_any is_base line.access ≡ t → has_late_make (parts xs) ≡ has_late_make xs
-        → has_late_make ((if t then Adjust guard (Entries (base_line line) Add) ∷ Adjust guard (Entries line how) ∷ [] else Adjust guard (Entries line how) ∷ []) ++ parts xs)
-        ≡ (if no_entries line.access && no_entries line.default_part then has_late_make xs else list_any is_make xs)
+    by : (t : Bool) → list_any is_base line.access ≡ t → makes_late (parts xs) ≡ makes_late xs
+        → makes_late ((if t then Adjust guard (Entries (base_line line) Add) ∷ Adjust guard (Entries line how) ∷ [] else Adjust guard (Entries line how) ∷ []) ++ parts xs)
+        ≡ (if no_entries line.access && no_entries line.default_part then makes_late xs else list_any is_make xs)
     by true e rest =
-        ap (λ t. if t && true then has_late_make (Adjust guard (Entries line how) ∷ parts xs) else list_any is_make (parts xs)) (some_base line.access e)
+        ap (λ t. if t && true then makes_late (Adjust guard (Entries line how) ∷ parts xs) else list_any is_make (parts xs)) (some_base line.access e)
         ∙ no_makes xs
-        ∙ sym (ap (λ t. if t && no_entries line.default_part then has_late_make xs else list_any is_make xs) (some_entry line.access e))
+        ∙ sym (ap (λ t. if t && no_entries line.default_part then makes_late xs else list_any is_make xs) (some_entry line.access e))
     by false e rest = one (no_entries line.access && no_entries line.default_part) rest
 late-parts (Adjust guard (Attrs attrs) ∷ xs) = no_makes xs
 late-parts (Adjust guard (Letters how letters) ∷ xs) = no_makes xs
@@ -270,5 +270,5 @@ repeatable-parts xs h = record {
   append = any-parts (is_adjusting is_append) (λ guard line how e. refl) xs ∙ h.append;
   mask = ap (λ t. t && list_any (is_adjusting gives_base) (parts xs)) (any-parts (is_adjusting is_masked) (λ guard line how e. refl) xs)
       ∙ ap (λ t. list_any (is_adjusting is_masked) xs && t) (any-parts (is_adjusting gives_base) gives-parts xs) ∙ h.mask;
-  make = late-parts xs ∙ h.make;
+  make = (λ i. not (any-parts is_erasure (λ guard line how e. refl) xs i) && late-parts xs i) ∙ h.make;
 }

@@ -10,6 +10,5 @@ pub mod Absorbing
 pub mod Repeating
 pub mod Dividing
 pub mod OperationLaws
-pub mod AskingLaws
 pub mod DressLaws
 pub mod EditLaws

@@ -1,5 +1,5 @@
 -- Laws of operations on one object, for the crates above.
-use Rattle.std.specs.Prelude.{◌≡◌, ℕ, true, false, List, ◌∷◌, ◌++◌, take, Option, Some, None, option_map}
+use Rattle.std.specs.Prelude.{◌≡◌, ℕ, true, false, not, ◌&&◌, List, ◌∷◌, ◌++◌, take, Option, Some, None, option_map}
 use Rattle.std.specs.List.{list_all, list_any}
 use Rattle.std.proofs.Common.{ap, sym, ◌∙◌, refl}
 use Rattle.pv_path.specs.Paths.{Path}
@@ -13,7 +13,7 @@ use Rattle.pv_dress.specs.declared.operation.Operation.{Operation}
 use Rattle.pv_dress.specs.declared.operation.Operation.TheVariants.{Renew, Erase}
 use Rattle.pv_dress.specs.Nodes.{bare_of, bares_of}
 use Rattle.pv_dress.specs.Operations.{run, stays}
-use Rattle.pv_dress.specs.Reasons.{is_adjusting, is_idle, is_make, is_renewal, is_erasure, IsRepeatable}
+use Rattle.pv_dress.specs.Reasons.{is_adjusting, is_idle, is_make, is_renewal, is_erasure, makes_late, has_late_make, IsRepeatable}
 use Rattle.pv_dress.proofs.Repeating as repeating
 
 -- objects that are the same but for their stamps are the same without them
@@ -58,9 +58,16 @@ bares-same t u q e = by (t q) (u q) e
 pub run-append : (xs ys : List Operation) (b : Option Bare) → run (xs ++ ys) b ≡ run ys (run xs b)
 run-append = repeating.run-append
 
--- the first of operations that nothing is said against; nothing is said against them, either
-pub repeatable-front : (xs ys : List Operation) → IsRepeatable (xs ++ ys) → IsRepeatable xs
+-- the first of operations that nothing is said against; nothing is said against them, either, where no erasure is there
+pub repeatable-front : (xs ys : List Operation) → list_any is_erasure (xs ++ ys) ≡ false → IsRepeatable (xs ++ ys) → IsRepeatable xs
 repeatable-front = repeating.repeatable-front
+
+-- with an erasure operations leave the same whatever was there, and no make is late
+pub erased-alike : (xs : List Operation) → list_any is_erasure xs ≡ true → (a b : Option Bare) → run xs a ≡ run xs b
+erased-alike = repeating.erased-alike
+
+pub erasing-quiet : (xs : List Operation) → list_any is_erasure xs ≡ true → has_late_make xs ≡ false
+erasing-quiet xs e = ap (λ t. not t && makes_late xs) e
 
 -- without an erasure and without a make that renews an object keeps its kind
 pub kind_stays : (xs : List Operation) → list_any is_erasure xs ≡ false → list_any is_renewal xs ≡ false → (b : Bare) → option_map (λ (n : Bare). n.body.kind) (run xs (Some b)) ≡ Some b.body.kind

@@ -23,7 +23,7 @@ use Rattle.pv_dress.specs.declared.operation.Operation.TheVariants.{Make, Renew,
 use Rattle.pv_steps.specs.Objects.{is_directory}
 use Rattle.pv_dress.specs.Nodes.{is_link, same_kind}
 use Rattle.pv_dress.specs.Operations.{admits, stays, changed, done, run}
-use Rattle.pv_dress.specs.Reasons.{is_adjusting, is_append, is_masked, gives_base, is_make, is_renewal, is_erasure, is_idle, no_entries, has_append, has_mixed_mask, has_late_make, IsRepeatable}
+use Rattle.pv_dress.specs.Reasons.{is_adjusting, is_append, is_masked, gives_base, is_make, is_renewal, is_erasure, is_idle, no_entries, has_append, has_mixed_mask, makes_late, has_late_make, IsRepeatable}
 use Rattle.pv_dress.proofs.Settling.{neither}
 use Rattle.pv_dress.proofs.NodeChanges.{Keeps}
 use Rattle.pv_dress.proofs.Absorbing.{adjusted, all_adjusted, keeps-adjusted, adjusted_twice}
@@ -176,7 +176,7 @@ idle-done (Adjust guard change) h (Some b) = by (admits guard b.body.kind)
 -- ---- lists with an erasure
 
 -- they leave one and the same, whatever was there before
-erased-alike : (xs : List Operation) → list_any is_erasure xs ≡ true → (a b : Option Bare) → run xs a ≡ run xs b
+pub erased-alike : (xs : List Operation) → list_any is_erasure xs ≡ true → (a b : Option Bare) → run xs a ≡ run xs b
 erased-alike [] h a b = cc
 erased-alike (Erase ∷ xs) h a b = refl
 erased-alike (Make new ∷ xs) h a b = erased-alike xs h (done (Make new) a) (done (Make new) b)
@@ -200,7 +200,7 @@ unmixed-rest : (x : Operation) (xs : List Operation) → Unmixed (x ∷ xs) → 
 unmixed-rest x xs (inl h) = inl (neither (is_adjusting is_masked x) (list_any (is_adjusting is_masked) xs) h).1
 unmixed-rest x xs (inr h) = inr (neither (is_adjusting gives_base x) (list_any (is_adjusting gives_base) xs) h).1
 
-twice : (xs : List Operation) → list_any is_erasure xs ≡ false → has_append xs ≡ false → Unmixed xs → has_late_make xs ≡ false → (b : Option Bare) → run xs (run xs b) ≡ run xs b
+twice : (xs : List Operation) → list_any is_erasure xs ≡ false → has_append xs ≡ false → Unmixed xs → makes_late xs ≡ false → (b : Option Bare) → run xs (run xs b) ≡ run xs b
 twice [] erase append mask late b = refl
 twice (x ∷ xs) erase append mask late b =
     by (is_adjusting is_idle x) (is_make x) refl refl late
@@ -218,8 +218,8 @@ twice (x ∷ xs) erase append mask late b =
     by_make Erase m r = cc
     by_make (Adjust guard change) m r = cc
 
-    by : (idle make : Bool) → is_adjusting is_idle x ≡ idle → is_make x ≡ make → (if idle then has_late_make xs else if make then list_any is_renewal xs else list_any is_make xs) ≡ false
-        → (has_late_make xs ≡ false → run xs (run xs b) ≡ run xs b) → run (x ∷ xs) (run (x ∷ xs) b) ≡ run (x ∷ xs) b
+    by : (idle make : Bool) → is_adjusting is_idle x ≡ idle → is_make x ≡ make → (if idle then makes_late xs else if make then list_any is_renewal xs else list_any is_make xs) ≡ false
+        → (makes_late xs ≡ false → run xs (run xs b) ≡ run xs b) → run (x ∷ xs) (run (x ∷ xs) b) ≡ run (x ∷ xs) b
     by true make i m e rest =
         ap (λ (o : Option Bare). run xs o) (idle-done x i (run xs (done x b))) ∙ ap (λ (o : Option Bare). run xs (run xs o)) (idle-done x i b)
         ∙ rest e ∙ sym (ap (λ (o : Option Bare). run xs o) (idle-done x i b))
@@ -231,12 +231,12 @@ twice (x ∷ xs) erase append mask late b =
 -- ---- the first operations of a list
 
 -- nothing is said against them where nothing is said against all
-has_late_make-front : (xs ys : List Operation) → has_late_make (xs ++ ys) ≡ false → has_late_make xs ≡ false
-has_late_make-front [] ys h = refl
-has_late_make-front (x ∷ xs) ys h = by (is_adjusting is_idle x) (is_make x) h (has_late_make-front xs ys)
+makes_late-front : (xs ys : List Operation) → makes_late (xs ++ ys) ≡ false → makes_late xs ≡ false
+makes_late-front [] ys h = refl
+makes_late-front (x ∷ xs) ys h = by (is_adjusting is_idle x) (is_make x) h (makes_late-front xs ys)
   where
-    by : (idle make : Bool) → (if idle then has_late_make (xs ++ ys) else if make then list_any is_renewal (xs ++ ys) else list_any is_make (xs ++ ys)) ≡ false
-        → (has_late_make (xs ++ ys) ≡ false → has_late_make xs ≡ false) → (if idle then has_late_make xs else if make then list_any is_renewal xs else list_any is_make xs) ≡ false
+    by : (idle make : Bool) → (if idle then makes_late (xs ++ ys) else if make then list_any is_renewal (xs ++ ys) else list_any is_make (xs ++ ys)) ≡ false
+        → (makes_late (xs ++ ys) ≡ false → makes_late xs ≡ false) → (if idle then makes_late xs else if make then list_any is_renewal xs else list_any is_make xs) ≡ false
     by true make e rest = rest e
     by false true e rest = any-front is_renewal xs ys e
     by false false e rest = any-front is_make xs ys e
@@ -254,11 +254,22 @@ unmixed-front : (xs ys : List Operation) → Unmixed (xs ++ ys) → Unmixed xs
 unmixed-front xs ys (inl h) = inl (any-front (is_adjusting is_masked) xs ys h)
 unmixed-front xs ys (inr h) = inr (any-front (is_adjusting gives_base) xs ys h)
 
-pub repeatable-front : (xs ys : List Operation) → IsRepeatable (xs ++ ys) → IsRepeatable xs
-repeatable-front xs ys h = record {
+-- without an erasure no make comes late
+unlate : (xs : List Operation) → list_any is_erasure xs ≡ false → has_late_make xs ≡ false → makes_late xs ≡ false
+unlate xs e h = sym (ap (λ t. not t && makes_late xs) e) ∙ h
+
+timely : (xs : List Operation) → makes_late xs ≡ false → has_late_make xs ≡ false
+timely xs h = by (not (list_any is_erasure xs)) h
+  where
+    by : (t : Bool) → makes_late xs ≡ false → (t && makes_late xs) ≡ false
+    by true e = e
+    by false e = refl
+
+pub repeatable-front : (xs ys : List Operation) → list_any is_erasure (xs ++ ys) ≡ false → IsRepeatable (xs ++ ys) → IsRepeatable xs
+repeatable-front xs ys none h = record {
   append = any-front (is_adjusting is_append) xs ys h.append;
   mask = mixed (unmixed-front xs ys (unmixed (xs ++ ys) h.mask));
-  make = has_late_make-front xs ys h.make;
+  make = timely xs (makes_late-front xs ys (unlate (xs ++ ys) none h.make));
 }
   where
     mixed : Unmixed xs → has_mixed_mask xs ≡ false
@@ -275,14 +286,22 @@ run-twice xs h b = by (list_any is_erasure xs) refl
   where
     by : (t : Bool) → list_any is_erasure xs ≡ t → run xs (run xs b) ≡ run xs b
     by true e = erased-alike xs e (run xs b) b
-    by false e = twice xs e h.append (unmixed xs h.mask) h.make b
+    by false e = twice xs e h.append (unmixed xs h.mask) (unlate xs e h.make) b
 
 -- the first operations of a list are absorbed by the whole list
 pub absorbed : (xs : List Operation) (k : ℕ) (b : Option Bare) → IsRepeatable xs → run xs (run (take k xs) b) ≡ run xs b
-absorbed xs k b h =
-    run-split k xs (run (take k xs) b)
-    ∙ ap (λ (o : Option Bare). run (drop k xs) o) (run-twice (take k xs) (repeatable-front (take k xs) (drop k xs) (subst IsRepeatable (sym (take-append-drop k xs)) h)) b)
-    ∙ sym (run-split k xs b)
+absorbed xs k b h = by (list_any is_erasure xs) refl
+  where
+    whole : take k xs ++ drop k xs ≡ xs
+    whole = take-append-drop k xs
+
+    by : (t : Bool) → list_any is_erasure xs ≡ t → run xs (run (take k xs) b) ≡ run xs b
+    by true e = erased-alike xs e (run (take k xs) b) b
+    by false e =
+        run-split k xs (run (take k xs) b)
+        ∙ ap (λ (o : Option Bare). run (drop k xs) o)
+        (run-twice (take k xs) (repeatable-front (take k xs) (drop k xs) (ap (list_any is_erasure) whole ∙ e) (subst IsRepeatable (sym whole) h)) b)
+        ∙ sym (run-split k xs b)
 
 -- ---- what was there before
 

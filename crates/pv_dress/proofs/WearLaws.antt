@@ -1,5 +1,5 @@
 -- Laws of the changes that a dress makes.
-use Rattle.std.specs.Prelude.{◌≡◌, ◌≢◌, ℕ, ◌/◌, ◌%◌, ◌≤◌, true, false, cond, ◌&&◌, List, Option, Some, None, is_some, option_map, Result, Ok, Err, OnOk, [], ◌⊎◌}
+use Rattle.std.specs.Prelude.{◌≡◌, ◌≢◌, ℕ, ◌/◌, ◌%◌, ◌≤◌, true, false, cond, ◌&&◌, Option, Some, None, is_some, option_map, Result, Ok, Err, OnOk, [], ◌⊎◌}
 use Rattle.std.proofs.Common.{refl, sym, ap, subst, ◌∙◌, inl, inr, arith}
 use Rattle.std.proofs.lemmas.Bool.Decides.{nat_tests}
 use Rattle.pv_path.specs.Paths.{Path, same_path}
@@ -19,13 +19,13 @@ use Rattle.pv_steps.specs.declared.tree.TreeFault.{TreeFault}
 use Rattle.pv_steps.specs.Objects.{bare, changed, with_mode, AclFits, AttrsFit, LettersFit}
 use Rattle.pv_steps.specs.Trees.{Files, Places, places, kind_of, node_at, IsPresentIn, IsKindIn, IsTree}
 use Rattle.pv_steps.specs.Steps.{Can, TakesAcl, after, after_at, put_at, on_at}
-use Rattle.pv_steps.specs.Runs.{IsNotIdle, Ran}
-use Rattle.pv_steps.proofs.RunLaws.{ran_then, ran_weaken}
+use Rattle.pv_steps.specs.Runs.{IsNotIdle}
+use Rattle.pv_steps.specs.Acting.{Acted}
+use Rattle.pv_steps.proofs.ActingLaws.{Moves, Asks, acted_then, acted_weaken}
+use Rattle.pv_steps.specs.declared.tree.Tree.{Ghosts}
 use Rattle.pv_steps.proofs.StepLaws.{at_after}
 use Rattle.pv_steps.specs.Same.{bares, Differ}
 use Rattle.pv_dress.specs.declared.bare.Dress.{Dress}
-use Rattle.pv_dress.specs.Asking.{Tried}
-use Rattle.pv_dress.proofs.AskingLaws.{ran_tried}
 use Rattle.pv_dress.proofs.EditLaws.{put_at-here, put_at-same, put_at-twice, on_at-here, on_at-put, on_at-twice, bares-on_at, bares-on_both, bares-stamped}
 use Rattle.pv_dress.specs.Dressing.{IsDress, CanWear, dress_mode, wear, wear_owner, wear_mode, wear_acl, wear_attrs, wear_letters, Lacks, Dressing, GivesDress, IsChanged, IsKeptBy, ChangedAt}
 use Rattle.pv_dress.specs.Wearing.{HasOwner, HasMode, Changing, Gives, GivesAcl, GivesAttrs, GivesLetters, wear_access}
@@ -78,9 +78,13 @@ module _ (path : Path) (change : Object → Object) (now : ℕ) (t : Files) (o :
       left = ap places is ∙ at_after t s now ∙ leaves ∙ (λ j q. on_at-put path (λ x. changed now (change x)) o (places t) there q j);
     }
 
-    pub changed_tried : change o ≢ o → (r : Result (Unit {0}) TreeFault) → (h : List Step) → (u : Files) → (k : List Step) → Tried s now r t h u k → OnOk r (ChangedAt change path now t u)
-    changed_tried differs (Ok x) h u k done = changed_one differs u done.state
-    changed_tried differs (Err e) h u k done = tt
+    pub changed_on : change o ≢ o → (r : Result (Unit {0}) TreeFault) (u : Files) → OnOk r (u ≡ after t s now) → OnOk r (ChangedAt change path now t u)
+    changed_on differs (Ok x) u done = changed_one differs u done
+    changed_on differs (Err e) u done = tt
+
+    -- the step may be asked for
+    pub change_asks : (Q : Step → Type 0) → Keeps change → change o ≢ o → Can (places t) s → (Differ t (after t s now) → IsNotIdle t s now) → Q s → Asks (Changing path change t) Q t s now
+    change_asks Q keeps differs can busy q = record { start = inl (λ q. refl); can = can; busy = busy (change_busy keeps differs); there = changing_one; gives = q }
 
 -- ---- one change after another
 
@@ -271,17 +275,14 @@ module _ (path : Path) (new : Dress) (t : Files) (can : CanWear t path new) (nod
   pub owner_none : (now : ℕ) → HasOwner new node → ChangedAt (wear_owner new) path now t t
   owner_none now h = changed_none path (wear_owner new) now t object there (wears_owner new object (has_owner h)) t refl
 
-  module _ (now : ℕ) (other : HasOwner new node → ⊥) (r : Result (Unit {0}) TreeFault) (h : List Step) (u : Files) (k : List Step) (done : Tried (SetOwner path new.uid new.gid) now r t h u k) where
-    pub owner_ran : Ran (Changing path (wear_owner new) t) (λ step. step ≡ SetOwner path new.uid new.gid) now t h u k
-    owner_ran =
-        ran_tried (SetOwner path new.uid new.gid) now r t h u k (Changing path (wear_owner new) t) (λ step. step ≡ SetOwner path new.uid new.gid)
-        done (inl (λ q. refl)) (present, can.dress.owner)
-        (change_busy path (wear_owner new) now t object there (SetOwner path new.uid new.gid) refl (λ o. refl) (no_owner other))
-        (changing_one path (wear_owner new) now t object there (SetOwner path new.uid new.gid) refl u)
-        refl
+  module _ (now : ℕ) (other : HasOwner new node → ⊥) where
+    pub owner_asks : Asks (Changing path (wear_owner new) t) (λ step. step ≡ SetOwner path new.uid new.gid) t (SetOwner path new.uid new.gid) now
+    owner_asks =
+        change_asks path (wear_owner new) now t object there (SetOwner path new.uid new.gid) refl
+        (λ step. step ≡ SetOwner path new.uid new.gid) (λ o. refl) (no_owner other) (present, can.dress.owner) (λ d. d) refl
 
-    pub owner_ok : OnOk r (ChangedAt (wear_owner new) path now t u)
-    owner_ok = changed_tried path (wear_owner new) now t object there (SetOwner path new.uid new.gid) refl (no_owner other) r h u k done
+    pub owner_ok : (r : Result (Unit {0}) TreeFault) (u : Files) → OnOk r (u ≡ after t (SetOwner path new.uid new.gid) now) → OnOk r (ChangedAt (wear_owner new) path now t u)
+    owner_ok r u done = changed_on path (wear_owner new) now t object there (SetOwner path new.uid new.gid) refl (no_owner other) r u done
 
   -- ---- modes
 
@@ -322,38 +323,32 @@ module _ (path : Path) (new : Dress) (t : Files) (can : CanWear t path new) (nod
         let real = acl_no_link other in
         ((present, real), (takes_acl can.kind can.there (λ e. real (can.there ∙ ap Some e)) can.dress.fits, can.dress.acl))
 
-    module _ (now : ℕ) (other : HasMode new node → ⊥) (mode : ℕ) (is : mode ≡ dress_mode new) (r : Result (Unit {0}) TreeFault) (h : List Step) (u : Files) (k : List Step) (tried : Tried (SetMode path mode) now r t h u k) where
-      mode_tried : Tried (SetMode path (dress_mode new)) now r t h u k
-      mode_tried = subst (λ m. Tried (SetMode path m) now r t h u k) is tried
+    module _ (now : ℕ) (other : HasMode new node → ⊥) (mode : ℕ) (is : mode ≡ dress_mode new) where
+      pub mode_asks : Asks (Changing path (wear_mode new) t) (λ step. step ≡ SetMode path (dress_mode new)) t (SetMode path mode) now
+      mode_asks =
+          subst (λ m. Asks (Changing path (wear_mode new) t) (λ step. step ≡ SetMode path (dress_mode new)) t (SetMode path m) now) (sym is)
+          (change_asks path (wear_mode new) now t object there (SetMode path (dress_mode new)) (mode_leaves can.kind new can.dress path now (places t))
+          (λ step. step ≡ SetMode path (dress_mode new)) (λ o. refl) (no_mode other) (can_mode other) (λ d. d) refl)
 
-      pub mode_ran : Ran (Changing path (wear_mode new) t) (λ step. step ≡ SetMode path (dress_mode new)) now t h u k
-      mode_ran =
-          ran_tried (SetMode path (dress_mode new)) now r t h u k (Changing path (wear_mode new) t) (λ step. step ≡ SetMode path (dress_mode new))
-          mode_tried (inl (λ q. refl)) (can_mode other)
-          (change_busy path (wear_mode new) now t object there (SetMode path (dress_mode new)) (mode_leaves can.kind new can.dress path now (places t)) (λ o. refl) (no_mode other))
-          (changing_one path (wear_mode new) now t object there (SetMode path (dress_mode new)) (mode_leaves can.kind new can.dress path now (places t)) u)
-          refl
+      pub mode_ok : (r : Result (Unit {0}) TreeFault) (u : Files) → OnOk r (u ≡ after t (SetMode path mode) now) → OnOk r (ChangedAt (wear_mode new) path now t u)
+      mode_ok r u done =
+          changed_on path (wear_mode new) now t object there (SetMode path (dress_mode new)) (mode_leaves can.kind new can.dress path now (places t)) (no_mode other) r u
+          (subst (λ m. OnOk r (u ≡ after t (SetMode path m) now)) is done)
 
-      pub mode_ok : OnOk r (ChangedAt (wear_mode new) path now t u)
-      mode_ok = changed_tried path (wear_mode new) now t object there (SetMode path (dress_mode new)) (mode_leaves can.kind new can.dress path now (places t)) (no_mode other) r h u k mode_tried
-
-    module _ (now : ℕ) (other : node.acl ≢ new.acl) (r : Result (Unit {0}) TreeFault) (h : List Step) (u : Files) (k : List Step) (tried : Tried (SetAcl path new.acl) now r t h u k) where
+    module _ (now : ℕ) (other : node.acl ≢ new.acl) where
       no_acl : wear_acl new object ≢ object
       no_acl e = other (ap (λ v. v.acl) standing.1.1 ∙ acl_worn new object e)
 
       other_acl : (o : Object) → places t path ≡ Some o → o.node.acl ≢ new.acl
       other_acl o e h = let same : object ≡ o = some_of object o (sym there ∙ e) in other (ap (λ v. v.acl) standing.1.1 ∙ ap (λ v. v.node.acl) same ∙ h)
 
-      pub acl_ran : Ran (Changing path (wear_acl new) t) (GivesAcl path new t) now t h u k
-      acl_ran =
-          ran_tried (SetAcl path new.acl) now r t h u k (Changing path (wear_acl new) t) (GivesAcl path new t)
-          tried (inl (λ q. refl)) (can_acl other)
-          (change_busy path (wear_acl new) now t object there (SetAcl path new.acl) refl (λ o. refl) no_acl)
-          (changing_one path (wear_acl new) now t object there (SetAcl path new.acl) refl u)
-          (record { is = refl; other = other_acl })
+      pub acl_asks : Asks (Changing path (wear_acl new) t) (GivesAcl path new t) t (SetAcl path new.acl) now
+      acl_asks =
+          change_asks path (wear_acl new) now t object there (SetAcl path new.acl) refl
+          (GivesAcl path new t) (λ o. refl) no_acl (can_acl other) (λ d. d) (record { is = refl; other = other_acl })
 
-      pub acl_ok : OnOk r (ChangedAt (wear_acl new) path now t u)
-      acl_ok = changed_tried path (wear_acl new) now t object there (SetAcl path new.acl) refl no_acl r h u k tried
+      pub acl_ok : (r : Result (Unit {0}) TreeFault) (u : Files) → OnOk r (u ≡ after t (SetAcl path new.acl) now) → OnOk r (ChangedAt (wear_acl new) path now t u)
+      acl_ok r u done = changed_on path (wear_acl new) now t object there (SetAcl path new.acl) refl no_acl r u done
 
   -- ---- extended attributes, and letters
 
@@ -401,23 +396,20 @@ module _ (path : Path) (new : Dress) (t : Files) (can : CanWear t path new) (nod
     pub part_none : (now : ℕ) → part node ≡ wanted → ChangedAt change path now t t
     part_none now h = changed_none path change now t object there (wears object (sym (ap part standing.1.1) ∙ h)) t refl
 
-    module _ (now : ℕ) (other : part node ≢ wanted) (r : Result (Unit {0}) TreeFault) (h : List Step) (u : Files) (k : List Step) (tried : Tried step now r t h u k) where
+    module _ (now : ℕ) (other : part node ≢ wanted) where
       no_part : change object ≢ object
       no_part e = other (ap part standing.1.1 ∙ worn object e)
 
       other_part : Lacks (λ o. part o.node) wanted path t
       other_part o e h = let same : object ≡ o = some_of object o (sym there ∙ e) in other (ap part standing.1.1 ∙ ap (λ v. part v.node) same ∙ h)
 
-      pub part_ran : Can (places t) step → Ran (Changing path change t) (Gives (λ o. part o.node) wanted step path t) now t h u k
-      part_ran able =
-          ran_tried step now r t h u k (Changing path change t) (Gives (λ o. part o.node) wanted step path t)
-          tried (inl (λ q. refl)) able
-          (busy now (change_busy path change now t object there step (leaves now) keeps no_part))
-          (changing_one path change now t object there step (leaves now) u)
-          (record { is = refl; other = other_part })
+      pub part_asks : Can (places t) step → Asks (Changing path change t) (Gives (λ o. part o.node) wanted step path t) t step now
+      part_asks able =
+          change_asks path change now t object there step (leaves now)
+          (Gives (λ o. part o.node) wanted step path t) keeps no_part able (busy now) (record { is = refl; other = other_part })
 
-      pub part_ok : OnOk r (ChangedAt change path now t u)
-      part_ok = changed_tried path change now t object there step (leaves now) no_part r h u k tried
+      pub part_ok : (r : Result (Unit {0}) TreeFault) (u : Files) → OnOk r (u ≡ after t step now) → OnOk r (ChangedAt change path now t u)
+      part_ok r u done = changed_on path change now t object there step (leaves now) no_part r u done
 
   pub acl_none : (now : ℕ) → node.acl ≡ new.acl → ChangedAt (wear_acl new) path now t t
   acl_none now h = changed_none path (wear_acl new) now t object there (wears_acl new object (sym (ap (λ v. v.acl) standing.1.1) ∙ h)) t refl
@@ -470,28 +462,8 @@ module _ (path : Path) (new : Dress) (now : ℕ) (t : Files) where
         gives.other first.object (after_change path first_two now t u first) (same_acl first.old first.object first.is ∙ ap (λ x. (first_two x).node.acl) same ∙ h),
   )))
 
-  two_changed : (u v : Files) → ChangedAt (wear_owner new) path now t u → ChangedAt (wear_mode new) path now u v → ChangedAt first_two path now t v
+  pub two_changed : (u v : Files) → ChangedAt (wear_owner new) path now t u → ChangedAt (wear_mode new) path now u v → ChangedAt first_two path now t v
   two_changed u v a b = changed_then now (wear_owner new) (wear_mode new) (λ o. refl) (firm_owner new) path t u v a b
-
-  pub owner_dresses : (h : List Step) (u : Files) (k : List Step) → Ran (Changing path (wear_owner new) t) (λ step. step ≡ SetOwner path new.uid new.gid) now t h u k
-      → Ran (Dressing path new t) (GivesDress path new t) now t h u k
-  owner_dresses h u k ran = ran_weaken (Changing path (wear_owner new) t) (Dressing path new t) (λ step. step ≡ SetOwner path new.uid new.gid) (GivesDress path new t) now dressing_owner (λ s e. inl e) ran
-
-  pub mode_dresses : (h : List Step) (u : Files) (k : List Step) (v : Files) (l : List Step)
-      → Ran (Changing path (wear_owner new) t) (λ step. step ≡ SetOwner path new.uid new.gid) now t h u k → ChangedAt (wear_owner new) path now t u
-      → Ran (Changing path (wear_mode new) u) (λ step. step ≡ SetMode path (dress_mode new)) now u k v l → Ran (Dressing path new t) (GivesDress path new t) now t h v l
-  mode_dresses h u k v l ran first after =
-      ran_then (Dressing path new t) (GivesDress path new t) now (owner_dresses h u k ran)
-      (ran_weaken (Changing path (wear_mode new) u) (Dressing path new t) (λ step. step ≡ SetMode path (dress_mode new)) (GivesDress path new t) now (λ w. dressing_mode u w first) (λ s e. inr (inl e)) after)
-
-  pub acl_dresses : (h : List Step) (u : Files) (k : List Step) (v : Files) (l : List Step) (w : Files) (m : List Step)
-      → Ran (Changing path (wear_owner new) t) (λ step. step ≡ SetOwner path new.uid new.gid) now t h u k → ChangedAt (wear_owner new) path now t u
-      → Ran (Changing path (wear_mode new) u) (λ step. step ≡ SetMode path (dress_mode new)) now u k v l → ChangedAt (wear_mode new) path now u v
-      → Ran (Changing path (wear_acl new) v) (GivesAcl path new v) now v l w m → Ran (Dressing path new t) (GivesDress path new t) now t h w m
-  acl_dresses h u k v l w m ran first then second after =
-      ran_then (Dressing path new t) (GivesDress path new t) now (mode_dresses h u k v l ran first then)
-      (ran_weaken (Changing path (wear_acl new) v) (Dressing path new t) (GivesAcl path new v) (GivesDress path new t) now
-      (λ x. dressing_acl v x (two_changed u v first second)) (gives_acl v (two_changed u v first second)) after)
 
   pub all_changed : (kind : Kind) → IsDress kind new → (u v w : Files) → ChangedAt (wear_owner new) path now t u → ChangedAt (wear_mode new) path now u v → ChangedAt (wear_acl new) path now v w → ChangedAt (wear_access new) path now t w
   all_changed kind fits u v w a b c = changed_then now first_two (wear_acl new) (λ o. refl) (firm_mode kind new fits) path t v w (two_changed u v a b) c
@@ -523,21 +495,53 @@ module _ (path : Path) (new : Dress) (now : ℕ) (t : Files) where
   pub four_changed : (u v : Files) → ChangedAt (wear_access new) path now t u → ChangedAt (wear_attrs new) path now u v → ChangedAt first_four path now t v
   four_changed u v a b = changed_then now (wear_access new) (wear_attrs new) (λ o. refl) (firm_access new) path t u v a b
 
-  pub attrs_dresses : (h : List Step) (u : Files) (k : List Step) (v : Files) (l : List Step) → Ran (Dressing path new t) (GivesDress path new t) now t h u k → ChangedAt (wear_access new) path now t u
-      → Ran (Changing path (wear_attrs new) u) (GivesAttrs path new u) now u k v l → Ran (Dressing path new t) (GivesDress path new t) now t h v l
-  attrs_dresses h u k v l ran first after =
-      ran_then (Dressing path new t) (GivesDress path new t) now ran
-      (ran_weaken (Changing path (wear_attrs new) u) (Dressing path new t) (GivesAttrs path new u) (GivesDress path new t) now (λ w. dressing_attrs u w first) (gives_attrs u first) after)
-
-  pub letters_dresses : (h : List Step) (u : Files) (k : List Step) (v : Files) (l : List Step) (w : Files) (m : List Step) → Ran (Dressing path new t) (GivesDress path new t) now t h u k → ChangedAt (wear_access new) path now t u
-      → Ran (Changing path (wear_attrs new) u) (GivesAttrs path new u) now u k v l → ChangedAt (wear_attrs new) path now u v
-      → Ran (Changing path (wear_letters new) v) (GivesLetters path new v) now v l w m → Ran (Dressing path new t) (GivesDress path new t) now t h w m
-  letters_dresses h u k v l w m ran first then second after =
-      ran_then (Dressing path new t) (GivesDress path new t) now (attrs_dresses h u k v l ran first then)
-      (ran_weaken (Changing path (wear_letters new) v) (Dressing path new t) (GivesLetters path new v) (GivesDress path new t) now
-      (λ x. dressing_letters v x (four_changed u v first second)) (gives_letters v (four_changed u v first second)) after)
-
   pub dressed_on : (r : Result (Unit {0}) TreeFault) → (u v w : Files) → ChangedAt (wear_access new) path now t u → ChangedAt (wear_attrs new) path now u v
       → OnOk r (ChangedAt (wear_letters new) path now v w) → OnOk r (ChangedAt (wear new) path now t w)
   dressed_on (Ok x) u v w a b c = changed_then now first_four (wear_letters new) (λ o. refl) (firm_attrs new) path t v w (four_changed u v a b) c
   dressed_on (Err e) u v w a b c = tt
+
+-- ---- calls that make the changes
+
+module _ {S : Type 0} (tree : Ghosts S) (moves : Moves tree) (path : Path) (new : Dress) (now : ℕ) (a b : S) where
+  -- on the way from the tree at the beginning
+  abbrev on_way : Files → Type 0
+  on_way = Dressing path new (tree.state a)
+
+  abbrev step_of : Step → Type 0
+  step_of = GivesDress path new (tree.state a)
+
+  pub owner_dresses : {A : Type 0} {r : Result A TreeFault} → Acted tree (Changing path (wear_owner new) (tree.state a)) (λ step. step ≡ SetOwner path new.uid new.gid) 1 now a b r
+      → Acted tree on_way step_of 1 now a b r
+  owner_dresses acted =
+      acted_weaken tree (Changing path (wear_owner new) (tree.state a)) on_way (λ step. step ≡ SetOwner path new.uid new.gid) step_of 1 1
+      (dressing_owner path new now (tree.state a)) (λ s e. inl e) (omega arith) acted
+
+  module _ {A B : Type 0} {x : A} {r : Result B TreeFault} (c : S) where
+    pub mode_dresses : Acted tree (Changing path (wear_owner new) (tree.state a)) (λ step. step ≡ SetOwner path new.uid new.gid) 1 now a b (Ok x)
+        → ChangedAt (wear_owner new) path now (tree.state a) (tree.state b)
+        → Acted tree (Changing path (wear_mode new) (tree.state b)) (λ step. step ≡ SetMode path (dress_mode new)) 1 now b c r → Acted tree on_way step_of 2 now a c r
+    mode_dresses before first after =
+        acted_then tree moves on_way step_of (owner_dresses before)
+        (acted_weaken tree (Changing path (wear_mode new) (tree.state b)) on_way (λ step. step ≡ SetMode path (dress_mode new)) step_of 1 1
+        (λ w. dressing_mode path new now (tree.state a) (tree.state b) w first) (λ s e. inr (inl e)) (omega arith) after)
+
+    pub acl_dresses : Acted tree on_way step_of 2 now a b (Ok x) → ChangedAt (first_two path new now (tree.state a)) path now (tree.state a) (tree.state b)
+        → Acted tree (Changing path (wear_acl new) (tree.state b)) (GivesAcl path new (tree.state b)) 1 now b c r → Acted tree on_way step_of 3 now a c r
+    acl_dresses before first after =
+        acted_then tree moves on_way step_of before
+        (acted_weaken tree (Changing path (wear_acl new) (tree.state b)) on_way (GivesAcl path new (tree.state b)) step_of 1 1
+        (λ w. dressing_acl path new now (tree.state a) (tree.state b) w first) (gives_acl path new now (tree.state a) (tree.state b) first) (omega arith) after)
+
+    pub attrs_dresses : Acted tree on_way step_of 3 now a b (Ok x) → ChangedAt (wear_access new) path now (tree.state a) (tree.state b)
+        → Acted tree (Changing path (wear_attrs new) (tree.state b)) (GivesAttrs path new (tree.state b)) 1 now b c r → Acted tree on_way step_of 4 now a c r
+    attrs_dresses before first after =
+        acted_then tree moves on_way step_of before
+        (acted_weaken tree (Changing path (wear_attrs new) (tree.state b)) on_way (GivesAttrs path new (tree.state b)) step_of 1 1
+        (λ w. dressing_attrs path new now (tree.state a) (tree.state b) w first) (gives_attrs path new now (tree.state a) (tree.state b) first) (omega arith) after)
+
+    pub letters_dresses : Acted tree on_way step_of 4 now a b (Ok x) → ChangedAt (first_four path new now (tree.state a)) path now (tree.state a) (tree.state b)
+        → Acted tree (Changing path (wear_letters new) (tree.state b)) (GivesLetters path new (tree.state b)) 1 now b c r → Acted tree on_way step_of 5 now a c r
+    letters_dresses before first after =
+        acted_then tree moves on_way step_of before
+        (acted_weaken tree (Changing path (wear_letters new) (tree.state b)) on_way (GivesLetters path new (tree.state b)) step_of 1 1
+        (λ w. dressing_letters path new now (tree.state a) (tree.state b) w first) (gives_letters path new now (tree.state a) (tree.state b) first) (omega arith) after)

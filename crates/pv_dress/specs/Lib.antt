@@ -1,7 +1,6 @@
 pub mod Edits
 pub mod Dressing
 pub mod Wearing
-pub mod Asking
 pub mod Nodes
 pub mod Masks
 pub mod Operations

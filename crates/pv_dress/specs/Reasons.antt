@@ -1,5 +1,5 @@
 -- What is said against doing operations again: they might then leave something else (tmpfiles.d(5)).
-use Rattle.std.specs.Prelude.{◌≡◌, Bool, true, false, ◌&&◌, List, [], ◌∷◌, None, if◌then◌else◌}
+use Rattle.std.specs.Prelude.{◌≡◌, Bool, true, false, not, ◌&&◌, List, [], ◌∷◌, None, if◌then◌else◌}
 use Rattle.std.specs.List.{list_any}
 use Rattle.pv_acl.specs.declared.line.Entry.{Entry}
 use Rattle.pv_acl.specs.declared.line.Entry.TheVariants as entry
@@ -72,12 +72,16 @@ has_mixed_mask operations = list_any (is_adjusting is_masked) operations && list
 
 -- a make comes behind the first operation that changes anything; behind a make may come only makes that leave
 -- what is present
-abbrev pub has_late_make : List Operation → Bool
-has_late_make [] = false
-has_late_make (x ∷ xs) =
-    if is_adjusting is_idle x then has_late_make xs
+abbrev pub makes_late : List Operation → Bool
+makes_late [] = false
+makes_late (x ∷ xs) =
+    if is_adjusting is_idle x then makes_late xs
     else if is_make x then list_any is_renewal xs
     else list_any is_make xs
+
+-- so, and no erasure is among them: with one the list leaves the same whatever was there
+abbrev pub has_late_make : List Operation → Bool
+has_late_make operations = not (list_any is_erasure operations) && makes_late operations
 
 -- nothing is said against a list of operations
 pub record IsRepeatable (operations : List Operation) : Type 0 where

@@ -9,7 +9,7 @@ use std::alloc::{AllocError, Global};
 
 /// What an object is and holds: its kind, the bytes of a file or the target of a link, and the numbers of a
 /// device.
-#[derive(Debug, Drop)]
+#[derive(Clone, Debug, Drop)]
 pub struct Body {
     /// The kind of the object.
     pub kind: Kind,
@@ -23,7 +23,7 @@ pub struct Body {
 
 /// What an object is to have: owner, owning group, special bits, the ACL whose base entries are the rest of the
 /// mode, extended attributes, and letters.
-#[derive(Debug, Drop)]
+#[derive(Clone, Debug, Drop)]
 pub struct Dress {
     /// The owner's user ID.
     pub uid: u32,
@@ -40,7 +40,7 @@ pub struct Dress {
 }
 
 /// An object without its stamps.
-#[derive(Debug, Drop)]
+#[derive(Clone, Debug, Drop)]
 pub struct Bare {
     /// What it is and holds.
     pub body: Body,
@@ -53,12 +53,7 @@ impl Body {
     pub fn copy(&self) -> Result<Body, AllocError>
         ensures { IfOk result (λ body. body ≡ self.now) }
     {
-        Ok(Body {
-            kind: self.kind,
-            payload: self.payload.copy()?,
-            major: self.major,
-            minor: self.minor,
-        })
+        self.clone()
     }
 }
 
@@ -67,14 +62,7 @@ impl Dress {
     pub fn copy(&self) -> Result<Dress, AllocError>
         ensures { IfOk result (λ dress. dress ≡ self.now) }
     {
-        Ok(Dress {
-            uid: self.uid,
-            gid: self.gid,
-            special: self.special,
-            acl: self.acl.copy()?,
-            attrs: self.attrs.copy()?,
-            letters: self.letters,
-        })
+        self.clone()
     }
 }
 

@@ -16,7 +16,7 @@ ghost use Rattle.pv_steps.specs.Trees.{Places};
 ghost use Rattle.pv_steps.specs.Same.{bares};
 ghost use Rattle.pv_dress.specs.Nodes.{bare_of, bares_of};
 ghost use Rattle.pv_dress.specs.Operations.{run, stays};
-ghost use Rattle.pv_dress.specs.Reasons.{is_adjusting, is_idle, is_make, IsRepeatable};
+ghost use Rattle.pv_dress.specs.Reasons.{is_adjusting, is_idle, is_make, is_erasure, has_late_make, IsRepeatable};
 
 /// Where nothing is said against a list of operations, doing the first of them and then all of them gives
 /// what doing all of them gives, whatever was there before.
@@ -37,6 +37,14 @@ pub fn a_first_renewal_absorbs_what_was_there()
 pub fn an_erasure_without_a_make_leaves_nothing()
     ensures { (before after : List OperationValue) (b : Option BareValue) → list_any is_make after ≡ false
         → run (before ++ Erase ∷ after) b ≡ None }
+{}
+
+/// A list with an erasure leaves the same whatever was there, and so none of its makes is late.
+pub fn a_list_with_an_erasure_leaves_the_same()
+    ensures same { (operations : List OperationValue) (a b : Option BareValue) → list_any is_erasure operations ≡ true
+        → run operations a ≡ run operations b }
+    ensures quiet { (operations : List OperationValue) → list_any is_erasure operations ≡ true
+        → has_late_make operations ≡ false }
 {}
 
 /// A masked mode takes nothing from what it has made itself.

@@ -8,15 +8,14 @@ mod mask;
 mod operation;
 mod run;
 mod same;
-mod tried;
 mod wear;
 
 pub use bare::{Bare, Body, Dress};
 pub use laws::{
-    a_first_renewal_absorbs_what_was_there, a_mask_takes_nothing_from_a_part_with_its_mode,
-    a_mask_takes_nothing_from_its_own_mode, an_erasure_without_a_make_leaves_nothing,
-    first_operations_are_absorbed, objects_are_compared_without_stamps,
-    operations_do_the_same_in_parts,
+    a_first_renewal_absorbs_what_was_there, a_list_with_an_erasure_leaves_the_same,
+    a_mask_takes_nothing_from_a_part_with_its_mode, a_mask_takes_nothing_from_its_own_mode,
+    an_erasure_without_a_make_leaves_nothing, first_operations_are_absorbed,
+    objects_are_compared_without_stamps, operations_do_the_same_in_parts,
 };
 pub use mask::{masked_special, set_masked_base};
 pub use operation::{Change, Guard, Operation, Test};

@@ -2,7 +2,7 @@
 use super::*;
 use pv_acl::{Acl, How, Names, parse_acl, print_acl};
 use pv_path::Bytes;
-use pv_steps::{Attr, AttrList, Kind, LetterHow, LetterSet, is_attr};
+use pv_steps::{Attr, AttrList, Kind, LetterHow, LetterSet, is_attr, special_bits};
 use std::alloc::Global;
 use std::test::Fail;
 
@@ -148,7 +148,7 @@ fn mode_and_text(
 ) -> Result<(u16, Vec<u8>), Fail> {
     let operations = operations(alloc, asks)?;
     let mut start = object(alloc, kind, b"", 0)?;
-    start.dress.special = (mode / 512) as u8;
+    start.dress.special = special_bits(mode);
     start.dress.acl = Acl::of_mode(alloc, mode);
     let mut bare = Some(start);
     for _ in 0..times {

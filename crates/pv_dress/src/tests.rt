@@ -90,7 +90,7 @@ fn dresses_are_copied(rt: HostRuntime) -> Result<(), Fail> {
         attrs: attrs(rt.alloc(), b"user.a", b"1")?,
         letters: letter(b'a'),
     };
-    let copy = dress.copy()?;
+    let copy = dress.clone()?;
     assert!(rt; copy.attrs.is_same(&dress.attrs) && copy.letters.has(b'a'));
     assert_eq!(rt; (copy.uid, copy.gid, copy.special), (1000, 4, 2));
     assert!(rt; is_same_acl(&copy.acl, &dress.acl));

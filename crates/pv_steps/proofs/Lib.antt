@@ -4,6 +4,7 @@ pub mod ObjectLaws
 pub mod StepLaws
 pub mod TreeLaws
 pub mod RunLaws
+pub mod ActingLaws
 pub mod NameLaws
 pub mod ContentLaws
 pub mod LeavingLaws

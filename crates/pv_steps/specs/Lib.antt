@@ -4,6 +4,7 @@ pub mod Objects
 pub mod Trees
 pub mod Steps
 pub mod Runs
+pub mod Acting
 pub mod Same
 pub mod Content
 pub mod Refusal

@@ -67,7 +67,7 @@ fn has_period(bytes: &[u8]) -> bool
 
 /// Extended attributes of one object in byte order of their names, each name once, each name and each value as
 /// allowed (xattr(7)). Clauses see the list.
-#[derive(Debug, Drop)]
+#[derive(Clone, Debug, Drop)]
 pub struct AttrList {
     items: Vec<Attr>,
 }
@@ -157,17 +157,7 @@ impl AttrList {
     pub fn copy(&self) -> Result<AttrList, AllocError>
         ensures { IfOk result (λ copy. copy ≡ self.now) }
     {
-        Ok(AttrList {
-            items: self.items.clone()?,
-        })
-    }
-}
-
-impl Clone for AttrList {
-    ghost is_clone = { λ list copy. copy ≡ list };
-
-    fn clone(&self) -> Result<AttrList, AllocError> {
-        self.copy()
+        self.clone()
     }
 }
 

@@ -2,6 +2,7 @@
 //! and the trait of the trees that can be walked and changed.
 #![tactic(auto)]
 
+mod asking;
 mod attr;
 mod laws;
 mod letters;
@@ -12,6 +13,7 @@ mod step;
 mod tree;
 mod why;
 
+pub use asking::try_step;
 pub use attr::{Attr, AttrList, is_attr, is_attr_name};
 pub use laws::{
     a_run_leaves_what_it_does_not_alter, a_run_outside_leaves_contents, a_run_passes_trees,

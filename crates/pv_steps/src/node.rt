@@ -51,7 +51,7 @@ pub struct Stamps {
 }
 
 /// What a tree keeps of an object beside its payload (inode(7)).
-#[derive(Debug, Drop)]
+#[derive(Clone, Debug, Drop)]
 pub struct Node {
     pub kind: Kind,
     /// Set-user-ID 4, set-group-ID 2, sticky 1.
@@ -75,17 +75,6 @@ impl Node {
     pub fn copy(&self) -> Result<Node, AllocError>
         ensures { IfOk result (λ node. node ≡ self.now) }
     {
-        Ok(Node {
-            kind: self.kind,
-            special: self.special,
-            uid: self.uid,
-            gid: self.gid,
-            acl: self.acl.copy()?,
-            stamps: self.stamps,
-            major: self.major,
-            minor: self.minor,
-            attrs: self.attrs.copy()?,
-            letters: self.letters,
-        })
+        self.clone()
     }
 }

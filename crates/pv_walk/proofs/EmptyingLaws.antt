@@ -1,111 +1,22 @@
 -- Laws of what is left after all below a path, or at and below it, has been taken away.
-use Rattle.std.specs.Prelude.{◌≡◌, ◌≢◌, ℕ, ◌+◌, ◌≤◌, Bool, true, false, cond, not, ◌&&◌, List, [], ◌∷◌, ◌++◌, map, Option, Some, None, is_some, option_map}
-use Rattle.std.proofs.Common.{refl, sym, ap, subst, ◌∙◌, arith, inl, inr, append_assoc}
-use Rattle.std.proofs.lemmas.List.{append-nil}
+use Rattle.std.specs.Prelude.{◌≡◌, ℕ, ◌≤◌, Bool, true, false, cond, not, ◌&&◌, List, [], ◌∷◌, ◌++◌, map, Option, Some, None, is_some, option_map}
+use Rattle.std.proofs.Common.{refl, sym, ap, subst, ◌∙◌, arith, inl, inr}
 use Rattle.pv_path.specs.Paths.{Path, same_path, is_prefix, parent_of}
-use Rattle.pv_path.proofs.PathLaws.{same_path-refl, is_prefix-refl, parent_of-push}
+use Rattle.pv_path.proofs.PathLaws.{is_prefix-refl, parent_of-push}
 use Rattle.pv_steps.specs.declared.node.Kind.TheVariants.{Directory}
 use Rattle.pv_steps.specs.declared.object.Object.{Object}
-use Rattle.pv_steps.specs.Objects.{modified, bare}
-use Rattle.pv_steps.specs.Trees.{Files, Places, places, kind_of, names_below, IsEmptyIn, IsTree, IsPresent}
+use Rattle.pv_steps.specs.Objects.{modified}
+use Rattle.pv_steps.specs.Trees.{Files, Places, places, kind_of, names_below, IsTree, IsPresent}
 use Rattle.pv_steps.proofs.TreeLaws.{present_of_kind}
 use Rattle.pv_steps.specs.Steps.{put_at, on_at, touched, gone}
-use Rattle.pv_dress.specs.Edits.{cut, cut_below, taken, emptied, Pruned}
-use Rattle.pv_walk.specs.Removal.{is_below, MayHaveGone}
-use Rattle.pv_walk.specs.Listing.{times, is_child, children_of, stands_below, ParentsFirst, IsListing}
-use Rattle.pv_walk.proofs.CountLaws.{times-append, times-self, times-push, times-children, same_or_not, is_child-push}
-use Rattle.pv_walk.proofs.RemovalLaws.{zero_or_more, cond-true, true_or_false, apart, both, both_true, no_same, none_of, below_nonempty, is_below-append, child_above, is_below-parent_of, IsKept, all_gone, all_gone-none, all_gone-gone, all_gone-kept, all_gone-same, all_gone-touched, kept-present, kept-bare}
-use Rattle.pv_walk.proofs.ListingLaws.{cond-one, cond-zero, cond-le, child_counts}
-
--- the paths at the front of a listing are still there, those at its back are gone
-pub record Emptying (now : ℕ) (files : Files) (path : Path) (front : List Path) (u : Files) : Type 0 where
-  pub back : List Path
-  pub whole : IsListing files path (front ++ back)
-  pub is : places u ≡ all_gone now back (places files)
-
-order_back : (files : Files) (front back : List Path) → ParentsFirst files [] (front ++ back) → ParentsFirst files [] back
-order_back files [] back h = h
-order_back files (p ∷ front) back h = order_back files front back h.1
+use Rattle.pv_dress.specs.Edits.{cut, cut_below, taken, emptied}
+use Rattle.pv_walk.specs.Removal.{is_below}
+use Rattle.pv_walk.specs.Listing.{times, is_child, children_of, stands_below, IsListing}
+use Rattle.pv_walk.proofs.CountLaws.{times-self, times-children, same_or_not, is_child-push}
+use Rattle.pv_walk.proofs.RemovalLaws.{cond-true, true_or_false, apart, both, both_true, no_same, none_of, below_nonempty, is_below-append, child_above, is_below-parent_of, IsKept, all_gone, all_gone-gone, all_gone-same, all_gone-touched}
+use Rattle.pv_walk.proofs.ListingLaws.{cond-one, cond-zero, child_counts}
 
 module _ (now : ℕ) (files : Files) (path : Path) where
-  pub emptying_start : (listed : List Path) → IsListing files path listed → Emptying now files path listed files
-  emptying_start listed l = record { back = []; whole = subst (IsListing files path) (sym (append-nil listed)) l; is = refl }
-
-  module _ (front : List Path) (u : Files) (e : Emptying now files path front u) where
-    at : (q : Path) → places u q ≡ all_gone now e.back (places files) q
-    at q = ap (λ (t : Places). t q) e.is
-
-    back_within : (q : Path) → times q e.back ≤ cond (stands_below files path q) 1 0
-    back_within q = omega (arith, e.whole.once q, times-append q front e.back)
-
-    -- stamps aside, only objects below the path are gone
-    pub emptying_pruned : Pruned (is_below path) files u
-    emptying_pruned = record {
-      outside = λ q h. ap (option_map bare) (at q) ∙ kept-bare now (places files q) (all_gone now e.back (places files) q) (all_gone-kept now (places files) q e.back (omega (arith, back_within q, cond-zero (stands_below files path q) (ap (λ b. b && is_some (places files q)) h))));
-      within = λ q h. elim (zero_or_more (times q e.back)) [
-        | inl z ↦ inr (ap (option_map bare) (at q) ∙ kept-bare now (places files q) (all_gone now e.back (places files) q) (all_gone-kept now (places files) q e.back z))
-        | inr m ↦ inl (at q ∙ all_gone-gone now (places files) q e.back m)
-      ];
-    }
-
-  -- the last path of the front may be taken away
-  module _ (front : List Path) (p : Path) (u : Files) (e : Emptying now files path (front ++ p ∷ []) u) where
-    one : ◌≡◌ {A = ℕ} (cond (same_path p p) 1 0) 1
-    one = ap (λ b. cond b 1 0) (same_path-refl p)
-
-    last_counts : times p ((front ++ p ∷ []) ++ e.back) ≡ times p front + 1 + times p e.back
-    last_counts = omega (arith, times-append p (front ++ p ∷ []) e.back, times-push p front p, one)
-
-    last_stands : stands_below files path p ≡ true
-    last_stands = cond-true (stands_below files path p) (omega (arith, e.whole.once p, last_counts))
-
-    last_new : times p e.back ≡ 0
-    last_new = omega (arith, e.whole.once p, last_counts, cond-le (stands_below files path p))
-
-    last_at : (q : Path) → places u q ≡ all_gone now e.back (places files) q
-    last_at q = ap (λ (t : Places). t q) e.is
-
-    pub last_below : is_below path p ≡ true
-    last_below = (both (is_below path p) (is_some (places files p)) last_stands).0
-
-    pub last_nonempty : p ≢ []
-    last_nonempty = below_nonempty path p last_below
-
-    pub last_present : IsPresent u p
-    last_present =
-        ap is_some (last_at p)
-        ∙ kept-present now (places files p) (all_gone now e.back (places files) p) (all_gone-kept now (places files) p e.back last_new)
-        ∙ (both (is_below path p) (is_some (places files p)) last_stands).1
-
-    whole_split : (front ++ p ∷ []) ++ e.back ≡ front ++ p ∷ e.back
-    whole_split = append_assoc front (p ∷ []) e.back
-
-    last_order : ParentsFirst files [] (p ∷ e.back)
-    last_order = order_back files front (p ∷ e.back) (subst (ParentsFirst files []) whole_split e.whole.order)
-
-    pub last_empty : IsEmptyIn (places u) p
-    last_empty name = last_at (p ++ name ∷ []) ∙ elim (true_or_false (is_some (places files (p ++ name ∷ [])))) [
-      | inl s ↦
-          let there : 1 ≤ times (p ++ name ∷ []) e.back + 0 = last_order.0 (p ++ name ∷ []) (is_child-push p name) s in
-          all_gone-gone now (places files) (p ++ name ∷ []) e.back (omega arith)
-      | inr d ↦ all_gone-none now (places files) (p ++ name ∷ []) e.back (none_of (places files (p ++ name ∷ [])) d)
-    ]
-
-    -- and then the front is shorter
-    pub emptying_next : (v : Files) → places v ≡ gone now p (places u) → Emptying now files path front v
-    emptying_next v is = record {
-      back = p ∷ e.back;
-      whole = subst (IsListing files path) whole_split e.whole;
-      is = is ∙ ap (gone now p) e.is;
-    }
-
-    -- whether it was taken away or not
-    pub emptying_may : (v : Files) → MayHaveGone now p u v → Pruned (is_below path) files v
-    emptying_may v (inl same) = subst (Pruned (is_below path) files) (sym same) (emptying_pruned (front ++ p ∷ []) u e)
-    emptying_may v (inr is) = emptying_pruned front v (emptying_next v is)
-
-  -- ---- the end
-
   emptied-none : names_below files path ≡ [] → emptied now path files ≡ places files
   emptied-none e = rw e
 
@@ -220,9 +131,6 @@ module _ (now : ℕ) (files : Files) (path : Path) where
           by : (ns : List (List ℕ)) → names_below files path ≡ ns → all_gone now listed (places files) ≡ emptied now path files
           by [] e = none_listed e listed refl ∙ sym (emptied-none e)
           by (n ∷ ns) e = (λ i q. some_listed n ns e q i) ∙ sym (emptied-some n ns e)
-
-    pub emptying_end : (u : Files) → Emptying now files path [] u → places u ≡ emptied now path files
-    emptying_end u e = e.is ∙ all_gone-emptied e.back e.whole
 
     -- nothing is left below an emptied path
     pub emptied-below : (q : Path) → is_below path q ≡ true → emptied now path files q ≡ None

@@ -4,6 +4,7 @@ pub mod Outcomes
 pub mod Removing
 pub mod CountLaws
 pub mod EmptyingLaws
+pub mod TakingLaws
 pub mod ListingLaws
 pub mod PublishLaws
 pub mod RemovalLaws

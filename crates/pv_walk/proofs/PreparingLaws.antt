@@ -1,5 +1,5 @@
 -- Laws of putting absent parents, from the root on: what stands above a path is a directory then, and the path itself is as it was.
-use Rattle.std.specs.Prelude.{◌≡◌, ◌≢◌, ℕ, ◌+◌, ◌-◌, ◌*◌, ◌≤◌, ◌<◌, Bool, true, false, cond, ◌||◌, List, [], ◌∷◌, ◌++◌, length, take, drop, fold, filter, get_or, nat_le, Option, Some, None, is_some, is_none}
+use Rattle.std.specs.Prelude.{◌≡◌, ◌≢◌, ℕ, ◌+◌, ◌-◌, ◌*◌, ◌≤◌, ◌<◌, Bool, true, false, cond, ◌||◌, List, [], ◌∷◌, ◌++◌, length, take, drop, fold, filter, get_or, nat_le, Option, Some, None, is_some, is_none, Result, Ok}
 use Rattle.std.proofs.Common.{zero, suc, refl, sym, ap, subst, ◌∙◌, arith, inl, inr}
 use Rattle.std.proofs.lemmas.List.{take-append-drop, length-take, take_more, take_all}
 use Rattle.std.proofs.lemmas.List.Sums.{fold_more}
@@ -10,15 +10,16 @@ use Rattle.pv_path.specs.Paths.{Path, same_path, is_prefix, parent_of, has_stagi
 use Rattle.pv_path.proofs.PathLaws.{both_true, is_prefix-append, length-parent_of, has_staging-append, has_staging-staging_of, length-prefix}
 use Rattle.pv_steps.specs.declared.node.Kind.TheVariants.{Directory}
 use Rattle.pv_steps.specs.declared.object.Object.{Object}
-use Rattle.pv_steps.specs.declared.step.Step.{Step}
 use Rattle.pv_steps.specs.Objects.{bare, modified}
 use Rattle.pv_steps.specs.Trees.{Files, Places, places, kind_of, IsAbsentIn, IsKind}
 use Rattle.pv_steps.proofs.TreeLaws.{kind_of-touched}
 use Rattle.pv_steps.proofs.StepLaws.{is_some-touched}
 use Rattle.pv_steps.specs.Steps.{put_at, made}
 use Rattle.pv_steps.specs.Same.{bares}
-use Rattle.pv_steps.specs.Runs.{Ran}
-use Rattle.pv_steps.proofs.RunLaws.{ran_then, ran_weaken, ran_end}
+use Rattle.pv_steps.specs.declared.tree.Tree.{Ghosts}
+use Rattle.pv_steps.specs.declared.tree.TreeFault.{TreeFault}
+use Rattle.pv_steps.specs.Acting.{Acted}
+use Rattle.pv_steps.proofs.ActingLaws.{Moves, acted_then, acted_weaken, acted_end}
 use Rattle.pv_dress.proofs.EditLaws.{path_cases, put_at-else, on_at-else, made-here}
 use Rattle.pv_walk.specs.Staging.{new_object, can_stage}
 use Rattle.pv_walk.proofs.RemovalLaws.{no_same}
@@ -232,9 +233,11 @@ module _ (path p : Path) (over : IsAbove p path) where
   one_more q a b c (IsPreparing.kept e) (put s none new) = parent (subst (λ (r : Path). IsAbove r path) (sym s) over) (sym e ∙ none) new
   one_more q a b c (parent high old is) (put s none new) = absurd (let no : Some (bare (new_object parent_file 0)) ≡ None = sym is ∙ none in cc)
 
-  pub parent_ran : (now : ℕ) (t : Files) {h : List Step} {u : Files} {k : List Step} {v : Files} {l : List Step} → Ran (Preparing path t) (IsPrepareStep path) now t h u k
-      → Ran (Putting p parent_file u) (IsPutStep p parent_file) now u k v l → Ran (Preparing path t) (IsPrepareStep path) now t h v l
-  parent_ran now t {u = u} before last =
-      ran_then (Preparing path t) (IsPrepareStep path) now before
-      (ran_weaken (Putting p parent_file u) (Preparing path t) (IsPutStep p parent_file) (IsPrepareStep path) now
-      (λ w more q plain. one_more q (bares (places t) q) (bares (places u) q) (bares (places w) q) (ran_end (Preparing path t) (IsPrepareStep path) now before q plain) (more q plain)) (λ s g. puts p over g) last)
+  pub parent_acted : {S A B : Type 0} (tree : Ghosts S) → Moves tree → {m n now : ℕ} {a b c : S} {x : A} {r : Result B TreeFault}
+      → Acted tree (Preparing path (tree.state a)) (IsPrepareStep path) m now a b (Ok x)
+      → Acted tree (Putting p parent_file (tree.state b)) (IsPutStep p parent_file) n now b c r → Acted tree (Preparing path (tree.state a)) (IsPrepareStep path) (m + n) now a c r
+  parent_acted tree moves {n = n} {a = a} {b = b} before last =
+      acted_then tree moves (Preparing path (tree.state a)) (IsPrepareStep path) before
+      (acted_weaken tree (Putting p parent_file (tree.state b)) (Preparing path (tree.state a)) (IsPutStep p parent_file) (IsPrepareStep path) n n
+      (λ w more q plain. one_more q (bares (places (tree.state a)) q) (bares (places (tree.state b)) q) (bares (places w) q) (acted_end tree (Preparing path (tree.state a)) (IsPrepareStep path) before q plain) (more q plain))
+      (λ s g. puts p over g) (omega arith) last)

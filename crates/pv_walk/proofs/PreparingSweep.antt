@@ -1,5 +1,5 @@
 -- Laws of what an earlier run has staged along a path, once it is taken away, and of a path that is not refused.
-use Rattle.std.specs.Prelude.{◌≡◌, ◌≢◌, ℕ, ◌+◌, ◌-◌, ◌≤◌, ◌<◌, Bool, true, false, cond, ◌||◌, nat_lt, List, [], ◌∷◌, ◌++◌, map, length, take, filter, get_or, Option, Some, None, is_some, is_none, option_map}
+use Rattle.std.specs.Prelude.{◌≡◌, ◌≢◌, ℕ, ◌+◌, ◌-◌, ◌≤◌, ◌<◌, Bool, true, false, cond, ◌||◌, nat_lt, List, [], ◌∷◌, ◌++◌, map, length, take, filter, get_or, Option, Some, None, is_some, is_none, option_map, Result, Ok}
 use Rattle.std.proofs.Common.{zero, suc, refl, sym, ap, subst, ◌∙◌, arith, inl, inr, ◌⊎◌}
 use Rattle.std.proofs.lemmas.Bool.Decides.{nat_tests}
 use Rattle.std.proofs.Math.Seq.{take-append_seam}
@@ -11,15 +11,16 @@ use Rattle.pv_path.proofs.PathLaws.{is_prefix-refl, prefix_parts, length-prefix,
 use Rattle.pv_steps.specs.declared.node.Kind.{Kind}
 use Rattle.pv_steps.specs.declared.node.Kind.TheVariants.{Directory, File, Link, Fifo, CharDevice, BlockDevice}
 use Rattle.pv_steps.specs.declared.object.Object.{Object}
-use Rattle.pv_steps.specs.declared.step.Step.{Step}
 use Rattle.pv_steps.specs.declared.why.Why.{Why}
 use Rattle.pv_steps.specs.Objects.{bare, modified}
 use Rattle.pv_steps.specs.Trees.{Files, Places, places, kind_of, IsPresent, IsAbsentIn}
 use Rattle.pv_steps.specs.Steps.{touched}
 use Rattle.pv_steps.specs.Refusal.{why_blocked, why_refused, first_refused, refusal}
 use Rattle.pv_steps.specs.Same.{bares}
-use Rattle.pv_steps.specs.Runs.{Ran}
-use Rattle.pv_steps.proofs.RunLaws.{ran_then, ran_weaken, ran_end}
+use Rattle.pv_steps.specs.declared.tree.Tree.{Ghosts}
+use Rattle.pv_steps.specs.declared.tree.TreeFault.{TreeFault}
+use Rattle.pv_steps.specs.Acting.{Acted}
+use Rattle.pv_steps.proofs.ActingLaws.{Moves, acted_then, acted_weaken, acted_end}
 use Rattle.pv_dress.specs.Edits.{Pruned, cut, taken, all_taken}
 use Rattle.pv_dress.proofs.EditLaws.{staging_outside}
 use Rattle.pv_steps.specs.Content.{Removes}
@@ -230,17 +231,25 @@ same_pass path plain t u same pass = λ place high there.
 
 -- ---- on the way
 
-module _ (path : Path) (now : ℕ) (t : Files) {h : List Step} {u : Files} {k : List Step} (before : Ran (Pruned (is_under_any (staging_names path)) t) (Removes (is_under_any (staging_names path))) now t h u k) where
-  pub swept_ran : Ran (Preparing path t) (IsPrepareStep path) now t h u k
-  swept_ran =
-      ran_weaken (Pruned (is_under_any (staging_names path)) t) (Preparing path t) (Removes (is_under_any (staging_names path))) (IsPrepareStep path) now
-      (λ w p q plain. kept (pruned_same path t w p q plain)) (λ s r. sweeps r) before
+module _ {S : Type 0} (tree : Ghosts S) (path : Path) where
+  -- stamps and staging names aside, sweeping is on the way of preparing
+  pub swept_acted : {A : Type 0} {m now : ℕ} {a b : S} {r : Result A TreeFault}
+      → Acted tree (Pruned (is_under_any (staging_names path)) (tree.state a)) (Removes (is_under_any (staging_names path))) m now a b r
+      → Acted tree (Preparing path (tree.state a)) (IsPrepareStep path) m now a b r
+  swept_acted {m = m} {a = a} before =
+      acted_weaken tree (Pruned (is_under_any (staging_names path)) (tree.state a)) (Preparing path (tree.state a)) (Removes (is_under_any (staging_names path))) (IsPrepareStep path) m m
+      (λ w p q plain. kept (pruned_same path (tree.state a) w p q plain)) (λ s r. sweeps r) (omega arith) before
 
-  pub swept_same : IsPlainSame t u
-  swept_same = pruned_same path t u (ran_end (Pruned (is_under_any (staging_names path)) t) (Removes (is_under_any (staging_names path))) now before)
+  pub swept_same : {A : Type 0} {m now : ℕ} {a b : S} {r : Result A TreeFault}
+      → Acted tree (Pruned (is_under_any (staging_names path)) (tree.state a)) (Removes (is_under_any (staging_names path))) m now a b r
+      → IsPlainSame (tree.state a) (tree.state b)
+  swept_same {a = a} {b = b} before = pruned_same path (tree.state a) (tree.state b) (acted_end tree (Pruned (is_under_any (staging_names path)) (tree.state a)) (Removes (is_under_any (staging_names path))) before)
 
-  pub prepared_ran : {v : Files} {l : List Step} → Ran (Preparing path u) (IsPrepareStep path) now u k v l → Ran (Preparing path t) (IsPrepareStep path) now t h v l
-  prepared_ran last =
-      ran_then (Preparing path t) (IsPrepareStep path) now swept_ran
-      (ran_weaken (Preparing path u) (Preparing path t) (IsPrepareStep path) (IsPrepareStep path) now
-      (λ w more q plain. subst (λ o. IsPreparing path q o (bares (places w) q)) (swept_same q plain) (more q plain)) (λ s r. r) last)
+  -- and then come the parents
+  pub prepared_acted : {A B : Type 0} {m n now : ℕ} {a b c : S} {x : A} {r : Result B TreeFault} → Moves tree
+      → Acted tree (Pruned (is_under_any (staging_names path)) (tree.state a)) (Removes (is_under_any (staging_names path))) m now a b (Ok x)
+      → Acted tree (Preparing path (tree.state b)) (IsPrepareStep path) n now b c r → Acted tree (Preparing path (tree.state a)) (IsPrepareStep path) (m + n) now a c r
+  prepared_acted {n = n} {a = a} {b = b} moves before last =
+      acted_then tree moves (Preparing path (tree.state a)) (IsPrepareStep path) (swept_acted before)
+      (acted_weaken tree (Preparing path (tree.state b)) (Preparing path (tree.state a)) (IsPrepareStep path) (IsPrepareStep path) n n
+      (λ w more q plain. subst (λ o. IsPreparing path q o (bares (places w) q)) (swept_same before q plain) (more q plain)) (λ s r. r) (omega arith) last)

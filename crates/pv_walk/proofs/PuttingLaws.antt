@@ -1,18 +1,19 @@
 -- Laws of putting a new object at an absent path: it is made under its staging name, and what stands there comes to the path.
-use Rattle.std.specs.Prelude.{◌≡◌, ◌≢◌, ℕ, ◌≤◌, Bool, true, false, cond, List, [], ◌∷◌, ◌++◌, length, filter, Option, Some, None, is_some, option_map}
+use Rattle.std.specs.Prelude.{◌≡◌, ◌≢◌, ℕ, ◌+◌, ◌≤◌, Bool, true, false, cond, List, [], ◌∷◌, ◌++◌, length, filter, Option, Some, None, is_some, option_map, Result, Ok}
 use Rattle.std.proofs.Common.{refl, sym, ap, ◌∙◌, arith, inl, inr, ◌⊎◌, append-nil, length-append}
 use Rattle.std.specs.FinMap as fin
 use Rattle.pv_path.specs.Paths.{Path, same_path, is_prefix, rest_under, parent_of, has_staging, staging_of}
 use Rattle.pv_path.proofs.PathLaws.{is_prefix-refl, is_some-rest_under, rest_under-Some, prefix_parts, parent_of-staging_of, has_staging-staging_of}
 use Rattle.pv_steps.specs.declared.object.Object.{Object}
-use Rattle.pv_steps.specs.declared.step.Step.{Step}
 use Rattle.pv_steps.specs.Objects.{bare, changed, modified}
 use Rattle.pv_steps.specs.Trees.{Files, Places, places, IsTreeIn, IsTree, IsAbsentIn, IsPresent}
 use Rattle.pv_steps.proofs.TreeLaws.{not_absent, present_above}
 use Rattle.pv_steps.specs.Steps.{put_at, on_at, touched, made, moved, moved_at, carried}
 use Rattle.pv_steps.specs.Same.{bares}
-use Rattle.pv_steps.specs.Runs.{Ran}
-use Rattle.pv_steps.proofs.RunLaws.{ran_then, ran_weaken}
+use Rattle.pv_steps.specs.declared.tree.Tree.{Ghosts}
+use Rattle.pv_steps.specs.declared.tree.TreeFault.{TreeFault}
+use Rattle.pv_steps.specs.Acting.{Acted}
+use Rattle.pv_steps.proofs.ActingLaws.{Moves, acted_then, acted_weaken}
 use Rattle.pv_dress.specs.Edits.{SameOutside, count_at}
 use Rattle.pv_dress.proofs.EditLaws.{path_cases, put_at-else, on_at-twice, made-here, bares-made, bares-put_else, put_at-here, staging_outside}
 use Rattle.pv_walk.specs.declared.new_file.NewFile.{NewFile}
@@ -117,9 +118,6 @@ module _ (now : ℕ) (path : Path) (nonempty : path ≢ []) (file : NewFile) (t 
   pub putting_staged : (w : Files) → SameOutside (is_prefix (staging_of path)) t w → Putting path file t w
   putting_staged w h = λ q plain. kept (h q (staging_outside (staging_of path) (has_staging-staging_of path nonempty) q plain))
 
-  pub staged_ran : {h : List Step} {u : Files} {k : List Step} → Ran (SameOutside (is_prefix (staging_of path)) t) (GivesNew (staging_of path) file) now t h u k → Ran (Putting path file t) (IsPutStep path file) now t h u k
-  staged_ran before = ran_weaken (SameOutside (is_prefix (staging_of path)) t) (Putting path file t) (GivesNew (staging_of path) file) (IsPutStep path file) now putting_staged (λ s g. inl g) before
-
   module _ (u : Files) (is : places u ≡ made now (staging_of path) (new_object file now) (places t)) where
     pub is_staged : IsPresent u (staging_of path)
     is_staged = ap (λ (x : Places). is_some (x (staging_of path))) is ∙ ap is_some (made-here now (staging_of path) (places t) (staging_nonempty path nonempty) (new_object file now))
@@ -169,8 +167,20 @@ module _ (now : ℕ) (path : Path) (nonempty : path ≢ []) (file : NewFile) (t 
               (whole q ∙ ap (λ (p : Path). bares (put_at path (Some (new_object file now)) (places t)) p) (sym s) ∙ ap (option_map bare) (put_at-here path (Some (new_object file now)) (places t)))
           by q (inr d) = kept (whole q ∙ bares-put_else path q (Some (new_object file now)) (places t) d)
 
-      pub put_ran : {h : List Step} {k : List Step} {v : Files} {l : List Step} → Ran (SameOutside (is_prefix (staging_of path)) t) (GivesNew (staging_of path) file) now t h u k
-          → Ran (Publishing now path u) (IsPublishing path) now u k v l → Ran (Putting path file t) (IsPutStep path file) now t h v l
-      put_ran before last =
-          ran_then (Putting path file t) (IsPutStep path file) now (staged_ran before)
-          (ran_weaken (Publishing now path u) (Putting path file t) (IsPublishing path) (IsPutStep path file) now putting_published (λ s g. inr g) last)
+-- ---- calls that put it
+
+module _ {S : Type 0} (tree : Ghosts S) (now : ℕ) (path : Path) (nonempty : path ≢ []) (file : NewFile) (a b : S) where
+  pub staged_acted : {A : Type 0} {m : ℕ} {r : Result A TreeFault} → Acted tree (SameOutside (is_prefix (staging_of path)) (tree.state a)) (GivesNew (staging_of path) file) m now a b r
+      → Acted tree (Putting path file (tree.state a)) (IsPutStep path file) m now a b r
+  staged_acted {m = m} before =
+      acted_weaken tree (SameOutside (is_prefix (staging_of path)) (tree.state a)) (Putting path file (tree.state a)) (GivesNew (staging_of path) file) (IsPutStep path file) m m
+      (putting_staged now path nonempty file (tree.state a)) (λ s g. inl g) (omega arith) before
+
+  pub put_acted : {A B : Type 0} {m n : ℕ} {c : S} {x : A} {r : Result B TreeFault} → Moves tree → places (tree.state b) ≡ made now (staging_of path) (new_object file now) (places (tree.state a))
+      → IsTree (tree.state a) → IsAbsentIn (places (tree.state a)) path → IsAbsentIn (places (tree.state a)) (staging_of path)
+      → Acted tree (SameOutside (is_prefix (staging_of path)) (tree.state a)) (GivesNew (staging_of path) file) m now a b (Ok x)
+      → Acted tree (Publishing now path (tree.state b)) (IsPublishing path) n now b c r → Acted tree (Putting path file (tree.state a)) (IsPutStep path file) (m + n) now a c r
+  put_acted {n = n} moves is standing none free before last =
+      acted_then tree moves (Putting path file (tree.state a)) (IsPutStep path file) (staged_acted before)
+      (acted_weaken tree (Publishing now path (tree.state b)) (Putting path file (tree.state a)) (IsPublishing path) (IsPutStep path file) n n
+      (putting_published now path nonempty file (tree.state a) (tree.state b) is standing none free) (λ s g. inr g) (omega arith) last)

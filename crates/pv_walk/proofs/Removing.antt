@@ -1,18 +1,25 @@
 -- Runs of removals, one after another.
-use Rattle.std.specs.Prelude.{◌≡◌, ◌⊎◌, ℕ, Bool, true, false, List, None, option_map}
-use Rattle.std.proofs.Common.{refl, sym, ap, subst, ◌∙◌, inl, inr}
+use Rattle.std.specs.Prelude.{◌≡◌, ◌≢◌, ◌⊎◌, ◌↔◌, ℕ, ◌+◌, ◌≤◌, Bool, true, false, IsTrue, [], None, option_map, Result, Ok}
+use Rattle.std.proofs.Common.{refl, sym, ap, subst, ◌∙◌, inl, inr, arith}
 use Rattle.pv_path.specs.Paths.{Path, is_prefix, same_path, parent_of, same_path-decides}
-use Rattle.pv_steps.specs.declared.step.Step.{Step}
 use Rattle.pv_steps.specs.Objects.{bare, modified}
-use Rattle.pv_steps.specs.Trees.{Files, Places, places}
-use Rattle.pv_steps.specs.Steps.{gone}
-use Rattle.pv_steps.specs.Runs.{Ran}
-use Rattle.pv_steps.proofs.RunLaws.{ran_then, ran_weaken, ran_end}
+use Rattle.pv_path.proofs.PathLaws.{same_path-refl}
+use Rattle.pv_steps.specs.declared.node.Kind.TheVariants.{Directory}
+use Rattle.pv_steps.specs.Trees.{Files, Places, places, IsPresent, IsEmptyIn, IsKind}
+use Rattle.pv_steps.specs.Steps.{Can, after, after_at, gone}
+use Rattle.pv_steps.specs.Runs.{IsNotIdle}
+use Rattle.pv_steps.specs.Same.{Differ}
+use Rattle.pv_steps.proofs.StepLaws.{at_after}
+use Rattle.pv_steps.specs.declared.tree.Tree.{Ghosts}
+use Rattle.pv_steps.specs.declared.tree.TreeFault.{TreeFault}
+use Rattle.pv_steps.specs.Acting.{Acted}
+use Rattle.pv_steps.proofs.ActingLaws.{Moves, Asks, acted_then, acted_weaken, acted_end}
 use Rattle.pv_dress.specs.Edits.{Pruned}
 use Rattle.pv_steps.specs.Content.{Removes}
 use Rattle.pv_steps.proofs.ContentLaws.{removes-wider}
-use Rattle.pv_walk.specs.Removal.{is_below, MayHaveGone}
+use Rattle.pv_walk.specs.Removal.{is_below, removal, MayHaveGone}
 use Rattle.pv_walk.proofs.RemovalLaws.{kept-bare, gone-here, gone-other, gone-parent}
+use Rattle.pv_walk.proofs.Outcomes.{gone_differs}
 use Rattle.pv_walk.proofs.SweepLaws.{pruned_then, pruned-none, pruned-wider, below_prefix}
 
 -- one object gone, or not: all else is as it was, stamps aside
@@ -27,20 +34,63 @@ may_prune now path t u (inr is) = record {
     by q d true e = inr (gone-parent now path (places t) q d e)
     by q d false e = inl (gone-other now path (places t) q d e)
 
-module _ (now : ℕ) (inside : Path → Bool) (t : Files) {h : List Step} {u : Files} {k : List Step} {v : Files} {l : List Step} (before : Ran (Pruned inside t) (Removes inside) now t h u k) where
-  -- a run that prunes within the same, after one that does
-  pub prune_then : (narrow : Path → Bool) → ((q : Path) → narrow q ≡ true → inside q ≡ true) → Ran (Pruned narrow u) (Removes narrow) now u k v l → Ran (Pruned inside t) (Removes inside) now t h v l
+module _ {S : Type 0} (tree : Ghosts S) (moves : Moves tree) (inside : Path → Bool) {A B : Type 0} {m n now : ℕ} {a b c : S} {x : A} {r : Result B TreeFault}
+    (before : Acted tree (Pruned inside (tree.state a)) (Removes inside) m now a b (Ok x)) where
+  -- a call that prunes within the same, after one that does
+  pub prune_then : (narrow : Path → Bool) → ((q : Path) → narrow q ≡ true → inside q ≡ true) → Acted tree (Pruned narrow (tree.state b)) (Removes narrow) n now b c r
+      → Acted tree (Pruned inside (tree.state a)) (Removes inside) (m + n) now a c r
   prune_then narrow within last =
-      ran_then (Pruned inside t) (Removes inside) now before
-      (ran_weaken (Pruned narrow u) (Pruned inside t) (Removes narrow) (Removes inside) now (λ w p. pruned_then inside t u (ran_end (Pruned inside t) (Removes inside) now before) narrow within w p) (removes-wider narrow inside within) last)
+      acted_then tree moves (Pruned inside (tree.state a)) (Removes inside) before
+      (acted_weaken tree (Pruned narrow (tree.state b)) (Pruned inside (tree.state a)) (Removes narrow) (Removes inside) n n
+      (λ w p. pruned_then inside (tree.state a) (tree.state b) (acted_end tree (Pruned inside (tree.state a)) (Removes inside) before) narrow within w p)
+      (removes-wider narrow inside within) (omega arith) last)
 
-  -- the removal of one object, after such a run
-  pub remove_then : (path : Path) → inside path ≡ true → Ran (MayHaveGone now path u) (Removes (same_path path)) now u k v l → Ran (Pruned inside t) (Removes inside) now t h v l
+  -- the removal of one object, after such a call
+  pub remove_then : (path : Path) → inside path ≡ true → Acted tree (MayHaveGone now path (tree.state b)) (Removes (same_path path)) n now b c r
+      → Acted tree (Pruned inside (tree.state a)) (Removes inside) (m + n) now a c r
   remove_then path within last =
-      prune_then (same_path path) (λ q e. subst (λ r. inside r ≡ true) ((same_path-decides path q).0 e) within)
-      (ran_weaken (MayHaveGone now path u) (Pruned (same_path path) u) (Removes (same_path path)) (Removes (same_path path)) now (λ w m. may_prune now path u w m) (λ s q. q) last)
+      prune_then (same_path path) (λ q e. subst (λ p. inside p ≡ true) ((same_path-decides path q).0 e) within)
+      (acted_weaken tree (MayHaveGone now path (tree.state b)) (Pruned (same_path path) (tree.state b)) (Removes (same_path path)) (Removes (same_path path)) n n
+      (λ w gone. may_prune now path (tree.state b) w gone) (λ s q. q) (omega arith) last)
 
 -- what was taken below a path was taken at or below it
-pub widened : (now : ℕ) (path : Path) (t : Files) {h : List Step} {u : Files} {k : List Step} → Ran (Pruned (is_below path) t) (Removes (is_below path)) now t h u k → Ran (Pruned (is_prefix path) t) (Removes (is_prefix path)) now t h u k
-widened now path t run =
-    ran_weaken (Pruned (is_below path) t) (Pruned (is_prefix path) t) (Removes (is_below path)) (Removes (is_prefix path)) now (λ w p. pruned-wider (is_below path) (is_prefix path) (below_prefix path) t w p) (removes-wider (is_below path) (is_prefix path) (below_prefix path)) run
+pub widened : {S : Type 0} (tree : Ghosts S) (path : Path) {A : Type 0} {m now : ℕ} {a b : S} {r : Result A TreeFault} (n : ℕ) → m ≤ n
+    → Acted tree (Pruned (is_below path) (tree.state a)) (Removes (is_below path)) m now a b r → Acted tree (Pruned (is_prefix path) (tree.state a)) (Removes (is_prefix path)) n now a b r
+widened tree path {m = m} {a = a} n le acted =
+    acted_weaken tree (Pruned (is_below path) (tree.state a)) (Pruned (is_prefix path) (tree.state a)) (Removes (is_below path)) (Removes (is_prefix path)) m n
+    (λ w p. pruned-wider (is_below path) (is_prefix path) (below_prefix path) (tree.state a) w p) (removes-wider (is_below path) (is_prefix path) (below_prefix path)) le acted
+
+-- ---- the step that takes away one object
+
+module _ (now : ℕ) (path : Path) where
+  removal_leaves : (directory : Bool) (t : Places) → after_at t (removal directory path) now ≡ gone now path t
+  removal_leaves true t = refl
+  removal_leaves false t = refl
+
+  pub after_removal : (directory : Bool) (t u : Files) → u ≡ after t (removal directory path) now → places u ≡ gone now path (places t)
+  after_removal directory t u is = ap places is ∙ at_after t (removal directory path) now ∙ removal_leaves directory (places t)
+
+  module _ (t : Files) (present : IsPresent t path) (empty : IsEmptyIn (places t) path) (nonempty : path ≢ []) where
+    pub can_remove : (directory : Bool) → IsTrue directory ↔ IsKind Directory t path → Can (places t) (removal directory path)
+    can_remove true kind = (kind.0 refl, (empty, nonempty))
+    can_remove false kind = (present, λ is. (let no : false ≡ true = kind.1 is in cc))
+
+    removal_differs : (directory : Bool) → Differ t (after t (removal directory path) now)
+    removal_differs directory = gone_differs t (after t (removal directory path) now) path now present (after_removal directory t (after t (removal directory path) now) refl)
+
+    removal_busy : (directory : Bool) → IsNotIdle t (removal directory path) now
+    removal_busy true = removal_differs true
+    removal_busy false = removal_differs false
+
+    removal_removes : (directory : Bool) → Removes (same_path path) (removal directory path)
+    removal_removes true = same_path-refl path
+    removal_removes false = same_path-refl path
+
+    pub removal_asks : (directory : Bool) → IsTrue directory ↔ IsKind Directory t path → Asks (MayHaveGone now path t) (Removes (same_path path)) t (removal directory path) now
+    removal_asks directory kind = record {
+      start = inl refl;
+      can = can_remove directory kind;
+      busy = removal_busy directory;
+      there = λ u is. inr (after_removal directory t u is);
+      gives = removal_removes directory;
+    }

@@ -1,5 +1,5 @@
 -- Laws of new objects that are made at a path: what each step leaves, and that no other path changes.
-use Rattle.std.specs.Prelude.{◌≡◌, ◌≢◌, ℕ, ◌≤◌, true, false, nat_le, List, [], ◌∷◌, ◌++◌, length, Some, None, option_map, Result, Ok, Err, OnOk}
+use Rattle.std.specs.Prelude.{◌≡◌, ◌≢◌, ℕ, ◌+◌, ◌≤◌, true, false, nat_le, List, [], ◌∷◌, ◌++◌, length, Some, None, option_map, Result, Ok, Err, OnOk}
 use Rattle.std.proofs.Common.{refl, sym, ap, subst, ◌∙◌, inl, inr, arith, lit≤}
 use Rattle.std.specs.List.{list_all}
 use Rattle.std.proofs.lemmas.Bool.Decides.{nat_tests}
@@ -18,11 +18,11 @@ use Rattle.pv_steps.specs.Trees.{Files, Places, places, kind_of, IsKindIn, IsAbs
 use Rattle.pv_steps.specs.Steps.{Can, HasRoom, after, after_at, put_at, on_at, made}
 use Rattle.pv_steps.proofs.StepLaws.{at_after}
 use Rattle.pv_steps.specs.Same.{bares, Differ}
-use Rattle.pv_steps.specs.Runs.{IsNotIdle, Ran}
-use Rattle.pv_steps.proofs.RunLaws.{ran_then, ran_weaken, ran_end}
+use Rattle.pv_steps.specs.Runs.{IsNotIdle}
+use Rattle.pv_steps.specs.declared.tree.Tree.{Ghosts}
+use Rattle.pv_steps.specs.Acting.{Acted}
+use Rattle.pv_steps.proofs.ActingLaws.{Moves, Asks, acted_then, acted_weaken, acted_end}
 use Rattle.pv_dress.specs.Edits.{SameOutside}
-use Rattle.pv_dress.specs.Asking.{Tried}
-use Rattle.pv_dress.proofs.AskingLaws.{ran_tried}
 use Rattle.pv_dress.specs.Dressing.{IsDress, CanWear, dress_mode, wear, wear_first, Dressing, GivesDress, IsChanged, ChangedAt}
 use Rattle.pv_dress.proofs.DressLaws.{outside_dressing}
 use Rattle.pv_dress.proofs.EditLaws.{path_cases, on_at-here, on_at-else, made-here, put_at-made, on_at-made, bares-made, bares-put_else}
@@ -115,12 +115,17 @@ module _ (path : Path) (nonempty : path ≢ []) (now : ℕ) (t : Files) (room : 
   can_make new.Fifo target = room
   can_make (new.Device block major minor) target = room
 
-  module _ (file : NewFile) (is_new : IsNewFile file) (h : List Step) (u : Files) (k : List Step) where
-    pub make_ran : (r : Result (Unit {0}) TreeFault) → Tried (make_step path file.what) now r t h u k → Ran (SameOutside (is_prefix path) t) (GivesNew path file) now t h u k
-    make_ran r tried =
-        ran_tried (make_step path file.what) now r t h u k (SameOutside (is_prefix path) t) (GivesNew path file)
-        tried (λ q e. refl) (can_make file.what is_new.target) (make_busy file.what) (λ is. outside_made (first_object file.what now) u (after_make file.what u is)) (gives_make path file file.what refl)
+  module _ (file : NewFile) (is_new : IsNewFile file) where
+    pub make_asks : Asks (SameOutside (is_prefix path) t) (GivesNew path file) t (make_step path file.what) now
+    make_asks = record {
+      start = λ q e. refl;
+      can = can_make file.what is_new.target;
+      busy = make_busy file.what;
+      there = λ u is. outside_made (first_object file.what now) u (after_make file.what u is);
+      gives = gives_make path file file.what refl;
+    }
 
+  module _ (file : NewFile) (is_new : IsNewFile file) (u : Files) where
     pub make_holds : u ≡ after t (make_step path file.what) now → content_of file.what ≡ None → places u ≡ made now path (held_object file.what now) (places t)
     make_holds is none = after_make file.what u is ∙ ap (λ o. made now path o (places t)) (held_empty file.what now none)
 
@@ -155,21 +160,15 @@ module _ (path : Path) (nonempty : path ≢ []) (now : ℕ) (t : Files) (room : 
           ap (λ p. bares p q) (ap places wrote ∙ at_after u (Write path content) now) ∙ ap (option_map bare) (on_at-else path q (with_content content now) (places u) (not_same path q e))
           ∙ outside_made first u (after_make file.what u is) q e
 
-      module _ (r : Result (Unit {0}) TreeFault) (v : Files) (l : List Step) (tried : Tried (Write path content) now r u k v l) where
-        pub write_ran : (r1 : Result (Unit {0}) TreeFault) → Tried (make_step path file.what) now r1 t h u k → Ran (SameOutside (is_prefix path) t) (GivesNew path file) now t h v l
-        write_ran r1 before =
-            ran_then (SameOutside (is_prefix path) t) (GivesNew path file) now (make_ran r1 before)
-            (ran_tried (Write path content) now r u k v l (SameOutside (is_prefix path) t) (GivesNew path file)
-            tried (outside_made first u (after_make file.what u is)) can_write write_busy (written_outside v) (refl, held.is))
+      -- after the step that makes the object
+      pub write_asks : Asks (SameOutside (is_prefix path) t) (GivesNew path file) u (Write path content) now
+      write_asks = record { start = outside_made first u (after_make file.what u is); can = can_write; busy = write_busy; there = written_outside; gives = (refl, held.is) }
 
-        pub write_holds : OnOk r (places v ≡ made now path (held_object file.what now) (places t))
-        write_holds = by r tried
-          where
-            by : (x : Result (Unit {0}) TreeFault) → Tried (Write path content) now x u k v l → OnOk x (places v ≡ made now path (held_object file.what now) (places t))
-            by (Err e) d = tt
-            by (Ok x) d =
-                ap places d.state ∙ at_after u (Write path content) now ∙ ap (on_at path (with_content content now)) (after_make file.what u is)
-                ∙ (λ j q. on_at-made now path (places t) nonempty (with_content content now) first q j) ∙ ap (λ o. made now path o (places t)) held.object
+      pub write_holds : (r : Result (Unit {0}) TreeFault) (v : Files) → OnOk r (v ≡ after u (Write path content) now) → OnOk r (places v ≡ made now path (held_object file.what now) (places t))
+      write_holds (Err e) v done = tt
+      write_holds (Ok x) v done =
+          ap places done ∙ at_after u (Write path content) now ∙ ap (on_at path (with_content content now)) (after_make file.what u is)
+          ∙ (λ j q. on_at-made now path (places t) nonempty (with_content content now) first q j) ∙ ap (λ o. made now path o (places t)) held.object
 
 -- ---- owners and mode
 
@@ -227,22 +226,15 @@ module _ (path : Path) (nonempty : path ≢ []) (now : ℕ) (t : Files) (file : 
   acl_given : (wear_first 2 (new_dress file) plain).node.acl ≡ (new_dress file).acl
   acl_given = ap acl_of_mode mode_is
 
-  gives_dress : (s : Step) → GivesDress path (new_dress file) u s → GivesNew path file s
+  pub gives_dress : (s : Step) → GivesDress path (new_dress file) u s → GivesNew path file s
   gives_dress s (inl e) = subst (GivesNew path file) (sym e) (refl, (refl, refl))
   gives_dress s (inr (inl e)) = subst (GivesNew path file) (sym e) (refl, mode_is)
   gives_dress s (inr (inr (inl e))) = absurd (e.1 plain there_held acl_given)
   gives_dress s (inr (inr (inr (inl e)))) = absurd (e.1 plain there_held refl)
   gives_dress s (inr (inr (inr (inr e)))) = absurd (e.1 plain there_held refl)
 
-  outside_dressed : SameOutside (is_prefix path) t u → (v : Files) → Dressing path (new_dress file) u v → SameOutside (is_prefix path) t v
+  pub outside_dressed : SameOutside (is_prefix path) t u → (v : Files) → Dressing path (new_dress file) u v → SameOutside (is_prefix path) t v
   outside_dressed before v h = λ q e. outside_dressing path (new_dress file) u v h q (not_same path q e) ∙ before q e
-
-  pub dress_ran : (h k l : List Step) (v : Files) → Ran (SameOutside (is_prefix path) t) (GivesNew path file) now t h u k → Ran (Dressing path (new_dress file) u) (GivesDress path (new_dress file) u) now u k v l
-      → Ran (SameOutside (is_prefix path) t) (GivesNew path file) now t h v l
-  dress_ran h k l v before ran =
-      ran_then (SameOutside (is_prefix path) t) (GivesNew path file) now before
-      (ran_weaken (Dressing path (new_dress file) u) (SameOutside (is_prefix path) t) (GivesDress path (new_dress file) u) (GivesNew path file) now
-      (outside_dressed (ran_end (SameOutside (is_prefix path) t) (GivesNew path file) now before)) gives_dress ran)
 
   dressed : (old o : Object) → old ≡ plain → IsChanged (wear (new_dress file)) now old o → o ≡ new_object file now
   dressed old o e (inl h) = h.1 ∙ sym h.0 ∙ ap (wear (new_dress file)) e
@@ -258,6 +250,19 @@ module _ (path : Path) (nonempty : path ≢ []) (now : ℕ) (t : Files) (file : 
   pub dress_gives_on : (r : Result (Unit {0}) TreeFault) (v : Files) → OnOk r (ChangedAt (wear (new_dress file)) path now u v) → OnOk r (places v ≡ made now path (new_object file now) (places t))
   dress_gives_on (Ok x) v h = dress_gives v h
   dress_gives_on (Err e) v h = tt
+
+module _ {S : Type 0} (tree : Ghosts S) (moves : Moves tree) (path : Path) (nonempty : path ≢ []) (now : ℕ) (file : NewFile) (is_new : IsNewFile file) (a b c : S)
+    (is : places (tree.state b) ≡ made now path (held_object file.what now) (places (tree.state a))) where
+  pub dress_acted : {A B : Type 0} {m n : ℕ} {x : A} {r : Result B TreeFault} → Acted tree (SameOutside (is_prefix path) (tree.state a)) (GivesNew path file) m now a b (Ok x)
+      → Acted tree (Dressing path (new_dress file) (tree.state b)) (GivesDress path (new_dress file) (tree.state b)) n now b c r
+      → Acted tree (SameOutside (is_prefix path) (tree.state a)) (GivesNew path file) (m + n) now a c r
+  dress_acted {n = n} before last =
+      let t = tree.state a in
+      let u = tree.state b in
+      acted_then tree moves (SameOutside (is_prefix path) t) (GivesNew path file) before
+      (acted_weaken tree (Dressing path (new_dress file) u) (SameOutside (is_prefix path) t) (GivesDress path (new_dress file) u) (GivesNew path file) n n
+      (outside_dressed path nonempty now t file is_new u is (acted_end tree (SameOutside (is_prefix path) t) (GivesNew path file) before))
+      (gives_dress path nonempty now t file is_new u is) (omega arith) last)
 
 -- ---- staging names
 

@@ -30,3 +30,10 @@ ParentsFirst files work (p ∷ ps) = ((q : Path) → is_child p q ≡ true → I
 pub record IsListing (files : Files) (path : Path) (ps : List Path) : Type 0 where
   pub once : (q : Path) → times q ps ≡ cond (stands_below files path q) 1 0
   pub order : ParentsFirst files [] ps
+
+-- paths that can be taken away from the last one on: each is present and stands once in the list, none is the root, and
+-- all that is in one stands after it
+pub record AreRemovable (files : Files) (paths : List Path) : Type 0 where
+  pub once : (q : Path) → times q paths ≤ cond (is_some (places files q)) 1 0
+  pub no_root : times [] paths ≡ 0
+  pub order : ParentsFirst files [] paths

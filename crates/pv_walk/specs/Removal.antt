@@ -1,9 +1,13 @@
 -- Removal: what stands below a path is taken away, and what publishing a path may have done on the way
 -- (unlink(2), rmdir(2), rename(2)).
-use Rattle.std.specs.Prelude.{◌≡◌, ◌⊎◌, ℕ, Bool, not, ◌&&◌, length, filter}
+use Rattle.std.specs.Prelude.{◌≡◌, ◌⊎◌, ℕ, Bool, not, ◌&&◌, List, [], ◌∷◌, ◌++◌, length, filter, None, option_map, if◌then◌else◌}
+use Rattle.std.specs.List.{list_any}
 use Rattle.std.specs.FinMap as fin
 use Rattle.pv_path.specs.Paths.{Path, is_prefix, same_path, staging_of}
-use Rattle.pv_steps.specs.Trees.{Files, places}
+use Rattle.pv_steps.specs.declared.step.Step.{Step}
+use Rattle.pv_steps.specs.declared.step.Step.TheVariants.{Unlink, RemoveDir}
+use Rattle.pv_steps.specs.Objects.{modified}
+use Rattle.pv_steps.specs.Trees.{Files, Places, places, names_below}
 use Rattle.pv_steps.specs.Steps.{gone, moved}
 use Rattle.pv_steps.specs.Same.{bares}
 use Rattle.pv_dress.specs.Edits.{Pruned}
@@ -12,9 +16,28 @@ use Rattle.pv_dress.specs.Edits.{Pruned}
 abbrev pub is_below : Path → Path → Bool
 is_below path q = is_prefix path q && not (same_path path q)
 
+-- the step that takes away a directory, or else another object
+abbrev pub removal : Bool → Path → Step
+removal directory path = if directory then RemoveDir path else Unlink path
+
 -- how many objects stand below a path
 abbrev pub count_below : Files → Path → ℕ
 count_below files path = length (filter (is_below path) (fin.keys files))
+
+-- whether a path is one of some paths
+abbrev pub is_one_of : List Path → Path → Bool
+is_one_of paths q = list_any (λ p. same_path p q) paths
+
+-- whether a child of a path goes
+abbrev pub loses_child : (Path → Bool) → Files → Path → Bool
+loses_child goes files q = list_any (λ name. goes (q ++ name ∷ [])) (names_below files q)
+
+-- some paths go; a directory that stays and loses a child has changed
+abbrev pub without : (Path → Bool) → ℕ → Files → Places
+without goes now files = λ q.
+    if goes q then None
+    else if loses_child goes files q then option_map (modified now) (places files q)
+    else places files q
 
 -- on the way, stamps aside: objects at and below the path may be gone, or what was staged for it has come to it
 abbrev pub Publishing : ℕ → Path → Files → Files → Type 0

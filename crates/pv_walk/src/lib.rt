@@ -15,7 +15,7 @@ pub use preparing::prepare;
 pub use publishing::publish;
 pub use put::put_new;
 pub use pv_steps::Why;
-pub use remove::remove_below;
+pub use remove::{remove_all, remove_below};
 pub use stage::stage_file;
 pub use sweeping::sweep;
 pub use walking::{Walked, walk};

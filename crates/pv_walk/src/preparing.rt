@@ -1,12 +1,9 @@
 //! What goes before the last name of a path: staging names swept, absent parents put.
-ghost use Rattle.std.specs.Prelude.{◌≡◌, ◌≢◌, ◌≤◌, ◌+◌, ◌*◌, [], true, false, is_some, OnOk, IsErrOf, if◌then◌else◌};
-ghost use Rattle.pv_io.specs.Faults.{HasRisen};
+ghost use Rattle.std.specs.Prelude.{◌≡◌, ◌≢◌, ◌≤◌, ◌+◌, ◌*◌, [], true, false, is_some, OnOk, if◌then◌else◌};
 ghost use Rattle.pv_path.specs.Paths.{parent_of, has_staging, staging_of};
-ghost use Rattle.pv_steps.specs.declared.tree.TreeFault.TheVariants.{Failed};
 ghost use Rattle.pv_steps.specs.declared.node.Kind.TheVariants.{Directory};
 ghost use Rattle.pv_steps.specs.Trees.{places, IsKind, IsAbsentIn};
-ghost use Rattle.pv_steps.specs.Runs.{Ran};
-ghost use Rattle.pv_dress.specs.Asking.{asked};
+ghost use Rattle.pv_steps.specs.Acting.{Acted};
 ghost use Rattle.pv_walk.specs.Staging.{staging_names, count_at_all, can_stage, most_new};
 ghost use Rattle.pv_walk.specs.Putting.{Putting, IsPutStep};
 ghost use Rattle.pv_walk.specs.Preparing.{prepared, with_parent, with_parents, parent_file, Preparing, IsPrepareStep, parent_count, CanPass, IsSwept};
@@ -38,13 +35,9 @@ pub fn prepare<T: Tree>(
         → IsKind Directory (T.state tree.new) (parent_of path.now)) }
     ensures free { OnOk result (path.now ≢ []
         → IsAbsentIn (places (T.state tree.new)) (staging_of path.now)) }
-    ensures ran { Ran (Preparing path.now (T.state tree.old)) (IsPrepareStep path.now) now
-        (T.state tree.old) (T.steps tree.old) (T.state tree.new) (T.steps tree.new) }
-    ensures bound { asked result (T.steps tree.old) (T.steps tree.new)
-        ≤ count_at_all (T.state tree.old) (staging_names path.now)
-        + most_new * parent_count path.now (T.state tree.old) }
-    ensures reaches { T.reaches tree.old tree.new }
-    ensures cause { IsErrOf result Failed → HasRisen (T.faults tree.old) (T.faults tree.new) }
+    ensures acted { Acted T.Tree (Preparing path.now (T.state tree.old)) (IsPrepareStep path.now)
+        (count_at_all (T.state tree.old) (staging_names path.now)
+        + most_new * parent_count path.now (T.state tree.old)) now tree.old tree.new result }
 {
     sweep(alloc, tree, path, now)?;
     put_parents(alloc, tree, path, now)
@@ -67,12 +60,8 @@ fn put_parents<T: Tree>(
         ≡ places (T.state tree.old) path.now) }
     ensures parent { OnOk result (IsKind Directory (T.state tree.new) (parent_of path.now)) }
     ensures swept { OnOk result (IsSwept path.now (T.state tree.new)) }
-    ensures ran { Ran (Preparing path.now (T.state tree.old)) (IsPrepareStep path.now) now
-        (T.state tree.old) (T.steps tree.old) (T.state tree.new) (T.steps tree.new) }
-    ensures bound { asked result (T.steps tree.old) (T.steps tree.new)
-        ≤ most_new * parent_count path.now (T.state tree.old) }
-    ensures reaches { T.reaches tree.old tree.new }
-    ensures cause { IsErrOf result Failed → HasRisen (T.faults tree.old) (T.faults tree.new) }
+    ensures acted { Acted T.Tree (Preparing path.now (T.state tree.old)) (IsPrepareStep path.now)
+        (most_new * parent_count path.now (T.state tree.old)) now tree.old tree.new result }
 {
     let mut place = TreePath::root(alloc);
     // In a tree the root is a directory.
@@ -99,12 +88,10 @@ fn put_parent<T: Tree>(
     requires free { IsAbsentIn (places (T.state tree.old)) (staging_of place.now) }
     ensures ok { OnOk result (places (T.state tree.new)
         ≡ with_parent now (places (T.state tree.old)) place.now) }
-    ensures ran { Ran (Putting place.now parent_file (T.state tree.old)) (IsPutStep place.now parent_file) now
-        (T.state tree.old) (T.steps tree.old) (T.state tree.new) (T.steps tree.new) }
-    ensures bound { asked result (T.steps tree.old) (T.steps tree.new)
-        ≤ (if is_some (places (T.state tree.old) place.now) then 0 else most_new) }
-    ensures reaches { T.reaches tree.old tree.new }
-    ensures cause { IsErrOf result Failed → HasRisen (T.faults tree.old) (T.faults tree.new) }
+    ensures acted { Acted T.Tree (Putting place.now parent_file (T.state tree.old))
+        (IsPutStep place.now parent_file)
+        (if is_some (places (T.state tree.old) place.now) then 0 else most_new)
+        now tree.old tree.new result }
 {
     if is_present(tree, place) {
         return Ok(());

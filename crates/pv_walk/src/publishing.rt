@@ -1,21 +1,18 @@
 //! What is staged comes to its path.
-ghost use Rattle.std.specs.Prelude.{◌≡◌, ◌≢◌, ◌≤◌, ◌+◌, [], true, OnOk, IsErrOf};
-ghost use Rattle.pv_io.specs.Faults.{HasRisen};
+ghost use Rattle.std.specs.Prelude.{◌≡◌, ◌≢◌, ◌+◌, [], true, OnOk};
 ghost use Rattle.pv_path.specs.Paths.{is_prefix, staging_of};
-ghost use Rattle.pv_steps.specs.declared.tree.TreeFault.TheVariants.{Failed};
 ghost use Rattle.pv_steps.specs.Trees.{places, IsPresent, IsTree};
 ghost use Rattle.pv_steps.specs.Steps.{Movable, Yields, moved};
 ghost use Rattle.pv_steps.specs.Content.{Removes};
-ghost use Rattle.pv_steps.specs.Runs.{Ran};
 ghost use Rattle.pv_dress.specs.Edits.{Pruned, count_at};
-ghost use Rattle.pv_dress.specs.Asking.{asked};
+ghost use Rattle.pv_steps.specs.Acting.{Acted};
 ghost use Rattle.pv_walk.specs.Staging.{IsPublishing, can_stage};
 ghost use Rattle.pv_walk.specs.Removal.{Publishing, MayHaveMoved};
 
 use crate::remove::remove_below;
 use crate::sweeping::take_away;
 use pv_path::{TreePath, staging};
-use pv_steps::{Step, Tree, TreeFault, is_directory, is_present};
+use pv_steps::{Step, Tree, TreeFault, is_directory, is_present, try_step};
 use std::alloc::Global;
 
 /// Takes away what stands at a path where a Rename from its staging name cannot replace it: all
@@ -36,12 +33,9 @@ fn make_way<T: Tree>(
         ≡ moved now stage.now path.now (places (T.state tree.old))) }
     ensures staged { OnOk result (IsPresent (T.state tree.new) stage.now) }
     ensures tree { IsTree (T.state tree.old) }
-    ensures ran { Ran (Pruned (is_prefix path.now) (T.state tree.old)) (Removes (is_prefix path.now)) now
-        (T.state tree.old) (T.steps tree.old) (T.state tree.new) (T.steps tree.new) }
-    ensures bound { asked result (T.steps tree.old) (T.steps tree.new)
-        ≤ count_at (T.state tree.old) path.now }
-    ensures cause { IsErrOf result Failed → HasRisen (T.faults tree.old) (T.faults tree.new) }
-    ensures reaches { T.reaches tree.old tree.new }
+    ensures acted { Acted T.Tree (Pruned (is_prefix path.now) (T.state tree.old))
+        (Removes (is_prefix path.now))
+        (count_at (T.state tree.old) path.now) now tree.old tree.new result }
 {
     if !is_present(tree, path) {
         return Ok(());
@@ -60,17 +54,14 @@ fn rename<T: Tree>(tree: &mut T, stage: TreePath, path: TreePath, now: u64) -> R
     requires movable { Movable (places (T.state tree.old)) stage path }
     ensures moved { OnOk result
         (places (T.state tree.new) ≡ moved now stage path (places (T.state tree.old))) }
-    ensures ran { Ran (MayHaveMoved now path (T.state tree.old)) (IsPublishing path) now
-        (T.state tree.old) (T.steps tree.old) (T.state tree.new) (T.steps tree.new) }
-    ensures bound { asked result (T.steps tree.old) (T.steps tree.new) ≤ 1 }
-    ensures cause { IsErrOf result Failed → HasRisen (T.faults tree.old) (T.faults tree.new) }
-    ensures reaches { T.reaches tree.old tree.new }
+    ensures acted { Acted T.Tree (MayHaveMoved now path (T.state tree.old)) (IsPublishing path)
+        1 now tree.old tree.new result }
 {
     let step = Step::Rename {
         from: stage,
         to: path,
     };
-    tree.step(&step, now)
+    try_step(tree, step, now)
 }
 
 /// Brings what stands at the staging name of a path to the path, in one step, with all below it.
@@ -88,12 +79,9 @@ pub fn publish<T: Tree>(
     ensures moved { OnOk result
         (places (T.state tree.new)
         ≡ moved now (staging_of path.now) path.now (places (T.state tree.old))) }
-    ensures ran { Ran (Publishing now path.now (T.state tree.old)) (IsPublishing path.now) now
-        (T.state tree.old) (T.steps tree.old) (T.state tree.new) (T.steps tree.new) }
-    ensures bound { asked result (T.steps tree.old) (T.steps tree.new)
-        ≤ 1 + count_at (T.state tree.old) path.now }
-    ensures cause { IsErrOf result Failed → HasRisen (T.faults tree.old) (T.faults tree.new) }
-    ensures reaches { T.reaches tree.old tree.new }
+    ensures acted { Acted T.Tree (Publishing now path.now (T.state tree.old))
+        (IsPublishing path.now)
+        (1 + count_at (T.state tree.old) path.now) now tree.old tree.new result }
 {
     let stage = staging(alloc, path)?;
     make_way(alloc, tree, &stage, path, now)?;

@@ -1,13 +1,10 @@
 //! New objects, put at absent paths.
-ghost use Rattle.std.specs.Prelude.{◌≡◌, ◌≢◌, ◌≤◌, [], true, false, OnOk, IsErrOf};
-ghost use Rattle.pv_io.specs.Faults.{HasRisen};
+ghost use Rattle.std.specs.Prelude.{◌≡◌, ◌≢◌, ◌≤◌, [], true, false, OnOk};
 ghost use Rattle.pv_path.specs.Paths.{parent_of, has_staging, staging_of};
-ghost use Rattle.pv_steps.specs.declared.tree.TreeFault.TheVariants.{Failed};
 ghost use Rattle.pv_steps.specs.declared.node.Kind.TheVariants.{Directory};
 ghost use Rattle.pv_steps.specs.Trees.{places, IsKind, IsAbsentIn};
 ghost use Rattle.pv_steps.specs.Steps.{made};
-ghost use Rattle.pv_steps.specs.Runs.{Ran};
-ghost use Rattle.pv_dress.specs.Asking.{asked};
+ghost use Rattle.pv_steps.specs.Acting.{Acted};
 ghost use Rattle.pv_walk.specs.Staging.{IsNewFile, new_object, can_stage, most_new};
 ghost use Rattle.pv_walk.specs.Putting.{Putting, IsPutStep};
 
@@ -36,11 +33,8 @@ pub fn put_new<T: Tree>(
     requires new { IsNewFile new.now }
     ensures ok { OnOk result (places (T.state tree.new)
         ≡ made now path.now (new_object new.now now) (places (T.state tree.old))) }
-    ensures ran { Ran (Putting path.now new.now (T.state tree.old)) (IsPutStep path.now new.now) now
-        (T.state tree.old) (T.steps tree.old) (T.state tree.new) (T.steps tree.new) }
-    ensures bound { asked result (T.steps tree.old) (T.steps tree.new) ≤ most_new }
-    ensures reaches { T.reaches tree.old tree.new }
-    ensures cause { IsErrOf result Failed → HasRisen (T.faults tree.old) (T.faults tree.new) }
+    ensures acted { Acted T.Tree (Putting path.now new.now (T.state tree.old))
+        (IsPutStep path.now new.now) most_new now tree.old tree.new result }
 {
     // In a tree nothing stands below an absent path.
     let _absent = tree.look(path);

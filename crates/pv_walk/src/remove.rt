@@ -1,20 +1,16 @@
 //! Removal of what stands below a path.
-ghost use Rattle.std.specs.Prelude.{◌≡◌, ◌≢◌, ◌≤◌, [], ◌++◌, Some, is_some, IfOk, OnOk, IsErrOf, IsTrue, ◌↔◌};
+ghost use Rattle.std.specs.Prelude.{◌≡◌, ◌≢◌, [], ◌++◌, length, IfOk, OnOk};
 ghost use Rattle.pv_path.specs.Paths.{same_path};
-ghost use Rattle.pv_io.specs.Faults.{HasRisen};
-ghost use Rattle.pv_steps.specs.declared.tree.TreeFault.TheVariants.{Failed};
-ghost use Rattle.pv_steps.specs.declared.node.Kind.TheVariants.{Directory};
-ghost use Rattle.pv_steps.specs.Trees.{places, kind_of, IsKind, IsPresent, IsEmptyIn, IsTree};
-ghost use Rattle.pv_steps.specs.Steps.{IsOther, gone};
+ghost use Rattle.pv_steps.specs.Trees.{places, IsPresent, IsEmptyIn, IsTree};
+ghost use Rattle.pv_steps.specs.Steps.{gone};
 ghost use Rattle.pv_steps.specs.Content.{Removes};
-ghost use Rattle.pv_steps.specs.Runs.{Ran};
 ghost use Rattle.pv_dress.specs.Edits.{Pruned, emptied};
-ghost use Rattle.pv_dress.specs.Asking.{asked};
-ghost use Rattle.pv_walk.specs.Removal.{is_below, count_below, MayHaveGone};
-ghost use Rattle.pv_walk.specs.Listing.{children_of, IsListing};
+ghost use Rattle.pv_steps.specs.Acting.{Acted};
+ghost use Rattle.pv_walk.specs.Removal.{is_below, is_one_of, without, count_below, removal, MayHaveGone};
+ghost use Rattle.pv_walk.specs.Listing.{children_of, IsListing, AreRemovable};
 
 use pv_path::{TreePath, child};
-use pv_steps::{Step, Tree, TreeFault, is_directory};
+use pv_steps::{Step, Tree, TreeFault, is_directory, try_step};
 use std::alloc::{AllocError, Global};
 
 /// Adds the paths of what stands in the directory at a path, in byte order; nothing where no
@@ -55,38 +51,6 @@ fn below<T: Tree>(alloc: Global, tree: &T, path: &TreePath) -> Result<Vec<TreePa
     Ok(listed)
 }
 
-/// Takes away an object that is no directory.
-fn unlink<T: Tree>(tree: &mut T, path: TreePath, now: u64) -> Result<(), TreeFault>
-    requires { IsOther Directory (places (T.state tree.old)) path }
-    ensures gone { OnOk result
-        (places (T.state tree.new) ≡ gone now path (places (T.state tree.old))) }
-    ensures ran { Ran (MayHaveGone now path (T.state tree.old)) (Removes (same_path path)) now
-        (T.state tree.old) (T.steps tree.old) (T.state tree.new) (T.steps tree.new) }
-    ensures bound { asked result (T.steps tree.old) (T.steps tree.new) ≤ 1 }
-    ensures cause { IsErrOf result Failed → HasRisen (T.faults tree.old) (T.faults tree.new) }
-    ensures reaches { T.reaches tree.old tree.new }
-{
-    let step = Step::Unlink { path };
-    tree.step(&step, now)
-}
-
-/// Takes away an empty directory that is not the root.
-fn remove_dir<T: Tree>(tree: &mut T, path: TreePath, now: u64) -> Result<(), TreeFault>
-    requires directory { IsKind Directory (T.state tree.old) path }
-    requires empty { IsEmptyIn (places (T.state tree.old)) path }
-    requires not_root { path ≢ [] }
-    ensures gone { OnOk result
-        (places (T.state tree.new) ≡ gone now path (places (T.state tree.old))) }
-    ensures ran { Ran (MayHaveGone now path (T.state tree.old)) (Removes (same_path path)) now
-        (T.state tree.old) (T.steps tree.old) (T.state tree.new) (T.steps tree.new) }
-    ensures bound { asked result (T.steps tree.old) (T.steps tree.new) ≤ 1 }
-    ensures cause { IsErrOf result Failed → HasRisen (T.faults tree.old) (T.faults tree.new) }
-    ensures reaches { T.reaches tree.old tree.new }
-{
-    let step = Step::RemoveDir { path };
-    tree.step(&step, now)
-}
-
 /// Takes away what stands at a path and has nothing below it.
 pub(crate) fn remove<T: Tree>(tree: &mut T, path: TreePath, now: u64) -> Result<(), TreeFault>
     requires present { IsPresent (T.state tree.old) path }
@@ -94,17 +58,37 @@ pub(crate) fn remove<T: Tree>(tree: &mut T, path: TreePath, now: u64) -> Result<
     requires not_root { path ≢ [] }
     ensures gone { OnOk result
         (places (T.state tree.new) ≡ gone now path (places (T.state tree.old))) }
-    ensures ran { Ran (MayHaveGone now path (T.state tree.old)) (Removes (same_path path)) now
-        (T.state tree.old) (T.steps tree.old) (T.state tree.new) (T.steps tree.new) }
-    ensures bound { asked result (T.steps tree.old) (T.steps tree.new) ≤ 1 }
-    ensures cause { IsErrOf result Failed → HasRisen (T.faults tree.old) (T.faults tree.new) }
-    ensures reaches { T.reaches tree.old tree.new }
+    ensures acted { Acted T.Tree (MayHaveGone now path (T.state tree.old))
+        (Removes (same_path path)) 1 now tree.old tree.new result }
 {
-    if is_directory(tree, &path) {
-        remove_dir(tree, path, now)
+    let step = removal(is_directory(tree, &path), path);
+    try_step(tree, step, now)
+}
+
+/// The step that takes away what stands at a path and has nothing below it.
+fn removal(directory: bool, path: TreePath) -> Step
+    ensures { result ≡ removal directory path }
+{
+    if directory {
+        Step::RemoveDir { path }
     } else {
-        unlink(tree, path, now)
+        Step::Unlink { path }
     }
+}
+
+/// Takes away what stands at some paths, from the last one on. A directory that stays and lost a child has changed.
+pub fn remove_all<T: Tree>(tree: &mut T, paths: Vec<TreePath>, now: u64) -> Result<(), TreeFault>
+    requires { AreRemovable (T.state tree.old) paths.items }
+    ensures gone { OnOk result
+        (places (T.state tree.new) ≡ without (is_one_of paths.items) now (T.state tree.old)) }
+    ensures acted { Acted T.Tree (Pruned (is_one_of paths.items) (T.state tree.old))
+        (Removes (is_one_of paths.items)) (length paths.items) now tree.old tree.new result }
+{
+    let mut left = paths;
+    while let Some(last) = left.pop() {
+        remove(tree, last, now)?;
+    }
+    Ok(())
 }
 
 /// Takes away all that stands below a path: children in byte order, each directory after its
@@ -117,16 +101,10 @@ pub fn remove_below<T: Tree>(
 ) -> Result<(), TreeFault>
     ensures emptied { OnOk result
         (places (T.state tree.new) ≡ emptied now path.now (T.state tree.old)) }
-    ensures ran { Ran (Pruned (is_below path.now) (T.state tree.old)) (Removes (is_below path.now)) now
-        (T.state tree.old) (T.steps tree.old) (T.state tree.new) (T.steps tree.new) }
-    ensures bound { asked result (T.steps tree.old) (T.steps tree.new)
-        ≤ count_below (T.state tree.old) path.now }
-    ensures cause { IsErrOf result Failed → HasRisen (T.faults tree.old) (T.faults tree.new) }
-    ensures reaches { T.reaches tree.old tree.new }
+    ensures acted { Acted T.Tree (Pruned (is_below path.now) (T.state tree.old))
+        (Removes (is_below path.now))
+        (count_below (T.state tree.old) path.now) now tree.old tree.new result }
 {
-    let mut paths = below(alloc, tree, path)?;
-    while let Some(last) = paths.pop() {
-        remove(tree, last, now)?;
-    }
-    Ok(())
+    let paths = below(alloc, tree, path)?;
+    remove_all(tree, paths, now)
 }

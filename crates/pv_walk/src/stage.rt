@@ -1,16 +1,13 @@
 //! New objects, made under a staging name.
-ghost use Rattle.std.specs.Prelude.{◌≡◌, ◌≢◌, ◌≤◌, true, [], IfOk, OnOk, IsErrOf};
+ghost use Rattle.std.specs.Prelude.{◌≡◌, ◌≢◌, ◌≤◌, true, [], IfOk, OnOk};
 ghost use Rattle.std.specs.Option.{option_copied};
-ghost use Rattle.pv_io.specs.Faults.{HasRisen};
 ghost use Rattle.pv_path.specs.Paths.{parent_of, is_prefix, staging_of};
-ghost use Rattle.pv_steps.specs.declared.tree.TreeFault.TheVariants.{Failed};
 ghost use Rattle.pv_steps.specs.declared.step.Step.TheVariants.{Write};
 ghost use Rattle.pv_steps.specs.declared.node.Kind.TheVariants.{Directory};
 ghost use Rattle.pv_steps.specs.Trees.{places, IsKind, IsAbsentIn};
-ghost use Rattle.pv_steps.specs.Steps.{Can, HasRoom, made};
-ghost use Rattle.pv_steps.specs.Runs.{Ran};
+ghost use Rattle.pv_steps.specs.Steps.{HasRoom, made};
 ghost use Rattle.pv_dress.specs.Edits.{SameOutside};
-ghost use Rattle.pv_dress.specs.Asking.{Tried, asked};
+ghost use Rattle.pv_steps.specs.Acting.{Acted};
 ghost use Rattle.pv_walk.specs.Staging.{IsNewFile, GivesNew, new_object, new_mode, can_stage, most_staged};
 ghost use Rattle.pv_walk.specs.Making.{make_step, content_of, held_object, new_dress};
 
@@ -18,7 +15,7 @@ use crate::new_file::{NewFile, NewKind};
 use pv_acl::Acl;
 use pv_dress::{Dress, dress};
 use pv_path::{Bytes, TreePath, staging};
-use pv_steps::{AttrList, LetterSet, Step, Tree, TreeFault, special_bits};
+use pv_steps::{AttrList, LetterSet, Step, Tree, TreeFault, special_bits, try_step};
 use std::alloc::{AllocError, Global};
 
 /// Makes a new object under the staging name of a path, with its content, owners and mode, all four stamps
@@ -35,14 +32,10 @@ pub fn stage_file<T: Tree>(
     requires parent { IsKind Directory (T.state tree.old) (parent_of path.now) }
     requires free { IsAbsentIn (places (T.state tree.old)) (staging_of path.now) }
     requires new { IsNewFile new.now }
-    ensures ran { Ran (SameOutside (is_prefix (staging_of path.now)) (T.state tree.old))
-        (GivesNew (staging_of path.now) new.now) now
-        (T.state tree.old) (T.steps tree.old) (T.state tree.new) (T.steps tree.new) }
+    ensures acted { Acted T.Tree (SameOutside (is_prefix (staging_of path.now)) (T.state tree.old))
+        (GivesNew (staging_of path.now) new.now) most_staged now tree.old tree.new result }
     ensures ok { OnOk result (places (T.state tree.new)
         ≡ made now (staging_of path.now) (new_object new.now now) (places (T.state tree.old))) }
-    ensures bound { asked result (T.steps tree.old) (T.steps tree.new) ≤ most_staged }
-    ensures reaches { T.reaches tree.old tree.new }
-    ensures cause { IsErrOf result Failed → HasRisen (T.faults tree.old) (T.faults tree.new) }
 {
     let stage = staging(alloc, path)?;
     make_new(alloc, tree, &stage, new, now)
@@ -59,21 +52,17 @@ fn make_new<T: Tree>(
     requires not_root { path.now ≢ [] }
     requires room { HasRoom (places (T.state tree.old)) path.now }
     requires new { IsNewFile new.now }
-    ensures ran { Ran (SameOutside (is_prefix path.now) (T.state tree.old)) (GivesNew path.now new.now) now
-        (T.state tree.old) (T.steps tree.old) (T.state tree.new) (T.steps tree.new) }
+    ensures acted { Acted T.Tree (SameOutside (is_prefix path.now) (T.state tree.old))
+        (GivesNew path.now new.now) most_staged now tree.old tree.new result }
     ensures ok { OnOk result (places (T.state tree.new)
         ≡ made now path.now (new_object new.now now) (places (T.state tree.old))) }
-    ensures bound { asked result (T.steps tree.old) (T.steps tree.new) ≤ most_staged }
-    ensures reaches { T.reaches tree.old tree.new }
-    ensures cause { IsErrOf result Failed → HasRisen (T.faults tree.old) (T.faults tree.new) }
 {
-    put_held(alloc, tree, path, new, now)?;
-    dress(alloc, tree, path, &dress_of(alloc, new), now)
+    put_held(tree, path, new, now)?;
+    dress(tree, path, &dress_of(alloc, new), now)
 }
 
 /// Makes a new object at a path, with its content.
 fn put_held<T: Tree>(
-    alloc: Global,
     tree: &mut T,
     path: &TreePath,
     new: &NewFile,
@@ -82,43 +71,23 @@ fn put_held<T: Tree>(
     requires not_root { path.now ≢ [] }
     requires room { HasRoom (places (T.state tree.old)) path.now }
     requires new { IsNewFile new.now }
-    ensures ran { Ran (SameOutside (is_prefix path.now) (T.state tree.old)) (GivesNew path.now new.now) now
-        (T.state tree.old) (T.steps tree.old) (T.state tree.new) (T.steps tree.new) }
+    ensures acted { Acted T.Tree (SameOutside (is_prefix path.now) (T.state tree.old))
+        (GivesNew path.now new.now) 2 now tree.old tree.new result }
     ensures ok { OnOk result (places (T.state tree.new)
         ≡ made now path.now (held_object new.now.what now) (places (T.state tree.old))) }
-    ensures bound { asked result (T.steps tree.old) (T.steps tree.new) ≤ 2 }
-    ensures reaches { T.reaches tree.old tree.new }
-    ensures cause { IsErrOf result Failed → HasRisen (T.faults tree.old) (T.faults tree.new) }
 {
-    make(alloc, tree, path, &new.what, now)?;
+    try_step(tree, make_step(path, &new.what)?, now)?;
     match content_of(&new.what) {
-        Some(content) => write(alloc, tree, path, content, now),
+        Some(content) => try_step(tree, write_step(path, content)?, now),
         None => Ok(()),
     }
 }
 
 /// The one step that makes an object of a kind.
-fn make<T: Tree>(
-    alloc: Global,
-    tree: &mut T,
-    path: &TreePath,
-    what: &NewKind,
-    now: u64,
-) -> Result<(), TreeFault>
-    requires { Can (places (T.state tree.old)) (make_step path.now what.now) }
-    ensures tried { Tried (make_step path.now what.now) now result
-        (T.state tree.old) (T.steps tree.old) (T.state tree.new) (T.steps tree.new) }
-    ensures reaches { T.reaches tree.old tree.new }
-    ensures cause { IsErrOf result Failed → HasRisen (T.faults tree.old) (T.faults tree.new) }
-{
-    let step = make_step(alloc, path, what)?;
-    tree.step(&step, now)
-}
-
-fn make_step(alloc: Global, path: &TreePath, what: &NewKind) -> Result<Step, AllocError>
+fn make_step(path: &TreePath, what: &NewKind) -> Result<Step, AllocError>
     ensures { IfOk result (λ step. step ≡ make_step path.now what.now) }
 {
-    let path = TreePath::of(alloc, path.names())?;
+    let path = path.copy()?;
     match what {
         NewKind::Directory => Ok(Step::MakeDir { path }),
         NewKind::File(_) => Ok(Step::MakeFile { path }),
@@ -140,25 +109,14 @@ fn make_step(alloc: Global, path: &TreePath, what: &NewKind) -> Result<Step, All
     }
 }
 
-/// One Write step.
-fn write<T: Tree>(
-    alloc: Global,
-    tree: &mut T,
-    path: &TreePath,
-    content: &Bytes,
-    now: u64,
-) -> Result<(), TreeFault>
-    requires { Can (places (T.state tree.old)) (Write path.now content.now) }
-    ensures tried { Tried (Write path.now content.now) now result
-        (T.state tree.old) (T.steps tree.old) (T.state tree.new) (T.steps tree.new) }
-    ensures reaches { T.reaches tree.old tree.new }
-    ensures cause { IsErrOf result Failed → HasRisen (T.faults tree.old) (T.faults tree.new) }
+/// The step that writes the content of a file.
+fn write_step(path: &TreePath, content: &Bytes) -> Result<Step, AllocError>
+    ensures { IfOk result (λ step. step ≡ Write path.now content.now) }
 {
-    let step = Step::Write {
-        path: TreePath::of(alloc, path.names())?,
+    Ok(Step::Write {
+        path: path.copy()?,
         content: content.copy()?,
-    };
-    tree.step(&step, now)
+    })
 }
 
 /// The content that a new file is to have, if it is to have any.

@@ -1,13 +1,10 @@
 //! Staging names that an earlier run has left, taken away.
-ghost use Rattle.std.specs.Prelude.{◌≡◌, ◌≢◌, ◌≤◌, ℕ, List, [], true, length, Some, OnOk, IsErrOf};
-ghost use Rattle.pv_io.specs.Faults.{HasRisen};
+ghost use Rattle.std.specs.Prelude.{◌≡◌, ◌≢◌, ◌≤◌, ℕ, List, [], true, length, Some, OnOk};
 ghost use Rattle.pv_path.specs.Paths.{is_prefix, last_name, staging_of};
-ghost use Rattle.pv_steps.specs.declared.tree.TreeFault.TheVariants.{Failed};
 ghost use Rattle.pv_steps.specs.Trees.{places};
 ghost use Rattle.pv_steps.specs.Content.{Removes};
-ghost use Rattle.pv_steps.specs.Runs.{Ran};
 ghost use Rattle.pv_dress.specs.Edits.{Pruned, taken, all_taken, count_at};
-ghost use Rattle.pv_dress.specs.Asking.{asked};
+ghost use Rattle.pv_steps.specs.Acting.{Acted};
 ghost use Rattle.pv_walk.specs.Staging.{staging_names, is_under_any, count_at_all, can_stage};
 
 use crate::remove::{remove, remove_below};
@@ -25,12 +22,9 @@ pub(crate) fn take_away<T: Tree>(
     requires { path.now ≢ [] }
     ensures taken { OnOk result
         (places (T.state tree.new) ≡ taken now path.now (places (T.state tree.old))) }
-    ensures ran { Ran (Pruned (is_prefix path.now) (T.state tree.old)) (Removes (is_prefix path.now)) now
-        (T.state tree.old) (T.steps tree.old) (T.state tree.new) (T.steps tree.new) }
-    ensures bound { asked result (T.steps tree.old) (T.steps tree.new)
-        ≤ count_at (T.state tree.old) path.now }
-    ensures cause { IsErrOf result Failed → HasRisen (T.faults tree.old) (T.faults tree.new) }
-    ensures reaches { T.reaches tree.old tree.new }
+    ensures acted { Acted T.Tree (Pruned (is_prefix path.now) (T.state tree.old))
+        (Removes (is_prefix path.now))
+        (count_at (T.state tree.old) path.now) now tree.old tree.new result }
 {
     if !is_present(tree, path) {
         return Ok(());
@@ -50,12 +44,9 @@ fn sweep_place<T: Tree>(
     requires not_root { place.now ≢ [] }
     ensures taken { OnOk result
         (places (T.state tree.new) ≡ taken now (staging_of place.now) (places (T.state tree.old))) }
-    ensures ran { Ran (Pruned (is_prefix (staging_of place.now)) (T.state tree.old)) (Removes (is_prefix (staging_of place.now))) now
-        (T.state tree.old) (T.steps tree.old) (T.state tree.new) (T.steps tree.new) }
-    ensures bound { asked result (T.steps tree.old) (T.steps tree.new)
-        ≤ count_at (T.state tree.old) (staging_of place.now) }
-    ensures cause { IsErrOf result Failed → HasRisen (T.faults tree.old) (T.faults tree.new) }
-    ensures reaches { T.reaches tree.old tree.new }
+    ensures acted { Acted T.Tree (Pruned (is_prefix (staging_of place.now)) (T.state tree.old))
+        (Removes (is_prefix (staging_of place.now)))
+        (count_at (T.state tree.old) (staging_of place.now)) now tree.old tree.new result }
 {
     let stage = staging(alloc, place)?;
     take_away(alloc, tree, &stage, now)
@@ -74,13 +65,9 @@ pub fn sweep<T: Tree>(
     ensures taken { OnOk result
         (places (T.state tree.new)
         ≡ all_taken now (staging_names path.now) (places (T.state tree.old))) }
-    ensures ran { Ran (Pruned (is_under_any (staging_names path.now)) (T.state tree.old))
-        (Removes (is_under_any (staging_names path.now))) now
-        (T.state tree.old) (T.steps tree.old) (T.state tree.new) (T.steps tree.new) }
-    ensures bound { asked result (T.steps tree.old) (T.steps tree.new)
-        ≤ count_at_all (T.state tree.old) (staging_names path.now) }
-    ensures cause { IsErrOf result Failed → HasRisen (T.faults tree.old) (T.faults tree.new) }
-    ensures reaches { T.reaches tree.old tree.new }
+    ensures acted { Acted T.Tree (Pruned (is_under_any (staging_names path.now)) (T.state tree.old))
+        (Removes (is_under_any (staging_names path.now)))
+        (count_at_all (T.state tree.old) (staging_names path.now)) now tree.old tree.new result }
 {
     let mut place = TreePath::root(alloc);
     for name in path.names() {

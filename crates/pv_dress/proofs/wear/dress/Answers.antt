@@ -1,18 +1,22 @@
-use Rattle.pv_dress.proofs.WearLaws.{attrs_dresses, letters_dresses, dressed_on}
+use Rattle.std.proofs.Common.{arith}
+use Rattle.pv_steps.proofs.ActingLaws.{Moves, acted_within, acted_passed}
+use Rattle.pv_dress.proofs.WearLaws.{attrs_dresses, letters_dresses, four_changed, dressed_on}
 use Rattle.pv_dress.proofs.wear.dress.Goals as goal
 
-pub returns-in_err-give_attrs-clause-ran : goal.returns-in_err-give_attrs-clause-ran
-returns-in_err-give_attrs-clause-ran g c =
-    attrs_dresses c.args.path.now c.args.new.now c.args.now (g.T.Tree.state c.args.tree.now) (g.T.Tree.steps c.args.tree.now)
-    (g.T.Tree.state c.give_access.new.tree) (g.T.Tree.steps c.give_access.new.tree) (g.T.Tree.state c.give_attrs.new.tree) (g.T.Tree.steps c.give_attrs.new.tree)
-    c.give_access.ensures.ran c.in_ok-give_access.ensures.ok c.give_attrs.ensures.ran
+pub returns-in_err-give_attrs-clause-acted : goal.returns-in_err-give_attrs-clause-acted
+returns-in_err-give_attrs-clause-acted g c =
+    let moves : Moves g.T.Tree = record { stays = g.met.T.Tree.reaches_self; goes_on = g.met.T.Tree.reaches_on; never_falls = g.met.T.Tree.never_falls } in
+    acted_passed g.T.Tree c.give_attrs.result c.from_residual-in_err-give_attrs.result c.in_err-give_attrs.was c.from_residual-in_err-give_attrs.ensures.1
+    (acted_within g.T.Tree 4 5 (omega arith)
+    (attrs_dresses g.T.Tree moves c.args.path.now c.args.new.now c.args.now c.args.tree.now c.give_access.new.tree c.give_attrs.new.tree c.in_ok-give_access.ensures.acted c.in_ok-give_access.ensures.ok c.give_attrs.ensures.acted))
 
-pub returns-clause-ran : goal.returns-clause-ran
-returns-clause-ran g c =
-    letters_dresses c.args.path.now c.args.new.now c.args.now (g.T.Tree.state c.args.tree.now) (g.T.Tree.steps c.args.tree.now)
-    (g.T.Tree.state c.give_access.new.tree) (g.T.Tree.steps c.give_access.new.tree) (g.T.Tree.state c.give_attrs.new.tree) (g.T.Tree.steps c.give_attrs.new.tree)
-    (g.T.Tree.state c.give_letters.new.tree) (g.T.Tree.steps c.give_letters.new.tree)
-    c.give_access.ensures.ran c.in_ok-give_access.ensures.ok c.give_attrs.ensures.ran c.in_ok-give_attrs.ensures.ok c.give_letters.ensures.ran
+pub returns-clause-acted : goal.returns-clause-acted
+returns-clause-acted g c =
+    let moves : Moves g.T.Tree = record { stays = g.met.T.Tree.reaches_self; goes_on = g.met.T.Tree.reaches_on; never_falls = g.met.T.Tree.never_falls } in
+    letters_dresses g.T.Tree moves c.args.path.now c.args.new.now c.args.now c.args.tree.now c.give_attrs.new.tree c.give_letters.new.tree
+    (attrs_dresses g.T.Tree moves c.args.path.now c.args.new.now c.args.now c.args.tree.now c.give_access.new.tree c.give_attrs.new.tree c.in_ok-give_access.ensures.acted c.in_ok-give_access.ensures.ok c.in_ok-give_attrs.ensures.acted)
+    (four_changed c.args.path.now c.args.new.now c.args.now (g.T.Tree.state c.args.tree.now) (g.T.Tree.state c.give_access.new.tree) (g.T.Tree.state c.give_attrs.new.tree) c.in_ok-give_access.ensures.ok c.in_ok-give_attrs.ensures.ok)
+    c.give_letters.ensures.acted
 
 pub returns-clause-ok : goal.returns-clause-ok
 returns-clause-ok g c =

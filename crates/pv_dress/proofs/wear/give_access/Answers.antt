@@ -1,23 +1,28 @@
-use Rattle.pv_dress.proofs.WearLaws.{owner_dresses, mode_dresses, acl_dresses, all_changed_on}
+use Rattle.std.proofs.Common.{arith}
+use Rattle.pv_steps.proofs.ActingLaws.{Moves, acted_within, acted_passed}
+use Rattle.pv_dress.proofs.WearLaws.{owner_dresses, mode_dresses, acl_dresses, two_changed, all_changed_on}
 use Rattle.pv_dress.proofs.wear.give_access.Goals as goal
 
-pub returns-in_err-give_owner-clause-ran : goal.returns-in_err-give_owner-clause-ran
-returns-in_err-give_owner-clause-ran g c =
-    owner_dresses c.args.path.now c.args.new.now c.args.now (g.T.Tree.state c.args.tree.now) (g.T.Tree.steps c.args.tree.now)
-    (g.T.Tree.state c.give_owner.new.tree) (g.T.Tree.steps c.give_owner.new.tree) c.give_owner.ensures.ran
+pub returns-in_err-give_owner-clause-acted : goal.returns-in_err-give_owner-clause-acted
+returns-in_err-give_owner-clause-acted g c =
+    let moves : Moves g.T.Tree = record { stays = g.met.T.Tree.reaches_self; goes_on = g.met.T.Tree.reaches_on; never_falls = g.met.T.Tree.never_falls } in
+    acted_passed g.T.Tree c.give_owner.result c.from_residual.result c.in_err-give_owner.was c.from_residual.ensures.1
+    (acted_within g.T.Tree 1 3 (omega arith) (owner_dresses g.T.Tree moves c.args.path.now c.args.new.now c.args.now c.args.tree.now c.give_owner.new.tree c.give_owner.ensures.acted))
 
-pub returns-in_err-give_mode-clause-ran : goal.returns-in_err-give_mode-clause-ran
-returns-in_err-give_mode-clause-ran g c =
-    mode_dresses c.args.path.now c.args.new.now c.args.now (g.T.Tree.state c.args.tree.now) (g.T.Tree.steps c.args.tree.now)
-    (g.T.Tree.state c.give_owner.new.tree) (g.T.Tree.steps c.give_owner.new.tree) (g.T.Tree.state c.give_mode.new.tree) (g.T.Tree.steps c.give_mode.new.tree)
-    c.give_owner.ensures.ran c.in_ok-give_owner.ensures.ok c.give_mode.ensures.ran
+pub returns-in_err-give_mode-clause-acted : goal.returns-in_err-give_mode-clause-acted
+returns-in_err-give_mode-clause-acted g c =
+    let moves : Moves g.T.Tree = record { stays = g.met.T.Tree.reaches_self; goes_on = g.met.T.Tree.reaches_on; never_falls = g.met.T.Tree.never_falls } in
+    acted_passed g.T.Tree c.give_mode.result c.from_residual-in_err-give_mode.result c.in_err-give_mode.was c.from_residual-in_err-give_mode.ensures.1
+    (acted_within g.T.Tree 2 3 (omega arith)
+    (mode_dresses g.T.Tree moves c.args.path.now c.args.new.now c.args.now c.args.tree.now c.give_owner.new.tree c.give_mode.new.tree c.in_ok-give_owner.ensures.acted c.in_ok-give_owner.ensures.ok c.give_mode.ensures.acted))
 
-pub returns-clause-ran : goal.returns-clause-ran
-returns-clause-ran g c =
-    acl_dresses c.args.path.now c.args.new.now c.args.now (g.T.Tree.state c.args.tree.now) (g.T.Tree.steps c.args.tree.now)
-    (g.T.Tree.state c.give_owner.new.tree) (g.T.Tree.steps c.give_owner.new.tree) (g.T.Tree.state c.give_mode.new.tree) (g.T.Tree.steps c.give_mode.new.tree)
-    (g.T.Tree.state c.give_acl.new.tree) (g.T.Tree.steps c.give_acl.new.tree)
-    c.give_owner.ensures.ran c.in_ok-give_owner.ensures.ok c.give_mode.ensures.ran c.in_ok-give_mode.ensures.ok c.give_acl.ensures.ran
+pub returns-clause-acted : goal.returns-clause-acted
+returns-clause-acted g c =
+    let moves : Moves g.T.Tree = record { stays = g.met.T.Tree.reaches_self; goes_on = g.met.T.Tree.reaches_on; never_falls = g.met.T.Tree.never_falls } in
+    acl_dresses g.T.Tree moves c.args.path.now c.args.new.now c.args.now c.args.tree.now c.give_mode.new.tree c.give_acl.new.tree
+    (mode_dresses g.T.Tree moves c.args.path.now c.args.new.now c.args.now c.args.tree.now c.give_owner.new.tree c.give_mode.new.tree c.in_ok-give_owner.ensures.acted c.in_ok-give_owner.ensures.ok c.in_ok-give_mode.ensures.acted)
+    (two_changed c.args.path.now c.args.new.now c.args.now (g.T.Tree.state c.args.tree.now) (g.T.Tree.state c.give_owner.new.tree) (g.T.Tree.state c.give_mode.new.tree) c.in_ok-give_owner.ensures.ok c.in_ok-give_mode.ensures.ok)
+    c.give_acl.ensures.acted
 
 pub returns-clause-ok : goal.returns-clause-ok
 returns-clause-ok g c =

@@ -1,24 +1,29 @@
 use Rattle.std.proofs.Common.{◌≡◌, true}
-use Rattle.pv_dress.proofs.WearLaws.{acl_none, acl_ran, acl_ok, can_acl}
+use Rattle.pv_steps.specs.declared.step.Step.TheVariants.{SetAcl}
+use Rattle.pv_steps.proofs.ActingLaws.{acted_tried}
+use Rattle.pv_dress.specs.Dressing.{wear_acl}
+use Rattle.pv_dress.specs.Wearing.{Changing, GivesAcl}
+use Rattle.pv_dress.proofs.WearLaws.{acl_none, acl_asks, acl_ok}
 use Rattle.pv_dress.proofs.wear.give_acl.Goals as goal
 
 pub returns-then-is_same_acl-clause-ok : goal.returns-then-is_same_acl-clause-ok
 returns-then-is_same_acl-clause-ok g c =
     acl_none c.args.path.now c.args.new.now (g.T.Tree.state c.args.tree.now) c.requires c.node_of.result.now c.node_of.ensures.node c.args.now (c.is_same_acl.ensures.0 c.if-is_same_acl.true)
 
-pub set_acl-requires : goal.set_acl-requires
-set_acl-requires g c =
-    can_acl c.args.path.now c.args.new.now (g.T.Tree.state c.args.tree.now) c.requires c.node_of.result.now c.node_of.ensures.node c.node_of.ensures.tree
-    (λ h. let yes : c.is_same_acl.result ≡ true = c.is_same_acl.ensures.1 h in cc)
+pub try_step-requires : goal.try_step-requires
+try_step-requires g c =
+    rw (c.in_ok-copy.ensures, c.in_ok-copy-2.ensures) (acl_asks c.args.path.now c.args.new.now (g.T.Tree.state c.args.tree.now) c.requires c.node_of.result.now c.node_of.ensures.node c.node_of.ensures.tree c.args.now (λ h. let yes : c.is_same_acl.result ≡ true = c.is_same_acl.ensures.1 h in cc)).can
 
-pub returns-clause-ran : goal.returns-clause-ran
-returns-clause-ran g c =
-    acl_ran c.args.path.now c.args.new.now (g.T.Tree.state c.args.tree.now) c.requires c.node_of.result.now c.node_of.ensures.node c.node_of.ensures.tree c.args.now
-    (λ h. let yes : c.is_same_acl.result ≡ true = c.is_same_acl.ensures.1 h in cc)
-    c.set_acl.result (g.T.Tree.steps c.args.tree.now) (g.T.Tree.state c.set_acl.new.tree) (g.T.Tree.steps c.set_acl.new.tree) c.set_acl.ensures.tried
+pub returns-clause-acted : goal.returns-clause-acted
+returns-clause-acted g c =
+    let path = c.args.path.now in
+    let new = c.args.new.now in
+    let t = g.T.Tree.state c.args.tree.now in
+    acted_tried g.T.Tree (Changing path (wear_acl new) t) (GivesAcl path new t) (SetAcl path new.acl) c.args.now
+    c.args.tree.now c.try_step.new.tree c.try_step.result (rw (c.in_ok-copy.ensures, c.in_ok-copy-2.ensures) at c.try_step.ensures)
+    (acl_asks c.args.path.now c.args.new.now (g.T.Tree.state c.args.tree.now) c.requires c.node_of.result.now c.node_of.ensures.node c.node_of.ensures.tree c.args.now (λ h. let yes : c.is_same_acl.result ≡ true = c.is_same_acl.ensures.1 h in cc))
 
 pub returns-clause-ok : goal.returns-clause-ok
 returns-clause-ok g c =
-    acl_ok c.args.path.now c.args.new.now (g.T.Tree.state c.args.tree.now) c.requires c.node_of.result.now c.node_of.ensures.node c.node_of.ensures.tree c.args.now
-    (λ h. let yes : c.is_same_acl.result ≡ true = c.is_same_acl.ensures.1 h in cc)
-    c.set_acl.result (g.T.Tree.steps c.args.tree.now) (g.T.Tree.state c.set_acl.new.tree) (g.T.Tree.steps c.set_acl.new.tree) c.set_acl.ensures.tried
+    acl_ok c.args.path.now c.args.new.now (g.T.Tree.state c.args.tree.now) c.requires c.node_of.result.now c.node_of.ensures.node c.node_of.ensures.tree c.args.now (λ h. let yes : c.is_same_acl.result ≡ true = c.is_same_acl.ensures.1 h in cc)
+    c.try_step.result (g.T.Tree.state c.try_step.new.tree) (rw (c.in_ok-copy.ensures, c.in_ok-copy-2.ensures) at c.try_step.ensures.state)

@@ -1,23 +1,19 @@
-use Rattle.std.proofs.Common.{◌∙◌, arith}
+use Rattle.std.proofs.Common.{◌+◌, ◌*◌, ◌∙◌, arith}
 use Rattle.pv_path.proofs.PathLaws.{is_prefix-refl}
-use Rattle.pv_dress.specs.Edits.{Pruned}
-use Rattle.pv_steps.specs.Content.{Removes}
-use Rattle.pv_walk.specs.Staging.{staging_names, is_under_any}
-use Rattle.pv_walk.specs.Preparing.{Preparing, IsPrepareStep}
-use Rattle.pv_walk.proofs.PreparingSweep.{swept_here, swept_along, swept_same, swept_ran, prepared_ran, same_pass, same_parent_count}
-use Rattle.pv_walk.proofs.Outcomes.{ran-length, on_ok}
+use Rattle.pv_steps.proofs.ActingLaws.{Moves, acted_within, acted_passed}
+use Rattle.pv_walk.specs.Staging.{staging_names, count_at_all, most_new}
+use Rattle.pv_walk.specs.Preparing.{parent_count}
+use Rattle.pv_walk.proofs.PreparingSweep.{swept_here, swept_along, swept_same, swept_acted, prepared_acted, same_pass, same_parent_count}
+use Rattle.pv_walk.proofs.Outcomes.{on_ok}
 use Rattle.pv_walk.proofs.preparing.prepare.Goals as goal
 
 pub sweep-requires : goal.sweep-requires
 sweep-requires g c = c.requires.short
 
-pub returns-in_err-sweep-clause-ran : goal.returns-in_err-sweep-clause-ran
-returns-in_err-sweep-clause-ran g c = swept_ran c.args.path.now c.args.now (g.T.Tree.state c.args.tree.now) c.sweep.ensures.ran
-
 pub put_parents-requires-clause-pass : goal.put_parents-requires-clause-pass
 put_parents-requires-clause-pass g c =
     let t = g.T.Tree.state c.args.tree.now in
-    same_pass c.args.path.now c.requires.unstaged t (g.T.Tree.state c.sweep.new.tree) (swept_same c.args.path.now c.args.now t c.sweep.ensures.ran)
+    same_pass c.args.path.now c.requires.unstaged t (g.T.Tree.state c.sweep.new.tree) (swept_same g.T.Tree c.args.path.now c.sweep.ensures.acted)
     c.requires.pass
 
 pub put_parents-requires-clause-swept : goal.put_parents-requires-clause-swept
@@ -32,15 +28,21 @@ returns-clause-here g c =
 pub returns-clause-free : goal.returns-clause-free
 returns-clause-free g c = on_ok c.put_parents.result (λ swept some. swept c.args.path.now some (is_prefix-refl c.args.path.now)) c.put_parents.ensures.swept
 
-pub returns-clause-ran : goal.returns-clause-ran
-returns-clause-ran g c = prepared_ran c.args.path.now c.args.now (g.T.Tree.state c.args.tree.now) c.sweep.ensures.ran c.put_parents.ensures.ran
+pub returns-in_err-sweep-clause-acted : goal.returns-in_err-sweep-clause-acted
+returns-in_err-sweep-clause-acted g c =
+    let t = g.T.Tree.state c.args.tree.now in
+    let path = c.args.path.now in
+    let count = count_at_all t (staging_names path) in
+    acted_passed g.T.Tree c.sweep.result c.from_residual.result c.in_err-sweep.was c.from_residual.ensures.1
+    (acted_within g.T.Tree count (count + most_new * parent_count path t) (omega arith) (swept_acted g.T.Tree path c.sweep.ensures.acted))
 
-pub returns-clause-bound : goal.returns-clause-bound
-returns-clause-bound g c =
+pub returns-clause-acted : goal.returns-clause-acted
+returns-clause-acted g c =
+    let moves : Moves g.T.Tree = record { stays = g.met.T.Tree.reaches_self; goes_on = g.met.T.Tree.reaches_on; never_falls = g.met.T.Tree.never_falls } in
     let t = g.T.Tree.state c.args.tree.now in
     let u = g.T.Tree.state c.sweep.new.tree in
     let path = c.args.path.now in
-    let count = same_parent_count path c.requires.unstaged t u (swept_same path c.args.now t c.sweep.ensures.ran) in
-    let first = ran-length (Pruned (is_under_any (staging_names path)) t) (Removes (is_under_any (staging_names path))) c.args.now c.sweep.ensures.ran in
-    let last = ran-length (Preparing path u) (IsPrepareStep path) c.args.now c.put_parents.ensures.ran in
-    omega (arith, count, first, last, c.in_ok-sweep.ensures.bound, c.put_parents.ensures.bound)
+    let count = count_at_all t (staging_names path) in
+    let same = same_parent_count path c.requires.unstaged t u (swept_same g.T.Tree path c.sweep.ensures.acted) in
+    acted_within g.T.Tree (count + most_new * parent_count path u) (count + most_new * parent_count path t) (omega (arith, same))
+    (prepared_acted g.T.Tree path moves c.in_ok-sweep.ensures.acted c.put_parents.ensures.acted)

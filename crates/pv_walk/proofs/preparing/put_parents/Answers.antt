@@ -1,24 +1,16 @@
-use Rattle.std.proofs.Common.{◌+◌, ◌<◌, sym, ap, subst, ◌∙◌, take, length, fold, arith}
-use Rattle.std.proofs.lemmas.Grind.{common_steps}
-use Rattle.std.proofs.lemmas.Result.{err_from_is_err_and}
+use Rattle.std.proofs.Common.{◌≡◌, ℕ, ◌+◌, ◌*◌, ◌<◌, false, cond, is_some, Result, sym, ap, subst, ◌∙◌, take, length, fold, arith}
+use Rattle.std.specs.Prelude.{if◌then◌else◌}
 use Rattle.pv_path.specs.Paths.{Path, has_staging, staging_of}
 use Rattle.pv_steps.specs.Trees.{places, IsAbsentIn}
-use Rattle.pv_walk.specs.Staging.{can_stage}
+use Rattle.pv_steps.specs.declared.tree.Tree.{Ghosts}
+use Rattle.pv_steps.specs.declared.tree.TreeFault.{TreeFault}
+use Rattle.pv_steps.specs.Acting.{Acted}
+use Rattle.pv_steps.proofs.ActingLaws.{Moves, well, no_memory, acted_within, acted_passed, acted_ended}
+use Rattle.pv_walk.specs.Staging.{can_stage, most_new}
 use Rattle.pv_walk.specs.Putting.{Putting, IsPutStep}
-use Rattle.pv_walk.specs.Preparing.{with_parent, parent_file, IsAbove, Preparing, IsPrepareStep}
-use Rattle.pv_walk.proofs.PreparingLaws.{short_take, plain_take, prefix_take, nonempty_take, above_take, next_parent, parented_next, parented_end, room_next, absent_parents-le, parent_ran}
-use Rattle.pv_walk.proofs.Outcomes.{ran-length}
+use Rattle.pv_walk.specs.Preparing.{with_parent, parent_file, parent_count, IsAbove, Preparing, IsPrepareStep}
+use Rattle.pv_walk.proofs.PreparingLaws.{short_take, plain_take, prefix_take, nonempty_take, above_take, next_parent, parented_next, parented_end, room_next, absent_parents, absent_parents-le, parent_acted, Parented}
 use Rattle.pv_walk.proofs.preparing.put_parents.Goals as goal
-
-pub returns-in_err-copy-clause-bound : goal.returns-in_err-copy-clause-bound
-returns-in_err-copy-clause-bound g c =
-    let p = err_from_is_err_and c.from_residual.result c.from_residual.ensures.1 in
-    rw (p.1, p.2) (omega (arith, c.loop-name.invariant.room, absent_parents-le c.args.path.now (g.T.Tree.state c.args.tree.now) c.loop-name.name-index))
-
-pub returns-in_err-push-clause-bound : goal.returns-in_err-push-clause-bound
-returns-in_err-push-clause-bound g c =
-    let p = err_from_is_err_and c.from_residual-in_err-push.result c.from_residual-in_err-push.ensures.1 in
-    rw (p.1, p.2) (omega (arith, c.loop-name.invariant.room, absent_parents-le c.args.path.now (g.T.Tree.state c.args.tree.now) c.loop-name.name-index))
 
 pub put_parent-requires-clause-short : goal.put_parent-requires-clause-short
 put_parent-requires-clause-short g c =
@@ -39,28 +31,55 @@ put_parent-requires-clause-free g c =
     subst (λ (p : Path). IsAbsentIn (places (g.T.Tree.state c.loop-name.tree)) (staging_of p)) (sym next.1)
     (c.loop-name.invariant.parented.swept (take (i + 1) path) (nonempty_take (i + 1) path (omega arith) (omega arith)) (prefix_take (i + 1) path))
 
-pub returns-in_err-put_parent-clause-ran : goal.returns-in_err-put_parent-clause-ran
-returns-in_err-put_parent-clause-ran g c =
-    let i = c.loop-name.name-index in
-    let path = c.args.path.now in
-    let next = next_parent path c.loop-name.place c.push.new.self (take c.saturating_sub.result c.names-names.result.now) i c.in_ok-copy.field-0 c.name-item.result c.loop-name.invariant.items c.loop-name.invariant.place c.in_ok-copy.ensures c.name-item.is c.loop-name-test.true c.in_ok-push.ensures.ok in
-    parent_ran c.args.path.now c.push.new.self (subst (λ (p : Path). IsAbove p path) (sym next.1) (above_take (i + 1) path next.0)) c.args.now (g.T.Tree.state c.args.tree.now) c.loop-name.invariant.ran c.put_parent.ensures.ran
+pub returns-clause-ok : goal.returns-clause-ok
+returns-clause-ok g c =
+    c.loop-name.invariant.parented.here
+    ∙ ap (fold (with_parent c.args.now) (places (g.T.Tree.state c.args.tree.now)))
+    (parented_end c.args.path.now (take c.saturating_sub.result c.names-names.result.now) c.loop-name.name-index c.loop-name.invariant.items c.loop-name-test.false)
 
-pub returns-in_err-put_parent-clause-bound : goal.returns-in_err-put_parent-clause-bound
-returns-in_err-put_parent-clause-bound g c =
+-- one parent more is put
+parent_more : {S A : Type 0} (tree : Ghosts S) → Moves tree → (path p : Path) (i : ℕ) (lt : i + 1 < length path) → p ≡ take (i + 1) path → has_staging path ≡ false → {now : ℕ} {a b c : S} {r : Result A TreeFault}
+    → Parented now path (tree.state a) i (tree.state b)
+    → Acted tree (Preparing path (tree.state a)) (IsPrepareStep path) (most_new * absent_parents path (tree.state a) i) now a b well
+    → Acted tree (Putting p parent_file (tree.state b)) (IsPutStep p parent_file) (if is_some (places (tree.state b) p) then 0 else most_new) now b c r
+    → Acted tree (Preparing path (tree.state a)) (IsPrepareStep path) (most_new * absent_parents path (tree.state a) (i + 1)) now a c r
+parent_more tree moves path p i lt is plain {now = now} {a = a} {b = b} before so_far last =
+    let t = tree.state a in
+    let room = room_next now path plain t i lt (tree.state b) before in
+    let here : ◌≡◌ {A = ℕ} (cond (is_some (places (tree.state b) p)) 0 8) (cond (is_some (places (tree.state b) (take (i + 1) path))) 0 8) = ap (λ (q : Path). cond {A = ℕ} (is_some (places (tree.state b) q)) 0 8) is in
+    acted_within tree (most_new * absent_parents path t i + (if is_some (places (tree.state b) p) then 0 else most_new)) (most_new * absent_parents path t (i + 1)) (omega (arith, room, here))
+    (parent_acted path p (subst (λ (q : Path). IsAbove q path) (sym is) (above_take (i + 1) path lt)) tree moves so_far last)
+
+pub returns-in_err-copy-clause-acted : goal.returns-in_err-copy-clause-acted
+returns-in_err-copy-clause-acted g c =
+    let t = g.T.Tree.state c.args.tree.now in
+    let path = c.args.path.now in
+    let i = c.loop-name.name-index in
+    acted_ended g.T.Tree c.from_residual.result (no_memory c.from_residual.result c.from_residual.ensures.1)
+    (acted_within g.T.Tree (most_new * absent_parents path t i) (most_new * parent_count path t) (omega (arith, absent_parents-le path t i)) c.loop-name.invariant.acted)
+
+pub returns-in_err-push-clause-acted : goal.returns-in_err-push-clause-acted
+returns-in_err-push-clause-acted g c =
+    let t = g.T.Tree.state c.args.tree.now in
+    let path = c.args.path.now in
+    let i = c.loop-name.name-index in
+    acted_ended g.T.Tree c.from_residual-in_err-push.result (no_memory c.from_residual-in_err-push.result c.from_residual-in_err-push.ensures.1)
+    (acted_within g.T.Tree (most_new * absent_parents path t i) (most_new * parent_count path t) (omega (arith, absent_parents-le path t i)) c.loop-name.invariant.acted)
+
+pub returns-in_err-put_parent-clause-acted : goal.returns-in_err-put_parent-clause-acted
+returns-in_err-put_parent-clause-acted g c =
+    let moves : Moves g.T.Tree = record { stays = g.met.T.Tree.reaches_self; goes_on = g.met.T.Tree.reaches_on; never_falls = g.met.T.Tree.never_falls } in
     let t = g.T.Tree.state c.args.tree.now in
     let i = c.loop-name.name-index in
     let path = c.args.path.now in
     let next = next_parent path c.loop-name.place c.push.new.self (take c.saturating_sub.result c.names-names.result.now) i c.in_ok-copy.field-0 c.name-item.result c.loop-name.invariant.items c.loop-name.invariant.place c.in_ok-copy.ensures c.name-item.is c.loop-name-test.true c.in_ok-push.ensures.ok in
-    let room = room_next c.args.now path c.requires.unstaged t i next.0 (g.T.Tree.state c.loop-name.tree) c.loop-name.invariant.parented in
-    let first = ran-length (Preparing c.args.path.now t) (IsPrepareStep c.args.path.now) c.args.now c.loop-name.invariant.ran in
-    let last = ran-length (Putting c.push.new.self parent_file (g.T.Tree.state c.loop-name.tree)) (IsPutStep c.push.new.self parent_file) c.args.now c.put_parent.ensures.ran in
-    let here = rw next.1 at c.in_err-put_parent.ensures.bound in
-    let p = err_from_is_err_and c.from_residual-in_err-put_parent.result c.from_residual-in_err-put_parent.ensures.1 in
-    rw (p.1, p.2) (omega (arith, room, first, last, c.loop-name.invariant.room, here, absent_parents-le c.args.path.now t (i + 1)))
+    acted_passed g.T.Tree c.put_parent.result c.from_residual-in_err-put_parent.result c.in_err-put_parent.was c.from_residual-in_err-put_parent.ensures.1
+    (acted_within g.T.Tree (most_new * absent_parents path t (i + 1)) (most_new * parent_count path t) (omega (arith, absent_parents-le path t (i + 1)))
+    (parent_more g.T.Tree moves path c.push.new.self i next.0 next.1 c.requires.unstaged c.loop-name.invariant.parented c.loop-name.invariant.acted c.put_parent.ensures.acted))
 
 pub loop-name-preserved : goal.loop-name-preserved
 loop-name-preserved g c =
+    let moves : Moves g.T.Tree = record { stays = g.met.T.Tree.reaches_self; goes_on = g.met.T.Tree.reaches_on; never_falls = g.met.T.Tree.never_falls } in
     let t = g.T.Tree.state c.args.tree.now in
     let u = g.T.Tree.state c.loop-name.tree in
     let i = c.loop-name.name-index in
@@ -72,28 +91,12 @@ loop-name-preserved g c =
       parented =
           parented_next c.args.now path c.requires.unstaged t i next.0 u c.loop-name.invariant.parented (g.T.Tree.state c.put_parent.new.tree)
           (c.in_ok-put_parent.ensures.ok ∙ ap (with_parent c.args.now (places u)) next.1);
-      ran = parent_ran c.args.path.now c.push.new.self (subst (λ (p : Path). IsAbove p path) (sym next.1) (above_take (i + 1) path next.0)) c.args.now t c.loop-name.invariant.ran c.put_parent.ensures.ran;
-      room =
-          let room = room_next c.args.now path c.requires.unstaged t i next.0 u c.loop-name.invariant.parented in
-          let last = ran-length (Putting c.push.new.self parent_file u) (IsPutStep c.push.new.self parent_file) c.args.now c.put_parent.ensures.ran in
-          let here = rw next.1 at c.in_ok-put_parent.ensures.bound in
-          omega (arith, room, last, c.loop-name.invariant.room, here);
-      reaches = g.met.T.Tree.reaches_on _ _ _ c.loop-name.invariant.reaches c.put_parent.ensures.reaches;
+      acted = parent_more g.T.Tree moves path c.push.new.self i next.0 next.1 c.requires.unstaged c.loop-name.invariant.parented c.loop-name.invariant.acted c.in_ok-put_parent.ensures.acted;
     }
 
-pub returns-clause-ok : goal.returns-clause-ok
-returns-clause-ok g c =
-    c.loop-name.invariant.parented.here
-    ∙ ap (fold (with_parent c.args.now) (places (g.T.Tree.state c.args.tree.now)))
-    (parented_end c.args.path.now (take c.saturating_sub.result c.names-names.result.now) c.loop-name.name-index c.loop-name.invariant.items c.loop-name-test.false)
-
-pub returns-clause-bound : goal.returns-clause-bound
-returns-clause-bound g c = omega (arith, c.loop-name.invariant.room, absent_parents-le c.args.path.now (g.T.Tree.state c.args.tree.now) c.loop-name.name-index)
-
-pub returns-in_err-put_parent-clause-reaches : goal.returns-in_err-put_parent-clause-reaches
-returns-in_err-put_parent-clause-reaches g c = g.met.T.Tree.reaches_on _ _ _ c.loop-name.invariant.reaches c.put_parent.ensures.reaches
-
-pub returns-in_err-put_parent-clause-cause : goal.returns-in_err-put_parent-clause-cause
-returns-in_err-put_parent-clause-cause g c =
-    let falls = g.met.T.Tree.never_falls _ _ c.loop-name.invariant.reaches in
-    grind (arith, common_steps, falls)
+pub returns-clause-acted : goal.returns-clause-acted
+returns-clause-acted g c =
+    let t = g.T.Tree.state c.args.tree.now in
+    let path = c.args.path.now in
+    let i = c.loop-name.name-index in
+    acted_within g.T.Tree (most_new * absent_parents path t i) (most_new * parent_count path t) (omega (arith, absent_parents-le path t i)) c.loop-name.invariant.acted

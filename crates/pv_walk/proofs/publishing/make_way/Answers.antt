@@ -1,9 +1,9 @@
-use Rattle.std.proofs.Common.{◌≡◌, ◌≢◌, ℕ, sym, ap, subst, ◌∙◌, refl, [], is_some, arith}
+use Rattle.std.proofs.Common.{◌≡◌, ◌≢◌, ℕ, sym, ap, subst, ◌∙◌, refl, [], is_some}
 use Rattle.pv_path.specs.Paths.{Path, staging_of}
 use Rattle.pv_steps.specs.declared.node.Kind.TheVariants.{Directory}
 use Rattle.pv_steps.specs.Trees.{Files, Places, places, IsTree, IsPresent, IsKind}
 use Rattle.pv_steps.specs.Steps.{Yields, moved}
-use Rattle.pv_dress.specs.Edits.{taken, emptied}
+use Rattle.pv_dress.specs.Edits.{taken, emptied, count_at}
 use Rattle.pv_walk.proofs.PublishLaws.{IsCleared, cleared-emptied, cleared-taken, moved_same, stage_same, yields_emptied, yields_taken}
 use Rattle.pv_walk.proofs.SweepLaws.{count_below-le}
 use Rattle.pv_walk.proofs.Outcomes.{on_ok}
@@ -52,12 +52,6 @@ returns-in-true-true-clause-staged g c =
     (λ e. cleared_staged c.args.now c.args.path.now c.args.stage.now c.requires.stage c.requires.not_root (g.T.Tree.state c.args.tree.now) (g.T.Tree.state c.remove_below.new.tree) (by_emptied c.args.now c.args.path.now c.args.stage.now c.requires.stage c.requires.not_root (g.T.Tree.state c.args.tree.now) (g.T.Tree.state c.remove_below.new.tree) c.is_present.ensures.tree e) c.requires.staged)
     c.remove_below.ensures.emptied
 
-pub returns-in-true-true-clause-ran : goal.returns-in-true-true-clause-ran
-returns-in-true-true-clause-ran g c = widened c.args.now c.args.path.now (g.T.Tree.state c.args.tree.now) c.remove_below.ensures.ran
-
-pub returns-in-true-true-clause-bound : goal.returns-in-true-true-clause-bound
-returns-in-true-true-clause-bound g c = omega (arith, c.remove_below.ensures.bound, count_below-le (g.T.Tree.state c.args.tree.now) c.args.path.now)
-
 pub returns-in_default-clause-yields : goal.returns-in_default-clause-yields
 returns-in_default-clause-yields g c =
     on_ok c.take_away.result
@@ -75,3 +69,8 @@ returns-in_default-clause-staged g c =
     on_ok c.take_away.result
     (λ e. cleared_staged c.args.now c.args.path.now c.args.stage.now c.requires.stage c.requires.not_root (g.T.Tree.state c.args.tree.now) (g.T.Tree.state c.take_away.new.tree) (by_taken c.args.now c.args.path.now c.args.stage.now c.requires.stage c.requires.not_root (g.T.Tree.state c.args.tree.now) (g.T.Tree.state c.take_away.new.tree) (sym c.is_present.ensures.present ∙ c.if-not-is_present.false) e) c.requires.staged)
     c.take_away.ensures.taken
+
+pub returns-in-true-true-clause-acted : goal.returns-in-true-true-clause-acted
+returns-in-true-true-clause-acted g c =
+    let t = g.T.Tree.state c.args.tree.now in
+    widened g.T.Tree c.args.path.now (count_at t c.args.path.now) (count_below-le t c.args.path.now) c.remove_below.ensures.acted

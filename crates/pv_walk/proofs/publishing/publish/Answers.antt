@@ -1,19 +1,21 @@
-use Rattle.std.proofs.Common.{◌≡◌, ◌≢◌, ℕ, ◌<◌, ◌^◌, sym, ap, subst, ◌∙◌, inl, inr, List, [], option_map, arith}
+use Rattle.std.proofs.Common.{◌≡◌, ◌≢◌, ℕ, ◌+◌, ◌<◌, ◌≤◌, ◌^◌, sym, ap, subst, ◌∙◌, inl, inr, [], option_map, Result, Ok, arith}
 use Rattle.pv_path.specs.Paths.{Path, is_prefix, staging_of}
 use Rattle.pv_steps.specs.declared.step.Step.{Step}
 use Rattle.pv_steps.specs.declared.step.Step.TheVariants.{Unlink, RemoveDir}
 use Rattle.pv_steps.specs.Objects.{bare}
 use Rattle.pv_steps.specs.Trees.{Files, Places, places, IsTree, IsPresent}
 use Rattle.pv_steps.specs.Steps.{Movable, Yields, moved}
-use Rattle.pv_steps.specs.Runs.{Ran}
-use Rattle.pv_steps.proofs.RunLaws.{ran_then, ran_weaken, ran_end}
-use Rattle.pv_dress.specs.Edits.{Pruned}
+use Rattle.pv_steps.specs.declared.tree.Tree.{Ghosts}
+use Rattle.pv_steps.specs.declared.tree.TreeFault.{TreeFault}
+use Rattle.pv_steps.specs.Acting.{Acted}
+use Rattle.pv_steps.proofs.ActingLaws.{Moves, no_memory, acted_then, acted_weaken, acted_within, acted_passed, acted_ended, acted_end}
+use Rattle.pv_dress.specs.Edits.{Pruned, count_at}
 use Rattle.pv_steps.specs.Content.{Removes}
 use Rattle.pv_walk.specs.Staging.{IsPublishing}
 use Rattle.pv_walk.specs.Removal.{Publishing, MayHaveMoved}
 use Rattle.pv_walk.proofs.PublishLaws.{may_move}
 use Rattle.pv_walk.proofs.SweepLaws.{short_name}
-use Rattle.pv_walk.proofs.Outcomes.{ran-tree}
+use Rattle.pv_walk.proofs.Outcomes.{acted-tree}
 use Rattle.pv_walk.proofs.publishing.publish.Goals as goal
 
 pub staging-requires-clause-short : goal.staging-requires-clause-short
@@ -25,27 +27,33 @@ removal_publishes path (RemoveDir at) h = h
 removal_publishes path s h = absurd h
 
 -- making way is on the way of publishing
-way : (now : ℕ) (path : Path) (t : Files) {h : List Step} {u : Files} {k : List Step} → Ran (Pruned (is_prefix path) t) (Removes (is_prefix path)) now t h u k → Ran (Publishing now path t) (IsPublishing path) now t h u k
-way now path t run = ran_weaken (Pruned (is_prefix path) t) (Publishing now path t) (Removes (is_prefix path)) (IsPublishing path) now (λ w p. inl p) (removal_publishes path) run
+way : {S A : Type 0} (tree : Ghosts S) (path : Path) {m now : ℕ} {a b : S} {r : Result A TreeFault} (n : ℕ) → m ≤ n → Acted tree (Pruned (is_prefix path) (tree.state a)) (Removes (is_prefix path)) m now a b r
+    → Acted tree (Publishing now path (tree.state a)) (IsPublishing path) n now a b r
+way tree path {m = m} {now = now} {a = a} n le before =
+    acted_weaken tree (Pruned (is_prefix path) (tree.state a)) (Publishing now path (tree.state a)) (Removes (is_prefix path)) (IsPublishing path) m n (λ w p. inl p) (removal_publishes path) le before
 
 -- and then comes the Rename
-way_then : (now : ℕ) (path p : Path) (t : Files) {h : List Step} {u : Files} {k : List Step} {v : Files} {l : List Step} → p ≡ path
-    → Ran (Pruned (is_prefix path) t) (Removes (is_prefix path)) now t h u k → moved now (staging_of path) path (places u) ≡ moved now (staging_of path) path (places t)
-    → Ran (MayHaveMoved now p u) (IsPublishing p) now u k v l → Ran (Publishing now path t) (IsPublishing path) now t h v l
-way_then now path p t {h} {u} {k} {v} {l} is before same last =
-    ran_then (Publishing now path t) (IsPublishing path) now (way now path t before)
-    (ran_weaken (MayHaveMoved now path u) (Publishing now path t) (IsPublishing path) (IsPublishing path) now on_way (λ s q. q)
-    (subst (λ (r : Path). Ran (MayHaveMoved now r u) (IsPublishing r) now u k v l) is last))
+way_then : {S A B : Type 0} (tree : Ghosts S) → Moves tree → (path p : Path) {m n now : ℕ} {a b c : S} {x : A} {r : Result B TreeFault} → p ≡ path
+    → Acted tree (Pruned (is_prefix path) (tree.state a)) (Removes (is_prefix path)) m now a b (Ok x) → moved now (staging_of path) path (places (tree.state b)) ≡ moved now (staging_of path) path (places (tree.state a))
+    → Acted tree (MayHaveMoved now p (tree.state b)) (IsPublishing p) n now b c r → Acted tree (Publishing now path (tree.state a)) (IsPublishing path) (m + n) now a c r
+way_then tree moves path p {m = m} {n = n} {now = now} {a = a} {b = b} {c = c} {r = r} is before same last =
+    acted_then tree moves (Publishing now path (tree.state a)) (IsPublishing path) (way tree path m (omega arith) before)
+    (acted_weaken tree (MayHaveMoved now path (tree.state b)) (Publishing now path (tree.state a)) (IsPublishing path) (IsPublishing path) n n on_way (λ s q. q) (omega arith)
+    (subst (λ (q : Path). Acted tree (MayHaveMoved now q (tree.state b)) (IsPublishing q) n now b c r) is last))
   where
-    on_way : (w : Files) → MayHaveMoved now path u w → Publishing now path t w
-    on_way w (inl e) = inl (subst (Pruned (is_prefix path) t) (sym e) (ran_end (Pruned (is_prefix path) t) (Removes (is_prefix path)) now before))
+    on_way : (w : Files) → MayHaveMoved now path (tree.state b) w → Publishing now path (tree.state a) w
+    on_way w (inl e) = inl (subst (Pruned (is_prefix path) (tree.state a)) (sym e) (acted_end tree (Pruned (is_prefix path) (tree.state a)) (Removes (is_prefix path)) before))
     on_way w (inr e) = inr (λ q. ap (λ (x : Places). option_map bare (x q)) (e ∙ same))
 
-pub returns-in_err-make_way-clause-ran : goal.returns-in_err-make_way-clause-ran
-returns-in_err-make_way-clause-ran g c = way c.args.now c.args.path.now (g.T.Tree.state c.args.tree.now) c.make_way.ensures.ran
+pub returns-in_err-make_way-clause-acted : goal.returns-in_err-make_way-clause-acted
+returns-in_err-make_way-clause-acted g c =
+    let count = count_at (g.T.Tree.state c.args.tree.now) c.args.path.now in
+    acted_passed g.T.Tree c.make_way.result c.from_residual-in_err-make_way.result c.in_err-make_way.was c.from_residual-in_err-make_way.ensures.1 (way g.T.Tree c.args.path.now (1 + count) (omega arith) c.make_way.ensures.acted)
 
-pub returns-in_err-copy-clause-ran : goal.returns-in_err-copy-clause-ran
-returns-in_err-copy-clause-ran g c = way c.args.now c.args.path.now (g.T.Tree.state c.args.tree.now) c.make_way.ensures.ran
+pub returns-in_err-copy-clause-acted : goal.returns-in_err-copy-clause-acted
+returns-in_err-copy-clause-acted g c =
+    let count = count_at (g.T.Tree.state c.args.tree.now) c.args.path.now in
+    acted_ended g.T.Tree c.from_residual-in_err-copy.result (no_memory c.from_residual-in_err-copy.result c.from_residual-in_err-copy.ensures.1) (way g.T.Tree c.args.path.now (1 + count) (omega arith) c.in_ok-make_way.ensures.acted)
 
 movable : (now : ℕ) (path stage p : Path) → stage ≡ staging_of path → p ≡ path → path ≢ [] → (u : Files) → IsTree u → IsPresent u stage → Yields (places u) stage path → Movable (places u) stage p
 movable now path stage p is same nonempty u tree staged yields =
@@ -56,15 +64,15 @@ movable now path stage p is same nonempty u tree staged yields =
 pub rename-requires-clause-movable : goal.rename-requires-clause-movable
 rename-requires-clause-movable g c =
     let fits : c.args.now < 2 ^ 64 = omega arith in
-    let tree = ran-tree (Pruned (is_prefix c.args.path.now) (g.T.Tree.state c.args.tree.now)) (Removes (is_prefix c.args.path.now)) c.args.now fits c.make_way.ensures.tree c.make_way.ensures.ran in
+    let tree = acted-tree g.T.Tree (Pruned (is_prefix c.args.path.now) (g.T.Tree.state c.args.tree.now)) (Removes (is_prefix c.args.path.now)) fits c.make_way.ensures.tree c.make_way.ensures.acted in
     subst (λ (s : Path). Movable (places (g.T.Tree.state c.make_way.new.tree)) s c.in_ok-copy.field-0) (sym c.stage.view_is)
     (movable c.args.now c.args.path.now c.in_ok-stage.stage c.in_ok-copy.field-0 c.in_ok-stage.ensures c.in_ok-copy.ensures c.requires.not_root (g.T.Tree.state c.make_way.new.tree) tree c.in_ok-make_way.ensures.staged c.in_ok-make_way.ensures.yields)
 
-pub returns-clause-ran : goal.returns-clause-ran
-returns-clause-ran g c =
-    way_then c.args.now c.args.path.now c.in_ok-copy.field-0 (g.T.Tree.state c.args.tree.now) c.in_ok-copy.ensures c.make_way.ensures.ran
+pub returns-clause-acted : goal.returns-clause-acted
+returns-clause-acted g c =
+    let moves : Moves g.T.Tree = record { stays = g.met.T.Tree.reaches_self; goes_on = g.met.T.Tree.reaches_on; never_falls = g.met.T.Tree.never_falls } in
+    let count = count_at (g.T.Tree.state c.args.tree.now) c.args.path.now in
+    acted_within g.T.Tree (count + 1) (1 + count) (omega arith)
+    (way_then g.T.Tree moves c.args.path.now c.in_ok-copy.field-0 c.in_ok-copy.ensures c.in_ok-make_way.ensures.acted
     (subst (λ (s : Path). moved c.args.now s c.args.path.now (places (g.T.Tree.state c.make_way.new.tree)) ≡ moved c.args.now s c.args.path.now (places (g.T.Tree.state c.args.tree.now))) c.in_ok-stage.ensures c.in_ok-make_way.ensures.same)
-    c.rename.ensures.ran
-
-pub returns-clause-reaches : goal.returns-clause-reaches
-returns-clause-reaches g c = g.met.T.Tree.reaches_on _ _ _ c.make_way.ensures.reaches c.rename.ensures.reaches
+    c.rename.ensures.acted)

@@ -1,14 +1,10 @@
-use Rattle.std.proofs.Common.{◌∙◌, arith}
-use Rattle.pv_path.specs.Paths.{is_prefix, staging_of}
-use Rattle.pv_dress.specs.Edits.{SameOutside}
-use Rattle.pv_walk.specs.Staging.{GivesNew, IsPublishing}
-use Rattle.pv_walk.specs.Removal.{Publishing}
-use Rattle.pv_walk.proofs.PuttingLaws.{is_staged, put_moved, count_none, staged_ran, put_ran}
-use Rattle.pv_walk.proofs.Outcomes.{ran-length, on_ok}
+use Rattle.std.proofs.Common.{◌+◌, ◌∙◌, arith}
+use Rattle.pv_steps.proofs.ActingLaws.{Moves, acted_within, acted_passed}
+use Rattle.pv_dress.specs.Edits.{count_at}
+use Rattle.pv_walk.specs.Staging.{most_staged, most_new}
+use Rattle.pv_walk.proofs.PuttingLaws.{is_staged, put_moved, count_none, staged_acted, put_acted}
+use Rattle.pv_walk.proofs.Outcomes.{on_ok}
 use Rattle.pv_walk.proofs.put.put_new.Goals as goal
-
-pub returns-in_err-stage_file-clause-ran : goal.returns-in_err-stage_file-clause-ran
-returns-in_err-stage_file-clause-ran g c = staged_ran c.args.now c.args.path.now c.requires.not_root c.args.new.now (g.T.Tree.state c.args.tree.now) c.stage_file.ensures.ran
 
 pub publish-requires-clause-staged : goal.publish-requires-clause-staged
 publish-requires-clause-staged g c = is_staged c.args.now c.args.path.now c.requires.not_root c.args.new.now (g.T.Tree.state c.args.tree.now) (g.T.Tree.state c.stage_file.new.tree) c.in_ok-stage_file.ensures.ok
@@ -19,17 +15,18 @@ returns-clause-ok g c =
     (λ e. e ∙ put_moved c.args.now c.args.path.now c.requires.not_root c.args.new.now (g.T.Tree.state c.args.tree.now) (g.T.Tree.state c.stage_file.new.tree) c.in_ok-stage_file.ensures.ok c.look-absent.ensures.tree c.requires.absent c.requires.free)
     c.publish.ensures.moved
 
-pub returns-clause-ran : goal.returns-clause-ran
-returns-clause-ran g c =
-    put_ran c.args.now c.args.path.now c.requires.not_root c.args.new.now (g.T.Tree.state c.args.tree.now) (g.T.Tree.state c.stage_file.new.tree) c.in_ok-stage_file.ensures.ok c.look-absent.ensures.tree c.requires.absent c.requires.free
-    c.stage_file.ensures.ran c.publish.ensures.ran
+pub returns-in_err-stage_file-clause-acted : goal.returns-in_err-stage_file-clause-acted
+returns-in_err-stage_file-clause-acted g c =
+    acted_passed g.T.Tree c.stage_file.result c.from_residual.result c.in_err-stage_file.was c.from_residual.ensures.1
+    (acted_within g.T.Tree most_staged most_new (omega arith) (staged_acted g.T.Tree c.args.now c.args.path.now c.requires.not_root c.args.new.now c.args.tree.now c.stage_file.new.tree c.stage_file.ensures.acted))
 
-pub returns-clause-bound : goal.returns-clause-bound
-returns-clause-bound g c =
+pub returns-clause-acted : goal.returns-clause-acted
+returns-clause-acted g c =
+    let moves : Moves g.T.Tree = record { stays = g.met.T.Tree.reaches_self; goes_on = g.met.T.Tree.reaches_on; never_falls = g.met.T.Tree.never_falls } in
     let t = g.T.Tree.state c.args.tree.now in
     let u = g.T.Tree.state c.stage_file.new.tree in
     let path = c.args.path.now in
     let none = count_none c.args.now path c.requires.not_root c.args.new.now t u c.in_ok-stage_file.ensures.ok c.look-absent.ensures.tree c.requires.absent c.requires.free in
-    let first = ran-length (SameOutside (is_prefix (staging_of path)) t) (GivesNew (staging_of path) c.args.new.now) c.args.now c.stage_file.ensures.ran in
-    let last = ran-length (Publishing c.args.now path u) (IsPublishing path) c.args.now c.publish.ensures.ran in
-    omega (arith, none, first, last, c.in_ok-stage_file.ensures.bound, c.publish.ensures.bound)
+    acted_within g.T.Tree (most_staged + (1 + count_at u path)) most_new (omega (arith, none))
+    (put_acted g.T.Tree c.args.now path c.requires.not_root c.args.new.now c.args.tree.now c.stage_file.new.tree moves c.in_ok-stage_file.ensures.ok c.look-absent.ensures.tree c.requires.absent c.requires.free
+    c.in_ok-stage_file.ensures.acted c.publish.ensures.acted)

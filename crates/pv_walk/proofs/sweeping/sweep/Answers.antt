@@ -1,28 +1,17 @@
-use Rattle.std.proofs.Common.{◌≡◌, ℕ, ◌+◌, ◌≤◌, ◌<◌, true, sym, ap, subst, ◌∙◌, List, [], ◌∷◌, ◌++◌, length, take, get_or, Some, arith}
-use Rattle.std.proofs.lemmas.Result.{err_from_is_err_and}
+use Rattle.std.proofs.Common.{◌≡◌, ℕ, ◌+◌, ◌≤◌, ◌<◌, true, sym, ap, subst, ◌∙◌, List, [], ◌∷◌, ◌++◌, length, take, get_or, Some, Result, arith}
 use Rattle.std.proofs.lemmas.List.{take_more, take_all}
 use Rattle.pv_path.specs.Paths.{Path, is_prefix, last_name, staging_of}
-use Rattle.pv_steps.specs.declared.step.Step.{Step}
-use Rattle.pv_steps.specs.Trees.{Files, places}
+use Rattle.pv_steps.specs.declared.tree.Tree.{Ghosts}
+use Rattle.pv_steps.specs.declared.tree.TreeFault.{TreeFault}
+use Rattle.pv_steps.specs.Acting.{Acted}
+use Rattle.pv_steps.proofs.ActingLaws.{Moves, well, no_memory, acted_within, acted_passed, acted_ended, acted_end}
+use Rattle.pv_steps.specs.Trees.{places}
 use Rattle.pv_steps.specs.Content.{Removes}
-use Rattle.pv_steps.specs.Runs.{Ran}
-use Rattle.pv_steps.proofs.RunLaws.{ran_end}
 use Rattle.pv_dress.specs.Edits.{Pruned, taken, all_taken, count_at}
 use Rattle.pv_walk.specs.Staging.{staging_names, is_under_any, count_at_all, can_stage}
 use Rattle.pv_walk.proofs.SweepLaws.{short_last, all_taken-more, count-more, count-le, under_any, pruned_count, length-staging_names}
-use Rattle.pv_walk.proofs.Outcomes.{ran-length}
 use Rattle.pv_walk.proofs.Removing.{prune_then}
 use Rattle.pv_walk.proofs.sweeping.sweep.Goals as goal
-
-pub returns-in_err-copy-clause-bound : goal.returns-in_err-copy-clause-bound
-returns-in_err-copy-clause-bound g c =
-    let p = err_from_is_err_and c.from_residual.result c.from_residual.ensures.1 in
-    rw (p.1, p.2) (omega (arith, c.loop-name.invariant.room, count-le c.args.path.now (g.T.Tree.state c.args.tree.now) c.loop-name.name-index))
-
-pub returns-in_err-push-clause-bound : goal.returns-in_err-push-clause-bound
-returns-in_err-push-clause-bound g c =
-    let p = err_from_is_err_and c.from_residual-in_err-push.result c.from_residual-in_err-push.ensures.1 in
-    rw (p.1, p.2) (omega (arith, c.loop-name.invariant.room, count-le c.args.path.now (g.T.Tree.state c.args.tree.now) c.loop-name.name-index))
 
 -- the place is one name longer
 next_place : (path place next items : Path) (i : ℕ) (copied name : List ℕ) → items ≡ path → place ≡ take i path → copied ≡ name → name ≡ get_or items i name → i < length items → next ≡ place ++ copied ∷ [] → next ≡ take (i + 1) path
@@ -45,55 +34,68 @@ pub sweep_place-requires-clause-short : goal.sweep_place-requires-clause-short
 sweep_place-requires-clause-short g c last e =
     short_at c.args.path.now c.loop-name.place c.push.new.self c.names-name-items.result.now c.loop-name.name-index c.in_ok-copy.field-0 c.name-item.result c.names-name-items.ensures.value c.loop-name.invariant.place c.in_ok-copy.ensures c.name-item.is c.loop-name-test.true c.in_ok-push.ensures.ok c.requires last e
 
--- one more staging name is swept
-swept_more : (now : ℕ) (t : Files) (path next : Path) (i : ℕ) {h : List Step} {u : Files} {k : List Step} {v : Files} {l : List Step} → next ≡ take (i + 1) path → i < length path
-    → Ran (Pruned (is_under_any (staging_names path)) t) (Removes (is_under_any (staging_names path))) now t h u k → Ran (Pruned (is_prefix (staging_of next)) u) (Removes (is_prefix (staging_of next))) now u k v l → Ran (Pruned (is_under_any (staging_names path)) t) (Removes (is_under_any (staging_names path))) now t h v l
-swept_more now t path next i is lt before last =
-    prune_then now (is_under_any (staging_names path)) t before (is_prefix (staging_of next)) (λ q e. under_any path i lt q (subst (λ (p : Path). is_prefix (staging_of p) q ≡ true) is e)) last
-
 -- it counts no more objects than stood there in the beginning
-counted : (now : ℕ) (t : Files) (path next : Path) (i : ℕ) {h : List Step} {u : Files} {k : List Step} → next ≡ take (i + 1) path → i < length path
-    → Ran (Pruned (is_under_any (staging_names path)) t) (Removes (is_under_any (staging_names path))) now t h u k
-    → count_at_all t (take i (staging_names path)) + count_at u (staging_of next) ≤ count_at_all t (take (i + 1) (staging_names path))
-counted now t path next i {u = u} is lt before =
-    let here = pruned_count (is_under_any (staging_names path)) t u (ran_end (Pruned (is_under_any (staging_names path)) t) (Removes (is_under_any (staging_names path))) now before) (staging_of next) in
+counted : {S A : Type 0} (tree : Ghosts S) (path next : Path) (i : ℕ) {m now : ℕ} {a b : S} {r : Result A TreeFault} → next ≡ take (i + 1) path → i < length path
+    → Acted tree (Pruned (is_under_any (staging_names path)) (tree.state a)) (Removes (is_under_any (staging_names path))) m now a b r
+    → count_at_all (tree.state a) (take i (staging_names path)) + count_at (tree.state b) (staging_of next) ≤ count_at_all (tree.state a) (take (i + 1) (staging_names path))
+counted tree path next i {a = a} {b = b} is lt before =
+    let t = tree.state a in
+    let here = pruned_count (is_under_any (staging_names path)) t (tree.state b) (acted_end tree (Pruned (is_under_any (staging_names path)) t) (Removes (is_under_any (staging_names path))) before) (staging_of next) in
     let same : count_at t (staging_of next) ≡ count_at t (staging_of (take (i + 1) path)) = ap (λ (p : Path). count_at t (staging_of p)) is in
     omega (arith, here, same, count-more path t i lt)
 
-pub returns-in_err-sweep_place-clause-ran : goal.returns-in_err-sweep_place-clause-ran
-returns-in_err-sweep_place-clause-ran g c =
-    let next = next_place c.args.path.now c.loop-name.place c.push.new.self c.names-name-items.result.now c.loop-name.name-index c.in_ok-copy.field-0 c.name-item.result c.names-name-items.ensures.value c.loop-name.invariant.place c.in_ok-copy.ensures c.name-item.is c.loop-name-test.true c.in_ok-push.ensures.ok in
-    swept_more c.args.now (g.T.Tree.state c.args.tree.now) c.args.path.now c.push.new.self c.loop-name.name-index next (within c.args.path.now c.names-name-items.result.now c.loop-name.name-index c.names-name-items.ensures.value c.loop-name-test.true) c.loop-name.invariant.ran c.sweep_place.ensures.ran
+-- one more staging name is swept
+swept_more : {S A : Type 0} (tree : Ghosts S) → Moves tree → (path next : Path) (i : ℕ) {now : ℕ} {a b c : S} {r : Result A TreeFault} → next ≡ take (i + 1) path → i < length path
+    → Acted tree (Pruned (is_under_any (staging_names path)) (tree.state a)) (Removes (is_under_any (staging_names path))) (count_at_all (tree.state a) (take i (staging_names path))) now a b well
+    → Acted tree (Pruned (is_prefix (staging_of next)) (tree.state b)) (Removes (is_prefix (staging_of next))) (count_at (tree.state b) (staging_of next)) now b c r
+    → Acted tree (Pruned (is_under_any (staging_names path)) (tree.state a)) (Removes (is_under_any (staging_names path))) (count_at_all (tree.state a) (take (i + 1) (staging_names path))) now a c r
+swept_more tree moves path next i {a = a} {b = b} is lt before last =
+    acted_within tree (count_at_all (tree.state a) (take i (staging_names path)) + count_at (tree.state b) (staging_of next)) (count_at_all (tree.state a) (take (i + 1) (staging_names path)))
+    (counted tree path next i is lt before)
+    (prune_then tree moves (is_under_any (staging_names path)) before (is_prefix (staging_of next)) (λ q e. under_any path i lt q (subst (λ (p : Path). is_prefix (staging_of p) q ≡ true) is e)) last)
 
-pub returns-in_err-sweep_place-clause-bound : goal.returns-in_err-sweep_place-clause-bound
-returns-in_err-sweep_place-clause-bound g c =
+pub returns-in_err-copy-clause-acted : goal.returns-in_err-copy-clause-acted
+returns-in_err-copy-clause-acted g c =
+    let path = c.args.path.now in
     let t = g.T.Tree.state c.args.tree.now in
-    let next = next_place c.args.path.now c.loop-name.place c.push.new.self c.names-name-items.result.now c.loop-name.name-index c.in_ok-copy.field-0 c.name-item.result c.names-name-items.ensures.value c.loop-name.invariant.place c.in_ok-copy.ensures c.name-item.is c.loop-name-test.true c.in_ok-push.ensures.ok in
-    let lt = within c.args.path.now c.names-name-items.result.now c.loop-name.name-index c.names-name-items.ensures.value c.loop-name-test.true in
-    let count = counted c.args.now t c.args.path.now c.push.new.self c.loop-name.name-index next lt c.loop-name.invariant.ran in
-    let first = ran-length (Pruned (is_under_any (staging_names c.args.path.now)) t) (Removes (is_under_any (staging_names c.args.path.now))) c.args.now c.loop-name.invariant.ran in
-    let last = ran-length (Pruned (is_prefix (staging_of c.push.new.self)) (g.T.Tree.state c.loop-name.tree)) (Removes (is_prefix (staging_of c.push.new.self))) c.args.now c.sweep_place.ensures.ran in
-    let p = err_from_is_err_and c.from_residual-in_err-sweep_place.result c.from_residual-in_err-sweep_place.ensures.1 in
-    rw (p.1, p.2) (omega (arith, count, first, last, c.loop-name.invariant.room, c.in_err-sweep_place.ensures.bound, count-le c.args.path.now t (c.loop-name.name-index + 1)))
+    acted_ended g.T.Tree c.from_residual.result (no_memory c.from_residual.result c.from_residual.ensures.1)
+    (acted_within g.T.Tree (count_at_all t (take c.loop-name.name-index (staging_names path))) (count_at_all t (staging_names path)) (count-le path t c.loop-name.name-index) c.loop-name.invariant.acted)
+
+pub returns-in_err-push-clause-acted : goal.returns-in_err-push-clause-acted
+returns-in_err-push-clause-acted g c =
+    let path = c.args.path.now in
+    let t = g.T.Tree.state c.args.tree.now in
+    acted_ended g.T.Tree c.from_residual-in_err-push.result (no_memory c.from_residual-in_err-push.result c.from_residual-in_err-push.ensures.1)
+    (acted_within g.T.Tree (count_at_all t (take c.loop-name.name-index (staging_names path))) (count_at_all t (staging_names path)) (count-le path t c.loop-name.name-index) c.loop-name.invariant.acted)
+
+pub returns-in_err-sweep_place-clause-acted : goal.returns-in_err-sweep_place-clause-acted
+returns-in_err-sweep_place-clause-acted g c =
+    let moves : Moves g.T.Tree = record { stays = g.met.T.Tree.reaches_self; goes_on = g.met.T.Tree.reaches_on; never_falls = g.met.T.Tree.never_falls } in
+    let path = c.args.path.now in
+    let t = g.T.Tree.state c.args.tree.now in
+    let i = c.loop-name.name-index in
+    let next = next_place path c.loop-name.place c.push.new.self c.names-name-items.result.now i c.in_ok-copy.field-0 c.name-item.result c.names-name-items.ensures.value c.loop-name.invariant.place c.in_ok-copy.ensures c.name-item.is c.loop-name-test.true c.in_ok-push.ensures.ok in
+    let lt = within path c.names-name-items.result.now i c.names-name-items.ensures.value c.loop-name-test.true in
+    acted_passed g.T.Tree c.sweep_place.result c.from_residual-in_err-sweep_place.result c.in_err-sweep_place.was c.from_residual-in_err-sweep_place.ensures.1
+    (acted_within g.T.Tree (count_at_all t (take (i + 1) (staging_names path))) (count_at_all t (staging_names path)) (count-le path t (i + 1))
+    (swept_more g.T.Tree moves path c.push.new.self i next lt c.loop-name.invariant.acted c.sweep_place.ensures.acted))
 
 pub loop-name-preserved : goal.loop-name-preserved
 loop-name-preserved g c =
+    let moves : Moves g.T.Tree = record { stays = g.met.T.Tree.reaches_self; goes_on = g.met.T.Tree.reaches_on; never_falls = g.met.T.Tree.never_falls } in
+    let path = c.args.path.now in
     let t = g.T.Tree.state c.args.tree.now in
-    let next = next_place c.args.path.now c.loop-name.place c.push.new.self c.names-name-items.result.now c.loop-name.name-index c.in_ok-copy.field-0 c.name-item.result c.names-name-items.ensures.value c.loop-name.invariant.place c.in_ok-copy.ensures c.name-item.is c.loop-name-test.true c.in_ok-push.ensures.ok in
-    let lt = within c.args.path.now c.names-name-items.result.now c.loop-name.name-index c.names-name-items.ensures.value c.loop-name-test.true in
+    let i = c.loop-name.name-index in
+    let next = next_place path c.loop-name.place c.push.new.self c.names-name-items.result.now i c.in_ok-copy.field-0 c.name-item.result c.names-name-items.ensures.value c.loop-name.invariant.place c.in_ok-copy.ensures c.name-item.is c.loop-name-test.true c.in_ok-push.ensures.ok in
+    let lt = within path c.names-name-items.result.now i c.names-name-items.ensures.value c.loop-name-test.true in
     record {
       place = next;
       here =
           c.in_ok-sweep_place.ensures.taken
           ∙ ap (λ (p : Path). taken c.args.now (staging_of p) (places (g.T.Tree.state c.loop-name.tree))) next
-          ∙ ap (taken c.args.now (staging_of (take (c.loop-name.name-index + 1) c.args.path.now))) c.loop-name.invariant.here
-          ∙ sym (all_taken-more c.args.path.now c.args.now c.loop-name.name-index (places t) lt);
-      ran = swept_more c.args.now t c.args.path.now c.push.new.self c.loop-name.name-index next lt c.loop-name.invariant.ran c.sweep_place.ensures.ran;
-      room =
-          let count = counted c.args.now t c.args.path.now c.push.new.self c.loop-name.name-index next lt c.loop-name.invariant.ran in
-          let last = ran-length (Pruned (is_prefix (staging_of c.push.new.self)) (g.T.Tree.state c.loop-name.tree)) (Removes (is_prefix (staging_of c.push.new.self))) c.args.now c.sweep_place.ensures.ran in
-          omega (arith, count, last, c.loop-name.invariant.room, c.in_ok-sweep_place.ensures.bound);
-      reaches = g.met.T.Tree.reaches_on _ _ _ c.loop-name.invariant.reaches c.sweep_place.ensures.reaches;
+          ∙ ap (taken c.args.now (staging_of (take (i + 1) path))) c.loop-name.invariant.here
+          ∙ sym (all_taken-more path c.args.now i (places t) lt);
+      acted = swept_more g.T.Tree moves path c.push.new.self i next lt c.loop-name.invariant.acted c.in_ok-sweep_place.ensures.acted;
     }
 
 -- at the end all staging names are swept
@@ -106,5 +108,8 @@ returns-clause-taken g c =
     ∙ ap (λ (ps : List Path). all_taken c.args.now ps (places (g.T.Tree.state c.args.tree.now)))
     (whole c.args.path.now c.names-name-items.result.now c.loop-name.name-index c.names-name-items.ensures.value c.loop-name-test.false)
 
-pub returns-clause-bound : goal.returns-clause-bound
-returns-clause-bound g c = omega (arith, c.loop-name.invariant.room, count-le c.args.path.now (g.T.Tree.state c.args.tree.now) c.loop-name.name-index)
+pub returns-clause-acted : goal.returns-clause-acted
+returns-clause-acted g c =
+    let path = c.args.path.now in
+    let t = g.T.Tree.state c.args.tree.now in
+    acted_within g.T.Tree (count_at_all t (take c.loop-name.name-index (staging_names path))) (count_at_all t (staging_names path)) (count-le path t c.loop-name.name-index) c.loop-name.invariant.acted

@@ -1,7 +1,8 @@
-use Rattle.std.proofs.Common.{◌≡◌, ◌+◌, ◌≤◌, length, take}
+use Rattle.std.proofs.Common.{◌≡◌, take}
 use Rattle.pv_steps.specs.Trees.{places}
 use Rattle.pv_steps.specs.Content.{Removes}
-use Rattle.pv_steps.specs.Runs.{Ran}
+use Rattle.pv_steps.specs.Acting.{Acted}
+use Rattle.pv_steps.proofs.ActingLaws.{well}
 use Rattle.pv_dress.specs.Edits.{Pruned, all_taken}
 use Rattle.pv_walk.specs.Staging.{staging_names, is_under_any, count_at_all}
 use Rattle.pv_walk.proofs.sweeping.sweep.Given as goal
@@ -10,7 +11,5 @@ abbrev pub invariant-loop-name : goal.invariant-loop-name
 invariant-loop-name g l = record {
   place : l.place ≡ take l.name-index l.path;
   here : places (g.T.Tree.state l.tree) ≡ all_taken l.now (take l.name-index (staging_names l.path)) (places (g.T.Tree.state l.fn.tree));
-  ran : Ran (Pruned (is_under_any (staging_names l.path)) (g.T.Tree.state l.fn.tree)) (Removes (is_under_any (staging_names l.path))) l.now (g.T.Tree.state l.fn.tree) (g.T.Tree.steps l.fn.tree) (g.T.Tree.state l.tree) (g.T.Tree.steps l.tree);
-  room : length (g.T.Tree.steps l.tree) ≤ length (g.T.Tree.steps l.fn.tree) + count_at_all (g.T.Tree.state l.fn.tree) (take l.name-index (staging_names l.path));
-  reaches : g.T.Tree.reaches l.fn.tree l.tree;
+  acted : Acted g.T.Tree (Pruned (is_under_any (staging_names l.path)) (g.T.Tree.state l.fn.tree)) (Removes (is_under_any (staging_names l.path))) (count_at_all (g.T.Tree.state l.fn.tree) (take l.name-index (staging_names l.path))) l.now l.fn.tree l.tree well;
 }

@@ -1,34 +1,17 @@
-use Rattle.std.proofs.Common.{◌≡◌, ℕ, true, sym, ap, subst, ◌∙◌, [], ◌∷◌, ◌++◌, is_some, arith}
-use Rattle.std.proofs.lemmas.Result.{err_from_is_err_and}
-use Rattle.pv_path.specs.Paths.{Path, is_prefix, same_path}
+use Rattle.std.proofs.Common.{◌≡◌, ℕ, ◌+◌, true, sym, ap, subst, ◌∙◌, [], ◌∷◌, ◌++◌, is_some, arith}
+use Rattle.pv_path.specs.Paths.{Path, is_prefix}
 use Rattle.pv_path.proofs.PathLaws.{is_prefix-refl}
 use Rattle.pv_steps.specs.Trees.{Files, Places, places, IsTree, IsPresent, IsEmptyIn}
 use Rattle.pv_steps.specs.Steps.{gone}
-use Rattle.pv_dress.specs.Edits.{Pruned, taken, emptied}
-use Rattle.pv_steps.specs.Content.{Removes}
-use Rattle.pv_walk.specs.Removal.{MayHaveGone, is_below}
+use Rattle.pv_steps.proofs.ActingLaws.{Moves, no_memory, acted_within, acted_passed, acted_ended}
+use Rattle.pv_dress.specs.Edits.{taken, emptied, count_at}
+use Rattle.pv_walk.specs.Removal.{count_below}
 use Rattle.pv_walk.proofs.RemovalLaws.{not_below_itself, is_below-append, kept-present}
 use Rattle.pv_walk.proofs.EmptyingLaws.{emptied-below, emptied-kept, gone-emptied}
 use Rattle.pv_walk.proofs.SweepLaws.{count_below-le, count_below-lt}
-use Rattle.pv_walk.proofs.Outcomes.{ran-length, on_ok}
+use Rattle.pv_walk.proofs.Outcomes.{on_ok}
 use Rattle.pv_walk.proofs.Removing.{widened, remove_then}
 use Rattle.pv_walk.proofs.sweeping.take_away.Goals as goal
-
-pub returns-in_err-remove_below-clause-ran : goal.returns-in_err-remove_below-clause-ran
-returns-in_err-remove_below-clause-ran g c = widened c.args.now c.args.path.now (g.T.Tree.state c.args.tree.now) c.remove_below.ensures.ran
-
-pub returns-in_err-remove_below-clause-bound : goal.returns-in_err-remove_below-clause-bound
-returns-in_err-remove_below-clause-bound g c =
-    let p = err_from_is_err_and c.from_residual.result c.from_residual.ensures.1 in
-    rw (p.1, p.2) (omega (arith, c.in_err-remove_below.ensures.bound, count_below-le (g.T.Tree.state c.args.tree.now) c.args.path.now))
-
-pub returns-in_err-copy-clause-ran : goal.returns-in_err-copy-clause-ran
-returns-in_err-copy-clause-ran g c = widened c.args.now c.args.path.now (g.T.Tree.state c.args.tree.now) c.remove_below.ensures.ran
-
-pub returns-in_err-copy-clause-bound : goal.returns-in_err-copy-clause-bound
-returns-in_err-copy-clause-bound g c =
-    let p = err_from_is_err_and c.from_residual-in_err-copy.result c.from_residual-in_err-copy.ensures.1 in
-    rw (p.1, p.2) (omega (arith, c.in_ok-remove_below.ensures.bound, count_below-le (g.T.Tree.state c.args.tree.now) c.args.path.now))
 
 still_there : (now : ℕ) (t u : Files) (path : Path) → IsTree t → places u ≡ emptied now path t → is_some (places t path) ≡ true → IsPresent u path
 still_there now t u path tree is present =
@@ -55,16 +38,25 @@ returns-clause-taken g c =
     (λ e. then_taken c.args.now (g.T.Tree.state c.args.tree.now) (g.T.Tree.state c.remove_below.new.tree) (g.T.Tree.state c.remove.new.tree) c.args.path.now c.in_ok-copy.field-0 c.in_ok-copy.ensures c.is_present.ensures.tree (sym c.is_present.ensures.present ∙ c.if-not-is_present.false) c.in_ok-remove_below.ensures.emptied e)
     c.remove.ensures.gone
 
-pub returns-clause-ran : goal.returns-clause-ran
-returns-clause-ran g c =
+pub returns-in_err-remove_below-clause-acted : goal.returns-in_err-remove_below-clause-acted
+returns-in_err-remove_below-clause-acted g c =
     let t = g.T.Tree.state c.args.tree.now in
-    remove_then c.args.now (is_prefix c.args.path.now) t (widened c.args.now c.args.path.now t c.remove_below.ensures.ran) c.in_ok-copy.field-0
-    (subst (λ p. is_prefix c.args.path.now p ≡ true) (sym c.in_ok-copy.ensures) (is_prefix-refl c.args.path.now))
-    c.remove.ensures.ran
+    acted_passed g.T.Tree c.remove_below.result c.from_residual.result c.in_err-remove_below.was c.from_residual.ensures.1
+    (widened g.T.Tree c.args.path.now (count_at t c.args.path.now) (count_below-le t c.args.path.now) c.remove_below.ensures.acted)
 
-pub returns-clause-bound : goal.returns-clause-bound
-returns-clause-bound g c =
+pub returns-in_err-copy-clause-acted : goal.returns-in_err-copy-clause-acted
+returns-in_err-copy-clause-acted g c =
     let t = g.T.Tree.state c.args.tree.now in
-    let first = ran-length (Pruned (is_below c.args.path.now) t) (Removes (is_below c.args.path.now)) c.args.now c.remove_below.ensures.ran in
-    let last = ran-length (MayHaveGone c.args.now c.in_ok-copy.field-0 (g.T.Tree.state c.remove_below.new.tree)) (Removes (same_path c.in_ok-copy.field-0)) c.args.now c.remove.ensures.ran in
-    omega (arith, first, last, c.in_ok-remove_below.ensures.bound, c.remove.ensures.bound, count_below-lt t c.args.path.now (sym c.is_present.ensures.present ∙ c.if-not-is_present.false))
+    acted_ended g.T.Tree c.from_residual-in_err-copy.result (no_memory c.from_residual-in_err-copy.result c.from_residual-in_err-copy.ensures.1)
+    (widened g.T.Tree c.args.path.now (count_at t c.args.path.now) (count_below-le t c.args.path.now) c.in_ok-remove_below.ensures.acted)
+
+pub returns-clause-acted : goal.returns-clause-acted
+returns-clause-acted g c =
+    let moves : Moves g.T.Tree = record { stays = g.met.T.Tree.reaches_self; goes_on = g.met.T.Tree.reaches_on; never_falls = g.met.T.Tree.never_falls } in
+    let t = g.T.Tree.state c.args.tree.now in
+    let path = c.args.path.now in
+    let under = is_prefix path in
+    let count = count_below t path in
+    acted_within g.T.Tree (count + 1) (count_at t path) (omega (arith, count_below-lt t path (sym c.is_present.ensures.present ∙ c.if-not-is_present.false)))
+    (remove_then g.T.Tree moves under (widened g.T.Tree path count (omega arith) c.in_ok-remove_below.ensures.acted) c.in_ok-copy.field-0
+    (subst (λ p. is_prefix path p ≡ true) (sym c.in_ok-copy.ensures) (is_prefix-refl path)) c.remove.ensures.acted)
