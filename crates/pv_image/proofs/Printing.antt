@@ -1,6 +1,6 @@
 -- Printed bytes are read back in one way.
 use Rattle.std.proofs.Common.{◌≡◌, ◌≢◌, ℕ, ◌+◌, ◌/◌, ◌%◌, ◌<◌, Bool, true, false, nat_lt, List, [], ◌∷◌, ◌++◌, take, drop, subst, refl, sym, ap, ◌∙◌, arith, append_assoc, append-nil}
-use Rattle.std.specs.List.{prefix_len}
+use Rattle.std.specs.List.{list_all, prefix_len}
 use Rattle.std.proofs.lemmas.Bool.Decides.{nat_tests}
 use Rattle.std.proofs.lemmas.List.{take-append-drop}
 use Rattle.std.proofs.lemmas.List.Concat.{flat_map-append}
@@ -116,3 +116,10 @@ printed_more plain text bytes new rest after left byte ok so_far are small is gr
 
 pub printed_injective : (a b : List ℕ) → printed a ≡ printed b → a ≡ b
 printed_injective a b e = printed_by-injective is_plain refl a b e
+
+-- a text whose bytes are printed as themselves prints itself
+pub plain_prints : (p : ℕ → Bool) (text : List ℕ) → list_all p text ≡ true → printed_by p text ≡ text
+plain_prints p [] plain = refl
+plain_prints p (b ∷ text) plain =
+    let both = both_true (p b) (list_all p text) plain in
+    rw both.0 (ap (λ (t : List ℕ). b ∷ t) (plain_prints p text both.1))

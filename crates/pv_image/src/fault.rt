@@ -1,3 +1,4 @@
+//! Why bytes are no image.
 ghost use Rattle.std.specs.Prelude.{◌≡◌};
 ghost use Rattle.pv_image.specs.declared.fault.ImageFault.TheVariants.{Memory};
 

@@ -1,16 +1,34 @@
 //! Printed names and paths, read back.
 ghost use Rattle.std.specs.Prelude.{◌≡◌, ◌↔◌, IsTrue, true, List, [], ◌∷◌, map, IfOk};
-ghost use Rattle.pv_path.specs.Printing.{printed, printed_path};
+ghost use Rattle.std.specs.List.{list_all};
+ghost use Rattle.pv_path.specs.Printing.{is_plain_but, printed, printed_path};
 ghost use Rattle.pv_image.specs.Spelling.{IsByteName, IsBytePath, path_texts};
 ghost use Rattle.pv_image.specs.Reading.{Reads, texts};
 
 use crate::pieces::pieces_of;
 use crate::printed::read_printed;
-use pv_path::{Name, TreePath, is_name};
+use pv_path::{Name, TreePath, is_name, is_plain};
 use std::alloc::{AllocError, Global};
+
+/// Whether each byte of a text is printed as itself.
+fn is_plain_text(text: &[u8]) -> bool
+    ensures { result ≡ list_all (is_plain_but []) text.now }
+{
+    text.iter().all(|b| is_plain(*b, b""))
+}
 
 /// The name that a text prints.
 fn read_name(alloc: Global, text: &[u8]) -> Result<Option<Name>, AllocError>
+    ensures { IfOk result (Reads printed IsByteName text.now) }
+{
+    if is_plain_text(text) && is_name(text) {
+        return Ok(Some(Name::of(alloc, text)?));
+    }
+    read_printed_name(alloc, text)
+}
+
+/// The name that a text prints, of which some bytes may stand for others.
+fn read_printed_name(alloc: Global, text: &[u8]) -> Result<Option<Name>, AllocError>
     ensures { IfOk result (Reads printed IsByteName text.now) }
 {
     let Some(bytes) = read_printed(alloc, text)? else {

@@ -14,7 +14,7 @@ use crate::pieces::pieces_of;
 use crate::version::Version;
 use pv_acl::{Acl, read_acl};
 use pv_path::TreePath;
-use pv_steps::{Kind, Node, Object, Stamps};
+use pv_steps::{Kind, Node, Object, Stamps, special_bits};
 use std::alloc::{AllocError, Global};
 
 /// The columns of a node that are letters and digits alone.
@@ -106,7 +106,7 @@ fn object_of(plain: Plain, acl: Acl, extras: Extras, payload: Payload) -> Object
     Object {
         node: Node {
             kind: plain.kind,
-            special: (plain.mode / 512) as u8,
+            special: special_bits(plain.mode),
             uid: plain.uid,
             gid: plain.gid,
             acl,

@@ -1,3 +1,4 @@
+//! Texts cut at a byte.
 ghost use Rattle.std.specs.Prelude.{◌≡◌, ◌==◌, IfOk};
 ghost use Rattle.std.specs.List.{slice_split};
 ghost use Rattle.pv_image.specs.Reading.{texts};
@@ -8,5 +9,7 @@ use std::alloc::{AllocError, Global};
 pub(crate) fn pieces_of(alloc: Global, text: &[u8], byte: u8) -> Result<Vec<&[u8]>, AllocError>
     ensures { IfOk result (λ pieces. texts pieces.items ≡ slice_split (λ b. b == byte) text.now) }
 {
-    text.split(|b| *b == byte).collect(alloc)
+    let mut pieces = Vec::with_capacity(alloc, 12)?;
+    pieces.extend(text.split(|b| *b == byte))?;
+    Ok(pieces)
 }

@@ -47,7 +47,7 @@ pub(crate) fn read_printed_but(
 ) -> Result<Option<Bytes>, AllocError>
     ensures { IfOk result (Reads (printed_by (is_plain_but hidden.now)) IsByteText text.now) }
 {
-    let mut bytes = Vec::new(alloc);
+    let mut bytes = Vec::with_capacity(alloc, text.len())?;
     let mut rest = text;
     while !rest.is_empty() {
         match next_byte(rest, hidden) {

@@ -1,3 +1,4 @@
+//! Tests of images, by rows of lines and objects.
 use super::*;
 use pv_path::{TreePath, parse_path};
 use pv_text::{Facts, Tool, expand};

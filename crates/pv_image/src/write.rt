@@ -13,6 +13,7 @@ ghost use Rattle.pv_image.specs.Spelling.{are_bytes, attr_text, attrs_text, cont
 ghost use Rattle.pv_image.specs.Writing.{with_columns};
 
 use base64::engine::general_purpose::STANDARD;
+use itoa::Buffer;
 use pv_acl::{Acl, Part, print_acl};
 use pv_path::{Name, add_printed, add_printed_but};
 use pv_steps::{Attr, Kind, LetterSet, Node, Stamps};
@@ -86,16 +87,11 @@ fn add_content(alloc: Global, output: &mut Vec<u8>, content: &[u8]) -> Result<()
 }
 
 /// Adds a space and two numbers with a colon between them.
-fn add_numbers(
-    alloc: Global,
-    output: &mut Vec<u8>,
-    major: u32,
-    minor: u32,
-) -> Result<(), AllocError>
+fn add_numbers(output: &mut Vec<u8>, major: u32, minor: u32) -> Result<(), AllocError>
     ensures { OnOk result (output.new.items ≡ output.old.items ++ 32 ∷ numbers_text (major, minor)) }
 {
-    add_number(alloc, output, b' ', u64::from(major))?;
-    add_number(alloc, output, b':', u64::from(minor))
+    add_number(output, b' ', u64::from(major))?;
+    add_number(output, b':', u64::from(minor))
 }
 
 /// Adds a space and what an object keeps beside its attributes.
@@ -111,9 +107,7 @@ fn add_payload(
     match node.kind {
         Kind::File => add_content(alloc, output, payload),
         Kind::Link => add_printed_column(output, payload),
-        Kind::CharDevice | Kind::BlockDevice => {
-            add_numbers(alloc, output, node.major, node.minor)
-        }
+        Kind::CharDevice | Kind::BlockDevice => { add_numbers(output, node.major, node.minor) }
         Kind::Directory | Kind::Fifo => add_column(output, b"-"),
     }
 }
@@ -140,28 +134,23 @@ fn add_mode(output: &mut Vec<u8>, special: u8, access: &Part) -> Result<(), Allo
 }
 
 /// Adds a separator and a decimal number.
-fn add_number(
-    alloc: Global,
-    output: &mut Vec<u8>,
-    separator: u8,
-    number: u64,
-) -> Result<(), AllocError>
+fn add_number(output: &mut Vec<u8>, separator: u8, number: u64) -> Result<(), AllocError>
     ensures { OnOk result (output.new.items ≡ output.old.items ++ separator ∷ decimal number) }
 {
-    let text = number.to_string(alloc)?;
+    let mut buffer = Buffer::new();
     output.push(separator)?;
-    output.extend_from_slice(text.as_bytes())?;
+    output.extend_from_slice(buffer.format(number).as_bytes())?;
     Ok(())
 }
 
 /// Adds a space and the four stamps.
-fn add_stamps(alloc: Global, output: &mut Vec<u8>, stamps: &Stamps) -> Result<(), AllocError>
+fn add_stamps(output: &mut Vec<u8>, stamps: &Stamps) -> Result<(), AllocError>
     ensures { OnOk result (output.new.items ≡ output.old.items ++ 32 ∷ stamps_text stamps.now) }
 {
-    add_number(alloc, output, b' ', stamps.access)?;
-    add_number(alloc, output, b',', stamps.birth)?;
-    add_number(alloc, output, b',', stamps.change)?;
-    add_number(alloc, output, b',', stamps.modify)
+    add_number(output, b' ', stamps.access)?;
+    add_number(output, b',', stamps.birth)?;
+    add_number(output, b',', stamps.change)?;
+    add_number(output, b',', stamps.modify)
 }
 
 /// Adds a slash and printed bytes.
@@ -202,6 +191,9 @@ fn add_path(output: &mut Vec<u8>, path: &[Name]) -> Result<(), AllocError>
 fn add_acl(alloc: Global, output: &mut Vec<u8>, acl: &Acl) -> Result<(), AllocError>
     ensures { OnOk result (output.new.items ≡ output.old.items ++ 32 ∷ acl_text acl.now) }
 {
+    if acl.is_minimal() {
+        return add_column(output, b"-");
+    }
     let text = print_acl(alloc, acl)?;
     add_column(output, text.as_slice())
 }
@@ -246,6 +238,9 @@ fn add_attrs(output: &mut Vec<u8>, attrs: &[Attr]) -> Result<(), AllocError>
 fn add_letters(alloc: Global, output: &mut Vec<u8>, letters: LetterSet) -> Result<(), AllocError>
     ensures { OnOk result (output.new.items ≡ output.old.items ++ 32 ∷ letters_text letters) }
 {
+    if letters.is_empty() {
+        return add_column(output, b"-");
+    }
     let text = letters.letters(alloc)?;
     match text.as_slice() {
         [] => add_column(output, b"-"),
@@ -254,14 +249,14 @@ fn add_letters(alloc: Global, output: &mut Vec<u8>, letters: LetterSet) -> Resul
 }
 
 /// Adds the columns of the mode, the owner and the owning group.
-fn add_owner(alloc: Global, output: &mut Vec<u8>, node: &Node) -> Result<(), AllocError>
+fn add_owner(output: &mut Vec<u8>, node: &Node) -> Result<(), AllocError>
     ensures { let n = node.now in let mode = mode_of n.special n.acl.access in
         let texts = mode_text mode ∷ decimal n.uid ∷ decimal n.gid ∷ [] in
         OnOk result (output.new.items ≡ with_columns output.old.items texts) }
 {
     add_mode(output, node.special, &node.acl.access)?;
-    add_number(alloc, output, b' ', u64::from(node.uid))?;
-    add_number(alloc, output, b' ', u64::from(node.gid))
+    add_number(output, b' ', u64::from(node.uid))?;
+    add_number(output, b' ', u64::from(node.gid))
 }
 
 /// Adds the columns of the ACL, the attributes, the letters and the payload.
@@ -296,8 +291,8 @@ pub(crate) fn add_node(
 {
     output.push(kind_letter(node.kind))?;
     add_path(output, path)?;
-    add_owner(alloc, output, node)?;
-    add_stamps(alloc, output, &node.stamps)?;
+    add_owner(output, node)?;
+    add_stamps(output, &node.stamps)?;
     add_others(alloc, output, node, payload)?;
     output.push(b'\n')?;
     Ok(())
@@ -310,7 +305,7 @@ pub fn print_node(alloc: Global, node: &Node, payload: &[u8]) -> Result<Vec<u8>,
 {
     let mut text = Vec::new(alloc);
     text.push(kind_letter(node.kind))?;
-    add_owner(alloc, &mut text, node)?;
+    add_owner(&mut text, node)?;
     add_others(alloc, &mut text, node, payload)?;
     Ok(text)
 }

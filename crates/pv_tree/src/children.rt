@@ -9,19 +9,20 @@ use crate::probe::{Probe, find, place_of};
 use pv_path::{Name, NameList};
 use std::alloc::{AllocError, Global};
 use std::cmp::Ordering;
+use std::collections::VecDeque;
 use std::marker::Model;
 use std::mem::replace;
 
 /// The names of children beside one that is sought.
 #[derive(Drop)]
 struct NameProbe<'a> {
-    entries: &'a [(Name, usize)],
+    entries: &'a VecDeque<(Name, usize)>,
     name: &'a Name,
     left: u32,
 }
 
 impl<'a> Probe for NameProbe<'a> {
-    ghost orders = { λ p. orders_of p.name.now p.entries.now };
+    ghost orders = { λ p. orders_of p.name.now p.entries.now.items };
 
     ghost left = { λ p. p.left };
 
@@ -32,12 +33,12 @@ impl<'a> Probe for NameProbe<'a> {
 }
 
 /// The number that stands at a name, or nothing where it is absent. It asks at most 64 questions.
-fn number_of(entries: &Vec<(Name, usize)>, name: &Name) -> Option<usize>
+fn number_of(entries: &VecDeque<(Name, usize)>, name: &Name) -> Option<usize>
     requires { IsSorted entries.now.items }
     ensures { result ≡ fin.find name_cmp name.now entries.now.items }
 {
     let mut probe = NameProbe {
-        entries: entries.as_slice(),
+        entries,
         name,
         left: 64,
     };
@@ -48,11 +49,11 @@ fn number_of(entries: &Vec<(Name, usize)>, name: &Name) -> Option<usize>
 }
 
 /// Whether each name stands before one.
-fn is_after_all(entries: &Vec<(Name, usize)>, name: &Name) -> bool
+fn is_after_all(entries: &VecDeque<(Name, usize)>, name: &Name) -> bool
     requires { IsSorted entries.now.items }
     ensures { result ≡ true → IsGapAt (orders_of name.now entries.now.items) (length entries.now.items) }
 {
-    match entries.last() {
+    match entries.back() {
         Some(last) => last.0.cmp(name).is_lt(),
         None => true,
     }
@@ -60,7 +61,7 @@ fn is_after_all(entries: &Vec<(Name, usize)>, name: &Name) -> bool
 
 /// The place of a name, or else the place at which it would be put. A name after all others costs one
 /// question.
-fn place(entries: &Vec<(Name, usize)>, name: &Name) -> Result<usize, usize>
+fn place(entries: &VecDeque<(Name, usize)>, name: &Name) -> Result<usize, usize>
     requires { IsSorted entries.now.items }
     ensures found { IfOk result (IsFoundAt (orders_of name.now entries.now.items)) }
     ensures gap { IfErr result (IsGapAt (orders_of name.now entries.now.items)) }
@@ -70,7 +71,7 @@ fn place(entries: &Vec<(Name, usize)>, name: &Name) -> Result<usize, usize>
         return Err(entries.len());
     }
     let mut probe = NameProbe {
-        entries: entries.as_slice(),
+        entries,
         name,
         left: 64,
     };
@@ -79,7 +80,7 @@ fn place(entries: &Vec<(Name, usize)>, name: &Name) -> Result<usize, usize>
 
 /// Puts a number at a name, and gives back the one that stood there.
 fn put_in(
-    entries: &mut Vec<(Name, usize)>,
+    entries: &mut VecDeque<(Name, usize)>,
     name: Name,
     number: usize,
 ) -> Result<Option<usize>, AllocError>
@@ -101,13 +102,16 @@ fn put_in(
 }
 
 /// Takes the entry of a name out, where there is one.
-fn take_out(entries: &mut Vec<(Name, usize)>, name: &Name) -> Option<usize>
+fn take_out(entries: &mut VecDeque<(Name, usize)>, name: &Name) -> Option<usize>
     requires { IsSorted entries.old.items }
     ensures items { entries.new.items ≡ without name.now entries.old.items }
     ensures old { result ≡ fin.find name_cmp name.now entries.old.items }
 {
     match place(entries, name) {
-        Ok(i) => Some(entries.remove(i).1),
+        Ok(i) => match entries.remove(i) {
+            Some(entry) => Some(entry.1),
+            None => unreachable!(),
+        },
         Err(_) => None,
     }
 }
@@ -116,7 +120,7 @@ fn take_out(entries: &mut Vec<(Name, usize)>, name: &Name) -> Option<usize>
 #[derive(Drop)]
 pub(crate) struct Children {
     /// In byte order of the names, each name once.
-    entries: Vec<(Name, usize)>,
+    entries: VecDeque<(Name, usize)>,
 }
 
 impl Model for Children {
@@ -139,7 +143,7 @@ impl Children {
         ensures { result ≡ fin.empty }
     {
         Children {
-            entries: Vec::new(alloc),
+            entries: VecDeque::new(alloc),
         }
     }
 
@@ -186,12 +190,12 @@ impl Children {
 }
 
 /// Copies of the names of entries.
-fn names_of(alloc: Global, entries: &Vec<(Name, usize)>) -> Result<NameList, AllocError>
+fn names_of(alloc: Global, entries: &VecDeque<(Name, usize)>) -> Result<NameList, AllocError>
     ensures { IfOk result (λ names. names ≡ map (λ e. e.0) entries.now.items) }
 {
     let mut names = NameList::new(alloc);
-    for entry in entries {
-        names.push(entry.0.copy()?)?;
+    for i in 0..entries.len() {
+        names.push(entries[i].0.copy()?)?;
     }
     Ok(names)
 }

@@ -1,6 +1,6 @@
 //! One numbered slot of the tree, and what is changed in it.
 ghost use Rattle.std.specs.Prelude.{◌≡◌, ℕ, OnOk, OnErr};
-ghost use Rattle.pv_steps.specs.Objects.{modified, changed};
+ghost use Rattle.pv_steps.specs.Objects.{modified, changed, with_mode, with_owner, with_stamps};
 ghost use Rattle.pv_tree.specs.Changes.{change_of};
 
 use crate::children::Children;
@@ -30,6 +30,36 @@ pub(crate) fn note_name(object: &mut Object, now: u64)
     object.node.stamps.change = now;
 }
 
+/// Sets the special bits and the base entries.
+fn set_mode(object: &mut Object, mode: u16, now: u64)
+    ensures { object.new ≡ with_mode mode now object.old }
+{
+    let node = &mut object.node;
+    node.special = special_bits(mode);
+    node.acl.access.set_base(mode);
+    node.stamps.change = now;
+}
+
+/// Sets the owner and the owning group.
+fn set_owner(object: &mut Object, uid: u32, gid: u32, now: u64)
+    ensures { object.new ≡ with_owner uid gid now object.old }
+{
+    let node = &mut object.node;
+    node.uid = uid;
+    node.gid = gid;
+    node.stamps.change = now;
+}
+
+/// Sets the stamps of access and modification.
+fn set_stamps(object: &mut Object, access: u64, modify: u64, now: u64)
+    ensures { object.new ≡ with_stamps access modify now object.old }
+{
+    let stamps = &mut object.node.stamps;
+    stamps.access = access;
+    stamps.modify = modify;
+    stamps.change = now;
+}
+
 /// Does a step that changes one object. After want of memory the object is as before.
 pub(crate) fn change(object: &mut Object, step: &Step, now: u64) -> Result<(), AllocError>
     ensures ok { OnOk result (object.new ≡ change_of step.now now object.old) }
@@ -40,18 +70,8 @@ pub(crate) fn change(object: &mut Object, step: &Step, now: u64) -> Result<(), A
             object.payload = content.copy()?;
             note_content(object, now);
         }
-        Step::SetMode { mode, .. } => {
-            let node = &mut object.node;
-            node.special = special_bits(*mode);
-            node.acl.access.set_base(*mode);
-            node.stamps.change = now;
-        }
-        Step::SetOwner { uid, gid, .. } => {
-            let node = &mut object.node;
-            node.uid = *uid;
-            node.gid = *gid;
-            node.stamps.change = now;
-        }
+        Step::SetMode { mode, .. } => set_mode(object, *mode, now),
+        Step::SetOwner { uid, gid, .. } => set_owner(object, *uid, *gid, now),
         Step::SetAcl { acl, .. } => {
             let node = &mut object.node;
             node.acl = acl.copy()?;
@@ -67,12 +87,7 @@ pub(crate) fn change(object: &mut Object, step: &Step, now: u64) -> Result<(), A
             node.letters = *letters;
             node.stamps.change = now;
         }
-        Step::SetStamps { access, modify, .. } => {
-            let stamps = &mut object.node.stamps;
-            stamps.access = *access;
-            stamps.modify = *modify;
-            stamps.change = now;
-        }
+        Step::SetStamps { access, modify, .. } => set_stamps(object, *access, *modify, now),
         _ => {}
     }
     Ok(())

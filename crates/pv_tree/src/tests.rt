@@ -1,19 +1,17 @@
 //! Tests of the tree in memory and of fuses.
-ghost use Rattle.std.specs.Prelude.{◌≡◌, ◌≢◌, ℕ, ◌^◌, ◌<◌, ◌≤◌, List, [], ◌∷◌, map, length, true, false};
+ghost use Rattle.std.specs.Prelude.{◌≡◌, ℕ, ◌+◌, ◌^◌, ◌<◌, ◌≤◌, length, map};
 ghost use Rattle.std.specs.Ordering.{nat_cmp};
-ghost use Rattle.pv_path.specs.Paths.{is_prefix, parent_of};
-ghost use Rattle.pv_acl.specs.Parts.{is_acl};
-ghost use Rattle.pv_steps.specs.declared.node.Kind.TheVariants.{Directory, File};
-ghost use Rattle.pv_steps.specs.Objects.{IsTarget, IsId};
-ghost use Rattle.pv_steps.specs.Trees.{places, IsPresentIn, IsAbsentIn, IsEmptyIn, IsKindIn};
-ghost use Rattle.pv_steps.specs.Steps.{HasRoom, IsOther};
 ghost use Rattle.pv_tree.specs.Finding.{IsRising};
 
+mod plain;
+mod rows;
+mod shown;
+
 use super::*;
-use crate::edits::{fresh, plain};
-use pv_acl::{Acl, print_acl, read_acl};
-use pv_path::{Bytes, Name, TreePath, is_prefix, parent, parse_path};
-use pv_steps::{Attr, AttrList, LetterSet, is_attr};
+use plain::{apply, entries_text, plain_object, put, root_object};
+use pv_path::{Bytes, Name, TreePath};
+use rows::{bytes_of, can, has_room, is_kind, path_of, perform, pieces_of, step_of};
+use shown::{add_object, add_path};
 use std::alloc::Global;
 use std::cmp::Ordering;
 use std::process::Abort;
@@ -57,776 +55,358 @@ fn finds_names_by_halving(rt: HostRuntime) {
     assert_eq!(rt; place_in(b"", b'a', 0), None);
 }
 
-/// The tree of a root alone.
+/// The tree of a root alone, a directory with mode 0755 and its stamps at 0.
 fn root_tree(rt: &impl Abort, alloc: Global) -> MemTree {
-    let Object { node, payload: _ } = plain(alloc, Kind::Directory, 0o755, 0);
+    let Object { node, payload: _ } = root_object(alloc);
     MemTree::new(alloc, node).expect(rt, "memory")
 }
 
-fn path_of(rt: &impl Abort, alloc: Global, text: &[u8]) -> TreePath {
-    parse_path(alloc, text).expect(rt, "a path")
-}
-
-/// Stops unless an object of a kind stands at a path.
-fn expect_kind<T: Tree>(rt: &impl Abort, tree: &T, path: &TreePath, kind: Kind)
-    ensures { IsKindIn kind (places (T.state tree.now)) path.now }
-{
-    match tree.look(path) {
-        Some(node) => assert!(rt; node.kind == kind),
-        None => panic!(rt; "absent"),
+/// Does the steps of some lines.
+fn run(rt: &impl Abort, alloc: Global, tree: &mut MemTree, steps: &[u8]) {
+    for line in steps.split(|b| *b == b'\n') {
+        if !line.is_empty() {
+            assert_eq!(rt; perform(rt, alloc, tree, line), Ok(()));
+        }
     }
 }
 
-/// Stops unless an object of another kind stands at a path.
-fn expect_other<T: Tree>(rt: &impl Abort, tree: &T, path: &TreePath, kind: Kind)
-    ensures { IsOther kind (places (T.state tree.now)) path.now }
-{
-    match tree.look(path) {
-        Some(node) => assert!(rt; node.kind != kind),
-        None => panic!(rt; "absent"),
-    }
-}
-
-/// Stops unless there is room for a new object at a path.
-fn expect_room<T: Tree>(rt: &impl Abort, alloc: Global, tree: &T, path: &TreePath)
-    ensures { HasRoom (places (T.state tree.now)) path.now }
-{
-    assert!(rt; tree.look(path).is_none());
-    expect_parent(rt, alloc, tree, path);
-}
-
-/// Stops unless a path lies in a directory.
-fn expect_parent<T: Tree>(rt: &impl Abort, alloc: Global, tree: &T, path: &TreePath)
-    ensures { IsKindIn Directory (places (T.state tree.now)) (parent_of path.now) }
-{
-    match parent(alloc, path).expect(rt, "memory") {
-        Some(up) => expect_kind(rt, tree, &up, Kind::Directory),
-        None => panic!(rt; "the root"),
-    }
-}
-
-/// Stops unless a directory is empty.
-fn expect_empty<T: Tree>(rt: &impl Abort, alloc: Global, tree: &T, path: &TreePath)
-    requires { IsKindIn Directory (places (T.state tree.now)) path.now }
-    ensures { IsEmptyIn (places (T.state tree.now)) path.now }
-{
-    let names = tree.list(alloc, path).expect(rt, "memory");
-    assert!(rt; names.is_empty());
-}
-
-fn make_dir<T: Tree>(
-    rt: &impl Abort,
-    alloc: Global,
-    tree: &mut T,
-    text: &[u8],
-    now: u64,
-) -> Result<(), TreeFault> {
-    let path = path_of(rt, alloc, text);
-    expect_room(rt, alloc, tree, &path);
-    tree.step(&Step::MakeDir { path }, now)
-}
-
-fn make_file(
-    rt: &impl Abort,
-    alloc: Global,
-    tree: &mut MemTree,
-    text: &[u8],
-    now: u64,
-) -> Result<(), TreeFault> {
-    let path = path_of(rt, alloc, text);
-    expect_room(rt, alloc, tree, &path);
-    tree.step(&Step::MakeFile { path }, now)
-}
-
-fn make_fifo(
-    rt: &impl Abort,
-    alloc: Global,
-    tree: &mut MemTree,
-    text: &[u8],
-    now: u64,
-) -> Result<(), TreeFault> {
-    let path = path_of(rt, alloc, text);
-    expect_room(rt, alloc, tree, &path);
-    tree.step(&Step::MakeFifo { path }, now)
-}
-
-fn make_device(
-    rt: &impl Abort,
-    alloc: Global,
-    tree: &mut MemTree,
-    text: &[u8],
-    block: bool,
-    now: u64,
-) -> Result<(), TreeFault> {
-    let path = path_of(rt, alloc, text);
-    expect_room(rt, alloc, tree, &path);
-    let step = Step::MakeDevice {
-        path,
-        block,
-        major: 8,
-        minor: 17,
+/// Adds the line of a place. Its object is copied before it is shown.
+fn add_place(rt: &impl Abort, alloc: Global, text: &mut Vec<u8>, place: &Place<'_>) {
+    let object = Object {
+        node: place.node.copy().expect(rt, "memory"),
+        payload: bytes_of(rt, alloc, place.payload),
     };
-    tree.step(&step, now)
+    let copy = object.copy().expect(rt, "memory");
+    add_object(rt, alloc, text, place.names, &copy);
 }
 
-fn make_link(
-    rt: &impl Abort,
-    alloc: Global,
-    tree: &mut MemTree,
-    text: &[u8],
-    target: &[u8],
-    now: u64,
-) -> Result<(), TreeFault>
-    requires { IsTarget target.now }
-{
-    let path = path_of(rt, alloc, text);
-    expect_room(rt, alloc, tree, &path);
-    let target = Bytes::copy_of(alloc, target).expect(rt, "memory");
-    tree.step(&Step::MakeLink { path, target }, now)
+/// The lines of a tree.
+fn tree_text(rt: &impl Abort, alloc: Global, tree: &MemTree) -> Vec<u8> {
+    let mut text = Vec::new(alloc);
+    let mut walk = tree.walk(alloc).expect(rt, "memory");
+    while let Some(place) = walk.place() {
+        add_place(rt, alloc, &mut text, &place);
+        walk.advance().expect(rt, "memory");
+    }
+    text
 }
 
-fn write(
-    rt: &impl Abort,
-    alloc: Global,
-    tree: &mut MemTree,
-    text: &[u8],
-    content: &[u8],
-    now: u64,
-) -> Result<(), TreeFault> {
-    let path = path_of(rt, alloc, text);
-    expect_kind(rt, tree, &path, Kind::File);
-    let content = Bytes::copy_of(alloc, content).expect(rt, "memory");
-    tree.step(&Step::Write { path, content }, now)
+/// Steps, and the lines of the tree that they leave of a root alone.
+static RUNS: [(&[u8], &[u8]); 15] = [
+    (
+        b"7 mkdir /d\n8 symlink /d/l ../x\n9 mkfile /d/f\n10 mkfifo /d/p\n11 mknod /d/b b\n12 mknod /d/c c",
+        b"d / 0755 0 0 0:0 0,0,7,7 - - - -\n\
+        d /d 0700 0 0 0:0 7,7,12,12 - - - -\n\
+        b /d/b 0600 0 0 8:17 11,11,11,11 - - - -\n\
+        c /d/c 0600 0 0 8:17 12,12,12,12 - - - -\n\
+        f /d/f 0600 0 0 0:0 9,9,9,9 - - - -\n\
+        l /d/l 0777 0 0 0:0 8,8,8,8 - - - ../x\n\
+        p /d/p 0600 0 0 0:0 10,10,10,10 - - - -\n",
+    ),
+    (
+        b"2 mkfile /f\n3 write /f xy",
+        b"d / 0755 0 0 0:0 0,0,2,2 - - - -\n\
+        f /f 0600 0 0 0:0 2,2,3,3 - - - xy\n",
+    ),
+    (
+        b"2 mkfile /f\n3 write /f xy\n4 chmod /f 4640",
+        b"d / 0755 0 0 0:0 0,0,2,2 - - - -\n\
+        f /f 4640 0 0 0:0 2,2,4,3 - - - xy\n",
+    ),
+    (
+        b"2 mkfile /f\n3 write /f xy\n4 chmod /f 4640\n5 chown /f 5 6",
+        b"d / 0755 0 0 0:0 0,0,2,2 - - - -\n\
+        f /f 4640 5 6 0:0 2,2,5,3 - - - xy\n",
+    ),
+    (
+        b"2 mkfile /f\n3 write /f xy\n4 chmod /f 4640\n5 chown /f 5 6\n6 utime /f 60 61",
+        b"d / 0755 0 0 0:0 0,0,2,2 - - - -\n\
+        f /f 4640 5 6 0:0 60,2,6,61 - - - xy\n",
+    ),
+    (
+        b"2 mkfile /f\n3 setfattr /f user.a 1\n4 chattr /f i",
+        b"d / 0755 0 0 0:0 0,0,2,2 - - - -\n\
+        f /f 0600 0 0 0:0 2,2,4,2 - user.a=1, i -\n",
+    ),
+    (
+        b"7 setfacl / 0750 u:1000:rw-,m::r--,d:u::rwx,d:u:5:r--,d:g::r-x,d:o::---",
+        b"d / 0750 0 0 0:0 0,0,7,0 u:1000:rw-,m::r--,d:u::rwx,d:u:5:r--,d:g::r-x,d:o::--- - - -\n",
+    ),
+    (
+        b"7 setfacl / 0750 u:1000:rw-,m::r--,d:u::rwx,d:u:5:r--,d:g::r-x,d:o::---\n8 chmod / 1604",
+        b"d / 1604 0 0 0:0 0,0,8,0 u:1000:rw-,m::r--,d:u::rwx,d:u:5:r--,d:g::r-x,d:o::--- - - -\n",
+    ),
+    (
+        b"7 setfacl / 0750 u:1000:rw-,m::r--,d:u::rwx,d:u:5:r--,d:g::r-x,d:o::---\n8 chmod / 1604\n9 setfacl / 0711 -",
+        b"d / 1711 0 0 0:0 0,0,9,0 - - - -\n",
+    ),
+    (
+        b"1 mkdir /b\n2 mkfile /b/a\n3 rename /b /a",
+        b"d / 0755 0 0 0:0 0,0,3,3 - - - -\n\
+        d /a 0700 0 0 0:0 1,1,3,2 - - - -\n\
+        f /a/a 0600 0 0 0:0 2,2,2,2 - - - -\n",
+    ),
+    (
+        b"1 mkdir /b\n2 mkfile /b/a\n3 rename /b /a\n4 unlink /a/a",
+        b"d / 0755 0 0 0:0 0,0,3,3 - - - -\n\
+        d /a 0700 0 0 0:0 1,1,4,4 - - - -\n",
+    ),
+    (
+        b"1 mkdir /b\n2 mkfile /b/a\n3 rename /b /a\n4 unlink /a/a\n5 rmdir /a",
+        b"d / 0755 0 0 0:0 0,0,5,5 - - - -\n",
+    ),
+    (
+        b"1 mkdir /d\n2 mkfile /d/f\n3 write /d/f old\n4 mkfile /g\n5 write /g new\n6 rename /g /d/f",
+        b"d / 0755 0 0 0:0 0,0,6,6 - - - -\n\
+        d /d 0700 0 0 0:0 1,1,6,6 - - - -\n\
+        f /d/f 0600 0 0 0:0 4,4,6,5 - - - new\n",
+    ),
+    (
+        b"1 mkdir /a\n2 mkdir /b\n3 mkfile /b/f\n4 rename /b /a",
+        b"d / 0755 0 0 0:0 0,0,4,4 - - - -\n\
+        d /a 0700 0 0 0:0 2,2,4,3 - - - -\n\
+        f /a/f 0600 0 0 0:0 3,3,3,3 - - - -\n",
+    ),
+    (
+        b"1 mkfile /b\n2 mkfile /a\n3 mkfile /b!\n4 mkfile /Z",
+        b"d / 0755 0 0 0:0 0,0,4,4 - - - -\n\
+        f /Z 0600 0 0 0:0 4,4,4,4 - - - -\n\
+        f /a 0600 0 0 0:0 2,2,2,2 - - - -\n\
+        f /b 0600 0 0 0:0 1,1,1,1 - - - -\n\
+        f /b! 0600 0 0 0:0 3,3,3,3 - - - -\n",
+    ),
+];
+
+#[test]
+fn leaves_what_each_step_says(rt: HostRuntime) {
+    let alloc = rt.alloc();
+    for (steps, lines) in RUNS {
+        let mut tree = root_tree(&rt, alloc);
+        run(&rt, alloc, &mut tree, steps);
+        let text = tree_text(&rt, alloc, &tree);
+        assert_eq!(rt; text.as_slice(), lines);
+    }
 }
 
-fn set_mode(
-    rt: &impl Abort,
-    alloc: Global,
-    tree: &mut MemTree,
-    text: &[u8],
-    mode: u16,
-    now: u64,
-) -> Result<(), TreeFault>
-    requires { mode ≤ 4095 }
-{
-    let path = path_of(rt, alloc, text);
-    expect_other(rt, tree, &path, Kind::Link);
-    tree.step(&Step::SetMode { path, mode }, now)
-}
-
-fn set_owner(
-    rt: &impl Abort,
-    alloc: Global,
-    tree: &mut MemTree,
-    text: &[u8],
-    uid: u32,
-    gid: u32,
-    now: u64,
-) -> Result<(), TreeFault>
-    requires user { IsId uid }
-    requires group { IsId gid }
-{
-    let path = path_of(rt, alloc, text);
-    expect_other(rt, tree, &path, Kind::Link);
-    tree.step(&Step::SetOwner { path, uid, gid }, now)
-}
-
-fn set_acl(
-    rt: &impl Abort,
-    alloc: Global,
-    tree: &mut MemTree,
-    text: &[u8],
-    acl: Acl,
-    now: u64,
-) -> Result<(), TreeFault>
-    requires { is_acl acl ≡ true }
-{
-    let path = path_of(rt, alloc, text);
-    expect_other(rt, tree, &path, Kind::Link);
-    expect_kind(rt, tree, &path, Kind::Directory);
-    tree.step(&Step::SetAcl { path, acl }, now)
-}
-
-fn set_attrs(
-    rt: &impl Abort,
-    alloc: Global,
-    tree: &mut MemTree,
-    text: &[u8],
-    attrs: AttrList,
-    now: u64,
-) -> Result<(), TreeFault> {
-    let path = path_of(rt, alloc, text);
-    expect_other(rt, tree, &path, Kind::Link);
-    let _allowed = attrs.as_slice();
-    tree.step(&Step::SetAttrs { path, attrs }, now)
-}
-
-fn set_letters(
-    rt: &impl Abort,
-    alloc: Global,
-    tree: &mut MemTree,
-    text: &[u8],
-    letters: LetterSet,
-    now: u64,
-) -> Result<(), TreeFault> {
-    let path = path_of(rt, alloc, text);
-    expect_kind(rt, tree, &path, Kind::File);
-    tree.step(&Step::SetLetters { path, letters }, now)
-}
-
-fn set_stamps(
-    rt: &impl Abort,
-    alloc: Global,
-    tree: &mut MemTree,
-    text: &[u8],
-    access: u64,
-    modify: u64,
-    now: u64,
-) -> Result<(), TreeFault> {
-    let path = path_of(rt, alloc, text);
-    expect_other(rt, tree, &path, Kind::Link);
-    tree.step(
-        &Step::SetStamps {
-            path,
-            access,
-            modify,
-        },
-        now,
-    )
-}
-
-/// Renames a path to an absent one.
-fn rename(
-    rt: &impl Abort,
-    alloc: Global,
-    tree: &mut MemTree,
-    from: &[u8],
-    to: &[u8],
-    now: u64,
-) -> Result<(), TreeFault> {
-    let from = path_of(rt, alloc, from);
-    let to = path_of(rt, alloc, to);
-    expect_other(rt, tree, &from, Kind::Link);
-    expect_room(rt, alloc, tree, &to);
-    assert!(rt; !from.is_empty());
-    assert!(rt; !is_prefix(&from, &to));
-    tree.step(&Step::Rename { from, to }, now)
-}
-
-/// Renames an object over another one; neither is a directory.
-fn rename_over_object(
-    rt: &impl Abort,
-    alloc: Global,
-    tree: &mut MemTree,
-    from: &[u8],
-    to: &[u8],
-    now: u64,
-) -> Result<(), TreeFault> {
-    let from = path_of(rt, alloc, from);
-    let to = path_of(rt, alloc, to);
-    expect_other(rt, tree, &from, Kind::Directory);
-    expect_other(rt, tree, &to, Kind::Directory);
-    expect_parent(rt, alloc, tree, &to);
-    assert!(rt; !from.is_empty());
-    assert!(rt; !is_prefix(&from, &to));
-    tree.step(&Step::Rename { from, to }, now)
-}
-
-/// Renames a directory over an empty one.
-fn rename_over_directory(
-    rt: &impl Abort,
-    alloc: Global,
-    tree: &mut MemTree,
-    from: &[u8],
-    to: &[u8],
-    now: u64,
-) -> Result<(), TreeFault> {
-    let from = path_of(rt, alloc, from);
-    let to = path_of(rt, alloc, to);
-    expect_kind(rt, tree, &from, Kind::Directory);
-    expect_kind(rt, tree, &to, Kind::Directory);
-    expect_empty(rt, alloc, tree, &to);
-    expect_parent(rt, alloc, tree, &to);
-    assert!(rt; !from.is_empty());
-    assert!(rt; !is_prefix(&from, &to));
-    tree.step(&Step::Rename { from, to }, now)
-}
-
-fn unlink(
-    rt: &impl Abort,
-    alloc: Global,
-    tree: &mut MemTree,
-    text: &[u8],
-    now: u64,
-) -> Result<(), TreeFault> {
-    let path = path_of(rt, alloc, text);
-    expect_other(rt, tree, &path, Kind::Directory);
-    tree.step(&Step::Unlink { path }, now)
-}
-
-fn remove_dir(
-    rt: &impl Abort,
-    alloc: Global,
-    tree: &mut MemTree,
-    text: &[u8],
-    now: u64,
-) -> Result<(), TreeFault> {
-    let path = path_of(rt, alloc, text);
-    expect_kind(rt, tree, &path, Kind::Directory);
-    expect_empty(rt, alloc, tree, &path);
-    assert!(rt; !path.is_empty());
-    tree.step(&Step::RemoveDir { path }, now)
-}
-
-/// Adds a file of root with its stamps at 3.
-fn add_file(rt: &impl Abort, alloc: Global, tree: &mut MemTree, text: &[u8]) {
-    let path = path_of(rt, alloc, text);
-    expect_room(rt, alloc, tree, &path);
-    let Object { node, payload: _ } = plain(alloc, Kind::File, 0o644, 3);
+/// Adds an object with its stamps as they are.
+fn add(rt: &impl Abort, alloc: Global, tree: &mut MemTree, name: &[u8]) {
+    let path = path_of(rt, alloc, name);
+    assert!(rt; has_room(rt, alloc, tree, &path));
+    let Object { node, payload: _ } = plain_object(alloc, Kind::File, 0o644, Bytes::new(alloc), 3);
     tree.add(&path, node, b"").expect(rt, "memory");
 }
 
-/// A kind, a mode, the numbers uid, gid, major and minor, and the stamps access, birth, change and modify.
-type Seen = (Kind, u16, [u32; 4], [u64; 4]);
-
-/// What a node tells.
-fn node_seen(rt: &impl Abort, node: &Node) -> Seen {
-    assert!(rt; node.special <= 7);
-    let Stamps {
-        access,
-        birth,
-        change,
-        modify,
-    } = node.stamps;
-    (
-        node.kind,
-        node.acl.access.mode(node.special),
-        [node.uid, node.gid, node.major, node.minor],
-        [access, birth, change, modify],
-    )
-}
-
-/// What stands at a path.
-fn seen(rt: &impl Abort, alloc: Global, tree: &MemTree, text: &[u8]) -> Option<Seen> {
-    let path = path_of(rt, alloc, text);
-    match tree.look(&path) {
-        Some(node) => Some(node_seen(rt, node)),
-        None => None,
-    }
-}
-
-/// Whether an ACL has this text in images.
-fn has_text(rt: &impl Abort, alloc: Global, acl: &Acl, text: &[u8]) -> bool {
-    print_acl(alloc, acl).expect(rt, "memory").as_slice() == text
-}
-
-/// Whether the object at a path has an ACL of this text.
-fn has_acl(rt: &impl Abort, alloc: Global, tree: &MemTree, text: &[u8], acl: &[u8]) -> bool {
-    let path = path_of(rt, alloc, text);
-    match tree.look(&path) {
-        Some(node) => has_text(rt, alloc, &node.acl, acl),
-        None => false,
-    }
-}
-
-/// The ACL that a field spells beside a mode.
-fn acl_of(rt: &impl Abort, alloc: Global, field: &[u8], mode: u16) -> Acl
-    ensures { is_acl result ≡ true }
-{
-    match read_acl(alloc, field, mode, true).expect(rt, "memory") {
-        Some(acl) => acl,
-        None => panic!(rt; "no ACL"),
-    }
-}
-
-/// Whether the bytes of a file or the target of a link are these.
-fn holds(rt: &impl Abort, alloc: Global, tree: &MemTree, text: &[u8], bytes: &[u8]) -> bool {
-    let path = path_of(rt, alloc, text);
-    tree.payload_at(&path)
-        .is_some_and(|payload| payload == bytes)
-}
-
-/// Whether names are those of the path that a text spells.
-fn are_names(rt: &impl Abort, alloc: Global, names: &[Name], text: &[u8]) -> bool {
-    path_of(rt, alloc, text).names() == names
-}
-
-/// Stops unless a tree has these paths, in this order.
-fn expect_walk(rt: &impl Abort, alloc: Global, tree: &MemTree, paths: &[&[u8]]) {
-    let mut walk = tree.walk(alloc).expect(rt, "memory");
-    for path in paths {
-        match walk.place() {
-            Some(place) => assert!(rt; are_names(rt, alloc, place.names, path)),
-            None => panic!(rt; "the end"),
-        }
-        walk.advance().expect(rt, "memory");
-    }
-    assert!(rt; walk.place().is_none());
-}
-
-/// A root directory of root, with its mode and its stamps.
-fn root_seen(mode: u16, stamps: [u64; 4]) -> Option<Seen> {
-    Some((Kind::Directory, mode, [0, 0, 0, 0], stamps))
-}
-
-#[test]
-fn makes_each_kind(rt: HostRuntime) {
-    let alloc = rt.alloc();
-    let mut tree = root_tree(&rt, alloc);
-    assert_eq!(rt; make_dir(&rt, alloc, &mut tree, b"/d", 7), Ok(()));
-    assert_eq!(rt;
-        make_link(&rt, alloc, &mut tree, b"/d/l", b"../x", 8),
-        Ok(())
-    );
-    assert_eq!(rt; make_file(&rt, alloc, &mut tree, b"/d/f", 9), Ok(()));
-    assert_eq!(rt; make_fifo(&rt, alloc, &mut tree, b"/d/p", 10), Ok(()));
-    for (text, block, now) in [(b"/d/b".as_slice(), true, 11), (b"/d/c", false, 12)] {
-        assert_eq!(rt;
-            make_device(&rt, alloc, &mut tree, text, block, now),
-            Ok(())
-        );
-    }
-    for (text, kind, mode, numbers, stamps) in [
-        (
-            b"/".as_slice(),
-            Kind::Directory,
-            0o755,
-            [0, 0, 0, 0],
-            [0, 0, 7, 7],
-        ),
-        (b"/d", Kind::Directory, 0o700, [0, 0, 0, 0], [7, 7, 12, 12]),
-        (b"/d/f", Kind::File, 0o600, [0, 0, 0, 0], [9, 9, 9, 9]),
-        (b"/d/p", Kind::Fifo, 0o600, [0, 0, 0, 0], [10, 10, 10, 10]),
-        (
-            b"/d/b",
-            Kind::BlockDevice,
-            0o600,
-            [0, 0, 8, 17],
-            [11, 11, 11, 11],
-        ),
-        (
-            b"/d/c",
-            Kind::CharDevice,
-            0o600,
-            [0, 0, 8, 17],
-            [12, 12, 12, 12],
-        ),
-        (b"/d/l", Kind::Link, 0o777, [0, 0, 0, 0], [8, 8, 8, 8]),
-    ] {
-        let want = Some((kind, mode, numbers, stamps));
-        assert_eq!(rt; seen(&rt, alloc, &tree, text), want);
-        assert!(rt; has_acl(&rt, alloc, &tree, text, b"-"));
-    }
-    assert_eq!(rt; seen(&rt, alloc, &tree, b"/d/x"), None);
-    assert!(rt; holds(&rt, alloc, &tree, b"/d/l", b"../x"));
-    assert!(rt; holds(&rt, alloc, &tree, b"/d/f", b""));
-}
-
-#[test]
-fn changes_files(rt: HostRuntime) {
-    let alloc = rt.alloc();
-    let mut tree = root_tree(&rt, alloc);
-    assert_eq!(rt; make_file(&rt, alloc, &mut tree, b"/f", 2), Ok(()));
-    assert_eq!(rt; write(&rt, alloc, &mut tree, b"/f", b"xy", 3), Ok(()));
-    let written = (Kind::File, 0o600, [0, 0, 0, 0], [2, 2, 3, 3]);
-    assert_eq!(rt; seen(&rt, alloc, &tree, b"/f"), Some(written));
-    assert_eq!(rt; set_mode(&rt, alloc, &mut tree, b"/f", 0o4640, 4), Ok(()));
-    let moded = (Kind::File, 0o4640, [0, 0, 0, 0], [2, 2, 4, 3]);
-    assert_eq!(rt; seen(&rt, alloc, &tree, b"/f"), Some(moded));
-    assert_eq!(rt; set_owner(&rt, alloc, &mut tree, b"/f", 5, 6, 5), Ok(()));
-    let owned = (Kind::File, 0o4640, [5, 6, 0, 0], [2, 2, 5, 3]);
-    assert_eq!(rt; seen(&rt, alloc, &tree, b"/f"), Some(owned));
-    assert_eq!(rt; set_stamps(&rt, alloc, &mut tree, b"/f", 60, 61, 6), Ok(()));
-    let stamped = (Kind::File, 0o4640, [5, 6, 0, 0], [60, 2, 6, 61]);
-    assert_eq!(rt; seen(&rt, alloc, &tree, b"/f"), Some(stamped));
-    assert!(rt; holds(&rt, alloc, &tree, b"/f", b"xy"));
-    assert_eq!(rt;
-        seen(&rt, alloc, &tree, b"/"),
-        root_seen(0o755, [0, 0, 2, 2])
-    );
-    assert_eq!(rt; tree.step_count(), 5);
-}
-
-/// The list of one attribute.
-fn attr_of(rt: &impl Abort, alloc: Global, name: &[u8], value: &[u8]) -> AttrList {
-    let name = Bytes::copy_of(alloc, name).expect(rt, "memory");
-    let value = Bytes::copy_of(alloc, value).expect(rt, "memory");
-    assert!(rt; is_attr(name.as_slice(), value.as_slice()));
-    let mut attrs = AttrList::new(alloc);
-    attrs.put(Attr { name, value }).expect(rt, "memory");
-    attrs
-}
-
-/// Whether the object at a path has this one attribute and this one letter.
-fn has_attr(rt: &impl Abort, alloc: Global, tree: &MemTree, name: &[u8], letter: u8) -> bool {
-    let path = path_of(rt, alloc, b"/f");
-    match tree.look(&path) {
-        Some(node) => match node.attrs.as_slice() {
-            [attr] => attr.name.as_slice() == name && node.letters.has(letter),
-            _ => false,
-        },
-        None => false,
-    }
-}
-
-#[test]
-fn sets_attributes_and_letters(rt: HostRuntime) {
-    let alloc = rt.alloc();
-    let mut tree = root_tree(&rt, alloc);
-    assert_eq!(rt; make_file(&rt, alloc, &mut tree, b"/f", 2), Ok(()));
-    let attrs = attr_of(&rt, alloc, b"user.a", b"1");
-    assert_eq!(rt; set_attrs(&rt, alloc, &mut tree, b"/f", attrs, 3), Ok(()));
-    let letters = LetterSet::of(b'i').expect(&rt, "a letter");
-    assert_eq!(rt;
-        set_letters(&rt, alloc, &mut tree, b"/f", letters, 4),
-        Ok(())
-    );
-    assert!(rt; has_attr(&rt, alloc, &tree, b"user.a", b'i'));
-    let set = (Kind::File, 0o600, [0, 0, 0, 0], [2, 2, 4, 2]);
-    assert_eq!(rt; seen(&rt, alloc, &tree, b"/f"), Some(set));
-}
-
-#[test]
-fn modes_leave_named_entries(rt: HostRuntime) {
-    let alloc = rt.alloc();
-    let text = b"u:1000:rw-,m::r--,d:u::rwx,d:u:5:r--,d:g::r-x,d:o::---".as_slice();
-    let mut tree = root_tree(&rt, alloc);
-    let acl = acl_of(&rt, alloc, text, 0o750);
-    assert_eq!(rt; set_acl(&rt, alloc, &mut tree, b"/", acl, 7), Ok(()));
-    assert_eq!(rt;
-        seen(&rt, alloc, &tree, b"/"),
-        root_seen(0o750, [0, 0, 7, 0])
-    );
-    assert!(rt; has_acl(&rt, alloc, &tree, b"/", text));
-    assert_eq!(rt; set_mode(&rt, alloc, &mut tree, b"/", 0o1604, 8), Ok(()));
-    assert_eq!(rt;
-        seen(&rt, alloc, &tree, b"/"),
-        root_seen(0o1604, [0, 0, 8, 0])
-    );
-    assert!(rt; has_acl(&rt, alloc, &tree, b"/", text));
-    let acl = Acl::of_mode(alloc, 0o711);
-    assert_eq!(rt; set_acl(&rt, alloc, &mut tree, b"/", acl, 9), Ok(()));
-    assert_eq!(rt;
-        seen(&rt, alloc, &tree, b"/"),
-        root_seen(0o1711, [0, 0, 9, 0])
-    );
-    assert!(rt; has_acl(&rt, alloc, &tree, b"/", b"-"));
-}
-
-#[test]
-fn moves_and_removes(rt: HostRuntime) {
-    let alloc = rt.alloc();
-    let mut tree = root_tree(&rt, alloc);
-    assert_eq!(rt; make_dir(&rt, alloc, &mut tree, b"/b", 1), Ok(()));
-    assert_eq!(rt; make_file(&rt, alloc, &mut tree, b"/b/a", 2), Ok(()));
-    assert_eq!(rt; rename(&rt, alloc, &mut tree, b"/b", b"/a", 3), Ok(()));
-    assert_eq!(rt; seen(&rt, alloc, &tree, b"/b"), None);
-    assert_eq!(rt; seen(&rt, alloc, &tree, b"/b/a"), None);
-    assert_eq!(rt;
-        seen(&rt, alloc, &tree, b"/"),
-        root_seen(0o755, [0, 0, 3, 3])
-    );
-    assert_eq!(rt;
-        seen(&rt, alloc, &tree, b"/a"),
-        root_seen(0o700, [1, 1, 3, 2])
-    );
-    assert_eq!(rt;
-        seen(&rt, alloc, &tree, b"/a/a"),
-        Some((Kind::File, 0o600, [0, 0, 0, 0], [2, 2, 2, 2]))
-    );
-    assert_eq!(rt; unlink(&rt, alloc, &mut tree, b"/a/a", 4), Ok(()));
-    assert_eq!(rt;
-        seen(&rt, alloc, &tree, b"/a"),
-        root_seen(0o700, [1, 1, 4, 4])
-    );
-    assert_eq!(rt; remove_dir(&rt, alloc, &mut tree, b"/a", 5), Ok(()));
-    assert_eq!(rt;
-        seen(&rt, alloc, &tree, b"/"),
-        root_seen(0o755, [0, 0, 5, 5])
-    );
-    expect_walk(&rt, alloc, &tree, &[b"/"]);
-}
-
-#[test]
-fn moves_over_a_file(rt: HostRuntime) {
-    let alloc = rt.alloc();
-    let mut tree = root_tree(&rt, alloc);
-    assert_eq!(rt; make_dir(&rt, alloc, &mut tree, b"/d", 1), Ok(()));
-    assert_eq!(rt; make_file(&rt, alloc, &mut tree, b"/d/f", 2), Ok(()));
-    assert_eq!(rt; write(&rt, alloc, &mut tree, b"/d/f", b"old", 3), Ok(()));
-    assert_eq!(rt; make_file(&rt, alloc, &mut tree, b"/g", 4), Ok(()));
-    assert_eq!(rt; write(&rt, alloc, &mut tree, b"/g", b"new", 5), Ok(()));
-    assert_eq!(rt;
-        rename_over_object(&rt, alloc, &mut tree, b"/g", b"/d/f", 6),
-        Ok(())
-    );
-    assert_eq!(rt; seen(&rt, alloc, &tree, b"/g"), None);
-    assert_eq!(rt;
-        seen(&rt, alloc, &tree, b"/d/f"),
-        Some((Kind::File, 0o600, [0, 0, 0, 0], [4, 4, 6, 5]))
-    );
-    assert!(rt; holds(&rt, alloc, &tree, b"/d/f", b"new"));
-    assert_eq!(rt;
-        seen(&rt, alloc, &tree, b"/d"),
-        root_seen(0o700, [1, 1, 6, 6])
-    );
-    assert_eq!(rt;
-        seen(&rt, alloc, &tree, b"/"),
-        root_seen(0o755, [0, 0, 6, 6])
-    );
-    expect_walk(&rt, alloc, &tree, &[b"/", b"/d", b"/d/f"]);
-}
-
-#[test]
-fn moves_over_an_empty_directory(rt: HostRuntime) {
-    let alloc = rt.alloc();
-    let mut tree = root_tree(&rt, alloc);
-    assert_eq!(rt; make_dir(&rt, alloc, &mut tree, b"/a", 1), Ok(()));
-    assert_eq!(rt; make_dir(&rt, alloc, &mut tree, b"/b", 2), Ok(()));
-    assert_eq!(rt; make_file(&rt, alloc, &mut tree, b"/b/f", 3), Ok(()));
-    assert_eq!(rt;
-        rename_over_directory(&rt, alloc, &mut tree, b"/b", b"/a", 4),
-        Ok(())
-    );
-    assert_eq!(rt; seen(&rt, alloc, &tree, b"/b"), None);
-    assert_eq!(rt;
-        seen(&rt, alloc, &tree, b"/a"),
-        root_seen(0o700, [2, 2, 4, 3])
-    );
-    assert_eq!(rt;
-        seen(&rt, alloc, &tree, b"/a/f"),
-        Some((Kind::File, 0o600, [0, 0, 0, 0], [3, 3, 3, 3]))
-    );
-    assert_eq!(rt;
-        seen(&rt, alloc, &tree, b"/"),
-        root_seen(0o755, [0, 0, 4, 4])
-    );
-    expect_walk(&rt, alloc, &tree, &[b"/", b"/a", b"/a/f"]);
-}
-
-#[test]
-fn lists_in_order(rt: HostRuntime) {
-    let alloc = rt.alloc();
-    let mut tree = root_tree(&rt, alloc);
-    for text in [b"/b".as_slice(), b"/a", b"/b!", b"/Z"] {
-        add_file(&rt, alloc, &mut tree, text);
-    }
+/// The names in the root, each after a slash.
+fn names_text(rt: &impl Abort, alloc: Global, tree: &MemTree) -> Vec<u8> {
+    let mut text = Vec::new(alloc);
     let root = TreePath::root(alloc);
-    expect_kind(&rt, &tree, &root, Kind::Directory);
-    let names = tree.names_at(alloc, &root).expect(&rt, "memory");
-    assert_eq!(rt; names.len(), 4);
-    for (i, name) in [b"Z".as_slice(), b"a", b"b", b"b!"].iter().enumerate() {
-        assert!(rt; names.get(i).is_some_and(|n| n.bytes() == *name));
+    assert!(rt; is_kind(tree, &root, Kind::Directory));
+    let names = tree.names_at(alloc, &root).expect(rt, "memory");
+    add_path(rt, &mut text, names.as_slice());
+    text
+}
+
+#[test]
+fn adds_and_lists_in_order(rt: HostRuntime) {
+    let alloc = rt.alloc();
+    let mut tree = root_tree(&rt, alloc);
+    for name in [b"/b".as_slice(), b"/a", b"/b!", b"/Z"] {
+        add(&rt, alloc, &mut tree, name);
     }
+    let names = names_text(&rt, alloc, &tree);
+    assert_eq!(rt; names.as_slice(), b"/Z/a/b/b!".as_slice());
+    let text = tree_text(&rt, alloc, &tree);
     assert_eq!(rt;
-        seen(&rt, alloc, &tree, b"/"),
-        root_seen(0o755, [0, 0, 0, 0])
+        text.as_slice(),
+        b"d / 0755 0 0 0:0 0,0,0,0 - - - -\n\
+        f /Z 0644 0 0 0:0 3,3,3,3 - - - -\n\
+        f /a 0644 0 0 0:0 3,3,3,3 - - - -\n\
+        f /b 0644 0 0 0:0 3,3,3,3 - - - -\n\
+        f /b! 0644 0 0 0:0 3,3,3,3 - - - -\n"
+            .as_slice()
     );
-    assert_eq!(rt;
-        seen(&rt, alloc, &tree, b"/b!"),
-        Some((Kind::File, 0o644, [0, 0, 0, 0], [3, 3, 3, 3]))
-    );
-    expect_walk(&rt, alloc, &tree, &[b"/", b"/Z", b"/a", b"/b", b"/b!"]);
     assert_eq!(rt; tree.step_count(), 0);
 }
 
 /// Whether a tree lends these bytes of a file.
-fn lends_bytes<T: Tree>(
-    rt: &impl Abort,
-    alloc: Global,
-    tree: &T,
-    text: &[u8],
-    want: &[u8],
-) -> bool {
-    let path = path_of(rt, alloc, text);
-    expect_kind(rt, tree, &path, Kind::File);
-    tree.bytes(&path) == want
+fn lends_bytes<T: Tree>(rt: &impl Abort, tree: &T, path: &TreePath, want: &[u8]) -> bool {
+    assert!(rt; is_kind(tree, path, Kind::File));
+    tree.bytes(path) == want
 }
 
 /// Whether a tree lends this target of a link.
-fn lends_target<T: Tree>(
-    rt: &impl Abort,
-    alloc: Global,
-    tree: &T,
-    text: &[u8],
-    want: &[u8],
-) -> bool {
-    let path = path_of(rt, alloc, text);
-    expect_kind(rt, tree, &path, Kind::Link);
-    tree.target(&path) == want
+fn lends_target<T: Tree>(rt: &impl Abort, tree: &T, path: &TreePath, want: &[u8]) -> bool {
+    assert!(rt; is_kind(tree, path, Kind::Link));
+    tree.target(path) == want
 }
 
 #[test]
 fn lends_payloads(rt: HostRuntime) {
     let alloc = rt.alloc();
     let mut tree = root_tree(&rt, alloc);
-    assert_eq!(rt; make_file(&rt, alloc, &mut tree, b"/f", 1), Ok(()));
-    assert_eq!(rt; write(&rt, alloc, &mut tree, b"/f", b"xy", 2), Ok(()));
-    assert_eq!(rt; make_link(&rt, alloc, &mut tree, b"/l", b"../x", 3), Ok(()));
-    assert!(rt; lends_bytes(&rt, alloc, &tree, b"/f", b"xy"));
-    assert!(rt; lends_target(&rt, alloc, &tree, b"/l", b"../x"));
+    run(
+        &rt,
+        alloc,
+        &mut tree,
+        b"1 mkfile /f\n2 write /f xy\n3 symlink /l ../x",
+    );
+    let file = path_of(&rt, alloc, b"/f");
+    let link = path_of(&rt, alloc, b"/l");
+    assert!(rt; lends_bytes(&rt, &tree, &file, b"xy"));
+    assert!(rt; lends_target(&rt, &tree, &link, b"../x"));
     let tree = Fused::new(tree, Some(0));
-    assert!(rt; lends_bytes(&rt, alloc, &tree, b"/f", b"xy"));
-    assert!(rt; lends_target(&rt, alloc, &tree, b"/l", b"../x"));
+    assert!(rt; lends_bytes(&rt, &tree, &file, b"xy"));
+    assert!(rt; lends_target(&rt, &tree, &link, b"../x"));
 }
+
+/// A limit, how two steps end under it, and the names in the root that are left.
+static LIMITS: [(Option<u64>, bool, bool, &[u8]); 4] = [
+    (None, true, true, b"/a/b"),
+    (Some(0), false, false, b"/"),
+    (Some(1), true, false, b"/a"),
+    (Some(2), true, true, b"/a/b"),
+];
 
 #[test]
 fn stops_after_the_limit(rt: HostRuntime) {
     let alloc = rt.alloc();
-    for (limit, first, second, stopped, paths) in [
-        (
-            None,
-            Ok(()),
-            Ok(()),
-            false,
-            [b"/".as_slice(), b"/a", b"/b"].as_slice(),
-        ),
-        (
-            Some(0),
-            Err(TreeFault::Failed),
-            Err(TreeFault::Failed),
-            true,
-            &[b"/"],
-        ),
-        (
-            Some(1),
-            Ok(()),
-            Err(TreeFault::Failed),
-            true,
-            &[b"/", b"/a"],
-        ),
-        (Some(2), Ok(()), Ok(()), false, &[b"/", b"/a", b"/b"]),
-    ] {
+    for (limit, first, second, names) in LIMITS {
         let mut tree = Fused::new(root_tree(&rt, alloc), limit);
-        assert_eq!(rt; make_dir(&rt, alloc, &mut tree, b"/a", 1), first);
-        assert_eq!(rt; make_dir(&rt, alloc, &mut tree, b"/b", 2), second);
-        assert_eq!(rt; tree.stopped(), stopped);
-        expect_walk(&rt, alloc, tree.inner(), paths);
-        expect_walk(&rt, alloc, &tree.into_inner(), paths);
+        assert_eq!(rt;
+            perform(&rt, alloc, &mut tree, b"1 mkdir /a").is_ok(),
+            first
+        );
+        assert_eq!(rt;
+            perform(&rt, alloc, &mut tree, b"2 mkdir /b").is_ok(),
+            second
+        );
+        assert_eq!(rt; tree.stopped(), !second);
+        assert_eq!(rt; names_text(&rt, alloc, tree.inner()).as_slice(), names);
+        assert_eq!(rt;
+            names_text(&rt, alloc, &tree.into_inner()).as_slice(),
+            names
+        );
     }
 }
 
+/// Pseudo-random numbers (a linear congruential generator).
+#[derive(Drop)]
+struct Random {
+    state: u64,
+}
+
+/// A number below a bound.
+fn next(random: &mut Random, bound: u64) -> u64
+    requires { 1 ≤ bound }
+    ensures { result < bound }
+{
+    random.state = random
+        .state
+        .wrapping_mul(6_364_136_223_846_793_005)
+        .wrapping_add(1_442_695_040_888_963_407);
+    (random.state / 4_294_967_296) % bound
+}
+
+/// Adds a path of up to three names of one letter.
+fn add_random_path(rt: &impl Abort, random: &mut Random, text: &mut Vec<u8>) {
+    for _ in 0..1 + next(random, 3) {
+        let name = b'a' + next(random, 3) as u8;
+        text.push(b'/').expect(rt, "memory");
+        text.push(name).expect(rt, "memory");
+    }
+}
+
+/// What is done at a path, and the words behind the path.
+static DEEDS: [(&[u8], &[u8]); 20] = [
+    (b"mkdir ", b""),
+    (b"mkdir ", b""),
+    (b"mkfile ", b""),
+    (b"mkfifo ", b""),
+    (b"mknod ", b" b"),
+    (b"mknod ", b" c"),
+    (b"symlink ", b" ../x"),
+    (b"write ", b" one"),
+    (b"write ", b" two"),
+    (b"chmod ", b" 4750"),
+    (b"chmod ", b" 0604"),
+    (b"chown ", b" 5 6"),
+    (b"setfacl ", b" 0750 u:1000:rw-,m::r--"),
+    (b"setfacl ", b" 0711 d:u::rwx,d:g::r-x,d:o::---"),
+    (b"setfattr ", b" user.a 1"),
+    (b"chattr ", b" i"),
+    (b"utime ", b" 60 61"),
+    (b"rename ", b" "),
+    (b"unlink ", b""),
+    (b"rmdir ", b""),
+];
+
+/// The words of a step.
+fn add_random_step(rt: &impl Abort, random: &mut Random, deed: usize, text: &mut Vec<u8>)
+    requires { deed < 20 }
+{
+    let (what, rest) = DEEDS[deed];
+    text.extend_from_slice(what).expect(rt, "memory");
+    add_random_path(rt, random, text);
+    text.extend_from_slice(rest).expect(rt, "memory");
+    if rest == b" ".as_slice() {
+        add_random_path(rt, random, text);
+    }
+}
+
+/// A pseudo-random step.
+fn random_step(rt: &impl Abort, alloc: Global, random: &mut Random, deed: usize) -> Step
+    requires { deed < 20 }
+{
+    let mut text = Vec::new(alloc);
+    add_random_step(rt, random, deed, &mut text);
+    let words = pieces_of(rt, alloc, text.as_slice(), b' ');
+    step_of(rt, alloc, words.as_slice())
+}
+
+/// Does a step in a tree and in a list, where it may be done. Whether it was done.
+fn run_beside(
+    rt: &impl Abort,
+    alloc: Global,
+    tree: &mut MemTree,
+    entries: &mut Vec<(TreePath, Object)>,
+    step: &Step,
+    now: u64,
+) -> bool {
+    if !can(rt, alloc, tree, step) {
+        return false;
+    }
+    assert_eq!(rt; tree.step(step, now), Ok(()));
+    apply(rt, alloc, entries, step, now);
+    true
+}
+
+/// Stops unless a tree and a list hold the same.
+fn expect_same(rt: &impl Abort, alloc: Global, tree: &MemTree, entries: &Vec<(TreePath, Object)>) {
+    let text = tree_text(rt, alloc, tree);
+    assert_eq!(rt;
+        text.as_slice(),
+        entries_text(rt, alloc, entries).as_slice()
+    );
+}
+
 #[test]
-fn copies_are_the_same(rt: HostRuntime) {
+fn runs_as_the_sorted_list(rt: HostRuntime) {
     let alloc = rt.alloc();
-    let payload = Bytes::copy_of(alloc, b"xy").expect(&rt, "memory");
-    let mut object = fresh(alloc, Kind::CharDevice, 0o4640, payload, 8, 17, 0);
-    let text = b"u:1000:rw-,m::r--,d:u::rwx,d:g::r-x,d:o::---".as_slice();
-    object.node.acl = acl_of(&rt, alloc, text, 0o640);
-    object.node.uid = 5;
-    object.node.gid = 6;
-    object.node.stamps = Stamps {
-        access: 1,
-        birth: 2,
-        change: 3,
-        modify: 4,
-    };
-    let copy = object.copy().expect(&rt, "memory");
-    let want = (Kind::CharDevice, 0o4640, [5, 6, 8, 17], [1, 2, 3, 4]);
-    assert_eq!(rt; node_seen(&rt, &copy.node), want);
-    assert!(rt; has_text(&rt, alloc, &copy.node.acl, text));
-    assert!(rt; copy.payload.as_slice() == b"xy".as_slice());
-    let node = copy.node.copy().expect(&rt, "memory");
-    assert_eq!(rt; node_seen(&rt, &node), want);
-    assert!(rt; has_text(&rt, alloc, &node.acl, text));
+    let mut tree = root_tree(&rt, alloc);
+    let mut entries = Vec::new(alloc);
+    put(&rt, &mut entries, TreePath::root(alloc), root_object(alloc));
+    let mut random = Random { state: 1 };
+    let mut done = [0u64; 20];
+    for now in 1..=12_000u64 {
+        let deed = next(&mut random, 20) as usize;
+        let step = random_step(&rt, alloc, &mut random, deed);
+        if run_beside(&rt, alloc, &mut tree, &mut entries, &step, now) {
+            done[deed] = done[deed].wrapping_add(1);
+        }
+        if now % 8 == 0 {
+            expect_same(&rt, alloc, &tree, &entries);
+        }
+    }
+    assert!(rt; done.iter().all(|times| *times >= 20));
+    assert!(rt; tree.step_count() >= 3000);
 }

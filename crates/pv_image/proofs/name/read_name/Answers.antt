@@ -1,13 +1,19 @@
-use Rattle.std.proofs.Common.{◌≡◌, true, false, ◌∙◌, sym, ap}
+use Rattle.std.proofs.Common.{◌≡◌, ℕ, Bool, List, [], true, sym, ap, subst, ◌∙◌, arith}
+use Rattle.std.specs.List.{list_all}
 use Rattle.pv_path.specs.Names.{is_name}
-use Rattle.pv_image.proofs.Printing.{printed_injective}
+use Rattle.pv_path.specs.Printing.{is_plain_but, printed, printed_by}
+use Rattle.pv_path.proofs.Printed.{hidden_none}
+use Rattle.pv_image.specs.Spelling.{are_bytes}
+use Rattle.pv_image.proofs.Contents.{bytes_all}
+use Rattle.pv_image.proofs.Printing.{plain_prints}
 use Rattle.pv_image.proofs.name.read_name.Goals as goal
 
-pub returns-then-not-is_name : goal.returns-then-not-is_name
-returns-then-not-is_name c =
-    λ x is e.
-    let read = rw c.in-Some.is at c.in_ok-bytes.ensures in
-    let same : x ≡ c.in-Some.bytes = printed_injective x c.in-Some.bytes (sym e ∙ read.1) in
-    let named : is_name c.as_slice.result.now ≡ true = ap is_name (c.as_slice.ensures ∙ sym same) ∙ is.name in
-    let bad : true ≡ false = sym named ∙ sym c.is_name.ensures ∙ c.if-not-is_name.true in
-    cc
+pub returns-then-is_name : goal.returns-then-is_name
+returns-then-is_name c =
+    let same : c.in_ok-of.field-0 ≡ c.args.text.now = c.in_ok-of.ensures in
+    let plain : list_all (is_plain_but []) c.args.text.now ≡ true = sym c.is_plain_text.ensures ∙ c.if-is_plain_text.true in
+    let itself : printed c.args.text.now ≡ c.args.text.now =
+    subst (λ (p : ℕ → Bool). printed_by p c.args.text.now ≡ c.args.text.now) hidden_none (plain_prints (is_plain_but []) c.args.text.now plain) in
+    let named : is_name c.args.text.now ≡ true = sym c.is_name.ensures ∙ c.if-is_name.true in
+    let fit : are_bytes c.args.text.now ≡ true = bytes_all c.args.text.now (λ i. let f = c.type_inv.text i in omega arith) in
+    (record { name = ap is_name same ∙ named; fit = ap are_bytes same ∙ fit }, sym (ap printed same ∙ itself))

@@ -60,3 +60,18 @@ loop-number-preserved c =
           (sym c.in_default-child_at.ensures.child)
           ∙ ap (left_in false N c.args.slots.now.items c.loop-number.names.items) (sym c.in-Some.ensures.items) ∙ c.loop-number.invariant.left;
     }
+
+pub loop-number-preserved-in_default-child_at-2 : goal.loop-number-preserved-in_default-child_at-2
+loop-number-preserved-in_default-child_at-2 c =
+    let N : ℕ = length c.args.slots.now.items in
+    let way : IsWay c.args.slots.now.items c.loop-number.names.items (c.pop.new.self.items ++ (c.in-Some.number, c.in-Some.next) ∷ []) =
+    subst (IsWay c.args.slots.now.items c.loop-number.names.items) c.in-Some.ensures.items c.loop-number.invariant.way in
+    let none : c.pop-closed.result ≡ None → length c.loop-number.names.items ≡ 0 =
+    λ h. (let zero = (MatchOption-at_none _ _ h c.pop-closed.ensures.cases).0 in omega (arith, zero, c.loop-number.names.ok.0)) in
+    record {
+      way = way_pop c.args.slots.now.items c.loop-number.names.items c.pop-closed.new.self.items c.pop-closed.result c.pop.new.self.items (c.in-Some.number, c.in-Some.next) c.pop-closed.ensures.items none way;
+      left =
+          left_closed c.args.slots.now.items N c.loop-number.names.items c.pop-closed.new.self.items c.pop-closed.result c.pop.new.self.items (c.in-Some.number, c.in-Some.next) c.pop-closed.ensures.items none way
+          (sym c.in_default-child_at.ensures.child)
+          ∙ ap (left_in false N c.args.slots.now.items c.loop-number.names.items) (sym c.in-Some.ensures.items) ∙ c.loop-number.invariant.left;
+    }

@@ -4,5 +4,5 @@ use Rattle.pv_tree.proofs.children.Children.child.Goals as goal
 
 pub returns-clause-child : goal.returns-clause-child
 returns-clause-child c =
-    item_read c.deref.result.now c.args.i c.get.result c.get.ensures.lookup.3
-    ∙ ap (λ (v : Entries). slice_get v c.args.i) (c.deref.ensures.value ∙ sym (as_entries c.self.inside.entries.items c.args.self.now c.self.view_is c.self.invariant))
+    item_read c.self.inside.entries.items c.args.i c.get.result c.get.ensures.item.3
+    ∙ ap (λ (v : Entries). slice_get v c.args.i) (sym (as_entries c.self.inside.entries.items c.args.self.now c.self.view_is c.self.invariant))
