@@ -1,2 +1,9 @@
-pub mod ReadLaws
+mod Spelled
+mod Sizes
+mod Rows
+mod Fields
+mod Octal
+mod Texts
+mod Letters
 pub mod LineLaws
+mod WordLaws

@@ -1,1 +1,9 @@
+pub mod Faults
+pub mod FaultNames
+pub mod Types
+pub mod TypeField
+pub mod PathField
+pub mod ModeField
+pub mod ArgumentField
+pub mod Words
 pub mod Lines

@@ -1,77 +1,136 @@
--- Lines of the form `d PATH MODE USER GROUP`, and what they ask for (tmpfiles.d(5)).
-use Rattle.std.specs.Prelude.{◌≡◌, ℕ, ◌+◌, ◌*◌, ◌^◌, ◌<◌, ◌≤◌, true, false, nat_eq, nat_le, List, [], ◌∷◌, codes, length, map, Option, Some, None, option_map, option_and_then, if◌then◌else◌}
-use Rattle.std.specs.Char.{is_digit, digit_value}
-use Rattle.std.specs.List.{list_all, starts_with}
-use Rattle.std.specs.Result.{result_ok}
-use Rattle.pv_acl.specs.Numbers.{written_id}
+-- The line that a text spells, field by field from the left, or its first fault (tmpfiles.d(5)); and what each such line is.
+use Rattle.std.specs.Prelude.{◌≡◌, ◌⊎◌, ℕ, ◌<◌, ◌≤◌, ◌^◌, Bool, true, false, not, ◌&&◌, ◌||◌, nat_le, List, [], ◌∷◌, codes, length, map, slice_get, slice_index_or, Option, Some, None, IfSome, Result, Ok, Err, if◌then◌else◌}
+use Rattle.std.specs.List.{list_all}
+use Rattle.pv_acl.specs.Applying.{is_line}
 use Rattle.pv_path.specs.Names.{same_bytes}
-use Rattle.pv_path.specs.Parsing.{path_of}
 use Rattle.pv_path.specs.Paths.{Path, has_names, has_staging}
-use Rattle.pv_steps.specs.Objects.{IsId}
+use Rattle.pv_path.specs.Results.{◌>>=◌, in_words}
+use Rattle.pv_steps.specs.Attributes.{are_attrs}
+use Rattle.pv_steps.specs.Objects.{IsId, IsTarget}
 use Rattle.pv_text.specs.Escapes.{unescaped}
 use Rattle.pv_text.specs.Facts.{Values}
-use Rattle.pv_text.specs.Fields.{fields_of, text_at}
-use Rattle.pv_text.specs.Specifiers.{expanded}
+use Rattle.pv_text.specs.Fields.{Span, fields_of, text_at}
 use Rattle.pv_text.specs.declared.place.Place.{Place}
-use Rattle.pv_text.specs.declared.tool.Tool.TheVariants.{Tmpfiles}
+use Rattle.pv_lines.specs.declared.fault.LineFault.{LineFault}
+use Rattle.pv_lines.specs.declared.fault.LineFault.TheVariants as fault
+use Rattle.pv_lines.specs.declared.line.Argument.{Argument}
+use Rattle.pv_lines.specs.declared.line.Argument.TheVariants as argument
 use Rattle.pv_lines.specs.declared.line.Line.{Line}
+use Rattle.pv_lines.specs.declared.line.LineId.{LineId}
+use Rattle.pv_lines.specs.declared.line.LinePath.{LinePath}
+use Rattle.pv_lines.specs.declared.line.LinePath.TheVariants.{Literal, Glob}
+use Rattle.pv_lines.specs.declared.types.Row.{Row}
+use Rattle.pv_lines.specs.declared.types.Wanted.{Wanted}
+use Rattle.pv_lines.specs.declared.types.Wanted.TheVariants as wanted
+use Rattle.pv_lines.specs.ArgumentField.{Lookup, argument_of}
+use Rattle.pv_lines.specs.ModeField.{mode_of, owner_of, line_age_of}
+use Rattle.pv_lines.specs.PathField.{named_of, is_root}
+use Rattle.pv_lines.specs.TypeField.{typed_of}
+use Rattle.pv_lines.specs.Types.{type_of}
 
--- ---- the fields
+-- ---- what a line says
 
--- the fields of a line from Type on, with their escapes undone
-abbrev pub texts_of : List ℕ → Option (List (List ℕ))
-texts_of line = option_map (map (λ span. unescaped (text_at line span))) (result_ok (fields_of line))
+-- the texts of the fields, with their escapes undone
+abbrev pub texts_of : List ℕ → Result (List (List ℕ)) LineFault
+texts_of line = in_words (λ f. fault.Field f) (fields_of line) >>= (λ spans. Ok (map (λ span. unescaped (text_at line span)) spans))
 
--- the value of a byte that is an octal digit
-abbrev pub octal_digit : ℕ → Option ℕ
-octal_digit b = if is_digit b 8 then Some (digit_value b) else None
+-- the text of a field that has to be there
+abbrev pub text : List (List ℕ) → ℕ → List ℕ
+text texts i = slice_index_or texts i []
 
--- the number that four octal digits make, the highest first
-abbrev pub octal_number : Option ℕ → Option ℕ → Option ℕ → Option ℕ → Option ℕ
-octal_number (Some a) (Some b) (Some c) (Some d) = Some (((a * 8 + b) * 8 + c) * 8 + d)
-octal_number _ _ _ _ = None
+-- the text of a field that may be omitted: it is not there, or it is a dash
+abbrev pub given : List (List ℕ) → ℕ → Option (List ℕ)
+given texts i = by (slice_get texts i)
+  where
+    by : Option (List ℕ) → Option (List ℕ)
+    by None = None
+    by (Some text) = if same_bytes text (codes "-") then None else Some text
 
--- the mode that four octal digits write
-abbrev pub mode_of : List ℕ → Option ℕ
-mode_of (a ∷ b ∷ c ∷ d ∷ []) = octal_number (octal_digit a) (octal_digit b) (octal_digit c) (octal_digit d)
-mode_of _ = None
+-- the line of these texts at a place, or its first fault: Type, Path, Mode, User, Group, Age, Argument
+abbrev pub line_with : Values → Lookup → Place → List (List ℕ) → Result Line LineFault
+line_with facts lookup place texts =
+    typed_of (text texts 0) >>= (λ typed.
+    named_of facts typed (text texts 1) >>= (λ named.
+    mode_of (given texts 2) >>= (λ mode.
+    owner_of fault.UnknownUser lookup.uid_named (given texts 3) >>= (λ user.
+    owner_of fault.UnknownGroup lookup.gid_named (given texts 4) >>= (λ group.
+    line_age_of typed.row (given texts 5) >>= (λ age.
+    argument_of facts lookup named.path typed.encoded typed.row.wanted (given texts 6) >>= (λ wanted.
+    Ok (record {
+      letter = typed.row.letter;
+      plus = typed.plus;
+      boot = typed.boot;
+      minus = typed.minus;
+      replace = typed.replace;
+      encoded = typed.encoded;
+      purge = typed.purge;
+      path = named.path;
+      path_text = named.text;
+      moved = named.moved;
+      mode = mode;
+      user = user;
+      group = group;
+      age = age;
+      argument = wanted;
+      place = place;
+    }))))))))
 
--- the path that an expanded text spells; `/var/run/` is the old name of `/run/`, and a path there is
--- none here
-abbrev pub current_path : List ℕ → Option Path
-current_path text = if starts_with nat_eq text (codes "/var/run/") then None else result_ok (path_of text)
-
--- the path that a text names: with its specifiers expanded
-abbrev pub named_path : Values → List ℕ → Option Path
-named_path facts text = option_and_then current_path (result_ok (expanded Tmpfiles facts text))
-
--- ---- the line
-
--- a directory, where its path, its mode, its user and its group were read
-abbrev pub directory_of : Place → Option Path → Option ℕ → Option ℕ → Option ℕ → Option Line
-directory_of place (Some path) (Some mode) (Some uid) (Some gid) = Some (record { path = path; mode = mode; uid = uid; gid = gid; place = place })
-directory_of place _ _ _ _ = None
-
--- what exactly five fields ask for, where Type is `d`
-abbrev pub line_by : Values → Place → List (List ℕ) → Option Line
-line_by facts place (letter ∷ path ∷ mode ∷ user ∷ group ∷ []) =
-    if same_bytes letter (codes "d")
-    then directory_of place (named_path facts path) (mode_of mode) (written_id user) (written_id group)
-    else None
-line_by facts place _ = None
-
--- what a line asks for that stands at a place; nothing where it has another form
-abbrev pub line_of : Values → Place → List ℕ → Option Line
-line_of facts place line = option_and_then (line_by facts place) (texts_of line)
+-- the line that a text spells at a place, or its first fault
+abbrev pub line_of : Values → Lookup → Place → List ℕ → Result Line LineFault
+line_of facts lookup place line = texts_of line >>= line_with facts lookup place
 
 -- ---- what each line is that was read
 
--- a path of names of 1 to 240 bytes without staging names, a mode, and two IDs
+-- names of 1 to 240 bytes, none of them a staging name, and fewer than 2^32
+pub record IsConfigured (path : Path) : Type 0 where
+  pub names : has_names path ≡ true
+  pub short : list_all (λ name. nat_le (length name) 240) path ≡ true
+  pub unstaged : has_staging path ≡ false
+  pub few : length path < 2 ^ 32
+
+-- a pattern has fewer than 2^32 components
+abbrev pub IsLinePath : Row → LinePath → Type 0
+IsLinePath row (Literal path) = (row.creates ≡ true) × IsConfigured path
+IsLinePath row (Glob pattern) = (row.creates ≡ false) × (list_all (λ plain. nat_le (length plain) 4294967295) pattern ≡ true)
+
+-- an argument as the type wants it
+abbrev pub IsArgument : Wanted → Argument → Type 0
+IsArgument wanted.Content (argument.FileBytes bytes) = Unit {0}
+IsArgument wanted.Bytes (argument.WriteBytes bytes) = Unit {0}
+IsArgument wanted.Target (argument.Target target) = IsTarget target
+IsArgument wanted.Source (argument.Source source) = IsConfigured source
+IsArgument wanted.Device (argument.Device major minor) = (major < 2 ^ 32) × (minor < 2 ^ 32)
+IsArgument wanted.Entries (argument.Entries entries) = is_line entries ≡ true
+IsArgument wanted.Attrs (argument.Attrs attrs) = are_attrs attrs ≡ true
+IsArgument wanted.Letters (argument.Letters how letters) = letters < 2 ^ 15
+IsArgument wanted.Nothing argument.Ignored = Unit {0}
+IsArgument _ _ = ⊥
+
+-- a modifier stands only where the type takes it
+abbrev pub Takes : Bool → Bool → Type 0
+Takes takes stands = stands ≡ true → takes ≡ true
+
+-- an owner, where one is given, is an ID
+abbrev pub AreIds : Option LineId → Type 0
+AreIds owner = IfSome owner (λ owner. IsId owner.id)
+
+-- a line by what its type takes
+pub record IsLineOf (row : Row) (line : Line) : Type 0 where
+  pub letter : line.letter ≡ row.letter
+  pub plus : Takes row.plus line.plus
+  pub replace : Takes row.replace line.replace
+  pub encoded : Takes row.encoded line.encoded
+  pub purge : Takes row.creates line.purge
+  pub path : IsLinePath row line.path
+  pub root : is_root line.path ≡ true → (row.root ≡ true) × (line.purge ≡ false)
+  pub mode : IfSome line.mode (λ mode. mode.value ≤ 0o7777)
+  pub user : AreIds line.user
+  pub group : AreIds line.group
+  pub age : IfSome line.age (λ age. row.ages ≡ true)
+  pub argument : IsArgument row.wanted line.argument
+
+-- a line as each that was read is
 pub record IsLine (line : Line) : Type 0 where
-  pub names : has_names line.path ≡ true
-  pub short : list_all (λ name. nat_le (length name) 240) line.path ≡ true
-  pub unstaged : has_staging line.path ≡ false
-  pub few : length line.path < 2 ^ 32
-  pub mode : line.mode ≤ 0o7777
-  pub uid : IsId line.uid
-  pub gid : IsId line.gid
+  pub row : Row
+  pub is_type : type_of line.letter ≡ Some row
+  pub fits : IsLineOf row line

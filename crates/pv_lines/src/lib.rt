@@ -1,11 +1,21 @@
-//! Lines of a configuration, read from their bytes.
+//! Lines of a configuration, read from their bytes (tmpfiles.d(5)).
 #![tactic(auto)]
 
+mod argument_field;
+mod attributes;
+mod fault;
 mod line;
-mod reading;
+mod mode_field;
+mod name;
+mod path_field;
+mod read;
+mod type_field;
+mod types;
 
-pub use line::Line;
-pub use reading::read_line;
+pub use fault::LineFault;
+pub use line::{Argument, Line, LineId, LineMode, LinePath};
+pub use name::name_of;
+pub use read::read_line;
 
 /// Lines in some order.
 pub type LineList = pv_path::Sequence<Line>;

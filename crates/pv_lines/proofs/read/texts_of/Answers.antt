@@ -2,8 +2,8 @@ use Rattle.std.proofs.Common.{◌≡◌, ℕ, List, length, Bor, None, option_ma
 use Rattle.std.specs.Prelude.{slice_get}
 use Rattle.pv_text.specs.Escapes.{unescaped}
 use Rattle.pv_text.specs.Fields.{text_at}
-use Rattle.pv_lines.proofs.ReadLaws.{texts_end}
-use Rattle.pv_lines.proofs.reading.texts_of.Goals as goal
+use Rattle.pv_lines.proofs.Texts.{texts_end}
+use Rattle.pv_lines.proofs.read.texts_of.Goals as goal
 
 pub returns : goal.returns
 returns c =

@@ -1,7 +1,7 @@
 use Rattle.std.proofs.Common.{◌≡◌, ◌++◌, ◌-◌, drop, length, map}
 use Rattle.pv_text.specs.Escapes.{unescaped}
 use Rattle.pv_text.specs.Fields.{text_at}
-use Rattle.pv_lines.proofs.reading.texts_of.Given as goal
+use Rattle.pv_lines.proofs.read.texts_of.Given as goal
 
 abbrev pub invariant-loop-raw : goal.invariant-loop-raw
 invariant-loop-raw l =

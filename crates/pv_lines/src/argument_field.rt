@@ -1,0 +1,259 @@
+//! The field Argument, by what the type takes.
+ghost use Rattle.std.specs.Prelude.{◌≡◌, ◌==◌, map, IfOk, IfSome};
+ghost use Rattle.std.specs.List.{slice_split};
+ghost use Rattle.std.specs.Option.{option_map};
+ghost use Rattle.pv_lines.specs.ArgumentField.{Lookup, argument_of, bytes_of, checked_target, content_of, device_in, device_of, entries_of, factory, filled, filled_text, needed_text, number_32, source_of, target_of, text_or_factory, written_of};
+ghost use Rattle.pv_lines.specs.Lines.{IsArgument};
+ghost use Rattle.pv_lines.specs.Faults.{Gives};
+
+use crate::attributes::{attrs_of, letters_of};
+use crate::fault::LineFault;
+use crate::line::{Argument, LinePath};
+use crate::path_field::expansion;
+use crate::types::Wanted;
+use base64::DecodeAllocError;
+use base64::engine::general_purpose::STANDARD;
+use pv_acl::{Names, number, parse_acl};
+use pv_path::{Bytes, PathFault, TreePath, parse_path};
+use pv_text::Facts;
+use std::alloc::{AllocError, Global};
+
+/// What an argument gives as bytes.
+fn bytes_of(alloc: Global, text: &[u8], facts: &Facts, encoded: bool) -> Result<Bytes, LineFault>
+    ensures { Gives result (bytes_of facts.now encoded text.now) }
+{
+    if !encoded {
+        return expansion(alloc, text, facts);
+    }
+    match STANDARD.decode(alloc, text) {
+        Ok(bytes) => Ok(Bytes::from_vec(bytes)),
+        Err(DecodeAllocError::OutOfMemory) => Err(LineFault::Memory),
+        Err(DecodeAllocError::DecodeError(_)) => Err(LineFault::BadBase64),
+    }
+}
+
+/// The names of a path, each behind a slash, below `/usr/share/factory`.
+fn factory(alloc: Global, path: &LinePath) -> Result<Bytes, AllocError>
+    ensures { IfOk result (λ text. text ≡ factory path.now) }
+{
+    let LinePath::Literal(path) = path else {
+        return Ok(Bytes::new(alloc));
+    };
+    let mut text = Vec::from_slice(alloc, b"/usr/share/factory")?;
+    for name in path.names() {
+        text.push(b'/')?;
+        text.extend_from_slice(name.bytes())?;
+    }
+    Ok(Bytes::from_vec(text))
+}
+
+/// The text of a target or of a source.
+fn text_or_factory(
+    alloc: Global,
+    field: Option<&[u8]>,
+    facts: &Facts,
+    path: &LinePath,
+) -> Result<Bytes, LineFault>
+    ensures { Gives result (text_or_factory facts.now path.now (option_map (λ s. s.now) field.entry)) }
+{
+    match field {
+        Some(text) => expansion(alloc, text, facts),
+        None => Ok(factory(alloc, path)?),
+    }
+}
+
+/// A target of a link, where it may be one.
+fn checked_target(text: Bytes) -> Result<Bytes, LineFault>
+    ensures { result ≡ checked_target text }
+{
+    if text.is_empty() {
+        Err(LineFault::ArgumentNeeded)
+    } else if text.as_slice().contains(&0) {
+        Err(LineFault::Path(PathFault::BadByte))
+    } else if text.len() > 4095 {
+        Err(LineFault::Path(PathFault::PathTooLong))
+    } else {
+        Ok(text)
+    }
+}
+
+/// The number of 32 bits that a text writes.
+fn number_32(text: &[u8]) -> Option<u32>
+    ensures { result ≡ number_32 text.now }
+{
+    match number(text) {
+        Some(number) if number <= 4_294_967_295 => Some(number as u32),
+        _ => None,
+    }
+}
+
+/// What stands between the colons of a text.
+fn parts_of(alloc: Global, text: &[u8]) -> Result<Vec<&[u8]>, AllocError>
+    ensures { IfOk result (λ parts. map (λ part. part.now) parts.items ≡ slice_split (λ b. b == 58) text.now) }
+{
+    text.split(|byte| *byte == b':').collect(alloc)
+}
+
+/// The device of its parts, where they are two numbers.
+fn device_in(parts: &[&[u8]]) -> Option<Argument>
+    ensures fits { IfSome result (IsArgument Wanted.Device) }
+    ensures value { result ≡ device_in (map (λ part. part.now) parts.now) }
+{
+    let [major, minor] = parts else {
+        return None;
+    };
+    Some(Argument::Device {
+        major: number_32(major)?,
+        minor: number_32(minor)?,
+    })
+}
+
+/// The device that a text names, `MAJOR:MINOR`, or the fault.
+fn device_of(alloc: Global, text: &[u8]) -> Result<Argument, LineFault>
+    ensures read { Gives result (device_of text.now) }
+    ensures fits { IfOk result (IsArgument Wanted.Device) }
+{
+    let parts = parts_of(alloc, text)?;
+    match device_in(parts.as_slice()) {
+        Some(device) => Ok(device),
+        None => Err(LineFault::BadDevice),
+    }
+}
+
+/// The text of an argument that is needed, with its specifiers expanded.
+fn expanded_argument(alloc: Global, field: Option<&[u8]>, facts: &Facts) -> Result<Bytes, LineFault>
+    ensures { Gives result (needed_text facts.now (option_map (λ s. s.now) field.entry)) }
+{
+    match field {
+        Some(text) => expansion(alloc, text, facts),
+        None => Err(LineFault::ArgumentNeeded),
+    }
+}
+
+/// An argument that is not empty, or the fault.
+fn filled(text: Bytes) -> Result<Bytes, LineFault>
+    ensures { result ≡ filled text }
+{
+    if text.is_empty() {
+        Err(LineFault::ArgumentNeeded)
+    } else {
+        Ok(text)
+    }
+}
+
+/// The text of an argument that is needed, with its specifiers expanded, where it is not empty then.
+fn filled_argument(alloc: Global, field: Option<&[u8]>, facts: &Facts) -> Result<Bytes, LineFault>
+    ensures { Gives result (filled_text facts.now (option_map (λ s. s.now) field.entry)) }
+{
+    filled(expanded_argument(alloc, field, facts)?)
+}
+
+/// The bytes of a file, which may be omitted.
+fn content_of(
+    alloc: Global,
+    field: Option<&[u8]>,
+    facts: &Facts,
+    encoded: bool,
+) -> Result<Argument, LineFault>
+    ensures read { Gives result (content_of facts.now encoded (option_map (λ s. s.now) field.entry)) }
+    ensures fits { IfOk result (IsArgument Wanted.Content) }
+{
+    match field {
+        Some(text) => {
+            let bytes = bytes_of(alloc, text, facts, encoded)?;
+            Ok(Argument::FileBytes(Some(bytes)))
+        }
+        None => Ok(Argument::FileBytes(None)),
+    }
+}
+
+/// Bytes to write.
+fn written_of(
+    alloc: Global,
+    field: Option<&[u8]>,
+    facts: &Facts,
+    encoded: bool,
+) -> Result<Argument, LineFault>
+    ensures read { Gives result (written_of facts.now encoded (option_map (λ s. s.now) field.entry)) }
+    ensures fits { IfOk result (IsArgument Wanted.Bytes) }
+{
+    match field {
+        Some(text) => {
+            let bytes = bytes_of(alloc, text, facts, encoded)?;
+            Ok(Argument::WriteBytes(bytes))
+        }
+        None => Err(LineFault::ArgumentNeeded),
+    }
+}
+
+/// The target of a link.
+fn target_of(
+    alloc: Global,
+    field: Option<&[u8]>,
+    facts: &Facts,
+    path: &LinePath,
+) -> Result<Argument, LineFault>
+    ensures read { Gives result (target_of facts.now path.now (option_map (λ s. s.now) field.entry)) }
+    ensures fits { IfOk result (IsArgument Wanted.Target) }
+{
+    let text = text_or_factory(alloc, field, facts, path)?;
+    Ok(Argument::Target(checked_target(text)?))
+}
+
+/// The path that is copied.
+fn source_of(
+    alloc: Global,
+    field: Option<&[u8]>,
+    facts: &Facts,
+    path: &LinePath,
+) -> Result<Argument, LineFault>
+    ensures read { Gives result (source_of facts.now path.now (option_map (λ s. s.now) field.entry)) }
+    ensures fits { IfOk result (IsArgument Wanted.Source) }
+{
+    let text = text_or_factory(alloc, field, facts, path)?;
+    Ok(Argument::Source(parse_path(alloc, text.as_slice())?))
+}
+
+/// ACL entries.
+fn entries_of<N: Names>(
+    alloc: Global,
+    field: Option<&[u8]>,
+    facts: &Facts,
+    names: &N,
+) -> Result<Argument, LineFault>
+    ensures read { Gives result (entries_of facts.now
+        (record { uid_named = N.uid_named names.now; gid_named = N.gid_named names.now })
+        (option_map (λ s. s.now) field.entry)) }
+    ensures fits { IfOk result (IsArgument Wanted.Entries) }
+{
+    let text = expanded_argument(alloc, field, facts)?;
+    Ok(Argument::Entries(parse_acl(alloc, text.as_slice(), names)?))
+}
+
+/// What the field Argument gives where the type wants this, or its first fault.
+pub(crate) fn argument_of<N: Names>(
+    alloc: Global,
+    field: Option<&[u8]>,
+    facts: &Facts,
+    names: &N,
+    path: &LinePath,
+    encoded: bool,
+    wanted: Wanted,
+) -> Result<Argument, LineFault>
+    ensures read { Gives result (argument_of facts.now
+        (record { uid_named = N.uid_named names.now; gid_named = N.gid_named names.now })
+        path.now encoded wanted (option_map (λ s. s.now) field.entry)) }
+    ensures fits { IfOk result (IsArgument wanted) }
+{
+    match wanted {
+        Wanted::Content => content_of(alloc, field, facts, encoded),
+        Wanted::Bytes => written_of(alloc, field, facts, encoded),
+        Wanted::Target => target_of(alloc, field, facts, path),
+        Wanted::Source => source_of(alloc, field, facts, path),
+        Wanted::Device => device_of(alloc, expanded_argument(alloc, field, facts)?.as_slice()),
+        Wanted::Entries => entries_of(alloc, field, facts, names),
+        Wanted::Attrs => attrs_of(alloc, filled_argument(alloc, field, facts)?.as_slice()),
+        Wanted::Letters => letters_of(filled_argument(alloc, field, facts)?.as_slice()),
+        Wanted::Nothing => Ok(Argument::Ignored),
+    }
+}

@@ -1,0 +1,113 @@
+//! The names of faults, as messages print them.
+ghost use Rattle.std.specs.Prelude.{◌≡◌};
+ghost use Rattle.pv_lines.specs.FaultNames.{acl_name, age_name, expansion_name, field_name, name_of, path_name, pattern_name};
+
+use crate::fault::LineFault;
+use pv_acl::AclFault;
+use pv_age::AgeFault;
+use pv_glob::PatternFault;
+use pv_path::PathFault;
+use pv_text::{ExpandFault, FieldFault};
+
+fn field_name(fault: FieldFault) -> &'static [u8]
+    ensures { result.now ≡ field_name fault }
+{
+    match fault {
+        FieldFault::BadByte(_) => b"BadByte",
+        FieldFault::OpenQuote(_) => b"OpenQuote",
+        FieldFault::GluedQuote(_) => b"GluedQuote",
+        FieldFault::BadEscape(_) => b"BadEscape",
+        FieldFault::TooFew => b"TooFew",
+    }
+}
+
+fn expansion_name(fault: ExpandFault) -> &'static [u8]
+    ensures { result.now ≡ expansion_name fault }
+{
+    match fault {
+        ExpandFault::UnknownSpecifier => b"UnknownSpecifier",
+        ExpandFault::MissingFact => b"MissingFact",
+        ExpandFault::Memory => b"Memory",
+    }
+}
+
+fn path_name(fault: PathFault) -> &'static [u8]
+    ensures { result.now ≡ path_name fault }
+{
+    match fault {
+        PathFault::NotAbsolute => b"NotAbsolute",
+        PathFault::BadByte => b"BadByte",
+        PathFault::PathTooLong => b"PathTooLong",
+        PathFault::DotComponent => b"DotComponent",
+        PathFault::NameTooLong => b"NameTooLong",
+        PathFault::StagingName => b"StagingName",
+        PathFault::Memory => b"Memory",
+    }
+}
+
+fn pattern_name(fault: PatternFault) -> &'static [u8]
+    ensures { result.now ≡ pattern_name fault }
+{
+    match fault {
+        PatternFault::NotAbsolute => b"NotAbsolute",
+        PatternFault::BadByte => b"BadByte",
+        PatternFault::PathTooLong => b"PathTooLong",
+        PatternFault::DotComponent => b"DotComponent",
+        PatternFault::StagingName => b"StagingName",
+        PatternFault::UnclosedBracket => b"UnclosedBracket",
+        PatternFault::BadRange => b"BadRange",
+        PatternFault::BadClass => b"BadClass",
+        PatternFault::Brace => b"Brace",
+        PatternFault::TrailingBackslash => b"TrailingBackslash",
+        PatternFault::Memory => b"Memory",
+    }
+}
+
+fn age_name(fault: AgeFault) -> &'static [u8]
+    ensures { result.now ≡ age_name fault }
+{
+    match fault {
+        AgeFault::BadStampLetter => b"BadStampLetter",
+        AgeFault::BadNumber => b"BadNumber",
+        AgeFault::BadUnit => b"BadUnit",
+        AgeFault::Overflow => b"Overflow",
+    }
+}
+
+fn acl_name(fault: AclFault) -> &'static [u8]
+    ensures { result.now ≡ acl_name fault }
+{
+    match fault {
+        AclFault::EmptyEntry => b"EmptyEntry",
+        AclFault::BadTag => b"BadTag",
+        AclFault::UnknownName => b"UnknownName",
+        AclFault::BadPerm => b"BadPerm",
+        AclFault::Memory => b"Memory",
+    }
+}
+
+/// The name of a fault, as messages print it: that of the innermost fault, without places. It takes no memory.
+pub fn name_of(fault: LineFault) -> &'static [u8]
+    ensures { result.now ≡ name_of fault }
+{
+    match fault {
+        LineFault::Field(fault) => field_name(fault),
+        LineFault::UnknownType => b"UnknownType",
+        LineFault::BadModifier => b"BadModifier",
+        LineFault::Expand(fault) => expansion_name(fault),
+        LineFault::Path(fault) => path_name(fault),
+        LineFault::Pattern(fault) => pattern_name(fault),
+        LineFault::RootPath => b"RootPath",
+        LineFault::BadMode => b"BadMode",
+        LineFault::UnknownUser => b"UnknownUser",
+        LineFault::UnknownGroup => b"UnknownGroup",
+        LineFault::Age(fault) => age_name(fault),
+        LineFault::ArgumentNeeded => b"ArgumentNeeded",
+        LineFault::BadBase64 => b"BadBase64",
+        LineFault::BadDevice => b"BadDevice",
+        LineFault::BadAttribute => b"BadAttribute",
+        LineFault::BadLetter => b"BadLetter",
+        LineFault::Acl(fault) => acl_name(fault),
+        LineFault::Memory => b"Memory",
+    }
+}

@@ -1,0 +1,96 @@
+//! The field Path: a path, or a pattern of paths.
+ghost use Rattle.std.specs.Prelude.{◌≡◌};
+ghost use Rattle.pv_lines.specs.Faults.{Gives};
+ghost use Rattle.pv_lines.specs.PathField.{allowed, current, expansion, is_moved, is_root, path_named, named_of};
+
+use crate::fault::LineFault;
+use crate::line::LinePath;
+use crate::type_field::Typed;
+use crate::types::Row;
+use pv_glob::{matches, parse_pattern};
+use pv_path::{Bytes, TreePath, parse_path};
+use pv_text::{Facts, Tool, expand};
+use std::alloc::Global;
+
+/// What a line names, with the text that names it.
+#[derive(Debug, Drop)]
+pub(crate) struct Named {
+    pub path: LinePath,
+    /// The text, after specifiers and the rewriting of `/var/run/`.
+    pub text: Bytes,
+    /// Whether `/var/run/` was read as `/run/`.
+    pub moved: bool,
+}
+
+/// A text with its specifiers expanded.
+pub(crate) fn expansion(alloc: Global, text: &[u8], facts: &Facts) -> Result<Bytes, LineFault>
+    ensures { Gives result (expansion facts.now text.now) }
+{
+    Ok(Bytes::from_vec(expand(alloc, text, facts, Tool::Tmpfiles)?))
+}
+
+/// Whether a text begins with the old name of `/run/`.
+fn is_moved(text: &[u8]) -> bool
+    ensures { result ≡ is_moved text.now }
+{
+    text.starts_with(b"/var/run/")
+}
+
+/// A text with `/run/` in the place of its old name.
+fn current(text: &[u8]) -> &[u8]
+    ensures { result.now ≡ current text.now }
+{
+    if is_moved(text) { &text[4..] } else { text }
+}
+
+/// What a text names by the type.
+fn path_named(alloc: Global, row: Row, text: &[u8]) -> Result<LinePath, LineFault>
+    ensures { Gives result (path_named row text.now) }
+{
+    if row.creates {
+        Ok(LinePath::Literal(parse_path(alloc, text)?))
+    } else {
+        Ok(LinePath::Glob(parse_pattern(alloc, text)?))
+    }
+}
+
+/// Whether the root is named. It takes no memory.
+fn is_root(alloc: Global, path: &LinePath) -> bool
+    ensures { result ≡ is_root path.now }
+{
+    match path {
+        LinePath::Literal(path) => path.is_empty(),
+        LinePath::Glob(pattern) => matches(pattern, &TreePath::root(alloc)),
+    }
+}
+
+/// What is named, where the root is not, or may be.
+fn allowed(alloc: Global, typed: Typed, path: LinePath) -> Result<LinePath, LineFault>
+    ensures { result ≡ allowed typed path }
+{
+    if is_root(alloc, &path) && (!typed.row.root || typed.purge) {
+        Err(LineFault::RootPath)
+    } else {
+        Ok(path)
+    }
+}
+
+/// What the field Path spells, or its first fault.
+pub(crate) fn named_of(
+    alloc: Global,
+    text: &[u8],
+    facts: &Facts,
+    typed: Typed,
+) -> Result<Named, LineFault>
+    ensures { Gives result (named_of facts.now typed text.now) }
+{
+    let written = expansion(alloc, text, facts)?;
+    let text = current(written.as_slice());
+    let path = path_named(alloc, typed.row, text)?;
+    let path = allowed(alloc, typed, path)?;
+    Ok(Named {
+        path,
+        text: Bytes::copy_of(alloc, text)?,
+        moved: is_moved(written.as_slice()),
+    })
+}

@@ -1,0 +1,93 @@
+//! The field Type: a letter and its modifiers.
+ghost use Rattle.std.specs.Prelude.{◌≡◌};
+ghost use Rattle.std.specs.List.{list_all};
+ghost use Rattle.pv_lines.specs.TypeField.{has_mark, stand_once, takes, typed_of, with_marks};
+
+use crate::fault::LineFault;
+use crate::types::{Row, type_of};
+
+/// A type with its modifiers.
+#[derive(Clone, Copy, Debug)]
+pub(crate) struct Typed {
+    pub row: Row,
+    pub plus: bool,
+    pub boot: bool,
+    pub minus: bool,
+    pub replace: bool,
+    pub encoded: bool,
+    pub purge: bool,
+}
+
+/// Whether a modifier is among some.
+fn has_mark(marks: &[u8], mark: u8) -> bool
+    ensures { result ≡ has_mark marks.now mark }
+{
+    marks.iter().any(|other| *other == mark)
+}
+
+/// Whether a type takes a modifier.
+fn takes(row: Row, mark: u8) -> bool
+    ensures { result ≡ takes row mark }
+{
+    match mark {
+        b'!' | b'-' => true,
+        b'+' => row.plus,
+        b'=' => row.replace,
+        b'~' => row.encoded,
+        b'$' => row.creates,
+        _ => false,
+    }
+}
+
+/// Whether a type takes each of some modifiers.
+fn takes_all(row: Row, marks: &[u8]) -> bool
+    ensures { result ≡ list_all (takes row) marks.now }
+{
+    marks.iter().all(|mark| takes(row, *mark))
+}
+
+/// Whether each modifier stands once.
+fn stand_once(marks: &[u8]) -> bool
+    ensures { result ≡ stand_once marks.now }
+{
+    let mut rest = marks;
+    while let [mark, after @ ..] = rest {
+        if has_mark(after, *mark) {
+            return false;
+        }
+        rest = after;
+    }
+    true
+}
+
+/// A type with the modifiers that stand behind its letter.
+fn with_marks(row: Row, marks: &[u8]) -> Typed
+    ensures { result ≡ with_marks row marks.now }
+{
+    Typed {
+        row,
+        plus: row.always_plus || has_mark(marks, b'+'),
+        boot: has_mark(marks, b'!'),
+        minus: has_mark(marks, b'-'),
+        replace: has_mark(marks, b'='),
+        encoded: has_mark(marks, b'~'),
+        purge: has_mark(marks, b'$'),
+    }
+}
+
+/// What the field Type spells, or its fault. It takes no memory.
+pub(crate) fn typed_of(text: &[u8]) -> Result<Typed, LineFault>
+    ensures { result ≡ typed_of text.now }
+{
+    let [letter, marks @ ..] = text else {
+        return Err(LineFault::UnknownType);
+    };
+    let Some(row) = type_of(*letter) else {
+        return Err(LineFault::UnknownType);
+    };
+    if takes_all(row, marks) && stand_once(marks) {
+        Ok(with_marks(row, marks))
+    } else {
+        Err(LineFault::BadModifier)
+    }
+}

@@ -1,0 +1,163 @@
+//! The table of types: what each letter takes (tmpfiles.d(5)).
+ghost use Rattle.std.specs.Prelude.{◌≡◌};
+ghost use Rattle.pv_lines.specs.Types.{creating, matching, type_of, wanting, with_age, with_encoded, with_plus, with_root};
+
+/// How the argument of a type is read.
+#[derive(Clone, Copy, Debug, PartialEq, Eq)]
+pub(crate) enum Wanted {
+    /// The bytes of a file, which may be omitted.
+    Content,
+    /// Bytes to write.
+    Bytes,
+    /// The target of a link; omitted, the factory's.
+    Target,
+    /// The path that is copied; omitted, the factory's.
+    Source,
+    /// The numbers of a device.
+    Device,
+    /// ACL entries.
+    Entries,
+    /// Extended attributes.
+    Attrs,
+    /// Letters.
+    Letters,
+    /// None: what stands there is ignored.
+    Nothing,
+}
+
+/// What a type takes. All take the modifiers `!` and `-`.
+#[derive(Clone, Copy, Debug)]
+pub(crate) struct Row {
+    /// The letter as which it is kept.
+    pub letter: u8,
+    /// Whether it is kept with the modifier `+`.
+    pub always_plus: bool,
+    /// Whether it takes `+`.
+    pub plus: bool,
+    /// Whether it takes `=`.
+    pub replace: bool,
+    /// Whether it takes `~`.
+    pub encoded: bool,
+    /// Whether it takes `$`, as exactly the types do that make what stands at their path.
+    pub creates: bool,
+    /// Whether the root is allowed.
+    pub root: bool,
+    /// Whether it uses an age.
+    pub ages: bool,
+    /// How its argument is read.
+    pub wanted: Wanted,
+}
+
+impl Row {
+    /// A type that makes what stands at its path; it takes neither the root, an age nor an argument.
+    fn creating(letter: u8) -> Row
+        ensures { result ≡ creating letter }
+    {
+        Row {
+            letter,
+            always_plus: false,
+            plus: false,
+            replace: true,
+            encoded: false,
+            creates: true,
+            root: false,
+            ages: false,
+            wanted: Wanted::Nothing,
+        }
+    }
+
+    /// A type that adjusts or takes away what its pattern matches; it takes neither the root, an age
+    /// nor an argument.
+    fn matching(letter: u8) -> Row
+        ensures { result ≡ matching letter }
+    {
+        Row {
+            replace: false,
+            creates: false,
+            ..Row::creating(letter)
+        }
+    }
+
+    fn with_plus(self) -> Row
+        ensures { result ≡ with_plus self }
+    {
+        Row { plus: true, ..self }
+    }
+
+    fn with_encoded(self) -> Row
+        ensures { result ≡ with_encoded self }
+    {
+        Row {
+            encoded: true,
+            ..self
+        }
+    }
+
+    fn with_root(self) -> Row
+        ensures { result ≡ with_root self }
+    {
+        Row { root: true, ..self }
+    }
+
+    fn with_age(self) -> Row
+        ensures { result ≡ with_age self }
+    {
+        Row { ages: true, ..self }
+    }
+
+    fn wanting(self, wanted: Wanted) -> Row
+        ensures { result ≡ wanting wanted self }
+    {
+        Row { wanted, ..self }
+    }
+}
+
+/// What the type of a letter takes, or nothing where there is no such type (tmpfiles.d(5)).
+pub(crate) fn type_of(letter: u8) -> Option<Row>
+    ensures { result ≡ type_of letter }
+{
+    Some(match letter {
+        b'f' => Row::creating(b'f')
+            .wanting(Wanted::Content)
+            .with_encoded()
+            .with_plus(),
+        b'F' => Row {
+            always_plus: true,
+            ..Row::creating(b'f').wanting(Wanted::Content).with_encoded()
+        },
+        b'd' => Row::creating(b'd').with_age().with_root(),
+        b'D' => Row::creating(b'D').with_age().with_root(),
+        b'v' => Row::creating(b'v').with_age().with_root(),
+        b'q' => Row::creating(b'q').with_age().with_root(),
+        b'Q' => Row::creating(b'Q').with_age().with_root(),
+        b'p' => Row::creating(b'p').with_plus(),
+        b'L' => Row::creating(b'L').wanting(Wanted::Target).with_plus(),
+        b'c' => Row::creating(b'c').wanting(Wanted::Device).with_plus(),
+        b'b' => Row::creating(b'b').wanting(Wanted::Device).with_plus(),
+        b'C' => Row::creating(b'C').wanting(Wanted::Source).with_age(),
+        b'w' => Row::matching(b'w')
+            .wanting(Wanted::Bytes)
+            .with_encoded()
+            .with_plus(),
+        b'e' => Row::matching(b'e').with_age().with_root(),
+        b'z' => Row::matching(b'z').with_root(),
+        b'Z' => Row::matching(b'Z').with_root(),
+        b'a' => Row::matching(b'a')
+            .wanting(Wanted::Entries)
+            .with_plus()
+            .with_root(),
+        b'A' => Row::matching(b'A')
+            .wanting(Wanted::Entries)
+            .with_plus()
+            .with_root(),
+        b't' => Row::matching(b't').wanting(Wanted::Attrs).with_root(),
+        b'T' => Row::matching(b'T').wanting(Wanted::Attrs).with_root(),
+        b'h' => Row::matching(b'h').wanting(Wanted::Letters).with_root(),
+        b'H' => Row::matching(b'H').wanting(Wanted::Letters).with_root(),
+        b'r' => Row::matching(b'r'),
+        b'R' => Row::matching(b'R'),
+        b'x' => Row::matching(b'x').with_age().with_root(),
+        b'X' => Row::matching(b'X').with_age().with_root(),
+        _ => return None,
+    })
+}
