@@ -1,3 +1,3 @@
 pub mod ReadingLaws
 pub mod CuttingLaws
-pub mod LineLists
+pub mod KnownLaws

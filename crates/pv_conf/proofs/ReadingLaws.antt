@@ -1,11 +1,12 @@
 -- What is read of one part after another.
-use Rattle.std.proofs.Common.{◌≡◌, ℕ, zero, suc, ◌+◌, ◌<◌, Bool, true, false, ◌||◌, List, [], ◌∷◌, ◌++◌, take, drop, get_or, length, add-one, append_assoc, append-nil, refl, sym, ap, ◌∙◌}
+use Rattle.std.proofs.Common.{◌≡◌, ℕ, zero, suc, ◌+◌, ◌<◌, Bool, Option, Some, None, arith, add_assoc, true, false, ◌||◌, List, [], ◌∷◌, ◌++◌, take, drop, get_or, length, add-one, append_assoc, append-nil, refl, sym, ap, ◌∙◌}
+use Rattle.std.specs.List.{AllByRecursion}
 use Rattle.std.proofs.Math.Seq.{drop-cons, take-append_seam, take-append-add}
 use Rattle.pv_text.specs.Said.{SaidPart}
 use Rattle.pv_path.specs.Paths.{Path}
 use Rattle.pv_steps.specs.Trees.{Files}
-use Rattle.pv_text.specs.Facts.{Values}
-use Rattle.pv_conf.specs.Configuration.{Reading, nothing, followed, lines_in, reading_of, reading_of_file, reading_of_files, reading_of_lines}
+use Rattle.pv_text.specs.declared.place.Place.{Place}
+use Rattle.pv_conf.specs.Configuration.{Reader, Reading, Configured, is_skipped, nothing, followed, lines_in, reading_of, reading_of_file, reading_of_files, reading_of_lines}
 use Rattle.pv_conf.specs.Adding.{Adds}
 use Rattle.pv_conf.specs.declared.configuration.Configuration.{Configuration}
 
@@ -17,26 +18,36 @@ or_none : (a : Bool) → (a || false) ≡ a
 or_none true = refl
 or_none false = refl
 
-followed_assoc : (a b c : Reading) → followed (followed a b) c ≡ followed a (followed b c)
+followed_assoc : {L : Type 0} (a b c : Reading L) → followed (followed a b) c ≡ followed a (followed b c)
 followed_assoc a b c = λ i. record {
   lines = append_assoc a.lines b.lines c.lines i;
   invalid = or_assoc a.invalid b.invalid c.invalid i;
   messages = append_assoc a.messages b.messages c.messages i;
+  count = add_assoc a.count b.count c.count i;
 }
 
-followed_nothing : (a : Reading) → followed a nothing ≡ a
-followed_nothing a = λ i. record { lines = append-nil a.lines i; invalid = or_none a.invalid i; messages = append-nil a.messages i }
+followed_nothing : {L : Type 0} (a : Reading L) → followed a nothing ≡ a
+followed_nothing a =
+    let none : a.count + 0 ≡ a.count = omega arith in
+    λ i. record { lines = append-nil a.lines i; invalid = or_none a.invalid i; messages = append-nil a.messages i; count = none i }
+
+nothing_followed : {L : Type 0} (a : Reading L) → followed nothing a ≡ a
+nothing_followed a =
+    let none : 0 + a.count ≡ a.count = omega arith in
+    λ i. record { lines = a.lines; invalid = a.invalid; messages = a.messages; count = none i }
 
 -- ---- what is added
 
-pub adds_nothing : (c : Configuration) (said : List (List ℕ)) → Adds nothing c c said said
-adds_nothing c said = record { lines = sym (append-nil c.lines); invalid = sym (or_none c.invalid); missing = refl; messages = sym (append-nil said) }
+pub adds_nothing : {L : Type 0} (c : Configuration L) (said : List (List ℕ)) → Adds nothing c c said said
+adds_nothing c said = record { lines = sym (append-nil c.lines); invalid = sym (or_none c.invalid); missing = refl; count = omega arith; few = λ h. h; messages = sym (append-nil said) }
 
-adds_both : {a b : Reading} {c d e : Configuration} {said told all : List (List ℕ)} → Adds a c d said told → Adds b d e told all → Adds (followed a b) c e said all
+adds_both : {L : Type 0} {a b : Reading L} {c d e : Configuration L} {said told all : List (List ℕ)} → Adds a c d said told → Adds b d e told all → Adds (followed a b) c e said all
 adds_both {a = a} {b = b} {c = c} {said = said} first second = record {
   lines = second.lines ∙ ap (λ x. x ++ b.lines) first.lines ∙ append_assoc c.lines a.lines b.lines;
   invalid = second.invalid ∙ ap (λ (x : Bool). x || b.invalid) first.invalid ∙ or_assoc c.invalid a.invalid b.invalid;
   missing = second.missing ∙ first.missing;
+  count = omega (arith, first.count, second.count);
+  few = λ h. second.few (first.few h);
   messages = second.messages ∙ ap (λ (x : List (List ℕ)). x ++ b.messages) first.messages ∙ append_assoc said a.messages b.messages;
 }
 
@@ -72,16 +83,16 @@ said_all a old new all = (
 -- ---- reading that is underway
 
 -- of all that is to be read a part is read, and the rest is left
-pub record Underway (all rest : Reading) (old new : Configuration) (said told : List (List ℕ)) : Type 0 where
-  pub done : Reading
+pub record Underway {L : Type 0} (all rest : Reading L) (old new : Configuration L) (said told : List (List ℕ)) : Type 0 where
+  pub done : Reading L
   pub adds : Adds done old new said told
   pub whole : followed done rest ≡ all
 
-pub underway_start : (all : Reading) (c : Configuration) (said : List (List ℕ)) → Underway all all c c said said
-underway_start all c said = record { done = nothing; adds = adds_nothing c said; whole = refl }
+pub underway_start : {L : Type 0} (all : Reading L) (c : Configuration L) (said : List (List ℕ)) → Underway all all c c said said
+underway_start all c said = record { done = nothing; adds = adds_nothing c said; whole = nothing_followed all }
 
-module _ {all rest : Reading} {old new : Configuration} {said told : List (List ℕ)} (u : Underway all rest old new said told) where
-  pub underway_more : (one next : Reading) (newer : Configuration) (more : List (List ℕ)) → rest ≡ followed one next → Adds one new newer told more → Underway all next old newer said more
+module _ {L : Type 0} {all rest : Reading L} {old new : Configuration L} {said told : List (List ℕ)} (u : Underway all rest old new said told) where
+  pub underway_more : (one next : Reading L) (newer : Configuration L) (more : List (List ℕ)) → rest ≡ followed one next → Adds one new newer told more → Underway all next old newer said more
   underway_more one next newer more is adds = record {
     done = followed u.done one;
     adds = adds_both u.adds adds;
@@ -96,25 +107,32 @@ module _ {all rest : Reading} {old new : Configuration} {said told : List (List 
   pub underway_said : SaidPart all.messages said told
   underway_said =
       let first = said_first u.done.messages rest.messages said told (said_all u.done.messages said told u.adds.messages) in
-      (first.0, first.1 ∙ ap (λ (r : Reading). said ++ take first.0 r.messages) u.whole)
+      (first.0, first.1 ∙ ap (λ (r : Reading L). said ++ take first.0 r.messages) u.whole)
 
-  pub underway_part : (one next : Reading) (more : List (List ℕ)) → rest ≡ followed one next → SaidPart one.messages told more → SaidPart all.messages said more
+  pub underway_part : (one next : Reading L) (more : List (List ℕ)) → rest ≡ followed one next → SaidPart one.messages told more → SaidPart all.messages said more
   underway_part one next more is part =
       let some = said_then u.done.messages (one.messages ++ next.messages) said told more u.adds.messages (said_first one.messages next.messages told more part) in
-      (some.0, some.1 ∙ ap (λ (r : Reading). said ++ take some.0 r.messages) (ap (followed u.done) (sym is) ∙ u.whole))
+      (some.0, some.1 ∙ ap (λ (r : Reading L). said ++ take some.0 r.messages) (ap (followed u.done) (sym is) ∙ u.whole))
 
 -- ---- the next line, and the next file
 
-pub next_line : (facts : Values) (file name : List ℕ) (before number : ℕ) (rest line after : List ℕ) → name ≡ file → number ≡ before + 1 → lines_in rest ≡ line ∷ lines_in after
-    → reading_of_lines facts file (before + 1) (lines_in rest) ≡ followed (reading_of facts (record { file = name; number = number }) line) (reading_of_lines facts file (number + 1) (lines_in after))
-next_line facts file name before number rest line after same one cut =
-    ap (reading_of_lines facts file (before + 1)) cut
-    ∙ ap (λ (n : ℕ). followed (reading_of facts (record { file = file; number = n }) line) (reading_of_lines facts file (n + 1) (lines_in after))) (sym one)
-    ∙ ap (λ (f : List ℕ). followed (reading_of facts (record { file = f; number = number }) line) (reading_of_lines facts file (number + 1) (lines_in after))) (sym same)
+pub next_line : {L : Type 0} (reader : Reader L) (file name : List ℕ) (before number : ℕ) (rest line after : List ℕ) → name ≡ file → number ≡ before + 1 → lines_in rest ≡ line ∷ lines_in after
+    → reading_of_lines reader file (before + 1) (lines_in rest) ≡ followed (reading_of reader (record { file = name; number = number }) line) (reading_of_lines reader file (number + 1) (lines_in after))
+next_line reader file name before number rest line after same one cut =
+    ap (reading_of_lines reader file (before + 1)) cut
+    ∙ ap (λ (n : ℕ). followed (reading_of reader (record { file = file; number = n }) line) (reading_of_lines reader file (n + 1) (lines_in after))) (sym one)
+    ∙ ap (λ (f : List ℕ). followed (reading_of reader (record { file = f; number = number }) line) (reading_of_lines reader file (number + 1) (lines_in after))) (sym same)
 
-pub next_file : (files : Files) (facts : Values) (paths : List Path) (i : ℕ) (path : Path) → i < length paths → path ≡ get_or paths i path
-    → reading_of_files files facts (drop i paths) ≡ followed (reading_of_file files facts path) (reading_of_files files facts (drop (i + 1) paths))
-next_file files facts paths i path below is =
-    let next : reading_of_files files facts (drop i paths) ≡ followed (reading_of_file files facts (get_or paths i path)) (reading_of_files files facts (drop (i + 1) paths))
+pub next_file : {L : Type 0} (files : Files) (reader : Reader L) (paths : List Path) (i : ℕ) (path : Path) → i < length paths → path ≡ get_or paths i path
+    → reading_of_files files reader (drop i paths) ≡ followed (reading_of_file files reader path) (reading_of_files files reader (drop (i + 1) paths))
+next_file files reader paths i path below is =
+    let next : reading_of_files files reader (drop i paths) ≡ followed (reading_of_file files reader (get_or paths i path)) (reading_of_files files reader (drop (i + 1) paths))
     = rw (drop-cons paths i path below, add-one i) refl in
-    next ∙ ap (λ (p : Path). followed (reading_of_file files facts p) (reading_of_files files facts (drop (i + 1) paths))) (sym is)
+    next ∙ ap (λ (p : Path). followed (reading_of_file files reader p) (reading_of_files files reader (drop (i + 1) paths))) (sym is)
+
+-- ---- one line
+
+-- what is said of a line that is not skipped is a part of what it gives
+pub line_part : {L : Type 0} (reader : Reader L) (place : Place) (text : List ℕ) (said told : List (List ℕ)) → is_skipped text ≡ false → told ≡ said ++ reader.said_of place text
+    → SaidPart (reading_of reader place text).messages said told
+line_part reader place text said told skipped all = rw skipped (said_all (reader.said_of place text) said told all)

@@ -1,20 +1,16 @@
--- What a run reads as its configuration: the lines of all chosen files (tmpfiles.d(5)).
-use Rattle.std.specs.Prelude.{ℕ, ◌+◌, Bool, true, false, not, ◌||◌, ◌==◌, List, [], ◌∷◌, ◌++◌, codes, find, Option, Some, None, if◌then◌else◌}
+-- What a run reads as its configuration: the lines of all chosen files (tmpfiles.d(5), sysusers.d(5)).
+use Rattle.std.specs.Prelude.{ℕ, ◌+◌, Bool, true, false, not, ◌||◌, ◌==◌, List, [], ◌∷◌, ◌++◌, find, Option, Some, None, is_none, if◌then◌else◌}
 use Rattle.std.specs.List.{onto_first}
 use Rattle.pv_layers.specs.Choices.{Choice, chosen}
-use Rattle.pv_lines.specs.Lines.{line_of}
-use Rattle.pv_lines.specs.declared.line.Line.{Line}
 use Rattle.pv_path.specs.Paths.{Path}
 use Rattle.pv_path.specs.Printing.{printed_path}
 use Rattle.pv_steps.specs.Trees.{Files, places}
 use Rattle.pv_steps.specs.declared.node.Kind.{Kind}
 use Rattle.pv_steps.specs.declared.node.Kind.TheVariants.{File}
 use Rattle.pv_steps.specs.declared.object.Object.{Object}
-use Rattle.pv_text.specs.Facts.{Values}
 use Rattle.pv_text.specs.Fields.{is_blank}
-use Rattle.pv_text.specs.Said.{said_at}
 use Rattle.pv_text.specs.declared.place.Place.{Place}
-use Rattle.pv_text.specs.declared.tool.Tool.TheVariants.{Tmpfiles}
+use Rattle.pv_text.specs.declared.tool.Tool.{Tool}
 
 -- ---- the lines of a file
 
@@ -46,67 +42,86 @@ is_skipped line = by (find (λ b. not (is_blank b)) line)
 
 -- ---- what is read
 
--- the lines that were read, whether a line was refused, and what is said
-pub record Reading : Type 0 where
-  pub lines : List Line
+-- how a line of a tool's configuration is read that stands at a place: what it is read as, if it is not refused, and
+-- what is said of it
+pub record Reader (L : Type 0) : Type 0 where
+  pub line_read : Place → List ℕ → Option L
+  pub said_of : Place → List ℕ → List (List ℕ)
+
+abbrev pub reader_of : {L : Type 0} → (Place → List ℕ → Option L) → (Place → List ℕ → List (List ℕ)) → Reader L
+reader_of line_read said_of = record { line_read = line_read; said_of = said_of }
+
+-- the lines that were read, whether a line was refused, what is said, and how many lines there were, skipped and
+-- refused ones too
+pub record Reading (L : Type 0) : Type 0 where
+  pub lines : List L
   pub invalid : Bool
   pub messages : List (List ℕ)
+  pub count : ℕ
 
--- no line is read, none is refused, and nothing is said
-abbrev pub nothing : Reading
-nothing = record { lines = []; invalid = false; messages = [] }
+-- there are no lines
+abbrev pub nothing : {L : Type 0} → Reading L
+nothing = record { lines = []; invalid = false; messages = []; count = 0 }
 
 -- two readings, one after the other
-abbrev pub followed : Reading → Reading → Reading
-followed a b = record { lines = a.lines ++ b.lines; invalid = a.invalid || b.invalid; messages = a.messages ++ b.messages }
+abbrev pub followed : {L : Type 0} → Reading L → Reading L → Reading L
+followed a b = record {
+  lines = a.lines ++ b.lines;
+  invalid = a.invalid || b.invalid;
+  messages = a.messages ++ b.messages;
+  count = a.count + b.count;
+}
 
--- the message for a line of a form that is not built yet
-abbrev pub not_built : Place → List ℕ
-not_built place = said_at place (codes "NotBuilt")
+-- a line that was read, if one was
+abbrev pub kept : {L : Type 0} → Option L → List L
+kept (Some line) = line ∷ []
+kept None = []
 
--- a line of a form that is built is read, and any other is refused
-abbrev pub reading_by : Place → Option Line → Reading
-reading_by place (Some line) = record { lines = line ∷ []; invalid = false; messages = [] }
-reading_by place None = record { lines = []; invalid = true; messages = not_built place ∷ [] }
+-- what a line gives that is not skipped
+abbrev pub reading_by : {L : Type 0} → Option L → List (List ℕ) → Reading L
+reading_by read said = record { lines = kept read; invalid = is_none read; messages = said; count = 1 }
 
 -- what a line at a place gives
-abbrev pub reading_of : Values → Place → List ℕ → Reading
-reading_of facts place line = if is_skipped line then nothing else reading_by place (line_of facts place line)
+abbrev pub reading_of : {L : Type 0} → Reader L → Place → List ℕ → Reading L
+reading_of reader place line =
+    if is_skipped line then record { lines = []; invalid = false; messages = []; count = 1 }
+    else reading_by (reader.line_read place line) (reader.said_of place line)
 
 -- what lines give, of which the first has this number in its file
-abbrev pub reading_of_lines : Values → List ℕ → ℕ → List (List ℕ) → Reading
-reading_of_lines facts file number [] = nothing
-reading_of_lines facts file number (line ∷ lines) =
-    followed (reading_of facts (record { file = file; number = number }) line) (reading_of_lines facts file (number + 1) lines)
+abbrev pub reading_of_lines : {L : Type 0} → Reader L → List ℕ → ℕ → List (List ℕ) → Reading L
+reading_of_lines reader file number [] = nothing
+reading_of_lines reader file number (line ∷ lines) =
+    followed (reading_of reader (record { file = file; number = number }) line) (reading_of_lines reader file (number + 1) lines)
 
 -- what a file gives, whose lines are counted from 1
-abbrev pub reading_of_file : Files → Values → Path → Reading
-reading_of_file files facts path = reading_of_lines facts (printed_path path) 1 (lines_in (content_at files path))
+abbrev pub reading_of_file : {L : Type 0} → Files → Reader L → Path → Reading L
+reading_of_file files reader path = reading_of_lines reader (printed_path path) 1 (lines_in (content_at files path))
 
 -- what files give, one after the other
-abbrev pub reading_of_files : Files → Values → List Path → Reading
-reading_of_files files facts [] = nothing
-reading_of_files files facts (path ∷ paths) = followed (reading_of_file files facts path) (reading_of_files files facts paths)
+abbrev pub reading_of_files : {L : Type 0} → Files → Reader L → List Path → Reading L
+reading_of_files files reader [] = nothing
+reading_of_files files reader (path ∷ paths) = followed (reading_of_file files reader path) (reading_of_files files reader paths)
 
 -- ---- the configuration
 
--- the lines that were read, whether a line was refused, whether a file word was not found, and what is
--- said
-pub record Configured : Type 0 where
-  pub lines : List Line
+-- what was read, and whether a file word was not found
+pub record Configured (L : Type 0) : Type 0 where
+  pub lines : List L
   pub invalid : Bool
   pub missing : Bool
   pub messages : List (List ℕ)
+  pub count : ℕ
 
 -- what is said of files and words comes before what is said of lines
-abbrev pub together : Choice → Reading → Configured
+abbrev pub together : {L : Type 0} → Choice → Reading L → Configured L
 together choice reading = record {
   lines = reading.lines;
   invalid = reading.invalid;
   missing = choice.missing;
   messages = choice.messages ++ reading.messages;
+  count = reading.count;
 }
 
--- the configuration of a tree, by the words of a run
-abbrev pub configured : Files → Values → List (List ℕ) → Configured
-configured files facts words = together (chosen files Tmpfiles words) (reading_of_files files facts (chosen files Tmpfiles words).files)
+-- the configuration of a tool in a tree, by the words of a run
+abbrev pub configured_by : {L : Type 0} → Files → Reader L → Tool → List (List ℕ) → Configured L
+configured_by files reader tool words = together (chosen files tool words) (reading_of_files files reader (chosen files tool words).files)

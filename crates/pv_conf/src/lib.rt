@@ -3,7 +3,11 @@
 
 mod configuration;
 mod cutting;
+mod reader;
 mod reading;
+mod tmpfiles;
 
 pub use configuration::Configuration;
-pub use reading::read_configuration;
+pub use reader::LineReader;
+pub use reading::read_lines;
+pub use tmpfiles::read_configuration;

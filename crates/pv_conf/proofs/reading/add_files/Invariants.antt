@@ -1,9 +1,12 @@
 use Rattle.std.proofs.Common.{drop}
-use Rattle.pv_conf.specs.Configuration.{reading_of_files}
+use Rattle.std.specs.List.{AllByRecursion}
+use Rattle.pv_conf.specs.Configuration.{reader_of, reading_of_files}
 use Rattle.pv_conf.proofs.ReadingLaws.{Underway}
 use Rattle.pv_conf.proofs.reading.add_files.Given as goal
 
 abbrev pub invariant-loop-path : goal.invariant-loop-path
 invariant-loop-path g l =
-    Underway (reading_of_files (g.T.Tree.state l.tree) l.facts l.paths) (reading_of_files (g.T.Tree.state l.tree) l.facts (drop l.path-index l.paths))
+    Underway (reading_of_files (g.T.Tree.state l.tree) (reader_of (g.R.LineReader.line_read l.reader) (g.R.LineReader.said_of l.reader)) l.paths)
+    (reading_of_files (g.T.Tree.state l.tree) (reader_of (g.R.LineReader.line_read l.reader) (g.R.LineReader.said_of l.reader)) (drop l.path-index l.paths))
     l.fn.configuration l.configuration l.fn.messages l.messages
+    × AllByRecursion (g.R.LineReader.is_whole l.reader) l.configuration.lines
