@@ -1,0 +1,164 @@
+-- Which lines are active, and in which order they are carried out (tmpfiles.d(5), systemd-tmpfiles(8)).
+use Rattle.std.specs.Prelude.{ℕ, Bool, true, false, not, ◌&&◌, ◌||◌, ◌==◌, length, codes, List, [], ◌∷◌, ◌++◌, map, filter, fold, find, Option, if◌then◌else◌}
+use Rattle.std.specs.List.{list_any, slice_split, enumerate_from}
+use Rattle.std.specs.Option.{option_eq, option_map_or}
+use Rattle.pv_age.specs.declared.age.Age.{Age}
+use Rattle.pv_lines.specs.declared.line.Argument.{Argument}
+use Rattle.pv_lines.specs.declared.line.Argument.TheVariants as argument
+use Rattle.pv_lines.specs.declared.line.Line.{Line}
+use Rattle.pv_lines.specs.declared.line.LineId.{LineId}
+use Rattle.pv_lines.specs.declared.line.LineMode.{LineMode}
+use Rattle.pv_path.specs.Names.{same_bytes}
+use Rattle.pv_path.specs.Paths.{Path, same_path, is_prefix}
+use Rattle.pv_path.specs.Printing.{printed_path}
+use Rattle.pv_text.specs.Said.{said_at}
+use Rattle.pv_table.specs.declared.deed.Deed.{Deed}
+use Rattle.pv_table.specs.declared.deed.Deed.TheVariants.{Create, Copy, Touch, Idle}
+use Rattle.pv_table.specs.declared.taking.Taking.{Taking}
+use Rattle.pv_table.specs.declared.taking.Taking.TheVariants as taking
+use Rattle.pv_table.specs.Asking.{asks}
+use Rattle.pv_table.specs.Reaching.{path_in, is_creating, taking_of}
+
+-- ---- filters
+
+-- the components of the path of a line as they are written; empty ones do not count
+abbrev pub components : Line → List (List ℕ)
+components line = filter (λ name. not (length name == 0)) (slice_split (λ b. b == 47) line.path_text)
+
+-- whether a line's path begins with the components of a path
+abbrev pub is_within : Path → Line → Bool
+is_within path line = is_prefix path (components line)
+
+-- lines with `!` are for the boot; of the others those stay whose path begins with one path, and does not with another
+abbrev pub stays : Bool → Option Path → Option Path → Line → Bool
+stays boot prefix exclude line =
+    (boot || not line.boot)
+    && option_map_or (λ path. is_within path line) prefix true
+    && not (option_map_or (λ path. is_within path line) exclude false)
+
+-- ---- lines with one path
+
+-- whether two lines make what stands at one path
+abbrev pub make_same : Line → Line → Bool
+make_same a b = is_creating a && is_creating b && same_path (path_in a.path) (path_in b.path)
+
+-- of several creating lines with one path the first stays
+abbrev pub with_line : List Line → Line → List Line
+with_line lines line = if list_any (λ first. make_same first line) lines then lines else lines ++ line ∷ []
+
+-- the active lines, as they are listed
+abbrev pub active : Bool → Option Path → Option Path → List Line → List Line
+active boot prefix exclude lines = fold with_line [] (filter (stays boot prefix exclude) lines)
+
+-- whether both are true, or neither is
+abbrev pub alike : Bool → Bool → Bool
+alike true b = b
+alike false b = not b
+
+abbrev pub same_mode : LineMode → LineMode → Bool
+same_mode a b = a.value == b.value && alike a.masked b.masked && alike a.new_only b.new_only
+
+abbrev pub same_id : LineId → LineId → Bool
+same_id a b = a.id == b.id && alike a.new_only b.new_only
+
+abbrev pub same_age : Age → Age → Bool
+same_age a b = a.micros == b.micros && a.by.0 == b.by.0 && alike a.spare_first b.spare_first
+
+-- whether the arguments of two creating lines are the same
+abbrev pub same_argument : Argument → Argument → Bool
+same_argument (argument.FileBytes a) (argument.FileBytes b) = option_eq same_bytes a b
+same_argument (argument.Target a) (argument.Target b) = same_bytes a b
+same_argument (argument.Source a) (argument.Source b) = same_path a b
+same_argument (argument.Device major minor) (argument.Device other_major other_minor) = major == other_major && minor == other_minor
+same_argument argument.Ignored argument.Ignored = true
+same_argument a b = false
+
+-- whether two lines have the same type and modifiers
+abbrev pub same_type : Line → Line → Bool
+same_type a b =
+    a.letter == b.letter && alike a.plus b.plus && alike a.boot b.boot && alike a.minus b.minus && alike a.replace b.replace
+    && alike a.encoded b.encoded && alike a.purge b.purge
+
+-- whether two lines have the same mode, owners and age
+abbrev pub same_settings : Line → Line → Bool
+same_settings a b =
+    option_eq same_mode a.mode b.mode && option_eq same_id a.user b.user && option_eq same_id a.group b.group
+    && option_eq same_age a.age b.age
+
+-- whether two creating lines ask for the same: type, modifiers, mode, owners, age and argument
+abbrev pub ask_same : Line → Line → Bool
+ask_same a b = same_type a b && same_settings a b && same_argument a.argument b.argument
+
+-- a line is a duplicate
+abbrev pub duplicate_message : Line → List ℕ
+duplicate_message line = said_at line.place (codes "duplicate line for " ++ printed_path (path_in line.path))
+
+-- what is said of a line that is dropped: nothing where it asks for the same as the one that stays
+abbrev pub dropped_message : Line → Line → List (List ℕ)
+dropped_message first line = if ask_same first line then [] else duplicate_message line ∷ []
+
+-- what is said of a line after those that have been kept
+abbrev pub line_message : List Line → Line → List (List ℕ)
+line_message kept line = option_map_or (λ first. dropped_message first line) (find (λ first. make_same first line) kept) []
+
+-- what is said of the lines that are dropped, as they are listed
+abbrev pub dropped_messages : List Line → List Line → List (List ℕ)
+dropped_messages kept [] = []
+dropped_messages kept (line ∷ lines) = line_message kept line ++ dropped_messages (with_line kept line) lines
+
+abbrev pub duplicates : Bool → Option Path → Option Path → List Line → List (List ℕ)
+duplicates boot prefix exclude lines = dropped_messages [] (filter (stays boot prefix exclude) lines)
+
+-- no two lines make what stands at one path
+abbrev pub are_distinct : List Line → Bool
+are_distinct [] = true
+are_distinct (line ∷ lines) = not (list_any (make_same line) lines) && are_distinct lines
+
+-- ---- orders
+
+-- a line with its place in the listing
+abbrev pub Listed : Type 0
+Listed = ℕ × Line
+
+-- a line stands directly before the first line whose path lies below its own, else at the end
+abbrev pub placed : List Listed → Listed → List Listed
+placed [] line = line ∷ []
+placed (first ∷ lines) line =
+    if is_prefix (path_in line.1.path) (path_in first.1.path) && not (same_path (path_in line.1.path) (path_in first.1.path))
+    then line ∷ first ∷ lines
+    else first ∷ placed lines line
+
+-- whether a line adjusts what is there
+abbrev pub is_touching : Line → Bool
+is_touching line = by (asks line)
+  where
+    by : Deed → Bool
+    by (Create making) = false
+    by (Copy copying) = false
+    by (Touch touching) = true
+    by Idle = false
+
+-- the order of the create phase: creating lines, what lies above before what lies below; then those that adjust
+abbrev pub ordered : List Listed → List Listed
+ordered lines =
+    fold placed [] (filter (λ line. is_creating line.1) lines) ++ filter (λ line. is_touching line.1) lines
+
+-- the places of the lines in that order
+abbrev pub create_order : List Line → List ℕ
+create_order lines = map (λ line. line.0) (ordered (enumerate_from 0 lines))
+
+-- the lines in that order
+abbrev pub in_create_order : List Line → List Line
+in_create_order lines = map (λ line. line.1) (ordered (enumerate_from 0 lines))
+
+-- whether a line takes something away in the remove phase
+abbrev pub is_taking : Line → Bool
+is_taking line = by (taking_of line)
+  where
+    by : Taking → Bool
+    by taking.Nothing = false
+    by other = true
+
+-- the places of the lines that take something away, as they are listed
+abbrev pub remove_order : List Line → List ℕ
+remove_order lines = map (λ line. line.0) (filter (λ line. is_taking line.1) (enumerate_from 0 lines))

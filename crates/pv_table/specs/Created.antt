@@ -1,0 +1,133 @@
+-- Lines carried out one after the other: the tree that they leave, what is said, whether one was refused, and the most
+-- steps that it takes (tmpfiles.d(5)).
+use Rattle.std.specs.Prelude.{◌≡◌, ℕ, ◌+◌, ◌*◌, Bool, true, false, not, ◌&&◌, ◌||◌, List, [], ◌∷◌, ◌++◌, length, map, filter, fold, sum, Option, Some, None, is_some, is_none, if◌then◌else◌}
+use Rattle.std.specs.FinMap as fin
+use Rattle.std.specs.List.{list_any}
+use Rattle.std.specs.Option.{option_map_or}
+use Rattle.pv_dress.specs.declared.operation.Operation.{Operation}
+use Rattle.pv_dress.specs.Edits.{count_at}
+use Rattle.pv_dress.specs.Nodes.{bare_of}
+use Rattle.pv_lines.specs.declared.line.Line.{Line}
+use Rattle.pv_path.specs.Paths.{Path, rest_under}
+use Rattle.pv_steps.specs.declared.object.Object.{Object}
+use Rattle.pv_steps.specs.Trees.{Files, places}
+use Rattle.pv_walk.specs.Preparing.{parent_count}
+use Rattle.pv_walk.specs.Staging.{staging_names, count_at_all, most_new}
+use Rattle.pv_table.specs.declared.deed.Deed.{Deed}
+use Rattle.pv_table.specs.declared.deed.Deed.TheVariants.{Create, Copy, Touch, Idle}
+use Rattle.pv_table.specs.declared.deed.Touching.{Touching}
+use Rattle.pv_table.specs.Active.{in_create_order}
+use Rattle.pv_table.specs.Asking.{asks}
+use Rattle.pv_table.specs.Effects.{same_bare, become, put_paths, prepare, is_touched, turn_after, turns}
+use Rattle.pv_table.specs.Saying.{turn_messages}
+use Rattle.pv_table.specs.Turns.{Refused, Turn, Subtree, view_of, has_something, decide, refused_at}
+
+-- ---- one after the other
+
+-- something that is done over a tree: what it leaves, what is said of it, whether a place is refused to it, and at most
+-- how many steps it takes
+pub record Doing (A : Type 0) : Type 0 where
+  pub after : A → Files → Files
+  pub says : A → Files → List (List ℕ)
+  pub is_refused : A → Files → Bool
+  pub takes : A → Files → ℕ
+
+-- the same for several, each over the tree that those before it leave
+abbrev pub after_each : {A : Type 0} → Doing A → List A → Files → Files
+after_each d xs t = fold (λ u x. d.after x u) t xs
+
+abbrev pub said_of_each : {A : Type 0} → Doing A → List A → Files → List (List ℕ)
+said_of_each d [] t = []
+said_of_each d (x ∷ xs) t = d.says x t ++ said_of_each d xs (d.after x t)
+
+abbrev pub one_is_refused : {A : Type 0} → Doing A → List A → Files → Bool
+one_is_refused d [] t = false
+one_is_refused d (x ∷ xs) t = d.is_refused x t || one_is_refused d xs (d.after x t)
+
+abbrev pub taken_by_each : {A : Type 0} → Doing A → List A → Files → ℕ
+taken_by_each d [] t = 0
+taken_by_each d (x ∷ xs) t = d.takes x t + taken_by_each d xs (d.after x t)
+
+-- ---- the most steps of one turn
+
+-- at most how many steps one turn takes for an object that stays
+abbrev pub most_changed : ℕ
+most_changed = 4
+
+-- the most of them for an object that operations change, none for another
+abbrev pub change_work : List Operation → Option Object → ℕ
+change_work operations None = 0
+change_work operations (Some o) = if same_bare (bare_of (become 0 operations o)) (bare_of o) then 0 else most_changed
+
+-- how many objects a subtree has at paths below which it may have some
+abbrev pub put_count : Path → Subtree → List Path → ℕ
+put_count path subtree paths = length (filter (λ q. option_map_or (λ rest. is_some (subtree rest)) (rest_under path q) false) paths)
+
+-- one step for each object that gives way, the most for each new one; or the most for one that changes
+abbrev pub turn_work : Deed → Path → Turn → Files → ℕ
+turn_work deed path Turn.Nothing t = 0
+turn_work deed path (Turn.Left kind) t = 0
+turn_work deed path (Turn.Put subtree) t = count_at t path + most_new * put_count path subtree (put_paths deed path t)
+turn_work deed path (Turn.Become operations) t = change_work operations (places t path)
+
+-- of a line that is not refused: one for each object that an earlier run has staged, the most for each new parent, and
+-- those of the turn
+abbrev pub prepared_work : ℕ → Deed → Path → Files → ℕ
+prepared_work now deed path t =
+    count_at_all t (staging_names path) + most_new * parent_count path t
+    + turn_work deed path (decide deed (view_of (prepare now path t)) path) (prepare now path t)
+
+-- the most for each touched object that changes
+abbrev pub touch_work : Touching → Path → Files → ℕ
+touch_work touching path t =
+    sum (map (λ q. change_work touching.sets (places t q)) (filter (is_touched touching path) (fin.keys t)))
+
+abbrev pub deed_work : ℕ → Deed → Path → Files → ℕ
+deed_work now (Create making) path t = prepared_work now (Create making) path t
+deed_work now (Copy copying) path t = if has_something (places t) (Copy copying) then prepared_work now (Copy copying) path t else 0
+deed_work now (Touch touching) path t = touch_work touching path t
+deed_work now Idle path t = 0
+
+-- ---- turns, lines, runs
+
+-- a line at a path
+abbrev pub by_turn : ℕ → Line → Doing Path
+by_turn now line = record {
+  after = turn_after now line;
+  says = turn_messages now line;
+  is_refused = λ path t. is_some (refused_at line path (places t));
+  takes = λ path t. if is_some (refused_at line path (places t)) then 0 else deed_work now (asks line) path t;
+}
+
+-- a line at each path that it names when its turn comes
+abbrev pub by_line : ℕ → Doing Line
+by_line now = record {
+  after = λ line t. after_each (by_turn now line) (turns line t) t;
+  says = λ line t. said_of_each (by_turn now line) (turns line t) t;
+  is_refused = λ line t. one_is_refused (by_turn now line) (turns line t) t;
+  takes = λ line t. taken_by_each (by_turn now line) (turns line t) t;
+}
+
+-- the same, but that a refusal of a line with `-` does not count
+abbrev pub by_line_that_counts : ℕ → Doing Line
+by_line_that_counts now = record (by_line now) { is_refused = λ line t. not line.minus && (by_line now).is_refused line t }
+
+-- the tree after the active lines in their order
+abbrev pub created : List Line → ℕ → Files → Files
+created lines now t = after_each (by_line now) (in_create_order lines) t
+
+-- what is said of them
+abbrev pub created_messages : List Line → ℕ → Files → List (List ℕ)
+created_messages lines now t = said_of_each (by_line now) (in_create_order lines) t
+
+-- whether one is refused at some turn, but for lines with `-`
+abbrev pub some_refusal_counts : List Line → ℕ → Files → Bool
+some_refusal_counts lines now t = one_is_refused (by_line_that_counts now) (in_create_order lines) t
+
+-- no line is refused at any turn, lines with `-` included
+abbrev pub IsQuiet : List Line → ℕ → Files → Type 0
+IsQuiet lines now t = one_is_refused (by_line now) (in_create_order lines) t ≡ false
+
+-- the most steps of a run
+abbrev pub work : List Line → ℕ → Files → ℕ
+work lines now t = taken_by_each (by_line now) (in_create_order lines) t

@@ -1,0 +1,155 @@
+-- What a line leaves of a tree, stamps included (tmpfiles.d(5)). It knows no staged object and no half-done run.
+use Rattle.std.specs.Prelude.{ℕ, Bool, true, false, not, ◌&&◌, ◌||◌, ◌==◌, List, [], ◌∷◌, ◌++◌, map, filter, fold, Option, Some, None, option_map, if◌then◌else◌}
+use Rattle.std.specs.FinMap as fin
+use Rattle.std.specs.List.{filter_map}
+use Rattle.std.specs.Cmp.Lexicographic.{pointwise}
+use Rattle.pv_dress.specs.declared.bare.Bare.{Bare}
+use Rattle.pv_dress.specs.declared.operation.Operation.{Operation}
+use Rattle.pv_acl.specs.contracts.part.AclPartialEq as acl_eq
+use Rattle.pv_dress.specs.Nodes.{bare_of, same_kind}
+use Rattle.pv_dress.specs.Operations.{done}
+use Rattle.pv_lines.specs.declared.line.Line.{Line}
+use Rattle.pv_path.specs.Names.{same_bytes}
+use Rattle.pv_path.specs.Paths.{Path, same_path, is_prefix, rest_under, has_staging}
+use Rattle.pv_steps.specs.declared.attr.Attr.{Attr}
+use Rattle.pv_steps.specs.declared.object.Object.{Object}
+use Rattle.pv_steps.specs.Objects.{changed, modified, stamped}
+use Rattle.pv_steps.specs.Steps.{on_at, touched}
+use Rattle.pv_steps.specs.Trees.{Files, Places, places, tabulate}
+use Rattle.pv_walk.specs.Preparing.{parents_of, prepared}
+use Rattle.pv_table.specs.declared.deed.Deed.{Deed}
+use Rattle.pv_table.specs.declared.deed.Deed.TheVariants.{Create, Copy, Touch, Idle}
+use Rattle.pv_table.specs.declared.deed.Touching.{Touching}
+use Rattle.pv_table.specs.Asking.{asks}
+use Rattle.pv_table.specs.Reaching.{names, path_in}
+use Rattle.pv_table.specs.Turns.{Refused, Turn, Subtree, View, view_of, copied, decide, has_something, refused_at}
+
+-- ---- one object
+
+-- whether two extended attributes are the same
+abbrev pub same_attr : Attr → Attr → Bool
+same_attr a b = same_bytes a.name b.name && same_bytes a.value b.value
+
+-- whether two objects are the same but for stamps
+abbrev pub same_bare : Bare → Bare → Bool
+same_bare a b =
+    same_kind a.body.kind b.body.kind && same_bytes a.body.payload b.body.payload && a.body.major == b.body.major
+    && a.body.minor == b.body.minor && a.dress.uid == b.dress.uid && a.dress.gid == b.dress.gid
+    && a.dress.special == b.dress.special && (acl_eq.TheImpl.eq-value).it a.dress.acl b.dress.acl
+    && pointwise same_attr a.dress.attrs b.dress.attrs && a.dress.letters == b.dress.letters
+
+-- an object with its stamps, as one without says
+abbrev pub as_bare : Bare → Object → Object
+as_bare b o = record {
+  node = record {
+    kind = b.body.kind;
+    special = b.dress.special;
+    uid = b.dress.uid;
+    gid = b.dress.gid;
+    acl = b.dress.acl;
+    stamps = o.node.stamps;
+    major = b.body.major;
+    minor = b.body.minor;
+    attrs = b.dress.attrs;
+    letters = b.dress.letters;
+  };
+  payload = b.body.payload;
+}
+
+-- the change stamp is now where the object differs, that of modification where its bytes do
+abbrev pub restamped : ℕ → Bare → Object → Object
+restamped now b o =
+    if same_bare b (bare_of o) then o
+    else if same_bytes b.body.payload o.payload then changed now (as_bare b o)
+    else modified now (as_bare b o)
+
+-- an object after an operation that leaves it there, stamps included
+abbrev pub adjusted : ℕ → Object → Operation → Object
+adjusted now o operation = by (done operation (Some (bare_of o)))
+  where
+    by : Option Bare → Object
+    by None = o
+    by (Some b) = restamped now b o
+
+-- an object after some of them
+abbrev pub become : ℕ → List Operation → Object → Object
+become now operations o = fold (adjusted now) o operations
+
+-- a new object, all four stamps now
+abbrev pub object_of : ℕ → Bare → Object
+object_of now b = record {
+  node = record {
+    kind = b.body.kind;
+    special = b.dress.special;
+    uid = b.dress.uid;
+    gid = b.dress.gid;
+    acl = b.dress.acl;
+    stamps = stamped now;
+    major = b.body.major;
+    minor = b.body.minor;
+    attrs = b.dress.attrs;
+    letters = b.dress.letters;
+  };
+  payload = b.body.payload;
+}
+
+-- ---- a tree
+
+-- a subtree of new objects stands at a path in the place of all that stood at and below it; its directory has changed
+abbrev pub put : ℕ → Path → Subtree → Places → Places
+put now path subtree t = touched now path (λ q. by q (rest_under path q))
+  where
+    by : Path → Option Path → Option Object
+    by q None = t q
+    by q (Some rest) = option_map (object_of now) (subtree rest)
+
+-- the paths at which a line may put something: its own, and one for each path below what it copies
+abbrev pub put_paths : Deed → Path → Files → List Path
+put_paths (Copy copying) path t = path ∷ map (λ rest. path ++ rest) (filter_map (rest_under copying.source) (fin.keys t))
+put_paths deed path t = path ∷ []
+
+-- the tree after what is done at a path
+abbrev pub turned : ℕ → Deed → Path → Turn → Files → Files
+turned now deed path Turn.Nothing t = t
+turned now deed path (Turn.Left kind) t = t
+turned now deed path (Turn.Put subtree) t = tabulate (put_paths deed path t ++ fin.keys t) (put now path subtree (places t))
+turned now deed path (Turn.Become operations) t = tabulate (fin.keys t) (on_at path (become now operations) (places t))
+
+-- what an earlier run has staged along a path is taken away, and absent parents are put
+unfoldable pub prepare : ℕ → Path → Files → Files
+prepare now path t = tabulate (parents_of path ++ fin.keys t) (prepared now path (places t))
+
+-- whether what is done at a path reaches another: itself, and all below it that is not staged
+abbrev pub is_touched : Touching → Path → Path → Bool
+is_touched touching path q = same_path path q || (touching.deep && is_prefix path q && not (has_staging q))
+
+-- what stands at and below a path is adjusted
+abbrev pub touch : ℕ → Touching → Path → Files → Files
+touch now touching path t = tabulate (fin.keys t) (λ q. if is_touched touching path q then option_map (become now touching.sets) (places t q) else places t q)
+
+-- a line that is not refused is carried out at a path: one that makes something prepares the path first
+abbrev pub carried_out : ℕ → Deed → Path → Files → Files
+carried_out now (Create making) path t = turned now (Create making) path (decide (Create making) (view_of (prepare now path t)) path) (prepare now path t)
+carried_out now (Copy copying) path t =
+    if has_something (places t) (Copy copying) then turned now (Copy copying) path (decide (Copy copying) (view_of (prepare now path t)) path) (prepare now path t)
+    else t
+carried_out now (Touch touching) path t = touch now touching path t
+carried_out now Idle path t = t
+
+-- the tree after a line at a path that it names; a refused line does nothing
+abbrev pub turn_after : ℕ → Line → Path → Files → Files
+turn_after now line path t = by (refused_at line path (places t))
+  where
+    by : Option Refused → Files
+    by (Some place) = t
+    by None = carried_out now (asks line) path t
+
+-- the paths at which a line is carried out: its own, or those present that it names, in their order
+abbrev pub turns : Line → Files → List Path
+turns line t = by (asks line)
+  where
+    by : Deed → List Path
+    by (Create making) = path_in line.path ∷ []
+    by (Copy copying) = path_in line.path ∷ []
+    by (Touch touching) = filter (names line) (fin.keys t)
+    by Idle = []

@@ -1,0 +1,13 @@
+pub mod Asking
+pub mod Reaching
+pub mod Active
+pub mod Scopes
+pub mod Turns
+pub mod Effects
+pub mod Saying
+pub mod Created
+pub mod Pointwise
+pub mod Asked
+pub mod Removed
+pub mod Cleaned
+pub mod Repeatable

@@ -1,0 +1,82 @@
+-- What lines that are not refused leave at each path by itself, stamps aside (tmpfiles.d(5)). No tree is folded, and
+-- nothing is refused.
+use Rattle.std.specs.Prelude.{ℕ, Bool, true, false, not, ◌&&◌, ◌||◌, List, [], ◌∷◌, ◌++◌, map, filter, fold, take, Option, Some, None, is_some, unwrap_or, option_map, if◌then◌else◌}
+use Rattle.std.specs.FinMap as fin
+use Rattle.std.specs.List.{list_any, filter_map}
+use Rattle.std.specs.Option.{option_map_or}
+use Rattle.pv_dress.specs.declared.bare.Bare.{Bare}
+use Rattle.pv_dress.specs.declared.operation.Operation.{Operation}
+use Rattle.pv_dress.specs.Nodes.{bare_of}
+use Rattle.pv_dress.specs.Operations.{run}
+use Rattle.pv_lines.specs.declared.line.Line.{Line}
+use Rattle.pv_path.specs.Paths.{Path, path_cmp, path_total, is_prefix, same_path, rest_under, has_staging}
+use Rattle.pv_steps.specs.Trees.{Files, places}
+use Rattle.pv_walk.specs.Preparing.{parent_file, parents_of}
+use Rattle.pv_walk.specs.Staging.{new_object}
+use Rattle.pv_table.specs.declared.deed.Deed.{Deed}
+use Rattle.pv_table.specs.declared.deed.Deed.TheVariants.{Create, Copy, Touch, Idle}
+use Rattle.pv_table.specs.declared.deed.Touching.{Touching}
+use Rattle.pv_table.specs.Active.{in_create_order}
+use Rattle.pv_table.specs.Asking.{asks}
+use Rattle.pv_table.specs.Reaching.{names, names_above, path_in}
+use Rattle.pv_table.specs.Turns.{Turn, Subtree, View, decide}
+
+-- what stands at each path, without stamps, as a finite map
+abbrev pub Bares : Type 0
+Bares = fin.FinMap path_cmp Bare
+
+abbrev pub view : Bares → View
+view s = record { paths = fin.keys s; at = fin.get s }
+
+-- what a function has at some paths, as a finite map
+abbrev pub tabulated : List Path → (Path → Option Bare) → Bares
+tabulated paths t = fin.from_entries (filter_map (λ path. option_map (λ b. (path, b)) (t path)) paths)
+
+-- the parent that a line makes
+abbrev pub parent_bare : Bare
+parent_bare = bare_of (new_object parent_file 0)
+
+-- at a path that comes by this rest after the path at which something is done
+abbrev pub after_turn : Turn → Path → Option Bare → Option Bare
+after_turn Turn.Nothing rest b = b
+after_turn (Turn.Left kind) rest b = b
+after_turn (Turn.Put subtree) rest b = subtree rest
+after_turn (Turn.Become operations) [] b = run operations b
+after_turn (Turn.Become operations) (name ∷ rest) b = b
+
+-- what a line that makes something leaves: above its path what was there, or a parent; at and below it what is done there
+abbrev pub at_made : Deed → Path → Bares → Path → Option Bare
+at_made deed path s q =
+    if is_prefix q path && not (same_path q path) then Some (unwrap_or (fin.get s q) parent_bare)
+    else option_map_or (λ rest. after_turn (decide deed (view s) path) rest (fin.get s q)) (rest_under path q) (fin.get s q)
+
+-- whether a line touches a path: it names it, or, going down, what it lies below
+abbrev pub touches : Line → Touching → Path → Bool
+touches line touching q = names line q || (touching.deep && names_above line q && not (has_staging q))
+
+-- what a line leaves at a path, from what stands at all
+abbrev pub point : Line → Bares → Path → Option Bare
+point line s q = by (asks line)
+  where
+    by : Deed → Option Bare
+    by (Create making) = at_made (Create making) (path_in line.path) s q
+    by (Copy copying) = if is_some (fin.get s copying.source) then at_made (Copy copying) (path_in line.path) s q else fin.get s q
+    by (Touch touching) = if touches line touching q then run touching.sets (fin.get s q) else fin.get s q
+    by Idle = fin.get s q
+
+-- the paths at which a line may put something
+abbrev pub point_paths : Line → Bares → List Path
+point_paths line s = by (asks line)
+  where
+    by : Deed → List Path
+    by (Create making) = path_in line.path ∷ parents_of (path_in line.path)
+    by (Copy copying) = path_in line.path ∷ parents_of (path_in line.path) ++ map (λ rest. path_in line.path ++ rest) (filter_map (rest_under copying.source) (fin.keys s))
+    by deed = []
+
+-- what a line leaves at all paths
+abbrev pub pointwise_after : Bares → Line → Bares
+pointwise_after s line = tabulated (point_paths line s ++ fin.keys s) (point line s)
+
+-- what the first k lines leave, in the order of the create phase
+abbrev pub state : List Line → ℕ → Bares → Bares
+state lines k s = fold pointwise_after s (take k (in_create_order lines))

@@ -1,0 +1,93 @@
+-- Which paths a line names, which it reaches, and which it may change (tmpfiles.d(5)).
+use Rattle.std.specs.Prelude.{ℕ, Bool, true, false, not, ◌&&◌, ◌||◌, ◌==◌, length, take, List, [], ◌∷◌, Option, Some, None, is_some, if◌then◌else◌}
+use Rattle.std.specs.List.{list_any, range_with_len}
+use Rattle.std.specs.Option.{option_map_or}
+use Rattle.pv_glob.specs.Matching.{some_matches}
+use Rattle.pv_lines.specs.declared.line.Line.{Line}
+use Rattle.pv_lines.specs.declared.line.LinePath.{LinePath}
+use Rattle.pv_lines.specs.declared.line.LinePath.TheVariants.{Literal, Glob}
+use Rattle.pv_path.specs.Paths.{Path, same_path, is_prefix}
+use Rattle.pv_table.specs.declared.deed.Deed.{Deed}
+use Rattle.pv_table.specs.declared.deed.Deed.TheVariants.{Create, Copy, Touch, Idle}
+use Rattle.pv_table.specs.declared.taking.Taking.{Taking}
+use Rattle.pv_table.specs.declared.taking.Taking.TheVariants as taking
+use Rattle.pv_table.specs.declared.taking.Sparing.{Sparing}
+use Rattle.pv_table.specs.declared.taking.Sparing.TheVariants as sparing
+use Rattle.pv_table.specs.Asking.{asks}
+
+-- ---- what a line is for besides creating
+
+-- r takes the object itself, R with all below, D what is below it
+abbrev pub taking_of : Line → Taking
+taking_of line =
+    if line.letter == 114 then taking.Itself
+    else if line.letter == 82 then taking.Whole
+    else if line.letter == 68 then taking.Contents
+    else taking.Nothing
+
+-- x spares the object with all below, X the object itself
+abbrev pub sparing_of : Line → Option Sparing
+sparing_of line =
+    if line.letter == 120 then Some sparing.Whole
+    else if line.letter == 88 then Some sparing.Itself
+    else None
+
+-- ---- names
+
+-- the path of a line that names one path
+abbrev pub path_in : LinePath → Path
+path_in (Literal path) = path
+path_in (Glob pattern) = []
+
+-- a line names a path: its own, or one that its pattern matches
+abbrev pub names_in : LinePath → Path → Bool
+names_in (Literal path) q = same_path path q
+names_in (Glob pattern) q = some_matches pattern q
+
+abbrev pub names : Line → Path → Bool
+names line q = names_in line.path q
+
+-- a line names what a path lies below
+abbrev pub names_above : Line → Path → Bool
+names_above line q = list_any (λ k. names line (take k q)) (range_with_len 0 (length q))
+
+-- ---- reach
+
+-- whether a line is of a type that makes what stands at its path: such a line has a path, any other a pattern
+abbrev pub is_creating : Line → Bool
+is_creating line = by line.path
+  where
+    by : LinePath → Bool
+    by (Literal path) = true
+    by (Glob pattern) = false
+
+-- whether what is done at a path reaches all below it: a replaced object goes with all below
+abbrev pub is_deep : Deed → Bool
+is_deep (Create making) = is_some making.renew
+is_deep (Copy copying) = true
+is_deep (Touch touching) = touching.deep
+is_deep Idle = false
+
+abbrev pub takes_below : Taking → Bool
+takes_below taking.Itself = false
+takes_below taking.Whole = true
+takes_below taking.Contents = true
+takes_below taking.Nothing = false
+
+abbrev pub spares_below : Sparing → Bool
+spares_below sparing.Whole = true
+spares_below sparing.Itself = false
+
+-- whether a line reaches what lies below the paths that it names
+abbrev pub reaches_below : Line → Bool
+reaches_below line =
+    is_deep (asks line) || takes_below (taking_of line) || option_map_or spares_below (sparing_of line) false
+    || is_some line.age || line.purge
+
+-- a line reaches a path
+abbrev pub reaches : Line → Path → Bool
+reaches line q = names line q || (reaches_below line && names_above line q)
+
+-- a line may change a path: it reaches it, or makes it as a parent
+abbrev pub governs : Line → Path → Bool
+governs line q = reaches line q || (is_creating line && is_prefix q (path_in line.path))

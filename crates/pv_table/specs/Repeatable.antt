@@ -1,0 +1,113 @@
+-- Which lines share a path, and why carrying out lines twice may leave something else than carrying them out once
+-- (this project's own).
+use Rattle.std.specs.Prelude.{◌≡◌, ◌≢◌, ◌⊎◌, ℕ, ◌<◌, Bool, true, false, not, ◌&&◌, ◌||◌, ◌==◌, List, [], ◌∷◌, codes, Option, Some, None, is_some, slice_get}
+use Rattle.std.specs.List.{list_any}
+use Rattle.pv_acl.specs.declared.line.Entry.{Entry}
+use Rattle.pv_dress.specs.declared.operation.Operation.{Operation}
+use Rattle.pv_dress.specs.Reasons.{is_adjusting, is_append, gives_base}
+use Rattle.pv_lines.specs.declared.line.Line.{Line}
+use Rattle.pv_lines.specs.declared.line.LineMode.{LineMode}
+use Rattle.pv_path.specs.Paths.{Path, is_prefix}
+use Rattle.pv_table.specs.declared.deed.Deed.{Deed}
+use Rattle.pv_table.specs.declared.deed.Deed.TheVariants.{Create, Copy, Touch, Idle}
+use Rattle.pv_table.specs.declared.reason.Reason.{Reason}
+use Rattle.pv_table.specs.declared.reason.Reason.TheVariants as reason
+use Rattle.pv_table.specs.declared.taking.Taking.{Taking}
+use Rattle.pv_table.specs.declared.taking.Taking.TheVariants as taking
+use Rattle.pv_table.specs.Asking.{asks}
+use Rattle.pv_table.specs.Reaching.{is_creating, path_in, reaches, governs, taking_of}
+use Rattle.pv_table.specs.Turns.{copied}
+
+-- ---- lines that share a path
+
+-- the line at a place of a list
+abbrev pub IsAt : List Line → ℕ → Line → Type 0
+IsAt lines i line = slice_get lines i ≡ Some line
+
+-- both lines reach a path
+abbrev pub BothReach : Line → Line → Path → Type 0
+BothReach a b q = (reaches a q ≡ true) × (reaches b q ≡ true)
+
+-- two lines, the first before the second, share some path
+pub record Overlap (lines : List Line) (i j : ℕ) : Type 0 where
+  pub first : Line
+  pub second : Line
+  pub path : Path
+  pub before : i < j
+  pub is_first : IsAt lines i first
+  pub is_second : IsAt lines j second
+  pub shared : BothReach first second path
+
+-- ---- what a line does
+
+-- what a line sets of an object that is there
+abbrev pub sets_of : Deed → List Operation
+sets_of (Create making) = making.sets
+sets_of (Copy copying) = copying.sets
+sets_of (Touch touching) = touching.sets
+sets_of Idle = []
+
+-- whether a line appends bytes
+abbrev pub appends : Line → Bool
+appends line = list_any (is_adjusting is_append) (sets_of (asks line))
+
+-- whether a line sets base entries of an ACL
+abbrev pub sets_base : Line → Bool
+sets_base line = list_any (is_adjusting gives_base) (sets_of (asks line))
+
+-- whether a line has a masked mode, be it of use to its type or not
+abbrev pub has_masked_mode : Line → Bool
+has_masked_mode line = by line.mode
+  where
+    by : Option LineMode → Bool
+    by None = false
+    by (Some mode) = mode.masked
+
+-- the folders of configuration files and the files of users and groups, from which lines are read
+abbrev pub inputs : List Path
+inputs =
+    (codes "etc" ∷ codes "tmpfiles.d" ∷ [])
+    ∷ (codes "run" ∷ codes "tmpfiles.d" ∷ [])
+    ∷ (codes "usr" ∷ codes "local" ∷ codes "lib" ∷ codes "tmpfiles.d" ∷ [])
+    ∷ (codes "usr" ∷ codes "lib" ∷ codes "tmpfiles.d" ∷ [])
+    ∷ (codes "etc" ∷ codes "passwd" ∷ [])
+    ∷ (codes "etc" ∷ codes "group" ∷ [])
+    ∷ []
+
+-- whether a path lies at or below one of them
+abbrev pub is_input : Path → Bool
+is_input q = list_any (λ path. is_prefix path q) inputs
+
+-- whether a line writes bytes: w
+abbrev pub is_writing : Line → Bool
+is_writing line = line.letter == 119
+
+-- whether a line takes away what it names: r or R
+abbrev pub takes_named : Taking → Bool
+takes_named taking.Itself = true
+takes_named taking.Whole = true
+takes_named other = false
+
+-- whether a line may change what is read from a path that it governs
+abbrev pub changes_content : Line → Bool
+changes_content line = is_creating line || is_writing line || takes_named (taking_of line) || is_some line.age
+
+-- ---- reasons
+
+-- the line at a place has a reason
+pub data HasReason (lines : List Line) (i : ℕ) : Reason → Type 0 where
+  append : (line : Line) → IsAt lines i line → appends line ≡ true → HasReason lines i reason.Append
+  source : (line other : Line) (j : ℕ) (path q : Path) → IsAt lines i line → IsAt lines j other
+      → copied (asks other) ≡ Some path → is_prefix path q ≡ true → governs line q ≡ true → HasReason lines i reason.Source
+  below : (line other : Line) (j : ℕ) (path : Path) → IsAt lines i line → IsAt lines j other
+      → is_creating line ≡ true → copied (asks other) ≡ Some path
+      → is_prefix (path_in other.path) (path_in line.path) ≡ true → path_in other.path ≢ path_in line.path → HasReason lines i reason.Below
+  input : (line : Line) (q : Path) → IsAt lines i line → changes_content line ≡ true → is_input q ≡ true → governs line q ≡ true
+      → HasReason lines i reason.Input
+  mask : (line other : Line) (j : ℕ) (q : Path) → IsAt lines i line → IsAt lines j other → j < i → BothReach other line q
+      → ((has_masked_mode other ≡ true) × (sets_base line ≡ true)) ⊎ ((sets_base other ≡ true) × (has_masked_mode line ≡ true))
+      → HasReason lines i reason.Mask
+
+-- no line has a reason
+abbrev pub IsRepeatable : List Line → Type 0
+IsRepeatable lines = (i : ℕ) (r : Reason) → HasReason lines i r → ⊥

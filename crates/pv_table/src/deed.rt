@@ -1,0 +1,61 @@
+//! What a line asks for in the create phase, whatever its letter.
+use pv_dress::{Guard, Operation, Test};
+use pv_lines::LineMode;
+use pv_path::{Sequence, TreePath};
+use pv_walk::NewFile;
+
+/// Operations in their order.
+pub type OperationList = Sequence<Operation>;
+
+/// What a line asks for in the create phase (tmpfiles.d(5), "Type").
+#[derive(Debug, Drop)]
+pub enum Deed {
+    /// An object is made at the line's path, or what stands there is adjusted.
+    Create(Making),
+    /// The same with a copy of what stands at another path.
+    Copy(Copying),
+    /// What stands at the paths that the line names is adjusted.
+    Touch(Touching),
+    /// Nothing.
+    Idle,
+}
+
+/// An object that is to stand at a path.
+#[derive(Debug, Drop)]
+pub struct Making {
+    /// The object, where it is new.
+    pub new: NewFile,
+    /// Which objects stay where one of another kind, or with other substance, is replaced; none is where this is
+    /// omitted.
+    pub renew: Option<Test>,
+    /// What is set of an object that stays and is of the kind.
+    pub sets: OperationList,
+}
+
+/// A copy that is to stand at a path.
+#[derive(Debug, Drop)]
+pub struct Copying {
+    /// The path that is copied.
+    pub source: TreePath,
+    /// The mode of the copied object itself, where it is given.
+    pub mode: Option<LineMode>,
+    /// The owner of the copied object itself, where it is given.
+    pub uid: Option<u32>,
+    /// The owning group of the copied object itself, where it is given.
+    pub gid: Option<u32>,
+    /// Whether an object of another kind is replaced.
+    pub renews: bool,
+    /// What is set of an object that stays and is of the kind.
+    pub sets: OperationList,
+}
+
+/// What is to be set of objects that are there.
+#[derive(Debug, Drop)]
+pub struct Touching {
+    /// Whether all that stands below is meant as well.
+    pub deep: bool,
+    /// Which objects are not left with a message.
+    pub wanted: Guard,
+    /// What is set.
+    pub sets: OperationList,
+}

@@ -1,0 +1,52 @@
+//! Which paths a line names, and what it is for besides creating.
+ghost use Rattle.std.specs.Prelude.{◌≡◌, ◌≤◌, length, take};
+ghost use Rattle.pv_table.specs.Reaching.{names, sparing_of, taking_of};
+
+use crate::taking::{Sparing, Taking};
+use pv_glob::{matches, matches_first};
+use pv_lines::{Line, LinePath};
+use pv_path::TreePath;
+
+/// What a line takes away in the remove phase at a path that it names (tmpfiles.d(5), r, R and D).
+pub fn taking_of(line: &Line) -> Taking
+    ensures { result ≡ taking_of line.now }
+{
+    match line.letter {
+        b'r' => Taking::Itself,
+        b'R' => Taking::Whole,
+        b'D' => Taking::Contents,
+        _ => Taking::Nothing,
+    }
+}
+
+/// What a line spares in the clean phase at a path that it names (tmpfiles.d(5), x and X).
+pub fn sparing_of(line: &Line) -> Option<Sparing>
+    ensures { result ≡ sparing_of line.now }
+{
+    match line.letter {
+        b'x' => Some(Sparing::Whole),
+        b'X' => Some(Sparing::Itself),
+        _ => None,
+    }
+}
+
+/// Whether a line names a path: its own, or one that its pattern matches. It takes no memory.
+pub fn names(line: &Line, path: &TreePath) -> bool
+    ensures { result ≡ names line.now path.now }
+{
+    match &line.path {
+        LinePath::Literal(own) => own == path,
+        LinePath::Glob(pattern) => matches(pattern, path),
+    }
+}
+
+/// The same for the path of the first names of a path.
+pub fn names_first(line: &Line, path: &TreePath, count: usize) -> bool
+    requires { count ≤ length path.now }
+    ensures { result ≡ names line.now (take count path.now) }
+{
+    match &line.path {
+        LinePath::Literal(own) => own.names() == &path.names()[..count],
+        LinePath::Glob(pattern) => matches_first(pattern, path, count),
+    }
+}

@@ -1,0 +1,16 @@
+//! Why a configuration is not repeatable.
+
+/// Why carrying out lines twice may leave something else than carrying them out once.
+#[derive(Clone, Copy, Debug, PartialEq, Eq)]
+pub enum Reason {
+    /// The line appends bytes.
+    Append,
+    /// The line may change what another line copies, or what it copies itself.
+    Source,
+    /// The line makes an object below the destination of a copy.
+    Below,
+    /// The line may change what is read before the lines are.
+    Input,
+    /// The line and an earlier one set a masked mode and base entries of an ACL of one object.
+    Mask,
+}
