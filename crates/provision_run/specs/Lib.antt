@@ -1,3 +1,5 @@
+pub mod Built
+pub mod Taking
 pub mod Words
 pub mod Whole
 pub mod Answers

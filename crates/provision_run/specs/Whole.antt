@@ -1,28 +1,29 @@
 -- A whole run over a tree: the lines that it reads of the tree, the tree that it leaves, what it says, how it ends, and
 -- the most steps that it takes (systemd-tmpfiles(8)).
-use Rattle.std.specs.Prelude.{ℕ, Bool, true, List, ◌++◌, if◌then◌else◌}
+use Rattle.std.specs.Prelude.{ℕ, Bool, true, ◌||◌, List, ◌++◌, if◌then◌else◌}
 use Rattle.pv_text.specs.Facts.{Values}
 use Rattle.pv_steps.specs.Trees.{Files}
-use Rattle.pv_lines.specs.declared.line.Line.{Line}
-use Rattle.pv_conf.specs.Configuration.{configured}
+use Rattle.pv_conf.specs.Known.{configured}
 use Rattle.pv_create.specs.declared.carried.Carried.{Carried}
 use Rattle.pv_create.specs.declared.carried.Carried.TheVariants as carried
 use Rattle.pv_create.specs.Created.{created, created_messages, some_refused, carried_of, work}
+use Rattle.pv_create.specs.declared.directory_line.DirectoryLine.{DirectoryLine}
 use Rattle.pv_words.specs.declared.options.Options.{Options}
+use Rattle.provision_run.specs.Built.{built_lines, some_unbuilt, unbuilt_messages}
 use Rattle.provision_run.specs.declared.run.RunEnd.{RunEnd}
 use Rattle.provision_run.specs.declared.run.RunEnd.TheVariants.{Done, ConfigInvalid, NotCarriedOut}
 
--- the lines of the configuration
-abbrev pub run_lines : Options → Values → Files → List Line
-run_lines options facts t = (configured t facts options.words).lines
+-- the lines of the configuration that are carried out
+abbrev pub run_lines : Options → Values → Files → List DirectoryLine
+run_lines options facts t = built_lines (configured t facts options.words).lines
 
 -- the tree after all lines
 abbrev pub final : Options → Values → ℕ → Files → Files
 final options facts moment t = created (run_lines options facts t) moment t
 
--- what is said in reading the configuration
+-- what is said in reading the configuration, and of its lines that are not built
 abbrev pub read_messages : Options → Values → Files → List (List ℕ)
-read_messages options facts t = (configured t facts options.words).messages
+read_messages options facts t = (configured t facts options.words).messages ++ unbuilt_messages (configured t facts options.words).lines
 
 -- what is said of the lines of the configuration, each at its turn
 abbrev pub line_messages : Options → Values → ℕ → Files → List (List ℕ)
@@ -37,15 +38,19 @@ abbrev pub is_uncarried : Carried → Bool → Bool
 is_uncarried carried.Whole missing = missing
 is_uncarried carried.NotCarriedOut missing = true
 
--- something could not be carried out, or else a line was refused in reading
+-- something could not be carried out, or else a line was refused in reading or is not built
 abbrev pub end_of : Bool → Bool → RunEnd
 end_of uncarried invalid = if uncarried then NotCarriedOut else if invalid then ConfigInvalid else Done
+
+-- whether a line was refused in reading or is not built
+abbrev pub is_invalid : Options → Values → Files → Bool
+is_invalid options facts t = (configured t facts options.words).invalid || some_unbuilt (configured t facts options.words).lines
 
 -- how a run over a tree ends
 abbrev pub run_end : Options → Values → ℕ → Files → RunEnd
 run_end options facts moment t = end_of
     (is_uncarried (carried_of (some_refused (run_lines options facts t) moment t)) (configured t facts options.words).missing)
-    (configured t facts options.words).invalid
+    (is_invalid options facts t)
 
 -- the most steps that a run over a tree takes
 abbrev pub run_work : Options → Values → ℕ → Files → ℕ

@@ -2,6 +2,7 @@
 #![tactic(auto)]
 
 mod answer;
+mod built;
 #[cfg(test)]
 mod images;
 mod message;

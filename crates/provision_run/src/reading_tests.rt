@@ -3,6 +3,7 @@ use crate::images::image;
 use pv_conf::{Configuration, read_configuration};
 use pv_image::read_image;
 use pv_layers::{Chosen, chosen_files};
+use pv_lines::{Line, LineId};
 use pv_path::{Bytes, WordList, print_path};
 use pv_text::{Facts, Messages, Tool};
 use pv_tree::MemTree;
@@ -148,10 +149,12 @@ fn words_choose_files(rt: HostRuntime) -> Result<(), Fail> {
 const CONFIGURED: &[&str] = &[
     "d / 0755 0 0 -",
     "d /etc 0755 0 0 -",
+    "f /etc/group 0644 0 0 - =adm:x:8:\n",
+    "f /etc/passwd 0644 0 0 - =app:x:7:8:::\n",
     "d /etc/tmpfiles.d 0755 0 0 -",
-    "f /etc/tmpfiles.d/b.conf 0644 0 0 - =# a\n\nd %t/b 0755 0 0\n \t# x\n \t\r\nq /c\nd /run/c 0700 1 2",
+    "f /etc/tmpfiles.d/b.conf 0644 0 0 - =# a\n\nd %t/b 0755 app adm\n \t# x\n \t\r\ny /c\nd /var/run/c 0700 1 2",
     "f /etc/tmpfiles.d/e.conf 0644 0 0 -",
-    "f /etc/tmpfiles.d/g.conf 0644 0 0 - =\n\nd /g 0755 0\n",
+    "f /etc/tmpfiles.d/g.conf 0644 0 0 - =\n\nd /g 0755 adm\n",
     "l /etc/tmpfiles.d/m.conf 0777 0 0 - - /dev/null",
     "d /etc/tmpfiles.d/odd.conf 0755 0 0 -",
     "d /usr 0755 0 0 -",
@@ -162,16 +165,24 @@ const CONFIGURED: &[&str] = &[
     "f /usr/lib/tmpfiles.d/m.conf 0644 0 0 - =d /masked 0755 0 0\n",
 ];
 
-/// Each line as `PATH MODE UID GID FILE:NUMBER|`, the mode in decimal, and then each message likewise.
+/// An owner, or 9 where none is given.
+fn id_of(owner: Option<LineId>) -> u32 {
+    match owner {
+        Some(owner) => owner.id,
+        None => 9,
+    }
+}
+
+/// Each line as `PATH UID GID FILE:NUMBER|`, and then each message likewise.
 fn lines_told(
     alloc: Global,
-    read: &Configuration,
+    read: &Configuration<Line>,
     messages: &Messages,
 ) -> Result<Vec<u8>, AllocError> {
     let mut text = Vec::new(alloc);
     for line in read.lines.as_slice() {
-        text.extend_from_slice(&print_path(alloc, &line.path)?)?;
-        let numbers = format!(in alloc; " {} {} {} ", line.mode, line.uid, line.gid)?;
+        text.extend_from_slice(line.path_text.as_slice())?;
+        let numbers = format!(in alloc; " {} {} ", id_of(line.user), id_of(line.group))?;
         text.extend_from_slice(numbers.as_bytes())?;
         text.extend_from_slice(line.place.file.as_slice())?;
         let number = format!(in alloc; ":{}|", line.place.number)?;
@@ -189,42 +200,48 @@ fn lines_told(
 #[test]
 fn configurations_are_read(rt: HostRuntime) -> Result<(), Fail> {
     let tree = configured(&rt, rt.alloc(), CONFIGURED)?;
-    for (words, wanted, invalid, missing) in [
+    for (words, wanted, invalid, missing, count) in [
         (
             b"".as_slice(),
-            b"/a 493 0 0 /usr/lib/tmpfiles.d/a.conf:1|/run/b 493 0 0 /etc/tmpfiles.d/b.conf:3|/run/c 448 1 2 /etc/tmpfiles.d/b.conf:7|/etc/tmpfiles.d/odd.conf: not a regular file|/etc/tmpfiles.d/b.conf:6: NotBuilt|/etc/tmpfiles.d/g.conf:3: NotBuilt|".as_slice(),
+            b"/a 0 0 /usr/lib/tmpfiles.d/a.conf:1|/run/b 7 8 /etc/tmpfiles.d/b.conf:3|/run/c 1 2 /etc/tmpfiles.d/b.conf:7|/etc/tmpfiles.d/odd.conf: not a regular file|/etc/tmpfiles.d/b.conf:6: UnknownType|/etc/tmpfiles.d/b.conf:7: /var/run/ read as /run/|/etc/tmpfiles.d/g.conf:3: UnknownUser|".as_slice(),
             true,
             false,
+            12u32,
         ),
         (
             b"a.conf",
-            b"/a 493 0 0 /usr/lib/tmpfiles.d/a.conf:1|",
+            b"/a 0 0 /usr/lib/tmpfiles.d/a.conf:1|",
             false,
             false,
+            2,
         ),
         (
             b"b.conf n.conf a.conf",
-            b"/run/b 493 0 0 /etc/tmpfiles.d/b.conf:3|/run/c 448 1 2 /etc/tmpfiles.d/b.conf:7|/a 493 0 0 /usr/lib/tmpfiles.d/a.conf:1|n.conf: not found|/etc/tmpfiles.d/b.conf:6: NotBuilt|",
+            b"/run/b 7 8 /etc/tmpfiles.d/b.conf:3|/run/c 1 2 /etc/tmpfiles.d/b.conf:7|/a 0 0 /usr/lib/tmpfiles.d/a.conf:1|n.conf: not found|/etc/tmpfiles.d/b.conf:6: UnknownType|/etc/tmpfiles.d/b.conf:7: /var/run/ read as /run/|",
             true,
             true,
+            9,
         ),
         (
             b"odd.conf e.conf m.conf",
             b"odd.conf: not found|",
             false,
             true,
+            0,
         ),
         (
             b"g.conf",
-            b"/etc/tmpfiles.d/g.conf:3: NotBuilt|",
+            b"/etc/tmpfiles.d/g.conf:3: UnknownUser|",
             true,
             false,
+            3,
         ),
         (
             b"/usr/lib/tmpfiles.d/b.conf",
-            b"/hidden 493 0 0 /usr/lib/tmpfiles.d/b.conf:1|",
+            b"/hidden 0 0 /usr/lib/tmpfiles.d/b.conf:1|",
             false,
             false,
+            1,
         ),
     ] {
         let mut list = WordList::new(rt.alloc());
@@ -240,7 +257,7 @@ fn configurations_are_read(rt: HostRuntime) -> Result<(), Fail> {
         let told = lines_told(rt.alloc(), &read, &messages)?;
         assert!(rt; told.as_slice() == wanted, "{words:?}");
         assert!(rt;
-            read.invalid == invalid && read.missing == missing,
+            read.invalid == invalid && read.missing == missing && read.count == count,
             "{words:?}"
         );
     }

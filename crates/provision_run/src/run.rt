@@ -1,15 +1,13 @@
 //! A run over any tree: reading, then the phases that are asked.
-ghost use Rattle.std.specs.Prelude.{◌≡◌, ◌≤◌, ◌∷◌, ◌++◌, [], true, drop, length, OnOk, IfOk, IsErrOf};
-ghost use Rattle.pv_io.specs.Faults.{HasRisen};
+ghost use Rattle.std.specs.Prelude.{◌≡◌, ◌∷◌, ◌++◌, [], true, drop, length, OnOk, IfOk, IsErrOf};
 ghost use Rattle.pv_text.specs.Said.{SaidPart};
 ghost use Rattle.pv_steps.specs.declared.tree.TreeFault.TheVariants.{Failed};
-ghost use Rattle.pv_steps.specs.Runs.{Ran};
-ghost use Rattle.pv_dress.specs.Asking.{asked};
+ghost use Rattle.pv_steps.specs.Acting.{Acted};
 ghost use Rattle.pv_create.specs.OnWay.{Partway, IsStepOfSome, IsMended};
 ghost use Rattle.provision_run.specs.Words.{is_built};
 ghost use Rattle.provision_run.specs.Whole.{run_lines, final, read_messages, line_messages, run_messages, end_of, is_uncarried, run_end, run_work};
 
-use pv_conf::read_configuration;
+use crate::built::read_run;
 use pv_create::{Carried, create_run};
 use pv_path::{Bytes, TreePath};
 use pv_steps::{Tree, TreeFault};
@@ -22,7 +20,7 @@ use std::alloc::Global;
 pub enum RunEnd {
     /// All that was asked for was done.
     Done,
-    /// A line of the configuration was refused in reading; all others were done.
+    /// A line of the configuration was refused in reading or is not built; all others were done.
     ConfigInvalid,
     /// Something that was asked for could not be carried out.
     NotCarriedOut,
@@ -54,13 +52,11 @@ pub fn run_on_tree<T: Tree>(
     // Where a step was refused, the configuration was read and all said of it.
     ensures read { IsErrOf result Failed → SaidPart (line_messages options.entry.now facts.now moment (T.state tree.old))
         (messages.old ++ read_messages options.entry.now facts.now (T.state tree.old)) messages.new }
-    ensures ran { Ran (Partway (run_lines options.entry.now facts.now (T.state tree.old)) moment (T.state tree.old))
-        (IsStepOfSome (run_lines options.entry.now facts.now (T.state tree.old))) moment
-        (T.state tree.old) (T.steps tree.old) (T.state tree.new) (T.steps tree.new) }
-    ensures bound { asked result (T.steps tree.old) (T.steps tree.new)
-        ≤ run_work options.entry.now facts.now moment (T.state tree.old) }
-    ensures reaches { T.reaches tree.old tree.new }
-    ensures cause { IsErrOf result Failed → HasRisen (T.faults tree.old) (T.faults tree.new) }
+    ensures acted { Acted T.Tree
+        (Partway (run_lines options.entry.now facts.now (T.state tree.old)) moment (T.state tree.old))
+        (IsStepOfSome (run_lines options.entry.now facts.now (T.state tree.old)))
+        (run_work options.entry.now facts.now moment (T.state tree.old))
+        moment tree.old tree.new result }
 
     // The stop law.
     ensures mended { IsMended (run_lines options.entry.now facts.now (T.state tree.old)) moment (T.state tree.old)
@@ -68,7 +64,7 @@ pub fn run_on_tree<T: Tree>(
 {
     // Whatever the run answers, it began with a tree.
     let _root = tree.look(&TreePath::root(alloc));
-    let read = read_configuration(alloc, tree, &options.words, facts, messages)?;
+    let read = read_run(alloc, options, facts, tree, messages)?;
     let carried = create_run(alloc, tree, &read.lines, moment, messages)?;
     Ok(end_of(carried, read.missing, read.invalid))
 }

@@ -411,7 +411,7 @@ fn dress_at(
         attrs: AttrList::new(alloc),
         letters: LetterSet::new(),
     };
-    dress(alloc, tree, &path, &new, NOW).is_ok()
+    dress(tree, &path, &new, NOW).is_ok()
 }
 
 #[test]

@@ -56,7 +56,7 @@ fn expect(rt: &impl Abort, alloc: Global, row: &Row<'_>) -> Result<(), Fail> {
 const CREATE: &[&str] = &["systemd-tmpfiles", "--create"];
 
 /// Lines, the objects before, what is said, the objects after, and the status.
-const LINES: [(&str, &[&str], &str, &[&str], u8); 11] = [
+const LINES: [(&str, &[&str], &str, &[&str], u8); 12] = [
     // A directory with its absent parent.
     (
         "d /run/app 0750 0 0\n",
@@ -76,6 +76,19 @@ const LINES: [(&str, &[&str], &str, &[&str], u8); 11] = [
         &["d / 0755 0 0 -", "etc"],
         ": /etc/tmpfiles.d/a.conf:2: NotBuilt\n",
         &["d / 0755 0 0 child", "d /b 0755 0 0 new", "etc"],
+        65,
+    ),
+    // Lines with faults, and one with the old name of its path.
+    (
+        "y /a\nd /var/run/b 0755 0 0\nf /c 0999\n",
+        &["d / 0755 0 0 -", "etc"],
+        ": /etc/tmpfiles.d/a.conf:1: UnknownType\n: /etc/tmpfiles.d/a.conf:2: /var/run/ read as /run/\n: /etc/tmpfiles.d/a.conf:3: BadMode\n",
+        &[
+            "d / 0755 0 0 child",
+            "etc",
+            "d /run 0755 0 0 new",
+            "d /run/b 0755 0 0 new",
+        ],
         65,
     ),
     // A parent that a later line adjusts.

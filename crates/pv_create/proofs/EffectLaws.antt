@@ -26,8 +26,8 @@ use Rattle.pv_dress.specs.Edits.{cut, taken, all_taken}
 use Rattle.pv_dress.proofs.EditLaws.{path_cases, same_path-no, put_at-here, bares-touched, bares-made, bares-put_else, staging_outside}
 use Rattle.pv_walk.specs.Staging.{prefixes, staging_names, is_under_any, new_object}
 use Rattle.pv_walk.proofs.RemovalLaws.{true_or_false, apart, both, none_of}
-use Rattle.pv_lines.specs.declared.line.Line.{Line}
-use Rattle.pv_lines.specs.Lines.{IsLine}
+use Rattle.pv_create.specs.declared.directory_line.DirectoryLine.{DirectoryLine}
+use Rattle.pv_create.specs.DirectoryLines.{IsDirectoryLine}
 use Rattle.pv_walk.specs.Preparing.{parents_of, parent_file, with_parent, prepared}
 use Rattle.pv_create.specs.Effects.{line_file, line_dress, wears, adjusted, settled, settled_at, settled_kind, line_refusal, unless_refused, line_effect, line_after}
 use Rattle.pv_create.specs.Points.{point_kind, point_here, point_above, point}
@@ -239,7 +239,7 @@ same_number : (a b : ℕ) → (a == b) ≡ true → a ≡ b
 same_number a b h = grind (arith, nat_tests)
 
 -- what has the owners and the mode of a line already is not changed by its dress
-wears_same : (line : Line) (o : Object) → HasPerms o.node.acl.access → wears line o ≡ true → wear (line_dress line o) o ≡ o
+wears_same : (line : DirectoryLine) (o : Object) → HasPerms o.node.acl.access → wears line o ≡ true → wear (line_dress line o) o ≡ o
 wears_same line o perms h =
     let owners = both _ _ (both _ _ h).0 in
     let uid : line.uid ≡ o.node.uid = sym (same_number o.node.uid line.uid owners.0) in
@@ -266,14 +266,14 @@ wears_same line o perms h =
     by u g s a = λ i. record o { node = record o.node { uid = u i; gid = g i; special = s i; acl = record o.node.acl { access = a i } } }
 
 -- what a directory at the path becomes, stamps aside
-pub adjusted-bare : (line : Line) (now : ℕ) (o : Object) → HasPerms o.node.acl.access → bare (adjusted line now o) ≡ wear (line_dress line (bare o)) (bare o)
+pub adjusted-bare : (line : DirectoryLine) (now : ℕ) (o : Object) → HasPerms o.node.acl.access → bare (adjusted line now o) ≡ wear (line_dress line (bare o)) (bare o)
 adjusted-bare line now o perms = by (wears line o) refl
   where
     by : (b : Bool) → wears line o ≡ b → bare (adjusted line now o) ≡ wear (line_dress line (bare o)) (bare o)
     by true e = ap (λ c. bare (cond c o (changed now (wear (line_dress line o) o)))) e ∙ sym (ap bare (wears_same line o perms e))
     by false e = ap (λ c. bare (cond c o (changed now (wear (line_dress line o) o)))) e
 
-module _ (line : Line) (now : ℕ) (t : Places) where
+module _ (line : DirectoryLine) (now : ℕ) (t : Places) where
   kind-else : (o : Object) (kind : Kind) (q : Path) → same_path line.path q ≡ false → bares (settled_kind line now t o kind) q ≡ bares t q
   kind-else o Directory q d = bares-put_else line.path q (Some (adjusted line now o)) t d
   kind-else o File q d = refl
@@ -334,7 +334,7 @@ among_left q (x ∷ xs) ys h = elim (path_cases x q) [
   | inr d ↦ among_later x q (xs ++ ys) (among_left q xs ys (sym (ap (λ b. b || stands_in q xs) d) ∙ h))
 ]
 
-module _ (line : Line) (now : ℕ) where
+module _ (line : DirectoryLine) (now : ℕ) where
   -- away from the path, stamps aside: a parent, or what was not taken away
   pub prepared-at : (t : Places) (q : Path) → bares (prepared now line.path t) q
       ≡ filled (stands_in q (parents_of line.path)) (bares (swept now line.path t) q)
@@ -374,16 +374,16 @@ module _ (line : Line) (now : ℕ) where
         ]
 
 -- what a tree has at a path after a line is what the line leaves there
-pub place_after : (line : Line) (now : ℕ) (t : Files) (q : Path) → places (line_after line now t) q ≡ line_effect line now (places t) q
+pub place_after : (line : DirectoryLine) (now : ℕ) (t : Files) (q : Path) → places (line_after line now t) q ≡ line_effect line now (places t) q
 unfolding line_after
 place_after line now t q = places-tabulate (line.path ∷ parents_of line.path ++ fin.keys t) (line_effect line now (places t)) q (effect_key line now t q)
 
 -- the same, of the functions
-pub places_after : (line : Line) (now : ℕ) (t : Files) → places (line_after line now t) ≡ line_effect line now (places t)
+pub places_after : (line : DirectoryLine) (now : ℕ) (t : Files) → places (line_after line now t) ≡ line_effect line now (places t)
 places_after line now t = λ i q. place_after line now t q i
 
 -- a tree that has what the line leaves is the tree after the line
-pub line_after_is : (line : Line) (now : ℕ) (t u : Files) → places u ≡ line_effect line now (places t) → u ≡ line_after line now t
+pub line_after_is : (line : DirectoryLine) (now : ℕ) (t u : Files) → places u ≡ line_effect line now (places t) → u ≡ line_after line now t
 line_after_is line now t u is = same_files u (line_after line now t) (λ q. ap (λ (x : Places). x q) is ∙ sym (place_after line now t q))
 
 -- ---- staging names
@@ -412,7 +412,7 @@ in_parents q path other = in_prefixes q (parent_of path) ∙ ap (λ b. b && has_
     by false true e f = is_prefix-parent_of q path f other ∙ sym f
     by false false e f = e ∙ sym f
 
-module _ (line : Line) (now : ℕ) (t : Places) (plain : has_staging line.path ≡ false) where
+module _ (line : DirectoryLine) (now : ℕ) (t : Places) (plain : has_staging line.path ≡ false) where
   -- nothing is put at a path with a staging name
   module _ (q : Path) (staged : has_staging q ≡ true) where
     no_parent : stands_in q (parents_of line.path) ≡ false
@@ -450,7 +450,7 @@ module _ (line : Line) (now : ℕ) (t : Places) (plain : has_staging line.path �
 
 -- ---- paths that are no place of a line's path
 
-pub effect_else : (line : Line) (now : ℕ) (t : Places) (q : Path) → has_staging q ≡ false → is_prefix q line.path ≡ false → bares (line_effect line now t) q ≡ bares t q
+pub effect_else : (line : DirectoryLine) (now : ℕ) (t : Places) (q : Path) → has_staging q ≡ false → is_prefix q line.path ≡ false → bares (line_effect line now t) q ≡ bares t q
 effect_else line now t q plain outside = by (line_refusal line t)
   where
     other : q ≢ line.path
@@ -495,7 +495,7 @@ shape_of_tree t tree = record {
     perms q None e = tt
     perms q (Some x) e = part_perms x.node.acl.access (both _ _ (tree.objects q x e).acl).0
 
-module _ (line : Line) (is : IsLine line) (now : ℕ) (t : Places) (shape : IsShaped t) where
+module _ (line : DirectoryLine) (is : IsDirectoryLine line) (now : ℕ) (t : Places) (shape : IsShaped t) where
   not_taken : (q : Path) → has_staging q ≡ false → bares (swept now line.path t) q ≡ bares t q
   not_taken q plain = all_taken-outside now (staging_names line.path) t q (under_no_stage line.path q plain)
 

@@ -5,3 +5,4 @@ pub mod EffectLaws
 pub mod FrameLaws
 pub mod PointLaws
 pub mod StopLaws
+pub mod DirectoryLaws

@@ -1,29 +1,26 @@
 -- Laws of lines that are carried out one after the other: what holds when some are done, when one is cut short, and when
 -- all are done.
-use Rattle.std.specs.Prelude.{◌≡◌, ◌⊎◌, ℕ, ◌+◌, ◌-◌, ◌^◌, ◌<◌, ◌≤◌, Bool, true, false, ◌||◌, List, [], ◌∷◌, ◌++◌, length, get_or, take, drop, Result, Err}
+use Rattle.std.specs.Prelude.{◌≡◌, ◌⊎◌, ℕ, ◌+◌, ◌-◌, ◌^◌, ◌<◌, ◌≤◌, Bool, true, false, ◌||◌, List, [], ◌∷◌, ◌++◌, length, get_or, take, drop}
 use Rattle.std.specs.List.{AllByRecursion}
 use Rattle.std.proofs.Common.{zero, suc, refl, sym, ap, subst, ◌∙◌, inl, inr, arith, append_assoc, drop-cons}
 use Rattle.std.proofs.lemmas.List.{append-nil, drop_all}
 use Rattle.pv_text.specs.Said.{SaidPart}
 use Rattle.pv_steps.specs.declared.step.Step.{Step}
-use Rattle.pv_steps.specs.declared.tree.TreeFault.{TreeFault}
-use Rattle.pv_steps.specs.declared.tree.TreeFault.TheVariants.{Failed, Memory}
 use Rattle.pv_steps.specs.Trees.{Files, places, IsTree}
 use Rattle.pv_steps.specs.Runs.{Ran}
 use Rattle.pv_steps.proofs.RunLaws.{ran_none, ran_then, ran_weaken}
-use Rattle.pv_dress.specs.Asking.{asked}
-use Rattle.pv_lines.specs.declared.line.Line.{Line}
-use Rattle.pv_lines.specs.Lines.{IsLine}
+use Rattle.pv_create.specs.declared.directory_line.DirectoryLine.{DirectoryLine}
+use Rattle.pv_create.specs.DirectoryLines.{IsDirectoryLine}
 use Rattle.pv_create.specs.declared.carried.Carried.{Carried}
 use Rattle.pv_create.specs.Effects.{line_after}
 use Rattle.pv_create.specs.Created.{created, created_messages, is_refused, some_refused, carried_of, line_work, work}
 use Rattle.pv_create.specs.Saying.{line_messages}
 use Rattle.pv_create.specs.OnWay.{IsMidway, OnWay, Partway, IsStepOf, IsStepOfSome, IsMended}
 use Rattle.pv_create.proofs.StopLaws.{mended, mended-none}
-use Rattle.pv_create.proofs.SettlingLine.{ran_longer}
+use Rattle.pv_steps.proofs.ActingLaws.{ran-length}
 
 -- nothing done is on the way
-pub partway_start : (lines : List Line) (now : ℕ) (t : Files) → Partway lines now t t
+pub partway_start : (lines : List DirectoryLine) (now : ℕ) (t : Files) → Partway lines now t t
 partway_start [] now t = λ q plain. refl
 partway_start (line ∷ lines) now t = inl (λ q plain. IsMidway.kept refl)
 
@@ -57,7 +54,7 @@ take_all xs = let more = part_after xs [] [] zero in by xs
 -- ---- some of the lines are done
 
 -- from the tree t0 with the steps h0 told and the messages m0 to the tree t with h and m, where these lines are left
-pub record Going (all left : List Line) (now : ℕ) (carried : Carried) (t0 : Files) (h0 : List Step) (m0 : List (List ℕ)) (t : Files) (h : List Step) (m : List (List ℕ)) : Type 0 where
+pub record Going (all left : List DirectoryLine) (now : ℕ) (carried : Carried) (t0 : Files) (h0 : List Step) (m0 : List (List ℕ)) (t : Files) (h : List Step) (m : List (List ℕ)) : Type 0 where
   pub whole : created all now t0 ≡ created left now t
   pub before : List (List ℕ)
   pub said : m ≡ m0 ++ before
@@ -69,10 +66,10 @@ pub record Going (all left : List Line) (now : ℕ) (carried : Carried) (t0 : Fi
   pub of_lines : (s : Step) → IsStepOfSome left s → IsStepOfSome all s
   pub ran : Ran (Partway all now t0) (IsStepOfSome all) now t0 h0 t h
   pub bound : (length h - length h0) + work left now t ≤ work all now t0
-  pub lines : AllByRecursion IsLine left
+  pub lines : AllByRecursion IsDirectoryLine left
   pub seen : ((left ≡ all) × (t ≡ t0)) ⊎ IsTree t0
 
-pub going_start : (all : List Line) (now : ℕ) (t0 : Files) (h0 : List Step) (m0 : List (List ℕ)) → AllByRecursion IsLine all → Going all all now (carried_of false) t0 h0 m0 t0 h0 m0
+pub going_start : (all : List DirectoryLine) (now : ℕ) (t0 : Files) (h0 : List Step) (m0 : List (List ℕ)) → AllByRecursion IsDirectoryLine all → Going all all now (carried_of false) t0 h0 m0 t0 h0 m0
 going_start all now t0 h0 m0 lines = record {
   whole = refl;
   before = [];
@@ -94,26 +91,17 @@ or_assoc true b c = refl
 or_assoc false b c = refl
 
 -- the lines that are left begin with the next one, and in the end none is left
-pub next_left : (all : List Line) (i : ℕ) (line : Line) → i < length all → line ≡ get_or all i line → drop i all ≡ line ∷ drop (i + 1) all
+pub next_left : (all : List DirectoryLine) (i : ℕ) (line : DirectoryLine) → i < length all → line ≡ get_or all i line → drop i all ≡ line ∷ drop (i + 1) all
 next_left all i line within is =
     let next : suc i ≡ i + 1 = omega arith in
     drop-cons all i line within ∙ (λ j. sym is j ∷ drop (next j) all)
 
-pub none_left : (all : List Line) (i : ℕ) → length all ≤ i → drop i all ≡ []
+pub none_left : (all : List DirectoryLine) (i : ℕ) → length all ≤ i → drop i all ≡ []
 none_left all i h = drop_all i all h
-
--- a fault that is passed on counts as it did
-pub passed_on : {A B : Type 0} (r : Result A TreeFault) (s : Result B TreeFault) (f : TreeFault) → r ≡ Err f → s ≡ Err f → (h k : List Step) (most : ℕ) → asked s h k ≤ most → asked r h k ≤ most
-passed_on {A} {B} r s f was is h k most b =
-    subst (λ x. asked x h k ≤ most) (sym was) (by f (subst (λ x. asked x h k ≤ most) is b))
-  where
-    by : (e : TreeFault) → asked {A = B} (Err e) h k ≤ most → asked {A = A} (Err e) h k ≤ most
-    by Failed x = x
-    by Memory x = x
 
 -- ---- one more line
 
-module _ (all left : List Line) (line : Line) (now : ℕ) (carried : Carried) (t0 : Files) (h0 : List Step) (m0 : List (List ℕ)) (t : Files) (h : List Step) (m : List (List ℕ))
+module _ (all left : List DirectoryLine) (line : DirectoryLine) (now : ℕ) (carried : Carried) (t0 : Files) (h0 : List Step) (m0 : List (List ℕ)) (t : Files) (h : List Step) (m : List (List ℕ))
     (going : Going all (line ∷ left) now carried t0 h0 m0 t h m) (u : Files) (k : List Step) (n : List (List ℕ)) where
   -- whatever the line's answer
   pub one_tree : IsTree t → IsTree t0
@@ -129,7 +117,7 @@ module _ (all left : List Line) (line : Line) (now : ℕ) (carried : Carried) (t
 
   -- the length of what the line told, and one more where it was refused a step
   pub one_bound : (more : ℕ) → length h ≤ length k → (length k - length h) + more ≤ line_work line t → (length k - length h0) + more ≤ work all now t0
-  one_bound more longer b = let first = ran_longer (Partway all now t0) (IsStepOfSome all) now going.ran in let rest = going.bound in omega (arith, longer, b, first, rest)
+  one_bound more longer b = let first = ran-length (Partway all now t0) (IsStepOfSome all) now going.ran in let rest = going.bound in omega (arith, longer, b, first, rest)
 
   -- when it is done
   pub going_next : (next : Carried) → IsTree t → u ≡ line_after line now t → n ≡ m ++ line_messages line now (places t)
@@ -149,8 +137,8 @@ module _ (all left : List Line) (line : Line) (now : ℕ) (carried : Carried) (t
     of_lines = λ s e. going.of_lines s (inr e);
     ran = one_ran ran;
     bound =
-        let longer = ran_longer (OnWay line t) (IsStepOf line) now ran in
-        let first = ran_longer (Partway all now t0) (IsStepOfSome all) now going.ran in
+        let longer = ran-length (OnWay line t) (IsStepOf line) now ran in
+        let first = ran-length (Partway all now t0) (IsStepOfSome all) now going.ran in
         let rest : (length h - length h0) + (line_work line t + work left now (line_after line now t)) ≤ work all now t0 = going.bound in
         let same : work left now u ≡ work left now (line_after line now t) = ap (work left now) done in
         omega (arith, longer, first, rest, same, b);
@@ -160,7 +148,7 @@ module _ (all left : List Line) (line : Line) (now : ℕ) (carried : Carried) (t
 
 -- ---- all lines are done
 
-module _ (all : List Line) (now : ℕ) (carried : Carried) (t0 : Files) (h0 : List Step) (m0 : List (List ℕ)) (t : Files) (h : List Step) (m : List (List ℕ))
+module _ (all : List DirectoryLine) (now : ℕ) (carried : Carried) (t0 : Files) (h0 : List Step) (m0 : List (List ℕ)) (t : Files) (h : List Step) (m : List (List ℕ))
     (going : Going all [] now carried t0 h0 m0 t h m) where
   pub end_whole : t ≡ created all now t0
   end_whole = sym going.whole
@@ -185,10 +173,10 @@ module _ (all : List Line) (now : ℕ) (carried : Carried) (t0 : Files) (h0 : Li
   end_bound = let rest : (length h - length h0) + 0 ≤ work all now t0 = going.bound in rest
 
   -- the stop law
-  pub end_mended : now < 2 ^ 64 → AllByRecursion IsLine all → IsMended all now t0 (drop (length h0) h)
+  pub end_mended : now < 2 ^ 64 → AllByRecursion IsDirectoryLine all → IsMended all now t0 (drop (length h0) h)
   end_mended fits lines = by going.seen
     where
-      by : ((◌≡◌ {A = List Line} [] all) × (t ≡ t0)) ⊎ IsTree t0 → IsMended all now t0 (drop (length h0) h)
+      by : ((◌≡◌ {A = List DirectoryLine} [] all) × (t ≡ t0)) ⊎ IsTree t0 → IsMended all now t0 (drop (length h0) h)
       by (inl none) = subst (λ ls. Ran (Partway ls now t0) (IsStepOfSome all) now t0 h0 t h → IsMended ls now t0 (drop (length h0) h)) none.0
           (mended-none (IsStepOfSome all) now t0 h0 t h) going.ran
       by (inr tree) = mended all lines (IsStepOfSome all) now t0 h0 t h fits tree going.ran

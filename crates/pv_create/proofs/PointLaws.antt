@@ -10,7 +10,7 @@ use Rattle.pv_steps.specs.Trees.{kind_of}
 use Rattle.pv_dress.specs.Dressing.{wear, wear_first}
 use Rattle.pv_dress.proofs.EditLaws.{path_cases}
 use Rattle.pv_walk.proofs.RemovalLaws.{apart}
-use Rattle.pv_lines.specs.declared.line.Line.{Line}
+use Rattle.pv_create.specs.declared.directory_line.DirectoryLine.{DirectoryLine}
 use Rattle.pv_create.specs.Effects.{line_dress}
 use Rattle.pv_create.proofs.EffectLaws.{HasPerms}
 use Rattle.pv_create.specs.Points.{point_kind, point_here, point_above, point_of, points}
@@ -19,7 +19,7 @@ use Rattle.pv_create.specs.OnWay.{IsMidway, kept, parent, put, adjusting}
 
 -- ---- one line
 
-module _ (line : Line) where
+module _ (line : DirectoryLine) where
   -- at the line's path
   at_path : (o : Option Object) → point_of line line.path o ≡ Some (point_here line o)
   at_path o = ap (λ b. cond b (Some (point_here line o)) (cond (is_prefix line.path line.path) (Some (point_above o)) o)) (same_path-refl line.path)
@@ -101,7 +101,7 @@ module _ (line : Line) where
 
 -- ---- what one line keeps
 
-module _ (line : Line) (q : Path) where
+module _ (line : DirectoryLine) (q : Path) where
   -- a directory stays one
   pub point_directory : (o : Option Object) → kind_of o ≡ Some Directory → kind_of (point_of line q o) ≡ Some Directory
   point_directory None h = cc
@@ -170,12 +170,12 @@ module _ (line : Line) (q : Path) where
 -- ---- lines one after the other
 
 -- at one path on the way of lines: some are done, the next is at work
-abbrev pub IsPartwayAt : List Line → Path → Option Object → Option Object → Type 0
+abbrev pub IsPartwayAt : List DirectoryLine → Path → Option Object → Option Object → Type 0
 IsPartwayAt [] q old new = new ≡ old
 IsPartwayAt (line ∷ lines) q old new = IsMidway line q old new ⊎ IsPartwayAt lines q (point_of line q old) new
 
 -- what stands stays, as it is or changed
-still_stands : (lines : List Line) (q : Path) (o : Object) (new : Option Object) → IsPartwayAt lines q (Some o) new → (p : Object) × (new ≡ Some p)
+still_stands : (lines : List DirectoryLine) (q : Path) (o : Object) (new : Option Object) → IsPartwayAt lines q (Some o) new → (p : Object) × (new ≡ Some p)
 still_stands [] q o new h = (o, h)
 still_stands (line ∷ lines) q o new (inl way) = midway_stands line q o new way
 still_stands (line ∷ lines) q o new (inr later) =
@@ -186,21 +186,21 @@ still_stands (line ∷ lines) q o new (inr later) =
 pub record IsAlike (a b : Object) : Type 0 where
   pub first : a.node.kind ≡ Directory
   pub second : b.node.kind ≡ Directory
-  pub dressed : (line : Line) → wear (line_dress line a) a ≡ wear (line_dress line b) b
+  pub dressed : (line : DirectoryLine) → wear (line_dress line a) a ≡ wear (line_dress line b) b
 
 -- lines that leave the same of two such directories
-abbrev pub Unite : List Line → Path → Type 0
+abbrev pub Unite : List DirectoryLine → Path → Type 0
 Unite lines q = (a b : Object) → IsAlike a b → points lines q (Some a) ≡ points lines q (Some b)
 
 -- a line unites them at its path
-unite_here : (line : Line) (q : Path) → line.path ≡ q → (a b : Object) → IsAlike a b → point_of line q (Some a) ≡ point_of line q (Some b)
+unite_here : (line : DirectoryLine) (q : Path) → line.path ≡ q → (a b : Object) → IsAlike a b → point_of line q (Some a) ≡ point_of line q (Some b)
 unite_here line q here a b alike = subst (λ (p : Path). point_of line p (Some a) ≡ point_of line p (Some b)) here (
     at_path line (Some a)
     ∙ ap Some (here_directory line a alike.first ∙ alike.dressed line ∙ sym (here_directory line b alike.second))
     ∙ sym (at_path line (Some b)))
 
 -- lines leave what stands as it is, or unite
-same_or_unite : (lines : List Line) (q : Path) (o : Object) (new : Option Object) → IsPartwayAt lines q (Some o) new → (new ≡ Some o) ⊎ Unite lines q
+same_or_unite : (lines : List DirectoryLine) (q : Path) (o : Object) (new : Option Object) → IsPartwayAt lines q (Some o) new → (new ≡ Some o) ⊎ Unite lines q
 same_or_unite [] q o new h = inl h
 same_or_unite (line ∷ lines) q o new h = elim (path_cases line.path q) [
   | inl here ↦ inr (λ a b alike. ap (points lines q) (unite_here line q here a b alike))
@@ -217,7 +217,7 @@ same_or_unite (line ∷ lines) q o new h = elim (path_cases line.path q) [
     by other below (inr later) = later_same other (below (subst (λ v. IsPartwayAt lines q v new) (point_other line q other o) later))
 
 -- so a line at its path changes nothing of what they then leave
-again_united : (line : Line) (lines : List Line) (q : Path) → line.path ≡ q → Unite lines q → (p : Object) → points lines q (point_of line q (Some p)) ≡ points lines q (Some p)
+again_united : (line : DirectoryLine) (lines : List DirectoryLine) (q : Path) → line.path ≡ q → Unite lines q → (p : Object) → points lines q (point_of line q (Some p)) ≡ points lines q (Some p)
 again_united line lines q here unite p =
     ap (points lines q) (subst (λ (r : Path). point_of line r (Some p) ≡ Some (point_here line (Some p))) here (at_path line (Some p))) ∙ by p.node.kind refl
   where
@@ -230,7 +230,7 @@ again_united line lines q here unite p =
     by BlockDevice e = refl
 
 -- a line that is done again, after the next lines came on their way, changes nothing of what these then leave
-done_again : (line : Line) (lines : List Line) (q : Path) (old new : Option Object) → IsPartwayAt lines q (point_of line q old) new → points lines q (point_of line q new) ≡ points lines q new
+done_again : (line : DirectoryLine) (lines : List DirectoryLine) (q : Path) (old new : Option Object) → IsPartwayAt lines q (point_of line q old) new → points lines q (point_of line q new) ≡ points lines q new
 done_again line lines q old new way = elim (path_cases line.path q) [ inl here ↦ at here | inr other ↦ off other (is_prefix q line.path) refl ]
   where
     -- at its path
@@ -266,7 +266,7 @@ done_again line lines q old new way = elim (path_cases line.path q) [ inl here �
         ap (points lines q) (ap (point_of line q) stands.1 ∙ point_other line q other stands.0 ∙ sym stands.1)
 
 -- what is on the way of lines at a path becomes what it would have become from the start
-pub mended_along : (lines : List Line) (q : Path) (old new : Option Object) → IsPartwayAt lines q old new → points lines q new ≡ points lines q old
+pub mended_along : (lines : List DirectoryLine) (q : Path) (old new : Option Object) → IsPartwayAt lines q old new → points lines q new ≡ points lines q old
 mended_along [] q old new same = same
 mended_along (line ∷ lines) q old new (inl way) = ap (points lines q) (mended_at line q old new way)
 mended_along (line ∷ lines) q old new (inr later) = done_again line lines q old new later ∙ mended_along lines q (point_of line q old) new later

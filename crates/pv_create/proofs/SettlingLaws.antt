@@ -23,16 +23,16 @@ use Rattle.pv_steps.specs.Runs.{Ran}
 use Rattle.pv_steps.proofs.RunLaws.{ran_weaken}
 use Rattle.pv_steps.specs.Same.{bares}
 use Rattle.pv_dress.specs.declared.bare.Dress.{Dress}
-use Rattle.pv_dress.specs.Asking.{asked}
+use Rattle.pv_steps.specs.Acting.{asked}
 use Rattle.pv_dress.proofs.EditLaws.{path_cases, on_at-here, on_at-else}
 use Rattle.pv_dress.specs.Dressing.{IsDress, CanWear, dress_mode, wear, wear_attrs, wear_letters, wear_first, Dressing, GivesDress, IsChanged, ChangedAt, IsKeptBy}
-use Rattle.pv_walk.specs.Staging.{can_stage}
-use Rattle.pv_lines.specs.declared.line.Line.{Line}
-use Rattle.pv_lines.specs.Lines.{IsLine}
+use Rattle.pv_walk.specs.Staging.{can_stage, most_new}
+use Rattle.pv_create.specs.declared.directory_line.DirectoryLine.{DirectoryLine}
+use Rattle.pv_create.specs.DirectoryLines.{IsDirectoryLine}
 use Rattle.pv_create.specs.Effects.{line_file, line_dress, wears, adjusted, settled, settled_at, settled_kind}
 use Rattle.pv_create.specs.Created.{adjust_kind}
 use Rattle.pv_create.specs.OnWay.{IsMidway, OnWay, IsStepOf}
-use Rattle.pv_walk.specs.Putting.{IsPutting, Putting, IsPutStep}
+use Rattle.pv_walk.specs.Putting.{IsPutting, Putting}
 use Rattle.pv_create.specs.Preparing.{settle_work}
 use Rattle.pv_create.specs.Settling.{node_dress}
 
@@ -68,7 +68,7 @@ special_small mode h = omega arith
 
 -- ---- the dress of a line
 
-module _ (line : Line) (is : IsLine line) (o : Object) (whole : IsObject o) (directory : o.node.kind ≡ Directory) where
+module _ (line : DirectoryLine) (is : IsDirectoryLine line) (o : Object) (whole : IsObject o) (directory : o.node.kind ≡ Directory) where
   fits_attrs : AttrsFit Directory o.node.attrs
   fits_attrs = subst (λ k. AttrsFit k o.node.attrs) directory whole.attrs
 
@@ -142,7 +142,7 @@ take_none zero = refl
 take_none (suc k) = refl
 
 -- the first changes leave out of account what stamps leave out
-pub bare_first : (k : ℕ) (line : Line) (o : Object) → bare (wear_first k (line_dress line o) o) ≡ wear_first k (line_dress line (bare o)) (bare o)
+pub bare_first : (k : ℕ) (line : DirectoryLine) (o : Object) → bare (wear_first k (line_dress line o) o) ≡ wear_first k (line_dress line (bare o)) (bare o)
 bare_first zero line o = refl
 bare_first (suc zero) line o = refl
 bare_first (suc (suc zero)) line o = refl
@@ -154,14 +154,14 @@ bare_first (suc (suc (suc (suc (suc k))))) line o =
 
 -- ---- a directory that is there
 
-standing : (line : Line) (t : Files) → IsKind Directory t line.path → (o : Object) × ((places t line.path ≡ Some o) × (o.node.kind ≡ Directory))
+standing : (line : DirectoryLine) (t : Files) → IsKind Directory t line.path → (o : Object) × ((places t line.path ≡ Some o) × (o.node.kind ≡ Directory))
 standing line t here = by (places t line.path) refl here
   where
     by : (v : Option Object) → places t line.path ≡ v → kind_of v ≡ Some Directory → (o : Object) × ((places t line.path ≡ Some o) × (o.node.kind ≡ Directory))
     by None e h = let no : None ≡ Some Directory = h in cc
     by (Some o) e h = let is : o.node.kind ≡ Directory = cc in (o, (e, is))
 
-module _ (line : Line) (is : IsLine line) (t : Files) (tree : IsTree t) (here : IsKind Directory t line.path) (new : Dress) (dress : Some new ≡ option_map (node_dress line) (node_at t line.path)) where
+module _ (line : DirectoryLine) (is : IsDirectoryLine line) (t : Files) (tree : IsTree t) (here : IsKind Directory t line.path) (new : Dress) (dress : Some new ≡ option_map (node_dress line) (node_at t line.path)) where
   abbrev o : Object
   o = (standing line t here).0
 
@@ -252,13 +252,15 @@ stageable (name ∷ path) h =
 pub absent_nonroot : (t : Files) → IsTree t → (path : Path) → kind_of (places t path) ≡ None → path ≢ []
 absent_nonroot t tree path none e = let both : None ≡ Some Directory = sym none ∙ ap (λ p. kind_of (places t p)) e ∙ tree.root in cc
 
-module _ (line : Line) where
-  put_way : (t u : Files) → Putting line.path (line_file line) t u → OnWay line t u
+module _ (line : DirectoryLine) where
+  pub put_way : (t u : Files) → Putting line.path (line_file line) t u → OnWay line t u
   put_way t u h q plain = by (h q plain)
     where
       by : IsPutting line.path (line_file line) q (bares (places t) q) (bares (places u) q) → IsMidway line q (bares (places t) q) (bares (places u) q)
       by (IsPutting.kept e) = IsMidway.kept e
       by (IsPutting.put e old new) = IsMidway.put e old new
 
-  pub put_ran : (now : ℕ) (t : Files) (h : List Step) (u : Files) (k : List Step) → Ran (Putting line.path (line_file line) t) (IsPutStep line.path (line_file line)) now t h u k → Ran (OnWay line t) (IsStepOf line) now t h u k
-  put_ran now t h u k ran = ran_weaken (Putting line.path (line_file line) t) (OnWay line t) (IsPutStep line.path (line_file line)) (IsStepOf line) now (put_way t) (λ s e. IsStepOf.puts e) ran
+  -- where nothing stands, there is room for all steps of a new directory
+  pub settle_absent : (o : Option Object) → kind_of o ≡ None → most_new ≤ settle_work line o
+  settle_absent None e = omega arith
+  settle_absent (Some o) e = cc

@@ -1,5 +1,5 @@
 -- Laws of one line: what it does at its path after what it does before, and how many steps it takes.
-use Rattle.std.specs.Prelude.{◌≡◌, ◌≢◌, ℕ, ◌+◌, ◌-◌, ◌*◌, ◌≤◌, cond, List, [], ◌∷◌, ◌++◌, map, length, filter, Option, Some, None, is_none, Result, Ok, Err, OnOk}
+use Rattle.std.specs.Prelude.{◌≡◌, ◌≢◌, ℕ, ◌+◌, ◌*◌, ◌≤◌, cond, List, [], ◌∷◌, ◌++◌, map, length, filter, Option, Some, None, is_none, Result, Ok, Err, OnOk}
 use Rattle.std.proofs.Common.{refl, sym, ap, subst, ◌∙◌, inl, inr, ◌⊎◌, arith, length-append}
 use Rattle.std.proofs.lemmas.List.{map-append}
 use Rattle.std.proofs.lemmas.List.Elements.{filter-append}
@@ -7,16 +7,15 @@ use Rattle.pv_path.specs.Paths.{Path, parent_of}
 use Rattle.pv_path.proofs.PathLaws.{path_ends, parent_of-push}
 use Rattle.pv_steps.specs.declared.node.Kind.TheVariants.{Directory}
 use Rattle.pv_steps.specs.declared.object.Object.{Object}
-use Rattle.pv_steps.specs.declared.step.Step.{Step}
+use Rattle.pv_steps.specs.declared.tree.Tree.{Ghosts}
 use Rattle.pv_steps.specs.declared.tree.TreeFault.{TreeFault}
 use Rattle.pv_steps.specs.declared.why.Why.{Why}
 use Rattle.pv_steps.specs.Trees.{Files, Places, places, kind_of, IsTree}
-use Rattle.pv_steps.specs.Runs.{Ran}
-use Rattle.pv_steps.proofs.RunLaws.{ran_then, ran_weaken, ran_end}
+use Rattle.pv_steps.specs.Acting.{Acted}
+use Rattle.pv_steps.proofs.ActingLaws.{Moves, acted_then, acted_weaken, acted_end}
 use Rattle.pv_steps.specs.Same.{bares}
-use Rattle.pv_dress.specs.Asking.{asked}
-use Rattle.pv_walk.specs.Staging.{prefixes, staging_names, count_at_all}
-use Rattle.pv_lines.specs.declared.line.Line.{Line}
+use Rattle.pv_walk.specs.Staging.{prefixes, staging_names, count_at_all, most_new}
+use Rattle.pv_create.specs.declared.directory_line.DirectoryLine.{DirectoryLine}
 use Rattle.pv_walk.specs.Preparing.{prepared, IsPreparing, Preparing, IsPrepareStep, parent_count}
 use Rattle.pv_create.specs.Effects.{settled, line_refusal, unless_refused, line_effect, line_after}
 use Rattle.pv_create.proofs.EffectLaws.{prefixes-cons, line_after_is}
@@ -44,7 +43,7 @@ prefixes_parent path = elim (path_ends path) [
       inr (whole ∙ (λ i. prefixes (above i) ++ sym e i ∷ []))
 ]
 
-module _ (line : Line) (t : Files) where
+module _ (line : DirectoryLine) (t : Files) where
   -- the path itself is one more, where it is absent
   count_more : line.path ≢ [] → new_count line t ≡ parent_count line.path t + length (filter (λ place. is_none (places t place)) (line.path ∷ []))
   count_more nonempty = elim (prefixes_parent line.path) [
@@ -77,7 +76,7 @@ module _ (line : Line) (t : Files) where
 
 -- ---- one line whose path is not refused
 
-module _ (line : Line) (now : ℕ) (t : Files) (free : line_refusal line (places t) ≡ None) where
+module _ (line : DirectoryLine) (now : ℕ) (t : Files) (free : line_refusal line (places t) ≡ None) where
   effect_is : line_effect line now (places t) ≡ settled line now (prepared now line.path (places t))
   effect_is = ap (unless_refused line now (places t)) free
 
@@ -98,20 +97,18 @@ module _ (line : Line) (now : ℕ) (t : Files) (free : line_refusal line (places
     | inr nonempty ↦ let more = count_more line t nonempty in omega (arith, more)
   ])
 
-  pub line_bound : (r : Result (Unit {0}) TreeFault) (h k l : List Step) (u : Files) → IsTree u → places u line.path ≡ places t line.path
-      → length h ≤ length k → length k ≤ length l
-      → length k - length h ≤ count_at_all t (staging_names line.path) + 8 * parent_count line.path t
-      → asked r k l ≤ settle_work line (places u line.path) → asked r h l ≤ line_work line t
-  line_bound r h k l u tree same first second a b =
+  pub line_room : (u : Files) → IsTree u → places u line.path ≡ places t line.path
+      → (count_at_all t (staging_names line.path) + most_new * parent_count line.path t) + settle_work line (places u line.path) ≤ line_work line t
+  line_room u tree same =
       let nonroot : places t line.path ≡ None → line.path ≢ [] = λ none root.
       (let both : None ≡ Some Directory = ap kind_of (sym none ∙ sym same) ∙ ap (λ p. kind_of (places u p)) root ∙ tree.root in cc) in
       let within = settle_within line t (places t line.path) refl nonroot in
-      let there : asked r k l ≤ settle_work line (places t line.path) = subst (λ v. asked r k l ≤ settle_work line v) same b in
-      subst (λ m. asked r h l ≤ m) (sym work_is) (omega (arith, within, there, a, first, second))
+      subst (λ m. (count_at_all t (staging_names line.path) + 8 * parent_count line.path t) + settle_work line (places u line.path) ≤ m) (sym work_is)
+      (subst (λ v. (count_at_all t (staging_names line.path) + 8 * parent_count line.path t) + settle_work line v ≤ count_at_all t (staging_names line.path) + 8 * new_count line t + 4 * adjust_count line (places t line.path)) (sym same) (omega (arith, within)))
 
 -- ---- on the way
 
-module _ (line : Line) where
+module _ (line : DirectoryLine) where
   pub preparing_way : (t u : Files) → Preparing line.path t u → OnWay line t u
   preparing_way t u h q plain = by (h q plain)
     where
@@ -126,23 +123,23 @@ module _ (line : Line) where
   way_then q old mid new (IsPreparing.parent above none is) (IsMidway.put here n e) = absurd (above.1 here)
   way_then q old mid new (IsPreparing.parent above none is) (IsMidway.adjusting o k here n d e) = absurd (above.1 here)
 
-  pub prepare_ran : (now : ℕ) (t : Files) (h : List Step) (u : Files) (k : List Step) → Ran (Preparing line.path t) (IsPrepareStep line.path) now t h u k → Ran (OnWay line t) (IsStepOf line) now t h u k
-  prepare_ran now t h u k ran = ran_weaken (Preparing line.path t) (OnWay line t) (IsPrepareStep line.path) (IsStepOf line) now (preparing_way t) (λ s e. IsStepOf.prepares e) ran
+  module _ {S : Type 0} (tree : Ghosts S) where
+    pub prepare_acted : {A : Type 0} {m now : ℕ} {a b : S} {r : Result A TreeFault} (n : ℕ) → m ≤ n → Acted tree (Preparing line.path (tree.state a)) (IsPrepareStep line.path) m now a b r
+        → Acted tree (OnWay line (tree.state a)) (IsStepOf line) n now a b r
+    prepare_acted {m = m} {a = a} n le acted =
+        acted_weaken tree (Preparing line.path (tree.state a)) (OnWay line (tree.state a)) (IsPrepareStep line.path) (IsStepOf line) m n (preparing_way (tree.state a)) (λ s e. IsStepOf.prepares e) le acted
 
-  pub line_ran : (now : ℕ) (t : Files) (h : List Step) (u : Files) (k : List Step) (v : Files) (l : List Step) → Ran (Preparing line.path t) (IsPrepareStep line.path) now t h u k → Ran (OnWay line u) (IsStepOf line) now u k v l
-      → Ran (OnWay line t) (IsStepOf line) now t h v l
-  line_ran now t h u k v l first second =
-      let before : Preparing line.path t u = ran_end (Preparing line.path t) (IsPrepareStep line.path) now first in
-      ran_then (OnWay line t) (IsStepOf line) now (prepare_ran now t h u k first)
-      (ran_weaken (OnWay line u) (OnWay line t) (IsStepOf line) (IsStepOf line) now (λ w way q plain. way_then q (bares (places t) q) (bares (places u) q) (bares (places w) q) (before q plain) (way q plain)) (λ s e. e) second)
-
--- a run tells no fewer steps
-pub ran_longer : (P : Files → Type 0) (Q : Step → Type 0) (now : ℕ) {t : Files} {h : List Step} {u : Files} {k : List Step} → Ran P Q now t h u k → length h ≤ length k
-ran_longer P Q now {h = h} r = omega (arith, ap length r.told, length-append h r.steps)
+    pub line_acted : {A B : Type 0} {m n now : ℕ} {a b c : S} {x : A} {r : Result B TreeFault} → Moves tree → Acted tree (Preparing line.path (tree.state a)) (IsPrepareStep line.path) m now a b (Ok x)
+        → Acted tree (OnWay line (tree.state b)) (IsStepOf line) n now b c r → Acted tree (OnWay line (tree.state a)) (IsStepOf line) (m + n) now a c r
+    line_acted {m = m} {n = n} {a = a} {b = b} moves first second =
+        let before : Preparing line.path (tree.state a) (tree.state b) = acted_end tree (Preparing line.path (tree.state a)) (IsPrepareStep line.path) first in
+        acted_then tree moves (OnWay line (tree.state a)) (IsStepOf line) (prepare_acted m (omega arith) first)
+        (acted_weaken tree (OnWay line (tree.state b)) (OnWay line (tree.state a)) (IsStepOf line) (IsStepOf line) n n
+        (λ w way q plain. way_then q (bares (places (tree.state a)) q) (bares (places (tree.state b)) q) (bares (places w) q) (before q plain) (way q plain)) (λ s e. e) (omega arith) second)
 
 -- ---- a refused line
 
-module _ (line : Line) (now : ℕ) (t : Files) (place : ℕ × Why) (refusal : line_refusal line (places t) ≡ Some place) where
+module _ (line : DirectoryLine) (now : ℕ) (t : Files) (place : ℕ × Why) (refusal : line_refusal line (places t) ≡ Some place) where
   pub refused_after : t ≡ line_after line now t
   refused_after = line_after_is line now t t (sym (ap (unless_refused line now (places t)) refusal))
 

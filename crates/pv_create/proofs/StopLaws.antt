@@ -10,8 +10,8 @@ use Rattle.pv_steps.specs.Trees.{Files, places, kind_of, IsTree}
 use Rattle.pv_steps.specs.Runs.{after_all, Ran}
 use Rattle.pv_steps.proofs.RunLaws.{along_prefix, along_trees}
 use Rattle.pv_steps.specs.Same.{Same, bares}
-use Rattle.pv_lines.specs.declared.line.Line.{Line}
-use Rattle.pv_lines.specs.Lines.{IsLine}
+use Rattle.pv_create.specs.declared.directory_line.DirectoryLine.{DirectoryLine}
+use Rattle.pv_create.specs.DirectoryLines.{IsDirectoryLine}
 use Rattle.pv_create.specs.Effects.{line_refusal, line_after}
 use Rattle.pv_create.proofs.EffectLaws.{neither, place_after, effect_point, HasPerms, IsShaped, shape_of_tree}
 use Rattle.pv_create.proofs.FrameLaws.{unrefused}
@@ -22,7 +22,7 @@ use Rattle.pv_create.specs.OnWay.{Partway, IsMended}
 
 -- ---- whole runs
 
-module _ (line : Line) (is : IsLine line) (now : ℕ) (t : Files) (shape : IsShaped (places t)) (quiet : line_refusal line (places t) ≡ None) where
+module _ (line : DirectoryLine) (is : IsDirectoryLine line) (now : ℕ) (t : Files) (shape : IsShaped (places t)) (quiet : line_refusal line (places t) ≡ None) where
   -- what a line that is not refused leaves at a path, stamps and staging names aside
   line_point : (q : Path) → has_staging q ≡ false → bares (places (line_after line now t)) q ≡ point line (bares (places t)) q
   line_point q plain = ap (option_map bare) (place_after line now t q) ∙ effect_point line is now (places t) shape quiet q plain
@@ -35,13 +35,13 @@ module _ (line : Line) (is : IsLine line) (now : ℕ) (t : Files) (shape : IsSha
   }
 
 -- where a run refuses no line, the first one is not refused, nor is a later one after it
-first_quiet : (line : Line) (lines : List Line) (now : ℕ) (t : Files) → IsQuiet (line ∷ lines) now t → (line_refusal line (places t) ≡ None) × IsQuiet lines now (line_after line now t)
+first_quiet : (line : DirectoryLine) (lines : List DirectoryLine) (now : ℕ) (t : Files) → IsQuiet (line ∷ lines) now t → (line_refusal line (places t) ≡ None) × IsQuiet lines now (line_after line now t)
 first_quiet line lines now t quiet =
     let two = neither (is_refused line t) (some_refused lines now (line_after line now t)) quiet in
     (unrefused line t two.0, two.1)
 
 -- what a whole run leaves at a path, stamps and staging names aside
-pub run_points : (lines : List Line) (now : ℕ) (t : Files) → AllByRecursion IsLine lines → IsShaped (places t) → IsQuiet lines now t
+pub run_points : (lines : List DirectoryLine) (now : ℕ) (t : Files) → AllByRecursion IsDirectoryLine lines → IsShaped (places t) → IsQuiet lines now t
     → (q : Path) → has_staging q ≡ false → bares (places (created lines now t)) q ≡ points lines q (bares (places t) q)
 run_points [] now t are shape quiet q plain = refl
 run_points (line ∷ lines) now t are shape quiet q plain =
@@ -52,7 +52,7 @@ run_points (line ∷ lines) now t are shape quiet q plain =
 -- ---- runs that were cut short
 
 -- what is on the way of lines is on the way at each path
-on_way_at : (lines : List Line) (now : ℕ) (t u : Files) → AllByRecursion IsLine lines → IsShaped (places t) → IsQuiet lines now t → Partway lines now t u
+on_way_at : (lines : List DirectoryLine) (now : ℕ) (t u : Files) → AllByRecursion IsDirectoryLine lines → IsShaped (places t) → IsQuiet lines now t → Partway lines now t u
     → (q : Path) → has_staging q ≡ false → IsPartwayAt lines q (bares (places t) q) (bares (places u) q)
 on_way_at [] now t u are shape quiet same q plain = sym (same q plain)
 on_way_at (line ∷ lines) now t u are shape quiet (inl way) q plain = inl (way q plain)
@@ -62,7 +62,7 @@ on_way_at (line ∷ lines) now t u are shape quiet (inr later) q plain =
     (on_way_at lines now (line_after line now t) u are.1 (shape_after line are.0 now t shape two.0) two.1 later q plain))
 
 -- a whole run from what is on the way leaves what a whole run from the start leaves
-pub mends : (lines : List Line) → AllByRecursion IsLine lines → (now later : ℕ) (t u : Files) → IsTree t → IsTree u → Partway lines now t u
+pub mends : (lines : List DirectoryLine) → AllByRecursion IsDirectoryLine lines → (now later : ℕ) (t u : Files) → IsTree t → IsTree u → Partway lines now t u
     → IsQuiet lines now t → IsQuiet lines later u → Same (created lines later u) (created lines now t)
 mends lines are now later t u tree there way quiet again q plain =
     let shape = shape_of_tree (places t) tree in
@@ -71,7 +71,7 @@ mends lines are now later t u tree there way quiet again q plain =
     ∙ sym (run_points lines now t are shape quiet q plain)
 
 -- so a run that was cut short is mended
-pub mended : (lines : List Line) → AllByRecursion IsLine lines → (Q : Step → Type 0) (now : ℕ) (t : Files) (h : List Step) (u : Files) (k : List Step) → now < 2 ^ 64 → IsTree t
+pub mended : (lines : List DirectoryLine) → AllByRecursion IsDirectoryLine lines → (Q : Step → Type 0) (now : ℕ) (t : Files) (h : List Step) (u : Files) (k : List Step) → now < 2 ^ 64 → IsTree t
     → Ran (Partway lines now t) Q now t h u k → IsMended lines now t (drop (length h) k)
 mended lines are Q now t h u k fits tree run = subst (IsMended lines now t) (sym (ap (drop (length h)) run.told ∙ drop-append_seam h run.steps)) (λ n later quiet again.
     mends lines are now later t (after_all t (take n run.steps) now) tree

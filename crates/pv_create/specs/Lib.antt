@@ -1,3 +1,4 @@
+pub mod DirectoryLines
 pub mod Effects
 pub mod Created
 pub mod Saying

@@ -8,7 +8,7 @@ use Rattle.pv_steps.specs.declared.node.Kind.TheVariants.{Directory, File, Link,
 use Rattle.pv_steps.specs.declared.why.Why.{Why}
 use Rattle.pv_steps.specs.declared.why.Why.TheVariants as why
 use Rattle.pv_steps.specs.Trees.{Places, kind_of}
-use Rattle.pv_lines.specs.declared.line.Line.{Line}
+use Rattle.pv_create.specs.declared.directory_line.DirectoryLine.{DirectoryLine}
 use Rattle.pv_walk.specs.Preparing.{prepared}
 use Rattle.pv_create.specs.Effects.{line_refusal}
 
@@ -36,16 +36,16 @@ abbrev pub refused_text : Path → ℕ → Why → List ℕ
 refused_text path k reason = printed_path path ++ codes " refused at " ++ printed_path (take k path) ++ codes ": " ++ why_text reason
 
 -- what is said of a path by the kind of what stands there
-abbrev pub left_message : Line → Option Kind → List (List ℕ)
+abbrev pub left_message : DirectoryLine → Option Kind → List (List ℕ)
 left_message line None = []
 left_message line (Some Directory) = []
 left_message line (Some kind) = said_at line.place (left_text line.path kind) ∷ []
 
 -- what is said of a line that is refused, or else of what stands at its path
-abbrev pub refused_or_left : Line → ℕ → Places → Option (ℕ × Why) → List (List ℕ)
+abbrev pub refused_or_left : DirectoryLine → ℕ → Places → Option (ℕ × Why) → List (List ℕ)
 refused_or_left line now t (Some place) = said_at line.place (refused_text line.path place.0 place.1) ∷ []
 refused_or_left line now t None = left_message line (kind_of (prepared now line.path t line.path))
 
 -- what is said of a line over a tree
-abbrev pub line_messages : Line → ℕ → Places → List (List ℕ)
+abbrev pub line_messages : DirectoryLine → ℕ → Places → List (List ℕ)
 line_messages line now t = refused_or_left line now t (line_refusal line t)

@@ -3,10 +3,10 @@ use Rattle.pv_acl.specs.Parts as parts
 use Rattle.pv_acl.specs.Parts.{special_of}
 use Rattle.pv_steps.specs.declared.node.Node.{Node}
 use Rattle.pv_dress.specs.declared.bare.Dress.{Dress}
-use Rattle.pv_lines.specs.declared.line.Line.{Line}
+use Rattle.pv_create.specs.declared.directory_line.DirectoryLine.{DirectoryLine}
 
 -- the line's owners and mode; named entries, mask, default part, extended attributes and letters stay
-abbrev pub node_dress : Line → Node → Dress
+abbrev pub node_dress : DirectoryLine → Node → Dress
 node_dress line node = record {
   uid = line.uid;
   gid = line.gid;

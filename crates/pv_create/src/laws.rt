@@ -6,8 +6,8 @@ ghost use Rattle.pv_steps.specs.declared.step.Step.{Step as StepValue};
 ghost use Rattle.pv_steps.specs.Trees.{Files, places, IsTree, IsAbsentIn};
 ghost use Rattle.pv_steps.specs.Runs.{Ran};
 ghost use Rattle.pv_steps.specs.Same.{Same, bares};
-ghost use Rattle.pv_lines.specs.declared.line.Line.{Line as LineValue};
-ghost use Rattle.pv_lines.specs.Lines.{IsLine};
+ghost use Rattle.pv_create.specs.declared.directory_line.DirectoryLine.{DirectoryLine as LineValue};
+ghost use Rattle.pv_create.specs.DirectoryLines.{IsDirectoryLine};
 ghost use Rattle.pv_create.specs.Effects.{line_refusal, line_effect, line_after};
 ghost use Rattle.pv_create.specs.Points.{point};
 ghost use Rattle.pv_create.specs.Created.{created, IsQuiet};
@@ -23,14 +23,14 @@ pub fn a_line_leaves_what_it_says()
 /// What a line leaves at a path depends on what stood at this path alone, where the line is not refused; stamps and
 /// staging names aside.
 pub fn a_line_changes_each_path_by_itself()
-    ensures { (line : LineValue) (now : ℕ) (t : Files) (q : Path) → IsTree t → IsLine line
+    ensures { (line : LineValue) (now : ℕ) (t : Files) (q : Path) → IsTree t → IsDirectoryLine line
         → line_refusal line (places t) ≡ None → has_staging q ≡ false
         → bares (line_effect line now (places t)) q ≡ point line (bares (places t)) q }
 {}
 
 /// A line that is not refused leaves no staging name along its path, whatever earlier runs have left there.
 pub fn a_line_leaves_no_staging_name()
-    ensures { (line : LineValue) (now : ℕ) (t : Files) (place : Path) → IsLine line
+    ensures { (line : LineValue) (now : ℕ) (t : Files) (place : Path) → IsDirectoryLine line
         → line_refusal line (places t) ≡ None → is_prefix place line.path ≡ true → place ≢ []
         → IsAbsentIn (line_effect line now (places t)) (staging_of place) }
 {}
@@ -38,7 +38,7 @@ pub fn a_line_leaves_no_staging_name()
 /// A whole run of lines leaves no staging name along the path of a line that is not refused at its turn.
 pub fn a_run_leaves_no_staging_name()
     ensures { (lines : List LineValue) (line : LineValue) (now : ℕ) (t : Files) (place : Path)
-        → AllByRecursion IsLine lines → IsCarriedOut line lines now t
+        → AllByRecursion IsDirectoryLine lines → IsCarriedOut line lines now t
         → is_prefix place line.path ≡ true → place ≢ []
         → IsAbsentIn (places (created lines now t)) (staging_of place) }
 {}
@@ -55,7 +55,7 @@ pub fn a_run_changes_no_other_path()
 /// start, where neither refuses a line at its turn; stamps and staging names aside.
 pub fn a_second_run_mends_half_done_lines()
     ensures { (lines : List LineValue) (now later : ℕ) (t u : Files) → IsTree t → IsTree u
-        → AllByRecursion IsLine lines → Partway lines now t u
+        → AllByRecursion IsDirectoryLine lines → Partway lines now t u
         → IsQuiet lines now t → IsQuiet lines later u
         → Same (created lines later u) (created lines now t) }
 {}
@@ -63,7 +63,7 @@ pub fn a_second_run_mends_half_done_lines()
 /// What a run of lines leaves is mended after each number of its steps.
 pub fn a_run_cut_short_is_mended()
     ensures { (lines : List LineValue) (now : ℕ) (t u : Files) (h k : List StepValue) → now < 2 ^ 64
-        → IsTree t → AllByRecursion IsLine lines
+        → IsTree t → AllByRecursion IsDirectoryLine lines
         → Ran (Partway lines now t) (IsStepOfSome lines) now t h u k
         → IsMended lines now t (drop (length h) k) }
 {}

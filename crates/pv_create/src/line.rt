@@ -1,21 +1,18 @@
 //! One line carried out.
-ghost use Rattle.std.specs.Prelude.{◌≡◌, ◌<◌, ◌≤◌, ◌^◌, ◌++◌, length, None, OnOk, IfOk, IsErrOf};
-ghost use Rattle.pv_io.specs.Faults.{HasRisen};
+ghost use Rattle.std.specs.Prelude.{◌≡◌, ◌<◌, ◌^◌, ◌++◌, length, None, OnOk, IfOk};
 ghost use Rattle.pv_text.specs.Said.{SaidPart};
-ghost use Rattle.pv_steps.specs.declared.tree.TreeFault.TheVariants.{Failed};
 ghost use Rattle.pv_steps.specs.Trees.{places, IsTree};
-ghost use Rattle.pv_steps.specs.Runs.{Ran};
-ghost use Rattle.pv_dress.specs.Asking.{asked};
-ghost use Rattle.pv_lines.specs.Lines.{IsLine};
+ghost use Rattle.pv_steps.specs.Acting.{Acted};
+ghost use Rattle.pv_create.specs.DirectoryLines.{IsDirectoryLine};
 ghost use Rattle.pv_create.specs.Effects.{line_refusal, line_after};
 ghost use Rattle.pv_create.specs.Created.{is_refused, carried_of, line_work};
 ghost use Rattle.pv_create.specs.Saying.{line_messages};
 ghost use Rattle.pv_create.specs.OnWay.{OnWay, IsStepOf};
 
 use crate::carried::Carried;
+use crate::directory_line::DirectoryLine;
 use crate::message::say_refused;
 use crate::settle::settle;
-use pv_lines::Line;
 use pv_steps::{Tree, TreeFault, Why};
 use pv_text::Messages;
 use pv_walk::{Walked, prepare, walk};
@@ -25,24 +22,20 @@ use std::alloc::{AllocError, Global};
 pub(crate) fn carry_out<T: Tree>(
     alloc: Global,
     tree: &mut T,
-    line: &Line,
+    line: &DirectoryLine,
     now: u64,
     messages: &mut Messages,
 ) -> Result<Carried, TreeFault>
-    requires line { IsLine line.now }
+    requires line { IsDirectoryLine line.now }
     ensures ok { OnOk result (T.state tree.new ≡ line_after line.now now (T.state tree.old)) }
     ensures carried { IfOk result (λ c. c ≡ carried_of (is_refused line.now (T.state tree.old))) }
     ensures said { OnOk result (messages.new
         ≡ messages.old ++ line_messages line.now now (places (T.state tree.old))) }
     ensures part { SaidPart (line_messages line.now now (places (T.state tree.old)))
         messages.old messages.new }
-    ensures ran { Ran (OnWay line.now (T.state tree.old)) (IsStepOf line.now) now
-        (T.state tree.old) (T.steps tree.old) (T.state tree.new) (T.steps tree.new) }
-    ensures bound { asked result (T.steps tree.old) (T.steps tree.new)
-        ≤ line_work line.now (T.state tree.old) }
+    ensures acted { Acted T.Tree (OnWay line.now (T.state tree.old)) (IsStepOf line.now)
+        (line_work line.now (T.state tree.old)) now tree.old tree.new result }
     ensures tree { IsTree (T.state tree.old) }
-    ensures reaches { T.reaches tree.old tree.new }
-    ensures cause { IsErrOf result Failed → HasRisen (T.faults tree.old) (T.faults tree.new) }
 {
     match refusal_of(alloc, tree, line)? {
         Some((place, why)) => {
@@ -60,7 +53,7 @@ pub(crate) fn carry_out<T: Tree>(
 fn refusal_of<T: Tree>(
     alloc: Global,
     tree: &T,
-    line: &Line,
+    line: &DirectoryLine,
 ) -> Result<Option<(u32, Why)>, AllocError>
     requires { length line.now.path < 2 ^ 32 }
     ensures refusal { IfOk result (λ refusal. refusal ≡ line_refusal line.now (places (T.state tree.now))) }
@@ -76,23 +69,19 @@ fn refusal_of<T: Tree>(
 fn carry_out_unrefused<T: Tree>(
     alloc: Global,
     tree: &mut T,
-    line: &Line,
+    line: &DirectoryLine,
     now: u64,
     messages: &mut Messages,
 ) -> Result<(), TreeFault>
-    requires line { IsLine line.now }
+    requires line { IsDirectoryLine line.now }
     requires unrefused { line_refusal line.now (places (T.state tree.old)) ≡ None }
     ensures ok { OnOk result (T.state tree.new ≡ line_after line.now now (T.state tree.old)) }
     ensures said { OnOk result (messages.new
         ≡ messages.old ++ line_messages line.now now (places (T.state tree.old))) }
     ensures part { SaidPart (line_messages line.now now (places (T.state tree.old)))
         messages.old messages.new }
-    ensures ran { Ran (OnWay line.now (T.state tree.old)) (IsStepOf line.now) now
-        (T.state tree.old) (T.steps tree.old) (T.state tree.new) (T.steps tree.new) }
-    ensures bound { asked result (T.steps tree.old) (T.steps tree.new)
-        ≤ line_work line.now (T.state tree.old) }
-    ensures reaches { T.reaches tree.old tree.new }
-    ensures cause { IsErrOf result Failed → HasRisen (T.faults tree.old) (T.faults tree.new) }
+    ensures acted { Acted T.Tree (OnWay line.now (T.state tree.old)) (IsStepOf line.now)
+        (line_work line.now (T.state tree.old)) now tree.old tree.new result }
 {
     prepare(alloc, tree, &line.path, now)?;
     settle(alloc, tree, line, now, messages)

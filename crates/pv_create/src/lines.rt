@@ -1,18 +1,15 @@
 //! Lines carried out in their order.
-ghost use Rattle.std.specs.Prelude.{◌≡◌, ◌≤◌, Bool, ◌||◌, ◌++◌, drop, length, OnOk, IfOk, IsErrOf};
+ghost use Rattle.std.specs.Prelude.{◌≡◌, Bool, ◌||◌, ◌++◌, drop, length, OnOk, IfOk};
 ghost use Rattle.std.specs.List.{AllByRecursion};
-ghost use Rattle.pv_io.specs.Faults.{HasRisen};
 ghost use Rattle.pv_text.specs.Said.{SaidPart};
-ghost use Rattle.pv_steps.specs.declared.tree.TreeFault.TheVariants.{Failed};
-ghost use Rattle.pv_steps.specs.Runs.{Ran};
-ghost use Rattle.pv_dress.specs.Asking.{asked};
-ghost use Rattle.pv_lines.specs.Lines.{IsLine};
+ghost use Rattle.pv_steps.specs.Acting.{Acted};
+ghost use Rattle.pv_create.specs.DirectoryLines.{IsDirectoryLine};
 ghost use Rattle.pv_create.specs.Created.{created, created_messages, some_refused, carried_of, work};
 ghost use Rattle.pv_create.specs.OnWay.{Partway, IsStepOfSome, IsMended};
 
 use crate::carried::Carried;
+use crate::directory_line::DirectoryLineList;
 use crate::line::carry_out;
-use pv_lines::LineList;
 use pv_steps::{Tree, TreeFault};
 use pv_text::Messages;
 use std::alloc::Global;
@@ -24,11 +21,11 @@ use std::alloc::Global;
 pub fn create_run<T: Tree>(
     alloc: Global,
     tree: &mut T,
-    lines: &LineList,
+    lines: &DirectoryLineList,
     now: u64,
     messages: &mut Messages,
 ) -> Result<Carried, TreeFault>
-    requires lines { AllByRecursion IsLine lines.now }
+    requires lines { AllByRecursion IsDirectoryLine lines.now }
 
     // What a whole run leaves, stamps and staging names included, what it says and how it ends.
     ensures ok { OnOk result (T.state tree.new ≡ created lines.now now (T.state tree.old)) }
@@ -38,12 +35,8 @@ pub fn create_run<T: Tree>(
 
     // What any run has said and done, whatever it answers.
     ensures part { SaidPart (created_messages lines.now now (T.state tree.old)) messages.old messages.new }
-    ensures ran { Ran (Partway lines.now now (T.state tree.old)) (IsStepOfSome lines.now) now
-        (T.state tree.old) (T.steps tree.old) (T.state tree.new) (T.steps tree.new) }
-    ensures bound { asked result (T.steps tree.old) (T.steps tree.new)
-        ≤ work lines.now now (T.state tree.old) }
-    ensures reaches { T.reaches tree.old tree.new }
-    ensures cause { IsErrOf result Failed → HasRisen (T.faults tree.old) (T.faults tree.new) }
+    ensures acted { Acted T.Tree (Partway lines.now now (T.state tree.old)) (IsStepOfSome lines.now)
+        (work lines.now now (T.state tree.old)) now tree.old tree.new result }
 
     // The stop law.
     ensures mended { IsMended lines.now now (T.state tree.old)

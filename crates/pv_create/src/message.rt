@@ -4,7 +4,7 @@ ghost use Rattle.pv_path.specs.Printing.{printed_path};
 ghost use Rattle.pv_text.specs.Said.{said_at};
 ghost use Rattle.pv_create.specs.Saying.{kind_text, why_text, left_text, refused_text};
 
-use pv_lines::Line;
+use crate::directory_line::DirectoryLine;
 use pv_path::{TreePath, print_path};
 use pv_steps::{Kind, Why};
 use pv_text::Messages;
@@ -47,7 +47,7 @@ fn left_text(alloc: Global, path: &TreePath, kind: Kind) -> Result<Vec<u8>, Allo
 /// Says that another object stands at the path of a line and is left.
 pub(crate) fn say_left(
     alloc: Global,
-    line: &Line,
+    line: &DirectoryLine,
     kind: Kind,
     messages: &mut Messages,
 ) -> Result<(), AllocError>
@@ -90,7 +90,7 @@ fn refused_text(alloc: Global, path: &TreePath, place: u32, why: Why) -> Result<
 /// Says that a line is refused at a place of its path, counted by the names that lead to it.
 pub(crate) fn say_refused(
     alloc: Global,
-    line: &Line,
+    line: &DirectoryLine,
     place: u32,
     why: Why,
     messages: &mut Messages,

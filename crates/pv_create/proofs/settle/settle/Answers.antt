@@ -1,7 +1,12 @@
-use Rattle.std.proofs.Common.{sym, subst, ◌∙◌}
-use Rattle.pv_steps.specs.Runs.{Ran}
+use Rattle.std.proofs.Common.{refl, sym, ◌∙◌}
+use Rattle.pv_steps.specs.Trees.{places}
+use Rattle.pv_steps.proofs.ActingLaws.{Moves, well, acted_none, acted_weaken}
+use Rattle.pv_walk.specs.Staging.{most_new}
+use Rattle.pv_create.specs.Effects.{line_file}
+use Rattle.pv_create.specs.OnWay.{IsMidway, OnWay, IsStepOf}
+use Rattle.pv_create.specs.Preparing.{settle_work}
 use Rattle.pv_walk.specs.Putting.{Putting, IsPutStep}
-use Rattle.pv_create.proofs.SettlingLaws.{stageable, absent_nonroot, put_ran}
+use Rattle.pv_create.proofs.SettlingLaws.{stageable, absent_nonroot, put_way, settle_absent}
 use Rattle.pv_create.proofs.settle.settle.Goals as goal
 
 pub put_new-requires-clause-not_root : goal.put_new-requires-clause-not_root
@@ -15,14 +20,17 @@ pub put_new-requires-clause-parent : goal.put_new-requires-clause-parent
 put_new-requires-clause-parent g c =
     c.requires.parent (absent_nonroot (g.T.Tree.state c.args.tree.now) c.kind_at.ensures.tree c.args.line.now.path (sym c.kind_at.ensures.kind ∙ c.in-None.is))
 
-pub returns-in-None-clause-ran : goal.returns-in-None-clause-ran
-returns-in-None-clause-ran g c =
+pub returns-in-None-clause-acted : goal.returns-in-None-clause-acted
+returns-in-None-clause-acted g c =
+    let line = c.args.line.now in
     let t = g.T.Tree.state c.args.tree.now in
-    let h = g.T.Tree.steps c.args.tree.now in
-    let u = g.T.Tree.state c.put_new.new.tree in
-    let k = g.T.Tree.steps c.put_new.new.tree in
-    let path = c.args.line.now.path in
-    put_ran c.args.line.now c.args.now t h u k (subst (λ file. Ran (Putting path file t) (IsPutStep path file) c.args.now t h u k) c.directory_of.ensures c.put_new.ensures.ran)
+    acted_weaken g.T.Tree (Putting line.path (line_file line) t) (OnWay line t) (IsPutStep line.path (line_file line)) (IsStepOf line) most_new (settle_work line (places t line.path))
+    (put_way line t) (λ s e. IsStepOf.puts e) (settle_absent line (places t line.path) (sym c.kind_at.ensures.kind ∙ c.in-None.is))
+    (rw c.directory_of.ensures at c.put_new.ensures.acted)
 
-pub returns-in_ok-say_left-in-Some-clause-reaches : goal.returns-in_ok-say_left-in-Some-clause-reaches
-returns-in_ok-say_left-in-Some-clause-reaches g c = g.met.T.Tree.reaches_self _
+pub returns-in_ok-say_left-in-Some-clause-acted : goal.returns-in_ok-say_left-in-Some-clause-acted
+returns-in_ok-say_left-in-Some-clause-acted g c =
+    let moves : Moves g.T.Tree = record { stays = g.met.T.Tree.reaches_self; goes_on = g.met.T.Tree.reaches_on; never_falls = g.met.T.Tree.never_falls } in
+    let line = c.args.line.now in
+    let t = g.T.Tree.state c.args.tree.now in
+    acted_none g.T.Tree moves (OnWay line t) (IsStepOf line) (settle_work line (places t line.path)) c.args.now c.args.tree.now well refl (λ q plain. IsMidway.kept refl)
