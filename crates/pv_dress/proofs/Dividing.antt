@@ -135,6 +135,24 @@ part_once : (how : How) (es : List Entry) (p : Part) → part_after how (part_af
 part_once how [] p = refl
 part_once how (e ∷ es) p = ap (λ (x : Part). fold put_entry (kept how x) (e ∷ es)) (added p (filter is_base (e ∷ es))) ∙ fold_once how (e ∷ es) p
 
+-- a base attribute after the base entries alone
+first_base : {B : Type 0} (attribute : Part → B) → ((e : Entry) (p q : Part) → attribute p ≡ attribute q → attribute (put_entry p e) ≡ attribute (put_entry q e))
+    → ((x : _) (p : Part) → attribute (put_entry p (entry.Named x)) ≡ attribute p) → ((x : _) (p : Part) → attribute (put_entry p (entry.Mask x)) ≡ attribute p)
+    → ((how : How) (p : Part) → attribute (kept how p) ≡ attribute p) → (how : How) (es : List Entry) (p : Part) → attribute (fold put_entry p (filter is_base es)) ≡ attribute (part_after how p es)
+first_base attribute local named mask keeps how [] p = refl
+first_base attribute local named mask keeps how (e ∷ es) p =
+    sym (same_after attribute local (e ∷ es) (kept how p) p (keeps how p) ∙ by_base attribute local named mask (e ∷ es) p)
+
+-- the base entries of a line alone give a part the base entries that all give it, and leave the rest
+pub base_first : (how : How) (es : List Entry) (p : Part)
+    → part_after Add p (filter is_base es) ≡ record p { owner = (part_after how p es).owner; group = (part_after how p es).group; other = (part_after how p es).other }
+base_first how es p = added p (filter is_base es) ∙ same_part _ _
+    (first_base (λ (p : Part). p.owner) local_owner (λ x p. refl) (λ x p. refl) kept_owner how es p)
+    (first_base (λ (p : Part). p.group) local_group (λ x p. refl) (λ x p. refl) kept_group how es p)
+    (first_base (λ (p : Part). p.other) local_other (λ x p. refl) (λ x p. refl) kept_other how es p)
+    (base_leaves (λ (p : Part). p.named) local_named (λ x p. refl) (λ x p. refl) (λ x p. refl) es p)
+    (base_leaves (λ (p : Part). p.mask) local_mask (λ x p. refl) (λ x p. refl) (λ x p. refl) es p)
+
 default_kept : (directory : Bool) (access : Part) (d : Option Part) → (if directory then default_after Add access d [] else d) ≡ d
 default_kept true access d = refl
 default_kept false access d = refl

@@ -19,7 +19,7 @@ pub use laws::{
 };
 pub use mask::{masked_special, set_masked_base};
 pub use operation::{Change, Guard, Operation, Test};
-pub use run::run_operations;
+pub use run::{admits, run_operations};
 pub use wear::dress;
 
 #[cfg(test)]

@@ -149,7 +149,7 @@ fn joined(first: &Bytes, second: &Bytes) -> Result<Bytes, AllocError>
 }
 
 /// Whether a change is for objects of a kind.
-fn admits(guard: Guard, kind: Kind) -> bool
+pub fn admits(guard: Guard, kind: Kind) -> bool
     ensures { result ≡ admits guard kind }
 {
     match guard {

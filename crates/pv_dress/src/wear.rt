@@ -27,6 +27,10 @@ pub fn dress<T: Tree>(tree: &mut T, path: &TreePath, new: &Dress, now: u64) -> R
         → IsKeptBy (wear_letters new.now) path.now (T.state tree.old)
         → asked result (T.steps tree.old) (T.steps tree.new) ≤ 3 }
 
+    // Extended attributes and letters are two of them.
+    ensures two { IsKeptBy (wear_access new.now) path.now (T.state tree.old)
+        → asked result (T.steps tree.old) (T.steps tree.new) ≤ 2 }
+
     ensures idle { IsKeptBy (wear new.now) path.now (T.state tree.old)
         → asked result (T.steps tree.old) (T.steps tree.new) ≡ 0 }
 {

@@ -7,3 +7,4 @@ mod Texts
 mod Letters
 pub mod LineLaws
 mod WordLaws
+pub mod ArgumentLaws
