@@ -50,7 +50,7 @@ times-filter f q (x ∷ xs) = by (times-filter f q xs) (same_or_not x q)
 
 -- ---- lengths
 
-taken_out : (x : Path) (ys : List Path) → 1 ≤ times x ys → (front : List Path) × (back : List Path) × (ys ≡ front ++ x ∷ back)
+pub taken_out : (x : Path) (ys : List Path) → 1 ≤ times x ys → (front : List Path) × (back : List Path) × (ys ≡ front ++ x ∷ back)
 taken_out x [] h = absurd (omega arith)
 taken_out x (y ∷ ys) h =
     elim (same_path y x) as (λ s. same_path y x ≡ s → 1 ≤ cond s 1 0 + times x ys → (front : List Path) × (back : List Path) × (y ∷ ys ≡ front ++ x ∷ back)) [

@@ -12,3 +12,4 @@ pub mod SweepLaws
 pub mod PuttingLaws
 pub mod PreparingLaws
 pub mod PreparingSweep
+pub mod PuttingOverLaws

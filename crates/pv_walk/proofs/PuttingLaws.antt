@@ -1,29 +1,19 @@
 -- Laws of putting a new object at an absent path: it is made under its staging name, and what stands there comes to the path.
-use Rattle.std.specs.Prelude.{◌≡◌, ◌≢◌, ℕ, ◌+◌, ◌≤◌, Bool, true, false, cond, List, [], ◌∷◌, ◌++◌, length, filter, Option, Some, None, is_some, option_map, Result, Ok}
-use Rattle.std.proofs.Common.{refl, sym, ap, ◌∙◌, arith, inl, inr, ◌⊎◌, append-nil, length-append}
-use Rattle.std.specs.FinMap as fin
+use Rattle.std.specs.Prelude.{◌≡◌, ◌≢◌, ℕ, Bool, true, false, cond, List, [], ◌∷◌, ◌++◌, length, Option, Some, None, is_some, option_map}
+use Rattle.std.proofs.Common.{refl, sym, ap, ◌∙◌, arith, append-nil, length-append}
 use Rattle.pv_path.specs.Paths.{Path, same_path, is_prefix, rest_under, parent_of, has_staging, staging_of}
 use Rattle.pv_path.proofs.PathLaws.{is_prefix-refl, is_some-rest_under, rest_under-Some, prefix_parts, parent_of-staging_of, has_staging-staging_of}
 use Rattle.pv_steps.specs.declared.object.Object.{Object}
-use Rattle.pv_steps.specs.Objects.{bare, changed, modified}
-use Rattle.pv_steps.specs.Trees.{Files, Places, places, IsTreeIn, IsTree, IsAbsentIn, IsPresent}
+use Rattle.pv_steps.specs.Objects.{changed, modified}
+use Rattle.pv_steps.specs.Trees.{Files, Places, places, IsTreeIn, IsAbsentIn, IsPresent}
 use Rattle.pv_steps.proofs.TreeLaws.{not_absent, present_above}
 use Rattle.pv_steps.specs.Steps.{put_at, on_at, touched, made, moved, moved_at, carried}
 use Rattle.pv_steps.specs.Same.{bares}
-use Rattle.pv_steps.specs.declared.tree.Tree.{Ghosts}
-use Rattle.pv_steps.specs.declared.tree.TreeFault.{TreeFault}
-use Rattle.pv_steps.specs.Acting.{Acted}
-use Rattle.pv_steps.proofs.ActingLaws.{Moves, acted_then, acted_weaken}
-use Rattle.pv_dress.specs.Edits.{SameOutside, count_at}
-use Rattle.pv_dress.proofs.EditLaws.{path_cases, put_at-else, on_at-twice, made-here, bares-made, bares-put_else, put_at-here, staging_outside}
+use Rattle.pv_dress.proofs.EditLaws.{put_at-else, on_at-twice, made-here, bares-made, bares-put_else, staging_outside}
 use Rattle.pv_walk.specs.declared.new_file.NewFile.{NewFile}
-use Rattle.pv_walk.specs.Staging.{new_object, GivesNew, IsPublishing}
-use Rattle.pv_walk.specs.Removal.{Publishing}
-use Rattle.pv_walk.proofs.RemovalLaws.{true_or_false, apart, no_same}
-use Rattle.pv_walk.specs.Listing.{times}
-use Rattle.pv_walk.proofs.CountLaws.{times-filter, times-keys, length-times}
+use Rattle.pv_walk.specs.Staging.{new_object}
+use Rattle.pv_walk.proofs.RemovalLaws.{apart, no_same}
 use Rattle.pv_walk.proofs.PublishLaws.{staging_nonempty, stage_outside}
-use Rattle.pv_walk.specs.Putting.{IsPutting, kept, put, Putting, IsPutStep}
 
 -- ---- where nothing stands
 
@@ -111,76 +101,14 @@ module _ (now : ℕ) (path : Path) (nonempty : path ≢ []) (t : Places) (tree :
               let outside : is_prefix path q ≡ false = sym (is_some-rest_under path q) ∙ ap is_some e in
               beside_path q outside (is_prefix stage q) refl
 
--- ---- on the way
+-- ---- what is staged
 
-module _ (now : ℕ) (path : Path) (nonempty : path ≢ []) (file : NewFile) (t : Files) where
-  -- while it is made under its staging name
-  pub putting_staged : (w : Files) → SameOutside (is_prefix (staging_of path)) t w → Putting path file t w
-  putting_staged w h = λ q plain. kept (h q (staging_outside (staging_of path) (has_staging-staging_of path nonempty) q plain))
+module _ (now : ℕ) (path : Path) (nonempty : path ≢ []) (file : NewFile) (t u : Files) (is : places u ≡ made now (staging_of path) (new_object file now) (places t)) where
+  pub is_staged : IsPresent u (staging_of path)
+  is_staged = ap (λ (x : Places). is_some (x (staging_of path))) is ∙ ap is_some (made-here now (staging_of path) (places t) (staging_nonempty path nonempty) (new_object file now))
 
-  module _ (u : Files) (is : places u ≡ made now (staging_of path) (new_object file now) (places t)) where
-    pub is_staged : IsPresent u (staging_of path)
-    is_staged = ap (λ (x : Places). is_some (x (staging_of path))) is ∙ ap is_some (made-here now (staging_of path) (places t) (staging_nonempty path nonempty) (new_object file now))
-
-    outside_stage : (q : Path) → has_staging q ≡ false → bares (places u) q ≡ bares (places t) q
-    outside_stage q plain =
-        ap (λ (x : Places). bares x q) is ∙ bares-made now (staging_of path) (new_object file now) (places t) q
-        ∙ bares-put_else (staging_of path) q (Some (new_object file now)) (places t)
-        (no_prefix_no_same (staging_of path) q (staging_outside (staging_of path) (has_staging-staging_of path nonempty) q plain))
-
-    module _ (tree : IsTree t) (none : IsAbsentIn (places t) path) (free : IsAbsentIn (places t) (staging_of path)) where
-      empty_under : (q : Path) → is_prefix path q ≡ true → IsAbsentIn (places u) q
-      empty_under q e = ap (λ (x : Places). x q) is ∙ staged_below now path nonempty (places t) tree none free (new_object file now) refl q e
-
-      -- what comes to the path is the new object
-      pub put_moved : moved now (staging_of path) path (places u) ≡ made now path (new_object file now) (places t)
-      put_moved = ap (moved now (staging_of path) path) is ∙ moved-made now path nonempty (places t) tree none free (new_object file now) refl
-
-      -- nothing has to make way for it
-      pub count_none : count_at u path ≤ 0
-      count_none = length-times (filter (is_prefix path) (fin.keys u)) [] (λ q. omega (arith, times-filter (is_prefix path) q (fin.keys u), fewer q))
-        where
-          fewer : (q : Path) → cond (is_prefix path q) (times q (fin.keys u)) 0 ≤ 0
-          fewer q = elim (true_or_false (is_prefix path q)) [
-            | inl e ↦
-                let count : times q (fin.keys u) ≡ 0 = times-keys u q ∙ ap (λ v. cond (is_some v) 1 0) (empty_under q e) in
-                omega (arith, ap (λ b. cond b (times q (fin.keys u)) 0) e, count)
-            | inr e ↦ omega (arith, ap (λ b. cond b (times q (fin.keys u)) 0) e)
-          ]
-
-      -- while it comes to its path
-      pub putting_published : (w : Files) → Publishing now path u w → Putting path file t w
-      putting_published w (inl p) = λ q plain. elim (true_or_false (is_prefix path q)) [
-        | inl e ↦ elim (p.within q e) [
-          | inl gone ↦ kept (ap (option_map bare) gone ∙ sym (ap (option_map bare) (none_under (places t) tree path q none e)))
-          | inr same ↦ kept (same ∙ outside_stage q plain)
-        ]
-        | inr e ↦ kept (p.outside q e ∙ outside_stage q plain)
-      ]
-      putting_published w (inr e) = λ q plain. by q (path_cases path q)
-        where
-          whole : (q : Path) → bares (places w) q ≡ bares (put_at path (Some (new_object file now)) (places t)) q
-          whole q = e q ∙ ap (λ (x : Places). bares x q) put_moved ∙ bares-made now path (new_object file now) (places t) q
-
-          by : (q : Path) → (path ≡ q) ⊎ (same_path path q ≡ false) → IsPutting path file q (bares (places t) q) (bares (places w) q)
-          by q (inl s) = put (sym s) (ap (λ (p : Path). bares (places t) p) (sym s) ∙ ap (option_map bare) none)
-              (whole q ∙ ap (λ (p : Path). bares (put_at path (Some (new_object file now)) (places t)) p) (sym s) ∙ ap (option_map bare) (put_at-here path (Some (new_object file now)) (places t)))
-          by q (inr d) = kept (whole q ∙ bares-put_else path q (Some (new_object file now)) (places t) d)
-
--- ---- calls that put it
-
-module _ {S : Type 0} (tree : Ghosts S) (now : ℕ) (path : Path) (nonempty : path ≢ []) (file : NewFile) (a b : S) where
-  pub staged_acted : {A : Type 0} {m : ℕ} {r : Result A TreeFault} → Acted tree (SameOutside (is_prefix (staging_of path)) (tree.state a)) (GivesNew (staging_of path) file) m now a b r
-      → Acted tree (Putting path file (tree.state a)) (IsPutStep path file) m now a b r
-  staged_acted {m = m} before =
-      acted_weaken tree (SameOutside (is_prefix (staging_of path)) (tree.state a)) (Putting path file (tree.state a)) (GivesNew (staging_of path) file) (IsPutStep path file) m m
-      (putting_staged now path nonempty file (tree.state a)) (λ s g. inl g) (omega arith) before
-
-  pub put_acted : {A B : Type 0} {m n : ℕ} {c : S} {x : A} {r : Result B TreeFault} → Moves tree → places (tree.state b) ≡ made now (staging_of path) (new_object file now) (places (tree.state a))
-      → IsTree (tree.state a) → IsAbsentIn (places (tree.state a)) path → IsAbsentIn (places (tree.state a)) (staging_of path)
-      → Acted tree (SameOutside (is_prefix (staging_of path)) (tree.state a)) (GivesNew (staging_of path) file) m now a b (Ok x)
-      → Acted tree (Publishing now path (tree.state b)) (IsPublishing path) n now b c r → Acted tree (Putting path file (tree.state a)) (IsPutStep path file) (m + n) now a c r
-  put_acted {n = n} moves is standing none free before last =
-      acted_then tree moves (Putting path file (tree.state a)) (IsPutStep path file) (staged_acted before)
-      (acted_weaken tree (Publishing now path (tree.state b)) (Putting path file (tree.state a)) (IsPublishing path) (IsPutStep path file) n n
-      (putting_published now path nonempty file (tree.state a) (tree.state b) is standing none free) (λ s g. inr g) (omega arith) last)
+  pub outside_stage : (q : Path) → has_staging q ≡ false → bares (places u) q ≡ bares (places t) q
+  outside_stage q plain =
+      ap (λ (x : Places). bares x q) is ∙ bares-made now (staging_of path) (new_object file now) (places t) q
+      ∙ bares-put_else (staging_of path) q (Some (new_object file now)) (places t)
+      (no_prefix_no_same (staging_of path) q (staging_outside (staging_of path) (has_staging-staging_of path nonempty) q plain))

@@ -1,5 +1,9 @@
 //! New objects, as a caller asks for them.
+ghost use Rattle.std.specs.Prelude.{◌≡◌};
+ghost use Rattle.pv_walk.specs.Staging.{new_kind, new_payload, new_major, new_minor};
+
 use pv_path::Bytes;
+use pv_steps::Kind;
 
 /// A new object with its mode and owners.
 #[derive(Debug, Drop)]
@@ -27,4 +31,42 @@ pub enum NewKind {
     Fifo,
     /// A block device, or else a character device, with its two numbers.
     Device { block: bool, major: u32, minor: u32 },
+}
+
+impl NewKind {
+    /// The kind of the new object.
+    pub fn kind(&self) -> Kind
+        ensures { result ≡ new_kind self.now }
+    {
+        match self {
+            NewKind::Directory => Kind::Directory,
+            NewKind::File(_) => Kind::File,
+            NewKind::Link(_) => Kind::Link,
+            NewKind::Fifo => Kind::Fifo,
+            NewKind::Device { block: true, .. } => Kind::BlockDevice,
+            NewKind::Device { block: false, .. } => Kind::CharDevice,
+        }
+    }
+
+    /// The content of a file, the target of a link, else no bytes.
+    pub fn payload(&self) -> &[u8]
+        ensures { result.now ≡ new_payload self.now }
+    {
+        match self {
+            NewKind::File(content) => content.as_slice(),
+            NewKind::Link(target) => target.as_slice(),
+            _ => &[],
+        }
+    }
+
+    /// The numbers of a device, else zeros.
+    pub fn numbers(&self) -> (u32, u32)
+        ensures major { result.0 ≡ new_major self.now }
+        ensures minor { result.1 ≡ new_minor self.now }
+    {
+        match self {
+            NewKind::Device { major, minor, .. } => (*major, *minor),
+            _ => (0, 0),
+        }
+    }
 }

@@ -1,12 +1,13 @@
-//! New objects, put at absent paths.
-ghost use Rattle.std.specs.Prelude.{◌≡◌, ◌≢◌, ◌≤◌, [], true, false, OnOk};
+//! New objects, put at paths.
+ghost use Rattle.std.specs.Prelude.{◌≡◌, ◌≢◌, ◌≤◌, ◌+◌, [], true, false, OnOk};
 ghost use Rattle.pv_path.specs.Paths.{parent_of, has_staging, staging_of};
 ghost use Rattle.pv_steps.specs.declared.node.Kind.TheVariants.{Directory};
 ghost use Rattle.pv_steps.specs.Trees.{places, IsKind, IsAbsentIn};
 ghost use Rattle.pv_steps.specs.Steps.{made};
+ghost use Rattle.pv_dress.specs.Edits.{count_at};
 ghost use Rattle.pv_steps.specs.Acting.{Acted};
 ghost use Rattle.pv_walk.specs.Staging.{IsNewFile, new_object, can_stage, most_new};
-ghost use Rattle.pv_walk.specs.Putting.{Putting, IsPutStep};
+ghost use Rattle.pv_walk.specs.Putting.{Putting, PuttingOver, IsPutStep, put_over};
 
 use crate::new_file::NewFile;
 use crate::publishing::publish;
@@ -15,8 +16,7 @@ use pv_path::TreePath;
 use pv_steps::{Tree, TreeFault};
 use std::alloc::Global;
 
-/// Puts a new object at an absent path in a directory: it is made under its staging name, gets all that it is
-/// to have there, and comes to its path in one step.
+/// Puts a new object at an absent path in a directory.
 pub fn put_new<T: Tree>(
     alloc: Global,
     tree: &mut T,
@@ -38,6 +38,33 @@ pub fn put_new<T: Tree>(
 {
     // In a tree nothing stands below an absent path.
     let _absent = tree.look(path);
+    put_over(alloc, tree, path, new, now)
+}
+
+/// Puts a new object at a path in a directory, in the place of all that stands at and below the path: it is made under
+/// its staging name, gets all that it is to have there, and comes to its path in one step, once what stands there has
+/// made way.
+pub fn put_over<T: Tree>(
+    alloc: Global,
+    tree: &mut T,
+    path: &TreePath,
+    new: &NewFile,
+    now: u64,
+) -> Result<(), TreeFault>
+    requires not_root { path.now ≢ [] }
+    requires short { can_stage path.now ≡ true }
+    requires unstaged { has_staging path.now ≡ false }
+    requires parent { IsKind Directory (T.state tree.old) (parent_of path.now) }
+    requires free { IsAbsentIn (places (T.state tree.old)) (staging_of path.now) }
+    requires new { IsNewFile new.now }
+    ensures ok { OnOk result (places (T.state tree.new)
+        ≡ put_over now path.now new.now (places (T.state tree.old))) }
+    ensures acted { Acted T.Tree (PuttingOver path.now new.now (T.state tree.old))
+        (IsPutStep path.now new.now) (count_at (T.state tree.old) path.now + most_new)
+        now tree.old tree.new result }
+{
+    // In a tree nothing stands below an absent path.
+    let _there = tree.look(path);
     stage_file(alloc, tree, path, new, now)?;
     publish(alloc, tree, path, now)
 }

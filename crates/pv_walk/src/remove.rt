@@ -37,7 +37,7 @@ fn push_children<T: Tree>(
 
 /// All that stands below a path: each path once, and each directory before what is in it. From its
 /// end on the list has the children of a directory in byte order, each with all below it first.
-fn below<T: Tree>(alloc: Global, tree: &T, path: &TreePath) -> Result<Vec<TreePath>, AllocError>
+pub fn below<T: Tree>(alloc: Global, tree: &T, path: &TreePath) -> Result<Vec<TreePath>, AllocError>
     ensures all { IfOk result (λ paths. IsListing (T.state tree.now) path.now paths.items) }
     ensures tree { IsTree (T.state tree.now) }
 {

@@ -1,32 +1,26 @@
-use Rattle.std.proofs.Common.{◌+◌, ◌∙◌, arith}
-use Rattle.pv_steps.proofs.ActingLaws.{Moves, acted_within, acted_passed}
+use Rattle.std.proofs.Common.{◌+◌, ap, ◌∙◌, arith}
+use Rattle.pv_steps.specs.Trees.{Places}
+use Rattle.pv_steps.specs.Steps.{made}
+use Rattle.pv_steps.proofs.ActingLaws.{acted_weaken}
 use Rattle.pv_dress.specs.Edits.{count_at}
-use Rattle.pv_walk.specs.Staging.{most_staged, most_new}
-use Rattle.pv_walk.proofs.PuttingLaws.{is_staged, put_moved, count_none, staged_acted, put_acted}
+use Rattle.pv_walk.specs.Putting.{Putting, PuttingOver, IsPutStep}
+use Rattle.pv_walk.specs.Staging.{new_object, most_new}
 use Rattle.pv_walk.proofs.Outcomes.{on_ok}
+use Rattle.pv_walk.proofs.PuttingOverLaws.{cut_absent, count_absent, over_putting}
 use Rattle.pv_walk.proofs.put.put_new.Goals as goal
-
-pub publish-requires-clause-staged : goal.publish-requires-clause-staged
-publish-requires-clause-staged g c = is_staged c.args.now c.args.path.now c.requires.not_root c.args.new.now (g.T.Tree.state c.args.tree.now) (g.T.Tree.state c.stage_file.new.tree) c.in_ok-stage_file.ensures.ok
 
 pub returns-clause-ok : goal.returns-clause-ok
 returns-clause-ok g c =
-    on_ok c.publish.result
-    (λ e. e ∙ put_moved c.args.now c.args.path.now c.requires.not_root c.args.new.now (g.T.Tree.state c.args.tree.now) (g.T.Tree.state c.stage_file.new.tree) c.in_ok-stage_file.ensures.ok c.look-absent.ensures.tree c.requires.absent c.requires.free)
-    c.publish.ensures.moved
-
-pub returns-in_err-stage_file-clause-acted : goal.returns-in_err-stage_file-clause-acted
-returns-in_err-stage_file-clause-acted g c =
-    acted_passed g.T.Tree c.stage_file.result c.from_residual.result c.in_err-stage_file.was c.from_residual.ensures.1
-    (acted_within g.T.Tree most_staged most_new (omega arith) (staged_acted g.T.Tree c.args.now c.args.path.now c.requires.not_root c.args.new.now c.args.tree.now c.stage_file.new.tree c.stage_file.ensures.acted))
+    on_ok c.put_over.result
+    (λ e. e ∙ ap (λ (x : Places). made c.args.now c.args.path.now (new_object c.args.new.now c.args.now) x)
+    (cut_absent c.args.path.now (g.T.Tree.state c.args.tree.now) c.look-absent.ensures.tree c.requires.absent))
+    c.put_over.ensures.ok
 
 pub returns-clause-acted : goal.returns-clause-acted
 returns-clause-acted g c =
-    let moves : Moves g.T.Tree = record { stays = g.met.T.Tree.reaches_self; goes_on = g.met.T.Tree.reaches_on; never_falls = g.met.T.Tree.never_falls } in
     let t = g.T.Tree.state c.args.tree.now in
-    let u = g.T.Tree.state c.stage_file.new.tree in
     let path = c.args.path.now in
-    let none = count_none c.args.now path c.requires.not_root c.args.new.now t u c.in_ok-stage_file.ensures.ok c.look-absent.ensures.tree c.requires.absent c.requires.free in
-    acted_within g.T.Tree (most_staged + (1 + count_at u path)) most_new (omega (arith, none))
-    (put_acted g.T.Tree c.args.now path c.requires.not_root c.args.new.now c.args.tree.now c.stage_file.new.tree moves c.in_ok-stage_file.ensures.ok c.look-absent.ensures.tree c.requires.absent c.requires.free
-    c.in_ok-stage_file.ensures.acted c.publish.ensures.acted)
+    let file = c.args.new.now in
+    let none = count_absent path t c.look-absent.ensures.tree c.requires.absent in
+    acted_weaken g.T.Tree (PuttingOver path file t) (Putting path file t) (IsPutStep path file) (IsPutStep path file) (count_at t path + most_new) most_new
+    (over_putting path t c.look-absent.ensures.tree c.requires.absent file) (λ s q. q) (omega (arith, none)) c.put_over.ensures.acted

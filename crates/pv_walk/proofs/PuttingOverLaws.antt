@@ -1,0 +1,205 @@
+-- Laws of putting a new object over what stands at a path: it is made under its staging name, what stands at the path makes
+-- way, and what is staged comes there.
+use Rattle.std.specs.Prelude.{◌≡◌, ◌≢◌, ℕ, ◌+◌, ◌≤◌, Bool, true, false, cond, [], ◌∷◌, filter, Option, Some, None, is_some, option_map, Result, Ok}
+use Rattle.std.proofs.Common.{refl, sym, ap, ◌∙◌, arith, inl, inr, ◌⊎◌}
+use Rattle.std.specs.FinMap as fin
+use Rattle.pv_path.specs.Paths.{Path, same_path, is_prefix, parent_of, staging_of}
+use Rattle.pv_path.proofs.PathLaws.{is_prefix-refl, is_prefix-trans, parent_of-is_prefix, has_staging-staging_of}
+use Rattle.pv_steps.specs.declared.object.Object.{Object}
+use Rattle.pv_steps.specs.Objects.{bare, modified}
+use Rattle.pv_steps.specs.Trees.{Files, Places, places, kind_of, IsTreeIn, IsTree, IsAbsentIn, IsPresentIn}
+use Rattle.pv_steps.specs.Steps.{put_at, on_at, made, moved}
+use Rattle.pv_steps.specs.Same.{bares}
+use Rattle.pv_steps.specs.declared.tree.Tree.{Ghosts}
+use Rattle.pv_steps.specs.declared.tree.TreeFault.{TreeFault}
+use Rattle.pv_steps.specs.Acting.{Acted}
+use Rattle.pv_steps.proofs.ActingLaws.{Moves, acted_then, acted_weaken}
+use Rattle.pv_dress.specs.Edits.{SameOutside, cut, count_at}
+use Rattle.pv_dress.proofs.EditLaws.{path_cases, put_at-else, put_at-here, bares-made, bares-put_else, staging_outside}
+use Rattle.pv_walk.specs.declared.new_file.NewFile.{NewFile}
+use Rattle.pv_walk.specs.Staging.{new_object, GivesNew, IsPublishing}
+use Rattle.pv_walk.specs.Removal.{Publishing}
+use Rattle.pv_walk.specs.Putting.{IsPutting, Putting, IsMakingWay, PuttingOver, IsPutStep, put_over}
+use Rattle.pv_walk.specs.Listing.{times}
+use Rattle.pv_walk.proofs.RemovalLaws.{true_or_false, apart, no_same}
+use Rattle.pv_walk.proofs.CountLaws.{times-filter, times-keys, length-times}
+use Rattle.pv_walk.proofs.PublishLaws.{IsCleared, moved_same, stage_outside}
+use Rattle.pv_walk.proofs.PuttingLaws.{moved-made, none_under, outside_stage}
+
+-- ---- a tree without what stands at a path
+
+module _ (path : Path) (nonempty : path ≢ []) (t : Places) where
+  cut-outside : (q : Path) → is_prefix path q ≡ false → cut path t q ≡ t q
+  cut-outside q h = ap (λ b. cond b None (t q)) h
+
+  cut-inside : (q : Path) → is_prefix path q ≡ true → cut path t q ≡ None
+  cut-inside q h = ap (λ b. cond b None (t q)) h
+
+  cut-here : IsAbsentIn (cut path t) path
+  cut-here = cut-inside path (is_prefix-refl path)
+
+  -- what stands there stood there
+  cut-present : (q : Path) → IsPresentIn (cut path t) q → (is_prefix path q ≡ false) × (cut path t q ≡ t q)
+  cut-present q h = elim (true_or_false (is_prefix path q)) [
+    | inl e ↦ absurd (let no : false ≡ true = sym (ap is_some (cut-inside q e)) ∙ h in cc)
+    | inr e ↦ (e, cut-outside q e)
+  ]
+
+  root_outside : is_prefix path [] ≡ false
+  root_outside = by path nonempty
+    where
+      by : (p : Path) → p ≢ [] → is_prefix p [] ≡ false
+      by [] h = absurd (h refl)
+      by (n ∷ p) h = refl
+
+  -- it is a tree
+  cut-tree : IsTreeIn t → IsTreeIn (cut path t)
+  cut-tree tree = record {
+    root = ap kind_of (cut-outside [] root_outside) ∙ tree.root;
+    parents = λ q present other.
+        let there = cut-present q present in
+        let up : is_prefix path (parent_of q) ≡ false = above q there.0 in
+        ap kind_of (cut-outside (parent_of q) up) ∙ tree.parents q (sym (ap is_some there.1) ∙ present) other;
+    names = λ q present. let there = cut-present q present in tree.names q (sym (ap is_some there.1) ∙ present);
+    objects = λ q o is. let there = cut-present q (ap is_some is) in tree.objects q o (sym there.1 ∙ is);
+  }
+    where
+      above : (q : Path) → is_prefix path q ≡ false → is_prefix path (parent_of q) ≡ false
+      above q h = elim (true_or_false (is_prefix path (parent_of q))) [
+        | inl e ↦ absurd (apart (is_prefix path q) (is_prefix-trans path (parent_of q) q e (parent_of-is_prefix q)) h)
+        | inr e ↦ e
+      ]
+
+-- ---- what comes of the Rename
+
+on_at-of : (p : Path) (f : Object → Object) (x y : Places) (q : Path) → x q ≡ y q → on_at p f x q ≡ on_at p f y q
+on_at-of p f x y q e = ap (λ v. cond (same_path p q) (option_map f v) v) e
+
+put_at-of : (p : Path) (o : Option Object) (x y : Places) (q : Path) → x q ≡ y q → put_at p o x q ≡ put_at p o y q
+put_at-of p o x y q e = ap (λ v. cond (same_path p q) o v) e
+
+module _ (now : ℕ) (path : Path) (nonempty : path ≢ []) (file : NewFile) (t : Files) (u : Files) (is : places u ≡ made now (staging_of path) (new_object file now) (places t)) where
+  abbrev o : Object
+  o = new_object file now
+
+  staged_cleared : IsCleared now path (made now (staging_of path) (new_object file now) (places t)) (made now (staging_of path) (new_object file now) (cut path (places t)))
+  staged_cleared = record { same = λ q h d. at q h; kept = λ q h. inl (at q h) }
+    where
+      at : (q : Path) → is_prefix path q ≡ false → made now (staging_of path) (new_object file now) (cut path (places t)) q ≡ made now (staging_of path) (new_object file now) (places t) q
+      at q h =
+          on_at-of (parent_of (staging_of path)) (modified now) (put_at (staging_of path) (Some (new_object file now)) (cut path (places t))) (put_at (staging_of path) (Some (new_object file now)) (places t)) q
+          (put_at-of (staging_of path) (Some (new_object file now)) (cut path (places t)) (places t) q (cut-outside path nonempty (places t) q h))
+
+  -- what comes to the path is the new object, in the place of all that stood there
+  pub over_moved : IsTree t → IsAbsentIn (places t) (staging_of path) → moved now (staging_of path) path (places u) ≡ put_over now path file (places t)
+  over_moved tree free =
+      ap (moved now (staging_of path) path) is
+      ∙ sym (moved_same now path nonempty (made now (staging_of path) (new_object file now) (places t)) (made now (staging_of path) (new_object file now) (cut path (places t))) staged_cleared)
+      ∙ moved-made now path nonempty (cut path (places t)) (cut-tree path nonempty (places t) tree) (cut-here path nonempty (places t))
+      (cut-outside path nonempty (places t) (staging_of path) (stage_outside path nonempty) ∙ free) (new_object file now) refl
+
+  -- no more has to make way than stood at and below the path before
+  pub count_over : count_at u path ≤ count_at t path
+  count_over = length-times (filter (is_prefix path) (fin.keys u)) (filter (is_prefix path) (fin.keys t))
+      (λ q. omega (arith, times-filter (is_prefix path) q (fin.keys u), times-filter (is_prefix path) q (fin.keys t), same q))
+    where
+      some_same : (f : Object → Object) (b : Bool) (v : Option Object) → is_some (cond b (option_map f v) v) ≡ is_some v
+      some_same f true None = refl
+      some_same f true (Some x) = refl
+      some_same f false v = refl
+
+      present : (q : Path) → is_prefix path q ≡ true → is_some (places u q) ≡ is_some (places t q)
+      present q e =
+          ap (λ (x : Places). is_some (x q)) is
+          ∙ some_same (modified now) (same_path (parent_of (staging_of path)) q) (put_at (staging_of path) (Some (new_object file now)) (places t) q)
+          ∙ ap is_some (put_at-else (staging_of path) q (Some (new_object file now)) (places t)
+          (no_same (staging_of path) q (λ s. apart (is_prefix path q) e (ap (is_prefix path) (sym s) ∙ stage_outside path nonempty))))
+
+      same : (q : Path) → cond (is_prefix path q) (times q (fin.keys u)) 0 ≤ cond (is_prefix path q) (times q (fin.keys t)) 0
+      same q = elim (true_or_false (is_prefix path q)) [
+        | inl e ↦
+            let count : times q (fin.keys u) ≡ times q (fin.keys t) = times-keys u q ∙ ap (λ b. cond b 1 0) (present q e) ∙ sym (times-keys t q) in
+            omega (arith, ap (λ b. cond b (times q (fin.keys u)) 0) e, ap (λ b. cond b (times q (fin.keys t)) 0) e, count)
+        | inr e ↦ omega (arith, ap (λ b. cond b (times q (fin.keys u)) 0) e)
+      ]
+
+  -- ---- on the way
+
+  -- while what stands there makes way, or the new object comes to its path
+  pub over_published : IsTree t → IsAbsentIn (places t) (staging_of path) → (w : Files) → Publishing now path u w → PuttingOver path file t w
+  over_published tree free w (inl p) = inl (λ q plain. elim (true_or_false (is_prefix path q)) [
+    | inl e ↦ elim (p.within q e) [
+      | inl gone ↦ IsMakingWay.gone e (ap (option_map bare) gone)
+      | inr same ↦ IsMakingWay.kept (same ∙ outside_stage now path nonempty file t u is q plain)
+    ]
+    | inr e ↦ IsMakingWay.kept (p.outside q e ∙ outside_stage now path nonempty file t u is q plain)
+  ])
+  over_published tree free w (inr e) = inr (λ q plain.
+      e q ∙ ap (λ (x : Places). bares x q) (over_moved tree free)
+      ∙ bares-made now path (new_object file now) (cut path (places t)) q
+      ∙ stamps (same_path path q) (cut path (places t) q)
+      ∙ sym (bares-made 0 path (new_object file 0) (cut path (places t)) q))
+    where
+      stamps : (b : Bool) (v : Option Object) → option_map bare (cond b (Some (new_object file now)) v) ≡ option_map bare (cond b (Some (new_object file 0)) v)
+      stamps true v = refl
+      stamps false v = refl
+
+-- ---- calls that put it
+
+module _ {S : Type 0} (tree : Ghosts S) (now : ℕ) (path : Path) (nonempty : path ≢ []) (file : NewFile) (a b : S) where
+  -- while it is made under its staging name
+  pub over_staged : {A : Type 0} {m : ℕ} {r : Result A TreeFault} → Acted tree (SameOutside (is_prefix (staging_of path)) (tree.state a)) (GivesNew (staging_of path) file) m now a b r
+      → Acted tree (PuttingOver path file (tree.state a)) (IsPutStep path file) m now a b r
+  over_staged {m = m} before =
+      acted_weaken tree (SameOutside (is_prefix (staging_of path)) (tree.state a)) (PuttingOver path file (tree.state a)) (GivesNew (staging_of path) file) (IsPutStep path file) m m
+      (λ w h. inl (λ q plain. IsMakingWay.kept (h q (staging_outside (staging_of path) (has_staging-staging_of path nonempty) q plain)))) (λ s g. inl g) (omega arith) before
+
+  pub over_acted : {A B : Type 0} {m n : ℕ} {c : S} {x : A} {r : Result B TreeFault} → Moves tree → places (tree.state b) ≡ made now (staging_of path) (new_object file now) (places (tree.state a))
+      → IsTree (tree.state a) → IsAbsentIn (places (tree.state a)) (staging_of path)
+      → Acted tree (SameOutside (is_prefix (staging_of path)) (tree.state a)) (GivesNew (staging_of path) file) m now a b (Ok x)
+      → Acted tree (Publishing now path (tree.state b)) (IsPublishing path) n now b c r → Acted tree (PuttingOver path file (tree.state a)) (IsPutStep path file) (m + n) now a c r
+  over_acted {n = n} moves is standing free before last =
+      acted_then tree moves (PuttingOver path file (tree.state a)) (IsPutStep path file) (over_staged before)
+      (acted_weaken tree (Publishing now path (tree.state b)) (PuttingOver path file (tree.state a)) (IsPublishing path) (IsPutStep path file) n n
+      (over_published now path nonempty file (tree.state a) (tree.state b) is standing free) (λ s g. inr g) (omega arith) last)
+
+-- ---- where nothing stands
+
+module _ (path : Path) (t : Files) (tree : IsTree t) (none : IsAbsentIn (places t) path) where
+  -- nothing has to make way
+  pub cut_absent : cut path (places t) ≡ places t
+  cut_absent = λ i q. at q i
+    where
+      at : (q : Path) → cut path (places t) q ≡ places t q
+      at q = elim (true_or_false (is_prefix path q)) [
+        | inl e ↦ ap (λ b. cond b None (places t q)) e ∙ sym (none_under (places t) tree path q none e)
+        | inr e ↦ ap (λ b. cond b None (places t q)) e
+      ]
+
+  pub count_absent : count_at t path ≤ 0
+  count_absent = length-times (filter (is_prefix path) (fin.keys t)) [] (λ q. omega (arith, times-filter (is_prefix path) q (fin.keys t), fewer q))
+    where
+      fewer : (q : Path) → cond (is_prefix path q) (times q (fin.keys t)) 0 ≤ 0
+      fewer q = elim (true_or_false (is_prefix path q)) [
+        | inl e ↦
+            let count : times q (fin.keys t) ≡ 0 = times-keys t q ∙ ap (λ v. cond (is_some v) 1 0) (none_under (places t) tree path q none e) in
+            omega (arith, ap (λ b. cond b (times q (fin.keys t)) 0) e, count)
+        | inr e ↦ omega (arith, ap (λ b. cond b (times q (fin.keys t)) 0) e)
+      ]
+
+  -- on the way the new object is put where nothing stood
+  pub over_putting : (file : NewFile) (u : Files) → PuttingOver path file t u → Putting path file t u
+  over_putting file u (inl h) = λ q plain. by q (h q plain)
+    where
+      by : (q : Path) → IsMakingWay path q (bares (places t) q) (bares (places u) q) → IsPutting path file q (bares (places t) q) (bares (places u) q)
+      by q (IsMakingWay.kept e) = IsPutting.kept e
+      by q (IsMakingWay.gone inside e) = IsPutting.kept (e ∙ sym (ap (option_map bare) (none_under (places t) tree path q none inside)))
+  over_putting file u (inr h) = λ q plain. by q (h q plain) (path_cases path q)
+    where
+      whole : (q : Path) → bares (put_over 0 path file (places t)) q ≡ bares (put_at path (Some (new_object file 0)) (places t)) q
+      whole q = bares-made 0 path (new_object file 0) (cut path (places t)) q ∙ ap (λ (x : Places). bares (put_at path (Some (new_object file 0)) x) q) cut_absent
+
+      by : (q : Path) → bares (places u) q ≡ bares (put_over 0 path file (places t)) q → (path ≡ q) ⊎ (same_path path q ≡ false) → IsPutting path file q (bares (places t) q) (bares (places u) q)
+      by q e (inl s) = IsPutting.put (sym s) (ap (λ (p : Path). bares (places t) p) (sym s) ∙ ap (option_map bare) none)
+          (e ∙ whole q ∙ ap (λ (p : Path). bares (put_at path (Some (new_object file 0)) (places t)) p) (sym s) ∙ ap (option_map bare) (put_at-here path (Some (new_object file 0)) (places t)))
+      by q e (inr d) = IsPutting.kept (e ∙ whole q ∙ bares-put_else path q (Some (new_object file 0)) (places t) d)
