@@ -11,7 +11,7 @@ use Rattle.pv_table.specs.Active.{active, create_order, remove_order}
 -- ---- lines and trees
 
 -- a line of a letter over a path, with nothing else given
-abbrev line : ℕ → Path → Line
+abbrev pub line : ℕ → Path → Line
 line letter path = record {
   letter = letter;
   plus = false;
@@ -32,7 +32,7 @@ line letter path = record {
 }
 
 -- a line of a letter over the pattern that matches one path alone
-abbrev pattern_line : ℕ → Path → Line
+abbrev pub pattern_line : ℕ → Path → Line
 pattern_line letter path = record (line letter path) { path = Glob (literal_of path ∷ []) }
 
 abbrev a : List ℕ

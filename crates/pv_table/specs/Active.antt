@@ -73,17 +73,25 @@ same_argument (argument.Device major minor) (argument.Device other_major other_m
 same_argument argument.Ignored argument.Ignored = true
 same_argument a b = false
 
+-- whether two lines have the same modifiers that say when they hold: `!`, `-` and `$`
+abbrev pub same_times : Line → Line → Bool
+same_times a b = alike a.boot b.boot && alike a.minus b.minus && alike a.purge b.purge
+
+-- whether two lines have the same modifiers that say what they do: `+`, `=` and `~`
+abbrev pub same_ways : Line → Line → Bool
+same_ways a b = alike a.plus b.plus && alike a.replace b.replace && alike a.encoded b.encoded
+
 -- whether two lines have the same type and modifiers
 abbrev pub same_type : Line → Line → Bool
-same_type a b =
-    a.letter == b.letter && alike a.plus b.plus && alike a.boot b.boot && alike a.minus b.minus && alike a.replace b.replace
-    && alike a.encoded b.encoded && alike a.purge b.purge
+same_type a b = a.letter == b.letter && same_times a b && same_ways a b
+
+-- whether two lines have the same owners
+abbrev pub same_owners : Line → Line → Bool
+same_owners a b = option_eq same_id a.user b.user && option_eq same_id a.group b.group
 
 -- whether two lines have the same mode, owners and age
 abbrev pub same_settings : Line → Line → Bool
-same_settings a b =
-    option_eq same_mode a.mode b.mode && option_eq same_id a.user b.user && option_eq same_id a.group b.group
-    && option_eq same_age a.age b.age
+same_settings a b = option_eq same_mode a.mode b.mode && same_owners a b && option_eq same_age a.age b.age
 
 -- whether two creating lines ask for the same: type, modifiers, mode, owners, age and argument
 abbrev pub ask_same : Line → Line → Bool

@@ -1,6 +1,9 @@
 pub mod Asking
 pub mod Reaching
 pub mod Active
+pub mod Building
+pub mod Ranking
+pub mod Orders
 pub mod Scopes
 pub mod Turns
 pub mod Effects

@@ -4,6 +4,7 @@ ghost use Rattle.std.specs.Option.{option_map_or};
 ghost use Rattle.pv_dress.specs.declared.operation.Guard.TheVariants.{Every, NoLink, Only};
 ghost use Rattle.pv_dress.specs.declared.operation.Operation.TheVariants.{Adjust};
 ghost use Rattle.pv_walk.specs.Staging.{new_kind};
+ghost use Rattle.pv_table.specs.Active.{is_touching};
 ghost use Rattle.pv_table.specs.Asking.{asks, bytes_of, contents_to_set, copying, device, id_for_new, id_to_set, link_to, making, mode_for_new, mode_to_set, owners_and_mode, renewal, set_by, source_of, touching, without_links, writing};
 
 use crate::deed::{Copying, Deed, Making, OperationList, Touching};
@@ -36,6 +37,16 @@ pub fn asks(alloc: Global, line: &Line) -> Result<Deed, AllocError>
         b'A' | b'T' | b'H' => setting(alloc, true, line),
         _ => Ok(Deed::Idle),
     }
+}
+
+/// Whether a line adjusts what is there (tmpfiles.d(5), w, e, z, a, t and h).
+pub(crate) fn is_touching(line: &Line) -> bool
+    ensures { result ≡ is_touching line.now }
+{
+    matches!(
+        line.letter,
+        b'w' | b'e' | b'z' | b'Z' | b'a' | b'A' | b't' | b'T' | b'h' | b'H'
+    )
 }
 
 /// The ID that a new object gets, where one is given.

@@ -3,17 +3,38 @@
 #![tactic(auto)]
 
 mod asking;
+mod building;
 mod deed;
+mod laws;
+mod message;
+mod order;
 mod reach;
 mod reason;
+mod same;
 mod scope;
 mod scoping;
+mod staying;
+mod table;
 mod taking;
 
 pub use asking::asks;
+pub use building::build;
 pub use deed::{Copying, Deed, Making, OperationList, Touching};
-pub use reach::{names, names_first, sparing_of, taking_of};
+pub use laws::{
+    a_line_asks_nothing_elsewhere, active_lines_make_different_paths,
+    quiet_does_not_depend_on_the_moment, what_lies_above_comes_first,
+};
+pub use message::{say_left, say_refused, say_source_refused};
+pub use order::{create_order, remove_order};
+pub use reach::{is_creating, names, names_first, sparing_of, taking_of};
 pub use reason::Reason;
 pub use scope::Scope;
 pub use scoping::scope_of;
+pub use table::Table;
 pub use taking::{Sparing, Taking};
+
+/// Places of lines in some order.
+pub type IndexList = pv_path::Sequence<usize>;
+
+#[cfg(test)]
+mod tests;

@@ -1,6 +1,7 @@
 //! Which paths a line names, and what it is for besides creating.
 ghost use Rattle.std.specs.Prelude.{◌≡◌, ◌≤◌, length, take};
-ghost use Rattle.pv_table.specs.Reaching.{names, sparing_of, taking_of};
+ghost use Rattle.pv_table.specs.Active.{is_taking};
+ghost use Rattle.pv_table.specs.Reaching.{is_creating, names, sparing_of, taking_of};
 
 use crate::taking::{Sparing, Taking};
 use pv_glob::{matches, matches_first};
@@ -19,6 +20,13 @@ pub fn taking_of(line: &Line) -> Taking
     }
 }
 
+/// Whether a line takes something away in the remove phase.
+pub(crate) fn is_taking(line: &Line) -> bool
+    ensures { result ≡ is_taking line.now }
+{
+    taking_of(line) != Taking::Nothing
+}
+
 /// What a line spares in the clean phase at a path that it names (tmpfiles.d(5), x and X).
 pub fn sparing_of(line: &Line) -> Option<Sparing>
     ensures { result ≡ sparing_of line.now }
@@ -28,6 +36,14 @@ pub fn sparing_of(line: &Line) -> Option<Sparing>
         b'X' => Some(Sparing::Itself),
         _ => None,
     }
+}
+
+/// Whether a line is of a type that makes what stands at its path: such a line has a path, any other a pattern
+/// (tmpfiles.d(5), "Type").
+pub fn is_creating(line: &Line) -> bool
+    ensures { result ≡ is_creating line.now }
+{
+    matches!(&line.path, LinePath::Literal(_))
 }
 
 /// Whether a line names a path: its own, or one that its pattern matches. It takes no memory.

@@ -1,0 +1,117 @@
+-- The place of the first item that passes a test.
+use Rattle.std.proofs.Common.{◌≡◌, ◌∙◌, sym, ap, refl, arith, suc, zero, add-one, append_assoc, drop, drop-cons, get_or}
+use Rattle.std.specs.Prelude.{ℕ, ◌+◌, ◌<◌, Bool, true, false, not, cond, ◌&&◌, ◌||◌, List, [], ◌∷◌, ◌++◌, length, map, filter, find, Option, Some, None, is_some, option_map, slice_get}
+use Rattle.std.specs.List.{list_any, enumerate_from}
+use Rattle.std.specs.Option.{option_or}
+use Rattle.pv_table.specs.Building.{first_place}
+
+-- ---- tests
+
+pub and_false : (b : Bool) → (b && false) ≡ false
+and_false true = refl
+and_false false = refl
+
+pub and_true : (b : Bool) → (b && true) ≡ b
+and_true true = refl
+and_true false = refl
+
+pub either_false : (a b : Bool) → (a || b) ≡ false → (a ≡ false) × (b ≡ false)
+either_false true b e = cc
+either_false false b e = (refl, e)
+
+pub not_false : (a : Bool) → not a ≡ false → a ≡ true
+not_false true e = refl
+not_false false e = cc
+
+pub not_true : (a : Bool) → not a ≡ true → a ≡ false
+not_true true e = cc
+not_true false e = refl
+
+pub option_or-none : (o : Option ℕ) → o ≡ option_or o None
+option_or-none None = refl
+option_or-none (Some n) = refl
+
+-- ---- the first item that passes
+
+-- some item passes exactly where a first one is found
+pub list_any-find : {A : Type 0} (test : A → Bool) (xs : List A) → list_any test xs ≡ is_some (find test xs)
+list_any-find test [] = refl
+list_any-find {A} test (x ∷ xs) = by_test (test x) (list_any-find test xs)
+  where
+    by_test : (b : Bool) → list_any test xs ≡ is_some (find test xs) → (b || list_any test xs) ≡ is_some (cond b (Some x) (find test xs))
+    by_test true e = refl
+    by_test false e = e
+
+pub first_place-none : {A : Type 0} (test : A → Bool) (xs : List A) → list_any test xs ≡ false → first_place test xs ≡ None
+first_place-none test [] none = refl
+first_place-none test (x ∷ xs) none = let u = either_false (test x) (list_any test xs) none in rw (u.0, first_place-none test xs u.1) refl
+
+-- where no item passes, none is found
+pub missing : {A : Type 0} (test : A → Bool) (xs : List A) → first_place test xs ≡ None → (list_any test xs ≡ false) × (find test xs ≡ None)
+missing test [] e = (refl, refl)
+missing {A} test (x ∷ xs) e = elim (test x) as (λ b. cond b (Some 0) (option_map suc (first_place test xs)) ≡ None → (b || list_any test xs ≡ false) × (cond b (Some x) (find test xs) ≡ None))
+    [ true ↦ λ h. cc | false ↦ λ h. missing test xs (none_below (first_place test xs) h) ] e
+  where
+    none_below : (o : Option ℕ) → option_map suc o ≡ None → o ≡ None
+    none_below None h = refl
+    none_below (Some i) h = cc
+
+-- the first item that passes is found at its place
+pub found : {A : Type 0} (test : A → Bool) (xs : List A) (i : ℕ) → first_place test xs ≡ Some i → (list_any test xs ≡ true) × ((find test xs ≡ slice_get xs i) × (i < length xs))
+found test [] i e = cc
+found {A} test (x ∷ xs) i e = elim (test x) as (λ b. cond b (Some 0) (option_map suc (first_place test xs)) ≡ Some i → (b || list_any test xs ≡ true) × ((cond b (Some x) (find test xs) ≡ slice_get (x ∷ xs) i) × (i < length (x ∷ xs))))
+    [ true ↦ λ h. here i h | false ↦ λ h. there (λ k. found test xs k) i (first_place test xs) refl h ] e
+  where
+    here : (i : ℕ) → ◌≡◌ {A = Option ℕ} (Some 0) (Some i) → ◌≡◌ {A = Bool} true true × (◌≡◌ {A = Option A} (Some x) (slice_get (x ∷ xs) i) × (i < length (x ∷ xs)))
+    here zero h = (refl, (refl, omega arith))
+    here (suc j) h = cc
+
+    inside : (k j : ℕ) → ◌≡◌ {A = Option ℕ} (Some (suc k)) (Some (suc j)) → ◌≡◌ {A = Option ℕ} (Some k) (Some j)
+    inside k j h = cc
+
+    there : ((k : ℕ) → first_place test xs ≡ Some k → (list_any test xs ≡ true) × ((find test xs ≡ slice_get xs k) × (k < length xs))) → (i : ℕ) (o : Option ℕ) → first_place test xs ≡ o → option_map suc o ≡ Some i
+        → (list_any test xs ≡ true) × ((find test xs ≡ slice_get (x ∷ xs) i) × (i < length (x ∷ xs)))
+    there below i None s h = cc
+    there below zero (Some k) s h = cc
+    there below (suc j) (Some k) s h = let p = below j (s ∙ inside k j h) in (p.0, (p.1.0, omega (arith, p.1.1)))
+
+-- with one item more at the end
+pub first_place-push : {A : Type 0} (test : A → Bool) (xs : List A) (x : A) → first_place test (xs ++ x ∷ []) ≡ option_or (first_place test xs) (cond (test x) (Some (length xs)) None)
+first_place-push test [] x = refl
+first_place-push test (y ∷ xs) x = elim (test y) as (λ b. cond b (Some 0) (option_map suc (first_place test (xs ++ x ∷ []))) ≡ option_or (cond b (Some 0) (option_map suc (first_place test xs))) (cond (test x) (Some (length (y ∷ xs))) None))
+    [ true ↦ refl | false ↦ ap (option_map suc) (first_place-push test xs x) ∙ spread (first_place test xs) (test x) ]
+  where
+    spread : (o : Option ℕ) (b : Bool) → option_map suc (option_or o (cond b (Some (length xs)) None)) ≡ option_or (option_map suc o) (cond b (Some (suc (length xs))) None)
+    spread None true = refl
+    spread None false = refl
+    spread (Some i) b = refl
+
+-- ---- item by item
+
+-- what is left from a place on begins with the item at that place
+pub next_item : {A : Type 0} (xs : List A) (i : ℕ) (x : A) → i < length xs → x ≡ get_or xs i x → drop i xs ≡ x ∷ drop (i + 1) xs
+next_item {A} xs i x within there =
+    drop-cons xs i x within ∙ ap (λ (y : A). y ∷ drop (suc i) xs) (sym there) ∙ ap (λ (n : ℕ). x ∷ drop n xs) (sym (add-one i))
+
+-- the places of the items from one on that pass a test
+abbrev pub places_from : {A : Type 0} → (A → Bool) → ℕ → List A → List ℕ
+places_from test n xs = map (λ x. x.0) (filter (λ x. test x.1) (enumerate_from n xs))
+
+-- an item that passes, and one that does not
+pub places-taken : {A : Type 0} (test : A → Bool) (xs : List A) (i : ℕ) (x : A) (order more : List ℕ) → i < length xs → x ≡ get_or xs i x → test x ≡ true → more ≡ order ++ i ∷ []
+    → more ++ places_from test (i + 1) (drop (i + 1) xs) ≡ order ++ places_from test i (drop i xs)
+places-taken {A} test xs i x order more within there passes is =
+    ap (λ (o : List ℕ). o ++ places_from test (i + 1) (drop (i + 1) xs)) is
+    ∙ append_assoc order (i ∷ []) (places_from test (i + 1) (drop (i + 1) xs))
+    ∙ ap (λ (o : List ℕ). order ++ o) (sym (ap (places_from test i) (next_item xs i x within there) ∙ first))
+  where
+    first : places_from test i (x ∷ drop (i + 1) xs) ≡ i ∷ places_from test (i + 1) (drop (i + 1) xs)
+    first = rw passes refl
+
+pub places-left : {A : Type 0} (test : A → Bool) (xs : List A) (i : ℕ) (x : A) (order : List ℕ) → i < length xs → x ≡ get_or xs i x → test x ≡ false
+    → order ++ places_from test (i + 1) (drop (i + 1) xs) ≡ order ++ places_from test i (drop i xs)
+places-left {A} test xs i x order within there other =
+    ap (λ (o : List ℕ). order ++ o) (sym (ap (places_from test i) (next_item xs i x within there) ∙ first))
+  where
+    first : places_from test i (x ∷ drop (i + 1) xs) ≡ places_from test (i + 1) (drop (i + 1) xs)
+    first = rw other refl

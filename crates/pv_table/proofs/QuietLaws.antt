@@ -1,0 +1,442 @@
+-- Whether lines are refused does not depend on the moment of a run: refusals read kinds and owners alone.
+use Rattle.std.proofs.Common.{◌≡◌, ◌∙◌, sym, ap, subst, refl}
+use Rattle.std.specs.Prelude.{ℕ, ◌-◌, ◌+◌, Bool, true, false, not, cond, ◌&&◌, ◌||◌, ◌==◌, nat_lt, List, [], ◌∷◌, ◌++◌, length, take, map, filter, fold, Option, Some, None, is_some, option_map, option_and_then, unwrap_or, T}
+use Rattle.std.specs.FinMap as fin
+use Rattle.std.specs.FinMap.Entries as entries
+use Rattle.std.specs.List.{filter_map, range_with_len}
+use Rattle.std.specs.Option.{option_map_or, option_or}
+use Rattle.std.specs.Ordering.{eq_by_cmp, is_lt}
+use Rattle.pv_dress.specs.declared.bare.Bare.{Bare}
+use Rattle.pv_dress.specs.declared.operation.Operation.{Operation}
+use Rattle.pv_dress.specs.Edits.{all_taken, cut, taken}
+use Rattle.pv_dress.specs.Nodes.{bare_of, bares_of}
+use Rattle.pv_dress.specs.Operations.{done}
+use Rattle.pv_lines.specs.declared.line.Line.{Line}
+use Rattle.pv_path.specs.Names.{same_bytes}
+use Rattle.pv_path.specs.Paths.{Path, is_prefix, path_cmp, path_exact, path_total, rest_under, same_path}
+use Rattle.pv_steps.specs.declared.object.Object.{Object}
+use Rattle.pv_steps.specs.declared.why.Why.{Why}
+use Rattle.pv_steps.specs.declared.why.Why.TheVariants.{UnsafeOwner}
+use Rattle.pv_steps.specs.Objects.{bare, changed, modified}
+use Rattle.pv_steps.specs.Refusal.{first_refused, is_unsafe, owner_at, refusal, why_blocked, why_refused}
+use Rattle.pv_steps.specs.Same.{bares}
+use Rattle.pv_steps.specs.Steps.{made, on_at, put_at, touched}
+use Rattle.pv_steps.specs.Trees.{Files, Places, kind_of, places, tabulate, entries_at}
+use Rattle.pv_steps.proofs.StepLaws.{find-entries_at, is_among}
+use Rattle.pv_walk.specs.Preparing.{parent_file, parents_of, prepared, with_parent}
+use Rattle.pv_walk.specs.Staging.{new_object, staging_names}
+use Rattle.pv_table.specs.declared.deed.Deed.{Deed}
+use Rattle.pv_table.specs.declared.deed.Deed.TheVariants.{Create, Copy, Touch, Idle}
+use Rattle.pv_table.specs.declared.deed.Touching.{Touching}
+use Rattle.pv_table.specs.Active.{in_create_order}
+use Rattle.pv_table.specs.Asking.{asks, id_for_new}
+use Rattle.pv_table.specs.Created.{IsQuiet, after_each, by_line, by_turn, one_is_refused}
+use Rattle.pv_table.specs.Effects.{adjusted, as_bare, become, carried_out, is_touched, object_of, prepare, put, put_paths, restamped, same_bare, touch, turn_after, turned, turns}
+use Rattle.pv_table.specs.Reaching.{names, path_in}
+use Rattle.pv_table.specs.Turns.{Refused, Subtree, Turn, View, copied, decide, has_something, named_refusal, owner_made, refused_at, source_refusal, view_of}
+
+-- ---- places that differ in stamps alone
+
+abbrev pub Alike : Places → Places → Type 0
+Alike t u = (q : Path) → bares t q ≡ bares u q
+
+both_absent : (o u : Option Object) → option_map bare o ≡ option_map bare u → is_some o ≡ is_some u
+both_absent None None e = refl
+both_absent None (Some x) e = cc
+both_absent (Some x) None e = cc
+both_absent (Some x) (Some y) e = refl
+
+map_alike : (f g : Object → Object) → ((x y : Object) → bare x ≡ bare y → bare (f x) ≡ bare (g y)) → (o u : Option Object) → option_map bare o ≡ option_map bare u → option_map bare (option_map f o) ≡ option_map bare (option_map g u)
+map_alike f g alike None None e = refl
+map_alike f g alike None (Some y) e = cc
+map_alike f g alike (Some x) None e = cc
+map_alike f g alike (Some x) (Some y) e = let same : bare x ≡ bare y = cc in ap (λ (o : Object). Some o) (alike x y same)
+
+on_at_alike : (path : Path) (f g : Object → Object) → ((x y : Object) → bare x ≡ bare y → bare (f x) ≡ bare (g y)) → (t u : Places) → Alike t u → Alike (on_at path f t) (on_at path g u)
+on_at_alike path f g step t u alike q = by_test (same_path path q)
+  where
+    by_test : (b : Bool) → option_map bare (cond b (option_map f (t q)) (t q)) ≡ option_map bare (cond b (option_map g (u q)) (u q))
+    by_test true = map_alike f g step (t q) (u q) (alike q)
+    by_test false = alike q
+
+touched_alike : (now later : ℕ) (path : Path) (t u : Places) → Alike t u → Alike (touched now path t) (touched later path u)
+touched_alike now later path t u alike = on_at_alike _ (modified now) (modified later) (λ x y e. e) t u alike
+
+put_at_alike : (path : Path) (o p : Option Object) → option_map bare o ≡ option_map bare p → (t u : Places) → Alike t u → Alike (put_at path o t) (put_at path p u)
+put_at_alike path o p same t u alike q = by_test (same_path path q)
+  where
+    by_test : (b : Bool) → option_map bare (cond b o (t q)) ≡ option_map bare (cond b p (u q))
+    by_test true = same
+    by_test false = alike q
+
+made_alike : (now later : ℕ) (path : Path) (x y : Object) → bare x ≡ bare y → (t u : Places) → Alike t u → Alike (made now path x t) (made later path y u)
+made_alike now later path x y same t u alike =
+    touched_alike now later path (put_at path (Some x) t) (put_at path (Some y) u) (put_at_alike path (Some x) (Some y) (ap (λ (o : Object). Some o) same) t u alike)
+
+-- ---- preparing a path
+
+with_parent_alike : (now later : ℕ) (t u : Places) (place : Path) → Alike t u → Alike (with_parent now t place) (with_parent later u place)
+with_parent_alike now later t u place alike = by_test (is_some (t place)) (is_some (u place)) (both_absent (t place) (u place) (alike place))
+  where
+    by_test : (b c : Bool) → b ≡ c → Alike (cond b t (made now place (new_object parent_file now) t)) (cond c u (made later place (new_object parent_file later) u))
+    by_test true true e = alike
+    by_test true false e = cc
+    by_test false true e = cc
+    by_test false false e = made_alike now later place (new_object parent_file now) (new_object parent_file later) refl t u alike
+
+all_parents_alike : (now later : ℕ) (places : List Path) (t u : Places) → Alike t u → Alike (fold (with_parent now) t places) (fold (with_parent later) u places)
+all_parents_alike now later [] t u alike = alike
+all_parents_alike now later (place ∷ places) t u alike = all_parents_alike now later places (with_parent now t place) (with_parent later u place) (with_parent_alike now later t u place alike)
+
+cut_alike : (path : Path) (t u : Places) → Alike t u → Alike (cut path t) (cut path u)
+cut_alike path t u alike q = by_test (is_prefix path q)
+  where
+    by_test : (b : Bool) → option_map bare (cond b None (t q)) ≡ option_map bare (cond b None (u q))
+    by_test true = refl
+    by_test false = alike q
+
+taken_alike : (now later : ℕ) (path : Path) (t u : Places) → Alike t u → Alike (taken now path t) (taken later path u)
+taken_alike now later path t u alike = by_test (is_some (t path)) (is_some (u path)) (both_absent (t path) (u path) (alike path))
+  where
+    by_test : (b c : Bool) → b ≡ c → Alike (cond b (touched now path (cut path t)) t) (cond c (touched later path (cut path u)) u)
+    by_test true true e = touched_alike now later path (cut path t) (cut path u) (cut_alike path t u alike)
+    by_test true false e = cc
+    by_test false true e = cc
+    by_test false false e = alike
+
+all_taken_alike : (now later : ℕ) (paths : List Path) (t u : Places) → Alike t u → Alike (all_taken now paths t) (all_taken later paths u)
+all_taken_alike now later [] t u alike = alike
+all_taken_alike now later (path ∷ paths) t u alike = all_taken_alike now later paths (taken now path t) (taken later path u) (taken_alike now later path t u alike)
+
+prepared_alike : (now later : ℕ) (path : Path) (t u : Places) → Alike t u → Alike (prepared now path t) (prepared later path u)
+prepared_alike now later path t u alike =
+    all_parents_alike now later (parents_of path) (all_taken now (staging_names path) t) (all_taken later (staging_names path) u) (all_taken_alike now later (staging_names path) t u alike)
+
+-- ---- trees
+
+-- what a tree is made of
+tabulate_alike : (paths more : List Path) → paths ≡ more → (t u : Places) → Alike t u → Alike (places (tabulate paths t)) (places (tabulate more u))
+tabulate_alike paths more same t u alike q =
+    ap (option_map bare) (at paths t)
+    ∙ by_test (is_among q paths)
+    ∙ ap (λ (ps : List Path). option_map bare (cond (is_among q ps) (u q) None)) same
+    ∙ sym (ap (option_map bare) (at more u))
+  where
+    at : (ps : List Path) (v : Places) → places (tabulate ps v) q ≡ cond (is_among q ps) (v q) None
+    at ps v = fin.get-from_entries path_total (entries_at ps v) q ∙ find-entries_at ps v q
+
+    by_test : (b : Bool) → option_map bare (cond b (t q) None) ≡ option_map bare (cond b (u q) None)
+    by_test true = alike q
+    by_test false = refl
+
+-- the same paths with a number each: what is present of a map
+abbrev marks : List (Path × Object) → List (Path × ℕ)
+marks es = map (λ (e : Path × Object). (e.0, 0)) es
+
+below_marks : (path : Path) (es : List (Path × Object)) → entries.below_all path_cmp path (marks es) ≡ entries.below_all path_cmp path es
+below_marks path [] = refl
+below_marks path (e ∷ es) = ap (λ (b : Bool). is_lt (path_cmp path e.0) && b) (below_marks path es)
+
+sorted_marks : (es : List (Path × Object)) → entries.is_sorted path_cmp (marks es) ≡ entries.is_sorted path_cmp es
+sorted_marks [] = refl
+sorted_marks (e ∷ es) =
+    ap (λ (b : Bool). b && entries.is_sorted path_cmp (marks es)) (below_marks e.0 es)
+    ∙ ap (λ (b : Bool). entries.below_all path_cmp e.0 es && b) (sorted_marks es)
+
+find_marks : (q : Path) (es : List (Path × Object)) → entries.find path_cmp q (marks es) ≡ option_map {U = ℕ} (λ (o : Object). 0) (entries.find path_cmp q es)
+find_marks q [] = refl
+find_marks q (e ∷ es) = by_test (eq_by_cmp path_cmp q e.0) (find_marks q es)
+  where
+    by_test : (b : Bool) → entries.find path_cmp q (marks es) ≡ option_map {U = ℕ} (λ (o : Object). 0) (entries.find path_cmp q es)
+        → cond b (Some 0) (entries.find path_cmp q (marks es)) ≡ option_map {U = ℕ} (λ (o : Object). 0) (cond b (Some e.1) (entries.find path_cmp q es))
+    by_test true rest = refl
+    by_test false rest = rest
+
+keys_marks : (es : List (Path × Object)) → map (λ (e : Path × ℕ). e.0) (marks es) ≡ map (λ (e : Path × Object). e.0) es
+keys_marks [] = refl
+keys_marks (e ∷ es) = ap (λ (ps : List Path). e.0 ∷ ps) (keys_marks es)
+
+abbrev marked : Files → fin.FinMap path_cmp ℕ
+marked t = fin.from_sorted (marks (fin.entries t))
+
+keys_marked : (t : Files) → fin.keys (marked t) ≡ fin.keys t
+keys_marked t = ap (map (λ (e : Path × ℕ). e.0)) (fin.entries-from_sorted path_cmp (marks (fin.entries t)) (subst T (sym (sorted_marks (fin.entries t))) (fin.entries_sorted t))) ∙ keys_marks (fin.entries t)
+
+get_marked : (t : Files) (q : Path) → fin.get (marked t) q ≡ option_map {U = ℕ} (λ (o : Object). 0) (places t q)
+get_marked t q =
+    fin.get-from_sorted path_cmp (marks (fin.entries t)) q (subst T (sym (sorted_marks (fin.entries t))) (fin.entries_sorted t))
+    ∙ find_marks q (fin.entries t)
+    ∙ ap (option_map {U = ℕ} (λ (o : Object). 0)) (sym (fin.get-entries t q))
+
+-- trees in which the same paths are present list them alike
+keys_alike : (t u : Files) → Alike (places t) (places u) → fin.keys t ≡ fin.keys u
+keys_alike t u alike = sym (keys_marked t) ∙ ap fin.keys (fin.same_map path_total path_exact (marked t) (marked u) marks_alike) ∙ keys_marked u
+  where
+    by_values : (o p : Option Object) → option_map bare o ≡ option_map bare p → option_map {U = ℕ} (λ (x : Object). 0) o ≡ option_map {U = ℕ} (λ (x : Object). 0) p
+    by_values None None e = refl
+    by_values None (Some y) e = cc
+    by_values (Some x) None e = cc
+    by_values (Some x) (Some y) e = refl
+
+    marks_alike : (q : Path) → fin.get (marked t) q ≡ fin.get (marked u) q
+    marks_alike q = get_marked t q ∙ by_values (places t q) (places u q) (alike q) ∙ sym (get_marked u q)
+
+bare_of_bare : (o : Option Object) → option_map bare_of o ≡ option_map bare_of (option_map bare o)
+bare_of_bare None = refl
+bare_of_bare (Some x) = refl
+
+view_alike : (t u : Files) → Alike (places t) (places u) → view_of t ≡ view_of u
+view_alike t u alike =
+    let keys = keys_alike t u alike in
+    let at : (q : Path) → bares_of (places t) q ≡ bares_of (places u) q = λ q. bare_of_bare (places t q) ∙ ap (option_map bare_of) (alike q) ∙ sym (bare_of_bare (places u q)) in
+    λ j. record { paths = keys j; at = λ q. at q j }
+
+prepare_alike : (now later : ℕ) (path : Path) (t u : Files) → Alike (places t) (places u) → Alike (places (prepare now path t)) (places (prepare later path u))
+unfolding prepare
+prepare_alike now later path t u alike =
+    tabulate_alike (parents_of path ++ fin.keys t) (parents_of path ++ fin.keys u) (ap (λ (ps : List Path). parents_of path ++ ps) (keys_alike t u alike)) (prepared now path (places t)) (prepared later path (places u))
+    (prepared_alike now later path (places t) (places u) alike)
+
+-- ---- objects that are adjusted
+
+restamped_alike : (now later : ℕ) (b : Bare) (x y : Object) → bare x ≡ bare y → bare (restamped now b x) ≡ bare (restamped later b y)
+restamped_alike now later b x y same = by_test (same_bare b (bare_of x)) (same_bare b (bare_of y)) (ap (λ (o : Object). same_bare b (bare_of o)) same)
+  where
+    new_bytes : (c : Bool) (o : Object) (at : ℕ) → bare (cond c (changed at (as_bare b o)) (modified at (as_bare b o))) ≡ bare (as_bare b o)
+    new_bytes true o at = refl
+    new_bytes false o at = refl
+
+    by_test : (c d : Bool) → c ≡ d
+        → bare (cond c x (cond (same_bytes b.body.payload x.payload) (changed now (as_bare b x)) (modified now (as_bare b x))))
+        ≡ bare (cond d y (cond (same_bytes b.body.payload y.payload) (changed later (as_bare b y)) (modified later (as_bare b y))))
+    by_test true true e = same
+    by_test true false e = cc
+    by_test false true e = cc
+    by_test false false e = new_bytes (same_bytes b.body.payload x.payload) x now ∙ sym (new_bytes (same_bytes b.body.payload y.payload) y later)
+
+-- what an operation leaves of an object
+abbrev left_of : ℕ → Object → Option Bare → Object
+left_of now o None = o
+left_of now o (Some b) = restamped now b o
+
+adjusted_alike : (now later : ℕ) (operation : Operation) (x y : Object) → bare x ≡ bare y → bare (adjusted now x operation) ≡ bare (adjusted later y operation)
+adjusted_alike now later operation x y same = by_value (done operation (Some (bare_of x))) (done operation (Some (bare_of y))) (ap (λ (o : Object). done operation (Some (bare_of o))) same)
+  where
+    by_value : (a b : Option Bare) → a ≡ b → bare (left_of now x a) ≡ bare (left_of later y b)
+    by_value None None e = same
+    by_value None (Some b) e = cc
+    by_value (Some a) None e = cc
+    by_value (Some a) (Some b) e = let one : a ≡ b = cc in restamped_alike now later a x y same ∙ ap (λ (c : Bare). bare (restamped later c y)) one
+
+become_alike : (now later : ℕ) (operations : List Operation) (x y : Object) → bare x ≡ bare y → bare (become now operations x) ≡ bare (become later operations y)
+become_alike now later [] x y same = same
+become_alike now later (operation ∷ operations) x y same = become_alike now later operations (adjusted now x operation) (adjusted later y operation) (adjusted_alike now later operation x y same)
+
+-- ---- what is done at a path
+
+-- what stands at a path where a subtree is put, by what comes after the path at which it is put
+abbrev laid : ℕ → Subtree → Places → Path → Option Path → Option Object
+laid now subtree t q None = t q
+laid now subtree t q (Some rest) = option_map (object_of now) (subtree rest)
+
+put_alike : (now later : ℕ) (path : Path) (subtree : Subtree) (t u : Places) → Alike t u → Alike (put now path subtree t) (put later path subtree u)
+put_alike now later path subtree t u alike =
+    touched_alike now later path (λ q. laid now subtree t q (rest_under path q)) (λ q. laid later subtree u q (rest_under path q)) (λ q. by_rest q (rest_under path q))
+  where
+    new : (o : Option Bare) → option_map bare (option_map (object_of now) o) ≡ option_map bare (option_map (object_of later) o)
+    new None = refl
+    new (Some b) = refl
+
+    by_rest : (q : Path) (o : Option Path) → option_map bare (laid now subtree t q o) ≡ option_map bare (laid later subtree u q o)
+    by_rest q None = alike q
+    by_rest q (Some rest) = new (subtree rest)
+
+put_paths_alike : (deed : Deed) (path : Path) (t u : Files) → fin.keys t ≡ fin.keys u → put_paths deed path t ≡ put_paths deed path u
+put_paths_alike (Create making) path t u same = refl
+put_paths_alike (Copy copying) path t u same = ap (λ (ps : List Path). path ∷ map (λ rest. path ++ rest) (filter_map (rest_under copying.source) ps)) same
+put_paths_alike (Touch touching) path t u same = refl
+put_paths_alike Idle path t u same = refl
+
+turned_alike : (now later : ℕ) (deed : Deed) (path : Path) (turn : Turn) (t u : Files) → Alike (places t) (places u) → Alike (places (turned now deed path turn t)) (places (turned later deed path turn u))
+turned_alike now later deed path Turn.Nothing t u alike = alike
+turned_alike now later deed path (Turn.Left kind) t u alike = alike
+turned_alike now later deed path (Turn.Put subtree) t u alike =
+    let keys = keys_alike t u alike in
+    let paths : put_paths deed path t ++ fin.keys t ≡ put_paths deed path u ++ fin.keys u =
+    ap (λ (ps : List Path). ps ++ fin.keys t) (put_paths_alike deed path t u keys) ∙ ap (λ (ps : List Path). put_paths deed path u ++ ps) keys
+    in
+    tabulate_alike (put_paths deed path t ++ fin.keys t) (put_paths deed path u ++ fin.keys u) paths (put now path subtree (places t)) (put later path subtree (places u)) (put_alike now later path subtree (places t) (places u) alike)
+turned_alike now later deed path (Turn.Become operations) t u alike =
+    tabulate_alike (fin.keys t) (fin.keys u) (keys_alike t u alike) (on_at path (become now operations) (places t)) (on_at path (become later operations) (places u))
+    (on_at_alike path (become now operations) (become later operations) (become_alike now later operations) (places t) (places u) alike)
+
+touch_alike : (now later : ℕ) (touching : Touching) (path : Path) (t u : Files) → Alike (places t) (places u) → Alike (places (touch now touching path t)) (places (touch later touching path u))
+touch_alike now later touching path t u alike =
+    tabulate_alike (fin.keys t) (fin.keys u) (keys_alike t u alike)
+    (λ q. cond (is_touched touching path q) (option_map (become now touching.sets) (places t q)) (places t q))
+    (λ q. cond (is_touched touching path q) (option_map (become later touching.sets) (places u q)) (places u q)) (λ q. by_test q (is_touched touching path q))
+  where
+    by_test : (q : Path) (b : Bool) → option_map bare (cond b (option_map (become now touching.sets) (places t q)) (places t q)) ≡ option_map bare (cond b (option_map (become later touching.sets) (places u q)) (places u q))
+    by_test q true = map_alike (become now touching.sets) (become later touching.sets) (become_alike now later touching.sets) (places t q) (places u q) (alike q)
+    by_test q false = alike q
+
+prepared_turn_alike : (now later : ℕ) (deed : Deed) (path : Path) (t u : Files) → Alike (places t) (places u)
+    → Alike (places (turned now deed path (decide deed (view_of (prepare now path t)) path) (prepare now path t))) (places (turned later deed path (decide deed (view_of (prepare later path u)) path) (prepare later path u)))
+prepared_turn_alike now later deed path t u alike =
+    let ready = prepare_alike now later path t u alike in
+    let turn : decide deed (view_of (prepare now path t)) path ≡ decide deed (view_of (prepare later path u)) path = ap (λ (v : View). decide deed v path) (view_alike (prepare now path t) (prepare later path u) ready) in
+    subst (λ (d : Turn). Alike (places (turned now deed path (decide deed (view_of (prepare now path t)) path) (prepare now path t))) (places (turned later deed path d (prepare later path u)))) turn
+    (turned_alike now later deed path (decide deed (view_of (prepare now path t)) path) (prepare now path t) (prepare later path u) ready)
+
+-- ---- refusals
+
+kind_bare : (o : Option Object) → kind_of o ≡ kind_of (option_map bare o)
+kind_bare None = refl
+kind_bare (Some x) = refl
+
+uid_bare : (d : ℕ) (o : Option Object) → option_map_or (λ x. x.node.uid) o d ≡ option_map_or (λ x. x.node.uid) (option_map bare o) d
+uid_bare d None = refl
+uid_bare d (Some x) = refl
+
+owner_bare : (o : Option Object) → option_map (λ (x : Object). x.node.uid) o ≡ option_map (λ (x : Object). x.node.uid) (option_map bare o)
+owner_bare None = refl
+owner_bare (Some x) = refl
+
+present_bare : (o : Option Object) → is_some o ≡ is_some (option_map bare o)
+present_bare None = refl
+present_bare (Some x) = refl
+
+unsafe_bare : (t : Places) (path : Path) (last k : ℕ) → is_unsafe t path last k ≡ is_unsafe (bares t) path last k
+unsafe_bare t path last k =
+    ap (λ (x : ℕ). nat_lt 0 k && not (x == 0) && not (owner_at t path last k == x)) (uid_bare (cond (k - 1 == length path) last 0) (t (take (k - 1) path)))
+    ∙ ap (λ (x : ℕ). nat_lt 0 k && not (owner_at (bares t) path last (k - 1) == 0) && not (x == owner_at (bares t) path last (k - 1))) (uid_bare (cond (k == length path) last 0) (t (take k path)))
+
+why_bare : (t : Places) (path : Path) (last k : ℕ) → why_refused t path last k ≡ why_refused (bares t) path last k
+why_bare t path last k =
+    ap (λ o. option_or (cond (nat_lt k (length path)) (why_blocked o) None) (cond (is_unsafe t path last k) (Some UnsafeOwner) None)) (kind_bare (t (take k path)))
+    ∙ ap (λ (b : Bool). option_or (cond (nat_lt k (length path)) (why_blocked (kind_of (bares t (take k path)))) None) (cond b (Some UnsafeOwner) None)) (unsafe_bare t path last k)
+
+refusal_bare : (t : Places) (path : Path) (last : ℕ) → refusal t path last ≡ refusal (bares t) path last
+refusal_bare t path last = ap (λ (f : ℕ → Option Why). first_refused f (range_with_len 0 (length path + 1))) (λ j k. why_bare t path last k j)
+
+source_bare : (t : Places) (path : Path) → source_refusal t path ≡ source_refusal (bares t) path
+source_bare t path =
+    let blocked : (k : ℕ) → why_blocked (kind_of (t (take k path))) ≡ why_blocked (kind_of (bares t (take k path))) = λ k. ap why_blocked (kind_bare (t (take k path))) in
+    ap (λ (f : ℕ → Option Why). first_refused f (range_with_len 0 (length path))) (λ j k. blocked k j)
+
+has_bare : (t : Places) (deed : Deed) → has_something t deed ≡ has_something (bares t) deed
+has_bare t deed = by_path (copied deed)
+  where
+    by_path : (o : Option Path) → option_map_or (λ path. is_some (t path)) o true ≡ option_map_or (λ path. is_some (bares t path)) o true
+    by_path None = refl
+    by_path (Some path) = present_bare (t path)
+
+made_bare : (line : Line) (t : Places) → owner_made line t ≡ owner_made line (bares t)
+made_bare line t = ap (λ (o : Option ℕ). unwrap_or (option_or (id_for_new line.user) o) 0) (by_path (copied (asks line)))
+  where
+    by_path : (o : Option Path) → option_map (λ (x : Object). x.node.uid) (option_and_then t o) ≡ option_map (λ (x : Object). x.node.uid) (option_and_then (bares t) o)
+    by_path None = refl
+    by_path (Some path) = owner_bare (t path)
+
+named_bare : (line : Line) (path : Path) (t : Places) → named_refusal line path t ≡ named_refusal line path (bares t)
+named_bare line path t =
+    ap (option_map (λ (place : ℕ × Why). Refused.named path place.0 place.1)) (refusal_bare t path (owner_made line t) ∙ ap (refusal (bares t) path) (made_bare line t))
+
+refused_bare : (line : Line) (path : Path) (t : Places) → refused_at line path t ≡ refused_at line path (bares t)
+refused_bare line path t =
+    ap (λ (o : Option Refused). option_or o (cond (has_something t (asks line)) (named_refusal line path t) None)) (by_source (copied (asks line)))
+    ∙ ap (λ (b : Bool). option_or (refused_source (bares t)) (cond b (named_refusal line path t) None)) (has_bare t (asks line))
+    ∙ ap (λ (o : Option Refused). option_or (refused_source (bares t)) (cond (has_something (bares t) (asks line)) o None)) (named_bare line path t)
+  where
+    refused_source : Places → Option Refused
+    refused_source v = option_and_then (λ source. option_map (λ (place : ℕ × Why). Refused.source source place.0 place.1) (source_refusal v source)) (copied (asks line))
+
+    by_source : (o : Option Path)
+        → option_and_then (λ source. option_map (λ (place : ℕ × Why). Refused.source source place.0 place.1) (source_refusal t source)) o
+        ≡ option_and_then (λ source. option_map (λ (place : ℕ × Why). Refused.source source place.0 place.1) (source_refusal (bares t) source)) o
+    by_source None = refl
+    by_source (Some source) = ap (option_map (λ (place : ℕ × Why). Refused.source source place.0 place.1)) (source_bare t source)
+
+refused_alike : (line : Line) (path : Path) (t u : Places) → Alike t u → refused_at line path t ≡ refused_at line path u
+refused_alike line path t u alike =
+    let same : bares t ≡ bares u = λ j q. alike q j in
+    refused_bare line path t ∙ ap (refused_at line path) same ∙ sym (refused_bare line path u)
+
+-- ---- a line
+
+carried_out_alike : (now later : ℕ) (deed : Deed) (path : Path) (t u : Files) → Alike (places t) (places u) → Alike (places (carried_out now deed path t)) (places (carried_out later deed path u))
+carried_out_alike now later (Create making) path t u alike = prepared_turn_alike now later (Create making) path t u alike
+carried_out_alike now later (Copy copying) path t u alike =
+    by_test (has_something (places t) (Copy copying)) (has_something (places u) (Copy copying))
+    (has_bare (places t) (Copy copying) ∙ ap (λ (v : Places). has_something v (Copy copying)) (λ j q. alike q j) ∙ sym (has_bare (places u) (Copy copying)))
+  where
+    by_test : (b c : Bool) → b ≡ c
+        → Alike (places (cond b (turned now (Copy copying) path (decide (Copy copying) (view_of (prepare now path t)) path) (prepare now path t)) t))
+        (places (cond c (turned later (Copy copying) path (decide (Copy copying) (view_of (prepare later path u)) path) (prepare later path u)) u))
+    by_test true true e = prepared_turn_alike now later (Copy copying) path t u alike
+    by_test true false e = cc
+    by_test false true e = cc
+    by_test false false e = alike
+carried_out_alike now later (Touch touching) path t u alike = touch_alike now later touching path t u alike
+carried_out_alike now later Idle path t u alike = alike
+
+-- the tree after a line at a path, by whether it is refused
+abbrev after_refusal : ℕ → Line → Path → Files → Option Refused → Files
+after_refusal now line path t (Some place) = t
+after_refusal now line path t None = carried_out now (asks line) path t
+
+turn_alike : (now later : ℕ) (line : Line) (path : Path) (t u : Files) → Alike (places t) (places u) → Alike (places (turn_after now line path t)) (places (turn_after later line path u))
+turn_alike now later line path t u alike = by_refusal (refused_at line path (places t)) (refused_at line path (places u)) (refused_alike line path (places t) (places u) alike)
+  where
+    by_refusal : (a b : Option Refused) → a ≡ b → Alike (places (after_refusal now line path t a)) (places (after_refusal later line path u b))
+    by_refusal None None e = carried_out_alike now later (asks line) path t u alike
+    by_refusal None (Some b) e = cc
+    by_refusal (Some a) None e = cc
+    by_refusal (Some a) (Some b) e = alike
+
+-- the paths at which a line is carried out, by what it asks for
+abbrev paths_of : Line → Files → Deed → List Path
+paths_of line t (Create making) = path_in line.path ∷ []
+paths_of line t (Copy copying) = path_in line.path ∷ []
+paths_of line t (Touch touching) = filter (names line) (fin.keys t)
+paths_of line t Idle = []
+
+turns_alike : (line : Line) (t u : Files) → fin.keys t ≡ fin.keys u → turns line t ≡ turns line u
+turns_alike line t u same = by_deed (asks line)
+  where
+    by_deed : (d : Deed) → paths_of line t d ≡ paths_of line u d
+    by_deed (Create making) = refl
+    by_deed (Copy copying) = refl
+    by_deed (Touch touching) = ap (filter (names line)) same
+    by_deed Idle = refl
+
+all_turns_alike : (now later : ℕ) (line : Line) (paths : List Path) (t u : Files) → Alike (places t) (places u) → Alike (places (after_each (by_turn now line) paths t)) (places (after_each (by_turn later line) paths u))
+all_turns_alike now later line [] t u alike = alike
+all_turns_alike now later line (path ∷ paths) t u alike = all_turns_alike now later line paths (turn_after now line path t) (turn_after later line path u) (turn_alike now later line path t u alike)
+
+turns_refused : (now later : ℕ) (line : Line) (paths : List Path) (t u : Files) → Alike (places t) (places u) → one_is_refused (by_turn now line) paths t ≡ one_is_refused (by_turn later line) paths u
+turns_refused now later line [] t u alike = refl
+turns_refused now later line (path ∷ paths) t u alike =
+    ap (λ (o : Option Refused). is_some o || one_is_refused (by_turn now line) paths (turn_after now line path t)) (refused_alike line path (places t) (places u) alike)
+    ∙ ap (λ (b : Bool). is_some (refused_at line path (places u)) || b) (turns_refused now later line paths (turn_after now line path t) (turn_after later line path u) (turn_alike now later line path t u alike))
+
+-- ---- all lines
+
+line_alike : (now later : ℕ) (line : Line) (t u : Files) → Alike (places t) (places u) → Alike (places (after_each (by_turn now line) (turns line t) t)) (places (after_each (by_turn later line) (turns line u) u))
+line_alike now later line t u alike =
+    subst (λ (paths : List Path). Alike (places (after_each (by_turn now line) (turns line t) t)) (places (after_each (by_turn later line) paths u))) (turns_alike line t u (keys_alike t u alike))
+    (all_turns_alike now later line (turns line t) t u alike)
+
+line_refused : (now later : ℕ) (line : Line) (t u : Files) → Alike (places t) (places u) → one_is_refused (by_turn now line) (turns line t) t ≡ one_is_refused (by_turn later line) (turns line u) u
+line_refused now later line t u alike =
+    turns_refused now later line (turns line t) t u alike ∙ ap (λ (paths : List Path). one_is_refused (by_turn later line) paths u) (turns_alike line t u (keys_alike t u alike))
+
+lines_refused : (now later : ℕ) (lines : List Line) (t u : Files) → Alike (places t) (places u) → one_is_refused (by_line now) lines t ≡ one_is_refused (by_line later) lines u
+lines_refused now later [] t u alike = refl
+lines_refused now later (line ∷ lines) t u alike =
+    ap (λ (b : Bool). b || one_is_refused (by_line now) lines (after_each (by_turn now line) (turns line t) t)) (line_refused now later line t u alike)
+    ∙ ap (λ (b : Bool). one_is_refused (by_turn later line) (turns line u) u || b)
+    (lines_refused now later lines (after_each (by_turn now line) (turns line t) t) (after_each (by_turn later line) (turns line u) u) (line_alike now later line t u alike))
+
+pub quiet_at_any_moment : (lines : List Line) (now later : ℕ) (t : Files) → IsQuiet lines now t → IsQuiet lines later t
+quiet_at_any_moment lines now later t quiet = lines_refused later now (in_create_order lines) t t (λ q. refl) ∙ quiet

@@ -1,0 +1,96 @@
+//! From the lines of a configuration to the active ones.
+ghost use Rattle.std.specs.Prelude.{◌≡◌, [], ◌∷◌, ◌++◌, IfOk, OnOk, OnErr};
+ghost use Rattle.std.specs.Option.{option_copied};
+ghost use Rattle.pv_text.specs.Said.{SaidPart};
+ghost use Rattle.pv_table.specs.Active.{active, dropped_message, duplicate_message, duplicates, line_message, with_line};
+ghost use Rattle.pv_table.specs.Reaching.{path_in};
+
+use crate::same::ask_same;
+use crate::staying::stays;
+use crate::table::Table;
+use pv_lines::{Line, LineList, LinePath};
+use pv_path::{TreePath, print_path};
+use pv_text::Messages;
+use std::alloc::{AllocError, Global};
+
+/// The active lines of a configuration, in their listing order: those that pass the filters, and of several that make
+/// what stands at one path the first; each other of these is said to be a duplicate, unless it asks for the same
+/// (tmpfiles.d(5); systemd-tmpfiles(8), --boot, --prefix and --exclude-prefix).
+pub fn build(
+    alloc: Global,
+    lines: LineList,
+    boot: bool,
+    prefix: Option<&TreePath>,
+    exclude: Option<&TreePath>,
+    messages: &mut Messages,
+) -> Result<Table, AllocError>
+    ensures table { IfOk result (λ table. table ≡ active boot (option_copied prefix.entry) (option_copied exclude.entry) lines) }
+    ensures said { OnOk result (messages.new ≡ messages.old ++ duplicates boot (option_copied prefix.entry) (option_copied exclude.entry) lines) }
+    ensures part { SaidPart (duplicates boot (option_copied prefix.entry) (option_copied exclude.entry) lines) messages.old messages.new }
+{
+    let mut table = Table::new(alloc);
+    for line in lines.into_vec() {
+        if stays(alloc, &line, boot, prefix, exclude)? {
+            table = keep(alloc, table, line, messages)?;
+        }
+    }
+    Ok(table)
+}
+
+/// Keeps a line, unless a line that makes what it makes is kept already.
+fn keep(
+    alloc: Global,
+    table: Table,
+    line: Line,
+    messages: &mut Messages,
+) -> Result<Table, AllocError>
+    ensures kept { IfOk result (λ more. more ≡ with_line table line) }
+    ensures said { OnOk result (messages.new ≡ messages.old ++ line_message table line) }
+    ensures unsaid { OnErr result (messages.new ≡ messages.old) }
+{
+    match table.like(&line) {
+        Some(first) => {
+            say_dropped(alloc, first, &line, messages)?;
+            Ok(table)
+        }
+        None => table.with(line),
+    }
+}
+
+/// Says that a line is a duplicate of the first, unless it asks for the same.
+fn say_dropped(
+    alloc: Global,
+    first: &Line,
+    line: &Line,
+    messages: &mut Messages,
+) -> Result<(), AllocError>
+    ensures said { OnOk result (messages.new ≡ messages.old ++ dropped_message first.now line.now) }
+    ensures unsaid { OnErr result (messages.new ≡ messages.old) }
+{
+    if ask_same(first, line) {
+        Ok(())
+    } else {
+        say_duplicate(alloc, line, messages)
+    }
+}
+
+/// Says that a line is a duplicate.
+fn say_duplicate(alloc: Global, line: &Line, messages: &mut Messages) -> Result<(), AllocError>
+    ensures said { OnOk result (messages.new ≡ messages.old ++ duplicate_message line.now ∷ []) }
+    ensures unsaid { OnErr result (messages.new ≡ messages.old) }
+{
+    let mut text = Vec::from_slice(alloc, b"duplicate line for ")?;
+    let path = print_path(alloc, &path_of(alloc, line)?)?;
+    text.extend_from_slice(&path)?;
+    messages.push_at(&line.place, &text)
+}
+
+/// The path of a line that makes something; of another line the root.
+fn path_of(alloc: Global, line: &Line) -> Result<TreePath, AllocError>
+    ensures { IfOk result (λ path. path ≡ path_in line.now.path) }
+{
+    match &line.path {
+        LinePath::Literal(path) => path.copy(),
+        LinePath::Glob(_) => Ok(TreePath::root(alloc)),
+    }
+}

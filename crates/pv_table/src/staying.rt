@@ -1,0 +1,74 @@
+//! Which lines pass the filters of a run.
+ghost use Rattle.std.specs.Prelude.{◌≡◌, ◌==◌, not, filter, map, length, IfOk};
+ghost use Rattle.std.specs.List.{slice_split};
+ghost use Rattle.std.specs.Option.{option_copied};
+ghost use Rattle.pv_path.specs.Paths.{is_prefix};
+ghost use Rattle.pv_table.specs.Active.{is_within, stays};
+
+use pv_lines::Line;
+use pv_path::TreePath;
+use std::alloc::{AllocError, Global};
+
+/// Whether a line passes: lines for the boot pass at boot alone, and of all lines those whose path begins with the
+/// components of one path and not with those of another (systemd-tmpfiles(8), --boot, --prefix and --exclude-prefix).
+pub(crate) fn stays(
+    alloc: Global,
+    line: &Line,
+    boot: bool,
+    prefix: Option<&TreePath>,
+    exclude: Option<&TreePath>,
+) -> Result<bool, AllocError>
+    ensures { IfOk result (λ answer. answer ≡ stays boot (option_copied prefix.entry) (option_copied exclude.entry) line.now) }
+{
+    if line.boot && !boot {
+        return Ok(false);
+    }
+    if let Some(path) = prefix {
+        if !is_within(alloc, path, line)? {
+            return Ok(false);
+        }
+    }
+    match exclude {
+        Some(path) => Ok(!is_within(alloc, path, line)?),
+        None => Ok(true),
+    }
+}
+
+/// Whether a line's path begins with the components of a path.
+fn is_within(alloc: Global, path: &TreePath, line: &Line) -> Result<bool, AllocError>
+    ensures { IfOk result (λ answer. answer ≡ is_within path.now line.now) }
+{
+    let pieces = pieces_of(alloc, line.path_text.as_slice())?;
+    Ok(begins(path, &pieces))
+}
+
+/// What stands between the slashes of a text.
+fn pieces_of(alloc: Global, text: &[u8]) -> Result<Vec<&[u8]>, AllocError>
+    ensures { IfOk result (λ v. map (λ s. s.now) v.items ≡ slice_split (λ b. b == 47) text.now) }
+{
+    text.split(|b| *b == b'/').collect(alloc)
+}
+
+/// Whether pieces begin with the names of a path; empty ones do not count.
+fn begins(path: &TreePath, pieces: &[&[u8]]) -> bool
+    ensures { result ≡ is_prefix path.now (filter (λ name. not (length name == 0)) (map (λ s. s.now) pieces.now)) }
+{
+    let mut names = path.names();
+    for piece in pieces {
+        if !piece.is_empty() {
+            match names {
+                [] => return true,
+                [name, rest @ ..] => {
+                    if name.bytes() != *piece {
+                        return false;
+                    }
+                    names = rest;
+                }
+            }
+        }
+    }
+    match names {
+        [] => true,
+        [_, ..] => false,
+    }
+}

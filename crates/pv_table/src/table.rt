@@ -1,0 +1,111 @@
+//! The active lines of a configuration.
+ghost use Rattle.std.specs.Prelude.{◌≡◌, ◌++◌, [], ◌∷◌, true, length, find, None, IfOk, slice_get};
+ghost use Rattle.std.specs.Option.{option_copied};
+ghost use Rattle.pv_table.specs.Active.{are_distinct, make_same};
+ghost use Rattle.pv_table.specs.Building.{first_place, makes};
+
+use indexmap::IndexMap;
+use pv_lines::{Line, LinePath};
+use pv_path::TreePath;
+use std::alloc::{AllocError, Global};
+use std::marker::Model;
+
+/// The active lines of a configuration, as they are listed; of the lines that make what stands at one path there is one
+/// alone (tmpfiles.d(5)). Clauses see the list.
+#[derive(Debug, Drop)]
+pub struct Table {
+    lines: Vec<Line>,
+    places: IndexMap<TreePath, usize>,
+}
+
+impl Model for Table {
+    ghost use Rattle.std.specs.Prelude.{◌≡◌, true, List};
+    ghost use Rattle.indexmap.specs.IndexMap.{get};
+    ghost use Rattle.pv_lines.specs.declared.line.Line.{Line};
+    ghost use Rattle.pv_path.specs.Paths.{same_path};
+    ghost use Rattle.pv_table.specs.Active.{are_distinct};
+    ghost use Rattle.pv_table.specs.Building.{IsIndexOf};
+
+    ghost Value = { List Line };
+
+    ghost view = { λ t. t.lines.items };
+
+    ghost invariant = { λ t. (are_distinct t.lines.items ≡ true) × IsIndexOf t.lines.items (get same_path t.places) };
+}
+
+impl Table {
+    /// The table without lines. It takes no memory.
+    pub(crate) fn new(alloc: Global) -> Table
+        ensures { result ≡ [] }
+    {
+        Table {
+            lines: Vec::new(alloc),
+            places: IndexMap::new(alloc),
+        }
+    }
+
+    /// The table with a line more, which makes what no earlier line makes.
+    pub(crate) fn with(self, line: Line) -> Result<Table, AllocError>
+        requires { find (λ first. make_same first line) self ≡ None }
+        ensures { IfOk result (λ table. table ≡ self ++ line ∷ []) }
+    {
+        let Table {
+            mut lines,
+            mut places,
+        } = self;
+        if let LinePath::Literal(path) = &line.path {
+            places.insert(path.copy()?, lines.len())?;
+        }
+        lines.push(line)?;
+        Ok(Table { lines, places })
+    }
+
+    /// How many lines there are. It takes no memory.
+    pub fn len(&self) -> usize
+        ensures { result ≡ length self.now }
+    {
+        self.lines.len()
+    }
+
+    /// The line at a place counted from 0, or nothing past the end. It takes no memory.
+    pub fn line(&self, i: usize) -> Option<&Line>
+        ensures { option_copied result ≡ slice_get self.now i }
+    {
+        self.lines.get(i)
+    }
+
+    /// The lines as a slice.
+    pub fn lines(&self) -> &[Line]
+        ensures lines { result.now ≡ self.now }
+        ensures distinct { are_distinct self.now ≡ true }
+    {
+        self.lines.as_slice()
+    }
+
+    /// The place of the line that makes what stands at a path. It takes no memory.
+    pub fn place_of(&self, path: &TreePath) -> Option<usize>
+        ensures { result ≡ first_place (makes path.now) self.now }
+    {
+        self.places.get(path).copied()
+    }
+
+    /// The line that makes what stands at a path.
+    fn making(&self, path: &TreePath) -> Option<&Line>
+        ensures { option_copied result ≡ find (makes path.now) self.now }
+    {
+        match self.place_of(path) {
+            Some(place) => self.line(place),
+            None => None,
+        }
+    }
+
+    /// The line that makes what another line makes. It takes no memory.
+    pub(crate) fn like(&self, line: &Line) -> Option<&Line>
+        ensures { option_copied result ≡ find (λ first. make_same first line.now) self.now }
+    {
+        match &line.path {
+            LinePath::Literal(path) => self.making(path),
+            LinePath::Glob(_) => None,
+        }
+    }
+}
