@@ -1,0 +1,24 @@
+//! How what was done over a tree ended.
+ghost use Rattle.std.specs.Prelude.{◌≡◌, Bool, ◌||◌};
+ghost use Rattle.pv_doing.specs.Courses.{carried_of};
+
+/// Whether all could be carried out.
+#[derive(Clone, Copy, Debug, PartialEq, Eq)]
+pub enum Carried {
+    /// All was carried out, or left what stood there.
+    Whole,
+    /// Something was refused.
+    NotCarriedOut,
+}
+
+impl Carried {
+    /// How what ended so, and then something more, ended.
+    pub fn and(self, one: Carried) -> Carried
+        ensures { (a b : Bool) → self ≡ carried_of a → one ≡ carried_of b → result ≡ carried_of (a || b) }
+    {
+        match one {
+            Carried::Whole => self,
+            Carried::NotCarriedOut => Carried::NotCarriedOut,
+        }
+    }
+}
