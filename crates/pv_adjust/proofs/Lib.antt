@@ -1,0 +1,10 @@
+pub mod Making
+pub mod SetLaws
+pub mod Unwritten
+pub mod Becoming
+pub mod WritingLaws
+pub mod AdjustLaws
+pub mod ReachedLaws
+pub mod AskedSets
+pub mod TouchLaws
+pub mod NamedLaws

@@ -1,0 +1,5 @@
+pub mod Sets
+pub mod Asked
+pub mod Adjusting
+pub mod Reached
+pub mod Named

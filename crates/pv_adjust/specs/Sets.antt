@@ -1,0 +1,69 @@
+-- What lines set of an object that is there (tmpfiles.d(5)).
+use Rattle.std.specs.Prelude.{◌≡◌, ◌<◌, ◌≤◌, ◌^◌, ◌++◌, Bool, true, false, List, [], ◌∷◌, IfSome}
+use Rattle.std.specs.List.{list_any}
+use Rattle.pv_acl.specs.Applying.{is_line}
+use Rattle.pv_steps.specs.Attributes.{are_attrs}
+use Rattle.pv_steps.specs.Objects.{IsId}
+use Rattle.pv_steps.specs.declared.node.Kind.TheVariants.{Link}
+use Rattle.pv_dress.specs.declared.operation.Change.{Change}
+use Rattle.pv_dress.specs.declared.operation.Change.TheVariants.{Write, Append, Owner, Mode, Entries, Attrs, Letters}
+use Rattle.pv_dress.specs.declared.operation.Guard.{Guard}
+use Rattle.pv_dress.specs.declared.operation.Operation.{Operation}
+use Rattle.pv_dress.specs.declared.operation.Operation.TheVariants.{Adjust}
+use Rattle.pv_dress.specs.Operations.{admits}
+use Rattle.pv_dress.specs.Reasons.{is_adjusting}
+
+-- whether a change is one of a file's bytes
+abbrev pub is_writing : Change → Bool
+is_writing (Write bytes) = true
+is_writing (Append bytes) = true
+is_writing change = false
+
+-- whether bytes are among what is set
+abbrev pub writes : List Operation → Bool
+writes sets = list_any (is_adjusting is_writing) sets
+
+-- ---- one operation
+
+-- bytes of a file, in the place of its own or after them
+abbrev pub SetsBytes : Guard → Change → Type 0
+SetsBytes guard (Write bytes) = Unit {0}
+SetsBytes guard (Append bytes) = Unit {0}
+SetsBytes guard change = ⊥
+
+-- owners
+abbrev pub SetsOwners : Guard → Change → Type 0
+SetsOwners guard (Owner uid gid) = IfSome uid IsId × IfSome gid IsId
+SetsOwners guard change = ⊥
+
+-- a mode, which is for no link
+abbrev pub SetsMode : Guard → Change → Type 0
+SetsMode guard (Mode mode masked) = (admits guard Link ≡ false) × (mode ≤ 0o7777)
+SetsMode guard change = ⊥
+
+-- entries of an ACL, which are for no link, extended attributes, or letters
+abbrev pub SetsOther : Guard → Change → Type 0
+SetsOther guard (Entries line how) = (admits guard Link ≡ false) × (is_line line ≡ true)
+SetsOther guard (Attrs attrs) = are_attrs attrs ≡ true
+SetsOther guard (Letters how letters) = letters < 2 ^ 15
+SetsOther guard change = ⊥
+
+-- ---- all of them
+
+-- an operation that changes what is there, and how
+abbrev pub Changes : (Guard → Change → Type 0) → Operation → Type 0
+Changes how (Adjust guard change) = how guard change
+Changes how operation = ⊥
+
+-- nothing, or one such operation
+abbrev pub AtMostOne : (Guard → Change → Type 0) → List Operation → Type 0
+AtMostOne how [] = Unit {0}
+AtMostOne how (x ∷ []) = Changes how x
+AtMostOne how (x ∷ y ∷ xs) = ⊥
+
+-- what a line sets of an object: bytes, owners and mode in this order, each at most once; or else entries of an ACL,
+-- extended attributes or letters alone
+pub data AreSets (sets : List Operation) : Type 0 where
+  several : (bytes owners mode : List Operation) → sets ≡ bytes ++ (owners ++ mode)
+      → AtMostOne SetsBytes bytes → AtMostOne SetsOwners owners → AtMostOne SetsMode mode → AreSets sets
+  alone : AtMostOne SetsOther sets → AreSets sets
