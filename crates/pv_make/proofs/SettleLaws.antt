@@ -1,0 +1,202 @@
+-- Laws of what is done at a prepared path: a new object put there, what stands there adjusted, or left.
+use Rattle.std.specs.Prelude.{◌≡◌, ◌≢◌, ℕ, nat_le, ◌+◌, Bool, true, false, not, ◌&&◌, ◌||◌, cond, List, [], ◌∷◌, ◌++◌, length, Option, Some, None, is_some, option_map, Result, if◌then◌else◌}
+use Rattle.std.specs.List.{list_all}
+use Rattle.std.specs.Option.{option_map_or}
+use Rattle.std.proofs.Common.{refl, sym, ap, subst, ◌∙◌, inl, inr, ◌⊎◌, arith, append-nil, length-append}
+use Rattle.std.proofs.lemmas.Bool.Decides.{nat_tests}
+use Rattle.std.specs.FinMap as fin
+use Rattle.pv_dress.specs.declared.bare.Bare.{Bare}
+use Rattle.pv_dress.specs.declared.bare.Body.{Body}
+use Rattle.pv_dress.specs.declared.operation.Operation.{Operation}
+use Rattle.pv_dress.specs.declared.operation.Test.{Test}
+use Rattle.pv_dress.specs.Edits.{cut, count_at}
+use Rattle.pv_dress.specs.Nodes.{bare_of, same_kind, same_substance}
+use Rattle.pv_dress.specs.Operations.{stays}
+use Rattle.pv_path.specs.Paths.{Path, same_path, is_prefix, rest_under, parent_of}
+use Rattle.pv_path.proofs.PathLaws.{both_true, is_some-rest_under, rest_under-Some, rest_under-self, same_path-refl}
+use Rattle.pv_steps.specs.declared.node.Kind.TheVariants.{Directory}
+use Rattle.pv_steps.specs.declared.object.Object.{Object}
+use Rattle.pv_steps.specs.declared.tree.Tree.{Ghosts}
+use Rattle.pv_steps.specs.declared.tree.TreeFault.{TreeFault}
+use Rattle.pv_steps.specs.Acting.{Acted}
+use Rattle.pv_steps.specs.Objects.{modified, is_directory}
+use Rattle.pv_steps.specs.Steps.{put_at, on_at}
+use Rattle.pv_steps.specs.Trees.{Files, Places, places, kind_of, IsTree, IsPresent}
+use Rattle.pv_steps.proofs.ActingLaws.{acted_within}
+use Rattle.pv_steps.proofs.StepLaws.{same_files, is_among, places-tabulate, among_keys, is_some-touched, is_some-on_at}
+use Rattle.pv_dress.proofs.EditLaws.{path_cases, put_at-else}
+use Rattle.pv_table.specs.declared.deed.Deed.TheVariants.{Create}
+use Rattle.pv_table.specs.declared.deed.Making.{Making}
+use Rattle.pv_table.specs.Created.{turn_work, put_count}
+use Rattle.pv_table.specs.Effects.{become, put, turned}
+use Rattle.pv_table.specs.Turns.{Turn, Subtree, making_turn, single}
+use Rattle.pv_walk.specs.declared.new_file.NewFile.{NewFile}
+use Rattle.pv_walk.specs.Putting.{PuttingOver, IsPutStep, put_over}
+use Rattle.pv_walk.specs.Staging.{can_stage, new_kind, new_object, most_new}
+use Rattle.pv_walk.proofs.PuttingLaws.{no_prefix_no_same}
+use Rattle.pv_walk.proofs.RemovalLaws.{no_same}
+use Rattle.pv_make.specs.Settling.{IsMaking, settling_turn, SettlingBy, Settling, IsSettleStepBy, IsSettleStep}
+use Rattle.pv_make.proofs.PreparedLaws.{among_first, among_later}
+
+-- ---- a new object
+
+module _ (now : ℕ) (path : Path) (file : NewFile) (t : Places) where
+  -- what is put is what a call that puts a new object leaves
+  pub put_single : (q : Path) → put now path (single (bare_of (new_object file 0))) t q ≡ put_over now path file t q
+  put_single q = by (rest_under path q) refl
+    where
+      over : (x y : Option Object) → x ≡ y → cond (same_path (parent_of path) q) (option_map (modified now) x) x ≡ cond (same_path (parent_of path) q) (option_map (modified now) y) y
+      over x y e = ap (λ v. cond (same_path (parent_of path) q) (option_map (modified now) v) v) e
+
+      inside : is_some (rest_under path q) ≡ true → is_prefix path q ≡ true
+      inside e = sym (is_some-rest_under path q) ∙ e
+
+      here : q ≡ path → put_at path (Some (new_object file now)) (cut path t) q ≡ Some (new_object file now)
+      here e = ap (λ b. cond b (Some (new_object file now)) (cut path t q)) (ap (same_path path) e ∙ same_path-refl path)
+
+      below : same_path path q ≡ false → is_prefix path q ≡ true → put_at path (Some (new_object file now)) (cut path t) q ≡ None
+      below d e = put_at-else path q (Some (new_object file now)) (cut path t) d ∙ ap (λ b. cond b None (t q)) e
+
+      beside : is_prefix path q ≡ false → put_at path (Some (new_object file now)) (cut path t) q ≡ t q
+      beside e = put_at-else path q (Some (new_object file now)) (cut path t) (no_prefix_no_same path q e) ∙ ap (λ b. cond b None (t q)) e
+
+      longer : (name : List ℕ) (rest : Path) → q ≡ path ++ name ∷ rest → same_path path q ≡ false
+      longer name rest e = no_same path q (λ s. shorter (s ∙ e))
+        where
+          shorter : path ≡ path ++ name ∷ rest → ⊥
+          shorter l = let n = ap length l in omega (arith, n, length-append path (name ∷ rest))
+
+      by : (r : Option Path) → rest_under path q ≡ r → put now path (single (bare_of (new_object file 0))) t q ≡ put_over now path file t q
+      by None e = rw e (over (t q) _ (sym (beside (sym (is_some-rest_under path q) ∙ ap is_some e))))
+      by (Some []) e = rw e (over (Some (new_object file now)) _ (sym (here (rest_under-Some path q [] e ∙ append-nil path))))
+      by (Some (name ∷ rest)) e = rw e (over None _ (sym (below (longer name rest (rest_under-Some path q (name ∷ rest) e)) (inside (ap is_some e)))))
+
+  -- and stands among the paths at which something may stand
+  pub over_key : (keys : List Path) → ((q : Path) → is_some (t q) ≡ true → is_among q keys ≡ true) → (q : Path)
+      → is_some (put_over now path file t q) ≡ true → is_among q (path ∷ keys) ≡ true
+  over_key keys there q h = by (path_cases path q)
+    where
+      cut_some : (b : Bool) → is_some (cond b None (t q)) ≡ true → is_some (t q) ≡ true
+      cut_some true e = absurd (let no : false ≡ true = e in cc)
+      cut_some false e = e
+
+      by : (path ≡ q) ⊎ (same_path path q ≡ false) → is_among q (path ∷ keys) ≡ true
+      by (inl e) = subst (λ (p : Path). is_among q (p ∷ keys) ≡ true) (sym e) (among_first q keys)
+      by (inr d) =
+          let put : is_some (put_at path (Some (new_object file now)) (cut path t) q) ≡ true = sym (is_some-touched now path (put_at path (Some (new_object file now)) (cut path t)) q) ∙ h in
+          among_later path q keys (there q (cut_some (is_prefix path q) (sym (ap is_some (put_at-else path q (Some (new_object file now)) (cut path t) d)) ∙ put)))
+
+module _ (now : ℕ) (path : Path) (making : Making) (u : Files) where
+  put_same : put now path (single (bare_of (new_object making.new 0))) (places u) ≡ put_over now path making.new (places u)
+  put_same = λ i q. put_single now path making.new (places u) q i
+
+  pub put_places : (q : Path) → places (turned now (Create making) path (Turn.Put (single (bare_of (new_object making.new 0)))) u) q ≡ put_over now path making.new (places u) q
+  put_places q =
+      places-tabulate (path ∷ fin.keys u) (put now path (single (bare_of (new_object making.new 0))) (places u)) q
+      (λ h. over_key now path making.new (places u) (fin.keys u) (λ p k. among_keys u p ∙ k) q (sym (ap (λ (x : Places). is_some (x q)) put_same) ∙ h))
+      ∙ put_single now path making.new (places u) q
+
+  pub put_tree : (v : Files) → places v ≡ put_over now path making.new (places u)
+      → v ≡ turned now (Create making) path (Turn.Put (single (bare_of (new_object making.new 0)))) u
+  put_tree v is = same_files v _ (λ q. ap (λ (x : Places). x q) is ∙ sym (put_places q))
+
+  pub become_tree : (operations : List Operation) (v : Files) → places v ≡ on_at path (become now operations) (places u)
+      → v ≡ turned now (Create making) path (Turn.Become operations) u
+  become_tree operations v is = same_files v _ (λ q. ap (λ (x : Places). x q) is ∙ sym (at q))
+    where
+      at : (q : Path) → places (turned now (Create making) path (Turn.Become operations) u) q ≡ on_at path (become now operations) (places u) q
+      at q = places-tabulate (fin.keys u) (on_at path (become now operations) (places u)) q
+          (λ h. among_keys u q ∙ (sym (is_some-on_at path (become now operations) (places u) q) ∙ h))
+
+-- ---- what is chosen
+
+-- a directory stays where one is wanted
+stays_directory : (test : Test) (new old : Body) → new.kind ≡ Directory → old.kind ≡ Directory → test.exact ≡ false → stays test new old ≡ true
+stays_directory test new old e f h = λ i. (same_kind (e i) (f i) && (not (h i) || same_substance new old)) || (test.spares_directories && is_directory old.kind)
+
+module _ (making : Making) (path : Path) (u : Files) where
+  pub put_one : put_count path (single (bare_of (new_object making.new 0))) (path ∷ []) ≡ 1
+  put_one = ap (λ (r : Option Path). length (cond (option_map_or (λ rest. is_some (single (bare_of (new_object making.new 0)) rest)) r false) (path ∷ []) [])) (rest_under-self path)
+
+  pub put_most : turn_work (Create making) path (Turn.Put (single (bare_of (new_object making.new 0)))) u ≡ count_at u path + most_new
+  put_most = let one = put_one in omega (arith, one)
+
+  -- what is adjusted stands there
+  pub become_present : (operations : List Operation) → settling_turn making path u ≡ Turn.Become operations → IsPresent u path
+  become_present operations e = by (places u path) refl e
+    where
+      by : (o : Option Object) → places u path ≡ o → making_turn making (option_map bare_of (places u path)) ≡ Turn.Become operations → is_some (places u path) ≡ true
+      by None is f = absurd (let no : Turn.Put (single (bare_of (new_object making.new 0))) ≡ Turn.Become operations = sym (ap (λ (v : Option Object). making_turn making (option_map bare_of v)) is) ∙ f in cc)
+      by (Some x) is f = ap is_some is
+
+  -- at the root nothing is put: a directory stands there, and stays where a directory is wanted
+  pub put_nonroot : IsTree u → IsMaking path making → (subtree : _) → settling_turn making path u ≡ Turn.Put subtree → path ≢ []
+  put_nonroot tree is subtree e root = by (places u path) refl
+    where
+      fits : (new_kind making.new.what ≡ Directory) × (option_map_or (λ (test : Test). test.exact) making.renew false ≡ false)
+      fits = is.root root
+
+      there : kind_of (places u path) ≡ Some Directory
+      there = ap (λ (p : Path). kind_of (places u p)) root ∙ tree.root
+
+      by : (o : Option Object) → places u path ≡ o → ⊥
+      by None f = let no : None ≡ Some Directory = sym (ap kind_of f) ∙ there in cc
+      by (Some x) f = kept (some_kind (sym (ap kind_of f) ∙ there)) (sym (ap (λ (v : Option Object). making_turn making (option_map bare_of v)) f) ∙ e)
+        where
+          some_kind : Some x.node.kind ≡ Some Directory → x.node.kind ≡ Directory
+          some_kind h = cc
+
+          clash : (b : Bool) → (if b then Turn.Become making.sets else Turn.Left x.node.kind) ≡ Turn.Put subtree → ⊥
+          clash true h = let no : Turn.Become making.sets ≡ Turn.Put subtree = h in cc
+          clash false h = let no : Turn.Left x.node.kind ≡ Turn.Put subtree = h in cc
+
+          stays_here : (renew : Option Test) → option_map_or (λ (test : Test). test.exact) renew false ≡ false → x.node.kind ≡ Directory
+              → option_map_or (λ (test : Test). stays test (bare_of (new_object making.new 0)).body (bare_of x).body) renew true ≡ true
+          stays_here None h kind = refl
+          stays_here (Some test) h kind = stays_directory test (bare_of (new_object making.new 0)).body (bare_of x).body fits.0 kind h
+
+          kept : x.node.kind ≡ Directory → making_turn making (Some (bare_of x)) ≡ Turn.Put subtree → ⊥
+          kept kind turn = clash (same_kind (new_kind making.new.what) x.node.kind)
+              (sym (ap (λ b. if not b then Turn.Put (single (bare_of (new_object making.new 0))) else if same_kind (new_kind making.new.what) x.node.kind then Turn.Become making.sets else Turn.Left x.node.kind)
+              (stays_here making.renew fits.1 kind)) ∙ turn)
+
+  -- what is put is the one new object
+  pub put_new_object : (x : Option Bare) (subtree : Subtree) → making_turn making x ≡ Turn.Put subtree → making_turn making x ≡ Turn.Put (single (bare_of (new_object making.new 0)))
+  put_new_object None subtree e = refl
+  put_new_object (Some b) subtree e =
+      by (not (option_map_or (λ (test : Test). stays test (bare_of (new_object making.new 0)).body b.body) making.renew true)) (same_kind (new_kind making.new.what) b.body.kind) e
+    where
+      by : (gives_way same : Bool) → (if gives_way then Turn.Put (single (bare_of (new_object making.new 0))) else if same then Turn.Become making.sets else Turn.Left b.body.kind) ≡ Turn.Put subtree
+          → (if gives_way then Turn.Put (single (bare_of (new_object making.new 0))) else if same then Turn.Become making.sets else Turn.Left b.body.kind) ≡ Turn.Put (single (bare_of (new_object making.new 0)))
+      by true same h = refl
+      by false true h = absurd (let no : Turn.Become making.sets ≡ Turn.Put subtree = h in cc)
+      by false false h = absurd (let no : Turn.Left b.body.kind ≡ Turn.Put subtree = h in cc)
+
+  -- ---- calls
+
+  module _ {S : Type 0} (tree : Ghosts S) (now : ℕ) (a b : S) (r : Result (Unit {0}) TreeFault) where
+    pub settled_by : (turn : Turn) → settling_turn making path u ≡ turn
+        → Acted tree (SettlingBy making path turn u) (IsSettleStepBy making path turn u) (turn_work (Create making) path turn u) now a b r
+        → Acted tree (Settling making path u) (IsSettleStep making path u) (turn_work (Create making) path (settling_turn making path u) u) now a b r
+    settled_by turn e acted =
+        subst (λ (v : Turn). Acted tree (SettlingBy making path v u) (IsSettleStepBy making path v u) (turn_work (Create making) path v u) now a b r) (sym e) acted
+
+    pub put_acted : settling_turn making path u ≡ Turn.Put (single (bare_of (new_object making.new 0)))
+        → Acted tree (PuttingOver path making.new u) (IsPutStep path making.new) (count_at u path + most_new) now a b r
+        → Acted tree (Settling making path u) (IsSettleStep making path u) (turn_work (Create making) path (settling_turn making path u) u) now a b r
+    put_acted e acted =
+        let most = put_most in
+        settled_by (Turn.Put (single (bare_of (new_object making.new 0)))) e
+        (acted_within tree (count_at u path + most_new) (turn_work (Create making) path (Turn.Put (single (bare_of (new_object making.new 0)))) u) (omega (arith, most)) acted)
+
+-- ---- paths of lines
+
+-- a path of a line can be staged
+pub stageable : (path : Path) → list_all (λ name. nat_le (length name) 240) path ≡ true → can_stage path ≡ true
+stageable [] h = refl
+stageable (name ∷ path) h =
+    let parts = both_true (nat_le (length name) 240) (list_all (λ n. nat_le (length n) 240) path) h in
+    let short : nat_le (length name) 240 ≡ true = parts.0 in
+    let one : nat_le (length name) 250 ≡ true = grind (arith, nat_tests) in
+    let rest = stageable path parts.1 in
+    (λ i. one i && rest i)

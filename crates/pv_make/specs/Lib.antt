@@ -1,0 +1,2 @@
+pub mod OnWay
+pub mod Settling
