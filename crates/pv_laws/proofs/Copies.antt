@@ -1,0 +1,300 @@
+-- What a line that copies, and is not refused, leaves at each path by itself, stamps and staging names aside.
+use Rattle.std.specs.Prelude.{◌≡◌, ◌≢◌, ◌⊎◌, ℕ, Bool, true, false, not, cond, ◌&&◌, ◌||◌, List, [], ◌∷◌, ◌++◌, map, Option, Some, None, is_some, option_map, unwrap_or, if◌then◌else◌}
+use Rattle.std.proofs.Common.{refl, sym, ap, subst, ◌∙◌, inl, inr}
+use Rattle.std.proofs.lemmas.List.{append-nil}
+use Rattle.std.specs.FinMap as fin
+use Rattle.std.specs.List.{list_all, filter_map, cons_option}
+use Rattle.std.specs.Option.{option_map_or}
+use Rattle.std.specs.Ordering.{eq_by_cmp, is_eq}
+use Rattle.std.specs.declared.cmp.Ordering.{Ordering}
+use Rattle.std.specs.declared.cmp.Ordering.TheVariants.{Equal}
+use Rattle.pv_path.specs.Names.{is_staging}
+use Rattle.pv_path.specs.Paths.{Path, path_cmp, same_path, is_prefix, rest_under, has_staging, same_path-decides}
+use Rattle.pv_path.proofs.PathLaws.{path_cmp-exact, is_prefix-append, is_prefix-trans, is_prefix-antisym, rest_under-self, rest_under-append, is_some-rest_under, has_staging-append}
+use Rattle.pv_steps.specs.declared.node.Kind.{Kind}
+use Rattle.pv_steps.specs.Objects.{is_directory}
+use Rattle.pv_steps.specs.Trees.{Files, places, child_name}
+use Rattle.pv_steps.proofs.NameLaws.{child_name-Some}
+use Rattle.pv_steps.proofs.StepLaws.{is_among, among_keys}
+use Rattle.pv_dress.specs.declared.bare.Bare.{Bare}
+use Rattle.pv_dress.specs.Nodes.{bares_of, same_kind}
+use Rattle.pv_dress.proofs.EditLaws.{path_cases, same_path-no}
+use Rattle.pv_walk.proofs.RemovalLaws.{apart}
+use Rattle.pv_table.specs.declared.deed.Copying.{Copying}
+use Rattle.pv_table.specs.declared.deed.Deed.TheVariants.{Copy}
+use Rattle.pv_table.specs.Effects.{put_paths, turned, prepare, carried_out}
+use Rattle.pv_table.specs.Pointwise.{Bares, view, parent_bare, after_turn, at_made}
+use Rattle.pv_table.specs.Turns.{Turn, View, view_of, topped, copy_of, is_visible_child, is_childless, copying_turn, decide}
+use Rattle.pv_laws.specs.Moments.{Agree}
+use Rattle.pv_laws.proofs.Making.{IsShaped, IsDone, left_done, put_done, become_done, ready_here, ready_else}
+use Rattle.pv_laws.proofs.Prepared.{filled, bare_some, among_first, among_later}
+use Rattle.pv_laws.proofs.Sets.{impossible, is_adjustment}
+use Rattle.pv_laws.proofs.Touching.{same_tests}
+
+-- ---- which paths are looked at
+
+tied : (o : Ordering) → is_eq o ≡ true → o ≡ Equal
+tied Equal e = refl
+tied o e = impossible e
+
+among_cases : (q x : Path) (xs : List Path) → is_among q (x ∷ xs) ≡ true → (q ≡ x) ⊎ (is_among q xs ≡ true)
+among_cases q x xs h = by (eq_by_cmp path_cmp q x) refl h
+  where
+    by : (b : Bool) → eq_by_cmp path_cmp q x ≡ b → (b || is_among q xs) ≡ true → (q ≡ x) ⊎ (is_among q xs ≡ true)
+    by true e g = inl (path_cmp-exact q x (tied (path_cmp q x) e))
+    by false e g = inr g
+
+pub among_front : (q : Path) (xs ys : List Path) → is_among q xs ≡ true → is_among q (xs ++ ys) ≡ true
+among_front q [] ys h = impossible h
+among_front q (x ∷ xs) ys h = at (among_cases q x xs h) (among_front q xs ys)
+  where
+    at : (q ≡ x) ⊎ (is_among q xs ≡ true) → (is_among q xs ≡ true → is_among q (xs ++ ys) ≡ true) → is_among q (x ∷ (xs ++ ys)) ≡ true
+    at (inl e) later = subst (λ (r : Path). is_among q (r ∷ (xs ++ ys)) ≡ true) e (among_first q (xs ++ ys))
+    at (inr g) later = among_later x q (xs ++ ys) (later g)
+
+-- what lies below the source is looked at below the other path
+pub among_copied : (source path rest : Path) (keys : List Path) → is_among (source ++ rest) keys ≡ true → is_among (path ++ rest) (map (λ r. path ++ r) (filter_map (rest_under source) keys)) ≡ true
+among_copied source path rest [] h = impossible h
+among_copied source path rest (x ∷ keys) h = by (among_cases (source ++ rest) x keys h) (among_copied source path rest keys)
+  where
+    more : (r : Option Path) → is_among (path ++ rest) (map (λ r. path ++ r) (filter_map (rest_under source) keys)) ≡ true → is_among (path ++ rest) (map (λ r. path ++ r) (cons_option r (filter_map (rest_under source) keys))) ≡ true
+    more None g = g
+    more (Some r) g = among_later (path ++ r) (path ++ rest) (map (λ r. path ++ r) (filter_map (rest_under source) keys)) g
+
+    by : (source ++ rest ≡ x) ⊎ (is_among (source ++ rest) keys ≡ true) → (is_among (source ++ rest) keys ≡ true → is_among (path ++ rest) (map (λ r. path ++ r) (filter_map (rest_under source) keys)) ≡ true)
+        → is_among (path ++ rest) (map (λ r. path ++ r) (cons_option (rest_under source x) (filter_map (rest_under source) keys))) ≡ true
+    by (inl e) later =
+        ap (λ (o : Option Path). is_among (path ++ rest) (map (λ r. path ++ r) (cons_option o (filter_map (rest_under source) keys)))) (ap (rest_under source) (sym e) ∙ rest_under-append source rest)
+        ∙ among_first (path ++ rest) (map (λ r. path ++ r) (filter_map (rest_under source) keys))
+    by (inr g) later = more (rest_under source x) (later g)
+
+-- ---- what is done at the path
+
+module _ (now : ℕ) (copying : Copying) (path : Path) (u : Files) where
+  copy_keyed : (rest : Path) → is_some (copy_of copying (view_of u) rest) ≡ true → is_among (path ++ rest) (put_paths (Copy copying) path u ++ fin.keys u) ≡ true
+  copy_keyed [] h = subst (λ (q : Path). is_among q (put_paths (Copy copying) path u ++ fin.keys u) ≡ true) (sym (append-nil path)) (among_first path (map (λ rest. path ++ rest) (filter_map (rest_under copying.source) (fin.keys u)) ++ fin.keys u))
+  copy_keyed (name ∷ rest) h = by (has_staging (name ∷ rest)) h
+    where
+      by : (b : Bool) → is_some (cond b None (bares_of (places u) (copying.source ++ name ∷ rest))) ≡ true → is_among (path ++ name ∷ rest) (put_paths (Copy copying) path u ++ fin.keys u) ≡ true
+      by true g = impossible g
+      by false g = among_later path (path ++ name ∷ rest) (map (λ r. path ++ r) (filter_map (rest_under copying.source) (fin.keys u)) ++ fin.keys u) (
+          among_front (path ++ name ∷ rest) (map (λ r. path ++ r) (filter_map (rest_under copying.source) (fin.keys u))) (fin.keys u) (
+          among_copied copying.source path (name ∷ rest) (fin.keys u) (among_keys u (copying.source ++ name ∷ rest) ∙ sym (bare_some (places u (copying.source ++ name ∷ rest))) ∙ g)))
+
+  copy_done : IsDone now (Copy copying) path u (Turn.Put (copy_of copying (view_of u)))
+  copy_done = put_done now (Copy copying) path u (copy_of copying (view_of u)) copy_keyed
+
+  pub copying_done : list_all is_adjustment copying.sets ≡ true → (kind : Kind) (b : Option Bare) → IsDone now (Copy copying) path u (copying_turn copying (view_of u) path kind b)
+  copying_done adjust kind None = copy_done
+  copying_done adjust kind (Some x) = by (same_kind kind x.body.kind) (is_directory kind && is_childless (view_of u) path) copying.renews
+    where
+      by : (same empty renews : Bool) → IsDone now (Copy copying) path u (if same then (if empty then Turn.Put (copy_of copying (view_of u)) else Turn.Become copying.sets) else if renews then Turn.Put (copy_of copying (view_of u)) else Turn.Left x.body.kind)
+      by true true renews = copy_done
+      by true false renews = become_done now (Copy copying) path u copying.sets adjust
+      by false empty true = copy_done
+      by false empty false = left_done now (Copy copying) path u x.body.kind
+
+-- ---- whether a directory is childless
+
+among_all : (f : Path → Bool) (xs : List Path) → ((q : Path) → is_among q xs ≡ true → f q ≡ true) → list_all f xs ≡ true
+among_all f [] each = refl
+among_all f (x ∷ xs) each = ap (λ b. b && list_all f xs) (each x (among_first x xs)) ∙ among_all f xs (λ q h. each q (among_later x q xs h))
+
+all_among : (f : Path → Bool) (xs : List Path) → list_all f xs ≡ true → (q : Path) → is_among q xs ≡ true → f q ≡ true
+all_among f [] all q h = impossible h
+all_among f (x ∷ xs) all q h = by (f x) refl all (among_cases q x xs h) (all_among f xs)
+  where
+    by : (b : Bool) → f x ≡ b → (b && list_all f xs) ≡ true → (q ≡ x) ⊎ (is_among q xs ≡ true) → (list_all f xs ≡ true → (r : Path) → is_among r xs ≡ true → f r ≡ true) → f q ≡ true
+    by true e g (inl s) later = ap f s ∙ e
+    by true e g (inr k) later = later g q k
+    by false e g s later = impossible g
+
+-- what has the same visible children is childless alike
+pub childless_same : (a b : View) (path : Path) → ((q : Path) → is_visible_child path q ≡ true → is_among q a.paths ≡ is_among q b.paths) → is_childless a path ≡ is_childless b path
+childless_same a b path same = same_tests (is_childless a path) (is_childless b path)
+    (λ h. among_all (λ q. not (is_visible_child path q)) b.paths (λ q g. by a.paths q (is_visible_child path q) refl h (λ v. same q v ∙ g)))
+    (λ h. among_all (λ q. not (is_visible_child path q)) a.paths (λ q g. by b.paths q (is_visible_child path q) refl h (λ v. sym (same q v) ∙ g)))
+  where
+    by : (paths : List Path) (q : Path) (v : Bool) → is_visible_child path q ≡ v → list_all (λ r. not (is_visible_child path r)) paths ≡ true → (v ≡ true → is_among q paths ≡ true) → not (is_visible_child path q) ≡ true
+    by paths q true e h there = all_among (λ r. not (is_visible_child path r)) paths h q (there refl)
+    by paths q false e h there = ap not e
+
+-- a visible child has no staging name where its directory has none
+child_plain : (path q : Path) → has_staging path ≡ false → is_visible_child path q ≡ true → (name : List ℕ) × (q ≡ path ++ name ∷ []) × (has_staging q ≡ false)
+child_plain path q plain h = by (child_name path q) refl h
+  where
+    negated : (b : Bool) → not b ≡ true → b ≡ false
+    negated true g = impossible g
+    negated false g = refl
+
+    or_none : (a b : Bool) → a ≡ false → b ≡ false → (a || b) ≡ false
+    or_none true b g k = impossible (sym g)
+    or_none false b g k = k
+
+    by : (o : Option (List ℕ)) → child_name path q ≡ o → option_map_or (λ name. not (is_staging name)) o false ≡ true → (name : List ℕ) × (q ≡ path ++ name ∷ []) × (has_staging q ≡ false)
+    by None e g = impossible g
+    by (Some name) e g =
+        let is : q ≡ path ++ name ∷ [] = child_name-Some path q name e in
+        (name, is, ap has_staging is ∙ has_staging-append path (name ∷ []) ∙ or_none (has_staging path) (has_staging (name ∷ [])) plain (or_none (is_staging name) false (negated (is_staging name) g) refl))
+
+-- ---- the whole turn
+
+-- turns over views that agree leave the same
+turns_agree : (copying : Copying) (a b : View) (path : Path) (kind : Kind) (old : Option Bare) → is_childless a path ≡ is_childless b path → (rest : Path) (c : Option Bare) → copy_of copying a rest ≡ copy_of copying b rest
+    → after_turn (copying_turn copying a path kind old) rest c ≡ after_turn (copying_turn copying b path kind old) rest c
+turns_agree copying a b path kind None empty rest c same = same
+turns_agree copying a b path kind (Some x) empty rest c same = by (same_kind kind x.body.kind) (is_directory kind) (is_childless a path) (is_childless b path) copying.renews empty
+  where
+    at : (one hollow renews : Bool) → after_turn (if one then (if hollow then Turn.Put (copy_of copying a) else Turn.Become copying.sets) else if renews then Turn.Put (copy_of copying a) else Turn.Left x.body.kind) rest c
+        ≡ after_turn (if one then (if hollow then Turn.Put (copy_of copying b) else Turn.Become copying.sets) else if renews then Turn.Put (copy_of copying b) else Turn.Left x.body.kind) rest c
+    at true true renews = same
+    at true false renews = refl
+    at false hollow true = same
+    at false hollow false = refl
+
+    by : (one dir va vb renews : Bool) → va ≡ vb → after_turn (if one then (if dir && va then Turn.Put (copy_of copying a) else Turn.Become copying.sets) else if renews then Turn.Put (copy_of copying a) else Turn.Left x.body.kind) rest c
+        ≡ after_turn (if one then (if dir && vb then Turn.Put (copy_of copying b) else Turn.Become copying.sets) else if renews then Turn.Put (copy_of copying b) else Turn.Left x.body.kind) rest c
+    by one dir va vb renews e =
+        at one (dir && va) renews
+        ∙ ap (λ v. after_turn (if one then (if dir && v then Turn.Put (copy_of copying b) else Turn.Become copying.sets) else if renews then Turn.Put (copy_of copying b) else Turn.Left x.body.kind) rest c) e
+
+pub decide_some : (copying : Copying) (v : View) (path : Path) (b : Bare) → v.at copying.source ≡ Some b → decide (Copy copying) v path ≡ copying_turn copying v path b.body.kind (v.at path)
+decide_some copying v path b e = rw e
+
+module _ (now : ℕ) (copying : Copying) (adjust : list_all is_adjustment copying.sets ≡ true) (path : Path) (unstaged : has_staging path ≡ false) (plain_source : has_staging copying.source ≡ false)
+    (away : is_prefix copying.source path ≡ false) (t : Files) (shape : IsShaped (bares_of (places t))) (b : Bare) (present : bares_of (places t) copying.source ≡ Some b) where
+  abbrev ready : Files
+  ready = prepare now path t
+
+  abbrev left : Path → Option Bare
+  left q = bares_of (places (carried_out now (Copy copying) path t)) q
+
+  -- preparing leaves the source as it is
+  source_there : (rest : Path) → has_staging rest ≡ false → bares_of (places ready) (copying.source ++ rest) ≡ bares_of (places t) (copying.source ++ rest)
+  source_there rest plain =
+      ready_else now path unstaged t shape (copying.source ++ rest) (has_staging-append copying.source rest ∙ ap (λ c. c || has_staging rest) plain_source ∙ plain)
+      (λ e. apart (is_prefix copying.source path) (ap (is_prefix copying.source) (sym e) ∙ is_prefix-append copying.source rest) away)
+      ∙ ap (λ c. filled c (bares_of (places t) (copying.source ++ rest))) (by (is_prefix (copying.source ++ rest) path) refl)
+    where
+      by : (c : Bool) → is_prefix (copying.source ++ rest) path ≡ c → is_prefix (copying.source ++ rest) path ≡ false
+      by true e = absurd (apart (is_prefix copying.source path) (is_prefix-trans copying.source (copying.source ++ rest) path (is_prefix-append copying.source rest) e) away)
+      by false e = e
+
+  source_ready : bares_of (places ready) copying.source ≡ bares_of (places t) copying.source
+  source_ready = subst (λ (p : Path). bares_of (places ready) p ≡ bares_of (places t) p) (append-nil copying.source) (source_there [] refl)
+
+  pub copy_there : (rest : Path) → copy_of copying (view_of ready) rest ≡ copy_of copying (view_of t) rest
+  copy_there [] = ap (option_map (topped copying)) source_ready
+  copy_there (name ∷ rest) = by (has_staging (name ∷ rest)) refl
+    where
+      by : (c : Bool) → has_staging (name ∷ rest) ≡ c → cond c None (bares_of (places ready) (copying.source ++ name ∷ rest)) ≡ cond c None (bares_of (places t) (copying.source ++ name ∷ rest))
+      by true e = refl
+      by false e = source_there (name ∷ rest) e
+
+  abbrev copy_turn : Turn
+  copy_turn = copying_turn copying (view_of ready) path b.body.kind (bares_of (places ready) path)
+
+  opened : carried_out now (Copy copying) path t ≡ turned now (Copy copying) path copy_turn ready
+  opened =
+      ap (λ c. cond c (turned now (Copy copying) path (decide (Copy copying) (view_of ready) path) ready) t) (sym (bare_some (places t copying.source)) ∙ ap is_some present)
+      ∙ ap (λ turn. turned now (Copy copying) path turn ready) (decide_some copying (view_of ready) path b (source_ready ∙ present))
+
+  is_done : IsDone now (Copy copying) path ready copy_turn
+  is_done = copying_done now copying path ready adjust b.body.kind (bares_of (places ready) path)
+
+  pub left_inside : (q rest : Path) → rest_under path q ≡ Some rest → left q ≡ after_turn copy_turn rest (bares_of (places ready) q)
+  left_inside q rest e = ap (λ (u : Files). bares_of (places u) q) opened ∙ is_done.inside q rest e
+
+  pub left_outside : (q : Path) → rest_under path q ≡ None → left q ≡ bares_of (places ready) q
+  left_outside q e = ap (λ (u : Files). bares_of (places u) q) opened ∙ is_done.outside q e
+
+  -- at and below the path what stood there was kept till then
+  pub below_ready : (q rest : Path) → has_staging q ≡ false → rest_under path q ≡ Some rest → bares_of (places ready) q ≡ bares_of (places t) q
+  below_ready q rest plain e = elim (path_cases path q) [
+    | inl same ↦ subst (λ (p : Path). bares_of (places ready) p ≡ bares_of (places t) p) same (ready_here now path unstaged t shape)
+    | inr d ↦
+        ready_else now path unstaged t shape q plain (λ same. apart (same_path path q) ((same_path-decides path q).1 (sym same)) d)
+        ∙ ap (λ c. filled c (bares_of (places t) q)) (by d (is_prefix q path) refl)
+  ]
+    where
+      under : is_prefix path q ≡ true
+      under = sym (is_some-rest_under path q) ∙ ap is_some e
+
+      by : same_path path q ≡ false → (c : Bool) → is_prefix q path ≡ c → is_prefix q path ≡ false
+      by d true f = absurd (apart (same_path path q) ((same_path-decides path q).1 (is_prefix-antisym path q under f)) d)
+      by d false f = f
+
+  -- the turn, by what stood in the tree
+  abbrev turn_before : Turn
+  turn_before = copying_turn copying (view_of t) path b.body.kind (bares_of (places t) path)
+
+  -- ---- by itself
+
+  module _ (s : Bares) (agree : Agree s t) where
+    copy_agrees : (rest : Path) → copy_of copying (view_of ready) rest ≡ copy_of copying (view s) rest
+    copy_agrees rest = copy_there rest ∙ at rest
+      where
+        at : (r : Path) → copy_of copying (view_of t) r ≡ copy_of copying (view s) r
+        at [] = ap (option_map (topped copying)) (sym (agree copying.source plain_source))
+        at (name ∷ r) = by (has_staging (name ∷ r)) refl
+          where
+            by : (c : Bool) → has_staging (name ∷ r) ≡ c → cond c None (bares_of (places t) (copying.source ++ name ∷ r)) ≡ cond c None (fin.get s (copying.source ++ name ∷ r))
+            by true e = refl
+            by false e = sym (agree (copying.source ++ name ∷ r) (has_staging-append copying.source (name ∷ r) ∙ ap (λ c. c || has_staging (name ∷ r)) plain_source ∙ e))
+
+    childless_agrees : is_childless (view_of ready) path ≡ is_childless (view s) path
+    childless_agrees = childless_same (view_of ready) (view s) path (λ q visible. by q (child_plain path q unstaged visible))
+      where
+        by : (q : Path) → (name : List ℕ) × (q ≡ path ++ name ∷ []) × (has_staging q ≡ false) → is_among q (fin.keys ready) ≡ is_among q (fin.keys s)
+        by q child =
+            among_keys ready q ∙ sym (bare_some (places ready q))
+            ∙ ap is_some (below_ready q (child.0 ∷ []) child.2 (ap (rest_under path) child.1 ∙ rest_under-append path (child.0 ∷ [])) ∙ sym (agree q child.2))
+            ∙ fin.contains_key-keys s q
+
+    decided : decide (Copy copying) (view s) path ≡ copying_turn copying (view s) path b.body.kind (fin.get s path)
+    decided = decide_some copying (view s) path b (agree copying.source plain_source ∙ present)
+
+    abbrev given : Path → Bool → Option Path → Option Bare
+    given q above rest = cond above (Some (unwrap_or (fin.get s q) parent_bare)) (option_map_or (λ r. after_turn (decide (Copy copying) (view s) path) r (fin.get s q)) rest (fin.get s q))
+
+    inside_agrees : (q rest : Path) → has_staging q ≡ false → rest_under path q ≡ Some rest → left q ≡ after_turn (decide (Copy copying) (view s) path) rest (fin.get s q)
+    inside_agrees q rest plain e =
+        left_inside q rest e
+        ∙ turns_agree copying (view_of ready) (view s) path b.body.kind (bares_of (places ready) path) childless_agrees rest (bares_of (places ready) q) (copy_agrees rest)
+        ∙ (λ i. after_turn (copying_turn copying (view s) path b.body.kind ((ready_here now path unstaged t shape ∙ sym (agree path unstaged)) i)) rest ((below_ready q rest plain e ∙ sym (agree q plain)) i))
+        ∙ ap (λ turn. after_turn turn rest (fin.get s q)) (sym decided)
+
+    not_above : (q rest : Path) → rest_under path q ≡ Some rest → (is_prefix q path && not (same_path q path)) ≡ false
+    not_above q rest e = by (same_path q path) refl (is_prefix q path) refl
+      where
+        by : (c : Bool) → same_path q path ≡ c → (a : Bool) → is_prefix q path ≡ a → (a && not c) ≡ false
+        by true f true g = refl
+        by true f false g = refl
+        by false f false g = refl
+        by false f true g = absurd (apart (same_path q path) ((same_path-decides q path).1 (is_prefix-antisym q path g (sym (is_some-rest_under path q) ∙ ap is_some e))) f)
+
+    pub copied_point : (q : Path) → has_staging q ≡ false → left q ≡ at_made (Copy copying) path s q
+    copied_point q plain = by (rest_under path q) refl
+      where
+        filled_in : (c : Option Bare) → filled true c ≡ Some (unwrap_or c parent_bare)
+        filled_in None = refl
+        filled_in (Some x) = refl
+
+        none_above : (a c : Bool) → a ≡ false → (a && not c) ≡ false
+        none_above true c e = impossible (sym e)
+        none_above false c e = refl
+
+        outside : rest_under path q ≡ None → (a : Bool) → is_prefix q path ≡ a → bares_of (places ready) q ≡ filled a (bares_of (places t) q) → left q ≡ given q (is_prefix q path && not (same_path q path)) (rest_under path q)
+        outside e true f g =
+            left_outside q e ∙ g ∙ filled_in (bares_of (places t) q) ∙ ap (λ c. Some (unwrap_or c parent_bare)) (sym (agree q plain))
+            ∙ sym (ap (λ c. given q (is_prefix q path && not c) (rest_under path q)) (same_path-no q path other) ∙ ap (λ c. given q (c && true) (rest_under path q)) f)
+          where
+            other : q ≢ path
+            other same = (let there : Some [] ≡ None = sym (rest_under-self path) ∙ ap (rest_under path) (sym same) ∙ e in cc)
+        outside e false f g =
+            left_outside q e ∙ g ∙ sym (agree q plain)
+            ∙ sym (ap (λ c. given q c (rest_under path q)) (none_above (is_prefix q path) (same_path q path) f) ∙ ap (given q false) e)
+
+        by : (r : Option Path) → rest_under path q ≡ r → left q ≡ given q (is_prefix q path && not (same_path q path)) (rest_under path q)
+        by None e = outside e (is_prefix q path) refl (ready_else now path unstaged t shape q plain (λ same. (let there : Some [] ≡ None = sym (rest_under-self path) ∙ ap (rest_under path) (sym same) ∙ e in cc)))
+        by (Some rest) e = inside_agrees q rest plain e ∙ sym (ap (λ c. given q c (rest_under path q)) (not_above q rest e) ∙ ap (given q false) e)

@@ -1,0 +1,269 @@
+-- What no line governs stays as it is, whatever is refused and wherever a run was cut short.
+use Rattle.std.specs.Prelude.{◌≡◌, ◌⊎◌, ℕ, ◌+◌, ◌-◌, ◌<◌, ◌≤◌, Bool, true, false, not, cond, ◌&&◌, ◌||◌, List, [], ◌∷◌, length, take, filter, Option, Some, None, is_some}
+use Rattle.std.proofs.Common.{zero, suc, refl, sym, ap, subst, ◌∙◌, arith, inl, inr}
+use Rattle.std.proofs.Math.Seq.{take-append_seam}
+use Rattle.std.specs.FinMap as fin
+use Rattle.std.specs.List.{list_any, list_all, AllByRecursion}
+use Rattle.pv_path.specs.Paths.{Path, same_path, is_prefix, has_staging, same_path-decides}
+use Rattle.pv_path.proofs.PathLaws.{prefix_parts, prefix_whole}
+use Rattle.pv_steps.specs.Trees.{Files, places, IsTree}
+use Rattle.pv_dress.specs.declared.bare.Bare.{Bare}
+use Rattle.pv_dress.specs.declared.operation.Test.{Test}
+use Rattle.pv_dress.specs.Dividing.{parts}
+use Rattle.pv_dress.specs.Nodes.{bares_of}
+use Rattle.pv_dress.specs.Operations.{run}
+use Rattle.pv_dress.proofs.OperationLaws.{bares_of-same}
+use Rattle.pv_lines.specs.declared.line.Line.{Line}
+use Rattle.pv_lines.specs.declared.line.LinePath.{LinePath}
+use Rattle.pv_lines.specs.Lines.{IsLine}
+use Rattle.pv_walk.proofs.RemovalLaws.{apart, both, zero_or_more}
+use Rattle.pv_table.specs.declared.deed.Deed.{Deed}
+use Rattle.pv_table.specs.declared.deed.Deed.TheVariants.{Create, Copy, Touch, Idle}
+use Rattle.pv_table.specs.declared.deed.Making.{Making}
+use Rattle.pv_table.specs.declared.deed.Touching.{Touching}
+use Rattle.pv_table.specs.Active.{in_create_order}
+use Rattle.pv_table.specs.Asked.{clears_below, made_at, operations}
+use Rattle.pv_table.specs.Asking.{asks}
+use Rattle.pv_table.specs.Created.{after_each, by_turn, by_line, created}
+use Rattle.pv_table.specs.Effects.{carried_out, is_touched, turn_after}
+use Rattle.pv_table.specs.Pointwise.{touches}
+use Rattle.pv_table.specs.Reaching.{names, names_above, path_in, is_creating, is_deep, reaches_below, reaches, governs}
+use Rattle.pv_table.specs.Turns.{Refused, copied, refused_at}
+use Rattle.pv_laws.specs.Stopping.{CopiesNothing, IsMidway, Partway}
+use Rattle.pv_laws.proofs.Lines.{IsPlain, line_is_plain, made_literal, made_passes, turns_made, turns_touch, turns_idle, asked_made}
+use Rattle.pv_laws.proofs.Making.{IsShaped, clears_none, made_point}
+use Rattle.pv_laws.proofs.Orders.{all_in_order, all_tests}
+use Rattle.pv_laws.proofs.Prepared.{neither}
+use Rattle.pv_laws.proofs.Repeated.{IsAskedAt, object, parent, below, set, nothing, asked_at}
+use Rattle.pv_laws.proofs.Sets.{impossible, is_adjustment, IsMaking, line_is_making, adjusted_none}
+use Rattle.pv_laws.proofs.Shapes.{IsLike, adjusted_like, made_shaped, shape_same, shaped_like, tree_shaped}
+use Rattle.pv_laws.proofs.Touching.{any_range, turn_open, touch_point, adjusts}
+
+-- ---- what a line does not govern it asks nothing of
+
+-- a line does not govern a path: it does not name it, reaches nothing below what it names above it, and makes it no parent
+pub record IsFree (line : Line) (q : Path) : Type 0 where
+  pub unnamed : names line q ≡ false
+  pub unreached : (reaches_below line && names_above line q) ≡ false
+  pub no_parent : (is_creating line && is_prefix q (path_in line.path)) ≡ false
+
+pub ungoverned : (line : Line) (q : Path) → governs line q ≡ false → IsFree line q
+ungoverned line q h =
+    let two = neither (reaches line q) (is_creating line && is_prefix q (path_in line.path)) h in
+    let one = neither (names line q) (reaches_below line && names_above line q) two.0 in
+    record { unnamed = one.0; unreached = one.1; no_parent = two.1 }
+
+-- a path that a line names lies above another
+pub named_above : (line : Line) (p q : Path) → names line p ≡ true → is_prefix p q ≡ true → same_path p q ≡ false → names_above line q ≡ true
+named_above line p q named above other = any_range (λ k. names line (take k q)) 0 (length q) (length p) (omega arith) shorter (ap (names line) cut ∙ named)
+  where
+    cut : take (length p) q ≡ p
+    cut = let parted = prefix_parts p q above in ap (take (length p)) parted.1 ∙ take-append_seam p parted.0
+
+    shorter : length p < 0 + length q
+    shorter = at (zero_or_more (length q - length p))
+      where
+        at : (length q - length p ≡ 0) ⊎ (1 ≤ length q - length p) → length p < 0 + length q
+        at (inl z) = absurd (apart (same_path p q) ((same_path-decides p q).1 (prefix_whole p q above (omega (arith, z)))) other)
+        at (inr m) = omega (arith, m)
+
+-- whether a line reaches below what it names, by what it asks for
+deep_reaches : (line : Line) (d : Deed) → asks line ≡ d → is_deep d ≡ true → reaches_below line ≡ true
+deep_reaches line d e h = or_four (is_deep (asks line)) _ _ _ _ (ap is_deep e ∙ h)
+  where
+    or_four : (a b c x y : Bool) → a ≡ true → (a || b || c || x || y) ≡ true
+    or_four true b c x y i = refl
+    or_four false b c x y i = impossible i
+
+module _ (line : Line) (is : IsLine line) (q : Path) (free : IsFree line q) where
+  pub names_literal : (making : Making) → asks line ≡ Create making → (p : Path) → names line p ≡ same_path (path_in line.path) p
+  names_literal making e p = ap (λ (path : LinePath). names (record line { path = path }) p) (made_literal line is making e)
+
+  pub creates : (making : Making) → asks line ≡ Create making → is_creating line ≡ true
+  creates making e = ap (λ (path : LinePath). is_creating (record line { path = path })) (made_literal line is making e)
+
+  pub not_reached : (p : Path) (d : Deed) → asks line ≡ d → is_deep d ≡ true → names line p ≡ true → is_prefix p q ≡ true → same_path p q ≡ false → ⊥
+  not_reached p d e deep named above other =
+      apart (reaches_below line && names_above line q) (ap (λ b. b && names_above line q) (deep_reaches line d e deep) ∙ named_above line p q named above other) free.unreached
+
+  not_touched : (touching : Touching) → asks line ≡ Touch touching → touches line touching q ≡ true → ⊥
+  not_touched touching e t = by (names line q) refl touching.deep refl (names_above line q) refl t
+    where
+      by : (a : Bool) → names line q ≡ a → (d : Bool) → touching.deep ≡ d → (n : Bool) → names_above line q ≡ n → (a || (d && n && not (has_staging q))) ≡ true → ⊥
+      by true f d g n k t = apart (names line q) f free.unnamed
+      by false f true g true k t = apart (reaches_below line && names_above line q) (ap (λ b. b && names_above line q) (deep_reaches line (Touch touching) e g) ∙ k) free.unreached
+      by false f true g false k t = absurd (let no : false ≡ true = t in cc)
+      by false f false g n k t = absurd (let no : false ≡ true = t in cc)
+
+  renewing : (making : Making) → asks line ≡ Create making → clears_below making ≡ true → is_deep (Create making) ≡ true
+  renewing making e h = by making.renew refl
+    where
+      by : (r : Option Test) → making.renew ≡ r → is_some making.renew ≡ true
+      by None f = impossible (sym (clears_none making (line_is_making line making e) f) ∙ h)
+      by (Some test) f = ap is_some f
+
+  own_named : (making : Making) → asks line ≡ Create making → names line (path_in line.path) ≡ true
+  own_named making e = names_literal making e (path_in line.path) ∙ (same_path-decides (path_in line.path) (path_in line.path)).1 refl
+
+  pub asks_nothing : operations line q ≡ []
+  asks_nothing = by (asked_at line q)
+    where
+      by : IsAskedAt line q → operations line q ≡ []
+      by (object making e s f) = absurd (apart (names line q) (names_literal making e q ∙ (same_path-decides (path_in line.path) q).1 s) free.unnamed)
+      by (parent making e s f) = absurd (apart (is_creating line && is_prefix q (path_in line.path)) (ap (λ b. b && is_prefix q (path_in line.path)) (creates making e) ∙ s) free.no_parent)
+      by (below making e g d f) =
+          let two = both (is_prefix (path_in line.path) q) (clears_below making) g in
+          absurd (not_reached (path_in line.path) (Create making) e (renewing making e two.1) (own_named making e) two.0 d)
+      by (set touching e t f) = absurd (not_touched touching e t)
+      by (nothing f) = f
+
+  -- a turn at a path that the line names does not reach it
+  pub turn_away : (touching : Touching) → asks line ≡ Touch touching → (p : Path) → names line p ≡ true → is_touched touching p q ≡ false
+  turn_away touching e p named = by (same_path p q) refl touching.deep refl (is_prefix p q) refl
+    where
+      by : (a : Bool) → same_path p q ≡ a → (d : Bool) → touching.deep ≡ d → (b : Bool) → is_prefix p q ≡ b → (a || (d && b && not (has_staging q))) ≡ false
+      by true f d g b k = absurd (apart (names line q) (sym (ap (names line) ((same_path-decides p q).0 f)) ∙ named) free.unnamed)
+      by false f true g true k = absurd (not_reached p (Touch touching) e g named k f)
+      by false f true g false k = refl
+      by false f false g b k = refl
+
+-- ---- one turn
+
+-- the shape is kept, and what the line does not govern
+pub record IsKept (line : Line) (t u : Files) : Type 0 where
+  pub shape : IsShaped (bares_of (places u))
+  pub frame : (q : Path) → has_staging q ≡ false → governs line q ≡ false → bares_of (places u) q ≡ bares_of (places t) q
+
+kept_same : (line : Line) (t : Files) → IsShaped (bares_of (places t)) → IsKept line t t
+kept_same line t shape = record { shape = shape; frame = λ q plain free. refl }
+
+kept_then : (line : Line) (t u v : Files) → IsKept line t u → IsKept line u v → IsKept line t v
+kept_then line t u v a b = record { shape = b.shape; frame = λ q plain free. b.frame q plain free ∙ a.frame q plain free }
+
+pub turn_refused : (now : ℕ) (line : Line) (path : Path) (t : Files) (place : Refused) → refused_at line path (places t) ≡ Some place → turn_after now line path t ≡ t
+turn_refused now line path t place e = rw e
+
+-- where a turn is not refused, it is enough to look at what is carried out
+turn_kept : (now : ℕ) (line : Line) (path : Path) (t : Files) → IsShaped (bares_of (places t)) → (refused_at line path (places t) ≡ None → IsKept line t (carried_out now (asks line) path t)) → IsKept line t (turn_after now line path t)
+turn_kept now line path t shape done = by (refused_at line path (places t)) refl
+  where
+    by : (r : Option Refused) → refused_at line path (places t) ≡ r → IsKept line t (turn_after now line path t)
+    by None e = subst (IsKept line t) (sym (turn_open now line path t e)) (done e)
+    by (Some place) e = subst (IsKept line t) (sym (turn_refused now line path t place e)) (kept_same line t shape)
+
+module _ (now : ℕ) (line : Line) (is : IsLine line) (plain_line : IsPlain line) where
+  made_kept : (making : Making) → asks line ≡ Create making → (t : Files) → IsShaped (bares_of (places t)) → IsKept line t (turn_after now line (path_in line.path) t)
+  made_kept making e t shape = turn_kept now line (path_in line.path) t shape (λ free. subst (λ (d : Deed). IsKept line t (carried_out now d (path_in line.path) t)) (sym e) (kept free))
+    where
+      is_making : IsMaking making
+      is_making = line_is_making line making e
+
+      point : (q : Path) → has_staging q ≡ false → bares_of (places (carried_out now (Create making) (path_in line.path) t)) q ≡ run (made_at making (path_in line.path) q) (bares_of (places t) q)
+      point q plain = made_point now making is_making (path_in line.path) plain_line.unstaged t shape q plain
+
+      kept : refused_at line (path_in line.path) (places t) ≡ None → IsKept line t (carried_out now (Create making) (path_in line.path) t)
+      kept free = record {
+        shape = shape_same (λ q. run (made_at making (path_in line.path) q) (bares_of (places t) q)) (bares_of (places (carried_out now (Create making) (path_in line.path) t))) point (
+            made_shaped making is_making (path_in line.path) plain_line.unstaged (bares_of (places t)) shape (plain_line.rooted making e) (made_passes line making e (path_in line.path) t free));
+        frame = λ q plain away. point q plain ∙ ap (λ xs. run xs (bares_of (places t) q)) (sym (asked_made line making q e) ∙ asks_nothing line is q (ungoverned line q away));
+      }
+
+  touch_kept : (touching : Touching) → asks line ≡ Touch touching → (path : Path) → names line path ≡ true → (t : Files) → IsShaped (bares_of (places t)) → IsKept line t (turn_after now line path t)
+  touch_kept touching e path named t shape = turn_kept now line path t shape (λ free. subst (λ (d : Deed). IsKept line t (carried_out now d path t)) (sym e) kept)
+    where
+      adjust : list_all is_adjustment touching.sets ≡ true
+      adjust = adjusts now line touching e t shape
+
+      left : Path → Option Bare
+      left q = bares_of (places (carried_out now (Touch touching) path t)) q
+
+      like : (q : Path) → has_staging q ≡ false → (bares_of (places (carried_out now (Touch touching) path t)) q ≡ bares_of (places t) q)
+          ⊎ ((x : Bare) × (y : Bare) × (bares_of (places t) q ≡ Some x) × (bares_of (places (carried_out now (Touch touching) path t)) q ≡ Some y) × IsLike x y)
+      like q plain = by (is_touched touching path q) (bares_of (places t) q) refl (touch_point now touching adjust path t q)
+        where
+          by : (b : Bool) (o : Option Bare) → bares_of (places t) q ≡ o → bares_of (places (carried_out now (Touch touching) path t)) q ≡ cond b (run touching.sets (bares_of (places t) q)) (bares_of (places t) q)
+              → (bares_of (places (carried_out now (Touch touching) path t)) q ≡ bares_of (places t) q)
+              ⊎ ((x : Bare) × (y : Bare) × (bares_of (places t) q ≡ Some x) × (bares_of (places (carried_out now (Touch touching) path t)) q ≡ Some y) × IsLike x y)
+          by false o f g = inl g
+          by true None f g = inl (g ∙ ap (run touching.sets) f ∙ adjusted_none touching.sets adjust ∙ sym f)
+          by true (Some x) f g = let same = adjusted_like touching.sets adjust x in inr (x, same.0, f, g ∙ ap (run touching.sets) f ∙ same.1, same.2)
+
+      kept : IsKept line t (carried_out now (Touch touching) path t)
+      kept = record {
+        shape = shaped_like (bares_of (places t)) (bares_of (places (carried_out now (Touch touching) path t))) like shape;
+        frame = λ q plain away.
+            touch_point now touching adjust path t q
+            ∙ ap (λ b. cond b (run touching.sets (bares_of (places t) q)) (bares_of (places t) q)) (turn_away line is q (ungoverned line q away) touching e path named);
+      }
+
+  touches_kept : (touching : Touching) → asks line ≡ Touch touching → (paths : List Path) → AllByRecursion (λ p. names line p ≡ true) paths → (t : Files) → IsShaped (bares_of (places t)) → IsKept line t (after_each (by_turn now line) paths t)
+  touches_kept touching e [] named t shape = kept_same line t shape
+  touches_kept touching e (p ∷ ps) named t shape =
+      let one = touch_kept touching e p named.0 t shape in
+      kept_then line t (turn_after now line p t) (after_each (by_turn now line) ps (turn_after now line p t)) one (touches_kept touching e ps named.1 (turn_after now line p t) one.shape)
+
+  -- a whole line
+  pub line_kept : (t : Files) → IsShaped (bares_of (places t)) → IsKept line t ((by_line now).after line t)
+  line_kept t shape = by (asks line) refl
+    where
+      by : (d : Deed) → asks line ≡ d → IsKept line t ((by_line now).after line t)
+      by (Create making) e = subst (λ paths. IsKept line t (after_each (by_turn now line) paths t)) (sym (turns_made line making t e)) (made_kept making e t shape)
+      by (Copy copying) e = absurd (let no : Some copying.source ≡ None = sym (ap copied e) ∙ plain_line.no_copy in cc)
+      by (Touch touching) e = subst (λ paths. IsKept line t (after_each (by_turn now line) paths t)) (sym (turns_touch line touching t e))
+          (touches_kept touching e (filter (names line) (fin.keys t)) (all_tests (names line) (fin.keys t)) t shape)
+      by Idle e = subst (λ paths. IsKept line t (after_each (by_turn now line) paths t)) (sym (turns_idle line t e)) (kept_same line t shape)
+
+-- ---- runs
+
+-- a line that was read, and copies nothing
+pub record IsOurs (line : Line) : Type 0 where
+  pub is : IsLine line
+  pub plain : IsPlain line
+
+pub all_ours : (lines : List Line) → AllByRecursion IsLine lines → AllByRecursion CopiesNothing lines → AllByRecursion IsOurs lines
+all_ours [] are none = tt
+all_ours (line ∷ lines) are none = (record { is = are.0; plain = line_is_plain line are.0 none.0 }, all_ours lines are.1 none.1)
+
+module _ (now : ℕ) (q : Path) (plain : has_staging q ≡ false) where
+  frame_all : (lines : List Line) (t : Files) → AllByRecursion IsOurs lines → AllByRecursion (λ line. governs line q ≡ false) lines → IsShaped (bares_of (places t)) → bares_of (places (after_each (by_line now) lines t)) q ≡ bares_of (places t) q
+  frame_all [] t ours free shape = refl
+  frame_all (line ∷ lines) t ours free shape =
+      let one = line_kept now line ours.0.is ours.0.plain t shape in
+      frame_all lines ((by_line now).after line t) ours.1 free.1 one.shape ∙ one.frame q plain free.0
+
+  pub midway_frame : (line : Line) → IsLine line → governs line q ≡ false → (old new : Option Bare) → IsMidway line q old new → new ≡ old
+  midway_frame line is away old new (IsMidway.piece k e) = e ∙ ap (λ xs. run (take k (parts xs)) old) (asks_nothing line is q (ungoverned line q away)) ∙ by k
+    where
+      by : (n : ℕ) → run (take n []) old ≡ old
+      by zero = refl
+      by (suc n) = refl
+  midway_frame line is away old new (IsMidway.gap b s renewal none) = absurd (
+      apart (names line q) (names_literal line is q free renewal.making renewal.makes q ∙ (same_path-decides (path_in line.path) q).1 renewal.at) free.unnamed)
+    where
+      free : IsFree line q
+      free = ungoverned line q away
+
+  frame_partway : (lines : List Line) (t u : Files) → AllByRecursion IsOurs lines → AllByRecursion (λ line. governs line q ≡ false) lines → IsShaped (bares_of (places t)) → Partway lines now t u → bares_of (places u) q ≡ bares_of (places t) q
+  frame_partway [] t u ours free shape same = sym (bares_of-same (places t) (places u) q (same q plain))
+  frame_partway (line ∷ lines) t u ours free shape (inl way) = midway_frame line ours.0.is free.0 (bares_of (places t) q) (bares_of (places u) q) (way q plain)
+  frame_partway (line ∷ lines) t u ours free shape (inr later) =
+      let one = line_kept now line ours.0.is ours.0.plain t shape in
+      frame_partway lines ((by_line now).after line t) u ours.1 free.1 one.shape later ∙ one.frame q plain free.0
+
+  all_free : (lines : List Line) → list_any (λ line. governs line q) lines ≡ false → AllByRecursion (λ line. governs line q ≡ false) lines
+  all_free [] h = tt
+  all_free (line ∷ lines) h = let two = neither (governs line q) (list_any (λ l. governs l q) lines) h in (two.0, all_free lines two.1)
+
+  module _ (lines : List Line) (are : AllByRecursion IsLine lines) (none : AllByRecursion CopiesNothing lines) (free : list_any (λ line. governs line q) lines ≡ false) (t : Files) (tree : IsTree t) where
+    ours : AllByRecursion IsOurs (in_create_order lines)
+    ours = all_in_order IsOurs lines (all_ours lines are none)
+
+    all_away : AllByRecursion (λ (line : Line). governs line q ≡ false) (in_create_order lines)
+    all_away = all_in_order (λ (line : Line). governs line q ≡ false) lines (all_free lines free)
+
+    -- a whole run, and one that was cut short
+    pub run_frame : bares_of (places (created lines now t)) q ≡ bares_of (places t) q
+    run_frame = frame_all (in_create_order lines) t ours all_away (tree_shaped (places t) tree)
+
+    pub stopped_frame : (u : Files) → Partway (in_create_order lines) now t u → bares_of (places u) q ≡ bares_of (places t) q
+    stopped_frame u way = frame_partway (in_create_order lines) t u ours all_away (tree_shaped (places t) tree) way

@@ -1,0 +1,185 @@
+-- The order of the create phase: which lines are carried out, and that a line that makes an object comes before those that
+-- make one below it.
+use Rattle.std.specs.Prelude.{⊤, ◌≡◌, ◌≢◌, ℕ, ◌+◌, Bool, true, false, not, cond, ◌&&◌, ◌||◌, List, [], ◌∷◌, ◌++◌, map, filter, fold, slice_get}
+use Rattle.std.proofs.Common.{suc, refl, sym, ap, ◌∙◌, arith}
+use Rattle.std.specs.List.{list_any, enumerate_from, AllByRecursion}
+use Rattle.pv_path.specs.Paths.{Path, same_path, is_prefix, same_path-decides}
+use Rattle.pv_path.proofs.PathLaws.{is_prefix-trans, is_prefix-antisym}
+use Rattle.pv_lines.specs.declared.line.Line.{Line}
+use Rattle.pv_walk.proofs.RemovalLaws.{apart, both}
+use Rattle.pv_table.specs.Active.{make_same, are_distinct, Listed, placed, is_touching, ordered, in_create_order}
+use Rattle.pv_table.specs.Reaching.{path_in, is_creating}
+use Rattle.pv_table.specs.Repeatable.{IsAt}
+use Rattle.pv_laws.proofs.Sets.{impossible}
+
+-- ---- what holds of all lines holds of those that are carried out
+
+module _ {A : Type 0} (P : A → Type 0) where
+  pub all_append : (xs ys : List A) → AllByRecursion P xs → AllByRecursion P ys → AllByRecursion P (xs ++ ys)
+  all_append [] ys h g = g
+  all_append (x ∷ xs) ys h g = (h.0, all_append xs ys h.1 g)
+
+  pub all_filter : (test : A → Bool) (xs : List A) → AllByRecursion P xs → AllByRecursion P (filter test xs)
+  all_filter test [] h = tt
+  all_filter test (x ∷ xs) h =
+      let rest = all_filter test xs h.1 in
+      elim (test x) as (λ b. AllByRecursion P (cond b (x ∷ filter test xs) (filter test xs))) [ true ↦ (h.0, rest) | false ↦ rest ]
+
+pub all_tests : {A : Type 0} (test : A → Bool) (xs : List A) → AllByRecursion (λ x. test x ≡ true) (filter test xs)
+all_tests test [] = tt
+all_tests test (x ∷ xs) = by (test x) refl (all_tests test xs)
+  where
+    by : (b : Bool) → test x ≡ b → AllByRecursion (λ x. test x ≡ true) (filter test xs) → AllByRecursion (λ x. test x ≡ true) (cond b (x ∷ filter test xs) (filter test xs))
+    by true e rest = (e, rest)
+    by false e rest = rest
+
+pub all_map : {A : Type 0} (P Q : A → Type 0) → ((x : A) → P x → Q x) → (xs : List A) → AllByRecursion P xs → AllByRecursion Q xs
+all_map P Q f [] h = tt
+all_map P Q f (x ∷ xs) h = (f x h.0, all_map P Q f xs h.1)
+
+module _ (P : Listed → Type 0) where
+  pub all_placed : (xs : List Listed) (x : Listed) → AllByRecursion P xs → P x → AllByRecursion P (placed xs x)
+  all_placed [] x h g = (g, tt)
+  all_placed (first ∷ xs) x h g =
+      let rest = all_placed xs x h.1 g in
+      elim (is_prefix (path_in x.1.path) (path_in first.1.path) && not (same_path (path_in x.1.path) (path_in first.1.path))) as (λ b. AllByRecursion P (cond b (x ∷ first ∷ xs) (first ∷ placed xs x))) [
+        | true ↦ (g, h)
+        | false ↦ (h.0, rest)
+      ]
+
+  all_folded : (xs acc : List Listed) → AllByRecursion P acc → AllByRecursion P xs → AllByRecursion P (fold placed acc xs)
+  all_folded [] acc h g = h
+  all_folded (x ∷ xs) acc h g = all_folded xs (placed acc x) (all_placed acc x h g.0) g.1
+
+  -- the lines that make an object, in their order
+  abbrev pub makers : List Listed → List Listed
+  makers lines = fold placed [] (filter (λ line. is_creating line.1) lines)
+
+  -- and those that adjust what is there
+  abbrev pub adjusters : List Listed → List Listed
+  adjusters lines = filter (λ line. is_touching line.1) lines
+
+  pub all_makers : (lines : List Listed) → AllByRecursion P lines → AllByRecursion P (makers lines)
+  all_makers lines h = all_folded (filter (λ line. is_creating line.1) lines) [] tt (all_filter P (λ line. is_creating line.1) lines h)
+
+  pub all_ordered : (lines : List Listed) → AllByRecursion P lines → AllByRecursion P (ordered lines)
+  all_ordered lines h = all_append P (makers lines) (adjusters lines) (all_makers lines h) (all_filter P (λ line. is_touching line.1) lines h)
+
+-- each of them makes an object
+pub makers_create : (lines : List Listed) → AllByRecursion (λ (line : Listed). is_creating line.1 ≡ true) (fold placed [] (filter (λ line. is_creating line.1) lines))
+makers_create lines = all_folded (λ (line : Listed). is_creating line.1 ≡ true) (filter (λ line. is_creating line.1) lines) [] tt (all_tests (λ (line : Listed). is_creating line.1) lines)
+
+pub all_listed : (P : Line → Type 0) (n : ℕ) (lines : List Line) → AllByRecursion P lines → AllByRecursion (λ (line : Listed). P line.1) (enumerate_from n lines)
+all_listed P n [] h = tt
+all_listed P n (line ∷ lines) h = (h.0, all_listed P (n + 1) lines h.1)
+
+all_unlisted : (P : Line → Type 0) (lines : List Listed) → AllByRecursion (λ (line : Listed). P line.1) lines → AllByRecursion P (map (λ line. line.1) lines)
+all_unlisted P [] h = tt
+all_unlisted P (line ∷ lines) h = (h.0, all_unlisted P lines h.1)
+
+pub all_in_order : (P : Line → Type 0) (lines : List Line) → AllByRecursion P lines → AllByRecursion P (in_create_order lines)
+all_in_order P lines h = all_unlisted P (ordered (enumerate_from 0 lines)) (all_ordered (λ (line : Listed). P line.1) (enumerate_from 0 lines) (all_listed P 0 lines h))
+
+-- each stands at its place
+pub all_at : (lines rest : List Line) (n : ℕ) → ((i : ℕ) → slice_get lines (n + i) ≡ slice_get rest i) → AllByRecursion (λ (line : Listed). IsAt lines line.0 line.1) (enumerate_from n rest)
+all_at lines [] n h = tt
+all_at lines (line ∷ rest) n h = (
+  (let same : n ≡ n + 0 = omega arith in ap (slice_get lines) same ∙ h 0),
+  all_at lines rest (n + 1) (λ i. (let same : n + 1 + i ≡ n + suc i = omega arith in ap (slice_get lines) same ∙ h (suc i))),
+)
+
+-- ---- what lies above comes first
+
+-- a relation between each element and each after it
+abbrev pub Pairwise : {A : Type 0} → (A → A → Type 0) → List A → Type 0
+Pairwise R [] = ⊤
+Pairwise R (x ∷ xs) = AllByRecursion (R x) xs × Pairwise R xs
+
+-- the path of a line
+abbrev pub path_of : Listed → Path
+path_of line = path_in line.1.path
+
+-- two lines make different objects
+abbrev pub Differ : Listed → Listed → Type 0
+Differ a b = path_of a ≢ path_of b
+
+-- the path of the second is not above that of the first, nor the same
+abbrev pub ComesAfter : Listed → Listed → Type 0
+ComesAfter a b = is_prefix (path_of b) (path_of a) ≡ false
+
+placed_ordered : (xs : List Listed) (x : Listed) → Pairwise ComesAfter xs → AllByRecursion (λ y. Differ y x) xs → Pairwise ComesAfter (placed xs x)
+placed_ordered [] x h other = (tt, tt)
+placed_ordered (first ∷ xs) x h other = by (is_prefix (path_of x) (path_of first)) refl (same_path (path_of x) (path_of first)) refl (placed_ordered xs x h.1 other.1)
+  where
+    not_above : is_prefix (path_of x) (path_of first) ≡ true → (y : Listed) → (is_prefix (path_of y) (path_of x) ≡ true → ⊥) → ComesAfter x y
+    not_above below y never = at (is_prefix (path_of y) (path_of x)) refl
+      where
+        at : (b : Bool) → is_prefix (path_of y) (path_of x) ≡ b → is_prefix (path_of y) (path_of x) ≡ false
+        at true e = absurd (never e)
+        at false e = e
+
+    before : is_prefix (path_of x) (path_of first) ≡ true → AllByRecursion (ComesAfter x) (first ∷ xs)
+    before below = (
+      not_above below first (λ e. other.0 (is_prefix-antisym (path_of first) (path_of x) e below)),
+      all_map (ComesAfter first) (ComesAfter x) (λ y after. not_above below y (λ e. apart (is_prefix (path_of y) (path_of first)) (is_prefix-trans (path_of y) (path_of x) (path_of first) e below) after)) xs h.0,
+    )
+
+    by : (a : Bool) → is_prefix (path_of x) (path_of first) ≡ a → (s : Bool) → same_path (path_of x) (path_of first) ≡ s → Pairwise ComesAfter (placed xs x)
+        → Pairwise ComesAfter (cond (a && not s) (x ∷ first ∷ xs) (first ∷ placed xs x))
+    by true e true d rest = absurd (other.0 (sym ((same_path-decides (path_of x) (path_of first)).0 d)))
+    by true e false d rest = (before e, h)
+    by false e s d rest = (all_placed (ComesAfter first) xs x h.0 e, rest)
+
+folded_ordered : (xs acc : List Listed) → Pairwise ComesAfter acc → Pairwise Differ xs → AllByRecursion (λ x. AllByRecursion (λ y. Differ y x) acc) xs → Pairwise ComesAfter (fold placed acc xs)
+folded_ordered [] acc h differ other = h
+folded_ordered (x ∷ xs) acc h differ other = folded_ordered xs (placed acc x) (placed_ordered acc x h other.0) differ.1 (further xs differ.0 other.1)
+  where
+    further : (zs : List Listed) → AllByRecursion (Differ x) zs → AllByRecursion (λ z. AllByRecursion (λ y. Differ y z) acc) zs → AllByRecursion (λ z. AllByRecursion (λ y. Differ y z) (placed acc x)) zs
+    further [] f g = tt
+    further (z ∷ zs) f g = (all_placed (λ y. Differ y z) acc x g.0 f.0, further zs f.1 g.1)
+
+-- ---- no two lines make one object
+
+others : (line : Line) → is_creating line ≡ true → (n m : ℕ) (lines : List Line) → list_any (make_same line) lines ≡ false → AllByRecursion (Differ (n, line)) (filter (λ (l : Listed). is_creating l.1) (enumerate_from m lines))
+others line creates n m [] h = tt
+others line creates n m (l ∷ lines) h = by (is_creating l) refl (list_any (make_same line) lines) (others line creates n (m + 1) lines) h
+  where
+    differ : is_creating l ≡ true → make_same line l ≡ false → path_in line.path ≢ path_in l.path
+    differ c g e = apart (same_path (path_in line.path) (path_in l.path)) ((same_path-decides (path_in line.path) (path_in l.path)).1 e) (
+        sym (ap (λ b. b && is_creating l && same_path (path_in line.path) (path_in l.path)) creates ∙ ap (λ b. b && same_path (path_in line.path) (path_in l.path)) c) ∙ g)
+
+    first_no : (a b : Bool) → (a || b) ≡ false → a ≡ false
+    first_no true b g = impossible (sym g)
+    first_no false b g = refl
+
+    rest_no : (a b : Bool) → (a || b) ≡ false → b ≡ false
+    rest_no true b g = impossible (sym g)
+    rest_no false b g = g
+
+    by : (c : Bool) → is_creating l ≡ c → (any : Bool) → (list_any (make_same line) lines ≡ false → AllByRecursion (Differ (n, line)) (filter (λ (k : Listed). is_creating k.1) (enumerate_from (m + 1) lines))) → (make_same line l || list_any (make_same line) lines) ≡ false
+        → AllByRecursion (Differ (n, line)) (cond c ((m, l) ∷ filter (λ (k : Listed). is_creating k.1) (enumerate_from (m + 1) lines)) (filter (λ (k : Listed). is_creating k.1) (enumerate_from (m + 1) lines)))
+    by true e any rest g = (differ e (first_no (make_same line l) (list_any (make_same line) lines) g), rest (rest_no (make_same line l) (list_any (make_same line) lines) g))
+    by false e any rest g = rest (rest_no (make_same line l) (list_any (make_same line) lines) g)
+
+distinct_listed : (n : ℕ) (lines : List Line) → are_distinct lines ≡ true → Pairwise Differ (filter (λ (l : Listed). is_creating l.1) (enumerate_from n lines))
+distinct_listed n [] h = tt
+distinct_listed n (line ∷ lines) h =
+    by (is_creating line) refl (both (not (list_any (make_same line) lines)) (are_distinct lines) h) (distinct_listed (n + 1) lines)
+  where
+    negated : (b : Bool) → not b ≡ true → b ≡ false
+    negated true g = impossible g
+    negated false g = refl
+
+    by : (c : Bool) → is_creating line ≡ c → (not (list_any (make_same line) lines) ≡ true) × (are_distinct lines ≡ true)
+        → (are_distinct lines ≡ true → Pairwise Differ (filter (λ (l : Listed). is_creating l.1) (enumerate_from (n + 1) lines)))
+        → Pairwise Differ (cond c ((n, line) ∷ filter (λ (l : Listed). is_creating l.1) (enumerate_from (n + 1) lines)) (filter (λ (l : Listed). is_creating l.1) (enumerate_from (n + 1) lines)))
+    by true e two rest = (others line e n (n + 1) lines (negated (list_any (make_same line) lines) two.0), rest two.1)
+    by false e two rest = rest two.1
+
+-- so a line that makes an object comes before those that make one below it
+pub makers_ordered : (lines : List Line) → are_distinct lines ≡ true → Pairwise ComesAfter (fold placed [] (filter (λ (l : Listed). is_creating l.1) (enumerate_from 0 lines)))
+makers_ordered lines h = folded_ordered (filter (λ (l : Listed). is_creating l.1) (enumerate_from 0 lines)) [] tt (distinct_listed 0 lines h) (none (filter (λ (l : Listed). is_creating l.1) (enumerate_from 0 lines)))
+  where
+    none : (xs : List Listed) → AllByRecursion (λ (x : Listed). AllByRecursion (λ y. Differ y x) []) xs
+    none [] = tt
+    none (x ∷ xs) = (tt, none xs)

@@ -1,0 +1,49 @@
+-- What a run of lines, of which some copy, may have left when it was cut short, stamps and staging names aside
+-- (tmpfiles.d(5)).
+use Rattle.std.specs.Prelude.{◌≡◌, ◌≢◌, ◌⊎◌, ℕ, true, false, List, [], ◌∷◌, take, Option, Some, None, is_some}
+use Rattle.pv_path.specs.Paths.{Path, is_prefix, has_staging}
+use Rattle.pv_steps.specs.Same.{Same}
+use Rattle.pv_steps.specs.Trees.{Files, places}
+use Rattle.pv_dress.specs.declared.bare.Bare.{Bare}
+use Rattle.pv_dress.specs.Dividing.{parts}
+use Rattle.pv_dress.specs.Nodes.{bares_of}
+use Rattle.pv_dress.specs.Operations.{run}
+use Rattle.pv_lines.specs.declared.line.Line.{Line}
+use Rattle.pv_table.specs.declared.deed.Copying.{Copying}
+use Rattle.pv_table.specs.declared.deed.Deed.TheVariants.{Copy}
+use Rattle.pv_table.specs.Asking.{asks}
+use Rattle.pv_table.specs.Created.{by_line}
+use Rattle.pv_table.specs.Effects.{prepare}
+use Rattle.pv_table.specs.Pointwise.{parent_bare}
+use Rattle.pv_table.specs.Reaching.{path_in}
+use Rattle.pv_table.specs.Turns.{Subtree, Turn, view_of, copied, decide}
+use Rattle.pv_laws.specs.Stopping.{OnWay}
+
+-- at a path, from what stood there when a line that copies began, before its copy has come to its path: the same, or a
+-- parent; some of what is set, where the line adjusts; or nothing, where what stands there gives way
+pub data IsCopyMidway (path : Path) (copying : Copying) (turn : Turn) (q : Path) (old new : Option Bare) : Type 0 where
+  kept : new ≡ old → IsCopyMidway path copying turn q old new
+  parent : is_prefix q path ≡ true → q ≢ path → old ≡ None → new ≡ Some parent_bare → IsCopyMidway path copying turn q old new
+  some_set : (k : ℕ) → q ≡ path → turn ≡ Turn.Become copying.sets → new ≡ run (take k (parts copying.sets)) old → IsCopyMidway path copying turn q old new
+  gone : (subtree : Subtree) → is_prefix path q ≡ true → turn ≡ Turn.Put subtree → new ≡ None → IsCopyMidway path copying turn q old new
+
+-- what a line does at its path when it has prepared it
+abbrev pub turn_of : Line → Copying → ℕ → Files → Turn
+turn_of line copying now t = decide (Copy copying) (view_of (prepare now (path_in line.path) t)) (path_in line.path)
+
+-- a line that copies has not yet brought its copy to its path, at each path without a staging name
+abbrev pub BeforeCopy : Line → Copying → ℕ → Files → Files → Type 0
+BeforeCopy line copying now t u =
+    (is_some (places t copying.source) ≡ true)
+    × ((q : Path) → has_staging q ≡ false → IsCopyMidway (path_in line.path) copying (turn_of line copying now t) q (bares_of (places t) q) (bares_of (places u) q))
+
+-- on the way of one line: one that copies has not yet brought its copy, or is done; any other is on its way at each path
+pub data OnWayOf (line : Line) (now : ℕ) (t u : Files) : Type 0 where
+  copy_before : (copying : Copying) → asks line ≡ Copy copying → BeforeCopy line copying now t u → OnWayOf line now t u
+  copy_done : (copying : Copying) → asks line ≡ Copy copying → Same ((by_line now).after line t) u → OnWayOf line now t u
+  other : copied (asks line) ≡ None → OnWay line t u → OnWayOf line now t u
+
+-- on the way of lines one after the other
+abbrev pub PartwayOf : List Line → ℕ → Files → Files → Type 0
+PartwayOf [] now t u = Same t u
+PartwayOf (line ∷ lines) now t u = OnWayOf line now t u ⊎ PartwayOf lines now ((by_line now).after line t) u

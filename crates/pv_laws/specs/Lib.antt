@@ -1,0 +1,5 @@
+pub mod Moments
+pub mod Stopping
+pub mod CarryingOut
+pub mod Between
+pub mod Copying

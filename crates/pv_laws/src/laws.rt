@@ -1,0 +1,176 @@
+//! Laws of what lines that copy nothing leave. Each function does nothing; its contract is the law.
+ghost use Rattle.std.specs.Prelude.{◌≡◌, ◌≢◌, ℕ, Bool, List, [], take, length, Option, Some, true, false};
+ghost use Rattle.std.specs.List.{list_any, AllByRecursion};
+ghost use Rattle.pv_path.specs.Paths.{Path, is_prefix, has_staging, staging_of};
+ghost use Rattle.pv_steps.specs.Trees.{Files, places, IsTree, IsAbsentIn};
+ghost use Rattle.pv_steps.specs.Same.{Same};
+ghost use Rattle.pv_dress.specs.declared.bare.Bare.{Bare as BareValue};
+ghost use Rattle.pv_dress.specs.Nodes.{bares_of};
+ghost use Rattle.pv_dress.specs.Operations.{run};
+ghost use Rattle.pv_dress.specs.Reasons as reasons;
+ghost use Rattle.pv_lines.specs.declared.line.Line.{Line as LineValue};
+ghost use Rattle.pv_lines.specs.Lines.{IsLine};
+ghost use Rattle.pv_table.specs.declared.deed.Deed.TheVariants.{Create, Copy};
+ghost use Rattle.pv_table.specs.declared.deed.Copying.{Copying as CopyingValue};
+ghost use Rattle.pv_table.specs.declared.deed.Making.{Making as MakingValue};
+ghost use Rattle.pv_table.specs.Active.{active, are_distinct, in_create_order};
+ghost use Rattle.pv_table.specs.Asked.{operations, operations_of};
+ghost use Rattle.pv_table.specs.Asking.{asks};
+ghost use Rattle.pv_table.specs.Created.{after_each, by_line, created, created_messages, IsQuiet};
+ghost use Rattle.pv_table.specs.Pointwise.{Bares, state};
+ghost use Rattle.pv_table.specs.Reaching.{governs, path_in};
+ghost use Rattle.pv_table.specs.Repeatable.{IsAt, IsRepeatable};
+ghost use Rattle.pv_table.specs.Turns.{copied};
+ghost use Rattle.pv_laws.specs.Between.{IsOnTheWay};
+ghost use Rattle.pv_laws.specs.CarryingOut.{IsCarriedOut};
+ghost use Rattle.pv_laws.specs.Copying.{PartwayOf};
+ghost use Rattle.pv_laws.specs.Moments.{SameBares, Agree};
+ghost use Rattle.pv_laws.specs.Stopping.{CopiesNothing, IsPiece, Partway};
+
+/// What a line that is refused at no turn leaves at a path depends on what stood at this path alone: it is what the
+/// operations that the line asks for there make of it; stamps and staging names aside.
+pub fn a_line_leaves_what_it_asks_for()
+    ensures { (line : LineValue) (now : ℕ) (t : Files) (q : Path) → IsTree t → IsLine line → CopiesNothing line
+        → (by_line now).is_refused line t ≡ false → has_staging q ≡ false
+        → bares_of (places ((by_line now).after line t)) q ≡ run (operations line q) (bares_of (places t) q) }
+{}
+
+/// The same of a whole run of lines that refuses nothing, by the operations of all lines in their order.
+pub fn lines_leave_what_they_ask_for()
+    ensures { (lines : List LineValue) (now : ℕ) (t : Files) (q : Path) → IsTree t → AllByRecursion IsLine lines
+        → AllByRecursion CopiesNothing lines → IsQuiet lines now t → has_staging q ≡ false
+        → bares_of (places (created lines now t)) q
+        ≡ run (operations_of (in_create_order lines) q) (bares_of (places t) q) }
+{}
+
+/// Where no line has a reason, nothing is said against the operations that the lines ask for at any path.
+pub fn nothing_is_said_against_lines_without_reasons()
+    ensures { (lines : List LineValue) (q : Path) → AllByRecursion IsLine lines → are_distinct lines ≡ true
+        → IsRepeatable lines → reasons.IsRepeatable (operations_of (in_create_order lines) q) }
+{}
+
+/// So from what the first operations at a path have left there, or from the gap where an object is to be replaced, all
+/// operations end as they end from the start.
+pub fn a_piece_ends_as_the_start()
+    ensures { (lines : List LineValue) (q : Path) (old new : Option BareValue) → AllByRecursion IsLine lines
+        → are_distinct lines ≡ true → IsRepeatable lines → IsPiece (in_create_order lines) q old new
+        → run (operations_of (in_create_order lines) q) new ≡ run (operations_of (in_create_order lines) q) old }
+{}
+
+/// What a run of lines has left on its way, with some lines done and the next at work, is such a piece at each path.
+pub fn what_is_on_the_way_is_a_piece()
+    ensures { (lines : List LineValue) (now : ℕ) (t u : Files) (q : Path) → IsTree t → AllByRecursion IsLine lines
+        → AllByRecursion CopiesNothing lines → IsQuiet lines now t → Partway (in_create_order lines) now t u
+        → has_staging q ≡ false
+        → IsPiece (in_create_order lines) q (bares_of (places t) q) (bares_of (places u) q) }
+{}
+
+/// From a tree with such a piece at each path a whole run of the lines, at any moment, leaves what it leaves from the
+/// start, where neither run refuses a line at a turn; stamps and staging names aside.
+pub fn a_run_from_pieces_is_mended()
+    ensures { (lines : List LineValue) (now later : ℕ) (t u : Files) → IsTree t → IsTree u
+        → AllByRecursion IsLine lines → AllByRecursion CopiesNothing lines → are_distinct lines ≡ true
+        → IsRepeatable lines → IsQuiet lines now t → IsQuiet lines later u
+        → ((q : Path) → has_staging q ≡ false
+        → IsPiece (in_create_order lines) q (bares_of (places t) q) (bares_of (places u) q))
+        → Same (created lines later u) (created lines now t) }
+{}
+
+/// So a run of the lines that was cut short, and is then run whole, leaves what one whole run leaves.
+pub fn a_run_cut_short_is_mended()
+    ensures { (lines : List LineValue) (now later : ℕ) (t u : Files) → IsTree t → IsTree u
+        → AllByRecursion IsLine lines → AllByRecursion CopiesNothing lines → are_distinct lines ≡ true
+        → IsRepeatable lines → IsQuiet lines now t → IsQuiet lines later u
+        → Partway (in_create_order lines) now t u → Same (created lines later u) (created lines now t) }
+{}
+
+/// Whether a run of lines refuses one at some turn needs no moment, and no stamps; copies included.
+pub fn quiet_needs_no_moment()
+    ensures { (lines : List LineValue) (now later : ℕ) (t u : Files) → SameBares t u → IsQuiet lines now t
+        → IsQuiet lines later u }
+{}
+
+/// So it is with what a run says, and with what it leaves, stamps aside; copies included.
+pub fn messages_and_trees_need_no_moment()
+    ensures said { (lines : List LineValue) (now later : ℕ) (t u : Files) → SameBares t u
+        → created_messages lines now t ≡ created_messages lines later u }
+    ensures left { (lines : List LineValue) (now later : ℕ) (t u : Files) → SameBares t u
+        → SameBares (created lines now t) (created lines later u) }
+{}
+
+/// What no line governs stays as it is, after a whole run and on its way, whatever is refused; stamps and staging
+/// names aside.
+pub fn what_no_line_governs_stays()
+    ensures whole { (lines : List LineValue) (now : ℕ) (t : Files) (q : Path) → IsTree t → AllByRecursion IsLine lines
+        → AllByRecursion CopiesNothing lines → has_staging q ≡ false
+        → list_any (λ line. governs line q) lines ≡ false
+        → bares_of (places (created lines now t)) q ≡ bares_of (places t) q }
+    ensures stopped { (lines : List LineValue) (now : ℕ) (t u : Files) (q : Path) → IsTree t → AllByRecursion IsLine lines
+        → AllByRecursion CopiesNothing lines → has_staging q ≡ false
+        → list_any (λ line. governs line q) lines ≡ false → Partway (in_create_order lines) now t u
+        → bares_of (places u) q ≡ bares_of (places t) q }
+{}
+
+/// A whole run leaves nothing at the staging names along the path of a line that makes or copies an object and was
+/// refused at no turn, where what it copies was there, whatever earlier runs have left there.
+pub fn a_run_leaves_no_staging_name()
+    ensures made { (lines : List LineValue) (line : LineValue) (making : MakingValue) (now : ℕ) (t : Files)
+        (place : Path) → AllByRecursion IsLine lines → IsCarriedOut line (in_create_order lines) now t
+        → asks line ≡ Create making → is_prefix place (path_in line.path) ≡ true → place ≢ []
+        → IsAbsentIn (places (created lines now t)) (staging_of place) }
+    ensures copied { (lines : List LineValue) (line : LineValue) (copying : CopyingValue) (now : ℕ) (t : Files)
+        (place : Path) → AllByRecursion IsLine lines → IsCarriedOut line (in_create_order lines) now t
+        → asks line ≡ Copy copying → is_prefix place (path_in line.path) ≡ true → place ≢ []
+        → IsAbsentIn (places (created lines now t)) (staging_of place) }
+{}
+
+/// The definition of what lines leave at each path by itself gives what they leave, after each number of lines, where
+/// none is refused at a turn; stamps and staging names aside.
+pub fn each_path_by_itself_is_what_lines_leave()
+    ensures some { (lines : List LineValue) (now k : ℕ) (s : Bares) (t : Files) → IsTree t → AllByRecursion IsLine lines
+        → AllByRecursion CopiesNothing lines → IsQuiet lines now t → Agree s t
+        → Agree (state lines k s) (after_each (by_line now) (take k (in_create_order lines)) t) }
+    ensures all { (lines : List LineValue) (now : ℕ) (s : Bares) (t : Files) → IsTree t → AllByRecursion IsLine lines
+        → AllByRecursion CopiesNothing lines → IsQuiet lines now t → Agree s t
+        → Agree (state lines (length (in_create_order lines)) s) (created lines now t) }
+{}
+
+/// No two active lines make one object, and they have no reason where the lines that were read have none.
+pub fn active_lines_are_distinct()
+    ensures distinct { (boot : Bool) (prefix exclude : Option Path) (lines : List LineValue)
+        → are_distinct (active boot prefix exclude lines) ≡ true }
+    ensures repeatable { (boot : Bool) (prefix exclude : Option Path) (lines : List LineValue) → IsRepeatable lines
+        → IsRepeatable (active boot prefix exclude lines) }
+{}
+
+/// On the way of a run that refuses nothing each path has, for one line and all paths, the kind and the owner that it
+/// has before the line or after it; what is absent is absent before or after, or the line is to replace it.
+pub fn on_the_way_each_path_is_between_two_lines()
+    ensures { (lines : List LineValue) (now : ℕ) (s : Bares) (t u : Files) → IsTree t → AllByRecursion IsLine lines
+        → AllByRecursion CopiesNothing lines → IsQuiet lines now t → Agree s t
+        → Partway (in_create_order lines) now t u → IsOnTheWay lines s u }
+{}
+
+/// The same with lines that copy, where no line has a reason.
+pub fn each_path_by_itself_is_what_lines_without_reasons_leave()
+    ensures some { (lines : List LineValue) (now k : ℕ) (s : Bares) (t : Files) → IsTree t → AllByRecursion IsLine lines
+        → IsRepeatable lines → IsQuiet lines now t → Agree s t
+        → Agree (state lines k s) (after_each (by_line now) (take k (in_create_order lines)) t) }
+    ensures all { (lines : List LineValue) (now : ℕ) (s : Bares) (t : Files) → IsTree t → AllByRecursion IsLine lines
+        → IsRepeatable lines → IsQuiet lines now t → Agree s t
+        → Agree (state lines (length (in_create_order lines)) s) (created lines now t) }
+{}
+
+/// Where no line has a reason, what stands at and below a path that a line copies stays as it is, after a whole run that
+/// refuses nothing and on its way; lines that copy are among the lines.
+pub fn what_lines_copy_stays()
+    ensures whole { (lines : List LineValue) (j : ℕ) (copier : LineValue) (source q : Path) (now : ℕ) (t : Files)
+        → AllByRecursion IsLine lines → IsRepeatable lines → IsAt lines j copier → copied (asks copier) ≡ Some source
+        → is_prefix source q ≡ true → has_staging q ≡ false → IsTree t
+        → IsQuiet lines now t → bares_of (places (created lines now t)) q ≡ bares_of (places t) q }
+    ensures stopped { (lines : List LineValue) (j : ℕ) (copier : LineValue) (source q : Path) (now : ℕ) (t u : Files)
+        → AllByRecursion IsLine lines → IsRepeatable lines → IsAt lines j copier → copied (asks copier) ≡ Some source
+        → is_prefix source q ≡ true → has_staging q ≡ false → IsTree t
+        → IsQuiet lines now t → PartwayOf (in_create_order lines) now t u
+        → bares_of (places u) q ≡ bares_of (places t) q }
+{}

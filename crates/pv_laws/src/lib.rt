@@ -1,0 +1,13 @@
+//! Laws of what lines of configuration leave (tmpfiles.d(5)), over the definitions alone: at each path by itself, and
+//! after a run that was cut short.
+#![tactic(auto)]
+
+mod laws;
+
+pub use laws::{
+    a_line_leaves_what_it_asks_for, a_piece_ends_as_the_start, a_run_cut_short_is_mended,
+    a_run_from_pieces_is_mended, a_run_leaves_no_staging_name, lines_leave_what_they_ask_for,
+    messages_and_trees_need_no_moment, nothing_is_said_against_lines_without_reasons,
+    on_the_way_each_path_is_between_two_lines, quiet_needs_no_moment,
+    what_is_on_the_way_is_a_piece, what_lines_copy_stays, what_no_line_governs_stays,
+};
