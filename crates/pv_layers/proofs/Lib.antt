@@ -1,2 +1,3 @@
 pub mod FolderLaws
 pub mod ChoiceLaws
+pub mod InputLaws

@@ -4,6 +4,8 @@
 mod chosen;
 mod folders;
 mod found;
+mod laws;
 mod words;
 
 pub use chosen::{Chosen, chosen_files};
+pub use laws::{the_choice_depends_on_the_folders, the_chosen_stand_in_the_folders};

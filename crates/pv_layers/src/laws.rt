@@ -1,0 +1,21 @@
+//! Laws of the choice of configuration files. Each function does nothing; its contract is the law.
+ghost use Rattle.std.specs.Prelude.{◌≡◌, ℕ, List};
+ghost use Rattle.std.specs.List.{AllByRecursion};
+ghost use Rattle.pv_text.specs.declared.tool.Tool.{Tool as ToolValue};
+ghost use Rattle.pv_steps.specs.Trees.{Files};
+ghost use Rattle.pv_layers.specs.Choices.{chosen};
+ghost use Rattle.pv_layers.specs.Folders.{folders};
+ghost use Rattle.pv_layers.specs.Inputs.{is_within, AreInput, IsPlain, SameContent};
+
+/// What a tool chooses is the same of trees with the same presence, kinds and payloads in its
+/// folders, where each word that begins with a slash spells a path there or none.
+pub fn the_choice_depends_on_the_folders()
+    ensures { (t u : Files) (tool : ToolValue) (words : List (List ℕ)) → SameContent (is_within (folders tool)) t u
+        → AllByRecursion (IsPlain (is_within (folders tool))) words → chosen t tool words ≡ chosen u tool words }
+{}
+
+/// For such words the chosen files stand in the folders of the tool.
+pub fn the_chosen_stand_in_the_folders()
+    ensures { (files : Files) (tool : ToolValue) (words : List (List ℕ)) → AllByRecursion (IsPlain (is_within (folders tool))) words
+        → AreInput (is_within (folders tool)) (chosen files tool words).files }
+{}
