@@ -5,7 +5,6 @@ use Rattle.std.proofs.lemmas.List.Folds.{list_all-append}
 use Rattle.pv_acl.proofs.Booleans.{both}
 use Rattle.pv_acl.proofs.Splitting.{split_none, split_at}
 use Rattle.pv_accounts.specs.Edits.{text_of, lacks_end, is_behind_new, is_end, with_entry, members_of, is_member, member_suffix, longer, with_member}
-use Rattle.pv_accounts.specs.Entries.{is_group}
 use Rattle.pv_accounts.specs.Files.{lines_of}
 use Rattle.pv_accounts.specs.Kinds.{is_entry_named}
 use Rattle.pv_accounts.proofs.Pieces.{split_cons}
@@ -57,38 +56,38 @@ suffix_lack : (user members : List ℕ) → lacks_end user ≡ true → lacks_en
 suffix_lack user [] h = h
 suffix_lack user (b ∷ bs) h = h
 
-longer_lack : (user line : List ℕ) → lacks_end user ≡ true → lacks_end line ≡ true → lacks_end (longer user line) ≡ true
-longer_lack user line h k = by_test (is_member user (members_of line))
+longer_lack : (test : List (List ℕ) → Bool) (user line : List ℕ) → lacks_end user ≡ true → lacks_end line ≡ true → lacks_end (longer test user line) ≡ true
+longer_lack test user line h k = by_test (is_member user (members_of test line))
   where
-    by_test : (b : Bool) → lacks_end (if b then line else line ++ member_suffix user (members_of line)) ≡ true
+    by_test : (b : Bool) → lacks_end (if b then line else line ++ member_suffix user (members_of test line)) ≡ true
     by_test true = k
-    by_test false = rw (list_all-append (λ b. not (b == 10)) line (member_suffix user (members_of line)), k) (suffix_lack user (members_of line) h)
+    by_test false = rw (list_all-append (λ b. not (b == 10)) line (member_suffix user (members_of test line)), k) (suffix_lack user (members_of test line) h)
 
-member_lack : (group user : List ℕ) (lines : List (List ℕ)) → lacks_end user ≡ true → list_all lacks_end lines ≡ true → list_all lacks_end (with_member group user lines) ≡ true
-member_lack group user [] h k = refl
-member_lack group user (l ∷ ls) h k =
+member_lack : (test : List (List ℕ) → Bool) (group user : List ℕ) (lines : List (List ℕ)) → lacks_end user ≡ true → list_all lacks_end lines ≡ true → list_all lacks_end (with_member test group user lines) ≡ true
+member_lack test group user [] h k = refl
+member_lack test group user (l ∷ ls) h k =
     let parts = both (lacks_end l) (list_all lacks_end ls) k in
-    by_test (is_entry_named is_group group l) parts.0 parts.1 (member_lack group user ls h parts.1)
+    by_test (is_entry_named test group l) parts.0 parts.1 (member_lack test group user ls h parts.1)
   where
-    by_test : (b : Bool) → lacks_end l ≡ true → list_all lacks_end ls ≡ true → list_all lacks_end (with_member group user ls) ≡ true
-        → list_all lacks_end (if b then longer user l ∷ ls else l ∷ with_member group user ls) ≡ true
-    by_test true here after rest = rw (longer_lack user l h here) after
+    by_test : (b : Bool) → lacks_end l ≡ true → list_all lacks_end ls ≡ true → list_all lacks_end (with_member test group user ls) ≡ true
+        → list_all lacks_end (if b then longer test user l ∷ ls else l ∷ with_member test group user ls) ≡ true
+    by_test true here after rest = rw (longer_lack test user l h here) after
     by_test false here after rest = rw here rest
 
-member_some : (group user : List ℕ) (lines : List (List ℕ)) → HasLine lines → HasLine (with_member group user lines)
-member_some group user [] (l, (ls, e)) = cc
-member_some group user (l ∷ ls) some = by_test (is_entry_named is_group group l)
+member_some : (test : List (List ℕ) → Bool) (group user : List ℕ) (lines : List (List ℕ)) → HasLine lines → HasLine (with_member test group user lines)
+member_some test group user [] (l, (ls, e)) = cc
+member_some test group user (l ∷ ls) some = by_test (is_entry_named test group l)
   where
-    by_test : (b : Bool) → HasLine (if b then longer user l ∷ ls else l ∷ with_member group user ls)
-    by_test true = (longer user l, (ls, refl))
-    by_test false = (l, (with_member group user ls, refl))
+    by_test : (b : Bool) → HasLine (if b then longer test user l ∷ ls else l ∷ with_member test group user ls)
+    by_test true = (longer test user l, (ls, refl))
+    by_test false = (l, (with_member test group user ls, refl))
 
 pub entry_lines : (entry file : List ℕ) → lacks_end entry ≡ true → lines_of (text_of (with_entry entry (lines_of file))) ≡ with_entry entry (lines_of file)
 entry_lines entry file h = lines_back (with_entry entry (lines_of file)) (entry_some entry (lines_of file)) (entry_lack entry (lines_of file) h (lines_lack file))
 
-pub member_lines : (group user file : List ℕ) → lacks_end user ≡ true → lines_of (text_of (with_member group user (lines_of file))) ≡ with_member group user (lines_of file)
-member_lines group user file h =
-    lines_back (with_member group user (lines_of file)) (member_some group user (lines_of file) (split_cons 10 file)) (member_lack group user (lines_of file) h (lines_lack file))
+pub member_lines : (test : List (List ℕ) → Bool) (group user file : List ℕ) → lacks_end user ≡ true → lines_of (text_of (with_member test group user (lines_of file))) ≡ with_member test group user (lines_of file)
+member_lines test group user file h =
+    lines_back (with_member test group user (lines_of file)) (member_some test group user (lines_of file) (split_cons 10 file)) (member_lack test group user (lines_of file) h (lines_lack file))
 
 -- what holds of the text of a result holds of its lines
 pub if_ok_lines : {V E : Type 0} (items : V → List ℕ) (r : Result V E) (lines : List (List ℕ)) → lines_of (text_of lines) ≡ lines → IfOk r (λ v. items v ≡ text_of lines) → IfOk r (λ v. lines_of (items v) ≡ lines)

@@ -1,10 +1,11 @@
--- Account files with one more entry or one more member (passwd(5), group(5), shadow(5)).
+-- Account files with more entries or more members (passwd(5), group(5), shadow(5), gshadow(5)).
 use Rattle.std.specs.Prelude.{ℕ, ◌+◌, Bool, true, false, not, ◌==◌, List, [], ◌∷◌, ◌++◌, if◌then◌else◌}
 use Rattle.std.specs.List.{join_with_byte, list_all, list_any, slice_split}
 use Rattle.std.specs.Option.{option_map_or}
 use Rattle.std.specs.Str.{bytes_eq}
 use Rattle.pv_accounts.specs.Bytes.{comma, line_end, plus}
-use Rattle.pv_accounts.specs.Entries.{entry_of, is_group}
+use Rattle.pv_accounts.specs.Entries.{entry_of}
+use Rattle.pv_accounts.specs.Files.{lines_of}
 use Rattle.pv_accounts.specs.Kinds.{is_entry_named}
 
 -- the text of lines: line ends between them
@@ -26,15 +27,25 @@ abbrev pub is_end : List (List ℕ) → Bool
 is_end [] = true
 is_end (line ∷ lines) = false
 
--- the lines with an entry before the first that begins with `+`, else at the end, where each line then
+-- the lines with entries before the first that begins with `+`, else at the end, where each line then
 -- has its end; all other lines stay as they are
-abbrev pub with_entry : List ℕ → List (List ℕ) → List (List ℕ)
-with_entry entry [] = entry ∷ [] ∷ []
-with_entry entry (line ∷ lines) = if is_behind_new (is_end lines) line then entry ∷ line ∷ lines else line ∷ with_entry entry lines
+abbrev pub with_entries : List (List ℕ) → List (List ℕ) → List (List ℕ)
+with_entries entries [] = entries ++ [] ∷ []
+with_entries entries (line ∷ lines) =
+    if is_behind_new (is_end lines) line then entries ++ line ∷ lines else line ∷ with_entries entries lines
 
--- the members of a group: the last field of its entry
-abbrev pub members_of : List ℕ → List ℕ
-members_of line = option_map_or last_field (entry_of is_group line) []
+-- the lines with one entry more
+abbrev pub with_entry : List ℕ → List (List ℕ) → List (List ℕ)
+with_entry entry lines = with_entries (entry ∷ []) lines
+
+-- a file with more entries; where there are none it stays as it is
+abbrev pub appended : List (List ℕ) → List ℕ → List ℕ
+appended [] file = file
+appended (entry ∷ entries) file = text_of (with_entries (entry ∷ entries) (lines_of file))
+
+-- the members of a group: the last of the four fields of its entry
+abbrev pub members_of : (List (List ℕ) → Bool) → List ℕ → List ℕ
+members_of test line = option_map_or last_field (entry_of test line) []
   where
     last_field : List (List ℕ) → List ℕ
     last_field (name ∷ password ∷ gid ∷ members ∷ fields) = members
@@ -51,15 +62,16 @@ member_suffix user [] = user
 member_suffix user (b ∷ bs) = comma ∷ user
 
 -- the line of a group with a user at the end of its members, where he is not among them
-abbrev pub longer : List ℕ → List ℕ → List ℕ
-longer user line = if is_member user (members_of line) then line else line ++ member_suffix user (members_of line)
+abbrev pub longer : (List (List ℕ) → Bool) → List ℕ → List ℕ → List ℕ
+longer test user line =
+    if is_member user (members_of test line) then line else line ++ member_suffix user (members_of test line)
 
 -- the lines with a user among the members of the first entry of a group; all other lines stay as they
 -- are
-abbrev pub with_member : List ℕ → List ℕ → List (List ℕ) → List (List ℕ)
-with_member group user [] = []
-with_member group user (line ∷ lines) =
-    if is_entry_named is_group group line then longer user line ∷ lines else line ∷ with_member group user lines
+abbrev pub with_member : (List (List ℕ) → Bool) → List ℕ → List ℕ → List (List ℕ) → List (List ℕ)
+with_member test group user [] = []
+with_member test group user (line ∷ lines) =
+    if is_entry_named test group line then longer test user line ∷ lines else line ∷ with_member test group user lines
 
 -- how many lines stand before a new entry
 abbrev pub entry_place : List (List ℕ) → ℕ

@@ -1,4 +1,4 @@
--- The lines of account files that are entries (passwd(5), group(5), shadow(5)).
+-- The lines of account files that are entries (passwd(5), group(5), shadow(5), gshadow(5)).
 use Rattle.std.specs.Prelude.{◌≡◌, ℕ, Bool, false, not, ◌&&◌, ◌==◌, List, [], ◌∷◌, Option, Some, None, is_some, if◌then◌else◌}
 use Rattle.std.specs.List.{slice_split}
 use Rattle.pv_acl.specs.Spelling.{decimal_id}
@@ -35,6 +35,11 @@ is_group fields = false
 abbrev pub is_shadow : List (List ℕ) → Bool
 is_shadow (name ∷ password ∷ changed ∷ least ∷ most ∷ warn ∷ inactive ∷ expire ∷ reserved ∷ []) = is_entry_name name
 is_shadow fields = false
+
+-- the four fields of an entry of /etc/gshadow
+abbrev pub is_gshadow : List (List ℕ) → Bool
+is_gshadow (name ∷ password ∷ administrators ∷ members ∷ []) = is_entry_name name
+is_gshadow fields = false
 
 -- the fields of a line that is an entry by a test
 abbrev pub entry_of : (List (List ℕ) → Bool) → List ℕ → Option (List (List ℕ))

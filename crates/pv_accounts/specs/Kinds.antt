@@ -1,10 +1,10 @@
--- The kinds of account files, and what an entry is in each (passwd(5), group(5), shadow(5)).
-use Rattle.std.specs.Prelude.{ℕ, Bool, false, ◌&&◌, ◌==◌, List, Option, Some, None, option_and_then, if◌then◌else◌}
+-- The kinds of account files, and what an entry is in each (passwd(5), group(5), shadow(5), gshadow(5)).
+use Rattle.std.specs.Prelude.{ℕ, Bool, true, false, ◌&&◌, ◌==◌, List, Option, Some, None, option_and_then, if◌then◌else◌}
 use Rattle.std.specs.List.{position_or_len}
 use Rattle.std.specs.Option.{option_map_or}
 use Rattle.pv_accounts.specs.declared.find.Kind.{Kind}
-use Rattle.pv_accounts.specs.declared.find.Kind.TheVariants.{Passwd, Group, Shadow}
-use Rattle.pv_accounts.specs.Entries.{entry_of, is_passwd, is_group, is_shadow}
+use Rattle.pv_accounts.specs.declared.find.Kind.TheVariants.{Passwd, Group, Shadow, Gshadow}
+use Rattle.pv_accounts.specs.Entries.{entry_of, is_passwd, is_group, is_shadow, is_gshadow}
 use Rattle.pv_accounts.specs.Files.{name_of, has_name, holds_beside}
 
 -- what makes a line an entry of a kind of file
@@ -12,6 +12,13 @@ abbrev pub test_of : Kind → List (List ℕ) → Bool
 test_of Passwd = is_passwd
 test_of Group = is_group
 test_of Shadow = is_shadow
+test_of Gshadow = is_gshadow
+
+-- whether the entries of a kind of file have members, which are the last of four fields
+abbrev pub has_members : Kind → Bool
+has_members Group = true
+has_members Gshadow = true
+has_members _ = false
 
 -- whether a line is an entry with this name
 abbrev pub is_entry_named : (List (List ℕ) → Bool) → List ℕ → List ℕ → Bool

@@ -4,3 +4,4 @@ pub mod EntryFields
 pub mod Files
 pub mod Kinds
 pub mod Edits
+pub mod InUse

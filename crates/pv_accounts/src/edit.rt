@@ -3,12 +3,14 @@ ghost use Rattle.std.specs.Prelude.{◌≡◌, ◌<◌, ◌≤◌, ◌==◌, ◌
 ghost use Rattle.std.specs.List.{flat_map, list_any, slice_split};
 ghost use Rattle.std.specs.Str.{bytes_eq};
 ghost use Rattle.pv_accounts.specs.Bytes.{comma, line_end};
-ghost use Rattle.pv_accounts.specs.Edits.{text_of, lacks_end, is_behind_new, with_entry, entry_place};
+ghost use Rattle.pv_accounts.specs.Edits.{text_of, lacks_end, is_behind_new, with_entry, appended, entry_place};
 ghost use Rattle.pv_accounts.specs.Edits.{members_of, is_member, member_suffix, longer, with_member};
+ghost use Rattle.pv_accounts.specs.Entries.{is_group, is_gshadow};
 ghost use Rattle.pv_accounts.specs.Files.{lines_of};
+ghost use Rattle.pv_accounts.specs.Kinds.{has_members, test_of};
 
-use crate::cut::cut;
-use crate::entry::group_entry;
+use crate::cutting::cut;
+use crate::entry::{group_entry, gshadow_parts};
 use crate::find::{Kind, place_of};
 use std::alloc::{AllocError, Global};
 
@@ -19,13 +21,24 @@ pub fn append_entry(alloc: Global, file: &[u8], entry: &[u8]) -> Result<Vec<u8>,
     ensures lines { let lines = with_entry entry.now (lines_of file.now) in
         lacks_end entry.now ≡ true → IfOk result (λ text. lines_of text.items ≡ lines) }
 {
+    append_entries(alloc, file, &[entry])
+}
+
+/// A text with more lines, all before the first line that begins with `+`, else at the end, where a last
+/// line without its end gets one first. All other lines stay as they are.
+pub fn append_entries(alloc: Global, file: &[u8], entries: &[&[u8]]) -> Result<Vec<u8>, AllocError>
+    ensures { IfOk result (λ text. text.items ≡ appended (map (λ entry. entry.now) entries.now) file.now) }
+{
+    if entries.is_empty() {
+        return Vec::from_slice(alloc, file);
+    }
     let pieces = split(alloc, file)?;
     let lines = pieces.as_slice();
     let at = entry_place(lines);
     if at < lines.len() {
-        joined(alloc, &lines[..at], entry, &lines[at..])
+        joined(alloc, &lines[..at], entries, lines[at], &lines[at + 1..])
     } else {
-        joined(alloc, lines, entry, &[b""])
+        joined(alloc, lines, entries, b"", &[])
     }
 }
 
@@ -37,17 +50,34 @@ pub fn add_member(
     group: &[u8],
     user: &[u8],
 ) -> Result<Vec<u8>, AllocError>
-    ensures text { let lines = with_member group.now user.now (lines_of file.now) in
+    ensures text { let lines = with_member is_group group.now user.now (lines_of file.now) in
         IfOk result (λ text. text.items ≡ text_of lines) }
-    ensures lines { let lines = with_member group.now user.now (lines_of file.now) in
+    ensures lines { let lines = with_member is_group group.now user.now (lines_of file.now) in
+        lacks_end user.now ≡ true → IfOk result (λ text. lines_of text.items ≡ lines) }
+{
+    add_member_in(alloc, Kind::Group, file, group, user)
+}
+
+/// The same in a file of a kind whose entries have members.
+pub fn add_member_in(
+    alloc: Global,
+    kind: Kind,
+    file: &[u8],
+    group: &[u8],
+    user: &[u8],
+) -> Result<Vec<u8>, AllocError>
+    requires { has_members kind ≡ true }
+    ensures text { let lines = with_member (test_of kind) group.now user.now (lines_of file.now) in
+        IfOk result (λ text. text.items ≡ text_of lines) }
+    ensures lines { let lines = with_member (test_of kind) group.now user.now (lines_of file.now) in
         lacks_end user.now ≡ true → IfOk result (λ text. lines_of text.items ≡ lines) }
 {
     let pieces = split(alloc, file)?;
     let lines = pieces.as_slice();
-    let at = place_of(Kind::Group, file, group);
+    let at = place_of(kind, file, group);
     if at < lines.len() {
-        let line = longer(alloc, lines[at], user)?;
-        joined(alloc, &lines[..at], line.as_slice(), &lines[at + 1..])
+        let line = longer(alloc, kind, lines[at], user)?;
+        joined(alloc, &lines[..at], &[], line.as_slice(), &lines[at + 1..])
     } else {
         Vec::from_slice(alloc, file)
     }
@@ -83,19 +113,21 @@ fn is_behind_new(is_last: bool, line: &[u8]) -> bool
     }
 }
 
-/// The text of lines, of which one is not in the file.
+/// The text of lines, of which some are not in the file.
 fn joined(
     alloc: Global,
     front: &[&[u8]],
+    entries: &[&[u8]],
     line: &[u8],
     back: &[&[u8]],
 ) -> Result<Vec<u8>, AllocError>
-    ensures { let before = map (λ line. line.now) front.now in
+    ensures { let before = map (λ line. line.now) front.now ++ map (λ entry. entry.now) entries.now in
         let after = map (λ line. line.now) back.now in
         IfOk result (λ text. text.items ≡ text_of (before ++ line.now ∷ after)) }
 {
     let mut text = Vec::new(alloc);
     add_ended(&mut text, front)?;
+    add_ended(&mut text, entries)?;
     text.extend_from_slice(line)?;
     add_begun(&mut text, back)?;
     Ok(text)
@@ -126,10 +158,11 @@ fn add_begun(text: &mut Vec<u8>, lines: &[&[u8]]) -> Result<(), AllocError>
 }
 
 /// The line of a group with a user at the end of its members, where he is not among them.
-fn longer(alloc: Global, line: &[u8], user: &[u8]) -> Result<Vec<u8>, AllocError>
-    ensures { IfOk result (λ text. text.items ≡ longer user.now line.now) }
+fn longer(alloc: Global, kind: Kind, line: &[u8], user: &[u8]) -> Result<Vec<u8>, AllocError>
+    requires { has_members kind ≡ true }
+    ensures { IfOk result (λ text. text.items ≡ longer (test_of kind) user.now line.now) }
 {
-    let members = members_in(line);
+    let members = members_in(kind, line);
     let mut text = Vec::from_slice(alloc, line)?;
     if is_member(user, members) {
         return Ok(text);
@@ -141,12 +174,34 @@ fn longer(alloc: Global, line: &[u8], user: &[u8]) -> Result<Vec<u8>, AllocError
     Ok(text)
 }
 
-/// The members of a group: the last field of its entry.
-fn members_in(line: &[u8]) -> &[u8]
-    ensures { result.now ≡ members_of line.now }
+/// The members of a group: the last of the four fields of its entry.
+fn members_in(kind: Kind, line: &[u8]) -> &[u8]
+    requires { has_members kind ≡ true }
+    ensures { result.now ≡ members_of (test_of kind) line.now }
+{
+    match kind {
+        Kind::Group => group_members(line),
+        Kind::Gshadow => gshadow_members(line),
+        Kind::Passwd | Kind::Shadow => unreachable!(),
+    }
+}
+
+/// The members in an entry of /etc/group.
+fn group_members(line: &[u8]) -> &[u8]
+    ensures { result.now ≡ members_of is_group line.now }
 {
     match group_entry(line) {
         Some(entry) => entry.members,
+        None => b"",
+    }
+}
+
+/// The members in an entry of /etc/gshadow.
+fn gshadow_members(line: &[u8]) -> &[u8]
+    ensures { result.now ≡ members_of is_gshadow line.now }
+{
+    match gshadow_parts(line) {
+        Some(fields) => fields.3,
         None => b"",
     }
 }

@@ -1,12 +1,12 @@
-//! Which lines are entries, and their fields (passwd(5), group(5), shadow(5)).
-ghost use Rattle.std.specs.Prelude.{◌≡◌, ◌≤◌, false, MatchOption, IfSome};
+//! Which lines are entries, and their fields (passwd(5), group(5), shadow(5), gshadow(5)).
+ghost use Rattle.std.specs.Prelude.{◌≡◌, ◌≤◌, ◌∷◌, [], false, MatchOption, IfSome};
 ghost use Rattle.std.specs.Option.{option_map};
 ghost use Rattle.pv_acl.specs.Spelling.{decimal_id};
 ghost use Rattle.pv_accounts.specs.Entries.{is_entry_name, is_decimal_id, fields_of, entry_of};
-ghost use Rattle.pv_accounts.specs.Entries.{is_passwd, is_group, is_shadow};
+ghost use Rattle.pv_accounts.specs.Entries.{is_passwd, is_group, is_shadow, is_gshadow};
 ghost use Rattle.pv_accounts.specs.EntryFields.{passwd_fields, group_fields, shadow_fields};
 
-use crate::cut::{cut, uncut};
+use crate::cutting::{cut, uncut};
 use pv_acl::number;
 
 /// An entry of /etc/passwd (passwd(5)), each field a slice of the file.
@@ -80,9 +80,28 @@ pub(crate) fn passwd_entry(line: &[u8]) -> Option<PasswdEntry<'_>>
 pub(crate) fn group_entry(line: &[u8]) -> Option<GroupEntry<'_>>
     ensures { option_map group_fields result ≡ entry_of is_group line.now }
 {
-    let entry = four_fields(line)?;
-    if is_entry_name(entry.name) && is_decimal_id(entry.gid) {
-        Some(entry)
+    let (name, password, gid, members) = four_fields(line)?;
+    if is_entry_name(name) && is_decimal_id(gid) {
+        Some(GroupEntry {
+            name,
+            password,
+            gid,
+            members,
+        })
+    } else {
+        None
+    }
+}
+
+/// The name and the three fields after it of the entry of /etc/gshadow that a line is, if it is one: the
+/// encrypted password, the administrators and the members of a group.
+pub fn gshadow_parts(line: &[u8]) -> Option<(&[u8], &[u8], &[u8], &[u8])>
+    ensures { let fields = option_map (λ f. f.0.now ∷ f.1.now ∷ f.2.now ∷ f.3.now ∷ []) result in
+        fields ≡ entry_of is_gshadow line.now }
+{
+    let fields = four_fields(line)?;
+    if is_entry_name(fields.0) {
+        Some(fields)
     } else {
         None
     }
@@ -124,20 +143,15 @@ fn seven_fields(line: &[u8]) -> Option<PasswdEntry<'_>>
 }
 
 /// The fields of a line that has four.
-fn four_fields(line: &[u8]) -> Option<GroupEntry<'_>>
-    ensures { MatchOption result (is_group (fields_of line.now) ≡ false)
-        (λ entry. fields_of line.now ≡ group_fields entry) }
+fn four_fields(line: &[u8]) -> Option<(&[u8], &[u8], &[u8], &[u8])>
+    ensures { MatchOption result ((is_group (fields_of line.now) ≡ false) × (is_gshadow (fields_of line.now) ≡ false))
+        (λ f. fields_of line.now ≡ f.0.now ∷ f.1.now ∷ f.2.now ∷ f.3.now ∷ []) }
 {
     let (name, rest) = cut(line, b':')?;
     let (password, rest) = cut(rest, b':')?;
-    let (gid, rest) = cut(rest, b':')?;
-    let members = uncut(rest, b':')?;
-    Some(GroupEntry {
-        name,
-        password,
-        gid,
-        members,
-    })
+    let (third, rest) = cut(rest, b':')?;
+    let fourth = uncut(rest, b':')?;
+    Some((name, password, third, fourth))
 }
 
 /// The fields of a line that has nine.

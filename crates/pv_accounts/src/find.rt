@@ -4,13 +4,14 @@ ghost use Rattle.std.specs.List.{position_or_len};
 ghost use Rattle.std.specs.Option.{option_map};
 ghost use Rattle.pv_accounts.specs.Entries.{entry_of};
 ghost use Rattle.pv_accounts.specs.Files.{lines_of, name_of, entry_named, id_in, id_named, holds_beside, holder_of};
+ghost use Rattle.pv_accounts.specs.InUse.{named_in};
 ghost use Rattle.pv_accounts.specs.Kinds.{test_of, is_entry_named, only_if, chosen_at};
 
-use crate::cut::cut;
-use crate::entry::{decimal_id, group_entry, passwd_entry, shadow_entry};
+use crate::cutting::cut;
+use crate::entry::{decimal_id, group_entry, gshadow_parts, passwd_entry, shadow_entry};
 
 /// Which account file it is.
-#[derive(Clone, Copy)]
+#[derive(Clone, Copy, Debug)]
 pub enum Kind {
     /// /etc/passwd, with an entry for each user.
     Passwd,
@@ -18,6 +19,8 @@ pub enum Kind {
     Group,
     /// /etc/shadow, with the password of each user.
     Shadow,
+    /// /etc/gshadow, with the password of each group.
+    Gshadow,
 }
 
 /// The name of the entry that a line is, if it is one.
@@ -37,6 +40,10 @@ fn name_in(kind: Kind, line: &[u8]) -> Option<&[u8]>
             let entry = shadow_entry(line)?;
             Some(entry.name)
         }
+        Kind::Gshadow => {
+            let fields = gshadow_parts(line)?;
+            Some(fields.0)
+        }
     }
 }
 
@@ -51,7 +58,7 @@ pub(crate) fn is_entry_named(kind: Kind, line: &[u8], name: &[u8]) -> bool
 }
 
 /// The first line of a file that is an entry with this name.
-pub(crate) fn find_line<'a>(kind: Kind, file: &'a [u8], name: &[u8]) -> Option<&'a [u8]>
+pub fn find_line<'a>(kind: Kind, file: &'a [u8], name: &[u8]) -> Option<&'a [u8]>
     ensures { let line = option_map (λ line. line.now) result in
         option_and_then (entry_of (test_of kind)) line ≡ entry_named (test_of kind) file.now name.now }
 {
@@ -106,7 +113,20 @@ fn id_in(kind: Kind, line: &[u8]) -> Option<u32>
             let entry = shadow_entry(line)?;
             decimal_id(entry.changed)
         }
+        Kind::Gshadow => {
+            let fields = gshadow_parts(line)?;
+            decimal_id(fields.2)
+        }
     }
+}
+
+/// The name and the ID of the entry that a line is, if it is one and has an ID.
+pub(crate) fn named_in(kind: Kind, line: &[u8]) -> Option<(&[u8], u32)>
+    ensures { option_map (λ named. (named.0.now, named.1)) result ≡ named_in (test_of kind) line.now }
+{
+    let name = name_in(kind, line)?;
+    let id = id_in(kind, line)?;
+    Some((name, id))
 }
 
 /// The ID of the first entry with this name.

@@ -1,16 +1,20 @@
-//! The account files /etc/passwd, /etc/group and /etc/shadow (passwd(5), group(5), shadow(5)): their
-//! entries as slices of the file, the holders of IDs, and files with one more entry or member.
+//! The account files /etc/passwd, /etc/group, /etc/shadow and /etc/gshadow (passwd(5), group(5), shadow(5),
+//! gshadow(5)): their entries as slices of the file, the holders of IDs, and files with more entries or members.
 #![tactic(auto)]
 
-mod cut;
+mod cutting;
 mod edit;
 mod entry;
 mod find;
+mod in_use;
 mod names;
 mod views;
 
-pub use edit::{add_member, append_entry};
-pub use entry::{GroupEntry, PasswdEntry, ShadowEntry};
+pub use cutting::{cut, uncut};
+pub use edit::{add_member, add_member_in, append_entries, append_entry};
+pub use entry::{GroupEntry, PasswdEntry, ShadowEntry, gshadow_parts};
+pub use find::{Kind, find_line};
+pub use in_use::InUse;
 pub use names::FileNames;
 pub use views::{GroupView, PasswdView, ShadowView, group_view, passwd_view, shadow_view};
 

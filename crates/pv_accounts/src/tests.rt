@@ -91,3 +91,41 @@ fn root_is_always_0(rt: HostRuntime) {
     assert!(rt; names.gid_of(b"adm") == Some(4));
     assert!(rt; names.uid_of(b"bin").is_none());
 }
+
+#[test]
+fn names_and_ids_are_in_use(rt: HostRuntime) -> Result<(), Fail> {
+    let file = b"a:x:5:\n# odd\nb:x:5:\na:x:6:\nc:x:7:";
+    let ids = InUse::of(rt.alloc(), Kind::Group, file)?;
+    let ids = ids.with(b"d", 8)?;
+    for (id, but, beside) in [
+        (5, b"a".as_slice(), true),
+        (5, b"", true),
+        (7, b"c", false),
+        (6, b"", false),
+        (8, b"a", true),
+        (8, b"d", false),
+    ] {
+        assert!(rt; ids.is_held_beside(id, but) == beside, "{id}");
+    }
+    assert!(rt; ids.id_of(b"a") == Some(5) && ids.id_of(b"e").is_none());
+    assert!(rt; ids.is_held(8) && !ids.is_held(6));
+    Ok(())
+}
+
+#[test]
+fn many_entries_are_put_at_once(rt: HostRuntime) -> Result<(), Fail> {
+    for (file, text) in [
+        (
+            b"a:x:1:\n+:::\n".as_slice(),
+            b"a:x:1:\nb:x:2:\nc:x:3:\n+:::\n".as_slice(),
+        ),
+        (b"a:x:1:", b"a:x:1:\nb:x:2:\nc:x:3:\n"),
+        (b"", b"b:x:2:\nc:x:3:\n"),
+    ] {
+        let after = append_entries(rt.alloc(), file, &[b"b:x:2:", b"c:x:3:"])?;
+        assert!(rt; after.as_slice() == text, "{file:?}");
+        let same = append_entries(rt.alloc(), file, &[])?;
+        assert!(rt; same.as_slice() == file, "{file:?}");
+    }
+    Ok(())
+}

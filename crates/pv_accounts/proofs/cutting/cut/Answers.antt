@@ -1,5 +1,5 @@
 use Rattle.pv_accounts.proofs.Pieces.{split_cut, split_whole}
-use Rattle.pv_accounts.proofs.cut.cut.Goals as goal
+use Rattle.pv_accounts.proofs.cutting.cut.Goals as goal
 
 pub returns-then-at-text-clause-parts : goal.returns-then-at-text-clause-parts
 returns-then-at-text-clause-parts c = split_cut c.args.byte c.args.text.now c.place_of-at.result c.place_of-at.ensures.place c.if-at-text.true

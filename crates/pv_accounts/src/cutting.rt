@@ -5,7 +5,7 @@ ghost use Rattle.pv_accounts.specs.Entries.{HasMore};
 
 /// What stands before the first place of a byte and what stands after it, or nothing where the text
 /// has no such byte.
-pub(crate) fn cut(text: &[u8], byte: u8) -> Option<(&[u8], &[u8])>
+pub fn cut(text: &[u8], byte: u8) -> Option<(&[u8], &[u8])>
     ensures parts { let pieces = slice_split (λ b. b == byte) text.now in
         MatchOption result (pieces ≡ text.now ∷ [])
         (λ parts. pieces ≡ parts.0.now ∷ slice_split (λ b. b == byte) parts.1.now) }
@@ -20,7 +20,7 @@ pub(crate) fn cut(text: &[u8], byte: u8) -> Option<(&[u8], &[u8])>
 }
 
 /// A text that has no such byte.
-pub(crate) fn uncut(text: &[u8], byte: u8) -> Option<&[u8]>
+pub fn uncut(text: &[u8], byte: u8) -> Option<&[u8]>
     ensures { let pieces = slice_split (λ b. b == byte) text.now in
         MatchOption result (HasMore pieces) (λ whole. pieces ≡ whole.now ∷ []) }
 {

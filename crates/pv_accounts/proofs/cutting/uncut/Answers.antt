@@ -1,6 +1,6 @@
 use Rattle.std.proofs.Common.{ap, ◌∙◌, List, ℕ, ◌∷◌}
 use Rattle.pv_accounts.proofs.Pieces.{split_cons}
-use Rattle.pv_accounts.proofs.cut.uncut.Goals as goal
+use Rattle.pv_accounts.proofs.cutting.uncut.Goals as goal
 
 pub returns-in-Some : goal.returns-in-Some
 returns-in-Some c =
