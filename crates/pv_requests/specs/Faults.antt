@@ -1,0 +1,45 @@
+-- Faults of lines of sysusers.d(5): those that wrap the faults of a part, what a reader answers, and their names.
+use Rattle.std.specs.Prelude.{◌≡◌, ℕ, List, codes, Result, Ok, Err}
+use Rattle.pv_text.specs.declared.fault.ExpandFault.{ExpandFault}
+use Rattle.pv_text.specs.declared.fault.ExpandFault.TheVariants as expand
+use Rattle.pv_text.specs.declared.fault.FieldFault.{FieldFault}
+use Rattle.pv_text.specs.declared.fault.FieldFault.TheVariants as field
+use Rattle.pv_requests.specs.declared.fault.RequestFault.{RequestFault}
+use Rattle.pv_requests.specs.declared.fault.RequestFault.TheVariants as fault
+
+-- a fault of a specifier, told as that of the line; want of memory is always told as itself
+abbrev pub of_expansion : ExpandFault → RequestFault
+of_expansion expand.Memory = fault.Memory
+of_expansion f = fault.Expand f
+
+-- what a call answered is what the definition gives, unless memory ran out
+abbrev pub Gives : {A : Type 0} → Result A RequestFault → Result A RequestFault → Type 0
+Gives (Ok x) read = read ≡ Ok x
+Gives (Err fault.Memory) read = Unit {0}
+Gives (Err f) read = read ≡ Err f
+
+-- the name of a fault of a line without fields
+abbrev pub field_name : FieldFault → List ℕ
+field_name (field.BadByte at) = codes "BadByte"
+field_name (field.OpenQuote at) = codes "OpenQuote"
+field_name (field.GluedQuote at) = codes "GluedQuote"
+field_name (field.BadEscape at) = codes "BadEscape"
+field_name field.TooFew = codes "TooFew"
+
+-- of a specifier
+abbrev pub expansion_name : ExpandFault → List ℕ
+expansion_name expand.UnknownSpecifier = codes "UnknownSpecifier"
+expansion_name expand.MissingFact = codes "MissingFact"
+expansion_name expand.Memory = codes "Memory"
+
+-- of a line: that of the innermost fault, without places
+abbrev pub name_of : RequestFault → List ℕ
+name_of (fault.Field f) = field_name f
+name_of fault.BadType = codes "BadType"
+name_of fault.MissingField = codes "MissingField"
+name_of (fault.Expand f) = expansion_name f
+name_of fault.BadName = codes "BadName"
+name_of fault.BadId = codes "BadId"
+name_of fault.BadRange = codes "BadRange"
+name_of fault.BadField = codes "BadField"
+name_of fault.Memory = codes "Memory"

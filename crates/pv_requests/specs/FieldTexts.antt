@@ -1,0 +1,35 @@
+-- The texts of the fields Type, Name, ID, GECOS, Home and Shell, counted from 0 (sysusers.d(5), "Configuration Format").
+use Rattle.std.specs.Prelude.{ℕ, Bool, List, codes, slice_get, Option, Some, None, is_some, option_map, unwrap_or, Result, Ok, Err, if◌then◌else◌}
+use Rattle.pv_path.specs.Names.{same_bytes}
+use Rattle.pv_path.specs.Results.{◌>>=◌, in_words}
+use Rattle.pv_text.specs.Escapes.{unescaped}
+use Rattle.pv_text.specs.Facts.{Values}
+use Rattle.pv_text.specs.Fields.{Cut, text_at}
+use Rattle.pv_text.specs.Specifiers.{expanded}
+use Rattle.pv_text.specs.declared.tool.Tool.TheVariants.{Sysusers}
+use Rattle.pv_requests.specs.Faults.{of_expansion}
+use Rattle.pv_requests.specs.declared.fault.RequestFault.{RequestFault}
+
+-- whether a text is a dash, which stands for what is omitted
+abbrev pub is_dash : List ℕ → Bool
+is_dash text = same_bytes text (codes "-")
+
+-- the text of a field as it is written; one that is not there counts as a dash
+abbrev pub raw_text : Cut → ℕ → List ℕ
+raw_text cut i = unwrap_or (option_map (text_at cut.line) (slice_get cut.spans i)) (codes "-")
+
+-- the text of a field with its escapes undone
+abbrev pub text : Cut → ℕ → List ℕ
+text cut i = unescaped (raw_text cut i)
+
+-- whether there is text after the shell
+abbrev pub has_more : Cut → Bool
+has_more cut = is_some (slice_get cut.spans 6)
+
+-- the text of a field with its specifiers expanded
+abbrev pub written : Values → Cut → ℕ → Result (List ℕ) RequestFault
+written facts cut i = in_words of_expansion (expanded Sysusers facts (text cut i))
+
+-- the same of a field that may be omitted
+abbrev pub given : Values → Cut → ℕ → Result (Option (List ℕ)) RequestFault
+given facts cut i = if is_dash (text cut i) then Ok None else written facts cut i >>= (λ text. Ok (Some text))

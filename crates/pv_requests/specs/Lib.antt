@@ -1,0 +1,6 @@
+pub mod Faults
+pub mod FieldTexts
+pub mod Names
+pub mod Numbers
+pub mod Requests
+pub mod Same

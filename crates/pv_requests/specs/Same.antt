@@ -1,0 +1,48 @@
+-- Whether two requests ask for the same, wherever they stand (sysusers.d(5)).
+use Rattle.std.specs.Prelude.{ℕ, Bool, true, false, not, ◌&&◌, ◌==◌, List, Option, Some, None}
+use Rattle.pv_path.specs.Names.{same_bytes}
+use Rattle.pv_path.specs.Paths.{same_path}
+use Rattle.pv_requests.specs.declared.request.Primary.{Primary}
+use Rattle.pv_requests.specs.declared.request.Primary.TheVariants as primary
+use Rattle.pv_requests.specs.declared.request.Request.{Request}
+use Rattle.pv_requests.specs.declared.request.Request.TheVariants as request
+use Rattle.pv_requests.specs.declared.request.UserId.{UserId}
+use Rattle.pv_requests.specs.declared.request.UserId.TheVariants as user
+
+-- two texts that may be omitted
+abbrev pub same_text : Option (List ℕ) → Option (List ℕ) → Bool
+same_text None None = true
+same_text (Some a) (Some b) = same_bytes a b
+same_text _ _ = false
+
+-- two numbers that may be omitted
+abbrev pub same_number : Option ℕ → Option ℕ → Bool
+same_number None None = true
+same_number (Some a) (Some b) = a == b
+same_number _ _ = false
+
+-- two primary groups
+abbrev pub same_primary : Primary → Primary → Bool
+same_primary (primary.Gid a) (primary.Gid b) = a == b
+same_primary (primary.Name a) (primary.Name b) = same_bytes a b
+same_primary _ _ = false
+
+-- where two numbers of users come from
+abbrev pub same_user_id : UserId → UserId → Bool
+same_user_id user.Auto user.Auto = true
+same_user_id (user.Number a) (user.Number b) = a == b
+same_user_id (user.Path a) (user.Path b) = same_path a b
+same_user_id (user.Primary uid group) (user.Primary uid' group') = same_number uid uid' && same_primary group group'
+same_user_id _ _ = false
+
+-- two flags
+abbrev pub same_flag : Bool → Bool → Bool
+same_flag true b = b
+same_flag false b = not b
+
+-- whether two u lines ask for the same
+abbrev pub same_user : Request → Request → Bool
+same_user (request.User name id locked gecos home shell place) (request.User name' id' locked' gecos' home' shell' place') =
+    same_bytes name name' && same_user_id id id' && same_flag locked locked'
+    && same_text gecos gecos' && same_text home home' && same_text shell shell'
+same_user _ _ = false

@@ -1,0 +1,255 @@
+//! From the bytes of a line to the request, or to its first fault.
+ghost use Rattle.std.specs.Prelude.{◌≡◌, true};
+ghost use Rattle.pv_requests.specs.Faults.{Gives};
+ghost use Rattle.pv_requests.specs.FieldTexts.{has_more};
+ghost use Rattle.pv_requests.specs.Requests.{are_account_texts, ended, group_with, member_with, range_with, request_by, request_in, request_of, type_of, two_needed, two_texts, user_texts, user_with};
+
+use crate::fault::RequestFault;
+use crate::field_texts::{GECOS, HOME, SHELL, given, has_more, is_dash, text, written};
+use crate::names::{is_account_name, is_comment, is_place};
+use crate::numbers::{group_id_in, range_in, user_id_in};
+use crate::request::Request;
+use pv_path::Bytes;
+use pv_text::{Facts, Fields, Place, fields};
+use std::alloc::Global;
+
+/// The type of a line (sysusers.d(5), "Type").
+#[derive(Clone, Copy, Debug)]
+pub enum LineType {
+    /// `u`, or `u!` where the account is locked.
+    User(bool),
+    /// `g`
+    Group,
+    /// `m`
+    Member,
+    /// `r`
+    Range,
+}
+
+/// The texts of a u line.
+#[derive(Debug, Drop)]
+pub struct UserTexts {
+    name: Bytes,
+    id: Bytes,
+    gecos: Option<Bytes>,
+    home: Option<Bytes>,
+    shell: Option<Bytes>,
+}
+
+/// The type that a text names.
+fn type_of(text: &[u8]) -> Result<LineType, RequestFault>
+    ensures { result ≡ type_of text.now }
+{
+    match text {
+        b"u" => Ok(LineType::User(false)),
+        b"u!" => Ok(LineType::User(true)),
+        b"g" => Ok(LineType::Group),
+        b"m" => Ok(LineType::Member),
+        b"r" => Ok(LineType::Range),
+        _ => Err(RequestFault::BadType),
+    }
+}
+
+/// A request, where there is no text after the shell.
+fn ended(more: bool, request: Request) -> Result<Request, RequestFault>
+    ensures { result ≡ ended more request }
+{
+    if more {
+        Err(RequestFault::BadField)
+    } else {
+        Ok(request)
+    }
+}
+
+/// The texts of a u line.
+fn user_texts(alloc: Global, facts: &Facts, fields: &Fields<'_>) -> Result<UserTexts, RequestFault>
+    ensures { Gives result (user_texts facts.now fields.now) }
+{
+    Ok(UserTexts {
+        name: written(alloc, facts, fields, 1)?,
+        id: written(alloc, facts, fields, 2)?,
+        gecos: given(alloc, facts, fields, GECOS)?,
+        home: given(alloc, facts, fields, HOME)?,
+        shell: given(alloc, facts, fields, SHELL)?,
+    })
+}
+
+/// Whether an account may have these texts.
+fn are_account_texts(texts: &UserTexts) -> bool
+    ensures { result ≡ are_account_texts texts.now }
+{
+    is_comment(&texts.gecos) && is_place(&texts.home) && is_place(&texts.shell)
+}
+
+/// A u line of these texts.
+fn user_with(
+    alloc: Global,
+    place: Place,
+    locked: bool,
+    more: bool,
+    texts: UserTexts,
+) -> Result<Request, RequestFault>
+    ensures { Gives result (user_with place locked more texts) }
+{
+    if !is_account_name(texts.name.as_slice()) {
+        return Err(RequestFault::BadName);
+    }
+    let id = user_id_in(alloc, texts.id.as_slice())?.ok_or(RequestFault::BadId)?;
+    if !are_account_texts(&texts) {
+        return Err(RequestFault::BadField);
+    }
+    let UserTexts {
+        name,
+        gecos,
+        home,
+        shell,
+        ..
+    } = texts;
+    let request = Request::User {
+        name,
+        id,
+        locked,
+        gecos,
+        home,
+        shell,
+        place,
+    };
+    ended(more, request)
+}
+
+/// A g line of this name and ID.
+fn group_with(
+    alloc: Global,
+    place: Place,
+    more: bool,
+    name: Bytes,
+    id: Bytes,
+) -> Result<Request, RequestFault>
+    ensures { Gives result (group_with place more name id) }
+{
+    if !is_account_name(name.as_slice()) {
+        return Err(RequestFault::BadName);
+    }
+    let id = group_id_in(alloc, id.as_slice())?.ok_or(RequestFault::BadId)?;
+    ended(more, Request::Group { name, id, place })
+}
+
+/// An m line of this user and group.
+fn member_with(place: Place, more: bool, user: Bytes, group: Bytes) -> Result<Request, RequestFault>
+    ensures { result ≡ member_with place more user group }
+{
+    let named = is_account_name(group.as_slice());
+    if is_account_name(user.as_slice()) && named {
+        ended(more, Request::Member { user, group, place })
+    } else {
+        Err(RequestFault::BadName)
+    }
+}
+
+/// An r line of this name and range.
+fn range_with(place: Place, more: bool, name: Bytes, range: Bytes) -> Result<Request, RequestFault>
+    ensures { result ≡ range_with place more name range }
+{
+    if !is_dash(name.as_slice()) {
+        return Err(RequestFault::BadName);
+    }
+    let (first, last) = range_in(range.as_slice()).ok_or(RequestFault::BadRange)?;
+    ended(more, Request::Range { first, last, place })
+}
+
+/// A u line.
+fn user_of(
+    alloc: Global,
+    facts: &Facts,
+    place: Place,
+    fields: &Fields<'_>,
+    locked: bool,
+) -> Result<Request, RequestFault>
+    ensures { Gives result (request_by facts.now place fields.now (LineType.User locked)) }
+{
+    let texts = user_texts(alloc, facts, fields)?;
+    user_with(alloc, place, locked, has_more(fields), texts)
+}
+
+/// The name and the ID of a line.
+fn two_texts(
+    alloc: Global,
+    facts: &Facts,
+    fields: &Fields<'_>,
+) -> Result<(Bytes, Bytes), RequestFault>
+    ensures { Gives result (two_texts facts.now fields.now) }
+{
+    let name = written(alloc, facts, fields, 1)?;
+    let id = written(alloc, facts, fields, 2)?;
+    Ok((name, id))
+}
+
+/// The same where the ID may not be omitted.
+fn two_needed(
+    alloc: Global,
+    facts: &Facts,
+    fields: &Fields<'_>,
+) -> Result<(Bytes, Bytes), RequestFault>
+    ensures { Gives result (two_needed facts.now fields.now) }
+{
+    if is_dash(text(alloc, fields, 2)?.as_slice()) {
+        return Err(RequestFault::MissingField);
+    }
+    two_texts(alloc, facts, fields)
+}
+
+/// A line of a type.
+fn request_by(
+    alloc: Global,
+    facts: &Facts,
+    place: Place,
+    fields: &Fields<'_>,
+    typed: LineType,
+) -> Result<Request, RequestFault>
+    ensures { Gives result (request_by facts.now place fields.now typed) }
+{
+    match typed {
+        LineType::User(locked) => user_of(alloc, facts, place, fields, locked),
+        LineType::Group => {
+            let (name, id) = two_texts(alloc, facts, fields)?;
+            group_with(alloc, place, has_more(fields), name, id)
+        }
+        LineType::Member => {
+            let (user, group) = two_needed(alloc, facts, fields)?;
+            member_with(place, has_more(fields), user, group)
+        }
+        LineType::Range => {
+            let (name, range) = two_needed(alloc, facts, fields)?;
+            range_with(place, has_more(fields), name, range)
+        }
+    }
+}
+
+/// A line with these fields.
+fn request_in(
+    alloc: Global,
+    facts: &Facts,
+    place: Place,
+    fields: &Fields<'_>,
+) -> Result<Request, RequestFault>
+    ensures { Gives result (request_in facts.now place fields.now) }
+{
+    let typed = type_of(text(alloc, fields, 0)?.as_slice())?;
+    request_by(alloc, facts, place, fields, typed)
+}
+
+/// The request that a text spells at a place, or its first fault in the order of `RequestFault`, specifiers from the
+/// left (sysusers.d(5)).
+pub fn read_request(
+    alloc: Global,
+    line: &[u8],
+    place: Place,
+    facts: &Facts,
+) -> Result<Request, RequestFault>
+    ensures { Gives result (request_of facts.now place line.now) }
+{
+    match fields(line) {
+        Ok(fields) => request_in(alloc, facts, place, &fields),
+        Err(fault) => Err(RequestFault::Field(fault)),
+    }
+}
