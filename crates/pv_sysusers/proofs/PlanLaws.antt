@@ -1,0 +1,129 @@
+-- Plans by their parts.
+use Rattle.std.proofs.Common.{◌≡◌, ℕ, zero, suc, ◌+◌, Bool, List, [], ◌∷◌, ◌++◌, take, add-one, Option, Some, None, Result, Ok, Err, append_assoc, append-nil, length, refl, sym, ap, ◌∙◌}
+use Rattle.std.proofs.Math.Seq.{take-length}
+use Rattle.pv_text.specs.Said.{SaidPart}
+use Rattle.pv_accounts.specs.Entries.{is_group, is_passwd}
+use Rattle.pv_accounts.specs.InUse.{Ids, ids_of}
+use Rattle.pv_text.specs.declared.place.Place.{Place}
+use Rattle.pv_sysusers.specs.Groups.{NewGroups, decided_groups}
+use Rattle.pv_sysusers.specs.Deciding.{Lacks, Told, ToldBy, fixed_by, groups_by, pooled_by, users_by}
+use Rattle.pv_sysusers.specs.Lines.{Line}
+use Rattle.std.specs.Prelude.{slice_get}
+use Rattle.pv_sysusers.specs.Needs.{fixed_for, kept}
+use Rattle.pv_sysusers.specs.Planning.{IsWanted, Misses, numbers_in}
+use Rattle.pv_sysusers.specs.Plans.{AccountFiles, Numbers, accounts_by, needs_by, numbers_after, numbers_by, numbers_of, plan_of, pool_by, texts_of, texts_or, with_users}
+use Rattle.pv_sysusers.specs.Users.{NewUsers, decided_users}
+use Rattle.pv_sysusers.specs.declared.fault.PlanFault.{PlanFault}
+use Rattle.pv_sysusers.specs.declared.fault.PlanFault.TheVariants.{NoFreeId, Memory}
+use Rattle.pv_sysusers.specs.declared.needs.Account.{Account}
+use Rattle.pv_sysusers.specs.declared.needs.Need.{Need}
+use Rattle.pv_sysusers.specs.declared.fixed.Fixed.{Fixed}
+use Rattle.pv_sysusers.specs.declared.planned.Texts.{Texts}
+use Rattle.pv_sysusers.specs.declared.planned.Wanted.{Wanted}
+
+-- the numbers where all groups got one
+pub after_groups : (pooled : ℕ → Bool) (users groups : Ids) (accounts : List Account) (new : NewGroups) → new.lacking ≡ None
+    → numbers_after pooled users groups accounts new ≡ with_users new (decided_users pooled (groups ++ new.made) users accounts)
+after_groups pooled users groups accounts new whole = rw whole refl
+
+-- the numbers where a group got none
+pub without_group : (pooled : ℕ → Bool) (users groups : Ids) (accounts : List Account) (new : NewGroups) (name : List ℕ) → new.lacking ≡ Some name
+    → ((numbers_after pooled users groups accounts new).lacking ≡ Some name) × ((numbers_after pooled users groups accounts new).said ≡ new.said)
+without_group pooled users groups accounts new name none = (rw none refl, rw none refl)
+
+-- the groups that are decided by what lines ask for
+pub groups_same : (wanted : Wanted) (users groups : Ids) (fixed : Fixed) (a b : List Need) → a ≡ wanted.needs.items → b ≡ wanted.needs.items → ((name : List ℕ) → fixed_by fixed name ≡ fixed_for a name)
+    → groups_by wanted.pool users fixed groups b ≡ decided_groups (pooled_by wanted.pool) users (fixed_for wanted.needs.items) groups wanted.needs.items
+groups_same wanted users groups fixed a b ea eb same =
+    let told : fixed_by fixed ≡ fixed_for a = λ j name. same name j in
+    ap (λ (f : List ℕ → Option (ℕ × Place)). decided_groups (pooled_by wanted.pool) users f groups b) (told ∙ ap fixed_for ea)
+    ∙ ap (decided_groups (pooled_by wanted.pool) users (fixed_for wanted.needs.items) groups) eb
+
+-- the users that are decided after them
+pub users_same : (wanted : Wanted) (users groups all : Ids) (decided new : NewGroups) (b : List Account) → decided ≡ new → all ≡ groups ++ decided.made → b ≡ wanted.accounts.items
+    → users_by wanted.pool all users b ≡ decided_users (pooled_by wanted.pool) (groups ++ new.made) users wanted.accounts.items
+users_same wanted users groups all decided new b same whole eb =
+    ap (λ (ids : Ids). decided_users (pooled_by wanted.pool) ids users b) (whole ∙ ap (λ (g : NewGroups). groups ++ g.made) same)
+    ∙ ap (decided_users (pooled_by wanted.pool) (groups ++ new.made) users) eb
+
+-- where a group got no number
+pub groups_lack : (pooled : ℕ → Bool) (users groups : Ids) (accounts : List Account) (decided new : NewGroups) (fault : PlanFault) → decided ≡ new → Lacks decided.lacking fault
+    → Lacks (numbers_after pooled users groups accounts new).lacking fault
+groups_lack pooled users groups accounts decided new Memory same lacks = lacks
+groups_lack pooled users groups accounts decided new (NoFreeId name) same lacks =
+    (without_group pooled users groups accounts new name (ap (λ (g : NewGroups). g.lacking) (sym same) ∙ lacks)).0
+
+-- and what was said then
+pub groups_told : (pooled : ℕ → Bool) (users groups : Ids) (accounts : List Account) (decided new : NewGroups) (fault : PlanFault) (said heard : List (List ℕ)) → decided ≡ new → Lacks decided.lacking fault
+    → ToldBy fault (heard ≡ said ++ decided.said) → ToldBy fault (heard ≡ said ++ (numbers_after pooled users groups accounts new).said)
+groups_told pooled users groups accounts decided new Memory said heard same lacks told = told
+groups_told pooled users groups accounts decided new (NoFreeId name) said heard same lacks told =
+    told ∙ ap (λ (ms : List (List ℕ)). said ++ ms)
+    (ap (λ (g : NewGroups). g.said) same ∙ sym (without_group pooled users groups accounts new name (ap (λ (g : NewGroups). g.lacking) (sym same) ∙ lacks)).1)
+
+-- where a user got no number
+pub users_lack : (numbers : Numbers) (new : NewGroups) (decided users : NewUsers) (fault : PlanFault) → numbers ≡ with_users new users → decided ≡ users → Lacks decided.lacking fault → Lacks numbers.lacking fault
+users_lack numbers new decided users Memory is same lacks = lacks
+users_lack numbers new decided users (NoFreeId name) is same lacks = ap (λ (n : Numbers). n.lacking) is ∙ ap (λ (u : NewUsers). u.lacking) (sym same) ∙ lacks
+
+-- what was said of groups and then of users
+pub both_said : (numbers : Numbers) (groups new : NewGroups) (decided users : NewUsers) (said told heard : List (List ℕ)) → numbers ≡ with_users new users → groups ≡ new → decided ≡ users
+    → told ≡ said ++ groups.said → heard ≡ told ++ decided.said → heard ≡ said ++ numbers.said
+both_said numbers groups new decided users said told heard is same also first then_said =
+    then_said ∙ (λ j. first j ++ decided.said) ∙ append_assoc said groups.said decided.said
+    ∙ ap (λ (ms : List (List ℕ)). said ++ ms) ((λ j. (same j).said ++ (also j).said) ∙ ap (λ (n : Numbers). n.said) (sym is))
+
+-- and where a user got none
+pub users_told : (numbers : Numbers) (groups new : NewGroups) (decided users : NewUsers) (fault : PlanFault) (said told heard : List (List ℕ)) → numbers ≡ with_users new users → groups ≡ new → decided ≡ users
+    → told ≡ said ++ groups.said → ToldBy fault (heard ≡ told ++ decided.said) → ToldBy fault (heard ≡ said ++ numbers.said)
+users_told numbers groups new decided users Memory said told heard is same also first then_said = then_said
+users_told numbers groups new decided users (NoFreeId name) said told heard is same also first then_said = both_said numbers groups new decided users said told heard is same also first then_said
+
+-- the numbers by what lines ask for are those of the lines
+pub numbers_same : (files : AccountFiles) (lines : List Line) (wanted : Wanted) (users groups : Ids) → users ≡ ids_of is_passwd files.passwd → groups ≡ ids_of is_group files.group → IsWanted users lines wanted
+    → numbers_in wanted users groups ≡ numbers_of files lines
+numbers_same files lines wanted users groups eu eg is =
+    (λ j. numbers_by (λ n. is.pool n j) (fixed_for (is.needs j)) users groups (is.needs j) (is.accounts j))
+    ∙ (λ j. numbers_by (pool_by (eu j) lines) (fixed_for (needs_by (eu j) lines)) (eu j) (eg j) (needs_by (eu j) lines) (accounts_by (eu j) lines))
+
+-- the plan where no number is lacking
+pub plan_whole : (files : AccountFiles) (lines : List Line) (day : ℕ) (numbers : Numbers) (texts : Texts) → numbers ≡ numbers_of files lines → numbers.lacking ≡ None
+    → texts ≡ texts_of files lines day numbers → (plan_of files lines day).texts ≡ Ok texts
+plan_whole files lines day numbers texts is whole made =
+    let none : (numbers_of files lines).lacking ≡ None = ap (λ (n : Numbers). n.lacking) (sym is) ∙ whole in
+    ap (texts_or (texts_of files lines day (numbers_of files lines))) none
+    ∙ ap (λ (t : Texts). Ok t) (ap (texts_of files lines day) (sym is) ∙ sym made)
+
+-- the plan where one is
+pub plan_lacking : (files : AccountFiles) (lines : List Line) (day : ℕ) (numbers : Numbers) (fault : PlanFault) → numbers ≡ numbers_of files lines → Lacks numbers.lacking fault → Misses (plan_of files lines day).texts fault
+plan_lacking files lines day numbers Memory is lacks = lacks
+plan_lacking files lines day numbers (NoFreeId name) is lacks =
+    ap (texts_or (texts_of files lines day (numbers_of files lines))) (ap (λ (n : Numbers). n.lacking) (sym is) ∙ lacks)
+
+-- what was said, told by an equal list
+pub told_same : (fault : PlanFault) (heard said a b : List (List ℕ)) → a ≡ b → ToldBy fault (heard ≡ said ++ a) → ToldBy fault (heard ≡ said ++ b)
+told_same Memory heard said a b e told = told
+told_same (NoFreeId name) heard said a b e told = told ∙ ap (λ (ms : List (List ℕ)). said ++ ms) e
+
+-- what was said before a part of a run
+pub told_after : {A : Type 0} (r : Result A PlanFault) (heard told said a b : List (List ℕ)) → told ≡ said ++ a → Told r (heard ≡ told ++ b) → Told r (heard ≡ said ++ (a ++ b))
+told_after (Ok x) heard told said a b first then_said = then_said ∙ ap (λ (ms : List (List ℕ)). ms ++ b) first ∙ append_assoc said a b
+told_after (Err Memory) heard told said a b first then_said = then_said
+told_after (Err (NoFreeId name)) heard told said a b first then_said = then_said ∙ ap (λ (ms : List (List ℕ)). ms ++ b) first ∙ append_assoc said a b
+
+-- all of what is to be said is a part of it, and so is nothing
+pub part_all : (all old new : List (List ℕ)) → new ≡ old ++ all → SaidPart all old new
+part_all all old new e = (length all, e ∙ ap (λ (ms : List (List ℕ)). old ++ ms) (sym (take-length all)))
+
+pub part_none : (all old : List (List ℕ)) → SaidPart all old old
+part_none all old = (0, sym (append-nil old))
+
+-- one message more
+pub take_kept : (xs : List (List ℕ)) (i : ℕ) → take (i + 1) xs ≡ take i xs ++ kept (slice_get xs i)
+take_kept xs i = rw add-one (by_place xs i)
+  where
+    by_place : (ys : List (List ℕ)) (n : ℕ) → take (suc n) ys ≡ take n ys ++ kept (slice_get ys n)
+    by_place [] zero = refl
+    by_place [] (suc n) = refl
+    by_place (y ∷ ys) zero = refl
+    by_place (y ∷ ys) (suc n) = ap (λ (ms : List (List ℕ)). y ∷ ms) (by_place ys n)

@@ -1,0 +1,10 @@
+use Rattle.std.proofs.Common.{◌++◌, ◌∙◌}
+use Rattle.pv_sysusers.specs.Needs.{is_made, needs_of}
+use Rattle.pv_sysusers.specs.Shown.{shown, shown_line}
+use Rattle.pv_sysusers.proofs.LineLaws.{lines_more}
+use Rattle.pv_sysusers.proofs.needs.all_needs.Goals as goal
+
+pub loop-line-preserved : goal.loop-line-preserved
+loop-line-preserved c =
+    c.in_ok-add_needs.ensures ∙ (λ j. c.loop-line.invariant j ++ needs_of (is_made c.args.users.now (shown c.args.lines.now.kept.items)) (shown_line c.line-item.result))
+    ∙ lines_more (needs_of (is_made c.args.users.now (shown c.args.lines.now.kept.items))) c.args.lines.now.kept.items c.deref-line-items.result.now c.loop-line.line-index c.line-item.result c.deref-line-items.ensures.value c.loop-line-test.true c.line-item.is

@@ -1,0 +1,49 @@
+use Rattle.std.proofs.Common.{ℕ, List, ◌++◌, ap, ◌∙◌}
+use Rattle.std.specs.List.{flat_map}
+use Rattle.std.proofs.lemmas.Result.{err_from_is_err_and}
+use Rattle.pv_accounts.specs.InUse.{Ids}
+use Rattle.pv_sysusers.specs.Lines.{Line}
+use Rattle.pv_sysusers.specs.Planning.{files_of, numbers_in}
+use Rattle.pv_sysusers.specs.Plans.{AccountFiles, Numbers, needs_by, numbers_of, texts_by}
+use Rattle.pv_sysusers.specs.Shown.{shown}
+use Rattle.pv_sysusers.specs.Texts.{membership_of}
+use Rattle.pv_sysusers.proofs.PlanLaws.{numbers_same, plan_lacking, plan_whole, told_same}
+use Rattle.pv_sysusers.proofs.planned.plan_of.Goals as goal
+
+pub returns-in_err-numbers-clause-lacking : goal.returns-in_err-numbers-clause-lacking
+returns-in_err-numbers-clause-lacking c =
+    let p = err_from_is_err_and c.from_residual-in_err-numbers.result c.from_residual-in_err-numbers.ensures.1 in
+    let files : AccountFiles = files_of c.args.files.now in
+    let lines : List Line = shown c.args.lines.now.kept.items in
+    let numbers : Numbers = numbers_in c.in_ok-wanted.wanted c.in_ok-users.users c.in_ok-groups.groups in
+    let is = numbers_same files lines c.in_ok-wanted.wanted c.in_ok-users.users c.in_ok-groups.groups c.in_ok-users.ensures c.in_ok-groups.ensures c.in_ok-wanted.ensures in
+    rw (p.1, p.2) (plan_lacking files lines c.args.day numbers c.in_err-numbers.field-0.0 is c.in_err-numbers.ensures.lacking)
+
+pub returns-in_err-numbers-clause-said : goal.returns-in_err-numbers-clause-said
+returns-in_err-numbers-clause-said c =
+    let p = err_from_is_err_and c.from_residual-in_err-numbers.result c.from_residual-in_err-numbers.ensures.1 in
+    let files : AccountFiles = files_of c.args.files.now in
+    let lines : List Line = shown c.args.lines.now.kept.items in
+    let numbers : Numbers = numbers_in c.in_ok-wanted.wanted c.in_ok-users.users c.in_ok-groups.groups in
+    let is = numbers_same files lines c.in_ok-wanted.wanted c.in_ok-users.users c.in_ok-groups.groups c.in_ok-users.ensures c.in_ok-groups.ensures c.in_ok-wanted.ensures in
+    rw (p.1, p.2) (told_same c.in_err-numbers.field-0.0 c.decided_numbers.new.said c.args.said.now numbers.said (numbers_of files lines).said (ap (λ (n : Numbers). n.said) is) c.in_err-numbers.ensures.said)
+
+pub returns-clause-texts : goal.returns-clause-texts
+returns-clause-texts c =
+    let files : AccountFiles = files_of c.args.files.now in
+    let lines : List Line = shown c.args.lines.now.kept.items in
+    let numbers : Numbers = numbers_in c.in_ok-wanted.wanted c.in_ok-users.users c.in_ok-groups.groups in
+    let is = numbers_same files lines c.in_ok-wanted.wanted c.in_ok-users.users c.in_ok-groups.groups c.in_ok-users.ensures c.in_ok-groups.ensures c.in_ok-wanted.ensures in
+    let made = c.in_ok-numbers.ensures.made in
+    let needs = c.deref.ensures.value ∙ c.in_ok-wanted.ensures.needs ∙ ap (λ (us : Ids). needs_by us lines) c.in_ok-users.ensures in
+    let kept = c.deref-2.ensures.value in
+    plan_whole files lines c.args.day numbers c.in_ok-texts.texts is made.whole
+    (c.in_ok-texts.ensures ∙ (λ j. texts_by files (needs j) (flat_map membership_of (shown (kept j))) c.args.day (made.groups j) (made.users j)))
+
+pub returns-clause-said : goal.returns-clause-said
+returns-clause-said c =
+    let files : AccountFiles = files_of c.args.files.now in
+    let lines : List Line = shown c.args.lines.now.kept.items in
+    let numbers : Numbers = numbers_in c.in_ok-wanted.wanted c.in_ok-users.users c.in_ok-groups.groups in
+    let is = numbers_same files lines c.in_ok-wanted.wanted c.in_ok-users.users c.in_ok-groups.groups c.in_ok-users.ensures c.in_ok-groups.ensures c.in_ok-wanted.ensures in
+    c.in_ok-numbers.ensures.said ∙ ap (λ (ms : List (List ℕ)). c.args.said.now ++ ms) (ap (λ (n : Numbers). n.said) is)

@@ -1,0 +1,66 @@
+-- What the calls that decide numbers say of their answers.
+use Rattle.std.specs.Prelude.{◌≡◌, ℕ, Bool, not, ◌&&◌, ◌==◌, List, ◌++◌, Option, Some, None, Result, Ok, Err, nat_eq}
+use Rattle.std.specs.HashSet as set
+use Rattle.std.specs.List.{list_any}
+use Rattle.std.specs.Map.{lookup}
+use Rattle.std.specs.Option.{option_map}
+use Rattle.std.specs.Str.{bytes_eq}
+use Rattle.pv_accounts.specs.InUse.{Ids, is_held}
+use Rattle.pv_text.specs.declared.place.Place.{Place}
+use Rattle.pv_sysusers.specs.Groups.{NewGroups, decided_groups}
+use Rattle.pv_sysusers.specs.Pools.{is_between}
+use Rattle.pv_sysusers.specs.declared.fault.PlanFault.{PlanFault}
+use Rattle.pv_sysusers.specs.declared.fault.PlanFault.TheVariants.{NoFreeId, Memory}
+use Rattle.pv_sysusers.specs.declared.fixed.Fixed.{Fixed}
+use Rattle.pv_sysusers.specs.declared.groups.Groups.{Groups}
+use Rattle.pv_sysusers.specs.Users.{NewUsers, decided_users}
+use Rattle.pv_sysusers.specs.declared.needs.Account.{Account}
+use Rattle.pv_sysusers.specs.declared.needs.Need.{Need}
+use Rattle.pv_sysusers.specs.declared.users.NewUser.{NewUser}
+use Rattle.pv_sysusers.specs.declared.pool.Pool.{Pool}
+
+-- whether a number may be given by a pool
+abbrev pub pooled_by : Pool → ℕ → Bool
+pooled_by pool n = list_any (is_between n) pool.ranges.items && not (n == 0) && not (n == 65535) && not (set.contains nat_eq pool.fixed n)
+
+-- whether a number of the ranges may be given, and nobody has it
+abbrev pub is_free_in : Pool → Ids → Ids → ℕ → Bool
+is_free_in pool users groups n =
+    not (n == 0) && not (n == 65535) && not (set.contains nat_eq pool.fixed n) && not (is_held users n) && not (is_held groups n)
+
+-- the fixed number of a name, and where its line stands
+abbrev pub fixed_by : Fixed → List ℕ → Option (ℕ × Place)
+fixed_by fixed name = option_map (λ f. (f.0, f.1.now)) (lookup (λ k. bytes_eq name k.now) fixed.numbers.entries)
+
+-- the groups as they are decided by a pool and by what lines fix
+abbrev pub groups_by : Pool → Ids → Fixed → Ids → List Need → NewGroups
+groups_by pool users fixed groups needs = decided_groups (pooled_by pool) users (fixed_by fixed) groups needs
+
+-- the users as they are decided by a pool
+abbrev pub users_by : Pool → Ids → Ids → List Account → NewUsers
+users_by pool groups users accounts = decided_users (pooled_by pool) groups users accounts
+
+-- the new users as they were decided
+pub record AreMade (decided : NewUsers) (users : List NewUser) : Type 0 where
+  pub made : users ≡ decided.made
+  pub whole : decided.lacking ≡ None
+
+-- the new groups as they were decided, after those that were there
+pub record IsMade (decided : NewGroups) (old : Ids) (groups : Groups) : Type 0 where
+  pub made : groups.made.items ≡ decided.made
+  pub all : groups.all ≡ old ++ decided.made
+  pub whole : decided.lacking ≡ None
+
+-- a fault that a call answers is the name for which no number was left, unless memory ran out
+abbrev pub Lacks : Option (List ℕ) → PlanFault → Type 0
+Lacks lacking Memory = Unit {0}
+Lacks lacking (NoFreeId name) = lacking ≡ Some name
+
+-- what holds unless memory ran out
+abbrev pub ToldBy : PlanFault → Type 0 → Type 0
+ToldBy Memory P = Unit {0}
+ToldBy (NoFreeId name) P = P
+
+abbrev pub Told : {A : Type 0} → Result A PlanFault → Type 0 → Type 0
+Told (Ok x) P = P
+Told (Err fault) P = ToldBy fault P

@@ -1,0 +1,10 @@
+pub mod Lines
+pub mod Shown
+pub mod Needs
+pub mod Pools
+pub mod Groups
+pub mod Users
+pub mod Deciding
+pub mod Texts
+pub mod Plans
+pub mod Planning

@@ -1,0 +1,31 @@
+//! Why there is no plan.
+ghost use Rattle.std.specs.Prelude.{◌≡◌};
+ghost use Rattle.pv_sysusers.specs.declared.fault.PlanFault.TheVariants.{Memory};
+
+use pv_path::Bytes;
+use std::alloc::{AllocError, AllocFailed};
+
+/// Why there is no plan.
+#[derive(Debug, Drop)]
+pub enum PlanFault {
+    /// No number is left for the user or the group of this name.
+    NoFreeId(Bytes),
+    /// Memory ran out.
+    Memory,
+}
+
+impl From<AllocError> for PlanFault {
+    ghost from_gives = { λ _ e. e ≡ Memory };
+
+    fn from(_error: AllocError) -> PlanFault {
+        PlanFault::Memory
+    }
+}
+
+impl<T: Drop> From<AllocFailed<T>> for PlanFault {
+    ghost from_gives = { λ _ e. e ≡ Memory };
+
+    fn from(_error: AllocFailed<T>) -> PlanFault {
+        PlanFault::Memory
+    }
+}

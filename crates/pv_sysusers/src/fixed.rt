@@ -1,0 +1,63 @@
+//! The numbers that lines fix for groups.
+ghost use Rattle.std.specs.Prelude.{◌≡◌, ℕ, List, [], ◌∷◌, is_some, IfOk};
+ghost use Rattle.std.specs.Option.{option_map, option_or};
+ghost use Rattle.pv_sysusers.specs.Deciding.{fixed_by};
+ghost use Rattle.pv_sysusers.specs.Needs.{fixed_for};
+
+use crate::needs::Need;
+use pv_text::Place;
+use std::alloc::{AllocError, Global};
+use std::collections::HashMap;
+
+/// For each group the number that the first line fixes for it, and where that line stands.
+#[derive(Debug, Drop)]
+pub struct Fixed<'a> {
+    numbers: HashMap<&'a [u8], (u32, &'a Place)>,
+}
+
+impl<'a> Fixed<'a> {
+    /// The number that is fixed for a name.
+    pub(crate) fn of(&self, name: &[u8]) -> Option<(u32, &'a Place)>
+        ensures { option_map (λ f. (f.0, f.1.now)) result ≡ fixed_by self.now name.now }
+    {
+        self.numbers.get(name).copied()
+    }
+
+    /// Whether a number is fixed for a name.
+    fn has(&self, name: &[u8]) -> bool
+        ensures { result ≡ is_some (fixed_by self.now name.now) }
+    {
+        match self.of(name) {
+            Some(_) => true,
+            None => false,
+        }
+    }
+
+    /// The same with what a line fixes, where no earlier one does.
+    fn with(mut self, need: &'a Need) -> Result<Self, AllocError>
+        ensures { IfOk result (λ fixed. (name : List ℕ) → fixed_by fixed name ≡ option_or (fixed_by self.entry name) (fixed_for (need.entry.now ∷ []) name)) }
+    {
+        let Some(n) = need.number else {
+            return Ok(self);
+        };
+        let name = need.name.as_slice();
+        if self.has(name) {
+            return Ok(self);
+        }
+        self.numbers.insert(name, (n, &need.place))?;
+        Ok(self)
+    }
+}
+
+/// What lines fix.
+pub(crate) fn fixed_in(alloc: Global, needs: &[Need]) -> Result<Fixed<'_>, AllocError>
+    ensures { IfOk result (λ fixed. (name : List ℕ) → fixed_by fixed name ≡ fixed_for needs.entry.now name) }
+{
+    let mut fixed = Fixed {
+        numbers: HashMap::new(alloc),
+    };
+    for need in needs {
+        fixed = fixed.with(need)?;
+    }
+    Ok(fixed)
+}

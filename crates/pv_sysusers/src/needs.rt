@@ -1,0 +1,362 @@
+//! The groups and the users that lines need, and the numbers that they fix.
+ghost use Rattle.std.specs.Prelude.{◌≡◌, [], ◌∷◌, ◌++◌, IfOk, OnOk};
+ghost use Rattle.std.specs.List.{flat_map};
+ghost use Rattle.std.specs.Option.{option_map};
+ghost use Rattle.pv_sysusers.specs.Lines.{first_user, is_named};
+ghost use Rattle.pv_sysusers.specs.Needs.{account_of, accounts_of, group_number, is_made, made_account, main_of, member_needs, need, needs_of, user_needs, user_number};
+ghost use Rattle.pv_sysusers.specs.Shown.{IsIndexed, shown, shown_line};
+
+use crate::lines::{Line, Lines};
+use crate::path_ids::PathId;
+use pv_accounts::InUse;
+use pv_path::Bytes;
+use pv_requests::{GroupId, Primary, Request, UserId};
+use pv_text::Place;
+use std::alloc::{AllocError, Global};
+
+/// A group that a line needs.
+#[derive(Debug, Drop)]
+pub struct Need {
+    /// The name of the group.
+    pub name: Bytes,
+    /// The number that the line fixes for it.
+    pub number: Option<u32>,
+    /// Where the line stands.
+    pub place: Place,
+}
+
+/// The primary group of a user.
+#[derive(Debug, Drop)]
+pub enum Main {
+    /// The group of the user's name.
+    Own,
+    /// The group of a number.
+    Gid(u32),
+    /// The group of a name.
+    Named(Bytes),
+}
+
+/// A user that a line needs.
+#[derive(Debug, Drop)]
+pub struct Account {
+    /// The name of the user.
+    pub name: Bytes,
+    /// The number that the line fixes for him.
+    pub uid: Option<u32>,
+    /// His primary group.
+    pub main: Main,
+    /// Whether nobody may log in by the account at all.
+    pub locked: bool,
+    /// The full name or another comment, where one is given.
+    pub gecos: Option<Bytes>,
+    /// The home directory, where one is given.
+    pub home: Option<Bytes>,
+    /// The login shell, where one is given.
+    pub shell: Option<Bytes>,
+    /// Where the line stands.
+    pub place: Place,
+}
+
+impl Main {
+    /// The same primary group once more.
+    fn copy(&self) -> Result<Main, AllocError>
+        ensures { IfOk result (λ main. main ≡ self.now) }
+    {
+        match self {
+            Main::Own => Ok(Main::Own),
+            Main::Gid(n) => Ok(Main::Gid(*n)),
+            Main::Named(group) => Ok(Main::Named(group.copy()?)),
+        }
+    }
+}
+
+impl Account {
+    /// The same user once more.
+    pub(crate) fn copy(&self) -> Result<Account, AllocError>
+        ensures { IfOk result (λ account. account ≡ self.now) }
+    {
+        Ok(Account {
+            name: self.name.copy()?,
+            uid: self.uid,
+            main: self.main.copy()?,
+            locked: self.locked,
+            gecos: copied(&self.gecos)?,
+            home: copied(&self.home)?,
+            shell: copied(&self.shell)?,
+            place: self.place.copy()?,
+        })
+    }
+}
+
+/// Whether an m line has its user made: he has no entry, and no u line names him.
+fn is_made(users: &InUse<'_>, lines: &Lines<'_>, name: &[u8]) -> bool
+    requires { IsIndexed lines.now }
+    ensures { result ≡ is_made users.now (shown lines.now.kept.items) name.now }
+{
+    let named = lines.first_user(name).is_some();
+    users.id_of(name).is_none() && !named
+}
+
+/// The owning group, where an object is there.
+fn gid_of(owners: Option<PathId>) -> Option<u32>
+    ensures { result ≡ option_map (λ o. o.gid) owners }
+{
+    match owners {
+        Some(owners) => Some(owners.gid),
+        None => None,
+    }
+}
+
+/// The owner, where an object is there.
+fn uid_of(owners: Option<PathId>) -> Option<u32>
+    ensures { result ≡ option_map (λ o. o.uid) owners }
+{
+    match owners {
+        Some(owners) => Some(owners.uid),
+        None => None,
+    }
+}
+
+/// Adds a group that a line needs.
+fn add_need(
+    needs: &mut Vec<Need>,
+    name: &Bytes,
+    number: Option<u32>,
+    place: &Place,
+) -> Result<(), AllocError>
+    ensures { OnOk result (needs.new.items ≡ needs.old.items ++ need name.now number place.now ∷ []) }
+{
+    let need = Need {
+        name: name.copy()?,
+        number,
+        place: place.copy()?,
+    };
+    needs.push(need)?;
+    Ok(())
+}
+
+/// Adds the group that a u line needs.
+fn add_user_needs(
+    needs: &mut Vec<Need>,
+    name: &Bytes,
+    id: &UserId,
+    owners: Option<PathId>,
+    place: &Place,
+) -> Result<(), AllocError>
+    ensures { OnOk result (needs.new.items ≡ needs.old.items ++ user_needs name.now place.now owners id.now) }
+{
+    match id {
+        UserId::Auto => add_need(needs, name, None, place),
+        UserId::Number(n) => add_need(needs, name, Some(*n), place),
+        UserId::Path(_) => add_need(needs, name, gid_of(owners), place),
+        UserId::Primary { group, .. } => match group {
+            Primary::Gid(_) => Ok(()),
+            Primary::Name(group) => add_need(needs, group, None, place),
+        },
+    }
+}
+
+/// The number that a g line fixes.
+fn group_number(owners: Option<PathId>, id: &GroupId) -> Option<u32>
+    ensures { result ≡ group_number owners id.now }
+{
+    match id {
+        GroupId::Auto => None,
+        GroupId::Number(n) => Some(*n),
+        GroupId::Path(_) => gid_of(owners),
+    }
+}
+
+/// Adds the groups that an m line needs.
+fn add_member_needs(
+    needs: &mut Vec<Need>,
+    made: bool,
+    user: &Bytes,
+    group: &Bytes,
+    place: &Place,
+) -> Result<(), AllocError>
+    ensures { OnOk result (needs.new.items ≡ needs.old.items ++ member_needs made user.now group.now place.now) }
+{
+    if made {
+        add_need(needs, user, None, place)?;
+    }
+    add_need(needs, group, None, place)
+}
+
+/// Adds the groups that a line needs.
+fn add_needs(
+    needs: &mut Vec<Need>,
+    users: &InUse<'_>,
+    lines: &Lines<'_>,
+    line: Line<'_>,
+) -> Result<(), AllocError>
+    requires { IsIndexed lines.now }
+    ensures { let all = needs_of (is_made users.now (shown lines.now.kept.items)) (shown_line line.entry) in
+        OnOk result (needs.new.items ≡ needs.old.items ++ all) }
+{
+    let (request, owners) = line;
+    match request {
+        Request::User {
+            name,
+            id,
+            place,
+            ..
+        } => add_user_needs(needs, name, id, owners, place),
+        Request::Group { name, id, place } => {
+            add_need(needs, name, group_number(owners, id), place)
+        }
+        Request::Member { user, group, place } => {
+            let made = is_made(users, lines, user.as_slice());
+            add_member_needs(needs, made, user, group, place)
+        }
+        Request::Range { .. } => Ok(()),
+    }
+}
+
+/// The groups that lines need, in order.
+pub(crate) fn all_needs(
+    alloc: Global,
+    users: &InUse<'_>,
+    lines: &Lines<'_>,
+) -> Result<Vec<Need>, AllocError>
+    requires { IsIndexed lines.now }
+    ensures { let kept = shown lines.now.kept.items in
+        IfOk result (λ needs. needs.items ≡ flat_map (needs_of (is_made users.now kept)) kept) }
+{
+    let mut needs = Vec::new(alloc);
+    for line in &lines.kept {
+        add_needs(&mut needs, users, lines, *line)?;
+    }
+    Ok(needs)
+}
+
+/// The UID that a u line fixes.
+fn user_number(owners: Option<PathId>, id: &UserId) -> Option<u32>
+    ensures { result ≡ user_number owners id.now }
+{
+    match id {
+        UserId::Auto => None,
+        UserId::Number(n) => Some(*n),
+        UserId::Path(_) => uid_of(owners),
+        UserId::Primary { uid, .. } => *uid,
+    }
+}
+
+/// The primary group of a user.
+fn main_of(id: &UserId) -> Result<Main, AllocError>
+    ensures { IfOk result (λ main. main ≡ main_of id.now) }
+{
+    match id {
+        UserId::Primary { group, .. } => match group {
+            Primary::Gid(n) => Ok(Main::Gid(*n)),
+            Primary::Name(group) => Ok(Main::Named(group.copy()?)),
+        },
+        _ => Ok(Main::Own),
+    }
+}
+
+/// A text that may be omitted, once more.
+fn copied(text: &Option<Bytes>) -> Result<Option<Bytes>, AllocError>
+    ensures { IfOk result (λ copy. copy ≡ text.now) }
+{
+    match text {
+        Some(text) => Ok(Some(text.copy()?)),
+        None => Ok(None),
+    }
+}
+
+/// Adds the user of an m line, where he is made.
+fn add_made_user(
+    accounts: &mut Vec<Account>,
+    made: bool,
+    name: &Bytes,
+    place: &Place,
+) -> Result<(), AllocError>
+    ensures { OnOk result (accounts.new.items ≡ accounts.old.items ++ made_account made name.now place.now) }
+{
+    if !made {
+        return Ok(());
+    }
+    let account = Account {
+        name: name.copy()?,
+        uid: None,
+        main: Main::Own,
+        locked: false,
+        gecos: None,
+        home: None,
+        shell: None,
+        place: place.copy()?,
+    };
+    accounts.push(account)?;
+    Ok(())
+}
+
+/// The user of a u line.
+fn account_of(line: Line<'_>) -> Result<Option<Account>, AllocError>
+    ensures { IfOk result (λ account. account ≡ account_of (shown_line line.entry)) }
+{
+    let (request, owners) = line;
+    let Request::User {
+        name,
+        id,
+        locked,
+        gecos,
+        home,
+        shell,
+        place,
+    } = request
+    else {
+        return Ok(None);
+    };
+    Ok(Some(Account {
+        name: name.copy()?,
+        uid: user_number(owners, id),
+        main: main_of(id)?,
+        locked: *locked,
+        gecos: copied(gecos)?,
+        home: copied(home)?,
+        shell: copied(shell)?,
+        place: place.copy()?,
+    }))
+}
+
+/// Adds the users that a line needs.
+fn add_accounts(
+    accounts: &mut Vec<Account>,
+    users: &InUse<'_>,
+    lines: &Lines<'_>,
+    line: Line<'_>,
+) -> Result<(), AllocError>
+    requires { IsIndexed lines.now }
+    ensures { let all = accounts_of (is_made users.now (shown lines.now.kept.items)) (shown_line line.entry) in
+        OnOk result (accounts.new.items ≡ accounts.old.items ++ all) }
+{
+    if let Request::Member { user, place, .. } = line.0 {
+        let made = is_made(users, lines, user.as_slice());
+        return add_made_user(accounts, made, user, place);
+    }
+    match account_of(line)? {
+        Some(account) => {
+            accounts.push(account)?;
+            Ok(())
+        }
+        None => Ok(()),
+    }
+}
+
+/// The users that lines need, in order.
+pub(crate) fn all_accounts(
+    alloc: Global,
+    users: &InUse<'_>,
+    lines: &Lines<'_>,
+) -> Result<Vec<Account>, AllocError>
+    requires { IsIndexed lines.now }
+    ensures { let kept = shown lines.now.kept.items in
+        IfOk result (λ accounts. accounts.items ≡ flat_map (accounts_of (is_made users.now kept)) kept) }
+{
+    let mut accounts = Vec::new(alloc);
+    for line in &lines.kept {
+        add_accounts(&mut accounts, users, lines, *line)?;
+    }
+    Ok(accounts)
+}

@@ -1,0 +1,264 @@
+//! The plan of a run: the texts of the account files.
+ghost use Rattle.std.specs.Prelude.{◌≡◌, ◌++◌, Ok, option_map, slice_get, IfOk, IfErr, OnOk, OnErr};
+ghost use Rattle.std.specs.List.{flat_map};
+ghost use Rattle.pv_text.specs.Said.{SaidPart};
+ghost use Rattle.pv_sysusers.specs.Deciding.{Lacks, Told};
+ghost use Rattle.pv_sysusers.specs.Texts.{gshadow_text, membership_of};
+ghost use Rattle.pv_sysusers.specs.Needs.{kept};
+ghost use Rattle.pv_sysusers.specs.Plans.{plan_of, planned, texts_by};
+ghost use Rattle.pv_sysusers.specs.Planning.{AreNumbers, IsWanted, Misses, files_in, files_of, numbers_in};
+ghost use Rattle.pv_sysusers.specs.Shown.{IsIndexed, shown};
+
+use crate::fault::PlanFault;
+use crate::fixed::fixed_in;
+use crate::groups::decided_groups;
+use crate::lines::{Line, Lines, counted};
+use crate::needs::{Account, Need, all_accounts, all_needs};
+use crate::path_ids::PathIds;
+use crate::pool::Pool;
+use crate::texts::{group_text, gshadow_text, passwd_text, shadow_text};
+use crate::users::{NewUser, decided_users};
+use pv_accounts::{InUse, Kind};
+use pv_path::Bytes;
+use pv_requests::RequestList;
+use pv_text::Messages;
+use std::alloc::{AllocError, Global};
+
+/// The new texts of the account files.
+#[derive(Debug, Drop)]
+pub struct Texts {
+    /// That of /etc/passwd.
+    pub passwd: Bytes,
+    /// That of /etc/group.
+    pub group: Bytes,
+    /// That of /etc/shadow.
+    pub shadow: Bytes,
+    /// That of /etc/gshadow, where it is there.
+    pub gshadow: Option<Bytes>,
+}
+
+/// The account files; /etc/gshadow may be absent.
+#[derive(Clone, Copy, Debug)]
+pub struct AccountFiles<'a> {
+    pub passwd: &'a [u8],
+    pub group: &'a [u8],
+    pub shadow: &'a [u8],
+    pub gshadow: Option<&'a [u8]>,
+}
+
+/// What lines ask for.
+#[derive(Debug, Drop)]
+pub struct Wanted {
+    /// The groups that they need.
+    pub needs: Vec<Need>,
+    /// The users that they need.
+    pub accounts: Vec<Account>,
+    /// The numbers that may be given.
+    pub pool: Pool,
+}
+
+/// The new groups and users with their numbers.
+#[derive(Debug, Drop)]
+pub struct Numbers {
+    /// The groups.
+    pub groups: Vec<(Bytes, u32)>,
+    /// The users.
+    pub users: Vec<NewUser>,
+}
+
+/// What lines ask for.
+fn wanted_by(alloc: Global, users: &InUse<'_>, lines: &Lines<'_>) -> Result<Wanted, AllocError>
+    requires { IsIndexed lines.now }
+    ensures { IfOk result (IsWanted users.now (shown lines.now.kept.items)) }
+{
+    let needs = all_needs(alloc, users, lines)?;
+    let accounts = all_accounts(alloc, users, lines)?;
+    let pool = Pool::of(alloc, &lines.kept, &needs, &accounts)?;
+    Ok(Wanted {
+        needs,
+        accounts,
+        pool,
+    })
+}
+
+/// The new groups and users with their numbers: all groups first, and then the users.
+fn decided_numbers(
+    alloc: Global,
+    wanted: &Wanted,
+    users: InUse<'_>,
+    groups: InUse<'_>,
+    said: &mut Messages,
+) -> Result<Numbers, PlanFault>
+    ensures made { IfOk result (AreNumbers (numbers_in wanted.now users.entry groups.entry)) }
+    ensures lacking { IfErr result (Lacks (numbers_in wanted.now users.entry groups.entry).lacking) }
+    ensures said { Told result (said.new ≡ said.old ++ (numbers_in wanted.now users.entry groups.entry).said) }
+{
+    let fixed = fixed_in(alloc, &wanted.needs)?;
+    let groups = decided_groups(
+        alloc,
+        &wanted.pool,
+        &users,
+        &fixed,
+        groups,
+        &wanted.needs,
+        said,
+    )?;
+    let users = decided_users(
+        alloc,
+        &wanted.pool,
+        &groups.all,
+        users,
+        &wanted.accounts,
+        said,
+    )?;
+    Ok(Numbers {
+        groups: groups.made,
+        users,
+    })
+}
+
+/// /etc/gshadow with needed groups and members, where it is there.
+fn gshadow_of(
+    alloc: Global,
+    needs: &[Need],
+    lines: &[Line<'_>],
+    file: Option<&[u8]>,
+) -> Result<Option<Bytes>, AllocError>
+    ensures { let members = flat_map membership_of (shown lines.now) in
+        IfOk result (λ text. text ≡ option_map (gshadow_text needs.now members) (option_map (λ f. f.now) file.entry)) }
+{
+    match file {
+        Some(file) => Ok(Some(gshadow_text(alloc, needs, lines, file)?)),
+        None => Ok(None),
+    }
+}
+
+/// The texts that new groups, members and new users give.
+fn texts_by(
+    alloc: Global,
+    files: &AccountFiles<'_>,
+    needs: &[Need],
+    lines: &[Line<'_>],
+    day: u64,
+    numbers: &Numbers,
+) -> Result<Texts, AllocError>
+    ensures { let members = flat_map membership_of (shown lines.now) in
+        IfOk result (λ texts. texts ≡ texts_by (files_of files.now) needs.now members day numbers.now.groups.items numbers.now.users.items) }
+{
+    Ok(Texts {
+        passwd: passwd_text(alloc, &numbers.users, files.passwd)?,
+        group: group_text(alloc, &numbers.groups, lines, files.group)?,
+        shadow: shadow_text(alloc, day, &numbers.users, files.shadow)?,
+        gshadow: gshadow_of(alloc, needs, lines, files.gshadow)?,
+    })
+}
+
+/// The plan of lines that count.
+fn plan_of(
+    alloc: Global,
+    files: &AccountFiles<'_>,
+    lines: &Lines<'_>,
+    day: u64,
+    said: &mut Messages,
+) -> Result<Texts, PlanFault>
+    requires { IsIndexed lines.now }
+    ensures texts { let plan = plan_of (files_of files.now) (shown lines.now.kept.items) day in
+        IfOk result (λ texts. plan.texts ≡ Ok texts) }
+    ensures lacking { let plan = plan_of (files_of files.now) (shown lines.now.kept.items) day in
+        IfErr result (Misses plan.texts) }
+    ensures said { let plan = plan_of (files_of files.now) (shown lines.now.kept.items) day in
+        Told result (said.new ≡ said.old ++ plan.said) }
+{
+    let users = InUse::of(alloc, Kind::Passwd, files.passwd)?;
+    let wanted = wanted_by(alloc, &users, lines)?;
+    let groups = InUse::of(alloc, Kind::Group, files.group)?;
+    let numbers = decided_numbers(alloc, &wanted, users, groups, said)?;
+    let texts = texts_by(alloc, files, &wanted.needs, &lines.kept, day, &numbers)?;
+    Ok(texts)
+}
+
+/// The plan of requests, with what is said in a list of its own.
+fn planned_texts(
+    alloc: Global,
+    requests: &RequestList,
+    taken: &PathIds,
+    files: &AccountFiles<'_>,
+    day: u64,
+    said: &mut Messages,
+) -> Result<Texts, PlanFault>
+    ensures texts { let plan = planned requests.now taken.now (files_of files.now) day in
+        IfOk result (λ texts. plan.texts ≡ Ok texts) }
+    ensures lacking { let plan = planned requests.now taken.now (files_of files.now) day in
+        IfErr result (Misses plan.texts) }
+    ensures said { let plan = planned requests.now taken.now (files_of files.now) day in
+        Told result (said.new ≡ said.old ++ plan.said) }
+{
+    let lines = counted(alloc, requests, taken, said)?;
+    plan_of(alloc, files, &lines, day, said)
+}
+
+/// Says the message at a place of a list, where there is one.
+fn say_one(said: &Messages, i: usize, messages: &mut Messages) -> Result<(), AllocError>
+    ensures ok { OnOk result (messages.new ≡ messages.old ++ kept (slice_get said.now i)) }
+    ensures err { OnErr result (messages.new ≡ messages.old) }
+{
+    match said.line(i) {
+        Some(line) => messages.push(line),
+        None => Ok(()),
+    }
+}
+
+/// Says all messages of a list.
+fn say_all(said: &Messages, messages: &mut Messages) -> Result<(), AllocError>
+    ensures ok { OnOk result (messages.new ≡ messages.old ++ said.now) }
+    ensures part { SaidPart said.now messages.old messages.new }
+{
+    for i in 0..said.len() {
+        say_one(said, i, messages)?;
+    }
+    Ok(())
+}
+
+/// What a run makes of the account files, by its requests, the owners of the objects at their paths and the day: the
+/// new texts, or the name of the first user or group for which no number is left (sysusers.d(5)). What is said of
+/// lines that come again comes first, then what is said of numbers in use. Where memory runs out nothing or a front
+/// part of it is said.
+pub fn plan(
+    alloc: Global,
+    requests: &RequestList,
+    passwd: &[u8],
+    group: &[u8],
+    shadow: &[u8],
+    gshadow: Option<&[u8]>,
+    taken: &PathIds,
+    day: u64,
+    messages: &mut Messages,
+) -> Result<Texts, PlanFault>
+    ensures texts { let plan = planned requests.now taken.now (files_in passwd.now group.now shadow.now (option_map (λ f. f.now) gshadow.entry)) day in
+        IfOk result (λ texts. plan.texts ≡ Ok texts) }
+    ensures lacking { let plan = planned requests.now taken.now (files_in passwd.now group.now shadow.now (option_map (λ f. f.now) gshadow.entry)) day in
+        IfErr result (Misses plan.texts) }
+    ensures said { let plan = planned requests.now taken.now (files_in passwd.now group.now shadow.now (option_map (λ f. f.now) gshadow.entry)) day in
+        Told result (messages.new ≡ messages.old ++ plan.said) }
+    ensures part { let plan = planned requests.now taken.now (files_in passwd.now group.now shadow.now (option_map (λ f. f.now) gshadow.entry)) day in
+        SaidPart plan.said messages.old messages.new }
+{
+    let files = AccountFiles {
+        passwd,
+        group,
+        shadow,
+        gshadow,
+    };
+    let mut said = Messages::new(alloc);
+    match planned_texts(alloc, requests, taken, &files, day, &mut said) {
+        Ok(texts) => {
+            say_all(&said, messages)?;
+            Ok(texts)
+        }
+        Err(PlanFault::NoFreeId(name)) => {
+            say_all(&said, messages)?;
+            Err(PlanFault::NoFreeId(name))
+        }
+        Err(PlanFault::Memory) => Err(PlanFault::Memory),
+    }
+}

@@ -1,0 +1,208 @@
+//! The numbers that may be given to new users and groups.
+ghost use Rattle.std.specs.Prelude.{◌≡◌, ◌==◌, ◌++◌, ℕ, nat_eq, IfOk, OnOk};
+ghost use Rattle.std.specs.HashSet as set;
+ghost use Rattle.std.specs.List.{flat_map, list_any};
+ghost use Rattle.pv_sysusers.specs.Deciding.{is_free_in, pooled_by};
+ghost use Rattle.pv_sysusers.specs.Pools.{free_number, greater, highest, is_between, is_pooled, last_of, range_of, ranges_or_own};
+ghost use Rattle.pv_sysusers.specs.Needs.{account_numbers, fixed_numbers, kept, main_number};
+ghost use Rattle.pv_sysusers.specs.Shown.{shown, shown_line};
+
+use crate::lines::Line;
+use crate::needs::{Account, Main, Need};
+use pv_accounts::InUse;
+use pv_requests::Request;
+use std::alloc::{AllocError, Global};
+use std::collections::HashSet;
+
+/// The numbers that may be given: those in ranges, but for 0, 65535 and those that lines fix.
+#[derive(Debug, Drop)]
+pub struct Pool {
+    /// The ranges, each by its first and its last number.
+    pub ranges: Vec<(u32, u32)>,
+    /// The numbers that lines fix.
+    pub fixed: HashSet<u32>,
+}
+
+/// Adds the range of an r line.
+fn add_range(ranges: &mut Vec<(u32, u32)>, line: Line<'_>) -> Result<(), AllocError>
+    ensures { OnOk result (ranges.new.items ≡ ranges.old.items ++ range_of (shown_line line.entry)) }
+{
+    if let Request::Range { first, last, .. } = line.0 {
+        ranges.push((*first, *last))?;
+    }
+    Ok(())
+}
+
+/// The ranges of lines.
+fn ranges_of(alloc: Global, lines: &[Line<'_>]) -> Result<Vec<(u32, u32)>, AllocError>
+    ensures { IfOk result (λ ranges. ranges.items ≡ flat_map range_of (shown lines.now)) }
+{
+    let mut ranges = Vec::new(alloc);
+    for line in lines {
+        add_range(&mut ranges, *line)?;
+    }
+    Ok(ranges)
+}
+
+/// The ranges, or else 1 to 999.
+fn ranges_or_own(mut ranges: Vec<(u32, u32)>) -> Result<Vec<(u32, u32)>, AllocError>
+    ensures { IfOk result (λ all. all.items ≡ ranges_or_own ranges.items) }
+{
+    if ranges.is_empty() {
+        ranges.push((1, 999))?;
+    }
+    Ok(ranges)
+}
+
+/// Adds a number, where there is one.
+fn add_number(numbers: &mut Vec<u32>, number: Option<u32>) -> Result<(), AllocError>
+    ensures { OnOk result (numbers.new.items ≡ numbers.old.items ++ kept number) }
+{
+    if let Some(n) = number {
+        numbers.push(n)?;
+    }
+    Ok(())
+}
+
+/// Adds the numbers that lines fix for groups.
+fn add_need_numbers(numbers: &mut Vec<u32>, needs: &[Need]) -> Result<(), AllocError>
+    ensures { OnOk result (numbers.new.items ≡ numbers.old.items ++ flat_map (λ need. kept need.number) needs.now) }
+{
+    for need in needs {
+        add_number(numbers, need.number)?;
+    }
+    Ok(())
+}
+
+/// The number of a primary group that has no name.
+fn main_number(main: &Main) -> Option<u32>
+    ensures { kept result ≡ main_number main.now }
+{
+    match main {
+        Main::Gid(n) => Some(*n),
+        _ => None,
+    }
+}
+
+/// Adds the numbers that a u line fixes for a user and for a group without a name.
+fn add_account_numbers(numbers: &mut Vec<u32>, account: &Account) -> Result<(), AllocError>
+    ensures { OnOk result (numbers.new.items ≡ numbers.old.items ++ account_numbers account.now) }
+{
+    add_number(numbers, account.uid)?;
+    add_number(numbers, main_number(&account.main))
+}
+
+/// Adds the numbers that lines fix for users.
+fn add_user_numbers(numbers: &mut Vec<u32>, accounts: &[Account]) -> Result<(), AllocError>
+    ensures { OnOk result (numbers.new.items ≡ numbers.old.items ++ flat_map account_numbers accounts.now) }
+{
+    for account in accounts {
+        add_account_numbers(numbers, account)?;
+    }
+    Ok(())
+}
+
+/// The set of numbers.
+fn set_of(alloc: Global, numbers: &[u32]) -> Result<HashSet<u32>, AllocError>
+    ensures { IfOk result (λ all. (n : ℕ) → set.contains nat_eq all n ≡ list_any (λ m. m == n) numbers.now) }
+{
+    let mut all = HashSet::new(alloc);
+    for number in numbers {
+        all.insert(*number)?;
+    }
+    Ok(all)
+}
+
+/// The last number of a range that is not empty.
+fn last_of(range: (u32, u32)) -> Option<u32>
+    ensures { result ≡ last_of range }
+{
+    if range.0 <= range.1 {
+        Some(range.1)
+    } else {
+        None
+    }
+}
+
+/// The highest number of a range below a bound.
+fn top_of(range: (u32, u32), bound: u32) -> Option<u32>
+    ensures { result ≡ highest (λ n. is_between n range) bound }
+{
+    if range.1 < bound {
+        return last_of(range);
+    }
+    if range.0 < bound {
+        Some(bound - 1)
+    } else {
+        None
+    }
+}
+
+/// The greater of two numbers, where there are any.
+fn greater(a: Option<u32>, b: Option<u32>) -> Option<u32>
+    ensures { result ≡ greater a b }
+{
+    let Some(a) = a else {
+        return b;
+    };
+    let Some(b) = b else {
+        return Some(a);
+    };
+    Some(a.max(b))
+}
+
+impl Pool {
+    /// The numbers that may be given, by the ranges of lines, or else 1 to 999, and by the numbers that lines fix.
+    pub(crate) fn of(
+        alloc: Global,
+        lines: &[Line<'_>],
+        needs: &[Need],
+        accounts: &[Account],
+    ) -> Result<Pool, AllocError>
+        ensures { let ranges = flat_map range_of (shown lines.now) in
+            IfOk result (λ pool. (n : ℕ) → pooled_by pool n ≡ is_pooled ranges (fixed_numbers needs.now accounts.now) n) }
+    {
+        let mut numbers = Vec::new(alloc);
+        add_need_numbers(&mut numbers, needs)?;
+        add_user_numbers(&mut numbers, accounts)?;
+        Ok(Pool {
+            ranges: ranges_or_own(ranges_of(alloc, lines)?)?,
+            fixed: set_of(alloc, &numbers)?,
+        })
+    }
+
+    /// The highest number of all ranges below a bound.
+    fn top(&self, bound: u32) -> Option<u32>
+        ensures { result ≡ highest (λ n. list_any (is_between n) self.now.ranges.items) bound }
+    {
+        let mut top = None;
+        for range in &self.ranges {
+            top = greater(top, top_of(*range, bound));
+        }
+        top
+    }
+
+    /// Whether a number of the ranges may be given, and nobody has it.
+    fn is_free(&self, n: u32, users: &InUse<'_>, groups: &InUse<'_>) -> bool
+        ensures { result ≡ is_free_in self.now users.now groups.now n }
+    {
+        let fixed = self.fixed.contains(&n);
+        let used = users.is_held(n);
+        let grouped = groups.is_held(n);
+        n != 0 && n != 65535 && !fixed && !used && !grouped
+    }
+
+    /// The highest number of the pool that no user and no group has.
+    pub(crate) fn free_number(&self, users: &InUse<'_>, groups: &InUse<'_>) -> Option<u32>
+        ensures { result ≡ free_number (pooled_by self.now) users.now groups.now }
+    {
+        let mut bound = u32::MAX;
+        while let Some(n) = self.top(bound) {
+            if self.is_free(n, users, groups) {
+                return Some(n);
+            }
+            bound = n;
+        }
+        None
+    }
+}

@@ -1,0 +1,116 @@
+//! The numbers of new users.
+ghost use Rattle.std.specs.Prelude.{◌≡◌, [], ◌∷◌, ◌++◌, IfOk, IfErr, OnOk};
+ghost use Rattle.pv_sysusers.specs.Deciding.{AreMade, Lacks, Told, pooled_by, users_by};
+ghost use Rattle.pv_sysusers.specs.Users.{gid_of, group_or_free, is_free_for, user_choice};
+
+use crate::fault::PlanFault;
+use crate::groups::say_in_use;
+use crate::needs::{Account, Main};
+use crate::pool::Pool;
+use pv_accounts::InUse;
+use pv_text::Messages;
+use std::alloc::{AllocError, Global};
+
+/// A new user with his numbers.
+#[derive(Debug, Drop)]
+pub struct NewUser {
+    /// What lines ask for him.
+    pub account: Account,
+    /// His number.
+    pub uid: u32,
+    /// The number of his primary group.
+    pub gid: u32,
+}
+
+/// Whether a user may get a number: no user has it, and no group of another name.
+fn is_free_for(users: &InUse<'_>, groups: &InUse<'_>, name: &[u8], n: u32) -> bool
+    ensures { result ≡ is_free_for users.now groups.now name.now n }
+{
+    let other = groups.is_held_beside(n, name);
+    !(users.is_held(n) || other)
+}
+
+/// The number of the group of the user's name, where he may get it, or else one of the pool.
+fn group_or_free(pool: &Pool, users: &InUse<'_>, groups: &InUse<'_>, name: &[u8]) -> Option<u32>
+    ensures { result ≡ group_or_free (pooled_by pool.now) users.now groups.now name.now }
+{
+    match groups.id_of(name) {
+        Some(n) if n != 0 && is_free_for(users, groups, name, n) => Some(n),
+        _ => pool.free_number(users, groups),
+    }
+}
+
+/// The number that a user gets, if there is one.
+fn user_number(
+    alloc: Global,
+    pool: &Pool,
+    users: &InUse<'_>,
+    groups: &InUse<'_>,
+    account: &Account,
+    said: &mut Messages,
+) -> Result<Option<u32>, AllocError>
+    ensures number { let choice = user_choice (pooled_by pool.now) users.now groups.now account.now in
+        IfOk result (λ n. n ≡ choice.number) }
+    ensures said { let choice = user_choice (pooled_by pool.now) users.now groups.now account.now in
+        OnOk result (said.new ≡ said.old ++ choice.said) }
+{
+    let name = account.name.as_slice();
+    let Some(n) = account.uid else {
+        return Ok(group_or_free(pool, users, groups, name));
+    };
+    if is_free_for(users, groups, name, n) {
+        return Ok(Some(n));
+    }
+    say_in_use(alloc, &account.place, n, name, said)?;
+    Ok(group_or_free(pool, users, groups, name))
+}
+
+/// The number of the primary group, which was decided before.
+fn gid_of(groups: &InUse<'_>, name: &[u8], main: &Main) -> u32
+    ensures { result ≡ gid_of groups.now name.now main.now }
+{
+    match main {
+        Main::Own => groups.id_of(name).unwrap_or(0),
+        Main::Gid(n) => *n,
+        Main::Named(group) => groups.id_of(group.as_slice()).unwrap_or(0),
+    }
+}
+
+/// The users that lines need, decided in order: one that is there stays as he is.
+pub(crate) fn decided_users<'a>(
+    alloc: Global,
+    pool: &Pool,
+    groups: &InUse<'_>,
+    users: InUse<'a>,
+    accounts: &'a [Account],
+    said: &mut Messages,
+) -> Result<Vec<NewUser>, PlanFault>
+    ensures made { let decided = users_by pool.now groups.now users.entry accounts.entry.now in
+        IfOk result (λ made. AreMade decided made.items) }
+    ensures lacking { let decided = users_by pool.now groups.now users.entry accounts.entry.now in
+        IfErr result (Lacks decided.lacking) }
+    ensures said { let decided = users_by pool.now groups.now users.entry accounts.entry.now in
+        Told result (said.new ≡ said.old ++ decided.said) }
+{
+    let mut all = users;
+    let mut made = Vec::new(alloc);
+    for account in accounts {
+        let name = account.name.as_slice();
+        if all.id_of(name).is_some() {
+            continue;
+        }
+        match user_number(alloc, pool, &all, groups, account, said)? {
+            Some(uid) => {
+                all = all.with(name, uid)?;
+                let gid = gid_of(groups, name, &account.main);
+                made.push(NewUser {
+                    account: account.copy()?,
+                    uid,
+                    gid,
+                })?;
+            }
+            None => return Err(PlanFault::NoFreeId(account.name.copy()?)),
+        }
+    }
+    Ok(made)
+}
