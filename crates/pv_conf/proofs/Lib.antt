@@ -1,3 +1,5 @@
 pub mod ReadingLaws
 pub mod CuttingLaws
 pub mod KnownLaws
+pub mod InputLaws
+pub mod RequestedLaws

@@ -1,3 +1,5 @@
 pub mod Configuration
 pub mod Adding
 pub mod Known
+pub mod Inputs
+pub mod Requested

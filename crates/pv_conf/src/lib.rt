@@ -3,11 +3,18 @@
 
 mod configuration;
 mod cutting;
+mod laws;
 mod reader;
 mod reading;
+mod sysusers;
 mod tmpfiles;
 
 pub use configuration::Configuration;
+pub use laws::{
+    a_configuration_depends_on_input_paths, a_run_outside_leaves_the_configuration,
+    steps_elsewhere_leave_the_configuration,
+};
 pub use reader::LineReader;
 pub use reading::read_lines;
+pub use sysusers::read_requests;
 pub use tmpfiles::read_configuration;
