@@ -9,7 +9,7 @@ use Rattle.pv_steps.specs.Runs.{Ran}
 use Rattle.pv_image.specs.Images.{IsImage}
 use Rattle.pv_image.specs.Spelling.{text_of}
 use Rattle.pv_tree.specs.Held.{Held}
-use Rattle.pv_create.specs.OnWay.{Partway, IsMended}
+use Rattle.pv_create.specs.Mended.{IsMended}
 use Rattle.pv_words.specs.declared.options.Options.{Options}
 use Rattle.provision_run.specs.declared.answer.Answer.{Answer}
 use Rattle.provision_run.specs.declared.outcome.Outcome.{Outcome}
@@ -17,7 +17,7 @@ use Rattle.provision_run.specs.declared.outcome.Outcome.TheVariants.{Done, Confi
 use Rattle.provision_run.specs.declared.run.RunEnd.{RunEnd}
 use Rattle.provision_run.specs.declared.run.RunEnd.TheVariants as end
 use Rattle.provision_run.specs.Words.{moment_of}
-use Rattle.provision_run.specs.Whole.{run_lines, final, read_messages, line_messages, run_messages, run_end, run_work}
+use Rattle.provision_run.specs.Whole.{run_lines, run_way, final, read_messages, line_messages, run_messages, run_end, run_work}
 use Rattle.provision_run.specs.Answers.{IsAnswer, IsAnswered, IsRun, IsWhole, IsStopped, IsOwn, outcome_of, outcome, messages_text, stopped_text, most_bytes}
 
 -- an outcome of a run that was not stopped
@@ -131,7 +131,7 @@ own_not_written found h e = subst IsOwn e h
 
 -- ---- what a run over any tree says of itself is what belongs to its output
 
-module _ (options : Options) (facts : Values) (moment : ℕ) (t u : Files) (h k : List Step) (Q : Step → Type 0) (start : h ≡ []) (ran : Ran (Partway (run_lines options facts t) moment t) Q moment t h u k) where
+module _ (options : Options) (facts : Values) (moment : ℕ) (t u : Files) (h k : List Step) (Q : Step → Type 0) (start : h ≡ []) (ran : Ran (run_way options facts moment t) Q moment t h u k) where
   -- the steps that it added are all that are told
   all_told : k ≡ ran.steps
   all_told = ran.told ∙ ap (λ x. x ++ ran.steps) start
@@ -174,7 +174,7 @@ module _ (options : Options) (facts : Values) (moment : ℕ) (t u : Files) (h k 
 -- ---- a run over a tree in memory
 
 module _ (options : Options) (facts : Values) (moment : ℕ) (old new : Held) (Q : Step → Type 0) (start : old.steps ≡ [])
-    (ran : Ran (Partway (run_lines options facts old.files) moment old.files) Q moment old.files old.steps new.files new.steps) (kept : Held) (same : kept ≡ new) where
+    (ran : Ran (run_way options facts moment old.files) Q moment old.files old.steps new.files new.steps) (kept : Held) (same : kept ≡ new) where
   pub whole_answered : (e : RunEnd) → e ≡ run_end options facts moment old.files → new.files ≡ final options facts moment old.files
       → (said : List (List ℕ)) → said ≡ run_messages options facts moment old.files
       → {E : Type 0} (r : Result Answer E) → IfOk r (λ a. a.outcome ≡ outcome_of e) → IfOk r (λ a. a.output.items ≡ messages_text said ++ text_of facts kept.files)

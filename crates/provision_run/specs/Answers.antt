@@ -8,7 +8,7 @@ use Rattle.pv_text.specs.Facts.{Values}
 use Rattle.pv_steps.specs.declared.step.Step.{Step}
 use Rattle.pv_steps.specs.Trees.{Files}
 use Rattle.pv_steps.specs.Runs.{Along, after_all}
-use Rattle.pv_create.specs.OnWay.{Partway, IsMended}
+use Rattle.pv_create.specs.Mended.{IsMended}
 use Rattle.pv_words.specs.declared.options.Options.{Options}
 use Rattle.pv_image.specs.declared.fault.ImageFault.{ImageFault}
 use Rattle.pv_image.specs.declared.fault.ImageFault.TheVariants as fault
@@ -19,7 +19,7 @@ use Rattle.provision_run.specs.declared.outcome.Outcome.TheVariants.{Done, Confi
 use Rattle.provision_run.specs.declared.run.RunEnd.{RunEnd}
 use Rattle.provision_run.specs.declared.run.RunEnd.TheVariants as end
 use Rattle.provision_run.specs.Words.{meaning, moment_of}
-use Rattle.provision_run.specs.Whole.{run_lines, final, read_messages, line_messages, run_messages, run_end, run_work}
+use Rattle.provision_run.specs.Whole.{run_lines, run_way, final, read_messages, line_messages, run_messages, run_end, run_work}
 
 -- the status with which the program ends
 abbrev pub status_of : Outcome → ℕ
@@ -85,7 +85,7 @@ pub record IsWhole (options : Options) (facts : Values) (moment : ℕ) (t : File
   pub end : found ≡ outcome options facts moment t
   pub text : out ≡ output options facts moment t
   pub steps : List Step
-  pub way : Along (Partway (run_lines options facts t) moment t) t steps moment
+  pub way : Along (run_way options facts moment t) t steps moment
   pub reached : final options facts moment t ≡ after_all t steps moment
   pub within : IfSome options.stop_after (λ n. length steps ≤ n)
 
@@ -103,7 +103,7 @@ pub record IsStopped (options : Options) (facts : Values) (moment : ℕ) (t : Fi
   pub fewer : n < run_work options facts moment t
   pub steps : List Step
   pub count : length steps ≡ n
-  pub way : Along (Partway (run_lines options facts t) moment t) t steps moment
+  pub way : Along (run_way options facts moment t) t steps moment
   pub told : ℕ
   pub text : out
       ≡ messages_text (read_messages options facts t ++ take told (line_messages options facts moment t) ++ stopped_text n ∷ [])

@@ -1,31 +1,33 @@
 -- Which lines of a configuration are carried out so far, and what is said of the others (this project's own).
-use Rattle.std.specs.Prelude.{ℕ, Bool, true, false, ◌||◌, List, [], ◌∷◌, ◌++◌, codes, Option, Some, None, is_none}
+use Rattle.std.specs.Prelude.{ℕ, Bool, true, false, not, ◌||◌, List, [], ◌∷◌, ◌++◌, codes, Option, Some, None, is_none, if◌then◌else◌}
 use Rattle.pv_text.specs.Said.{said_at}
 use Rattle.pv_lines.specs.declared.line.Line.{Line}
-use Rattle.pv_create.specs.DirectoryLines.{directory_of}
-use Rattle.pv_create.specs.declared.directory_line.DirectoryLine.{DirectoryLine}
+use Rattle.pv_table.specs.Asking.{asks}
+use Rattle.pv_table.specs.Turns.{copied}
+
+-- whether a line is carried out so far: all but those that copy
+abbrev pub is_built_line : Line → Bool
+is_built_line line = is_none (copied (asks line))
 
 -- a line that is carried out, if it is
-abbrev pub built : Option DirectoryLine → List DirectoryLine
-built (Some directory) = directory ∷ []
-built None = []
+abbrev pub built : Line → List Line
+built line = if is_built_line line then line ∷ [] else []
 
 -- the lines that are carried out
-abbrev pub built_lines : List Line → List DirectoryLine
+abbrev pub built_lines : List Line → List Line
 built_lines [] = []
-built_lines (line ∷ lines) = built (directory_of line) ++ built_lines lines
+built_lines (line ∷ lines) = built line ++ built_lines lines
 
 -- what is said of a line that is not
-abbrev pub unbuilt : Line → Option DirectoryLine → List (List ℕ)
-unbuilt line (Some directory) = []
-unbuilt line None = said_at line.place (codes "NotBuilt") ∷ []
+abbrev pub unbuilt : Line → List (List ℕ)
+unbuilt line = if is_built_line line then [] else said_at line.place (codes "NotBuilt") ∷ []
 
 -- what is said of those that are not
 abbrev pub unbuilt_messages : List Line → List (List ℕ)
 unbuilt_messages [] = []
-unbuilt_messages (line ∷ lines) = unbuilt line (directory_of line) ++ unbuilt_messages lines
+unbuilt_messages (line ∷ lines) = unbuilt line ++ unbuilt_messages lines
 
 -- whether some line is not
 abbrev pub some_unbuilt : List Line → Bool
 some_unbuilt [] = false
-some_unbuilt (line ∷ lines) = is_none (directory_of line) || some_unbuilt lines
+some_unbuilt (line ∷ lines) = not (is_built_line line) || some_unbuilt lines

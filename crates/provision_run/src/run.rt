@@ -3,12 +3,13 @@ ghost use Rattle.std.specs.Prelude.{◌≡◌, ◌∷◌, ◌++◌, [], true, dr
 ghost use Rattle.pv_text.specs.Said.{SaidPart};
 ghost use Rattle.pv_steps.specs.declared.tree.TreeFault.TheVariants.{Failed};
 ghost use Rattle.pv_steps.specs.Acting.{Acted};
-ghost use Rattle.pv_create.specs.OnWay.{Partway, IsStepOfSome, IsMended};
+ghost use Rattle.pv_create.specs.Mended.{IsMended};
 ghost use Rattle.provision_run.specs.Words.{is_built};
-ghost use Rattle.provision_run.specs.Whole.{run_lines, final, read_messages, line_messages, run_messages, end_of, is_uncarried, run_end, run_work};
+ghost use Rattle.provision_run.specs.Whole.{run_lines, run_way, is_run_step, final, read_messages, line_messages, run_messages, end_of, is_uncarried, run_end, run_work};
 
 use crate::built::read_run;
-use pv_create::{Carried, create_run};
+use pv_create::create_run;
+use pv_doing::Carried;
 use pv_path::{Bytes, TreePath};
 use pv_steps::{Tree, TreeFault};
 use pv_text::{Facts, Messages};
@@ -53,8 +54,8 @@ pub fn run_on_tree<T: Tree>(
     ensures read { IsErrOf result Failed → SaidPart (line_messages options.entry.now facts.now moment (T.state tree.old))
         (messages.old ++ read_messages options.entry.now facts.now (T.state tree.old)) messages.new }
     ensures acted { Acted T.Tree
-        (Partway (run_lines options.entry.now facts.now (T.state tree.old)) moment (T.state tree.old))
-        (IsStepOfSome (run_lines options.entry.now facts.now (T.state tree.old)))
+        (run_way options.entry.now facts.now moment (T.state tree.old))
+        (is_run_step options.entry.now facts.now moment (T.state tree.old))
         (run_work options.entry.now facts.now moment (T.state tree.old))
         moment tree.old tree.new result }
 
@@ -65,7 +66,7 @@ pub fn run_on_tree<T: Tree>(
     // Whatever the run answers, it began with a tree.
     let _root = tree.look(&TreePath::root(alloc));
     let read = read_run(alloc, options, facts, tree, messages)?;
-    let carried = create_run(alloc, tree, &read.lines, moment, messages)?;
+    let carried = create_run(alloc, tree, &read.table, moment, messages)?;
     Ok(end_of(carried, read.missing, read.invalid))
 }
 

@@ -55,8 +55,28 @@ fn expect(rt: &impl Abort, alloc: Global, row: &Row<'_>) -> Result<(), Fail> {
 
 const CREATE: &[&str] = &["systemd-tmpfiles", "--create"];
 
+/// A link that takes the place of a directory.
+const REPLACED: &str = "L+ /p - - - - /t\n";
+
+const REPLACED_BEFORE: &[&str] = &[
+    "d / 0755 0 0 -",
+    "etc",
+    "d /p 0755 0 0 -",
+    "f /p/x 0644 0 0 -",
+    "f /p/y 0644 0 0 -",
+];
+
+/// A file of root below a directory of another user.
+const HOME: &[&str] = &[
+    "d / 0755 0 0 -",
+    "etc",
+    "d /home 0755 0 0 -",
+    "d /home/u 0755 1000 0 -",
+    "f /home/u/x 0644 0 0 -",
+];
+
 /// Lines, the objects before, what is said, the objects after, and the status.
-const LINES: [(&str, &[&str], &str, &[&str], u8); 12] = [
+const LINES: [(&str, &[&str], &str, &[&str], u8); 21] = [
     // A directory with its absent parent.
     (
         "d /run/app 0750 0 0\n",
@@ -72,7 +92,7 @@ const LINES: [(&str, &[&str], &str, &[&str], u8); 12] = [
     ),
     // A line that is not built.
     (
-        "d /b 0755 0 0\nq /c\n",
+        "d /b 0755 0 0\nC /c\n",
         &["d / 0755 0 0 -", "etc"],
         ": /etc/tmpfiles.d/a.conf:2: NotBuilt\n",
         &["d / 0755 0 0 child", "d /b 0755 0 0 new", "etc"],
@@ -91,14 +111,14 @@ const LINES: [(&str, &[&str], &str, &[&str], u8); 12] = [
         ],
         65,
     ),
-    // A parent that a later line adjusts.
+    // A parent that a later line makes.
     (
-        "d /a/b 0700 0 0\nd /a 0711 5 6\n",
+        "d /a/b 0700 0 0\nd /a 0711 0 6\n",
         &["d / 0755 0 0 -", "etc"],
         "",
         &[
             "d / 0755 0 0 child",
-            "d /a 0711 5 6 new",
+            "d /a 0711 0 6 new",
             "d /a/b 0700 0 0 new",
             "etc",
         ],
@@ -210,7 +230,7 @@ const LINES: [(&str, &[&str], &str, &[&str], u8); 12] = [
             "f /f 0644 0 0 - =v",
             "l /s 0777 0 0 - - /t",
         ],
-        ": /etc/tmpfiles.d/a.conf:2: NotBuilt\n: /etc/tmpfiles.d/a.conf:1: /s/x refused at /s: link\n: /etc/tmpfiles.d/a.conf:3: /f/x refused at /f: not a directory\n",
+        ": /etc/tmpfiles.d/a.conf:1: /s/x refused at /s: link\n: /etc/tmpfiles.d/a.conf:3: /f/x refused at /f: not a directory\n",
         &[
             "d / 0755 0 0 child",
             "etc",
@@ -219,6 +239,108 @@ const LINES: [(&str, &[&str], &str, &[&str], u8); 12] = [
             "l /s 0777 0 0 - - /t",
         ],
         73,
+    ),
+    // A directory where a file is wanted, and a new file.
+    (
+        "f /a - - - - text\nf /b - - - - text\n",
+        &["d / 0755 0 0 -", "d /a 0755 0 0 -", "etc"],
+        ": /etc/tmpfiles.d/a.conf:1: /a is a directory, left\n",
+        &[
+            "d / 0755 0 0 child",
+            "d /a 0755 0 0 -",
+            "f /b 0644 0 0 new =text",
+            "etc",
+        ],
+        0,
+    ),
+    // A link in the place of a directory.
+    (
+        REPLACED,
+        REPLACED_BEFORE,
+        "",
+        &["d / 0755 0 0 child", "etc", "l /p 0777 0 0 new - /t"],
+        0,
+    ),
+    // Two lines for one path, and one for the boot.
+    (
+        "d /x 0700\nd /x 0755\n",
+        &["d / 0755 0 0 -", "etc"],
+        ": /etc/tmpfiles.d/a.conf:2: duplicate line for /x\n",
+        &["d / 0755 0 0 child", "etc", "d /x 0700 0 0 new"],
+        0,
+    ),
+    (
+        "d! /x 0700\nd /x 0755\n",
+        &["d / 0755 0 0 -", "etc"],
+        "",
+        &["d / 0755 0 0 child", "etc", "d /x 0755 0 0 new"],
+        0,
+    ),
+    // A file below a directory of another user, with and without `-`, and one of that user.
+    (
+        "f /home/u/x 0600\n",
+        HOME,
+        ": /etc/tmpfiles.d/a.conf:1: /home/u/x refused at /home/u/x: unsafe owner\n",
+        HOME,
+        73,
+    ),
+    (
+        "f- /home/u/x 0600\n",
+        HOME,
+        ": /etc/tmpfiles.d/a.conf:1: /home/u/x refused at /home/u/x: unsafe owner\n",
+        HOME,
+        0,
+    ),
+    (
+        "f /home/u/x 0600\n",
+        &[
+            "d / 0755 0 0 -",
+            "etc",
+            "d /home 0755 0 0 -",
+            "d /home/u 0755 1000 0 -",
+            "f /home/u/x 0644 1000 0 -",
+        ],
+        "",
+        &[
+            "d / 0755 0 0 -",
+            "etc",
+            "d /home 0755 0 0 -",
+            "d /home/u 0755 1000 0 -",
+            "f /home/u/x 0600 1000 0 set",
+        ],
+        0,
+    ),
+    // A masked mode for all that is below a directory.
+    (
+        "Z /d ~2755\n",
+        &[
+            "d / 0755 0 0 -",
+            "d /d 0700 0 0 -",
+            "f /d/f 0600 0 0 -",
+            "f /d/g 0500 0 0 -",
+            "f /d/k 0000 0 0 -",
+            "l /d/l 0777 0 0 - - /t",
+            "etc",
+        ],
+        "",
+        &[
+            "d / 0755 0 0 -",
+            "d /d 2755 0 0 set",
+            "f /d/f 0644 0 0 set",
+            "f /d/g 0555 0 0 set",
+            "f /d/k 0000 0 0 -",
+            "l /d/l 0777 0 0 - - /t",
+            "etc",
+        ],
+        0,
+    ),
+    // A mode and an entry of an ACL.
+    (
+        "z /f 0640\na+ /f - - - - u:1000:rw\n",
+        &["d / 0755 0 0 -", "etc", "f /f 0600 0 0 -"],
+        "",
+        &["d / 0755 0 0 -", "etc", "f /f 0640 0 0 set u:1000:rw- -"],
+        0,
     ),
 ];
 
@@ -275,18 +397,51 @@ const APP_MADE: &[&str] = &[
 /// The tree after the first step of making `/run/app`.
 const APP_BEGUN: &[&str] = &["d / 0755 0 0 child", "d /.#tf-run 0700 0 0 new", "etc"];
 
+/// The link is staged, and the first file of the directory is gone.
+const HALF_REPLACED: &[&str] = &[
+    "d / 0755 0 0 child",
+    "l /.#tf-p 0777 0 0 new - /t",
+    "etc",
+    "d /p 0755 0 0 child",
+    "f /p/y 0644 0 0 -",
+];
+
 #[test]
 fn runs_stop_after_their_limit(rt: HostRuntime) -> Result<(), Fail> {
-    for (stop, said, after, status) in [
-        ("--stop-after=0", ": stopped after 0 steps\n", ALONE, 75),
-        ("--stop-after=1", ": stopped after 1 steps\n", APP_BEGUN, 75),
-        ("--stop-after=6", "", APP_MADE, 0),
-        ("--stop-after=18446744073709551615", "", APP_MADE, 0),
-    ] {
+    let most = "--stop-after=18446744073709551615";
+    let rows: [(&str, &[&str], &str, &str, &[&str], u8); 5] = [
+        (
+            APP,
+            ALONE,
+            "--stop-after=0",
+            ": stopped after 0 steps\n",
+            ALONE,
+            75,
+        ),
+        (
+            APP,
+            ALONE,
+            "--stop-after=1",
+            ": stopped after 1 steps\n",
+            APP_BEGUN,
+            75,
+        ),
+        (APP, ALONE, "--stop-after=6", "", APP_MADE, 0),
+        (APP, ALONE, most, "", APP_MADE, 0),
+        (
+            REPLACED,
+            REPLACED_BEFORE,
+            "--stop-after=2",
+            ": stopped after 2 steps\n",
+            HALF_REPLACED,
+            75,
+        ),
+    ];
+    for (lines, before, stop, said, after, status) in rows {
         let row = Row {
             words: &["systemd-tmpfiles", "--create", stop],
-            lines: APP,
-            before: ALONE,
+            lines,
+            before,
             said,
             after,
             status,

@@ -1,8 +1,3 @@
-pub mod SettlingLaws
-pub mod LinesLaws
-pub mod SettlingLine
-pub mod EffectLaws
-pub mod FrameLaws
-pub mod PointLaws
-pub mod StopLaws
-pub mod DirectoryLaws
+pub mod LineLaws
+pub mod RunLaws
+pub mod BridgeLaws

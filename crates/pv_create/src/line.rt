@@ -1,88 +1,80 @@
-//! One line carried out.
-ghost use Rattle.std.specs.Prelude.{◌≡◌, ◌<◌, ◌^◌, ◌++◌, length, None, OnOk, IfOk};
-ghost use Rattle.pv_text.specs.Said.{SaidPart};
-ghost use Rattle.pv_steps.specs.Trees.{places, IsTree};
+//! One line carried out, by what it asks for.
+ghost use Rattle.std.specs.Prelude.{◌≡◌, ◌&&◌, ◌++◌, not, Bool, None, IfOk, OnOk};
+ghost use Rattle.pv_doing.specs.Courses.{carried_of};
+ghost use Rattle.pv_lines.specs.Lines.{IsLine};
 ghost use Rattle.pv_steps.specs.Acting.{Acted};
-ghost use Rattle.pv_create.specs.DirectoryLines.{IsDirectoryLine};
-ghost use Rattle.pv_create.specs.Effects.{line_refusal, line_after};
-ghost use Rattle.pv_create.specs.Created.{is_refused, carried_of, line_work};
-ghost use Rattle.pv_create.specs.Saying.{line_messages};
-ghost use Rattle.pv_create.specs.OnWay.{OnWay, IsStepOf};
+ghost use Rattle.pv_text.specs.Said.{SaidPart};
+ghost use Rattle.pv_table.specs.Asking.{asks};
+ghost use Rattle.pv_table.specs.Created.{by_line, by_line_that_counts};
+ghost use Rattle.pv_table.specs.Turns.{copied};
+ghost use Rattle.pv_create.specs.Ways.{LineWay, IsLineStep};
 
-use crate::carried::Carried;
-use crate::directory_line::DirectoryLine;
-use crate::message::say_refused;
-use crate::settle::settle;
-use pv_steps::{Tree, TreeFault, Why};
+use pv_adjust::adjust_named;
+use pv_doing::Carried;
+use pv_lines::Line;
+use pv_make::make;
+use pv_steps::{Tree, TreeFault};
+use pv_table::{Deed, asks};
 use pv_text::Messages;
-use pv_walk::{Walked, prepare, walk};
-use std::alloc::{AllocError, Global};
+use std::alloc::Global;
 
-/// Carries out one line. A refused line does nothing but say so.
+/// Carries out a line at its path, or at each path that it names (tmpfiles.d(5)). Whether it was refused does not count
+/// where the line has `-`.
 pub(crate) fn carry_out<T: Tree>(
     alloc: Global,
     tree: &mut T,
-    line: &DirectoryLine,
+    line: &Line,
     now: u64,
     messages: &mut Messages,
 ) -> Result<Carried, TreeFault>
-    requires line { IsDirectoryLine line.now }
-    ensures ok { OnOk result (T.state tree.new ≡ line_after line.now now (T.state tree.old)) }
-    ensures carried { IfOk result (λ c. c ≡ carried_of (is_refused line.now (T.state tree.old))) }
+    requires line { IsLine line.now }
+    requires copies { copied (asks line.now) ≡ None }
+    ensures ok { OnOk result (T.state tree.new ≡ (by_line now).after line.now (T.state tree.old)) }
     ensures said { OnOk result (messages.new
-        ≡ messages.old ++ line_messages line.now now (places (T.state tree.old))) }
-    ensures part { SaidPart (line_messages line.now now (places (T.state tree.old)))
-        messages.old messages.new }
-    ensures acted { Acted T.Tree (OnWay line.now (T.state tree.old)) (IsStepOf line.now)
-        (line_work line.now (T.state tree.old)) now tree.old tree.new result }
-    ensures tree { IsTree (T.state tree.old) }
+        ≡ messages.old ++ (by_line now).says line.now (T.state tree.old)) }
+    ensures carried { IfOk result (λ c. c
+        ≡ carried_of ((by_line_that_counts now).is_refused line.now (T.state tree.old))) }
+    ensures part { SaidPart ((by_line now).says line.now (T.state tree.old)) messages.old messages.new }
+    ensures acted { Acted T.Tree (LineWay now line.now (T.state tree.old))
+        (IsLineStep now line.now (T.state tree.old))
+        ((by_line now).takes line.now (T.state tree.old)) now tree.old tree.new result }
 {
-    match refusal_of(alloc, tree, line)? {
-        Some((place, why)) => {
-            say_refused(alloc, line, place, why, messages)?;
-            Ok(Carried::NotCarriedOut)
-        }
-        None => {
-            carry_out_unrefused(alloc, tree, line, now, messages)?;
-            Ok(Carried::Whole)
-        }
-    }
+    let carried = carry_out_asked(alloc, tree, line, now, messages)?;
+    Ok(counted(line, carried))
 }
 
-/// The place at which the path of a line is refused, counted by the names that lead to it, and why.
-fn refusal_of<T: Tree>(
-    alloc: Global,
-    tree: &T,
-    line: &DirectoryLine,
-) -> Result<Option<(u32, Why)>, AllocError>
-    requires { length line.now.path < 2 ^ 32 }
-    ensures refusal { IfOk result (λ refusal. refusal ≡ line_refusal line.now (places (T.state tree.now))) }
-    ensures tree { IsTree (T.state tree.now) }
-{
-    match walk(alloc, tree, &line.path, line.uid)? {
-        Walked::Refused(place, why) => Ok(Some((place, why))),
-        Walked::Present | Walked::Absent(_) => Ok(None),
-    }
-}
-
-/// Carries out one line whose path is not refused.
-fn carry_out_unrefused<T: Tree>(
+/// The same, but that each refusal counts.
+fn carry_out_asked<T: Tree>(
     alloc: Global,
     tree: &mut T,
-    line: &DirectoryLine,
+    line: &Line,
     now: u64,
     messages: &mut Messages,
-) -> Result<(), TreeFault>
-    requires line { IsDirectoryLine line.now }
-    requires unrefused { line_refusal line.now (places (T.state tree.old)) ≡ None }
-    ensures ok { OnOk result (T.state tree.new ≡ line_after line.now now (T.state tree.old)) }
+) -> Result<Carried, TreeFault>
+    requires line { IsLine line.now }
+    requires copies { copied (asks line.now) ≡ None }
+    ensures ok { OnOk result (T.state tree.new ≡ (by_line now).after line.now (T.state tree.old)) }
     ensures said { OnOk result (messages.new
-        ≡ messages.old ++ line_messages line.now now (places (T.state tree.old))) }
-    ensures part { SaidPart (line_messages line.now now (places (T.state tree.old)))
-        messages.old messages.new }
-    ensures acted { Acted T.Tree (OnWay line.now (T.state tree.old)) (IsStepOf line.now)
-        (line_work line.now (T.state tree.old)) now tree.old tree.new result }
+        ≡ messages.old ++ (by_line now).says line.now (T.state tree.old)) }
+    ensures carried { IfOk result (λ c. c
+        ≡ carried_of ((by_line now).is_refused line.now (T.state tree.old))) }
+    ensures part { SaidPart ((by_line now).says line.now (T.state tree.old)) messages.old messages.new }
+    ensures acted { Acted T.Tree (LineWay now line.now (T.state tree.old))
+        (IsLineStep now line.now (T.state tree.old))
+        ((by_line now).takes line.now (T.state tree.old)) now tree.old tree.new result }
 {
-    prepare(alloc, tree, &line.path, now)?;
-    settle(alloc, tree, line, now, messages)
+    match asks(alloc, line)? {
+        Deed::Create(making) => make(alloc, tree, line, &making, now, messages),
+        Deed::Touch(touching) => adjust_named(alloc, tree, line, &touching, now, messages),
+        Deed::Copy(_) => unreachable!(),
+        Deed::Idle => Ok(Carried::Whole),
+    }
+}
+
+/// How a line ended, as far as it counts.
+fn counted(line: &Line, carried: Carried) -> Carried
+    ensures { (refused : Bool) → carried ≡ carried_of refused
+        → result ≡ carried_of (not line.now.minus && refused) }
+{
+    if line.minus { Carried::Whole } else { carried }
 }

@@ -2,9 +2,8 @@ use Rattle.std.proofs.Common.{ap, ◌∙◌, ◌++◌, ◌+◌, ◌-◌, ◌≤�
 use Rattle.std.specs.Prelude.{◌≡◌, Err, IfOk}
 use Rattle.pv_text.specs.Said.{SaidPart}
 use Rattle.pv_steps.specs.Acting.{refused}
-use Rattle.pv_create.specs.OnWay.{IsStepOfSome}
 use Rattle.provision_run.specs.declared.run.RunEnd.{RunEnd}
-use Rattle.provision_run.specs.Whole.{run_lines, read_messages, line_messages, run_messages, run_work}
+use Rattle.provision_run.specs.Whole.{is_run_step, read_messages, line_messages, run_messages, run_work}
 use Rattle.pv_tree.proofs.FuseLaws.{burnt_within, burnt_out}
 use Rattle.provision_run.proofs.AnswerLaws.{always, whole_answered, stopped_answered, over_same, limited}
 use Rattle.provision_run.proofs.answer.run_fused.Goals as goal
@@ -14,7 +13,7 @@ returns-in-Ok c =
     let same = ap (λ f. f.inner) c.new-fused.ensures in
     over_same c.args.options.now c.args.image.facts c.args.moment c.new-fused.result.inner c.args.image.tree same c.finish.result
     (whole_answered c.args.options.now c.args.image.facts c.args.moment c.new-fused.result.inner c.run_on_tree.new.tree.inner
-    (IsStepOfSome (run_lines c.args.options.now c.args.image.facts c.new-fused.result.inner.files)) (ap (λ f. f.inner.steps) c.new-fused.ensures ∙ c.requires.fresh) c.in-Ok.ensures.acted.ran c.inner.result.now c.inner.ensures
+    (is_run_step c.args.options.now c.args.image.facts c.args.moment c.new-fused.result.inner.files) (ap (λ f. f.inner.steps) c.new-fused.ensures ∙ c.requires.fresh) c.in-Ok.ensures.acted.ran c.inner.result.now c.inner.ensures
     c.in-Ok.end c.in-Ok.ensures.end c.in-Ok.ensures.ok c.run_on_tree.new.messages
     (c.in-Ok.ensures.said ∙ ap (λ x. x ++ run_messages c.args.options.now c.args.image.facts c.args.moment c.new-fused.result.inner.files) c.new-messages.ensures)
     c.finish.result (subst (λ o. IfOk c.finish.result (λ a. a.outcome ≡ o)) c.outcome_of.ensures c.finish.ensures.outcome) c.finish.ensures.text (limited c.args.options.now.stop_after c.args.limit (length c.inner.result.now.steps) c.requires.limit c.finish.result (always c.finish.result (rw c.inner.ensures (burnt_within _ _ _ _ (rw (c.new-fused.ensures, c.requires.fresh) at c.in-Ok.ensures.acted.reaches.1))))))
@@ -24,7 +23,7 @@ returns c =
     let same = ap (λ f. f.inner) c.new-fused.ensures in
     over_same c.args.options.now c.args.image.facts c.args.moment c.new-fused.result.inner c.args.image.tree same c.stop.result
     (stopped_answered c.args.options.now c.args.image.facts c.args.moment c.new-fused.result.inner c.run_on_tree.new.tree.inner
-    (IsStepOfSome (run_lines c.args.options.now c.args.image.facts c.new-fused.result.inner.files)) (ap (λ f. f.inner.steps) c.new-fused.ensures ∙ c.requires.fresh) c.in-Err-Failed.ensures.acted.ran c.inner-in-Err-Failed.result.now c.inner-in-Err-Failed.ensures
+    (is_run_step c.args.options.now c.args.image.facts c.args.moment c.new-fused.result.inner.files) (ap (λ f. f.inner.steps) c.new-fused.ensures ∙ c.requires.fresh) c.in-Err-Failed.ensures.acted.ran c.inner-in-Err-Failed.result.now c.inner-in-Err-Failed.ensures
     c.args.limit c.run_on_tree.new.messages c.requires.limit
     (subst (λ f. (length c.run_on_tree.new.tree.inner.steps - length c.new-fused.result.inner.steps) + refused {A = RunEnd} (Err f) ≤ run_work c.args.options.now c.args.image.facts c.args.moment c.new-fused.result.inner.files) c.in-Err-Failed.field-0-is c.in-Err-Failed.ensures.acted.bound)
     (subst (λ x. SaidPart (line_messages c.args.options.now c.args.image.facts c.args.moment c.new-fused.result.inner.files) (x ++ read_messages c.args.options.now c.args.image.facts c.new-fused.result.inner.files) c.run_on_tree.new.messages) c.new-messages.ensures (c.in-Err-Failed.ensures.read (ap Err c.in-Err-Failed.field-0-is)))

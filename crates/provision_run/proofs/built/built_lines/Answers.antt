@@ -1,21 +1,20 @@
-use Rattle.std.proofs.Common.{◌≡◌, List, ℕ, subst, ◌∙◌}
-use Rattle.pv_lines.specs.declared.line.Line.{Line}
-use Rattle.pv_text.specs.Said.{SaidPart}
-use Rattle.provision_run.specs.Built.{unbuilt_messages}
-use Rattle.provision_run.proofs.BuiltLaws.{next_line, taking_next, taking_part}
+use Rattle.std.proofs.Common.{◌∙◌}
+use Rattle.std.specs.Vec.Iter.{into_iter_items}
+use Rattle.provision_run.proofs.BuiltLaws.{taking_next, taking_part}
 use Rattle.provision_run.proofs.built.built_lines.Goals as goal
+
+pub loop-line-preserved : goal.loop-line-preserved
+loop-line-preserved c = record {
+  ready = (tt, tt);
+  taking =
+      taking_next c.args.read.lines (into_iter_items c.loop-line.line-iterator) (into_iter_items c.next.new.self) c.in-Some.line _ c.loop-line.run c.add_line.new.run c.args.messages.now c.loop-line.messages c.add_line.new.messages
+      c.in-Some.ensures.steps.0 c.loop-line.invariant.taking c.in_ok-add_line.ensures.added;
+}
 
 pub returns-in_err-add_line-clause-part : goal.returns-in_err-add_line-clause-part
 returns-in_err-add_line-clause-part c =
-    let part : SaidPart (unbuilt_messages c.args.read.now.lines) c.args.messages.now c.loop-line.messages
-    = subst (λ (lines : List Line). SaidPart (unbuilt_messages lines) c.args.messages.now c.loop-line.messages) c.as_slice-line-items.ensures (taking_part c.loop-line.invariant) in
+    let part = taking_part c.loop-line.invariant.taking in
     (part.0, c.in_err-add_line.ensures.err ∙ part.1)
 
-pub loop-line-preserved : goal.loop-line-preserved
-loop-line-preserved c =
-    taking_next c.as_slice-line-items.result.now _ _ c.line-item.result _ c.loop-line.run c.add_line.new.run c.args.messages.now c.loop-line.messages c.add_line.new.messages
-    (next_line c.as_slice-line-items.result.now c.loop-line.line-index c.line-item.result c.loop-line-test.true c.line-item.is) c.loop-line.invariant c.in_ok-add_line.ensures.added c.in_ok-add_line.ensures.whole
-
 pub returns-clause-part : goal.returns-clause-part
-returns-clause-part c =
-    subst (λ (lines : List Line). SaidPart (unbuilt_messages lines) c.args.messages.now c.loop-line.messages) c.as_slice-line-items.ensures (taking_part c.loop-line.invariant)
+returns-clause-part c = taking_part c.loop-line.invariant.taking

@@ -1,0 +1,602 @@
+-- What the calls say of the way of a line is what the laws of lines say of it, so that a run of the lines of a table that
+-- was cut short is mended by the next.
+use Rattle.std.specs.Prelude.{◌≡◌, ◌≢◌, ◌⊎◌, ℕ, ◌+◌, ◌-◌, ◌^◌, ◌<◌, ◌≤◌, Bool, true, false, not, cond, ◌&&◌, ◌||◌, List, [], ◌∷◌, ◌++◌, length, take, drop, filter, Option, Some, None, unwrap_or, is_some, if◌then◌else◌, ⊤}
+use Rattle.std.proofs.Common.{zero, suc, refl, sym, ap, subst, ◌∙◌, arith, inl, inr}
+use Rattle.std.proofs.Math.Bool.{or-true}
+use Rattle.std.proofs.Math.Seq.{take-append_seam, take-length, drop-append_seam}
+use Rattle.std.proofs.lemmas.Bool.{or_cases}
+use Rattle.std.specs.FinMap as fin
+use Rattle.std.specs.List.{list_any, list_all, AllByRecursion}
+use Rattle.pv_acl.specs.declared.line.AclLine.{AclLine}
+use Rattle.pv_acl.specs.declared.line.Entry.{Entry}
+use Rattle.pv_acl.specs.declared.line.How.{How}
+use Rattle.pv_acl.specs.declared.line.How.TheVariants.{Add}
+use Rattle.pv_acl.specs.declared.part.Acl.{Acl}
+use Rattle.pv_acl.specs.declared.part.Part.{Part}
+use Rattle.pv_acl.specs.Applying.{part_after, default_after, acl_after}
+use Rattle.pv_path.specs.Paths.{Path, same_path, is_prefix, has_staging, same_path-decides}
+use Rattle.pv_path.proofs.PathLaws.{same_path-refl, is_prefix-antisym, prefix_parts, prefix_whole}
+use Rattle.pv_steps.specs.declared.step.Step.{Step}
+use Rattle.pv_steps.specs.Objects.{is_directory}
+use Rattle.pv_steps.specs.Runs.{after_all, Ran}
+use Rattle.pv_steps.specs.Same.{Same}
+use Rattle.pv_steps.specs.Trees.{Files, places, IsTree}
+use Rattle.pv_steps.proofs.RunLaws.{along_prefix, along_trees}
+use Rattle.pv_dress.specs.declared.bare.Bare.{Bare}
+use Rattle.pv_dress.specs.declared.operation.Change.TheVariants.{Owner, Mode, Entries, Attrs, Letters}
+use Rattle.pv_dress.specs.declared.operation.Guard.{Guard}
+use Rattle.pv_dress.specs.declared.operation.Guard.TheVariants.{NoLink}
+use Rattle.pv_dress.specs.declared.operation.Operation.{Operation}
+use Rattle.pv_dress.specs.declared.operation.Operation.TheVariants.{Make, Renew, Erase, Adjust}
+use Rattle.pv_dress.specs.declared.operation.Test.{Test}
+use Rattle.pv_dress.specs.Dividing.{base_line, parts_of, parts}
+use Rattle.pv_dress.specs.Nodes.{bare_of, bares_of, same_kind}
+use Rattle.pv_dress.specs.Operations.{admits, with_mode, changed, done, run}
+use Rattle.pv_dress.specs.Reasons.{is_base, is_make, IsRepeatable as HasNoReason}
+use Rattle.pv_dress.proofs.Dividing.{base_first, run-parts}
+use Rattle.pv_dress.proofs.EditLaws.{path_cases}
+use Rattle.pv_dress.proofs.OperationLaws.{bares_of-same, run-twice}
+use Rattle.pv_dress.proofs.PartChanges.{plain_twice, plain-part_after}
+use Rattle.pv_lines.specs.declared.line.Argument.{Argument}
+use Rattle.pv_lines.specs.declared.line.Argument.TheVariants as argument
+use Rattle.pv_lines.specs.declared.line.Line.{Line}
+use Rattle.pv_lines.specs.declared.line.LineMode.{LineMode}
+use Rattle.pv_lines.specs.Lines.{IsLine}
+use Rattle.pv_walk.specs.Listing.{times}
+use Rattle.pv_walk.specs.Staging.{new_object, new_kind}
+use Rattle.pv_walk.proofs.CountLaws.{times-filter, times-keys, same_or_not}
+use Rattle.pv_walk.proofs.RemovalLaws.{apart, both, zero_or_more}
+use Rattle.pv_table.specs.declared.deed.Deed.{Deed}
+use Rattle.pv_table.specs.declared.deed.Deed.TheVariants.{Create, Copy, Touch, Idle}
+use Rattle.pv_table.specs.declared.deed.Making.{Making}
+use Rattle.pv_table.specs.declared.deed.Touching.{Touching}
+use Rattle.pv_table.specs.Active.{are_distinct, in_create_order}
+use Rattle.pv_table.specs.Asked.{first_of, clears_below, operations}
+use Rattle.pv_table.specs.Asking.{id_to_set, without_links, mode_to_set, owners_and_mode, set_by, making as making_deed, copying as copying_deed, asks}
+use Rattle.pv_table.specs.Created.{after_each, one_is_refused, by_turn, by_line, created, IsQuiet}
+use Rattle.pv_table.specs.Effects.{carried_out, is_touched, turn_after}
+use Rattle.pv_table.specs.Pointwise.{parent_bare, after_turn, touches}
+use Rattle.pv_table.specs.Reaching.{names, names_above, path_in, is_deep}
+use Rattle.pv_table.specs.Repeatable.{sets_of, IsRepeatable}
+use Rattle.pv_table.specs.Saying.{found}
+use Rattle.pv_table.specs.Turns.{Turn, Subtree, view_of, copied, has_something, decide, making_turn}
+use Rattle.pv_doing.specs.Courses.{Partway}
+use Rattle.pv_adjust.specs.Named.{touching_course}
+use Rattle.pv_adjust.specs.Reached.{IsPartSet}
+use Rattle.pv_make.specs.OnWay.{OnWay, IsMidway, turn_at, sets_at}
+use Rattle.pv_laws.specs.Stopping as stopping
+use Rattle.pv_laws.specs.Stopping.{IsRenewal, CopiesNothing}
+use Rattle.pv_laws.proofs.Lines.{IsPlain, line_is_plain, line_point, turns_made, turns_touch, asked_made, asked_touch}
+use Rattle.pv_laws.proofs.Making.{is_dir, IsShaped, does_stay, turn_by, IsPlainDirectory, first_on_some, below_after, asked_here, asked_above, asked_else, ready_here}
+use Rattle.pv_laws.proofs.Prepared.{neither}
+use Rattle.pv_laws.proofs.Repeated.{first_makes}
+use Rattle.pv_laws.proofs.Sets.{impossible, is_adjustment, IsAsked, IsMaking, line_is_making, asked, sets_adjust, deep_repeatable}
+use Rattle.pv_laws.proofs.Shapes.{tree_shaped}
+use Rattle.pv_laws.proofs.Stops.{all_plain, in_order_plain, partway_mends}
+use Rattle.pv_laws.proofs.Touching.{turn_open, first_turn, touch_point, any_range}
+use Rattle.pv_create.specs.Ways.{WayOf, LineWay, lines_course}
+
+-- ---- operations, whole and in front parts
+
+none_done : (k : ℕ) (b : Option Bare) → run (take k []) b ≡ b
+none_done zero b = refl
+none_done (suc k) b = refl
+
+whole_front : (xs : List Operation) (b : Option Bare) → run (take (length (parts xs)) (parts xs)) b ≡ run xs b
+whole_front xs b = ap (λ ys. run ys b) (take-length (parts xs)) ∙ run-parts xs b
+
+-- a front part of one operation, or of two, leaves what neither changes
+one_kept : (x : Operation) (b : Option Bare) → run (x ∷ []) b ≡ b → (k : ℕ) → run (take k (x ∷ [])) b ≡ b
+one_kept x b whole zero = refl
+one_kept x b whole (suc zero) = whole
+one_kept x b whole (suc (suc k)) = whole
+
+two_kept : (x y : Operation) (b : Option Bare) → done x b ≡ b → run (x ∷ y ∷ []) b ≡ b → (k : ℕ) → run (take k (x ∷ y ∷ [])) b ≡ b
+two_kept x y b first whole zero = refl
+two_kept x y b first whole (suc zero) = first
+two_kept x y b first whole (suc (suc zero)) = whole
+two_kept x y b first whole (suc (suc (suc k))) = whole
+
+-- a front part of operations in parts leaves what all of them left
+abbrev KeepsEnd : List Operation → Type 0
+KeepsEnd xs = (k : ℕ) (b : Option Bare) → run (take k (parts xs)) (run xs b) ≡ run xs b
+
+-- ---- owners and mode
+
+unwrap_twice : (o : Option ℕ) (n : ℕ) → unwrap_or o (unwrap_or o n) ≡ unwrap_or o n
+unwrap_twice None n = refl
+unwrap_twice (Some m) n = refl
+
+module _ (guard : Guard) (uid gid : Option ℕ) where
+  abbrev owned : Bool → Bare → Bare
+  owned s b = cond s (record b { dress = record b.dress { uid = unwrap_or uid b.dress.uid; gid = unwrap_or gid b.dress.gid } }) b
+
+  owned_body : (s : Bool) (b : Bare) → (owned s b).body ≡ b.body
+  owned_body true b = refl
+  owned_body false b = refl
+
+  module _ (other : Guard) (mode : ℕ) (masked : Bool) where
+    abbrev moded : Bool → Bare → Bare
+    moded s b = cond s (record b { dress = with_mode b.body.kind mode masked b.dress }) b
+
+    moded_body : (s : Bool) (b : Bare) → (moded s b).body ≡ b.body
+    moded_body true b = refl
+    moded_body false b = refl
+
+    moded_uid : (s : Bool) (b : Bare) → (moded s b).dress.uid ≡ b.dress.uid
+    moded_uid true b = by masked
+      where
+        by : (m : Bool) → (with_mode b.body.kind mode m b.dress).uid ≡ b.dress.uid
+        by true = refl
+        by false = refl
+    moded_uid false b = refl
+
+    moded_gid : (s : Bool) (b : Bare) → (moded s b).dress.gid ≡ b.dress.gid
+    moded_gid true b = by masked
+      where
+        by : (m : Bool) → (with_mode b.body.kind mode m b.dress).gid ≡ b.dress.gid
+        by true = refl
+        by false = refl
+    moded_gid false b = refl
+
+    owned_again : (s r : Bool) (b : Bare) → owned s (moded r (owned s b)) ≡ moded r (owned s b)
+    owned_again false r b = refl
+    owned_again true r b =
+        let u : unwrap_or uid (moded r (owned true b)).dress.uid ≡ (moded r (owned true b)).dress.uid = ap (unwrap_or uid) (moded_uid r (owned true b)) ∙ unwrap_twice uid b.dress.uid ∙ sym (moded_uid r (owned true b)) in
+        let g : unwrap_or gid (moded r (owned true b)).dress.gid ≡ (moded r (owned true b)).dress.gid = ap (unwrap_or gid) (moded_gid r (owned true b)) ∙ unwrap_twice gid b.dress.gid ∙ sym (moded_gid r (owned true b)) in
+        λ i. record (moded r (owned true b)) { dress = record (moded r (owned true b)).dress { uid = u i; gid = g i } }
+
+    -- the owners stay as they are when they are set again after the mode
+    owners_again : (b : Option Bare) → done (Adjust guard (Owner uid gid)) (run (Adjust guard (Owner uid gid) ∷ Adjust other (Mode mode masked) ∷ []) b) ≡ run (Adjust guard (Owner uid gid) ∷ Adjust other (Mode mode masked) ∷ []) b
+    owners_again None = refl
+    owners_again (Some b) =
+        let first = owned (admits guard b.body.kind) b in
+        let last = moded (admits other first.body.kind) first in
+        let same : last.body ≡ b.body = moded_body (admits other first.body.kind) first ∙ owned_body (admits guard b.body.kind) b in
+        ap (λ body. Some (owned (admits guard body.kind) last)) same
+        ∙ ap Some (owned_again (admits guard b.body.kind) (admits other first.body.kind) b)
+
+  mode_or_none : (m : Option LineMode) (g : Option Guard) → (mode_to_set m g ≡ []) ⊎ ((other : Guard) × (mode : ℕ) × (masked : Bool) × (mode_to_set m g ≡ Adjust other (Mode mode masked) ∷ []))
+  mode_or_none None g = inl refl
+  mode_or_none (Some mode) None = inl refl
+  mode_or_none (Some mode) (Some other) = elim mode.new_only as (λ b. (cond b [] (Adjust other (Mode mode.value mode.masked) ∷ []) ≡ []) ⊎ ((o : Guard) × (n : ℕ) × (masked : Bool) × (cond b [] (Adjust other (Mode mode.value mode.masked) ∷ []) ≡ Adjust o (Mode n masked) ∷ []))) [
+    | true ↦ inl refl
+    | false ↦ inr (other, mode.value, mode.masked, refl)
+  ]
+
+  owners_keep : (m : Option LineMode) (g : Option Guard) → HasNoReason (Adjust guard (Owner uid gid) ∷ mode_to_set m g) → KeepsEnd (Adjust guard (Owner uid gid) ∷ mode_to_set m g)
+  owners_keep m g = by (mode_or_none m g)
+    where
+      by : (mode_to_set m g ≡ []) ⊎ ((other : Guard) × (mode : ℕ) × (masked : Bool) × (mode_to_set m g ≡ Adjust other (Mode mode masked) ∷ []))
+          → HasNoReason (Adjust guard (Owner uid gid) ∷ mode_to_set m g) → KeepsEnd (Adjust guard (Owner uid gid) ∷ mode_to_set m g)
+      by (inl e) = subst (λ (xs : List Operation). HasNoReason (Adjust guard (Owner uid gid) ∷ xs) → KeepsEnd (Adjust guard (Owner uid gid) ∷ xs)) (sym e) (λ once k b.
+          one_kept (Adjust guard (Owner uid gid)) (run (Adjust guard (Owner uid gid) ∷ []) b) (run-twice (Adjust guard (Owner uid gid) ∷ []) once b) k)
+      by (inr f) = subst (λ (xs : List Operation). HasNoReason (Adjust guard (Owner uid gid) ∷ xs) → KeepsEnd (Adjust guard (Owner uid gid) ∷ xs)) (sym f.3) (λ once k b.
+          two_kept (Adjust guard (Owner uid gid)) (Adjust f.0 (Mode f.1 f.2)) (run (Adjust guard (Owner uid gid) ∷ Adjust f.0 (Mode f.1 f.2) ∷ []) b)
+          (owners_again f.0 f.1 f.2 b) (run-twice (Adjust guard (Owner uid gid) ∷ Adjust f.0 (Mode f.1 f.2) ∷ []) once b) k)
+
+-- ---- entries of an ACL
+
+-- the base entries of a line change nothing after all its entries
+base_again : (how : How) (es : List Entry) (p : Part) → part_after Add (part_after how p es) (filter is_base es) ≡ part_after how p es
+base_again how es p =
+    base_first how es (part_after how p es)
+    ∙ (λ i. record (part_after how p es) { owner = (once i).owner; group = (once i).group; other = (once i).other })
+  where
+    once : part_after how (part_after how p es) es ≡ part_after how p es
+    once = plain_twice (λ x. part_after how x es) (plain-part_after how es) p
+
+acl_again : (acl : Acl) (line : AclLine) (how : How) (directory : Bool) → acl_after (acl_after acl line how directory) (base_line line) Add directory ≡ acl_after acl line how directory
+acl_again acl line how directory = λ i. record {
+  access = base_again how line.access acl.access i;
+  default_part = kept directory (acl_after acl line how directory).default_part i;
+}
+  where
+    kept : (b : Bool) (d : Option Part) → (if b then default_after Add (acl_after acl line how directory).access d [] else d) ≡ d
+    kept true d = refl
+    kept false d = refl
+
+entries_again : (guard : Guard) (line : AclLine) (how : How) (b : Option Bare)
+    → done (Adjust guard (Entries (base_line line) Add)) (run (Adjust guard (Entries line how) ∷ []) b) ≡ run (Adjust guard (Entries line how) ∷ []) b
+entries_again guard line how None = refl
+entries_again guard line how (Some b) = by (admits guard b.body.kind) refl
+  where
+    by : (t : Bool) → admits guard b.body.kind ≡ t
+        → done (Adjust guard (Entries (base_line line) Add)) (Some (if t then changed b.body.kind (Entries line how) b else b)) ≡ Some (if t then changed b.body.kind (Entries line how) b else b)
+    by true e =
+        ap (λ s. Some (if s then changed b.body.kind (Entries (base_line line) Add) (changed b.body.kind (Entries line how) b) else changed b.body.kind (Entries line how) b)) e
+        ∙ ap (λ (acl : Acl). Some (record b { dress = record b.dress { acl = acl } })) (acl_again b.dress.acl line how (is_directory b.body.kind))
+    by false e = ap (λ s. Some (if s then changed b.body.kind (Entries (base_line line) Add) b else b)) e
+
+-- entries with base entries among them are two parts
+abbrev divided : AclLine → How → Bool → List Operation
+divided line how t = (if t then Adjust NoLink (Entries (base_line line) Add) ∷ Adjust NoLink (Entries line how) ∷ [] else Adjust NoLink (Entries line how) ∷ []) ++ []
+
+entries_keep : (line : AclLine) (how : How) → HasNoReason (Adjust NoLink (Entries line how) ∷ []) → KeepsEnd (Adjust NoLink (Entries line how) ∷ [])
+entries_keep line how once k b = by (list_any is_base line.access) (run-parts (Adjust NoLink (Entries line how) ∷ []) end)
+  where
+    end : Option Bare
+    end = run (Adjust NoLink (Entries line how) ∷ []) b
+
+    twice : run (Adjust NoLink (Entries line how) ∷ []) end ≡ end
+    twice = run-twice (Adjust NoLink (Entries line how) ∷ []) once b
+
+    by : (t : Bool) → run (divided line how t) end ≡ run (Adjust NoLink (Entries line how) ∷ []) end → run (take k (divided line how t)) end ≡ end
+    by true same = two_kept (Adjust NoLink (Entries (base_line line) Add)) (Adjust NoLink (Entries line how)) end (entries_again NoLink line how b) (same ∙ twice) k
+    by false same = one_kept (Adjust NoLink (Entries line how)) end twice k
+
+-- ---- what is set of all below a path
+
+argument_keeps : (plus : Bool) (a : Argument) → HasNoReason (set_by plus a) → KeepsEnd (set_by plus a)
+argument_keeps plus (argument.FileBytes bytes) once k b = none_done k b
+argument_keeps plus (argument.WriteBytes bytes) once k b = none_done k b
+argument_keeps plus (argument.Target target) once k b = none_done k b
+argument_keeps plus (argument.Source source) once k b = none_done k b
+argument_keeps plus (argument.Device major minor) once k b = none_done k b
+argument_keeps plus (argument.Entries line) once k b = entries_keep line _ once k b
+argument_keeps plus (argument.Attrs attrs) once k b = one_kept (Adjust NoLink (Attrs attrs)) (run (Adjust NoLink (Attrs attrs) ∷ []) b) (run-twice (Adjust NoLink (Attrs attrs) ∷ []) once b) k
+argument_keeps plus (argument.Letters how letters) once k b = one_kept (Adjust NoLink (Letters how letters)) (run (Adjust NoLink (Letters how letters) ∷ []) b) (run-twice (Adjust NoLink (Letters how letters) ∷ []) once b) k
+argument_keeps plus argument.Ignored once k b = none_done k b
+
+deep_keeps : (line : Line) (touching : Touching) → asks line ≡ Touch touching → touching.deep ≡ true → KeepsEnd touching.sets
+deep_keeps line touching e deep = by (asked line)
+  where
+    once : HasNoReason touching.sets
+    once = deep_repeatable line touching e deep
+
+    by : IsAsked line (asks line) → KeepsEnd touching.sets
+    by (IsAsked.makes what file is) = absurd (let no : Touch touching ≡ making_deed what line = sym e ∙ is in cc)
+    by (IsAsked.copies is) = absurd (let no : Touch touching ≡ copying_deed line = sym e ∙ is in cc)
+    by (IsAsked.adjusts d wanted guard is) =
+        let same : touching.sets ≡ owners_and_mode guard line = ap sets_of (sym e ∙ is) in
+        subst KeepsEnd (sym same) (owners_keep guard (id_to_set line.user) (id_to_set line.group) line.mode (without_links guard) (subst HasNoReason same once))
+    by (IsAsked.writes is) = impossible (sym (ap is_deep (sym e ∙ is)) ∙ deep)
+    by (IsAsked.sets d is) =
+        let same : touching.sets ≡ set_by line.plus line.argument = ap sets_of (sym e ∙ is) in
+        subst KeepsEnd (sym same) (argument_keeps line.plus line.argument (subst HasNoReason same once))
+    by (IsAsked.idle is) = absurd (let no : Touch touching ≡ Idle = sym e ∙ is in cc)
+
+-- ---- a line that adjusts what is there
+
+-- of what stands at a path nothing is set, or a front part of the sets, where some turn reaches the path
+abbrev IsFront : List Operation → Option Bare → Option Bare → Type 0
+IsFront xs old new = (k : ℕ) × (new ≡ run (take k (parts xs)) old)
+
+-- what is set after a turn is a front part of what is set from its start
+front_on : (xs : List Operation) (reached more : Bool) (old mid new : Option Bare) → (reached ≡ true → more ≡ true → KeepsEnd xs) → mid ≡ cond reached (run xs old) old
+    → IsFront (cond more xs []) mid new → IsFront (cond (reached || more) xs []) old new
+front_on xs false more old mid new keeps e front = (front.0, front.1 ∙ ap (run (take front.0 (parts (cond more xs [])))) e)
+front_on xs true false old mid new keeps e front = (length (parts xs), front.1 ∙ none_done front.0 mid ∙ e ∙ sym (whole_front xs old))
+front_on xs true true old mid new keeps e front = (length (parts xs), front.1 ∙ ap (run (take front.0 (parts xs))) e ∙ keeps refl refl front.0 old ∙ sym (whole_front xs old))
+
+-- one of the paths that are kept, with which a test holds
+kept_one : (test keep : Path → Bool) (paths : List Path) → list_any test (filter keep paths) ≡ true → (p : Path) × (keep p ≡ true) × (test p ≡ true)
+kept_one test keep [] h = impossible h
+kept_one test keep (p ∷ paths) h = by (keep p) refl (kept_one test keep paths) h
+  where
+    by : (b : Bool) → keep p ≡ b → (list_any test (filter keep paths) ≡ true → (x : Path) × (keep x ≡ true) × (test x ≡ true)) → list_any test (cond b (p ∷ filter keep paths) (filter keep paths)) ≡ true
+        → (x : Path) × (keep x ≡ true) × (test x ≡ true)
+    by false e later g = later g
+    by true e later g = elim (or_cases (test p) (list_any test (filter keep paths)) g) [ inl here ↦ (p, e, here) | inr there ↦ later there ]
+
+module _ (now : ℕ) (line : Line) (touching : Touching) (e : asks line ≡ Touch touching) where
+  adjust : list_all is_adjustment touching.sets ≡ true
+  adjust = subst (λ d. list_all is_adjustment (sets_of d) ≡ true) e (sets_adjust line (asks line) (asked line))
+
+  -- whether a turn at one of some paths reaches a path
+  abbrev is_reached : List Path → Path → Bool
+  is_reached paths q = list_any (λ p. is_touched touching p q) paths
+
+  -- where a turn reaches the path, none of those after it does, or sets that were set to the end stay
+  abbrev IsOnce : Path → List Path → Type 0
+  IsOnce q [] = ⊤
+  IsOnce q (p ∷ paths) = (is_touched touching p q ≡ true → is_reached paths q ≡ true → KeepsEnd touching.sets) × IsOnce q paths
+
+  turned_point : (p : Path) (paths : List Path) (t : Files) → one_is_refused (by_turn now line) (p ∷ paths) t ≡ false → (q : Path)
+      → bares_of (places (turn_after now line p t)) q ≡ cond (is_touched touching p q) (run touching.sets (bares_of (places t) q)) (bares_of (places t) q)
+  turned_point p paths t quiet q =
+      ap (λ (u : Files). bares_of (places u) q) (turn_open now line p t (first_turn now line p paths t quiet).0 ∙ ap (λ (d : Deed). carried_out now d p t) e)
+      ∙ touch_point now touching adjust p t q
+
+  turns_front : (q : Path) → has_staging q ≡ false → (paths : List Path) (t u : Files) → IsOnce q paths → one_is_refused (by_turn now line) paths t ≡ false
+      → Partway (touching_course now line touching) paths t u → IsFront (cond (is_reached paths q) touching.sets []) (bares_of (places t) q) (bares_of (places u) q)
+  turns_front q plain [] t u once quiet same = (zero, sym (bares_of-same (places t) (places u) q (same q plain)))
+  turns_front q plain (p ∷ paths) t u once quiet (inl way) = by (way q)
+    where
+      by : IsPartSet (is_touched touching p q) touching.sets (bares_of (places t) q) (bares_of (places u) q) → IsFront (cond (is_reached (p ∷ paths) q) touching.sets []) (bares_of (places t) q) (bares_of (places u) q)
+      by (IsPartSet.kept same) = (zero, same)
+      by (IsPartSet.set k reached part) = (k, part ∙ sym (ap (λ b. run (take k (parts (cond (b || is_reached paths q) touching.sets []))) (bares_of (places t) q)) reached))
+  turns_front q plain (p ∷ paths) t u once quiet (inr later) =
+      front_on touching.sets (is_touched touching p q) (is_reached paths q) (bares_of (places t) q) (bares_of (places (turn_after now line p t)) q) (bares_of (places u) q) once.0
+      (turned_point p paths t quiet q)
+      (turns_front q plain paths (turn_after now line p t) u once.1 (first_turn now line p paths t quiet).1 later)
+
+  -- ---- what reaches what
+
+  once_deep : touching.deep ≡ true → (q : Path) (paths : List Path) → IsOnce q paths
+  once_deep deep q [] = tt
+  once_deep deep q (p ∷ paths) = ((λ here there. deep_keeps line touching e deep), once_deep deep q paths)
+
+  own_path : touching.deep ≡ false → (p q : Path) → is_touched touching p q ≡ same_path p q
+  own_path shallow p q = ap (λ d. same_path p q || (d && is_prefix p q && not (has_staging q))) shallow ∙ elim (same_path p q) as (λ b. (b || false) ≡ b) [ true ↦ refl | false ↦ refl ]
+
+  never_reached : touching.deep ≡ false → (q : Path) (paths : List Path) → times q paths ≡ 0 → is_reached paths q ≡ false
+  never_reached shallow q [] none = refl
+  never_reached shallow q (p ∷ paths) none = elim (same_or_not p q) [
+    | inl s ↦ absurd (let n = ap (λ c. cond c 1 0 + times q paths) s.1 in omega (arith, none, n))
+    | inr d ↦
+        ap (λ b. b || is_reached paths q) (own_path shallow p q ∙ d)
+        ∙ never_reached shallow q paths (let n = ap (λ c. cond c 1 0 + times q paths) d in omega (arith, none, n))
+  ]
+
+  once_shallow : touching.deep ≡ false → (q : Path) (paths : List Path) → times q paths ≤ 1 → IsOnce q paths
+  once_shallow shallow q [] few = tt
+  once_shallow shallow q (p ∷ paths) few = (
+    (λ here there. absurd (
+        let n = ap (λ c. cond c 1 0 + times q paths) (sym (own_path shallow p q) ∙ here) in
+        apart (is_reached paths q) there (never_reached shallow q paths (omega (arith, few, n))))),
+    once_shallow shallow q paths (omega (arith, few)),
+  )
+
+  module _ (t u : Files) (q : Path) (plain : has_staging q ≡ false) where
+    -- the paths at which it is carried out
+    abbrev named : List Path
+    named = filter (names line) (fin.keys t)
+
+    named_once : times q named ≤ 1
+    named_once = at (names line q) (is_some (places t q)) (times-filter (names line) q (fin.keys t) ∙ ap (λ n. cond (names line q) n 0) (times-keys t q))
+      where
+        at : (a b : Bool) → times q named ≡ cond a (cond b 1 0) 0 → times q named ≤ 1
+        at true true n = omega (arith, n)
+        at true false n = omega (arith, n)
+        at false b n = omega (arith, n)
+
+    once_named : IsOnce q named
+    once_named = by touching.deep refl
+      where
+        by : (d : Bool) → touching.deep ≡ d → IsOnce q named
+        by true deep = once_deep deep q named
+        by false shallow = once_shallow shallow q named named_once
+
+    -- what a turn reaches, the line touches
+    reached_touches : is_reached named q ≡ true → touches line touching q ≡ true
+    reached_touches h = elim (path_cases p.0 q) [ inl same ↦ own (sym (ap (names line) same) ∙ p.1) | inr other ↦ below other ]
+      where
+        p : (x : Path) × (names line x ≡ true) × (is_touched touching x q ≡ true)
+        p = kept_one (λ x. is_touched touching x q) (names line) (fin.keys t) h
+
+        own : names line q ≡ true → touches line touching q ≡ true
+        own is = ap (λ b. b || (touching.deep && names_above line q && not (has_staging q))) is
+
+        below : same_path p.0 q ≡ false → touches line touching q ≡ true
+        below other =
+            ap (λ b. names line q || (b && names_above line q && not (has_staging q))) deep.0
+            ∙ ap (λ b. names line q || (b && not (has_staging q))) (any_range (λ k. names line (take k q)) 0 (length q) (length p.0) (omega arith) shorter (ap (names line) cut ∙ p.1))
+            ∙ ap (λ b. names line q || not b) plain
+            ∙ or-true (names line q)
+          where
+            reached : (touching.deep && is_prefix p.0 q && not (has_staging q)) ≡ true
+            reached = sym (ap (λ b. b || (touching.deep && is_prefix p.0 q && not (has_staging q))) other) ∙ p.2
+
+            deep : (touching.deep ≡ true) × (is_prefix p.0 q ≡ true)
+            deep = both touching.deep (is_prefix p.0 q) (both (touching.deep && is_prefix p.0 q) (not (has_staging q)) reached).0
+
+            cut : take (length p.0) q ≡ p.0
+            cut = let rest = prefix_parts p.0 q deep.1 in ap (take (length p.0)) rest.1 ∙ take-append_seam p.0 rest.0
+
+            shorter : length p.0 < 0 + length q
+            shorter = elim (zero_or_more (length q - length p.0)) [
+              | inl z ↦ absurd (apart (same_path p.0 q) ((same_path-decides p.0 q).1 (prefix_whole p.0 q deep.1 (omega (arith, z)))) other)
+              | inr m ↦ omega (arith, m)
+            ]
+
+    touching_piece : one_is_refused (by_turn now line) named t ≡ false → Partway (touching_course now line touching) named t u → stopping.IsMidway line q (bares_of (places t) q) (bares_of (places u) q)
+    touching_piece quiet way = by (is_reached named q) refl (turns_front q plain named t u once_named quiet way)
+      where
+        by : (b : Bool) → is_reached named q ≡ b → IsFront (cond b touching.sets []) (bares_of (places t) q) (bares_of (places u) q) → stopping.IsMidway line q (bares_of (places t) q) (bares_of (places u) q)
+        by false h front = stopping.IsMidway.piece zero (front.1 ∙ none_done front.0 (bares_of (places t) q))
+        by true h front = stopping.IsMidway.piece front.0 (
+            front.1 ∙ sym (ap (λ xs. run (take front.0 (parts xs)) (bares_of (places t) q)) (asked_touch line touching q e ∙ ap (λ b. cond b touching.sets []) (reached_touches h))))
+
+-- ---- a line that makes something
+
+-- the first operation of a making is one part
+make_alone : (x : Operation) → is_make x ≡ true → parts_of x ≡ x ∷ []
+make_alone (Make new) h = refl
+make_alone (Renew test new) h = refl
+make_alone Erase h = impossible h
+make_alone (Adjust guard change) h = impossible h
+
+module _ (now : ℕ) (line : Line) (making : Making) (e : asks line ≡ Create making) (is : IsPlain line) (t : Files) (shape : IsShaped (bares_of (places t))) where
+  abbrev path : Path
+  path = path_in line.path
+
+  made : IsMaking making
+  made = line_is_making line making e
+
+  turn_is : turn_at now line path t ≡ making_turn making (bares_of (places t) path)
+  turn_is =
+      ap (λ (d : Deed). if has_something (places t) d then decide d (view_of (found now d path t)) path else Turn.Nothing) e
+      ∙ ap (making_turn making) (ready_here now path is.unstaged t shape)
+
+  -- ---- at the path
+
+  asked_at_it : parts (operations line path) ≡ first_of making ∷ parts making.sets
+  asked_at_it =
+      ap parts (asked_made line making path e ∙ asked_here making path path (same_path-refl path))
+      ∙ ap (λ xs. xs ++ parts making.sets) (make_alone (first_of making) (first_makes making made).0)
+
+  -- the first operation leaves what stays
+  after_first : (b : Bare) → does_stay making made making.renew b ≡ true → (k : ℕ) → run (take (suc k) (parts (operations line path))) (Some b) ≡ run (take k (parts making.sets)) (Some b)
+  after_first b stay k =
+      ap (λ xs. run (take (suc k) xs) (Some b)) asked_at_it
+      ∙ ap (run (take k (parts making.sets))) (first_on_some making made b ∙ ap (λ s. Some (cond s b (bare_of (new_object making.new 0)))) stay)
+
+  none_set : (q : Path) (k : ℕ) (old new : Option Bare) → new ≡ run (take k []) old → stopping.IsMidway line q old new
+  none_set q k old new f = stopping.IsMidway.piece zero (f ∙ none_done k old)
+
+  set_here : (k : ℕ) (old new : Option Bare) → new ≡ run (take k (parts (sets_at (Create making) (making_turn making old) path path))) old → stopping.IsMidway line path old new
+  set_here k None new f = none_set path k None new f
+  set_here k (Some b) new f = by (does_stay making made making.renew b) (same_kind (new_kind making.new.what) b.body.kind) refl f
+    where
+      by : (stay same : Bool) → does_stay making made making.renew b ≡ stay → new ≡ run (take k (parts (sets_at (Create making) (turn_by making made stay same b) path path))) (Some b) → stopping.IsMidway line path (Some b) new
+      by false same s g = none_set path k (Some b) new g
+      by true false s g = none_set path k (Some b) new g
+      by true true s g = stopping.IsMidway.piece (suc k) (
+          g ∙ ap (λ c. run (take k (parts (cond c making.sets []))) (Some b)) (same_path-refl path) ∙ sym (after_first b s k))
+
+  -- what gives way to the line's own object
+  renewal_of : (b : Bare) → does_stay making made making.renew b ≡ false → IsRenewal line path b
+  renewal_of b goes = by making.renew refl goes
+    where
+      by : (r : Option Test) → making.renew ≡ r → does_stay making made r b ≡ false → IsRenewal line path b
+      by None f g = impossible (sym g)
+      by (Some test) f g = record { making = making; test = test; makes = e; at = refl; renews = f; fails = g }
+
+  gone_here : (subtree : Subtree) (old new : Option Bare) → making_turn making old ≡ Turn.Put subtree → new ≡ None → stopping.IsMidway line path old new
+  gone_here subtree None new put none = stopping.IsMidway.piece zero none
+  gone_here subtree (Some b) new put none = by (does_stay making made making.renew b) (same_kind (new_kind making.new.what) b.body.kind) refl put
+    where
+      by : (stay same : Bool) → does_stay making made making.renew b ≡ stay → turn_by making made stay same b ≡ Turn.Put subtree → stopping.IsMidway line path (Some b) new
+      by false same s g = stopping.IsMidway.gap b refl (renewal_of b s) none
+      by true true s g = absurd (let no : Turn.Become making.sets ≡ Turn.Put subtree = g in cc)
+      by true false s g = absurd (let no : Turn.Left b.body.kind ≡ Turn.Put subtree = g in cc)
+
+  -- ---- elsewhere
+
+  sets_else : (turn : Turn) (q : Path) → same_path path q ≡ false → sets_at (Create making) turn path q ≡ []
+  sets_else Turn.Nothing q other = refl
+  sets_else (Turn.Left kind) q other = refl
+  sets_else (Turn.Put subtree) q other = refl
+  sets_else (Turn.Become xs) q other = ap (λ b. cond b xs []) other
+
+  asked_above_it : (q : Path) → same_path path q ≡ false → is_prefix q path ≡ true → operations line q ≡ Make parent_bare ∷ []
+  asked_above_it q other above = asked_made line making q e ∙ asked_above making path q other above
+
+  -- a subtree that is put has nothing below the path
+  nothing_below : (subtree : Subtree) (old b : Option Bare) → making_turn making old ≡ Turn.Put subtree → after_turn (making_turn making old) ([] ∷ []) b ≡ None
+  nothing_below subtree None b put = refl
+  nothing_below subtree (Some x) b put = by (does_stay making made making.renew x) (same_kind (new_kind making.new.what) x.body.kind) put
+    where
+      by : (stay same : Bool) → turn_by making made stay same x ≡ Turn.Put subtree → after_turn (turn_by making made stay same x) ([] ∷ []) b ≡ None
+      by false same g = refl
+      by true true g = absurd (let no : Turn.Become making.sets ≡ Turn.Put subtree = g in cc)
+      by true false g = absurd (let no : Turn.Left x.body.kind ≡ Turn.Put subtree = g in cc)
+
+  module _ (q : Path) (plain : has_staging q ≡ false) (below : is_prefix path q ≡ true) (other : same_path path q ≡ false) where
+    differ : path ≢ q
+    differ s = apart (same_path path q) ((same_path-decides path q).1 s) other
+
+    not_above : (b : Bool) → is_prefix q path ≡ b → is_prefix q path ≡ false
+    not_above true above = absurd (differ (is_prefix-antisym path q below above))
+    not_above false above = above
+
+    asked_below : operations line q ≡ cond (clears_below making) (Erase ∷ []) []
+    asked_below =
+        asked_made line making q e ∙ asked_else making path q other (not_above (is_prefix q path) refl)
+        ∙ ap (λ b. cond (b && clears_below making) (Erase ∷ []) []) below
+
+    -- below what is no directory nothing stands
+    none_below : is_dir (bares_of (places t) path) ≡ false → bares_of (places t) q ≡ None
+    none_below h = by (bares_of (places t) q) refl
+      where
+        by : (b : Option Bare) → bares_of (places t) q ≡ b → b ≡ None
+        by None f = refl
+        by (Some x) f = absurd (apart (is_dir (bares_of (places t) path)) (shape.above path q plain below differ (ap is_some f)) h)
+
+    plain_directory : (x : Bare) → bares_of (places t) path ≡ Some x → is_directory x.body.kind ≡ true → IsPlainDirectory making made x
+    plain_directory x f h = let numbers = shape.plain path x is.unstaged f h in (h, numbers.0, numbers.1)
+
+    gone_below : (subtree : Subtree) (new : Option Bare) → making_turn making (bares_of (places t) path) ≡ Turn.Put subtree → new ≡ None → stopping.IsMidway line q (bares_of (places t) q) new
+    gone_below subtree new put none = stopping.IsMidway.piece (length (parts (operations line q))) (
+        none ∙ sym (nothing_below subtree (bares_of (places t) path) (bares_of (places t) q) put)
+        ∙ below_after making made (bares_of (places t) path) (bares_of (places t) q) plain_directory none_below [] []
+        ∙ sym (ap (λ xs. run xs (bares_of (places t) q)) asked_below) ∙ sym (whole_front (operations line q) (bares_of (places t) q)))
+
+  -- ---- at each path
+
+  making_at : (q : Path) → has_staging q ≡ false → (new : Option Bare) → IsMidway now line path t q (bares_of (places t) q) new → stopping.IsMidway line q (bares_of (places t) q) new
+  making_at q plain new (IsMidway.set k f) = elim (path_cases path q) [
+    | inl same ↦ subst (λ (p : Path). new ≡ run (take k (parts (sets_at (Create making) (making_turn making (bares_of (places t) path)) path p))) (bares_of (places t) p) → stopping.IsMidway line p (bares_of (places t) p) new) same
+        (set_here k (bares_of (places t) path) new)
+        (f ∙ ap (λ (d : Deed). run (take k (parts (sets_at d (turn_at now line path t) path q))) (bares_of (places t) q)) e
+        ∙ ap (λ (turn : Turn). run (take k (parts (sets_at (Create making) turn path q))) (bares_of (places t) q)) turn_is)
+    | inr other ↦ none_set q k (bares_of (places t) q) new (
+        f ∙ ap (λ (d : Deed). run (take k (parts (sets_at d (turn_at now line path t) path q))) (bares_of (places t) q)) e
+        ∙ ap (λ xs. run (take k (parts xs)) (bares_of (places t) q)) (sets_else (turn_at now line path t) q other))
+  ]
+  making_at q plain new (IsMidway.parent puts above absent is_parent) = stopping.IsMidway.piece 1 (
+      is_parent ∙ sym (
+      ap (λ xs. run (take 1 (parts xs)) (bares_of (places t) q)) (asked_above_it q (by (path_cases path q)) above.0)
+      ∙ ap (run (Make parent_bare ∷ [])) absent))
+    where
+      by : (path ≡ q) ⊎ (same_path path q ≡ false) → same_path path q ≡ false
+      by (inl same) = absurd (above.1 (sym same))
+      by (inr other) = other
+  making_at q plain new (IsMidway.gone subtree put below none) = elim (path_cases path q) [
+    | inl same ↦ subst (λ (p : Path). stopping.IsMidway line p (bares_of (places t) p) new) same (gone_here subtree (bares_of (places t) path) new (sym turn_is ∙ put) none)
+    | inr other ↦ gone_below q plain below other subtree new (sym turn_is ∙ put) none
+  ]
+
+  making_piece : (u : Files) → (by_line now).is_refused line t ≡ false → OnWay now line path t u → stopping.OnWay line t u
+  making_piece u quiet (OnWay.before same) q plain = stopping.IsMidway.piece zero (sym (bares_of-same (places t) (places u) q (same q plain)))
+  making_piece u quiet (OnWay.midway free at) q plain = making_at q plain (bares_of (places u) q) (at q plain)
+  making_piece u quiet (OnWay.whole same) q plain = stopping.IsMidway.piece (length (parts (operations line q))) (
+      sym (bares_of-same (places (turn_after now line path t)) (places u) q (same q plain))
+      ∙ ap (λ paths. bares_of (places (after_each (by_turn now line) paths t)) q) (sym (turns_made line making t e))
+      ∙ (line_point now line is t shape quiet).point q plain
+      ∙ sym (whole_front (operations line q) (bares_of (places t) q)))
+
+-- ---- each line that copies nothing
+
+-- what a call says of its way is on the way of the line
+pub plain_bridge : (now : ℕ) (line : Line) (t u : Files) → IsPlain line → IsShaped (bares_of (places t)) → (by_line now).is_refused line t ≡ false → LineWay now line t u → stopping.OnWay line t u
+plain_bridge now line t u is shape quiet = by (asks line) refl
+  where
+    by : (d : Deed) → asks line ≡ d → WayOf d now line t u → stopping.OnWay line t u
+    by (Create making) e way = making_piece now line making e is t shape u quiet way
+    by (Copy copying) e way = absurd (let no : Some copying.source ≡ None = sym (ap copied e) ∙ is.no_copy in cc)
+    by (Touch touching) e way = λ q plain. touching_piece now line touching e t u q plain
+        (ap (λ paths. one_is_refused (by_turn now line) paths t) (sym (turns_touch line touching t e)) ∙ quiet)
+        (subst (λ (paths : List Path). Partway (touching_course now line touching) paths t u) (turns_touch line touching t e) way)
+    by Idle e same = λ q plain. stopping.IsMidway.piece zero (sym (bares_of-same (places t) (places u) q (same q plain)))
+
+pub line_bridge : (now : ℕ) (line : Line) (t u : Files) → IsTree t → IsLine line → copied (asks line) ≡ None → (by_line now).is_refused line t ≡ false → LineWay now line t u → stopping.OnWay line t u
+line_bridge now line t u tree is none = plain_bridge now line t u (line_is_plain line is none) (tree_shaped (places t) tree)
+
+-- ---- lines one after the other
+
+pub plain_run_bridge : (now : ℕ) (lines : List Line) (t u : Files) → AllByRecursion IsPlain lines → IsShaped (bares_of (places t)) → one_is_refused (by_line now) lines t ≡ false
+    → Partway (lines_course now) lines t u → stopping.Partway lines now t u
+plain_run_bridge now [] t u are shape quiet same = same
+plain_run_bridge now (line ∷ lines) t u are shape quiet (inl way) = inl (plain_bridge now line t u are.0 shape (neither ((by_line now).is_refused line t) (one_is_refused (by_line now) lines ((by_line now).after line t)) quiet).0 way)
+plain_run_bridge now (line ∷ lines) t u are shape quiet (inr later) =
+    let two = neither ((by_line now).is_refused line t) (one_is_refused (by_line now) lines ((by_line now).after line t)) quiet in
+    inr (plain_run_bridge now lines ((by_line now).after line t) u are.1 (line_point now line are.0 t shape two.0).shape two.1 later)
+
+pub run_bridge : (now : ℕ) (lines : List Line) (t u : Files) → IsTree t → AllByRecursion IsLine lines → AllByRecursion CopiesNothing lines → one_is_refused (by_line now) lines t ≡ false
+    → Partway (lines_course now) lines t u → stopping.Partway lines now t u
+run_bridge now lines t u tree are none = plain_run_bridge now lines t u (all_plain lines are none) (tree_shaped (places t) tree)
+
+-- ---- runs that were cut short
+
+module _ (table : List Line) (are : AllByRecursion IsLine table) (none : AllByRecursion CopiesNothing table) where
+  -- a whole run from what is on the way leaves what a whole run from the start leaves
+  pub mends : (now later : ℕ) (t u : Files) → IsTree t → IsTree u → IsQuiet table now t → IsQuiet table later u → IsRepeatable table → are_distinct table ≡ true
+      → Partway (lines_course now) (in_create_order table) t u → Same (created table later u) (created table now t)
+  mends now later t u tree there quiet again repeatable distinct way =
+      partway_mends table are none distinct repeatable now later t u tree there quiet again
+      (plain_run_bridge now (in_create_order table) t u (in_order_plain table are none) (tree_shaped (places t) tree) quiet way)
+
+  -- so a run that stopped after any number of its steps is mended
+  pub mended : (Q : Step → Type 0) (now : ℕ) (t : Files) (h : List Step) (u : Files) (k : List Step) → now < 2 ^ 64 → IsTree t → Ran (Partway (lines_course now) (in_create_order table) t) Q now t h u k
+      → (n later : ℕ) → IsQuiet table now t → IsQuiet table later (after_all t (take n (drop (length h) k)) now) → IsRepeatable table → are_distinct table ≡ true
+      → Same (created table later (after_all t (take n (drop (length h) k)) now)) (created table now t)
+  mended Q now t h u k fits tree run =
+      subst (λ (steps : List Step). (n later : ℕ) → IsQuiet table now t → IsQuiet table later (after_all t (take n steps) now) → IsRepeatable table → are_distinct table ≡ true
+      → Same (created table later (after_all t (take n steps) now)) (created table now t))
+      (sym (ap (drop (length h)) run.told ∙ drop-append_seam h run.steps)) (λ n later quiet again repeatable distinct.
+      mends now later t (after_all t (take n run.steps) now) tree
+      (along_prefix IsTree t run.steps now n (along_trees (Partway (lines_course now) (in_create_order table) t) t run.steps now fits tree run.along))
+      quiet again repeatable distinct
+      (along_prefix (Partway (lines_course now) (in_create_order table) t) t run.steps now n run.along))

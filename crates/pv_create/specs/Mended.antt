@@ -1,0 +1,18 @@
+-- The stop law of the create phase (tmpfiles.d(5)).
+use Rattle.std.specs.Prelude.{ℕ, List, take}
+use Rattle.pv_lines.specs.declared.line.Line.{Line}
+use Rattle.pv_steps.specs.declared.step.Step.{Step}
+use Rattle.pv_steps.specs.Runs.{after_all}
+use Rattle.pv_steps.specs.Same.{Same}
+use Rattle.pv_steps.specs.Trees.{Files}
+use Rattle.pv_table.specs.Created.{created, IsQuiet}
+use Rattle.pv_table.specs.Repeatable.{IsRepeatable}
+
+-- a run of lines from a tree, stopped after any of its steps: where no line has a reason against it, and neither a whole run
+-- from the start nor one from there refuses a line at a turn, a whole run from there, at any moment, leaves the tree of one
+-- whole run, stamps and staging names aside
+abbrev pub IsMended : List Line → ℕ → Files → List Step → Type 0
+IsMended lines now t steps = (n later : ℕ) → IsRepeatable lines →
+    IsQuiet lines now t →
+    IsQuiet lines later (after_all t (take n steps) now) →
+    Same (created lines later (after_all t (take n steps) now)) (created lines now t)

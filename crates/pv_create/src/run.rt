@@ -1,0 +1,98 @@
+//! Lines carried out in their order.
+ghost use Rattle.std.specs.Prelude.{◌≡◌, ◌++◌, true, Some, is_some, slice_get, drop, length, IfOk, OnOk};
+ghost use Rattle.std.specs.List.{AllByRecursion};
+ghost use Rattle.pv_doing.specs.Courses.{Partway, IsStepOfSome, carried_of};
+ghost use Rattle.pv_laws.specs.Stopping.{CopiesNothing};
+ghost use Rattle.pv_lines.specs.Lines.{IsLine};
+ghost use Rattle.pv_steps.specs.Acting.{Acted};
+ghost use Rattle.pv_text.specs.Said.{SaidPart};
+ghost use Rattle.pv_table.specs.Active.{in_create_order};
+ghost use Rattle.pv_table.specs.Created.{created, created_messages, some_refusal_counts, work};
+ghost use Rattle.pv_create.specs.Mended.{IsMended};
+ghost use Rattle.pv_create.specs.Ways.{lines_course};
+
+use crate::line::carry_out;
+use pv_doing::Carried;
+use pv_lines::Line;
+use pv_path::TreePath;
+use pv_steps::{Tree, TreeFault};
+use pv_table::{Table, create_order};
+use pv_text::Messages;
+use std::alloc::Global;
+
+/// Carries out the lines of a table in the order of the create phase (tmpfiles.d(5)): those that make something, what
+/// lies above before what lies below, then those that adjust what is there.
+pub fn create_run<T: Tree>(
+    alloc: Global,
+    tree: &mut T,
+    table: &Table,
+    now: u64,
+    messages: &mut Messages,
+) -> Result<Carried, TreeFault>
+    requires lines { AllByRecursion IsLine table.now }
+    requires copies { AllByRecursion CopiesNothing table.now }
+
+    // What a whole run leaves, stamps and staging names included, what it says and how it ends.
+    ensures ok { OnOk result (T.state tree.new ≡ created table.now now (T.state tree.old)) }
+    ensures said { OnOk result (messages.new
+        ≡ messages.old ++ created_messages table.now now (T.state tree.old)) }
+    ensures carried { IfOk result (λ c. c ≡ carried_of (some_refusal_counts table.now now (T.state tree.old))) }
+
+    // What any run has said and done, whatever it answers.
+    ensures part { SaidPart (created_messages table.now now (T.state tree.old)) messages.old messages.new }
+    ensures acted { Acted T.Tree (Partway (lines_course now) (in_create_order table.now) (T.state tree.old))
+        (IsStepOfSome (lines_course now) (in_create_order table.now) (T.state tree.old))
+        (work table.now now (T.state tree.old)) now tree.old tree.new result }
+
+    // The stop law.
+    ensures mended { IsMended table.now now (T.state tree.old)
+        (drop (length (T.steps tree.old)) (T.steps tree.new)) }
+{
+    // In a tree the root is a directory, and no two lines of a table make what stands at one path.
+    let _root = tree.look(&TreePath::root(alloc));
+    let _lines = table.lines();
+    run_in_order(alloc, tree, table, now, messages)
+}
+
+/// The same, without the law.
+fn run_in_order<T: Tree>(
+    alloc: Global,
+    tree: &mut T,
+    table: &Table,
+    now: u64,
+    messages: &mut Messages,
+) -> Result<Carried, TreeFault>
+    requires lines { AllByRecursion IsLine table.now }
+    requires copies { AllByRecursion CopiesNothing table.now }
+
+    // What a whole run leaves, stamps and staging names included, what it says and how it ends.
+    ensures ok { OnOk result (T.state tree.new ≡ created table.now now (T.state tree.old)) }
+    ensures said { OnOk result (messages.new
+        ≡ messages.old ++ created_messages table.now now (T.state tree.old)) }
+    ensures carried { IfOk result (λ c. c ≡ carried_of (some_refusal_counts table.now now (T.state tree.old))) }
+
+    // What any run has said and done, whatever it answers.
+    ensures part { SaidPart (created_messages table.now now (T.state tree.old)) messages.old messages.new }
+    ensures acted { Acted T.Tree (Partway (lines_course now) (in_create_order table.now) (T.state tree.old))
+        (IsStepOfSome (lines_course now) (in_create_order table.now) (T.state tree.old))
+        (work table.now now (T.state tree.old)) now tree.old tree.new result }
+{
+    let order = create_order(alloc, table)?;
+    let mut carried = Carried::Whole;
+    for place in order.as_slice() {
+        let one = carry_out(alloc, tree, line_at(table, *place), now, messages)?;
+        carried = carried.and(one);
+    }
+    Ok(carried)
+}
+
+/// The line at a place of a table.
+fn line_at(table: &Table, place: usize) -> &Line
+    requires { is_some (slice_get table.now place) ≡ true }
+    ensures { slice_get table.now place ≡ Some result.now }
+{
+    match table.line(place) {
+        Some(line) => line,
+        None => unreachable!(),
+    }
+}
