@@ -1,0 +1,132 @@
+-- Laws of a phase that takes away as a whole.
+use Rattle.std.specs.Prelude.{◌≡◌, ℕ, ◌^◌, ◌<◌, Bool, true, false, not, ◌&&◌, ◌||◌, ◌==◌, List, [], ◌∷◌, length, drop, Option, None, is_none, is_some}
+use Rattle.std.proofs.Common.{refl, sym, ap, ◌∙◌, suc}
+use Rattle.std.proofs.lemmas.Bool.Decides.{nat_tests}
+use Rattle.std.proofs.Common.{arith}
+use Rattle.std.specs.List.{list_any}
+use Rattle.pv_lines.specs.declared.line.Line.{Line}
+use Rattle.pv_path.specs.Paths.{Path, is_prefix}
+use Rattle.pv_path.proofs.PathLaws.{is_prefix-refl, is_prefix-trans}
+use Rattle.pv_steps.specs.declared.step.Step.{Step}
+use Rattle.pv_steps.specs.declared.why.Why.{Why}
+use Rattle.pv_steps.specs.Trees.{Files, Places, places, IsTree}
+use Rattle.pv_steps.specs.Runs.{Ran}
+use Rattle.pv_dress.specs.Edits.{Pruned}
+use Rattle.pv_walk.specs.Removal.{is_one_of}
+use Rattle.pv_find.specs.Whole.{goes_whole}
+use Rattle.pv_find.proofs.FindingLaws.{true_both}
+use Rattle.pv_find.proofs.WholeLaws.{goes_parts, goes_from, goes_whole-same, all_at-each, each-all_at}
+use Rattle.pv_table.specs.Reaching.{path_in}
+use Rattle.pv_table.specs.Removed.{all_at, covers, is_gone, is_purged, purged, purges, refused_place, removed}
+use Rattle.pv_remove.specs.Ended.{IsMended}
+use Rattle.pv_remove.proofs.StopLaws.{purge_mends, removal_mends, run_mends}
+
+-- what stands below what is not the root is not the root
+below_no_root : (p q : Path) → is_prefix p q ≡ true → not (length p == 0) ≡ true → not (length q == 0) ≡ true
+below_no_root [] q under h = cc
+below_no_root (n ∷ p) [] under h = cc
+below_no_root (n ∷ p) (m ∷ q) under h = more (length q)
+  where
+    more : (k : ℕ) → not (suc k == 0) ≡ true
+    more k = let no : (suc k == 0) ≡ false = grind (arith, nat_tests) in ap not no
+
+-- what goes whole with others that go whole
+pub goes_again : (test : Path → Bool) (t : Files) (q : Path) → goes_whole (goes_whole test t) t q ≡ goes_whole test t q
+goes_again test t q = true_both (goes_whole (goes_whole test t) t q) (goes_whole test t q)
+    (λ h.
+    let parts = goes_parts (goes_whole test t) t q h in
+    all_at-each (goes_whole test t) t q parts.2 q parts.0 (is_prefix-refl q))
+    (λ h.
+    let parts = goes_parts test t q h in
+    goes_from (goes_whole test t) t q parts.0 parts.1 (each-all_at (goes_whole test t) t q (λ r there under.
+    goes_from test t r there (below_no_root q r under parts.1) (each-all_at test t r (λ s at below. all_at-each test t q parts.2 s at (is_prefix-trans q r s under below))))))
+
+-- paths that go whole by some test go whole with each other
+pub goes_together : (keys : List Path) (test : Path → Bool) (t : Files) → ((q : Path) → is_one_of keys q ≡ goes_whole test t q) → (q : Path) → is_one_of keys q ≡ goes_whole (is_one_of keys) t q
+goes_together keys test t members q = members q ∙ sym (goes_again test t q) ∙ ap (λ (f : Path → Bool). goes_whole f t q) (λ i r. sym (members r) i)
+
+-- the covered paths that go whole are those that are gone
+pub covered_gone : (lines : List Line) (t : Files) (covered : List Path) → ((q : Path) → is_one_of covered q ≡ (is_some (places t q) && list_any (λ line. covers line (places t) q) lines))
+    → (q : Path) → goes_whole (is_one_of covered) t q ≡ is_gone lines t q
+covered_gone lines t covered are q = goes_whole-same (is_one_of covered) (λ r. list_any (λ line. covers line (places t) r) lines) t (λ r there. are r ∙ ap (λ b. b && list_any (λ line. covers line (places t) r) lines) there) q
+
+pub covered_there : (lines : List Line) (t : Files) (covered : List Path) → ((q : Path) → is_one_of covered q ≡ (is_some (places t q) && list_any (λ line. covers line (places t) q) lines))
+    → (q : Path) → is_one_of covered q ≡ true → is_some (places t q) ≡ true
+covered_there lines t covered are q h = by (is_some (places t q)) (list_any (λ line. covers line (places t) q) lines) (sym (are q) ∙ h)
+  where
+    by : (a b : Bool) → (a && b) ≡ true → a ≡ true
+    by true b h = refl
+    by false b h = absurd (let wrong : false ≡ true = h in cc)
+
+-- the stop law of the remove phase
+pub removal_mended : (lines : List Line) (Q : Step → Type 0) (now : ℕ) (t : Files) (h : List Step) (u : Files) (k : List Step) → now < 2 ^ 64 → IsTree t
+    → Ran (Pruned (is_gone lines t) t) Q now t h u k → IsMended (removed lines) now t (drop (length h) k)
+removal_mended lines Q now t h u k fits tree run = run_mends (removed lines) (is_gone lines t) Q now t h u k fits tree (λ later v there pruned. removal_mends lines now later t v there pruned) run
+
+-- ---- purging
+
+-- where all below a path passes with it, what passes goes whole
+any_weaken : {A : Type 0} (f g : A → Bool) → ((x : A) → f x ≡ true → g x ≡ true) → (xs : List A) → list_any f xs ≡ true → list_any g xs ≡ true
+any_weaken f g more [] h = cc
+any_weaken f g more (x ∷ xs) h = by (f x) refl (any_weaken f g more xs) h
+  where
+    or_true : (b : Bool) → list_any g xs ≡ true → (b || list_any g xs) ≡ true
+    or_true true h = refl
+    or_true false h = h
+
+    by : (b : Bool) → f x ≡ b → (list_any f xs ≡ true → list_any g xs ≡ true) → (b || list_any f xs) ≡ true → list_any g (x ∷ xs) ≡ true
+    by true e rest h = ap (λ b. b || list_any g xs) (more x e)
+    by false e rest h = or_true (g x) (rest h)
+
+purges-below : (line : Line) (t : Places) (q r : Path) → is_prefix q r ≡ true → purges line t q ≡ true → purges line t r ≡ true
+purges-below line t q r under h = by line.purge (is_prefix (path_in line.path) q) refl (is_none (refused_place line t (path_in line.path))) h
+  where
+    by : (a b : Bool) → is_prefix (path_in line.path) q ≡ b → (c : Bool) → ((a && b) && c) ≡ true → ((a && is_prefix (path_in line.path) r) && c) ≡ true
+    by true true e c h = ap (λ b. b && c) (is_prefix-trans (path_in line.path) q r e under) ∙ h
+    by true false e c h = absurd (let wrong : false ≡ true = h in cc)
+    by false b e c h = absurd (let wrong : false ≡ true = h in cc)
+
+-- what a line that is not refused purges
+pub purges_is : (line : Line) (t : Places) (path q : Path) → line.purge ≡ true → path ≡ path_in line.path → refused_place line t path ≡ None → is_prefix path q ≡ purges line t q
+purges_is line t path q purge is unrefused = sym (
+    ap (λ b. (b && is_prefix (path_in line.path) q) && is_none (refused_place line t (path_in line.path))) purge
+    ∙ ap (λ (p : Path). is_prefix p q && is_none (refused_place line t p)) (sym is)
+    ∙ ap (λ (r : Option (ℕ × Why)). is_prefix path q && is_none r) unrefused
+    ∙ and_true (is_prefix path q))
+  where
+    and_true : (b : Bool) → (b && true) ≡ b
+    and_true true = refl
+    and_true false = refl
+
+-- what is purged goes whole
+purges_whole : (lines : List Line) (t : Files) (q : Path) → goes_whole (λ r. list_any (λ line. purges line (places t) r) lines) t q ≡ is_purged lines t q
+purges_whole lines t q = by (is_some (places t q)) refl
+  where
+    by : (b : Bool) → is_some (places t q) ≡ b
+        → ((b && not (length q == 0)) && all_at (λ r. list_any (λ line. purges line (places t) r) lines) t q) ≡ ((b && not (length q == 0)) && list_any (λ line. purges line (places t) q) lines)
+    by true there = ap (λ c. (true && not (length q == 0)) && c) (true_both _ _
+        (λ h. all_at-each (λ r. list_any (λ line. purges line (places t) r) lines) t q h q there (is_prefix-refl q))
+        (λ h. each-all_at (λ r. list_any (λ line. purges line (places t) r) lines) t q (λ r at under. any_weaken (λ line. purges line (places t) q) (λ line. purges line (places t) r) (λ line e. purges-below line (places t) q r under e) lines h)))
+    by false there = refl
+
+pub purged_whole : (lines : List Line) (t : Files) (listed : List Path) → ((q : Path) → is_one_of listed q ≡ (is_some (places t q) && list_any (λ line. purges line (places t) q) lines))
+    → (q : Path) → goes_whole (is_one_of listed) t q ≡ is_purged lines t q
+purged_whole lines t listed are q =
+    goes_whole-same (is_one_of listed) (λ r. list_any (λ line. purges line (places t) r) lines) t (λ r there. are r ∙ ap (λ b. b && list_any (λ line. purges line (places t) r) lines) there) q
+    ∙ purges_whole lines t q
+
+pub purged_there : (lines : List Line) (t : Files) (listed : List Path) → ((q : Path) → is_one_of listed q ≡ (is_some (places t q) && list_any (λ line. purges line (places t) q) lines))
+    → (q : Path) → is_one_of listed q ≡ true → is_some (places t q) ≡ true
+purged_there lines t listed are q h = by (is_some (places t q)) (list_any (λ line. purges line (places t) q) lines) (sym (are q) ∙ h)
+  where
+    by : (a b : Bool) → (a && b) ≡ true → a ≡ true
+    by true b h = refl
+    by false b h = absurd (let wrong : false ≡ true = h in cc)
+
+pub purged_together : (keys : List Path) (lines : List Line) (t : Files) → ((q : Path) → is_one_of keys q ≡ is_purged lines t q) → (q : Path) → is_one_of keys q ≡ goes_whole (is_one_of keys) t q
+purged_together keys lines t members = goes_together keys (λ r. list_any (λ line. purges line (places t) r) lines) t (λ q. members q ∙ sym (purges_whole lines t q))
+
+-- the stop law of purging
+pub purge_mended : (lines : List Line) (Q : Step → Type 0) (now : ℕ) (t : Files) (h : List Step) (u : Files) (k : List Step) → now < 2 ^ 64 → IsTree t
+    → Ran (Pruned (is_purged lines t) t) Q now t h u k → IsMended (purged lines) now t (drop (length h) k)
+purge_mended lines Q now t h u k fits tree run = run_mends (purged lines) (is_purged lines t) Q now t h u k fits tree (λ later v there pruned. purge_mends lines now later t v there pruned) run

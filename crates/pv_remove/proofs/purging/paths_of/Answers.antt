@@ -1,0 +1,18 @@
+use Rattle.std.proofs.Common.{◌≡◌, ◌&&◌, ◌∙◌, sym, ap, List, filter, is_some}
+use Rattle.std.specs.FinMap as fin
+use Rattle.pv_path.specs.Paths.{Path, is_prefix}
+use Rattle.pv_steps.specs.Trees.{places}
+use Rattle.pv_walk.specs.Removal.{is_one_of}
+use Rattle.pv_find.proofs.FindingLaws.{keys_passing}
+use Rattle.pv_table.specs.Removed.{purges}
+use Rattle.pv_remove.proofs.CoverLaws.{if_ok}
+use Rattle.pv_remove.proofs.RunLaws.{purges_is}
+use Rattle.pv_remove.proofs.purging.paths_of.Goals as goal
+
+pub returns : goal.returns
+returns g c =
+    let t = g.T.Tree.state c.args.tree.now in
+    let path = c.in_ok-path.path in
+    if_ok (λ paths. paths.items ≡ filter (is_prefix path) (fin.keys t)) (λ paths. (q : Path) → is_one_of paths.items q ≡ (is_some (places t q) && purges c.args.line.now (places t) q)) c.at_and_below.result
+    (λ paths e q. ap (λ (xs : List Path). is_one_of xs q) e ∙ keys_passing t (is_prefix path) q
+    ∙ ap (λ b. is_some (places t q) && b) (purges_is c.args.line.now (places t) path q c.if-not-line.false c.in_ok-path.ensures (sym c.in_ok-refusal.ensures ∙ c.in-None.is))) c.at_and_below.ensures

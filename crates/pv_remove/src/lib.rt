@@ -1,0 +1,17 @@
+//! The phases that take away: lines r, R and D, and purging.
+#![tactic(auto)]
+
+mod carried;
+mod covering;
+mod ending;
+mod judging;
+mod laws;
+mod plan;
+mod purging;
+mod removing;
+mod taking_away;
+
+pub use carried::Carried;
+pub use laws::{a_purge_cut_short_is_mended, a_removal_cut_short_is_mended};
+pub use purging::purge_run;
+pub use removing::remove_run;

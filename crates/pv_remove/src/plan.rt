@@ -1,0 +1,58 @@
+//! What a phase that takes away is to do, and how it is done.
+ghost use Rattle.std.specs.Prelude.{◌≡◌, ◌++◌, IfOk, OnOk};
+ghost use Rattle.pv_path.specs.Paths.{Path};
+ghost use Rattle.pv_steps.specs.Acting.{Acted};
+ghost use Rattle.pv_steps.specs.Content.{Removes};
+ghost use Rattle.pv_steps.specs.Objects.{modified};
+ghost use Rattle.pv_text.specs.Said.{SaidPart};
+ghost use Rattle.pv_dress.specs.Edits.{Pruned};
+ghost use Rattle.pv_walk.specs.Removal.{is_one_of};
+ghost use Rattle.pv_find.specs.Whole.{count_of, goes_whole};
+ghost use Rattle.pv_table.specs.Removed.{without};
+ghost use Rattle.pv_remove.specs.Ended.{carried_of};
+
+use crate::carried::Carried;
+use crate::ending::{carried_of, say_all};
+use crate::taking_away::take_away;
+use pv_path::TreePath;
+use pv_steps::{Tree, TreeFault};
+use pv_text::Messages;
+use std::alloc::Global;
+use std::collections::BTreeSet;
+
+/// What a phase is to take away and to say, as all of it is judged in the tree before the phase.
+#[derive(Drop)]
+pub(crate) struct Plan {
+    /// The paths that go, each with all that stands below it.
+    pub(crate) paths: BTreeSet<TreePath>,
+    /// What is said after the steps.
+    pub(crate) said: Messages,
+    /// Whether something is not carried out.
+    pub(crate) unfinished: bool,
+}
+
+/// Takes away what is to go, and then says what is to be said.
+pub(crate) fn carry_out<T: Tree>(
+    alloc: Global,
+    tree: &mut T,
+    plan: Plan,
+    now: u64,
+    messages: &mut Messages,
+) -> Result<Carried, TreeFault>
+    requires whole { (q : Path) → is_one_of plan.paths.keys q ≡ goes_whole (is_one_of plan.paths.keys) (T.state tree.old) q }
+    ensures ok { OnOk result (T.state tree.new ≡ without (is_one_of plan.paths.keys) (modified now) (T.state tree.old)) }
+    ensures said { OnOk result (messages.new ≡ messages.old ++ plan.said) }
+    ensures carried { IfOk result (λ c. c ≡ carried_of plan.unfinished) }
+    ensures part { SaidPart plan.said messages.old messages.new }
+    ensures acted { Acted T.Tree (Pruned (is_one_of plan.paths.keys) (T.state tree.old)) (Removes (is_one_of plan.paths.keys))
+        (count_of (is_one_of plan.paths.keys) (T.state tree.old)) now tree.old tree.new result }
+{
+    let Plan {
+        paths,
+        said,
+        unfinished,
+    } = plan;
+    take_away(alloc, tree, paths, now)?;
+    say_all(messages, &said)?;
+    Ok(carried_of(unfinished))
+}

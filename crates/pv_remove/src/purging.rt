@@ -1,0 +1,168 @@
+//! Purging: lines with `$`.
+ghost use Rattle.std.specs.Prelude.{◌≡◌, ◌&&◌, ◌||◌, ◌++◌, drop, length, map, is_some, IfOk, OnOk};
+ghost use Rattle.std.specs.List.{AllByRecursion, list_any};
+ghost use Rattle.pv_lines.specs.Lines.{IsLine};
+ghost use Rattle.pv_path.specs.Paths.{Path};
+ghost use Rattle.pv_steps.specs.Trees.{places, IsTree};
+ghost use Rattle.pv_steps.specs.Acting.{Acted};
+ghost use Rattle.pv_steps.specs.Content.{Removes};
+ghost use Rattle.pv_text.specs.Said.{SaidPart, said_at};
+ghost use Rattle.pv_dress.specs.Edits.{Pruned};
+ghost use Rattle.pv_walk.specs.Removal.{is_one_of};
+ghost use Rattle.pv_find.specs.Whole.{count_of};
+ghost use Rattle.pv_table.specs.Reaching.{path_in};
+ghost use Rattle.pv_table.specs.Removed.{is_purge_unfinished, is_purged, purge_refusal, purge_texts, purged, purged_messages, purges};
+ghost use Rattle.pv_remove.specs.Ended.{carried_of, IsMended};
+
+use crate::carried::Carried;
+use crate::covering::refusal;
+use crate::judging::path_in;
+use crate::plan::{Plan, carry_out};
+use pv_find::{at_and_below, whole_of};
+use pv_lines::Line;
+use pv_path::TreePath;
+use pv_steps::{Tree, TreeFault, Why, is_present};
+use pv_table::say_refused;
+use pv_text::Messages;
+use std::alloc::{AllocError, Global};
+
+/// Takes away what lines with `$` name, each with all below it (systemd-tmpfiles(8), --purge), as all of it is judged in
+/// the tree before the phase: the deepest paths first, those of one depth in byte order; then says which of the lines are
+/// refused, in listing order.
+pub fn purge_run<T: Tree>(
+    alloc: Global,
+    tree: &mut T,
+    lines: &[Line],
+    now: u64,
+    messages: &mut Messages,
+) -> Result<Carried, TreeFault>
+    requires lines { AllByRecursion IsLine lines.now }
+
+    // What a whole run leaves, stamps included, what it says and how it ends.
+    ensures ok { OnOk result (T.state tree.new ≡ purged lines.now now (T.state tree.old)) }
+    ensures said { OnOk result (messages.new ≡ messages.old ++ purged_messages lines.now (T.state tree.old)) }
+    ensures carried { IfOk result (λ c. c ≡ carried_of (is_purge_unfinished lines.now (T.state tree.old))) }
+
+    // What any run has said and done, whatever it answers.
+    ensures part { SaidPart (purged_messages lines.now (T.state tree.old)) messages.old messages.new }
+    ensures acted { Acted T.Tree (Pruned (is_purged lines.now (T.state tree.old)) (T.state tree.old))
+        (Removes (is_purged lines.now (T.state tree.old))) (count_of (is_purged lines.now (T.state tree.old)) (T.state tree.old))
+        now tree.old tree.new result }
+
+    // The stop law.
+    ensures mended { IsMended (purged lines.now) now (T.state tree.old)
+        (drop (length (T.steps tree.old)) (T.steps tree.new)) }
+{
+    let plan = purge_plan(alloc, tree, lines)?;
+    carry_out(alloc, tree, plan, now, messages)
+}
+
+/// What lines with `$` take away, and what is said of them.
+fn purge_plan<T: Tree>(alloc: Global, tree: &T, lines: &[Line]) -> Result<Plan, AllocError>
+    requires lines { AllByRecursion IsLine lines.now }
+    ensures gone { IfOk result (λ plan. (q : Path) → is_one_of plan.paths.keys q ≡ is_purged lines.now (T.state tree.now) q) }
+    ensures said { IfOk result (λ plan. plan.said ≡ purged_messages lines.now (T.state tree.now)) }
+    ensures unfinished { IfOk result (λ plan. plan.unfinished ≡ is_purge_unfinished lines.now (T.state tree.now)) }
+    ensures tree { IsTree (T.state tree.now) }
+{
+    let _rooted = is_present(tree, &TreePath::root(alloc));
+    let purged = purged_paths(alloc, tree, lines)?;
+    let paths = whole_of(alloc, tree, purged)?;
+    let mut said = Messages::new(alloc);
+    let unfinished = judge_purge(alloc, tree, lines, &mut said)?;
+    Ok(Plan {
+        paths,
+        said,
+        unfinished,
+    })
+}
+
+/// The present paths that some line purges, in no order.
+fn purged_paths<T: Tree>(
+    alloc: Global,
+    tree: &T,
+    lines: &[Line],
+) -> Result<Vec<TreePath>, AllocError>
+    requires lines { AllByRecursion IsLine lines.now }
+    ensures { IfOk result (λ paths. (q : Path) → is_one_of paths.items q
+        ≡ (is_some (places (T.state tree.now) q) && list_any (λ line. purges line (places (T.state tree.now)) q) lines.now)) }
+{
+    let mut purged = Vec::new(alloc);
+    for line in lines {
+        let mut more = paths_of(alloc, tree, line)?;
+        purged.append(&mut more)?;
+    }
+    Ok(purged)
+}
+
+/// The present paths that a line purges.
+fn paths_of<T: Tree>(alloc: Global, tree: &T, line: &Line) -> Result<Vec<TreePath>, AllocError>
+    requires line { IsLine line.now }
+    ensures { IfOk result (λ paths. (q : Path) → is_one_of paths.items q
+        ≡ (is_some (places (T.state tree.now) q) && purges line.now (places (T.state tree.now)) q)) }
+{
+    if !line.purge {
+        return Ok(Vec::new(alloc));
+    }
+    let path = path_in(alloc, line)?;
+    match refusal(alloc, tree, line, &path)? {
+        Some(_) => Ok(Vec::new(alloc)),
+        None => at_and_below(alloc, tree, &path),
+    }
+}
+
+/// Says which lines are refused, in listing order, and whether one is.
+fn judge_purge<T: Tree>(
+    alloc: Global,
+    tree: &T,
+    lines: &[Line],
+    said: &mut Messages,
+) -> Result<bool, AllocError>
+    requires lines { AllByRecursion IsLine lines.now }
+    ensures said { OnOk result (said.new ≡ said.old ++ purged_messages lines.now (T.state tree.now)) }
+    ensures unfinished { IfOk result (λ unfinished. unfinished ≡ is_purge_unfinished lines.now (T.state tree.now)) }
+{
+    let mut unfinished = false;
+    for line in lines {
+        unfinished |= judge_purge_line(alloc, tree, line, said)?;
+    }
+    Ok(unfinished)
+}
+
+/// Says of one line whether it is refused.
+fn judge_purge_line<T: Tree>(
+    alloc: Global,
+    tree: &T,
+    line: &Line,
+    said: &mut Messages,
+) -> Result<bool, AllocError>
+    requires line { IsLine line.now }
+    ensures said { OnOk result (said.new ≡ said.old ++ map (said_at line.now.place) (purge_texts line.now (places (T.state tree.now)))) }
+    ensures unfinished { IfOk result (λ unfinished. unfinished ≡ is_some (purge_refusal line.now (places (T.state tree.now)))) }
+{
+    let path = path_in(alloc, line)?;
+    match purge_refusal(alloc, tree, line, &path)? {
+        Some((place, why)) => {
+            say_refused(alloc, &line.place, &path, place, why, said)?;
+            Ok(true)
+        }
+        None => Ok(false),
+    }
+}
+
+/// The place at which a line with `$` is refused at its path, where something stands there.
+fn purge_refusal<T: Tree>(
+    alloc: Global,
+    tree: &T,
+    line: &Line,
+    path: &TreePath,
+) -> Result<Option<(u32, Why)>, AllocError>
+    requires line { IsLine line.now }
+    requires path { path.now ≡ path_in line.now.path }
+    ensures { IfOk result (λ refusal. refusal ≡ purge_refusal line.now (places (T.state tree.now))) }
+{
+    if !line.purge || !is_present(tree, path) {
+        return Ok(None);
+    }
+    refusal(alloc, tree, line, path)
+}

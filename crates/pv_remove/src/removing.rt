@@ -1,0 +1,75 @@
+//! The remove phase.
+ghost use Rattle.std.specs.Prelude.{◌≡◌, ◌++◌, drop, length, IfOk, OnOk};
+ghost use Rattle.std.specs.List.{AllByRecursion};
+ghost use Rattle.pv_lines.specs.Lines.{IsLine};
+ghost use Rattle.pv_path.specs.Paths.{Path};
+ghost use Rattle.pv_steps.specs.Trees.{IsTree};
+ghost use Rattle.pv_steps.specs.Acting.{Acted};
+ghost use Rattle.pv_steps.specs.Content.{Removes};
+ghost use Rattle.pv_text.specs.Said.{SaidPart};
+ghost use Rattle.pv_dress.specs.Edits.{Pruned};
+ghost use Rattle.pv_walk.specs.Removal.{is_one_of};
+ghost use Rattle.pv_find.specs.Whole.{count_of};
+ghost use Rattle.pv_table.specs.Removed.{is_gone, is_unfinished, removed, removed_messages};
+ghost use Rattle.pv_remove.specs.Ended.{carried_of, IsMended};
+
+use crate::carried::Carried;
+use crate::covering::covered_paths;
+use crate::judging::judge;
+use crate::plan::{Plan, carry_out};
+use pv_find::whole_of;
+use pv_lines::Line;
+use pv_path::TreePath;
+use pv_steps::{Tree, TreeFault, is_present};
+use pv_text::Messages;
+use std::alloc::{AllocError, Global};
+
+/// Takes away what lines r, R and D name (tmpfiles.d(5)), as all of it is judged in the tree before the phase: the
+/// deepest paths first, those of one depth in byte order; then says what is to be said of each line, in listing order.
+pub fn remove_run<T: Tree>(
+    alloc: Global,
+    tree: &mut T,
+    lines: &[Line],
+    now: u64,
+    messages: &mut Messages,
+) -> Result<Carried, TreeFault>
+    requires lines { AllByRecursion IsLine lines.now }
+
+    // What a whole run leaves, stamps included, what it says and how it ends.
+    ensures ok { OnOk result (T.state tree.new ≡ removed lines.now now (T.state tree.old)) }
+    ensures said { OnOk result (messages.new ≡ messages.old ++ removed_messages lines.now (T.state tree.old)) }
+    ensures carried { IfOk result (λ c. c ≡ carried_of (is_unfinished lines.now (T.state tree.old))) }
+
+    // What any run has said and done, whatever it answers.
+    ensures part { SaidPart (removed_messages lines.now (T.state tree.old)) messages.old messages.new }
+    ensures acted { Acted T.Tree (Pruned (is_gone lines.now (T.state tree.old)) (T.state tree.old))
+        (Removes (is_gone lines.now (T.state tree.old))) (count_of (is_gone lines.now (T.state tree.old)) (T.state tree.old))
+        now tree.old tree.new result }
+
+    // The stop law.
+    ensures mended { IsMended (removed lines.now) now (T.state tree.old)
+        (drop (length (T.steps tree.old)) (T.steps tree.new)) }
+{
+    let plan = removal_plan(alloc, tree, lines)?;
+    carry_out(alloc, tree, plan, now, messages)
+}
+
+/// What lines r, R and D take away, and what is said of them.
+fn removal_plan<T: Tree>(alloc: Global, tree: &T, lines: &[Line]) -> Result<Plan, AllocError>
+    requires lines { AllByRecursion IsLine lines.now }
+    ensures gone { IfOk result (λ plan. (q : Path) → is_one_of plan.paths.keys q ≡ is_gone lines.now (T.state tree.now) q) }
+    ensures said { IfOk result (λ plan. plan.said ≡ removed_messages lines.now (T.state tree.now)) }
+    ensures unfinished { IfOk result (λ plan. plan.unfinished ≡ is_unfinished lines.now (T.state tree.now)) }
+    ensures tree { IsTree (T.state tree.now) }
+{
+    let _rooted = is_present(tree, &TreePath::root(alloc));
+    let covered = covered_paths(alloc, tree, lines)?;
+    let paths = whole_of(alloc, tree, covered)?;
+    let mut said = Messages::new(alloc);
+    let unfinished = judge(alloc, tree, lines, &paths, &mut said)?;
+    Ok(Plan {
+        paths,
+        said,
+        unfinished,
+    })
+}

@@ -1,0 +1,34 @@
+//! Some paths of a tree taken away, each with all that stands below it.
+ghost use Rattle.std.specs.Prelude.{◌≡◌, OnOk};
+ghost use Rattle.pv_path.specs.Paths.{Path};
+ghost use Rattle.pv_steps.specs.Acting.{Acted};
+ghost use Rattle.pv_steps.specs.Content.{Removes};
+ghost use Rattle.pv_steps.specs.Objects.{modified};
+ghost use Rattle.pv_dress.specs.Edits.{Pruned};
+ghost use Rattle.pv_walk.specs.Removal.{is_one_of};
+ghost use Rattle.pv_find.specs.Whole.{count_of, goes_whole};
+ghost use Rattle.pv_table.specs.Removed.{without};
+
+use pv_find::deepest_last;
+use pv_path::TreePath;
+use pv_steps::{Tree, TreeFault};
+use pv_walk::remove_all;
+use std::alloc::Global;
+use std::collections::BTreeSet;
+
+/// Takes away paths that go whole, the deepest first and those of one depth in byte order. A directory that stays and
+/// lost a child has changed.
+pub(crate) fn take_away<T: Tree>(
+    alloc: Global,
+    tree: &mut T,
+    paths: BTreeSet<TreePath>,
+    now: u64,
+) -> Result<(), TreeFault>
+    requires whole { (q : Path) → is_one_of paths.keys q ≡ goes_whole (is_one_of paths.keys) (T.state tree.old) q }
+    ensures gone { OnOk result (T.state tree.new ≡ without (is_one_of paths.keys) (modified now) (T.state tree.old)) }
+    ensures acted { Acted T.Tree (Pruned (is_one_of paths.keys) (T.state tree.old)) (Removes (is_one_of paths.keys))
+        (count_of (is_one_of paths.keys) (T.state tree.old)) now tree.old tree.new result }
+{
+    let ordered = deepest_last(alloc, paths)?;
+    remove_all(tree, ordered, now)
+}
