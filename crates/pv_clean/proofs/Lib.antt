@@ -1,0 +1,3 @@
+pub mod AgeLaws
+pub mod CleanLaws
+pub mod TaskLaws

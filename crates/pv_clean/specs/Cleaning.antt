@@ -1,0 +1,66 @@
+-- Cleaning by steps: which directories get their stamps back, what a clean phase asks of a tree, and what one that was cut
+-- short has done (tmpfiles.d(5), "Age"; utimensat(2)).
+use Rattle.std.specs.Prelude.{◌≡◌, ◌⊎◌, ℕ, ◌+◌, ◌≤◌, Bool, true, cond, not, ◌&&◌, ◌||◌, List, [], ◌∷◌, map, take, Some, is_some, option_map, if◌then◌else◌, ⊤}
+use Rattle.std.specs.Option.{option_map_or}
+use Rattle.pv_path.specs.Paths.{Path}
+use Rattle.pv_steps.specs.declared.step.Step.{Step}
+use Rattle.pv_steps.specs.declared.step.Step.TheVariants.{SetStamps, Unlink, RemoveDir}
+use Rattle.pv_steps.specs.Runs.{after_all}
+use Rattle.pv_steps.specs.Same.{bares}
+use Rattle.pv_steps.specs.Trees.{Files, places, IsAbsentIn, IsPresent}
+use Rattle.pv_walk.specs.Listing.{times, is_child}
+use Rattle.pv_walk.specs.Removal.{removal}
+use Rattle.pv_find.specs.Whole.{count_of}
+use Rattle.pv_table.specs.Removed.{loses}
+use Rattle.pv_clean.specs.declared.tasks.Stamped.{Stamped}
+
+-- a directory stays and loses a child
+abbrev pub stays_and_loses : (Path → Bool) → Files → Path → Bool
+stays_and_loses goes t q = not (goes q) && loses goes t q
+
+-- a clean phase has something to do at a path: it goes, or loses a child
+abbrev pub is_task : (Path → Bool) → Files → Path → Bool
+is_task goes t q = goes q || loses goes t q
+
+-- the stamps of access and of modification of what stands at a path; 0 where nothing does
+abbrev pub stamped_at : Files → Path → Stamped
+stamped_at t path = record {
+  path = path;
+  access = option_map_or (λ o. o.node.stamps.access) (places t path) 0;
+  modify = option_map_or (λ o. o.node.stamps.modify) (places t path) 0;
+}
+
+-- the step at a path: what goes is taken away, what stays gets its stamps back
+abbrev pub task_step : Bool → Bool → Stamped → Step
+task_step going directory s = if going then removal directory s.path else SetStamps s.path s.access s.modify
+
+-- each present child of a path that goes stands after it in the list
+abbrev pub GoAfter : (Path → Bool) → Files → List Path → Type 0
+GoAfter goes t [] = ⊤
+GoAfter goes t (p ∷ ps) = ((q : Path) → is_child p q ≡ true → IsPresent t q → goes q ≡ true → 1 ≤ times q ps) × GoAfter goes t ps
+
+-- what a clean phase has to do from the last on: each path once with its stamps, and all that goes in one after it
+pub record ArePlanned (goes : Path → Bool) (t : Files) (tasks : List Stamped) : Type 0 where
+  pub paths : List Path
+  pub are : tasks ≡ map (stamped_at t) paths
+  pub once : (q : Path) → times q paths ≡ cond (is_some (places t q) && is_task goes t q) 1 0
+  pub order : GoAfter goes t paths
+
+-- a step takes away a path that goes, or gives a directory that stays and loses a child the stamps that it has in a tree
+abbrev pub IsCleanStep : (Path → Bool) → Files → Step → Type 0
+IsCleanStep goes t (Unlink path) = goes path ≡ true
+IsCleanStep goes t (RemoveDir path) = goes path ≡ true
+IsCleanStep goes t (SetStamps path access modify) =
+    (stays_and_loses goes t path ≡ true)
+    × (option_map {U = ℕ × ℕ} (λ o. (o.node.stamps.access, o.node.stamps.modify)) (places t path) ≡ Some (access, modify))
+IsCleanStep goes t step = ⊥
+
+-- how many steps that takes: one for each path that goes, and one for each directory that stays and loses a child
+abbrev pub most_steps : (Path → Bool) → Files → ℕ
+most_steps goes t = count_of goes t + count_of (stays_and_loses goes t) t
+
+-- after each number of these steps each path is one that goes and is gone, or has what stood there, stamps aside
+abbrev pub TakesOnly : (Path → Bool) → ℕ → Files → List Step → Type 0
+TakesOnly goes now t steps = (n : ℕ) (q : Path) →
+    ((goes q ≡ true) × IsAbsentIn (places (after_all t (take n steps) now)) q)
+    ⊎ (bares (places (after_all t (take n steps) now)) q ≡ bares (places t) q)

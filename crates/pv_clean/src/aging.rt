@@ -1,0 +1,102 @@
+//! Which objects are old enough to go.
+ghost use Rattle.std.specs.Prelude.{◌≡◌, ◌&&◌, ◌++◌, [], ◌∷◌, not, filter, is_some, map, if◌then◌else◌, IfOk, OnOk};
+ghost use Rattle.std.specs.List.{list_any};
+ghost use Rattle.pv_path.specs.Paths.{Path};
+ghost use Rattle.pv_steps.specs.Trees.{places, names_below, IsTree};
+ghost use Rattle.pv_walk.specs.Removal.{is_one_of};
+ghost use Rattle.pv_table.specs.Cleaned.{is_aged, is_old_by, may_go};
+ghost use Rattle.pv_table.specs.Reaching.{names};
+
+use crate::naming::all_named;
+use pv_age::is_old;
+use pv_find::{at_and_below, is_among, whole_of};
+use pv_lines::Line;
+use pv_path::{Name, TreePath, child};
+use pv_steps::{Tree, is_directory, is_present};
+use pv_table::{Scope, scope_of};
+use std::alloc::{AllocError, Global};
+use std::collections::BTreeSet;
+
+/// The paths that the clean phase takes away (tmpfiles.d(5), "Age", x and X), as all of it is judged by the stamps that
+/// stand when the phase begins. The age of a directory is looked for once.
+pub fn aged_paths<T: Tree>(
+    alloc: Global,
+    tree: &T,
+    lines: &[Line],
+    now: u64,
+) -> Result<BTreeSet<TreePath>, AllocError>
+    ensures aged { IfOk result (λ paths. (q : Path) → is_one_of paths.keys q ≡ is_aged lines.now now (T.state tree.now) q) }
+    ensures tree { IsTree (T.state tree.now) }
+{
+    let root = TreePath::root(alloc);
+    let _rooted = is_present(tree, &root);
+    let named = all_named(alloc, tree, lines)?;
+    let paths = at_and_below(alloc, tree, &root)?;
+    let mut may_go = Vec::new(alloc);
+    for path in &paths {
+        add_aged(alloc, tree, lines, &named, now, path, &mut may_go)?;
+    }
+    let aged = whole_of(alloc, tree, may_go)?;
+    Ok(aged)
+}
+
+/// Adds what may go by itself of what stands in the directory at a path.
+fn add_aged<T: Tree>(
+    alloc: Global,
+    tree: &T,
+    lines: &[Line],
+    named: &BTreeSet<TreePath>,
+    now: u64,
+    path: &TreePath,
+    found: &mut Vec<TreePath>,
+) -> Result<(), AllocError>
+    requires named { (q : Path) → is_one_of named.now.keys q
+        ≡ (is_some (places (T.state tree.now) q) && list_any (λ line. names line q) lines.now) }
+    ensures { OnOk result (found.new.items ≡ found.old.items ++ map (λ n. path.now ++ n ∷ [])
+        (filter (λ n. may_go lines.now now (T.state tree.now) (path.now ++ n ∷ [])) (names_below (T.state tree.now) path.now))) }
+{
+    if !is_directory(tree, path) {
+        return Ok(());
+    }
+    let scope = scope_of(lines, path);
+    let names = tree.list(alloc, path)?;
+    for name in names.as_slice() {
+        add_if_old(alloc, tree, scope, named, now, path, name, found)?;
+    }
+    Ok(())
+}
+
+/// Adds a path and one name more, where no line names it and it is old by an age.
+fn add_if_old<T: Tree>(
+    alloc: Global,
+    tree: &T,
+    scope: Option<Scope>,
+    named: &BTreeSet<TreePath>,
+    now: u64,
+    path: &TreePath,
+    name: &Name,
+    found: &mut Vec<TreePath>,
+) -> Result<(), AllocError>
+    ensures { OnOk result (found.new.items ≡ found.old.items
+        ++ (if not (is_one_of named.now.keys (path.now ++ name.now ∷ [])) && is_old_by scope now (places (T.state tree.now) (path.now ++ name.now ∷ []))
+        then (path.now ++ name.now ∷ []) ∷ [] else [])) }
+{
+    let below = child(alloc, path, name.bytes())?;
+    if !is_among(named, &below) && is_old_by(tree, scope, now, &below) {
+        found.push(below)?;
+    }
+    Ok(())
+}
+
+/// Whether what stands at a path is old by an age, where that does not spare what stands directly in its directory.
+fn is_old_by<T: Tree>(tree: &T, scope: Option<Scope>, now: u64, path: &TreePath) -> bool
+    ensures { result ≡ is_old_by scope now (places (T.state tree.now) path.now) }
+{
+    match scope {
+        None => false,
+        Some(scope) => match tree.look(path) {
+            None => false,
+            Some(node) => !(scope.age.spare_first && scope.own) && is_old(node, &scope.age, now),
+        },
+    }
+}

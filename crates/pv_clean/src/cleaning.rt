@@ -1,0 +1,48 @@
+//! The clean phase.
+ghost use Rattle.std.specs.Prelude.{◌≡◌, drop, length, OnOk};
+ghost use Rattle.pv_steps.specs.Acting.{Acted};
+ghost use Rattle.pv_dress.specs.Edits.{Pruned};
+ghost use Rattle.pv_table.specs.Cleaned.{cleaned, is_aged};
+ghost use Rattle.pv_clean.specs.Cleaning.{most_steps, IsCleanStep, TakesOnly};
+
+use crate::aging::aged_paths;
+use crate::tasks::{do_tasks, tasks};
+use pv_lines::Line;
+use pv_steps::{Tree, TreeFault};
+use std::alloc::Global;
+
+/// Takes away what is old enough (tmpfiles.d(5), "Age", x and X), as all of it is judged by the stamps that stand when the
+/// phase begins: from the root, children in byte order, each directory after what is in it. After its children a directory
+/// that stays and lost one gets its stamps of access and modification back.
+pub fn clean_run<T: Tree>(
+    alloc: Global,
+    tree: &mut T,
+    lines: &[Line],
+    now: u64,
+) -> Result<(), TreeFault>
+    // What a whole run leaves, stamps included.
+    ensures ok { OnOk result (T.state tree.new ≡ cleaned lines.now now (T.state tree.old)) }
+
+    // What any run has done, whatever it answers.
+    ensures acted { Acted T.Tree (Pruned (is_aged lines.now now (T.state tree.old)) (T.state tree.old))
+        (IsCleanStep (is_aged lines.now now (T.state tree.old)) (T.state tree.old))
+        (most_steps (is_aged lines.now now (T.state tree.old)) (T.state tree.old)) now tree.old tree.new result }
+
+    // The stop law.
+    ensures stopped { TakesOnly (is_aged lines.now now (T.state tree.old)) now (T.state tree.old)
+        (drop (length (T.steps tree.old)) (T.steps tree.new)) }
+{
+    clean(alloc, tree, lines, now)
+}
+
+/// The same, without the stop law.
+fn clean<T: Tree>(alloc: Global, tree: &mut T, lines: &[Line], now: u64) -> Result<(), TreeFault>
+    ensures ok { OnOk result (T.state tree.new ≡ cleaned lines.now now (T.state tree.old)) }
+    ensures acted { Acted T.Tree (Pruned (is_aged lines.now now (T.state tree.old)) (T.state tree.old))
+        (IsCleanStep (is_aged lines.now now (T.state tree.old)) (T.state tree.old))
+        (most_steps (is_aged lines.now now (T.state tree.old)) (T.state tree.old)) now tree.old tree.new result }
+{
+    let aged = aged_paths(alloc, tree, lines, now)?;
+    let tasks = tasks(alloc, tree, &aged)?;
+    do_tasks(tree, tasks, &aged, now)
+}

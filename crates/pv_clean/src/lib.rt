@@ -1,0 +1,12 @@
+//! The clean phase: which objects are old enough to go, and taking them away.
+#![tactic(auto)]
+
+mod aging;
+mod cleaning;
+mod laws;
+mod naming;
+mod tasks;
+
+pub use aging::aged_paths;
+pub use cleaning::clean_run;
+pub use laws::a_stopped_clean_took_what_is_aged;
