@@ -207,10 +207,10 @@ not_true true e = absurd (let no_way : false ≡ true = e in cc)
 not_true false e = refl
 
 no_nul : (name : List ℕ) → is_name name ≡ true → list_any (λ b. b == 0) (escaped name) ≡ false
-no_nul name is = any_escaped (λ b. b == 0) name refl (no_byte 0 name (λ b e. not_true (b == 0) (both_true _ (not (b == 47)) e).0) (is_name-parts name is).2)
+no_nul name is = any_escaped (λ b. b == 0) name refl (no_byte 0 name (λ b e. not_true (b == 0) (both_true (nat_lt b 256) (not (b == 0)) (both_true _ (not (b == 47)) e).0).1) (is_name-parts name is).2)
 
 no_slash : (name : List ℕ) → is_name name ≡ true → list_any (λ b. b == 47) (escaped name) ≡ false
-no_slash name is = any_escaped (λ b. b == 47) name refl (no_byte 47 name (λ b e. not_true (b == 47) (both_true (not (b == 0)) _ e).1) (is_name-parts name is).2)
+no_slash name is = any_escaped (λ b. b == 47) name refl (no_byte 47 name (λ b e. not_true (b == 47) (both_true _ (not (b == 47)) e).1) (is_name-parts name is).2)
 
 above_none : (n : ℕ) → nat_lt 0 (suc n) ≡ true
 above_none n = grind (arith, nat_tests)

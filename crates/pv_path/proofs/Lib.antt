@@ -2,3 +2,4 @@ pub mod Relating
 pub mod Pieces
 pub mod PathLaws
 pub mod Printed
+pub mod Spelled

@@ -306,6 +306,11 @@ has_names-push p n a b = rw (has_names-append p (n ∷ []), a, b)
 pub has_names-take : (i : ℕ) (p : Path) → has_names p ≡ true → has_names (take i p) ≡ true
 has_names-take i p e = (both_true (has_names (take i p)) (has_names (drop i p)) (sym (has_names-append (take i p) (drop i p)) ∙ ap has_names (take-append-drop i p) ∙ e)).0
 
+pub has_names-prefix : (p q : Path) → is_prefix p q ≡ true → has_names q ≡ true → has_names p ≡ true
+has_names-prefix p q above names =
+    let parts = prefix_parts p q above in
+    (both_true (has_names p) (has_names parts.0) (sym (has_names-append p parts.0) ∙ ap has_names (sym parts.1) ∙ names)).0
+
 pub has_names-drop : (i : ℕ) (p : Path) → has_names p ≡ true → has_names (drop i p) ≡ true
 has_names-drop i p e = (both_true (has_names (take i p)) (has_names (drop i p)) (sym (has_names-append (take i p) (drop i p)) ∙ ap has_names (take-append-drop i p) ∙ e)).1
 

@@ -1,13 +1,13 @@
 -- How the pieces between the slashes make a path.
 use Rattle.std.proofs.Common.{◌≡◌, ℕ, ◌+◌, ◌<◌, Bool, true, false, ◌==◌, List, [], ◌∷◌, length, drop, get_or, Result, Ok, Err, refl, sym, ap, ◌∙◌, arith, append_assoc, zero, suc, map, Bor}
-use Rattle.std.specs.List.{list_all, list_any, slice_split, onto_first}
+use Rattle.std.specs.List.{list_all, slice_split, onto_first}
 use Rattle.std.proofs.lemmas.List.{at_drop_more, length-map}
 use Rattle.pv_path.specs.declared.fault.PathFault.TheVariants as fault
 use Rattle.pv_path.specs.declared.fault.PathFault.{PathFault}
 use Rattle.pv_path.specs.Names.{is_name_byte}
 use Rattle.pv_path.specs.Paths.{Path}
 use Rattle.pv_path.proofs.PathLaws.{both_true}
-use Rattle.pv_path.specs.Parsing.{Gives, joined, names_of, piece_of}
+use Rattle.pv_path.specs.Parsing.{Gives, is_path_byte, joined, names_of, piece_of}
 
 pub joined-assoc : (a b c : Result Path PathFault) → joined (joined a b) c ≡ joined a (joined b c)
 joined-assoc (Ok a) (Ok b) (Ok c) = ap Ok (append_assoc a b c)
@@ -30,17 +30,18 @@ are_names-onto_first b [] is all = rw is
 are_names-onto_first b (piece ∷ pieces) is all = rw (is, all)
 
 -- the pieces of a text without NUL have bytes of names alone
-pub are_names-split : (text : List ℕ) → list_any (λ b. b == 0) text ≡ false → are_names (slice_split (λ b. b == 47) text) ≡ true
+pub are_names-split : (text : List ℕ) → list_all is_path_byte text ≡ true → are_names (slice_split (λ b. b == 47) text) ≡ true
 are_names-split [] e = refl
-are_names-split (b ∷ text) e = by_byte (b == 47) refl (b == 0) refl (are_names-split text)
+are_names-split (b ∷ text) e =
+    let both = both_true (is_path_byte b) (list_all is_path_byte text) e in
+    by_byte (b == 47) refl both.0 (are_names-split text both.1)
   where
-    by_byte : (slash : Bool) → (b == 47) ≡ slash → (zero : Bool) → (b == 0) ≡ zero → (list_any (λ c. c == 0) text ≡ false → are_names (slice_split (λ c. c == 47) text) ≡ true)
+    by_byte : (slash : Bool) → (b == 47) ≡ slash → is_path_byte b ≡ true → are_names (slice_split (λ c. c == 47) text) ≡ true
         → are_names (slice_split (λ c. c == 47) (b ∷ text)) ≡ true
-    by_byte slash s true z below = absurd (let bad : true ≡ false = rw z at e in cc)
-    by_byte true s false z below = rw s (below (rw z at e))
-    by_byte false s false z below =
-        let is : is_name_byte b ≡ true = rw (z, s) in
-        rw s (are_names-onto_first b (slice_split (λ c. c == 47) text) is (below (rw z at e)))
+    by_byte true s is below = rw s below
+    by_byte false s is below =
+        let named : is_name_byte b ≡ true = rw (is, s) in
+        rw s (are_names-onto_first b (slice_split (λ c. c == 47) text) named below)
 
 pub piece_is_names : (pieces : List (List ℕ)) (i : ℕ) (d : List ℕ) → i < length pieces → are_names pieces ≡ true → list_all is_name_byte (get_or pieces i d) ≡ true
 piece_is_names [] i d h e = absurd (omega arith)
@@ -87,7 +88,7 @@ texts_fault f r path pieces i d text is g h cut e =
     let whole = ap names_of cut in
     rw (is, ← whole, ← (texts_more path pieces i d h e)) stays
 
-pub text_is_names : (pieces : List (Bor (List ℕ))) (i : ℕ) (d : Bor (List ℕ)) (text : List ℕ) → i < length pieces → texts pieces ≡ slice_split (λ b. b == 47) text → list_any (λ b. b == 0) text ≡ false
+pub text_is_names : (pieces : List (Bor (List ℕ))) (i : ℕ) (d : Bor (List ℕ)) (text : List ℕ) → i < length pieces → texts pieces ≡ slice_split (λ b. b == 47) text → list_all is_path_byte text ≡ true
     → list_all is_name_byte (get_or pieces i d).now ≡ true
 text_is_names pieces i d text h e none =
     rw (← (get_or-texts pieces i d)) (piece_is_names (texts pieces) i d.now (simp length-map h) (rw e (are_names-split text none)))

@@ -1,5 +1,5 @@
 -- Names of directory entries: what stands between the slashes of a path (path_resolution(7)).
-use Rattle.std.specs.Prelude.{ℕ, Bool, not, ◌&&◌, ◌||◌, ◌==◌, nat_le, nat_eq, List, ◌++◌, length, codes}
+use Rattle.std.specs.Prelude.{ℕ, Bool, not, ◌&&◌, ◌||◌, ◌==◌, nat_le, nat_lt, nat_eq, List, ◌++◌, length, codes}
 use Rattle.std.specs.List.{list_all, starts_with}
 use Rattle.std.specs.Cmp.Lexicographic.{pointwise}
 
@@ -13,7 +13,7 @@ is_dots name = same_bytes name (codes ".") || same_bytes name (codes "..")
 
 -- a byte of a name: neither NUL nor a slash
 abbrev pub is_name_byte : ℕ → Bool
-is_name_byte b = not (b == 0) && not (b == 47)
+is_name_byte b = nat_lt b 256 && not (b == 0) && not (b == 47)
 
 -- a name: 1 to 255 bytes without a slash and NUL, and neither `.` nor `..`
 abbrev pub is_name : List ℕ → Bool

@@ -1,7 +1,7 @@
 -- The path that a text spells in a configuration line or a word, or the first fault (tmpfiles.d(5),
 -- path_resolution(7)).
-use Rattle.std.specs.Prelude.{◌≡◌, ℕ, Bool, false, ◌==◌, nat_lt, List, [], ◌∷◌, ◌++◌, length, Option, Some, None, Result, Ok, Err, if◌then◌else◌}
-use Rattle.std.specs.List.{list_any, slice_split}
+use Rattle.std.specs.Prelude.{◌≡◌, ℕ, Bool, false, not, ◌&&◌, ◌==◌, nat_lt, List, [], ◌∷◌, ◌++◌, length, Option, Some, None, Result, Ok, Err, if◌then◌else◌}
+use Rattle.std.specs.List.{list_all, slice_split}
 use Rattle.std.specs.Option.{option_map_or}
 use Rattle.pv_path.specs.Names.{is_dots, is_staging}
 use Rattle.pv_path.specs.Paths.{Path}
@@ -37,11 +37,15 @@ abbrev pub begins_with_slash : List ℕ → Bool
 begins_with_slash [] = false
 begins_with_slash (b ∷ bs) = b == 47
 
+-- a byte of a text that spells a path: no NUL
+abbrev pub is_path_byte : ℕ → Bool
+is_path_byte b = nat_lt b 256 && not (b == 0)
+
 -- the path that a text spells: names between slashes, each run of slashes taken as one, the last one dropped
 abbrev pub path_of : List ℕ → Result Path PathFault
 path_of text =
     if begins_with_slash text then
-    if list_any (λ b. b == 0) text then Err fault.BadByte
+    if not (list_all is_path_byte text) then Err fault.BadByte
     else if nat_lt 4095 (length text) then Err fault.PathTooLong
     else names_of (slice_split (λ b. b == 47) text)
     else Err fault.NotAbsolute

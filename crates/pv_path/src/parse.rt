@@ -1,8 +1,8 @@
 //! From a text to the path that it spells, or its first fault.
-ghost use Rattle.std.specs.Prelude.{◌≡◌, ◌==◌, true, false, map, IfOk, OnOk, IfErr};
-ghost use Rattle.std.specs.List.{list_all, list_any, slice_split};
+ghost use Rattle.std.specs.Prelude.{◌≡◌, ◌==◌, true, map, IfOk, OnOk, IfErr};
+ghost use Rattle.std.specs.List.{list_all, slice_split};
 ghost use Rattle.pv_path.specs.Names.{is_name_byte};
-ghost use Rattle.pv_path.specs.Parsing.{Gives, joined, names_of, path_of, piece_of};
+ghost use Rattle.pv_path.specs.Parsing.{Gives, is_path_byte, joined, names_of, path_of, piece_of};
 
 use crate::fault::PathFault;
 use crate::name::{Name, is_staging};
@@ -23,7 +23,7 @@ pub fn parse_path(alloc: Global, text: &[u8]) -> Result<TreePath, PathFault>
     if text.first() != Some(&b'/') {
         return Err(PathFault::NotAbsolute);
     }
-    if text.contains(&0) {
+    if !has_path_bytes(text) {
         return Err(PathFault::BadByte);
     }
     if text.len() > MOST_TEXT_BYTES {
@@ -32,9 +32,15 @@ pub fn parse_path(alloc: Global, text: &[u8]) -> Result<TreePath, PathFault>
     parse_names(alloc, text)
 }
 
+fn has_path_bytes(text: &[u8]) -> bool
+    ensures { result ≡ list_all is_path_byte text.now }
+{
+    text.iter().all(|b| *b != 0)
+}
+
 /// The names between the slashes of a text without NUL.
 fn parse_names(alloc: Global, text: &[u8]) -> Result<TreePath, PathFault>
-    requires { list_any (λ b. b == 0) text.now ≡ false }
+    requires { list_all is_path_byte text.now ≡ true }
     ensures { Gives result (names_of (slice_split (λ b. b == 47) text.now)) }
 {
     let mut path = TreePath::root(alloc);

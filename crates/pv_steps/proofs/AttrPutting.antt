@@ -23,7 +23,7 @@ bytes_small (b ∷ bs) h =
     let first : nat_lt b 256 ≡ true = let small : b < 256 = h 0 in grind (arith, nat_tests) in
     ap (λ v. v && are_bytes bs) first ∙ bytes_small bs (λ i. h (suc i))
 
-both_yes : (a b : Bool) → a ≡ true → b ≡ true → (a && b) ≡ true
+pub both_yes : (a b : Bool) → a ≡ true → b ≡ true → (a && b) ≡ true
 both_yes a b p q = ap (λ x. x && b) p ∙ q
 
 -- bytes that are an allowed name and a short value are an attribute

@@ -14,6 +14,7 @@ use Rattle.std.proofs.lemmas.Map.Lookups.{btree_set_from_contains, exact_bytes}
 use Rattle.pv_path.specs.Paths.{Path, path_cmp, rest_under}
 use Rattle.pv_path.proofs.PathLaws.{name_cmp-refl, path_cmp-exact, rest_under-append, rest_under-Some}
 use Rattle.pv_steps.proofs.AttrOrder.{name_cmp}
+use Rattle.pv_steps.proofs.StepLaws.{tied}
 use Rattle.pv_steps.specs.declared.object.Object.{Object}
 use Rattle.pv_steps.specs.Trees.{Files, places, single, child_name, names_below}
 
@@ -46,14 +47,14 @@ path_cmp-children (k ∷ path) n m = ap (λ o. ordering_then o (path_cmp (path +
 
 -- ---- the names rise
 
-both_T : (a b : Bool) → T (a && b) → (T a) × (T b)
+pub both_T : (a b : Bool) → T (a && b) → (T a) × (T b)
 both_T true b h = (tt, h)
 both_T false b h = absurd h
 
-less : (o : Ordering) → T (is_lt o) → o ≡ Less
-less Less h = refl
-less Equal h = absurd h
-less Greater h = absurd h
+pub less_T : (o : Ordering) → T (is_lt o) → o ≡ Less
+less_T Less h = refl
+less_T Equal h = absurd h
+less_T Greater h = absurd h
 
 module _ (path : Path) where
   -- the names of children above a child are above its name
@@ -62,7 +63,7 @@ module _ (path : Path) where
   names_above k n is [] h = tt
   names_above k n is (e ∷ es) h =
       let parts = both_T (is_lt (path_cmp k e.0)) (below_all path_cmp k es) h in
-      by (names_above k n is es parts.1) (less (path_cmp k e.0) parts.0) (child_name path e.0) refl
+      by (names_above k n is es parts.1) (less_T (path_cmp k e.0) parts.0) (child_name path e.0) refl
     where
       by : AllByRecursion (λ m. name_cmp n m ≡ Less) (filter_map (child_name path) (map (λ e. e.0) es)) → path_cmp k e.0 ≡ Less → (o : Option (List ℕ)) → child_name path e.0 ≡ o
           → AllByRecursion (λ m. name_cmp n m ≡ Less) (cons_option o (filter_map (child_name path) (map (λ e. e.0) es)))
@@ -87,11 +88,6 @@ pub names_below-rise : (files : Files) (path : Path) → IsStrictlySortedBy name
 names_below-rise files path = names_rise path (fin.entries files) (fin.entries_sorted files)
 
 -- ---- the names are those of the present children
-
-tied : (o : Ordering) → is_eq o ≡ true → o ≡ Equal
-tied Less h = cc
-tied Equal h = refl
-tied Greater h = cc
 
 names_are : (path : Path) (n : List ℕ) (ks : List Path) → list_any (eq_by_cmp name_cmp n) (filter_map (child_name path) ks) ≡ list_any (eq_by_cmp path_cmp (path ++ n ∷ [])) ks
 names_are path n [] = refl

@@ -1,6 +1,6 @@
 -- Laws of objects: each change that a step makes leaves an object whole.
-use Rattle.std.specs.Prelude.{◌≡◌, ℕ, ◌/◌, ◌%◌, ◌^◌, ◌<◌, ◌≤◌, Bool, true, false, ◌&&◌, List, [], None, nat_lt}
-use Rattle.std.proofs.Common.{refl, sym, ap, subst, ◌∙◌, arith, inl, inr, ◌⊎◌, lit≤}
+use Rattle.std.specs.Prelude.{◌≡◌, ℕ, ◌/◌, ◌%◌, ◌^◌, ◌<◌, ◌≤◌, true, List, [], None, nat_lt}
+use Rattle.std.proofs.Common.{refl, sym, subst, arith, inl, inr, ◌⊎◌, lit≤}
 use Rattle.std.proofs.lemmas.Bool.Decides.{nat_tests}
 use Rattle.std.specs.List.{list_all}
 use Rattle.pv_acl.specs.declared.part.Acl.{Acl}
@@ -8,6 +8,8 @@ use Rattle.pv_acl.specs.declared.part.Part.{Part}
 use Rattle.pv_acl.specs.NamedEntries.{is_perm}
 use Rattle.pv_acl.specs.Parts as parts
 use Rattle.pv_acl.specs.Parts.{is_acl, is_part, special_of, part_of_mode, acl_of_mode}
+use Rattle.pv_path.proofs.PathLaws.{both_true}
+use Rattle.pv_steps.proofs.AttrPutting.{both_yes}
 use Rattle.pv_steps.specs.declared.attr.Attr.{Attr}
 use Rattle.pv_steps.specs.Attributes.{are_attrs}
 use Rattle.pv_steps.specs.declared.node.Kind.{Kind}
@@ -18,34 +20,22 @@ use Rattle.pv_steps.specs.Objects.{fresh, changed, modified, with_mode, with_own
 small_special : (mode : ℕ) → mode ≤ 4095 → special_of mode ≤ 7
 small_special mode h = omega arith
 
-and_first : (a b : Bool) → (a && b) ≡ true → a ≡ true
-and_first true b h = refl
-and_first false b h = h
-
-and_second : (a b : Bool) → (a && b) ≡ true → b ≡ true
-and_second true b h = h
-and_second false b h = let no : false ≡ true = h in cc
-
-and_both : (a b : Bool) → a ≡ true → b ≡ true → (a && b) ≡ true
-and_both a b p q = ap (λ x. x && b) p ∙ q
-
 small : (n : ℕ) → is_perm (n % 8) ≡ true
 small n = let h : n % 8 ≤ 7 = omega arith in grind (arith, nat_tests)
 
 is_part-with_mode : (mode : ℕ) (part : Part) → is_part part ≡ true → is_part (parts.with_mode mode part) ≡ true
 is_part-with_mode mode part h =
-    let f = and_second _ _ h in
-    let abcde = and_first _ _ h in
-    let e = and_second _ _ abcde in
-    let d = and_second _ _ (and_first _ _ abcde) in
-    and_both _ _ (and_both _ _ (and_both _ _ (and_both _ _ (and_both _ _ (small (mode / 64)) (small (mode / 8))) (small mode)) d) e) f
+    let abcdef = both_true _ _ h in
+    let abcde = both_true _ _ abcdef.0 in
+    let d = (both_true _ _ abcde.0).1 in
+    both_yes _ _ (both_yes _ _ (both_yes _ _ (both_yes _ _ (both_yes _ _ (small (mode / 64)) (small (mode / 8))) (small mode)) d) abcde.1) abcdef.1
 
 pub is_acl-with_mode : (mode : ℕ) (acl : Acl) → is_acl acl ≡ true → is_acl (record acl { access = parts.with_mode mode acl.access }) ≡ true
 is_acl-with_mode mode acl h =
-    and_both _ _ (is_part-with_mode mode acl.access (and_first _ _ h)) (and_second (is_part acl.access) _ h)
+    both_yes _ _ (is_part-with_mode mode acl.access (both_true _ _ h).0) (both_true (is_part acl.access) _ h).1
 
 is_acl-of_mode : (mode : ℕ) → is_acl (acl_of_mode mode) ≡ true
-is_acl-of_mode mode = and_both _ _ (is_part-with_mode mode (part_of_mode 0) refl) refl
+is_acl-of_mode mode = both_yes _ _ (is_part-with_mode mode (part_of_mode 0) refl) refl
 
 module _ (now : ℕ) (fits : now < 2 ^ 64) where
   pub IsObject-changed : (o : Object) → IsObject o → IsObject (changed now o)

@@ -27,7 +27,7 @@ same_files t u is = fin.same_map path_total path_exact t u is
 abbrev pub is_among : Path → List Path → Bool
 is_among path paths = list_any (eq_by_cmp path_cmp path) paths
 
-tied : (o : Ordering) → is_eq o ≡ true → o ≡ Equal
+pub tied : (o : Ordering) → is_eq o ≡ true → o ≡ Equal
 tied o e = elim o as (λ v. is_eq v ≡ true → v ≡ Equal) [ Equal ↦ λ _. refl | _ ↦ λ h. cc ] e
 
 tied_same : (p q : Path) → eq_by_cmp path_cmp p q ≡ true → p ≡ q

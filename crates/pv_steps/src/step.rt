@@ -8,7 +8,7 @@ use pv_path::{Bytes, TreePath};
 use std::alloc::AllocError;
 
 /// One atomic change of a tree. The definitions `Can` and `after` say when it may be done and what it leaves.
-#[derive(Debug, Drop)]
+#[derive(Clone, Debug, Drop)]
 pub enum Step {
     /// An empty directory with mode 0700 that root owns comes to stand at an absent path (mkdir(2)).
     MakeDir {
@@ -94,65 +94,6 @@ impl Step {
     pub fn copy(&self) -> Result<Step, AllocError>
         ensures { IfOk result (λ step. step ≡ self.now) }
     {
-        Ok(match self {
-            Step::MakeDir { path } => Step::MakeDir { path: path.copy()? },
-            Step::MakeFile { path } => Step::MakeFile { path: path.copy()? },
-            Step::MakeFifo { path } => Step::MakeFifo { path: path.copy()? },
-            Step::MakeDevice {
-                path,
-                block,
-                major,
-                minor,
-            } => Step::MakeDevice {
-                path: path.copy()?,
-                block: *block,
-                major: *major,
-                minor: *minor,
-            },
-            Step::MakeLink { path, target } => Step::MakeLink {
-                path: path.copy()?,
-                target: target.copy()?,
-            },
-            Step::Write { path, content } => Step::Write {
-                path: path.copy()?,
-                content: content.copy()?,
-            },
-            Step::SetMode { path, mode } => Step::SetMode {
-                path: path.copy()?,
-                mode: *mode,
-            },
-            Step::SetOwner { path, uid, gid } => Step::SetOwner {
-                path: path.copy()?,
-                uid: *uid,
-                gid: *gid,
-            },
-            Step::SetAcl { path, acl } => Step::SetAcl {
-                path: path.copy()?,
-                acl: acl.copy()?,
-            },
-            Step::SetAttrs { path, attrs } => Step::SetAttrs {
-                path: path.copy()?,
-                attrs: attrs.copy()?,
-            },
-            Step::SetLetters { path, letters } => Step::SetLetters {
-                path: path.copy()?,
-                letters: *letters,
-            },
-            Step::SetStamps {
-                path,
-                access,
-                modify,
-            } => Step::SetStamps {
-                path: path.copy()?,
-                access: *access,
-                modify: *modify,
-            },
-            Step::Rename { from, to } => Step::Rename {
-                from: from.copy()?,
-                to: to.copy()?,
-            },
-            Step::Unlink { path } => Step::Unlink { path: path.copy()? },
-            Step::RemoveDir { path } => Step::RemoveDir { path: path.copy()? },
-        })
+        self.clone()
     }
 }

@@ -1,3 +1,4 @@
+pub mod Characters
 pub mod FactLaws
 pub mod EscapeLaws
 pub mod SpecifierLaws

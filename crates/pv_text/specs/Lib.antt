@@ -2,4 +2,6 @@ pub mod Facts
 pub mod Escapes
 pub mod Specifiers
 pub mod Fields
+pub mod Lines
 pub mod Said
+pub mod FaultNames

@@ -1,6 +1,7 @@
 //! Why a line has no fields, and why a text has no expansion.
 ghost use Rattle.std.specs.Prelude.{◌≡◌};
 ghost use Rattle.pv_text.specs.declared.fault.ExpandFault.TheVariants.{Memory};
+ghost use Rattle.pv_text.specs.FaultNames.{expansion_name, field_name};
 
 use std::alloc::{AllocError, AllocFailed};
 use thiserror::Error;
@@ -25,6 +26,21 @@ pub enum FieldFault {
     TooFew,
 }
 
+impl FieldFault {
+    /// Its name, as messages print it, without the place. It takes no memory.
+    pub fn name(self) -> &'static [u8]
+        ensures { result.now ≡ field_name self }
+    {
+        match self {
+            FieldFault::BadByte(_) => b"BadByte",
+            FieldFault::OpenQuote(_) => b"OpenQuote",
+            FieldFault::GluedQuote(_) => b"GluedQuote",
+            FieldFault::BadEscape(_) => b"BadEscape",
+            FieldFault::TooFew => b"TooFew",
+        }
+    }
+}
+
 /// Why the specifiers of a text can't be expanded.
 #[derive(Clone, Copy, Debug, PartialEq, Eq, Error)]
 pub enum ExpandFault {
@@ -37,6 +53,19 @@ pub enum ExpandFault {
     /// Memory ran out.
     #[error("Memory")]
     Memory,
+}
+
+impl ExpandFault {
+    /// Its name, as messages print it. It takes no memory.
+    pub fn name(self) -> &'static [u8]
+        ensures { result.now ≡ expansion_name self }
+    {
+        match self {
+            ExpandFault::UnknownSpecifier => b"UnknownSpecifier",
+            ExpandFault::MissingFact => b"MissingFact",
+            ExpandFault::Memory => b"Memory",
+        }
+    }
 }
 
 impl From<AllocError> for ExpandFault {

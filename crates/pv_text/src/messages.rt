@@ -1,15 +1,17 @@
 //! The messages of a run, in the order in which they are said.
-ghost use Rattle.std.specs.Prelude.{◌≡◌, ℕ, List, [], ◌∷◌, ◌++◌, length, IfOk, OnOk, OnErr, slice_get};
+ghost use Rattle.std.specs.Prelude.{◌≡◌, ℕ, true, List, [], ◌∷◌, ◌++◌, length, IfOk, IfSome, OnOk, OnErr, slice_get};
 ghost use Rattle.std.specs.Option.{option_copied};
+ghost use Rattle.pv_text.specs.Lines.{are_lines, is_line};
 ghost use Rattle.pv_text.specs.Said.{said_at};
 
+use crate::one_line::OneLine;
 use crate::place::Place;
 use pv_path::Bytes;
 use std::alloc::{AllocError, Global};
 use std::marker::Model;
 
 /// The lines that a run says, in their order, each without the `: ` before it and the line feed
-/// after it. Clauses see the list of lines.
+/// after it. No line feed stands in a line, so that each is read again as one. Clauses see the list of lines.
 #[derive(Debug, Drop)]
 pub struct Messages {
     lines: Vec<Bytes>,
@@ -20,6 +22,8 @@ impl Model for Messages {
     ghost Value = { List (List ℕ) };
 
     ghost view = { λ m. m.lines.items };
+
+    ghost invariant = { λ m. are_lines m.lines.items ≡ true };
 }
 
 impl Messages {
@@ -35,6 +39,7 @@ impl Messages {
 
     /// Adds a line at the end. After want of memory the lines are as before.
     pub fn push(&mut self, line: &[u8]) -> Result<(), AllocError>
+        requires line { is_line line.now ≡ true }
         ensures ok { OnOk result (self.new ≡ self.old ++ line.now ∷ []) }
         ensures err { OnErr result (self.new ≡ self.old) }
     {
@@ -46,23 +51,26 @@ impl Messages {
     /// Adds what is said of the line at a place, `FILE:N: TEXT`. After want of memory the lines are as
     /// before.
     pub fn push_at(&mut self, place: &Place, text: &[u8]) -> Result<(), AllocError>
+        requires line { is_line text.now ≡ true }
         ensures ok { OnOk result (self.new ≡ self.old ++ said_at place.now text.now ∷ []) }
         ensures err { OnErr result (self.new ≡ self.old) }
     {
-        let line = line_at(self.alloc, place, text)?;
+        let line = line_at(self.alloc, &place.file, place.number, text)?;
         self.push(&line)
     }
 
-    /// How many lines there are.
+    /// How many lines there are. None holds a line feed.
     pub fn len(&self) -> usize
-        ensures { result ≡ length self.now }
+        ensures count { result ≡ length self.now }
+        ensures lines { are_lines self.now ≡ true }
     {
         self.lines.len()
     }
 
     /// The line at a place counted from 0, or nothing past the end.
     pub fn line(&self, i: usize) -> Option<&[u8]>
-        ensures { option_copied result ≡ slice_get self.now i }
+        ensures value { option_copied result ≡ slice_get self.now i }
+        ensures line { IfSome result (λ line. is_line line.now ≡ true) }
     {
         match self.lines.get(i) {
             Some(line) => Some(line.as_slice()),
@@ -72,12 +80,14 @@ impl Messages {
 }
 
 /// `FILE:N: TEXT`.
-fn line_at(alloc: Global, place: &Place, text: &[u8]) -> Result<Vec<u8>, AllocError>
-    ensures { IfOk result (λ line. line.items ≡ said_at place.now text.now) }
+fn line_at(alloc: Global, file: &OneLine, number: u32, text: &[u8]) -> Result<Vec<u8>, AllocError>
+    requires { is_line text.now ≡ true }
+    ensures text { IfOk result (λ line. line.items ≡ said_at (record { file = file.now; number = number }) text.now) }
+    ensures line { IfOk result (λ line. is_line line.items ≡ true) }
 {
-    let mut line = Vec::from_slice(alloc, place.file.as_slice())?;
+    let mut line = Vec::from_slice(alloc, file.as_slice())?;
     line.push(b':')?;
-    let number = place.number.to_string(alloc)?;
+    let number = number.to_string(alloc)?;
     line.extend_from_slice(number.as_bytes())?;
     line.extend_from_slice(b": ")?;
     line.extend_from_slice(text)?;

@@ -1,14 +1,14 @@
 //! Where a line stands: file and number.
 ghost use Rattle.std.specs.Prelude.{◌≡◌, IfOk};
 
-use pv_path::Bytes;
+use crate::one_line::OneLine;
 use std::alloc::AllocError;
 
 /// Where a line of a configuration stands.
-#[derive(Clone, Debug, Drop)]
+#[derive(Debug, Drop)]
 pub struct Place {
     /// The printed path of the file.
-    pub file: Bytes,
+    pub file: OneLine,
     /// The number of the line, counted from 1.
     pub number: u32,
 }
@@ -18,6 +18,9 @@ impl Place {
     pub fn copy(&self) -> Result<Place, AllocError>
         ensures { IfOk result (λ place. place ≡ self.now) }
     {
-        self.clone()
+        Ok(Place {
+            file: self.file.copy()?,
+            number: self.number,
+        })
     }
 }

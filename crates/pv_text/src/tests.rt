@@ -239,7 +239,7 @@ fn facts_and_messages_are_kept(rt: HostRuntime) -> Result<(), Fail> {
     assert!(rt; messages.line(1) == Some(b"stopped after 1 steps".as_slice()));
     assert!(rt; messages.line(2).is_none());
     let place = Place {
-        file: pv_path::Bytes::copy_of(rt.alloc(), b"/etc/a.conf")?,
+        file: OneLine::copy_of(rt.alloc(), b"/etc/a.conf")?,
         number: 3,
     };
     assert!(rt; place.copy()?.file.as_slice() == b"/etc/a.conf".as_slice());

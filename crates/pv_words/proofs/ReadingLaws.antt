@@ -84,7 +84,7 @@ module _ (found : Found) (rows : List Row) (parts : Parts) (are : rows_of found 
 
 abbrev options_by : Tool → (OptionName → Bool) → List (List ℕ) → Option Values → Option Options
 options_by tool stands files values =
-    if is_allowed tool stands && not (list_any is_dash files) then option_map (options_with tool stands files) values else None
+    if is_allowed tool stands files && not (list_any is_dash files) then option_map (options_with tool stands files) values else None
 
 -- values are read of the options that take one
 values-same : (f g : OptionName → Option (List ℕ)) → ((o : OptionName) → valued o ≡ true → f o ≡ g o) → values_read f ≡ values_read g
@@ -102,14 +102,14 @@ every f (x ∷ xs) h = rw (h x) (every f xs h)
 options-given : (tool : Tool) (parts : Parts) → ((o : OptionName) → nat_le (times_given parts.given o) 1 ≡ true)
     → options_by tool (is_given parts.given) parts.files (values_read (value_of parts.given)) ≡ option_and_then (options_from tool) (undashed (Some parts))
 options-given tool parts once =
-    allowed (is_allowed tool (is_given parts.given)) (list_any is_dash parts.files) read
-    ∙ dashed (list_any is_dash parts.files) (cond (is_allowed tool (is_given parts.given)) read None) from
+    allowed (is_allowed tool (is_given parts.given) parts.files) (list_any is_dash parts.files) read
+    ∙ dashed (list_any is_dash parts.files) (cond (is_allowed tool (is_given parts.given) parts.files) read None) from
   where
     read : Option Options
     read = option_map (options_with tool (is_given parts.given) parts.files) (values_read (value_of parts.given))
 
-    from : options_from tool parts ≡ cond (is_allowed tool (is_given parts.given)) read None
-    from = ap (λ (b : Bool). cond (b && is_allowed tool (is_given parts.given)) read None)
+    from : options_from tool parts ≡ cond (is_allowed tool (is_given parts.given) parts.files) read None
+    from = ap (λ (b : Bool). cond (b && is_allowed tool (is_given parts.given) parts.files) read None)
         (every (λ (o : OptionName). nat_le (times_given parts.given o) 1) all_options once)
 
     dashed : (d : Bool) (x : Option Options) → options_from tool parts ≡ x → cond d None x ≡ option_and_then (options_from tool) (cond d None (Some parts))
@@ -134,7 +134,7 @@ one_fails f o e = go (list_all f all_options) refl
 refused-twice : (tool : Tool) (parts : Parts) → Repeats parts.given → options_from tool parts ≡ None
 refused-twice tool parts repeats =
     let o = repeats.0 in
-    ap (λ (b : Bool). if b && is_allowed tool (is_given parts.given)
+    ap (λ (b : Bool). if b && is_allowed tool (is_given parts.given) parts.files
     then option_map (options_with tool (is_given parts.given) parts.files) (values_read (value_of parts.given)) else None)
     (one_fails (λ (p : OptionName). nat_le (times_given parts.given p) 1) o repeats.1)
 

@@ -1,7 +1,7 @@
 -- What the words of a command mean: a tool, its options and its file words. The options are those of
 -- systemd-tmpfiles(8) and systemd-sysusers(8) that this profile has, and its own; that an option stands at
 -- most once, and which stand together, are this profile's rules.
-use Rattle.std.specs.Prelude.{ℕ, Bool, true, not, ◌&&◌, ◌||◌, nat_le, List, [], ◌∷◌, count_by, find, Option, None, option_and_then, if◌then◌else◌}
+use Rattle.std.specs.Prelude.{ℕ, Bool, true, not, ◌&&◌, ◌||◌, nat_le, nat_lt, List, [], ◌∷◌, length, count_by, find, Option, None, option_and_then, if◌then◌else◌}
 use Rattle.std.specs.List.{list_all, list_any}
 use Rattle.std.specs.Option.{option_map}
 use Rattle.pv_text.specs.declared.tool.Tool.{Tool}
@@ -9,7 +9,7 @@ use Rattle.pv_words.specs.Table.{row_of, all_options, is_for, needed_by, same_op
 use Rattle.pv_words.specs.Values.{values_read}
 use Rattle.pv_words.specs.Parts.{parts_of}
 use Rattle.pv_words.specs.declared.option.OptionName.{OptionName}
-use Rattle.pv_words.specs.declared.option.OptionName.TheVariants.{Create, Remove, Clean, Report, Boot}
+use Rattle.pv_words.specs.declared.option.OptionName.TheVariants.{Create, Remove, Clean, Report, Purge, Boot}
 use Rattle.pv_words.specs.declared.options.Options.{Options}
 use Rattle.pv_words.specs.declared.options.Values.{Values}
 use Rattle.pv_words.specs.Pieces.{Given, Parts}
@@ -31,18 +31,23 @@ value_of given option = option_map (λ g. g.value) (find (λ g. same_option g.op
 abbrev pub stands_once : List Given → Bool
 stands_once given = list_all (λ option. nat_le (times_given given option) 1) all_options
 
--- an option that stands is for the tool, and stands without any that it excludes
-abbrev pub may_stand : Tool → (OptionName → Bool) → OptionName → Bool
-may_stand tool stands option = not (stands option) || (is_for tool option && not (list_any stands (row_of option).excludes))
+-- an option has the file word that it needs, if it needs one
+abbrev pub has_file : OptionName → List (List ℕ) → Bool
+has_file option files = not (row_of option).needs_file || nat_lt 0 (length files)
+
+-- an option that stands is for the tool, and stands without any that it excludes and with what it needs
+abbrev pub may_stand : Tool → (OptionName → Bool) → List (List ℕ) → OptionName → Bool
+may_stand tool stands files option = not (stands option)
+    || (is_for tool option && not (list_any stands (row_of option).excludes) && has_file option files)
 
 -- one of these options stands, or there are none
 abbrev pub has_needed : (OptionName → Bool) → List OptionName → Bool
 has_needed stands [] = true
 has_needed stands (option ∷ options) = list_any stands (option ∷ options)
 
--- each option may stand as it does, and one stands that the tool needs
-abbrev pub is_allowed : Tool → (OptionName → Bool) → Bool
-is_allowed tool stands = list_all (may_stand tool stands) all_options && has_needed stands (needed_by tool)
+-- each option may stand as it does beside the file words, and one stands that the tool needs
+abbrev pub is_allowed : Tool → (OptionName → Bool) → List (List ℕ) → Bool
+is_allowed tool stands files = list_all (may_stand tool stands files) all_options && has_needed stands (needed_by tool)
 
 -- the options by which of them stand, the file words and the values
 abbrev pub options_with : Tool → (OptionName → Bool) → List (List ℕ) → Values → Options
@@ -52,6 +57,7 @@ options_with tool stands files values = record {
   remove = stands Remove;
   clean = stands Clean;
   report = stands Report;
+  purge = stands Purge;
   boot = stands Boot;
   prefix = values.prefix;
   exclude_prefix = values.exclude_prefix;
@@ -64,7 +70,7 @@ options_with tool stands files values = record {
 -- is read
 abbrev pub options_from : Tool → Parts → Option Options
 options_from tool parts =
-    if stands_once parts.given && is_allowed tool (is_given parts.given)
+    if stands_once parts.given && is_allowed tool (is_given parts.given) parts.files
     then option_map (options_with tool (is_given parts.given) parts.files) (values_read (value_of parts.given))
     else None
 

@@ -51,7 +51,7 @@ files_in found = option_map_or raw_values (matched_of found (codes "files")) []
 
 -- what `clap` does not settle: tools, needs and exclusions, and that no file word is a dash
 abbrev pub is_allowed_in : Tool → Found → Bool
-is_allowed_in tool found = is_allowed tool (is_found found) && not (list_any is_dash (files_in found))
+is_allowed_in tool found = is_allowed tool (is_found found) (files_in found) && not (list_any is_dash (files_in found))
 
 -- the options and file words that the matches tell, where they are allowed and each value is read
 abbrev pub options_in : Tool → Found → Option Options

@@ -2,12 +2,12 @@
 ghost use Rattle.std.specs.Prelude.{◌≡◌, ◌&&◌};
 ghost use Rattle.std.specs.List.{list_all, list_any};
 ghost use Rattle.clap.specs.Matches.{found_of};
-ghost use Rattle.pv_words.specs.Meaning.{has_needed, may_stand};
-ghost use Rattle.pv_words.specs.Reading.{is_allowed_in, is_found};
+ghost use Rattle.pv_words.specs.Meaning.{has_file, has_needed, may_stand};
+ghost use Rattle.pv_words.specs.Reading.{files_in, is_allowed_in, is_found};
 ghost use Rattle.pv_words.specs.Table.{all_options, needed_by, suffices_for};
 
 use crate::option::{OptionName, all_options};
-use crate::reading::{has_dash, is_given};
+use crate::reading::{has_dash, has_file_words, is_given};
 use clap::ArgMatches;
 use pv_text::Tool;
 
@@ -18,11 +18,21 @@ fn is_any_given(matches: &ArgMatches<'_>, options: &[OptionName]) -> bool
     options.iter().any(|option| is_given(matches, *option))
 }
 
+/// Whether an option has the file word that it needs, if it needs one.
+fn has_file(matches: &ArgMatches<'_>, option: OptionName) -> bool
+    ensures { result ≡ has_file option (files_in (found_of matches.now)) }
+{
+    !option.needs_file() || has_file_words(matches)
+}
+
 /// Whether an option may stand as it does.
 fn may_stand(tool: Tool, matches: &ArgMatches<'_>, option: OptionName) -> bool
-    ensures { result ≡ may_stand tool (is_found (found_of matches.now)) option }
+    ensures { result ≡ may_stand tool (is_found (found_of matches.now)) (files_in (found_of matches.now)) option }
 {
-    !is_given(matches, option) || (option.is_for(tool) && !is_any_given(matches, option.excludes()))
+    !is_given(matches, option)
+        || (option.is_for(tool)
+            && !is_any_given(matches, option.excludes())
+            && has_file(matches, option))
 }
 
 /// Whether the options may stand together, one stands that the tool needs, and no file word is one dash.
@@ -34,7 +44,7 @@ pub(crate) fn is_allowed(tool: Tool, matches: &ArgMatches<'_>) -> bool
 
 /// Whether each option may stand as it does.
 fn each_may_stand(tool: Tool, matches: &ArgMatches<'_>) -> bool
-    ensures { result ≡ list_all (may_stand tool (is_found (found_of matches.now))) all_options }
+    ensures { result ≡ list_all (may_stand tool (is_found (found_of matches.now)) (files_in (found_of matches.now))) all_options }
 {
     all_options()
         .iter()

@@ -1,7 +1,7 @@
 //! The option table: a row for each option.
 ghost use Rattle.std.specs.Prelude.{◌≡◌};
 ghost use Rattle.pv_words.specs.Table.{Row as RowValue};
-ghost use Rattle.pv_words.specs.Table.{all_options, is_flag, is_for, of_both, of_tmpfiles, row_of, suffices_for, takes_value, tool_named};
+ghost use Rattle.pv_words.specs.Table.{all_options, is_flag, is_for, of_both, of_tmpfiles, row_of, suffices_for, takes_value, tool_named, with_file};
 
 use pv_text::Tool;
 use std::marker::Model;
@@ -13,6 +13,7 @@ pub(crate) enum OptionName {
     Remove,
     Clean,
     Report,
+    Purge,
     Boot,
     Prefix,
     ExcludePrefix,
@@ -48,6 +49,8 @@ struct Row<'a> {
     suffices: bool,
     /// The options beside which it may not stand.
     excludes: &'a [OptionName],
+    /// Whether it needs a file word.
+    needs_file: bool,
 }
 
 impl<'a> Model for Row<'a> {
@@ -60,15 +63,17 @@ impl<'a> Model for Row<'a> {
       reader = r.reader;
       suffices = r.suffices;
       excludes = r.excludes.now;
+      needs_file = r.needs_file;
     } };
 }
 
 /// All options of the table.
-const ALL_OPTIONS: [OptionName; 9] = [
+const ALL_OPTIONS: [OptionName; 10] = [
     OptionName::Create,
     OptionName::Remove,
     OptionName::Clean,
     OptionName::Report,
+    OptionName::Purge,
     OptionName::Boot,
     OptionName::Prefix,
     OptionName::ExcludePrefix,
@@ -93,6 +98,7 @@ impl<'a> Row<'a> {
             reader,
             suffices,
             excludes,
+            needs_file: false,
         }
     }
 
@@ -107,12 +113,22 @@ impl<'a> Row<'a> {
             reader,
             suffices,
             excludes,
+            needs_file: false,
         }
+    }
+
+    /// The same row, for an option that needs a file word.
+    fn with_file(mut self) -> Row<'a>
+        ensures { result ≡ with_file self.entry }
+    {
+        self.needs_file = true;
+        self
     }
 }
 
 impl OptionName {
-    /// The row of the option: its name, its reader, whether it suffices, and what it excludes.
+    /// The row of the option: its name, its reader, whether it suffices, what it excludes, and whether it needs a
+    /// file word.
     fn row<'a>(self) -> Row<'a>
         ensures { result ≡ row_of self }
     {
@@ -131,6 +147,18 @@ impl OptionName {
                     OptionName::StopAfter,
                 ],
             ),
+            OptionName::Purge => Row::of_tmpfiles(
+                "purge",
+                Reader::Flag,
+                true,
+                &[
+                    OptionName::Create,
+                    OptionName::Remove,
+                    OptionName::Clean,
+                    OptionName::Report,
+                ],
+            )
+            .with_file(),
             OptionName::Boot => Row::of_tmpfiles("boot", Reader::Flag, false, &[]),
             OptionName::Prefix => Row::of_tmpfiles("prefix", Reader::PathOf, false, &[]),
             OptionName::ExcludePrefix => {
@@ -178,6 +206,13 @@ impl OptionName {
     {
         self.row().excludes
     }
+
+    /// Whether the option needs a file word.
+    pub(crate) fn needs_file(self) -> bool
+        ensures { result ≡ (row_of self).needs_file }
+    {
+        self.row().needs_file
+    }
 }
 
 /// Whether a reader is the one of flags.
@@ -188,7 +223,7 @@ fn is_flag(reader: Reader) -> bool
 }
 
 /// All options of the table.
-pub(crate) fn all_options() -> [OptionName; 9]
+pub(crate) fn all_options() -> [OptionName; 10]
     ensures { result ≡ all_options }
 {
     ALL_OPTIONS

@@ -30,6 +30,8 @@ pub struct Options {
     pub clean: bool,
     /// `--report`
     pub report: bool,
+    /// `--purge`
+    pub purge: bool,
     /// `--boot`
     pub boot: bool,
     /// `--prefix`, a path
@@ -108,6 +110,7 @@ fn options_with(tool: Tool, matches: &ArgMatches<'_>, words: WordList, values: V
         remove: is_given(matches, OptionName::Remove),
         clean: is_given(matches, OptionName::Clean),
         report: is_given(matches, OptionName::Report),
+        purge: is_given(matches, OptionName::Purge),
         boot: is_given(matches, OptionName::Boot),
         prefix: values.prefix,
         exclude_prefix: values.exclude_prefix,

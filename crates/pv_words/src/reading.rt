@@ -1,5 +1,5 @@
 //! What `clap` reads from the words after the tool.
-ghost use Rattle.std.specs.Prelude.{◌≡◌, IfOk, map, string_bytes};
+ghost use Rattle.std.specs.Prelude.{◌≡◌, IfOk, length, map, nat_lt, string_bytes};
 ghost use Rattle.std.specs.List.{list_any};
 ghost use Rattle.std.specs.Option.{option_map};
 ghost use Rattle.clap.specs.Matches.{found_of};
@@ -113,6 +113,16 @@ fn words_of(alloc: Global, texts: &[&str]) -> Result<WordList, AllocError>
         words.push(Bytes::copy_of(alloc, text.as_bytes())?)?;
     }
     Ok(words)
+}
+
+/// Whether there is a file word.
+pub(crate) fn has_file_words(matches: &ArgMatches<'_>) -> bool
+    ensures { result ≡ nat_lt 0 (length (files_in (found_of matches.now))) }
+{
+    match matches.get_strs("files") {
+        Some(files) => !files.is_empty(),
+        None => false,
+    }
 }
 
 /// Whether a file word is one dash.

@@ -15,7 +15,7 @@ fn words_of(alloc: Global, line: &str) -> Result<Vec<String>, Fail> {
 }
 
 /// Lines of words that mean nothing to any tool.
-const MEANINGLESS: [&str; 27] = [
+const MEANINGLESS: [&str; 33] = [
     "",
     "systemd-tmpfiles",
     "systemd-foo",
@@ -25,6 +25,12 @@ const MEANINGLESS: [&str; 27] = [
     "systemd-tmpfiles --report --remove",
     "systemd-tmpfiles --report --clean",
     "systemd-tmpfiles --report --stop-after=1",
+    "systemd-tmpfiles --purge",
+    "systemd-tmpfiles --purge a.conf --create",
+    "systemd-tmpfiles --remove --purge a.conf",
+    "systemd-tmpfiles --purge --clean a.conf",
+    "systemd-tmpfiles --purge --report a.conf",
+    "systemd-sysusers --purge a.conf",
     "systemd-tmpfiles --create --stop-after=x",
     "systemd-tmpfiles --create --stop-after=+1",
     "systemd-tmpfiles --create --stop-after=",
@@ -67,9 +73,10 @@ fn reads_each_option(rt: HostRuntime) -> Result<(), Fail> {
         options.remove,
         options.clean,
         options.report,
+        options.purge,
         options.boot,
     ];
-    assert_eq!(rt; flags, [true, false, true, false, true]);
+    assert_eq!(rt; flags, [true, false, true, false, false, true]);
     assert_eq!(rt; options.stop_after, Some(7));
     assert_eq!(rt; options.now, Some(1_000_000_000_000));
     for (path, want) in [
@@ -90,21 +97,35 @@ fn reads_each_option(rt: HostRuntime) -> Result<(), Fail> {
 }
 
 #[test]
-fn reads_a_report_alone(rt: HostRuntime) -> Result<(), Fail> {
-    let words = words_of(rt.alloc(), "systemd-tmpfiles --report")?;
-    let options = options_of(rt.alloc(), words.as_slice())?;
-    assert_eq!(rt; options.tool, Tool::Tmpfiles);
-    let flags = [
-        options.create,
-        options.remove,
-        options.clean,
-        options.report,
-        options.boot,
-    ];
-    assert_eq!(rt; flags, [false, false, false, true, false]);
-    assert_eq!(rt; options.stop_after, None);
-    assert_eq!(rt; options.now, None);
-    assert_eq!(rt; options.words.len(), 0);
+fn reads_what_stands_alone(rt: HostRuntime) -> Result<(), Fail> {
+    for (line, wanted, files) in [
+        (
+            "systemd-tmpfiles --report",
+            [false, false, false, true, false, false],
+            0,
+        ),
+        (
+            "systemd-tmpfiles a.conf --boot --purge b.conf",
+            [false, false, false, false, true, true],
+            2,
+        ),
+    ] {
+        let words = words_of(rt.alloc(), line)?;
+        let options = options_of(rt.alloc(), words.as_slice())?;
+        assert_eq!(rt; options.tool, Tool::Tmpfiles);
+        let flags = [
+            options.create,
+            options.remove,
+            options.clean,
+            options.report,
+            options.purge,
+            options.boot,
+        ];
+        assert_eq!(rt; flags, wanted, "at {line}");
+        assert_eq!(rt; options.stop_after, None);
+        assert_eq!(rt; options.now, None);
+        assert_eq!(rt; options.words.len(), files, "at {line}");
+    }
     Ok(())
 }
 

@@ -1,0 +1,61 @@
+//! Texts without a line feed.
+ghost use Rattle.std.specs.Prelude.{◌≡◌, ℕ, true, List, IfOk};
+ghost use Rattle.pv_path.specs.Printing.{printed_path};
+ghost use Rattle.pv_text.specs.Lines.{is_line};
+
+use pv_path::{Bytes, TreePath, print_path};
+use std::alloc::{AllocError, Global};
+use std::marker::Model;
+
+/// A text in which no line feed stands, so that what is said of it is one line. Clauses see its bytes.
+#[derive(Debug, Drop)]
+pub struct OneLine {
+    bytes: Bytes,
+}
+
+impl Model for OneLine {
+    ghost Value = { List ℕ };
+
+    ghost view = { λ text. text.bytes };
+
+    ghost invariant = { λ text. is_line text.bytes ≡ true };
+}
+
+impl OneLine {
+    /// A text that has one line, copied.
+    pub fn copy_of(alloc: Global, text: &[u8]) -> Result<OneLine, AllocError>
+        requires { is_line text.now ≡ true }
+        ensures { IfOk result (λ copy. copy ≡ text.now) }
+    {
+        Ok(OneLine {
+            bytes: Bytes::copy_of(alloc, text)?,
+        })
+    }
+
+    /// A path as messages print it.
+    pub fn of_path(alloc: Global, path: &TreePath) -> Result<OneLine, AllocError>
+        ensures { IfOk result (λ text. text ≡ printed_path path.now) }
+    {
+        let text = print_path(alloc, path)?;
+        Ok(OneLine {
+            bytes: Bytes::from_vec(text),
+        })
+    }
+
+    /// The same text once more.
+    pub fn copy(&self) -> Result<OneLine, AllocError>
+        ensures { IfOk result (λ copy. copy ≡ self.now) }
+    {
+        Ok(OneLine {
+            bytes: self.bytes.copy()?,
+        })
+    }
+
+    /// The bytes of the text.
+    pub fn as_slice(&self) -> &[u8]
+        ensures value { result.now ≡ self.now }
+        ensures line { is_line self.now ≡ true }
+    {
+        self.bytes.as_slice()
+    }
+}
