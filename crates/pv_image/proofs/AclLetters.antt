@@ -14,7 +14,7 @@ use Rattle.pv_acl.specs.NamedEntries.{id_of, is_id, is_named, is_ordered, is_per
 use Rattle.pv_acl.specs.Parts.{is_acl, is_part}
 use Rattle.pv_acl.specs.Texts.{access_texts, default_texts, is_group, is_user, letter, mask_texts, named_text, part_texts, perm_text, who_text}
 use Rattle.pv_path.proofs.PathLaws.{both_true}
-use Rattle.pv_image.proofs.Characters.{all_append, all_weaker, both_yes, digits_alone, is_digit}
+use Rattle.pv_text.proofs.Characters.{all_append, all_weaker, both_yes, digits_alone, is_digit}
 
 pub id_fits : (id : ℕ) → is_id id ≡ true → id < 2 ^ 64
 id_fits id e = grind (arith, nat_tests)

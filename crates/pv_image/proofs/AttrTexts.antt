@@ -1,5 +1,5 @@
 -- Extended attributes are read back in one way.
-use Rattle.std.proofs.Common.{◌≡◌, ◌≢◌, ℕ, zero, suc, ◌+◌, ◌-◌, ◌<◌, ◌≤◌, Bool, true, false, not, ◌&&◌, ◌||◌, ◌==◌, nat_le, nat_lt, List, [], ◌∷◌, ◌++◌, length, get_or, take, drop, map, codes, Option, Some, None, refl, sym, ap, ◌∙◌, subst, arith, append_assoc, append-nil, Bor}
+use Rattle.std.proofs.Common.{◌≡◌, ◌≢◌, ℕ, zero, suc, ◌+◌, ◌-◌, ◌<◌, ◌≤◌, Bool, true, false, not, ◌&&◌, ◌==◌, nat_le, nat_lt, List, [], ◌∷◌, ◌++◌, length, get_or, take, drop, map, codes, Option, Some, None, refl, sym, ap, ◌∙◌, subst, arith, append_assoc, append-nil, Bor}
 use Rattle.std.specs.Prelude.{slice_get}
 use Rattle.std.specs.List.{flat_map, list_all, slice_split, join_with_byte}
 use Rattle.std.proofs.lemmas.Bool.Decides.{nat_tests}
@@ -13,21 +13,15 @@ use Rattle.pv_steps.specs.declared.node.Kind.TheVariants.{Directory, File, Link,
 use Rattle.pv_steps.specs.Attributes.{all_before, are_attrs, comes_before, is_attr, is_attr_name, is_ordered}
 use Rattle.pv_steps.specs.Objects.{AttrsFit}
 use Rattle.pv_steps.proofs.AttrOrder.{before_trans, is_ordered-push}
-use Rattle.pv_image.specs.Spelling.{attr_text, attr_texts, attrs_text, are_bytes, is_plain_in_attr, lacks}
+use Rattle.pv_image.specs.Spelling.{attr_text, attr_texts, attrs_text, are_bytes, is_plain_in_attr}
+use Rattle.pv_text.specs.Lines.{lacks}
 use Rattle.pv_image.specs.Reading.{AreAttrs, IsAttr, IsByteText, Reads, texts}
-use Rattle.pv_image.proofs.Characters.{all_append, all_back, all_joined, both_yes, printed_all}
+use Rattle.pv_text.proofs.Characters.{all_append, all_back, all_joined, both_yes, hex_lacks, plain_lacks, printed_all}
 use Rattle.pv_image.proofs.Cutting.{are_apart, split_join}
 use Rattle.pv_image.proofs.Paths.{get_or-texts}
 use Rattle.pv_image.proofs.Printing.{printed_by-injective}
 
 -- ---- what the hidden bytes are for
-
-hex_lacks : (c : ℕ) → nat_lt c 48 ≡ true → (d : ℕ) → not (hex_digit d == c) ≡ true
-hex_lacks c low d = by_test (nat_lt d 10) refl
-  where
-    by_test : (t : Bool) → nat_lt d 10 ≡ t → not (hex_digit d == c) ≡ true
-    by_test true e = rw e (grind (arith, nat_tests))
-    by_test false e = rw e (grind (arith, nat_tests))
 
 hex_no_equals : (d : ℕ) → not (hex_digit d == 61) ≡ true
 hex_no_equals d = by_test (nat_lt d 10) refl
@@ -36,24 +30,11 @@ hex_no_equals d = by_test (nat_lt d 10) refl
     by_test true e = rw e (grind (arith, nat_tests))
     by_test false e = rw e (grind (arith, nat_tests))
 
-or_yes : (t : Bool) → (not t || true) ≡ true
-or_yes true = refl
-or_yes false = refl
-
--- a plain byte of an attribute is no hidden one
-plain_lacks : (c : ℕ) → is_plain_in_attr c ≡ false → (bytes : List ℕ) → list_all (λ b. not (is_plain_in_attr b) || not (b == c)) bytes ≡ true
-plain_lacks c hidden [] = refl
-plain_lacks c hidden (b ∷ bytes) = both_yes (not (is_plain_in_attr b) || not (b == c)) (list_all (λ x. not (is_plain_in_attr x) || not (x == c)) bytes) (by_test (b == c) refl) (plain_lacks c hidden bytes)
-  where
-    by_test : (t : Bool) → (b == c) ≡ t → (not (is_plain_in_attr b) || not (b == c)) ≡ true
-    by_test true e = let same : b ≡ c = grind (arith, nat_tests) in let none : is_plain_in_attr b ≡ false = ap is_plain_in_attr same ∙ hidden in ap (λ (t : Bool). not t || not (b == c)) none
-    by_test false e = rw e (or_yes (is_plain_in_attr b))
-
 no_comma : (bytes : List ℕ) → lacks 44 (printed_by is_plain_in_attr bytes) ≡ true
-no_comma bytes = printed_all is_plain_in_attr (λ b. not (b == 44)) refl refl (hex_lacks 44 refl) bytes (plain_lacks 44 refl bytes)
+no_comma bytes = printed_all is_plain_in_attr (λ b. not (b == 44)) refl refl (hex_lacks 44 refl) bytes (plain_lacks is_plain_in_attr 44 refl bytes)
 
 no_equals : (bytes : List ℕ) → lacks 61 (printed_by is_plain_in_attr bytes) ≡ true
-no_equals bytes = printed_all is_plain_in_attr (λ b. not (b == 61)) refl refl hex_no_equals bytes (plain_lacks 61 refl bytes)
+no_equals bytes = printed_all is_plain_in_attr (λ b. not (b == 61)) refl refl hex_no_equals bytes (plain_lacks is_plain_in_attr 61 refl bytes)
 
 -- ---- one attribute
 

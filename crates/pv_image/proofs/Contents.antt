@@ -13,7 +13,7 @@ use Rattle.pv_steps.specs.declared.node.Kind.{Kind}
 use Rattle.pv_steps.specs.declared.node.Kind.TheVariants.{Directory, File, Link, Fifo, CharDevice, BlockDevice}
 use Rattle.pv_image.specs.Spelling.{IsPayload, are_bytes, content_text, numbers_text, payload_text}
 use Rattle.pv_image.specs.Reading.{AreNumbers, IsByteTarget, IsByteText, Reads, of_bytes, of_numbers}
-use Rattle.pv_image.proofs.Characters.{all_append, both_yes}
+use Rattle.pv_text.proofs.Characters.{all_append, both_yes}
 
 -- ---- bytes, by index and as a test
 

@@ -1,38 +1,18 @@
 -- Texts that are cut at a byte, and texts that are joined by it.
-use Rattle.std.proofs.Common.{◌≡◌, ℕ, Bool, true, false, not, ◌==◌, List, [], ◌∷◌, ◌++◌, Option, Some, None, refl, sym, ap, ◌∙◌, arith}
+use Rattle.std.proofs.Common.{◌≡◌, ℕ, Bool, true, ◌==◌, List, [], ◌∷◌, Option, Some, None, sym, ap, ◌∙◌}
 use Rattle.std.specs.List.{list_all, slice_split, join_with_byte}
 use Rattle.std.proofs.lemmas.List.Splits.{join_with_byte-slice_split}
+use Rattle.pv_acl.proofs.Splitting.{split_at, split_none}
 use Rattle.pv_path.proofs.PathLaws.{both_true}
-use Rattle.pv_image.specs.Spelling.{lacks}
+use Rattle.pv_text.specs.Lines.{lacks}
 use Rattle.pv_image.specs.Reading.{Reads}
-
-not_is : (b : Bool) → not b ≡ true → b ≡ false
-not_is true e = cc
-not_is false e = refl
-
--- what has no such byte is one piece
-pub split_lacks : (c : ℕ) (text : List ℕ) → lacks c text ≡ true → slice_split (λ b. b == c) text ≡ text ∷ []
-split_lacks c [] e = refl
-split_lacks c (x ∷ text) e =
-    let parts = both_true (not (x == c)) (lacks c text) e in
-    rw (not_is (x == c) parts.0, split_lacks c text parts.1) refl
-
-same_byte : (c : ℕ) → (c == c) ≡ true
-same_byte c = grind arith
-
--- the first piece ends at the first such byte
-pub split_at : (c : ℕ) (text rest : List ℕ) → lacks c text ≡ true → slice_split (λ b. b == c) (text ++ c ∷ rest) ≡ text ∷ slice_split (λ b. b == c) rest
-split_at c [] rest e = rw (same_byte c) refl
-split_at c (x ∷ text) rest e =
-    let parts = both_true (not (x == c)) (lacks c text) e in
-    rw (not_is (x == c) parts.0, split_at c text rest parts.1) refl
 
 abbrev pub are_apart : ℕ → List (List ℕ) → Bool
 are_apart c pieces = list_all (lacks c) pieces
 
 -- pieces without the byte are found again after they were joined by it
 pub split_join : (c : ℕ) (piece : List ℕ) (pieces : List (List ℕ)) → are_apart c (piece ∷ pieces) ≡ true → slice_split (λ b. b == c) (join_with_byte c (piece ∷ pieces)) ≡ piece ∷ pieces
-split_join c piece [] e = split_lacks c piece (both_true (lacks c piece) true e).0
+split_join c piece [] e = split_none c piece (both_true (lacks c piece) true e).0
 split_join c piece (next ∷ pieces) e =
     let parts = both_true (lacks c piece) (are_apart c (next ∷ pieces)) e in
     split_at c piece (join_with_byte c (next ∷ pieces)) parts.0 ∙ ap (λ (ps : List (List ℕ)). piece ∷ ps) (split_join c next pieces parts.1)

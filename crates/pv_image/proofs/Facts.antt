@@ -6,7 +6,8 @@ use Rattle.pv_path.proofs.PathLaws.{both_true}
 use Rattle.pv_path.specs.Printing.{printed}
 use Rattle.pv_text.specs.Facts.{fact_letters, is_fact_letter, is_fact_value}
 use Rattle.pv_image.specs.Spelling.{are_bytes, fact_text, fact_texts}
-use Rattle.pv_image.specs.Images.{IsByteFact, is_line}
+use Rattle.pv_text.specs.Lines.{is_line}
+use Rattle.pv_image.specs.Images.{IsByteFact}
 use Rattle.pv_image.proofs.Cutting.{split_join}
 use Rattle.pv_image.proofs.Solid.{AllSolid, is_solid, pieces_apart, pieces_whole, printed_solid}
 

@@ -3,8 +3,8 @@ use Rattle.std.proofs.Common.{◌≡◌, ℕ, suc, ◌+◌, ◌-◌, ◌<◌, �
 use Rattle.std.specs.List.{position, prefix_len}
 use Rattle.std.proofs.lemmas.List.{take_rest}
 use Rattle.std.proofs.lemmas.Bool.Decides.{nat_tests}
-use Rattle.pv_image.specs.Spelling.{lacks}
-use Rattle.pv_image.specs.Images.{IsCut, is_line}
+use Rattle.pv_text.specs.Lines.{is_line, lacks}
+use Rattle.pv_image.specs.Images.{IsCut}
 
 abbrev front : List ℕ → ℕ
 front bytes = prefix_len (λ b. not (b == 10)) bytes

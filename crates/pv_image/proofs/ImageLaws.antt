@@ -14,24 +14,26 @@ use Rattle.pv_steps.specs.Objects.{is_directory}
 use Rattle.pv_steps.specs.declared.node.Kind.TheVariants.{Directory}
 use Rattle.pv_steps.specs.declared.object.Object.{Object}
 use Rattle.pv_steps.specs.Trees.{Files, IsTree, kind_of, places}
+use Rattle.pv_steps.proofs.NameLaws.{both_T, less_T}
 use Rattle.pv_text.specs.Facts.{Values}
 use Rattle.pv_image.specs.Spelling.{IsEntry, Shows, end_text, extras_of, fact_text, header_text, line, node_text, old_text_of, text_in, text_of}
-use Rattle.pv_image.specs.Images.{HasFault, cut_off, misspelt, misplaced, later, HasImageFault, HaveText, IsCut, IsImage, Spells, Stage, Before, InFacts, InNodes, After, What, Note, Header, Fact, Node, End, are_byte_names, follows, has_parent, is_byte_fact, is_line, is_note, is_root, judged}
+use Rattle.pv_text.specs.Lines.{is_line}
+use Rattle.pv_image.specs.Images.{HasFault, cut_off, misspelt, misplaced, later, HasImageFault, HaveText, IsCut, IsImage, Spells, Stage, Before, InFacts, InNodes, After, What, Note, Header, Fact, Node, End, are_byte_names, follows, has_parent, is_byte_fact, is_note, is_root, judged}
 use Rattle.pv_image.specs.Progress.{Fails}
 use Rattle.pv_image.specs.declared.fault.ImageFault.{ImageFault}
 use Rattle.pv_image.specs.declared.fault.ImageFault.TheVariants as fault
 use Rattle.pv_image.specs.declared.version.Version.{Version}
 use Rattle.pv_image.specs.declared.version.Version.TheVariants.{One, Two}
-use Rattle.pv_image.proofs.Characters.{all_append, all_back, both_yes}
+use Rattle.pv_text.proofs.Characters.{all_append, all_back, both_yes}
 use Rattle.pv_image.proofs.Facts.{fact_whole}
-use Rattle.pv_image.proofs.Order.{any_dir, dir_at, first_of_T, less_true, second_of_T, turned}
+use Rattle.pv_image.proofs.Order.{any_dir, dir_at, turned}
 use Rattle.pv_image.proofs.Solid.{node_whole}
 use Rattle.pv_image.proofs.Stages.{one_cut, same_version-self}
 use Rattle.pv_image.proofs.OnceLine.{spells_once}
 
-both_T : (a b : Bool) → T a → T b → T (a && b)
-both_T true b p q = q
-both_T false b p q = p
+held_both : (a b : Bool) → T a → T b → T (a && b)
+held_both true b p q = q
+held_both false b p q = p
 
 -- ---- one line on
 
@@ -67,46 +69,46 @@ first_cut text rest e = record { bytes_are = refl; whole = e }
 
 module _ {K X : Type 0} (R : K → K → Ordering) where
   below_back : (k : K) (done : List (K × X)) (e : K × X) (es : List (K × X)) → T (below_all R k (done ++ e ∷ es)) → R k e.0 ≡ Less
-  below_back k [] e es h = less_true (R k e.0) (first_of_T (is_lt (R k e.0)) (below_all R k es) h)
-  below_back k (x ∷ done) e es h = below_back k done e es (second_of_T (is_lt (R k x.0)) (below_all R k (done ++ e ∷ es)) h)
+  below_back k [] e es h = less_T (R k e.0) (both_T (is_lt (R k e.0)) (below_all R k es) h).0
+  below_back k (x ∷ done) e es h = below_back k done e es (both_T (is_lt (R k x.0)) (below_all R k (done ++ e ∷ es)) h).1
 
   -- the next entry follows those before it
   follows_sorted : (done : List (K × X)) (e : K × X) (es : List (K × X)) → T (fin.is_sorted R (done ++ e ∷ es)) → follows R done e.0 ≡ true
   follows_sorted [] e es h = refl
-  follows_sorted (x ∷ []) e es h = ap is_lt (below_back x.0 [] e es (first_of_T (below_all R x.0 (e ∷ es)) (fin.is_sorted R (e ∷ es)) h))
-  follows_sorted (x ∷ y ∷ done) e es h = follows_sorted (y ∷ done) e es (second_of_T (below_all R x.0 (y ∷ done ++ e ∷ es)) (fin.is_sorted R (y ∷ done ++ e ∷ es)) h)
+  follows_sorted (x ∷ []) e es h = ap is_lt (below_back x.0 [] e es (both_T (below_all R x.0 (e ∷ es)) (fin.is_sorted R (e ∷ es)) h).0)
+  follows_sorted (x ∷ y ∷ done) e es h = follows_sorted (y ∷ done) e es (both_T (below_all R x.0 (y ∷ done ++ e ∷ es)) (fin.is_sorted R (y ∷ done ++ e ∷ es)) h).1
 
   below_front : (k : K) (done es : List (K × X)) → T (below_all R k (done ++ es)) → T (below_all R k done)
   below_front k [] es h = tt
-  below_front k (x ∷ done) es h = both_T (is_lt (R k x.0)) (below_all R k done) (first_of_T (is_lt (R k x.0)) (below_all R k (done ++ es)) h) (below_front k done es (second_of_T (is_lt (R k x.0)) (below_all R k (done ++ es)) h))
+  below_front k (x ∷ done) es h = held_both (is_lt (R k x.0)) (below_all R k done) (both_T (is_lt (R k x.0)) (below_all R k (done ++ es)) h).0 (below_front k done es (both_T (is_lt (R k x.0)) (below_all R k (done ++ es)) h).1)
 
   sorted_front : (done es : List (K × X)) → T (fin.is_sorted R (done ++ es)) → T (fin.is_sorted R done)
   sorted_front [] es h = tt
   sorted_front (x ∷ done) es h =
-      both_T (below_all R x.0 done) (fin.is_sorted R done) (below_front x.0 done es (first_of_T (below_all R x.0 (done ++ es)) (fin.is_sorted R (done ++ es)) h))
-      (sorted_front done es (second_of_T (below_all R x.0 (done ++ es)) (fin.is_sorted R (done ++ es)) h))
+      held_both (below_all R x.0 done) (fin.is_sorted R done) (below_front x.0 done es (both_T (below_all R x.0 (done ++ es)) (fin.is_sorted R (done ++ es)) h).0)
+      (sorted_front done es (both_T (below_all R x.0 (done ++ es)) (fin.is_sorted R (done ++ es)) h).1)
 
   module _ (o : IsTotalOrder R) where
     -- an entry is found at its key
     find_at : (done : List (K × X)) (e : K × X) (es : List (K × X)) → T (fin.is_sorted R (done ++ e ∷ es)) → fin.find R e.0 (done ++ e ∷ es) ≡ Some e.1
     find_at [] e es h = rw (tied_itself o e.0) refl
     find_at (x ∷ done) e es h =
-        let less : R x.0 e.0 ≡ Less = below_back x.0 done e es (first_of_T (below_all R x.0 (done ++ e ∷ es)) (fin.is_sorted R (done ++ e ∷ es)) h) in
+        let less : R x.0 e.0 ≡ Less = below_back x.0 done e es (both_T (below_all R x.0 (done ++ e ∷ es)) (fin.is_sorted R (done ++ e ∷ es)) h).0 in
         let greater : R e.0 x.0 ≡ Greater = turned o x.0 e.0 (ap is_lt less) in
-        rw greater (find_at done e es (second_of_T (below_all R x.0 (done ++ e ∷ es)) (fin.is_sorted R (done ++ e ∷ es)) h))
+        rw greater (find_at done e es (both_T (below_all R x.0 (done ++ e ∷ es)) (fin.is_sorted R (done ++ e ∷ es)) h).1)
 
     find_below : (q k : K) (es : List (K × X)) → R q k ≡ Less → T (below_all R k es) → fin.find R q es ≡ None
     find_below q k [] less h = refl
     find_below q k (x ∷ es) less h =
-        let next : R k x.0 ≡ Less = less_true (R k x.0) (first_of_T (is_lt (R k x.0)) (below_all R k es) h) in
+        let next : R k x.0 ≡ Less = less_T (R k x.0) (both_T (is_lt (R k x.0)) (below_all R k es) h).0 in
         let far : R q x.0 ≡ Less = o.trans q k x.0 less next in
-        rw far (find_below q k es less (second_of_T (is_lt (R k x.0)) (below_all R k es) h))
+        rw far (find_below q k es less (both_T (is_lt (R k x.0)) (below_all R k es) h).1)
 
     -- what is less than an entry is found before it
     find_front : (q : K) (done : List (K × X)) (e : K × X) (es : List (K × X)) → T (fin.is_sorted R (done ++ e ∷ es)) → R q e.0 ≡ Less → fin.find R q (done ++ e ∷ es) ≡ fin.find R q done
-    find_front q [] e es h less = rw less (find_below q e.0 es less (first_of_T (below_all R e.0 es) (fin.is_sorted R es) h))
+    find_front q [] e es h less = rw less (find_below q e.0 es less (both_T (below_all R e.0 es) (fin.is_sorted R es) h).0)
     find_front q (x ∷ done) e es h less =
-        ap (cond (eq_by_cmp R q x.0) (Some x.1)) (find_front q done e es (second_of_T (below_all R x.0 (done ++ e ∷ es)) (fin.is_sorted R (done ++ e ∷ es)) h) less)
+        ap (cond (eq_by_cmp R q x.0) (Some x.1)) (find_front q done e es (both_T (below_all R x.0 (done ++ e ∷ es)) (fin.is_sorted R (done ++ e ∷ es)) h).1 less)
 
 -- ---- trees
 
@@ -165,14 +167,14 @@ module _ (files : Files) (is : IsTree files) where
           both_yes (same_path e.0 []) (is_directory e.1.node.kind) (ap (λ (x : Path). same_path x []) q) (ap is_directory dir)
       by_path (n ∷ p) q =
           let less : path_cmp [] e.0 ≡ Less = ap (path_cmp []) q in
-          let none : fin.find path_cmp [] rest ≡ None = find_below path_cmp path_total [] e.0 rest less (first_of_T (below_all path_cmp e.0 rest) (fin.is_sorted path_cmp rest) (sorted_at [] (e ∷ rest) whole)) in
+          let none : fin.find path_cmp [] rest ≡ None = find_below path_cmp path_total [] e.0 rest less (both_T (below_all path_cmp e.0 rest) (fin.is_sorted path_cmp rest) (sorted_at [] (e ∷ rest) whole)).0 in
           let nothing : fin.find path_cmp [] (e ∷ rest) ≡ None = rw less none in
           absurd (let gone : places files [] ≡ None = fin.get-entries files [] ∙ ap (fin.find path_cmp []) whole ∙ nothing in let bad : None ≡ Some Directory = rw gone at is.root in cc)
 
   -- the entries after the first are not the root
   not_root : (x : Path × Object) (done : List (Path × Object)) (e : Path × Object) (es : List (Path × Object)) → all ≡ (x ∷ done) ++ e ∷ es → e.0 ≢ []
   not_root x done e es whole root =
-      let less : path_cmp x.0 e.0 ≡ Less = below_back path_cmp x.0 done e es (first_of_T (below_all path_cmp x.0 (done ++ e ∷ es)) (fin.is_sorted path_cmp (done ++ e ∷ es)) (sorted_at (x ∷ done) (e ∷ es) whole)) in
+      let less : path_cmp x.0 e.0 ≡ Less = below_back path_cmp x.0 done e es (both_T (below_all path_cmp x.0 (done ++ e ∷ es)) (fin.is_sorted path_cmp (done ++ e ∷ es)) (sorted_at (x ∷ done) (e ∷ es) whole)).0 in
       none_less x.0 (ap (path_cmp x.0) (sym root) ∙ less)
     where
       none_less : (p : Path) → path_cmp p [] ≡ Less → ⊥

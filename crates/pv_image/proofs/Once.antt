@@ -7,7 +7,8 @@ use Rattle.base64.specs.GeneralPurpose.{encode_of}
 use Rattle.base64.specs.Engines.{standard}
 use Rattle.base64.specs.Rfc4648.{encode_symbols, padding_len}
 use Rattle.pv_path.proofs.PathLaws.{both_true}
-use Rattle.pv_image.specs.Spelling.{are_bytes, content_text, lacks}
+use Rattle.pv_text.specs.Lines.{lacks}
+use Rattle.pv_image.specs.Spelling.{are_bytes, content_text}
 use Rattle.pv_image.proofs.Contents.{byte_below, encoded_all, symbols_all}
 
 -- ---- lists in parts

@@ -15,7 +15,7 @@ use Rattle.pv_acl.specs.Parts.{base_of, is_acl, is_part}
 use Rattle.pv_acl.specs.Texts.{access_texts, acl_text, default_texts, is_group, is_user, mask_texts, named_text, or_dash, part_texts, perm_text, who_text}
 use Rattle.pv_path.proofs.PathLaws.{both_true}
 use Rattle.pv_image.proofs.Cutting.{are_apart, split_join}
-use Rattle.pv_image.proofs.Characters.{all_append, all_weaker, both_yes, decimal_lacks, digit_lacks}
+use Rattle.pv_text.proofs.Characters.{all_append, all_weaker, both_yes, decimal_lacks, digit_lacks}
 use Rattle.pv_image.proofs.Once.{fronts, parted}
 use Rattle.pv_image.proofs.AclLetters.{PassesEntries, all_filter, entries_pass, id_fits, part_names}
 

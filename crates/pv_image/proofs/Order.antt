@@ -18,26 +18,14 @@ use Rattle.pv_steps.specs.declared.object.Object.{Object}
 use Rattle.pv_steps.specs.Objects.{PayloadFits, is_directory}
 use Rattle.std.proofs.lemmas.List.{nil_from_length}
 use Rattle.pv_steps.specs.Trees.{Files, IsKind, kind_of, node_at, places}
+use Rattle.pv_steps.proofs.NameLaws.{both_T, less_T}
 use Rattle.pv_image.specs.Images.{follows, has_parent}
-use Rattle.pv_image.proofs.Characters.{both_yes}
+use Rattle.pv_text.proofs.Characters.{both_yes}
 
 pub less_is : (r : Ordering) → is_lt r ≡ true → r ≡ Less
 less_is Less e = refl
 less_is Equal e = cc
 less_is Greater e = cc
-
-pub less_true : (r : Ordering) → T (is_lt r) → r ≡ Less
-less_true Less h = refl
-less_true Equal h = absurd h
-less_true Greater h = absurd h
-
-pub first_of_T : (a b : Bool) → T (a && b) → T a
-first_of_T true b h = tt
-first_of_T false b h = absurd h
-
-pub second_of_T : (a b : Bool) → T (a && b) → T b
-second_of_T true b h = h
-second_of_T false b h = absurd h
 
 pub turned : {K : Type 0} {R : K → K → Ordering} → IsTotalOrder R → (a k : K) → is_lt (R a k) ≡ true → R k a ≡ Greater
 turned {R = R} o a k e = o.antisymm k a ∙ ap ordering_reverse (less_is (R a k) e)
@@ -51,9 +39,9 @@ module _ {K X : Type 0} (R : K → K → Ordering) where
   before_all o [] k h e = refl
   before_all o (x ∷ []) k h e = both_yes (is_lt (R x.0 k)) true e refl
   before_all o (x ∷ y ∷ es) k h e =
-      let rest = before_all o (y ∷ es) k (second_of_T (below_all R x.0 (y ∷ es)) (fin.is_sorted R (y ∷ es)) h) e in
-      let below = first_of_T (below_all R x.0 (y ∷ es)) (fin.is_sorted R (y ∷ es)) h in
-      let one : R x.0 y.0 ≡ Less = less_true (R x.0 y.0) (first_of_T (is_lt (R x.0 y.0)) (below_all R x.0 es) below) in
+      let rest = before_all o (y ∷ es) k (both_T (below_all R x.0 (y ∷ es)) (fin.is_sorted R (y ∷ es)) h).1 e in
+      let below = (both_T (below_all R x.0 (y ∷ es)) (fin.is_sorted R (y ∷ es)) h).0 in
+      let one : R x.0 y.0 ≡ Less = less_T (R x.0 y.0) (both_T (is_lt (R x.0 y.0)) (below_all R x.0 es) below).0 in
       let two : R y.0 k ≡ Less = less_is (R y.0 k) (both_true (is_lt (R y.0 k)) (all_before es k) rest).0 in
       let three : R x.0 k ≡ Less = o.trans x.0 y.0 k one two in
       both_yes (is_lt (R x.0 k)) (all_before (y ∷ es) k) (ap is_lt three) rest
@@ -102,9 +90,9 @@ same_false p q other = by_test (same_path p q) refl
 none_below : (path : Path) (es : List (Path × Object)) → T (below_all path_cmp path es) → list_any (is_dir_at path) es ≡ false
 none_below path [] h = refl
 none_below path (e ∷ es) h =
-    let less : path_cmp path e.0 ≡ Less = less_true (path_cmp path e.0) (first_of_T (is_lt (path_cmp path e.0)) (below_all path_cmp path es) h) in
+    let less : path_cmp path e.0 ≡ Less = less_T (path_cmp path e.0) (both_T (is_lt (path_cmp path e.0)) (below_all path_cmp path es) h).0 in
     let other : same_path e.0 path ≡ false = same_false e.0 path (λ q. let tied : path_cmp path e.0 ≡ Equal = subst (λ (p : Path). path_cmp path p ≡ Equal) (sym q) (path_cmp-refl path) in cc) in
-    rw other (none_below path es (second_of_T (is_lt (path_cmp path e.0)) (below_all path_cmp path es) h))
+    rw other (none_below path es (both_T (is_lt (path_cmp path e.0)) (below_all path_cmp path es) h).1)
 
 or_false : (b : Bool) → (b || false) ≡ b
 or_false true = refl
@@ -113,7 +101,7 @@ or_false false = refl
 pub any_dir : (path : Path) (es : List (Path × Object)) → T (fin.is_sorted path_cmp es) → list_any (is_dir_at path) es ≡ dir_at (fin.find path_cmp path es)
 unfolding dir_at
 any_dir path [] h = refl
-any_dir path (e ∷ es) h = by_order_of (any_dir path es (second_of_T (below_all path_cmp e.0 es) (fin.is_sorted path_cmp es) h)) (path_cmp path e.0) refl
+any_dir path (e ∷ es) h = by_order_of (any_dir path es (both_T (below_all path_cmp e.0 es) (fin.is_sorted path_cmp es) h).1) (path_cmp path e.0) refl
   where
     apart : (r : Ordering) → path_cmp path e.0 ≡ r → r ≢ Equal → same_path e.0 path ≡ false
     apart r q other = same_false e.0 path (λ s. other (sym q ∙ subst (λ (p : Path). path_cmp path p ≡ Equal) (sym s) (path_cmp-refl path)))
@@ -124,7 +112,7 @@ any_dir path (e ∷ es) h = by_order_of (any_dir path es (second_of_T (below_all
     by_order_of below Equal q =
         let same : path ≡ e.0 = path_cmp-exact path e.0 q in
         let is : same_path e.0 path ≡ true = (same_path-decides e.0 path).1 (sym same) in
-        let none : list_any (is_dir_at path) es ≡ false = none_below path es (subst (λ (p : Path). T (below_all path_cmp p es)) (sym same) (first_of_T (below_all path_cmp e.0 es) (fin.is_sorted path_cmp es) h)) in
+        let none : list_any (is_dir_at path) es ≡ false = none_below path es (subst (λ (p : Path). T (below_all path_cmp p es)) (sym same) (both_T (below_all path_cmp e.0 es) (fin.is_sorted path_cmp es) h).0) in
         rw (q, is, none) (or_false (is_directory e.1.node.kind))
 
 at_node : Option Node → Bool

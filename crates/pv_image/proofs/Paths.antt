@@ -8,7 +8,7 @@ use Rattle.pv_path.specs.Printing.{printed}
 use Rattle.pv_path.proofs.PathLaws.{both_true}
 use Rattle.pv_image.specs.Spelling.{IsByteName, IsBytePath, are_bytes}
 use Rattle.pv_image.specs.Reading.{texts}
-use Rattle.pv_image.proofs.Characters.{both_yes, all_append}
+use Rattle.pv_text.proofs.Characters.{both_yes, all_append}
 
 pub get_or-texts : {A : Type 0} (pieces : List (Bor A)) (i : ℕ) (d : Bor A) → get_or (texts pieces) i d.now ≡ (get_or pieces i d).now
 get_or-texts [] i d = refl

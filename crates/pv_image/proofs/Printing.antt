@@ -9,7 +9,7 @@ use Rattle.pv_path.proofs.PathLaws.{both_true}
 use Rattle.pv_path.proofs.Printed.{plain_front}
 use Rattle.pv_image.specs.Spelling.{are_bytes}
 use Rattle.pv_image.specs.Reading.{IsFront}
-use Rattle.pv_image.proofs.Characters.{all_append, all_back, all_front, both_yes}
+use Rattle.pv_text.proofs.Characters.{all_append, all_back, all_front, both_yes}
 
 pub hex_digit-injective : (d e : ℕ) → hex_digit d ≡ hex_digit e → d ≡ e
 hex_digit-injective d e same = by_tests (nat_lt d 10) refl (nat_lt e 10) refl

@@ -20,8 +20,9 @@ use Rattle.pv_image.specs.declared.extras.Extras.{Extras}
 use Rattle.pv_image.specs.declared.payload.Payload.{Payload}
 use Rattle.pv_image.specs.declared.version.Version.{Version}
 use Rattle.pv_image.specs.declared.version.Version.TheVariants.{One, Two}
-use Rattle.pv_image.specs.Spelling.{IsEntry, IsPayload, attr_text, attr_texts, attrs_text, columns, content_text, extra_texts, extras_of, kind_text, lacks, letters_text, mode_text, node_text, numbers_text, payload_of, payload_text, stamps_text}
-use Rattle.pv_image.proofs.Characters.{all_append, all_joined, all_weaker, both_yes, digits_alone, is_digit, printed_all}
+use Rattle.pv_text.specs.Lines.{lacks}
+use Rattle.pv_image.specs.Spelling.{IsEntry, IsPayload, attr_text, attr_texts, attrs_text, columns, content_text, extra_texts, extras_of, kind_text, letters_text, mode_text, node_text, numbers_text, payload_of, payload_text, stamps_text}
+use Rattle.pv_text.proofs.Characters.{all_append, all_joined, all_weaker, both_yes, digits_alone, is_digit, printed_all}
 use Rattle.pv_image.proofs.AclLetters.{PassesEntries, all_filter, entries_pass}
 use Rattle.pv_image.proofs.Contents.{encoded_all}
 use Rattle.pv_image.proofs.Columns.{mode_at, payload_is}

@@ -8,19 +8,22 @@ use Rattle.std.specs.declared.cmp.Ordering.{Ordering}
 use Rattle.std.specs.FinMap as fin
 use Rattle.std.proofs.lemmas.List.Concat.{flat_map-append}
 use Rattle.pv_path.proofs.PathLaws.{both_true}
-use Rattle.pv_path.specs.Paths.{Path, path_cmp, same_path, same_path-decides}
+use Rattle.pv_path.specs.Paths.{Path, path_cmp, parent_of, same_path, same_path-decides}
 use Rattle.pv_steps.specs.declared.object.Object.{Object}
 use Rattle.pv_steps.specs.Objects.{is_directory}
-use Rattle.pv_steps.specs.Trees.{Files, IsTree}
+use Rattle.pv_steps.specs.declared.node.Kind.TheVariants.{Directory}
+use Rattle.pv_steps.specs.Trees.{Files, IsKind, IsTree}
 use Rattle.pv_text.specs.Facts.{Values}
 use Rattle.pv_image.specs.Spelling.{IsEntry, Shows, end_text, extras_of, fact_text, header_text, line, node_text}
-use Rattle.pv_image.specs.Images.{HasFault, cut_off, misspelt, misplaced, later, IsByteFact, IsCut, IsImage, Spells, Stage, Before, InFacts, InNodes, After, What, Note, Header, Fact, Node, End, are_byte_names, bad, follows, is_byte_fact, is_line, is_note, is_root, has_parent, judged, after_root, after_node, same_version}
+use Rattle.pv_text.specs.Lines.{is_line}
+use Rattle.pv_image.specs.Images.{HasFault, cut_off, misspelt, misplaced, later, IsByteFact, IsCut, IsImage, Spells, Stage, Before, InFacts, InNodes, After, What, Note, Header, Fact, Node, End, are_byte_names, bad, follows, is_byte_fact, is_note, is_root, has_parent, judged, after_root, after_node, same_version}
 use Rattle.pv_image.specs.Progress.{Fails, FactsRead, HasNoFactNext, IsLast, IsLastPath, Leads, NotesRead, Refuses, TreeRead}
 use Rattle.pv_image.specs.declared.fault.ImageFault.{ImageFault}
 use Rattle.pv_image.specs.declared.fault.ImageFault.TheVariants as fault
 use Rattle.pv_image.specs.declared.version.Version.{Version}
 use Rattle.pv_image.specs.declared.version.Version.TheVariants.{One, Two}
-use Rattle.pv_image.proofs.Characters.{all_append, both_yes}
+use Rattle.pv_text.proofs.Characters.{all_append, both_yes}
+use Rattle.pv_image.proofs.Order.{has_parent-from_kind}
 
 -- a version is the same as itself
 pub same_version-self : (version : Version) → same_version version version ≡ true
@@ -218,6 +221,20 @@ pub root_last : (files : Files) (e : Path × Object) → is_root e ≡ true → 
 root_last files e root one path =
     let is : e.0 ≡ [] = (same_path-decides e.0 []).0 (both_true (same_path e.0 []) (is_directory e.1.node.kind) root).0 in
     ap (λ (p : Path). is_lt (path_cmp p path)) (sym is) ∙ sym (ap (λ (es : List (Path × Object)). follows path_cmp es path) one)
+
+-- a node that follows the last one, in a directory that was read before, and in none
+module _ (n : ℕ) (files : Files) (last : Path) (e : Path × Object) (is_last : IsLastPath files last) (version : Version) where
+  pub node_placed : is_lt (path_cmp last e.0) ≡ true → IsKind Directory files (parent_of e.0) → judged n (InNodes version (fin.entries files)) (Node version e) ≡ Some (Ok (InNodes version (fin.entries files ++ e ∷ [])))
+  node_placed less kind =
+      let after : follows path_cmp (fin.entries files) e.0 ≡ true = sym (is_last e.0) ∙ less in
+      let there : has_parent (fin.entries files) e.0 ≡ true = sym (has_parent-from_kind files e.0 true (λ yes. kind) (λ k. refl)) in
+      rw (same_version-self version, after, there) refl
+
+  pub node_orphan : is_lt (path_cmp last e.0) ≡ true → (IsKind Directory files (parent_of e.0) → ⊥) → judged n (InNodes version (fin.entries files)) (Node version e) ≡ Some (Err (fault.NoParent n))
+  node_orphan less orphan =
+      let after : follows path_cmp (fin.entries files) e.0 ≡ true = sym (is_last e.0) ∙ less in
+      let there : has_parent (fin.entries files) e.0 ≡ false = sym (has_parent-from_kind files e.0 false (λ no. absurd (let bad : false ≡ true = no in cc)) (λ k. absurd (orphan k))) in
+      rw (same_version-self version, after, there) refl
 
 pub last_more : (old new : Values) (fact : ℕ × List ℕ) → fin.entries new ≡ fin.entries old ++ fact ∷ [] → IsLast new (Some fact.0)
 last_more old new fact added letter = sym (ap (λ (es : List (ℕ × List ℕ)). follows nat_cmp es letter) added ∙ follows_push nat_cmp (fin.entries old) fact letter)

@@ -13,11 +13,12 @@ use Rattle.std.proofs.lemmas.Grind.{flat_map-append}
 use Rattle.std.specs.FinMap as fin
 use Rattle.std.specs.FinMap.Entries.{find, is_sorted, below_all}
 use Rattle.pv_path.specs.Paths.{Path}
+use Rattle.pv_path.proofs.PathLaws.{both_true}
 use Rattle.pv_text.specs.Facts.{Values, fact_letters, is_fact, is_fact_letter, is_fact_value, HasFactsAlone}
 use Rattle.pv_steps.specs.declared.object.Object.{Object}
 use Rattle.pv_steps.specs.Trees.{Files, IsTree}
 use Rattle.pv_image.specs.Images.{HaveText, are_byte_names, is_byte_fact}
-use Rattle.pv_image.proofs.Characters.{all_append}
+use Rattle.pv_text.proofs.Characters.{all_append, both_yes}
 use Rattle.pv_image.specs.Spelling.{header_text, end_text, fact_text, node_text, line, text_of}
 use Rattle.pv_image.specs.declared.version.Version.TheVariants.{Two}
 use Rattle.pv_image.specs.Writing.{fact_fits, fact_line, fact_line_of, node_line}
@@ -52,33 +53,22 @@ abbrev pub rises : List ℕ → Bool
 rises [] = true
 rises (l ∷ ls) = is_below l ls && rises ls
 
-and_first : (a b : Bool) → (a && b) ≡ true → a ≡ true
-and_first true b h = refl
-and_first false b h = h
-
-and_second : (a b : Bool) → (a && b) ≡ true → b ≡ true
-and_second true b h = h
-and_second false b h = let wrong : false ≡ true = h in cc
-
-both_true : (a b : Bool) → a ≡ true → b ≡ true → (a && b) ≡ true
-both_true a b p q = ap (λ x. x && b) p ∙ q
-
 below_listed : (facts : Values) (x : ℕ) (ls : List ℕ) → is_below x ls ≡ true → below_all nat_cmp x (listed facts ls) ≡ true
 below_listed facts x [] h = refl
 below_listed facts x (l ∷ ls) h =
-    let rest = below_listed facts x ls (and_second _ _ h) in
+    let rest = below_listed facts x ls (both_true _ _ h).1 in
     elim (fin.get facts l) as (λ v. below_all nat_cmp x (cons_option (option_map (λ value. (l, value)) v) (listed facts ls)) ≡ true) [
       | None ↦ rest
-      | Some value ↦ both_true _ _ (and_first _ _ h) rest
+      | Some value ↦ both_yes _ _ (both_true _ _ h).0 rest
     ]
 
 sorted_listed : (facts : Values) (ls : List ℕ) → rises ls ≡ true → is_sorted nat_cmp (listed facts ls) ≡ true
 sorted_listed facts [] h = refl
 sorted_listed facts (l ∷ ls) h =
-    let rest = sorted_listed facts ls (and_second _ _ h) in
+    let rest = sorted_listed facts ls (both_true _ _ h).1 in
     elim (fin.get facts l) as (λ v. is_sorted nat_cmp (cons_option (option_map (λ value. (l, value)) v) (listed facts ls)) ≡ true) [
       | None ↦ rest
-      | Some value ↦ both_true _ _ (below_listed facts l ls (and_first _ _ h)) rest
+      | Some value ↦ both_yes _ _ (below_listed facts l ls (both_true _ _ h).0) rest
     ]
 
 -- what is found among listed facts is what the facts have
@@ -127,7 +117,7 @@ nothing false = refl
 shows : (q : ℕ) (value : Option (List ℕ)) → IfSome value (λ v. is_fact q v ≡ true) → cond (list_any (eq_by_cmp nat_cmp q) fact_letters) value None ≡ value
 shows q None h = nothing (list_any (eq_by_cmp nat_cmp q) fact_letters)
 shows q (Some v) h =
-    let letter = and_first (is_fact_letter q) (is_fact_value v) h in
+    let letter = (both_true (is_fact_letter q) (is_fact_value v) h).0 in
     ap (λ b. cond b (Some v) None) (tied_any q fact_letters letter)
 
 -- the facts are those with the twelve letters
@@ -163,11 +153,11 @@ parts_of_text facts files =
 listed_fit : (facts : Values) (letters : List ℕ) → list_all (fact_fits facts) letters ≡ true → list_all is_byte_fact (listed facts letters) ≡ true
 listed_fit facts [] e = refl
 listed_fit facts (l ∷ ls) e =
-    let rest = listed_fit facts ls (and_second _ _ e) in
-    let here = and_first _ _ e in
+    let rest = listed_fit facts ls (both_true _ _ e).1 in
+    let here = (both_true _ _ e).0 in
     elim (fin.get facts l) as (λ v. option_map_or (λ value. is_byte_fact (l, value)) v true ≡ true → list_all is_byte_fact (cons_option (option_map (λ value. (l, value)) v) (listed facts ls)) ≡ true) [
       | None ↦ λ h. rest
-      | Some value ↦ λ h. both_true _ _ h rest
+      | Some value ↦ λ h. both_yes _ _ h rest
     ] here
 
 pub facts_fit : (facts : Values) → HasFactsAlone facts → list_all (fact_fits facts) fact_letters ≡ true → list_all is_byte_fact (fin.entries facts) ≡ true
@@ -175,11 +165,11 @@ facts_fit facts alone e = ap (list_all is_byte_fact) (entries_listed facts alone
 
 -- a test of one item more
 pub fits_more : {A : Type 0} (p : A → Bool) (xs : List A) (i : ℕ) (d : A) → i < length xs → list_all p (take i xs) ≡ true → p (get_or xs i d) ≡ true → list_all p (take (i + 1) xs) ≡ true
-fits_more p xs i d within e f = ap (list_all p) (take_more xs i d within) ∙ all_append p (take i xs) (get_or xs i d ∷ []) e (both_true _ _ f refl)
+fits_more p xs i d within e f = ap (list_all p) (take_more xs i d within) ∙ all_append p (take i xs) (get_or xs i d ∷ []) e (both_yes _ _ f refl)
 
 keys_fit : (es : List (Path × Object)) → list_all (λ e. are_byte_names e.0) es ≡ true → list_all are_byte_names (map (λ e. e.0) es) ≡ true
 keys_fit [] e = refl
-keys_fit (x ∷ es) e = both_true _ _ (and_first _ _ e) (keys_fit es (and_second _ _ e))
+keys_fit (x ∷ es) e = both_yes _ _ (both_true _ _ e).0 (keys_fit es (both_true _ _ e).1)
 
 pub have_text : (facts : Values) (files : Files) → list_all is_byte_fact (fin.entries facts) ≡ true → list_all (λ e. are_byte_names e.0) (fin.entries files) ≡ true → IsTree files → HaveText Two facts files
 have_text facts files f g is = record { facts_fit = f; names_fit = keys_fit (fin.entries files) g; tree = is; shown = λ path o here. tt }

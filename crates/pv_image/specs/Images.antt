@@ -7,10 +7,11 @@ use Rattle.std.specs.declared.cmp.Ordering.{Ordering}
 use Rattle.std.specs.FinMap as fin
 use Rattle.pv_path.specs.Paths.{Path, path_cmp, same_path, parent_of}
 use Rattle.pv_text.specs.Facts.{Values, is_fact}
+use Rattle.pv_text.specs.Lines.{is_line}
 use Rattle.pv_steps.specs.declared.object.Object.{Object}
 use Rattle.pv_steps.specs.Objects.{is_directory}
 use Rattle.pv_steps.specs.Trees.{Files, IsTree, places}
-use Rattle.pv_image.specs.Spelling.{IsEntry, Shows, are_bytes, extras_of, lacks, header_text, end_text, fact_text, node_text, line, text_in}
+use Rattle.pv_image.specs.Spelling.{IsEntry, Shows, are_bytes, extras_of, header_text, end_text, fact_text, node_text, line, text_in}
 use Rattle.pv_image.specs.declared.fault.ImageFault.{ImageFault}
 use Rattle.pv_image.specs.declared.fault.ImageFault.TheVariants as fault
 use Rattle.pv_image.specs.declared.version.Version.{Version}
@@ -21,10 +22,6 @@ use Rattle.pv_image.specs.declared.version.Version.TheVariants.{One, Two}
 -- a note, which reading skips: a line that begins with a colon and a space
 abbrev pub is_note : List ℕ → Bool
 is_note text = starts_with nat_eq text (codes ": ")
-
--- a text of one line
-abbrev pub is_line : List ℕ → Bool
-is_line text = lacks 10 text
 
 -- a fact of bytes
 abbrev pub is_byte_fact : ℕ × List ℕ → Bool

@@ -8,7 +8,8 @@ use Rattle.pv_path.specs.Paths.{Path, path_cmp}
 use Rattle.pv_steps.specs.Trees.{Files}
 use Rattle.pv_text.specs.Facts.{Values}
 use Rattle.pv_image.specs.Spelling.{Shows, extras_of, fact_text, line, node_text}
-use Rattle.pv_image.specs.Images.{HasFault, IsByteFact, IsCut, Stage, What, are_byte_names, follows, is_byte_fact, is_line, is_note, judged}
+use Rattle.pv_text.specs.Lines.{is_line}
+use Rattle.pv_image.specs.Images.{HasFault, IsByteFact, IsCut, Stage, What, are_byte_names, follows, is_byte_fact, is_note, judged}
 use Rattle.pv_image.specs.declared.fault.ImageFault.{ImageFault}
 use Rattle.pv_image.specs.declared.version.Version.{Version}
 use Rattle.pv_image.specs.declared.fault.ImageFault.TheVariants as fault

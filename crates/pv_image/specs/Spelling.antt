@@ -1,7 +1,7 @@
 -- How facts and nodes are spelled in the two versions of a tree image. The form is this project's own: the ACL column
 -- as in the texts of acl(5), without the base entries, the names of attributes as in xattr(7), letters as in chattr(1),
 -- and the bytes of files in Base64 as the engine `STANDARD` encodes them.
-use Rattle.std.specs.Prelude.{◌≡◌, ℕ, ◌+◌, ◌/◌, ◌%◌, Bool, true, not, ◌==◌, nat_lt, List, [], ◌∷◌, ◌++◌, map, codes}
+use Rattle.std.specs.Prelude.{◌≡◌, ℕ, ◌+◌, ◌/◌, ◌%◌, Bool, true, nat_lt, List, [], ◌∷◌, ◌++◌, map, codes}
 use Rattle.std.specs.List.{flat_map, join_with_byte, list_all}
 use Rattle.std.specs.Fmt.{decimal}
 use Rattle.std.specs.FinMap as fin
@@ -25,10 +25,6 @@ use Rattle.pv_image.specs.declared.extras.Extras.{Extras}
 use Rattle.pv_image.specs.declared.payload.Payload.{Payload}
 use Rattle.pv_image.specs.declared.version.Version.{Version}
 use Rattle.pv_image.specs.declared.version.Version.TheVariants.{One, Two}
-
--- a text without a byte
-abbrev pub lacks : ℕ → List ℕ → Bool
-lacks c text = list_all (λ b. not (b == c)) text
 
 -- whether each number is a byte
 abbrev pub are_bytes : List ℕ → Bool

@@ -3,7 +3,8 @@ ghost use Rattle.std.specs.Prelude.{◌≡◌, ◌↔◌, ◌==◌, true, ◌∷
 ghost use Rattle.std.specs.List.{position};
 ghost use Rattle.pv_path.specs.Printing.{printed};
 ghost use Rattle.pv_image.specs.Spelling.{fact_text, fact_texts, header_text, end_text};
-ghost use Rattle.pv_image.specs.Images.{IsByteFact, IsCut, is_line, is_note};
+ghost use Rattle.pv_image.specs.Images.{IsByteFact, IsCut, is_note};
+ghost use Rattle.pv_text.specs.Lines.{is_line};
 ghost use Rattle.pv_text.specs.Facts.{is_fact_letter, is_fact_value};
 ghost use Rattle.pv_image.specs.Reading.{IsFactValue, Reads, texts};
 

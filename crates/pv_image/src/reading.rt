@@ -16,9 +16,9 @@ use crate::line::{first_line, is_end, is_note, read_fact, read_version};
 use crate::node::read_node;
 use crate::tree::{add_node, root_tree};
 use crate::version::Version;
-use pv_path::{Bytes, TreePath};
+use pv_path::Bytes;
 use pv_text::Facts;
-use pv_tree::MemTree;
+use pv_tree::{MemTree, TreeBuilder};
 use std::alloc::Global;
 
 /// What is left to read, and the number of its first line.
@@ -130,15 +130,14 @@ fn read_root<'a>(
     alloc: Global,
     version: Version,
     left: Left<'a>,
-) -> Result<(MemTree, Left<'a>), ImageFault>
+) -> Result<(TreeBuilder, Left<'a>), ImageFault>
     requires next { HasNoFactNext left.bytes.now }
     requires small { left.number + length left.bytes.now < 2 ^ 64 }
     ensures leads { (facts : List (ℕ × List ℕ)) →
         IfOk result (λ r. Leads left.entry.number (InFacts version facts) left.entry.bytes.now
         r.1.number (InNodes version (fin.entries r.0.files)) r.1.bytes.now) }
     ensures text { IfOk result (λ r. TreeRead version left.entry.bytes.now r.0.files r.1.bytes.now) }
-    ensures last { IfOk result (λ r. IsLastPath r.0.files []) }
-    ensures steps { IfOk result (λ r. r.0.steps ≡ []) }
+    ensures last { IfOk result (λ r. IsLastPath r.0.files r.0.last) }
     ensures small { IfOk result (λ r. r.1.number + length r.1.bytes.now < 2 ^ 64) }
     ensures err { (facts : List (ℕ × List ℕ)) →
         IfErr result (Fails left.entry.number (InFacts version facts) left.entry.bytes.now) }
@@ -173,26 +172,24 @@ fn fault_of(number: u64, text: &[u8]) -> ImageFault
     }
 }
 
-/// Reads the other nodes, and the end, where the tree has a root alone.
+/// Reads the other nodes, and the end. Each node is put next to the one before it.
 fn read_nodes<'a>(
     alloc: Global,
     version: Version,
-    tree: &mut MemTree,
+    tree: &mut TreeBuilder,
     left: Left<'a>,
 ) -> Result<Left<'a>, ImageFault>
     requires small { left.number + length left.bytes.now < 2 ^ 64 }
-    requires last { IsLastPath tree.old.files [] }
+    requires last { IsLastPath tree.old.files tree.old.last }
     ensures leads { let stage = InNodes version (fin.entries tree.old.files) in
         IfOk result (λ end. Leads left.entry.number stage left.entry.bytes.now end.number After end.bytes.now) }
     ensures text { (bytes : List ℕ) → TreeRead version bytes tree.old.files left.entry.bytes.now →
         IfOk result (λ end. TreeRead version bytes tree.new.files (line end_text ++ end.bytes.now)) }
-    ensures steps { tree.new.steps ≡ tree.old.steps }
     ensures err { let stage = InNodes version (fin.entries tree.old.files) in
         IfErr result (Fails left.entry.number stage left.entry.bytes.now) }
 {
     let mut number = left.number;
     let mut rest = left.bytes;
-    let mut last = TreePath::root(alloc);
     while let Some((text, after)) = first_line(rest) {
         let Some((path, object)) = read_node(alloc, version, text)? else {
             if is_end(text) {
@@ -203,8 +200,7 @@ fn read_nodes<'a>(
             }
             return Err(ImageFault::BadLine(number));
         };
-        add_node(tree, &last, number, &path, object)?;
-        last = path;
+        add_node(tree, number, path, object)?;
         number += 1;
         rest = after;
     }
@@ -245,8 +241,10 @@ fn read_whole(alloc: Global, bytes: &[u8]) -> Result<Image, ImageFault>
     let (mut tree, left) = read_root(alloc, version, left)?;
     let left = read_nodes(alloc, version, &mut tree, left)?;
     check_end(left)?;
-    let _root = tree.node_at(&TreePath::root(alloc));
-    Ok(Image { tree, facts })
+    Ok(Image {
+        tree: tree.finish(),
+        facts,
+    })
 }
 
 /// Reads an image of either version: the tree and the facts of which the bytes are the one text after some

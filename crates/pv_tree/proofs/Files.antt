@@ -13,6 +13,7 @@ use Rattle.std.proofs.lemmas.Bool.Decides.{Decides-eqb}
 use Rattle.std.proofs.lemmas.Map.Steps.{length-le_from_distinct_below}
 use Rattle.pv_path.specs.Paths.{Path, path_cmp}
 use Rattle.pv_path.proofs.PathLaws.{name_cmp-refl, name_cmp-exact}
+use Rattle.pv_steps.proofs.NameLaws.{both_T, less_T}
 use Rattle.pv_steps.specs.declared.object.Object.{Object}
 use Rattle.pv_steps.specs.Trees.{Files, places}
 use Rattle.pv_tree.specs.declared.slot.Slot.{Slot}
@@ -29,19 +30,6 @@ Entries = List (Path × Object)
 both : (a b : Bool) → T a → T b → T (a && b)
 both true b p q = q
 both false b p q = p
-
-first : (a b : Bool) → T (a && b) → T a
-first true b p = tt
-first false b p = p
-
-second : (a b : Bool) → T (a && b) → T b
-second true b p = p
-second false b p = absurd p
-
-less_of : (o : Ordering) → T (is_lt o) → o ≡ Less
-less_of Less h = refl
-less_of Equal h = absurd h
-less_of Greater h = absurd h
 
 cmp_below : (n : List ℕ) (p q : Path) → path_cmp (n ∷ p) (n ∷ q) ≡ path_cmp p q
 cmp_below n p q = ap (λ o. ordering_then o (path_cmp p q)) (name_cmp-refl n)
@@ -63,14 +51,14 @@ below_less n m p (x ∷ es) e = both (is_lt (path_cmp (n ∷ p) (m ∷ x.0))) _ 
 
 below_append : (p : Path) (xs ys : Entries) → T (below_all path_cmp p xs) → T (below_all path_cmp p ys) → T (below_all path_cmp p (xs ++ ys))
 below_append p [] ys h k = k
-below_append p (x ∷ xs) ys h k = both _ _ (first _ _ h) (below_append p xs ys (second _ _ h) k)
+below_append p (x ∷ xs) ys h k = both _ _ (both_T _ _ h).0 (below_append p xs ys (both_T _ _ h).1 k)
 
 module _ (at : ℕ → Entries) where
   -- what lies below later names comes later
   below_children : (n : List ℕ) (p : Path) (cs : List (List ℕ × ℕ)) → T (below_all name_cmp n cs) → T (below_all path_cmp (n ∷ p) (entries_below at cs))
   below_children n p [] h = tt
   below_children n p (c ∷ cs) h =
-      below_append (n ∷ p) (map (below c.0) (at c.1)) (entries_below at cs) (below_less n c.0 p (at c.1) (less_of _ (first _ _ h))) (below_children n p cs (second _ _ h))
+      below_append (n ∷ p) (map (below c.0) (at c.1)) (entries_below at cs) (below_less n c.0 p (at c.1) (less_T _ (both_T _ _ h).0)) (below_children n p cs (both_T _ _ h).1)
 
   root_first : (cs : List (List ℕ × ℕ)) → T (below_all path_cmp [] (entries_below at cs))
   root_first [] = tt
@@ -83,12 +71,12 @@ module _ (at : ℕ → Entries) where
   join : (n : List ℕ) (es ys : Entries) → T (is_sorted path_cmp es) → T (is_sorted path_cmp ys) → ((p : Path) → T (below_all path_cmp (n ∷ p) ys)) → T (is_sorted path_cmp (map (below n) es ++ ys))
   join n [] ys h k after = k
   join n (e ∷ es) ys h k after =
-      both _ _ (below_append (n ∷ e.0) (map (below n) es) ys (subst T (sym (below_same n e.0 es)) (first _ _ h)) (after e.0)) (join n es ys (second _ _ h) k after)
+      both _ _ (below_append (n ∷ e.0) (map (below n) es) ys (subst T (sym (below_same n e.0 es)) (both_T _ _ h).0) (after e.0)) (join n es ys (both_T _ _ h).1 k after)
 
   sorted_below : ((k : ℕ) → T (is_sorted path_cmp (at k))) → (cs : List (List ℕ × ℕ)) → IsSorted cs → T (is_sorted path_cmp (entries_below at cs))
   sorted_below each [] h = tt
   sorted_below each (c ∷ cs) h =
-      join c.0 (at c.1) (entries_below at cs) (each c.1) (sorted_below each cs (second _ _ h)) (λ p. below_children c.0 p cs (first _ _ h))
+      join c.0 (at c.1) (entries_below at cs) (each c.1) (sorted_below each cs (both_T _ _ h).1) (λ p. below_children c.0 p cs (both_T _ _ h).0)
 
 module _ (slots : List Slot) where
   -- the entries are in the order of the paths
@@ -128,7 +116,7 @@ find_other n m p (x ∷ es) e = ap (λ b. cond b (Some x.1) (find path_cmp (n �
 not_below : (n m : List ℕ) (cs : List (List ℕ × ℕ)) → n ≡ m → T (below_all name_cmp m cs) → find name_cmp n cs ≡ None
 not_below n m [] e h = refl
 not_below n m (c ∷ cs) e h =
-    ap (λ o. cond (is_eq o) (Some c.1) (find name_cmp n cs)) (ap (λ v. name_cmp v c.0) e ∙ less_of (name_cmp m c.0) (first _ _ h)) ∙ not_below n m cs e (second _ _ h)
+    ap (λ o. cond (is_eq o) (Some c.1) (find name_cmp n cs)) (ap (λ v. name_cmp v c.0) e ∙ less_T (name_cmp m c.0) (both_T _ _ h).0) ∙ not_below n m cs e (both_T _ _ h).1
 
 equal_of : (o : Ordering) → is_eq o ≡ true → o ≡ Equal
 equal_of Less e = (let no : false ≡ true = e in cc)
@@ -139,7 +127,7 @@ find_below : (at : ℕ → Entries) (n : List ℕ) (p : Path) (cs : List (List �
     → find path_cmp (n ∷ p) (entries_below at cs) ≡ option_and_then (λ k. find path_cmp p (at k)) (find name_cmp n cs)
 find_below at n p [] h = refl
 find_below at n p (c ∷ cs) h =
-    find_append (n ∷ p) (map (below c.0) (at c.1)) (entries_below at cs) ∙ by (eq_by_cmp name_cmp n c.0) refl (find_below at n p cs (second _ _ h))
+    find_append (n ∷ p) (map (below c.0) (at c.1)) (entries_below at cs) ∙ by (eq_by_cmp name_cmp n c.0) refl (find_below at n p cs (both_T _ _ h).1)
   where
     last : (o : Option Object) → option_or o None ≡ o
     last None = refl
@@ -149,7 +137,7 @@ find_below at n p (c ∷ cs) h =
         → option_or (find path_cmp (n ∷ p) (map (below c.0) (at c.1))) (find path_cmp (n ∷ p) (entries_below at cs)) ≡ option_and_then (λ k. find path_cmp p (at k)) (cond b (Some c.1) (find name_cmp n cs))
     by true e rest =
         let same : n ≡ c.0 = name_cmp-exact n c.0 (equal_of (name_cmp n c.0) e) in
-        ap (option_or (find path_cmp (n ∷ p) (map (below c.0) (at c.1)))) (rest ∙ ap (option_and_then (λ k. find path_cmp p (at k))) (not_below n c.0 cs same (first _ _ h)))
+        ap (option_or (find path_cmp (n ∷ p) (map (below c.0) (at c.1)))) (rest ∙ ap (option_and_then (λ k. find path_cmp p (at k))) (not_below n c.0 cs same (both_T _ _ h).0))
         ∙ last (find path_cmp (n ∷ p) (map (below c.0) (at c.1)))
         ∙ ap (λ (v : List ℕ). find path_cmp (v ∷ p) (map (below c.0) (at c.1))) same ∙ find_same c.0 p (at c.1)
     by false e rest = ap (λ o. option_or o (find path_cmp (n ∷ p) (entries_below at cs))) (find_other n c.0 p (at c.1) e) ∙ rest

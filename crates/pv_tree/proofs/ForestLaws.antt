@@ -226,8 +226,11 @@ module _ (s s1 new : List Slot) (free rest : List ℕ) (k f : ℕ) (n : List ℕ
     once = (free_less s free rest are less).once;
   }
 
-  pub put_directory : number_in new d ≡ Some k
-  put_directory = directory_stays (cleared f (child_in s)) (child_in new) d k n (Some f) change once_cleared at_cleared
+  pub put_number_is : number_in new (d ++ n ∷ []) ≡ Some f
+  put_number_is = made_is (cleared f (child_in s)) (child_in new) d k f n change once_cleared at_cleared (cleared_here f (child_in s)) apart_cleared absent_cleared
+
+  pub put_else : (q : Path) → q ≢ d ++ n ∷ [] → number_in new q ≡ number_in s q
+  put_else q differ = made_else (cleared f (child_in s)) (child_in new) d k f n change once_cleared at_cleared (cleared_here f (child_in s)) apart_cleared absent_cleared q differ ∙ led_same q
 
 -- ---- a child goes
 
@@ -387,8 +390,11 @@ module _ (s s0 s1 new : List Slot) (free rest : List ℕ) (k f : ℕ) (n : List 
     places = put_places s s1 new free rest k f n (parent_of path) o forest are at put_absent put_next put_edges put_objects put_placed put_more put_fits less ∙ ap (λ (p : Path). put_at p (Some o) (places_in s)) (sym is);
   }
 
-  pub put_at_directory : number_in new (parent_of path) ≡ Some k
-  put_at_directory = put_directory s s1 new free rest k f n (parent_of path) o forest are at put_absent put_next put_edges put_objects put_placed put_more put_fits less
+  pub put_at_path : number_in new path ≡ Some f
+  put_at_path = ap (number_in new) is ∙ put_number_is s s1 new free rest k f n (parent_of path) o forest are at put_absent put_next put_edges put_objects put_placed put_more put_fits less
+
+  pub put_others : (q : Path) → q ≢ path → number_in new q ≡ number_in s q
+  put_others q differ = put_else s s1 new free rest k f n (parent_of path) o forest are at put_absent put_next put_edges put_objects put_placed put_more put_fits less q (λ e. differ (e ∙ sym is))
 
 -- free numbers with one more, if there is one
 more_free : (new : List Slot) (free free0 rest : List ℕ) (gone : Option ℕ) → AreFree new free → ((f : ℕ) → gone ≡ Some f → AreFree new (free ++ f ∷ []))

@@ -7,5 +7,6 @@ pub mod ForestLaws
 pub mod Files
 pub mod State
 pub mod WalkLaws
+pub mod GrowthLaws
 pub mod Looking
 pub mod FuseLaws

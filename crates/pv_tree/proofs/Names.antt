@@ -1,5 +1,5 @@
 -- The children of a directory as a list in order: what looking for a name tells, and what each edit leaves.
-use Rattle.std.proofs.Common.{◌≡◌, ◌≢◌, Result, Ok, Err, OnOk, OnErr, IfOk, MatchResult, MatchOption, Bor, ℕ, suc, zero, ◌<◌, ◌≤◌, Bool, true, false, cond, not, ◌&&◌, T, List, [], ◌∷◌, ◌++◌, length, replicate, set, get_or, map, position, Option, Some, None, option_map, slice_get, ◌-◌, ◌+◌, refl, sym, ap, subst, ◌∙◌, arith, length-append, insert, remove}
+use Rattle.std.proofs.Common.{◌≡◌, ◌≢◌, Result, Ok, Err, OnOk, OnErr, IfOk, MatchResult, MatchOption, Bor, ℕ, suc, zero, ◌<◌, ◌≤◌, Bool, true, false, cond, not, T, List, [], ◌∷◌, ◌++◌, length, replicate, set, get_or, map, position, Option, Some, None, option_map, slice_get, ◌-◌, ◌+◌, refl, sym, ap, subst, ◌∙◌, arith, length-append, insert, remove}
 use Rattle.std.proofs.lemmas.List.{length-replicate, length-map}
 use Rattle.std.specs.Ordering.{is_eq, is_lt, ordering_reverse, eq_by_cmp}
 use Rattle.std.specs.declared.cmp.Ordering.{Ordering}
@@ -13,6 +13,7 @@ use Rattle.std.specs.List.{HoldsAt}
 use Rattle.std.specs.Option.{option_copied}
 use Rattle.std.proofs.lemmas.Option.{slice_get-map, slice_get-get_or, slice_get_past, slice_get_within}
 use Rattle.pv_path.proofs.PathLaws.{name_cmp-exact}
+use Rattle.pv_steps.proofs.NameLaws.{both_T, less_T}
 use Rattle.pv_tree.specs.Finding.{IsRising, IsFoundAt, IsGapAt}
 use Rattle.pv_tree.proofs.Halving.{rising_found, rising_none, stands, length_rising, missed}
 use Rattle.pv_tree.specs.Children.{Children, name_cmp, IsSorted, orders_of, without}
@@ -30,30 +31,17 @@ reversed p q o e = nat_list_cmp_total.antisymm q p ∙ ap ordering_reverse e
 
 -- ---- lists whose paths rise
 
-first_of : (a b : Bool) → T (a && b) → T a
-first_of true b h = tt
-first_of false b h = h
-
-second_of : (a b : Bool) → T (a && b) → T b
-second_of true b h = h
-second_of false b h = absurd h
-
-less_of : (o : Ordering) → T (is_lt o) → o ≡ Less
-less_of Less h = refl
-less_of Equal h = absurd h
-less_of Greater h = absurd h
-
 -- a name below all entries of a list, whose order to what is sought passes on: all of them stand after it
 all_after : (p name : List ℕ) → ((q : List ℕ) → name_cmp p q ≡ Less → name_cmp q name ≡ Greater) → (es : Entries) → T (below_all name_cmp p es) → orders_of name es ≡ replicate (length es) Greater
 all_after p name after [] h = refl
 all_after p name after (e ∷ es) h =
-    let head = after e.0 (less_of _ (first_of _ _ h)) in
-    let rest = all_after p name after es (second_of _ _ h) in
+    let head = after e.0 (less_T _ (both_T _ _ h).0) in
+    let rest = all_after p name after es (both_T _ _ h).1 in
     rw (head, rest)
 
 pub rising : (name : List ℕ) (es : Entries) → IsSorted es → IsRising (orders_of name es)
 rising name [] h = record { less = 0; equal = 0; greater = 0; once = omega arith; is = refl }
-rising name (e ∷ es) h = by_order_of (name_cmp e.0 name) refl (rising name es (second_of _ _ h))
+rising name (e ∷ es) h = by_order_of (name_cmp e.0 name) refl (rising name es (both_T _ _ h).1)
   where
     after : (o : Ordering) → name_cmp e.0 name ≡ o → o ≢ Less → (q : List ℕ) → name_cmp e.0 q ≡ Less → name_cmp q name ≡ Greater
     after Less is other q l = absurd (other refl)
@@ -62,8 +50,8 @@ rising name (e ∷ es) h = by_order_of (name_cmp e.0 name) refl (rising name es 
 
     by_order_of : (o : Ordering) → name_cmp e.0 name ≡ o → IsRising (orders_of name es) → IsRising (name_cmp e.0 name ∷ orders_of name es)
     by_order_of Less is r = record { less = suc r.less; equal = r.equal; greater = r.greater; once = r.once; is = rw is (ap (λ v. Less ∷ v) r.is) }
-    by_order_of Equal is r = record { less = 0; equal = 1; greater = length es; once = omega arith; is = rw (is, all_after e.0 name (after Equal is (λ x. cc)) es (first_of _ _ h)) }
-    by_order_of Greater is r = record { less = 0; equal = 0; greater = suc (length es); once = omega arith; is = rw (is, all_after e.0 name (after Greater is (λ x. cc)) es (first_of _ _ h)) }
+    by_order_of Equal is r = record { less = 0; equal = 1; greater = length es; once = omega arith; is = rw (is, all_after e.0 name (after Equal is (λ x. cc)) es (both_T _ _ h).0) }
+    by_order_of Greater is r = record { less = 0; equal = 0; greater = suc (length es); once = omega arith; is = rw (is, all_after e.0 name (after Greater is (λ x. cc)) es (both_T _ _ h).0) }
 
 -- ---- the places that looking for a name gives
 

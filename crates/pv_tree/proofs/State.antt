@@ -1,5 +1,5 @@
 -- The tree in memory: what its reads tell, and what a step makes of it.
-use Rattle.std.proofs.Common.{◌≡◌, ◌≢◌, ℕ, ◌^◌, ◌<◌, Bool, true, false, cond, ◌&&◌, T, List, [], ◌∷◌, ◌++◌, map, Option, Some, None, option_map, is_some, Result, Ok, Err, OnOk, OnErr, IfOk, refl, sym, ap, subst, ◌∙◌, arith, suc, get_or, slice_get, nat_lt}
+use Rattle.std.proofs.Common.{◌≡◌, ◌≢◌, ℕ, ◌^◌, ◌<◌, Bool, true, false, cond, T, List, [], ◌∷◌, ◌++◌, map, Option, Some, None, option_map, is_some, Result, Ok, Err, OnOk, OnErr, IfOk, refl, sym, ap, subst, ◌∙◌, arith, suc, get_or, slice_get, nat_lt}
 use Rattle.std.specs.List.{list_all, AllByRecursion}
 use Rattle.std.specs.List.Sorted.{IsStrictlySortedBy}
 use Rattle.std.specs.Option.{option_and_then}
@@ -22,7 +22,7 @@ use Rattle.pv_steps.specs.Trees.{Files, Places, places, kind_of, IsTree, IsTreeI
 use Rattle.pv_steps.specs.Steps.{Can, StepFits, after, after_at, put_at, IsOther}
 use Rattle.pv_steps.proofs.StepLaws.{same_files, places_after}
 use Rattle.pv_steps.proofs.TreeLaws.{tree_after, IsTreeIn-put, not_absent, present_of_kind, present_above, directory_above}
-use Rattle.pv_steps.proofs.NameLaws.{names_below-rise, names_below-are}
+use Rattle.pv_steps.proofs.NameLaws.{both_T, less_T, names_below-rise, names_below-are}
 use Rattle.pv_tree.specs.declared.slot.Slot.{Slot}
 use Rattle.pv_tree.specs.Changes.{IsRemovable}
 use Rattle.pv_tree.specs.Children.{Children, name_cmp}
@@ -84,25 +84,16 @@ module _ (slots : List Slot) (t : Files) (path : Path) (forest : IsForest slots)
 
 -- ---- names in a directory
 
-both_parts : (a b : Bool) → T (a && b) → (T a) × (T b)
-both_parts true b h = (tt, h)
-both_parts false b h = absurd h
-
-less_of : (o : Ordering) → T (is_lt o) → o ≡ Less
-less_of Less h = refl
-less_of Equal h = absurd h
-less_of Greater h = absurd h
-
 sorted_keys : (es : List (List ℕ × ℕ)) → T (is_sorted name_cmp es) → IsStrictlySortedBy name_cmp (map (λ e. e.0) es)
 unfolding IsStrictlySortedBy
 sorted_keys [] h = tt
 sorted_keys (e ∷ es) h =
-    let parts = both_parts (below_all name_cmp e.0 es) (is_sorted name_cmp es) h in
+    let parts = both_T (below_all name_cmp e.0 es) (is_sorted name_cmp es) h in
     (above e.0 es parts.0, sorted_keys es parts.1)
   where
     above : (n : List ℕ) (es : List (List ℕ × ℕ)) → T (below_all name_cmp n es) → AllByRecursion (λ m. name_cmp n m ≡ Less) (map (λ e. e.0) es)
     above n [] h = tt
-    above n (x ∷ es) h = let parts = both_parts (is_lt (name_cmp n x.0)) (below_all name_cmp n es) h in (less_of (name_cmp n x.0) parts.0, above n es parts.1)
+    above n (x ∷ es) h = let parts = both_T (is_lt (name_cmp n x.0)) (below_all name_cmp n es) h in (less_T (name_cmp n x.0) parts.0, above n es parts.1)
 
 module _ (slots : List Slot) (t : Files) (path : Path) (s : Slot) (forest : IsForest slots) (same : files_of slots ≡ t) (is : Some s ≡ slot_in slots path) where
   child_present : (n : List ℕ) → is_some (fin.get s.children n) ≡ is_some (places t (path ++ n ∷ []))
@@ -297,25 +288,10 @@ new_files s slots o bare is one = ap files_of one ∙ root_files s bare ∙ ap (
 
 -- ---- the directory of a path
 
-directory_of : (k : Kind) → is_directory k ≡ true → k ≡ Directory
+pub directory_of : (k : Kind) → is_directory k ≡ true → k ≡ Directory
 directory_of Directory h = refl
 directory_of File h = absurd (let no : false ≡ true = h in cc)
 directory_of Link h = absurd (let no : false ≡ true = h in cc)
 directory_of Fifo h = absurd (let no : false ≡ true = h in cc)
 directory_of CharDevice h = absurd (let no : false ≡ true = h in cc)
 directory_of BlockDevice h = absurd (let no : false ≡ true = h in cc)
-
-pub kind_there : (slots : List Slot) (t : Files) (path : Path) (s : Slot) (b : Bool) → IsForest slots → files_of slots ≡ t → Some s ≡ slot_in slots path → b ≡ is_directory s.object.node.kind
-    → (b ≡ true → IsKind Directory t path) × (IsKind Directory t path → b ≡ true)
-kind_there slots t path s b forest same is test =
-    let kind : Some s.object.node.kind ≡ kind_of (places t path) = ap kind_of (read_object slots t path forest same s is) in (
-      λ h. sym kind ∙ ap Some (directory_of s.object.node.kind (sym test ∙ h)),
-      λ h. let directory : s.object.node.kind ≡ Directory = (let both : Some s.object.node.kind ≡ Some Directory = kind ∙ h in cc) in test ∙ ap is_directory directory,
-    )
-
-pub kind_absent : (slots : List Slot) (t : Files) (path : Path) → IsForest slots → files_of slots ≡ t → None ≡ slot_in slots path
-    → (false ≡ true → IsKind Directory t path) × (IsKind Directory t path → false ≡ true)
-kind_absent slots t path forest same none = (
-  λ h. absurd (let no : false ≡ true = h in cc),
-  λ h. absurd (slot_of_kind slots t path forest same h none),
-)

@@ -1,17 +1,17 @@
 -- Walks: how what is left falls as slots are opened and closed.
-use Rattle.std.proofs.Common.{◌≡◌, ◌≢◌, ℕ, suc, zero, ◌<◌, ◌≤◌, ◌-◌, Bool, true, false, cond, ◌&&◌, T, ◌⊎◌, inl, inr, List, [], ◌∷◌, ◌++◌, length, map, take, drop, Option, Some, None, is_some, option_map, slice_get, get_or, refl, sym, ap, subst, ◌∙◌, arith, length-append}
+use Rattle.std.proofs.Common.{◌≡◌, ◌≢◌, ℕ, suc, zero, ◌<◌, ◌≤◌, ◌-◌, Bool, true, false, cond, T, ◌⊎◌, inl, inr, List, [], ◌∷◌, ◌++◌, length, map, take, drop, Option, Some, None, is_some, option_map, slice_get, get_or, refl, sym, ap, subst, ◌∙◌, arith, length-append}
 use Rattle.std.specs.Option.{option_and_then, option_map_or, option_to_list}
 use Rattle.std.specs.FinMap as fin
 use Rattle.std.specs.FinMap.{find, is_sorted}
 use Rattle.std.specs.FinMap.Entries.{below_all}
 use Rattle.std.specs.Ordering.{is_eq, is_lt}
-use Rattle.std.specs.declared.cmp.Ordering.{Ordering}
-use Rattle.std.specs.declared.cmp.Ordering.TheVariants.{Less, Equal, Greater}
+use Rattle.std.specs.declared.cmp.Ordering.TheVariants.{Less}
 use Rattle.std.proofs.lemmas.Bool.{cases_eq}
 use Rattle.std.proofs.lemmas.List.{nil_from_length}
 use Rattle.std.proofs.lemmas.Option.{slice_get-get_or}
 use Rattle.pv_path.specs.Paths.{Path}
 use Rattle.pv_path.proofs.PathLaws.{name_cmp-refl}
+use Rattle.pv_steps.proofs.NameLaws.{both_T, less_T}
 use Rattle.pv_steps.specs.declared.object.Object.{Object}
 use Rattle.pv_tree.specs.declared.slot.Slot.{Slot}
 use Rattle.pv_tree.specs.Children.{name_cmp, IsSorted}
@@ -54,25 +54,16 @@ child_entry (x ∷ es) zero n j h e =
     let same : x ≡ (n, j) = cc in
     ap (λ o. cond (is_eq o) (Some x.1) (find name_cmp n es)) (ap (λ (v : List ℕ × ℕ). name_cmp n v.0) same ∙ name_cmp-refl n) ∙ ap (λ (v : List ℕ × ℕ). Some v.1) same
 child_entry (x ∷ es) (suc k) n j h e =
-    let parts = halves (below_all name_cmp x.0 es) (is_sorted name_cmp es) h in
+    let parts = both_T (below_all name_cmp x.0 es) (is_sorted name_cmp es) h in
     let less : name_cmp x.0 n ≡ Less = above es k parts.0 e in
     ap (λ o. cond (is_eq o) (Some x.1) (find name_cmp n es)) (reversed x.0 n Less less) ∙ child_entry es k n j parts.1 e
   where
-    halves : (a b : Bool) → T (a && b) → (T a) × (T b)
-    halves true b t = (tt, t)
-    halves false b t = absurd t
-
-    less_of : (o : Ordering) → T (is_lt o) → o ≡ Less
-    less_of Less t = refl
-    less_of Equal t = absurd t
-    less_of Greater t = absurd t
-
     above : (ys : List (List ℕ × ℕ)) (m : ℕ) → T (below_all name_cmp x.0 ys) → slice_get ys m ≡ Some (n, j) → name_cmp x.0 n ≡ Less
     above [] m t g = absurd (let no : None ≡ Some (n, j) = g in cc)
     above (y ∷ ys) zero t g =
         let same : y ≡ (n, j) = cc in
-        sym (ap (λ (v : List ℕ × ℕ). name_cmp x.0 v.0) same) ∙ less_of (name_cmp x.0 y.0) (halves (is_lt (name_cmp x.0 y.0)) (below_all name_cmp x.0 ys) t).0
-    above (y ∷ ys) (suc m) t g = above ys m (halves (is_lt (name_cmp x.0 y.0)) (below_all name_cmp x.0 ys) t).1 g
+        sym (ap (λ (v : List ℕ × ℕ). name_cmp x.0 v.0) same) ∙ less_T (name_cmp x.0 y.0) (both_T (is_lt (name_cmp x.0 y.0)) (below_all name_cmp x.0 ys) t).0
+    above (y ∷ ys) (suc m) t g = above ys m (both_T (is_lt (name_cmp x.0 y.0)) (below_all name_cmp x.0 ys) t).1 g
 
 module _ (slots : List Slot) where
   pub child_there : (i k : ℕ) (n : List ℕ) (j : ℕ) → slice_get (children_in slots i) k ≡ Some (n, j) → child_in slots i n ≡ Some j

@@ -4,5 +4,6 @@ pub mod Edges
 pub mod Slots
 pub mod Walks
 pub mod Held
+pub mod Growth
 pub mod Changes
 pub mod Fuses

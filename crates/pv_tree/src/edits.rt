@@ -1,7 +1,7 @@
 //! The edits of the tree: an object changes, comes, goes, or moves with all that lies below it.
 ghost use Rattle.std.specs.Prelude.{◌≡◌, ◌≢◌, ℕ, ◌<◌, List, [], ◌∷◌, ◌++◌, vec_len, vec_capacity, Some, IfOk, OnOk, OnErr};
 ghost use Rattle.std.specs.Option.{option_to_list};
-ghost use Rattle.pv_path.specs.Paths.{parent_of};
+ghost use Rattle.pv_path.specs.Paths.{Path, parent_of};
 ghost use Rattle.pv_steps.specs.Objects.{fresh};
 ghost use Rattle.pv_steps.specs.Trees.{IsPresentIn, IsTreeIn};
 ghost use Rattle.pv_steps.specs.Steps.{HasRoom, Movable, put_at, on_at, made, gone, moved};
@@ -10,8 +10,8 @@ ghost use Rattle.pv_tree.specs.Slots.{IsForest, AreFree, number_in, places_in};
 
 use crate::slot::Slot;
 use crate::slots::{
-    change_slot, child_of, location, next_number, number_at, place, push_within, put_child,
-    remove_child, renew, touch,
+    change_slot, child_of, location, next_number, number_at, own_name, place, push_within,
+    put_child, remove_child, renew, touch,
 };
 use pv_acl::Acl;
 use pv_path::{Bytes, TreePath};
@@ -59,6 +59,35 @@ pub(crate) fn plain(alloc: Global, kind: Kind, mode: u16, now: u64) -> Object
     fresh(alloc, kind, mode, Bytes::new(alloc), 0, 0, now)
 }
 
+/// Puts an object at an absent path into its directory, which has this number, and gives the number of the
+/// object. After want of memory the slots are as before.
+pub(crate) fn put_below(
+    alloc: Global,
+    slots: &mut Vec<Slot>,
+    free: &mut Vec<usize>,
+    directory: usize,
+    path: &TreePath,
+    object: Object,
+) -> Result<usize, AllocError>
+    requires forest { IsForest slots.old.items }
+    requires free { AreFree slots.old.items free.old.items }
+    requires room { HasRoom (places_in slots.old.items) path.now }
+    requires directory { number_in slots.old.items (parent_of path.now) ≡ Some directory }
+    ensures forest { IsForest slots.new.items }
+    ensures free { AreFree slots.new.items free.new.items }
+    ensures ok { OnOk result (places_in slots.new.items ≡ put_at path.now (Some object) (places_in slots.old.items)) }
+    ensures number { IfOk result (λ i. number_in slots.new.items path.now ≡ Some i) }
+    ensures others { OnOk result
+        ((q : Path) → q ≢ path.now → number_in slots.new.items q ≡ number_in slots.old.items q) }
+    ensures err { OnErr result (slots.new.items ≡ slots.old.items) }
+{
+    slots.reserve(1)?;
+    let number = next_number(slots, free);
+    put_child(slots, directory, own_name(path).copy()?, number)?;
+    place(alloc, slots, free, object);
+    Ok(number)
+}
+
 /// Puts an object at an absent path in a directory, and gives the number of the directory. After want of
 /// memory the slots are as before.
 pub(crate) fn put(
@@ -77,11 +106,8 @@ pub(crate) fn put(
     ensures directory { IfOk result (λ k. number_in slots.new.items (parent_of path.now) ≡ Some k) }
     ensures err { OnErr result (slots.new.items ≡ slots.old.items) }
 {
-    let (directory, name) = location(slots, path);
-    slots.reserve(1)?;
-    let number = next_number(slots, free);
-    put_child(slots, directory, name.copy()?, number)?;
-    place(alloc, slots, free, object);
+    let (directory, _name) = location(slots, path);
+    put_below(alloc, slots, free, directory, path, object)?;
     Ok(directory)
 }
 

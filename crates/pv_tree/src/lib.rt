@@ -2,6 +2,7 @@
 #![tactic(auto)]
 
 mod apply;
+mod builder;
 mod children;
 mod edits;
 mod fused;
@@ -13,6 +14,7 @@ mod slots;
 mod tests;
 mod walk;
 
+pub use builder::{BuildFault, TreeBuilder};
 pub use fused::Fused;
 pub use mem_tree::MemTree;
 pub use probe::{Probe, find};

@@ -3,22 +3,20 @@ ghost use Rattle.std.specs.Prelude.{◌≡◌, ◌↔◌, IsTrue, ℕ, ◌≤◌
 ghost use Rattle.std.proofs.Common.{arith};
 ghost use Rattle.std.specs.Option.{option_copied, option_to_list};
 ghost use Rattle.std.specs.FinMap as fin;
-ghost use Rattle.pv_path.specs.Paths.{parent_of};
 ghost use Rattle.pv_steps.specs.declared.node.Kind.TheVariants.{Directory, File, Link};
 ghost use Rattle.pv_steps.specs.declared.tree.TreeFault.TheVariants.{Failed};
 ghost use Rattle.pv_steps.specs.Objects.{IsObject};
 ghost use Rattle.pv_steps.specs.Trees.{places, IsKind, IsTree, node_at, payload_at, names_below, child_name};
 ghost use Rattle.pv_steps.specs.Steps.{Can, StepFits, after};
 ghost use Rattle.pv_tree.specs.Held.{root_alone};
+ghost use Rattle.pv_tree.specs.Slots.{files_of, IsTreeOf};
 
 use crate::apply::{do_told, parts_fit};
-use crate::children::Children;
-use crate::edits::put;
 use crate::slot::Slot;
-use crate::slots::{parent_slot, slot_at};
+use crate::slots::{root_slots, slot_at};
 use crate::walk::Walk;
-use pv_path::{Bytes, NameList, TreePath};
-use pv_steps::{Node, Object, Step, Tree, TreeFault};
+use pv_path::{NameList, TreePath};
+use pv_steps::{Node, Step, Tree, TreeFault};
 use std::alloc::{AllocError, Global};
 use std::marker::Model;
 
@@ -53,49 +51,21 @@ impl MemTree {
         requires object { IsObject (record { node = root; payload = [] }) }
         ensures { IfOk result (λ tree. tree ≡ record { files = root_alone root; steps = [] }) }
     {
-        let object = Object {
-            node: root,
-            payload: Bytes::new(alloc),
-        };
-        let mut slots = Vec::new(alloc);
-        slots.push(Slot {
-            object,
-            children: Children::new(alloc),
-        })?;
-        Ok(MemTree {
+        let slots = root_slots(alloc, root)?;
+        Ok(MemTree::of(alloc, slots, Vec::new(alloc)))
+    }
+
+    /// The tree of slots, with no step told. It takes no memory.
+    pub(crate) fn of(alloc: Global, slots: Vec<Slot>, free: Vec<usize>) -> MemTree
+        requires { IsTreeOf slots.items free.items }
+        ensures { result ≡ record { files = files_of slots.items; steps = [] } }
+    {
+        MemTree {
             alloc,
             slots,
-            free: Vec::new(alloc),
+            free,
             steps: Vec::new(alloc),
-        })
-    }
-
-    /// Puts an object at an absent path in a directory, with its stamps as they are, and tells no step.
-    /// After want of memory the tree is as before.
-    pub fn add(&mut self, path: &TreePath, node: Node, payload: &[u8]) -> Result<(), AllocError>
-        requires absent { places self.old.files path.now ≡ None }
-        requires parent { IsKind Directory self.old.files (parent_of path.now) }
-        requires object { IsObject (record { node = node; payload = payload.now }) }
-        ensures ok { OnOk result (self.new ≡ record self.old {
-          files = fin.insert self.old.files path.now (record { node = node; payload = payload.now });
-        }) }
-        ensures err { OnErr result (self.new ≡ self.old) }
-    {
-        let payload = Bytes::copy_of(self.alloc, payload)?;
-        self.add_object(path, Object { node, payload })
-    }
-
-    /// Puts an object at an absent path in a directory, as `add` does, and takes its payload over.
-    pub fn add_object(&mut self, path: &TreePath, object: Object) -> Result<(), AllocError>
-        requires absent { places self.old.files path.now ≡ None }
-        requires parent { IsKind Directory self.old.files (parent_of path.now) }
-        requires object { IsObject object }
-        ensures ok { OnOk result (self.new ≡ record self.old { files = fin.insert self.old.files path.now object }) }
-        ensures err { OnErr result (self.new ≡ self.old) }
-    {
-        let _names = path.names();
-        put(self.alloc, &mut self.slots, &mut self.free, path, object)?;
-        Ok(())
+        }
     }
 
     /// The node at a path, or nothing where the path is absent. It takes no memory.
@@ -128,16 +98,6 @@ impl MemTree {
         match slot_at(&self.slots, path) {
             Some(slot) => Some(slot.object.payload.as_slice()),
             None => None,
-        }
-    }
-
-    /// Whether the directory that a path lies in is there. It takes no memory.
-    pub fn has_parent(&self, path: &TreePath) -> bool
-        ensures { IsTrue result ↔ IsKind Directory self.now.files (parent_of path.now) }
-    {
-        match parent_slot(&self.slots, path) {
-            Some(slot) => slot.object.node.kind.is_directory(),
-            None => false,
         }
     }
 

@@ -1,17 +1,19 @@
 //! The slots of the tree: where a path leads among them, and the edits of one slot.
 ghost use Rattle.std.specs.Prelude.{◌≡◌, ◌≢◌, ℕ, ◌+◌, ◌-◌, ◌<◌, ◌≤◌, List, [], ◌∷◌, ◌++◌, length, take, vec_len, vec_capacity, Some, None, IfOk, OnOk, OnErr, slice_get};
-ghost use Rattle.std.specs.Option.{option_copied};
+ghost use Rattle.std.specs.Option.{option_copied, option_map};
 ghost use Rattle.pv_path.specs.Paths.{parent_of};
-ghost use Rattle.pv_steps.specs.Objects.{modified, changed};
+ghost use Rattle.pv_steps.specs.declared.node.Kind.TheVariants.{Directory};
+ghost use Rattle.pv_steps.specs.Objects.{IsObject, is_directory, modified, changed};
 ghost use Rattle.pv_steps.specs.Trees.{IsPresentIn};
 ghost use Rattle.pv_tree.specs.Changes.{change_of};
 ghost use Rattle.pv_tree.specs.Edges.{IsSet, IsChanged, IsPlaced};
-ghost use Rattle.pv_tree.specs.Slots.{child_in, object_in, number_in, slot_in, places_in, next_number};
+ghost use Rattle.pv_tree.specs.Held.{root_alone};
+ghost use Rattle.pv_tree.specs.Slots.{child_in, files_of, object_in, number_in, slot_in, places_in, next_number, IsTreeOf};
 
 use crate::children::Children;
 use crate::slot::{Slot, change, note_content, note_name};
-use pv_path::{Name, TreePath};
-use pv_steps::{Object, Step};
+use pv_path::{Bytes, Name, TreePath};
+use pv_steps::{Node, Object, Step};
 use std::alloc::{AllocError, Global};
 
 /// The number of the child that a slot has by a name, or nothing where it has none.
@@ -35,21 +37,19 @@ pub(crate) fn number_at(slots: &Vec<Slot>, names: &[Name]) -> Option<usize>
     Some(number)
 }
 
+/// Whether the object with a number is a directory.
+pub(crate) fn is_directory_in(slots: &Vec<Slot>, number: usize) -> bool
+    requires { number < length slots.now.items }
+    ensures { option_map (λ o. is_directory o.node.kind) (object_in slots.now.items number) ≡ Some result }
+{
+    slots[number].object.node.kind.is_directory()
+}
+
 /// The slot at a path, or nothing where the path is absent.
 pub(crate) fn slot_at<'a>(slots: &'a Vec<Slot>, path: &TreePath) -> Option<&'a Slot>
     ensures { option_copied result ≡ slot_in slots.now.items path.now }
 {
     match number_at(slots, path.names()) {
-        Some(number) => slots.get(number),
-        None => None,
-    }
-}
-
-/// The slot of the directory that a path lies in, or nothing where this is absent.
-pub(crate) fn parent_slot<'a>(slots: &'a Vec<Slot>, path: &TreePath) -> Option<&'a Slot>
-    ensures { option_copied result ≡ slot_in slots.now.items (parent_of path.now) }
-{
-    match number_at(slots, parent_names(path)) {
         Some(number) => slots.get(number),
         None => None,
     }
@@ -72,9 +72,20 @@ pub(crate) fn location<'a>(slots: &Vec<Slot>, path: &'a TreePath) -> (usize, &'a
     ensures number { number_in slots.now.items (parent_of path.now) ≡ Some result.0 }
     ensures name { path.now ≡ parent_of path.now ++ result.1.now ∷ [] }
 {
-    match (number_at(slots, parent_names(path)), path.name()) {
-        (Some(number), Some(name)) => (number, name),
-        _ => unreachable!(),
+    match number_at(slots, parent_names(path)) {
+        Some(number) => (number, own_name(path)),
+        None => unreachable!(),
+    }
+}
+
+/// The last name of a path that is not the root.
+pub(crate) fn own_name(path: &TreePath) -> &Name
+    requires { path.now ≢ [] }
+    ensures { path.now ≡ parent_of path.now ++ result.now ∷ [] }
+{
+    match path.name() {
+        Some(name) => name,
+        None => unreachable!(),
     }
 }
 
@@ -180,6 +191,25 @@ pub(crate) fn place(alloc: Global, slots: &mut Vec<Slot>, free: &mut Vec<usize>,
         Some(number) => slots[number] = slot,
         None => push_within(slots, slot),
     }
+}
+
+/// The slots of a root alone.
+pub(crate) fn root_slots(alloc: Global, root: Node) -> Result<Vec<Slot>, AllocError>
+    requires kind { root.kind ≡ Directory }
+    requires object { IsObject (record { node = root; payload = [] }) }
+    ensures tree { IfOk result (λ slots. IsTreeOf slots.items []) }
+    ensures files { IfOk result (λ slots. files_of slots.items ≡ root_alone root) }
+{
+    let object = Object {
+        node: root,
+        payload: Bytes::new(alloc),
+    };
+    let mut slots = Vec::new(alloc);
+    slots.push(Slot {
+        object,
+        children: Children::new(alloc),
+    })?;
+    Ok(slots)
 }
 
 /// Adds an item where there is room for it.

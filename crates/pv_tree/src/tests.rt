@@ -10,7 +10,7 @@ mod shown;
 use super::*;
 use plain::{apply, entries_text, plain_object, put, root_object};
 use pv_path::{Bytes, Name, TreePath};
-use rows::{bytes_of, can, has_room, is_kind, path_of, perform, pieces_of, step_of};
+use rows::{bytes_of, can, is_kind, path_of, perform, pieces_of, step_of};
 use shown::{add_object, add_path};
 use std::alloc::Global;
 use std::cmp::Ordering;
@@ -188,12 +188,24 @@ fn leaves_what_each_step_says(rt: HostRuntime) {
     }
 }
 
-/// Adds an object with its stamps as they are.
-fn add(rt: &impl Abort, alloc: Global, tree: &mut MemTree, name: &[u8]) {
-    let path = path_of(rt, alloc, name);
-    assert!(rt; has_room(rt, alloc, tree, &path));
-    let Object { node, payload: _ } = plain_object(alloc, Kind::File, 0o644, Bytes::new(alloc), 3);
-    tree.add(&path, node, b"").expect(rt, "memory");
+/// Adds a directory or a file, with its stamps as they are.
+fn add(
+    rt: &impl Abort,
+    alloc: Global,
+    builder: &mut TreeBuilder,
+    is_directory: bool,
+    text: &[u8],
+) -> Result<(), BuildFault> {
+    let path = path_of(rt, alloc, text);
+    let payload = Bytes::new(alloc);
+    if is_directory {
+        builder.add(
+            path,
+            plain_object(alloc, Kind::Directory, 0o755, payload, 3),
+        )
+    } else {
+        builder.add(path, plain_object(alloc, Kind::File, 0o644, payload, 3))
+    }
 }
 
 /// The names in the root, each after a slash.
@@ -206,23 +218,54 @@ fn names_text(rt: &impl Abort, alloc: Global, tree: &MemTree) -> Vec<u8> {
     text
 }
 
+/// Whether it is a directory, and the path, in the order in which they are added, each with the fault that it has.
+static ADDED: [(bool, &[u8], Option<BuildFault>); 19] = [
+    (false, b"/", Some(BuildFault::OutOfOrder)),
+    (false, b"/a/b", Some(BuildFault::NoParent)),
+    (false, b"/Z", None),
+    (false, b"/Z/f", Some(BuildFault::NoParent)),
+    (true, b"/a", None),
+    (true, b"/a", Some(BuildFault::OutOfOrder)),
+    (true, b"/a/b", None),
+    (false, b"/a/b/c/d", Some(BuildFault::NoParent)),
+    (true, b"/a/b/c", None),
+    (false, b"/a/b/c/f", None),
+    (false, b"/a/b/c/f/g", Some(BuildFault::NoParent)),
+    (false, b"/a/b", Some(BuildFault::OutOfOrder)),
+    (false, b"/a/b/d", None),
+    (false, b"/a/a", Some(BuildFault::OutOfOrder)),
+    (false, b"/a/c/f", Some(BuildFault::NoParent)),
+    (false, b"/a/c", None),
+    (false, b"/a!", None),
+    (false, b"/a/d", Some(BuildFault::OutOfOrder)),
+    (false, b"/b", None),
+];
+
 #[test]
-fn adds_and_lists_in_order(rt: HostRuntime) {
+fn adds_in_order_below_directories(rt: HostRuntime) {
     let alloc = rt.alloc();
-    let mut tree = root_tree(&rt, alloc);
-    for name in [b"/b".as_slice(), b"/a", b"/b!", b"/Z"] {
-        add(&rt, alloc, &mut tree, name);
+    let Object { node, payload: _ } = root_object(alloc);
+    let mut builder = TreeBuilder::new(alloc, node).expect(&rt, "memory");
+    for (is_directory, text, fault) in ADDED {
+        let added = add(&rt, alloc, &mut builder, is_directory, text);
+        assert_eq!(rt; added.err(), fault);
     }
+    let tree = builder.finish();
     let names = names_text(&rt, alloc, &tree);
-    assert_eq!(rt; names.as_slice(), b"/Z/a/b/b!".as_slice());
+    assert_eq!(rt; names.as_slice(), b"/Z/a/a!/b".as_slice());
     let text = tree_text(&rt, alloc, &tree);
     assert_eq!(rt;
         text.as_slice(),
         b"d / 0755 0 0 0:0 0,0,0,0 - - - -\n\
         f /Z 0644 0 0 0:0 3,3,3,3 - - - -\n\
-        f /a 0644 0 0 0:0 3,3,3,3 - - - -\n\
-        f /b 0644 0 0 0:0 3,3,3,3 - - - -\n\
-        f /b! 0644 0 0 0:0 3,3,3,3 - - - -\n"
+        d /a 0755 0 0 0:0 3,3,3,3 - - - -\n\
+        d /a/b 0755 0 0 0:0 3,3,3,3 - - - -\n\
+        d /a/b/c 0755 0 0 0:0 3,3,3,3 - - - -\n\
+        f /a/b/c/f 0644 0 0 0:0 3,3,3,3 - - - -\n\
+        f /a/b/d 0644 0 0 0:0 3,3,3,3 - - - -\n\
+        f /a/c 0644 0 0 0:0 3,3,3,3 - - - -\n\
+        f /a! 0644 0 0 0:0 3,3,3,3 - - - -\n\
+        f /b 0644 0 0 0:0 3,3,3,3 - - - -\n"
             .as_slice()
     );
     assert_eq!(rt; tree.step_count(), 0);

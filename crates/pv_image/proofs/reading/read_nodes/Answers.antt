@@ -1,7 +1,8 @@
-use Rattle.std.proofs.Common.{◌≡◌, true, false, sym, ◌∙◌, arith, refl}
+use Rattle.std.proofs.Common.{◌≡◌, true, false, sym, subst, ◌∙◌, arith, refl}
 use Rattle.std.proofs.lemmas.Result.{err_from_is_err_and}
 use Rattle.std.specs.FinMap as fin
 use Rattle.pv_image.specs.Images.{After, End, InNodes, Node, cut_off}
+use Rattle.pv_image.specs.Progress.{IsLastPath}
 use Rattle.pv_image.proofs.Stages.{bad_node, cut_length, fails_later, leads_on, nodes_on, path_more, refuses_fails, tree_more}
 use Rattle.pv_image.proofs.reading.read_nodes.Goals as goal
 
@@ -35,8 +36,7 @@ loop-text-preserved c =
     record {
       leads = nodes_on c.args.version c.args.left.number (InNodes c.args.version (fin.entries c.args.tree.now.files)) c.args.left.bytes.now c.loop-text.number old new (c.in-Some-2.path, c.in-Some-2.object) text rest after c.loop-text.invariant.leads cut read (c.in_ok-add_node.ensures.judged c.args.version) c.in_ok-add_node.ensures.added;
       text = λ bytes so_far. tree_more c.args.version bytes old new (c.in-Some-2.path, c.in-Some-2.object) rest text after (c.loop-text.invariant.text bytes so_far) c.in_ok-add_node.ensures.added read.0 cut read.1;
-      last = path_more old new (c.in-Some-2.path, c.in-Some-2.object) c.in_ok-add_node.ensures.added;
-      steps = c.in_ok-add_node.ensures.steps ∙ c.loop-text.invariant.steps;
+      last = subst (IsLastPath new) (sym c.in_ok-add_node.ensures.last) (path_more old new (c.in-Some-2.path, c.in-Some-2.object) c.in_ok-add_node.ensures.added);
       small = let shorter = cut_length rest text after cut in let so_far = c.loop-text.invariant.small in omega arith;
     }
 

@@ -1,6 +1,7 @@
-use Rattle.std.proofs.Common.{refl}
+use Rattle.std.proofs.Common.{refl, sym, subst}
 use Rattle.std.proofs.lemmas.Result.{err_from_is_err_and}
 use Rattle.pv_image.specs.Images.{cut_off}
+use Rattle.pv_image.specs.Progress.{IsLastPath}
 use Rattle.pv_image.proofs.Stages.{first_fails, root_fails, root_last, root_leads}
 use Rattle.pv_image.proofs.reading.read_root.Goals as goal
 
@@ -23,4 +24,5 @@ returns-clause-leads c = λ facts.
     (rw c.in-Some-2.is at c.in_ok-path.ensures) c.in_ok-tree.ensures.is_root c.in_ok-tree.ensures.root
 
 pub returns-clause-last : goal.returns-clause-last
-returns-clause-last c = root_last c.in_ok-tree.tree.files (c.in-Some-2.path, c.in-Some-2.object) c.in_ok-tree.ensures.is_root c.in_ok-tree.ensures.root
+returns-clause-last c =
+    subst (IsLastPath c.in_ok-tree.tree.files) (sym c.in_ok-tree.ensures.last) (root_last c.in_ok-tree.tree.files (c.in-Some-2.path, c.in-Some-2.object) c.in_ok-tree.ensures.is_root c.in_ok-tree.ensures.root)

@@ -1,30 +1,14 @@
-use Rattle.std.proofs.Common.{Some, List, ℕ, subst}
-use Rattle.pv_steps.specs.Steps.{put_at}
-use Rattle.pv_tree.specs.Edges.{IsSet}
-use Rattle.pv_tree.specs.Slots.{child_in, places_in}
-use Rattle.pv_tree.proofs.ForestLaws.{Kept, put_kept, put_at_directory}
+use Rattle.std.proofs.Common.{ap, sym, ◌∙◌}
+use Rattle.pv_path.specs.Paths.{parent_of}
+use Rattle.pv_path.proofs.PathLaws.{parent_of-differs}
+use Rattle.pv_steps.specs.declared.node.Kind.TheVariants.{Directory}
+use Rattle.pv_steps.proofs.TreeLaws.{not_absent, present_of_kind}
+use Rattle.pv_tree.specs.Slots.{places_in}
 use Rattle.pv_tree.proofs.edits.put.Goals as goal
 
-edges : (c : goal.After-place) → IsSet c.location-directory.result.0 c.location-directory.result.1.now (Some c.next_number-number.result) (child_in c.reserve.new.self.items) (child_in c.put_child.new.slots.items)
-edges c = subst (λ (n : List ℕ). IsSet c.location-directory.result.0 n (Some c.next_number-number.result) (child_in c.reserve.new.self.items) (child_in c.put_child.new.slots.items)) c.in_ok-copy.ensures c.in_ok-put_child.ensures.edges
-
-kept : (c : goal.After-place) → Kept c.place.new.slots.items c.place.new.free.items (put_at c.args.path.now (Some c.args.object) (places_in c.args.slots.now.items))
-kept c = put_kept c.args.slots.now.items c.reserve.new.self.items c.put_child.new.slots.items c.place.new.slots.items c.args.free.now.items c.place.new.free.items
-    c.location-directory.result.0 c.next_number-number.result c.location-directory.result.1.now c.args.path.now c.args.object c.requires.forest c.requires.free
-    c.location-directory.ensures.number c.location-directory.ensures.name c.requires.room.0 c.reserve.ensures.items c.next_number-number.ensures (edges c)
-    c.put_child.ensures.objects c.put_child.ensures.length c.place.ensures.placed c.place.ensures.length c.place.ensures.number c.place.ensures.free
-
-pub returns-clause-forest : goal.returns-clause-forest
-returns-clause-forest c = (kept c).forest
-
-pub returns-clause-free : goal.returns-clause-free
-returns-clause-free c = (kept c).spare
-
-pub returns-clause-ok : goal.returns-clause-ok
-returns-clause-ok c = (kept c).places
-
 pub returns-clause-directory : goal.returns-clause-directory
-returns-clause-directory c = put_at_directory c.args.slots.now.items c.reserve.new.self.items c.put_child.new.slots.items c.place.new.slots.items c.args.free.now.items c.place.new.free.items
-    c.location-directory.result.0 c.next_number-number.result c.location-directory.result.1.now c.args.path.now c.args.object c.requires.forest c.requires.free
-    c.location-directory.ensures.number c.location-directory.ensures.name c.requires.room.0 c.reserve.ensures.items c.next_number-number.ensures (edges c)
-    c.put_child.ensures.objects c.put_child.ensures.length c.place.ensures.placed c.place.ensures.length c.place.ensures.number c.place.ensures.free
+returns-clause-directory c =
+    c.in_ok-put_below.ensures.others (parent_of c.args.path.now) (parent_of-differs c.args.path.now (λ root.
+    not_absent (places_in c.args.slots.now.items) (parent_of c.args.path.now) (present_of_kind (places_in c.args.slots.now.items) (parent_of c.args.path.now) Directory c.requires.room.1)
+    (ap (λ p. places_in c.args.slots.now.items (parent_of p)) root ∙ sym (ap (places_in c.args.slots.now.items) root) ∙ c.requires.room.0)))
+    ∙ c.location-directory.ensures.number

@@ -1,0 +1,215 @@
+//! A tree in the making: objects are added in the order of their paths.
+ghost use Rattle.std.specs.Prelude.{◌≡◌, ◌≢◌, ℕ, ◌+◌, ◌<◌, ◌≤◌, List, [], length, take, true, false, Some, Err, IfOk, OnOk, OnErr};
+ghost use Rattle.std.specs.Ordering.{is_lt};
+ghost use Rattle.std.specs.FinMap as fin;
+ghost use Rattle.pv_path.specs.Paths.{has_names, is_prefix, parent_of, path_cmp};
+ghost use Rattle.pv_steps.specs.declared.node.Kind.TheVariants.{Directory};
+ghost use Rattle.pv_steps.specs.Objects.{IsObject};
+ghost use Rattle.pv_steps.specs.Steps.{put_at};
+ghost use Rattle.pv_steps.specs.Trees.{IsKind, IsKindIn, IsTree};
+ghost use Rattle.pv_tree.specs.declared.builder.BuildFault.TheVariants.{Memory};
+ghost use Rattle.pv_tree.specs.Growth.{IsGrowing, IsShared};
+ghost use Rattle.pv_tree.specs.Held.{root_alone};
+ghost use Rattle.pv_tree.specs.Slots.{places_in};
+
+use crate::edits::put_below;
+use crate::mem_tree::MemTree;
+use crate::slot::Slot;
+use crate::slots::{is_directory_in, push_within, root_slots};
+use pv_path::{Name, TreePath};
+use pv_steps::{Node, Object};
+use std::alloc::{AllocError, Global};
+use std::marker::Model;
+use thiserror::Error;
+
+/// Why an object was not added to a tree in the making.
+#[derive(Clone, Copy, Debug, PartialEq, Eq, Error)]
+pub enum BuildFault {
+    /// The path is not greater than the last one.
+    #[error("OutOfOrder")]
+    OutOfOrder,
+    /// The path's parent is no directory of the tree.
+    #[error("NoParent")]
+    NoParent,
+    /// Memory ran out.
+    #[error("Memory")]
+    Memory,
+}
+
+impl From<AllocError> for BuildFault {
+    ghost from_gives = { λ _ e. e ≡ Memory };
+
+    fn from(_e: AllocError) -> BuildFault {
+        BuildFault::Memory
+    }
+}
+
+/// How many names two paths share at their beginning.
+fn shared_names(first: &[Name], second: &[Name]) -> usize
+    ensures { IsShared first.now second.now result }
+{
+    let mut count = 0;
+    while count < first.len() && count < second.len() && first[count] == second[count] {
+        count += 1;
+    }
+    count
+}
+
+/// Whether the second path comes after the first, with which it shares so many names.
+fn comes_after(first: &TreePath, second: &TreePath, shared: usize) -> bool
+    requires { IsShared first.now second.now shared }
+    ensures { result ≡ is_lt (path_cmp first.now second.now) }
+{
+    match (first.get(shared), second.get(shared)) {
+        (Some(one), Some(other)) => one.cmp(other).is_lt(),
+        (None, Some(_)) => true,
+        (_, None) => false,
+    }
+}
+
+/// How many names of the last path are those of the directory that a path after it lies in. No other
+/// directory can be there: what lies between the directory and the path lies in the directory.
+fn depth_after(last: &TreePath, path: &TreePath) -> Result<usize, BuildFault>
+    ensures depth { IfOk result (λ depth. take depth last.now ≡ parent_of path.now) }
+    ensures parent { IfOk result (λ depth. depth + 1 ≡ length path.now) }
+    ensures within { IfOk result (λ depth. depth ≤ length last.now) }
+    ensures after { OnOk result (is_lt (path_cmp last.now path.now) ≡ true) }
+    ensures order { result ≡ Err BuildFault.OutOfOrder → is_lt (path_cmp last.now path.now) ≡ false }
+    ensures apart { result ≡ Err BuildFault.NoParent → is_prefix (parent_of path.now) last.now ≡ false }
+    ensures late { result ≡ Err BuildFault.NoParent → is_lt (path_cmp last.now path.now) ≡ true }
+{
+    let shared = shared_names(last.names(), path.names());
+    if !comes_after(last, path, shared) {
+        return Err(BuildFault::OutOfOrder);
+    }
+    if path.len() - shared != 1 {
+        return Err(BuildFault::NoParent);
+    }
+    Ok(shared)
+}
+
+/// Adds an object after the last one, whose path and the numbers on the way to it are given. After a fault
+/// all is as before.
+fn add_after(
+    alloc: Global,
+    slots: &mut Vec<Slot>,
+    free: &mut Vec<usize>,
+    last: &mut TreePath,
+    way: &mut Vec<usize>,
+    path: TreePath,
+    object: Object,
+) -> Result<(), BuildFault>
+    requires growing { IsGrowing slots.old.items free.old.items last.old way.old.items }
+    requires named { has_names path ≡ true }
+    requires object { IsObject object }
+    ensures growing { IsGrowing slots.new.items free.new.items last.new way.new.items }
+    ensures ok { OnOk result (places_in slots.new.items ≡ put_at path (Some object) (places_in slots.old.items)) }
+    ensures last { OnOk result (last.new ≡ path) }
+    ensures slots_kept { OnErr result (slots.new.items ≡ slots.old.items) }
+    ensures last_kept { OnErr result (last.new ≡ last.old) }
+    ensures after { OnOk result (is_lt (path_cmp last.old path) ≡ true) }
+    ensures parent { OnOk result (IsKindIn Directory (places_in slots.old.items) (parent_of path)) }
+    ensures order { result ≡ Err BuildFault.OutOfOrder → is_lt (path_cmp last.old path) ≡ false }
+    ensures late { result ≡ Err BuildFault.NoParent → is_lt (path_cmp last.old path) ≡ true }
+    ensures orphan { result ≡ Err BuildFault.NoParent →
+        IsKindIn Directory (places_in slots.old.items) (parent_of path) → ⊥ }
+{
+    let depth = depth_after(last, &path)?;
+    let directory = way[depth];
+    if !is_directory_in(slots, directory) {
+        return Err(BuildFault::NoParent);
+    }
+    way.reserve(1)?;
+    let number = put_below(alloc, slots, free, directory, &path, object)?;
+    way.truncate(depth + 1);
+    push_within(way, number);
+    *last = path;
+    Ok(())
+}
+
+/// A tree in the making, to which objects are added in the order of their paths: the last path shows where
+/// the next one lies, so nothing is looked up. Clauses see the tree so far and the last path.
+#[derive(Drop)]
+pub struct TreeBuilder {
+    alloc: Global,
+    slots: Vec<Slot>,
+    free: Vec<usize>,
+    /// The path of the last object.
+    last: TreePath,
+    /// The numbers of the slots from the root to the last object.
+    way: Vec<usize>,
+}
+
+impl Model for TreeBuilder {
+    ghost use Rattle.pv_tree.specs.Growth.{Grown, grown_code, IsGrowing};
+    ghost use Rattle.pv_tree.specs.Slots.{files_of};
+
+    ghost Value = { Grown };
+
+    ghost coded = { grown_code };
+
+    ghost view = { λ b. record { files = files_of b.slots.items; last = b.last } };
+
+    ghost invariant = { λ b. IsGrowing b.slots.items b.free.items b.last b.way.items };
+}
+
+impl TreeBuilder {
+    /// The tree of a root alone, which is the last object.
+    pub fn new(alloc: Global, root: Node) -> Result<TreeBuilder, AllocError>
+        requires kind { root.kind ≡ Directory }
+        requires object { IsObject (record { node = root; payload = [] }) }
+        ensures { IfOk result (λ builder. builder ≡ record { files = root_alone root; last = [] }) }
+    {
+        let slots = root_slots(alloc, root)?;
+        let mut way = Vec::new(alloc);
+        way.push(0)?;
+        Ok(TreeBuilder {
+            alloc,
+            slots,
+            free: Vec::new(alloc),
+            last: TreePath::root(alloc),
+            way,
+        })
+    }
+
+    /// Adds an object, with its stamps as they are, whose path and payload are taken over. After a fault the
+    /// tree is as before.
+    pub fn add(&mut self, path: TreePath, object: Object) -> Result<(), BuildFault>
+        requires { IsObject object }
+        ensures ok { OnOk result (self.new ≡ record { files = fin.insert self.old.files path object; last = path }) }
+        ensures err { OnErr result (self.new ≡ self.old) }
+        ensures after { OnOk result (is_lt (path_cmp self.old.last path) ≡ true) }
+        ensures parent { OnOk result (IsKind Directory self.old.files (parent_of path)) }
+
+        // A path out of order is told before one without a parent.
+        ensures order { result ≡ Err BuildFault.OutOfOrder → is_lt (path_cmp self.old.last path) ≡ false }
+        ensures late { result ≡ Err BuildFault.NoParent → is_lt (path_cmp self.old.last path) ≡ true }
+        ensures orphan { result ≡ Err BuildFault.NoParent → IsKind Directory self.old.files (parent_of path) → ⊥ }
+    {
+        let _names = path.names();
+        add_after(
+            self.alloc,
+            &mut self.slots,
+            &mut self.free,
+            &mut self.last,
+            &mut self.way,
+            path,
+            object,
+        )
+    }
+
+    /// The tree as it is, with no step told. It takes no memory.
+    pub fn finish(self) -> MemTree
+        ensures value { result ≡ record { files = self.files; steps = [] } }
+        ensures tree { IsTree self.files }
+    {
+        let TreeBuilder {
+            alloc,
+            slots,
+            free,
+            last: _,
+            way: _,
+        } = self;
+        MemTree::of(alloc, slots, free)
+    }
+}
