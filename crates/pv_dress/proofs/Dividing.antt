@@ -1,6 +1,7 @@
 -- Entries of a line, done after the base entries among them, are done once.
 use Rattle.std.specs.Prelude.{◌≡◌, Bool, true, false, not, ◌&&◌, ◌||◌, List, [], ◌∷◌, ◌++◌, fold, filter, Option, Some, None, if◌then◌else◌}
 use Rattle.std.proofs.Common.{refl, sym, ap, ◌∙◌}
+use Rattle.pv_path.proofs.PathLaws.{or_true}
 use Rattle.pv_acl.specs.declared.line.Entry.{Entry}
 use Rattle.pv_acl.specs.declared.line.Entry.TheVariants as entry
 use Rattle.pv_acl.specs.declared.line.AclLine.{AclLine}
@@ -227,10 +228,6 @@ module _ (p : Operation → Bool) (each : (guard : Guard) (line : AclLine) (how 
   any-parts : (xs : List Operation) → list_any p (parts xs) ≡ list_any p xs
   any-parts [] = refl
   any-parts (x ∷ xs) = list_any-append p (parts_of x) (parts xs) ∙ ap (λ b. b || list_any p (parts xs)) (any-parts_of x) ∙ ap (λ b. p x || b) (any-parts xs)
-
-or_true : (b : Bool) → (b || true) ≡ true
-or_true true = refl
-or_true false = refl
 
 gives-parts : (guard : Guard) (line : AclLine) (how : How) → list_any is_base line.access ≡ true
     → (is_adjusting gives_base (Adjust guard (Entries (base_line line) Add)) || (is_adjusting gives_base (Adjust guard (Entries line how)) || false)) ≡ is_adjusting gives_base (Adjust guard (Entries line how))

@@ -13,3 +13,8 @@ pub mod PuttingLaws
 pub mod PreparingLaws
 pub mod PreparingSweep
 pub mod PuttingOverLaws
+pub mod PlanLaws
+pub mod BuildingLaws
+pub mod CopiedLaws
+pub mod CopyListing
+pub mod CopyingLaws

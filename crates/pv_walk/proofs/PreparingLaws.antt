@@ -1,7 +1,8 @@
 -- Laws of putting absent parents, from the root on: what stands above a path is a directory then, and the path itself is as it was.
-use Rattle.std.specs.Prelude.{◌≡◌, ◌≢◌, ℕ, ◌+◌, ◌-◌, ◌*◌, ◌≤◌, ◌<◌, Bool, true, false, cond, ◌||◌, List, [], ◌∷◌, ◌++◌, length, take, drop, fold, filter, get_or, nat_le, Option, Some, None, is_some, is_none, Result, Ok}
+use Rattle.std.specs.Prelude.{◌≡◌, ◌≢◌, ◌⊎◌, ℕ, ◌+◌, ◌-◌, ◌*◌, ◌≤◌, ◌<◌, Bool, true, false, cond, ◌||◌, List, [], ◌∷◌, ◌++◌, length, take, drop, fold, filter, get_or, nat_le, Option, Some, None, is_some, is_none, option_map, Result, Ok}
+use Rattle.std.specs.List.{AllByRecursion}
 use Rattle.std.proofs.Common.{zero, suc, refl, sym, ap, subst, ◌∙◌, arith, inl, inr}
-use Rattle.std.proofs.lemmas.List.{take-append-drop, length-take, take_more, take_all}
+use Rattle.std.proofs.lemmas.List.{take-append-drop, length-append, length-take, take_more, take_all}
 use Rattle.std.proofs.lemmas.List.Sums.{fold_more}
 use Rattle.std.proofs.lemmas.List.Folds.{list_all-append}
 use Rattle.std.proofs.lemmas.List.FromFn.{get_or-map-range_with_len, length-map-range_with_len}
@@ -18,7 +19,8 @@ use Rattle.pv_steps.specs.Steps.{put_at, made}
 use Rattle.pv_steps.specs.Same.{bares}
 use Rattle.pv_steps.specs.declared.tree.Tree.{Ghosts}
 use Rattle.pv_steps.specs.declared.tree.TreeFault.{TreeFault}
-use Rattle.pv_steps.specs.Acting.{Acted}
+use Rattle.pv_steps.specs.declared.step.Step.{Step}
+use Rattle.pv_steps.specs.Acting.{refused, Acted}
 use Rattle.pv_steps.proofs.ActingLaws.{Moves, acted_then, acted_weaken, acted_end}
 use Rattle.pv_dress.proofs.EditLaws.{path_cases, put_at-else, on_at-else, made-here}
 use Rattle.pv_walk.specs.Staging.{new_object, can_stage}
@@ -227,17 +229,51 @@ parented_end path items i same le = take_all i (parents_of path) (omega (arith, 
 
 -- ---- on the way
 
+pub absent_of : (o : Option Object) → option_map bare o ≡ None → o ≡ None
+absent_of None e = refl
+absent_of (Some x) e = absurd (let no : Some (bare x) ≡ None = e in cc)
+
+-- a call that asked for no step did none, so anything may be said of each
+acted_still : {S A : Type 0} (tree : Ghosts S) (P : Files → Type 0) (Q R : Step → Type 0) (n : ℕ) {now : ℕ} {a b : S} {r : Result A TreeFault} → n ≡ 0 → Acted tree P Q n now a b r → Acted tree P R n now a b r
+acted_still tree P Q R n {now = now} {a = a} {b = b} {r = r} none acted = record {
+  ran = record { steps = acted.ran.steps; told = acted.ran.told; reached = acted.ran.reached; along = acted.ran.along; gives = by acted.ran.steps few };
+  bound = acted.bound;
+  reaches = acted.reaches;
+  cause = acted.cause;
+}
+  where
+    few : length acted.ran.steps ≡ 0
+    few = (
+        let bound : (length (tree.steps b) - length (tree.steps a)) + refused r ≤ n = acted.bound in
+        let told : length (tree.steps b) ≡ length (tree.steps a) + length acted.ran.steps = ap length acted.ran.told ∙ length-append (tree.steps a) acted.ran.steps in
+        omega (arith, bound, told, none))
+
+    by : (steps : List Step) → length steps ≡ 0 → AllByRecursion R steps
+    by [] e = tt
+    by (step ∷ steps) e = absurd (omega (arith, e))
+
 module _ (path p : Path) (over : IsAbove p path) where
   one_more : (q : Path) (a b c : Option Object) → IsPreparing path q a b → IsPutting p parent_file q b c → IsPreparing path q a c
   one_more q a b c x (putting.kept e) = subst (IsPreparing path q a) (sym e) x
   one_more q a b c (IsPreparing.kept e) (put s none new) = parent (subst (λ (r : Path). IsAbove r path) (sym s) over) (sym e ∙ none) new
   one_more q a b c (parent high old is) (put s none new) = absurd (let no : Some (bare (new_object parent_file 0)) ≡ None = sym is ∙ none in cc)
 
-  pub parent_acted : {S A B : Type 0} (tree : Ghosts S) → Moves tree → {m n now : ℕ} {a b c : S} {x : A} {r : Result B TreeFault}
-      → Acted tree (Preparing path (tree.state a)) (IsPrepareStep path) m now a b (Ok x)
-      → Acted tree (Putting p parent_file (tree.state b)) (IsPutStep p parent_file) n now b c r → Acted tree (Preparing path (tree.state a)) (IsPrepareStep path) (m + n) now a c r
-  parent_acted tree moves {n = n} {a = a} {b = b} before last =
-      acted_then tree moves (Preparing path (tree.state a)) (IsPrepareStep path) before
-      (acted_weaken tree (Putting p parent_file (tree.state b)) (Preparing path (tree.state a)) (IsPutStep p parent_file) (IsPrepareStep path) n n
-      (λ w more q plain. one_more q (bares (places (tree.state a)) q) (bares (places (tree.state b)) q) (bares (places w) q) (acted_end tree (Preparing path (tree.state a)) (IsPrepareStep path) before q plain) (more q plain))
-      (λ s g. puts p over g) (omega arith) last)
+  -- a parent that is put on the way was absent at the start
+  absent_before : (a b : Option Object) → IsPreparing path p (option_map bare a) (option_map bare b) → b ≡ None → a ≡ None
+  absent_before a b (IsPreparing.kept e) none = absent_of a (sym e ∙ ap (option_map bare) none)
+  absent_before a b (parent high old is) none = absent_of a old
+
+  pub parent_acted : {S A B : Type 0} (tree : Ghosts S) → Moves tree → has_staging p ≡ false → {m n now : ℕ} {a b c : S} {x : A} {r : Result B TreeFault} → (places (tree.state b) p ≡ None) ⊎ (n ≡ 0)
+      → Acted tree (Preparing path (tree.state a)) (IsPrepareStep path (tree.state a)) m now a b (Ok x)
+      → Acted tree (Putting p parent_file (tree.state b)) (IsPutStep p parent_file) n now b c r → Acted tree (Preparing path (tree.state a)) (IsPrepareStep path (tree.state a)) (m + n) now a c r
+  parent_acted tree moves plain_place {n = n} {now = now} {a = a} {b = b} {c = c} {r = r} there before last =
+      acted_then tree moves (Preparing path (tree.state a)) (IsPrepareStep path (tree.state a)) before (by there)
+    where
+      goes_on : (w : Files) → Putting p parent_file (tree.state b) w → Preparing path (tree.state a) w
+      goes_on w more q plain = one_more q (bares (places (tree.state a)) q) (bares (places (tree.state b)) q) (bares (places w) q) (acted_end tree (Preparing path (tree.state a)) (IsPrepareStep path (tree.state a)) before q plain) (more q plain)
+
+      by : (places (tree.state b) p ≡ None) ⊎ (n ≡ 0) → Acted tree (Preparing path (tree.state a)) (IsPrepareStep path (tree.state a)) n now b c r
+      by (inl none) = acted_weaken tree (Putting p parent_file (tree.state b)) (Preparing path (tree.state a)) (IsPutStep p parent_file) (IsPrepareStep path (tree.state a)) n n goes_on
+          (λ s g. puts p over (absent_before (places (tree.state a) p) (places (tree.state b) p) (acted_end tree (Preparing path (tree.state a)) (IsPrepareStep path (tree.state a)) before p plain_place) none) g) (omega arith) last
+      by (inr zero_steps) = acted_weaken tree (Putting p parent_file (tree.state b)) (Preparing path (tree.state a)) (IsPrepareStep path (tree.state a)) (IsPrepareStep path (tree.state a)) n n goes_on
+          (λ s g. g) (omega arith) (acted_still tree (Putting p parent_file (tree.state b)) (IsPutStep p parent_file) (IsPrepareStep path (tree.state a)) n zero_steps last)

@@ -17,6 +17,7 @@ use Rattle.pv_steps.specs.Trees.{Files, Places, places, kind_of, IsPresent, IsAb
 use Rattle.pv_steps.specs.Steps.{touched}
 use Rattle.pv_steps.specs.Refusal.{why_blocked, why_refused, first_refused, refusal}
 use Rattle.pv_steps.specs.Same.{bares}
+use Rattle.pv_steps.specs.declared.step.Step.{Step}
 use Rattle.pv_steps.specs.declared.tree.Tree.{Ghosts}
 use Rattle.pv_steps.specs.declared.tree.TreeFault.{TreeFault}
 use Rattle.pv_steps.specs.Acting.{Acted}
@@ -27,8 +28,8 @@ use Rattle.pv_steps.specs.Content.{Removes}
 use Rattle.pv_walk.specs.Staging.{staging_names, is_under_any}
 use Rattle.pv_walk.proofs.RemovalLaws.{zero_or_more, no_same, none_of}
 use Rattle.pv_walk.proofs.SweepLaws.{length-staging_names, staging_name-at}
-use Rattle.pv_walk.specs.Preparing.{IsAbove, CanPass, IsSwept, IsPreparing, kept, Preparing, parent_count, IsPrepareStep, sweeps}
-use Rattle.pv_walk.proofs.PreparingLaws.{nonempty_take, plain_take}
+use Rattle.pv_walk.specs.Preparing.{IsAbove, CanPass, IsSwept, IsPreparing, kept, Preparing, parent_count, IsPrepareStep, sweeps, puts}
+use Rattle.pv_walk.proofs.PreparingLaws.{nonempty_take, plain_take, absent_of}
 
 -- ---- subtrees taken away
 
@@ -215,19 +216,20 @@ unrefused_pass path last t h = λ place high there. by place (prefix_parts place
             by_length zero e = absurd (high.1 (prefix_whole place path high.0 (omega (arith, e))))
             by_length (suc m) e = omega (arith, e)
 
+-- above a path without a staging name lies none
+above_plain : (path place : Path) → has_staging path ≡ false → is_prefix place path ≡ true → has_staging place ≡ false
+above_plain path place plain high = by (has_staging place) refl
+  where
+    by : (b : Bool) → has_staging place ≡ b → b ≡ false
+    by true e = absurd (let both : true ≡ false = sym (has_staging-extends place path high e) ∙ plain in cc)
+    by false e = refl
+
 -- and still is so, when nothing but staging names has changed
 pub same_pass : (path : Path) → has_staging path ≡ false → (t u : Files) → IsPlainSame t u → CanPass path t → CanPass path u
 same_pass path plain t u same pass = λ place high there.
-    let unstaged : has_staging place ≡ false = plain_prefix place high.0 in
+    let unstaged : has_staging place ≡ false = above_plain path place plain high.0 in
     same_kind (places u place) (places t place) (same place unstaged)
     ∙ pass place high (sym (same_some (places u place) (places t place) (same place unstaged)) ∙ there)
-  where
-    plain_prefix : (place : Path) → is_prefix place path ≡ true → has_staging place ≡ false
-    plain_prefix place high = by (has_staging place) refl
-      where
-        by : (b : Bool) → has_staging place ≡ b → b ≡ false
-        by true e = absurd (let both : true ≡ false = sym (has_staging-extends place path high e) ∙ plain in cc)
-        by false e = refl
 
 -- ---- on the way
 
@@ -235,9 +237,9 @@ module _ {S : Type 0} (tree : Ghosts S) (path : Path) where
   -- stamps and staging names aside, sweeping is on the way of preparing
   pub swept_acted : {A : Type 0} {m now : ℕ} {a b : S} {r : Result A TreeFault}
       → Acted tree (Pruned (is_under_any (staging_names path)) (tree.state a)) (Removes (is_under_any (staging_names path))) m now a b r
-      → Acted tree (Preparing path (tree.state a)) (IsPrepareStep path) m now a b r
+      → Acted tree (Preparing path (tree.state a)) (IsPrepareStep path (tree.state a)) m now a b r
   swept_acted {m = m} {a = a} before =
-      acted_weaken tree (Pruned (is_under_any (staging_names path)) (tree.state a)) (Preparing path (tree.state a)) (Removes (is_under_any (staging_names path))) (IsPrepareStep path) m m
+      acted_weaken tree (Pruned (is_under_any (staging_names path)) (tree.state a)) (Preparing path (tree.state a)) (Removes (is_under_any (staging_names path))) (IsPrepareStep path (tree.state a)) m m
       (λ w p q plain. kept (pruned_same path (tree.state a) w p q plain)) (λ s r. sweeps r) (omega arith) before
 
   pub swept_same : {A : Type 0} {m now : ℕ} {a b : S} {r : Result A TreeFault}
@@ -246,10 +248,14 @@ module _ {S : Type 0} (tree : Ghosts S) (path : Path) where
   swept_same {a = a} {b = b} before = pruned_same path (tree.state a) (tree.state b) (acted_end tree (Pruned (is_under_any (staging_names path)) (tree.state a)) (Removes (is_under_any (staging_names path))) before)
 
   -- and then come the parents
-  pub prepared_acted : {A B : Type 0} {m n now : ℕ} {a b c : S} {x : A} {r : Result B TreeFault} → Moves tree
+  pub prepared_acted : {A B : Type 0} {m n now : ℕ} {a b c : S} {x : A} {r : Result B TreeFault} → Moves tree → has_staging path ≡ false
       → Acted tree (Pruned (is_under_any (staging_names path)) (tree.state a)) (Removes (is_under_any (staging_names path))) m now a b (Ok x)
-      → Acted tree (Preparing path (tree.state b)) (IsPrepareStep path) n now b c r → Acted tree (Preparing path (tree.state a)) (IsPrepareStep path) (m + n) now a c r
-  prepared_acted {n = n} {a = a} {b = b} moves before last =
-      acted_then tree moves (Preparing path (tree.state a)) (IsPrepareStep path) (swept_acted before)
-      (acted_weaken tree (Preparing path (tree.state b)) (Preparing path (tree.state a)) (IsPrepareStep path) (IsPrepareStep path) n n
-      (λ w more q plain. subst (λ o. IsPreparing path q o (bares (places w) q)) (swept_same before q plain) (more q plain)) (λ s r. r) (omega arith) last)
+      → Acted tree (Preparing path (tree.state b)) (IsPrepareStep path (tree.state b)) n now b c r → Acted tree (Preparing path (tree.state a)) (IsPrepareStep path (tree.state a)) (m + n) now a c r
+  prepared_acted {n = n} {a = a} {b = b} moves plain before last =
+      acted_then tree moves (Preparing path (tree.state a)) (IsPrepareStep path (tree.state a)) (swept_acted before)
+      (acted_weaken tree (Preparing path (tree.state b)) (Preparing path (tree.state a)) (IsPrepareStep path (tree.state b)) (IsPrepareStep path (tree.state a)) n n
+      (λ w more q unstaged. subst (λ o. IsPreparing path q o (bares (places w) q)) (swept_same before q unstaged) (more q unstaged)) step_from_start (omega arith) last)
+    where
+      step_from_start : (step : Step) → IsPrepareStep path (tree.state b) step → IsPrepareStep path (tree.state a) step
+      step_from_start step (sweeps removes) = sweeps removes
+      step_from_start step (puts place above none put) = puts place above (absent_of (places (tree.state a) place) (sym (swept_same before place (above_plain path place plain above.0)) ∙ ap (option_map bare) none)) put

@@ -182,7 +182,7 @@ new_mode_bound (new.Link target) mode h = lit≤ tt
 new_mode_bound new.Fifo mode h = h
 new_mode_bound (new.Device block major minor) mode h = h
 
-mode_again : (mode : ℕ) → mode_of (special_of mode) (part_of_mode mode) ≡ mode
+pub mode_again : (mode : ℕ) → mode_of (special_of mode) (part_of_mode mode) ≡ mode
 mode_again mode = omega arith
 
 special_small : (mode : ℕ) → mode ≤ 4095 → special_of mode ≤ 7

@@ -158,7 +158,7 @@ module _ (now : ℕ) (files : Files) (paths : List Path) (ok : AreRemovable file
         any_child (is_one_of paths) q (q ++ name ∷ []) (names_below files q) here (subst (λ (p : Path). is_one_of paths p ≡ true) is (one_of-counted paths r some))
   ]
 
-  all_gone-without : (q : Path) → all_gone now paths (places files) q ≡ without (is_one_of paths) now files q
+  all_gone-without : (q : Path) → all_gone now paths (places files) q ≡ without (is_one_of paths) (modified now) files q
   all_gone-without q = by (is_one_of paths q) (loses_child (is_one_of paths) files q) refl refl
     where
       by : (goes loses : Bool) → is_one_of paths q ≡ goes → loses_child (is_one_of paths) files q ≡ loses
@@ -171,10 +171,10 @@ module _ (now : ℕ) (files : Files) (paths : List Path) (ok : AreRemovable file
           all_gone-same now (places files) q paths (one_of-none paths q g)
           (λ r some. no_same (parent_of r) q (λ over. apart (loses_child (is_one_of paths) files q) (lost_child q r some over) l))
 
-  pub taken_without : all_gone now paths (places files) ≡ without (is_one_of paths) now files
+  pub taken_without : all_gone now paths (places files) ≡ without (is_one_of paths) (modified now) files
   taken_without = λ i q. all_gone-without q i
 
-  pub taking_end : (u : Files) → Taking now files paths [] u → places u ≡ without (is_one_of paths) now files
+  pub taking_end : (u : Files) → Taking now files paths [] u → places u ≡ without (is_one_of paths) (modified now) files
   taking_end u e = e.is ∙ ap (λ (ps : List Path). all_gone now ps (places files)) e.whole ∙ taken_without
 
 -- ---- what stands below a path

@@ -12,7 +12,7 @@ use Rattle.pv_steps.specs.Trees.{Places, kind_of}
 use Rattle.pv_steps.specs.Refusal.{owner_at, why_blocked, why_refused, is_unsafe, first_refused, first_absent}
 use Rattle.pv_walk.specs.declared.walking.Seen.{Seen}
 use Rattle.pv_walk.specs.declared.walking.Walked.TheVariants.{Refused}
-use Rattle.pv_walk.specs.Walking.{outcome, unrefused}
+use Rattle.pv_walk.specs.Walking.{outcome, unrefused, blocked_from}
 use Rattle.pv_walk.specs.Seeing.{seen_of, seen_kind, seen_owner, why_owner, if_absent, owner_above, walked_from}
 
 -- ---- the places that are left
@@ -112,3 +112,24 @@ module _ (t : Places) (path : Path) (last : ℕ) where
   why_end k h place above owner found seen over own is =
       let own_there : owner ≡ seen_owner (seen_of (t (take k path))) last = own ∙ ap (λ v. seen_owner v last) seen in
       why_last k h ∙ sym (is ∙ (λ i. why_owner (over i) (own_there i)))
+
+-- ---- places that cannot be passed
+
+pub range_start : (n : ℕ) → range_with_len 0 n ≡ range_with_len 0 (n - 0)
+range_start n = let same : n ≡ n - 0 = omega arith in ap (range_with_len 0) same
+
+pub range_step : (k n : ℕ) → k < n → range_with_len k (n - k) ≡ k ∷ range_with_len (k + 1) (n - (k + 1))
+range_step k n h = let here : n - k ≡ suc (n - (k + 1)) = omega arith in ap (range_with_len k) here
+
+pub range_none : (k n : ℕ) → k ≡ n → range_with_len k (n - k) ≡ []
+range_none k n e = let none : n - k ≡ zero = omega (arith, e) in ap (range_with_len k) none
+
+module _ (t : Places) (path : Path) (k : ℕ) (ks : List ℕ) (at : Path) (is : at ≡ take k path) (place : Option Seen) (why : Option Why) (seen : place ≡ seen_of (t at)) (found : why ≡ why_blocked (seen_kind place)) where
+  why_is : why_blocked (kind_of (t (take k path))) ≡ why
+  why_is = sym (found ∙ ap (λ p. why_blocked (seen_kind p)) seen ∙ ap why_blocked (seen_kind-of (t at)) ∙ ap (λ p. why_blocked (kind_of (t p))) is)
+
+  pub blocked_next : why ≡ None → blocked_from t path (k ∷ ks) ≡ blocked_from t path ks
+  blocked_next none = ap (λ r. option_or (option_map (λ reason. (k, reason)) r) (blocked_from t path ks)) (why_is ∙ none)
+
+  pub blocked_here : (reason : Why) → why ≡ Some reason → blocked_from t path (k ∷ ks) ≡ Some (k, reason)
+  blocked_here reason some = ap (λ r. option_or (option_map (λ reason. (k, reason)) r) (blocked_from t path ks)) (why_is ∙ some)

@@ -6,3 +6,5 @@ pub mod Removal
 pub mod Listing
 pub mod Putting
 pub mod Preparing
+pub mod Copying
+pub mod Pieces

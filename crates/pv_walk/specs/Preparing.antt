@@ -66,7 +66,7 @@ pub data IsPreparing (path q : Path) (old new : Option Object) : Type 0 where
 abbrev pub Preparing : Path → Files → Files → Type 0
 Preparing path t u = (q : Path) → has_staging q ≡ false → IsPreparing path q (bares (places t) q) (bares (places u) q)
 
--- a step takes something away at or below a staging name along the path, or puts a parent above it
-pub data IsPrepareStep (path : Path) (step : Step) : Type 0 where
-  sweeps : Removes (is_under_any (staging_names path)) step → IsPrepareStep path step
-  puts : (place : Path) → IsAbove place path → IsPutStep place parent_file step → IsPrepareStep path step
+-- a step takes something away at or below a staging name along the path, or puts a parent above it where nothing stood
+pub data IsPrepareStep (path : Path) (t : Files) (step : Step) : Type 0 where
+  sweeps : Removes (is_under_any (staging_names path)) step → IsPrepareStep path t step
+  puts : (place : Path) → IsAbove place path → IsAbsentIn (places t) place → IsPutStep place parent_file step → IsPrepareStep path t step

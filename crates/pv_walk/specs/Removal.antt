@@ -6,7 +6,7 @@ use Rattle.std.specs.FinMap as fin
 use Rattle.pv_path.specs.Paths.{Path, is_prefix, same_path, staging_of}
 use Rattle.pv_steps.specs.declared.step.Step.{Step}
 use Rattle.pv_steps.specs.declared.step.Step.TheVariants.{Unlink, RemoveDir}
-use Rattle.pv_steps.specs.Objects.{modified}
+use Rattle.pv_steps.specs.declared.object.Object.{Object}
 use Rattle.pv_steps.specs.Trees.{Files, Places, places, names_below}
 use Rattle.pv_steps.specs.Steps.{gone, moved}
 use Rattle.pv_steps.specs.Same.{bares}
@@ -32,11 +32,11 @@ is_one_of paths q = list_any (λ p. same_path p q) paths
 abbrev pub loses_child : (Path → Bool) → Files → Path → Bool
 loses_child goes files q = list_any (λ name. goes (q ++ name ∷ [])) (names_below files q)
 
--- some paths go; a directory that stays and loses a child has changed
-abbrev pub without : (Path → Bool) → ℕ → Files → Places
-without goes now files = λ q.
+-- some paths go; a directory that stays and loses a child is changed in some way
+abbrev pub without : (Path → Bool) → (Object → Object) → Files → Places
+without goes change files = λ q.
     if goes q then None
-    else if loses_child goes files q then option_map (modified now) (places files q)
+    else if loses_child goes files q then option_map change (places files q)
     else places files q
 
 -- on the way, stamps aside: objects at and below the path may be gone, or what was staged for it has come to it

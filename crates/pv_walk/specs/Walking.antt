@@ -1,11 +1,11 @@
 -- Walking along a path from the root: refused at a place, absent from a place on, or present (tmpfiles.d(5) on
 -- unsafe path transitions).
-use Rattle.std.specs.Prelude.{ℕ, ◌+◌, length, Option, Some, None}
+use Rattle.std.specs.Prelude.{ℕ, ◌+◌, List, length, take, Option, Some, None}
 use Rattle.std.specs.List.{range_with_len}
 use Rattle.pv_path.specs.Paths.{Path}
 use Rattle.pv_steps.specs.declared.why.Why.{Why}
-use Rattle.pv_steps.specs.Trees.{Places}
-use Rattle.pv_steps.specs.Refusal.{refusal, first_absent}
+use Rattle.pv_steps.specs.Trees.{Places, kind_of}
+use Rattle.pv_steps.specs.Refusal.{refusal, first_absent, first_refused, why_blocked}
 use Rattle.pv_walk.specs.declared.walking.Walked.{Walked}
 use Rattle.pv_walk.specs.declared.walking.Walked.TheVariants.{Present, Absent, Refused}
 
@@ -22,3 +22,12 @@ outcome None absent = unrefused absent
 -- the walk along a path whose last place, where it is absent, would have the owner `last`
 abbrev pub walked : Places → Path → ℕ → Walked
 walked t path last = outcome (refusal t path last) (first_absent t path (range_with_len 0 (length path + 1)))
+
+-- the first of some places of a path that cannot be passed, counted by the names that lead to it, and why; owners do not
+-- count
+abbrev pub blocked_from : Places → Path → List ℕ → Option (ℕ × Why)
+blocked_from t path ks = first_refused (λ k. why_blocked (kind_of (t (take k path)))) ks
+
+-- the first of the places above a path
+abbrev pub first_blocked : Places → Path → Option (ℕ × Why)
+first_blocked t path = blocked_from t path (range_with_len 0 (length path))

@@ -1,6 +1,8 @@
 //! Walking along paths, and staging: new objects are made under staging names and come to their paths in one step.
 #![tactic(auto)]
 
+mod copying;
+mod listing;
 mod new_file;
 mod preparing;
 mod publishing;
@@ -10,12 +12,13 @@ mod stage;
 mod sweeping;
 mod walking;
 
+pub use copying::{TopNode, copy_over, stage_copy};
 pub use new_file::{NewFile, NewKind};
 pub use preparing::prepare;
 pub use publishing::publish;
 pub use put::{put_new, put_over};
 pub use pv_steps::Why;
 pub use remove::{below, remove_all, remove_below};
-pub use stage::stage_file;
+pub use stage::{put_held, stage_file};
 pub use sweeping::sweep;
-pub use walking::{Walked, walk};
+pub use walking::{Walked, blocked, walk};

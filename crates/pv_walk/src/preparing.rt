@@ -35,7 +35,7 @@ pub fn prepare<T: Tree>(
         → IsKind Directory (T.state tree.new) (parent_of path.now)) }
     ensures free { OnOk result (path.now ≢ []
         → IsAbsentIn (places (T.state tree.new)) (staging_of path.now)) }
-    ensures acted { Acted T.Tree (Preparing path.now (T.state tree.old)) (IsPrepareStep path.now)
+    ensures acted { Acted T.Tree (Preparing path.now (T.state tree.old)) (IsPrepareStep path.now (T.state tree.old))
         (count_at_all (T.state tree.old) (staging_names path.now)
         + most_new * parent_count path.now (T.state tree.old)) now tree.old tree.new result }
 {
@@ -60,7 +60,7 @@ fn put_parents<T: Tree>(
         ≡ places (T.state tree.old) path.now) }
     ensures parent { OnOk result (IsKind Directory (T.state tree.new) (parent_of path.now)) }
     ensures swept { OnOk result (IsSwept path.now (T.state tree.new)) }
-    ensures acted { Acted T.Tree (Preparing path.now (T.state tree.old)) (IsPrepareStep path.now)
+    ensures acted { Acted T.Tree (Preparing path.now (T.state tree.old)) (IsPrepareStep path.now (T.state tree.old))
         (most_new * parent_count path.now (T.state tree.old)) now tree.old tree.new result }
 {
     let mut place = TreePath::root(alloc);

@@ -3,6 +3,7 @@ ghost use Rattle.std.specs.Prelude.{◌≡◌, ◌≢◌, [], ◌++◌, length, 
 ghost use Rattle.pv_path.specs.Paths.{same_path};
 ghost use Rattle.pv_steps.specs.Trees.{places, IsPresent, IsEmptyIn, IsTree};
 ghost use Rattle.pv_steps.specs.Steps.{gone};
+ghost use Rattle.pv_steps.specs.Objects.{modified};
 ghost use Rattle.pv_steps.specs.Content.{Removes};
 ghost use Rattle.pv_dress.specs.Edits.{Pruned, emptied};
 ghost use Rattle.pv_steps.specs.Acting.{Acted};
@@ -80,7 +81,7 @@ fn removal(directory: bool, path: TreePath) -> Step
 pub fn remove_all<T: Tree>(tree: &mut T, paths: Vec<TreePath>, now: u64) -> Result<(), TreeFault>
     requires { AreRemovable (T.state tree.old) paths.items }
     ensures gone { OnOk result
-        (places (T.state tree.new) ≡ without (is_one_of paths.items) now (T.state tree.old)) }
+        (places (T.state tree.new) ≡ without (is_one_of paths.items) (modified now) (T.state tree.old)) }
     ensures acted { Acted T.Tree (Pruned (is_one_of paths.items) (T.state tree.old))
         (Removes (is_one_of paths.items)) (length paths.items) now tree.old tree.new result }
 {

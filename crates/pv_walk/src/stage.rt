@@ -61,8 +61,9 @@ fn make_new<T: Tree>(
     dress(tree, path, &dress_of(alloc, new), now)
 }
 
-/// Makes a new object at a path, with its content.
-fn put_held<T: Tree>(
+/// Makes a new object at a path, with its content, in the mode and with the owners that it is made with: where nothing
+/// stands and the parent is a directory. After a fault it may be there without its content.
+pub fn put_held<T: Tree>(
     tree: &mut T,
     path: &TreePath,
     new: &NewFile,

@@ -3,7 +3,7 @@ ghost use Rattle.std.specs.Prelude.{◌≡◌, ◌<◌, ◌≤◌, ◌^◌, leng
 ghost use Rattle.std.specs.Option.{option_or};
 ghost use Rattle.pv_steps.specs.Trees.{places, IsTree};
 ghost use Rattle.pv_steps.specs.Refusal.{why_blocked};
-ghost use Rattle.pv_walk.specs.Walking.{walked, unrefused};
+ghost use Rattle.pv_walk.specs.Walking.{walked, unrefused, first_blocked};
 ghost use Rattle.pv_walk.specs.Seeing.{seen_of, seen_kind, seen_owner, why_owner, if_absent};
 
 use pv_path::TreePath;
@@ -61,6 +61,29 @@ pub fn walk<T: Tree>(
         Some(why) => Ok(Walked::Refused(last, why)),
         None => Ok(end_of(or_absent(absent, place, last))),
     }
+}
+
+/// The first place above a path that cannot be passed, counted by the names that lead to it, and why: it is a link, or
+/// another object that is no directory. Owners do not count.
+pub fn blocked<T: Tree>(
+    alloc: Global,
+    tree: &T,
+    path: &TreePath,
+) -> Result<Option<(u32, Why)>, AllocError>
+    requires { length path.now < 2 ^ 32 }
+    ensures place { IfOk result (λ place. place ≡ first_blocked (places (T.state tree.now)) path.now) }
+    ensures tree { IsTree (T.state tree.now) }
+{
+    let mut at = TreePath::root(alloc);
+    // In a tree the root is a directory.
+    let _root = tree.look(&at);
+    for (k, name) in path.names().iter().enumerate() {
+        if let Some(why) = why_passed(seen_at(tree, &at)) {
+            return Ok(Some((k as u32, why)));
+        }
+        at.push(name.copy()?)?;
+    }
+    Ok(None)
 }
 
 /// What stands at a path.

@@ -45,4 +45,4 @@ returns-clause-acted g c =
     let count = count_at_all t (staging_names path) in
     let same = same_parent_count path c.requires.unstaged t u (swept_same g.T.Tree path c.sweep.ensures.acted) in
     acted_within g.T.Tree (count + most_new * parent_count path u) (count + most_new * parent_count path t) (omega (arith, same))
-    (prepared_acted g.T.Tree path moves c.in_ok-sweep.ensures.acted c.put_parents.ensures.acted)
+    (prepared_acted g.T.Tree path moves c.requires.unstaged c.in_ok-sweep.ensures.acted c.put_parents.ensures.acted)

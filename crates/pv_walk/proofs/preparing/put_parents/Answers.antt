@@ -1,6 +1,7 @@
-use Rattle.std.proofs.Common.{◌≡◌, ℕ, ◌+◌, ◌*◌, ◌<◌, false, cond, is_some, Result, sym, ap, subst, ◌∙◌, take, length, fold, arith}
+use Rattle.std.proofs.Common.{◌≡◌, ◌⊎◌, ℕ, ◌+◌, ◌*◌, ◌<◌, false, cond, Option, Some, None, is_some, Result, refl, inl, inr, sym, ap, subst, ◌∙◌, take, length, fold, arith}
 use Rattle.std.specs.Prelude.{if◌then◌else◌}
 use Rattle.pv_path.specs.Paths.{Path, has_staging, staging_of}
+use Rattle.pv_steps.specs.declared.object.Object.{Object}
 use Rattle.pv_steps.specs.Trees.{places, IsAbsentIn}
 use Rattle.pv_steps.specs.declared.tree.Tree.{Ghosts}
 use Rattle.pv_steps.specs.declared.tree.TreeFault.{TreeFault}
@@ -40,15 +41,20 @@ returns-clause-ok g c =
 -- one parent more is put
 parent_more : {S A : Type 0} (tree : Ghosts S) → Moves tree → (path p : Path) (i : ℕ) (lt : i + 1 < length path) → p ≡ take (i + 1) path → has_staging path ≡ false → {now : ℕ} {a b c : S} {r : Result A TreeFault}
     → Parented now path (tree.state a) i (tree.state b)
-    → Acted tree (Preparing path (tree.state a)) (IsPrepareStep path) (most_new * absent_parents path (tree.state a) i) now a b well
+    → Acted tree (Preparing path (tree.state a)) (IsPrepareStep path (tree.state a)) (most_new * absent_parents path (tree.state a) i) now a b well
     → Acted tree (Putting p parent_file (tree.state b)) (IsPutStep p parent_file) (if is_some (places (tree.state b) p) then 0 else most_new) now b c r
-    → Acted tree (Preparing path (tree.state a)) (IsPrepareStep path) (most_new * absent_parents path (tree.state a) (i + 1)) now a c r
+    → Acted tree (Preparing path (tree.state a)) (IsPrepareStep path (tree.state a)) (most_new * absent_parents path (tree.state a) (i + 1)) now a c r
 parent_more tree moves path p i lt is plain {now = now} {a = a} {b = b} before so_far last =
     let t = tree.state a in
     let room = room_next now path plain t i lt (tree.state b) before in
     let here : ◌≡◌ {A = ℕ} (cond (is_some (places (tree.state b) p)) 0 8) (cond (is_some (places (tree.state b) (take (i + 1) path))) 0 8) = ap (λ (q : Path). cond {A = ℕ} (is_some (places (tree.state b) q)) 0 8) is in
     acted_within tree (most_new * absent_parents path t i + (if is_some (places (tree.state b) p) then 0 else most_new)) (most_new * absent_parents path t (i + 1)) (omega (arith, room, here))
-    (parent_acted path p (subst (λ (q : Path). IsAbove q path) (sym is) (above_take (i + 1) path lt)) tree moves so_far last)
+    (parent_acted path p (subst (λ (q : Path). IsAbove q path) (sym is) (above_take (i + 1) path lt)) tree moves (ap has_staging is ∙ plain_take (i + 1) path plain) (no_steps (places (tree.state b) p)) so_far last)
+  where
+    -- where something stands no step is done
+    no_steps : (o : Option Object) → (o ≡ None) ⊎ ((if is_some o then 0 else most_new) ≡ 0)
+    no_steps None = inl refl
+    no_steps (Some x) = inr refl
 
 pub returns-in_err-copy-clause-acted : goal.returns-in_err-copy-clause-acted
 returns-in_err-copy-clause-acted g c =

@@ -12,5 +12,5 @@ invariant-loop-name g l = record {
   items : l.name-items ≡ parent_of l.path;
   place : l.place ≡ take l.name-index l.path;
   parented : Parented l.now l.path (g.T.Tree.state l.fn.tree) l.name-index (g.T.Tree.state l.tree);
-  acted : Acted g.T.Tree (Preparing l.path (g.T.Tree.state l.fn.tree)) (IsPrepareStep l.path) (most_new * absent_parents l.path (g.T.Tree.state l.fn.tree) l.name-index) l.now l.fn.tree l.tree well;
+  acted : Acted g.T.Tree (Preparing l.path (g.T.Tree.state l.fn.tree)) (IsPrepareStep l.path (g.T.Tree.state l.fn.tree)) (most_new * absent_parents l.path (g.T.Tree.state l.fn.tree) l.name-index) l.now l.fn.tree l.tree well;
 }

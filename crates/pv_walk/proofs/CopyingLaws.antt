@@ -1,0 +1,316 @@
+-- Laws of copies: pieces of work that are done one after the other, and the copy that comes to its path.
+use Rattle.std.specs.Prelude.{◌≡◌, ◌≢◌, ℕ, ◌+◌, ◌-◌, ◌*◌, ◌≤◌, Bool, true, false, cond, List, [], ◌∷◌, ◌++◌, length, filter, filter_map, Option, Some, None, is_some, option_map, Result, Ok}
+use Rattle.std.proofs.Common.{refl, sym, ap, subst, ◌∙◌, inl, inr, ◌⊎◌, arith, append_assoc}
+use Rattle.std.proofs.lemmas.List.{append-nil}
+use Rattle.std.specs.FinMap as fin
+use Rattle.pv_dress.specs.declared.bare.Bare.{Bare}
+use Rattle.pv_dress.specs.declared.bare.Dress.{Dress}
+use Rattle.pv_dress.specs.Dressing.{Dressing, GivesDress}
+use Rattle.pv_dress.specs.Edits.{SameOutside, count_at}
+use Rattle.pv_dress.proofs.DressLaws.{outside_dressing}
+use Rattle.pv_dress.proofs.EditLaws.{bares-touched, staging_outside}
+use Rattle.pv_path.specs.Paths.{Path, is_prefix, same_path, parent_of, rest_under, has_staging, staging_of}
+use Rattle.pv_path.proofs.PathLaws.{is_prefix-append, is_prefix-trans, is_prefix-refl, rest_under-Some, prefix_rest, is_some-rest_under, parent_of-staging_of, has_staging-staging_of}
+use Rattle.pv_steps.specs.declared.node.Kind.TheVariants.{Directory}
+use Rattle.pv_steps.specs.declared.object.Object.{Object}
+use Rattle.pv_steps.specs.declared.step.Step.{Step}
+use Rattle.pv_steps.specs.declared.tree.Tree.{Ghosts}
+use Rattle.pv_steps.specs.declared.tree.TreeFault.{TreeFault}
+use Rattle.pv_steps.specs.Acting.{Acted}
+use Rattle.pv_steps.specs.Objects.{bare, changed, modified}
+use Rattle.pv_steps.specs.Same.{bares}
+use Rattle.pv_steps.specs.Steps.{touched, moved, moved_at, carried}
+use Rattle.pv_steps.specs.Trees.{Files, Places, places, IsKindIn, IsAbsentIn, IsTree}
+use Rattle.pv_steps.proofs.ActingLaws.{Moves, well, acted_then, acted_weaken, acted_within, acted_end}
+use Rattle.pv_steps.proofs.StepLaws.{is_some-touched}
+use Rattle.pv_walk.specs.declared.listing.Piece.{Piece}
+use Rattle.pv_walk.specs.declared.listing.Piece.TheVariants.{Make, Wear}
+use Rattle.pv_walk.specs.declared.new_file.NewFile.{NewFile}
+use Rattle.pv_walk.specs.Copying.{copied_count, object_of, standing, with_subtree, CopyingOver, GivesPart, IsStagingOf, IsCopyStep}
+use Rattle.pv_walk.specs.Listing.{times}
+use Rattle.pv_walk.specs.Pieces.{file_of, CanDo, IsDone, GivesPiece, place_of, piece_cost, cost_of, after_piece, built, IsDoable, AreDoable, made_of, IsPlan}
+use Rattle.pv_walk.specs.Putting.{IsMakingWay}
+use Rattle.pv_walk.specs.Removal.{Publishing}
+use Rattle.pv_walk.specs.Staging.{IsNewFile, IsPublishing, GivesNew, most_staged, most_new}
+use Rattle.pv_walk.proofs.BuildingLaws.{IsBuilt, built_start, built_outside, built_end, not_empty, with_inside, with_outside, room, made_built, can_wear_here, worn_built, made_gives, dress_gives_bare}
+use Rattle.pv_walk.proofs.CountLaws.{times-filter, times-keys, length-times, same_or_not}
+use Rattle.pv_walk.proofs.CopyListing.{rests_of, cost-push}
+use Rattle.pv_walk.proofs.ListingLaws.{cond-one, cond-zero}
+use Rattle.pv_walk.proofs.PlanLaws.{built-append, doable-last}
+use Rattle.pv_walk.proofs.PublishLaws.{stage_outside, staged_outside}
+use Rattle.pv_walk.proofs.PuttingLaws.{none_under}
+use Rattle.pv_walk.proofs.RemovalLaws.{true_or_false, apart, no_same}
+
+-- some pieces of a list are done, and these are left
+pub record Doing (now : ℕ) (stage : Path) (t : Files) (all left : List Piece) (u : Files) : Type 0 where
+  pub objects : Path → Option Bare
+  pub stands : IsBuilt now stage objects t u
+  pub doable : AreDoable (made_of all) objects left
+  pub whole : built left objects ≡ made_of all
+
+module _ (now : ℕ) (stage : Path) (nonempty : stage ≢ []) (t : Files) (parent : IsKindIn Directory (places t) (parent_of stage)) (all : List Piece) where
+  pub doing_start : ((r : Path) → IsAbsentIn (places t) (stage ++ r)) → IsPlan all → Doing now stage t all all t
+  doing_start free plan = record { objects = λ q. None; stands = built_start now stage nonempty t parent free; doable = plan; whole = refl }
+
+  -- nothing has changed elsewhere, stamps aside
+  pub doing_outside : (left : List Piece) (u : Files) → Doing now stage t all left u → SameOutside (is_prefix stage) t u
+  doing_outside left u e = built_outside now stage nonempty t parent e.objects u e.stands
+
+  -- nor does it while a piece is done
+  pub doing_way : (left : List Piece) (u : Files) → Doing now stage t all left u → (rest : Path) (w : Files) → SameOutside (is_prefix (stage ++ rest)) u w → SameOutside (is_prefix stage) t w
+  doing_way left u e rest w h q out = h q (elim (true_or_false (is_prefix (stage ++ rest) q)) [
+    | inl p ↦ absurd (apart (is_prefix stage q) (is_prefix-trans stage (stage ++ rest) q (is_prefix-append stage rest) p) out)
+    | inr d ↦ d
+  ]) ∙ doing_outside left u e q out
+
+  -- the last of those that are left is done next
+  module _ (left : List Piece) (u : Files) where
+    can_by : (p : Piece) (s : Path → Option Bare) → IsBuilt now stage s t u → IsDoable (made_of all) s p → CanDo stage p u
+    can_by (Make rest file) s b (o, (there, (whole, (same, (none, place))))) =
+        (not_empty now stage nonempty t parent rest, (room now stage nonempty t parent s u b rest none place, subst IsNewFile (sym same) whole.new))
+    can_by (Wear rest dress) s b (o, (there, (whole, (same, here)))) = can_wear_here now stage nonempty t parent s u b rest o here dress whole same
+
+    pub doing_can : (p : Piece) → Doing now stage t all (left ++ p ∷ []) u → CanDo stage p u
+    doing_can p e = can_by p e.objects e.stands (doable-last (made_of all) e.objects left p e.doable).0
+
+    stands_by : (p : Piece) (s : Path → Option Bare) (v : Files) → IsBuilt now stage s t u → IsDoable (made_of all) s p → IsDone now stage p u v → IsBuilt now stage (after_piece p s) t v
+    stands_by (Make rest file) s v b (o, (there, (whole, (same, (none, place))))) h = made_built now stage nonempty t parent s u b rest none place file v h
+    stands_by (Wear rest dress) s v b (o, (there, (whole, (same, here)))) h = worn_built now stage nonempty t parent s u b rest o here dress v h
+
+    pub doing_next : (p : Piece) (v : Files) → Doing now stage t all (left ++ p ∷ []) u → IsDone now stage p u v → Doing now stage t all left v
+    doing_next p v e h =
+        let parts = doable-last (made_of all) e.objects left p e.doable in
+        record { objects = after_piece p e.objects; stands = stands_by p e.objects v e.stands parts.0 h; doable = parts.1; whole = sym (built-append left (p ∷ []) e.objects) ∙ e.whole }
+
+    gives_by : (p : Piece) (s : Path → Option Bare) (step : Step) → IsDoable (made_of all) s p → GivesPiece stage p u step → GivesPart stage (made_of all) step
+    gives_by (Make rest file) s step (o, (there, (whole, (same, e)))) h =
+        record { rest = rest; object = o; is = there; gives = made_gives o whole (stage ++ rest) step (subst (λ (f : NewFile). GivesNew (stage ++ rest) f step) same h) }
+    gives_by (Wear rest dress) s step (o, (there, (whole, (same, here)))) h =
+        record { rest = rest; object = o; is = there; gives = dress_gives_bare o (stage ++ rest) u step (subst (λ (d : Dress). GivesDress (stage ++ rest) d u step) same h) }
+
+    pub doing_gives : (p : Piece) → Doing now stage t all (left ++ p ∷ []) u → (step : Step) → GivesPiece stage p u step → GivesPart stage (made_of all) step
+    doing_gives p e step h = gives_by p e.objects step (doable-last (made_of all) e.objects left p e.doable).0 h
+
+  -- when none is left, all stands
+  pub doing_end : (u : Files) → Doing now stage t all [] u → is_some (made_of all []) ≡ true → places u ≡ with_subtree now stage (made_of all) (places t)
+  doing_end u e top =
+      built_end now stage nonempty t parent e.objects u e.stands (ap (λ (s : Path → Option Bare). is_some (s [])) e.whole ∙ top)
+      ∙ ap (λ (s : Path → Option Bare). with_subtree now stage s (places t)) e.whole
+
+-- one piece more is done
+pub one_more : {S A : Type 0} (tree : Ghosts S) → Moves tree → (stage : Path) → stage ≢ [] → (all left : List Piece) (p : Piece) {m now : ℕ} {a b c : S} {r : Result A TreeFault}
+    → IsKindIn Directory (places (tree.state a)) (parent_of stage) → Doing now stage (tree.state a) all (left ++ p ∷ []) (tree.state b) → (n : ℕ) → m + piece_cost p ≤ n
+    → Acted tree (SameOutside (is_prefix stage) (tree.state a)) (GivesPart stage (made_of all)) m now a b well
+    → Acted tree (SameOutside (is_prefix (stage ++ place_of p)) (tree.state b)) (GivesPiece stage p (tree.state b)) (piece_cost p) now b c r
+    → Acted tree (SameOutside (is_prefix stage) (tree.state a)) (GivesPart stage (made_of all)) n now a c r
+one_more tree moves stage nonempty all left p {m = m} {now = now} {a = a} {b = b} parent doing n le before last =
+    acted_within tree (m + piece_cost p) n le
+    (acted_then tree moves (SameOutside (is_prefix stage) (tree.state a)) (GivesPart stage (made_of all)) before
+    (acted_weaken tree (SameOutside (is_prefix (stage ++ place_of p)) (tree.state b)) (SameOutside (is_prefix stage) (tree.state a)) (GivesPiece stage p (tree.state b)) (GivesPart stage (made_of all)) (piece_cost p) (piece_cost p)
+    (doing_way now stage nonempty (tree.state a) parent all (left ++ p ∷ []) (tree.state b) doing (place_of p))
+    (doing_gives now stage nonempty (tree.state a) parent all left (tree.state b) p doing)
+    (omega arith) last))
+
+-- so the next piece is done
+pub next_done : {S : Type 0} (tree : Ghosts S) → Moves tree → (now : ℕ) (stage : Path) → stage ≢ [] → (all left front : List Piece) (p : Piece) → left ≡ front ++ p ∷ [] → (a b c : S)
+    → IsKindIn Directory (places (tree.state a)) (parent_of stage) → Doing now stage (tree.state a) all left (tree.state b) → cost_of left ≤ cost_of all
+    → Acted tree (SameOutside (is_prefix stage) (tree.state a)) (GivesPart stage (made_of all)) (cost_of all - cost_of left) now a b well
+    → IsDone now stage p (tree.state b) (tree.state c)
+    → Acted tree (SameOutside (is_prefix (stage ++ place_of p)) (tree.state b)) (GivesPiece stage p (tree.state b)) (piece_cost p) now b c well
+    → Doing now stage (tree.state a) all front (tree.state c) × ((cost_of front ≤ cost_of all) × Acted tree (SameOutside (is_prefix stage) (tree.state a)) (GivesPart stage (made_of all)) (cost_of all - cost_of front) now a c well)
+next_done tree moves now stage nonempty all left front p is a b c parent doing room before done last =
+    let here : Doing now stage (tree.state a) all (front ++ p ∷ []) (tree.state b) = subst (λ (ps : List Piece). Doing now stage (tree.state a) all ps (tree.state b)) is doing in
+    let one = cost-push front p is in (
+      doing_next now stage nonempty (tree.state a) parent all front (tree.state b) p (tree.state c) here done,
+      (omega (arith, room, one), one_more tree moves stage nonempty all front p parent here (cost_of all - cost_of front) (omega (arith, room, one)) before last),
+    )
+
+-- ---- the copy comes to its path
+
+module _ (now : ℕ) (path : Path) (nonempty : path ≢ []) (s : Path → Option Bare) (t : Files) (parent : IsKindIn Directory (places t) (parent_of path)) (tree : IsTree t) (free : IsAbsentIn (places t) (staging_of path))
+    (stage_nonempty : staging_of path ≢ []) (stage_parent : IsKindIn Directory (places t) (parent_of (staging_of path))) where
+  abbrev staged : Places
+  staged = with_subtree now (staging_of path) s (places t)
+
+  carried_is : (rest : Path) → carried now (staging_of path) (with_subtree now (staging_of path) s (places t)) rest ≡ option_map (object_of now) (s rest)
+  carried_is [] =
+      ap (option_map (changed now)) (ap (with_subtree now (staging_of path) s (places t)) (sym (append-nil (staging_of path))) ∙ with_inside now (staging_of path) stage_nonempty t stage_parent s [])
+      ∙ again (s [])
+    where
+      again : (o : Option Bare) → option_map (changed now) (option_map (object_of now) o) ≡ option_map (object_of now) o
+      again None = refl
+      again (Some b) = refl
+  carried_is (n ∷ rest) = with_inside now (staging_of path) stage_nonempty t stage_parent s (n ∷ rest)
+
+  same_dir : (q : Path) → same_path (parent_of (staging_of path)) q ≡ same_path (parent_of path) q
+  same_dir q = ap (λ p. same_path p q) (parent_of-staging_of path)
+
+  thrice : (c d : Bool) (o : Option Object) → c ≡ d
+      → cond c (option_map (modified now) (cond d (option_map (modified now) (cond c (option_map (modified now) o) o)) (cond c (option_map (modified now) o) o))) (cond d (option_map (modified now) (cond c (option_map (modified now) o) o)) (cond c (option_map (modified now) o) o))
+      ≡ cond d (option_map (modified now) o) o
+  thrice true true None e = refl
+  thrice true true (Some o) e = refl
+  thrice true false o e = cc
+  thrice false true o e = cc
+  thrice false false o e = refl
+
+  touched_of : (x y : Places) (p q : Path) → x q ≡ y q → touched now p x q ≡ touched now p y q
+  touched_of x y p q e = ap (λ v. cond (same_path (parent_of p) q) (option_map (modified now) v) v) e
+
+  outside_is : (q : Path) → is_prefix path q ≡ false → (is_prefix (staging_of path) q ≡ true) ⊎ (is_prefix (staging_of path) q ≡ false)
+      → cond (is_prefix (staging_of path) q) None (touched now (staging_of path) (touched now path (with_subtree now (staging_of path) s (places t))) q) ≡ touched now path (places t) q
+  outside_is q h (inl e) =
+      ap (λ c. cond c None (touched now (staging_of path) (touched now path (with_subtree now (staging_of path) s (places t))) q)) e
+      ∙ sym (ap (λ v. cond (same_path (parent_of path) q) (option_map (modified now) v) v) (none_under (places t) tree (staging_of path) q free e) ∙ none (same_path (parent_of path) q))
+    where
+      none : (c : Bool) → cond c (option_map (modified now) None) None ≡ None
+      none true = refl
+      none false = refl
+  outside_is q h (inr e) =
+      ap (λ c. cond c None (touched now (staging_of path) (touched now path (with_subtree now (staging_of path) s (places t))) q)) e
+      ∙ touched_of (touched now path (with_subtree now (staging_of path) s (places t))) (touched now path (touched now (staging_of path) (places t))) (staging_of path) q
+      (touched_of (with_subtree now (staging_of path) s (places t)) (touched now (staging_of path) (places t)) path q (with_outside now (staging_of path) stage_nonempty t stage_parent s q e))
+      ∙ thrice (same_path (parent_of (staging_of path)) q) (same_path (parent_of path) q) (places t q) (same_dir q)
+
+  pub copy_moved : moved now (staging_of path) path (with_subtree now (staging_of path) s (places t)) ≡ with_subtree now path s (places t)
+  copy_moved = λ i q. at q i
+    where
+      at : (q : Path) → moved now (staging_of path) path (with_subtree now (staging_of path) s (places t)) q ≡ with_subtree now path s (places t) q
+      at q = by (rest_under path q) refl
+        where
+          by : (o : Option Path) → rest_under path q ≡ o → moved now (staging_of path) path (with_subtree now (staging_of path) s (places t)) q ≡ with_subtree now path s (places t) q
+          by (Some rest) e =
+              ap (moved_at now (staging_of path) path (with_subtree now (staging_of path) s (places t)) q) e ∙ carried_is rest
+              ∙ sym (ap (with_subtree now path s (places t)) (rest_under-Some path q rest e) ∙ with_inside now path nonempty t parent s rest)
+          by None e =
+              let outside : is_prefix path q ≡ false = sym (is_some-rest_under path q) ∙ ap is_some e in
+              ap (moved_at now (staging_of path) path (with_subtree now (staging_of path) s (places t)) q) e
+              ∙ outside_is q outside (true_or_false (is_prefix (staging_of path) q)) ∙ sym (with_outside now path nonempty t parent s q outside)
+
+  pub copy_staged : is_some (s []) ≡ true → is_some (with_subtree now (staging_of path) s (places t) (staging_of path)) ≡ true
+  copy_staged top =
+      ap is_some (ap (with_subtree now (staging_of path) s (places t)) (sym (append-nil (staging_of path))) ∙ with_inside now (staging_of path) stage_nonempty t stage_parent s [])
+      ∙ still (s []) top
+    where
+      still : (o : Option Bare) → is_some o ≡ true → is_some (option_map (object_of now) o) ≡ true
+      still None h = h
+      still (Some b) h = refl
+
+  -- no more has to make way than stood at and below the path before
+  pub copy_count : (u : Files) → places u ≡ with_subtree now (staging_of path) s (places t) → count_at u path ≤ count_at t path
+  copy_count u is = length-times (filter (is_prefix path) (fin.keys u)) (filter (is_prefix path) (fin.keys t))
+      (λ q. omega (arith, times-filter (is_prefix path) q (fin.keys u), times-filter (is_prefix path) q (fin.keys t), same q (true_or_false (is_prefix path q))))
+    where
+      out : (q : Path) → is_prefix path q ≡ true → is_prefix (staging_of path) q ≡ false
+      out q h = elim (true_or_false (is_prefix (staging_of path) q)) [
+        | inl e ↦ absurd (stage_apart q h e)
+        | inr e ↦ e
+      ]
+        where
+          stage_apart : (q : Path) → is_prefix path q ≡ true → is_prefix (staging_of path) q ≡ true → ⊥
+          stage_apart q h e = let there = rest_under-Some (staging_of path) q (rest_of e).0 (rest_of e).1 in apart (is_prefix path (staging_of path ++ (rest_of e).0)) (ap (is_prefix path) (sym there) ∙ h) (staged_outside path nonempty (rest_of e).0)
+            where
+              rest_of : is_prefix (staging_of path) q ≡ true → (r : Path) × (rest_under (staging_of path) q ≡ Some r)
+              rest_of = prefix_rest (staging_of path) q
+
+      present : (q : Path) → is_prefix path q ≡ true → is_some (places u q) ≡ is_some (places t q)
+      present q h = ap (λ (x : Places). is_some (x q)) is ∙ ap is_some (with_outside now (staging_of path) stage_nonempty t stage_parent s q (out q h)) ∙ is_some-touched now (staging_of path) (places t) q
+
+      same : (q : Path) → (is_prefix path q ≡ true) ⊎ (is_prefix path q ≡ false) → cond (is_prefix path q) (times q (fin.keys u)) 0 ≤ cond (is_prefix path q) (times q (fin.keys t)) 0
+      same q (inl e) =
+          let count : times q (fin.keys u) ≡ times q (fin.keys t) = times-keys u q ∙ ap (λ b. cond b 1 0) (present q e) ∙ sym (times-keys t q) in
+          omega (arith, ap (λ b. cond b (times q (fin.keys u)) 0) e, ap (λ b. cond b (times q (fin.keys t)) 0) e, count)
+      same q (inr e) = omega (arith, ap (λ b. cond b (times q (fin.keys u)) 0) e)
+
+  -- ---- on the way
+
+  bare_standing : (now later : ℕ) (old : Option Object) (o : Option Path) → option_map bare (standing now s old o) ≡ option_map bare (standing later s old o)
+  bare_standing now later old None = refl
+  bare_standing now later old (Some rest) = by (s rest)
+    where
+      by : (v : Option Bare) → option_map bare (option_map (object_of now) v) ≡ option_map bare (option_map (object_of later) v)
+      by None = refl
+      by (Some b) = refl
+
+  bares_with : (later : ℕ) (q : Path) → bares (with_subtree now path s (places t)) q ≡ bares (with_subtree later path s (places t)) q
+  bares_with later q =
+      bares-touched now path (λ q. standing now s (places t q) (rest_under path q)) q ∙ bare_standing now later (places t q) (rest_under path q)
+      ∙ sym (bares-touched later path (λ q. standing later s (places t q) (rest_under path q)) q)
+
+  -- while the copy is made under its staging name
+  pub copy_before : (u : Files) → SameOutside (is_prefix (staging_of path)) t u → CopyingOver path s t u
+  copy_before u h = inl (λ q plain. IsMakingWay.kept (h q (staging_outside (staging_of path) (has_staging-staging_of path nonempty) q plain)))
+
+  -- while what stands at the path makes way, or the copy comes there
+  pub copy_published : (u : Files) → places u ≡ with_subtree now (staging_of path) s (places t) → SameOutside (is_prefix (staging_of path)) t u → (w : Files) → Publishing now path u w → CopyingOver path s t w
+  copy_published u is before w (inl p) = inl (λ q plain.
+      (let kept : bares (places u) q ≡ bares (places t) q = before q (staging_outside (staging_of path) (has_staging-staging_of path nonempty) q plain) in
+      elim (true_or_false (is_prefix path q)) [
+        | inl e ↦ elim (p.within q e) [
+          | inl gone ↦ IsMakingWay.gone e (ap (option_map bare) gone)
+          | inr same ↦ IsMakingWay.kept (same ∙ kept)
+        ]
+        | inr e ↦ IsMakingWay.kept (p.outside q e ∙ kept)
+      ]))
+  copy_published u is before w (inr e) = inr (λ q plain. e q ∙ ap (λ (x : Places). bares x q) (ap (moved now (staging_of path) path) is ∙ copy_moved) ∙ bares_with 0 q)
+
+-- a piece that gives an object what it is to wear
+pub worn_acted : {S A : Type 0} (tree : Ghosts S) (stage rest : Path) (new : Dress) (piece : Piece) (p : Path) {now : ℕ} {a b : S} {r : Result A TreeFault} → piece ≡ Wear rest new → p ≡ stage ++ rest
+    → Acted tree (Dressing p new (tree.state a)) (GivesDress p new (tree.state a)) 5 now a b r
+    → Acted tree (SameOutside (is_prefix (stage ++ place_of piece)) (tree.state a)) (GivesPiece stage piece (tree.state a)) (piece_cost piece) now a b r
+worn_acted {A = A} tree stage rest new piece p {now = now} {a = a} {b = b} {r = r} is at acted =
+    subst (λ (v : Piece). Acted {A = A} tree (SameOutside (is_prefix (stage ++ place_of v)) (tree.state a)) (GivesPiece stage v (tree.state a)) (piece_cost v) now a b r) (sym is)
+    (acted_weaken tree (Dressing (stage ++ rest) new (tree.state a)) (SameOutside (is_prefix (stage ++ rest)) (tree.state a)) (GivesDress (stage ++ rest) new (tree.state a)) (GivesDress (stage ++ rest) new (tree.state a)) 5 5
+    (λ u h q out. outside_dressing (stage ++ rest) new (tree.state a) u h q (no_same (stage ++ rest) q (λ e. apart (is_prefix (stage ++ rest) q) (ap (is_prefix (stage ++ rest)) (sym e) ∙ is_prefix-refl (stage ++ rest)) out)))
+    (λ step g. g) (omega arith)
+    (subst (λ (v : Path). Acted {A = A} tree (Dressing v new (tree.state a)) (GivesDress v new (tree.state a)) 5 now a b r) at acted))
+
+-- a copy of what is there has an object
+pub copied_some : (s : Path → Option Bare) (source : Path) (t : Files) → is_some (s []) ≡ true → is_some (places t source) ≡ true → 1 ≤ copied_count s source t
+copied_some s source t top there =
+    length-times ([] ∷ []) (filter (λ rest. is_some (s rest)) (filter_map (rest_under source) (fin.keys t)))
+    (λ q. by q (same_or_not [] q))
+  where
+    count : times [] (filter (λ rest. is_some (s rest)) (filter_map (rest_under source) (fin.keys t))) ≡ 1
+    count =
+        times-filter (λ rest. is_some (s rest)) [] (filter_map (rest_under source) (fin.keys t))
+        ∙ ap (λ c. cond c (times [] (filter_map (rest_under source) (fin.keys t))) 0) top
+        ∙ rests_of source [] (fin.keys t) ∙ times-keys t (source ++ []) ∙ cond-one (is_some (places t (source ++ []))) (ap (λ (p : Path). is_some (places t p)) (append-nil source) ∙ there)
+
+    by : (q : Path) → (([] ≡ q) × (same_path [] q ≡ true)) ⊎ (same_path [] q ≡ false) → times q ([] ∷ []) ≤ times q (filter (λ rest. is_some (s rest)) (filter_map (rest_under source) (fin.keys t)))
+    by q (inl e) = subst (λ (p : Path). times p ([] ∷ []) ≤ times p (filter (λ rest. is_some (s rest)) (filter_map (rest_under source) (fin.keys t)))) e.0 (omega (arith, count))
+    by q (inr d) = let none = cond-zero (same_path [] q) d in omega (arith, none)
+
+-- pieces that make a subtree at the staging name of a path
+pub staged_acted : {S A : Type 0} (tree : Ghosts S) (path stage : Path) (s : Path → Option Bare) (pieces : List Piece) (n : ℕ) {now : ℕ} {a b : S} {r : Result A TreeFault} → stage ≡ staging_of path → made_of pieces ≡ s → cost_of pieces ≤ n
+    → Acted tree (SameOutside (is_prefix stage) (tree.state a)) (GivesPart stage (made_of pieces)) (cost_of pieces) now a b r
+    → Acted tree (SameOutside (is_prefix (staging_of path)) (tree.state a)) (IsStagingOf path s) n now a b r
+staged_acted {A = A} tree path stage s pieces n {now = now} {a = a} {b = b} {r = r} at all few acted =
+    acted_within tree (cost_of pieces) n few
+    (subst (λ (v : Path → Option Bare). Acted {A = A} tree (SameOutside (is_prefix (staging_of path)) (tree.state a)) (GivesPart (staging_of path) v) (cost_of pieces) now a b r) all
+    (subst (λ (p : Path). Acted {A = A} tree (SameOutside (is_prefix p) (tree.state a)) (GivesPart p (made_of pieces)) (cost_of pieces) now a b r) at acted))
+
+-- a copy that is staged and comes to its path
+module _ {S : Type 0} (tree : Ghosts S) (now : ℕ) (path : Path) (nonempty : path ≢ []) (s : Path → Option Bare) (a b : S) (parent : IsKindIn Directory (places (tree.state a)) (parent_of path)) (is_tree : IsTree (tree.state a))
+    (free : IsAbsentIn (places (tree.state a)) (staging_of path)) (stage_nonempty : staging_of path ≢ []) (stage_parent : IsKindIn Directory (places (tree.state a)) (parent_of (staging_of path))) (n : ℕ) where
+  abbrev from : Files
+  from = tree.state a
+
+  pub copy_staging : {A : Type 0} {r : Result A TreeFault} (most : ℕ) → most_staged * n ≤ most → Acted tree (SameOutside (is_prefix (staging_of path)) (tree.state a)) (IsStagingOf path s) (most_staged * n) now a b r
+      → Acted tree (CopyingOver path s (tree.state a)) (IsCopyStep path s) most now a b r
+  copy_staging most le before =
+      acted_weaken tree (SameOutside (is_prefix (staging_of path)) (tree.state a)) (CopyingOver path s (tree.state a)) (IsStagingOf path s) (IsCopyStep path s) (most_staged * n) most
+      (copy_before now path nonempty s (tree.state a) parent is_tree free stage_nonempty stage_parent) (λ step g. inl g) le before
+
+  pub copy_acted : {A B : Type 0} {c : S} {x : A} {r : Result B TreeFault} → Moves tree → 1 ≤ n → places (tree.state b) ≡ with_subtree now (staging_of path) s (places (tree.state a))
+      → Acted tree (SameOutside (is_prefix (staging_of path)) (tree.state a)) (IsStagingOf path s) (most_staged * n) now a b (Ok x)
+      → Acted tree (Publishing now path (tree.state b)) (IsPublishing path) (1 + count_at (tree.state b) path) now b c r
+      → Acted tree (CopyingOver path s (tree.state a)) (IsCopyStep path s) (count_at (tree.state a) path + most_new * n) now a c r
+  copy_acted moves one is before last =
+      let fewer = copy_count now path nonempty s (tree.state a) parent is_tree free stage_nonempty stage_parent (tree.state b) is in
+      acted_within tree (most_staged * n + (1 + count_at (tree.state b) path)) (count_at (tree.state a) path + most_new * n) (omega (arith, fewer, one))
+      (acted_then tree moves (CopyingOver path s (tree.state a)) (IsCopyStep path s)
+      (copy_staging (most_staged * n) (omega arith) before)
+      (acted_weaken tree (Publishing now path (tree.state b)) (CopyingOver path s (tree.state a)) (IsPublishing path) (IsCopyStep path s) (1 + count_at (tree.state b) path) (1 + count_at (tree.state b) path)
+      (copy_published now path nonempty s (tree.state a) parent is_tree free stage_nonempty stage_parent (tree.state b) is (acted_end tree (SameOutside (is_prefix (staging_of path)) (tree.state a)) (IsStagingOf path s) before))
+      (λ step g. inr g) (omega arith) last))

@@ -1,0 +1,56 @@
+use Rattle.std.proofs.Common.{◌≡◌, ◌≤◌, ◌+◌, ◌-◌, ℕ, true, sym, ap, subst, ◌∙◌, refl, [], ◌∷◌, ◌++◌, List, length, Result, arith}
+use Rattle.std.proofs.lemmas.List.{nil_from_length}
+use Rattle.pv_dress.specs.Edits.{SameOutside}
+use Rattle.pv_path.specs.Paths.{is_prefix}
+use Rattle.pv_steps.proofs.ActingLaws.{Moves, well, acted_none, acted_within, acted_passed}
+use Rattle.pv_walk.specs.Copying.{GivesPart}
+use Rattle.pv_walk.specs.Pieces.{piece_cost, cost_of, made_of}
+use Rattle.pv_walk.proofs.CopyListing.{cost-push}
+use Rattle.pv_walk.proofs.CopyingLaws.{doing_start, doing_outside, doing_can, doing_end, one_more, next_done}
+use Rattle.pv_walk.proofs.copying.put_pieces.Goals as goal
+
+pub loop-piece-init : goal.loop-piece-init
+loop-piece-init g c =
+    let moves : Moves g.T.Tree = record { stays = g.met.T.Tree.reaches_self; goes_on = g.met.T.Tree.reaches_on; never_falls = g.met.T.Tree.never_falls } in
+    let t = g.T.Tree.state c.args.tree.now in
+    let pieces = c.args.pieces.items in
+    let here = doing_start c.args.now c.args.stage.now c.requires.not_root t c.requires.parent pieces c.requires.free c.requires.plan in
+    record {
+      here = here;
+      room = omega arith;
+      acted =
+          acted_none g.T.Tree moves (SameOutside (is_prefix c.args.stage.now) t) (GivesPart c.args.stage.now (made_of pieces)) (cost_of pieces - cost_of pieces) c.args.now c.args.tree.now well refl
+          (doing_outside c.args.now c.args.stage.now c.requires.not_root t c.requires.parent pieces pieces t here);
+    }
+
+pub put_owned-requires : goal.put_owned-requires
+put_owned-requires g c =
+    doing_can c.args.now c.args.stage.now c.requires.not_root (g.T.Tree.state c.args.tree.now) c.requires.parent c.args.pieces.items c.pop.new.self.items (g.T.Tree.state c.loop-piece.tree) c.in-Some.piece
+    (rw c.in-Some.ensures.items at c.loop-piece.invariant.here)
+
+pub loop-piece-preserved : goal.loop-piece-preserved
+loop-piece-preserved g c =
+    let moves : Moves g.T.Tree = record { stays = g.met.T.Tree.reaches_self; goes_on = g.met.T.Tree.reaches_on; never_falls = g.met.T.Tree.never_falls } in
+    let next =
+    next_done g.T.Tree moves c.args.now c.args.stage.now c.requires.not_root c.args.pieces.items c.loop-piece.left.items c.pop.new.self.items c.in-Some.piece c.in-Some.ensures.items c.args.tree.now c.loop-piece.tree c.put_owned.new.tree
+    c.requires.parent c.loop-piece.invariant.here c.loop-piece.invariant.room c.loop-piece.invariant.acted c.in_ok-put_owned.ensures.ok c.in_ok-put_owned.ensures.acted in
+    record { here = next.0; room = next.1.0; acted = next.1.1 }
+
+pub returns-in_err-put_owned-clause-acted : goal.returns-in_err-put_owned-clause-acted
+returns-in_err-put_owned-clause-acted g c =
+    let moves : Moves g.T.Tree = record { stays = g.met.T.Tree.reaches_self; goes_on = g.met.T.Tree.reaches_on; never_falls = g.met.T.Tree.never_falls } in
+    let pieces = c.args.pieces.items in
+    let one = cost-push c.pop.new.self.items c.in-Some.piece c.in-Some.ensures.items in
+    acted_passed g.T.Tree c.put_owned.result c.from_residual.result c.in_err-put_owned.was c.from_residual.ensures.1
+    (one_more g.T.Tree moves c.args.stage.now c.requires.not_root pieces c.pop.new.self.items c.in-Some.piece c.requires.parent (rw c.in-Some.ensures.items at c.loop-piece.invariant.here)
+    (cost_of pieces) (omega (arith, c.loop-piece.invariant.room, one)) c.loop-piece.invariant.acted c.put_owned.ensures.acted)
+
+pub returns-clause-ok : goal.returns-clause-ok
+returns-clause-ok g c =
+    let none : c.loop-piece.left.items ≡ [] = nil_from_length c.loop-piece.left.items (sym c.loop-piece.left.ok.0 ∙ c.in_default.ensures.cases.0) in
+    λ top. doing_end c.args.now c.args.stage.now c.requires.not_root (g.T.Tree.state c.args.tree.now) c.requires.parent c.args.pieces.items (g.T.Tree.state c.loop-piece.tree) (rw none at c.loop-piece.invariant.here) top
+
+pub returns-clause-acted : goal.returns-clause-acted
+returns-clause-acted g c =
+    let most = cost_of c.args.pieces.items in
+    acted_within g.T.Tree (most - cost_of c.loop-piece.left.items) most (omega arith) c.loop-piece.invariant.acted

@@ -1,0 +1,112 @@
+-- Copies: what stands at and below one path comes once more to another, each object with all it has but its stamps
+-- (tmpfiles.d(5), C; cp(1), -a).
+use Rattle.std.specs.Prelude.{◌≡◌, ◌⊎◌, ℕ, ◌≤◌, true, false, List, [], ◌∷◌, ◌++◌, length, filter, filter_map, Option, Some, None, IfSome, is_some, option_map, unwrap_or, if◌then◌else◌}
+use Rattle.std.specs.FinMap as fin
+use Rattle.pv_dress.specs.declared.bare.Bare.{Bare}
+use Rattle.pv_dress.specs.Dressing.{dress_mode}
+use Rattle.pv_dress.specs.Nodes.{bares_of, is_link}
+use Rattle.pv_dress.specs.Operations.{with_mode}
+use Rattle.pv_path.specs.Paths.{Path, rest_under, has_staging, staging_of}
+use Rattle.pv_steps.specs.declared.object.Object.{Object}
+use Rattle.pv_steps.specs.declared.step.Step.{Step}
+use Rattle.pv_steps.specs.declared.step.Step.TheVariants.{MakeDir, MakeFile, MakeFifo, MakeDevice, MakeLink, Write, SetMode, SetOwner, SetAcl, SetAttrs, SetLetters}
+use Rattle.pv_steps.specs.Objects.{stamped, IsId}
+use Rattle.pv_steps.specs.Same.{bares}
+use Rattle.pv_steps.specs.Steps.{touched}
+use Rattle.pv_steps.specs.Trees.{Files, Places, places}
+use Rattle.pv_walk.specs.declared.copying.TopNode.{TopNode}
+use Rattle.pv_walk.specs.Putting.{IsMakingWay}
+use Rattle.pv_walk.specs.Staging.{IsPublishing}
+
+-- ---- what is copied
+
+-- what the top of a copy gets: a mode and IDs
+pub record IsTopNode (top : TopNode) : Type 0 where
+  pub mode : IfSome top.mode (λ mode. mode ≤ 0o7777)
+  pub uid : IfSome top.uid IsId
+  pub gid : IfSome top.gid IsId
+
+-- an object with this mode, where one is given; a link has none
+abbrev pub moded : Option ℕ → Bare → Bare
+moded None b = b
+moded (Some mode) b = if is_link b.body.kind then b else record b { dress = with_mode b.body.kind mode false b.dress }
+
+-- the top of a copy has the mode and the owners that are given
+abbrev pub topped : TopNode → Bare → Bare
+topped top b = moded top.mode (record b { dress = record b.dress { uid = unwrap_or top.uid b.dress.uid; gid = unwrap_or top.gid b.dress.gid } })
+
+-- the copy of what stands at and below a path, by what comes after it; staging names are left out
+abbrev pub copied : TopNode → Path → Places → Path → Option Bare
+copied top source t [] = option_map (topped top) (bares_of t source)
+copied top source t (name ∷ rest) = if has_staging (name ∷ rest) then None else bares_of t (source ++ name ∷ rest)
+
+-- how many objects a copy has, of those at and below a path
+abbrev pub copied_count : (Path → Option Bare) → Path → Files → ℕ
+copied_count subtree source t = length (filter (λ rest. is_some (subtree rest)) (filter_map (rest_under source) (fin.keys t)))
+
+-- ---- what it leaves, stamps included
+
+-- a new object, all four stamps now
+abbrev pub object_of : ℕ → Bare → Object
+object_of now b = record {
+  node = record {
+    kind = b.body.kind;
+    special = b.dress.special;
+    uid = b.dress.uid;
+    gid = b.dress.gid;
+    acl = b.dress.acl;
+    stamps = stamped now;
+    major = b.body.major;
+    minor = b.body.minor;
+    attrs = b.dress.attrs;
+    letters = b.dress.letters;
+  };
+  payload = b.body.payload;
+}
+
+-- what stands at a path that has this rest below the place of a subtree of new objects; the old object elsewhere
+abbrev pub standing : ℕ → (Path → Option Bare) → Option Object → Option Path → Option Object
+standing now subtree old None = old
+standing now subtree old (Some rest) = option_map (object_of now) (subtree rest)
+
+-- a subtree of new objects stands at a path in the place of all that stood at and below it; its directory has changed
+abbrev pub with_subtree : ℕ → Path → (Path → Option Bare) → Places → Places
+with_subtree now path subtree t = touched now path (λ q. standing now subtree (t q) (rest_under path q))
+
+-- on the way, at each path without a staging name: what stood at the path makes way, or the copy has come there whole
+abbrev pub CopyingOver : Path → (Path → Option Bare) → Files → Files → Type 0
+CopyingOver path subtree t u =
+    ((q : Path) → has_staging q ≡ false → IsMakingWay path q (bares (places t) q) (bares (places u) q))
+    ⊎ ((q : Path) → has_staging q ≡ false → bares (places u) q ≡ bares (with_subtree 0 path subtree (places t)) q)
+
+-- ---- single steps
+
+-- a step makes something at a path, or gives it a part of what an object without stamps has
+abbrev pub GivesBare : Path → Bare → Step → Type 0
+GivesBare path b (MakeDir at) = at ≡ path
+GivesBare path b (MakeFile at) = at ≡ path
+GivesBare path b (MakeFifo at) = at ≡ path
+GivesBare path b (MakeDevice at block major minor) = at ≡ path
+GivesBare path b (MakeLink at target) = (at ≡ path) × (target ≡ b.body.payload)
+GivesBare path b (Write at content) = (at ≡ path) × (content ≡ b.body.payload)
+GivesBare path b (SetOwner at uid gid) = (at ≡ path) × ((uid ≡ b.dress.uid) × (gid ≡ b.dress.gid))
+GivesBare path b (SetMode at mode) = (at ≡ path) × (mode ≡ dress_mode b.dress)
+GivesBare path b (SetAcl at acl) = (at ≡ path) × (acl ≡ b.dress.acl)
+GivesBare path b (SetAttrs at attrs) = (at ≡ path) × (attrs ≡ b.dress.attrs)
+GivesBare path b (SetLetters at letters) = (at ≡ path) × (letters ≡ b.dress.letters)
+GivesBare path b step = ⊥
+
+-- a step gives an object of a subtree that is made at a path what it has
+pub record GivesPart (path : Path) (subtree : Path → Option Bare) (step : Step) : Type 0 where
+  pub rest : Path
+  pub object : Bare
+  pub is : subtree rest ≡ Some object
+  pub gives : GivesBare (path ++ rest) object step
+
+-- so under the staging name of a path
+abbrev pub IsStagingOf : Path → (Path → Option Bare) → Step → Type 0
+IsStagingOf path subtree step = GivesPart (staging_of path) subtree step
+
+-- a step stages an object of a copy, or publishes the copy
+abbrev pub IsCopyStep : Path → (Path → Option Bare) → Step → Type 0
+IsCopyStep path subtree step = IsStagingOf path subtree step ⊎ IsPublishing path step

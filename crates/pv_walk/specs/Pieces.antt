@@ -1,0 +1,138 @@
+-- The pieces of work of which a copy is made: each object is made with what it holds, and gets what it is to wear once all
+-- below it is there (mkdir(2), mknod(2), symlink(2), chown(2), chmod(2)).
+use Rattle.std.specs.Prelude.{◌≡◌, ◌≢◌, ◌⊎◌, ℕ, ◌+◌, true, false, List, [], ◌∷◌, ◌++◌, map, Option, Some, None, is_some, option_map, if◌then◌else◌}
+use Rattle.pv_dress.specs.declared.bare.Bare.{Bare}
+use Rattle.pv_dress.specs.declared.bare.Body.{Body}
+use Rattle.pv_dress.specs.Dressing.{IsDress, dress_mode, CanWear, ChangedAt, GivesDress, wear}
+use Rattle.pv_dress.specs.Nodes.{bare_of}
+use Rattle.pv_path.specs.Paths.{Path, same_path, parent_of}
+use Rattle.pv_steps.specs.declared.node.Kind.{Kind}
+use Rattle.pv_steps.specs.declared.node.Kind.TheVariants.{Directory, File, Link, Fifo, CharDevice, BlockDevice}
+use Rattle.pv_steps.specs.declared.step.Step.{Step}
+use Rattle.pv_steps.specs.Steps.{HasRoom, made}
+use Rattle.pv_steps.specs.Trees.{Files, places, names_below}
+use Rattle.pv_walk.specs.declared.new_file.NewFile.{NewFile}
+use Rattle.pv_walk.specs.declared.new_file.NewKind.{NewKind}
+use Rattle.pv_walk.specs.declared.new_file.NewKind.TheVariants as new
+use Rattle.pv_walk.specs.declared.listing.Piece.{Piece}
+use Rattle.pv_walk.specs.declared.listing.Piece.TheVariants.{Make, Wear}
+use Rattle.pv_walk.specs.declared.listing.Task.{Task}
+use Rattle.pv_walk.specs.declared.listing.Task.TheVariants.{Open, Close}
+use Rattle.pv_walk.specs.Making.{held_object}
+use Rattle.pv_walk.specs.Staging.{IsNewFile, GivesNew}
+
+-- ---- single pieces
+
+-- what an object is, with what it holds
+abbrev pub what_of : Body → NewKind
+what_of body = by body.kind
+  where
+    by : Kind → NewKind
+    by Directory = new.Directory
+    by File = new.File body.payload
+    by Link = new.Link body.payload
+    by Fifo = new.Fifo
+    by CharDevice = new.Device false body.major body.minor
+    by BlockDevice = new.Device true body.major body.minor
+
+-- an object as a new one
+abbrev pub file_of : Bare → NewFile
+file_of b = record { what = what_of b.body; mode = dress_mode b.dress; uid = b.dress.uid; gid = b.dress.gid }
+
+-- an object as it is first made, with what it holds
+abbrev pub plain : Bare → Bare
+plain b = bare_of (held_object (what_of b.body) 0)
+
+-- an object of which a copy can be made
+pub record IsWhole (b : Bare) : Type 0 where
+  pub new : IsNewFile (file_of b)
+  pub body : (plain b).body ≡ b.body
+  pub dress : IsDress b.body.kind b.dress
+
+-- what a piece needs of a tree, below a path
+abbrev pub CanDo : Path → Piece → Files → Type 0
+CanDo stage (Make rest file) t = (stage ++ rest ≢ []) × (HasRoom (places t) (stage ++ rest) × IsNewFile file)
+CanDo stage (Wear rest dress) t = CanWear t (stage ++ rest) dress
+
+-- what it leaves
+abbrev pub IsDone : ℕ → Path → Piece → Files → Files → Type 0
+IsDone now stage (Make rest file) t u = places u ≡ made now (stage ++ rest) (held_object file.what now) (places t)
+IsDone now stage (Wear rest dress) t u = ChangedAt (wear dress) (stage ++ rest) now t u
+
+-- where it works
+abbrev pub place_of : Piece → Path
+place_of (Make rest file) = rest
+place_of (Wear rest dress) = rest
+
+-- a step of it
+abbrev pub GivesPiece : Path → Piece → Files → Step → Type 0
+GivesPiece stage (Make rest file) t step = GivesNew (stage ++ rest) file step
+GivesPiece stage (Wear rest dress) t step = GivesDress (stage ++ rest) dress t step
+
+-- at most how many steps it takes
+abbrev pub piece_cost : Piece → ℕ
+piece_cost (Make rest file) = 2
+piece_cost (Wear rest dress) = 5
+
+-- ---- lists of pieces, the last one first
+
+-- the most steps of a list
+abbrev pub cost_of : List Piece → ℕ
+cost_of [] = 0
+cost_of (piece ∷ pieces) = cost_of pieces + piece_cost piece
+
+-- the objects that stand after a piece, where these stood before it
+abbrev pub after_piece : Piece → (Path → Option Bare) → Path → Option Bare
+after_piece (Make rest file) s q = if same_path rest q then Some (bare_of (held_object file.what 0)) else s q
+after_piece (Wear rest dress) s q = if same_path rest q then option_map (λ (b : Bare). record b { dress = dress }) (s q) else s q
+
+-- the objects that stand after all of them
+abbrev pub built : List Piece → (Path → Option Bare) → Path → Option Bare
+built [] s = s
+built (piece ∷ pieces) s = after_piece piece (built pieces s)
+
+-- a place in which an object can be made: the top, or in a directory that is there
+abbrev pub HasPlace : (Path → Option Bare) → Path → Type 0
+HasPlace s rest = (rest ≡ []) ⊎ ((is_some (s []) ≡ true) × (option_map (λ b. b.body.kind) (s (parent_of rest)) ≡ Some Directory))
+
+-- a piece of a subtree that can be done where these objects stand
+abbrev pub IsDoable : (Path → Option Bare) → (Path → Option Bare) → Piece → Type 0
+IsDoable subtree s (Make rest file) = (b : Bare) × ((subtree rest ≡ Some b) × (IsWhole b × ((file ≡ file_of b) × ((s rest ≡ None) × HasPlace s rest))))
+IsDoable subtree s (Wear rest dress) = (b : Bare) × ((subtree rest ≡ Some b) × (IsWhole b × ((dress ≡ b.dress) × (s rest ≡ Some (plain b)))))
+
+-- so each of them
+abbrev pub AreDoable : (Path → Option Bare) → (Path → Option Bare) → List Piece → Type 0
+AreDoable subtree s [] = Unit {0}
+AreDoable subtree s (piece ∷ pieces) = AreDoable subtree s pieces × IsDoable subtree (built pieces s) piece
+
+-- what they make, where nothing stood
+abbrev pub made_of : List Piece → Path → Option Bare
+made_of pieces = built pieces (λ q. None)
+
+-- pieces of which each can be done where nothing stood at first
+abbrev pub IsPlan : List Piece → Type 0
+IsPlan pieces = AreDoable (made_of pieces) (λ q. None) pieces
+
+-- ---- how they are listed
+
+-- the names below a place of what is copied
+abbrev pub names_at : Path → Files → Path → List (List ℕ)
+names_at source t rest = names_below t (source ++ rest)
+
+-- the last piece of an object, and what comes before it: the first one, and the children
+abbrev pub last_piece : Path → Option Bare → List Piece
+last_piece rest None = []
+last_piece rest (Some b) = Wear rest b.dress ∷ []
+
+abbrev pub tasks_before : Path → List (List ℕ) → Option Bare → List Task
+tasks_before rest names None = []
+tasks_before rest names (Some b) = Close (Make rest (file_of b)) ∷ map (λ name. Open (rest ++ name ∷ [])) names
+
+-- a task gives the last pieces of what it stands for, and leaves tasks for those before them
+abbrev pub pieces_now : (Path → Option Bare) → Task → List Piece
+pieces_now subtree (Close piece) = piece ∷ []
+pieces_now subtree (Open rest) = last_piece rest (subtree rest)
+
+abbrev pub tasks_left : (Path → Option Bare) → (Path → List (List ℕ)) → Task → List Task
+tasks_left subtree names (Close piece) = []
+tasks_left subtree names (Open rest) = tasks_before rest (names rest) (subtree rest)

@@ -1,0 +1,272 @@
+//! What there is to copy, listed in pieces of work before the first of them is done.
+ghost use Rattle.std.specs.Prelude.{◌≡◌, ◌≤◌, ◌*◌, ◌++◌, ◌∷◌, [], map, Some, IfOk, OnOk};
+ghost use Rattle.pv_dress.specs.Nodes.{bares_of};
+ghost use Rattle.pv_steps.specs.Trees.{places, node_at, payload_at, IsTree};
+ghost use Rattle.pv_walk.specs.Copying.{copied, copied_count, topped, IsTopNode};
+ghost use Rattle.pv_walk.specs.Pieces.{IsPlan, made_of, cost_of, file_of, what_of, names_at, pieces_now, tasks_left};
+ghost use Rattle.pv_walk.specs.Staging.{most_staged};
+ghost use Rattle.pv_walk.specs.declared.listing.Piece.TheVariants.{Make, Wear};
+ghost use Rattle.pv_walk.specs.declared.listing.Task.TheVariants.{Open, Close};
+
+use crate::copying::TopNode;
+use crate::new_file::{NewFile, NewKind};
+use pv_dress::{Bare, Body, Dress};
+use pv_path::{TreePath, child, has_staging};
+use pv_steps::{Kind, Node, Tree, is_directory, special_bits};
+use std::alloc::{AllocError, Global};
+
+/// A piece of work for one object of a copy, at a place below the top.
+#[derive(Debug, Drop)]
+pub(crate) enum Piece {
+    /// The object is made, with what it holds.
+    Make(TreePath, NewFile),
+    /// It gets what it is to wear.
+    Wear(TreePath, Dress),
+}
+
+/// What is still to be listed.
+#[derive(Debug, Drop)]
+enum Task {
+    /// The object at a place below the top, with all below it.
+    Open(TreePath),
+    /// One piece.
+    Close(Piece),
+}
+
+/// The pieces of work of a copy, the last one first: each object is made before its children, which come in byte order,
+/// each with all below it; then it gets what it is to wear.
+pub(crate) fn pieces_of<T: Tree>(
+    alloc: Global,
+    tree: &T,
+    source: &TreePath,
+    top: &TopNode,
+) -> Result<Vec<Piece>, AllocError>
+    requires top { IsTopNode top.now }
+    ensures plan { IfOk result (λ pieces. IsPlan pieces.items) }
+    ensures all { IfOk result (λ pieces. made_of pieces.items
+        ≡ copied top.now source.now (places (T.state tree.now))) }
+    ensures few { IfOk result (λ pieces. cost_of pieces.items ≤ most_staged
+        * copied_count (copied top.now source.now (places (T.state tree.now))) source.now
+        (T.state tree.now)) }
+    ensures tree { IsTree (T.state tree.now) }
+{
+    // In a tree nothing stands below what is no directory.
+    let _root = tree.look(source);
+    let mut work = Vec::new(alloc);
+    work.push(Task::Open(TreePath::root(alloc)))?;
+    let mut pieces = Vec::new(alloc);
+    while let Some(task) = work.pop() {
+        list_next(alloc, tree, source, top, task, &mut work, &mut pieces)?;
+    }
+    Ok(pieces)
+}
+
+/// Lists the last pieces of a task, and leaves what comes before them.
+fn list_next<T: Tree>(
+    alloc: Global,
+    tree: &T,
+    source: &TreePath,
+    top: &TopNode,
+    task: Task,
+    work: &mut Vec<Task>,
+    pieces: &mut Vec<Piece>,
+) -> Result<(), AllocError>
+    requires top { IsTopNode top.now }
+    ensures left { OnOk result (work.new.items ≡ work.old.items ++ tasks_left
+        (copied top.now source.now (places (T.state tree.now)))
+        (names_at source.now (T.state tree.now)) task) }
+    ensures listed { OnOk result (pieces.new.items ≡ pieces.old.items ++ pieces_now
+        (copied top.now source.now (places (T.state tree.now))) task) }
+{
+    match task {
+        Task::Open(rest) => open(alloc, tree, source, top, &rest, work, pieces),
+        Task::Close(piece) => Ok(pieces.push(piece)?),
+    }
+}
+
+/// The same for all at and below a place.
+fn open<T: Tree>(
+    alloc: Global,
+    tree: &T,
+    source: &TreePath,
+    top: &TopNode,
+    rest: &TreePath,
+    work: &mut Vec<Task>,
+    pieces: &mut Vec<Piece>,
+) -> Result<(), AllocError>
+    requires top { IsTopNode top.now }
+    ensures left { OnOk result (work.new.items ≡ work.old.items ++ tasks_left
+        (copied top.now source.now (places (T.state tree.now)))
+        (names_at source.now (T.state tree.now)) (Open rest.now)) }
+    ensures listed { OnOk result (pieces.new.items ≡ pieces.old.items ++ pieces_now
+        (copied top.now source.now (places (T.state tree.now))) (Open rest.now)) }
+{
+    match object_at(alloc, tree, source, top, rest)? {
+        None => Ok(()),
+        Some(object) => {
+            add_object(rest, object, work, pieces)?;
+            open_children(alloc, tree, source, rest, work)
+        }
+    }
+}
+
+/// Adds the pieces of one object: the last one to those that are listed, the first one to what is left.
+fn add_object(
+    rest: &TreePath,
+    object: Bare,
+    work: &mut Vec<Task>,
+    pieces: &mut Vec<Piece>,
+) -> Result<(), AllocError>
+    requires { object.dress.special ≤ 7 }
+    ensures left { OnOk result (work.new.items
+        ≡ work.old.items ++ Close (Make rest.now (file_of object)) ∷ []) }
+    ensures listed { OnOk result (pieces.new.items
+        ≡ pieces.old.items ++ Wear rest.now object.dress ∷ []) }
+{
+    let first = rest.copy()?;
+    let last = rest.copy()?;
+    let file = file_of(object.body, &object.dress);
+    work.push(Task::Close(Piece::Make(first, file)))?;
+    pieces.push(Piece::Wear(last, object.dress))?;
+    Ok(())
+}
+
+/// An object as a new one.
+fn file_of(body: Body, dress: &Dress) -> NewFile
+    requires { dress.now.special ≤ 7 }
+    ensures { result ≡ file_of (record { body = body; dress = dress.now }) }
+{
+    NewFile {
+        what: what_of(body),
+        mode: dress.acl.access.mode(dress.special),
+        uid: dress.uid,
+        gid: dress.gid,
+    }
+}
+
+/// What an object is, with what it holds.
+fn what_of(body: Body) -> NewKind
+    ensures { result ≡ what_of body }
+{
+    match body.kind {
+        Kind::Directory => NewKind::Directory,
+        Kind::File => NewKind::File(body.payload),
+        Kind::Link => NewKind::Link(body.payload),
+        Kind::Fifo => NewKind::Fifo,
+        Kind::CharDevice => NewKind::Device {
+            block: false,
+            major: body.major,
+            minor: body.minor,
+        },
+        Kind::BlockDevice => NewKind::Device {
+            block: true,
+            major: body.major,
+            minor: body.minor,
+        },
+    }
+}
+
+/// Leaves the children at a place, in byte order.
+fn open_children<T: Tree>(
+    alloc: Global,
+    tree: &T,
+    source: &TreePath,
+    rest: &TreePath,
+    work: &mut Vec<Task>,
+) -> Result<(), AllocError>
+    ensures left { OnOk result (work.new.items ≡ work.old.items
+        ++ map (λ name. Open (rest.now ++ name ∷ []))
+        (names_at source.now (T.state tree.now) rest.now)) }
+{
+    let at = source.followed_by(rest.names())?;
+    if !is_directory(tree, &at) {
+        return Ok(());
+    }
+    let names = tree.list(alloc, &at)?;
+    for name in names.as_slice() {
+        work.push(Task::Open(child(alloc, rest, name.bytes())?))?;
+    }
+    Ok(())
+}
+
+/// The object of a copy at a place below the top, if any.
+fn object_at<T: Tree>(
+    alloc: Global,
+    tree: &T,
+    source: &TreePath,
+    top: &TopNode,
+    rest: &TreePath,
+) -> Result<Option<Bare>, AllocError>
+    ensures object { IfOk result (λ object. object
+        ≡ copied top.now source.now (places (T.state tree.now)) rest.now) }
+    ensures tree { IsTree (T.state tree.now) }
+{
+    // In a tree nothing is half made.
+    let _tree = tree.look(source);
+    if rest.is_empty() {
+        return top_at(alloc, tree, source, top);
+    }
+    if has_staging(rest) {
+        return Ok(None);
+    }
+    bare_at(alloc, tree, &source.followed_by(rest.names())?)
+}
+
+/// The top of a copy, if any.
+fn top_at<T: Tree>(
+    alloc: Global,
+    tree: &T,
+    source: &TreePath,
+    top: &TopNode,
+) -> Result<Option<Bare>, AllocError>
+    ensures { IfOk result (λ object. object
+        ≡ copied top.now source.now (places (T.state tree.now)) []) }
+{
+    match bare_at(alloc, tree, source)? {
+        None => Ok(None),
+        Some(object) => Ok(Some(topped(top, object))),
+    }
+}
+
+/// An object as the top of a copy.
+fn topped(top: &TopNode, object: Bare) -> Bare
+    ensures { result ≡ topped top.now object }
+{
+    let mut new = object;
+    if let Some(uid) = top.uid {
+        new.dress.uid = uid;
+    }
+    if let Some(gid) = top.gid {
+        new.dress.gid = gid;
+    }
+    if let Some(mode) = top.mode {
+        if new.body.kind != Kind::Link {
+            new.dress.special = special_bits(mode);
+            new.dress.acl.access.set_base(mode);
+        }
+    }
+    new
+}
+
+/// What stands at a path, without its stamps.
+fn bare_at<T: Tree>(alloc: Global, tree: &T, path: &TreePath) -> Result<Option<Bare>, AllocError>
+    ensures { IfOk result (λ object. object ≡ bares_of (places (T.state tree.now)) path.now) }
+{
+    match tree.look(path) {
+        None => Ok(None),
+        Some(node) => Ok(Some(Bare::of(alloc, node, payload_of(tree, path, node))?)),
+    }
+}
+
+/// The bytes of a file or the target of a link, else no bytes.
+fn payload_of<'a, T: Tree>(tree: &'a T, path: &TreePath, node: &Node) -> &'a [u8]
+    requires tree { IsTree (T.state tree.now) }
+    requires node { Some node.now ≡ node_at (T.state tree.now) path.now }
+    ensures { Some result.now ≡ payload_at (T.state tree.now) path.now }
+{
+    match node.kind {
+        Kind::File => tree.bytes(path),
+        Kind::Link => tree.target(path),
+        _ => b"",
+    }
+}
