@@ -19,11 +19,11 @@ lines_text l (m ∷ ms) h =
     let parts = both (lacks_end l) (list_all lacks_end (m ∷ ms)) h in
     split_at 10 l (text_of (m ∷ ms)) parts.0 ∙ ap (λ (ls : List (List ℕ)). l ∷ ls) (lines_text m ms parts.1)
 
-lines_back : (lines : List (List ℕ)) → HasLine lines → list_all lacks_end lines ≡ true → lines_of (text_of lines) ≡ lines
+pub lines_back : (lines : List (List ℕ)) → HasLine lines → list_all lacks_end lines ≡ true → lines_of (text_of lines) ≡ lines
 lines_back [] (l, (ls, e)) h = cc
 lines_back (l ∷ ls) some h = lines_text l ls h
 
-lines_lack : (file : List ℕ) → list_all lacks_end (lines_of file) ≡ true
+pub lines_lack : (file : List ℕ) → list_all lacks_end (lines_of file) ≡ true
 lines_lack [] = refl
 lines_lack (b ∷ bs) = by_test (b == 10) refl (split_cons 10 bs) (lines_lack bs)
   where

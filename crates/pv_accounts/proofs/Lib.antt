@@ -3,3 +3,7 @@ pub mod Holding
 pub mod Lines
 pub mod Ends
 pub mod Counting
+pub mod Rereading
+pub mod Members
+pub mod Alike
+pub mod AmongLaws

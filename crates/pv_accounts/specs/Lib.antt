@@ -5,3 +5,4 @@ pub mod Files
 pub mod Kinds
 pub mod Edits
 pub mod InUse
+pub mod Among

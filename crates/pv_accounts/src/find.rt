@@ -24,7 +24,7 @@ pub enum Kind {
 }
 
 /// The name of the entry that a line is, if it is one.
-fn name_in(kind: Kind, line: &[u8]) -> Option<&[u8]>
+pub(crate) fn name_in(kind: Kind, line: &[u8]) -> Option<&[u8]>
     ensures { option_map (λ name. name.now) result ≡ option_map name_of (entry_of (test_of kind) line.now) }
 {
     match kind {

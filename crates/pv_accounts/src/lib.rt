@@ -5,6 +5,7 @@
 mod cutting;
 mod edit;
 mod entry;
+mod entry_names;
 mod find;
 mod in_use;
 mod names;
@@ -13,6 +14,7 @@ mod views;
 pub use cutting::{cut, uncut};
 pub use edit::{add_member, add_member_in, append_entries, append_entry};
 pub use entry::{GroupEntry, PasswdEntry, ShadowEntry, gshadow_parts};
+pub use entry_names::EntryNames;
 pub use find::{Kind, find_line};
 pub use in_use::InUse;
 pub use names::FileNames;

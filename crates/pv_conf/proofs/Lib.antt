@@ -3,3 +3,4 @@ pub mod CuttingLaws
 pub mod KnownLaws
 pub mod InputLaws
 pub mod RequestedLaws
+pub mod WholeLaws

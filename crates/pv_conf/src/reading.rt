@@ -10,9 +10,9 @@ use crate::configuration::Configuration;
 use crate::cutting::{first_line, is_skipped};
 use crate::reader::LineReader;
 use pv_layers::chosen_files;
-use pv_path::{Bytes, Sequence, TreePath, WordList, print_path};
+use pv_path::{Sequence, TreePath, WordList};
 use pv_steps::{Kind, Tree};
-use pv_text::{Messages, Place, Tool};
+use pv_text::{Messages, OneLine, Place, Tool};
 use std::alloc::{AllocError, Global};
 
 /// Reads one line, or skips it.
@@ -59,7 +59,7 @@ fn next_number(number: u32) -> Result<u32, AllocError>
 fn add_lines<R: LineReader>(
     alloc: Global,
     reader: &R,
-    file: Bytes,
+    file: OneLine,
     content: &[u8],
     configuration: &mut Configuration<R::Line>,
     messages: &mut Messages,
@@ -112,7 +112,7 @@ fn add_file<T: Tree, R: LineReader>(
     ensures part { let read = reading_of_file (T.state tree.now) (reader_of (R.line_read reader.now) (R.said_of reader.now)) path.now in
         SaidPart read.messages messages.old messages.new }
 {
-    let file = Bytes::from_vec(print_path(alloc, path)?);
+    let file = OneLine::of_path(alloc, path)?;
     add_lines(
         alloc,
         reader,

@@ -1,7 +1,10 @@
 //! How the lines of systemd-sysusers are read.
 ghost use Rattle.std.specs.Prelude.{◌≡◌, ◌≢◌, ◌∷◌, [], ◌++◌, ◌<◌, ◌^◌, IfOk, OnOk, OnErr};
+ghost use Rattle.std.specs.List.{AllByRecursion};
 ghost use Rattle.pv_text.specs.Said.{SaidPart, said_at};
+ghost use Rattle.pv_requests.specs.Allowed.{IsAllowed};
 ghost use Rattle.pv_requests.specs.Faults.{name_of};
+ghost use Rattle.pv_requests.specs.Paths.{HasFewNames};
 ghost use Rattle.pv_conf.specs.Requested.{requested};
 
 use crate::configuration::Configuration;
@@ -22,6 +25,8 @@ pub(crate) struct SysusersReader<'a> {
 
 impl<'a> LineReader for SysusersReader<'a> {
     ghost use Rattle.std.specs.Result.{result_ok};
+    ghost use Rattle.pv_requests.specs.Allowed.{IsAllowed};
+    ghost use Rattle.pv_requests.specs.Paths.{HasFewNames};
     ghost use Rattle.pv_requests.specs.Requests.{request_of};
     ghost use Rattle.pv_conf.specs.Requested.{said_of_request};
 
@@ -31,7 +36,7 @@ impl<'a> LineReader for SysusersReader<'a> {
 
     ghost said_of = { λ reader place line. said_of_request place (request_of reader.facts.now place line) };
 
-    ghost is_whole = { λ _ line. Unit {0} };
+    ghost is_whole = { λ _ line. HasFewNames line × IsAllowed line };
 
     fn read(
         &self,
@@ -80,6 +85,8 @@ pub fn read_requests<T: Tree>(
     ensures invalid { IfOk result (λ c. c.invalid ≡ (requested (T.state tree.now) facts.now words.now).invalid) }
     ensures missing { IfOk result (λ c. c.missing ≡ (requested (T.state tree.now) facts.now words.now).missing) }
     ensures few { OnOk result ((requested (T.state tree.now) facts.now words.now).count < 2 ^ 32) }
+    ensures whole { IfOk result (λ c. AllByRecursion HasFewNames c.lines) }
+    ensures allowed { IfOk result (λ c. AllByRecursion IsAllowed c.lines) }
     ensures said { OnOk result (messages.new ≡ messages.old ++ (requested (T.state tree.now) facts.now words.now).messages) }
     ensures part { SaidPart (requested (T.state tree.now) facts.now words.now).messages messages.old messages.new }
 {

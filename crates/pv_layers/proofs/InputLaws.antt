@@ -23,7 +23,7 @@ use Rattle.pv_text.specs.declared.tool.Tool.{Tool}
 -- ---- what stands at a path
 
 -- what a kind and a payload are as a configuration file
-abbrev judge : Path → Option (Kind × List ℕ) → Found
+abbrev pub judge : Path → Option (Kind × List ℕ) → Found
 judge path None = Missing
 judge path (Some (File, payload)) = Regular path
 judge path (Some (Link, payload)) = cond (same_bytes payload mask_target) Masked (Odd path)
@@ -41,27 +41,27 @@ judged-is path o Fifo e = rw e refl
 judged-is path o CharDevice e = rw e refl
 judged-is path o BlockDevice e = rw e refl
 
-found_at-is : (t : Files) (path : Path) → found_at t path ≡ judge path (content_of (places t path))
+pub found_at-is : (t : Files) (path : Path) → found_at t path ≡ judge path (content_of (places t path))
 found_at-is t path = by (places t path) refl
   where
     by : (o : Option Object) → places t path ≡ o → found_at t path ≡ judge path (content_of o)
     by None e = rw e refl
     by (Some o) e = rw e (judged-is path o o.node.kind refl)
 
-kind-of_content : (o : Option Object) → kind_of o ≡ option_map (λ c. c.0) (content_of o)
+pub kind-of_content : (o : Option Object) → kind_of o ≡ option_map (λ c. c.0) (content_of o)
 kind-of_content None = refl
 kind-of_content (Some o) = refl
 
-some-of_content : (o : Option Object) → is_some o ≡ is_some (content_of o)
+pub some-of_content : (o : Option Object) → is_some o ≡ is_some (content_of o)
 some-of_content None = refl
 some-of_content (Some o) = refl
 
 -- the names in what has this kind
-abbrev names_if : Option Kind → List (List ℕ) → List (List ℕ)
+abbrev pub names_if : Option Kind → List (List ℕ) → List (List ℕ)
 names_if (Some Directory) names = names
 names_if _ names = []
 
-names_in-is : (t : Files) (folder : Path) → names_in t folder ≡ names_if (kind_of (places t folder)) (names_below t folder)
+pub names_in-is : (t : Files) (folder : Path) → names_in t folder ≡ names_if (kind_of (places t folder)) (names_below t folder)
 names_in-is t folder = by (kind_of (places t folder)) refl
   where
     by : (k : Option Kind) → kind_of (places t folder) ≡ k → names_in t folder ≡ names_if k (names_below t folder)
@@ -75,7 +75,7 @@ names_in-is t folder = by (kind_of (places t folder)) refl
 
 -- ---- files that are found within the input
 
-abbrev IsFoundWithin : (Path → Bool) → Found → Type 0
+abbrev pub IsFoundWithin : (Path → Bool) → Found → Type 0
 IsFoundWithin input (Regular path) = input path ≡ true
 IsFoundWithin input _ = ⊤
 
@@ -167,12 +167,12 @@ plain-no_slash input word b path e = absurd (let no : None ≡ Some path = rw b 
 
 -- ---- the chosen files are input
 
-are_input-append : (input : Path → Bool) (a b : List Path) → AreInput input a → AreInput input b → AreInput input (a ++ b)
+pub are_input-append : (input : Path → Bool) (a b : List Path) → AreInput input a → AreInput input b → AreInput input (a ++ b)
 are_input-append input [] b first second = second
 are_input-append input (path ∷ a) b first second = (first.0, are_input-append input a b first.1 second)
 
 -- the children of some folders are among the paths that have the folders
-children-input : (input : Path → Bool) (fs : List Path) (name : List ℕ) → Has input fs → AllByRecursion (λ f. input (f ++ name ∷ []) ≡ true) fs
+pub children-input : (input : Path → Bool) (fs : List Path) (name : List ℕ) → Has input fs → AllByRecursion (λ f. input (f ++ name ∷ []) ≡ true) fs
 children-input input [] name has = tt
 children-input input (f ∷ fs) name has = (
   has (f ++ name ∷ []) (ap (λ b. b || is_within fs (f ++ name ∷ [])) (is_prefix-append f (name ∷ []))),
@@ -194,23 +194,23 @@ or_else-input input Masked b first second = tt
 or_else-input input (Odd path) b first second = tt
 or_else-input input (Regular path) b first second = first
 
-choice_of-input : (input : Path → Bool) (found : Found) → IsFoundWithin input found → AreInput input (choice_of found).files
+pub choice_of-input : (input : Path → Bool) (found : Found) → IsFoundWithin input found → AreInput input (choice_of found).files
 choice_of-input input Missing is = tt
 choice_of-input input Masked is = tt
 choice_of-input input (Odd path) is = tt
 choice_of-input input (Regular path) is = (is, tt)
 
-choice_of_word-input : (input : Path → Bool) (word : List ℕ) (found : Found) → IsFoundWithin input found → AreInput input (choice_of_word word found).files
+pub choice_of_word-input : (input : Path → Bool) (word : List ℕ) (found : Found) → IsFoundWithin input found → AreInput input (choice_of_word word found).files
 choice_of_word-input input word Missing is = tt
 choice_of_word-input input word Masked is = tt
 choice_of_word-input input word (Odd path) is = tt
 choice_of_word-input input word (Regular path) is = (is, tt)
 
 module _ (t : Files) where
-  found_at-input : (input : Path → Bool) (path : Path) → input path ≡ true → IsFoundWithin input (found_at t path)
+  pub found_at-input : (input : Path → Bool) (path : Path) → input path ≡ true → IsFoundWithin input (found_at t path)
   found_at-input input path is = subst (IsFoundWithin input) (sym (found_at-is t path)) (judge-input input path is (content_of (places t path)))
 
-  found_in-input : (input : Path → Bool) (fs : List Path) (name : List ℕ) → AllByRecursion (λ f. input (f ++ name ∷ []) ≡ true) fs → IsFoundWithin input (found_in t fs name)
+  pub found_in-input : (input : Path → Bool) (fs : List Path) (name : List ℕ) → AllByRecursion (λ f. input (f ++ name ∷ []) ≡ true) fs → IsFoundWithin input (found_in t fs name)
   found_in-input input [] name are = tt
   found_in-input input (f ∷ fs) name are =
       or_else-input input (found_at t (f ++ name ∷ [])) (found_in t fs name) (found_at-input input (f ++ name ∷ []) are.0) (found_in-input input fs name are.1)

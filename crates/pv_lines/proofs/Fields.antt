@@ -38,7 +38,7 @@ use Rattle.pv_lines.specs.ModeField.{is_mode_text, line_age_of, mode_after, mode
 use Rattle.pv_lines.specs.PathField.{allowed, current, expansion, is_moved, is_root, named_of, path_named}
 use Rattle.pv_lines.proofs.Rows.{IsTyped}
 use Rattle.pv_lines.proofs.Sizes.{pattern_of-few}
-use Rattle.pv_lines.proofs.Spelled.{path_of-spelled, spelled_names}
+use Rattle.pv_path.proofs.Spelled.{path_of-spelled, spelled_names}
 
 -- what a chain gives comes of what its first call gave
 pub bound_ok : {A B E P : Type 0} (r : Result A E) (f : A → Result B E) (y : B) → (r >>= f) ≡ Ok y → ((x : A) → r ≡ Ok x → f x ≡ Ok y → P) → P

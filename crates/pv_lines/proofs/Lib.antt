@@ -1,4 +1,3 @@
-mod Spelled
 mod Sizes
 mod Rows
 mod Fields

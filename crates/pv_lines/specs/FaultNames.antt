@@ -10,24 +10,7 @@ use Rattle.pv_lines.specs.declared.fault.LineFault.TheVariants as line
 use Rattle.pv_lines.specs.declared.fault.LineFault.{LineFault}
 use Rattle.pv_path.specs.declared.fault.PathFault.TheVariants as path
 use Rattle.pv_path.specs.declared.fault.PathFault.{PathFault}
-use Rattle.pv_text.specs.declared.fault.ExpandFault.TheVariants as expansion
-use Rattle.pv_text.specs.declared.fault.ExpandFault.{ExpandFault}
-use Rattle.pv_text.specs.declared.fault.FieldFault.TheVariants as field
-use Rattle.pv_text.specs.declared.fault.FieldFault.{FieldFault}
-
--- of a line without fields
-abbrev pub field_name : FieldFault → List ℕ
-field_name (field.BadByte at) = codes "BadByte"
-field_name (field.OpenQuote at) = codes "OpenQuote"
-field_name (field.GluedQuote at) = codes "GluedQuote"
-field_name (field.BadEscape at) = codes "BadEscape"
-field_name field.TooFew = codes "TooFew"
-
--- of a specifier
-abbrev pub expansion_name : ExpandFault → List ℕ
-expansion_name expansion.UnknownSpecifier = codes "UnknownSpecifier"
-expansion_name expansion.MissingFact = codes "MissingFact"
-expansion_name expansion.Memory = codes "Memory"
+use Rattle.pv_text.specs.FaultNames.{expansion_name, field_name}
 
 -- of a path
 abbrev pub path_name : PathFault → List ℕ

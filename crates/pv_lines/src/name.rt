@@ -1,35 +1,12 @@
 //! The names of faults, as messages print them.
 ghost use Rattle.std.specs.Prelude.{◌≡◌};
-ghost use Rattle.pv_lines.specs.FaultNames.{acl_name, age_name, expansion_name, field_name, name_of, path_name, pattern_name};
+ghost use Rattle.pv_lines.specs.FaultNames.{acl_name, age_name, name_of, path_name, pattern_name};
 
 use crate::fault::LineFault;
 use pv_acl::AclFault;
 use pv_age::AgeFault;
 use pv_glob::PatternFault;
 use pv_path::PathFault;
-use pv_text::{ExpandFault, FieldFault};
-
-fn field_name(fault: FieldFault) -> &'static [u8]
-    ensures { result.now ≡ field_name fault }
-{
-    match fault {
-        FieldFault::BadByte(_) => b"BadByte",
-        FieldFault::OpenQuote(_) => b"OpenQuote",
-        FieldFault::GluedQuote(_) => b"GluedQuote",
-        FieldFault::BadEscape(_) => b"BadEscape",
-        FieldFault::TooFew => b"TooFew",
-    }
-}
-
-fn expansion_name(fault: ExpandFault) -> &'static [u8]
-    ensures { result.now ≡ expansion_name fault }
-{
-    match fault {
-        ExpandFault::UnknownSpecifier => b"UnknownSpecifier",
-        ExpandFault::MissingFact => b"MissingFact",
-        ExpandFault::Memory => b"Memory",
-    }
-}
 
 fn path_name(fault: PathFault) -> &'static [u8]
     ensures { result.now ≡ path_name fault }
@@ -91,10 +68,10 @@ pub fn name_of(fault: LineFault) -> &'static [u8]
     ensures { result.now ≡ name_of fault }
 {
     match fault {
-        LineFault::Field(fault) => field_name(fault),
+        LineFault::Field(fault) => fault.name(),
         LineFault::UnknownType => b"UnknownType",
         LineFault::BadModifier => b"BadModifier",
-        LineFault::Expand(fault) => expansion_name(fault),
+        LineFault::Expand(fault) => fault.name(),
         LineFault::Path(fault) => path_name(fault),
         LineFault::Pattern(fault) => pattern_name(fault),
         LineFault::RootPath => b"RootPath",

@@ -1,9 +1,9 @@
 //! Tests of lines: tables of texts with what each is read as.
 use super::*;
 use pv_acl::Names;
-use pv_path::{Bytes, print_path};
+use pv_path::print_path;
 use pv_steps::LetterHow;
-use pv_text::{Facts, Place};
+use pv_text::{Facts, OneLine, Place};
 use std::alloc::{AllocError, Global};
 use std::process::Abort;
 use std::test::Fail;
@@ -39,7 +39,7 @@ impl Names for People {
 /// Reads a text as the seventh line of a file.
 fn read(alloc: Global, facts: &Facts, text: &[u8]) -> Result<Line, LineFault> {
     let place = Place {
-        file: Bytes::copy_of(alloc, b"/etc/tmpfiles.d/a.conf")?,
+        file: OneLine::copy_of(alloc, b"/etc/tmpfiles.d/a.conf")?,
         number: 7,
     };
     read_line(alloc, text, place, facts, &People)

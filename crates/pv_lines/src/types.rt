@@ -1,5 +1,5 @@
 //! The table of types: what each letter takes (tmpfiles.d(5)).
-ghost use Rattle.std.specs.Prelude.{◌≡◌};
+ghost use Rattle.std.specs.Prelude.{◌≡◌, true};
 ghost use Rattle.pv_lines.specs.Types.{creating, matching, type_of, wanting, with_age, with_encoded, with_plus, with_root};
 
 /// How the argument of a type is read.
@@ -110,6 +110,32 @@ impl Row {
     {
         Row { wanted, ..self }
     }
+
+    fn kept_with_plus(self) -> Row
+        ensures { result ≡ record self { always_plus = true } }
+    {
+        Row {
+            always_plus: true,
+            ..self
+        }
+    }
+
+    /// A type that makes a file with a content.
+    fn file() -> Row
+        ensures { result ≡ with_encoded (wanting Wanted.Content (creating 102)) }
+    {
+        Row::creating(b'f').wanting(Wanted::Content).with_encoded()
+    }
+
+    /// A type that gives ACL entries to what its pattern matches.
+    fn entries(letter: u8) -> Row
+        ensures { result ≡ with_root (with_plus (wanting Wanted.Entries (matching letter))) }
+    {
+        Row::matching(letter)
+            .wanting(Wanted::Entries)
+            .with_plus()
+            .with_root()
+    }
 }
 
 /// What the type of a letter takes, or nothing where there is no such type (tmpfiles.d(5)).
@@ -117,14 +143,8 @@ pub(crate) fn type_of(letter: u8) -> Option<Row>
     ensures { result ≡ type_of letter }
 {
     Some(match letter {
-        b'f' => Row::creating(b'f')
-            .wanting(Wanted::Content)
-            .with_encoded()
-            .with_plus(),
-        b'F' => Row {
-            always_plus: true,
-            ..Row::creating(b'f').wanting(Wanted::Content).with_encoded()
-        },
+        b'f' => Row::file().with_plus(),
+        b'F' => Row::file().kept_with_plus(),
         b'd' => Row::creating(b'd').with_age().with_root(),
         b'D' => Row::creating(b'D').with_age().with_root(),
         b'v' => Row::creating(b'v').with_age().with_root(),
@@ -142,14 +162,8 @@ pub(crate) fn type_of(letter: u8) -> Option<Row>
         b'e' => Row::matching(b'e').with_age().with_root(),
         b'z' => Row::matching(b'z').with_root(),
         b'Z' => Row::matching(b'Z').with_root(),
-        b'a' => Row::matching(b'a')
-            .wanting(Wanted::Entries)
-            .with_plus()
-            .with_root(),
-        b'A' => Row::matching(b'A')
-            .wanting(Wanted::Entries)
-            .with_plus()
-            .with_root(),
+        b'a' => Row::entries(b'a'),
+        b'A' => Row::entries(b'A'),
         b't' => Row::matching(b't').wanting(Wanted::Attrs).with_root(),
         b'T' => Row::matching(b'T').wanting(Wanted::Attrs).with_root(),
         b'h' => Row::matching(b'h').wanting(Wanted::Letters).with_root(),

@@ -2,8 +2,7 @@
 use Rattle.std.specs.Prelude.{◌≡◌, ℕ, List, codes, Result, Ok, Err}
 use Rattle.pv_text.specs.declared.fault.ExpandFault.{ExpandFault}
 use Rattle.pv_text.specs.declared.fault.ExpandFault.TheVariants as expand
-use Rattle.pv_text.specs.declared.fault.FieldFault.{FieldFault}
-use Rattle.pv_text.specs.declared.fault.FieldFault.TheVariants as field
+use Rattle.pv_text.specs.FaultNames.{expansion_name, field_name}
 use Rattle.pv_requests.specs.declared.fault.RequestFault.{RequestFault}
 use Rattle.pv_requests.specs.declared.fault.RequestFault.TheVariants as fault
 
@@ -18,21 +17,7 @@ Gives (Ok x) read = read ≡ Ok x
 Gives (Err fault.Memory) read = Unit {0}
 Gives (Err f) read = read ≡ Err f
 
--- the name of a fault of a line without fields
-abbrev pub field_name : FieldFault → List ℕ
-field_name (field.BadByte at) = codes "BadByte"
-field_name (field.OpenQuote at) = codes "OpenQuote"
-field_name (field.GluedQuote at) = codes "GluedQuote"
-field_name (field.BadEscape at) = codes "BadEscape"
-field_name field.TooFew = codes "TooFew"
-
--- of a specifier
-abbrev pub expansion_name : ExpandFault → List ℕ
-expansion_name expand.UnknownSpecifier = codes "UnknownSpecifier"
-expansion_name expand.MissingFact = codes "MissingFact"
-expansion_name expand.Memory = codes "Memory"
-
--- of a line: that of the innermost fault, without places
+-- the name of a fault: that of the innermost fault, without places
 abbrev pub name_of : RequestFault → List ℕ
 name_of (fault.Field f) = field_name f
 name_of fault.BadType = codes "BadType"

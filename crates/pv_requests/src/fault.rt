@@ -1,6 +1,6 @@
 //! Why a text is no line of sysusers.d(5).
 ghost use Rattle.std.specs.Prelude.{◌≡◌};
-ghost use Rattle.pv_requests.specs.Faults.{expansion_name, field_name, name_of, of_expansion};
+ghost use Rattle.pv_requests.specs.Faults.{name_of, of_expansion};
 ghost use Rattle.pv_requests.specs.declared.fault.RequestFault.TheVariants.{Memory};
 
 use pv_text::{ExpandFault, FieldFault};
@@ -67,37 +67,15 @@ impl From<ExpandFault> for RequestFault {
     }
 }
 
-fn field_name(fault: FieldFault) -> &'static [u8]
-    ensures { result.now ≡ field_name fault }
-{
-    match fault {
-        FieldFault::BadByte(_) => b"BadByte",
-        FieldFault::OpenQuote(_) => b"OpenQuote",
-        FieldFault::GluedQuote(_) => b"GluedQuote",
-        FieldFault::BadEscape(_) => b"BadEscape",
-        FieldFault::TooFew => b"TooFew",
-    }
-}
-
-fn expansion_name(fault: ExpandFault) -> &'static [u8]
-    ensures { result.now ≡ expansion_name fault }
-{
-    match fault {
-        ExpandFault::UnknownSpecifier => b"UnknownSpecifier",
-        ExpandFault::MissingFact => b"MissingFact",
-        ExpandFault::Memory => b"Memory",
-    }
-}
-
 /// The name of a fault, as messages print it: that of the innermost fault, without places. It takes no memory.
 pub fn name_of(fault: RequestFault) -> &'static [u8]
     ensures { result.now ≡ name_of fault }
 {
     match fault {
-        RequestFault::Field(fault) => field_name(fault),
+        RequestFault::Field(fault) => fault.name(),
         RequestFault::BadType => b"BadType",
         RequestFault::MissingField => b"MissingField",
-        RequestFault::Expand(fault) => expansion_name(fault),
+        RequestFault::Expand(fault) => fault.name(),
         RequestFault::BadName => b"BadName",
         RequestFault::BadId => b"BadId",
         RequestFault::BadRange => b"BadRange",

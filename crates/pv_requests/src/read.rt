@@ -1,7 +1,9 @@
 //! From the bytes of a line to the request, or to its first fault.
-ghost use Rattle.std.specs.Prelude.{◌≡◌, true};
+ghost use Rattle.std.specs.Prelude.{◌≡◌, true, IfOk};
+ghost use Rattle.pv_requests.specs.Allowed.{IsAllowed};
 ghost use Rattle.pv_requests.specs.Faults.{Gives};
 ghost use Rattle.pv_requests.specs.FieldTexts.{has_more};
+ghost use Rattle.pv_requests.specs.Paths.{HasFewNames};
 ghost use Rattle.pv_requests.specs.Requests.{are_account_texts, ended, group_with, member_with, range_with, request_by, request_in, request_of, type_of, two_needed, two_texts, user_texts, user_with};
 
 use crate::fault::RequestFault;
@@ -246,7 +248,11 @@ pub fn read_request(
     place: Place,
     facts: &Facts,
 ) -> Result<Request, RequestFault>
-    ensures { Gives result (request_of facts.now place line.now) }
+    ensures gives { Gives result (request_of facts.now place line.now) }
+
+    // A path that gives numbers is short, as the text that spells it is.
+    ensures few { IfOk result HasFewNames }
+    ensures allowed { IfOk result IsAllowed }
 {
     match fields(line) {
         Ok(fields) => request_in(alloc, facts, place, &fields),

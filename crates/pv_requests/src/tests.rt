@@ -1,7 +1,6 @@
 //! Worked rows of lines.
 use super::*;
-use pv_path::Bytes;
-use pv_text::{Facts, Place};
+use pv_text::{Facts, OneLine, Place};
 use std::test::Fail;
 
 #[test]
@@ -26,7 +25,7 @@ fn faults_come_in_order(rt: HostRuntime) -> Result<(), Fail> {
         (b"g aaaaaaaaaaaaaaaaaaaaaaaaaaaaaaaa -", b"BadName"),
     ] {
         let place = Place {
-            file: Bytes::new(rt.alloc()),
+            file: OneLine::copy_of(rt.alloc(), b"A")?,
             number: 1,
         };
         let read = read_request(rt.alloc(), line, place, &Facts::new(rt.alloc()));
@@ -74,7 +73,7 @@ fn users_are_read(rt: HostRuntime) -> Result<(), Fail> {
         (b"u app", (false, None, None, false)),
     ] {
         let place = Place {
-            file: Bytes::new(rt.alloc()),
+            file: OneLine::copy_of(rt.alloc(), b"A")?,
             number: 1,
         };
         let read = read_request(rt.alloc(), line, place, &Facts::new(rt.alloc()));
