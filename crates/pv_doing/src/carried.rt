@@ -7,7 +7,7 @@ ghost use Rattle.pv_doing.specs.Courses.{carried_of};
 pub enum Carried {
     /// All was carried out, or left what stood there.
     Whole,
-    /// Something was refused.
+    /// Something was refused, or could not be taken away.
     NotCarriedOut,
 }
 

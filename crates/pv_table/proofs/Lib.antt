@@ -1,6 +1,6 @@
 mod Rows
 mod TurnRows
-mod PlaceLaws
+pub mod PlaceLaws
 mod RankLaws
 mod FirstLaws
 mod KeepLaws
@@ -8,3 +8,4 @@ mod BuildLaws
 pub mod OrderLaws
 pub mod AskingLaws
 pub mod QuietLaws
+pub mod SayingLaws

@@ -1,7 +1,6 @@
 -- What lines ask for in the create phase: the one table from the letter of a type to what is done (tmpfiles.d(5), "Type").
 use Rattle.std.specs.Prelude.{ℕ, ◌%◌, Bool, true, false, not, ◌&&◌, ◌==◌, List, [], ◌∷◌, ◌++◌, Option, Some, None, option_map, unwrap_or, find, if◌then◌else◌}
 use Rattle.std.specs.Option.{option_map_or}
-use Rattle.pv_acl.specs.declared.line.How.{How}
 use Rattle.pv_acl.specs.declared.line.How.TheVariants.{Replace, Add}
 use Rattle.pv_dress.specs.declared.operation.Change.TheVariants.{Write, Append, Owner, Mode, Entries, Attrs, Letters}
 use Rattle.pv_dress.specs.declared.operation.Guard.{Guard}
@@ -22,11 +21,8 @@ use Rattle.pv_steps.specs.Objects.{is_directory}
 use Rattle.pv_walk.specs.declared.new_file.NewKind.{NewKind}
 use Rattle.pv_walk.specs.declared.new_file.NewKind.TheVariants as new
 use Rattle.pv_walk.specs.Staging.{new_kind}
-use Rattle.pv_table.specs.declared.deed.Copying.{Copying}
 use Rattle.pv_table.specs.declared.deed.Deed.{Deed}
 use Rattle.pv_table.specs.declared.deed.Deed.TheVariants.{Create, Copy, Touch, Idle}
-use Rattle.pv_table.specs.declared.deed.Making.{Making}
-use Rattle.pv_table.specs.declared.deed.Touching.{Touching}
 
 -- ---- owners and modes
 

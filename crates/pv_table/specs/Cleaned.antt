@@ -1,8 +1,7 @@
 -- Cleaning: what is old enough to go (tmpfiles.d(5), "Age", x and X). All is judged by the stamps that stand when the
 -- phase begins.
-use Rattle.std.specs.Prelude.{ℕ, Bool, true, false, not, ◌&&◌, ◌||◌, ◌==◌, List, [], ◌∷◌, length, Option, Some, None, is_some}
+use Rattle.std.specs.Prelude.{ℕ, Bool, false, not, ◌&&◌, ◌==◌, List, length, Option, Some, is_some}
 use Rattle.std.specs.List.{list_any}
-use Rattle.std.specs.Option.{option_map_or}
 use Rattle.pv_age.specs.Old.{is_old}
 use Rattle.pv_lines.specs.declared.line.Line.{Line}
 use Rattle.pv_path.specs.Paths.{Path, parent_of}
@@ -11,7 +10,7 @@ use Rattle.pv_steps.specs.Objects.{changed}
 use Rattle.pv_steps.specs.Trees.{Files, places}
 use Rattle.pv_table.specs.declared.scope.Scope.{Scope}
 use Rattle.pv_table.specs.Reaching.{names}
-use Rattle.pv_table.specs.Removed.{all_at, without}
+use Rattle.pv_table.specs.Removed.{all_at, files_without}
 use Rattle.pv_table.specs.Scopes.{scope}
 
 -- whether an object is old by the age of its directory, where that does not spare what stands directly in it
@@ -31,4 +30,4 @@ is_aged lines now t path = is_some (places t path) && all_at (may_go lines now t
 
 -- the tree after the clean phase: a directory that stays keeps its stamps but that of its own change
 abbrev pub cleaned : List Line → ℕ → Files → Files
-cleaned lines now t = without (is_aged lines now t) (changed now) t
+cleaned lines now t = files_without (is_aged lines now t) (changed now) t

@@ -1,8 +1,7 @@
 -- Lines carried out one after the other: the tree that they leave, what is said, whether one was refused, and the most
 -- steps that it takes (tmpfiles.d(5)).
-use Rattle.std.specs.Prelude.{◌≡◌, ℕ, ◌+◌, ◌*◌, Bool, true, false, not, ◌&&◌, ◌||◌, List, [], ◌∷◌, ◌++◌, length, map, filter, fold, sum, Option, Some, None, is_some, is_none, if◌then◌else◌}
+use Rattle.std.specs.Prelude.{◌≡◌, ℕ, ◌+◌, ◌*◌, Bool, false, not, ◌&&◌, ◌||◌, List, [], ◌∷◌, ◌++◌, length, map, filter, fold, sum, Option, Some, None, is_some, if◌then◌else◌}
 use Rattle.std.specs.FinMap as fin
-use Rattle.std.specs.List.{list_any}
 use Rattle.std.specs.Option.{option_map_or}
 use Rattle.pv_dress.specs.declared.operation.Operation.{Operation}
 use Rattle.pv_dress.specs.Edits.{count_at}
@@ -20,7 +19,7 @@ use Rattle.pv_table.specs.Active.{in_create_order}
 use Rattle.pv_table.specs.Asking.{asks}
 use Rattle.pv_table.specs.Effects.{same_bare, become, put_paths, prepare, is_touched, turn_after, turns}
 use Rattle.pv_table.specs.Saying.{turn_messages}
-use Rattle.pv_table.specs.Turns.{Refused, Turn, Subtree, view_of, has_something, decide, refused_at}
+use Rattle.pv_table.specs.Turns.{Turn, Subtree, view_of, has_something, decide, refused_at}
 
 -- ---- one after the other
 

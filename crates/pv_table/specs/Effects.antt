@@ -1,5 +1,5 @@
 -- What a line leaves of a tree, stamps included (tmpfiles.d(5)). It knows no staged object and no half-done run.
-use Rattle.std.specs.Prelude.{ℕ, Bool, true, false, not, ◌&&◌, ◌||◌, ◌==◌, List, [], ◌∷◌, ◌++◌, map, filter, fold, Option, Some, None, option_map, if◌then◌else◌}
+use Rattle.std.specs.Prelude.{ℕ, Bool, not, ◌&&◌, ◌||◌, ◌==◌, List, [], ◌∷◌, ◌++◌, map, filter, fold, Option, Some, None, option_map, if◌then◌else◌}
 use Rattle.std.specs.FinMap as fin
 use Rattle.std.specs.List.{filter_map}
 use Rattle.std.specs.Cmp.Lexicographic.{pointwise}
@@ -22,7 +22,7 @@ use Rattle.pv_table.specs.declared.deed.Deed.TheVariants.{Create, Copy, Touch, I
 use Rattle.pv_table.specs.declared.deed.Touching.{Touching}
 use Rattle.pv_table.specs.Asking.{asks}
 use Rattle.pv_table.specs.Reaching.{names, path_in}
-use Rattle.pv_table.specs.Turns.{Refused, Turn, Subtree, View, view_of, copied, decide, has_something, refused_at}
+use Rattle.pv_table.specs.Turns.{Refused, Turn, Subtree, view_of, decide, has_something, refused_at}
 
 -- ---- one object
 

@@ -1,16 +1,14 @@
 -- What lines that are not refused leave at each path by itself, stamps aside (tmpfiles.d(5)). No tree is folded, and
 -- nothing is refused.
-use Rattle.std.specs.Prelude.{ℕ, Bool, true, false, not, ◌&&◌, ◌||◌, List, [], ◌∷◌, ◌++◌, map, filter, fold, take, Option, Some, None, is_some, unwrap_or, option_map, if◌then◌else◌}
+use Rattle.std.specs.Prelude.{ℕ, Bool, not, ◌&&◌, ◌||◌, List, [], ◌∷◌, ◌++◌, map, fold, take, Option, Some, is_some, unwrap_or, option_map, if◌then◌else◌}
 use Rattle.std.specs.FinMap as fin
-use Rattle.std.specs.List.{list_any, filter_map}
+use Rattle.std.specs.List.{filter_map}
 use Rattle.std.specs.Option.{option_map_or}
 use Rattle.pv_dress.specs.declared.bare.Bare.{Bare}
-use Rattle.pv_dress.specs.declared.operation.Operation.{Operation}
 use Rattle.pv_dress.specs.Nodes.{bare_of}
 use Rattle.pv_dress.specs.Operations.{run}
 use Rattle.pv_lines.specs.declared.line.Line.{Line}
-use Rattle.pv_path.specs.Paths.{Path, path_cmp, path_total, is_prefix, same_path, rest_under, has_staging}
-use Rattle.pv_steps.specs.Trees.{Files, places}
+use Rattle.pv_path.specs.Paths.{Path, path_cmp, is_prefix, same_path, rest_under, has_staging}
 use Rattle.pv_walk.specs.Preparing.{parent_file, parents_of}
 use Rattle.pv_walk.specs.Staging.{new_object}
 use Rattle.pv_table.specs.declared.deed.Deed.{Deed}
@@ -19,7 +17,7 @@ use Rattle.pv_table.specs.declared.deed.Touching.{Touching}
 use Rattle.pv_table.specs.Active.{in_create_order}
 use Rattle.pv_table.specs.Asking.{asks}
 use Rattle.pv_table.specs.Reaching.{names, names_above, path_in}
-use Rattle.pv_table.specs.Turns.{Turn, Subtree, View, decide}
+use Rattle.pv_table.specs.Turns.{Turn, View, decide}
 
 -- what stands at each path, without stamps, as a finite map
 abbrev pub Bares : Type 0

@@ -1,6 +1,6 @@
 -- Removal and purging: what goes, what is said, and what is left (tmpfiles.d(5), r R D; systemd-tmpfiles(8), --remove and
 -- --purge). All is judged in the tree before the phase.
-use Rattle.std.specs.Prelude.{ℕ, ◌+◌, Bool, true, false, not, ◌&&◌, ◌||◌, ◌==◌, List, [], ◌∷◌, ◌++◌, map, filter, length, take, Option, Some, None, is_some, is_none, option_map, unwrap_or, codes, if◌then◌else◌}
+use Rattle.std.specs.Prelude.{ℕ, ◌+◌, Bool, false, not, ◌&&◌, ◌||◌, ◌==◌, List, [], ◌∷◌, ◌++◌, map, filter, length, take, Option, Some, None, is_some, is_none, unwrap_or, codes, if◌then◌else◌}
 use Rattle.std.specs.FinMap as fin
 use Rattle.std.specs.List.{list_all, list_any, flat_map, range_with_len}
 use Rattle.std.specs.Option.{option_map_or}
@@ -13,23 +13,18 @@ use Rattle.pv_steps.specs.declared.object.Object.{Object}
 use Rattle.pv_steps.specs.declared.why.Why.{Why}
 use Rattle.pv_steps.specs.Objects.{is_directory, modified}
 use Rattle.pv_steps.specs.Refusal.{refusal}
-use Rattle.pv_steps.specs.Trees.{Files, Places, places, kind_of, names_below, tabulate}
+use Rattle.pv_steps.specs.Trees.{Files, Places, places, kind_of, tabulate}
 use Rattle.pv_text.specs.Said.{said_at}
+use Rattle.pv_walk.specs.Removal.{without}
 use Rattle.pv_table.specs.declared.taking.Taking.{Taking}
 use Rattle.pv_table.specs.declared.taking.Taking.TheVariants as taking
 use Rattle.pv_table.specs.Asking.{id_for_new}
 use Rattle.pv_table.specs.Reaching.{names, path_in, taking_of}
 use Rattle.pv_table.specs.Saying.{place_text, left_text}
 
--- ---- trees without some paths
-
--- a directory that stays has lost a child where one of its children goes
-abbrev pub loses : (Path → Bool) → Files → Path → Bool
-loses goes t q = list_any (λ name. goes (q ++ name ∷ [])) (names_below t q)
-
--- these paths go; a directory that stays and lost a child is changed in this way
-abbrev pub without : (Path → Bool) → (Object → Object) → Files → Files
-without goes change t = tabulate (fin.keys t) (λ q. if goes q then None else if loses goes t q then option_map change (places t q) else places t q)
+-- a tree from which some paths are gone; a directory that stays and lost a child is changed in some way
+abbrev pub files_without : (Path → Bool) → (Object → Object) → Files → Files
+files_without goes change t = tabulate (fin.keys t) (without goes change t)
 
 -- ---- what goes
 
@@ -72,7 +67,7 @@ is_gone lines t path =
 
 -- the tree after the remove phase
 abbrev pub removed : List Line → ℕ → Files → Files
-removed lines now t = without (is_gone lines t) (modified now) t
+removed lines now t = files_without (is_gone lines t) (modified now) t
 
 -- ---- what is said
 
@@ -139,7 +134,7 @@ is_purged lines t path = is_some (places t path) && not (length path == 0) && li
 
 -- the tree after purging
 abbrev pub purged : List Line → ℕ → Files → Files
-purged lines now t = without (is_purged lines t) (modified now) t
+purged lines now t = files_without (is_purged lines t) (modified now) t
 
 -- a line with `$` whose path is present is refused there
 abbrev pub purge_refusal : Line → Places → Option (ℕ × Why)

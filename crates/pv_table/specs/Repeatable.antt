@@ -1,13 +1,12 @@
 -- Which lines share a path, and why carrying out lines twice may leave something else than carrying them out once
 -- (this project's own).
-use Rattle.std.specs.Prelude.{◌≡◌, ◌≢◌, ◌⊎◌, ℕ, ◌<◌, Bool, true, false, not, ◌&&◌, ◌||◌, ◌==◌, List, [], ◌∷◌, codes, Option, Some, None, is_some, slice_get}
+use Rattle.std.specs.Prelude.{◌≡◌, ◌≢◌, ◌⊎◌, ℕ, ◌<◌, Bool, true, false, ◌||◌, ◌==◌, List, [], ◌∷◌, codes, Option, Some, None, is_some, slice_get}
 use Rattle.std.specs.List.{list_any}
-use Rattle.pv_acl.specs.declared.line.Entry.{Entry}
 use Rattle.pv_dress.specs.declared.operation.Operation.{Operation}
 use Rattle.pv_dress.specs.Reasons.{is_adjusting, is_append, gives_base}
 use Rattle.pv_lines.specs.declared.line.Line.{Line}
 use Rattle.pv_lines.specs.declared.line.LineMode.{LineMode}
-use Rattle.pv_path.specs.Paths.{Path, is_prefix}
+use Rattle.pv_path.specs.Paths.{Path, has_names, is_prefix}
 use Rattle.pv_table.specs.declared.deed.Deed.{Deed}
 use Rattle.pv_table.specs.declared.deed.Deed.TheVariants.{Create, Copy, Touch, Idle}
 use Rattle.pv_table.specs.declared.reason.Reason.{Reason}
@@ -28,11 +27,12 @@ IsAt lines i line = slice_get lines i ≡ Some line
 abbrev pub BothReach : Line → Line → Path → Type 0
 BothReach a b q = (reaches a q ≡ true) × (reaches b q ≡ true)
 
--- two lines, the first before the second, share some path
+-- two lines, the first before the second, share some path that can stand in a tree
 pub record Overlap (lines : List Line) (i j : ℕ) : Type 0 where
   pub first : Line
   pub second : Line
   pub path : Path
+  pub named : has_names path ≡ true
   pub before : i < j
   pub is_first : IsAt lines i first
   pub is_second : IsAt lines j second
@@ -94,17 +94,17 @@ changes_content line = is_creating line || is_writing line || takes_named (takin
 
 -- ---- reasons
 
--- the line at a place has a reason
+-- the line at a place has a reason; a path in which it lies is one that can stand in a tree
 pub data HasReason (lines : List Line) (i : ℕ) : Reason → Type 0 where
   append : (line : Line) → IsAt lines i line → appends line ≡ true → HasReason lines i reason.Append
   source : (line other : Line) (j : ℕ) (path q : Path) → IsAt lines i line → IsAt lines j other
-      → copied (asks other) ≡ Some path → is_prefix path q ≡ true → governs line q ≡ true → HasReason lines i reason.Source
+      → copied (asks other) ≡ Some path → is_prefix path q ≡ true → has_names q ≡ true → governs line q ≡ true → HasReason lines i reason.Source
   below : (line other : Line) (j : ℕ) (path : Path) → IsAt lines i line → IsAt lines j other
       → is_creating line ≡ true → copied (asks other) ≡ Some path
       → is_prefix (path_in other.path) (path_in line.path) ≡ true → path_in other.path ≢ path_in line.path → HasReason lines i reason.Below
-  input : (line : Line) (q : Path) → IsAt lines i line → changes_content line ≡ true → is_input q ≡ true → governs line q ≡ true
+  input : (line : Line) (q : Path) → IsAt lines i line → changes_content line ≡ true → is_input q ≡ true → has_names q ≡ true → governs line q ≡ true
       → HasReason lines i reason.Input
-  mask : (line other : Line) (j : ℕ) (q : Path) → IsAt lines i line → IsAt lines j other → j < i → BothReach other line q
+  mask : (line other : Line) (j : ℕ) (q : Path) → IsAt lines i line → IsAt lines j other → j < i → has_names q ≡ true → BothReach other line q
       → ((has_masked_mode other ≡ true) × (sets_base line ≡ true)) ⊎ ((sets_base other ≡ true) × (has_masked_mode line ≡ true))
       → HasReason lines i reason.Mask
 

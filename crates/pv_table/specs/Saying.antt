@@ -10,10 +10,10 @@ use Rattle.pv_steps.specs.declared.why.Why.TheVariants as why
 use Rattle.pv_steps.specs.Trees.{Files, places}
 use Rattle.pv_text.specs.Said.{said_at}
 use Rattle.pv_table.specs.declared.deed.Deed.{Deed}
-use Rattle.pv_table.specs.declared.deed.Deed.TheVariants.{Create, Copy, Touch, Idle}
+use Rattle.pv_table.specs.declared.deed.Deed.TheVariants.{Create, Copy}
 use Rattle.pv_table.specs.Asking.{asks}
 use Rattle.pv_table.specs.Effects.{prepare}
-use Rattle.pv_table.specs.Turns.{Refused, Turn, View, view_of, decide, refused_at}
+use Rattle.pv_table.specs.Turns.{Refused, Turn, view_of, decide, refused_at}
 
 -- the words for a kind
 abbrev pub kind_text : Kind → List ℕ

@@ -24,7 +24,7 @@ pub use laws::{
     a_line_asks_nothing_elsewhere, active_lines_make_different_paths,
     quiet_does_not_depend_on_the_moment, what_lies_above_comes_first,
 };
-pub use message::{say_left, say_refused, say_source_refused};
+pub use message::{left_text, place_text, say_left, say_refused, say_source_refused};
 pub use order::{create_order, remove_order};
 pub use reach::{is_creating, names, names_first, sparing_of, taking_of};
 pub use reason::Reason;

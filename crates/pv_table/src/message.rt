@@ -83,7 +83,7 @@ fn why_text(why: Why) -> &'static [u8]
 }
 
 /// `PATH is a KIND, left`.
-fn left_text(alloc: Global, path: &TreePath, kind: Kind) -> Result<Vec<u8>, AllocError>
+pub fn left_text(alloc: Global, path: &TreePath, kind: Kind) -> Result<Vec<u8>, AllocError>
     ensures { IfOk result (λ text. text.items ≡ left_text path.now kind) }
 {
     let mut text = print_path(alloc, path)?;
@@ -109,8 +109,13 @@ fn first_text(alloc: Global, path: &TreePath, count: u32) -> Result<Vec<u8>, All
     print_path(alloc, &place)
 }
 
-/// `PATH refused at PLACE: WHY`.
-fn place_text(alloc: Global, path: &TreePath, count: u32, why: Why) -> Result<Vec<u8>, AllocError>
+/// `PATH refused at PLACE: WHY`, the place counted by the names that lead to it.
+pub fn place_text(
+    alloc: Global,
+    path: &TreePath,
+    count: u32,
+    why: Why,
+) -> Result<Vec<u8>, AllocError>
     ensures { IfOk result (λ text. text.items ≡ place_text path.now count why) }
 {
     let mut text = print_path(alloc, path)?;

@@ -3,8 +3,8 @@
 use super::*;
 use pv_acl::Names;
 use pv_lines::{Line, LineFault, LineList, read_line};
-use pv_path::{Bytes, TreePath, parse_path};
-use pv_text::{Facts, Messages, Place};
+use pv_path::{TreePath, parse_path};
+use pv_text::{Facts, Messages, OneLine, Place};
 use std::alloc::{AllocError, Global};
 use std::process::Abort;
 use std::test::Fail;
@@ -35,7 +35,7 @@ fn lines_of(alloc: Global, text: &[u8]) -> Result<LineList, LineFault> {
     let mut number: u32 = 0;
     for piece in text.split(|byte| *byte == b';') {
         number = number.saturating_add(1);
-        let file = Bytes::copy_of(alloc, b"a")?;
+        let file = OneLine::copy_of(alloc, b"a")?;
         lines.push(read_line(alloc, piece, Place { file, number }, &facts, &Nobody)?)?;
     }
     Ok(lines)

@@ -1,0 +1,5 @@
+pub mod AboveLaws
+pub mod CopyLaws
+pub mod OrderLaws
+pub mod StandingLaws
+pub mod TabulatedLaws

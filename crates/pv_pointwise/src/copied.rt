@@ -1,0 +1,150 @@
+//! What a line that copies leaves at and below its path.
+ghost use Rattle.std.specs.Prelude.{◌≡◌, Some, false, IfOk, if◌then◌else◌};
+ghost use Rattle.std.specs.FinMap as fin;
+ghost use Rattle.pv_dress.specs.Nodes.{is_link};
+ghost use Rattle.pv_dress.specs.Operations.{with_mode};
+ghost use Rattle.pv_path.specs.Paths.{Path, has_staging, rest_under};
+ghost use Rattle.pv_steps.specs.Objects.{is_directory};
+ghost use Rattle.pv_table.specs.declared.deed.Deed.TheVariants.{Copy};
+ghost use Rattle.pv_table.specs.Asking.{mode_for_new};
+ghost use Rattle.pv_table.specs.Pointwise.{after_turn, view};
+ghost use Rattle.pv_table.specs.Turns.{View, copy_of, copying_turn, decide, is_childless, topped};
+
+use crate::made::adjusted;
+use crate::standing::Standing;
+use pv_dress::Bare;
+use pv_lines::LineMode;
+use pv_path::{Name, TreePath, carry, is_staging};
+use pv_steps::{Kind, special_bits};
+use pv_table::Copying;
+use std::alloc::{AllocError, Global};
+
+/// What a line that copies leaves at a path, which comes by a rest after its own.
+pub(crate) fn after_copying(
+    alloc: Global,
+    copying: &Copying,
+    path: &TreePath,
+    childless: bool,
+    before: &Standing,
+    other: &TreePath,
+    rest: &[Name],
+    here: Option<Bare>,
+) -> Result<Option<Bare>, AllocError>
+    requires childless { childless ≡ is_childless (view before.now) path.now }
+    requires rest { rest_under path.now other.now ≡ Some rest.now }
+    ensures { IfOk result (λ bare. bare ≡ after_turn (decide (Copy copying.now) (view before.now) path.now) rest.now here) }
+{
+    match before.get(&copying.source) {
+        None => Ok(here),
+        Some(source) => {
+            let copy = copied(alloc, copying, path, before, source, other, rest)?;
+            match before.get(path) {
+                None => Ok(copy),
+                Some(old) => {
+                    let left = over(alloc, copying, childless, source, old, rest, copy, here)?;
+                    Ok(left)
+                }
+            }
+        }
+    }
+}
+
+/// The same where something stands at the line's path.
+fn over(
+    alloc: Global,
+    copying: &Copying,
+    childless: bool,
+    source: &Bare,
+    old: &Bare,
+    rest: &[Name],
+    copy: Option<Bare>,
+    here: Option<Bare>,
+) -> Result<Option<Bare>, AllocError>
+    ensures { IfOk result (λ bare. (view : View) (path : Path) → childless ≡ is_childless view path
+        → copy ≡ copy_of copying.now view rest.now
+        → bare ≡ after_turn (copying_turn copying.now view path source.now.body.kind (Some old.now)) rest.now here) }
+{
+    if source.body.kind == old.body.kind {
+        if source.body.kind.is_directory() && childless {
+            Ok(copy)
+        } else {
+            adjusted(alloc, &copying.sets, rest, here)
+        }
+    } else if copying.renews {
+        Ok(copy)
+    } else {
+        Ok(here)
+    }
+}
+
+/// The copy of what stands at and below a path, staging names left out.
+fn copied(
+    alloc: Global,
+    copying: &Copying,
+    path: &TreePath,
+    before: &Standing,
+    source: &Bare,
+    other: &TreePath,
+    rest: &[Name],
+) -> Result<Option<Bare>, AllocError>
+    requires source { fin.get before.now copying.now.source ≡ Some source.now }
+    requires rest { rest_under path.now other.now ≡ Some rest.now }
+    ensures { IfOk result (λ copy. copy ≡ copy_of copying.now (view before.now) rest.now) }
+{
+    match rest {
+        [] => Ok(Some(topped(copying, source)?)),
+        [_, ..] => {
+            if is_staged(rest) {
+                return Ok(None);
+            }
+            before.copy_at(&carry(alloc, other, path, &copying.source)?)
+        }
+    }
+}
+
+fn is_staged(names: &[Name]) -> bool
+    ensures { result ≡ has_staging names.now }
+{
+    names.iter().any(|name| is_staging(name.bytes()))
+}
+
+/// A copied object with the mode and the owners of a line; a link takes owners alone.
+fn topped(copying: &Copying, source: &Bare) -> Result<Bare, AllocError>
+    ensures { IfOk result (λ top. top ≡ topped copying.now source.now) }
+{
+    let mut top = source.copy()?;
+    top.dress.uid = copying.uid.unwrap_or(top.dress.uid);
+    top.dress.gid = copying.gid.unwrap_or(top.dress.gid);
+    match copying.mode {
+        Some(mode) => set_mode(&mut top, mode),
+        None => {}
+    }
+    Ok(top)
+}
+
+/// Gives a copied object the mode of a line.
+fn set_mode(top: &mut Bare, mode: LineMode)
+    ensures { top.new
+        ≡ (if is_link top.old.body.kind then top.old
+        else record top.old { dress = with_mode top.old.body.kind (mode_for_new (Some mode) (is_directory top.old.body.kind)) false top.old.dress }) }
+{
+    match top.body.kind {
+        Kind::Link => {}
+        kind => {
+            let value = mode_for_new(mode, kind.is_directory());
+            top.dress.special = special_bits(value);
+            top.dress.acl.access.set_base(value);
+        }
+    }
+}
+
+/// The mode that a new object gets: the special bits of a masked one are for a directory alone.
+fn mode_for_new(mode: LineMode, directory: bool) -> u16
+    ensures { result ≡ mode_for_new (Some mode) directory }
+{
+    if mode.masked && !directory {
+        mode.value % 512
+    } else {
+        mode.value
+    }
+}

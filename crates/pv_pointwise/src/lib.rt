@@ -1,0 +1,18 @@
+//! What lines leave at each path by itself, stamps aside (tmpfiles.d(5)): no line is refused, and no tree is walked.
+#![tactic(auto)]
+
+mod copied;
+mod made;
+mod point;
+mod standing;
+mod state;
+
+pub use standing::Standing;
+pub use state::{after_line, state_after};
+
+#[cfg(test)]
+mod created_tests;
+#[cfg(test)]
+mod phase_tests;
+#[cfg(test)]
+mod tests;

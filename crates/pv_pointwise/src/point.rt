@@ -1,0 +1,145 @@
+//! What a line leaves at a path, from what stands at all.
+ghost use Rattle.std.specs.Prelude.{◌≡◌, ◌&&◌, not, Some, IfOk, is_some, unwrap_or, if◌then◌else◌};
+ghost use Rattle.std.specs.FinMap as fin;
+ghost use Rattle.pv_dress.specs.Operations.{run};
+ghost use Rattle.pv_path.specs.Paths.{is_prefix, same_path};
+ghost use Rattle.pv_table.specs.declared.deed.Deed.TheVariants.{Create, Copy};
+ghost use Rattle.pv_table.specs.Asking.{asks};
+ghost use Rattle.pv_table.specs.Pointwise.{at_made, parent_bare, point, touches, view};
+ghost use Rattle.pv_table.specs.Reaching.{names_above, path_in};
+ghost use Rattle.pv_table.specs.Turns.{is_childless};
+
+use crate::copied::after_copying;
+use crate::made::{after_making, parent_bare};
+use crate::standing::Standing;
+use pv_dress::{Bare, run_operations};
+use pv_lines::Line;
+use pv_path::{TreePath, has_staging, is_prefix, names_under};
+use pv_table::{Copying, Deed, Making, Touching, names, names_first};
+use std::alloc::{AllocError, Global};
+
+/// What a line leaves at a path; the deed is what it asks for, and the path its own.
+pub(crate) fn point(
+    alloc: Global,
+    line: &Line,
+    deed: &Deed,
+    path: &TreePath,
+    childless: bool,
+    before: &Standing,
+    other: &TreePath,
+) -> Result<Option<Bare>, AllocError>
+    requires deed { deed.now ≡ asks line.now }
+    requires path { path.now ≡ path_in line.now.path }
+    requires childless { childless ≡ is_childless (view before.now) path.now }
+    ensures { IfOk result (λ bare. bare ≡ point line.now before.now other.now) }
+{
+    match deed {
+        Deed::Create(making) => made(alloc, making, path, before, other),
+        Deed::Copy(copying) => copied(alloc, copying, path, childless, before, other),
+        Deed::Touch(touching) => touched(alloc, line, touching, before, other),
+        Deed::Idle => before.copy_at(other),
+    }
+}
+
+/// Whether a path lies above another.
+fn is_above(other: &TreePath, path: &TreePath) -> bool
+    ensures { result ≡ (is_prefix other.now path.now && not (same_path other.now path.now)) }
+{
+    is_prefix(other, path) && other != path
+}
+
+/// What stands above the path of a line that makes something: what was there, or a parent.
+fn above(alloc: Global, before: &Standing, other: &TreePath) -> Result<Option<Bare>, AllocError>
+    ensures { IfOk result (λ bare. bare ≡ Some (unwrap_or (fin.get before.now other.now) parent_bare)) }
+{
+    match before.get(other) {
+        Some(bare) => Ok(Some(bare.copy()?)),
+        None => Ok(Some(parent_bare(alloc)?)),
+    }
+}
+
+/// What a line that makes an object leaves at a path.
+fn made(
+    alloc: Global,
+    making: &Making,
+    path: &TreePath,
+    before: &Standing,
+    other: &TreePath,
+) -> Result<Option<Bare>, AllocError>
+    ensures { IfOk result (λ bare. bare ≡ at_made (Create making.now) path.now before.now other.now) }
+{
+    if is_above(other, path) {
+        return above(alloc, before, other);
+    }
+    let here = before.copy_at(other)?;
+    match names_under(path.names(), other.names()) {
+        Some(rest) => after_making(alloc, making, before.get(path), rest, here),
+        None => Ok(here),
+    }
+}
+
+/// What a line that copies leaves at a path.
+fn copied(
+    alloc: Global,
+    copying: &Copying,
+    path: &TreePath,
+    childless: bool,
+    before: &Standing,
+    other: &TreePath,
+) -> Result<Option<Bare>, AllocError>
+    requires childless { childless ≡ is_childless (view before.now) path.now }
+    ensures { IfOk result (λ bare. bare
+        ≡ (if is_some (fin.get before.now copying.now.source) then at_made (Copy copying.now) path.now before.now other.now
+        else fin.get before.now other.now)) }
+{
+    let here = before.copy_at(other)?;
+    if before.get(&copying.source).is_none() {
+        return Ok(here);
+    }
+    if is_above(other, path) {
+        return above(alloc, before, other);
+    }
+    match names_under(path.names(), other.names()) {
+        Some(rest) => { after_copying(alloc, copying, path, childless, before, other, rest, here) }
+        None => Ok(here),
+    }
+}
+
+/// What a line that adjusts what is there leaves at a path.
+fn touched(
+    alloc: Global,
+    line: &Line,
+    touching: &Touching,
+    before: &Standing,
+    other: &TreePath,
+) -> Result<Option<Bare>, AllocError>
+    ensures { IfOk result (λ bare. bare
+        ≡ (if touches line.now touching.now other.now then run touching.now.sets (fin.get before.now other.now)
+        else fin.get before.now other.now)) }
+{
+    let here = before.copy_at(other)?;
+    if touches(line, touching, other) {
+        run_operations(alloc, touching.sets.as_slice(), here)
+    } else {
+        Ok(here)
+    }
+}
+
+/// Whether a line touches a path: it names it, or, going down, what it lies below.
+fn touches(line: &Line, touching: &Touching, path: &TreePath) -> bool
+    ensures { result ≡ touches line.now touching.now path.now }
+{
+    names(line, path) || (touching.deep && names_above(line, path) && !has_staging(path))
+}
+
+/// Whether a line names what a path lies below.
+fn names_above(line: &Line, path: &TreePath) -> bool
+    ensures { result ≡ names_above line.now path.now }
+{
+    for count in 0..path.len() {
+        if names_first(line, path, count) {
+            return true;
+        }
+    }
+    false
+}

@@ -1,0 +1,115 @@
+//! What stands at each path, without stamps.
+ghost use Rattle.std.specs.Prelude.{◌≡◌, not, IfOk, OnOk};
+ghost use Rattle.std.specs.BTreeMap.{IsOrdered, keys};
+ghost use Rattle.std.specs.FinMap as fin;
+ghost use Rattle.std.specs.List.{list_all};
+ghost use Rattle.std.specs.Option.{option_copied};
+ghost use Rattle.pv_path.specs.Paths.{path_cmp};
+ghost use Rattle.pv_table.specs.Pointwise.{view};
+ghost use Rattle.pv_table.specs.Turns.{is_childless, is_visible_child};
+
+use pv_dress::Bare;
+use pv_path::{TreePath, is_staging, names_under};
+use std::alloc::{AllocError, Global};
+use std::collections::BTreeMap;
+use std::marker::Model;
+
+/// What stands at each path, without stamps. Clauses see the finite map.
+#[derive(Debug, Drop)]
+pub struct Standing {
+    objects: BTreeMap<TreePath, Bare>,
+}
+
+impl Model for Standing {
+    ghost use Rattle.std.specs.Coded.{coded_ℕ, coded_list};
+    ghost use Rattle.std.specs.FinMap as fin;
+    ghost use Rattle.pv_dress.specs.contracts.bare.Bare as bare;
+    ghost use Rattle.pv_table.specs.Pointwise.{Bares};
+
+    ghost Value = { Bares };
+
+    ghost coded = { fin.code (coded_list (coded_list coded_ℕ)) (bare.the_row).coded };
+
+    ghost view = { λ s. fin.from_entries s.objects.entries };
+}
+
+impl Standing {
+    /// Nothing stands anywhere. It takes no memory.
+    pub fn new(alloc: Global) -> Standing
+        ensures { result ≡ fin.empty }
+    {
+        Standing {
+            objects: BTreeMap::new(alloc),
+        }
+    }
+
+    /// Puts an object at a path, in the place of what stands there.
+    pub fn put(&mut self, path: TreePath, bare: Bare) -> Result<(), AllocError>
+        ensures { OnOk result (self.new ≡ fin.insert self.old path bare) }
+    {
+        let _replaced = self.objects.insert(path, bare)?;
+        Ok(())
+    }
+
+    /// What stands at a path. It takes no memory.
+    pub fn get(&self, path: &TreePath) -> Option<&Bare>
+        ensures { option_copied result ≡ fin.get self.now path.now }
+    {
+        self.objects.get(path)
+    }
+
+    /// A copy of what stands at a path.
+    pub fn copy_at(&self, path: &TreePath) -> Result<Option<Bare>, AllocError>
+        ensures { IfOk result (λ bare. bare ≡ fin.get self.now path.now) }
+    {
+        match self.get(path) {
+            Some(bare) => Ok(Some(bare.copy()?)),
+            None => Ok(None),
+        }
+    }
+
+    /// The paths at which something stands, in their order.
+    pub fn paths(&self, alloc: Global) -> Result<Vec<TreePath>, AllocError>
+        ensures { IfOk result (λ paths. paths.items ≡ fin.keys self.now) }
+    {
+        let paths = paths_of(alloc, &self.objects)?;
+        Ok(paths)
+    }
+
+    /// Whether nothing stands directly below a path, staging names aside.
+    pub(crate) fn is_childless(&self, path: &TreePath) -> bool
+        ensures { result ≡ is_childless (view self.now) path.now }
+    {
+        none_below(&self.objects, path)
+    }
+}
+
+/// The paths of a map, in their order.
+fn paths_of(alloc: Global, objects: &BTreeMap<TreePath, Bare>) -> Result<Vec<TreePath>, AllocError>
+    ensures paths { IfOk result (λ paths. paths.items ≡ keys objects.now) }
+    ensures ordered { IsOrdered path_cmp objects.now }
+{
+    let mut paths = Vec::new(alloc);
+    for path in objects.keys() {
+        paths.push(path.copy()?)?;
+    }
+    Ok(paths)
+}
+
+/// Whether no path of a map is that of an object directly below a path, staging names aside.
+fn none_below(objects: &BTreeMap<TreePath, Bare>, path: &TreePath) -> bool
+    ensures all { result ≡ list_all (λ q. not (is_visible_child path.now q)) (keys objects.now) }
+    ensures ordered { IsOrdered path_cmp objects.now }
+{
+    objects.keys().all(|other| !is_visible_child(path, other))
+}
+
+/// Whether a path is that of an object directly below another, staging names aside.
+fn is_visible_child(path: &TreePath, other: &TreePath) -> bool
+    ensures { result ≡ is_visible_child path.now other.now }
+{
+    match names_under(path.names(), other.names()) {
+        Some([name]) => !is_staging(name.bytes()),
+        _ => false,
+    }
+}

@@ -1,0 +1,149 @@
+//! What lines leave at each path, one after the other.
+ghost use Rattle.std.specs.Prelude.{◌≡◌, ◌∷◌, ◌++◌, map, take, IfOk, OnOk};
+ghost use Rattle.std.specs.FinMap as fin;
+ghost use Rattle.std.specs.List.{filter_map};
+ghost use Rattle.pv_lines.specs.declared.line.Line.{Line as LineValue};
+ghost use Rattle.pv_path.specs.Paths.{rest_under};
+ghost use Rattle.pv_table.specs.Asking.{asks};
+ghost use Rattle.pv_table.specs.Pointwise.{point, point_paths, pointwise_after, state, tabulated};
+ghost use Rattle.pv_table.specs.Reaching.{path_in};
+ghost use Rattle.pv_walk.specs.Preparing.{parents_of};
+
+use crate::point::point;
+use crate::standing::Standing;
+use pv_lines::{Line, LinePath};
+use pv_path::{TreePath, carry, is_prefix};
+use pv_table::{Deed, Table, asks, create_order};
+use std::alloc::{AllocError, Global};
+
+/// What the first lines of a table leave at each path, in the order of the create phase (tmpfiles.d(5)): no line is
+/// refused, and each path is judged by itself.
+pub fn state_after(
+    alloc: Global,
+    table: &Table,
+    count: usize,
+    start: Standing,
+) -> Result<Standing, AllocError>
+    ensures { IfOk result (λ after. after ≡ state table.now count start) }
+{
+    let order = create_order(alloc, table)?;
+    let mut standing = start;
+    for place in first(order.as_slice(), count) {
+        if let Some(line) = table.line(*place) {
+            standing = after_line(alloc, line, &standing)?;
+        }
+    }
+    Ok(standing)
+}
+
+/// The first of some places.
+fn first(places: &[usize], count: usize) -> &[usize]
+    ensures { result.now ≡ take count places.now }
+{
+    if count < places.len() {
+        &places[..count]
+    } else {
+        places
+    }
+}
+
+/// What a line leaves at each path.
+pub fn after_line(alloc: Global, line: &Line, before: &Standing) -> Result<Standing, AllocError>
+    ensures { IfOk result (λ after. after ≡ pointwise_after before.now line.now) }
+{
+    let deed = asks(alloc, line)?;
+    let path = path_of(alloc, line)?;
+    let paths = touched_paths(alloc, &deed, &path, before)?;
+    tabulated(alloc, line, &deed, &path, before, &paths)
+}
+
+/// The path of a line that names one path.
+fn path_of(alloc: Global, line: &Line) -> Result<TreePath, AllocError>
+    ensures { IfOk result (λ path. path ≡ path_in line.now.path) }
+{
+    match &line.path {
+        LinePath::Literal(path) => path.copy(),
+        LinePath::Glob(_) => Ok(TreePath::root(alloc)),
+    }
+}
+
+/// What a line leaves at some paths.
+fn tabulated(
+    alloc: Global,
+    line: &Line,
+    deed: &Deed,
+    path: &TreePath,
+    before: &Standing,
+    paths: &[TreePath],
+) -> Result<Standing, AllocError>
+    requires deed { deed.now ≡ asks line.now }
+    requires path { path.now ≡ path_in line.now.path }
+    ensures { IfOk result (λ after. after ≡ tabulated paths.now (point line.now before.now)) }
+{
+    let childless = before.is_childless(path);
+    let mut after = Standing::new(alloc);
+    for other in paths {
+        if let Some(bare) = point(alloc, line, deed, path, childless, before, other)? {
+            after.put(other.copy()?, bare)?;
+        }
+    }
+    Ok(after)
+}
+
+/// The paths at which a line may put something, and those at which something stands.
+fn touched_paths(
+    alloc: Global,
+    deed: &Deed,
+    path: &TreePath,
+    before: &Standing,
+) -> Result<Vec<TreePath>, AllocError>
+    ensures { IfOk result (λ paths. (line : LineValue) → deed.now ≡ asks line → path.now ≡ path_in line.path
+        → paths.items ≡ point_paths line before.now ++ fin.keys before.now) }
+{
+    let mut present = before.paths(alloc)?;
+    let mut paths = Vec::new(alloc);
+    match deed {
+        Deed::Create(_) => add_line(alloc, &mut paths, path)?,
+        Deed::Copy(copying) => {
+            add_line(alloc, &mut paths, path)?;
+            add_copies(alloc, &mut paths, &copying.source, path, &present)?;
+        }
+        Deed::Touch(_) => {}
+        Deed::Idle => {}
+    }
+    paths.append(&mut present)?;
+    Ok(paths)
+}
+
+/// Adds a path and those above it but the root, from the root on.
+fn add_line(alloc: Global, paths: &mut Vec<TreePath>, path: &TreePath) -> Result<(), AllocError>
+    ensures { OnOk result (paths.new.items ≡ paths.old.items ++ path.now ∷ parents_of path.now) }
+{
+    paths.push(path.copy()?)?;
+    let names = path.names();
+    let mut place = TreePath::root(alloc);
+    for name in &names[..names.len().saturating_sub(1)] {
+        place.push(name.copy()?)?;
+        paths.push(place.copy()?)?;
+    }
+    Ok(())
+}
+
+/// Adds, for each of some paths at or below a source, the path to which it is copied.
+fn add_copies(
+    alloc: Global,
+    paths: &mut Vec<TreePath>,
+    source: &TreePath,
+    path: &TreePath,
+    present: &[TreePath],
+) -> Result<(), AllocError>
+    ensures { OnOk result (paths.new.items
+        ≡ paths.old.items ++ map (λ rest. path.now ++ rest) (filter_map (rest_under source.now) present.now)) }
+{
+    for other in present {
+        if is_prefix(source, other) {
+            paths.push(carry(alloc, other, source, path)?)?;
+        }
+    }
+    Ok(())
+}
