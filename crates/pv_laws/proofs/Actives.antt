@@ -134,18 +134,18 @@ active_within boot prefix exclude lines =
 -- a reason among some lines is one among all
 reason_within : (xs ys : List Line) → IsWithin xs ys → (i : ℕ) (r : Reason) → HasReason xs i r → (k : ℕ) × HasReason ys k r
 reason_within xs ys f i r (HasReason.append line at h) = let first = f.one i line at in (first.0, HasReason.append line first.1 h)
-reason_within xs ys f i r (HasReason.source line other j path q at there is above governed) =
+reason_within xs ys f i r (HasReason.source line other j path q at there is above named governed) =
     let first = f.one i line at in
     let second = f.one j other there in
-    (first.0, HasReason.source line other second.0 path q first.1 second.1 is above governed)
+    (first.0, HasReason.source line other second.0 path q first.1 second.1 is above named governed)
 reason_within xs ys f i r (made_below line other j path at there creates is above differ) =
     let first = f.one i line at in
     let second = f.one j other there in
     (first.0, made_below line other second.0 path first.1 second.1 creates is above differ)
-reason_within xs ys f i r (HasReason.input line q at changes is governed) = let first = f.one i line at in (first.0, HasReason.input line q first.1 changes is governed)
-reason_within xs ys f i r (HasReason.mask line other j q at there before reach meet) =
+reason_within xs ys f i r (HasReason.input line q at changes is named governed) = let first = f.one i line at in (first.0, HasReason.input line q first.1 changes is named governed)
+reason_within xs ys f i r (HasReason.mask line other j q at there before named reach meet) =
     let both_at = f.two j i other line before there at in
-    (both_at.1, HasReason.mask line other both_at.0 q both_at.4 both_at.3 both_at.2 reach meet)
+    (both_at.1, HasReason.mask line other both_at.0 q both_at.4 both_at.3 both_at.2 named reach meet)
 
 pub active_repeatable : (boot : Bool) (prefix exclude : Option Path) (lines : List Line) → IsRepeatable lines → IsRepeatable (active boot prefix exclude lines)
 active_repeatable boot prefix exclude lines repeatable i r has =

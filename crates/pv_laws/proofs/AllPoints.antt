@@ -1,7 +1,7 @@
 -- The definition of what lines leave at each path by itself gives what they leave, lines that copy among them.
 use Rattle.std.specs.Prelude.{◌≡◌, ◌≢◌, ℕ, ◌+◌, Bool, true, false, not, cond, ◌&&◌, ◌||◌, List, [], ◌∷◌, ◌++◌, length, map, take, fold, Option, Some, None, is_some, option_map, unwrap_or, slice_get}
 use Rattle.std.proofs.Common.{refl, sym, arith, ap, subst, ◌∙◌, append_assoc}
-use Rattle.std.proofs.lemmas.List.{append-nil}
+use Rattle.std.proofs.lemmas.List.{append-nil, take_all}
 use Rattle.std.specs.FinMap as fin
 use Rattle.std.specs.List.{list_all, filter_map, enumerate_from, AllByRecursion}
 use Rattle.std.specs.Option.{option_map_or, option_or}
@@ -38,11 +38,12 @@ use Rattle.pv_table.specs.Reaching.{names, path_in, reaches, governs}
 use Rattle.pv_table.specs.Repeatable.{IsAt, HasReason, IsRepeatable, sets_of}
 use Rattle.pv_table.specs.Turns.{Refused, Turn, view_of, source_refusal, copied, copy_of, copying_turn, owner_made, refused_at, decide}
 use Rattle.pv_laws.specs.Moments.{Agree}
+use Rattle.pv_laws.specs.Stopping.{CopiesNothing}
 use Rattle.pv_laws.proofs.Copies.{among_front, among_copied, decide_some, copied_point}
 use Rattle.pv_laws.proofs.CopyShapes.{IsCopyTurn, puts, becomes, leaves, copy_turns, copied_shaped}
-use Rattle.pv_laws.proofs.Lines.{line_is_plain, line_point, copy_literal, copy_path, copy_source}
+use Rattle.pv_laws.proofs.Lines.{path_named, line_is_plain, line_point, copy_literal, copy_path, copy_source}
 use Rattle.pv_laws.proofs.Making.{is_dir, IsShaped, dir_there}
-use Rattle.pv_laws.proofs.Orders.{all_ordered, all_listed, all_at}
+use Rattle.pv_laws.proofs.Orders.{all_ordered, all_listed, all_in_order, all_at}
 use Rattle.pv_laws.proofs.Points.{get-tabulated, point_asked, listed, all_front, quiet_front}
 use Rattle.pv_laws.proofs.Prepared.{neither, bare_some, has_some, in_parents, among_first, among_later, among_left, among_right}
 use Rattle.pv_laws.proofs.Sets.{impossible, is_adjustment, asked, sets_adjust}
@@ -141,11 +142,11 @@ module _ (now : ℕ) (line : Line) (safe : IsSafe line) (t : Files) (shape : IsS
       by (Some b) f = record {
         point = λ s agree q plain.
             ap (λ (u : Files). bares_of (places u) q) opened
-            ∙ copied_point now copying adjust (path_in line.path) plain_path plain_source (safe.away copying e) t shape b f s agree q plain
+            ∙ copied_point now copying adjust (path_in line.path) plain_path plain_source t shape b f (safe.away copying e) s agree q plain
             ∙ sym (point_copy line copying s q e ∙ ap (λ c. cond c (at_made (Copy copying) (path_in line.path) s q) (fin.get s q)) (ap is_some (agree copying.source plain_source ∙ f)));
         shape = subst (λ (u : Files). IsShaped (bares_of (places u))) (sym opened) (
-            copied_shaped now copying adjust (path_in line.path) plain_path plain_source (safe.away copying e) t shape b f (copy_path line safe.is copying e).1
-            (copy_passes line copying e t free (sym (bare_some (places t copying.source)) ∙ ap is_some f)));
+            copied_shaped now copying adjust (path_in line.path) plain_path plain_source t shape b f (copy_path line safe.is copying e).1
+            (copy_passes line copying e t free (sym (bare_some (places t copying.source)) ∙ ap is_some f)) (path_named line safe.is));
       }
 
   -- each line
@@ -255,17 +256,37 @@ module _ (line : Line) (safe : IsSafe line) (s : Bares) (shape : IsShaped (fin.g
 
 -- ---- lines one after the other
 
-all_points_after : (now : ℕ) (lines : List Line) (s : Bares) (t : Files) → AllByRecursion IsSafe lines → IsShaped (bares_of (places t)) → one_is_refused (by_line now) lines t ≡ false → Agree s t
+pub points_after : (now : ℕ) (lines : List Line) (s : Bares) (t : Files) → AllByRecursion IsSafe lines → IsShaped (bares_of (places t)) → one_is_refused (by_line now) lines t ≡ false → Agree s t
     → Agree (fold pointwise_after s lines) (after_each (by_line now) lines t)
-all_points_after now [] s t are shape quiet agree = agree
-all_points_after now (line ∷ lines) s t are shape quiet agree =
+points_after now [] s t are shape quiet agree = agree
+points_after now (line ∷ lines) s t are shape quiet agree =
     let two = neither ((by_line now).is_refused line t) (one_is_refused (by_line now) lines ((by_line now).after line t)) quiet in
     let one = line_pointed now line are.0 t shape two.0 in
-    all_points_after now lines (pointwise_after s line) ((by_line now).after line t) are.1 one.shape two.1 (λ q plain.
+    points_after now lines (pointwise_after s line) ((by_line now).after line t) are.1 one.shape two.1 (λ q plain.
     pointwise_is line are.0 s (shape_same (bares_of (places t)) (fin.get s) agree shape) q plain
     ∙ sym (one.point s agree q plain))
 
--- where no line has a reason, no line copies what lies above its path
+-- where none of them copies what lies above its path
+module _ (lines : List Line) (safe : AllByRecursion IsSafe (in_create_order lines)) (now : ℕ) (s : Bares) (t : Files) (tree : IsTree t) (quiet : IsQuiet lines now t) (agree : Agree s t) where
+  -- after the first lines
+  pub state_after : (k : ℕ) → Agree (state lines k s) (after_each (by_line now) (take k (in_create_order lines)) t)
+  state_after k = points_after now (take k (in_create_order lines)) s t (all_front IsSafe k (in_create_order lines) safe) (tree_shaped (places t) tree) (quiet_front now k (in_create_order lines) t quiet) agree
+
+  -- and after all
+  pub state_whole : Agree (state lines (length (in_create_order lines)) s) (created lines now t)
+  state_whole q plain =
+      state_after (length (in_create_order lines)) q plain
+      ∙ ap (λ ls. bares_of (places (after_each (by_line now) ls t)) q) (take_all (length (in_create_order lines)) (in_create_order lines) (omega arith))
+
+-- so it is where they copy nothing
+pub plain_safe : (lines : List Line) → AllByRecursion IsLine lines → AllByRecursion CopiesNothing lines → AllByRecursion IsSafe (in_create_order lines)
+plain_safe lines are none = all_in_order IsSafe lines (each lines are none)
+  where
+    each : (ls : List Line) → AllByRecursion IsLine ls → AllByRecursion CopiesNothing ls → AllByRecursion IsSafe ls
+    each [] h g = tt
+    each (line ∷ ls) h g = (record { is = h.0; away = λ copying e. absurd (let no : Some copying.source ≡ None = sym (ap copied e) ∙ g.0 in cc) }, each ls h.1 g.1)
+
+-- and where no line has a reason
 module _ (lines : List Line) (are : AllByRecursion IsLine lines) (repeatable : IsRepeatable lines) where
   pub record IsPlaced (line : Listed) : Type 0 where
     pub at : IsAt lines line.0 line.1
@@ -275,7 +296,7 @@ module _ (lines : List Line) (are : AllByRecursion IsLine lines) (repeatable : I
   all_placed_so [] h g = tt
   all_placed_so (x ∷ xs) h g = (record { at = h.0; is = g.0 }, all_placed_so xs h.1 g.1)
 
-  safe_of : (line : Listed) → IsPlaced line → IsSafe line.1
+  pub safe_of : (line : Listed) → IsPlaced line → IsSafe line.1
   safe_of line placed = record { is = placed.is; away = away }
     where
       away : (copying : Copying) → asks line.1 ≡ Copy copying → is_prefix copying.source (path_in line.1.path) ≡ false
@@ -292,7 +313,7 @@ module _ (lines : List Line) (are : AllByRecursion IsLine lines) (repeatable : I
           governed = or_left (reaches line.1 (path_in line.1.path)) _ (or_left (names line.1 (path_in line.1.path)) _ named)
 
           by : (c : Bool) → is_prefix copying.source (path_in line.1.path) ≡ c → is_prefix copying.source (path_in line.1.path) ≡ false
-          by true g = absurd (repeatable line.0 reason.Source (HasReason.source line.1 line.1 line.0 copying.source (path_in line.1.path) placed.at placed.at (ap copied e) g governed))
+          by true g = absurd (repeatable line.0 reason.Source (HasReason.source line.1 line.1 line.0 copying.source (path_in line.1.path) placed.at placed.at (ap copied e) g (path_named line.1 placed.is) governed))
           by false g = g
 
   all_safe_listed : (xs : List Listed) → AllByRecursion IsPlaced xs → AllByRecursion IsSafe (map (λ (line : Listed). line.1) xs)
@@ -302,16 +323,3 @@ module _ (lines : List Line) (are : AllByRecursion IsLine lines) (repeatable : I
   pub all_safe : AllByRecursion IsSafe (in_create_order lines)
   all_safe = all_safe_listed (ordered (enumerate_from 0 lines)) (all_ordered IsPlaced (enumerate_from 0 lines) (
       all_placed_so (enumerate_from 0 lines) (all_at lines lines 0 (λ i. (let same : 0 + i ≡ i = omega arith in ap (slice_get lines) same))) (all_listed IsLine 0 lines are)))
-
-  module _ (now : ℕ) (s : Bares) (t : Files) (tree : IsTree t) (quiet : IsQuiet lines now t) (agree : Agree s t) where
-    -- after the first lines
-    pub all_state_after : (k : ℕ) → Agree (state lines k s) (after_each (by_line now) (take k (in_create_order lines)) t)
-    all_state_after k = all_points_after now (take k (in_create_order lines)) s t (all_front IsSafe k (in_create_order lines) all_safe) (tree_shaped (places t) tree) (quiet_front now k (in_create_order lines) t quiet) agree
-
-    -- and after all
-    pub all_state_whole : Agree (state lines (length (in_create_order lines)) s) (created lines now t)
-    all_state_whole q plain = all_state_after (length (in_create_order lines)) q plain ∙ ap (λ ls. bares_of (places (after_each (by_line now) ls t)) q) (take_whole (in_create_order lines))
-      where
-        take_whole : (xs : List Line) → take (length xs) xs ≡ xs
-        take_whole [] = refl
-        take_whole (x ∷ xs) = ap (λ ys. x ∷ ys) (take_whole xs)

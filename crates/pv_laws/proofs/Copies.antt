@@ -158,38 +158,51 @@ turns_agree copying a b path kind (Some x) empty rest c same = by (same_kind kin
         at one (dir && va) renews
         ∙ ap (λ v. after_turn (if one then (if dir && v then Turn.Put (copy_of copying b) else Turn.Become copying.sets) else if renews then Turn.Put (copy_of copying b) else Turn.Left x.body.kind) rest c) e
 
+-- turns over views that agree everywhere are the same
+pub turns_same : (copying : Copying) (a b : View) (path : Path) (kind : Kind) (old : Option Bare) → is_childless a path ≡ is_childless b path → ((rest : Path) → copy_of copying a rest ≡ copy_of copying b rest) → copying_turn copying a path kind old ≡ copying_turn copying b path kind old
+turns_same copying a b path kind None empty same = λ i. Turn.Put (λ rest. same rest i)
+turns_same copying a b path kind (Some x) empty same = λ i.
+    if same_kind kind x.body.kind then (if is_directory kind && empty i then Turn.Put (λ rest. same rest i) else Turn.Become copying.sets)
+    else if copying.renews then Turn.Put (λ rest. same rest i) else Turn.Left x.body.kind
+
+-- a directory of which each visible child stands in another is childless where that one is
+pub childless_less : (a b : Files) (path : Path) → has_staging path ≡ false
+    → ((name : List ℕ) → has_staging (path ++ name ∷ []) ≡ false → is_some (bares_of (places b) (path ++ name ∷ [])) ≡ true → is_some (bares_of (places a) (path ++ name ∷ [])) ≡ true)
+    → is_childless (view_of a) path ≡ true → is_childless (view_of b) path ≡ true
+childless_less a b path plain more empty = among_all (λ q. not (is_visible_child path q)) (fin.keys b) (λ q h. by q h (is_visible_child path q) refl)
+  where
+    by : (q : Path) → is_among q (fin.keys b) ≡ true → (v : Bool) → is_visible_child path q ≡ v → not (is_visible_child path q) ≡ true
+    by q h false e = ap not e
+    by q h true e =
+        let child = child_plain path q plain e in
+        let unstaged : has_staging (path ++ child.0 ∷ []) ≡ false = ap has_staging (sym child.1) ∙ child.2 in
+        let there : is_some (bares_of (places b) (path ++ child.0 ∷ [])) ≡ true = ap (λ (r : Path). is_some (bares_of (places b) r)) (sym child.1) ∙ bare_some (places b q) ∙ sym (among_keys b q) ∙ h in
+        let also : is_among q (fin.keys a) ≡ true = among_keys a q ∙ sym (bare_some (places a q)) ∙ ap (λ (r : Path). is_some (bares_of (places a) r)) child.1 ∙ more child.0 unstaged there in
+        all_among (λ r. not (is_visible_child path r)) (fin.keys a) empty q also
+
 pub decide_some : (copying : Copying) (v : View) (path : Path) (b : Bare) → v.at copying.source ≡ Some b → decide (Copy copying) v path ≡ copying_turn copying v path b.body.kind (v.at path)
 decide_some copying v path b e = rw e
 
 module _ (now : ℕ) (copying : Copying) (adjust : list_all is_adjustment copying.sets ≡ true) (path : Path) (unstaged : has_staging path ≡ false) (plain_source : has_staging copying.source ≡ false)
-    (away : is_prefix copying.source path ≡ false) (t : Files) (shape : IsShaped (bares_of (places t))) (b : Bare) (present : bares_of (places t) copying.source ≡ Some b) where
+    (t : Files) (shape : IsShaped (bares_of (places t))) (b : Bare) (present : bares_of (places t) copying.source ≡ Some b) where
   abbrev ready : Files
   ready = prepare now path t
 
   abbrev left : Path → Option Bare
   left q = bares_of (places (carried_out now (Copy copying) path t)) q
 
-  -- preparing leaves the source as it is
-  source_there : (rest : Path) → has_staging rest ≡ false → bares_of (places ready) (copying.source ++ rest) ≡ bares_of (places t) (copying.source ++ rest)
-  source_there rest plain =
-      ready_else now path unstaged t shape (copying.source ++ rest) (has_staging-append copying.source rest ∙ ap (λ c. c || has_staging rest) plain_source ∙ plain)
-      (λ e. apart (is_prefix copying.source path) (ap (is_prefix copying.source) (sym e) ∙ is_prefix-append copying.source rest) away)
-      ∙ ap (λ c. filled c (bares_of (places t) (copying.source ++ rest))) (by (is_prefix (copying.source ++ rest) path) refl)
+  -- preparing leaves what is copied as it is
+  pub source_ready : bares_of (places ready) copying.source ≡ bares_of (places t) copying.source
+  source_ready = elim (path_cases copying.source path) [
+    | inl same ↦ subst (λ (p : Path). bares_of (places ready) p ≡ bares_of (places t) p) (sym same) (ready_here now path unstaged t shape)
+    | inr d ↦
+        ready_else now path unstaged t shape copying.source plain_source (λ same. apart (same_path copying.source path) ((same_path-decides copying.source path).1 same) d)
+        ∙ ap (filled (is_prefix copying.source path)) present ∙ by (is_prefix copying.source path) ∙ sym present
+  ]
     where
-      by : (c : Bool) → is_prefix (copying.source ++ rest) path ≡ c → is_prefix (copying.source ++ rest) path ≡ false
-      by true e = absurd (apart (is_prefix copying.source path) (is_prefix-trans copying.source (copying.source ++ rest) path (is_prefix-append copying.source rest) e) away)
-      by false e = e
-
-  source_ready : bares_of (places ready) copying.source ≡ bares_of (places t) copying.source
-  source_ready = subst (λ (p : Path). bares_of (places ready) p ≡ bares_of (places t) p) (append-nil copying.source) (source_there [] refl)
-
-  pub copy_there : (rest : Path) → copy_of copying (view_of ready) rest ≡ copy_of copying (view_of t) rest
-  copy_there [] = ap (option_map (topped copying)) source_ready
-  copy_there (name ∷ rest) = by (has_staging (name ∷ rest)) refl
-    where
-      by : (c : Bool) → has_staging (name ∷ rest) ≡ c → cond c None (bares_of (places ready) (copying.source ++ name ∷ rest)) ≡ cond c None (bares_of (places t) (copying.source ++ name ∷ rest))
-      by true e = refl
-      by false e = source_there (name ∷ rest) e
+      by : (c : Bool) → filled c (Some b) ≡ Some b
+      by true = refl
+      by false = refl
 
   abbrev copy_turn : Turn
   copy_turn = copying_turn copying (view_of ready) path b.body.kind (bares_of (places ready) path)
@@ -224,77 +237,127 @@ module _ (now : ℕ) (copying : Copying) (adjust : list_all is_adjustment copyin
       by d true f = absurd (apart (same_path path q) ((same_path-decides path q).1 (is_prefix-antisym path q under f)) d)
       by d false f = f
 
-  -- the turn, by what stood in the tree
-  abbrev turn_before : Turn
-  turn_before = copying_turn copying (view_of t) path b.body.kind (bares_of (places t) path)
+  childless_before : is_childless (view_of ready) path ≡ is_childless (view_of t) path
+  childless_before = childless_same (view_of ready) (view_of t) path (λ q visible. by q (child_plain path q unstaged visible))
+    where
+      by : (q : Path) → (name : List ℕ) × (q ≡ path ++ name ∷ []) × (has_staging q ≡ false) → is_among q (fin.keys ready) ≡ is_among q (fin.keys t)
+      by q child =
+          among_keys ready q ∙ sym (bare_some (places ready q))
+          ∙ ap is_some (below_ready q (child.0 ∷ []) child.2 (ap (rest_under path) child.1 ∙ rest_under-append path (child.0 ∷ [])))
+          ∙ bare_some (places t q) ∙ sym (among_keys t q)
 
-  -- ---- by itself
+  -- ---- where what is copied does not lie above the path
 
-  module _ (s : Bares) (agree : Agree s t) where
-    copy_agrees : (rest : Path) → copy_of copying (view_of ready) rest ≡ copy_of copying (view s) rest
-    copy_agrees rest = copy_there rest ∙ at rest
+  module _ (away : is_prefix copying.source path ≡ false) where
+    -- preparing leaves what lies below the source as it is
+    source_there : (rest : Path) → has_staging rest ≡ false → bares_of (places ready) (copying.source ++ rest) ≡ bares_of (places t) (copying.source ++ rest)
+    source_there rest plain =
+        ready_else now path unstaged t shape (copying.source ++ rest) (has_staging-append copying.source rest ∙ ap (λ c. c || has_staging rest) plain_source ∙ plain)
+        (λ e. apart (is_prefix copying.source path) (ap (is_prefix copying.source) (sym e) ∙ is_prefix-append copying.source rest) away)
+        ∙ ap (λ c. filled c (bares_of (places t) (copying.source ++ rest))) (by (is_prefix (copying.source ++ rest) path) refl)
       where
-        at : (r : Path) → copy_of copying (view_of t) r ≡ copy_of copying (view s) r
-        at [] = ap (option_map (topped copying)) (sym (agree copying.source plain_source))
-        at (name ∷ r) = by (has_staging (name ∷ r)) refl
-          where
-            by : (c : Bool) → has_staging (name ∷ r) ≡ c → cond c None (bares_of (places t) (copying.source ++ name ∷ r)) ≡ cond c None (fin.get s (copying.source ++ name ∷ r))
-            by true e = refl
-            by false e = sym (agree (copying.source ++ name ∷ r) (has_staging-append copying.source (name ∷ r) ∙ ap (λ c. c || has_staging (name ∷ r)) plain_source ∙ e))
+        by : (c : Bool) → is_prefix (copying.source ++ rest) path ≡ c → is_prefix (copying.source ++ rest) path ≡ false
+        by true e = absurd (apart (is_prefix copying.source path) (is_prefix-trans copying.source (copying.source ++ rest) path (is_prefix-append copying.source rest) e) away)
+        by false e = e
 
-    childless_agrees : is_childless (view_of ready) path ≡ is_childless (view s) path
-    childless_agrees = childless_same (view_of ready) (view s) path (λ q visible. by q (child_plain path q unstaged visible))
+    pub copy_there : (rest : Path) → copy_of copying (view_of ready) rest ≡ copy_of copying (view_of t) rest
+    copy_there [] = ap (option_map (topped copying)) source_ready
+    copy_there (name ∷ rest) = by (has_staging (name ∷ rest)) refl
       where
-        by : (q : Path) → (name : List ℕ) × (q ≡ path ++ name ∷ []) × (has_staging q ≡ false) → is_among q (fin.keys ready) ≡ is_among q (fin.keys s)
-        by q child =
-            among_keys ready q ∙ sym (bare_some (places ready q))
-            ∙ ap is_some (below_ready q (child.0 ∷ []) child.2 (ap (rest_under path) child.1 ∙ rest_under-append path (child.0 ∷ [])) ∙ sym (agree q child.2))
-            ∙ fin.contains_key-keys s q
+        by : (c : Bool) → has_staging (name ∷ rest) ≡ c → cond c None (bares_of (places ready) (copying.source ++ name ∷ rest)) ≡ cond c None (bares_of (places t) (copying.source ++ name ∷ rest))
+        by true e = refl
+        by false e = source_there (name ∷ rest) e
 
-    decided : decide (Copy copying) (view s) path ≡ copying_turn copying (view s) path b.body.kind (fin.get s path)
-    decided = decide_some copying (view s) path b (agree copying.source plain_source ∙ present)
+    -- the turn, by what stood in the tree
+    abbrev pub turn_before : Turn
+    turn_before = copying_turn copying (view_of t) path b.body.kind (bares_of (places t) path)
 
-    abbrev given : Path → Bool → Option Path → Option Bare
-    given q above rest = cond above (Some (unwrap_or (fin.get s q) parent_bare)) (option_map_or (λ r. after_turn (decide (Copy copying) (view s) path) r (fin.get s q)) rest (fin.get s q))
+    turn_same : copy_turn ≡ turn_before
+    turn_same =
+        turns_same copying (view_of ready) (view_of t) path b.body.kind (bares_of (places ready) path) childless_before copy_there
+        ∙ ap (copying_turn copying (view_of t) path b.body.kind) (ready_here now path unstaged t shape)
 
-    inside_agrees : (q rest : Path) → has_staging q ≡ false → rest_under path q ≡ Some rest → left q ≡ after_turn (decide (Copy copying) (view s) path) rest (fin.get s q)
-    inside_agrees q rest plain e =
-        left_inside q rest e
-        ∙ turns_agree copying (view_of ready) (view s) path b.body.kind (bares_of (places ready) path) childless_agrees rest (bares_of (places ready) q) (copy_agrees rest)
-        ∙ (λ i. after_turn (copying_turn copying (view s) path b.body.kind ((ready_here now path unstaged t shape ∙ sym (agree path unstaged)) i)) rest ((below_ready q rest plain e ∙ sym (agree q plain)) i))
-        ∙ ap (λ turn. after_turn turn rest (fin.get s q)) (sym decided)
+    pub decided_before : decide (Copy copying) (view_of ready) path ≡ turn_before
+    decided_before = decide_some copying (view_of ready) path b (source_ready ∙ present) ∙ turn_same
 
-    not_above : (q rest : Path) → rest_under path q ≡ Some rest → (is_prefix q path && not (same_path q path)) ≡ false
-    not_above q rest e = by (same_path q path) refl (is_prefix q path) refl
-      where
-        by : (c : Bool) → same_path q path ≡ c → (a : Bool) → is_prefix q path ≡ a → (a && not c) ≡ false
-        by true f true g = refl
-        by true f false g = refl
-        by false f false g = refl
-        by false f true g = absurd (apart (same_path q path) ((same_path-decides q path).1 (is_prefix-antisym q path g (sym (is_some-rest_under path q) ∙ ap is_some e))) f)
+    pub left_before : (q rest : Path) → has_staging q ≡ false → rest_under path q ≡ Some rest → left q ≡ after_turn turn_before rest (bares_of (places t) q)
+    left_before q rest plain e =
+        left_inside q rest e ∙ ap (λ turn. after_turn turn rest (bares_of (places ready) q)) turn_same ∙ ap (after_turn turn_before rest) (below_ready q rest plain e)
 
-    pub copied_point : (q : Path) → has_staging q ≡ false → left q ≡ at_made (Copy copying) path s q
-    copied_point q plain = by (rest_under path q) refl
-      where
-        filled_in : (c : Option Bare) → filled true c ≡ Some (unwrap_or c parent_bare)
-        filled_in None = refl
-        filled_in (Some x) = refl
+    -- ---- by itself
 
-        none_above : (a c : Bool) → a ≡ false → (a && not c) ≡ false
-        none_above true c e = impossible (sym e)
-        none_above false c e = refl
+    module _ (s : Bares) (agree : Agree s t) where
+      copy_agrees : (rest : Path) → copy_of copying (view_of ready) rest ≡ copy_of copying (view s) rest
+      copy_agrees rest = copy_there rest ∙ at rest
+        where
+          at : (r : Path) → copy_of copying (view_of t) r ≡ copy_of copying (view s) r
+          at [] = ap (option_map (topped copying)) (sym (agree copying.source plain_source))
+          at (name ∷ r) = by (has_staging (name ∷ r)) refl
+            where
+              by : (c : Bool) → has_staging (name ∷ r) ≡ c → cond c None (bares_of (places t) (copying.source ++ name ∷ r)) ≡ cond c None (fin.get s (copying.source ++ name ∷ r))
+              by true e = refl
+              by false e = sym (agree (copying.source ++ name ∷ r) (has_staging-append copying.source (name ∷ r) ∙ ap (λ c. c || has_staging (name ∷ r)) plain_source ∙ e))
 
-        outside : rest_under path q ≡ None → (a : Bool) → is_prefix q path ≡ a → bares_of (places ready) q ≡ filled a (bares_of (places t) q) → left q ≡ given q (is_prefix q path && not (same_path q path)) (rest_under path q)
-        outside e true f g =
-            left_outside q e ∙ g ∙ filled_in (bares_of (places t) q) ∙ ap (λ c. Some (unwrap_or c parent_bare)) (sym (agree q plain))
-            ∙ sym (ap (λ c. given q (is_prefix q path && not c) (rest_under path q)) (same_path-no q path other) ∙ ap (λ c. given q (c && true) (rest_under path q)) f)
-          where
-            other : q ≢ path
-            other same = (let there : Some [] ≡ None = sym (rest_under-self path) ∙ ap (rest_under path) (sym same) ∙ e in cc)
-        outside e false f g =
-            left_outside q e ∙ g ∙ sym (agree q plain)
-            ∙ sym (ap (λ c. given q c (rest_under path q)) (none_above (is_prefix q path) (same_path q path) f) ∙ ap (given q false) e)
+      childless_agrees : is_childless (view_of ready) path ≡ is_childless (view s) path
+      childless_agrees = childless_same (view_of ready) (view s) path (λ q visible. by q (child_plain path q unstaged visible))
+        where
+          by : (q : Path) → (name : List ℕ) × (q ≡ path ++ name ∷ []) × (has_staging q ≡ false) → is_among q (fin.keys ready) ≡ is_among q (fin.keys s)
+          by q child =
+              among_keys ready q ∙ sym (bare_some (places ready q))
+              ∙ ap is_some (below_ready q (child.0 ∷ []) child.2 (ap (rest_under path) child.1 ∙ rest_under-append path (child.0 ∷ [])) ∙ sym (agree q child.2))
+              ∙ fin.contains_key-keys s q
 
-        by : (r : Option Path) → rest_under path q ≡ r → left q ≡ given q (is_prefix q path && not (same_path q path)) (rest_under path q)
-        by None e = outside e (is_prefix q path) refl (ready_else now path unstaged t shape q plain (λ same. (let there : Some [] ≡ None = sym (rest_under-self path) ∙ ap (rest_under path) (sym same) ∙ e in cc)))
-        by (Some rest) e = inside_agrees q rest plain e ∙ sym (ap (λ c. given q c (rest_under path q)) (not_above q rest e) ∙ ap (given q false) e)
+      decided : decide (Copy copying) (view s) path ≡ copying_turn copying (view s) path b.body.kind (fin.get s path)
+      decided = decide_some copying (view s) path b (agree copying.source plain_source ∙ present)
+
+      -- what is done at the path is what the map says
+      pub decide_agrees : decide (Copy copying) (view s) path ≡ decide (Copy copying) (view_of ready) path
+      decide_agrees =
+          decided ∙ ap (copying_turn copying (view s) path b.body.kind) (agree path unstaged ∙ sym (ready_here now path unstaged t shape))
+          ∙ sym (turns_same copying (view_of ready) (view s) path b.body.kind (bares_of (places ready) path) childless_agrees copy_agrees)
+          ∙ sym (decide_some copying (view_of ready) path b (source_ready ∙ present))
+
+      abbrev given : Path → Bool → Option Path → Option Bare
+      given q above rest = cond above (Some (unwrap_or (fin.get s q) parent_bare)) (option_map_or (λ r. after_turn (decide (Copy copying) (view s) path) r (fin.get s q)) rest (fin.get s q))
+
+      inside_agrees : (q rest : Path) → has_staging q ≡ false → rest_under path q ≡ Some rest → left q ≡ after_turn (decide (Copy copying) (view s) path) rest (fin.get s q)
+      inside_agrees q rest plain e =
+          left_inside q rest e
+          ∙ turns_agree copying (view_of ready) (view s) path b.body.kind (bares_of (places ready) path) childless_agrees rest (bares_of (places ready) q) (copy_agrees rest)
+          ∙ (λ i. after_turn (copying_turn copying (view s) path b.body.kind ((ready_here now path unstaged t shape ∙ sym (agree path unstaged)) i)) rest ((below_ready q rest plain e ∙ sym (agree q plain)) i))
+          ∙ ap (λ turn. after_turn turn rest (fin.get s q)) (sym decided)
+
+      not_above : (q rest : Path) → rest_under path q ≡ Some rest → (is_prefix q path && not (same_path q path)) ≡ false
+      not_above q rest e = by (same_path q path) refl (is_prefix q path) refl
+        where
+          by : (c : Bool) → same_path q path ≡ c → (a : Bool) → is_prefix q path ≡ a → (a && not c) ≡ false
+          by true f true g = refl
+          by true f false g = refl
+          by false f false g = refl
+          by false f true g = absurd (apart (same_path q path) ((same_path-decides q path).1 (is_prefix-antisym q path g (sym (is_some-rest_under path q) ∙ ap is_some e))) f)
+
+      pub copied_point : (q : Path) → has_staging q ≡ false → left q ≡ at_made (Copy copying) path s q
+      copied_point q plain = by (rest_under path q) refl
+        where
+          filled_in : (c : Option Bare) → filled true c ≡ Some (unwrap_or c parent_bare)
+          filled_in None = refl
+          filled_in (Some x) = refl
+
+          none_above : (a c : Bool) → a ≡ false → (a && not c) ≡ false
+          none_above true c e = impossible (sym e)
+          none_above false c e = refl
+
+          outside : rest_under path q ≡ None → (a : Bool) → is_prefix q path ≡ a → bares_of (places ready) q ≡ filled a (bares_of (places t) q) → left q ≡ given q (is_prefix q path && not (same_path q path)) (rest_under path q)
+          outside e true f g =
+              left_outside q e ∙ g ∙ filled_in (bares_of (places t) q) ∙ ap (λ c. Some (unwrap_or c parent_bare)) (sym (agree q plain))
+              ∙ sym (ap (λ c. given q (is_prefix q path && not c) (rest_under path q)) (same_path-no q path other) ∙ ap (λ c. given q (c && true) (rest_under path q)) f)
+            where
+              other : q ≢ path
+              other same = (let there : Some [] ≡ None = sym (rest_under-self path) ∙ ap (rest_under path) (sym same) ∙ e in cc)
+          outside e false f g =
+              left_outside q e ∙ g ∙ sym (agree q plain)
+              ∙ sym (ap (λ c. given q c (rest_under path q)) (none_above (is_prefix q path) (same_path q path) f) ∙ ap (given q false) e)
+
+          by : (r : Option Path) → rest_under path q ≡ r → left q ≡ given q (is_prefix q path && not (same_path q path)) (rest_under path q)
+          by None e = outside e (is_prefix q path) refl (ready_else now path unstaged t shape q plain (λ same. (let there : Some [] ≡ None = sym (rest_under-self path) ∙ ap (rest_under path) (sym same) ∙ e in cc)))
+          by (Some rest) e = inside_agrees q rest plain e ∙ sym (ap (λ c. given q c (rest_under path q)) (not_above q rest e) ∙ ap (given q false) e)

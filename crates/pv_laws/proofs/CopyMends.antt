@@ -35,12 +35,12 @@ module _ (sets ys : List Operation) (said_none : IsRepeatable (sets ++ ys)) wher
 -- the copy and its path, seen in two trees in which the same is copied
 module _ (copying : Copying) (kind : Kind) (path : Path) (v w : View) (top : Bare) (is_top : copy_of copying v [] ≡ Some top) (of_kind : same_kind kind top.body.kind ≡ true) (again : run copying.sets (Some top) ≡ Some top)
     -- what later lines set at each path below
-    (ys : Path → List Operation) (adjust : (rest : Path) → list_all is_adjustment (ys rest) ≡ true) (repeatable : (rest : Path) → IsRepeatable (ys rest)) (both_repeatable : IsRepeatable (copying.sets ++ ys []))
+    (ys : Path → List Operation) (adjust : (rest : Path) → list_all is_adjustment (ys rest) ≡ true) (both_repeatable : IsRepeatable (copying.sets ++ ys []))
     (set_adjust : list_all is_adjustment copying.sets ≡ true)
     -- what stood there when the line began, how much of it later lines have set
     (a : Path → Option Bare) (j : Path → ℕ)
     (full : (x : Bare) → a [] ≡ Some x → same_kind kind x.body.kind ≡ true → (is_directory kind && is_childless v path) ≡ false → (is_directory kind && is_childless w path) ≡ false)
-    (rest : Path) (same : copy_of copying v rest ≡ copy_of copying w rest) where
+    (rest : Path) (repeatable : IsRepeatable (ys rest)) (same : copy_of copying v rest ≡ copy_of copying w rest) where
   abbrev left : Path → Option Bare
   left r = after_turn (copying_turn copying v path kind (a [])) r (a r)
 
@@ -53,7 +53,7 @@ module _ (copying : Copying) (kind : Kind) (path : Path) (v w : View) (top : Bar
       run (ys rest) (after_turn second rest (run (take (j rest) (ys rest)) (after_turn first rest (a rest)))) ≡ run (ys rest) (after_turn first rest (a rest))
 
   absorbed_there : (b : Option Bare) → run (ys rest) (run (take (j rest) (ys rest)) b) ≡ run (ys rest) b
-  absorbed_there b = absorbed (ys rest) (j rest) b (repeatable rest)
+  absorbed_there b = absorbed (ys rest) (j rest) b repeatable
 
   -- the copy was put: it is put again, or set
   put_put : IsMendedAt (Turn.Put (copy_of copying v)) (Turn.Put (copy_of copying w))
@@ -64,12 +64,12 @@ module _ (copying : Copying) (kind : Kind) (path : Path) (v w : View) (top : Bar
       ap (λ b. run (ys []) (run copying.sets (run (take (j []) (ys [])) b))) (is_top ∙ sym again)
       ∙ set_again copying.sets (ys []) both_repeatable (j []) (Some top)
       ∙ ap (run (ys [])) (again ∙ sym is_top)
-  put_set (name ∷ r) e = absorbed (ys (name ∷ r)) (j (name ∷ r)) (copy_of copying v (name ∷ r)) (repeatable (name ∷ r))
+  put_set (name ∷ r) e = absorbed (ys (name ∷ r)) (j (name ∷ r)) (copy_of copying v (name ∷ r)) (subst (λ (p : Path). IsRepeatable (ys p)) (sym e) repeatable)
 
   -- what was set is set again
   set_set : (r : Path) → r ≡ rest → run (ys r) (after_turn (Turn.Become copying.sets) r (run (take (j r) (ys r)) (after_turn (Turn.Become copying.sets) r (a r)))) ≡ run (ys r) (after_turn (Turn.Become copying.sets) r (a r))
   set_set [] e = set_again copying.sets (ys []) both_repeatable (j []) (a [])
-  set_set (name ∷ r) e = absorbed (ys (name ∷ r)) (j (name ∷ r)) (a (name ∷ r)) (repeatable (name ∷ r))
+  set_set (name ∷ r) e = absorbed (ys (name ∷ r)) (j (name ∷ r)) (a (name ∷ r)) (subst (λ (p : Path). IsRepeatable (ys p)) (sym e) repeatable)
 
   -- the second turn, where an object of the kind stands there
   second_same : (y : Bare) → same_kind kind y.body.kind ≡ true → (empty : Bool) → (is_directory kind && is_childless w path) ≡ empty → copying_turn copying w path kind (Some y) ≡ cond empty (Turn.Put (copy_of copying w)) (Turn.Become copying.sets)

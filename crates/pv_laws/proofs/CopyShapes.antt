@@ -3,33 +3,34 @@ use Rattle.std.specs.Prelude.{◌≡◌, ◌≢◌, ◌⊎◌, ℕ, Bool, true, 
 use Rattle.std.proofs.Common.{refl, sym, ap, subst, ◌∙◌, inl, inr, append_assoc}
 use Rattle.std.proofs.lemmas.List.{append-nil}
 use Rattle.std.specs.List.{list_all}
-use Rattle.pv_path.specs.Paths.{Path, is_prefix, rest_under, has_staging}
-use Rattle.pv_path.proofs.PathLaws.{is_prefix-append, is_prefix-trans, is_prefix-antisym, prefix_parts, prefixes_compare, rest_under-self, rest_under-append, rest_under-Some, rest_under-None, is_some-rest_under, has_staging-append}
+use Rattle.pv_path.specs.Paths.{has_names, Path, same_path, is_prefix, rest_under, has_staging, same_path-decides}
+use Rattle.pv_path.proofs.PathLaws.{has_names-append, has_names-both, has_names-prefix, is_prefix-append, is_prefix-trans, is_prefix-antisym, prefix_parts, prefixes_compare, rest_under-self, rest_under-append, rest_under-Some, rest_under-None, is_some-rest_under, has_staging-append}
 use Rattle.pv_steps.specs.declared.node.Kind.{Kind}
 use Rattle.pv_steps.specs.Objects.{is_directory}
 use Rattle.pv_steps.specs.Trees.{Files, places}
 use Rattle.pv_dress.specs.declared.bare.Bare.{Bare}
 use Rattle.pv_dress.specs.declared.bare.Body.{Body}
-use Rattle.pv_dress.specs.declared.operation.Operation.TheVariants.{Make}
 use Rattle.pv_dress.specs.Nodes.{bares_of, is_link, same_kind}
 use Rattle.pv_dress.specs.declared.bare.Dress.{Dress}
-use Rattle.pv_dress.specs.Operations.{with_mode, done, run}
+use Rattle.pv_dress.specs.Operations.{with_mode, run}
 use Rattle.pv_lines.specs.declared.line.LineMode.{LineMode}
-use Rattle.pv_walk.proofs.RemovalLaws.{apart}
+use Rattle.pv_dress.proofs.EditLaws.{path_cases}
+use Rattle.pv_walk.specs.Preparing.{IsAbove}
+use Rattle.pv_walk.proofs.RemovalLaws.{apart, both}
 use Rattle.pv_table.specs.declared.deed.Copying.{Copying}
 use Rattle.pv_table.specs.declared.deed.Deed.TheVariants.{Copy}
 use Rattle.pv_table.specs.Asking.{mode_for_new}
 use Rattle.pv_table.specs.Effects.{prepare, carried_out}
 use Rattle.pv_table.specs.Pointwise.{parent_bare, after_turn}
 use Rattle.pv_table.specs.Turns.{Turn, View, view_of, topped, copy_of, is_childless, copying_turn}
-use Rattle.pv_laws.proofs.Copies.{copy_there, left_inside, left_outside, below_ready}
-use Rattle.pv_laws.proofs.Making.{is_dir, IsShaped, ready_else}
+use Rattle.pv_laws.proofs.Copies.{source_ready, left_inside, left_outside, below_ready}
+use Rattle.pv_laws.proofs.Making.{is_dir, IsShaped, ready_here, ready_else}
 use Rattle.pv_laws.proofs.Prepared.{filled, neither}
 use Rattle.pv_laws.proofs.Sets.{impossible, is_adjustment, adjusted_none}
 use Rattle.pv_laws.proofs.Shapes.{adjusted_like, plain_prefix}
 
 -- a copied object is what its source is
-topped_body : (copying : Copying) (b : Bare) → (topped copying b).body ≡ b.body
+pub topped_body : (copying : Copying) (b : Bare) → (topped copying b).body ≡ b.body
 topped_body copying b = by copying.mode refl
   where
     by : (m : Option LineMode) → copying.mode ≡ m → (topped copying b).body ≡ b.body
@@ -60,7 +61,7 @@ copy_turns copying view path kind (Some x) = by (same_kind kind x.body.kind) (is
     by false empty false = leaves x.body.kind refl
 
 module _ (now : ℕ) (copying : Copying) (adjust : list_all is_adjustment copying.sets ≡ true) (path : Path) (unstaged : has_staging path ≡ false) (plain_source : has_staging copying.source ≡ false)
-    (away : is_prefix copying.source path ≡ false) (t : Files) (shape : IsShaped (bares_of (places t))) (b : Bare) (present : bares_of (places t) copying.source ≡ Some b)
+    (t : Files) (shape : IsShaped (bares_of (places t))) (b : Bare) (present : bares_of (places t) copying.source ≡ Some b)
     (named : path ≢ []) (pass : (p : Path) → is_prefix p path ≡ true → p ≢ path → is_some (bares_of (places t) p) ≡ true → is_dir (bares_of (places t) p) ≡ true) where
   abbrev old : Path → Option Bare
   old q = bares_of (places t) q
@@ -74,29 +75,90 @@ module _ (now : ℕ) (copying : Copying) (adjust : list_all is_adjustment copyin
   -- what is left, by where a path lies
   pub at_inside : (q rest : Path) → has_staging q ≡ false → rest_under path q ≡ Some rest → left q ≡ after_turn turn_there rest (old q)
   at_inside q rest plain e =
-      left_inside now copying adjust path unstaged plain_source away t shape b present q rest e
-      ∙ ap (after_turn turn_there rest) (below_ready now copying adjust path unstaged plain_source away t shape b present q rest plain e)
+      left_inside now copying adjust path unstaged plain_source t shape b present q rest e
+      ∙ ap (after_turn turn_there rest) (below_ready now copying adjust path unstaged plain_source t shape b present q rest plain e)
 
   pub at_outside : (q : Path) → has_staging q ≡ false → rest_under path q ≡ None → left q ≡ filled (is_prefix q path) (old q)
   at_outside q plain e =
-      left_outside now copying adjust path unstaged plain_source away t shape b present q e
+      left_outside now copying adjust path unstaged plain_source t shape b present q e
       ∙ ready_else now path unstaged t shape q plain (λ same. (let there : Some [] ≡ None = sym (rest_under-self path) ∙ ap (rest_under path) (sym same) ∙ e in cc))
 
-  -- the copy, by what stood below the source
-  copy_top : copy_of copying (view_of (prepare now path t)) [] ≡ Some (topped copying b)
-  copy_top = copy_there now copying adjust path unstaged plain_source away t shape b present [] ∙ ap (option_map (topped copying)) present
+  keeps_dir : (above : Bool) (c : Option Bare) → is_dir c ≡ true → is_dir (filled above c) ≡ true
+  keeps_dir true None h = impossible h
+  keeps_dir true (Some x) h = h
+  keeps_dir false c h = h
 
-  copy_below : (name : List ℕ) (rest : Path) → copy_of copying (view_of (prepare now path t)) (name ∷ rest) ≡ cond (has_staging (name ∷ rest)) None (old (copying.source ++ name ∷ rest))
-  copy_below name rest = copy_there now copying adjust path unstaged plain_source away t shape b present (name ∷ rest)
+  -- ---- the tree whose path is prepared
+
+  abbrev ready : Path → Option Bare
+  ready q = bares_of (places (prepare now path t)) q
+
+  ready_is : (q : Path) → has_staging q ≡ false → (ready q ≡ old q) ⊎ (IsAbove q path × (ready q ≡ filled true (old q)))
+  ready_is q plain = elim (path_cases q path) [
+    | inl same ↦ inl (subst (λ (p : Path). ready p ≡ old p) (sym same) (ready_here now path unstaged t shape))
+    | inr d ↦ by (λ same. apart (same_path q path) ((same_path-decides q path).1 same) d) (is_prefix q path) refl
+  ]
+    where
+      by : q ≢ path → (c : Bool) → is_prefix q path ≡ c → (ready q ≡ old q) ⊎ (IsAbove q path × (ready q ≡ filled true (old q)))
+      by other true e = inr ((e, other), ready_else now path unstaged t shape q plain other ∙ ap (λ c. filled c (old q)) e)
+      by other false e = inl (ready_else now path unstaged t shape q plain other ∙ ap (λ c. filled c (old q)) e)
+
+  -- above the path stand directories
+  high_dir : (p : Path) → has_staging p ≡ false → is_prefix p path ≡ true → p ≢ path → is_dir (filled true (old p)) ≡ true
+  high_dir p plain high other = at (old p) (pass p high other)
+    where
+      at : (c : Option Bare) → (is_some c ≡ true → is_dir c ≡ true) → is_dir (filled true c) ≡ true
+      at None h = refl
+      at (Some x) h = h refl
+
+  ready_dir : (p : Path) → has_staging p ≡ false → is_dir (old p) ≡ true → is_dir (ready p) ≡ true
+  ready_dir p plain h = by (ready_is p plain)
+    where
+      by : (ready p ≡ old p) ⊎ (IsAbove p path × (ready p ≡ filled true (old p))) → is_dir (ready p) ≡ true
+      by (inl e) = ap is_dir e ∙ h
+      by (inr two) = ap is_dir two.1 ∙ keeps_dir true (old p) h
+
+  ready_above : (p q : Path) → has_staging q ≡ false → is_prefix p q ≡ true → p ≢ q → is_some (ready q) ≡ true → is_dir (ready p) ≡ true
+  ready_above p q plain above other there = by (ready_is q plain)
+    where
+      by : (ready q ≡ old q) ⊎ (IsAbove q path × (ready q ≡ filled true (old q))) → is_dir (ready p) ≡ true
+      by (inl e) = ready_dir p (plain_prefix p q above plain) (shape.above p q plain above other (sym (ap is_some e) ∙ there))
+      by (inr two) =
+          let high : is_prefix p path ≡ true = is_prefix-trans p q path above two.0.0 in
+          let differ : p ≢ path = (λ same. two.0.1 (is_prefix-antisym q path two.0.0 (ap (λ r. is_prefix r q) (sym same) ∙ above))) in
+          ap is_dir (ready_else now path unstaged t shape p (plain_prefix p q above plain) differ ∙ ap (λ c. filled c (old p)) high) ∙ high_dir p (plain_prefix p q above plain) high differ
+
+  some_is : (u v : Bare) → Some u ≡ Some v → u ≡ v
+  some_is u v h = cc
+
+  filled_numbers : (q : Path) → has_staging q ≡ false → (above : Bool) (c : Option Bare) → old q ≡ c → (x : Bare) → filled above c ≡ Some x → is_directory x.body.kind ≡ true → (x.body.major ≡ 0) × (x.body.minor ≡ 0)
+  filled_numbers q plain true None f x e h = subst (λ (y : Bare). (y.body.major ≡ 0) × (y.body.minor ≡ 0)) (some_is parent_bare x e) (refl, refl)
+  filled_numbers q plain true (Some y) f x e h = shape.plain q x plain (f ∙ e) h
+  filled_numbers q plain false c f x e h = shape.plain q x plain (f ∙ e) h
+
+  ready_numbers : (q : Path) (x : Bare) → has_staging q ≡ false → ready q ≡ Some x → is_directory x.body.kind ≡ true → (x.body.major ≡ 0) × (x.body.minor ≡ 0)
+  ready_numbers q x plain e h = by (ready_is q plain)
+    where
+      by : (ready q ≡ old q) ⊎ (IsAbove q path × (ready q ≡ filled true (old q))) → (x.body.major ≡ 0) × (x.body.minor ≡ 0)
+      by (inl f) = shape.plain q x plain (sym f ∙ e) h
+      by (inr two) = filled_numbers q plain true (old q) refl x (sym two.1 ∙ e) h
+
+  -- ---- the copy, by what stands there
+
+  copy_top : copy_of copying (view_of (prepare now path t)) [] ≡ Some (topped copying b)
+  copy_top = ap (option_map (topped copying)) (source_ready now copying adjust path unstaged plain_source t shape b present ∙ present)
+
+  copy_below : (name : List ℕ) (rest : Path) → copy_of copying (view_of (prepare now path t)) (name ∷ rest) ≡ cond (has_staging (name ∷ rest)) None (ready (copying.source ++ name ∷ rest))
+  copy_below name rest = refl
 
   source_plain : (rest : Path) → has_staging rest ≡ false → has_staging (copying.source ++ rest) ≡ false
   source_plain rest plain = has_staging-append copying.source rest ∙ ap (λ c. c || has_staging rest) plain_source ∙ plain
 
   -- what is copied has no staging name
-  copied_there : (name : List ℕ) (rest : Path) → is_some (copy_of copying (view_of (prepare now path t)) (name ∷ rest)) ≡ true → (has_staging (name ∷ rest) ≡ false) × (is_some (old (copying.source ++ name ∷ rest)) ≡ true)
+  copied_there : (name : List ℕ) (rest : Path) → is_some (copy_of copying (view_of (prepare now path t)) (name ∷ rest)) ≡ true → (has_staging (name ∷ rest) ≡ false) × (is_some (ready (copying.source ++ name ∷ rest)) ≡ true)
   copied_there name rest h = by (has_staging (name ∷ rest)) refl (sym (ap is_some (copy_below name rest)) ∙ h)
     where
-      by : (c : Bool) → has_staging (name ∷ rest) ≡ c → is_some (cond c None (old (copying.source ++ name ∷ rest))) ≡ true → (has_staging (name ∷ rest) ≡ false) × (is_some (old (copying.source ++ name ∷ rest)) ≡ true)
+      by : (c : Bool) → has_staging (name ∷ rest) ≡ c → is_some (cond c None (ready (copying.source ++ name ∷ rest))) ≡ true → (has_staging (name ∷ rest) ≡ false) × (is_some (ready (copying.source ++ name ∷ rest)) ≡ true)
       by true e g = impossible g
       by false e g = (e, g)
 
@@ -111,13 +173,13 @@ module _ (now : ℕ) (copying : Copying) (adjust : list_all is_adjustment copyin
   copied_dir [] name back h =
       let there = copied_there name back h in
       ap is_dir copy_top ∙ ap (λ (y : Body). is_directory y.kind) (topped_body copying b)
-      ∙ sym (ap is_dir present)
-      ∙ shape.above copying.source (copying.source ++ name ∷ back) (source_plain (name ∷ back) there.0) (is_prefix-append copying.source (name ∷ back)) (longer copying.source name back) there.1
+      ∙ sym (ap is_dir (source_ready now copying adjust path unstaged plain_source t shape b present ∙ present))
+      ∙ ready_above copying.source (copying.source ++ name ∷ back) (source_plain (name ∷ back) there.0) (is_prefix-append copying.source (name ∷ back)) (longer copying.source name back) there.1
   copied_dir (first ∷ front) name back h =
       let there = copied_there first (front ++ name ∷ back) h in
       let plain : has_staging (first ∷ front) ≡ false = (neither (has_staging (first ∷ front)) (has_staging (name ∷ back)) (sym (has_staging-append (first ∷ front) (name ∷ back)) ∙ there.0)).0 in
-      ap is_dir (copy_below first front) ∙ ap (λ c. is_dir (cond c None (old (copying.source ++ first ∷ front)))) plain
-      ∙ shape.above (copying.source ++ first ∷ front) (copying.source ++ (first ∷ front ++ name ∷ back)) (source_plain (first ∷ front ++ name ∷ back) there.0) (source_above (first ∷ front) (name ∷ back))
+      ap is_dir (copy_below first front) ∙ ap (λ c. is_dir (cond c None (ready (copying.source ++ first ∷ front)))) plain
+      ∙ ready_above (copying.source ++ first ∷ front) (copying.source ++ (first ∷ front ++ name ∷ back)) (source_plain (first ∷ front ++ name ∷ back) there.0) (source_above (first ∷ front) (name ∷ back))
       (λ e. longer (copying.source ++ first ∷ front) name back (e ∙ sym (append_assoc copying.source (first ∷ front) (name ∷ back)))) there.1
 
   -- a directory that was there stays one, where it is adjusted
@@ -133,20 +195,11 @@ module _ (now : ℕ) (copying : Copying) (adjust : list_all is_adjustment copyin
   inside_dir turn (leaves kind e) front name back c d over h = ap (λ x. is_dir (after_turn x front c)) e ∙ over (sym (ap (λ x. is_some (after_turn x (front ++ name ∷ back) d)) e) ∙ h)
 
   dir_above : (p : Path) → has_staging p ≡ false → is_prefix p path ≡ true → p ≢ path → is_dir (left p) ≡ true
-  dir_above p plain high other = ap is_dir (at_outside p plain (rest_under-None path p (by (is_prefix path p) refl)) ∙ ap (λ c. filled c (old p)) high) ∙ at (old p) (pass p high other)
+  dir_above p plain high other = ap is_dir (at_outside p plain (rest_under-None path p (by (is_prefix path p) refl)) ∙ ap (λ c. filled c (old p)) high) ∙ high_dir p plain high other
     where
       by : (c : Bool) → is_prefix path p ≡ c → is_prefix path p ≡ false
       by true e = absurd (other (is_prefix-antisym p path high e))
       by false e = e
-
-      at : (c : Option Bare) → (is_some c ≡ true → is_dir c ≡ true) → is_dir (done (Make parent_bare) c) ≡ true
-      at None h = refl
-      at (Some x) h = h refl
-
-  keeps_dir : (above : Bool) (c : Option Bare) → is_dir c ≡ true → is_dir (filled above c) ≡ true
-  keeps_dir true None h = impossible h
-  keeps_dir true (Some x) h = h
-  keeps_dir false c h = h
 
   filled_there : (c : Option Bare) → is_some (filled false c) ≡ true → is_some c ≡ true
   filled_there c h = h
@@ -201,9 +254,6 @@ module _ (now : ℕ) (copying : Copying) (adjust : list_all is_adjustment copyin
           at false g h = ap is_dir (at_outside p plain_above f) ∙ keeps_dir (is_prefix p path) (old p) (shape.above p q plain above other (sym (ap (λ c. is_some (filled c (old q))) g) ∙ h))
 
   -- directories have no numbers
-  some_is : (u v : Bare) → Some u ≡ Some v → u ≡ v
-  some_is u v h = cc
-
   put_numbers : (rest : Path) (x : Bare) → copy_of copying (view_of (prepare now path t)) rest ≡ Some x → is_directory x.body.kind ≡ true → (x.body.major ≡ 0) × (x.body.minor ≡ 0)
   put_numbers [] x e h =
       let body : x.body ≡ b.body = ap (λ (y : Bare). y.body) (some_is x (topped copying b) (sym e ∙ copy_top)) ∙ topped_body copying b in
@@ -211,7 +261,7 @@ module _ (now : ℕ) (copying : Copying) (adjust : list_all is_adjustment copyin
       (ap (λ (y : Body). y.major) body ∙ numbers.0, ap (λ (y : Body). y.minor) body ∙ numbers.1)
   put_numbers (name ∷ rest) x e h =
       let there = copied_there name rest (ap is_some e) in
-      shape.plain (copying.source ++ name ∷ rest) x (source_plain (name ∷ rest) there.0) (sym (ap (λ c. cond c None (old (copying.source ++ name ∷ rest))) there.0) ∙ sym (copy_below name rest) ∙ e) h
+      ready_numbers (copying.source ++ name ∷ rest) x (source_plain (name ∷ rest) there.0) (sym (ap (λ c. cond c None (ready (copying.source ++ name ∷ rest))) there.0) ∙ sym (copy_below name rest) ∙ e) h
 
   set_numbers : (q : Path) → has_staging q ≡ false → (c : Option Bare) → old q ≡ c → (x : Bare) → run copying.sets c ≡ Some x → is_directory x.body.kind ≡ true → (x.body.major ≡ 0) × (x.body.minor ≡ 0)
   set_numbers q plain None f x e h = absurd (let no : None ≡ Some x = sym (adjusted_none copying.sets adjust) ∙ e in cc)
@@ -227,11 +277,6 @@ module _ (now : ℕ) (copying : Copying) (adjust : list_all is_adjustment copyin
   inside_numbers turn (becomes e) q (name ∷ rest) plain x f h = shape.plain q x plain (sym (ap (λ y. after_turn y (name ∷ rest) (old q)) e) ∙ f) h
   inside_numbers turn (leaves kind e) q rest plain x f h = shape.plain q x plain (sym (ap (λ y. after_turn y rest (old q)) e) ∙ f) h
 
-  filled_numbers : (q : Path) → has_staging q ≡ false → (above : Bool) (c : Option Bare) → old q ≡ c → (x : Bare) → filled above c ≡ Some x → is_directory x.body.kind ≡ true → (x.body.major ≡ 0) × (x.body.minor ≡ 0)
-  filled_numbers q plain true None f x e h = subst (λ (y : Bare). (y.body.major ≡ 0) × (y.body.minor ≡ 0)) (some_is parent_bare x e) (refl, refl)
-  filled_numbers q plain true (Some y) f x e h = shape.plain q x plain (f ∙ e) h
-  filled_numbers q plain false c f x e h = shape.plain q x plain (f ∙ e) h
-
   numbers_at : (q : Path) (x : Bare) → has_staging q ≡ false → left q ≡ Some x → is_directory x.body.kind ≡ true → (x.body.major ≡ 0) × (x.body.minor ≡ 0)
   numbers_at q x plain e h = by (rest_under path q) refl
     where
@@ -239,9 +284,48 @@ module _ (now : ℕ) (copying : Copying) (adjust : list_all is_adjustment copyin
       by None f = filled_numbers q plain (is_prefix q path) (old q) refl x (sym (at_outside q plain f) ∙ e) h
       by (Some rest) f = inside_numbers turn_there (copy_turns copying (view_of (prepare now path t)) path b.body.kind (bares_of (places (prepare now path t)) path)) q rest plain x (sym (at_inside q rest plain f) ∙ e) h
 
-  pub copied_shaped : IsShaped left
-  copied_shaped = record {
+  -- what is left has names
+  module _ (names : has_names path ≡ true) where
+    filled_named : (q : Path) → has_staging q ≡ false → (above : Bool) → is_prefix q path ≡ above → is_some (filled above (old q)) ≡ true → has_names q ≡ true
+    filled_named q plain true high there = has_names-prefix q path high names
+    filled_named q plain false high there = shape.named q plain there
+
+    ready_named : (q : Path) → has_staging q ≡ false → is_some (ready q) ≡ true → has_names q ≡ true
+    ready_named q plain there = by (ready_is q plain)
+      where
+        by : (ready q ≡ old q) ⊎ (IsAbove q path × (ready q ≡ filled true (old q))) → has_names q ≡ true
+        by (inl e) = shape.named q plain (sym (ap is_some e) ∙ there)
+        by (inr two) = has_names-prefix q path two.0.0 names
+
+    put_named : (rest : Path) → is_some (copy_of copying (view_of (prepare now path t)) rest) ≡ true → has_names (path ++ rest) ≡ true
+    put_named [] there = ap has_names (append-nil path) ∙ names
+    put_named (name ∷ rest) there =
+        let copied = copied_there name rest there in
+        let whole : has_names (copying.source ++ name ∷ rest) ≡ true = ready_named (copying.source ++ name ∷ rest) (source_plain (name ∷ rest) copied.0) copied.1 in
+        has_names-both path (name ∷ rest) names (both (has_names copying.source) (has_names (name ∷ rest)) (sym (has_names-append copying.source (name ∷ rest)) ∙ whole)).1
+
+    set_there : (c : Option Bare) → is_some (run copying.sets c) ≡ true → is_some c ≡ true
+    set_there None h = sym (ap is_some (adjusted_none copying.sets adjust)) ∙ h
+    set_there (Some x) h = refl
+
+    inside_named : (turn : Turn) → IsCopyTurn copying (view_of (prepare now path t)) turn → (q rest : Path) → has_staging q ≡ false → q ≡ path ++ rest → is_some (after_turn turn rest (old q)) ≡ true → has_names q ≡ true
+    inside_named turn (puts e) q rest plain at h = ap has_names at ∙ put_named rest (sym (ap (λ y. is_some (after_turn y rest (old q))) e) ∙ h)
+    inside_named turn (becomes e) q [] plain at h = shape.named q plain (set_there (old q) (sym (ap (λ y. is_some (after_turn y [] (old q))) e) ∙ h))
+    inside_named turn (becomes e) q (name ∷ rest) plain at h = shape.named q plain (sym (ap (λ y. is_some (after_turn y (name ∷ rest) (old q))) e) ∙ h)
+    inside_named turn (leaves kind e) q rest plain at h = shape.named q plain (sym (ap (λ y. is_some (after_turn y rest (old q))) e) ∙ h)
+
+    named_at : (q : Path) → has_staging q ≡ false → is_some (left q) ≡ true → has_names q ≡ true
+    named_at q plain there = by (rest_under path q) refl
+      where
+        by : (r : Option Path) → rest_under path q ≡ r → has_names q ≡ true
+        by None f = filled_named q plain (is_prefix q path) refl (sym (ap is_some (at_outside q plain f)) ∙ there)
+        by (Some rest) f = inside_named turn_there (copy_turns copying (view_of (prepare now path t)) path b.body.kind (bares_of (places (prepare now path t)) path)) q rest plain
+            (rest_under-Some path q rest f) (sym (ap is_some (at_inside q rest plain f)) ∙ there)
+
+  pub copied_shaped : has_names path ≡ true → IsShaped left
+  copied_shaped names = record {
     root = dir_above [] refl refl (λ e. named (sym e));
     above = over;
     plain = numbers_at;
+    named = named_at names;
   }

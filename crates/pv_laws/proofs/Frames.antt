@@ -1,18 +1,17 @@
--- What no line governs stays as it is, whatever is refused and wherever a run was cut short.
+-- What a line that copies nothing does not govern stays as it is, whatever is refused, and on its way.
 use Rattle.std.specs.Prelude.{◌≡◌, ◌⊎◌, ℕ, ◌+◌, ◌-◌, ◌<◌, ◌≤◌, Bool, true, false, not, cond, ◌&&◌, ◌||◌, List, [], ◌∷◌, length, take, filter, Option, Some, None, is_some}
 use Rattle.std.proofs.Common.{zero, suc, refl, sym, ap, subst, ◌∙◌, arith, inl, inr}
 use Rattle.std.proofs.Math.Seq.{take-append_seam}
 use Rattle.std.specs.FinMap as fin
-use Rattle.std.specs.List.{list_any, list_all, AllByRecursion}
+use Rattle.std.specs.List.{list_all, AllByRecursion}
 use Rattle.pv_path.specs.Paths.{Path, same_path, is_prefix, has_staging, same_path-decides}
 use Rattle.pv_path.proofs.PathLaws.{prefix_parts, prefix_whole}
-use Rattle.pv_steps.specs.Trees.{Files, places, IsTree}
+use Rattle.pv_steps.specs.Trees.{Files, places}
 use Rattle.pv_dress.specs.declared.bare.Bare.{Bare}
 use Rattle.pv_dress.specs.declared.operation.Test.{Test}
 use Rattle.pv_dress.specs.Dividing.{parts}
 use Rattle.pv_dress.specs.Nodes.{bares_of}
 use Rattle.pv_dress.specs.Operations.{run}
-use Rattle.pv_dress.proofs.OperationLaws.{bares_of-same}
 use Rattle.pv_lines.specs.declared.line.Line.{Line}
 use Rattle.pv_lines.specs.declared.line.LinePath.{LinePath}
 use Rattle.pv_lines.specs.Lines.{IsLine}
@@ -21,22 +20,21 @@ use Rattle.pv_table.specs.declared.deed.Deed.{Deed}
 use Rattle.pv_table.specs.declared.deed.Deed.TheVariants.{Create, Copy, Touch, Idle}
 use Rattle.pv_table.specs.declared.deed.Making.{Making}
 use Rattle.pv_table.specs.declared.deed.Touching.{Touching}
-use Rattle.pv_table.specs.Active.{in_create_order}
 use Rattle.pv_table.specs.Asked.{clears_below, made_at, operations}
 use Rattle.pv_table.specs.Asking.{asks}
-use Rattle.pv_table.specs.Created.{after_each, by_turn, by_line, created}
+use Rattle.pv_table.specs.Created.{after_each, by_turn, by_line}
 use Rattle.pv_table.specs.Effects.{carried_out, is_touched, turn_after}
 use Rattle.pv_table.specs.Pointwise.{touches}
 use Rattle.pv_table.specs.Reaching.{names, names_above, path_in, is_creating, is_deep, reaches_below, reaches, governs}
 use Rattle.pv_table.specs.Turns.{Refused, copied, refused_at}
-use Rattle.pv_laws.specs.Stopping.{CopiesNothing, IsMidway, Partway}
-use Rattle.pv_laws.proofs.Lines.{IsPlain, line_is_plain, made_literal, made_passes, turns_made, turns_touch, turns_idle, asked_made}
+use Rattle.pv_laws.specs.Stopping.{IsMidway}
+use Rattle.pv_laws.proofs.Lines.{IsPlain, made_literal, made_passes, turns_made, turns_touch, turns_idle, asked_made}
 use Rattle.pv_laws.proofs.Making.{IsShaped, clears_none, made_point}
-use Rattle.pv_laws.proofs.Orders.{all_in_order, all_tests}
+use Rattle.pv_laws.proofs.Orders.{all_tests}
 use Rattle.pv_laws.proofs.Prepared.{neither}
 use Rattle.pv_laws.proofs.Repeated.{IsAskedAt, object, parent, below, set, nothing, asked_at}
 use Rattle.pv_laws.proofs.Sets.{impossible, is_adjustment, IsMaking, line_is_making, adjusted_none}
-use Rattle.pv_laws.proofs.Shapes.{IsLike, adjusted_like, made_shaped, shape_same, shaped_like, tree_shaped}
+use Rattle.pv_laws.proofs.Shapes.{IsLike, adjusted_like, made_shaped, shape_same, shaped_like}
 use Rattle.pv_laws.proofs.Touching.{any_range, turn_open, touch_point, adjusts}
 
 -- ---- what a line does not govern it asks nothing of
@@ -68,7 +66,7 @@ named_above line p q named above other = any_range (λ k. names line (take k q))
         at (inr m) = omega (arith, m)
 
 -- whether a line reaches below what it names, by what it asks for
-deep_reaches : (line : Line) (d : Deed) → asks line ≡ d → is_deep d ≡ true → reaches_below line ≡ true
+pub deep_reaches : (line : Line) (d : Deed) → asks line ≡ d → is_deep d ≡ true → reaches_below line ≡ true
 deep_reaches line d e h = or_four (is_deep (asks line)) _ _ _ _ (ap is_deep e ∙ h)
   where
     or_four : (a b c x y : Bool) → a ≡ true → (a || b || c || x || y) ≡ true
@@ -134,7 +132,7 @@ pub record IsKept (line : Line) (t u : Files) : Type 0 where
   pub shape : IsShaped (bares_of (places u))
   pub frame : (q : Path) → has_staging q ≡ false → governs line q ≡ false → bares_of (places u) q ≡ bares_of (places t) q
 
-kept_same : (line : Line) (t : Files) → IsShaped (bares_of (places t)) → IsKept line t t
+pub kept_same : (line : Line) (t : Files) → IsShaped (bares_of (places t)) → IsKept line t t
 kept_same line t shape = record { shape = shape; frame = λ q plain free. refl }
 
 kept_then : (line : Line) (t u v : Files) → IsKept line t u → IsKept line u v → IsKept line t v
@@ -144,7 +142,7 @@ pub turn_refused : (now : ℕ) (line : Line) (path : Path) (t : Files) (place : 
 turn_refused now line path t place e = rw e
 
 -- where a turn is not refused, it is enough to look at what is carried out
-turn_kept : (now : ℕ) (line : Line) (path : Path) (t : Files) → IsShaped (bares_of (places t)) → (refused_at line path (places t) ≡ None → IsKept line t (carried_out now (asks line) path t)) → IsKept line t (turn_after now line path t)
+pub turn_kept : (now : ℕ) (line : Line) (path : Path) (t : Files) → IsShaped (bares_of (places t)) → (refused_at line path (places t) ≡ None → IsKept line t (carried_out now (asks line) path t)) → IsKept line t (turn_after now line path t)
 turn_kept now line path t shape done = by (refused_at line path (places t)) refl
   where
     by : (r : Option Refused) → refused_at line path (places t) ≡ r → IsKept line t (turn_after now line path t)
@@ -164,11 +162,11 @@ module _ (now : ℕ) (line : Line) (is : IsLine line) (plain_line : IsPlain line
       kept : refused_at line (path_in line.path) (places t) ≡ None → IsKept line t (carried_out now (Create making) (path_in line.path) t)
       kept free = record {
         shape = shape_same (λ q. run (made_at making (path_in line.path) q) (bares_of (places t) q)) (bares_of (places (carried_out now (Create making) (path_in line.path) t))) point (
-            made_shaped making is_making (path_in line.path) plain_line.unstaged (bares_of (places t)) shape (plain_line.rooted making e) (made_passes line making e (path_in line.path) t free));
+            made_shaped making is_making (path_in line.path) plain_line.unstaged (bares_of (places t)) shape (plain_line.rooted making e) (made_passes line making e (path_in line.path) t free) plain_line.named);
         frame = λ q plain away. point q plain ∙ ap (λ xs. run xs (bares_of (places t) q)) (sym (asked_made line making q e) ∙ asks_nothing line is q (ungoverned line q away));
       }
 
-  touch_kept : (touching : Touching) → asks line ≡ Touch touching → (path : Path) → names line path ≡ true → (t : Files) → IsShaped (bares_of (places t)) → IsKept line t (turn_after now line path t)
+  pub touch_kept : (touching : Touching) → asks line ≡ Touch touching → (path : Path) → names line path ≡ true → (t : Files) → IsShaped (bares_of (places t)) → IsKept line t (turn_after now line path t)
   touch_kept touching e path named t shape = turn_kept now line path t shape (λ free. subst (λ (d : Deed). IsKept line t (carried_out now d path t)) (sym e) kept)
     where
       adjust : list_all is_adjustment touching.sets ≡ true
@@ -213,57 +211,16 @@ module _ (now : ℕ) (line : Line) (is : IsLine line) (plain_line : IsPlain line
           (touches_kept touching e (filter (names line) (fin.keys t)) (all_tests (names line) (fin.keys t)) t shape)
       by Idle e = subst (λ paths. IsKept line t (after_each (by_turn now line) paths t)) (sym (turns_idle line t e)) (kept_same line t shape)
 
--- ---- runs
+-- ---- on its way
 
--- a line that was read, and copies nothing
-pub record IsOurs (line : Line) : Type 0 where
-  pub is : IsLine line
-  pub plain : IsPlain line
-
-pub all_ours : (lines : List Line) → AllByRecursion IsLine lines → AllByRecursion CopiesNothing lines → AllByRecursion IsOurs lines
-all_ours [] are none = tt
-all_ours (line ∷ lines) are none = (record { is = are.0; plain = line_is_plain line are.0 none.0 }, all_ours lines are.1 none.1)
-
-module _ (now : ℕ) (q : Path) (plain : has_staging q ≡ false) where
-  frame_all : (lines : List Line) (t : Files) → AllByRecursion IsOurs lines → AllByRecursion (λ line. governs line q ≡ false) lines → IsShaped (bares_of (places t)) → bares_of (places (after_each (by_line now) lines t)) q ≡ bares_of (places t) q
-  frame_all [] t ours free shape = refl
-  frame_all (line ∷ lines) t ours free shape =
-      let one = line_kept now line ours.0.is ours.0.plain t shape in
-      frame_all lines ((by_line now).after line t) ours.1 free.1 one.shape ∙ one.frame q plain free.0
-
-  pub midway_frame : (line : Line) → IsLine line → governs line q ≡ false → (old new : Option Bare) → IsMidway line q old new → new ≡ old
-  midway_frame line is away old new (IsMidway.piece k e) = e ∙ ap (λ xs. run (take k (parts xs)) old) (asks_nothing line is q (ungoverned line q away)) ∙ by k
-    where
-      by : (n : ℕ) → run (take n []) old ≡ old
-      by zero = refl
-      by (suc n) = refl
-  midway_frame line is away old new (IsMidway.gap b s renewal none) = absurd (
-      apart (names line q) (names_literal line is q free renewal.making renewal.makes q ∙ (same_path-decides (path_in line.path) q).1 renewal.at) free.unnamed)
-    where
-      free : IsFree line q
-      free = ungoverned line q away
-
-  frame_partway : (lines : List Line) (t u : Files) → AllByRecursion IsOurs lines → AllByRecursion (λ line. governs line q ≡ false) lines → IsShaped (bares_of (places t)) → Partway lines now t u → bares_of (places u) q ≡ bares_of (places t) q
-  frame_partway [] t u ours free shape same = sym (bares_of-same (places t) (places u) q (same q plain))
-  frame_partway (line ∷ lines) t u ours free shape (inl way) = midway_frame line ours.0.is free.0 (bares_of (places t) q) (bares_of (places u) q) (way q plain)
-  frame_partway (line ∷ lines) t u ours free shape (inr later) =
-      let one = line_kept now line ours.0.is ours.0.plain t shape in
-      frame_partway lines ((by_line now).after line t) u ours.1 free.1 one.shape later ∙ one.frame q plain free.0
-
-  all_free : (lines : List Line) → list_any (λ line. governs line q) lines ≡ false → AllByRecursion (λ line. governs line q ≡ false) lines
-  all_free [] h = tt
-  all_free (line ∷ lines) h = let two = neither (governs line q) (list_any (λ l. governs l q) lines) h in (two.0, all_free lines two.1)
-
-  module _ (lines : List Line) (are : AllByRecursion IsLine lines) (none : AllByRecursion CopiesNothing lines) (free : list_any (λ line. governs line q) lines ≡ false) (t : Files) (tree : IsTree t) where
-    ours : AllByRecursion IsOurs (in_create_order lines)
-    ours = all_in_order IsOurs lines (all_ours lines are none)
-
-    all_away : AllByRecursion (λ (line : Line). governs line q ≡ false) (in_create_order lines)
-    all_away = all_in_order (λ (line : Line). governs line q ≡ false) lines (all_free lines free)
-
-    -- a whole run, and one that was cut short
-    pub run_frame : bares_of (places (created lines now t)) q ≡ bares_of (places t) q
-    run_frame = frame_all (in_create_order lines) t ours all_away (tree_shaped (places t) tree)
-
-    pub stopped_frame : (u : Files) → Partway (in_create_order lines) now t u → bares_of (places u) q ≡ bares_of (places t) q
-    stopped_frame u way = frame_partway (in_create_order lines) t u ours all_away (tree_shaped (places t) tree) way
+pub midway_frame : (line : Line) → IsLine line → (q : Path) → has_staging q ≡ false → governs line q ≡ false → (old new : Option Bare) → IsMidway line q old new → new ≡ old
+midway_frame line is q plain away old new (IsMidway.piece k e) = e ∙ ap (λ xs. run (take k (parts xs)) old) (asks_nothing line is q (ungoverned line q away)) ∙ by k
+  where
+    by : (n : ℕ) → run (take n []) old ≡ old
+    by zero = refl
+    by (suc n) = refl
+midway_frame line is q plain away old new (IsMidway.gap b s renewal none) = absurd (
+    apart (names line q) (names_literal line is q free renewal.making renewal.makes q ∙ (same_path-decides (path_in line.path) q).1 renewal.at) free.unnamed)
+  where
+    free : IsFree line q
+    free = ungoverned line q away

@@ -3,7 +3,7 @@ use Rattle.std.specs.Prelude.{◌≡◌, ◌≢◌, ◌⊎◌, ℕ, Bool, true, 
 use Rattle.std.proofs.Common.{refl, sym, ap, subst, ◌∙◌, inl, inr}
 use Rattle.std.specs.List.{list_all, AllByRecursion}
 use Rattle.std.specs.FinMap as fin
-use Rattle.pv_path.specs.Paths.{Path, is_prefix, has_staging}
+use Rattle.pv_path.specs.Paths.{has_names, Path, is_prefix, has_staging}
 use Rattle.pv_steps.specs.declared.node.Kind.{Kind}
 use Rattle.pv_steps.specs.declared.node.Kind.TheVariants.{Directory}
 use Rattle.pv_steps.specs.declared.object.Object.{Object}
@@ -179,6 +179,14 @@ module _ (line : Line) (is : IsLine line) where
       by (Literal path) fits c = refl
       by (Glob pattern) fits c = impossible (sym fits.0 ∙ c)
 
+  -- the path that a line names, where it names one, has names
+  pub path_named : has_names (path_in line.path) ≡ true
+  path_named = by line.path is.fits.path
+    where
+      by : (p : LinePath) → IsLinePath is.row p → has_names (path_in p) ≡ true
+      by (Literal path) h = h.1.names
+      by (Glob pattern) h = refl
+
   pub copy_path : (copying : Copying) → asks line ≡ Copy copying → (has_staging (path_in line.path) ≡ false) × (path_in line.path ≢ [])
   copy_path copying e = (plain line.path is.fits.path, λ none. impossible (sym (copy_creates copying e).1 ∙ (is.fits.root (at_root line.path is.fits.path (copy_creates copying e).0 none)).0))
     where
@@ -198,27 +206,34 @@ module _ (line : Line) (is : IsLine line) where
     ((λ h. absurd h), ((λ h. absurd h), ((λ h. absurd h), ((λ h. absurd h), ((λ h. absurd h), ((λ h. absurd h), ((λ h. absurd h), ((λ h. absurd h), ((λ h. absurd h), ((λ h. absurd h), ((λ h. h), ((λ h. absurd h), ((λ h. absurd h), ((λ h. absurd h), ((λ h. absurd h), ((λ h. absurd h), ((λ h. absurd h), ((λ h. absurd h), ((λ h. absurd h), ((λ h. absurd h), ((λ h. absurd h), ((λ h. absurd h), ((λ h. absurd h), ((λ h. absurd h), ((λ h. absurd h), tt))))))))))))))))))))))))),
   )
 
-  pub copy_source : (copying : Copying) → asks line ≡ Copy copying → has_staging copying.source ≡ false
-  copy_source copying e = ap (λ (d : Deed). has_staging (unwrap_or (copied d) [])) (sym e) ∙ by (asked line)
+  -- what is read as a source, or the root
+  source_read : (test : Path → Bool) (b : Bool) → test [] ≡ b → ((source : Path) → IsConfigured source → test source ≡ b) → (copying : Copying) → asks line ≡ Copy copying → test copying.source ≡ b
+  source_read test b root read copying e = ap (λ (d : Deed). test (unwrap_or (copied d) [])) (sym e) ∙ by (asked line)
     where
-      plain : (a : Argument) → IsArgument is.row.wanted a → has_staging (source_of a) ≡ false
-      plain (argument.FileBytes bytes) h = refl
-      plain (argument.WriteBytes bytes) h = refl
-      plain (argument.Target target) h = refl
-      plain (argument.Source source) h = (source_configured source h).unstaged
-      plain (argument.Device major minor) h = refl
-      plain (argument.Entries entries) h = refl
-      plain (argument.Attrs attrs) h = refl
-      plain (argument.Letters how letters) h = refl
-      plain argument.Ignored h = refl
+      plain : (a : Argument) → IsArgument is.row.wanted a → test (source_of a) ≡ b
+      plain (argument.FileBytes bytes) h = root
+      plain (argument.WriteBytes bytes) h = root
+      plain (argument.Target target) h = root
+      plain (argument.Source source) h = read source (source_configured source h)
+      plain (argument.Device major minor) h = root
+      plain (argument.Entries entries) h = root
+      plain (argument.Attrs attrs) h = root
+      plain (argument.Letters how letters) h = root
+      plain argument.Ignored h = root
 
-      by : IsAsked line (asks line) → has_staging (unwrap_or (copied (asks line)) []) ≡ false
-      by (makes what file f) = ap (λ (d : Deed). has_staging (unwrap_or (copied d) [])) f
-      by (copies f) = ap (λ (d : Deed). has_staging (unwrap_or (copied d) [])) f ∙ plain line.argument is.fits.argument
-      by (sets_owners deep wanted guard f) = ap (λ (d : Deed). has_staging (unwrap_or (copied d) [])) f
-      by (writes f) = ap (λ (d : Deed). has_staging (unwrap_or (copied d) [])) f
-      by (sets deep f) = ap (λ (d : Deed). has_staging (unwrap_or (copied d) [])) f
-      by (idle f) = ap (λ (d : Deed). has_staging (unwrap_or (copied d) [])) f
+      by : IsAsked line (asks line) → test (unwrap_or (copied (asks line)) []) ≡ b
+      by (makes what file f) = ap (λ (d : Deed). test (unwrap_or (copied d) [])) f ∙ root
+      by (copies f) = ap (λ (d : Deed). test (unwrap_or (copied d) [])) f ∙ plain line.argument is.fits.argument
+      by (sets_owners deep wanted guard f) = ap (λ (d : Deed). test (unwrap_or (copied d) [])) f ∙ root
+      by (writes f) = ap (λ (d : Deed). test (unwrap_or (copied d) [])) f ∙ root
+      by (sets deep f) = ap (λ (d : Deed). test (unwrap_or (copied d) [])) f ∙ root
+      by (idle f) = ap (λ (d : Deed). test (unwrap_or (copied d) [])) f ∙ root
+
+  pub copy_source : (copying : Copying) → asks line ≡ Copy copying → has_staging copying.source ≡ false
+  copy_source = source_read has_staging false refl (λ source is. is.unstaged)
+
+  pub source_named : (copying : Copying) → asks line ≡ Copy copying → has_names copying.source ≡ true
+  source_named = source_read has_names true refl (λ source is. is.names)
 
   -- and so the line that makes an object names one path
   pub made_literal : (making : Making) → asks line ≡ Create making → line.path ≡ Literal (path_in line.path)
@@ -236,9 +251,11 @@ module _ (line : Line) (is : IsLine line) where
       by (Literal path) fits g = fits.0
       by (Glob pattern) fits g = impossible g
 
--- a line that copies nothing, as the laws need it: its path has no staging name, and at the root it makes a directory
+-- a line that copies nothing, as the laws need it: its path has names and no staging name, and at the root it makes a
+-- directory
 pub record IsPlain (line : Line) : Type 0 where
   pub no_copy : copied (asks line) ≡ None
+  pub named : has_names (path_in line.path) ≡ true
   pub unstaged : has_staging (path_in line.path) ≡ false
   pub rooted : (making : Making) → asks line ≡ Create making → path_in line.path ≡ [] → is_directory (new_kind making.new.what) ≡ true
 
@@ -246,6 +263,7 @@ pub record IsPlain (line : Line) : Type 0 where
 pub line_is_plain : (line : Line) → IsLine line → copied (asks line) ≡ None → IsPlain line
 line_is_plain line is none = record {
   no_copy = none;
+  named = path_named line is;
   unstaged = unstaged line.path is.fits.path;
   rooted = λ making e at. root_is_directory line is making e (is.fits.root (rooted line.path is.fits.path (made_creates line is making e) at)).0;
 }
@@ -344,7 +362,7 @@ module _ (now : ℕ) (line : Line) (is : IsPlain line) (t : Files) (shape : IsSh
       shaped : IsShaped (bares_of (places (left_by (path ∷ []))))
       shaped = shape_same (λ q. run (made_at making path q) (bares_of (places t) q)) (bares_of (places (left_by (path ∷ [])))) made (
           made_shaped making is_making path is.unstaged (bares_of (places t)) shape (is.rooted making e)
-          (made_passes line making e path t free))
+          (made_passes line making e path t free) is.named)
 
   touch_line : (touching : Touching) → asks line ≡ Touch touching → IsQuietAt (filter (names line) (fin.keys t)) → IsPointwise line t (left_by (filter (names line) (fin.keys t)))
   touch_line touching e quiet = record { point = point; shape = shaped_like (bares_of (places t)) (bares_of (places (left_by (filter (names line) (fin.keys t))))) like shape }

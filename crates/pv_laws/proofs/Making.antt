@@ -7,7 +7,7 @@ use Rattle.std.specs.FinMap as fin
 use Rattle.std.specs.List.{list_all}
 use Rattle.std.specs.Option.{option_map_or}
 use Rattle.std.specs.Str.{bytes_eq}
-use Rattle.pv_path.specs.Paths.{Path, same_path, is_prefix, rest_under, parent_of, has_staging, same_path-decides}
+use Rattle.pv_path.specs.Paths.{has_names, Path, same_path, is_prefix, rest_under, parent_of, has_staging, same_path-decides}
 use Rattle.pv_path.proofs.PathLaws.{same_path-refl, is_prefix-antisym, rest_under-self, rest_under-None, rest_under-Some, prefix_rest}
 use Rattle.pv_steps.specs.declared.node.Kind.{Kind}
 use Rattle.pv_steps.specs.declared.node.Kind.TheVariants.{Directory, File, Link, Fifo, CharDevice, BlockDevice}
@@ -44,11 +44,29 @@ use Rattle.pv_laws.proofs.Sets.{impossible, is_adjustment, IsMaking, adjusted_no
 abbrev pub is_dir : Option Bare → Bool
 is_dir b = option_map_or (λ x. is_directory x.body.kind) b false
 
--- the root is a directory, what stands at a path without a staging name lies in directories, and these have no numbers
+-- the root is a directory, what stands at a path without a staging name lies in directories, its path has names, and
+-- directories have no numbers
 pub record IsShaped (b : Path → Option Bare) : Type 0 where
   pub root : is_dir (b []) ≡ true
   pub above : (p q : Path) → has_staging q ≡ false → is_prefix p q ≡ true → p ≢ q → is_some (b q) ≡ true → is_dir (b p) ≡ true
   pub plain : (q : Path) (x : Bare) → has_staging q ≡ false → b q ≡ Some x → is_directory x.body.kind ≡ true → (x.body.major ≡ 0) × (x.body.minor ≡ 0)
+  pub named : (q : Path) → has_staging q ≡ false → is_some (b q) ≡ true → has_names q ≡ true
+
+-- so nothing stands at a path that has no names
+pub nothing_unnamed : (b : Path → Option Bare) → IsShaped b → (q : Path) → has_staging q ≡ false → has_names q ≡ false → b q ≡ None
+nothing_unnamed b shape q plain none = by (b q) refl
+  where
+    by : (o : Option Bare) → b q ≡ o → b q ≡ None
+    by None e = e
+    by (Some x) e = impossible (sym none ∙ shape.named q plain (ap is_some e))
+
+-- and two that have the shape agree there
+pub same_unnamed : (a b : Path → Option Bare) → IsShaped a → IsShaped b → (q : Path) → has_staging q ≡ false → (has_names q ≡ true → a q ≡ b q) → a q ≡ b q
+same_unnamed a b shape_a shape_b q plain same = by (has_names q) refl
+  where
+    by : (t : Bool) → has_names q ≡ t → a q ≡ b q
+    by true e = same e
+    by false e = nothing_unnamed a shape_a q plain e ∙ sym (nothing_unnamed b shape_b q plain e)
 
 pub dir_there : (b : Option Bare) → is_dir b ≡ true → is_some b ≡ true
 dir_there None h = impossible h

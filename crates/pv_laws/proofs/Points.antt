@@ -1,5 +1,5 @@
 -- The definition of what lines leave at each path by itself gives what they leave, stamps and staging names aside.
-use Rattle.std.specs.Prelude.{◌≡◌, ◌≢◌, ℕ, Bool, true, false, not, cond, ◌&&◌, ◌||◌, List, [], ◌∷◌, ◌++◌, length, take, fold, Option, Some, None, is_some, option_map, unwrap_or}
+use Rattle.std.specs.Prelude.{◌≡◌, ◌≢◌, ℕ, Bool, true, false, not, cond, ◌&&◌, ◌||◌, List, [], ◌∷◌, ◌++◌, take, Option, Some, None, is_some, option_map, unwrap_or}
 use Rattle.std.proofs.Common.{zero, suc, refl, sym, ap, subst, ◌∙◌, inl, inr}
 use Rattle.std.proofs.lemmas.List.{append-nil}
 use Rattle.std.specs.FinMap as fin
@@ -11,39 +11,32 @@ use Rattle.std.specs.declared.cmp.Ordering.{Ordering}
 use Rattle.std.specs.declared.cmp.Ordering.TheVariants.{Equal}
 use Rattle.pv_path.specs.Paths.{Path, path_cmp, path_total, same_path, is_prefix, rest_under, has_staging, same_path-decides}
 use Rattle.pv_path.proofs.PathLaws.{path_cmp-exact, rest_under-self, rest_under-Some, is_some-rest_under}
-use Rattle.pv_steps.specs.Trees.{Files, places, IsTree}
+use Rattle.pv_steps.specs.Trees.{Files}
 use Rattle.pv_steps.proofs.StepLaws.{is_among}
 use Rattle.pv_dress.specs.declared.bare.Bare.{Bare}
 use Rattle.pv_dress.specs.declared.operation.Operation.{Operation}
 use Rattle.pv_dress.specs.declared.operation.Operation.TheVariants.{Make, Erase}
-use Rattle.pv_dress.specs.Nodes.{bares_of}
 use Rattle.pv_dress.specs.Operations.{done, run}
 use Rattle.pv_dress.proofs.EditLaws.{path_cases, same_path-no}
 use Rattle.pv_lines.specs.declared.line.Line.{Line}
-use Rattle.pv_lines.specs.Lines.{IsLine}
 use Rattle.pv_walk.proofs.RemovalLaws.{apart}
 use Rattle.pv_walk.specs.Preparing.{parents_of}
 use Rattle.pv_table.specs.declared.deed.Deed.{Deed}
 use Rattle.pv_table.specs.declared.deed.Deed.TheVariants.{Create, Copy, Touch, Idle}
 use Rattle.pv_table.specs.declared.deed.Making.{Making}
 use Rattle.pv_table.specs.declared.deed.Touching.{Touching}
-use Rattle.pv_table.specs.Active.{in_create_order}
 use Rattle.pv_table.specs.Asked.{clears_below, made_at, operations}
 use Rattle.pv_table.specs.Asking.{asks}
-use Rattle.pv_table.specs.Created.{after_each, one_is_refused, by_line, created, IsQuiet}
-use Rattle.pv_table.specs.Pointwise.{Bares, tabulated, parent_bare, after_turn, at_made, touches, point, point_paths, pointwise_after, state}
+use Rattle.pv_table.specs.Created.{one_is_refused, by_line}
+use Rattle.pv_table.specs.Pointwise.{Bares, tabulated, parent_bare, after_turn, at_made, touches, point, point_paths}
 use Rattle.pv_table.specs.Reaching.{path_in}
 use Rattle.pv_table.specs.Repeatable.{sets_of}
 use Rattle.pv_table.specs.Turns.{copied, making_turn}
-use Rattle.pv_laws.specs.Moments.{Agree}
-use Rattle.pv_laws.specs.Stopping.{CopiesNothing}
-use Rattle.pv_laws.proofs.Lines.{IsPlain, line_point, asked_made, asked_touch, asked_idle}
+use Rattle.pv_laws.proofs.Lines.{IsPlain, asked_made, asked_touch, asked_idle}
 use Rattle.pv_laws.proofs.Making.{is_dir, IsShaped, dir_there, asked_here, asked_above, asked_else, object_after, below_after}
 use Rattle.pv_laws.proofs.Prepared.{neither, has_some, in_parents, among_first, among_later, among_left, among_right}
 use Rattle.pv_laws.proofs.Repeated.{IsAskedAt, object, parent, below, set, nothing, asked_at}
 use Rattle.pv_laws.proofs.Sets.{impossible, is_adjustment, IsMaking, line_is_making, adjusted_none, asked, sets_adjust}
-use Rattle.pv_laws.proofs.Shapes.{shape_same, tree_shaped}
-use Rattle.pv_laws.proofs.Stops.{in_order_plain}
 
 -- ---- maps from functions
 
@@ -218,20 +211,7 @@ module _ (line : Line) (is : IsPlain line) (s : Bares) (shape : IsShaped (fin.ge
       by None e = new e (asked_at line q)
       by (Some x) e = keyed (ap is_some e)
 
-  pub pointwise_asked : fin.get (pointwise_after s line) q ≡ run (operations line q) (fin.get s q)
-  pointwise_asked = get-tabulated (point_paths line s ++ fin.keys s) (point line s) q (λ h. listed (sym (ap is_some point_asked) ∙ h)) ∙ point_asked
-
--- ---- lines one after the other
-
-pub points_after : (now : ℕ) (lines : List Line) (s : Bares) (t : Files) → AllByRecursion IsPlain lines → IsShaped (bares_of (places t)) → one_is_refused (by_line now) lines t ≡ false → Agree s t
-    → Agree (fold pointwise_after s lines) (after_each (by_line now) lines t)
-points_after now [] s t are shape quiet agree = agree
-points_after now (line ∷ lines) s t are shape quiet agree =
-    let two = neither ((by_line now).is_refused line t) (one_is_refused (by_line now) lines ((by_line now).after line t)) quiet in
-    let one = line_point now line are.0 t shape two.0 in
-    points_after now lines (pointwise_after s line) ((by_line now).after line t) are.1 one.shape two.1 (λ q plain.
-    pointwise_asked line are.0 s (shape_same (bares_of (places t)) (fin.get s) agree shape) q plain
-    ∙ ap (run (operations line q)) (agree q plain) ∙ sym (one.point q plain))
+-- ---- the first of several lines
 
 pub all_front : {A : Type 0} (P : A → Type 0) (k : ℕ) (xs : List A) → AllByRecursion P xs → AllByRecursion P (take k xs)
 all_front P zero xs h = tt
@@ -244,16 +224,3 @@ quiet_front now (suc k) [] t quiet = refl
 quiet_front now (suc k) (line ∷ lines) t quiet =
     let two = neither ((by_line now).is_refused line t) (one_is_refused (by_line now) lines ((by_line now).after line t)) quiet in
     ap (λ b. b || one_is_refused (by_line now) (take k lines) ((by_line now).after line t)) two.0 ∙ quiet_front now k lines ((by_line now).after line t) two.1
-
-module _ (lines : List Line) (are : AllByRecursion IsLine lines) (none : AllByRecursion CopiesNothing lines) (now : ℕ) (s : Bares) (t : Files) (tree : IsTree t) (quiet : IsQuiet lines now t) (agree : Agree s t) where
-  -- after the first lines
-  pub state_after : (k : ℕ) → Agree (state lines k s) (after_each (by_line now) (take k (in_create_order lines)) t)
-  state_after k = points_after now (take k (in_create_order lines)) s t (all_front IsPlain k (in_create_order lines) (in_order_plain lines are none)) (tree_shaped (places t) tree) (quiet_front now k (in_create_order lines) t quiet) agree
-
-  -- and after all
-  pub state_whole : Agree (state lines (length (in_create_order lines)) s) (created lines now t)
-  state_whole q plain = state_after (length (in_create_order lines)) q plain ∙ ap (λ ls. bares_of (places (after_each (by_line now) ls t)) q) (take_whole (in_create_order lines))
-    where
-      take_whole : (xs : List Line) → take (length xs) xs ≡ xs
-      take_whole [] = refl
-      take_whole (x ∷ xs) = ap (λ ys. x ∷ ys) (take_whole xs)

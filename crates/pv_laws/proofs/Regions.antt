@@ -65,7 +65,7 @@ module _ (now : ℕ) (line : Line) (safe : IsSafe line) (copying : Copying) (e :
       by None f = inl (ap (λ (u : Files). bares_of (places u) q) (opened ∙ copy_idle now copying (path_in line.path) t (sym (bare_some (places t copying.source)) ∙ ap is_some f)))
       by (Some b) f = inr (
           ap (λ (u : Files). bares_of (places u) q) opened
-          ∙ at_outside now copying (subst (λ d. list_all is_adjustment (sets_of d) ≡ true) e (sets_adjust line (asks line) (asked line))) (path_in line.path) (copy_path line safe.is copying e).0 (copy_source line safe.is copying e) (safe.away copying e) t shape b f
+          ∙ at_outside now copying (subst (λ d. list_all is_adjustment (sets_of d) ≡ true) e (sets_adjust line (asks line) (asked line))) (path_in line.path) (copy_path line safe.is copying e).0 (copy_source line safe.is copying e) t shape b f
           (copy_path line safe.is copying e).1 (copy_passes line copying e t open_path (sym (bare_some (places t copying.source)) ∙ ap is_some f)) q plain (rest_under-None (path_in line.path) q outside))
 
 -- ---- an object that is no directory

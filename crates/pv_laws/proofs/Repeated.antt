@@ -4,7 +4,7 @@ use Rattle.std.proofs.Common.{refl, sym, ap, subst, ◌∙◌, arith, inl, inr}
 use Rattle.std.specs.List.{list_any, list_all, flat_map, enumerate_from, AllByRecursion}
 use Rattle.std.proofs.lemmas.Grind.{flat_map-append}
 use Rattle.std.proofs.lemmas.List.Folds.{list_any-append, list_all-append}
-use Rattle.pv_path.specs.Paths.{Path, same_path, is_prefix, has_staging, same_path-decides}
+use Rattle.pv_path.specs.Paths.{has_names, Path, same_path, is_prefix, has_staging, same_path-decides}
 use Rattle.pv_path.proofs.PathLaws.{is_prefix-refl}
 use Rattle.pv_dress.specs.declared.operation.Change.{Change}
 use Rattle.pv_dress.specs.declared.operation.Operation.{Operation}
@@ -87,7 +87,7 @@ first_makes making is = by making.renew refl
     by (Some t) e = (ap is_make (first_renew making is t e), λ test. ap (is_adjusting test) (first_renew making is t e))
 
 -- what a line changes somewhere, it sets
-asked_sets : (test : Change → Bool) (line : Line) (q : Path) → list_any (is_adjusting test) (operations line q) ≡ true → list_any (is_adjusting test) (sets_of (asks line)) ≡ true
+pub asked_sets : (test : Change → Bool) (line : Line) (q : Path) → list_any (is_adjusting test) (operations line q) ≡ true → list_any (is_adjusting test) (sets_of (asks line)) ≡ true
 asked_sets test line q h = by (asked_at line q)
   where
     by : IsAskedAt line q → list_any (is_adjusting test) (sets_of (asks line)) ≡ true
@@ -101,7 +101,7 @@ asked_sets test line q h = by (asked_at line q)
     by (nothing f) = impossible (sym (ap (list_any (is_adjusting test)) f) ∙ h)
 
 -- and it reaches it
-asked_reaches : (test : Change → Bool) (line : Line) → IsLine line → (q : Path) → list_any (is_adjusting test) (operations line q) ≡ true → reaches line q ≡ true
+pub asked_reaches : (test : Change → Bool) (line : Line) → IsLine line → (q : Path) → list_any (is_adjusting test) (operations line q) ≡ true → reaches line q ≡ true
 asked_reaches test line is q h = by (asked_at line q)
   where
     own : (line_path : LinePath) → IsLinePath is.row line_path → is.row.creates ≡ true → path_in line_path ≡ q → names (record line { path = line_path }) q ≡ true
@@ -148,15 +148,15 @@ asked_parts (line ∷ lines) q = ap (λ xs. parts (operations line q) ++ xs) (as
 
 module _ (q : Path) where
   -- the same of lines with their places
-  abbrev listed_asked : List Listed → List Operation
+  abbrev pub listed_asked : List Listed → List Operation
   listed_asked lines = flat_map (λ line. operations line.1 q) lines
 
-  unlisted : (lines : List Listed) → all_asked (map (λ (line : Listed). line.1) lines) q ≡ listed_asked lines
+  pub unlisted : (lines : List Listed) → all_asked (map (λ (line : Listed). line.1) lines) q ≡ listed_asked lines
   unlisted [] = refl
   unlisted (line ∷ lines) = ap (λ xs. operations line.1 q ++ xs) (unlisted lines)
 
   -- which line an operation comes from
-  some_line : (P : Listed → Type 0) (test : Operation → Bool) (lines : List Listed) → AllByRecursion P lines → list_any test (listed_asked lines) ≡ true → (line : Listed) × P line × (list_any test (operations line.1 q) ≡ true)
+  pub some_line : (P : Listed → Type 0) (test : Operation → Bool) (lines : List Listed) → AllByRecursion P lines → list_any test (listed_asked lines) ≡ true → (line : Listed) × P line × (list_any test (operations line.1 q) ≡ true)
   some_line P test [] all h = impossible h
   some_line P test (line ∷ lines) all h = by (list_any test (operations line.1 q)) refl (some_line P test lines all.1) (sym (list_any-append test (operations line.1 q) (listed_asked lines)) ∙ h)
     where
@@ -167,13 +167,13 @@ module _ (q : Path) where
 
   -- ---- makes come first
 
-  touch_adjusts : (line : Line) (touching : Touching) → asks line ≡ Touch touching → is_touching line ≡ true
+  pub touch_adjusts : (line : Line) (touching : Touching) → asks line ≡ Touch touching → is_touching line ≡ true
   touch_adjusts line touching e = rw e
 
-  create_adjusts_not : (line : Line) (making : Making) → asks line ≡ Create making → is_touching line ≡ false
+  pub create_adjusts_not : (line : Line) (making : Making) → asks line ≡ Create making → is_touching line ≡ false
   create_adjusts_not line making e = rw e
 
-  copy_adjusts_not : (line : Line) (copying : Copying) → asks line ≡ Copy copying → is_touching line ≡ false
+  pub copy_adjusts_not : (line : Line) (copying : Copying) → asks line ≡ Copy copying → is_touching line ≡ false
   copy_adjusts_not line copying e = rw e
 
   idle_adjusts_not : (line : Line) → asks line ≡ Idle → is_touching line ≡ false
@@ -223,7 +223,7 @@ module _ (q : Path) where
       by (nothing f) rest = subst BeginsWithMake (sym (ap (λ xs. xs ++ listed_asked lines) f)) (rest two.1)
 
   -- lines that adjust ask for adjustments alone
-  adjuster_adjusts : (line : Line) → is_touching line ≡ true → list_all is_adjustment (operations line q) ≡ true
+  pub adjuster_adjusts : (line : Line) → is_touching line ≡ true → list_all is_adjustment (operations line q) ≡ true
   adjuster_adjusts line h = by (asks line) refl
     where
       at : (touching : Touching) → asks line ≡ Touch touching → (b : Bool) → list_all is_adjustment (cond b touching.sets []) ≡ true
@@ -269,7 +269,7 @@ module _ (q : Path) where
 
 -- ---- where no line has a reason
 
-some_or_none : (b : Bool) → (b ≡ true → ⊥) → b ≡ false
+pub some_or_none : (b : Bool) → (b ≡ true → ⊥) → b ≡ false
 some_or_none true h = absurd (h refl)
 some_or_none false h = refl
 
@@ -296,15 +296,15 @@ module _ (lines : List Line) (are : AllByRecursion IsLine lines) (distinct : are
       repeatable found.0.0 reason.Append (HasReason.append found.0.1 found.1.at (asked_sets is_append found.0.1 q found.2))))
 
   -- masked modes and base entries do not meet
-  slices_same : (i j : ℕ) (a b : Line) → i ≡ j → IsAt lines i a → IsAt lines j b → a ≡ b
+  pub slices_same : (i j : ℕ) (a b : Line) → i ≡ j → IsAt lines i a → IsAt lines j b → a ≡ b
   slices_same i j a b e h g = same (sym h ∙ ap (slice_get lines) e ∙ g)
     where
       same : Some a ≡ Some b → a ≡ b
       same k = cc
 
-  mixed_none : list_any (is_adjusting is_masked) (flat_map (λ (line : Listed). operations line.1 q) (ordered (enumerate_from 0 lines))) ≡ true
+  mixed_none : has_names q ≡ true → list_any (is_adjusting is_masked) (flat_map (λ (line : Listed). operations line.1 q) (ordered (enumerate_from 0 lines))) ≡ true
       → list_any (is_adjusting gives_base) (flat_map (λ (line : Listed). operations line.1 q) (ordered (enumerate_from 0 lines))) ≡ true → ⊥
-  mixed_none m g = by (zero_or_more (a.0.0 - b.0.0)) (zero_or_more (b.0.0 - a.0.0))
+  mixed_none named m g = by (zero_or_more (a.0.0 - b.0.0)) (zero_or_more (b.0.0 - a.0.0))
     where
       a : (line : Listed) × IsListed line × (list_any (is_adjusting is_masked) (operations line.1 q) ≡ true)
       a = some_line q IsListed (is_adjusting is_masked) (ordered (enumerate_from 0 lines)) in_order m
@@ -331,11 +331,11 @@ module _ (lines : List Line) (are : AllByRecursion IsLine lines) (distinct : are
 
       by : (a.0.0 - b.0.0 ≡ 0) ⊎ (1 ≤ a.0.0 - b.0.0) → (b.0.0 - a.0.0 ≡ 0) ⊎ (1 ≤ b.0.0 - a.0.0) → ⊥
       by (inl z) (inl y) = both_in_one (slices_same a.0.0 b.0.0 a.0.1 b.0.1 (omega (arith, z, y)) a.1.at b.1.at)
-      by (inr z) y = repeatable a.0.0 reason.Mask (HasReason.mask a.0.1 b.0.1 b.0.0 q a.1.at b.1.at (omega (arith, z)) (reached_second, reached_first) (inr (base, masked)))
-      by (inl z) (inr y) = repeatable b.0.0 reason.Mask (HasReason.mask b.0.1 a.0.1 a.0.0 q b.1.at a.1.at (omega (arith, y)) (reached_first, reached_second) (inl (masked, base)))
+      by (inr z) y = repeatable a.0.0 reason.Mask (HasReason.mask a.0.1 b.0.1 b.0.0 q a.1.at b.1.at (omega (arith, z)) named (reached_second, reached_first) (inr (base, masked)))
+      by (inl z) (inr y) = repeatable b.0.0 reason.Mask (HasReason.mask b.0.1 a.0.1 a.0.0 q b.1.at a.1.at (omega (arith, y)) named (reached_first, reached_second) (inl (masked, base)))
 
-  mask_none : has_mixed_mask (flat_map (λ (line : Listed). operations line.1 q) (ordered (enumerate_from 0 lines))) ≡ false
-  mask_none = some_or_none _ (λ h. (let two = both _ _ h in mixed_none two.0 two.1))
+  mask_none : has_names q ≡ true → has_mixed_mask (flat_map (λ (line : Listed). operations line.1 q) (ordered (enumerate_from 0 lines))) ≡ false
+  mask_none named = some_or_none _ (λ h. (let two = both _ _ h in mixed_none named two.0 two.1))
 
   -- no make comes late
   pub makers_adjust_none : AllByRecursion (λ (line : Listed). is_touching line.1 ≡ false) (fold placed [] (filter (λ (l : Listed). is_creating l.1) (enumerate_from 0 lines)))
@@ -352,8 +352,8 @@ module _ (lines : List Line) (are : AllByRecursion IsLine lines) (distinct : are
       (makers_begin q (fold placed [] (filter (λ (l : Listed). is_creating l.1) (enumerate_from 0 lines))) makers_adjust_none (makers_ordered lines distinct))
       (adjusters_adjust q (filter (λ (l : Listed). is_touching l.1) (enumerate_from 0 lines)) (all_tests (λ (l : Listed). is_touching l.1) (enumerate_from 0 lines)))
 
-  -- so nothing is said against the operations at the path
-  pub operations_repeatable : reasons.IsRepeatable (operations_of (in_create_order lines) q)
-  operations_repeatable = subst reasons.IsRepeatable
+  -- so nothing is said against the operations at the path, where it can stand in a tree
+  pub operations_repeatable : has_names q ≡ true → reasons.IsRepeatable (operations_of (in_create_order lines) q)
+  operations_repeatable named = subst reasons.IsRepeatable
       (sym (asked_parts (in_create_order lines) q ∙ ap parts (unlisted q (ordered (enumerate_from 0 lines)))))
-      (repeatable-parts (flat_map (λ (line : Listed). operations line.1 q) (ordered (enumerate_from 0 lines))) (record { append = append_none; mask = mask_none; make = make_none }))
+      (repeatable-parts (flat_map (λ (line : Listed). operations line.1 q) (ordered (enumerate_from 0 lines))) (record { append = append_none; mask = mask_none named; make = make_none }))

@@ -3,8 +3,8 @@ use Rattle.std.specs.Prelude.{◌≡◌, ◌≢◌, ◌⊎◌, ℕ, Bool, true, 
 use Rattle.std.proofs.Common.{refl, sym, ap, subst, ◌∙◌, inl, inr}
 use Rattle.std.specs.List.{list_all}
 use Rattle.std.proofs.lemmas.List.{append-nil}
-use Rattle.pv_path.specs.Paths.{Path, same_path, is_prefix, has_staging, same_path-decides}
-use Rattle.pv_path.proofs.PathLaws.{same_path-refl, is_prefix-trans, is_prefix-antisym, prefix_parts, has_staging-extends}
+use Rattle.pv_path.specs.Paths.{has_names, Path, same_path, is_prefix, has_staging, same_path-decides}
+use Rattle.pv_path.proofs.PathLaws.{has_names-prefix, same_path-refl, is_prefix-trans, is_prefix-antisym, prefix_parts, has_staging-extends}
 use Rattle.pv_steps.specs.declared.node.Kind.{Kind}
 use Rattle.pv_steps.specs.declared.node.Kind.TheVariants.{Directory}
 use Rattle.pv_steps.specs.declared.object.Object.{Object}
@@ -209,8 +209,15 @@ module _ (making : Making) (is : IsMaking making) (path : Path) (unstaged : has_
       at : path ≡ [] → is_dir (made []) ≡ true
       at e = subst (λ (r : Path). is_dir (made r) ≡ true) e (ap is_dir here.1 ∙ like_dir here.0 e here.2)
 
-  pub made_shaped : IsShaped made
-  made_shaped = record { root = root_made; above = dir_over; plain = numbers_at }
+  named_at : has_names path ≡ true → (q : Path) → has_staging q ≡ false → is_some (made q) ≡ true → has_names q ≡ true
+  named_at names q plain there = elim (path_cases path q) [ inl e ↦ subst (λ (r : Path). has_names r ≡ true) e names | inr d ↦ by d (is_prefix q path) refl ]
+    where
+      by : same_path path q ≡ false → (b : Bool) → is_prefix q path ≡ b → has_names q ≡ true
+      by d true high = has_names-prefix q path high names
+      by d false high = shape.named q plain (still_there q d high there).1
+
+  pub made_shaped : has_names path ≡ true → IsShaped made
+  made_shaped names = record { root = root_made; above = dir_over; plain = numbers_at; named = named_at names }
 
 -- ---- what sets leave
 
@@ -220,6 +227,7 @@ shaped_like a b like shape = record {
   root = dir [] refl shape.root;
   above = λ p q plain above other there. dir p (plain_prefix p q above plain) (shape.above p q plain above other (back q plain there));
   plain = λ q y plain e h. numbers q y plain e h (like q plain);
+  named = λ q plain there. shape.named q plain (back q plain there);
 }
   where
     dir : (q : Path) → has_staging q ≡ false → is_dir (a q) ≡ true → is_dir (b q) ≡ true
@@ -255,7 +263,7 @@ shape_same a b same shape = shaped_like a b (λ q plain. inl (same q plain)) sha
 
 -- each tree has the shape
 pub tree_shaped : (t : Places) → IsTreeIn t → IsShaped (bares_of t)
-tree_shaped t tree = record { root = kind_dir (t []) tree.root; above = above; plain = plain }
+tree_shaped t tree = record { root = kind_dir (t []) tree.root; above = above; plain = plain; named = λ q unstaged there. tree.names q (sym (bare_some (t q)) ∙ there) }
   where
     kind_dir : (o : Option Object) → kind_of o ≡ Some Directory → is_dir (bares_of (λ (q : Path). o) []) ≡ true
     kind_dir None h = absurd (let no : None ≡ Some Directory = h in cc)

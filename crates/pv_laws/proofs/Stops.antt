@@ -1,10 +1,11 @@
 -- What a run of lines that copy nothing has left when it was cut short, a whole run of the same lines mends.
+use Rattle.pv_laws.proofs.AllFrames.{shape_after, shape_after}
 use Rattle.std.specs.Prelude.{◌≡◌, ℕ, Bool, true, false, List, [], ◌∷◌, ◌++◌, map, filter, fold, take, Option, Some, None}
 use Rattle.std.proofs.Common.{zero, suc, refl, sym, ap, subst, ◌∙◌, inl, inr}
 use Rattle.std.specs.List.{list_any, enumerate_from, AllByRecursion}
 use Rattle.std.proofs.lemmas.Grind.{flat_map-append}
 use Rattle.std.proofs.lemmas.List.Folds.{list_any-append}
-use Rattle.pv_path.specs.Paths.{Path, is_prefix, has_staging, same_path-decides}
+use Rattle.pv_path.specs.Paths.{has_names, Path, is_prefix, has_staging, same_path-decides}
 use Rattle.pv_path.proofs.PathLaws.{is_prefix-refl}
 use Rattle.pv_steps.specs.Trees.{Files, places, IsTree}
 use Rattle.pv_steps.specs.Same.{Same}
@@ -33,16 +34,16 @@ use Rattle.pv_table.specs.Repeatable.{IsRepeatable}
 use Rattle.pv_table.specs.Turns.{copied}
 use Rattle.pv_laws.specs.Stopping.{IsRenewal, IsMidway, Partway, IsPiece}
 use Rattle.pv_laws.proofs.Lines.{IsPlain, asked_made, line_is_plain, line_point, lines_point}
-use Rattle.pv_laws.proofs.Making.{IsShaped, asked_here, first_renew}
+use Rattle.pv_laws.proofs.Making.{same_unnamed, IsShaped, asked_here, first_renew}
 use Rattle.pv_laws.proofs.Orders.{all_append, all_in_order, all_map, all_tests, Pairwise, ComesAfter, makers_ordered}
 use Rattle.pv_laws.proofs.Prepared.{neither}
 use Rattle.pv_laws.proofs.Repeated.{IsAskedAt, object, parent, below, set, nothing, asked_at, operations_repeatable, makers_adjust_none}
 use Rattle.pv_laws.proofs.Sets.{impossible, IsMaking, line_is_making}
-use Rattle.pv_laws.proofs.Shapes.{tree_shaped}
+use Rattle.pv_laws.proofs.Shapes.{tree_shaped, tree_shaped}
 
 -- ---- pieces of one list after another
 
-take_front : {A : Type 0} (k : ℕ) (xs ys : List A) → (n : ℕ) × (take n (xs ++ ys) ≡ take k xs)
+pub take_front : {A : Type 0} (k : ℕ) (xs ys : List A) → (n : ℕ) × (take n (xs ++ ys) ≡ take k xs)
 take_front zero xs ys = (zero, refl)
 take_front (suc k) [] ys = (zero, refl)
 take_front (suc k) (x ∷ xs) ys = let more = take_front k xs ys in (suc more.0, ap (λ zs. x ∷ zs) more.1)
@@ -52,14 +53,14 @@ take_after k [] ys = (k, refl)
 take_after k (x ∷ xs) ys = let more = take_after k xs ys in (suc more.0, ap (λ zs. x ∷ zs) more.1)
 
 -- what is on the way of the first line is a piece of what all ask for
-midway_piece : (line : Line) (lines : List Line) (q : Path) (old new : Option Bare) → IsMidway line q old new → IsPiece (line ∷ lines) q old new
+pub midway_piece : (line : Line) (lines : List Line) (q : Path) (old new : Option Bare) → IsMidway line q old new → IsPiece (line ∷ lines) q old new
 midway_piece line lines q old new (IsMidway.piece k e) =
     let front = take_front k (parts (operations line q)) (operations_of lines q) in
     IsPiece.piece front.0 (e ∙ ap (λ xs. run xs old) (sym front.1))
 midway_piece line lines q old new (IsMidway.gap b s renewal none) = IsPiece.gap [] lines line b refl s renewal none
 
 -- so is what is on the way of a later one
-later_piece : (line : Line) (lines : List Line) (q : Path) (old new : Option Bare) → IsPiece lines q (run (parts (operations line q)) old) new → IsPiece (line ∷ lines) q old new
+pub later_piece : (line : Line) (lines : List Line) (q : Path) (old new : Option Bare) → IsPiece lines q (run (parts (operations line q)) old) new → IsPiece (line ∷ lines) q old new
 later_piece line lines q old new (IsPiece.piece k e) =
     let back = take_after k (parts (operations line q)) (operations_of lines q) in
     IsPiece.piece back.0 (e ∙ sym (run-append (parts (operations line q)) (take k (operations_of lines q)) old) ∙ ap (λ xs. run xs old) (sym back.1))
@@ -85,7 +86,7 @@ module _ {A : Type 0} (R : A → A → Type 0) where
   pairwise_append [] ys h g cross = g
   pairwise_append (x ∷ xs) ys h g cross = (all_append (R x) xs ys h.0 cross.0, pairwise_append xs ys h.1 g cross.1)
 
-  before_one : (before after : List A) (x : A) → Pairwise R (before ++ x ∷ after) → AllByRecursion (λ y. R y x) before
+  pub before_one : (before after : List A) (x : A) → Pairwise R (before ++ x ∷ after) → AllByRecursion (λ y. R y x) before
   before_one [] after x h = tt
   before_one (y ∷ before) after x h = (here before h.0, before_one before after x h.1)
     where
@@ -94,7 +95,7 @@ module _ {A : Type 0} (R : A → A → Type 0) where
       here (z ∷ ys) g = here ys g.1
 
 -- of two lines of which the second makes an object, the first makes one too, and not below it
-abbrev GoesBefore : Line → Line → Type 0
+abbrev pub GoesBefore : Line → Line → Type 0
 GoesBefore a b = is_touching b ≡ false → (is_touching a ≡ false) × (is_prefix (path_in b.path) (path_in a.path) ≡ false)
 
 module _ (lines : List Line) (are : AllByRecursion IsLine lines) (distinct : are_distinct lines ≡ true) (repeatable : IsRepeatable lines) (q : Path) where
@@ -139,14 +140,14 @@ module _ (lines : List Line) (are : AllByRecursion IsLine lines) (distinct : are
   unlist [] h = tt
   unlist (l ∷ ls) h = (unlist_all l ls h.0, unlist ls h.1)
 
-  all_in_place : Pairwise GoesBefore (in_create_order lines)
+  pub all_in_place : Pairwise GoesBefore (in_create_order lines)
   all_in_place = unlist (makers ++ adjusters) listed_in_order
 
   -- all operations at the path
   abbrev all : List Operation
   all = operations_of (in_create_order lines) q
 
-  said_none : reasons.IsRepeatable all
+  said_none : has_names q ≡ true → reasons.IsRepeatable all
   said_none = operations_repeatable lines are distinct repeatable q
 
   -- before a line that makes an object at the path nothing is done there, where nothing is erased
@@ -209,10 +210,10 @@ module _ (lines : List Line) (are : AllByRecursion IsLine lines) (distinct : are
           ∙ sym (from_the_gap [] (parts renewal.making.sets ++ operations_of after q) renewal.test own b refl renewal.fails)
           ∙ sym (ap (λ xs. run xs (Some b)) is) ∙ sym (ap (run all) here)
 
-  -- from a piece all operations end as from the start
-  pub piece_mends : (old new : Option Bare) → IsPiece (in_create_order lines) q old new → run all new ≡ run all old
-  piece_mends old new (IsPiece.piece k e) = ap (run all) e ∙ absorbed all k old said_none
-  piece_mends old new (IsPiece.gap before after line b whole stood renewal none) = ap (run all) none ∙ gap_mends before after line b old whole stood renewal
+  -- from a piece all operations end as from the start, where the path can stand in a tree
+  pub piece_mends : has_names q ≡ true → (old new : Option Bare) → IsPiece (in_create_order lines) q old new → run all new ≡ run all old
+  piece_mends named old new (IsPiece.piece k e) = ap (run all) e ∙ absorbed all k old (said_none named)
+  piece_mends named old new (IsPiece.gap before after line b whole stood renewal none) = ap (run all) none ∙ gap_mends before after line b old whole stood renewal
 
 -- ---- whole runs
 
@@ -238,9 +239,13 @@ module _ (lines : List Line) (are : AllByRecursion IsLine lines) (no_copies : Al
   module _ (distinct : are_distinct lines ≡ true) (repeatable : IsRepeatable lines) (now later : ℕ) (t u : Files) (tree : IsTree t) (there : IsTree u) (quiet : IsQuiet lines now t) (again : IsQuiet lines later u) where
     pub pieces_mend : ((q : Path) → has_staging q ≡ false → IsPiece (in_create_order lines) q (bares_of (places t) q) (bares_of (places u) q)) → Same (created lines later u) (created lines now t)
     pieces_mend pieces q plain = bares-same (places (created lines later u)) (places (created lines now t)) q (
+        same_unnamed (bares_of (places (created lines later u))) (bares_of (places (created lines now t))) (left later u there) (left now t tree) q plain (λ named.
         created_point later u there again q plain
-        ∙ piece_mends lines are distinct repeatable q (bares_of (places t) q) (bares_of (places u) q) (pieces q plain)
-        ∙ sym (created_point now t tree quiet q plain))
+        ∙ piece_mends lines are distinct repeatable q named (bares_of (places t) q) (bares_of (places u) q) (pieces q plain)
+        ∙ sym (created_point now t tree quiet q plain)))
+      where
+        left : (moment : ℕ) (v : Files) → IsTree v → IsShaped (bares_of (places (created lines moment v)))
+        left moment v is = shape_after moment (in_create_order lines) (all_in_order IsLine lines are) v (tree_shaped (places v) is)
 
     pub partway_mends : Partway (in_create_order lines) now t u → Same (created lines later u) (created lines now t)
     partway_mends way = pieces_mend (partway_of_lines now t u tree quiet way)

@@ -56,7 +56,7 @@ first_turn now line path paths t quiet =
 
 module _ (now : ℕ) (touching : Touching) (adjust : list_all is_adjustment touching.sets ≡ true) where
   -- what is set at a path, where the turn reaches it
-  abbrev set_if : Bool → Option Bare → Option Bare
+  abbrev pub set_if : Bool → Option Bare → Option Bare
   set_if reached b = cond reached (run touching.sets b) b
 
   touch_key : (reached : Bool) (o : Option Object) → is_some (cond reached (option_map (become now touching.sets) o) o) ≡ is_some o
@@ -78,7 +78,7 @@ module _ (now : ℕ) (touching : Touching) (adjust : list_all is_adjustment touc
   -- ---- several turns
 
   -- what they set at a path, one after the other
-  abbrev set_by_each : Path → List Path → Option Bare → Option Bare
+  abbrev pub set_by_each : Path → List Path → Option Bare → Option Bare
   set_by_each q paths b = fold (λ c p. set_if (is_touched touching p q) c) b paths
 
   pub touched_all : (line : Line) → asks line ≡ Touch touching → (paths : List Path) (t : Files) → one_is_refused (by_turn now line) paths t ≡ false
@@ -100,7 +100,7 @@ module _ (now : ℕ) (touching : Touching) (adjust : list_all is_adjustment touc
 
   -- where twice is once, it only matters whether one of them reaches the path
   module _ (twice : (b : Option Bare) → run touching.sets (run touching.sets b) ≡ run touching.sets b) where
-    set_by_any : (q : Path) (paths : List Path) (b : Option Bare) → set_by_each q paths b ≡ set_if (list_any (λ p. is_touched touching p q) paths) b
+    pub set_by_any : (q : Path) (paths : List Path) (b : Option Bare) → set_by_each q paths b ≡ set_if (list_any (λ p. is_touched touching p q) paths) b
     set_by_any q [] b = refl
     set_by_any q (p ∷ ps) b = by (is_touched touching p q) (set_by_any q ps)
       where
@@ -115,14 +115,14 @@ module _ (now : ℕ) (touching : Touching) (adjust : list_all is_adjustment touc
 
   -- where each turn reaches its own path alone, it matters how often the path stands among them
   module _ (shallow : touching.deep ≡ false) where
-    own_path : (p q : Path) → is_touched touching p q ≡ same_path p q
+    pub own_path : (p q : Path) → is_touched touching p q ≡ same_path p q
     own_path p q = ap (λ d. same_path p q || (d && is_prefix p q && not (has_staging q))) shallow ∙ by (same_path p q)
       where
         by : (b : Bool) → (b || (false && is_prefix p q && not (has_staging q))) ≡ b
         by true = refl
         by false = refl
 
-    set_never : (q : Path) (paths : List Path) (b : Option Bare) → times q paths ≡ 0 → set_by_each q paths b ≡ b
+    pub set_never : (q : Path) (paths : List Path) (b : Option Bare) → times q paths ≡ 0 → set_by_each q paths b ≡ b
     set_never q [] b e = refl
     set_never q (p ∷ ps) b e = elim (same_or_not p q) [
       | inl s ↦ absurd (let n = ap (λ c. cond c 1 0 + times q ps) s.1 in omega (arith, e, n))
@@ -205,10 +205,10 @@ module _ (now : ℕ) (line : Line) (touching : Touching) (e : asks line ≡ Touc
   adjusts = subst (λ d. list_all is_adjustment (sets_of d) ≡ true) e (sets_adjust line (asks line) (asked line))
 
   -- the paths at which it is carried out
-  abbrev named : List Path
+  abbrev pub named : List Path
   named = filter (names line) (fin.keys t)
 
-  once_named : (q : Path) → times q named ≡ cond (names line q) (cond (is_some (places t q)) 1 0) 0
+  pub once_named : (q : Path) → times q named ≡ cond (names line q) (cond (is_some (places t q)) 1 0) 0
   once_named q = times-filter (names line) q (fin.keys t) ∙ ap (λ n. cond (names line q) n 0) (times-keys t q)
 
   listed : (q : Path) → is_some (bares_of (places t) q) ≡ true → 1 ≤ times q (fin.keys t)

@@ -1,12 +1,12 @@
--- On the way of lines each path has the kind and the owner that it has before the line at work or after it.
-use Rattle.std.specs.Prelude.{⊤, ◌≡◌, ◌⊎◌, ℕ, Bool, true, false, cond, ◌&&◌, ◌||◌, List, [], ◌∷◌, ◌++◌, take, Option, Some, None}
+-- On the way of a line that copies nothing each path has the kind and the owner that it has before the line or after it.
+use Rattle.std.specs.Prelude.{⊤, ◌≡◌, ◌⊎◌, ℕ, Bool, true, false, not, cond, ◌&&◌, ◌||◌, List, [], ◌∷◌, ◌++◌, take, Option, Some, None, if◌then◌else◌}
 use Rattle.std.proofs.Common.{zero, suc, refl, sym, ap, subst, ◌∙◌, inl, inr}
 use Rattle.std.specs.FinMap as fin
-use Rattle.std.specs.List.{list_any, list_all, AllByRecursion}
+use Rattle.std.specs.List.{list_any, list_all}
+use Rattle.std.specs.Option.{option_map_or}
 use Rattle.std.proofs.lemmas.List.Folds.{list_all-append}
-use Rattle.pv_path.specs.Paths.{Path, has_staging}
-use Rattle.pv_steps.specs.Same.{Same}
-use Rattle.pv_steps.specs.Trees.{Files, places, IsTree}
+use Rattle.pv_path.specs.Paths.{Path, is_prefix}
+use Rattle.pv_path.proofs.PathLaws.{is_prefix-refl}
 use Rattle.pv_acl.specs.declared.line.How.TheVariants.{Replace, Add}
 use Rattle.pv_dress.specs.declared.bare.Bare.{Bare}
 use Rattle.pv_dress.specs.declared.operation.Change.{Change}
@@ -15,17 +15,16 @@ use Rattle.pv_dress.specs.declared.operation.Guard.{Guard}
 use Rattle.pv_dress.specs.declared.operation.Guard.TheVariants.{Every, NoLink, Only}
 use Rattle.pv_dress.specs.declared.operation.Operation.{Operation}
 use Rattle.pv_dress.specs.declared.operation.Operation.TheVariants.{Make, Renew, Erase, Adjust}
+use Rattle.pv_dress.specs.declared.operation.Test.{Test}
 use Rattle.pv_dress.specs.Dividing.{base_line, parts_of, parts}
-use Rattle.pv_dress.specs.Nodes.{bare_of, bares_of, is_file, is_link, carries_letters}
-use Rattle.pv_dress.specs.Operations.{admits, changed, done, run}
+use Rattle.pv_dress.specs.Nodes.{bare_of, is_file, is_link, same_kind, carries_letters}
+use Rattle.pv_dress.specs.Operations.{admits, changed, stays, done, run}
 use Rattle.pv_dress.specs.Reasons.{is_adjusting, is_base, is_make}
 use Rattle.pv_dress.proofs.Dividing.{run-parts}
-use Rattle.pv_dress.proofs.OperationLaws.{bares_of-same}
 use Rattle.pv_lines.specs.declared.line.Argument.{Argument}
 use Rattle.pv_lines.specs.declared.line.Argument.TheVariants as argument
 use Rattle.pv_lines.specs.declared.line.Line.{Line}
 use Rattle.pv_lines.specs.declared.line.LineMode.{LineMode}
-use Rattle.pv_lines.specs.Lines.{IsLine}
 use Rattle.pv_steps.specs.declared.node.Kind.{Kind}
 use Rattle.pv_steps.specs.declared.node.Kind.TheVariants.{File}
 use Rattle.pv_steps.specs.Attributes.{put_attrs}
@@ -35,33 +34,28 @@ use Rattle.pv_walk.specs.Staging.{new_object, new_kind}
 use Rattle.pv_table.specs.declared.deed.Deed.{Deed}
 use Rattle.pv_table.specs.declared.deed.Deed.TheVariants.{Create}
 use Rattle.pv_table.specs.declared.deed.Making.{Making}
-use Rattle.pv_table.specs.Active.{in_create_order}
 use Rattle.pv_table.specs.Asked.{first_of, operations}
 use Rattle.pv_table.specs.Asking.{mode_to_set, without_links, owners_and_mode, contents_to_set, making, touching, set_by, bytes_of, asks}
-use Rattle.pv_table.specs.Created.{after_each, one_is_refused, by_line, created, IsQuiet}
-use Rattle.pv_table.specs.Pointwise.{Bares, parent_bare, state}
-use Rattle.pv_table.specs.Repeatable.{IsAt, sets_of}
-use Rattle.pv_laws.specs.Between.{IsBetween, akin, absent, IsOnTheWay}
-use Rattle.pv_laws.specs.Moments.{Agree}
-use Rattle.pv_laws.specs.Stopping.{CopiesNothing, IsMidway, OnWay, Partway}
-use Rattle.pv_laws.proofs.Lines.{IsPlain, IsPointwise, line_point}
-use Rattle.pv_laws.proofs.Making.{IsShaped, does_stay, first_on_none, first_on_some}
-use Rattle.pv_laws.proofs.Points.{state_after, state_whole}
+use Rattle.pv_table.specs.Pointwise.{Bares, view, parent_bare}
+use Rattle.pv_table.specs.Repeatable.{sets_of}
+use Rattle.pv_table.specs.Turns.{Turn, single, decide, making_turn}
+use Rattle.pv_laws.specs.Between.{IsAkin, Replaces, IsBetween}
+use Rattle.pv_laws.specs.Stopping.{IsRenewal, IsMidway}
+use Rattle.pv_laws.proofs.Making.{does_stay, first_on_none, first_on_some}
 use Rattle.pv_laws.proofs.Prepared.{neither}
 use Rattle.pv_laws.proofs.Repeated.{IsAskedAt, object, parent, below, set, nothing, asked_at, first_makes}
 use Rattle.pv_laws.proofs.Sets.{impossible, IsAsked, makes, copies, adjusts, writes, sets, idle, asked, is_adjustment, IsMaking, line_is_making, only_adjusts, adjusted_none, sets_adjust}
-use Rattle.pv_laws.proofs.Shapes.{IsLike, adjusted_like, tree_shaped}
-use Rattle.pv_laws.proofs.Stops.{in_order_plain}
+use Rattle.pv_laws.proofs.Shapes.{IsLike, adjusted_like}
 
 -- ---- one operation sets owners
 
 -- whether a change sets owners
-abbrev sets_owner : Change → Bool
+abbrev pub sets_owner : Change → Bool
 sets_owner (Owner uid gid) = true
 sets_owner change = false
 
 -- at most one operation of a list does
-abbrev SetsOwnerOnce : List Operation → Type 0
+abbrev pub SetsOwnerOnce : List Operation → Type 0
 SetsOwnerOnce [] = ⊤
 SetsOwnerOnce (x ∷ xs) = ((is_adjusting sets_owner x ≡ false) × SetsOwnerOnce xs) ⊎ (list_any (is_adjusting sets_owner) xs ≡ false)
 
@@ -99,7 +93,7 @@ argument_sets_none plus (argument.Attrs attrs) = refl
 argument_sets_none plus (argument.Letters how letters) = refl
 argument_sets_none plus argument.Ignored = refl
 
-sets_once : (line : Line) (deed : Deed) → IsAsked line deed → SetsOwnerOnce (parts (sets_of deed))
+pub sets_once : (line : Line) (deed : Deed) → IsAsked line deed → SetsOwnerOnce (parts (sets_of deed))
 sets_once line deed (makes what file e) = subst (λ d. SetsOwnerOnce (parts (sets_of d))) (sym e) (made_once line (new_kind what) (Only (new_kind what)))
 sets_once line deed (copies e) = subst (λ d. SetsOwnerOnce (parts (sets_of d))) (sym e) (owners_once Every line)
 sets_once line deed (adjusts deep wanted guard e) = subst (λ d. SetsOwnerOnce (parts (sets_of d))) (sym e) (owners_once guard line)
@@ -194,17 +188,37 @@ front_uid (Adjust guard change ∷ xs) h once (suc k) b y z e f = by once (λ la
 
 -- ---- one line at work
 
-module _ (line : Line) (q : Path) where
-  at_start : (old next here : Option Bare) → here ≡ old → IsBetween line q old next here
+-- what stands at a path on the way of a line, by what stood there and what comes there
+pub data IsAmid (line : Line) (s : Bares) (q : Path) (old next here : Option Bare) : Type 0 where
+  akin : (x y : Bare) → here ≡ Some x → (old ≡ Some y) ⊎ (next ≡ Some y) → IsAkin x y → IsAmid line s q old next here
+  absent : here ≡ None → (old ≡ None) ⊎ (next ≡ None) → IsAmid line s q old next here
+  gap : (path : Path) → here ≡ None → is_prefix path q ≡ true → Replaces line s path → IsAmid line s q old next here
+
+module _ (line : Line) (s : Bares) (q : Path) where
+  -- where maps have what stood there and what comes there
+  pub amid_between : (after : Bares) (old next here : Option Bare) → fin.get s q ≡ old → fin.get after q ≡ next → IsAmid line s q old next here → IsBetween line s after q here
+  amid_between after old next here e f (akin x y g there same) = IsBetween.akin x y g (by there) same
+    where
+      by : (old ≡ Some y) ⊎ (next ≡ Some y) → (fin.get s q ≡ Some y) ⊎ (fin.get after q ≡ Some y)
+      by (inl h) = inl (e ∙ h)
+      by (inr h) = inr (f ∙ h)
+  amid_between after old next here e f (absent g none) = IsBetween.absent g (by none)
+    where
+      by : (old ≡ None) ⊎ (next ≡ None) → (fin.get s q ≡ None) ⊎ (fin.get after q ≡ None)
+      by (inl h) = inl (e ∙ h)
+      by (inr h) = inr (f ∙ h)
+  amid_between after old next here e f (gap path g low replaces) = IsBetween.gap path g low replaces
+
+  pub at_start : (old next here : Option Bare) → here ≡ old → IsAmid line s q old next here
   at_start None next here e = absent e (inl refl)
   at_start (Some y) next here e = akin y y e (inl refl) (record { kind = refl; uid = refl })
 
-  at_end : (old next here : Option Bare) → here ≡ next → IsBetween line q old next here
+  pub at_end : (old next here : Option Bare) → here ≡ next → IsAmid line s q old next here
   at_end old None here e = absent e (inr refl)
   at_end old (Some y) here e = akin y y e (inr refl) (record { kind = refl; uid = refl })
 
   -- some of what is set is set, of an object that stood there, or that is the new one
-  set_between : (xs : List Operation) → list_all is_adjustment xs ≡ true → SetsOwnerOnce xs → (k : ℕ) (old next here : Option Bare) (z : Bare) → (old ≡ Some z) ⊎ (next ≡ Some z) → next ≡ run xs (Some z) → here ≡ run (take k xs) (Some z) → IsBetween line q old next here
+  pub set_between : (xs : List Operation) → list_all is_adjustment xs ≡ true → SetsOwnerOnce xs → (k : ℕ) (old next here : Option Bare) (z : Bare) → (old ≡ Some z) ⊎ (next ≡ Some z) → next ≡ run xs (Some z) → here ≡ run (take k xs) (Some z) → IsAmid line s q old next here
   set_between xs adjust once k old next here z stood after e = by stood (front_uid xs adjust once k z y.0 last.0 y.1 last.1)
     where
       y : (c : Bare) × (run (take k xs) (Some z) ≡ Some c) × IsLike z c
@@ -213,7 +227,7 @@ module _ (line : Line) (q : Path) where
       last : (c : Bare) × (run xs (Some z) ≡ Some c) × IsLike z c
       last = adjusted_like xs adjust z
 
-      by : (old ≡ Some z) ⊎ (next ≡ Some z) → (y.0.dress.uid ≡ z.dress.uid) ⊎ (y.0.dress.uid ≡ last.0.dress.uid) → IsBetween line q old next here
+      by : (old ≡ Some z) ⊎ (next ≡ Some z) → (y.0.dress.uid ≡ z.dress.uid) ⊎ (y.0.dress.uid ≡ last.0.dress.uid) → IsAmid line s q old next here
       by there (inl u) = akin y.0 z (e ∙ y.1) there (record { kind = y.2.kind; uid = u })
       by there (inr u) = akin y.0 last.0 (e ∙ y.1) (inr (after ∙ last.1)) (record { kind = y.2.kind ∙ sym last.2.kind; uid = u })
 
@@ -223,7 +237,7 @@ module _ (line : Line) (q : Path) where
   make_alone Erase h = impossible h
   make_alone (Adjust guard change) h = impossible h
 
-  object_between : (making : Making) → asks line ≡ Create making → operations line q ≡ first_of making ∷ making.sets → (k : ℕ) (old here : Option Bare) → here ≡ run (take k (parts (operations line q))) old → IsBetween line q old (run (operations line q) old) here
+  object_between : (making : Making) → asks line ≡ Create making → operations line q ≡ first_of making ∷ making.sets → (k : ℕ) (old here : Option Bare) → here ≡ run (take k (parts (operations line q))) old → IsAmid line s q old (run (operations line q) old) here
   object_between making e f k old here g = by k (g ∙ ap (λ xs. run (take k xs) old) listed)
     where
       is : IsMaking making
@@ -244,29 +258,48 @@ module _ (line : Line) (q : Path) where
       whole : (z : Bare) → done (first_of making) old ≡ Some z → run (operations line q) old ≡ run (parts making.sets) (Some z)
       whole z s = ap (λ xs. run xs old) f ∙ ap (run making.sets) s ∙ sym (run-parts making.sets (Some z))
 
-      from : (n : ℕ) (z : Bare) → done (first_of making) old ≡ Some z → (old ≡ Some z) ⊎ (run (operations line q) old ≡ Some z) → here ≡ run (take n (parts making.sets)) (done (first_of making) old) → IsBetween line q old (run (operations line q) old) here
+      from : (n : ℕ) (z : Bare) → done (first_of making) old ≡ Some z → (old ≡ Some z) ⊎ (run (operations line q) old ≡ Some z) → here ≡ run (take n (parts making.sets)) (done (first_of making) old) → IsAmid line s q old (run (operations line q) old) here
       from n z s there h = set_between (parts making.sets) (parts_adjust making.sets adjust) once n old (run (operations line q) old) here z there (whole z s) (h ∙ ap (run (take n (parts making.sets))) s)
 
       new_there : done (first_of making) old ≡ Some own → run (operations line q) old ≡ Some own
       new_there s = ap (λ xs. run xs old) f ∙ ap (run making.sets) s ∙ is.once
 
-      start : (b : Option Bare) → old ≡ b → (n : ℕ) → here ≡ run (take n (parts making.sets)) (done (first_of making) old) → IsBetween line q old (run (operations line q) old) here
+      start : (b : Option Bare) → old ≡ b → (n : ℕ) → here ≡ run (take n (parts making.sets)) (done (first_of making) old) → IsAmid line s q old (run (operations line q) old) here
       start None s n h = let new = ap (done (first_of making)) s ∙ first_on_none making is in from n own new (inr (new_there new)) h
-      start (Some x) s n h = stay (does_stay making is making.renew x) (ap (done (first_of making)) s ∙ first_on_some making is x)
+      start (Some x) there n h = stay (does_stay making is making.renew x) (ap (done (first_of making)) there ∙ first_on_some making is x)
         where
-          stay : (b : Bool) → done (first_of making) old ≡ Some (cond b x own) → IsBetween line q old (run (operations line q) old) here
-          stay true r = from n x r (inl s) h
+          stay : (b : Bool) → done (first_of making) old ≡ Some (cond b x own) → IsAmid line s q old (run (operations line q) old) here
+          stay true r = from n x r (inl there) h
           stay false r = from n own r (inr (new_there r)) h
 
-      by : (n : ℕ) → here ≡ run (take n (first_of making ∷ parts making.sets)) old → IsBetween line q old (run (operations line q) old) here
+      by : (n : ℕ) → here ≡ run (take n (first_of making ∷ parts making.sets)) old → IsAmid line s q old (run (operations line q) old) here
       by zero h = at_start old (run (operations line q) old) here h
       by (suc n) h = start old refl n h
 
-  midway_between : (old here : Option Bare) → IsMidway line q old here → IsBetween line q old (run (operations line q) old) here
-  midway_between old here (IsMidway.gap b s renewal none) = IsBetween.gap b none s renewal
-  midway_between old here (IsMidway.piece k e) = by (asked_at line q)
+  -- an object that gives way to a line's own is replaced
+  renewal_replaces : (b : Bare) → fin.get s q ≡ Some b → IsRenewal line q b → Replaces line s q
+  renewal_replaces b there renewal = record {
+    object = b;
+    subtree = single own;
+    at = renewal.at;
+    there = there;
+    puts = ap (λ deed. decide deed (view s) q) renewal.makes ∙ ap (making_turn renewal.making) there ∙ ap (λ r. turn_of r) renewal.renews ∙ ap (λ c. turn_by_stay c) renewal.fails;
+  }
     where
-      one : (x : Operation) (n : ℕ) → parts_of x ≡ x ∷ [] → operations line q ≡ x ∷ [] → here ≡ run (take n (parts (operations line q))) old → IsBetween line q old (run (operations line q) old) here
+      own : Bare
+      own = bare_of (new_object renewal.making.new 0)
+
+      turn_by_stay : Bool → Turn
+      turn_by_stay stay = if not stay then Turn.Put (single own) else if same_kind own.body.kind b.body.kind then Turn.Become renewal.making.sets else Turn.Left b.body.kind
+
+      turn_of : Option Test → Turn
+      turn_of renew = turn_by_stay (option_map_or (λ test. stays test own.body b.body) renew true)
+
+  pub midway_between : (old here : Option Bare) → fin.get s q ≡ old → IsMidway line q old here → IsAmid line s q old (run (operations line q) old) here
+  midway_between old here before (IsMidway.gap b there renewal none) = gap q none (is_prefix-refl q) (renewal_replaces b (before ∙ there) renewal)
+  midway_between old here before (IsMidway.piece k e) = by (asked_at line q)
+    where
+      one : (x : Operation) (n : ℕ) → parts_of x ≡ x ∷ [] → operations line q ≡ x ∷ [] → here ≡ run (take n (parts (operations line q))) old → IsAmid line s q old (run (operations line q) old) here
       one x zero p f g = at_start old (run (operations line q) old) here g
       one x (suc n) p f g = at_end old (run (operations line q) old) here (g ∙ ap (λ xs. run (take (suc n) (parts xs)) old) f ∙ ap (λ xs. run (take (suc n) (xs ++ [])) old) p ∙ rest n ∙ sym (ap (λ xs. run xs old) f))
         where
@@ -274,7 +307,7 @@ module _ (line : Line) (q : Path) where
           rest zero = refl
           rest (suc m) = refl
 
-      by : IsAskedAt line q → IsBetween line q old (run (operations line q) old) here
+      by : IsAskedAt line q → IsAmid line s q old (run (operations line q) old) here
       by (object making a s f) = object_between making a f k old here e
       by (parent making a s f) = one (Make parent_bare) k refl f e
       by (below making a g d f) = one Erase k refl f e
@@ -286,7 +319,7 @@ module _ (line : Line) (q : Path) where
           once : SetsOwnerOnce (parts touching.sets)
           once = subst (λ d. SetsOwnerOnce (parts (sets_of d))) a (sets_once line (asks line) (asked line))
 
-          start : (b : Option Bare) → old ≡ b → IsBetween line q old (run (operations line q) old) here
+          start : (b : Option Bare) → old ≡ b → IsAmid line s q old (run (operations line q) old) here
           start None s = at_start old (run (operations line q) old) here (
               e ∙ ap (λ xs. run (take k (parts xs)) old) f ∙ ap (run (take k (parts touching.sets))) s
               ∙ adjusted_none (take k (parts touching.sets)) (all_take is_adjustment k (parts touching.sets) (parts_adjust touching.sets adjust)) ∙ sym s)
@@ -298,57 +331,3 @@ module _ (line : Line) (q : Path) where
           none : (n : ℕ) → run (take n []) old ≡ old
           none zero = refl
           none (suc n) = refl
-
--- ---- the line at work
-
-module _ (now : ℕ) where
-  partway_at : (lines : List Line) (t u : Files) → Partway lines now t u
-      → Same (after_each (by_line now) lines t) u ⊎ ((k : ℕ) × (line : Line) × IsAt lines k line × OnWay line (after_each (by_line now) (take k lines) t) u)
-  partway_at [] t u same = inl same
-  partway_at (line ∷ lines) t u (inl way) = inr (zero, line, refl, way)
-  partway_at (line ∷ lines) t u (inr later) = by (partway_at lines ((by_line now).after line t) u later)
-    where
-      by : Same (after_each (by_line now) lines ((by_line now).after line t)) u ⊎ ((k : ℕ) × (l : Line) × IsAt lines k l × OnWay l (after_each (by_line now) (take k lines) ((by_line now).after line t)) u)
-          → Same (after_each (by_line now) (line ∷ lines) t) u ⊎ ((k : ℕ) × (l : Line) × IsAt (line ∷ lines) k l × OnWay l (after_each (by_line now) (take k (line ∷ lines)) t) u)
-      by (inl same) = inl same
-      by (inr found) = inr (suc found.0, found.1, found.2, found.3)
-
-  point_at : (lines : List Line) (t : Files) → AllByRecursion IsPlain lines → IsShaped (bares_of (places t)) → one_is_refused (by_line now) lines t ≡ false → (k : ℕ) (line : Line) → IsAt lines k line
-      → (q : Path) → has_staging q ≡ false → bares_of (places (after_each (by_line now) (take (suc k) lines) t)) q ≡ run (operations line q) (bares_of (places (after_each (by_line now) (take k lines) t)) q)
-  point_at [] t are shape quiet k line at q plain = absurd (let no : None ≡ Some line = at in cc)
-  point_at (first ∷ lines) t are shape quiet k line at q plain = by k at (λ n later. point_at lines ((by_line now).after first t) are.1 one.shape two.1 n line later q plain)
-    where
-      two : ((by_line now).is_refused first t ≡ false) × (one_is_refused (by_line now) lines ((by_line now).after first t) ≡ false)
-      two = neither ((by_line now).is_refused first t) (one_is_refused (by_line now) lines ((by_line now).after first t)) quiet
-
-      one : IsPointwise first t ((by_line now).after first t)
-      one = line_point now first are.0 t shape two.0
-
-      same : Some first ≡ Some line → first ≡ line
-      same e = cc
-
-      by : (n : ℕ) → IsAt (first ∷ lines) n line
-          → ((m : ℕ) → IsAt lines m line → bares_of (places (after_each (by_line now) (take (suc m) lines) ((by_line now).after first t))) q ≡ run (operations line q) (bares_of (places (after_each (by_line now) (take m lines) ((by_line now).after first t))) q))
-          → bares_of (places (after_each (by_line now) (take (suc n) (first ∷ lines)) t)) q ≡ run (operations line q) (bares_of (places (after_each (by_line now) (take n (first ∷ lines)) t)) q)
-      by zero e rest = one.point q plain ∙ ap (λ (l : Line). run (operations l q) (bares_of (places t) q)) (same e)
-      by (suc n) e rest = rest n e
-
-module _ (lines : List Line) (are : AllByRecursion IsLine lines) (none : AllByRecursion CopiesNothing lines) (now : ℕ) (s : Bares) (t u : Files) (tree : IsTree t) (quiet : IsQuiet lines now t) (agree : Agree s t) where
-  pub on_the_way : Partway (in_create_order lines) now t u → IsOnTheWay lines s u
-  on_the_way way = by (partway_at now (in_create_order lines) t u way)
-    where
-      by : Same (created lines now t) u ⊎ ((k : ℕ) × (line : Line) × IsAt (in_create_order lines) k line × OnWay line (after_each (by_line now) (take k (in_create_order lines)) t) u) → IsOnTheWay lines s u
-      by (inl same) = inl (λ q plain. state_whole lines are none now s t tree quiet agree q plain ∙ bares_of-same (places (created lines now t)) (places u) q (same q plain))
-      by (inr found) = inr (record {
-        k = found.0;
-        line = found.1;
-        at = found.2;
-        between = λ q plain.
-            let before : fin.get (state lines found.0 s) q ≡ bares_of (places (after_each (by_line now) (take found.0 (in_create_order lines)) t)) q = state_after lines are none now s t tree quiet agree found.0 q plain in
-            let after : fin.get (state lines (suc found.0) s) q ≡ bares_of (places (after_each (by_line now) (take (suc found.0) (in_create_order lines)) t)) q = state_after lines are none now s t tree quiet agree (suc found.0) q plain in
-            subst (λ b. IsBetween found.1 q (fin.get (state lines found.0 s) q) b (bares_of (places u) q))
-            (sym (after ∙ point_at now (in_create_order lines) t (in_order_plain lines are none) (tree_shaped (places t) tree) quiet found.0 found.1 found.2 q plain))
-            (subst (λ b. IsBetween found.1 q b (run (operations found.1 q) (bares_of (places (after_each (by_line now) (take found.0 (in_create_order lines)) t)) q)) (bares_of (places u) q))
-            (sym before)
-            (midway_between found.1 q (bares_of (places (after_each (by_line now) (take found.0 (in_create_order lines)) t)) q) (bares_of (places u) q) (found.3 q plain)));
-      })

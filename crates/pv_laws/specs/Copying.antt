@@ -3,7 +3,7 @@
 use Rattle.std.specs.Prelude.{◌≡◌, ◌≢◌, ◌⊎◌, ℕ, true, false, List, [], ◌∷◌, take, Option, Some, None, is_some}
 use Rattle.pv_path.specs.Paths.{Path, is_prefix, has_staging}
 use Rattle.pv_steps.specs.Same.{Same}
-use Rattle.pv_steps.specs.Trees.{Files, places}
+use Rattle.pv_steps.specs.Trees.{Files, places, IsTree}
 use Rattle.pv_dress.specs.declared.bare.Bare.{Bare}
 use Rattle.pv_dress.specs.Dividing.{parts}
 use Rattle.pv_dress.specs.Nodes.{bares_of}
@@ -11,8 +11,9 @@ use Rattle.pv_dress.specs.Operations.{run}
 use Rattle.pv_lines.specs.declared.line.Line.{Line}
 use Rattle.pv_table.specs.declared.deed.Copying.{Copying}
 use Rattle.pv_table.specs.declared.deed.Deed.TheVariants.{Copy}
+use Rattle.pv_table.specs.Active.{in_create_order}
 use Rattle.pv_table.specs.Asking.{asks}
-use Rattle.pv_table.specs.Created.{by_line}
+use Rattle.pv_table.specs.Created.{by_line, IsQuiet}
 use Rattle.pv_table.specs.Effects.{prepare}
 use Rattle.pv_table.specs.Pointwise.{parent_bare}
 use Rattle.pv_table.specs.Reaching.{path_in}
@@ -47,3 +48,11 @@ pub data OnWayOf (line : Line) (now : ℕ) (t u : Files) : Type 0 where
 abbrev pub PartwayOf : List Line → ℕ → Files → Files → Type 0
 PartwayOf [] now t u = Same t u
 PartwayOf (line ∷ lines) now t u = OnWayOf line now t u ⊎ PartwayOf lines now ((by_line now).after line t) u
+
+-- runs of lines, one at each of some moments, each begun on what the last one left, and each cut short; a whole run from
+-- each of these trees would refuse no line
+abbrev pub StoppedRuns : List Line → List ℕ → Files → Files → Type 0
+StoppedRuns lines [] t u = u ≡ t
+StoppedRuns lines (now ∷ moments) t u =
+    IsQuiet lines now t
+    × ((v : Files) × IsTree v × PartwayOf (in_create_order lines) now t v × StoppedRuns lines moments v u)

@@ -1,7 +1,8 @@
-//! Laws of what lines that copy nothing leave. Each function does nothing; its contract is the law.
-ghost use Rattle.std.specs.Prelude.{◌≡◌, ◌≢◌, ℕ, Bool, List, [], take, length, Option, Some, true, false};
+//! Laws of what lines leave. Each function does nothing; its contract is the law.
+ghost use Rattle.std.specs.Prelude.{◌≡◌, ◌≢◌, ℕ, Bool, List, [], ◌∷◌, take, length, Option, Some, true, false};
+ghost use Rattle.std.specs.FinMap as fin;
 ghost use Rattle.std.specs.List.{list_any, AllByRecursion};
-ghost use Rattle.pv_path.specs.Paths.{Path, is_prefix, has_staging, staging_of};
+ghost use Rattle.pv_path.specs.Paths.{Path, has_names, is_prefix, has_staging, staging_of};
 ghost use Rattle.pv_steps.specs.Trees.{Files, places, IsTree, IsAbsentIn};
 ghost use Rattle.pv_steps.specs.Same.{Same};
 ghost use Rattle.pv_dress.specs.declared.bare.Bare.{Bare as BareValue};
@@ -16,14 +17,14 @@ ghost use Rattle.pv_table.specs.declared.deed.Making.{Making as MakingValue};
 ghost use Rattle.pv_table.specs.Active.{active, are_distinct, in_create_order};
 ghost use Rattle.pv_table.specs.Asked.{operations, operations_of};
 ghost use Rattle.pv_table.specs.Asking.{asks};
-ghost use Rattle.pv_table.specs.Created.{after_each, by_line, created, created_messages, IsQuiet};
+ghost use Rattle.pv_table.specs.Created.{after_each, by_line, created, created_messages, one_is_refused, IsQuiet};
 ghost use Rattle.pv_table.specs.Pointwise.{Bares, state};
 ghost use Rattle.pv_table.specs.Reaching.{governs, path_in};
 ghost use Rattle.pv_table.specs.Repeatable.{IsAt, IsRepeatable};
 ghost use Rattle.pv_table.specs.Turns.{copied};
 ghost use Rattle.pv_laws.specs.Between.{IsOnTheWay};
-ghost use Rattle.pv_laws.specs.CarryingOut.{IsCarriedOut};
-ghost use Rattle.pv_laws.specs.Copying.{PartwayOf};
+ghost use Rattle.pv_laws.specs.CarryingOut.{AreApart, IsCarriedOut};
+ghost use Rattle.pv_laws.specs.Copying.{PartwayOf, StoppedRuns};
 ghost use Rattle.pv_laws.specs.Moments.{SameBares, Agree};
 ghost use Rattle.pv_laws.specs.Stopping.{CopiesNothing, IsPiece, Partway};
 
@@ -43,17 +44,18 @@ pub fn lines_leave_what_they_ask_for()
         ≡ run (operations_of (in_create_order lines) q) (bares_of (places t) q) }
 {}
 
-/// Where no line has a reason, nothing is said against the operations that the lines ask for at any path.
+/// Where no line has a reason, nothing is said against the operations that the lines ask for at any path that can stand
+/// in a tree.
 pub fn nothing_is_said_against_lines_without_reasons()
     ensures { (lines : List LineValue) (q : Path) → AllByRecursion IsLine lines → are_distinct lines ≡ true
-        → IsRepeatable lines → reasons.IsRepeatable (operations_of (in_create_order lines) q) }
+        → IsRepeatable lines → has_names q ≡ true → reasons.IsRepeatable (operations_of (in_create_order lines) q) }
 {}
 
 /// So from what the first operations at a path have left there, or from the gap where an object is to be replaced, all
 /// operations end as they end from the start.
 pub fn a_piece_ends_as_the_start()
     ensures { (lines : List LineValue) (q : Path) (old new : Option BareValue) → AllByRecursion IsLine lines
-        → are_distinct lines ≡ true → IsRepeatable lines → IsPiece (in_create_order lines) q old new
+        → are_distinct lines ≡ true → IsRepeatable lines → has_names q ≡ true → IsPiece (in_create_order lines) q old new
         → run (operations_of (in_create_order lines) q) new ≡ run (operations_of (in_create_order lines) q) old }
 {}
 
@@ -84,6 +86,32 @@ pub fn a_run_cut_short_is_mended()
         → Partway (in_create_order lines) now t u → Same (created lines later u) (created lines now t) }
 {}
 
+/// So it is with lines that copy: a run that was cut short, and is then run whole at any moment, leaves what one whole
+/// run leaves, where no line has a reason and neither whole run refuses a line at a turn.
+pub fn a_run_with_copies_cut_short_is_mended()
+    ensures { (lines : List LineValue) (now later : ℕ) (t u : Files) → IsTree t → IsTree u
+        → AllByRecursion IsLine lines → are_distinct lines ≡ true → IsRepeatable lines → IsQuiet lines now t
+        → IsQuiet lines later u → PartwayOf (in_create_order lines) now t u
+        → Same (created lines later u) (created lines now t) }
+{}
+
+/// And after any number of runs, each begun on what the last one left and cut short.
+pub fn runs_cut_short_again_and_again_are_mended()
+    ensures { (lines : List LineValue) (moments : List ℕ) (now later : ℕ) (t u : Files) → IsTree t → IsTree u
+        → AllByRecursion IsLine lines → are_distinct lines ≡ true → IsRepeatable lines
+        → StoppedRuns lines moments t u → IsQuiet lines later u
+        → Same (created lines later u) (created lines now t) }
+{}
+
+/// Two lines without reasons, of which neither reaches a path that the other may change, leave the same in either
+/// order, where neither order has one refused; copies included, stamps and staging names aside.
+pub fn lines_that_are_apart_commute()
+    ensures { (a b : LineValue) (now later : ℕ) (t : Files) → IsTree t → IsLine a → IsLine b
+        → IsRepeatable (a ∷ b ∷ []) → AreApart a b → one_is_refused (by_line now) (a ∷ b ∷ []) t ≡ false
+        → one_is_refused (by_line later) (b ∷ a ∷ []) t ≡ false
+        → Same (after_each (by_line now) (a ∷ b ∷ []) t) (after_each (by_line later) (b ∷ a ∷ []) t) }
+{}
+
 /// Whether a run of lines refuses one at some turn needs no moment, and no stamps; copies included.
 pub fn quiet_needs_no_moment()
     ensures { (lines : List LineValue) (now later : ℕ) (t u : Files) → SameBares t u → IsQuiet lines now t
@@ -98,16 +126,14 @@ pub fn messages_and_trees_need_no_moment()
         → SameBares (created lines now t) (created lines later u) }
 {}
 
-/// What no line governs stays as it is, after a whole run and on its way, whatever is refused; stamps and staging
-/// names aside.
+/// What no line governs stays as it is, after a whole run and on its way, whatever is refused; copies included, stamps
+/// and staging names aside.
 pub fn what_no_line_governs_stays()
     ensures whole { (lines : List LineValue) (now : ℕ) (t : Files) (q : Path) → IsTree t → AllByRecursion IsLine lines
-        → AllByRecursion CopiesNothing lines → has_staging q ≡ false
-        → list_any (λ line. governs line q) lines ≡ false
+        → has_staging q ≡ false → list_any (λ line. governs line q) lines ≡ false
         → bares_of (places (created lines now t)) q ≡ bares_of (places t) q }
     ensures stopped { (lines : List LineValue) (now : ℕ) (t u : Files) (q : Path) → IsTree t → AllByRecursion IsLine lines
-        → AllByRecursion CopiesNothing lines → has_staging q ≡ false
-        → list_any (λ line. governs line q) lines ≡ false → Partway (in_create_order lines) now t u
+        → has_staging q ≡ false → list_any (λ line. governs line q) lines ≡ false → PartwayOf (in_create_order lines) now t u
         → bares_of (places u) q ≡ bares_of (places t) q }
 {}
 
@@ -144,11 +170,15 @@ pub fn active_lines_are_distinct()
 {}
 
 /// On the way of a run that refuses nothing each path has, for one line and all paths, the kind and the owner that it
-/// has before the line or after it; what is absent is absent before or after, or the line is to replace it.
+/// has before the line or after it; what is absent is absent before or after, or the line replaces an object there or
+/// above. This holds of lines that copy nothing, and of lines that copy where no line has a reason.
 pub fn on_the_way_each_path_is_between_two_lines()
-    ensures { (lines : List LineValue) (now : ℕ) (s : Bares) (t u : Files) → IsTree t → AllByRecursion IsLine lines
+    ensures plain { (lines : List LineValue) (now : ℕ) (s : Bares) (t u : Files) → IsTree t → AllByRecursion IsLine lines
         → AllByRecursion CopiesNothing lines → IsQuiet lines now t → Agree s t
         → Partway (in_create_order lines) now t u → IsOnTheWay lines s u }
+    ensures copies { (lines : List LineValue) (now : ℕ) (s : Bares) (t u : Files) → IsTree t → AllByRecursion IsLine lines
+        → IsRepeatable lines → IsQuiet lines now t → Agree s t
+        → PartwayOf (in_create_order lines) now t u → IsOnTheWay lines s u }
 {}
 
 /// The same with lines that copy, where no line has a reason.
@@ -161,16 +191,26 @@ pub fn each_path_by_itself_is_what_lines_without_reasons_leave()
         → Agree (state lines (length (in_create_order lines)) s) (created lines now t) }
 {}
 
-/// Where no line has a reason, what stands at and below a path that a line copies stays as it is, after a whole run that
-/// refuses nothing and on its way; lines that copy are among the lines.
+/// So what the definition gives at each path after all lines is the same from what a stopped run has left as from the tree
+/// of its start, where no line has a reason and neither whole run refuses a line at a turn.
+pub fn states_after_a_stop_end_as_from_the_start()
+    ensures { (lines : List LineValue) (now later : ℕ) (s r : Bares) (t u : Files) (q : Path) → IsTree t → IsTree u
+        → AllByRecursion IsLine lines → are_distinct lines ≡ true → IsRepeatable lines → IsQuiet lines now t
+        → IsQuiet lines later u → Agree s t → Agree r u → PartwayOf (in_create_order lines) now t u
+        → has_staging q ≡ false
+        → fin.get (state lines (length (in_create_order lines)) r) q
+        ≡ fin.get (state lines (length (in_create_order lines)) s) q }
+{}
+
+/// Where no line has a reason, what stands at and below a path that a line copies stays as it is, after a whole run and
+/// on its way, whatever is refused; lines that copy are among the lines.
 pub fn what_lines_copy_stays()
     ensures whole { (lines : List LineValue) (j : ℕ) (copier : LineValue) (source q : Path) (now : ℕ) (t : Files)
         → AllByRecursion IsLine lines → IsRepeatable lines → IsAt lines j copier → copied (asks copier) ≡ Some source
-        → is_prefix source q ≡ true → has_staging q ≡ false → IsTree t
-        → IsQuiet lines now t → bares_of (places (created lines now t)) q ≡ bares_of (places t) q }
+        → is_prefix source q ≡ true → has_names q ≡ true → has_staging q ≡ false → IsTree t
+        → bares_of (places (created lines now t)) q ≡ bares_of (places t) q }
     ensures stopped { (lines : List LineValue) (j : ℕ) (copier : LineValue) (source q : Path) (now : ℕ) (t u : Files)
         → AllByRecursion IsLine lines → IsRepeatable lines → IsAt lines j copier → copied (asks copier) ≡ Some source
-        → is_prefix source q ≡ true → has_staging q ≡ false → IsTree t
-        → IsQuiet lines now t → PartwayOf (in_create_order lines) now t u
-        → bares_of (places u) q ≡ bares_of (places t) q }
+        → is_prefix source q ≡ true → has_names q ≡ true → has_staging q ≡ false → IsTree t
+        → PartwayOf (in_create_order lines) now t u → bares_of (places u) q ≡ bares_of (places t) q }
 {}

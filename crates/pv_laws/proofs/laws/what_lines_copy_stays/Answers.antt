@@ -3,8 +3,8 @@ use Rattle.pv_laws.proofs.laws.what_lines_copy_stays.Goals as goal
 
 pub returns : goal.returns
 returns c = record {
-  whole = λ lines j copier source q now t are repeatable there copies under plain tree quiet.
-      source_after lines are repeatable source j copier there copies q under plain now t tree quiet;
-  stopped = λ lines j copier source q now t u are repeatable there copies under plain tree quiet way.
-      source_partway lines are repeatable source j copier there copies q under plain now t tree quiet u way;
+  whole = λ lines j copier source q now t are repeatable there copies under named plain tree.
+      source_after lines are repeatable source j copier there copies q under named plain now t tree;
+  stopped = λ lines j copier source q now t u are repeatable there copies under named plain tree way.
+      source_partway lines are repeatable source j copier there copies q under named plain now t tree u way;
 }
