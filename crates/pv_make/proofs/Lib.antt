@@ -3,3 +3,7 @@ pub mod ChoosingLaws
 pub mod PreparedLaws
 pub mod SettleLaws
 pub mod MakeLaws
+pub mod CopyTable
+pub mod CopySettleLaws
+pub mod AbsentSource
+pub mod CopyLaws

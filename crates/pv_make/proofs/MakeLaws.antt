@@ -43,7 +43,7 @@ use Rattle.pv_make.proofs.SettleLaws.{put_new_object, put_places}
 
 -- ---- objects without stamps
 
-bare_same : (a b : Option Object) → option_map bare a ≡ option_map bare b → option_map bare_of a ≡ option_map bare_of b
+pub bare_same : (a b : Option Object) → option_map bare a ≡ option_map bare b → option_map bare_of a ≡ option_map bare_of b
 bare_same a b e = sym (again a) ∙ ap (option_map bare_of) e ∙ again b
   where
     again : (o : Option Object) → option_map bare_of (option_map bare o) ≡ option_map bare_of o
@@ -203,9 +203,8 @@ module _ (now : ℕ) (line : Line) (path : Path) (making : Making) (asked : asks
 
       pub settling_step : (step : Step) (turn : Turn) → settling_turn making path u ≡ turn → IsSettleStepBy making path turn u step → IsStepOf now line path t step
       settling_step step (Turn.Put subtree) e h = IsStepOf.puts making subtree asked (made_turn free u is ∙ e) h
-      settling_step step (Turn.Become operations) e h = IsStepOf.sets path
-          (subst (λ (ops : List Operation). GivesSet path ops (found now (asks line) path t) step) (sym (sets_here operations e path (same_path-refl path)))
-          (subst (λ (v : Files). GivesSet path operations v step) (sym (made_found free u is)) h))
+      settling_step step (Turn.Become operations) e h = IsStepOf.sets operations (made_turn free u is ∙ e) (
+          subst (λ (v : Files). GivesSet path operations v step) (sym (made_found free u is)) h)
       settling_step step (Turn.Left kind) e h = absurd h
       settling_step step Turn.Nothing e h = absurd h
 
@@ -223,25 +222,25 @@ module _ {S : Type 0} (tree : Ghosts S) (now : ℕ) (line : Line) (path : Path) 
       let e = made_takes now line path making asked (tree.state a) free (prepare now path (tree.state a)) refl in
       omega (arith, e)
 
-  pub prepare_acted : {A : Type 0} {r : Result A TreeFault} → Acted tree (Preparing path (tree.state a)) (IsPrepareStep path) (count_at_all (tree.state a) (staging_names path) + most_new * parent_count path (tree.state a)) now a b r
+  pub prepare_acted : {A : Type 0} {r : Result A TreeFault} → Acted tree (Preparing path (tree.state a)) (IsPrepareStep path (tree.state a)) (count_at_all (tree.state a) (staging_names path) + most_new * parent_count path (tree.state a)) now a b r
       → Acted tree (OnWay now line path (tree.state a)) (IsStepOf now line path (tree.state a)) ((by_turn now line).takes path (tree.state a)) now a b r
   prepare_acted acted =
-      acted_weaken tree (Preparing path (tree.state a)) (OnWay now line path (tree.state a)) (IsPrepareStep path) (IsStepOf now line path (tree.state a)) most ((by_turn now line).takes path (tree.state a))
+      acted_weaken tree (Preparing path (tree.state a)) (OnWay now line path (tree.state a)) (IsPrepareStep path (tree.state a)) (IsStepOf now line path (tree.state a)) most ((by_turn now line).takes path (tree.state a))
       (preparing_way now line path making asked (tree.state a) free) (λ s e. IsStepOf.prepares (ap (puts_parents (places (tree.state a))) asked) e) within acted
 
   pub made_acted : {A B : Type 0} {c : S} {x : A} {r : Result B TreeFault} → Moves tree → tree.state b ≡ prepare now path (tree.state a)
-      → Acted tree (Preparing path (tree.state a)) (IsPrepareStep path) (count_at_all (tree.state a) (staging_names path) + most_new * parent_count path (tree.state a)) now a b (Ok x)
+      → Acted tree (Preparing path (tree.state a)) (IsPrepareStep path (tree.state a)) (count_at_all (tree.state a) (staging_names path) + most_new * parent_count path (tree.state a)) now a b (Ok x)
       → Acted tree (Settling making path (tree.state b)) (IsSettleStep making path (tree.state b)) (turn_work (Create making) path (settling_turn making path (tree.state b)) (tree.state b)) now b c r
       → Acted tree (OnWay now line path (tree.state a)) (IsStepOf now line path (tree.state a)) ((by_turn now line).takes path (tree.state a)) now a c r
   made_acted moves is first second =
       let t = tree.state a in
       let u = tree.state b in
-      let way : Preparing path t u = acted_end tree (Preparing path t) (IsPrepareStep path) first in
+      let way : Preparing path t u = acted_end tree (Preparing path t) (IsPrepareStep path t) first in
       let work = turn_work (Create making) path (settling_turn making path u) u in
       let e : (by_turn now line).takes path t ≡ most + work = made_takes now line path making asked t free u is in
       acted_within tree (most + work) ((by_turn now line).takes path t) (omega (arith, e))
       (acted_then tree moves (OnWay now line path t) (IsStepOf now line path t)
-      (acted_weaken tree (Preparing path t) (OnWay now line path t) (IsPrepareStep path) (IsStepOf now line path t) most most
+      (acted_weaken tree (Preparing path t) (OnWay now line path t) (IsPrepareStep path t) (IsStepOf now line path t) most most
       (preparing_way now line path making asked t free) (λ s h. IsStepOf.prepares (ap (puts_parents (places t)) asked) h) (omega arith) first)
       (acted_weaken tree (Settling making path u) (OnWay now line path t) (IsSettleStep making path u) (IsStepOf now line path t) work work
       (λ w h. settling_way now line path making asked t free u is way w (settling_turn making path u) refl h)

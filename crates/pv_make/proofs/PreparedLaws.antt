@@ -30,7 +30,7 @@ either : (a b c : Bool) → (a || b) ≡ true → (b ≡ true → c ≡ true) �
 either true b c h f = refl
 either false b c h f = f h
 
-among_left : (q : Path) (xs ys : List Path) → is_among q xs ≡ true → is_among q (xs ++ ys) ≡ true
+pub among_left : (q : Path) (xs ys : List Path) → is_among q xs ≡ true → is_among q (xs ++ ys) ≡ true
 among_left q [] ys h = absurd (let no : false ≡ true = h in cc)
 among_left q (x ∷ xs) ys h = either (eq_by_cmp path_cmp q x) (is_among q xs) (is_among q (xs ++ ys)) h (among_left q xs ys)
 
@@ -48,7 +48,7 @@ module _ (now : ℕ) where
       by true e = cut_present (is_prefix p q) (sym (is_some-touched now p (cut p t) q) ∙ e)
       by false e = e
 
-  all_taken_present : (ps : List Path) (t : Places) (q : Path) → is_some (all_taken now ps t q) ≡ true → is_some (t q) ≡ true
+  pub all_taken_present : (ps : List Path) (t : Places) (q : Path) → is_some (all_taken now ps t q) ≡ true → is_some (t q) ≡ true
   all_taken_present [] t q h = h
   all_taken_present (p ∷ ps) t q h = taken_present p t q (all_taken_present ps (taken now p t) q h)
 
@@ -63,7 +63,7 @@ module _ (now : ℕ) where
       by true e = inr e
       by false e = put (path_cases p q) (sym (is_some-touched now p (put_at p (Some (new_object parent_file now)) t) q) ∙ e)
 
-  parents_present : (ps : List Path) (t : Places) (q : Path) → is_some (fold (with_parent now) t ps q) ≡ true → (is_among q ps ≡ true) ⊎ (is_some (t q) ≡ true)
+  pub parents_present : (ps : List Path) (t : Places) (q : Path) → is_some (fold (with_parent now) t ps q) ≡ true → (is_among q ps ≡ true) ⊎ (is_some (t q) ≡ true)
   parents_present [] t q h = inr h
   parents_present (p ∷ ps) t q h = by (parents_present ps (with_parent now t p) q h)
     where

@@ -39,7 +39,7 @@ use Rattle.pv_make.specs.Settling.{IsMaking}
 -- ---- rows
 
 -- what a test finds in a list has what all that pass it have
-found : {A : Type 0} (p : A → Bool) (P : A → Type 0) (xs : List A) → AllByRecursion (λ x. p x ≡ true → P x) xs → (x : A) → find p xs ≡ Some x → P x
+pub found : {A : Type 0} (p : A → Bool) (P : A → Type 0) (xs : List A) → AllByRecursion (λ x. p x ≡ true → P x) xs → (x : A) → find p xs ≡ Some x → P x
 found p P [] h x e = absurd (let no : None ≡ Some x = e in cc)
 found {A} p P (y ∷ ys) h x e = by (p y) refl e (found p P ys h.1 x)
   where
@@ -83,7 +83,7 @@ maker line making letter what fits same made = record {
     letters = grind (arith, nat_tests, same)
 
 -- what holds of something that is there holds of it by its name
-named : {A : Type 0} (o : Option A) (P : A → Type 0) → IfSome o P → (x : A) → o ≡ Some x → P x
+pub named : {A : Type 0} (o : Option A) (P : A → Type 0) → IfSome o P → (x : A) → o ≡ Some x → P x
 named None P h x e = absurd (let clash : None ≡ Some x = e in cc)
 named (Some y) P h x e = subst P (let same : Some y ≡ Some x = e in let it : y ≡ x = cc in it) h
 
@@ -198,7 +198,7 @@ module _ (line : Line) (making : Making) where
 
 -- ---- what is made
 
-mode_fits : (field : Option LineMode) (directory : Bool) → IfSome field (λ mode. mode.value ≤ 0o7777) → mode_for_new field directory ≤ 0o7777
+pub mode_fits : (field : Option LineMode) (directory : Bool) → IfSome field (λ mode. mode.value ≤ 0o7777) → mode_for_new field directory ≤ 0o7777
 mode_fits None true h = omega arith
 mode_fits None false h = omega arith
 mode_fits (Some mode) directory h = by (mode.masked && not directory)
@@ -218,7 +218,7 @@ contents_fit line kind = by (line.plus && is_file kind)
     by true = tt
     by false = tt
 
-id_to_set_fits : (field : Option LineId) → AreIds field → IfSome (id_to_set field) IsId
+pub id_to_set_fits : (field : Option LineId) → AreIds field → IfSome (id_to_set field) IsId
 id_to_set_fits None h = tt
 id_to_set_fits (Some owner) h = by owner.new_only
   where
@@ -226,7 +226,7 @@ id_to_set_fits (Some owner) h = by owner.new_only
     by true = tt
     by false = h
 
-mode_set_by : (guard : Guard) → admits guard Link ≡ false → (field : Option LineMode) → IfSome field (λ mode. mode.value ≤ 0o7777) → AtMostOne SetsMode (mode_to_set field (Some guard))
+pub mode_set_by : (guard : Guard) → admits guard Link ≡ false → (field : Option LineMode) → IfSome field (λ mode. mode.value ≤ 0o7777) → AtMostOne SetsMode (mode_to_set field (Some guard))
 mode_set_by guard unlinked None h = tt
 mode_set_by guard unlinked (Some mode) h = by mode.new_only
   where
@@ -263,7 +263,7 @@ not_taken : (takes stands : Bool) → Takes takes stands → takes ≡ false →
 not_taken takes true h untaken = absurd (let e : true ≡ false = sym (h refl) ∙ untaken in cc)
 not_taken takes false h untaken = refl
 
-root_named : (line : LinePath) (path : Path) → line ≡ Literal path → path ≡ [] → is_root line ≡ true
+pub root_named : (line : LinePath) (path : Path) → line ≡ Literal path → path ≡ [] → is_root line ≡ true
 root_named line path is root = ap is_root (is ∙ ap Literal root)
 
 -- a line that makes something has a path, and what it makes is as it has to be

@@ -1,2 +1,3 @@
 pub mod OnWay
 pub mod Settling
+pub mod Copies

@@ -1,21 +1,19 @@
 -- What a line may have left on its way at a path, stamps and staging names aside, and which steps it may do
 -- (tmpfiles.d(5)).
-use Rattle.std.specs.Prelude.{◌≡◌, ◌⊎◌, ℕ, Bool, true, false, List, [], ◌++◌, take, Option, Some, None, if◌then◌else◌}
+use Rattle.std.specs.Prelude.{◌≡◌, ℕ, Bool, true, false, List, [], take, Option, Some, None, if◌then◌else◌}
 use Rattle.pv_dress.specs.declared.bare.Bare.{Bare}
 use Rattle.pv_dress.specs.declared.operation.Operation.{Operation}
 use Rattle.pv_dress.specs.Dividing.{parts}
-use Rattle.pv_dress.specs.Dressing.{dress_mode}
 use Rattle.pv_dress.specs.Nodes.{bares_of}
 use Rattle.pv_dress.specs.Operations.{run}
 use Rattle.pv_lines.specs.declared.line.Line.{Line}
-use Rattle.pv_path.specs.Paths.{Path, same_path, is_prefix, has_staging, staging_of}
+use Rattle.pv_path.specs.Paths.{Path, same_path, is_prefix, has_staging}
 use Rattle.pv_steps.specs.declared.step.Step.{Step}
-use Rattle.pv_steps.specs.declared.step.Step.TheVariants.{MakeDir, MakeFile, MakeFifo, MakeDevice, MakeLink, Write, SetMode, SetOwner, SetAcl, SetAttrs, SetLetters}
 use Rattle.pv_steps.specs.Same.{Same}
 use Rattle.pv_steps.specs.Trees.{Files, Places, places}
 use Rattle.pv_walk.specs.Preparing.{IsAbove, IsPrepareStep}
 use Rattle.pv_walk.specs.Putting.{IsPutStep}
-use Rattle.pv_walk.specs.Staging.{IsPublishing}
+use Rattle.pv_walk.specs.Copying.{IsCopyStep}
 use Rattle.pv_table.specs.declared.deed.Copying.{Copying}
 use Rattle.pv_table.specs.declared.deed.Deed.{Deed}
 use Rattle.pv_table.specs.declared.deed.Deed.TheVariants.{Create, Copy, Touch}
@@ -68,35 +66,13 @@ pub data OnWay (now : ℕ) (line : Line) (path : Path) (t u : Files) : Type 0 wh
 
 -- ---- single steps
 
--- a step makes something at a path, or gives it a part of what an object without stamps has
-abbrev pub GivesBare : Path → Bare → Step → Type 0
-GivesBare path b (MakeDir at) = at ≡ path
-GivesBare path b (MakeFile at) = at ≡ path
-GivesBare path b (MakeFifo at) = at ≡ path
-GivesBare path b (MakeDevice at block major minor) = at ≡ path
-GivesBare path b (MakeLink at target) = (at ≡ path) × (target ≡ b.body.payload)
-GivesBare path b (Write at content) = (at ≡ path) × (content ≡ b.body.payload)
-GivesBare path b (SetOwner at uid gid) = (at ≡ path) × ((uid ≡ b.dress.uid) × (gid ≡ b.dress.gid))
-GivesBare path b (SetMode at mode) = (at ≡ path) × (mode ≡ dress_mode b.dress)
-GivesBare path b (SetAcl at acl) = (at ≡ path) × (acl ≡ b.dress.acl)
-GivesBare path b (SetAttrs at attrs) = (at ≡ path) × (attrs ≡ b.dress.attrs)
-GivesBare path b (SetLetters at letters) = (at ≡ path) × (letters ≡ b.dress.letters)
-GivesBare path b step = ⊥
-
--- a step gives an object of a subtree, under the staging name of a path, what it has
-pub record IsStagingOf (path : Path) (subtree : Subtree) (step : Step) : Type 0 where
-  pub rest : Path
-  pub object : Bare
-  pub is : subtree rest ≡ Some object
-  pub gives : GivesBare (staging_of path ++ rest) object step
-
--- a step of a line at a path: it prepares the path; it stages or publishes the new object, or the copy; or it gives what
--- stands at a path what it has when all is set
+-- a step of a line that makes or copies something, at a path: it prepares the path; it stages or publishes the new object,
+-- or the copy; or it gives what stands there what it has when all is set
 pub data IsStepOf (now : ℕ) (line : Line) (path : Path) (t : Files) (step : Step) : Type 0 where
-  prepares : puts_parents (places t) (asks line) ≡ true → IsPrepareStep path step → IsStepOf now line path t step
+  prepares : puts_parents (places t) (asks line) ≡ true → IsPrepareStep path t step → IsStepOf now line path t step
   puts : (making : Making) (subtree : Subtree) → asks line ≡ Create making → turn_at now line path t ≡ Turn.Put subtree
       → IsPutStep path making.new step → IsStepOf now line path t step
   copies : (copying : Copying) (subtree : Subtree) → asks line ≡ Copy copying → turn_at now line path t ≡ Turn.Put subtree
-      → IsStagingOf path subtree step ⊎ IsPublishing path step → IsStepOf now line path t step
-  sets : (q : Path) → GivesSet q (sets_at (asks line) (turn_at now line path t) path q) (found now (asks line) path t) step
-      → IsStepOf now line path t step
+      → IsCopyStep path subtree step → IsStepOf now line path t step
+  sets : (operations : List Operation) → turn_at now line path t ≡ Turn.Become operations
+      → GivesSet path operations (found now (asks line) path t) step → IsStepOf now line path t step

@@ -113,7 +113,7 @@ fn owner_of(user: Option<LineId>) -> u32
 }
 
 /// The place at which a path is refused, counted by the names that lead to it, and why.
-fn refusal_of<T: Tree>(
+pub(crate) fn refusal_of<T: Tree>(
     alloc: Global,
     tree: &T,
     path: &TreePath,
