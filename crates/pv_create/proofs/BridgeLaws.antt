@@ -1,12 +1,12 @@
 -- What the calls say of the way of a line is what the laws of lines say of it, so that a run of the lines of a table that
 -- was cut short is mended by the next.
-use Rattle.std.specs.Prelude.{◌≡◌, ◌≢◌, ◌⊎◌, ℕ, ◌+◌, ◌-◌, ◌^◌, ◌<◌, ◌≤◌, Bool, true, false, not, cond, ◌&&◌, ◌||◌, List, [], ◌∷◌, ◌++◌, length, take, drop, filter, Option, Some, None, unwrap_or, is_some, if◌then◌else◌, ⊤}
+use Rattle.std.specs.Prelude.{◌≡◌, ◌≢◌, ◌⊎◌, ℕ, ◌+◌, ◌-◌, ◌<◌, ◌≤◌, Bool, true, false, not, cond, ◌&&◌, ◌||◌, List, [], ◌∷◌, ◌++◌, length, take, filter, Option, Some, None, unwrap_or, is_some, if◌then◌else◌, ⊤}
 use Rattle.std.proofs.Common.{zero, suc, refl, sym, ap, subst, ◌∙◌, arith, inl, inr}
 use Rattle.std.proofs.Math.Bool.{or-true}
-use Rattle.std.proofs.Math.Seq.{take-append_seam, take-length, drop-append_seam}
+use Rattle.std.proofs.Math.Seq.{take-append_seam, take-length}
 use Rattle.std.proofs.lemmas.Bool.{or_cases}
 use Rattle.std.specs.FinMap as fin
-use Rattle.std.specs.List.{list_any, list_all, AllByRecursion}
+use Rattle.std.specs.List.{list_any, list_all}
 use Rattle.pv_acl.specs.declared.line.AclLine.{AclLine}
 use Rattle.pv_acl.specs.declared.line.Entry.{Entry}
 use Rattle.pv_acl.specs.declared.line.How.{How}
@@ -16,12 +16,8 @@ use Rattle.pv_acl.specs.declared.part.Part.{Part}
 use Rattle.pv_acl.specs.Applying.{part_after, default_after, acl_after}
 use Rattle.pv_path.specs.Paths.{Path, same_path, is_prefix, has_staging, same_path-decides}
 use Rattle.pv_path.proofs.PathLaws.{same_path-refl, is_prefix-antisym, prefix_parts, prefix_whole}
-use Rattle.pv_steps.specs.declared.step.Step.{Step}
 use Rattle.pv_steps.specs.Objects.{is_directory}
-use Rattle.pv_steps.specs.Runs.{after_all, Ran}
-use Rattle.pv_steps.specs.Same.{Same}
-use Rattle.pv_steps.specs.Trees.{Files, places, IsTree}
-use Rattle.pv_steps.proofs.RunLaws.{along_prefix, along_trees}
+use Rattle.pv_steps.specs.Trees.{Files, places}
 use Rattle.pv_dress.specs.declared.bare.Bare.{Bare}
 use Rattle.pv_dress.specs.declared.operation.Change.TheVariants.{Owner, Mode, Entries, Attrs, Letters}
 use Rattle.pv_dress.specs.declared.operation.Guard.{Guard}
@@ -41,7 +37,6 @@ use Rattle.pv_lines.specs.declared.line.Argument.{Argument}
 use Rattle.pv_lines.specs.declared.line.Argument.TheVariants as argument
 use Rattle.pv_lines.specs.declared.line.Line.{Line}
 use Rattle.pv_lines.specs.declared.line.LineMode.{LineMode}
-use Rattle.pv_lines.specs.Lines.{IsLine}
 use Rattle.pv_walk.specs.Listing.{times}
 use Rattle.pv_walk.specs.Staging.{new_object, new_kind}
 use Rattle.pv_walk.proofs.CountLaws.{times-filter, times-keys, same_or_not}
@@ -50,14 +45,13 @@ use Rattle.pv_table.specs.declared.deed.Deed.{Deed}
 use Rattle.pv_table.specs.declared.deed.Deed.TheVariants.{Create, Copy, Touch, Idle}
 use Rattle.pv_table.specs.declared.deed.Making.{Making}
 use Rattle.pv_table.specs.declared.deed.Touching.{Touching}
-use Rattle.pv_table.specs.Active.{are_distinct, in_create_order}
 use Rattle.pv_table.specs.Asked.{first_of, clears_below, operations}
 use Rattle.pv_table.specs.Asking.{id_to_set, without_links, mode_to_set, owners_and_mode, set_by, making as making_deed, copying as copying_deed, asks}
-use Rattle.pv_table.specs.Created.{after_each, one_is_refused, by_turn, by_line, created, IsQuiet}
+use Rattle.pv_table.specs.Created.{after_each, one_is_refused, by_turn, by_line}
 use Rattle.pv_table.specs.Effects.{carried_out, is_touched, turn_after}
 use Rattle.pv_table.specs.Pointwise.{parent_bare, after_turn, touches}
 use Rattle.pv_table.specs.Reaching.{names, names_above, path_in, is_deep}
-use Rattle.pv_table.specs.Repeatable.{sets_of, IsRepeatable}
+use Rattle.pv_table.specs.Repeatable.{sets_of}
 use Rattle.pv_table.specs.Saying.{found}
 use Rattle.pv_table.specs.Turns.{Turn, Subtree, view_of, copied, has_something, decide, making_turn}
 use Rattle.pv_doing.specs.Courses.{Partway}
@@ -66,19 +60,16 @@ use Rattle.pv_adjust.specs.Reached.{IsPartSet}
 use Rattle.pv_make.specs.OnWay.{OnWay, IsMidway, turn_at, sets_at}
 use Rattle.pv_laws.specs.Stopping as stopping
 use Rattle.pv_laws.specs.Stopping.{IsRenewal, CopiesNothing}
-use Rattle.pv_laws.proofs.Lines.{IsPlain, line_is_plain, line_point, turns_made, turns_touch, asked_made, asked_touch}
+use Rattle.pv_laws.proofs.Lines.{IsPlain, line_point, turns_made, turns_touch, asked_made, asked_touch}
 use Rattle.pv_laws.proofs.Making.{is_dir, IsShaped, does_stay, turn_by, IsPlainDirectory, first_on_some, below_after, asked_here, asked_above, asked_else, ready_here}
-use Rattle.pv_laws.proofs.Prepared.{neither}
 use Rattle.pv_laws.proofs.Repeated.{first_makes}
 use Rattle.pv_laws.proofs.Sets.{impossible, is_adjustment, IsAsked, IsMaking, line_is_making, asked, sets_adjust, deep_repeatable}
-use Rattle.pv_laws.proofs.Shapes.{tree_shaped}
-use Rattle.pv_laws.proofs.Stops.{all_plain, in_order_plain, partway_mends}
 use Rattle.pv_laws.proofs.Touching.{turn_open, first_turn, touch_point, any_range}
-use Rattle.pv_create.specs.Ways.{WayOf, LineWay, lines_course}
+use Rattle.pv_create.specs.Ways.{WayOf, LineWay}
 
 -- ---- operations, whole and in front parts
 
-none_done : (k : ℕ) (b : Option Bare) → run (take k []) b ≡ b
+pub none_done : (k : ℕ) (b : Option Bare) → run (take k []) b ≡ b
 none_done zero b = refl
 none_done (suc k) b = refl
 
@@ -515,7 +506,7 @@ module _ (now : ℕ) (line : Line) (making : Making) (e : asks line ≡ Create m
 
   -- ---- at each path
 
-  making_at : (q : Path) → has_staging q ≡ false → (new : Option Bare) → IsMidway now line path t q (bares_of (places t) q) new → stopping.IsMidway line q (bares_of (places t) q) new
+  pub making_at : (q : Path) → has_staging q ≡ false → (new : Option Bare) → IsMidway now line path t q (bares_of (places t) q) new → stopping.IsMidway line q (bares_of (places t) q) new
   making_at q plain new (IsMidway.set k f) = elim (path_cases path q) [
     | inl same ↦ subst (λ (p : Path). new ≡ run (take k (parts (sets_at (Create making) (making_turn making (bares_of (places t) path)) path p))) (bares_of (places t) p) → stopping.IsMidway line p (bares_of (places t) p) new) same
         (set_here k (bares_of (places t) path) new)
@@ -560,43 +551,3 @@ plain_bridge now line t u is shape quiet = by (asks line) refl
         (ap (λ paths. one_is_refused (by_turn now line) paths t) (sym (turns_touch line touching t e)) ∙ quiet)
         (subst (λ (paths : List Path). Partway (touching_course now line touching) paths t u) (turns_touch line touching t e) way)
     by Idle e same = λ q plain. stopping.IsMidway.piece zero (sym (bares_of-same (places t) (places u) q (same q plain)))
-
-pub line_bridge : (now : ℕ) (line : Line) (t u : Files) → IsTree t → IsLine line → copied (asks line) ≡ None → (by_line now).is_refused line t ≡ false → LineWay now line t u → stopping.OnWay line t u
-line_bridge now line t u tree is none = plain_bridge now line t u (line_is_plain line is none) (tree_shaped (places t) tree)
-
--- ---- lines one after the other
-
-pub plain_run_bridge : (now : ℕ) (lines : List Line) (t u : Files) → AllByRecursion IsPlain lines → IsShaped (bares_of (places t)) → one_is_refused (by_line now) lines t ≡ false
-    → Partway (lines_course now) lines t u → stopping.Partway lines now t u
-plain_run_bridge now [] t u are shape quiet same = same
-plain_run_bridge now (line ∷ lines) t u are shape quiet (inl way) = inl (plain_bridge now line t u are.0 shape (neither ((by_line now).is_refused line t) (one_is_refused (by_line now) lines ((by_line now).after line t)) quiet).0 way)
-plain_run_bridge now (line ∷ lines) t u are shape quiet (inr later) =
-    let two = neither ((by_line now).is_refused line t) (one_is_refused (by_line now) lines ((by_line now).after line t)) quiet in
-    inr (plain_run_bridge now lines ((by_line now).after line t) u are.1 (line_point now line are.0 t shape two.0).shape two.1 later)
-
-pub run_bridge : (now : ℕ) (lines : List Line) (t u : Files) → IsTree t → AllByRecursion IsLine lines → AllByRecursion CopiesNothing lines → one_is_refused (by_line now) lines t ≡ false
-    → Partway (lines_course now) lines t u → stopping.Partway lines now t u
-run_bridge now lines t u tree are none = plain_run_bridge now lines t u (all_plain lines are none) (tree_shaped (places t) tree)
-
--- ---- runs that were cut short
-
-module _ (table : List Line) (are : AllByRecursion IsLine table) (none : AllByRecursion CopiesNothing table) where
-  -- a whole run from what is on the way leaves what a whole run from the start leaves
-  pub mends : (now later : ℕ) (t u : Files) → IsTree t → IsTree u → IsQuiet table now t → IsQuiet table later u → IsRepeatable table → are_distinct table ≡ true
-      → Partway (lines_course now) (in_create_order table) t u → Same (created table later u) (created table now t)
-  mends now later t u tree there quiet again repeatable distinct way =
-      partway_mends table are none distinct repeatable now later t u tree there quiet again
-      (plain_run_bridge now (in_create_order table) t u (in_order_plain table are none) (tree_shaped (places t) tree) quiet way)
-
-  -- so a run that stopped after any number of its steps is mended
-  pub mended : (Q : Step → Type 0) (now : ℕ) (t : Files) (h : List Step) (u : Files) (k : List Step) → now < 2 ^ 64 → IsTree t → Ran (Partway (lines_course now) (in_create_order table) t) Q now t h u k
-      → (n later : ℕ) → IsQuiet table now t → IsQuiet table later (after_all t (take n (drop (length h) k)) now) → IsRepeatable table → are_distinct table ≡ true
-      → Same (created table later (after_all t (take n (drop (length h) k)) now)) (created table now t)
-  mended Q now t h u k fits tree run =
-      subst (λ (steps : List Step). (n later : ℕ) → IsQuiet table now t → IsQuiet table later (after_all t (take n steps) now) → IsRepeatable table → are_distinct table ≡ true
-      → Same (created table later (after_all t (take n steps) now)) (created table now t))
-      (sym (ap (drop (length h)) run.told ∙ drop-append_seam h run.steps)) (λ n later quiet again repeatable distinct.
-      mends now later t (after_all t (take n run.steps) now) tree
-      (along_prefix IsTree t run.steps now n (along_trees (Partway (lines_course now) (in_create_order table) t) t run.steps now fits tree run.along))
-      quiet again repeatable distinct
-      (along_prefix (Partway (lines_course now) (in_create_order table) t) t run.steps now n run.along))

@@ -1,12 +1,12 @@
 -- Laws of lines carried out in the order of the create phase.
-use Rattle.std.specs.Prelude.{◌≡◌, ℕ, ◌+◌, ◌<◌, ◌≤◌, Bool, true, false, ◌||◌, List, [], ◌∷◌, ◌++◌, length, map, drop, get_or, Option, Some, None, is_some, slice_get, Result, Ok}
+use Rattle.std.specs.Prelude.{◌≡◌, ℕ, ◌+◌, ◌<◌, Bool, true, false, ◌||◌, List, [], ◌∷◌, ◌++◌, length, map, drop, get_or, Some, is_some, slice_get, Result, Ok}
 use Rattle.std.specs.List.{AllByRecursion, enumerate_from}
 use Rattle.std.proofs.Common.{zero, suc, refl, sym, ap, subst, ◌∙◌, arith}
 use Rattle.std.proofs.lemmas.Option.{slice_get-get_or, get_or_from_slice_get}
 use Rattle.pv_doing.specs.Courses.{Partway, IsStepOfSome, carried_of}
 use Rattle.pv_doing.specs.declared.carried.Carried.{Carried}
 use Rattle.pv_doing.specs.declared.carried.Carried.TheVariants.{Whole}
-use Rattle.pv_doing.proofs.CourseLaws.{Going, going_start, going_next, next_left, none_left, one_within, one_part, partway_start, end_whole, end_said, end_part, end_refused, end_acted}
+use Rattle.pv_doing.proofs.CourseLaws.{Going, going_start, going_next, next_left, one_within, one_part, partway_start, end_whole, end_said, end_part, end_refused, end_acted}
 use Rattle.pv_laws.proofs.Orders.{all_at, all_ordered}
 use Rattle.pv_lines.specs.declared.line.Line.{Line}
 use Rattle.pv_steps.specs.declared.tree.Tree.{Ghosts}

@@ -1,10 +1,11 @@
 -- The stop law of the create phase (tmpfiles.d(5)).
-use Rattle.std.specs.Prelude.{ℕ, List, take}
+use Rattle.std.specs.Prelude.{ℕ, List, [], ◌∷◌, ◌++◌, take}
 use Rattle.pv_lines.specs.declared.line.Line.{Line}
 use Rattle.pv_steps.specs.declared.step.Step.{Step}
 use Rattle.pv_steps.specs.Runs.{after_all}
 use Rattle.pv_steps.specs.Same.{Same}
-use Rattle.pv_steps.specs.Trees.{Files}
+use Rattle.pv_steps.specs.Trees.{Files, IsTree}
+use Rattle.pv_laws.specs.Copying.{StoppedRuns}
 use Rattle.pv_table.specs.Created.{created, IsQuiet}
 use Rattle.pv_table.specs.Repeatable.{IsRepeatable}
 
@@ -16,3 +17,19 @@ IsMended lines now t steps = (n later : ℕ) → IsRepeatable lines →
     IsQuiet lines now t →
     IsQuiet lines later (after_all t (take n steps) now) →
     Same (created lines later (after_all t (take n steps) now)) (created lines now t)
+
+-- the same where runs of the lines that were cut short, at some moments, had led to the tree: then a whole run leaves the
+-- tree of one whole run from the first of these trees
+abbrev pub IsMendedAgain : List Line → ℕ → Files → List Step → Type 0
+IsMendedAgain lines now t steps = (s : Files) (moments : List ℕ) (n first later : ℕ) → IsTree s → IsRepeatable lines →
+    StoppedRuns lines moments s t →
+    IsQuiet lines now t →
+    IsQuiet lines later (after_all t (take n steps) now) →
+    Same (created lines later (after_all t (take n steps) now)) (created lines first s)
+
+-- and the run itself, stopped after any of its steps, is one more of them
+abbrev pub IsStoppedAgain : List Line → ℕ → Files → List Step → Type 0
+IsStoppedAgain lines now t steps = (s : Files) (moments : List ℕ) (n : ℕ) → IsRepeatable lines →
+    StoppedRuns lines moments s t →
+    IsQuiet lines now t →
+    StoppedRuns lines (moments ++ now ∷ []) s (after_all t (take n steps) now)

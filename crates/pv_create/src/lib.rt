@@ -1,7 +1,11 @@
 //! The create phase: the lines of a table, each carried out at its turn, so that a run cut short is mended by the next.
 #![tactic(auto)]
 
+mod laws;
 mod line;
 mod run;
 
+pub use laws::{
+    a_run_leaves_what_lines_are_read_from, the_steps_of_a_run_leave_what_lines_are_read_from,
+};
 pub use run::create_run;

@@ -1,18 +1,16 @@
 //! One line carried out, by what it asks for.
-ghost use Rattle.std.specs.Prelude.{◌≡◌, ◌&&◌, ◌++◌, not, Bool, None, IfOk, OnOk};
+ghost use Rattle.std.specs.Prelude.{◌≡◌, ◌&&◌, ◌++◌, not, Bool, IfOk, OnOk};
 ghost use Rattle.pv_doing.specs.Courses.{carried_of};
 ghost use Rattle.pv_lines.specs.Lines.{IsLine};
 ghost use Rattle.pv_steps.specs.Acting.{Acted};
 ghost use Rattle.pv_text.specs.Said.{SaidPart};
-ghost use Rattle.pv_table.specs.Asking.{asks};
 ghost use Rattle.pv_table.specs.Created.{by_line, by_line_that_counts};
-ghost use Rattle.pv_table.specs.Turns.{copied};
 ghost use Rattle.pv_create.specs.Ways.{LineWay, IsLineStep};
 
 use pv_adjust::adjust_named;
 use pv_doing::Carried;
 use pv_lines::Line;
-use pv_make::make;
+use pv_make::{copy, make};
 use pv_steps::{Tree, TreeFault};
 use pv_table::{Deed, asks};
 use pv_text::Messages;
@@ -28,7 +26,6 @@ pub(crate) fn carry_out<T: Tree>(
     messages: &mut Messages,
 ) -> Result<Carried, TreeFault>
     requires line { IsLine line.now }
-    requires copies { copied (asks line.now) ≡ None }
     ensures ok { OnOk result (T.state tree.new ≡ (by_line now).after line.now (T.state tree.old)) }
     ensures said { OnOk result (messages.new
         ≡ messages.old ++ (by_line now).says line.now (T.state tree.old)) }
@@ -52,7 +49,6 @@ fn carry_out_asked<T: Tree>(
     messages: &mut Messages,
 ) -> Result<Carried, TreeFault>
     requires line { IsLine line.now }
-    requires copies { copied (asks line.now) ≡ None }
     ensures ok { OnOk result (T.state tree.new ≡ (by_line now).after line.now (T.state tree.old)) }
     ensures said { OnOk result (messages.new
         ≡ messages.old ++ (by_line now).says line.now (T.state tree.old)) }
@@ -66,7 +62,7 @@ fn carry_out_asked<T: Tree>(
     match asks(alloc, line)? {
         Deed::Create(making) => make(alloc, tree, line, &making, now, messages),
         Deed::Touch(touching) => adjust_named(alloc, tree, line, &touching, now, messages),
-        Deed::Copy(_) => unreachable!(),
+        Deed::Copy(copying) => copy(alloc, tree, line, &copying, now, messages),
         Deed::Idle => Ok(Carried::Whole),
     }
 }

@@ -2,13 +2,13 @@
 ghost use Rattle.std.specs.Prelude.{◌≡◌, ◌++◌, true, Some, is_some, slice_get, drop, length, IfOk, OnOk};
 ghost use Rattle.std.specs.List.{AllByRecursion};
 ghost use Rattle.pv_doing.specs.Courses.{Partway, IsStepOfSome, carried_of};
-ghost use Rattle.pv_laws.specs.Stopping.{CopiesNothing};
 ghost use Rattle.pv_lines.specs.Lines.{IsLine};
 ghost use Rattle.pv_steps.specs.Acting.{Acted};
 ghost use Rattle.pv_text.specs.Said.{SaidPart};
 ghost use Rattle.pv_table.specs.Active.{in_create_order};
 ghost use Rattle.pv_table.specs.Created.{created, created_messages, some_refusal_counts, work};
-ghost use Rattle.pv_create.specs.Mended.{IsMended};
+ghost use Rattle.pv_create.specs.Mended.{IsMended, IsMendedAgain, IsStoppedAgain};
+ghost use Rattle.pv_create.specs.OnTheWay.{IsFramed, IsStoppedBetween, GiveWhatLinesLeave};
 ghost use Rattle.pv_create.specs.Ways.{lines_course};
 
 use crate::line::carry_out;
@@ -30,7 +30,6 @@ pub fn create_run<T: Tree>(
     messages: &mut Messages,
 ) -> Result<Carried, TreeFault>
     requires lines { AllByRecursion IsLine table.now }
-    requires copies { AllByRecursion CopiesNothing table.now }
 
     // What a whole run leaves, stamps and staging names included, what it says and how it ends.
     ensures ok { OnOk result (T.state tree.new ≡ created table.now now (T.state tree.old)) }
@@ -46,6 +45,18 @@ pub fn create_run<T: Tree>(
 
     // The stop law.
     ensures mended { IsMended table.now now (T.state tree.old)
+        (drop (length (T.steps tree.old)) (T.steps tree.new)) }
+    ensures again { IsMendedAgain table.now now (T.state tree.old)
+        (drop (length (T.steps tree.old)) (T.steps tree.new)) }
+    ensures stopped { IsStoppedAgain table.now now (T.state tree.old)
+        (drop (length (T.steps tree.old)) (T.steps tree.new)) }
+
+    // What it has left at each moment, and what each step gives, whatever it answers.
+    ensures framed { IsFramed table.now now (T.state tree.old)
+        (drop (length (T.steps tree.old)) (T.steps tree.new)) }
+    ensures between { IsStoppedBetween table.now now (T.state tree.old)
+        (drop (length (T.steps tree.old)) (T.steps tree.new)) }
+    ensures gives { GiveWhatLinesLeave table.now now (T.state tree.old)
         (drop (length (T.steps tree.old)) (T.steps tree.new)) }
 {
     // In a tree the root is a directory, and no two lines of a table make what stands at one path.
@@ -63,7 +74,6 @@ fn run_in_order<T: Tree>(
     messages: &mut Messages,
 ) -> Result<Carried, TreeFault>
     requires lines { AllByRecursion IsLine table.now }
-    requires copies { AllByRecursion CopiesNothing table.now }
 
     // What a whole run leaves, stamps and staging names included, what it says and how it ends.
     ensures ok { OnOk result (T.state tree.new ≡ created table.now now (T.state tree.old)) }

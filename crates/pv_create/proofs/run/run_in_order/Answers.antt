@@ -1,6 +1,5 @@
-use Rattle.std.proofs.Common.{◌≡◌, ◌∙◌, ℕ, ◌+◌, ◌<◌, ◌≤◌, length, get_or, drop, ap, subst, arith}
+use Rattle.std.proofs.Common.{◌≡◌, ◌∙◌, ◌+◌, ◌<◌, ◌≤◌, length, get_or, drop, ap, subst, arith}
 use Rattle.pv_doing.proofs.CourseLaws.{none_left}
-use Rattle.pv_laws.specs.Stopping.{CopiesNothing}
 use Rattle.pv_lines.specs.Lines.{IsLine}
 use Rattle.pv_steps.proofs.ActingLaws.{Moves, acted_passed, no_memory}
 use Rattle.pv_table.specs.Active.{create_order, in_create_order}
@@ -30,15 +29,10 @@ line_at-requires g c =
     let is : place ≡ get_or (create_order c.args.table.now) i 0 = ap (λ v. get_or v i 0) items in
     is_there c.args.table.now i place within is
 
-pub carry_out-requires-clause-line : goal.carry_out-requires-clause-line
-carry_out-requires-clause-line g c =
+pub carry_out-requires : goal.carry_out-requires
+carry_out-requires g c =
     let place = get_or c.as_slice-place-items.result.now c.loop-place.place-index 0 in
-    of_all IsLine c.args.table.now c.requires.lines place c.line_at.result.now c.line_at.ensures
-
-pub carry_out-requires-clause-copies : goal.carry_out-requires-clause-copies
-carry_out-requires-clause-copies g c =
-    let place = get_or c.as_slice-place-items.result.now c.loop-place.place-index 0 in
-    of_all CopiesNothing c.args.table.now c.requires.copies place c.line_at.result.now c.line_at.ensures
+    record { line = of_all IsLine c.args.table.now c.requires.lines place c.line_at.result.now c.line_at.ensures }
 
 pub returns-in_err-one-clause-part : goal.returns-in_err-one-clause-part
 returns-in_err-one-clause-part g c =

@@ -1,0 +1,407 @@
+-- A run of lines none of which may change what lines are read from leaves presence, kind and payload at each input path
+-- without a staging name, at every moment on its way, whatever is refused.
+use Rattle.std.specs.Prelude.{◌^◌, ◌<◌, ◌≡◌, ℕ, zero, suc, ◌+◌, ◌==◌, Bool, true, false, cond, ◌&&◌, ◌||◌, List, [], ◌∷◌, length, take, drop, filter, find, slice_get, Option, Some, None, is_some, option_map, ⊤}
+use Rattle.std.proofs.Common.{refl, sym, ap, subst, ◌∙◌, arith, inl, inr}
+use Rattle.std.proofs.Math.Seq.{drop-append_seam}
+use Rattle.std.proofs.lemmas.Bool.Decides.{nat_tests}
+use Rattle.std.proofs.lemmas.List.Folds.{list_all-append}
+use Rattle.std.specs.FinMap as fin
+use Rattle.std.specs.List.{list_any, list_all, AllByRecursion}
+use Rattle.std.specs.Option.{option_map_or}
+use Rattle.pv_path.specs.Paths.{has_names, Path, has_staging}
+use Rattle.pv_steps.specs.declared.node.Kind.{Kind}
+use Rattle.pv_steps.specs.declared.node.Kind.TheVariants.{Directory}
+use Rattle.pv_steps.specs.declared.object.Object.{Object}
+use Rattle.pv_steps.specs.declared.step.Step.{Step}
+use Rattle.pv_steps.specs.Content.{content_of}
+use Rattle.pv_steps.specs.Runs.{after_all, Ran}
+use Rattle.pv_steps.specs.Trees.{Files, places, IsTree}
+use Rattle.pv_steps.proofs.RunLaws.{along_trees, along_prefix}
+use Rattle.pv_dress.specs.declared.bare.Bare.{Bare}
+use Rattle.pv_dress.specs.declared.operation.Change.{Change}
+use Rattle.pv_dress.specs.declared.operation.Change.TheVariants.{Write, Append, Owner, Mode, Entries, Attrs, Letters}
+use Rattle.pv_dress.specs.declared.operation.Guard.{Guard}
+use Rattle.pv_dress.specs.declared.operation.Guard.TheVariants.{Every, Only}
+use Rattle.pv_dress.specs.declared.operation.Operation.{Operation}
+use Rattle.pv_dress.specs.declared.operation.Operation.TheVariants.{Make, Renew, Erase, Adjust}
+use Rattle.pv_dress.specs.Dividing.{base_line, parts_of, parts}
+use Rattle.pv_dress.specs.Nodes.{bare_of, bares_of, carries_letters, is_link}
+use Rattle.pv_dress.specs.Operations.{admits, changed, done, run}
+use Rattle.pv_dress.specs.Reasons.{is_base}
+use Rattle.pv_dress.proofs.OperationLaws.{bares_of-same}
+use Rattle.pv_acl.specs.declared.line.How.TheVariants.{Add}
+use Rattle.pv_lines.specs.declared.line.Argument.{Argument}
+use Rattle.pv_lines.specs.declared.line.Argument.TheVariants as argument
+use Rattle.pv_lines.specs.declared.line.Line.{Line}
+use Rattle.pv_lines.specs.declared.line.LineMode.{LineMode}
+use Rattle.pv_lines.specs.declared.line.LinePath.{LinePath}
+use Rattle.pv_lines.specs.Lines.{IsLine}
+use Rattle.pv_walk.proofs.RemovalLaws.{apart, both}
+use Rattle.pv_table.specs.declared.deed.Copying.{Copying}
+use Rattle.pv_table.specs.declared.deed.Deed.{Deed}
+use Rattle.pv_table.specs.declared.deed.Deed.TheVariants.{Create, Copy, Touch, Idle}
+use Rattle.pv_table.specs.declared.deed.Making.{Making}
+use Rattle.pv_table.specs.declared.deed.Touching.{Touching}
+use Rattle.pv_table.specs.declared.reason.Reason.TheVariants as reason
+use Rattle.pv_table.specs.Active.{in_create_order}
+use Rattle.pv_table.specs.Asking.{asks, deeds, mode_to_set, owners_and_mode, set_by, without_links}
+use Rattle.pv_table.specs.Created.{after_each, by_turn, by_line}
+use Rattle.pv_table.specs.Effects.{carried_out, is_touched, turn_after}
+use Rattle.pv_table.specs.Reaching.{governs, is_creating, names, taking_of}
+use Rattle.pv_table.specs.Repeatable.{HasReason, IsAt, changes_content, is_input, is_writing, sets_of, takes_named}
+use Rattle.pv_table.specs.Turns.{Refused, refused_at}
+use Rattle.pv_doing.specs.Courses.{Partway}
+use Rattle.pv_adjust.specs.Named.{touching_course}
+use Rattle.pv_adjust.specs.Reached.{IsPartSet}
+use Rattle.pv_laws.proofs.AllFrames.{each_kept}
+use Rattle.pv_laws.proofs.Frames.{turn_refused}
+use Rattle.pv_laws.proofs.Lines.{copy_literal, made_literal, turns_idle, turns_touch}
+use Rattle.pv_laws.proofs.Making.{nothing_unnamed, IsShaped}
+use Rattle.pv_laws.proofs.Orders.{all_in_order}
+use Rattle.pv_laws.proofs.Sets.{impossible, is_adjustment, asked, sets_adjust}
+use Rattle.pv_laws.proofs.Shapes.{tree_shaped}
+use Rattle.pv_laws.proofs.Touching.{touch_point, turn_open}
+use Rattle.pv_create.specs.Ways.{WayOf, LineWay, lines_course}
+use Rattle.pv_create.proofs.FrameWays.{line_stays}
+
+-- ---- what reading can see of an object without stamps
+
+abbrev pub held : Option Bare → Option (Kind × List ℕ)
+held b = option_map (λ (x : Bare). (x.body.kind, x.body.payload)) b
+
+pub held_of : (o : Option Object) → content_of o ≡ held (option_map bare_of o)
+held_of None = refl
+held_of (Some o) = refl
+
+-- ---- operations that leave it
+
+abbrev keeps_change : Change → Bool
+keeps_change (Write bytes) = false
+keeps_change (Append bytes) = false
+keeps_change (Owner uid gid) = true
+keeps_change (Mode mode masked) = true
+keeps_change (Entries line how) = true
+keeps_change (Attrs attrs) = true
+keeps_change (Letters how letters) = true
+
+abbrev keeps : Operation → Bool
+keeps (Make b) = false
+keeps (Renew test b) = false
+keeps Erase = false
+keeps (Adjust guard change) = keeps_change change
+
+changed_held : (kind : Kind) (change : Change) → keeps_change change ≡ true → (b : Bare) → held (Some (changed kind change b)) ≡ held (Some b)
+changed_held kind (Write bytes) h b = impossible h
+changed_held kind (Append bytes) h b = impossible h
+changed_held kind (Owner uid gid) h b = refl
+changed_held kind (Mode mode masked) h b = refl
+changed_held kind (Entries line how) h b = refl
+changed_held kind (Attrs attrs) h b = by (is_link kind) refl
+  where
+    by : (t : Bool) → is_link kind ≡ t → held (Some (changed kind (Attrs attrs) b)) ≡ held (Some b)
+    by true e = rw e refl
+    by false e = rw e refl
+changed_held kind (Letters how letters) h b = by (carries_letters kind) refl
+  where
+    by : (t : Bool) → carries_letters kind ≡ t → held (Some (changed kind (Letters how letters) b)) ≡ held (Some b)
+    by true e = rw e refl
+    by false e = rw e refl
+
+done_held : (x : Operation) → keeps x ≡ true → (o : Option Bare) → held (done x o) ≡ held o
+done_held (Make n) h o = impossible h
+done_held (Renew test n) h o = impossible h
+done_held Erase h o = impossible h
+done_held (Adjust guard change) h None = refl
+done_held (Adjust guard change) h (Some b) =
+    elim (admits guard b.body.kind) as (λ t. held (Some (cond t (changed b.body.kind change b) b)) ≡ held (Some b)) [
+      | true ↦ changed_held b.body.kind change h b
+      | false ↦ refl
+    ]
+
+run_held : (xs : List Operation) → list_all keeps xs ≡ true → (o : Option Bare) → held (run xs o) ≡ held o
+run_held [] h o = refl
+run_held (x ∷ xs) h o = let two = both (keeps x) (list_all keeps xs) h in run_held xs two.1 (done x o) ∙ done_held x two.0 o
+
+one_part : (x : Operation) → keeps x ≡ true → list_all keeps (parts_of x) ≡ true
+one_part (Make n) h = impossible h
+one_part (Renew test n) h = impossible h
+one_part Erase h = impossible h
+one_part (Adjust guard (Write bytes)) h = impossible h
+one_part (Adjust guard (Append bytes)) h = impossible h
+one_part (Adjust guard (Owner uid gid)) h = refl
+one_part (Adjust guard (Mode mode masked)) h = refl
+one_part (Adjust guard (Entries line how)) h =
+    elim (list_any is_base line.access) as (λ t. list_all keeps (cond t (Adjust guard (Entries (base_line line) Add) ∷ Adjust guard (Entries line how) ∷ []) (Adjust guard (Entries line how) ∷ [])) ≡ true) [
+      | true ↦ refl
+      | false ↦ refl
+    ]
+one_part (Adjust guard (Attrs attrs)) h = refl
+one_part (Adjust guard (Letters how letters)) h = refl
+
+parts_keep : (xs : List Operation) → list_all keeps xs ≡ true → list_all keeps (parts xs) ≡ true
+parts_keep [] h = refl
+parts_keep (x ∷ xs) h =
+    let two = both (keeps x) (list_all keeps xs) h in
+    list_all-append keeps (parts_of x) (parts xs) ∙ ap (λ b. b && list_all keeps (parts xs)) (one_part x two.0) ∙ parts_keep xs two.1
+
+front_keeps : (k : ℕ) (xs : List Operation) → list_all keeps xs ≡ true → list_all keeps (take k xs) ≡ true
+front_keeps zero xs h = refl
+front_keeps (suc k) [] h = refl
+front_keeps (suc k) (x ∷ xs) h = let two = both (keeps x) (list_all keeps xs) h in ap (λ b. b && list_all keeps (take k xs)) two.0 ∙ front_keeps k xs two.1
+
+-- whole, and in front parts
+record KeepsHeld (xs : List Operation) : Type 0 where
+  pub front : (k : ℕ) (b : Option Bare) → held (run (take k (parts xs)) b) ≡ held b
+  pub whole : (b : Option Bare) → held (run xs b) ≡ held b
+
+keeps_held : (xs : List Operation) → list_all keeps xs ≡ true → KeepsHeld xs
+keeps_held xs h = record { front = λ k b. run_held (take k (parts xs)) (front_keeps k (parts xs) (parts_keep xs h)) b; whole = λ b. run_held xs h b }
+
+-- ---- lines that write nothing
+
+-- what is proved of each row of the table by its letter holds of what a line asks for
+find_lettered : (P : Deed → Type 0) (line : Line) (rows : List (ℕ × (Line → Deed))) → AllByRecursion (λ row. (row.0 == line.letter) ≡ true → P (row.1 line)) rows → P Idle
+    → P (option_map_or (λ row. row.1 line) (find (λ row. row.0 == line.letter) rows) Idle)
+find_lettered P line [] each none = none
+find_lettered P line (row ∷ rows) each none = by (row.0 == line.letter) refl each.0 (find_lettered P line rows each.1 none)
+  where
+    by : (b : Bool) → (row.0 == line.letter) ≡ b → ((row.0 == line.letter) ≡ true → P (row.1 line)) → P (option_map_or (λ (r : ℕ × (Line → Deed)). r.1 line) (find (λ r. r.0 == line.letter) rows) Idle)
+        → P (option_map_or (λ (r : ℕ × (Line → Deed)). r.1 line) (cond b (Some row) (find (λ r. r.0 == line.letter) rows)) Idle)
+    by true e own rest = own e
+    by false e own rest = rest
+
+-- where objects that are there are adjusted, nothing is written
+abbrev WritesNothing : Deed → Type 0
+WritesNothing (Create making) = ⊤
+WritesNothing (Copy copying) = ⊤
+WritesNothing (Touch touching) = list_all keeps touching.sets ≡ true
+WritesNothing Idle = ⊤
+
+mode_keeps : (mode : Option LineMode) (guard : Option Guard) → list_all keeps (mode_to_set mode guard) ≡ true
+mode_keeps None guard = refl
+mode_keeps (Some mode) None = refl
+mode_keeps (Some mode) (Some guard) = elim mode.new_only as (λ b. list_all keeps (cond b [] (Adjust guard (Mode mode.value mode.masked) ∷ [])) ≡ true) [ true ↦ refl | false ↦ refl ]
+
+owners_keep : (guard : Guard) (line : Line) → list_all keeps (owners_and_mode guard line) ≡ true
+owners_keep guard line = mode_keeps line.mode (without_links guard)
+
+argument_keeps : (plus : Bool) (a : Argument) → list_all keeps (set_by plus a) ≡ true
+argument_keeps plus (argument.FileBytes bytes) = refl
+argument_keeps plus (argument.WriteBytes bytes) = refl
+argument_keeps plus (argument.Target target) = refl
+argument_keeps plus (argument.Source source) = refl
+argument_keeps plus (argument.Device major minor) = refl
+argument_keeps plus (argument.Entries entries) = refl
+argument_keeps plus (argument.Attrs attrs) = refl
+argument_keeps plus (argument.Letters how letters) = refl
+argument_keeps plus argument.Ignored = refl
+
+no_letter : (line : Line) → is_writing line ≡ false → (119 == line.letter) ≡ true → ⊥
+no_letter line dry e = let same : line.letter ≡ 119 = grind (arith, nat_tests) in apart (is_writing line) (ap (λ n. n == 119) same) dry
+
+writes_nothing : (line : Line) → is_writing line ≡ false → WritesNothing (asks line)
+writes_nothing line dry = find_lettered WritesNothing line deeds (
+  (λ e. tt),
+  (
+    (λ e. tt),
+    (
+      (λ e. tt),
+      (
+        (λ e. tt),
+        (
+          (λ e. tt),
+          (
+            (λ e. tt),
+            (
+              (λ e. tt),
+              (
+                (λ e. tt),
+                (
+                  (λ e. tt),
+                  (
+                    (λ e. tt),
+                    (
+                      (λ e. tt),
+                      (
+                        (λ e. absurd (no_letter line dry e)),
+                        (
+                          (λ e. owners_keep (Only Directory) line),
+                          (
+                            (λ e. owners_keep Every line),
+                            (
+                              (λ e. owners_keep Every line),
+                              (set, (set, (set, (set, (set, (set, tt)))))),
+                            ),
+                          ),
+                        ),
+                      ),
+                    ),
+                  ),
+                ),
+              ),
+            ),
+          ),
+        ),
+      ),
+    ),
+  ),
+) tt
+  where
+    set : {A : Type 0} → A → list_all keeps (set_by line.plus line.argument) ≡ true
+    set e = argument_keeps line.plus line.argument
+
+-- ---- one line
+
+-- a line that may change what is read governs no input path that can stand in a tree
+abbrev pub IsAway : Line → Type 0
+IsAway line = changes_content line ≡ true → (q : Path) → is_input q ≡ true → has_names q ≡ true → governs line q ≡ false
+
+created_changes : (line : Line) → is_creating line ≡ true → changes_content line ≡ true
+created_changes line h = ap (λ b. b || is_writing line || takes_named (taking_of line) || is_some line.age) h
+
+no_writing : (line : Line) → changes_content line ≡ false → is_writing line ≡ false
+no_writing line h = by (is_creating line) (is_writing line) (takes_named (taking_of line)) (is_some line.age) h
+  where
+    by : (a b c d : Bool) → (a || b || c || d) ≡ false → b ≡ false
+    by true b c d e = impossible (sym e)
+    by false true c d e = impossible (sym e)
+    by false false c d e = refl
+
+module _ (now : ℕ) (line : Line) (is : IsLine line) where
+  -- a line that makes something or copies may change what is read
+  pub made_changes : (making : Making) → asks line ≡ Create making → changes_content line ≡ true
+  made_changes making e = created_changes line (ap (λ (path : LinePath). is_creating (record line { path = path })) (made_literal line is making e))
+
+  pub copy_changes : (copying : Copying) → asks line ≡ Copy copying → changes_content line ≡ true
+  copy_changes copying e = created_changes line (ap (λ (path : LinePath). is_creating (record line { path = path })) (copy_literal line is copying e))
+
+  module _ (touching : Touching) (e : asks line ≡ Touch touching) (harmless : KeepsHeld touching.sets) (q : Path) (plain : has_staging q ≡ false) where
+    adjust : list_all is_adjustment touching.sets ≡ true
+    adjust = subst (λ d. list_all is_adjustment (sets_of d) ≡ true) e (sets_adjust line (asks line) (asked line))
+
+    turn_held : (p : Path) (t : Files) → held (bares_of (places (turn_after now line p t)) q) ≡ held (bares_of (places t) q)
+    turn_held p t = by (refused_at line p (places t)) refl
+      where
+        at : (b : Bool) → held (cond b (run touching.sets (bares_of (places t) q)) (bares_of (places t) q)) ≡ held (bares_of (places t) q)
+        at true = harmless.whole (bares_of (places t) q)
+        at false = refl
+
+        by : (r : Option Refused) → refused_at line p (places t) ≡ r → held (bares_of (places (turn_after now line p t)) q) ≡ held (bares_of (places t) q)
+        by None free =
+            ap (λ (u : Files). held (bares_of (places u) q)) (turn_open now line p t free ∙ ap (λ (d : Deed). carried_out now d p t) e)
+            ∙ ap held (touch_point now touching adjust p t q)
+            ∙ at (is_touched touching p q)
+        by (Some place) r = ap (λ (u : Files). held (bares_of (places u) q)) (turn_refused now line p t place r)
+
+    turns_held : (paths : List Path) (t : Files) → held (bares_of (places (after_each (by_turn now line) paths t)) q) ≡ held (bares_of (places t) q)
+    turns_held [] t = refl
+    turns_held (p ∷ ps) t = turns_held ps (turn_after now line p t) ∙ turn_held p t
+
+    way_held : (paths : List Path) (t u : Files) → Partway (touching_course now line touching) paths t u → held (bares_of (places u) q) ≡ held (bares_of (places t) q)
+    way_held [] t u same = ap held (sym (bares_of-same (places t) (places u) q (same q plain)))
+    way_held (p ∷ ps) t u (inl way) = by (way q)
+      where
+        by : IsPartSet (is_touched touching p q) touching.sets (bares_of (places t) q) (bares_of (places u) q) → held (bares_of (places u) q) ≡ held (bares_of (places t) q)
+        by (IsPartSet.kept same) = ap held same
+        by (IsPartSet.set k reached part) = ap held part ∙ harmless.front k (bares_of (places t) q)
+    way_held (p ∷ ps) t u (inr later) = way_held ps (turn_after now line p t) u later ∙ turn_held p t
+
+  -- a line that changes nothing that is read
+  module _ (still : changes_content line ≡ false) (q : Path) (plain : has_staging q ≡ false) where
+    harmless : (touching : Touching) → asks line ≡ Touch touching → KeepsHeld touching.sets
+    harmless touching e = keeps_held touching.sets (subst WritesNothing e (writes_nothing line (no_writing line still)))
+
+    still_whole : (t : Files) → held (bares_of (places ((by_line now).after line t)) q) ≡ held (bares_of (places t) q)
+    still_whole t = by (asks line) refl
+      where
+        by : (d : Deed) → asks line ≡ d → held (bares_of (places ((by_line now).after line t)) q) ≡ held (bares_of (places t) q)
+        by (Create making) e = absurd (apart (changes_content line) (made_changes making e) still)
+        by (Copy copying) e = absurd (apart (changes_content line) (copy_changes copying e) still)
+        by (Touch touching) e =
+            subst (λ paths. held (bares_of (places (after_each (by_turn now line) paths t)) q) ≡ held (bares_of (places t) q)) (sym (turns_touch line touching t e))
+            (turns_held touching e (harmless touching e) q plain (filter (names line) (fin.keys t)) t)
+        by Idle e = subst (λ paths. held (bares_of (places (after_each (by_turn now line) paths t)) q) ≡ held (bares_of (places t) q)) (sym (turns_idle line t e)) refl
+
+    still_way : (t u : Files) → LineWay now line t u → held (bares_of (places u) q) ≡ held (bares_of (places t) q)
+    still_way t u = by (asks line) refl
+      where
+        by : (d : Deed) → asks line ≡ d → WayOf d now line t u → held (bares_of (places u) q) ≡ held (bares_of (places t) q)
+        by (Create making) e way = absurd (apart (changes_content line) (made_changes making e) still)
+        by (Copy copying) e way = absurd (apart (changes_content line) (copy_changes copying e) still)
+        by (Touch touching) e way =
+            way_held touching e (harmless touching e) q plain (filter (names line) (fin.keys t)) t u
+            (subst (λ (paths : List Path). Partway (touching_course now line touching) paths t u) (turns_touch line touching t e) way)
+        by Idle e same = ap held (sym (bares_of-same (places t) (places u) q (same q plain)))
+
+  -- so any line: one that may change what is read governs no input path, and leaves it as it was
+  module _ (away : IsAway line) (q : Path) (input : is_input q ≡ true) (named : has_names q ≡ true) (plain : has_staging q ≡ false) where
+    pub whole_held : (t : Files) → IsShaped (bares_of (places t)) → held (bares_of (places ((by_line now).after line t)) q) ≡ held (bares_of (places t) q)
+    whole_held t shape = by (changes_content line) refl
+      where
+        by : (b : Bool) → changes_content line ≡ b → held (bares_of (places ((by_line now).after line t)) q) ≡ held (bares_of (places t) q)
+        by true c = ap held ((each_kept now line is t shape).frame q plain (away c q input named))
+        by false c = still_whole c q plain t
+
+    line_held : (t u : Files) → IsShaped (bares_of (places t)) → LineWay now line t u → held (bares_of (places u) q) ≡ held (bares_of (places t) q)
+    line_held t u shape way = by (changes_content line) refl
+      where
+        by : (b : Bool) → changes_content line ≡ b → held (bares_of (places u) q) ≡ held (bares_of (places t) q)
+        by true c = ap held (line_stays now line is t u shape q plain (away c q input named) way)
+        by false c = still_way c q plain t u way
+
+-- ---- lines one after the other
+
+module _ (now : ℕ) (q : Path) (input : is_input q ≡ true) (named : has_names q ≡ true) (plain : has_staging q ≡ false) where
+  lines_held : (lines : List Line) → AllByRecursion IsLine lines → AllByRecursion IsAway lines → (t u : Files) → IsShaped (bares_of (places t)) → Partway (lines_course now) lines t u
+      → held (bares_of (places u) q) ≡ held (bares_of (places t) q)
+  lines_held [] are away t u shape same = ap held (sym (bares_of-same (places t) (places u) q (same q plain)))
+  lines_held (line ∷ lines) are away t u shape (inl way) = line_held now line are.0 away.0 q input named plain t u shape way
+  lines_held (line ∷ lines) are away t u shape (inr later) =
+      lines_held lines are.1 away.1 ((by_line now).after line t) u (each_kept now line are.0 t shape).shape later
+      ∙ whole_held now line are.0 away.0 q input named plain t shape
+
+-- ---- runs
+
+module _ (lines : List Line) (are : AllByRecursion IsLine lines) (free : (i : ℕ) → HasReason lines i reason.Input → ⊥) where
+  away_at : (line : Line) (i : ℕ) → IsAt lines i line → IsAway line
+  away_at line i at c q input named = by (governs line q) refl
+    where
+      by : (b : Bool) → governs line q ≡ b → governs line q ≡ false
+      by true g = absurd (free i (HasReason.input line q at c input named g))
+      by false g = g
+
+  away_from : (rest : List Line) (n : ℕ) → ((i : ℕ) → slice_get lines (n + i) ≡ slice_get rest i) → AllByRecursion IsAway rest
+  away_from [] n h = tt
+  away_from (line ∷ rest) n h = (
+    away_at line (n + 0) (h 0),
+    away_from rest (n + 1) (λ i. (let same : n + 1 + i ≡ n + suc i = omega arith in ap (slice_get lines) same ∙ h (suc i))),
+  )
+
+  pub all_away : AllByRecursion IsAway (in_create_order lines)
+  all_away = all_in_order IsAway lines (away_from lines 0 (λ i. (let same : 0 + i ≡ i = omega arith in ap (slice_get lines) same)))
+
+  -- at each moment on the way
+  pub input_on_way : (now : ℕ) (t u : Files) → IsTree t → IsTree u → Partway (lines_course now) (in_create_order lines) t u → (q : Path) → is_input q ≡ true → has_staging q ≡ false
+      → content_of (places u q) ≡ content_of (places t q)
+  input_on_way now t u tree there way q input plain =
+      held_of (places u q)
+      ∙ by (has_names q) refl
+      ∙ sym (held_of (places t q))
+    where
+      shape : IsShaped (bares_of (places t))
+      shape = tree_shaped (places t) tree
+
+      -- no tree has anything at a path that has no names
+      by : (b : Bool) → has_names q ≡ b → held (bares_of (places u) q) ≡ held (bares_of (places t) q)
+      by true named = lines_held now q input named plain (in_create_order lines) (all_in_order IsLine lines are) all_away t u shape way
+      by false none = ap held (nothing_unnamed (bares_of (places u)) (tree_shaped (places u) there) q plain none ∙ sym (nothing_unnamed (bares_of (places t)) shape q plain none))
+
+  -- so after each number of the steps of a run
+  pub input_on_run : (Q : Step → Type 0) (now : ℕ) (t : Files) (h : List Step) (u : Files) (k : List Step) → now < 2 ^ 64 → IsTree t → Ran (Partway (lines_course now) (in_create_order lines) t) Q now t h u k
+      → (n : ℕ) (q : Path) → is_input q ≡ true → has_staging q ≡ false → content_of (places (after_all t (take n (drop (length h) k)) now) q) ≡ content_of (places t q)
+  input_on_run Q now t h u k fits tree run =
+      subst (λ (steps : List Step). (n : ℕ) (q : Path) → is_input q ≡ true → has_staging q ≡ false → content_of (places (after_all t (take n steps) now) q) ≡ content_of (places t q))
+      (sym (ap (drop (length h)) run.told ∙ drop-append_seam h run.steps)) (λ n.
+      input_on_way now t (after_all t (take n run.steps) now) tree
+      (along_prefix IsTree t run.steps now n (along_trees (Partway (lines_course now) (in_create_order lines) t) t run.steps now fits tree run.along))
+      (along_prefix (Partway (lines_course now) (in_create_order lines) t) t run.steps now n run.along))

@@ -1,0 +1,277 @@
+-- A run of lines none of which may change what lines are read from leaves presence, kind and payload at each input path,
+-- staging names included: where a folder from which lines are read is there, no step of the run brings, takes away or
+-- rewrites anything below it under a staging name; where it is absent it stays so, and all below it.
+use Rattle.std.specs.Prelude.{◌≡◌, ◌≢◌, ◌⊎◌, ◌^◌, ◌<◌, ℕ, Bool, true, false, not, ◌&&◌, ◌||◌, List, [], ◌∷◌, length, take, drop, filter, Option, Some, None, is_some, option_map}
+use Rattle.std.proofs.Common.{refl, sym, ap, subst, ◌∙◌, inl, inr, zero, suc}
+use Rattle.std.proofs.Math.Seq.{drop-append_seam}
+use Rattle.std.specs.FinMap as fin
+use Rattle.std.specs.List.{list_any, list_all, AllByRecursion}
+use Rattle.pv_path.specs.Paths.{Path, has_names, has_staging, is_prefix, same_path, same_path-decides}
+use Rattle.pv_path.proofs.PathLaws.{prefix_parts}
+use Rattle.pv_steps.specs.declared.object.Object.{Object}
+use Rattle.pv_steps.specs.declared.step.Step.{Step}
+use Rattle.pv_steps.specs.Content.{content_of, alters}
+use Rattle.pv_steps.specs.Runs.{after_all, Ran}
+use Rattle.pv_steps.specs.Trees.{Files, places, IsTree, IsAbsentIn}
+use Rattle.pv_steps.proofs.ContentLaws.{content-after_all, removal_inside}
+use Rattle.pv_steps.proofs.RunLaws.{along_prefix, along_trees}
+use Rattle.pv_steps.proofs.TreeLaws.{present_above}
+use Rattle.pv_dress.specs.declared.bare.Bare.{Bare}
+use Rattle.pv_dress.specs.declared.operation.Operation.{Operation}
+use Rattle.pv_dress.specs.Dressing.{GivesDress}
+use Rattle.pv_dress.specs.Nodes.{bare_of, bares_of}
+use Rattle.pv_lines.specs.declared.line.Line.{Line}
+use Rattle.pv_lines.specs.Lines.{IsLine}
+use Rattle.pv_walk.specs.Preparing.{IsPrepareStep, parent_file}
+use Rattle.pv_walk.specs.Preparing as preparing
+use Rattle.pv_walk.specs.Putting.{IsPutStep}
+use Rattle.pv_walk.specs.Staging.{staging_names, is_under_any}
+use Rattle.pv_walk.proofs.RemovalLaws.{apart, both}
+use Rattle.pv_table.specs.declared.deed.Copying.{Copying}
+use Rattle.pv_table.specs.declared.deed.Deed.{Deed}
+use Rattle.pv_table.specs.declared.deed.Deed.TheVariants.{Create, Copy, Touch, Idle}
+use Rattle.pv_table.specs.declared.deed.Making.{Making}
+use Rattle.pv_table.specs.declared.deed.Touching.{Touching}
+use Rattle.pv_table.specs.declared.reason.Reason.TheVariants as reason
+use Rattle.pv_table.specs.Active.{in_create_order}
+use Rattle.pv_table.specs.Asking.{asks}
+use Rattle.pv_table.specs.Created.{by_line}
+use Rattle.pv_table.specs.Effects.{is_touched, turn_after}
+use Rattle.pv_table.specs.Reaching.{governs, names, path_in}
+use Rattle.pv_table.specs.Repeatable.{HasReason, inputs, is_input}
+use Rattle.pv_table.specs.Saying.{found}
+use Rattle.pv_table.specs.Turns.{Subtree, Turn, copied}
+use Rattle.pv_doing.specs.Courses.{Partway, IsStepOfSome}
+use Rattle.pv_adjust.specs.Adjusting.{GivesBytes, GivesSet}
+use Rattle.pv_adjust.specs.Named.{touching_course}
+use Rattle.pv_make.specs.OnWay.{IsStepOf, turn_at}
+use Rattle.pv_laws.proofs.AllFrames.{not_above, not_below, each_kept}
+use Rattle.pv_laws.proofs.Frames.{ungoverned}
+use Rattle.pv_laws.proofs.Lines.{copy_path, line_is_plain, turns_touch}
+use Rattle.pv_laws.proofs.Making.{IsShaped, dir_there}
+use Rattle.pv_laws.proofs.Orders.{all_in_order, all_map, all_tests}
+use Rattle.pv_laws.proofs.Sets.{impossible}
+use Rattle.pv_laws.proofs.Shapes.{tree_shaped}
+use Rattle.pv_create.specs.Ways.{IsLineStep, IsStepBy, lines_course}
+use Rattle.pv_create.proofs.BesideLaws.{bare_outside, new_outside, other_plain, out_above, place_outside, published_outside, swept_outside}
+use Rattle.pv_create.proofs.FrameWays.{made_high, made_low}
+use Rattle.pv_create.proofs.InputLaws.{IsAway, all_away, copy_changes, held, input_on_way, made_changes, whole_held}
+use Rattle.pv_create.proofs.StepLaws.{names_plain}
+
+-- what is there, by what reading can see of it
+held_some : (o : Option Bare) → is_some (held o) ≡ is_some o
+held_some None = refl
+held_some (Some b) = refl
+
+-- ---- one line
+
+module _ (f q : Path) (plain : has_staging f ≡ false) (under : is_prefix f q ≡ true) (staged : has_staging q ≡ true) (step : Step) where
+  -- what is set of an object without a staging name
+  set_outside : (at : Path) → has_staging at ≡ false → (xs : List Operation) (t : Files) → GivesSet at xs t step → alters step q ≡ false
+  set_outside at own xs t given = by given.gives
+    where
+      by : GivesBytes at given.new.body.payload t step ⊎ GivesDress at given.new.dress t step → alters step q ≡ false
+      by (inl h) = subst (λ (x : Step). alters x q ≡ false) (sym h.0) (other_plain f q plain under staged at own)
+      by (inr (inl e)) = subst (λ (x : Step). alters x q ≡ false) (sym e) refl
+      by (inr (inr (inl e))) = subst (λ (x : Step). alters x q ≡ false) (sym e) refl
+      by (inr (inr (inr (inl h)))) = subst (λ (x : Step). alters x q ≡ false) (sym h.0) refl
+      by (inr (inr (inr (inr (inl h))))) = subst (λ (x : Step). alters x q ≡ false) (sym h.0) refl
+      by (inr (inr (inr (inr (inr h))))) = subst (λ (x : Step). alters x q ≡ false) (sym h.0) refl
+
+  module _ (now : ℕ) (line : Line) (is : IsLine line) where
+    -- a line that adjusts what is there reaches no staging name
+    reached_plain : (touching : Touching) (p at : Path) → names line p ≡ true → is_touched touching p at ≡ true → has_staging at ≡ false
+    reached_plain touching p at named h = by (same_path p at) refl h
+      where
+        negated : (c : Bool) → not c ≡ true → c ≡ false
+        negated true g = impossible g
+        negated false g = refl
+
+        by : (c : Bool) → same_path p at ≡ c → (c || (touching.deep && is_prefix p at && not (has_staging at))) ≡ true → has_staging at ≡ false
+        by true e g = ap has_staging (sym ((same_path-decides p at).0 e)) ∙ names_plain line is p named
+        by false e g = negated (has_staging at) (both (touching.deep && is_prefix p at) (not (has_staging at)) g).1
+
+    touched_outside : (touching : Touching) (paths : List Path) → AllByRecursion (λ p. names line p ≡ true) paths → (t : Files) → IsStepOfSome (touching_course now line touching) paths t step → alters step q ≡ false
+    touched_outside touching [] named t h = absurd h
+    touched_outside touching (p ∷ paths) named t (inl given) = set_outside given.at (reached_plain touching p given.at named.0 given.reached) touching.sets t given.gives
+    touched_outside touching (p ∷ paths) named t (inr later) = touched_outside touching paths named.1 (turn_after now line p t) later
+
+    module _ (t : Files) (shape : IsShaped (bares_of (places t))) (there : is_some (bares_of (places t) f) ≡ true) where
+      abbrev path : Path
+      path = path_in line.path
+
+      -- a place that is absent does not lie above the folder
+      absent_outside : (place : Path) → IsAbsentIn (places t) place → is_prefix place f ≡ true → ⊥
+      absent_outside place none high = by (same_path place f) refl
+        where
+          gone : is_some (bares_of (places t) place) ≡ false
+          gone = ap (λ (o : Option Object). is_some (option_map bare_of o)) none
+
+          by : (b : Bool) → same_path place f ≡ b → ⊥
+          by true e = apart (is_some (bares_of (places t) f)) there (subst (λ (p : Path). is_some (bares_of (places t) p) ≡ false) ((same_path-decides place f).0 e) gone)
+          by false e = apart (is_some (bares_of (places t) place))
+              (dir_there (bares_of (places t) place) (shape.above place f plain high (λ same. apart (same_path place f) ((same_path-decides place f).1 same) e) there)) gone
+
+      prepares_outside : is_prefix f path ≡ false → IsPrepareStep path t step → alters step q ≡ false
+      prepares_outside out (preparing.sweeps removes) = removal_inside (is_under_any (staging_names path)) step q removes (swept_outside f q plain under staged path out)
+      prepares_outside out (preparing.puts place above none given) = by given
+        where
+          some : place ≢ []
+          some e = absent_outside place none (subst (λ (p : Path). is_prefix p f ≡ true) (sym e) refl)
+
+          off : is_prefix f place ≡ false
+          off = out_above f q plain under staged path out place above.0
+
+          by : IsPutStep place parent_file step → alters step q ≡ false
+          by (inl gives) = new_outside f q plain under staged place some off parent_file step gives
+          by (inr published) = published_outside f q plain under staged place some off (place_outside f q plain under staged place off (absent_outside place none)) step published
+
+      -- nor does the path of a line at which something is put
+      not_root : (is_prefix path f ≡ true → ⊥) → path ≢ []
+      not_root high e = high (subst (λ (p : Path). is_prefix p f ≡ true) (sym e) refl)
+
+      made_outside : (making : Making) → asks line ≡ Create making → governs line f ≡ false → IsStepOf now line path t step → alters step q ≡ false
+      made_outside making e away = by
+        where
+          out : is_prefix f path ≡ false
+          out = made_high now line is t shape f plain away making e
+
+          high : (subtree : Subtree) → turn_at now line path t ≡ Turn.Put subtree → is_prefix path f ≡ true → ⊥
+          high subtree put above = apart (is_some (bares_of (places t) f)) there (ap is_some (made_low now line is t shape f plain away making e subtree put above))
+
+          by : IsStepOf now line path t step → alters step q ≡ false
+          by (IsStepOf.prepares some given) = prepares_outside out given
+          by (IsStepOf.puts other subtree asked put (inl gives)) = new_outside f q plain under staged path (not_root (high subtree put)) out other.new step gives
+          by (IsStepOf.puts other subtree asked put (inr published)) =
+              published_outside f q plain under staged path (not_root (high subtree put)) out (place_outside f q plain under staged path out (high subtree put)) step published
+          by (IsStepOf.copies copying subtree asked put h) = absurd (let no : Copy copying ≡ Create making = sym asked ∙ e in cc)
+          by (IsStepOf.sets xs becomes given) = set_outside path (line_is_plain line is (ap copied e)).unstaged xs (found now (asks line) path t) given
+
+      copied_outside : (copying : Copying) → asks line ≡ Copy copying → governs line f ≡ false → IsStepOf now line path t step → alters step q ≡ false
+      copied_outside copying e away = by
+        where
+          out : is_prefix f path ≡ false
+          out = not_above line is copying e f (ungoverned line f away)
+
+          high : is_prefix path f ≡ true → ⊥
+          high above = apart (is_prefix path f) above (not_below line is copying e f (ungoverned line f away))
+
+          by : IsStepOf now line path t step → alters step q ≡ false
+          by (IsStepOf.prepares some given) = prepares_outside out given
+          by (IsStepOf.puts making subtree asked put h) = absurd (let no : Create making ≡ Copy copying = sym asked ∙ e in cc)
+          by (IsStepOf.copies other subtree asked put (inl part)) = bare_outside f q plain under staged path (not_root high) out part.rest part.object step part.gives
+          by (IsStepOf.copies other subtree asked put (inr published)) = published_outside f q plain under staged path (not_root high) out (place_outside f q plain under staged path out high) step published
+          by (IsStepOf.sets xs becomes given) = set_outside path (copy_path line is copying e).0 xs (found now (asks line) path t) given
+
+      line_outside : IsAway line → is_input f ≡ true → has_names f ≡ true → IsLineStep now line t step → alters step q ≡ false
+      line_outside away input named h = by (asks line) refl h
+        where
+          by : (d : Deed) → asks line ≡ d → IsStepBy d now line t step → alters step q ≡ false
+          by (Create making) e g = made_outside making e (away (made_changes now line is making e) f input named) g
+          by (Copy copying) e g = copied_outside copying e (away (copy_changes now line is copying e) f input named) g
+          by (Touch touching) e g =
+              touched_outside touching (filter (names line) (fin.keys t)) (all_tests (names line) (fin.keys t)) t
+              (subst (λ (paths : List Path). IsStepOfSome (touching_course now line touching) paths t step) (turns_touch line touching t e) g)
+          by Idle e g = absurd g
+
+  -- ---- lines one after the other
+
+  module _ (now : ℕ) (input : is_input f ≡ true) (named : has_names f ≡ true) where
+    lines_outside : (lines : List Line) → AllByRecursion IsLine lines → AllByRecursion IsAway lines → (t : Files) → IsShaped (bares_of (places t)) → is_some (bares_of (places t) f) ≡ true
+        → IsStepOfSome (lines_course now) lines t step → alters step q ≡ false
+    lines_outside [] are away t shape there h = absurd h
+    lines_outside (line ∷ lines) are away t shape there (inl own) = line_outside now line are.0 t shape there away.0 input named own
+    lines_outside (line ∷ lines) are away t shape there (inr later) =
+        lines_outside lines are.1 away.1 ((by_line now).after line t) (each_kept now line are.0 t shape).shape
+        (sym (held_some (bares_of (places ((by_line now).after line t)) f)) ∙ ap is_some (whole_held now line are.0 away.0 f input named plain t shape) ∙ held_some (bares_of (places t) f) ∙ there)
+        later
+
+-- ---- runs
+
+-- some of the paths that pass a test lies above a path
+above_of : (test : Path → Bool) (q : Path) (paths : List Path) → list_all test paths ≡ true → list_any (λ p. is_prefix p q) paths ≡ true → (f : Path) × ((test f ≡ true) × (is_prefix f q ≡ true))
+above_of test q [] all any = impossible any
+above_of test q (p ∷ paths) all any = by (is_prefix p q) refl any (above_of test q paths two.1)
+  where
+    two : (test p ≡ true) × (list_all test paths ≡ true)
+    two = both (test p) (list_all test paths) all
+
+    by : (b : Bool) → is_prefix p q ≡ b → (b || list_any (λ r. is_prefix r q) paths) ≡ true
+        → (list_any (λ r. is_prefix r q) paths ≡ true → (f : Path) × ((test f ≡ true) × (is_prefix f q ≡ true))) → (f : Path) × ((test f ≡ true) × (is_prefix f q ≡ true))
+    by true e h rest = (p, (two.0, e))
+    by false e h rest = rest h
+
+-- a folder from which lines are read, with a path of names none of which is a staging name
+abbrev is_folder : Path → Bool
+is_folder f = is_input f && (has_names f && not (has_staging f))
+
+-- what holds of each holds of some first ones
+pub all_take : {A : Type 0} (P : A → Type 0) (n : ℕ) (xs : List A) → AllByRecursion P xs → AllByRecursion P (take n xs)
+all_take P zero xs all = tt
+all_take P (suc n) [] all = tt
+all_take P (suc n) (x ∷ xs) all = (all.0, all_take P n xs all.1)
+
+module _ (lines : List Line) (are : AllByRecursion IsLine lines) (free : (i : ℕ) → HasReason lines i reason.Input → ⊥) (now : ℕ) (t : Files) (tree : IsTree t) where
+  -- at each moment on the way that was reached by steps of the lines
+  pub input_after : (steps : List Step) → IsTree (after_all t steps now) → Partway (lines_course now) (in_create_order lines) t (after_all t steps now) → AllByRecursion (IsStepOfSome (lines_course now) (in_create_order lines) t) steps
+      → (q : Path) → is_input q ≡ true → content_of (places (after_all t steps now) q) ≡ content_of (places t q)
+  input_after steps there way gives q input = by (has_staging q) refl
+    where
+      shape : IsShaped (bares_of (places t))
+      shape = tree_shaped (places t) tree
+
+      negated : (c : Bool) → not c ≡ true → c ≡ false
+      negated true g = impossible g
+      negated false g = refl
+
+      -- what is absent where a folder is absent
+      nothing : (v : Files) → IsTree v → (f : Path) → is_prefix f q ≡ true → content_of (places v f) ≡ None → content_of (places v q) ≡ None
+      nothing v is f under none = at (places v q) refl
+        where
+          no_content : (o : Option Object) → content_of o ≡ None → is_some o ≡ false
+          no_content None e = refl
+          no_content (Some x) e = cc
+
+          at : (o : Option Object) → places v q ≡ o → content_of o ≡ None
+          at None e = refl
+          at (Some x) e =
+              let parts = prefix_parts f q under in
+              absurd (apart (is_some (places v f)) (present_above (places v) is f parts.0 (subst (λ (p : Path). is_some (places v p) ≡ true) parts.1 (ap is_some e))) (no_content (places v f) none))
+
+      below : has_staging q ≡ true → (f : Path) → is_folder f ≡ true → is_prefix f q ≡ true → content_of (places (after_all t steps now) q) ≡ content_of (places t q)
+      below staged f folder under = at (places t f) refl
+        where
+          own : is_input f ≡ true
+          own = (both (is_input f) (has_names f && not (has_staging f)) folder).0
+
+          rest : (has_names f ≡ true) × (not (has_staging f) ≡ true)
+          rest = both (has_names f) (not (has_staging f)) (both (is_input f) (has_names f && not (has_staging f)) folder).1
+
+          plain : has_staging f ≡ false
+          plain = negated (has_staging f) rest.1
+
+          kept : content_of (places (after_all t steps now) f) ≡ content_of (places t f)
+          kept = input_on_way lines are free now t (after_all t steps now) tree there way f own plain
+
+          at : (o : Option Object) → places t f ≡ o → content_of (places (after_all t steps now) q) ≡ content_of (places t q)
+          at None e = nothing (after_all t steps now) there f under (kept ∙ ap content_of e) ∙ sym (nothing t tree f under (ap content_of e))
+          at (Some x) e = content-after_all t steps now q
+              (all_map (IsStepOfSome (lines_course now) (in_create_order lines) t) (λ step. alters step q ≡ false)
+              (λ step given. lines_outside f q plain under staged step now own rest.0 (in_create_order lines) (all_in_order IsLine lines are) (all_away lines are free) t shape
+              (ap (λ (o : Option Object). is_some (option_map bare_of o)) e) given)
+              steps gives)
+
+      by : (b : Bool) → has_staging q ≡ b → content_of (places (after_all t steps now) q) ≡ content_of (places t q)
+      by true e = let above = above_of is_folder q inputs refl input in below e above.0 above.1.0 above.1.1
+      by false e = input_on_way lines are free now t (after_all t steps now) tree there way q input e
+
+  -- so after each number of the steps of a run
+  pub all_input_on_run : now < 2 ^ 64 → (h : List Step) (u : Files) (k : List Step) → Ran (Partway (lines_course now) (in_create_order lines) t) (IsStepOfSome (lines_course now) (in_create_order lines) t) now t h u k
+      → (n : ℕ) (q : Path) → is_input q ≡ true → content_of (places (after_all t (take n (drop (length h) k)) now) q) ≡ content_of (places t q)
+  all_input_on_run fits h u k run =
+      subst (λ (steps : List Step). (n : ℕ) (q : Path) → is_input q ≡ true → content_of (places (after_all t (take n steps) now) q) ≡ content_of (places t q))
+      (sym (ap (drop (length h)) run.told ∙ drop-append_seam h run.steps)) (λ n.
+      input_after (take n run.steps)
+      (along_prefix IsTree t run.steps now n (along_trees (Partway (lines_course now) (in_create_order lines) t) t run.steps now fits tree run.along))
+      (along_prefix (Partway (lines_course now) (in_create_order lines) t) t run.steps now n run.along)
+      (all_take (IsStepOfSome (lines_course now) (in_create_order lines) t) n run.steps run.gives))

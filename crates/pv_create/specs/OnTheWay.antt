@@ -1,0 +1,60 @@
+-- What a run of the create phase has left when it is stopped, whether a whole run would mend it or not, and what each of
+-- its steps gives (tmpfiles.d(5)).
+use Rattle.std.specs.Prelude.{◌≡◌, ℕ, false, List, take, Some}
+use Rattle.std.specs.FinMap as fin
+use Rattle.std.specs.List.{list_any, AllByRecursion}
+use Rattle.pv_dress.specs.declared.bare.Bare.{Bare}
+use Rattle.pv_dress.specs.Dressing.{dress_mode}
+use Rattle.pv_dress.specs.Nodes.{bares_of}
+use Rattle.pv_lines.specs.declared.line.Line.{Line}
+use Rattle.pv_path.specs.Paths.{Path, has_staging}
+use Rattle.pv_steps.specs.declared.step.Step.{Step}
+use Rattle.pv_steps.specs.declared.step.Step.TheVariants.{MakeLink, Write, SetMode, SetOwner, SetAcl, SetAttrs, SetLetters, SetStamps}
+use Rattle.pv_steps.specs.Runs.{after_all}
+use Rattle.pv_steps.specs.Trees.{Files, places}
+use Rattle.pv_laws.specs.Between.{IsOnTheWay}
+use Rattle.pv_laws.specs.Moments.{Agree}
+use Rattle.pv_table.specs.Created.{IsQuiet}
+use Rattle.pv_table.specs.Pointwise.{Bares, state}
+use Rattle.pv_table.specs.Reaching.{governs}
+use Rattle.pv_table.specs.Repeatable.{IsRepeatable}
+
+-- a run of lines from a tree, stopped after any of its steps, has left each path that no line governs as it was, whatever
+-- was refused; stamps and staging names aside
+abbrev pub IsFramed : List Line → ℕ → Files → List Step → Type 0
+IsFramed lines now t steps = (n : ℕ) (q : Path) → has_staging q ≡ false → list_any (λ line. governs line q) lines ≡ false →
+    bares_of (places (after_all t (take n steps) now)) q ≡ bares_of (places t) q
+
+-- where no line has a reason, and a whole run refuses none at a turn, each path is there as after some lines or after one
+-- more, as far as walks look at it
+abbrev pub IsStoppedBetween : List Line → ℕ → Files → List Step → Type 0
+IsStoppedBetween lines now t steps = (n : ℕ) (s : Bares) → IsRepeatable lines → IsQuiet lines now t → Agree s t →
+    IsOnTheWay lines s (after_all t (take n steps) now)
+
+-- ---- single steps
+
+-- a Write, MakeLink or Set step gives its node what an object has; no step sets stamps, and any other gives nothing
+abbrev pub Gives : Bare → Step → Type 0
+Gives b (Write at content) = content ≡ b.body.payload
+Gives b (MakeLink at target) = target ≡ b.body.payload
+Gives b (SetOwner at uid gid) = (uid ≡ b.dress.uid) × (gid ≡ b.dress.gid)
+Gives b (SetMode at mode) = mode ≡ dress_mode b.dress
+Gives b (SetAcl at acl) = acl ≡ b.dress.acl
+Gives b (SetAttrs at attrs) = attrs ≡ b.dress.attrs
+Gives b (SetLetters at letters) = letters ≡ b.dress.letters
+Gives b (SetStamps at access modify) = ⊥
+Gives b step = Unit {0}
+
+-- what stands at one path after some of the lines
+pub record IsGiven (lines : List Line) (s : Bares) (step : Step) : Type 0 where
+  pub k : ℕ
+  pub path : Path
+  pub object : Bare
+  pub there : fin.get (state lines k s) path ≡ Some object
+  pub gives : Gives object step
+
+-- where no line has a reason, and a whole run refuses none at a turn, each step gives its node what stands at one path
+-- after some of the lines
+abbrev pub GiveWhatLinesLeave : List Line → ℕ → Files → List Step → Type 0
+GiveWhatLinesLeave lines now t steps = (s : Bares) → IsRepeatable lines → IsQuiet lines now t → Agree s t →
+    AllByRecursion (IsGiven lines s) steps

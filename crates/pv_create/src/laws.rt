@@ -1,0 +1,33 @@
+//! Laws of what a run of lines leaves on its way. Each function does nothing; its contract is the law.
+ghost use Rattle.std.specs.Prelude.{◌≡◌, ℕ, List, true, false};
+ghost use Rattle.std.specs.List.{AllByRecursion};
+ghost use Rattle.pv_doing.specs.Courses.{Partway, IsStepOfSome};
+ghost use Rattle.pv_lines.specs.declared.line.Line.{Line as LineValue};
+ghost use Rattle.pv_lines.specs.Lines.{IsLine};
+ghost use Rattle.pv_path.specs.Paths.{Path, has_staging};
+ghost use Rattle.pv_steps.specs.declared.step.Step.{Step as StepValue};
+ghost use Rattle.pv_steps.specs.Content.{content_of};
+ghost use Rattle.pv_steps.specs.Runs.{after_all};
+ghost use Rattle.pv_steps.specs.Trees.{Files, places, IsTree};
+ghost use Rattle.pv_table.specs.declared.reason.Reason.TheVariants as reason;
+ghost use Rattle.pv_table.specs.Active.{in_create_order};
+ghost use Rattle.pv_table.specs.Repeatable.{HasReason, is_input};
+ghost use Rattle.pv_create.specs.Ways.{lines_course};
+
+/// Lines none of which may change what lines are read from leave, at each moment on their way and whatever is refused,
+/// presence, kind and payload at each path from which lines are read, staging names aside.
+pub fn a_run_leaves_what_lines_are_read_from()
+    ensures { (lines : List LineValue) (now : ℕ) (t u : Files) (q : Path) → IsTree t → IsTree u
+        → AllByRecursion IsLine lines → ((i : ℕ) → HasReason lines i reason.Input → ⊥)
+        → Partway (lines_course now) (in_create_order lines) t u → is_input q ≡ true → has_staging q ≡ false
+        → content_of (places u q) ≡ content_of (places t q) }
+{}
+
+/// Staging names included, where steps of these lines lead to that moment.
+pub fn the_steps_of_a_run_leave_what_lines_are_read_from()
+    ensures { (lines : List LineValue) (now : ℕ) (t : Files) (steps : List StepValue) (q : Path) → IsTree t → IsTree (after_all t steps now)
+        → AllByRecursion IsLine lines → ((i : ℕ) → HasReason lines i reason.Input → ⊥)
+        → Partway (lines_course now) (in_create_order lines) t (after_all t steps now)
+        → AllByRecursion (IsStepOfSome (lines_course now) (in_create_order lines) t) steps → is_input q ≡ true
+        → content_of (places (after_all t steps now) q) ≡ content_of (places t q) }
+{}
