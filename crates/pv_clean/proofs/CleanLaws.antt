@@ -1,18 +1,17 @@
 -- Laws of the clean phase: what it leaves, the steps it takes, and what one that was cut short has done.
 use Rattle.std.specs.Prelude.{◌≡◌, ℕ, Bool, List, length, take, drop}
-use Rattle.std.proofs.Common.{sym, ap, subst, ◌∙◌}
-use Rattle.std.proofs.Math.Seq.{drop-append_seam}
+use Rattle.std.proofs.Common.{sym, ◌∙◌}
 use Rattle.pv_lines.specs.declared.line.Line.{Line}
 use Rattle.pv_path.specs.Paths.{Path}
 use Rattle.pv_steps.specs.declared.step.Step.{Step}
 use Rattle.pv_steps.specs.Runs.{Ran, after_all}
 use Rattle.pv_steps.specs.Trees.{Files}
-use Rattle.pv_steps.proofs.RunLaws.{along_prefix}
 use Rattle.pv_dress.specs.Edits.{Pruned}
 use Rattle.pv_walk.specs.Removal.{is_one_of}
 use Rattle.pv_find.specs.Whole.{goes_whole}
 use Rattle.pv_table.specs.Cleaned.{is_aged, may_go}
 use Rattle.pv_remove.proofs.RunLaws.{goes_together}
+use Rattle.pv_remove.proofs.StopLaws.{told_prefix}
 use Rattle.pv_clean.specs.Cleaning.{TakesOnly}
 use Rattle.pv_clean.proofs.AgeLaws.{goes_aged, took}
 
@@ -23,5 +22,4 @@ aged_together keys lines now t members = goes_together keys (may_go lines now t)
 module _ (goes : Path → Bool) (t : Files) where
   -- the stop law
   pub takes_only : (Q : Step → Type 0) (now : ℕ) (h : List Step) (u : Files) (k : List Step) → Ran (Pruned goes t) Q now t h u k → TakesOnly goes now t (drop (length h) k)
-  takes_only Q now h u k run = subst (TakesOnly goes now t) (sym (ap (drop (length h)) run.told ∙ drop-append_seam h run.steps)) (λ n q.
-      took goes t (after_all t (take n run.steps) now) q (along_prefix (Pruned goes t) t run.steps now n run.along))
+  takes_only Q now h u k run n q = took goes t (after_all t (take n (drop (length h) k)) now) q (told_prefix (Pruned goes t) Q now t h u k run n)

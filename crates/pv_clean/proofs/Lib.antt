@@ -1,3 +1,4 @@
 pub mod AgeLaws
 pub mod CleanLaws
+pub mod InputLaws
 pub mod TaskLaws

@@ -19,14 +19,14 @@ use Rattle.pv_steps.proofs.NameLaws.{child_name-push}
 use Rattle.pv_steps.proofs.TreeLaws.{present_of_kind}
 use Rattle.pv_dress.specs.Edits.{Pruned}
 use Rattle.pv_walk.specs.Listing.{times, is_child, IsListing, ParentsFirst}
-use Rattle.pv_walk.specs.Removal.{is_below, is_one_of, removal}
+use Rattle.pv_walk.specs.Removal.{is_below, is_one_of, loses_child, removal}
 use Rattle.pv_walk.proofs.CountLaws.{is_child-push, length-times, same_or_not, taken_out, times-append, times-filter, times-keys, times-self}
 use Rattle.pv_walk.proofs.RemovalLaws.{apart, both, both_true, cond-true, is_below-child, kept-bare, kept-present, modified_kept, no_same, none_of, true_or_false, zero_or_more, gone-here, gone-none, gone-other, gone-parent, IsKept}
 use Rattle.pv_walk.proofs.Removing.{after_removal, removal_asks}
 use Rattle.pv_find.specs.Whole.{goes_whole}
 use Rattle.pv_find.proofs.FindingLaws.{children_pass}
 use Rattle.pv_find.proofs.WholeLaws.{all_at-each, goes_parts}
-use Rattle.pv_table.specs.Removed.{loses, without}
+use Rattle.pv_table.specs.Removed.{files_without}
 use Rattle.pv_remove.proofs.StopLaws.{places-without}
 use Rattle.pv_clean.specs.declared.tasks.Stamped.{Stamped}
 use Rattle.pv_clean.specs.Cleaning.{is_task, most_steps, stamped_at, stays_and_loses, task_step, ArePlanned, GoAfter, IsCleanStep}
@@ -315,7 +315,7 @@ module _ (goes : Path → Bool) (now : ℕ) (t : Files) (tasks : List Stamped) w
 
       -- the item has the stamps of its path, and what does not go there loses a child
       last_stays : goes s.path ≡ false → stays_and_loses goes t s.path ≡ true
-      last_stays h = by (goes s.path) (loses goes t s.path) h (planned_there s.path (here_once front s e.back middle)).1
+      last_stays h = by (goes s.path) (loses_child goes t s.path) h (planned_there s.path (here_once front s e.back middle)).1
         where
           by : (g l : Bool) → g ≡ false → (g || l) ≡ true → (not g && l) ≡ true
           by true l h k = absurd (let no : true ≡ false = h in cc)
@@ -355,7 +355,7 @@ filter_any f g (x ∷ xs) r h = by (f x) refl (filter_any f g xs r) h
     by false e rest k = rest k
 
 -- a directory loses a child that goes
-child_lost : (goes : Path → Bool) (t : Files) (q r : Path) → r ≢ [] → parent_of r ≡ q → is_some (places t r) ≡ true → goes r ≡ true → (is_child q r ≡ true) × (loses goes t q ≡ true)
+child_lost : (goes : Path → Bool) (t : Files) (q r : Path) → r ≢ [] → parent_of r ≡ q → is_some (places t r) ≡ true → goes r ≡ true → (is_child q r ≡ true) × (loses_child goes t q ≡ true)
 child_lost goes t q r nonempty over there h = elim (path_ends r) [
   | inl root ↦ absurd (nonempty root)
   | inr (above, name, e) ↦
@@ -409,32 +409,32 @@ module _ (goes : Path → Bool) (now : ℕ) (t : Files) (tasks : List Stamped) (
       ∙ own_again now (places t q) (worked goes now back (places t) q) there (worked-kept goes now (places t) q back alone.1)
 
   -- what stands at each path
-  worked_at : (q : Path) → worked goes now tasks (places t) q ≡ cond (goes q) None (cond (loses goes t q) (option_map (changed now) (places t q)) (places t q))
-  worked_at q = by (is_some (places t q)) (goes q) (loses goes t q) refl refl refl
+  worked_at : (q : Path) → worked goes now tasks (places t) q ≡ cond (goes q) None (cond (loses_child goes t q) (option_map (changed now) (places t q)) (places t q))
+  worked_at q = by (is_some (places t q)) (goes q) (loses_child goes t q) refl refl refl
     where
-      counted : (i g l : Bool) → is_some (places t q) ≡ i → goes q ≡ g → loses goes t q ≡ l → times q (paths_of tasks) ≡ cond (i && (g || l)) 1 0
+      counted : (i g l : Bool) → is_some (places t q) ≡ i → goes q ≡ g → loses_child goes t q ≡ l → times q (paths_of tasks) ≡ cond (i && (g || l)) 1 0
       counted i g l a b c =
           planned_times goes now t tasks plan q
-          ∙ ap (λ x. cond {A = ℕ} (x && (goes q || loses goes t q)) 1 0) a
-          ∙ ap (λ x. cond {A = ℕ} (i && (x || loses goes t q)) 1 0) b
+          ∙ ap (λ x. cond {A = ℕ} (x && (goes q || loses_child goes t q)) 1 0) a
+          ∙ ap (λ x. cond {A = ℕ} (i && (x || loses_child goes t q)) 1 0) b
           ∙ ap (λ x. cond {A = ℕ} (i && (g || x)) 1 0) c
 
       absent : (l : Bool) → places t q ≡ None → None ≡ cond l (option_map (changed now) (places t q)) (places t q)
       absent true e = sym (ap (option_map (changed now)) e)
       absent false e = sym e
 
-      by : (i g l : Bool) → is_some (places t q) ≡ i → goes q ≡ g → loses goes t q ≡ l
+      by : (i g l : Bool) → is_some (places t q) ≡ i → goes q ≡ g → loses_child goes t q ≡ l
           → worked goes now tasks (places t) q ≡ cond g None (cond l (option_map (changed now) (places t q)) (places t q))
       by false true l a b c = worked-none goes now (places t) q tasks (none_of (places t q) a)
       by false false l a b c = worked-none goes now (places t) q tasks (none_of (places t q) a) ∙ absent l (none_of (places t q) a)
       by true true l a b c = worked-gone goes now (places t) q tasks b (let e = counted true true l a b c in omega (arith, e))
       by true false true a b c = at_loser q b a (let e = counted true false true a b c in omega (arith, e))
       by true false false a b c = worked-same goes now (places t) q tasks (counted true false false a b c) (λ r some h. no_same (parent_of r) q (λ over.
-          apart (loses goes t q) (child_lost goes t q r (going_below r h) over (planned_there goes now t tasks plan r some).0 h).1 c))
+          apart (loses_child goes t q) (child_lost goes t q r (going_below r h) over (planned_there goes now t tasks plan r some).0 h).1 c))
 
   -- the tree after the clean phase
-  pub working_end : (u : Files) → Working goes now t tasks [] u → u ≡ without goes (changed now) t
-  working_end u e = same_files u (without goes (changed now) t) (λ q.
+  pub working_end : (u : Files) → Working goes now t tasks [] u → u ≡ files_without goes (changed now) t
+  working_end u e = same_files u (files_without goes (changed now) t) (λ q.
       ap (λ (x : Places). x q) e.is
       ∙ ap (λ (ss : List Stamped). worked goes now ss (places t) q) e.whole
       ∙ worked_at q
@@ -465,7 +465,7 @@ module _ (goes : Path → Bool) (t : Files) where
 
       one : (q : Path) → times q plan.paths ≡ times q (filter goes (fin.keys t) ++ filter (stays_and_loses goes t) (fin.keys t))
       one q =
-          plan.once q ∙ by (is_some (places t q)) (goes q) (loses goes t q)
+          plan.once q ∙ by (is_some (places t q)) (goes q) (loses_child goes t q)
           ∙ sym (ap (λ (n : ℕ). n + cond (stays_and_loses goes t q) (cond (is_some (places t q)) 1 0) 0) (some goes q))
           ∙ sym (ap (λ (n : ℕ). times q (filter goes (fin.keys t)) + n) (some (stays_and_loses goes t) q))
           ∙ sym (times-append q (filter goes (fin.keys t)) (filter (stays_and_loses goes t) (fin.keys t)))
@@ -478,7 +478,7 @@ module _ (goes : Path → Bool) (t : Files) where
       first : (q : Path) → is_child p q ≡ true → IsPresent t q → goes q ≡ true → 1 ≤ times q (filter (is_task goes t) ps)
       first q child there e =
           let listed = h.0 q child there in
-          let kept = times-filter (is_task goes t) q ps ∙ ap (λ b. cond (b || loses goes t q) (times q ps) 0) e in
+          let kept = times-filter (is_task goes t) q ps ∙ ap (λ b. cond (b || loses_child goes t q) (times q ps) 0) e in
           omega (arith, listed, kept)
 
       by : (b : Bool) → GoAfter goes t (filter (is_task goes t) ps) → GoAfter goes t (cond b (p ∷ filter (is_task goes t) ps) (filter (is_task goes t) ps))

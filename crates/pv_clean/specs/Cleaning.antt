@@ -9,18 +9,17 @@ use Rattle.pv_steps.specs.Runs.{after_all}
 use Rattle.pv_steps.specs.Same.{bares}
 use Rattle.pv_steps.specs.Trees.{Files, places, IsAbsentIn, IsPresent}
 use Rattle.pv_walk.specs.Listing.{times, is_child}
-use Rattle.pv_walk.specs.Removal.{removal}
+use Rattle.pv_walk.specs.Removal.{loses_child, removal}
 use Rattle.pv_find.specs.Whole.{count_of}
-use Rattle.pv_table.specs.Removed.{loses}
 use Rattle.pv_clean.specs.declared.tasks.Stamped.{Stamped}
 
 -- a directory stays and loses a child
 abbrev pub stays_and_loses : (Path → Bool) → Files → Path → Bool
-stays_and_loses goes t q = not (goes q) && loses goes t q
+stays_and_loses goes t q = not (goes q) && loses_child goes t q
 
 -- a clean phase has something to do at a path: it goes, or loses a child
 abbrev pub is_task : (Path → Bool) → Files → Path → Bool
-is_task goes t q = goes q || loses goes t q
+is_task goes t q = goes q || loses_child goes t q
 
 -- the stamps of access and of modification of what stands at a path; 0 where nothing does
 abbrev pub stamped_at : Files → Path → Stamped

@@ -1,15 +1,26 @@
-//! Laws of cleanings that were cut short. Each function does nothing; its contract is the law.
+//! Laws of what cleanings leave on their way. Each function does nothing; its contract is the law.
 ghost use Rattle.std.specs.Prelude.{◌≡◌, ◌⊎◌, ℕ, List, true};
 ghost use Rattle.pv_lines.specs.declared.line.Line.{Line as LineValue};
 ghost use Rattle.pv_path.specs.Paths.{Path};
+ghost use Rattle.pv_steps.specs.Content.{content_of};
 ghost use Rattle.pv_steps.specs.Same.{bares};
-ghost use Rattle.pv_steps.specs.Trees.{Files, places, IsAbsentIn};
+ghost use Rattle.pv_steps.specs.Trees.{Files, places, IsAbsentIn, IsTree};
 ghost use Rattle.pv_dress.specs.Edits.{Pruned};
+ghost use Rattle.pv_table.specs.declared.reason.Reason.TheVariants as reason;
 ghost use Rattle.pv_table.specs.Cleaned.{is_aged};
+ghost use Rattle.pv_table.specs.Repeatable.{HasReason, is_input};
 
 /// Whatever a cleaning on its way has taken away is aged in the tree in which it began, and all else stands as it stood,
 /// stamps aside.
 pub fn a_stopped_clean_took_what_is_aged()
     ensures { (lines : List LineValue) (now : ℕ) (t u : Files) (q : Path) → Pruned (is_aged lines now t) t u
         → ((is_aged lines now t q ≡ true) × IsAbsentIn (places u) q) ⊎ (bares (places u) q ≡ bares (places t) q) }
+{}
+
+/// Lines none of which may change what lines are read from leave, at each moment on the way of a cleaning, presence, kind
+/// and payload at each path from which lines are read.
+pub fn a_cleaning_leaves_what_lines_are_read_from()
+    ensures { (lines : List LineValue) (now : ℕ) (t u : Files) (q : Path) → IsTree t
+        → ((i : ℕ) → HasReason lines i reason.Input → ⊥) → Pruned (is_aged lines now t) t u → is_input q ≡ true
+        → content_of (places u q) ≡ content_of (places t q) }
 {}

@@ -4,9 +4,9 @@ ghost use Rattle.pv_path.specs.Paths.{Path};
 ghost use Rattle.pv_steps.specs.Acting.{Acted};
 ghost use Rattle.pv_steps.specs.Objects.{changed};
 ghost use Rattle.pv_dress.specs.Edits.{Pruned};
-ghost use Rattle.pv_walk.specs.Removal.{is_one_of};
+ghost use Rattle.pv_walk.specs.Removal.{is_one_of, loses_child};
 ghost use Rattle.pv_find.specs.Whole.{goes_whole};
-ghost use Rattle.pv_table.specs.Removed.{loses, without};
+ghost use Rattle.pv_table.specs.Removed.{files_without};
 ghost use Rattle.pv_clean.specs.Cleaning.{is_task, stamped_at, task_step, ArePlanned, IsCleanStep};
 
 use pv_find::is_among;
@@ -67,7 +67,7 @@ fn loses<T: Tree>(
     going: &BTreeSet<TreePath>,
     path: &TreePath,
 ) -> Result<bool, AllocError>
-    ensures { IfOk result (λ is. is ≡ loses (is_one_of going.now.keys) (T.state tree.now) path.now) }
+    ensures { IfOk result (λ is. is ≡ loses_child (is_one_of going.now.keys) (T.state tree.now) path.now) }
 {
     if !is_directory(tree, path) {
         return Ok(false);
@@ -108,7 +108,7 @@ pub(crate) fn do_tasks<T: Tree>(
 ) -> Result<(), TreeFault>
     requires planned { ArePlanned (is_one_of going.now.keys) (T.state tree.old) tasks.items }
     requires whole { (q : Path) → is_one_of going.now.keys q ≡ goes_whole (is_one_of going.now.keys) (T.state tree.old) q }
-    ensures ok { OnOk result (T.state tree.new ≡ without (is_one_of going.now.keys) (changed now) (T.state tree.old)) }
+    ensures ok { OnOk result (T.state tree.new ≡ files_without (is_one_of going.now.keys) (changed now) (T.state tree.old)) }
     ensures acted { Acted T.Tree (Pruned (is_one_of going.now.keys) (T.state tree.old))
         (IsCleanStep (is_one_of going.now.keys) (T.state tree.old)) (length tasks.items) now tree.old tree.new result }
 {

@@ -101,13 +101,13 @@ in_any f g (x ∷ xs) p h a b = by (same_path x p) refl (in_any f g xs p) h
     by true e rest h = here ((same_path-decides x p).0 e)
     by false e rest h = more (f x) (rest h a b)
 
-in_range : (f : ℕ → Bool) (n k : ℕ) → k < n → f k ≡ true → list_any f (range_with_len 0 n) ≡ true
+pub in_range : (f : ℕ → Bool) (n k : ℕ) → k < n → f k ≡ true → list_any f (range_with_len 0 n) ≡ true
 in_range f n k within h =
     let len = length-range_with_len 0 n in
     let there : get_or (range_with_len 0 n) k 0 ≡ k = omega (arith, get_or-range_with_len 0 n k 0 within) in
     list_any_at f (range_with_len 0 n) k 0 (omega (arith, len, within)) (ap f there ∙ h)
 
-from_range : (f : ℕ → Bool) (n : ℕ) → list_any f (range_with_len 0 n) ≡ true → (k : ℕ) × (k < n) × (f k ≡ true)
+pub from_range : (f : ℕ → Bool) (n : ℕ) → list_any f (range_with_len 0 n) ≡ true → (k : ℕ) × (k < n) × (f k ≡ true)
 from_range f n h =
     let found = Any-from_list_any f (range_with_len 0 n) h in
     let len = length-range_with_len 0 n in

@@ -1,4 +1,5 @@
 pub mod CoverLaws
+pub mod InputLaws
 pub mod JudgeLaws
 pub mod RunLaws
 pub mod StopLaws

@@ -20,22 +20,19 @@ use Rattle.pv_steps.proofs.RunLaws.{along_prefix, along_trees}
 use Rattle.pv_steps.proofs.StepLaws.{places-tabulate, among_keys}
 use Rattle.pv_steps.proofs.TreeLaws.{present_above}
 use Rattle.pv_dress.specs.Edits.{Pruned}
+use Rattle.pv_walk.specs.Removal.{loses_child, without}
 use Rattle.pv_find.proofs.FindingLaws.{true_both}
 use Rattle.pv_find.proofs.WholeLaws.{goes_parts, goes_from, all_at-each, each-all_at}
 use Rattle.pv_table.specs.declared.taking.Taking.{Taking}
 use Rattle.pv_table.specs.declared.taking.Taking.TheVariants as taking
 use Rattle.pv_table.specs.Reaching.{names, path_in, taking_of}
-use Rattle.pv_table.specs.Removed.{all_at, covers, is_directory_at, is_gone, is_named, is_purged, loses, owner_given, purges, purged, refused_place, removed, without}
+use Rattle.pv_table.specs.Removed.{all_at, covers, is_directory_at, is_gone, is_named, files_without, is_purged, owner_given, purges, purged, refused_place, removed}
 use Rattle.pv_remove.specs.Ended.{IsMended}
 
 -- ---- what a tree without some paths has
 
-bare_modified : (now : ℕ) (o : Option Object) → option_map bare (option_map (modified now) o) ≡ option_map bare o
-bare_modified now None = refl
-bare_modified now (Some o) = refl
-
-without_key : (goes : Path → Bool) (change : Object → Object) (t : Files) (q : Path) → is_some (cond (goes q) None (cond (loses goes t q) (option_map change (places t q)) (places t q))) ≡ true → is_some (places t q) ≡ true
-without_key goes change t q = by (goes q) (loses goes t q) (places t q)
+without_key : (goes : Path → Bool) (change : Object → Object) (t : Files) (q : Path) → is_some (without goes change t q) ≡ true → is_some (places t q) ≡ true
+without_key goes change t q = by (goes q) (loses_child goes t q) (places t q)
   where
     by : (g l : Bool) (o : Option Object) → is_some (cond g None (cond l (option_map change o) o)) ≡ true → is_some o ≡ true
     by true l o h = cc
@@ -43,19 +40,18 @@ without_key goes change t q = by (goes q) (loses goes t q) (places t q)
     by false true (Some x) h = refl
     by false false o h = h
 
-pub places-without : (goes : Path → Bool) (change : Object → Object) (t : Files) (q : Path) → places (without goes change t) q ≡ cond (goes q) None (cond (loses goes t q) (option_map change (places t q)) (places t q))
-places-without goes change t q =
-    places-tabulate (fin.keys t) (λ r. cond (goes r) None (cond (loses goes t r) (option_map change (places t r)) (places t r))) q
-    (λ h. among_keys t q ∙ without_key goes change t q h)
+pub places-without : (goes : Path → Bool) (change : Object → Object) (t : Files) (q : Path) → places (files_without goes change t) q ≡ without goes change t q
+places-without goes change t q = places-tabulate (fin.keys t) (without goes change t) q (λ h. among_keys t q ∙ without_key goes change t q h)
 
--- stamps aside
-bares-without : (goes : Path → Bool) (now : ℕ) (t : Files) (q : Path) → bares (places (without goes (modified now) t)) q ≡ cond (goes q) None (bares (places t) q)
-bares-without goes now t q = ap (option_map bare) (places-without goes (modified now) t q) ∙ by (goes q) (loses goes t q)
+-- stamps aside, where only stamps change
+pub bares-without : (goes : Path → Bool) (change : Object → Object) → ((o : Object) → bare (change o) ≡ bare o) → (t : Files) (q : Path) → bares (places (files_without goes change t)) q ≡ cond (goes q) None (bares (places t) q)
+bares-without goes change keeps t q = ap (option_map bare) (places-without goes change t q) ∙ by (goes q) (loses_child goes t q) (places t q)
   where
-    by : (g l : Bool) → option_map bare (cond g None (cond l (option_map (modified now) (places t q)) (places t q))) ≡ cond g None (option_map bare (places t q))
-    by true l = refl
-    by false true = bare_modified now (places t q)
-    by false false = refl
+    by : (g l : Bool) (o : Option Object) → option_map bare (cond g None (cond l (option_map change o) o)) ≡ cond g None (option_map bare o)
+    by true l o = refl
+    by false true None = refl
+    by false true (Some x) = ap Some (keeps x)
+    by false false o = refl
 
 -- ---- judging a path depends on what stands along it
 
@@ -161,9 +157,9 @@ module _ (inside : Path → Bool) (t u : Files) (pruned : Pruned inside t u) whe
 
 -- what a whole run leaves from there is what it leaves from the start, where what is still there is judged alike
 same_end : (goes_t goes_u : Path → Bool) (now later : ℕ) (t u : Files) → Pruned goes_t t u → ((q : Path) → is_some (places u q) ≡ true → goes_u q ≡ goes_t q) → ((q : Path) → goes_u q ≡ true → is_some (places u q) ≡ true)
-    → Same (without goes_u (modified later) u) (without goes_t (modified now) t)
+    → Same (files_without goes_u (modified later) u) (files_without goes_t (modified now) t)
 same_end goes_t goes_u now later t u pruned alike there q plain =
-    bares-without goes_u later u q ∙ by (is_some (places u q)) refl (goes_t q) refl ∙ sym (bares-without goes_t now t q)
+    bares-without goes_u (modified later) (λ o. refl) u q ∙ by (is_some (places u q)) refl (goes_t q) refl ∙ sym (bares-without goes_t (modified now) (λ o. refl) t q)
   where
     none : (o : Option Object) → is_some o ≡ false → option_map bare o ≡ None
     none None e = refl
@@ -224,6 +220,11 @@ purge_mends lines now later t u tree pruned =
     first false b c h = absurd (let wrong : false ≡ true = h in cc)
 
 -- ---- runs that were cut short
+
+-- what holds at each moment of a run holds after each number of the steps that it told
+pub told_prefix : (P : Files → Type 0) (Q : Step → Type 0) (now : ℕ) (t : Files) (h : List Step) (u : Files) (k : List Step) → Ran P Q now t h u k → (n : ℕ) → P (after_all t (take n (drop (length h) k)) now)
+told_prefix P Q now t h u k run n =
+    subst (λ (steps : List Step). P (after_all t (take n steps) now)) (sym (ap (drop (length h)) run.told ∙ drop-append_seam h run.steps)) (along_prefix P t run.steps now n run.along)
 
 pub run_mends : (whole : ℕ → Files → Files) (goes : Path → Bool) → (Q : Step → Type 0) (now : ℕ) (t : Files) (h : List Step) (u : Files) (k : List Step) → now < 2 ^ 64 → IsTree t
     → ((later : ℕ) (v : Files) → IsTree v → Pruned goes t v → Same (whole later v) (whole now t)) → Ran (Pruned goes t) Q now t h u k → IsMended whole now t (drop (length h) k)

@@ -1,27 +1,89 @@
 -- Laws of paths taken away whole: what that leaves, and how many steps it takes.
-use Rattle.std.specs.Prelude.{◌≡◌, ℕ, ◌≤◌, Bool, true, false, cond, List, length, filter}
-use Rattle.std.proofs.Common.{refl, sym, ap, ◌∙◌, arith, inr}
+use Rattle.std.specs.Prelude.{◌≡◌, ℕ, ◌≤◌, Bool, true, false, cond, List, length, filter, Result, Ok, Err, IsErrAnd}
+use Rattle.std.proofs.Common.{refl, sym, ap, subst, ◌∙◌, arith, inr}
+use Rattle.std.proofs.lemmas.List.{append-nil}
 use Rattle.std.specs.List.Sorted.{IsStrictlySortedBy, IsNonDecreasingBy}
 use Rattle.std.specs.FinMap as fin
+use Rattle.pv_doing.specs.declared.carried.Carried.{Carried}
 use Rattle.pv_path.specs.Paths.{Path, path_cmp}
+use Rattle.pv_steps.specs.declared.tree.Tree.{Ghosts}
+use Rattle.pv_steps.specs.declared.tree.TreeFault.{TreeFault}
+use Rattle.pv_steps.specs.declared.tree.TreeFault.TheVariants.{Failed, Memory}
+use Rattle.pv_steps.specs.Acting.{Acted}
+use Rattle.pv_steps.specs.Content.{Removes}
 use Rattle.pv_steps.specs.Objects.{modified}
 use Rattle.pv_steps.specs.Trees.{Files, places}
+use Rattle.pv_steps.proofs.ActingLaws.{Moves, well, acted_none, acted_passed, acted_ended}
 use Rattle.pv_steps.proofs.StepLaws.{same_files}
 use Rattle.pv_dress.specs.Edits.{Pruned}
 use Rattle.pv_walk.specs.Listing.{times, AreRemovable}
-use Rattle.pv_walk.specs.Removal as walk
-use Rattle.pv_walk.specs.Removal.{is_one_of}
+use Rattle.pv_walk.specs.Removal.{is_one_of, without}
 use Rattle.pv_walk.proofs.CountLaws.{length-times, times-filter, times-keys}
 use Rattle.pv_walk.proofs.TakingLaws.{one_of-some, one_of-counted}
 use Rattle.pv_find.specs.Whole.{count_of, goes_whole}
 use Rattle.pv_find.proofs.FindingLaws.{true_both}
 use Rattle.pv_find.proofs.WholeLaws.{goes_parts, times-rising, whole_removable}
-use Rattle.pv_table.specs.Removed.{without}
+use Rattle.pv_table.specs.Removed.{files_without}
+use Rattle.pv_text.specs.Said.{SaidPart}
+use Rattle.pv_remove.specs.Ended.{TakesAway}
 use Rattle.pv_remove.proofs.StopLaws.{places-without}
 
 -- nothing is gone yet
 pub pruned_start : (goes : Path → Bool) (t : Files) → Pruned goes t t
 pruned_start goes t = record { outside = λ q h. refl; within = λ q h. inr refl }
+
+-- ---- a phase that takes away
+
+-- without memory for a plan nothing is taken away and nothing said
+pub takes_nothing : {S : Type 0} (tree : Ghosts S) → Moves tree → (goes : Path → Bool) (texts : List (List ℕ)) (unfinished : Bool) (now : ℕ) (a : S) (before : List (List ℕ)) (r : Result Carried TreeFault)
+    → IsErrAnd r (λ e. e ≡ Memory) → TakesAway tree goes texts unfinished now a a before before r
+takes_nothing tree moves goes texts unfinished now a before (Ok c) h = absurd h
+takes_nothing tree moves goes texts unfinished now a before (Err Failed) h = cc
+takes_nothing tree moves goes texts unfinished now a before (Err Memory) h = record {
+  ok = tt;
+  said = tt;
+  carried = tt;
+  part = (0, sym (append-nil before));
+  silent = λ failed. refl;
+  acted = acted_none tree moves (Pruned goes (tree.state a)) (Removes goes) (count_of goes (tree.state a)) now a (Err Memory) refl (pruned_start goes (tree.state a));
+}
+
+-- a fault in taking away is passed on, and nothing is said
+pub takes_failed : {S : Type 0} (tree : Ghosts S) {goes : Path → Bool} (texts : List (List ℕ)) (unfinished : Bool) {now : ℕ} {a b : S} (before : List (List ℕ)) {e : TreeFault} (q : Result (Unit {0}) TreeFault) (r : Result Carried TreeFault)
+    → q ≡ Err e → IsErrAnd r (λ y. y ≡ e) → Acted tree (Pruned goes (tree.state a)) (Removes goes) (count_of goes (tree.state a)) now a b q → TakesAway tree goes texts unfinished now a b before before r
+takes_failed tree texts unfinished before q (Ok c) was h acted = absurd h
+takes_failed tree texts unfinished before q (Err f) was h acted = record {
+  ok = tt;
+  said = tt;
+  carried = tt;
+  part = (0, sym (append-nil before));
+  silent = λ failed. refl;
+  acted = acted_passed tree q (Err f) was h acted;
+}
+
+-- where it is whole, but memory to say a text is wanting, a part is said
+pub takes_unsaid : {S : Type 0} (tree : Ghosts S) {goes : Path → Bool} {texts : List (List ℕ)} (unfinished : Bool) {now : ℕ} {a b : S} {before behind : List (List ℕ)} (r : Result Carried TreeFault)
+    → IsErrAnd r (λ y. y ≡ Memory) → SaidPart texts before behind → Acted tree (Pruned goes (tree.state a)) (Removes goes) (count_of goes (tree.state a)) now a b well → TakesAway tree goes texts unfinished now a b before behind r
+takes_unsaid tree unfinished (Ok c) h part acted = absurd h
+takes_unsaid tree unfinished (Err Failed) h part acted = cc
+takes_unsaid tree unfinished (Err Memory) h part acted = record {
+  ok = tt;
+  said = tt;
+  carried = tt;
+  part = part;
+  silent = λ failed. (let no : ◌≡◌ {A = Result Carried TreeFault} (Err Memory) (Err Failed) = failed in cc);
+  acted = acted_ended tree (Err Memory) refl acted;
+}
+
+-- what is taken away and said is known by any name
+pub takes-same : {S : Type 0} (tree : Ghosts S) {f h : Path → Bool} {texts more : List (List ℕ)} {a b : Bool} {now : ℕ} {old new : S} {before behind : List (List ℕ)} {r : Result Carried TreeFault}
+    → f ≡ h → texts ≡ more → a ≡ b → TakesAway tree f texts a now old new before behind r → TakesAway tree h more b now old new before behind r
+takes-same tree {f = f} {h = h} {texts = texts} {more = more} {a = a} {b = b} {now = now} {old = old} {new = new} {before = before} {behind = behind} {r = r} goes said ends took =
+    subst (λ (x : Bool). TakesAway tree h more x now old new before behind r) ends
+    (subst (λ (x : List (List ℕ)). TakesAway tree h x a now old new before behind r) said
+    (subst (λ (x : Path → Bool). TakesAway tree x texts a now old new before behind r) goes took))
+
+-- ---- paths that go whole
 
 module _ (t : Files) (keys ordered : List Path) (moved : (q : Path) → times q ordered ≡ times q keys) where
   -- the paths are the same in another order
@@ -34,9 +96,9 @@ module _ (t : Files) (keys ordered : List Path) (moved : (q : Path) → times q 
           (λ h. one_of-counted ordered q (let some = one_of-some keys q h in omega (arith, some, moved q)))
 
   -- what is left without them
-  pub left_without : (now : ℕ) (u : Files) → places u ≡ walk.without (is_one_of ordered) now t → u ≡ without (is_one_of keys) (modified now) t
-  left_without now u is = same_files u (without (is_one_of keys) (modified now) t) (λ q.
-      (λ i. is i q) ∙ (λ i. walk.without (same_paths i) now t q) ∙ sym (places-without (is_one_of keys) (modified now) t q))
+  pub left_without : (now : ℕ) (u : Files) → places u ≡ without (is_one_of ordered) (modified now) t → u ≡ files_without (is_one_of keys) (modified now) t
+  left_without now u is = same_files u (files_without (is_one_of keys) (modified now) t) (λ q.
+      (λ i. is i q) ∙ (λ i. without (same_paths i) (modified now) t q) ∙ sym (places-without (is_one_of keys) (modified now) t q))
 
   module _ (rises : IsStrictlySortedBy path_cmp keys) (whole : (q : Path) → is_one_of keys q ≡ goes_whole (is_one_of keys) t q) where
     pub removable : IsNonDecreasingBy (λ (p : Path). length p) ordered → AreRemovable t ordered

@@ -1,15 +1,35 @@
--- How a phase that takes away ended, and that a run of it which was cut short is mended by the next.
-use Rattle.std.specs.Prelude.{ℕ, Bool, List, take, if◌then◌else◌}
+-- What a phase that takes away does, says and answers, and that one which was cut short is mended by the next
+-- (tmpfiles.d(5), r, R and D; systemd-tmpfiles(8), --purge).
+use Rattle.std.specs.Prelude.{◌≡◌, ℕ, Bool, List, ◌++◌, take, Result, IfOk, IsErrOf, OnOk}
+use Rattle.pv_doing.specs.declared.carried.Carried.{Carried}
+use Rattle.pv_doing.specs.Courses.{carried_of}
+use Rattle.pv_dress.specs.Edits.{Pruned}
+use Rattle.pv_find.specs.Whole.{count_of}
+use Rattle.pv_path.specs.Paths.{Path}
 use Rattle.pv_steps.specs.declared.step.Step.{Step}
+use Rattle.pv_steps.specs.declared.tree.Tree.{Ghosts}
+use Rattle.pv_steps.specs.declared.tree.TreeFault.{TreeFault}
+use Rattle.pv_steps.specs.declared.tree.TreeFault.TheVariants.{Failed}
+use Rattle.pv_steps.specs.Acting.{Acted}
+use Rattle.pv_steps.specs.Content.{Removes}
+use Rattle.pv_steps.specs.Objects.{modified}
 use Rattle.pv_steps.specs.Trees.{Files}
 use Rattle.pv_steps.specs.Runs.{after_all}
 use Rattle.pv_steps.specs.Same.{Same}
-use Rattle.pv_remove.specs.declared.carried.Carried.{Carried}
-use Rattle.pv_remove.specs.declared.carried.Carried.TheVariants.{Whole, NotCarriedOut}
+use Rattle.pv_table.specs.Removed.{files_without}
+use Rattle.pv_text.specs.Said.{SaidPart}
 
--- how a run ended, by whether something was not carried out
-abbrev pub carried_of : Bool → Carried
-carried_of unfinished = if unfinished then NotCarriedOut else Whole
+-- a phase takes away the paths that go, and then says some texts: where it answers Ok it leaves the tree without these
+-- paths, has said all the texts, and tells whether something is unfinished; whatever it answers, it has said a front part
+-- of them, or none where a step was refused, and has gone by steps each of which takes away a path that goes
+pub record TakesAway {S : Type 0} (tree : Ghosts S) (goes : Path → Bool) (texts : List (List ℕ)) (unfinished : Bool)
+    (now : ℕ) (old new : S) (before behind : List (List ℕ)) (r : Result Carried TreeFault) : Type 0 where
+  pub ok : OnOk r (tree.state new ≡ files_without goes (modified now) (tree.state old))
+  pub said : OnOk r (behind ≡ before ++ texts)
+  pub carried : IfOk r (λ c. c ≡ carried_of unfinished)
+  pub part : SaidPart texts before behind
+  pub silent : IsErrOf r Failed → behind ≡ before
+  pub acted : Acted tree (Pruned goes (tree.state old)) (Removes goes) (count_of goes (tree.state old)) now old new r
 
 -- after each number of these steps a whole run, at whatever moment, leaves what a whole run leaves from the start;
 -- stamps and staging names aside

@@ -1,9 +1,9 @@
 //! How a phase ends: what is said after its steps, and how the run went.
 ghost use Rattle.std.specs.Prelude.{◌≡◌, ◌++◌, drop, take, OnErr, OnOk};
 ghost use Rattle.pv_text.specs.Said.{SaidPart};
-ghost use Rattle.pv_remove.specs.Ended.{carried_of};
+ghost use Rattle.pv_doing.specs.Courses.{carried_of};
 
-use crate::carried::Carried;
+use pv_doing::Carried;
 use pv_text::Messages;
 use std::alloc::AllocError;
 

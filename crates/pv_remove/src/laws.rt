@@ -1,10 +1,17 @@
-//! Laws of removals and purges that were cut short. Each function does nothing; its contract is the law.
-ghost use Rattle.std.specs.Prelude.{ℕ, List};
+//! Laws of removals and purges that were cut short, and of what both leave on their way. Each function does nothing; its
+//! contract is the law.
+ghost use Rattle.std.specs.Prelude.{◌≡◌, ℕ, List, true};
+ghost use Rattle.std.specs.List.{AllByRecursion};
 ghost use Rattle.pv_lines.specs.declared.line.Line.{Line as LineValue};
+ghost use Rattle.pv_lines.specs.Lines.{IsLine};
+ghost use Rattle.pv_path.specs.Paths.{Path};
+ghost use Rattle.pv_steps.specs.Content.{content_of};
 ghost use Rattle.pv_steps.specs.Same.{Same};
-ghost use Rattle.pv_steps.specs.Trees.{Files, IsTree};
+ghost use Rattle.pv_steps.specs.Trees.{Files, places, IsTree};
 ghost use Rattle.pv_dress.specs.Edits.{Pruned};
+ghost use Rattle.pv_table.specs.declared.reason.Reason.TheVariants as reason;
 ghost use Rattle.pv_table.specs.Removed.{is_gone, is_purged, purged, removed};
+ghost use Rattle.pv_table.specs.Repeatable.{HasReason, is_input};
 
 /// From a tree in which a removal may have been cut short, a whole removal leaves what it leaves from the start, at
 /// whatever moment, whatever the lines; stamps and staging names aside.
@@ -17,4 +24,19 @@ pub fn a_removal_cut_short_is_mended()
 pub fn a_purge_cut_short_is_mended()
     ensures { (lines : List LineValue) (now later : ℕ) (t u : Files) → IsTree u → Pruned (is_purged lines t) t u
         → Same (purged lines later u) (purged lines now t) }
+{}
+
+/// Lines none of which may change what lines are read from leave, at each moment on the way of the remove phase, presence,
+/// kind and payload at each path from which lines are read.
+pub fn a_removal_leaves_what_lines_are_read_from()
+    ensures { (lines : List LineValue) (t u : Files) (q : Path) → IsTree t → AllByRecursion IsLine lines
+        → ((i : ℕ) → HasReason lines i reason.Input → ⊥) → Pruned (is_gone lines t) t u → is_input q ≡ true
+        → content_of (places u q) ≡ content_of (places t q) }
+{}
+
+/// The same of purging.
+pub fn a_purge_leaves_what_lines_are_read_from()
+    ensures { (lines : List LineValue) (t u : Files) (q : Path) → IsTree t → AllByRecursion IsLine lines
+        → ((i : ℕ) → HasReason lines i reason.Input → ⊥) → Pruned (is_purged lines t) t u → is_input q ≡ true
+        → content_of (places u q) ≡ content_of (places t q) }
 {}

@@ -1,7 +1,6 @@
 //! The phases that take away: lines r, R and D, and purging.
 #![tactic(auto)]
 
-mod carried;
 mod covering;
 mod ending;
 mod judging;
@@ -11,7 +10,9 @@ mod purging;
 mod removing;
 mod taking_away;
 
-pub use carried::Carried;
-pub use laws::{a_purge_cut_short_is_mended, a_removal_cut_short_is_mended};
+pub use laws::{
+    a_purge_cut_short_is_mended, a_purge_leaves_what_lines_are_read_from,
+    a_removal_cut_short_is_mended, a_removal_leaves_what_lines_are_read_from,
+};
 pub use purging::purge_run;
 pub use removing::remove_run;

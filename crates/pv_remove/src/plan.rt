@@ -1,19 +1,13 @@
 //! What a phase that takes away is to do, and how it is done.
-ghost use Rattle.std.specs.Prelude.{◌≡◌, ◌++◌, IfOk, OnOk};
+ghost use Rattle.std.specs.Prelude.{◌≡◌};
 ghost use Rattle.pv_path.specs.Paths.{Path};
-ghost use Rattle.pv_steps.specs.Acting.{Acted};
-ghost use Rattle.pv_steps.specs.Content.{Removes};
-ghost use Rattle.pv_steps.specs.Objects.{modified};
-ghost use Rattle.pv_text.specs.Said.{SaidPart};
-ghost use Rattle.pv_dress.specs.Edits.{Pruned};
 ghost use Rattle.pv_walk.specs.Removal.{is_one_of};
-ghost use Rattle.pv_find.specs.Whole.{count_of, goes_whole};
-ghost use Rattle.pv_table.specs.Removed.{without};
-ghost use Rattle.pv_remove.specs.Ended.{carried_of};
+ghost use Rattle.pv_find.specs.Whole.{goes_whole};
+ghost use Rattle.pv_remove.specs.Ended.{TakesAway};
 
-use crate::carried::Carried;
 use crate::ending::{carried_of, say_all};
 use crate::taking_away::take_away;
+use pv_doing::Carried;
 use pv_path::TreePath;
 use pv_steps::{Tree, TreeFault};
 use pv_text::Messages;
@@ -40,12 +34,8 @@ pub(crate) fn carry_out<T: Tree>(
     messages: &mut Messages,
 ) -> Result<Carried, TreeFault>
     requires whole { (q : Path) → is_one_of plan.paths.keys q ≡ goes_whole (is_one_of plan.paths.keys) (T.state tree.old) q }
-    ensures ok { OnOk result (T.state tree.new ≡ without (is_one_of plan.paths.keys) (modified now) (T.state tree.old)) }
-    ensures said { OnOk result (messages.new ≡ messages.old ++ plan.said) }
-    ensures carried { IfOk result (λ c. c ≡ carried_of plan.unfinished) }
-    ensures part { SaidPart plan.said messages.old messages.new }
-    ensures acted { Acted T.Tree (Pruned (is_one_of plan.paths.keys) (T.state tree.old)) (Removes (is_one_of plan.paths.keys))
-        (count_of (is_one_of plan.paths.keys) (T.state tree.old)) now tree.old tree.new result }
+    ensures { TakesAway T.Tree (is_one_of plan.paths.keys) plan.said plan.unfinished now tree.old tree.new
+        messages.old messages.new result }
 {
     let Plan {
         paths,

@@ -1,22 +1,17 @@
 //! The remove phase.
-ghost use Rattle.std.specs.Prelude.{◌≡◌, ◌++◌, drop, length, IfOk, OnOk};
+ghost use Rattle.std.specs.Prelude.{◌≡◌, drop, length, IfOk};
 ghost use Rattle.std.specs.List.{AllByRecursion};
 ghost use Rattle.pv_lines.specs.Lines.{IsLine};
 ghost use Rattle.pv_path.specs.Paths.{Path};
 ghost use Rattle.pv_steps.specs.Trees.{IsTree};
-ghost use Rattle.pv_steps.specs.Acting.{Acted};
-ghost use Rattle.pv_steps.specs.Content.{Removes};
-ghost use Rattle.pv_text.specs.Said.{SaidPart};
-ghost use Rattle.pv_dress.specs.Edits.{Pruned};
 ghost use Rattle.pv_walk.specs.Removal.{is_one_of};
-ghost use Rattle.pv_find.specs.Whole.{count_of};
 ghost use Rattle.pv_table.specs.Removed.{is_gone, is_unfinished, removed, removed_messages};
-ghost use Rattle.pv_remove.specs.Ended.{carried_of, IsMended};
+ghost use Rattle.pv_remove.specs.Ended.{IsMended, TakesAway};
 
-use crate::carried::Carried;
 use crate::covering::covered_paths;
 use crate::judging::judge;
 use crate::plan::{Plan, carry_out};
+use pv_doing::Carried;
 use pv_find::whole_of;
 use pv_lines::Line;
 use pv_path::TreePath;
@@ -35,16 +30,9 @@ pub fn remove_run<T: Tree>(
 ) -> Result<Carried, TreeFault>
     requires lines { AllByRecursion IsLine lines.now }
 
-    // What a whole run leaves, stamps included, what it says and how it ends.
-    ensures ok { OnOk result (T.state tree.new ≡ removed lines.now now (T.state tree.old)) }
-    ensures said { OnOk result (messages.new ≡ messages.old ++ removed_messages lines.now (T.state tree.old)) }
-    ensures carried { IfOk result (λ c. c ≡ carried_of (is_unfinished lines.now (T.state tree.old))) }
-
-    // What any run has said and done, whatever it answers.
-    ensures part { SaidPart (removed_messages lines.now (T.state tree.old)) messages.old messages.new }
-    ensures acted { Acted T.Tree (Pruned (is_gone lines.now (T.state tree.old)) (T.state tree.old))
-        (Removes (is_gone lines.now (T.state tree.old))) (count_of (is_gone lines.now (T.state tree.old)) (T.state tree.old))
-        now tree.old tree.new result }
+    // What it leaves, stamps included, what it says, how it ends, and by which steps.
+    ensures run { TakesAway T.Tree (is_gone lines.now (T.state tree.old)) (removed_messages lines.now (T.state tree.old))
+        (is_unfinished lines.now (T.state tree.old)) now tree.old tree.new messages.old messages.new result }
 
     // The stop law.
     ensures mended { IsMended (removed lines.now) now (T.state tree.old)

@@ -7,7 +7,7 @@ ghost use Rattle.pv_steps.specs.Objects.{modified};
 ghost use Rattle.pv_dress.specs.Edits.{Pruned};
 ghost use Rattle.pv_walk.specs.Removal.{is_one_of};
 ghost use Rattle.pv_find.specs.Whole.{count_of, goes_whole};
-ghost use Rattle.pv_table.specs.Removed.{without};
+ghost use Rattle.pv_table.specs.Removed.{files_without};
 
 use pv_find::deepest_last;
 use pv_path::TreePath;
@@ -25,7 +25,7 @@ pub(crate) fn take_away<T: Tree>(
     now: u64,
 ) -> Result<(), TreeFault>
     requires whole { (q : Path) → is_one_of paths.keys q ≡ goes_whole (is_one_of paths.keys) (T.state tree.old) q }
-    ensures gone { OnOk result (T.state tree.new ≡ without (is_one_of paths.keys) (modified now) (T.state tree.old)) }
+    ensures gone { OnOk result (T.state tree.new ≡ files_without (is_one_of paths.keys) (modified now) (T.state tree.old)) }
     ensures acted { Acted T.Tree (Pruned (is_one_of paths.keys) (T.state tree.old)) (Removes (is_one_of paths.keys))
         (count_of (is_one_of paths.keys) (T.state tree.old)) now tree.old tree.new result }
 {

@@ -7,7 +7,7 @@ use Rattle.pv_dress.specs.Edits.{Pruned}
 use Rattle.pv_walk.specs.Removal.{is_one_of}
 use Rattle.pv_walk.proofs.Outcomes.{on_ok}
 use Rattle.pv_table.specs.Cleaned.{is_aged}
-use Rattle.pv_table.specs.Removed.{without}
+use Rattle.pv_table.specs.Removed.{files_without}
 use Rattle.pv_clean.specs.Cleaning.{most_steps, IsCleanStep}
 use Rattle.pv_clean.proofs.CleanLaws.{aged_together}
 use Rattle.pv_clean.proofs.TaskLaws.{planned_most}
@@ -19,7 +19,7 @@ do_tasks-requires-clause-whole g c = aged_together c.in_ok-aged.aged.keys c.args
 pub returns-clause-ok : goal.returns-clause-ok
 returns-clause-ok g c =
     let t = g.T.Tree.state c.args.tree.now in
-    on_ok c.do_tasks.result (λ e. e ∙ ap (λ (f : Path → Bool). without f (changed c.args.now) t) (λ i q. c.in_ok-aged.ensures.aged q i)) c.do_tasks.ensures.ok
+    on_ok c.do_tasks.result (λ e. e ∙ ap (λ (f : Path → Bool). files_without f (changed c.args.now) t) (λ i q. c.in_ok-aged.ensures.aged q i)) c.do_tasks.ensures.ok
 
 pub returns-clause-acted : goal.returns-clause-acted
 returns-clause-acted g c =

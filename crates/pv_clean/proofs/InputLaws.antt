@@ -1,0 +1,106 @@
+-- Cleaning leaves presence, kind and payload at each path from which lines are read, where none of the lines may change what
+-- is read there: what is cleaned goes by an age that a line gives it from above.
+use Rattle.std.specs.Prelude.{◌≡◌, ℕ, ◌+◌, ◌-◌, ◌==◌, ◌<◌, ◌≤◌, Bool, true, false, cond, not, ◌&&◌, ◌||◌, List, [], ◌∷◌, length, take, drop, Option, None, is_some, option_map, option_and_then}
+use Rattle.std.proofs.Common.{zero, suc, refl, sym, ap, ◌∙◌, arith}
+use Rattle.std.proofs.lemmas.List.{take-take}
+use Rattle.std.specs.List.{list_all, list_any}
+use Rattle.std.specs.Option.{option_map_or, option_or}
+use Rattle.pv_steps.specs.Objects.{changed}
+use Rattle.pv_steps.specs.Same.{Same}
+use Rattle.pv_age.specs.declared.age.Age.{Age}
+use Rattle.pv_lines.specs.declared.line.Line.{Line}
+use Rattle.pv_path.specs.Paths.{has_staging, has_names, Path, parent_of}
+use Rattle.pv_path.proofs.PathLaws.{is_prefix-refl, length-parent_of}
+use Rattle.pv_steps.specs.declared.step.Step.{Step}
+use Rattle.pv_steps.specs.declared.step.Step.TheVariants.{SetStamps, Unlink, RemoveDir}
+use Rattle.pv_steps.specs.Content.{alters, content_of}
+use Rattle.pv_steps.proofs.ContentLaws.{removal_inside}
+use Rattle.pv_steps.specs.Runs.{after_all, Ran}
+use Rattle.pv_steps.specs.Trees.{IsTree, Files, places}
+use Rattle.pv_dress.specs.Edits.{Pruned}
+use Rattle.pv_walk.proofs.RemovalLaws.{apart, both}
+use Rattle.pv_find.proofs.FindingLaws.{and_false}
+use Rattle.pv_find.proofs.WholeLaws.{all_at-each}
+use Rattle.pv_table.specs.declared.reason.Reason.TheVariants as reason
+use Rattle.pv_table.specs.declared.scope.Scope.{Scope}
+use Rattle.pv_table.specs.Asking.{asks}
+use Rattle.pv_table.specs.Cleaned.{cleaned, is_aged, is_old_by, may_go}
+use Rattle.pv_table.specs.Reaching.{is_creating, is_deep, names, sparing_of, spares_below, takes_below, taking_of}
+use Rattle.pv_table.specs.Removed.{all_at}
+use Rattle.pv_table.specs.Repeatable.{HasReason, is_input, is_writing, takes_named}
+use Rattle.pv_table.specs.Scopes.{first_age, gives_age, inherited, is_exempting, is_sparing_itself, own_scope, scope_at, scope_of_first}
+use Rattle.pv_table.proofs.PlaceLaws.{first_place-none, missing}
+use Rattle.pv_clean.specs.Cleaning.{IsCleanStep}
+use Rattle.pv_remove.proofs.InputLaws.{MayChange, governs_below, kept_content, kept_on_run, none_passes, or_last}
+
+-- ---- where no line gives an age
+
+module _ (lines : List Line) where
+  no_age : (path : Path) → list_any (gives_age path) lines ≡ false → first_age lines path ≡ None
+  no_age path none = ap (option_and_then (λ (line : Line). line.age)) (missing (gives_age path) lines (first_place-none (gives_age path) lines none)).1
+
+  no_scope_at : (path : Path) → list_any (gives_age path) lines ≡ false → scope_at None lines path ≡ None
+  no_scope_at path none =
+      by (list_any (λ line. names line path && is_exempting line) lines) (list_all (λ line. not (names line path) || is_sparing_itself line) lines) (first_age lines path) (no_age path none)
+    where
+      by : (e s : Bool) (age : Option Age) → age ≡ None → cond e None (option_or (option_map own_scope age) (cond s (inherited None) None)) ≡ None
+      by true s age h = refl
+      by false true age h = ap (λ (a : Option Age). option_or (option_map own_scope a) (inherited None)) h
+      by false false age h = ap (λ (a : Option Age). option_or (option_map own_scope a) None) h
+
+  no_scope : (path : Path) (k : ℕ) → ((j : ℕ) → j ≤ k → list_any (gives_age (take j path)) lines ≡ false) → scope_of_first lines path k ≡ None
+  no_scope path zero none = no_scope_at [] (none 0 (omega arith))
+  no_scope path (suc k) none =
+      ap (λ (above : Option Scope). scope_at above lines (take (suc k) path)) (no_scope path k (λ j le. none j (omega (arith, le))))
+      ∙ no_scope_at (take (suc k) path) (none (suc k) (omega arith))
+
+-- ---- what may go by an age
+
+-- a line with an age that names what a path lies below may change what is read from the path
+aging_may : (line : Line) (q : Path) (k : ℕ) → k < length q + 1 → names line (take k q) ≡ true → is_some line.age ≡ true → MayChange line q
+aging_may line q k within named aged = record {
+  changes = or_last (is_creating line || is_writing line || takes_named (taking_of line)) (is_some line.age) aged;
+  governs = governs_below line q k within named (ap (λ b. b || line.purge)
+      (or_last (is_deep (asks line) || takes_below (taking_of line) || option_map_or spares_below (sparing_of line) false) (is_some line.age) aged));
+}
+
+-- a step of a clean phase leaves what does not go
+pub cleaning_leaves : (goes : Path → Bool) (t : Files) (step : Step) (q : Path) → IsCleanStep goes t step → goes q ≡ false → alters step q ≡ false
+cleaning_leaves goes t (Unlink path) q h stays = removal_inside goes (Unlink path) q h stays
+cleaning_leaves goes t (RemoveDir path) q h stays = removal_inside goes (RemoveDir path) q h stays
+cleaning_leaves goes t (SetStamps path access modify) q h stays = refl
+cleaning_leaves goes t step q h stays = absurd h
+
+module _ (lines : List Line) (free : (i : ℕ) → HasReason lines i reason.Input → ⊥) (now : ℕ) (t : Files) (tree : IsTree t) where
+  none_may_go : (q : Path) → is_input q ≡ true → has_names q ≡ true → may_go lines now t q ≡ false
+  none_may_go [] input named = refl
+  none_may_go (name ∷ rest) input named =
+      ap (λ (s : Option Scope). (not (length (name ∷ rest) == 0) && not (list_any (λ line. names line (name ∷ rest)) lines)) && is_old_by s now (places t (name ∷ rest)))
+      (no_scope lines (parent_of (name ∷ rest)) (length (parent_of (name ∷ rest))) none_above)
+      ∙ and_false (not (length (name ∷ rest) == 0) && not (list_any (λ line. names line (name ∷ rest)) lines))
+    where
+      none_above : (j : ℕ) → j ≤ length (parent_of (name ∷ rest)) → list_any (gives_age (take j (parent_of (name ∷ rest)))) lines ≡ false
+      none_above j le =
+          let up = length-parent_of (name ∷ rest) in
+          let front : take j (parent_of (name ∷ rest)) ≡ take j (name ∷ rest) = take-take j (length (name ∷ rest) - 1) (name ∷ rest) (omega (arith, le, up)) in
+          none_passes lines free (name ∷ rest) input named (gives_age (take j (parent_of (name ∷ rest)))) (λ line i at h.
+          let two = both (names line (take j (parent_of (name ∷ rest)))) (is_some line.age) h in
+          aging_may line (name ∷ rest) j (omega (arith, le, up)) (ap (names line) (sym front) ∙ two.0) two.1)
+
+  pub none_aged : (q : Path) → is_input q ≡ true → is_aged lines now t q ≡ false
+  none_aged q input = by (is_aged lines now t q) refl
+    where
+      by : (b : Bool) → is_aged lines now t q ≡ b → b ≡ false
+      by true h =
+          let two = both (is_some (places t q)) (all_at (may_go lines now t) t q) h in
+          absurd (apart (may_go lines now t q) (all_at-each (may_go lines now t) t q two.1 q two.0 (is_prefix-refl q)) (none_may_go q input (tree.names q two.0)))
+      by false h = refl
+
+  -- at each moment on the way
+  pub cleaning_on_way : (u : Files) → Pruned (is_aged lines now t) t u → (q : Path) → is_input q ≡ true → content_of (places u q) ≡ content_of (places t q)
+  cleaning_on_way u way q input = kept_content (is_aged lines now t) t u q way (none_aged q input)
+
+  -- so after each number of the steps of a run
+  pub cleaning_on_run : (Q : Step → Type 0) (h : List Step) (u : Files) (k : List Step) → Ran (Pruned (is_aged lines now t) t) Q now t h u k
+      → (n : ℕ) (q : Path) → is_input q ≡ true → content_of (places (after_all t (take n (drop (length h) k)) now) q) ≡ content_of (places t q)
+  cleaning_on_run Q h u k run n q input = kept_on_run (is_aged lines now t) t Q now h u k run n q (none_aged q input)

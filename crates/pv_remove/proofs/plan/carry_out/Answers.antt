@@ -1,0 +1,20 @@
+use Rattle.std.proofs.Common.{refl}
+use Rattle.pv_steps.proofs.ActingLaws.{acted_ended}
+use Rattle.pv_remove.proofs.TakeLaws.{takes_failed, takes_unsaid}
+use Rattle.pv_remove.proofs.plan.carry_out.Goals as goal
+
+pub returns-in_err-take_away : goal.returns-in_err-take_away
+returns-in_err-take_away g c = takes_failed g.T.Tree c.args.plan.said c.args.plan.unfinished c.args.messages.now c.take_away.result c.from_residual.result c.in_err-take_away.was c.from_residual.ensures.1 c.take_away.ensures.acted
+
+pub returns-in_err-say_all : goal.returns-in_err-say_all
+returns-in_err-say_all g c = takes_unsaid g.T.Tree c.args.plan.unfinished c.from_residual-in_err-say_all.result c.from_residual-in_err-say_all.ensures.1 c.say_all.ensures.part c.in_ok-take_away.ensures.acted
+
+pub returns : goal.returns
+returns g c = record {
+  ok = c.in_ok-take_away.ensures.gone;
+  said = c.in_ok-say_all.ensures.ok;
+  carried = c.carried_of.ensures;
+  part = c.say_all.ensures.part;
+  silent = λ failed. cc;
+  acted = acted_ended g.T.Tree _ refl c.in_ok-take_away.ensures.acted;
+}
