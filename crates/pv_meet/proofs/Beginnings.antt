@@ -3,11 +3,11 @@ use Rattle.std.proofs.Common.{◌≡◌, ℕ, Bool, true, false, not, ◌&&◌, 
 use Rattle.std.specs.List.{list_all}
 use Rattle.std.specs.Cmp.Lexicographic.{pointwise}
 use Rattle.std.proofs.lemmas.Bool.Decides.{nat_tests}
-use Rattle.pv_path.specs.Names.{is_dots, is_staging}
+use Rattle.pv_path.specs.Names.{is_name_byte, is_dots, is_staging}
 use Rattle.std.specs.Cmp.{nat_eq_equiv}
 use Rattle.pv_meet.specs.declared.beginning.Beginning.{Beginning}
 use Rattle.pv_meet.specs.declared.beginning.Beginning.TheVariants.{Nothing, Dot, TwoDots, DotHash, DotHashT, DotHashTf, Other}
-use Rattle.pv_meet.specs.Pairs.{is_word_byte, could_be_name, beginning_after, may_follow, may_end}
+use Rattle.pv_meet.specs.Pairs.{could_be_name, beginning_after, may_follow, may_end}
 
 -- whether a word goes on from a beginning so that it may be a name
 abbrev pub goes_on : Beginning → List ℕ → Bool
@@ -15,7 +15,7 @@ goes_on begun [] = may_end begun
 goes_on begun (b ∷ word) = may_follow begun b && goes_on (beginning_after begun b) word
 
 abbrev words : List ℕ → Bool
-words word = list_all is_word_byte word
+words word = list_all is_name_byte word
 
 -- how a word may go on apart from its bytes
 abbrev fine : Beginning → List ℕ → Bool
@@ -47,11 +47,11 @@ and_assoc false b c = refl
 
 on_other : (word : List ℕ) → goes_on Other word ≡ words word
 on_other [] = refl
-on_other (b ∷ word) = ap (λ x. is_word_byte b && x) (on_other word)
+on_other (b ∷ word) = ap (λ x. is_name_byte b && x) (on_other word)
 
 on_two : (word : List ℕ) → goes_on TwoDots word ≡ (words word && fine TwoDots word)
 on_two [] = refl
-on_two (b ∷ word) = ap (λ x. is_word_byte b && x) (on_other word) ∙ sym (and_true (is_word_byte b && words word))
+on_two (b ∷ word) = ap (λ x. is_name_byte b && x) (on_other word) ∙ sym (and_true (is_name_byte b && words word))
 
 swap : (w t x : Bool) → ((w && t) && x) ≡ ((w && x) && t)
 swap true true true = refl
@@ -62,7 +62,7 @@ swap false t x = refl
 
 on_tf : (word : List ℕ) → goes_on DotHashTf word ≡ (words word && fine DotHashTf word)
 on_tf [] = refl
-on_tf (b ∷ word) = ap (λ x. (is_word_byte b && not (b == 45)) && x) (on_other word) ∙ swap (is_word_byte b) (not (b == 45)) (words word)
+on_tf (b ∷ word) = ap (λ x. (is_name_byte b && not (b == 45)) && x) (on_other word) ∙ swap (is_name_byte b) (not (b == 45)) (words word)
 
 -- one byte that leads to one of two beginnings
 by_byte : (w t : Bool) (word : List ℕ) (x : Beginning) → goes_on x word ≡ (words word && fine x word)
@@ -72,23 +72,23 @@ by_byte w false word x e = ap (λ y. w && y) (on_other word) ∙ sym (and_true (
 
 on_t : (word : List ℕ) → goes_on DotHashT word ≡ (words word && fine DotHashT word)
 on_t [] = refl
-on_t (b ∷ word) = by_byte (is_word_byte b) (b == 102) word DotHashTf (on_tf word)
+on_t (b ∷ word) = by_byte (is_name_byte b) (b == 102) word DotHashTf (on_tf word)
 
 on_hash : (word : List ℕ) → goes_on DotHash word ≡ (words word && fine DotHash word)
 on_hash [] = refl
-on_hash (b ∷ word) = by_byte (is_word_byte b) (b == 116) word DotHashT (on_t word)
+on_hash (b ∷ word) = by_byte (is_name_byte b) (b == 116) word DotHashT (on_t word)
 
 on_dot : (word : List ℕ) → goes_on Dot word ≡ (words word && fine Dot word)
 on_dot [] = refl
 on_dot (b ∷ word) = by (b == 46)
   where
-    by : (t : Bool) → (is_word_byte b && goes_on (if t then TwoDots else if b == 35 then DotHash else Other) word) ≡ ((is_word_byte b && words word) && (if t then fine TwoDots word else if b == 35 then fine DotHash word else true))
-    by true = ap (λ y. is_word_byte b && y) (on_two word) ∙ and_assoc (is_word_byte b) (words word) (fine TwoDots word)
-    by false = by_byte (is_word_byte b) (b == 35) word DotHash (on_hash word)
+    by : (t : Bool) → (is_name_byte b && goes_on (if t then TwoDots else if b == 35 then DotHash else Other) word) ≡ ((is_name_byte b && words word) && (if t then fine TwoDots word else if b == 35 then fine DotHash word else true))
+    by true = ap (λ y. is_name_byte b && y) (on_two word) ∙ and_assoc (is_name_byte b) (words word) (fine TwoDots word)
+    by false = by_byte (is_name_byte b) (b == 35) word DotHash (on_hash word)
 
 on_nothing : (word : List ℕ) → goes_on Nothing word ≡ (words word && fine Nothing word)
 on_nothing [] = refl
-on_nothing (b ∷ word) = by_byte (is_word_byte b) (b == 46) word Dot (on_dot word)
+on_nothing (b ∷ word) = by_byte (is_name_byte b) (b == 46) word Dot (on_dot word)
 
 -- ---- what is fine is neither `.` nor `..` nor a staging name
 

@@ -7,10 +7,10 @@ use Rattle.std.specs.Cmp.Lexicographic.{lists_total}
 use Rattle.std.proofs.lemmas.Cmp.{then_total, on_total, upto}
 use Rattle.std.proofs.lemmas.List.{get_or_default}
 use Rattle.std.proofs.lemmas.List.Folds.{list_any_more}
-use Rattle.pv_path.specs.Paths.{Path}
+use Rattle.pv_path.specs.Paths.{Path, has_names}
 use Rattle.pv_path.proofs.PathLaws.{or_true}
 use Rattle.pv_glob.specs.declared.element.Element.{Element}
-use Rattle.pv_meet.specs.Meeting.{are_met, in_reach, is_byte_path, is_met, reached}
+use Rattle.pv_meet.specs.Meeting.{are_met, in_reach, is_met, reached}
 use Rattle.pv_meet.specs.Words.{Finds, IsFirst, earlier_of, rank, shared_cmp}
 use Rattle.pv_meet.proofs.Shortlex.{shortlex_total, not_both}
 
@@ -104,28 +104,28 @@ nowhere false = refl
 module _ (a_below b_below : Bool) where
   -- two expansions alone
   pub plain_pair : (a b : List (List Element)) (path : Path) → is_met a a_below b b_below path ≡ are_met (a ∷ []) a_below (b ∷ []) b_below path
-  plain_pair a b path = sym (ap (λ t. is_byte_path path && t && (in_reach b b_below path || false)) (alone (in_reach a a_below path)) ∙ ap (λ t. is_byte_path path && in_reach a a_below path && t) (alone (in_reach b b_below path)))
+  plain_pair a b path = sym (ap (λ t. has_names path && t && (in_reach b b_below path || false)) (alone (in_reach a a_below path)) ∙ ap (λ t. has_names path && in_reach a a_below path && t) (alone (in_reach b b_below path)))
 
   -- no expansions
   pub none_right : (a : List (List (List Element))) (path : Path) → are_met a a_below [] b_below path ≡ false
-  none_right a path = nowhere (is_byte_path path && reached a a_below path)
+  none_right a path = nowhere (has_names path && reached a a_below path)
 
   pub none_left : (b : List (List (List Element))) (path : Path) → are_met [] a_below b b_below path ≡ false
-  none_left b path = ap (λ t. t && reached b b_below path) (nowhere (is_byte_path path))
+  none_left b path = ap (λ t. t && reached b b_below path) (nowhere (has_names path))
 
   -- one expansion more
   more_right : (a b : List (List (List Element))) (i : ℕ) → i < length b → (path : Path)
       → are_met a a_below (take (i + 1) b) b_below path ≡ (are_met a a_below (take i b) b_below path || are_met a a_below (get_or b i [] ∷ []) b_below path)
   more_right a b i l path =
-      let front = is_byte_path path && reached a a_below path in
+      let front = has_names path && reached a a_below path in
       ap (λ t. front && t) (list_any_more (λ plain. in_reach plain b_below path) b i [] l ∙ ap (λ t. reached (take i b) b_below path || t) (sym (alone (in_reach (get_or b i []) b_below path))))
-      ∙ spread_right (is_byte_path path) (reached a a_below path) (reached (take i b) b_below path) (reached (get_or b i [] ∷ []) b_below path)
+      ∙ spread_right (has_names path) (reached a a_below path) (reached (take i b) b_below path) (reached (get_or b i [] ∷ []) b_below path)
 
   more_left : (a b : List (List (List Element))) (i : ℕ) → i < length a → (path : Path)
       → are_met (take (i + 1) a) a_below b b_below path ≡ (are_met (take i a) a_below b b_below path || are_met (get_or a i [] ∷ []) a_below b b_below path)
   more_left a b i l path =
-      ap (λ t. is_byte_path path && t && reached b b_below path) (list_any_more (λ plain. in_reach plain a_below path) a i [] l ∙ ap (λ t. reached (take i a) a_below path || t) (sym (alone (in_reach (get_or a i []) a_below path))))
-      ∙ spread_left (is_byte_path path) (reached (take i a) a_below path) (reached (get_or a i [] ∷ []) a_below path) (reached b b_below path)
+      ap (λ t. has_names path && t && reached b b_below path) (list_any_more (λ plain. in_reach plain a_below path) a i [] l ∙ ap (λ t. reached (take i a) a_below path || t) (sym (alone (in_reach (get_or a i []) a_below path))))
+      ∙ spread_left (has_names path) (reached (take i a) a_below path) (reached (get_or a i [] ∷ []) a_below path) (reached b b_below path)
 
   pub step_right : (a : List (List Element)) (b : List (List (List Element))) (i : ℕ) (item plain : List (List Element)) (found next : Option Path) → i < length b → item ≡ get_or b i item → plain ≡ item
       → Finds (are_met (a ∷ []) a_below (take i b) b_below) found

@@ -11,3 +11,4 @@ pub mod PairLaws
 pub mod Runs
 pub mod Shared
 pub mod Shortlex
+pub mod OneName

@@ -8,12 +8,12 @@ use Rattle.std.proofs.lemmas.Bool.{cases_lt}
 use Rattle.std.proofs.lemmas.Bool.Decides.{nat_tests}
 use Rattle.std.proofs.lemmas.Cmp.{ranked, by_ranked}
 use Rattle.std.proofs.lemmas.List.{get_or-take, length-take-le}
-use Rattle.pv_path.specs.Names.{is_staging}
-use Rattle.pv_path.specs.Paths.{Path, has_staging}
+use Rattle.pv_path.specs.Names.{is_name, is_staging}
+use Rattle.pv_path.specs.Paths.{Path, has_names, has_staging}
 use Rattle.pv_path.proofs.PathLaws.{both_true}
 use Rattle.pv_glob.specs.declared.element.Element.{Element}
 use Rattle.pv_glob.specs.Matching.{component_matches, matches}
-use Rattle.pv_meet.specs.Meeting.{has_room, in_reach, is_byte_name, is_byte_path, is_met, met_at, shares}
+use Rattle.pv_meet.specs.Meeting.{has_room, in_reach, is_met, met_at, shares}
 use Rattle.pv_meet.specs.Words.{IsFirst, shared_cmp, word_cmp}
 use Rattle.pv_meet.proofs.Shortlex.{then_first}
 
@@ -145,14 +145,14 @@ module _ (components : List (List Element)) (below : Bool) (path : Path) where
 -- ---- two reaches
 
 module _ (a b : List Element) (name : List ℕ) where
-  pub shares_facts : shares a b name ≡ true → (is_byte_name name ≡ true) × (is_staging name ≡ false) × (component_matches a name ≡ true) × (component_matches b name ≡ true)
+  pub shares_facts : shares a b name ≡ true → (is_name name ≡ true) × (is_staging name ≡ false) × (component_matches a name ≡ true) × (component_matches b name ≡ true)
   shares_facts e =
-      let w = both_true (is_byte_name name && not (is_staging name) && component_matches a name) (component_matches b name) e in
-      let v = both_true (is_byte_name name && not (is_staging name)) (component_matches a name) w.0 in
-      let u = both_true (is_byte_name name) (not (is_staging name)) v.0 in
+      let w = both_true (is_name name && not (is_staging name) && component_matches a name) (component_matches b name) e in
+      let v = both_true (is_name name && not (is_staging name)) (component_matches a name) w.0 in
+      let u = both_true (is_name name) (not (is_staging name)) v.0 in
       (u.0, not_true (is_staging name) u.1, v.1, w.1)
 
-  pub shares_from : is_byte_name name ≡ true → is_staging name ≡ false → component_matches a name ≡ true → component_matches b name ≡ true → shares a b name ≡ true
+  pub shares_from : is_name name ≡ true → is_staging name ≡ false → component_matches a name ≡ true → component_matches b name ≡ true → shares a b name ≡ true
   shares_from p q r s =
       ap (λ t. t && not (is_staging name) && component_matches a name && component_matches b name) p
       ∙ ap (λ t. not t && component_matches a name && component_matches b name) q
@@ -206,8 +206,8 @@ module _ (a : List (List Element)) (a_below : Bool) (b : List (List Element)) (b
 
   pub met : (path : Path) → is_met a a_below b b_below path ≡ true → Met path
   met path e =
-      let w = both_true (is_byte_path path && in_reach a a_below path) (in_reach b b_below path) e in
-      let v = both_true (is_byte_path path) (in_reach a a_below path) w.0 in
+      let w = both_true (has_names path && in_reach a a_below path) (in_reach b b_below path) e in
+      let v = both_true (has_names path) (in_reach a a_below path) w.0 in
       let r = reached a a_below path v.1 in
       let s = reached b b_below path w.1 in
       let la = long_of a a_below path r in
@@ -216,17 +216,17 @@ module _ (a : List (List Element)) (a_below : Bool) (b : List (List Element)) (b
         room = room_of path r s;
         long = omega arith;
         names = λ k l. (let inside : k < length path = omega arith in
-            shares_from (met_at a b k) (met_at b a k) (get_or path k []) (all_at is_byte_name [] path v.0 k inside) (none_at is_staging [] path r.clear k inside)
+            shares_from (met_at a b k) (met_at b a k) (get_or path k []) (all_at is_name [] path v.0 k inside) (none_at is_staging [] path r.clear k inside)
             (both_at a b k (get_or path k []) l (r.names k) (s.names k)) (both_at b a k (get_or path k []) (omega arith) (s.names k) (r.names k)));
       }
 
   pub met_from : (path : Path) → has_room a a_below b b_below ≡ true → length path ≡ max (length a) (length b)
       → ((k : ℕ) → k < max (length a) (length b) → shares (met_at a b k) (met_at b a k) (get_or path k []) ≡ true) → is_met a a_below b b_below path ≡ true
   met_from path room long names =
-      let facts : (k : ℕ) → k < length path → (is_byte_name (get_or path k []) ≡ true) × (is_staging (get_or path k []) ≡ false) × (component_matches (met_at a b k) (get_or path k []) ≡ true) × (component_matches (met_at b a k) (get_or path k []) ≡ true)
+      let facts : (k : ℕ) → k < length path → (is_name (get_or path k []) ≡ true) × (is_staging (get_or path k []) ≡ false) × (component_matches (met_at a b k) (get_or path k []) ≡ true) × (component_matches (met_at b a k) (get_or path k []) ≡ true)
       = λ k l. shares_facts (met_at a b k) (met_at b a k) (get_or path k []) (names k (omega (arith, long))) in
       let clear : has_staging path ≡ false = none_from is_staging [] path (λ k l. (facts k l).1) in
-      let bytes : is_byte_path path ≡ true = all_from is_byte_name [] path (λ k l. (facts k l).0) in
+      let bytes : has_names path ≡ true = all_from is_name [] path (λ k l. (facts k l).0) in
       let r : Reached a a_below path = record {
         clear = clear;
         long = long_a (nat_lt (length a) (length b)) refl;

@@ -10,7 +10,8 @@ use Rattle.pv_meet.specs.declared.moves.Move.{Move}
 use Rattle.pv_meet.specs.declared.beginning.Beginning.{Beginning}
 use Rattle.pv_meet.specs.declared.beginning.Beginning.TheVariants.{Nothing, Dot, TwoDots, DotHash, DotHashT, DotHashTf, Other}
 use Rattle.pv_meet.specs.Machines.{AllInside, goes_by, targets}
-use Rattle.pv_meet.specs.Pairs.{is_word_byte, may_follow, target}
+use Rattle.pv_path.specs.Names.{is_name_byte}
+use Rattle.pv_meet.specs.Pairs.{may_follow, target}
 
 pub targets-append : (xs ys : List Move) (b : ℕ) → targets (xs ++ ys) b ≡ targets xs b ++ targets ys b
 targets-append xs ys b = ap (map (λ (m : Move). m.to)) (filter-append (goes_by b) xs ys) ∙ map-append (λ (m : Move). m.to) (filter (goes_by b) xs) (filter (goes_by b) ys)
@@ -150,7 +151,7 @@ running_same t places n old moves moves' run run' m r was =
 
 -- no name has other bytes than 1 to 255
 module _ (a b : List Element) (begun : Beginning) (i j : ℕ) where
-  no_follow : (c : ℕ) → is_word_byte c ≡ false → (s : Beginning) → may_follow s c ≡ false
+  no_follow : (c : ℕ) → is_name_byte c ≡ false → (s : Beginning) → may_follow s c ≡ false
   no_follow c e Nothing = e
   no_follow c e Dot = e
   no_follow c e TwoDots = e
@@ -159,11 +160,11 @@ module _ (a b : List Element) (begun : Beginning) (i j : ℕ) where
   no_follow c e DotHashTf = ap (λ x. x && not (c == 45)) e
   no_follow c e Other = e
 
-  none_of : (c : ℕ) → is_word_byte c ≡ false → target a b begun i j c ≡ None
+  none_of : (c : ℕ) → is_name_byte c ≡ false → target a b begun i j c ≡ None
   none_of c e = rw (no_follow c e begun)
 
   pub target-nul : target a b begun i j 0 ≡ None
   target-nul = none_of 0 refl
 
   pub target-above : (c : ℕ) → 256 ≤ c → target a b begun i j c ≡ None
-  target-above c l = none_of c (let e : is_word_byte c ≡ false = grind (arith, nat_tests) in e)
+  target-above c l = none_of c (let e : is_name_byte c ≡ false = grind (arith, nat_tests) in e)

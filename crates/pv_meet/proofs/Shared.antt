@@ -1,5 +1,5 @@
 -- The first word that two components share is their first name, where it is short enough.
-use Rattle.std.proofs.Common.{◌≡◌, ℕ, ◌<◌, ◌≤◌, Bool, true, false, not, ◌&&◌, nat_le, nat_lt, List, [], ◌∷◌, length, map, refl, sym, ap, ◌∙◌, arith}
+use Rattle.std.proofs.Common.{◌≡◌, ℕ, ◌<◌, ◌≤◌, Bool, true, false, not, ◌&&◌, nat_le, List, length, map, refl, sym, ap, ◌∙◌, arith}
 use Rattle.std.specs.List.{list_all}
 use Rattle.std.proofs.lemmas.List.{length-map}
 use Rattle.std.proofs.lemmas.Bool.Decides.{nat_tests}
@@ -7,7 +7,7 @@ use Rattle.pv_path.specs.Names.{is_name, is_name_byte, is_dots, is_staging}
 use Rattle.pv_path.proofs.PathLaws.{both_true}
 use Rattle.pv_glob.specs.declared.element.Element.{Element}
 use Rattle.pv_glob.specs.Matching.{component_matches}
-use Rattle.pv_meet.specs.Meeting.{is_byte_name, shares}
+use Rattle.pv_meet.specs.Meeting.{shares}
 use Rattle.pv_meet.specs.Pairs.{is_shared}
 use Rattle.pv_meet.specs.Words.{IsFirst, rank, word_cmp}
 use Rattle.pv_meet.proofs.Shortlex.{first_is_short}
@@ -20,32 +20,15 @@ and_true : (a : Bool) → (a && true) ≡ a
 and_true true = refl
 and_true false = refl
 
-all_both : (p q : ℕ → Bool) (xs : List ℕ) → list_all (λ x. p x && q x) xs ≡ (list_all p xs && list_all q xs)
-all_both p q [] = refl
-all_both p q (x ∷ xs) = ap (λ t. (p x && q x) && t) (all_both p q xs) ∙ mixed (p x) (q x) (list_all p xs) (list_all q xs)
-  where
-    mixed : (a b c d : Bool) → ((a && b) && (c && d)) ≡ ((a && c) && (b && d))
-    mixed false b c d = refl
-    mixed true true c d = refl
-    mixed true false true d = refl
-    mixed true false false d = refl
-
-moved : (some most named dots bytes staged left right : Bool)
-    → ((((((some && most) && named) && dots) && bytes) && staged) && left && right) ≡ (((((some && (bytes && named)) && dots) && staged) && left && right) && most)
-moved false most named dots bytes staged left right = refl
-moved true false named dots bytes staged left right = sym (and_false (((((bytes && named)) && dots) && staged) && left && right))
-moved true true true true true staged left right = sym (and_true (staged && left && right))
-moved true true true true false staged left right = refl
-moved true true true false true staged left right = refl
-moved true true true false false staged left right = refl
-moved true true false dots true staged left right = refl
-moved true true false dots false staged left right = refl
+moved : (some most named dots staged left right : Bool)
+    → (((((some && most) && named) && dots) && staged) && left && right) ≡ (((((some && named) && dots) && staged) && left && right) && most)
+moved false most named dots staged left right = refl
+moved true false named dots staged left right = sym (and_false (((named && dots) && staged) && left && right))
+moved true true named dots staged left right = sym (and_true (((named && dots) && staged) && left && right))
 
 pub shares_is : (a b : List Element) (word : List ℕ) → shares a b word ≡ (is_shared a b word && nat_le (length word) 255)
 shares_is a b word =
-    moved (nat_le 1 (length word)) (nat_le (length word) 255) (list_all is_name_byte word) (not (is_dots word)) (list_all (λ c. nat_lt c 256) word) (not (is_staging word)) (component_matches a word) (component_matches b word)
-    ∙ ap (λ t. ((((nat_le 1 (length word) && t) && not (is_dots word)) && not (is_staging word)) && component_matches a word && component_matches b word) && nat_le (length word) 255)
-    (sym (all_both (λ c. nat_lt c 256) is_name_byte word))
+    moved (nat_le 1 (length word)) (nat_le (length word) 255) (list_all is_name_byte word) (not (is_dots word)) (not (is_staging word)) (component_matches a word) (component_matches b word)
 
 module _ (a b : List Element) where
   -- what is shared is a name where it is short enough
@@ -53,10 +36,9 @@ module _ (a b : List Element) where
   shared_name word e l =
       let short : nat_le (length word) 255 ≡ true = grind (arith, nat_tests) in
       let all : shares a b word ≡ true = shares_is a b word ∙ ap (λ t. t && nat_le (length word) 255) e ∙ short in
-      let w = both_true (is_byte_name word && not (is_staging word) && component_matches a word) (component_matches b word) all in
-      let v = both_true (is_byte_name word && not (is_staging word)) (component_matches a word) w.0 in
-      let u = both_true (is_byte_name word) (not (is_staging word)) v.0 in
-      (both_true (is_name word) (list_all (λ c. nat_lt c 256) word) u.0).0
+      let w = both_true (is_name word && not (is_staging word) && component_matches a word) (component_matches b word) all in
+      let v = both_true (is_name word && not (is_staging word)) (component_matches a word) w.0 in
+      (both_true (is_name word) (not (is_staging word)) v.0).0
 
   none_shared : (word : List ℕ) (t : Bool) → is_shared a b word ≡ t → ((is_shared a b word ≡ true) → nat_le (length word) 255 ≡ false) → shares a b word ≡ false
   none_shared word true e long = shares_is a b word ∙ ap (λ t. is_shared a b word && t) (long e) ∙ and_false (is_shared a b word)

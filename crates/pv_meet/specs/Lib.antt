@@ -3,3 +3,4 @@ pub mod Meeting
 pub mod Pairs
 pub mod Search
 pub mod Words
+pub mod Written

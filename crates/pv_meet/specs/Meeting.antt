@@ -1,18 +1,10 @@
 -- The paths that two reaches share (glob(7), tmpfiles.d(5)).
 use Rattle.std.specs.Prelude.{ℕ, Bool, true, not, ◌&&◌, ◌||◌, nat_lt, List, [], length, take, slice_index_or, if◌then◌else◌}
-use Rattle.std.specs.List.{list_all, list_any}
+use Rattle.std.specs.List.{list_any}
 use Rattle.pv_path.specs.Names.{is_name, is_staging}
-use Rattle.pv_path.specs.Paths.{Path, has_staging}
+use Rattle.pv_path.specs.Paths.{Path, has_names, has_staging}
 use Rattle.pv_glob.specs.declared.element.Element.{Element}
 use Rattle.pv_glob.specs.Matching.{component_matches, matches}
-
--- whether bytes are a name
-abbrev pub is_byte_name : List ℕ → Bool
-is_byte_name name = is_name name && list_all (λ b. nat_lt b 256) name
-
--- whether a path is one of names of bytes
-abbrev pub is_byte_path : Path → Bool
-is_byte_path path = list_all is_byte_name path
 
 -- whether a path is reached: a pattern matches it, or with `below` the first names of it, as many as the pattern has
 -- components; no staging name is reached
@@ -21,21 +13,21 @@ in_reach components below path =
     not (has_staging path)
     && (matches components path || (below && nat_lt (length components) (length path) && matches components (take (length components) path)))
 
--- whether a path lies in two reaches
+-- whether a path that can stand in a tree lies in two reaches
 abbrev pub is_met : List (List Element) → Bool → List (List Element) → Bool → Path → Bool
-is_met a a_below b b_below path = is_byte_path path && in_reach a a_below path && in_reach b b_below path
+is_met a a_below b b_below path = has_names path && in_reach a a_below path && in_reach b b_below path
 
 -- whether a path is in the reach of some of these expansions
 abbrev pub reached : List (List (List Element)) → Bool → Path → Bool
 reached plains below path = list_any (λ plain. in_reach plain below path) plains
 
--- whether a path lies in the reaches of two patterns, each given by its expansions
+-- whether a path that can stand in a tree lies in the reaches of two patterns, each given by its expansions
 abbrev pub are_met : List (List (List Element)) → Bool → List (List (List Element)) → Bool → Path → Bool
-are_met a a_below b b_below path = is_byte_path path && reached a a_below path && reached b b_below path
+are_met a a_below b b_below path = has_names path && reached a a_below path && reached b b_below path
 
 -- whether two components match a name
 abbrev pub shares : List Element → List Element → List ℕ → Bool
-shares a b name = is_byte_name name && not (is_staging name) && component_matches a name && component_matches b name
+shares a b name = is_name name && not (is_staging name) && component_matches a name && component_matches b name
 
 -- whether some path is long enough for two reaches: the pattern with fewer components also reaches what lies below
 abbrev pub has_room : List (List Element) → Bool → List (List Element) → Bool → Bool

@@ -13,13 +13,9 @@ use Rattle.pv_meet.specs.Machines.{Machine}
 
 -- ---- names of any length
 
--- a byte that a name may have
-abbrev pub is_word_byte : ℕ → Bool
-is_word_byte b = nat_lt b 256 && is_name_byte b
-
 -- whether bytes are a name but for their number: not empty, neither `.` nor `..`, and no staging name
 abbrev pub could_be_name : List ℕ → Bool
-could_be_name word = nat_le 1 (length word) && list_all is_word_byte word && not (is_dots word) && not (is_staging word)
+could_be_name word = nat_le 1 (length word) && list_all is_name_byte word && not (is_dots word) && not (is_staging word)
 
 -- whether two components match a name of any length
 abbrev pub is_shared : List Element → List Element → List ℕ → Bool
@@ -39,8 +35,8 @@ beginning_after Other b = Other
 
 -- whether a byte may follow: it belongs to a name, and no staging mark ends with it
 abbrev pub may_follow : Beginning → ℕ → Bool
-may_follow DotHashTf b = is_word_byte b && not (b == 45)
-may_follow begun b = is_word_byte b
+may_follow DotHashTf b = is_name_byte b && not (b == 45)
+may_follow begun b = is_name_byte b
 
 -- whether a name may be no longer
 abbrev pub may_end : Beginning → Bool

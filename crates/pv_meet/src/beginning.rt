@@ -1,6 +1,7 @@
 //! How a word began, as far as it decides whether it may be a name.
 ghost use Rattle.std.specs.Prelude.{◌≡◌, ◌<◌, ◌≤◌};
-ghost use Rattle.pv_meet.specs.Pairs.{beginning_after, beginning_of, code_of, is_nothing, is_word_byte, may_end, may_follow};
+ghost use Rattle.pv_path.specs.Names.{is_name_byte};
+ghost use Rattle.pv_meet.specs.Pairs.{beginning_after, beginning_of, code_of, is_nothing, may_end, may_follow};
 
 /// How a word began.
 #[derive(Clone, Copy, Debug, PartialEq, Eq)]
@@ -25,8 +26,8 @@ pub enum Beginning {
 pub(crate) const BEGINNINGS: u32 = 7;
 
 /// Whether a name may have a byte.
-fn is_word_byte(byte: u8) -> bool
-    ensures { result ≡ is_word_byte byte }
+fn is_name_byte(byte: u8) -> bool
+    ensures { result ≡ is_name_byte byte }
 {
     byte != 0 && byte != b'/'
 }
@@ -99,8 +100,8 @@ impl Beginning {
         ensures { result ≡ may_follow self byte }
     {
         match self {
-            Beginning::DotHashTf => is_word_byte(byte) && byte != b'-',
-            _ => is_word_byte(byte),
+            Beginning::DotHashTf => is_name_byte(byte) && byte != b'-',
+            _ => is_name_byte(byte),
         }
     }
 

@@ -4,6 +4,7 @@
 mod apart;
 mod beginning;
 mod earlier;
+mod literal;
 mod meeting;
 mod moves;
 mod pair;
@@ -13,6 +14,7 @@ mod spot;
 mod taker;
 mod word;
 
+pub use literal::written;
 pub use meeting::{Reach, meet};
 pub use moves::{Move, MoveList, Moves};
 pub use pair::PairMachine;

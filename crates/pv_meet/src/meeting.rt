@@ -8,6 +8,7 @@ ghost use Rattle.pv_meet.specs.Words.{Finds, IsFirst, shared_cmp, word_cmp};
 
 use crate::apart::are_apart;
 use crate::earlier::earlier;
+use crate::literal::{name_by, written};
 use crate::pair::pair_of;
 use crate::search::least_word;
 use pv_glob::{Component, Pattern, Plain};
@@ -33,8 +34,9 @@ fn first_word(alloc: Global, a: &Component, b: &Component) -> Result<Option<Byte
     least_word(alloc, &mut machine, places)
 }
 
-/// The first name that two components match, or nothing where they match none. A name has at most 255 bytes.
-fn first_name(alloc: Global, a: &Component, b: &Component) -> Result<Option<Name>, AllocError>
+/// The first name that two components match, or nothing where they match none, found by a machine. A name has at most
+/// 255 bytes.
+fn searched_name(alloc: Global, a: &Component, b: &Component) -> Result<Option<Name>, AllocError>
     ensures none { IfOk result (λ found. IsNone found → (name : List ℕ) → shares a.now b.now name ≡ false) }
     ensures first { IfOk result (λ found. IfSome found (IsFirst word_cmp (shares a.now b.now))) }
 {
@@ -47,6 +49,21 @@ fn first_name(alloc: Global, a: &Component, b: &Component) -> Result<Option<Name
             }
         }
         None => Ok(None),
+    }
+}
+
+/// The first name that two components match, or nothing where they match none. Written bytes match one name alone, so
+/// where one of the two is written no machine is made.
+fn first_name(alloc: Global, a: &Component, b: &Component) -> Result<Option<Name>, AllocError>
+    ensures none { IfOk result (λ found. IsNone found → (name : List ℕ) → shares a.now b.now name ≡ false) }
+    ensures first { IfOk result (λ found. IfSome found (IsFirst word_cmp (shares a.now b.now))) }
+{
+    match written(alloc, a)? {
+        Some(bytes) => name_by(alloc, b, &bytes),
+        None => match written(alloc, b)? {
+            Some(bytes) => name_by(alloc, a, &bytes),
+            None => searched_name(alloc, a, b),
+        },
     }
 }
 

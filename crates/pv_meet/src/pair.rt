@@ -181,7 +181,7 @@ pub(crate) fn pair_of(a: &Component, b: &Component) -> Result<PairMachine, Alloc
 }
 
 /// A component once more.
-fn copied(component: &Component) -> Result<Component, AllocError>
+pub(crate) fn copied(component: &Component) -> Result<Component, AllocError>
     ensures { IfOk result (λ copy. copy ≡ component.now) }
 {
     component.clone()

@@ -1,39 +1,19 @@
 -- The head of a pattern begins each path that it reaches, so patterns that share a path have related heads.
-use Rattle.std.proofs.Common.{◌≡◌, ℕ, suc, ◌<◌, ◌≤◌, ◌⊎◌, inl, inr, Bool, true, false, ◌&&◌, ◌||◌, ◌==◌, List, [], ◌∷◌, length, get_or, Option, Some, None, option_map, refl, sym, ap, ◌∙◌, arith, if◌then◌else◌}
+use Rattle.std.proofs.Common.{◌≡◌, ℕ, suc, ◌<◌, ◌≤◌, ◌⊎◌, inl, inr, Bool, true, false, ◌&&◌, ◌||◌, List, [], ◌∷◌, length, get_or, Option, Some, None, refl, ap, ◌∙◌, arith, if◌then◌else◌}
 use Rattle.std.specs.Option.{option_map_or}
-use Rattle.std.proofs.lemmas.Bool.Decides.{nat_tests}
 use Rattle.pv_path.specs.Names.{is_name, same_bytes}
-use Rattle.pv_path.specs.Paths.{Path, is_prefix}
+use Rattle.pv_path.specs.Paths.{Path, has_names, is_prefix}
 use Rattle.pv_path.proofs.PathLaws.{both_true, is_prefix-refl, is_prefix-trans, or_true, prefixes_compare, same_bytes-refl}
 use Rattle.pv_glob.specs.declared.element.Element.{Element}
-use Rattle.pv_glob.specs.declared.element.Element.TheVariants.{Byte, Any, Many, OneOf}
-use Rattle.pv_glob.specs.Matching.{component_matches, name_matches}
-use Rattle.pv_meet.specs.Meeting.{are_met, in_reach, is_byte_path, reached as reaches}
+use Rattle.pv_glob.specs.Matching.{component_matches}
+use Rattle.pv_meet.specs.Meeting.{are_met, in_reach, reached as reaches}
 use Rattle.pv_meet.proofs.Reaches.{reached}
-use Rattle.pv_overlap.specs.Heads.{common, common_with, head_of, head_of_all, related, written}
+use Rattle.pv_meet.specs.Written.{written}
+use Rattle.pv_meet.proofs.OneName.{written_alone}
+use Rattle.pv_overlap.specs.Heads.{common, common_with, head_of, head_of_all, related}
 
 abbrev Never : Type 0
 Never = ◌≡◌ {A = Bool} false true
-
-some_same : (u v : List ℕ) → Some u ≡ Some v → u ≡ v
-some_same u v e = cc
-
--- written bytes match themselves alone
-written_alone : (elements : List Element) (name other : List ℕ) (first : Bool) → written elements ≡ Some name → name_matches elements first other ≡ true → name ≡ other
-written_alone [] name [] first e m = sym (some_same [] name e)
-written_alone [] name (c ∷ other) first e m = absurd (let differ : Never = m in cc)
-written_alone (Byte b ∷ elements) name [] first e m = absurd (let differ : Never = m in cc)
-written_alone (Byte b ∷ elements) name (c ∷ other) first e m = by (written elements) refl e (λ bytes is. written_alone elements bytes other false is (both_true (c == b) (name_matches elements false other) m).1)
-  where
-    by : (o : Option (List ℕ)) → written elements ≡ o → option_map (λ bytes. b ∷ bytes) o ≡ Some name → ((bytes : List ℕ) → written elements ≡ Some bytes → bytes ≡ other) → name ≡ c ∷ other
-    by None is f on = cc
-    by (Some bytes) is f on =
-        let test = (both_true (c == b) (name_matches elements false other) m).0 in
-        let same : b ≡ c = grind (arith, nat_tests) in
-        sym (some_same (b ∷ bytes) name f) ∙ ap (λ x. x ∷ bytes) same ∙ ap (λ (x : List ℕ). c ∷ x) (on bytes is)
-written_alone (Any ∷ elements) name other first e m = cc
-written_alone (Many ∷ elements) name other first e m = cc
-written_alone (OneOf set ∷ elements) name other first e m = cc
 
 -- the head begins a path whose names the components match
 head_begins : (components : List (List Element)) (path : Path) → length components ≤ length path
@@ -105,8 +85,8 @@ module _ (below : Bool) (path : Path) where
 
 pub met_heads : (a : List (List (List Element))) (a_below : Bool) (b : List (List (List Element))) (b_below : Bool) (path : Path) → are_met a a_below b b_below path ≡ true → related (head_of_all a) (head_of_all b) ≡ true
 met_heads a a_below b b_below path e =
-    let w = both_true (is_byte_path path && reaches a a_below path) (reaches b b_below path) e in
-    let v = both_true (is_byte_path path) (reaches a a_below path) w.0 in
+    let w = both_true (has_names path && reaches a a_below path) (reaches b b_below path) e in
+    let v = both_true (has_names path) (reaches a a_below path) w.0 in
     elim (prefixes_compare (head_of_all a) (head_of_all b) path (all_reached a_below path a v.1) (all_reached b_below path b w.1)) [
       | inl p ↦ ap (λ t. t || is_prefix (head_of_all b) (head_of_all a)) p
       | inr p ↦ ap (λ t. is_prefix (head_of_all a) (head_of_all b) || t) p ∙ or_true (is_prefix (head_of_all a) (head_of_all b))

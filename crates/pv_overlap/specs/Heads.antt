@@ -1,17 +1,11 @@
 -- The head of a pattern: the path with which all paths that it matches begin, by the components at its front that spell
 -- one name alone (glob(7)).
-use Rattle.std.specs.Prelude.{ℕ, Bool, ◌||◌, List, [], ◌∷◌, Option, Some, None, option_map, if◌then◌else◌}
+use Rattle.std.specs.Prelude.{Bool, ◌||◌, List, [], ◌∷◌, if◌then◌else◌}
 use Rattle.std.specs.Option.{option_map_or}
 use Rattle.pv_path.specs.Names.{is_name, same_bytes}
 use Rattle.pv_path.specs.Paths.{Path, is_prefix}
 use Rattle.pv_glob.specs.declared.element.Element.{Element}
-use Rattle.pv_glob.specs.declared.element.Element.TheVariants.{Byte}
-
--- the bytes of elements that are written bytes alone
-abbrev pub written : List Element → Option (List ℕ)
-written [] = Some []
-written (Byte b ∷ elements) = option_map (λ bytes. b ∷ bytes) (written elements)
-written (element ∷ elements) = None
+use Rattle.pv_meet.specs.Written.{written}
 
 -- the path of the leading components of written bytes, ended before the first that is no name
 abbrev pub head_of : List (List Element) → Path

@@ -1,25 +1,12 @@
 //! The heads of patterns.
 ghost use Rattle.std.specs.Prelude.{◌≡◌, ℕ, List, [], ◌∷◌, ◌++◌, true, Option, Some, None, IfOk, take};
 ghost use Rattle.pv_path.specs.Names.{is_name};
-ghost use Rattle.pv_overlap.specs.Heads.{common, common_with, head_of, head_of_all, written};
+ghost use Rattle.pv_overlap.specs.Heads.{common, common_with, head_of, head_of_all};
 
-use pv_glob::{Component, Element, Pattern, Plain};
-use pv_path::{Bytes, Name, TreePath, is_name};
+use pv_glob::{Component, Pattern, Plain};
+use pv_meet::written;
+use pv_path::{Name, TreePath, is_name};
 use std::alloc::{AllocError, Global};
-
-/// The bytes of a component of written bytes alone, or nothing where it has another element.
-fn written(alloc: Global, component: &Component) -> Result<Option<Bytes>, AllocError>
-    ensures { IfOk result (λ bytes. bytes ≡ written component.now) }
-{
-    let mut bytes = Bytes::new(alloc);
-    for element in component.as_slice() {
-        match element {
-            Element::Byte(byte) => bytes.push(*byte)?,
-            _ => return Ok(None),
-        }
-    }
-    Ok(Some(bytes))
-}
 
 /// The head of the pattern of these components.
 fn head_of(alloc: Global, components: &[Component]) -> Result<TreePath, AllocError>

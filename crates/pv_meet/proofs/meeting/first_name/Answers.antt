@@ -1,32 +1,16 @@
-use Rattle.std.proofs.Common.{◌≡◌, ℕ, List, Option, rules, subst, sym, ap, ◌∙◌, false}
-use Rattle.std.specs.Prelude.{IsNone, IfSome}
-use Rattle.pv_path.specs.Names.{is_name}
-use Rattle.pv_meet.specs.Meeting.{shares}
-use Rattle.pv_meet.specs.Pairs.{is_shared}
-use Rattle.pv_meet.specs.Words.{IsFirst, word_cmp}
-use Rattle.pv_meet.proofs.Shared.{shared_name, no_name, too_long, first_short}
+use Rattle.pv_meet.proofs.OneName.{left_first, left_none, right_first, right_none}
 use Rattle.pv_meet.proofs.meeting.first_name.Goals as goal
 
-pub of-requires : goal.of-requires
-of-requires c =
-    let a = c.args.a.now in let b = c.args.b.now in
-    let first = subst (λ (o : Option (List ℕ)). IfSome o (IsFirst word_cmp (is_shared a b))) c.in-Some.is c.in_ok-word.ensures.first in
-    ap is_name c.as_slice.ensures ∙ shared_name a b c.in-Some.word first.passes (search rules)
-
-pub returns-then-len-le255-clause-first : goal.returns-then-len-le255-clause-first
-returns-then-len-le255-clause-first c =
-    let a = c.args.a.now in let b = c.args.b.now in
-    let first = subst (λ (o : Option (List ℕ)). IfSome o (IsFirst word_cmp (is_shared a b))) c.in-Some.is c.in_ok-word.ensures.first in
-    subst (λ (w : List ℕ). IsFirst word_cmp (shares a b) w) (sym (c.in_ok-of-in-Some.ensures ∙ c.as_slice.ensures)) (first_short a b c.in-Some.word first (search rules))
-
 pub returns-in-Some-clause-none : goal.returns-in-Some-clause-none
-returns-in-Some-clause-none c = λ _.
-    let a = c.args.a.now in let b = c.args.b.now in
-    let first = subst (λ (o : Option (List ℕ)). IfSome o (IsFirst word_cmp (is_shared a b))) c.in-Some.is c.in_ok-word.ensures.first in
-    too_long a b c.in-Some.word first (search rules)
+returns-in-Some-clause-none c = left_none c.args.a.now c.args.b.now c.in-Some.bytes c.in_ok-bytes.field-0 c.in-Some.is c.name_by.result c.in_ok-bytes.ensures c.name_by.ensures
 
-pub returns-clause-none : goal.returns-clause-none
-returns-clause-none c = λ _.
-    let a = c.args.a.now in let b = c.args.b.now in
-    let none = subst (λ (o : Option (List ℕ)). IsNone o → (word : List ℕ) → is_shared a b word ≡ false) c.in-None.is c.in_ok-word.ensures.none in
-    no_name a b (none (search rules))
+pub returns-in-Some-clause-first : goal.returns-in-Some-clause-first
+returns-in-Some-clause-first c = left_first c.args.a.now c.args.b.now c.in-Some.bytes c.in_ok-bytes.field-0 c.in-Some.is c.name_by.result c.in_ok-bytes.ensures c.name_by.ensures
+
+pub returns-in-Some-2-clause-none : goal.returns-in-Some-2-clause-none
+returns-in-Some-2-clause-none c =
+    right_none c.args.a.now c.args.b.now c.in-Some-2.bytes c.in_ok-bytes-in-None.field-0 c.in-Some-2.is c.name_by-in-Some-2.result c.in_ok-bytes-in-None.ensures c.name_by-in-Some-2.ensures
+
+pub returns-in-Some-2-clause-first : goal.returns-in-Some-2-clause-first
+returns-in-Some-2-clause-first c =
+    right_first c.args.a.now c.args.b.now c.in-Some-2.bytes c.in_ok-bytes-in-None.field-0 c.in-Some-2.is c.name_by-in-Some-2.result c.in_ok-bytes-in-None.ensures c.name_by-in-Some-2.ensures

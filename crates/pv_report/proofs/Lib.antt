@@ -1,0 +1,9 @@
+pub mod ReachLaws
+pub mod CopyLaws
+pub mod Members
+pub mod MarkLaws
+pub mod MarkOrder
+pub mod OrderLaws
+pub mod AnswerLaws
+pub mod LoopLaws
+pub mod ReportLaws

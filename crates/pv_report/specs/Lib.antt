@@ -1,0 +1,4 @@
+pub mod Subjects
+pub mod Marks
+pub mod Reporting
+pub mod Said

@@ -1,0 +1,233 @@
+//! The reasons, found by marks of lines.
+ghost use Rattle.std.specs.Prelude.{◌≡◌, ◌↔◌, ℕ, ◌+◌, ◌<◌, ◌^◌, ◌++◌, ◌&&◌, ◌||◌, map, is_some, length, All, AllPairs, Contains, IfOk, OnOk};
+ghost use Rattle.pv_path.specs.Paths.{is_prefix};
+ghost use Rattle.pv_lines.specs.declared.line.Line.{Line as LineValue};
+ghost use Rattle.pv_report.specs.declared.listing.Unrepeatable.{Unrepeatable as UnrepeatableValue};
+ghost use Rattle.std.specs.List.Sorted.{IsStrictlySortedBy};
+ghost use Rattle.pv_report.specs.Marks.{is_below, Mark as Place, mark_cmp, mark_if, marks_of, mixes, outer_marks, own_marks, pair_marks, rank, reason_at, reason_of, shared_marks, traits_of};
+ghost use Rattle.pv_report.specs.Reporting.{ComesFirst};
+ghost use Rattle.pv_table.specs.Asking.{asks};
+ghost use Rattle.pv_table.specs.Reaching.{path_in};
+ghost use Rattle.pv_table.specs.Turns.{copied};
+ghost use Rattle.pv_report.specs.Subjects.{sources_of};
+
+use crate::listing::{ReasonList, Unrepeatable};
+use crate::subject::sources_of;
+use crate::traits::{Traits, traits_of};
+use pv_lines::{Line, LinePath};
+use pv_overlap::Pair;
+use pv_path::{Name, names_under};
+use pv_table::{Reason, is_creating};
+use std::alloc::{AllocError, Global};
+
+/// The number of a line, and the place of a reason in the table of reasons.
+type Mark = (u32, u32);
+
+/// The reason at a place of the table.
+fn reason_at(place: u32) -> Reason
+    ensures { result ≡ reason_at place }
+{
+    match place {
+        0 => Reason::Append,
+        1 => Reason::Source,
+        2 => Reason::Below,
+        3 => Reason::Input,
+        _ => Reason::Mask,
+    }
+}
+
+/// Adds a mark, where a test holds.
+fn mark_if(marks: &mut Vec<Mark>, test: bool, line: u32, place: u32) -> Result<(), AllocError>
+    ensures { OnOk result (marks.new.items ≡ marks.old.items ++ mark_if test line place) }
+{
+    if test {
+        marks.push((line, place))?;
+    }
+    Ok(())
+}
+
+/// What is asked of each line.
+fn all_traits(alloc: Global, lines: &[Line]) -> Result<Vec<Traits>, AllocError>
+    ensures { IfOk result (λ traits. traits.items ≡ map traits_of lines.now) }
+{
+    let mut traits = Vec::new(alloc);
+    for line in lines {
+        traits.push(traits_of(alloc, line)?)?;
+    }
+    Ok(traits)
+}
+
+/// The marks of lines that append.
+fn own_marks(alloc: Global, lines: &[Line], traits: &[Traits]) -> Result<Vec<Mark>, AllocError>
+    requires traits { traits.now ≡ map traits_of lines.now }
+    requires few { length lines.now < 2 ^ 32 }
+    ensures { IfOk result (λ marks. marks.items ≡ own_marks 0 lines.now) }
+{
+    let mut marks = Vec::new(alloc);
+    for (i, known) in traits.iter().enumerate() {
+        mark_if(&mut marks, known.appends, i as u32, 0)?;
+    }
+    Ok(marks)
+}
+
+/// The path of a line that makes something; of another line the root.
+fn names_of(path: &LinePath) -> &[Name]
+    ensures { result.now ≡ path_in path.now }
+{
+    match path {
+        LinePath::Literal(path) => path.names(),
+        LinePath::Glob(_) => &[],
+    }
+}
+
+/// Whether the names of one path begin another.
+fn begins(above: &[Name], path: &[Name]) -> bool
+    ensures { result ≡ is_prefix above.now path.now }
+{
+    names_under(above, path).is_some()
+}
+
+/// Whether a line makes something properly below the path of one that copies.
+fn is_below(line: &Line, other: &Line, copies: bool) -> bool
+    requires { copies ≡ is_some (copied (asks other.now)) }
+    ensures { result ≡ is_below line.now other.now }
+{
+    let path = names_of(&line.path);
+    let above = names_of(&other.path);
+    is_creating(line) && copies && begins(above, path) && above != path
+}
+
+/// Whether one line has a masked mode and the other sets base entries of an ACL.
+fn mixes(a: &Traits, b: &Traits) -> bool
+    ensures { result ≡ ((a.now.masked && b.now.base) || (a.now.base && b.now.masked)) }
+{
+    (a.masked && b.base) || (a.base && b.masked)
+}
+
+/// Adds the marks of two lines that share a path.
+fn add_shared(
+    marks: &mut Vec<Mark>,
+    i: u32,
+    a: &Line,
+    a_traits: &Traits,
+    j: u32,
+    b: &Line,
+    b_traits: &Traits,
+) -> Result<(), AllocError>
+    requires a { a_traits.now ≡ traits_of a.now }
+    requires b { b_traits.now ≡ traits_of b.now }
+    ensures { OnOk result (marks.new.items ≡ marks.old.items ++ shared_marks i a.now j b.now) }
+{
+    mark_if(marks, is_below(b, a, a_traits.copies), j, 2)?;
+    mark_if(marks, is_below(a, b, b_traits.copies), i, 2)?;
+    mark_if(marks, mixes(a_traits, b_traits), j, 4)
+}
+
+/// Adds the marks of a line that shares a path with what is copied, or with a path from which lines are read.
+fn add_outer(
+    marks: &mut Vec<Mark>,
+    sources: usize,
+    i: u32,
+    line: &Line,
+    traits: &Traits,
+    j: u32,
+) -> Result<(), AllocError>
+    requires { traits.now ≡ traits_of line.now }
+    ensures { OnOk result (marks.new.items ≡ marks.old.items ++ outer_marks sources i line.now j) }
+{
+    if (j as usize) < sources {
+        marks.push((i, 1))?;
+        Ok(())
+    } else {
+        mark_if(marks, traits.changes, i, 3)
+    }
+}
+
+/// Adds the marks of a pair.
+fn add_pair(
+    marks: &mut Vec<Mark>,
+    lines: &[Line],
+    traits: &[Traits],
+    sources: usize,
+    pair: &Pair,
+) -> Result<(), AllocError>
+    requires { traits.now ≡ map traits_of lines.now }
+    ensures { OnOk result (marks.new.items ≡ marks.old.items ++ pair_marks lines.now sources pair.now) }
+{
+    let (i, j) = (pair.first as usize, pair.second as usize);
+    if i >= lines.len() {
+        return Ok(());
+    }
+    if j >= lines.len() {
+        return add_outer(
+            marks,
+            sources,
+            pair.first,
+            &lines[i],
+            &traits[i],
+            pair.second,
+        );
+    }
+    add_shared(
+        marks,
+        pair.first,
+        &lines[i],
+        &traits[i],
+        pair.second,
+        &lines[j],
+        &traits[j],
+    )
+}
+
+/// The marks of lines with these pairs.
+fn marks_of(alloc: Global, lines: &[Line], pairs: &[Pair]) -> Result<Vec<Mark>, AllocError>
+    requires few { length lines.now < 2 ^ 32 }
+    ensures { IfOk result (λ marks. marks.items ≡ marks_of lines.now pairs.now) }
+{
+    let traits = all_traits(alloc, lines)?;
+    let sources = lines.len() + sources_of(alloc, lines)?.len();
+    let mut marks = own_marks(alloc, lines, traits.as_slice())?;
+    for pair in pairs {
+        add_pair(&mut marks, lines, traits.as_slice(), sources, pair)?;
+    }
+    Ok(marks)
+}
+
+/// Some marks in order, each once.
+fn in_order(marks: Vec<Mark>) -> Vec<Mark>
+    ensures same { (mark : Place) → Contains result.items mark ↔ Contains marks.items mark }
+    ensures sorted { IsStrictlySortedBy mark_cmp result.items }
+{
+    let mut marks = marks;
+    marks.sort_unstable();
+    marks.dedup();
+    marks
+}
+
+/// The reasons that marks stand for.
+fn listed(alloc: Global, marks: &[Mark]) -> Result<ReasonList, AllocError>
+    ensures { IfOk result (λ list. list ≡ map reason_of marks.now) }
+{
+    let mut list = ReasonList::new(alloc);
+    for mark in marks {
+        list.push(Unrepeatable {
+            line: mark.0,
+            reason: reason_at(mark.1),
+        })?;
+    }
+    Ok(list)
+}
+
+/// The reasons of lines whose pairs are these, in order.
+pub(crate) fn reasons_of(
+    alloc: Global,
+    lines: &[Line],
+    pairs: &[Pair],
+) -> Result<ReasonList, AllocError>
+    requires few { length lines.now < 2 ^ 32 }
+    ensures exact { IfOk result (λ list. (u : UnrepeatableValue) → Contains list u ↔ Contains (marks_of lines.now pairs.now) (u.line, rank u.reason)) }
+    ensures ordered { IfOk result (AllPairs ComesFirst) }
+{
+    let marks = in_order(marks_of(alloc, lines, pairs)?);
+    listed(alloc, marks.as_slice())
+}

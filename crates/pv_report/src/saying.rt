@@ -1,0 +1,147 @@
+//! What is said of a report.
+ghost use Rattle.std.specs.Prelude.{◌≡◌, ◌↔◌, ◌++◌, ◌∷◌, [], codes, map, true, IfOk, OnOk};
+ghost use Rattle.std.specs.Fmt.{decimal};
+ghost use Rattle.pv_text.specs.Lines.{is_line};
+ghost use Rattle.pv_table.specs.Repeatable.{IsRepeatable};
+ghost use Rattle.pv_report.specs.Reporting.{ListsReasons};
+ghost use Rattle.pv_report.specs.Said.{line_text, overlap_text, reason_text, report_messages, SaysRepeatable, unrepeatable_text, verdict};
+
+use crate::listing::{Report, Unrepeatable};
+use pv_lines::{Line, LineList};
+use pv_overlap::Pair;
+use pv_path::print_path;
+use pv_table::Reason;
+use pv_text::{Messages, OneLine};
+use std::alloc::{AllocError, Global};
+
+/// The words for a reason.
+fn reason_text(reason: Reason) -> &'static [u8]
+    ensures text { result.now ≡ reason_text reason }
+    ensures line { is_line result.now ≡ true }
+{
+    match reason {
+        Reason::Append => b"append",
+        Reason::Source => b"source",
+        Reason::Below => b"below",
+        Reason::Input => b"input",
+        Reason::Mask => b"mask",
+    }
+}
+
+/// `FILE:N`.
+fn place_text(alloc: Global, file: &OneLine, number: u32) -> Result<Vec<u8>, AllocError>
+    ensures text { IfOk result (λ text. text.items ≡ file.now ++ codes ":" ++ decimal number) }
+    ensures line { IfOk result (λ text. is_line text.items ≡ true) }
+{
+    let mut text = Vec::from_slice(alloc, file.as_slice())?;
+    let number = number.to_string(alloc)?;
+    text.extend_from_slice(b":")?;
+    text.extend_from_slice(number.as_bytes())?;
+    Ok(text)
+}
+
+/// Where a line stands, `FILE:N`; nothing past the last.
+fn line_text(alloc: Global, lines: &[Line], i: u32) -> Result<Vec<u8>, AllocError>
+    ensures text { IfOk result (λ text. text.items ≡ line_text lines.now i) }
+    ensures line { IfOk result (λ text. is_line text.items ≡ true) }
+{
+    match lines.get(i as usize) {
+        Some(line) => place_text(alloc, &line.place.file, line.place.number),
+        None => Ok(Vec::new(alloc)),
+    }
+}
+
+/// `overlap FILE:N FILE:N at PATH`.
+fn overlap_text(alloc: Global, lines: &[Line], pair: &Pair) -> Result<Vec<u8>, AllocError>
+    ensures text { IfOk result (λ text. text.items ≡ overlap_text lines.now pair.now) }
+    ensures line { IfOk result (λ text. is_line text.items ≡ true) }
+{
+    let first = line_text(alloc, lines, pair.first)?;
+    let second = line_text(alloc, lines, pair.second)?;
+    let path = print_path(alloc, &pair.path)?;
+    let mut text = Vec::from_slice(alloc, b"overlap ")?;
+    text.extend_from_slice(&first)?;
+    text.extend_from_slice(b" ")?;
+    text.extend_from_slice(&second)?;
+    text.extend_from_slice(b" at ")?;
+    text.extend_from_slice(&path)?;
+    Ok(text)
+}
+
+/// `unrepeatable FILE:N REASON`.
+fn unrepeatable_text(
+    alloc: Global,
+    lines: &[Line],
+    found: &Unrepeatable,
+) -> Result<Vec<u8>, AllocError>
+    ensures text { IfOk result (λ text. text.items ≡ unrepeatable_text lines.now found.now) }
+    ensures line { IfOk result (λ text. is_line text.items ≡ true) }
+{
+    let line = line_text(alloc, lines, found.line)?;
+    let reason = reason_text(found.reason);
+    let mut text = Vec::from_slice(alloc, b"unrepeatable ")?;
+    text.extend_from_slice(&line)?;
+    text.extend_from_slice(b" ")?;
+    text.extend_from_slice(reason)?;
+    Ok(text)
+}
+
+/// The verdict on lines with these reasons.
+fn verdict(list: &[Unrepeatable]) -> &'static [u8]
+    ensures text { result.now ≡ verdict list.now }
+    ensures line { is_line result.now ≡ true }
+{
+    if list.is_empty() {
+        b"repeatable"
+    } else {
+        b"not repeatable"
+    }
+}
+
+/// Says which lines share a path.
+fn say_overlaps(
+    alloc: Global,
+    lines: &[Line],
+    pairs: &[Pair],
+    messages: &mut Messages,
+) -> Result<(), AllocError>
+    ensures { OnOk result (messages.new ≡ messages.old ++ map (overlap_text lines.now) pairs.now) }
+{
+    for pair in pairs {
+        messages.push(&overlap_text(alloc, lines, pair)?)?;
+    }
+    Ok(())
+}
+
+/// Says which lines have reasons.
+fn say_reasons(
+    alloc: Global,
+    lines: &[Line],
+    list: &[Unrepeatable],
+    messages: &mut Messages,
+) -> Result<(), AllocError>
+    ensures { OnOk result (messages.new ≡ messages.old ++ map (unrepeatable_text lines.now) list.now) }
+{
+    for found in list {
+        messages.push(&unrepeatable_text(alloc, lines, found)?)?;
+    }
+    Ok(())
+}
+
+/// Says what a report on lines lists: each two lines that share a path, each line with each of its reasons, and whether
+/// there is none. The last message on a report of these lines is `repeatable` exactly where no line has a reason. After
+/// want of memory some of these messages may have been said.
+pub fn say_report(
+    alloc: Global,
+    lines: &LineList,
+    report: &Report,
+    messages: &mut Messages,
+) -> Result<(), AllocError>
+    ensures said { OnOk result (messages.new ≡ messages.old ++ report_messages lines.now report.now) }
+    ensures verdict { OnOk result (ListsReasons lines.now report.now.unrepeatable → SaysRepeatable messages.new ↔ IsRepeatable lines.now) }
+{
+    say_overlaps(alloc, lines.as_slice(), report.pairs.as_slice(), messages)?;
+    let list = report.unrepeatable.as_slice();
+    say_reasons(alloc, lines.as_slice(), list, messages)?;
+    messages.push(verdict(list))
+}
