@@ -9,7 +9,7 @@ use Rattle.pv_sysusers.specs.Deciding.{is_free_in, pooled_by}
 use Rattle.pv_sysusers.specs.Pools.{greater, highest, is_between, last_of}
 use Rattle.pv_sysusers.specs.declared.pool.Pool.{Pool}
 
-highest_below : (p : ℕ → Bool) (b n : ℕ) → highest p b ≡ Some n → n < b
+pub highest_below : (p : ℕ → Bool) (b n : ℕ) → highest p b ≡ Some n → n < b
 unfolding highest
 highest_below p zero n h = cc
 highest_below p (suc b) n h = by_test (p b) refl (highest_below p b n)

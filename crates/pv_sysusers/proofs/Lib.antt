@@ -6,3 +6,9 @@ pub mod FlatLaws
 pub mod UserLaws
 pub mod PlanLaws
 pub mod MissingLaws
+pub mod SettledLaws
+pub mod AllowedLaws
+pub mod NewLaws
+pub mod EntryLaws
+pub mod AgainLaws
+pub mod FinishLaws

@@ -4,18 +4,44 @@ use Rattle.std.specs.List.{list_any}
 use Rattle.std.specs.Str.{bytes_eq}
 use Rattle.std.proofs.Math.Seq.{drop-cons}
 use Rattle.std.proofs.lemmas.List.{map-append}
+use Rattle.std.proofs.lemmas.List.Folds.{list_any-append}
+use Rattle.std.proofs.lemmas.Slice.Eq.{bytes_eq-Decides}
 use Rattle.pv_sysusers.specs.Texts.{has_entry, is_known, without_entry}
 use Rattle.pv_sysusers.specs.declared.needs.Need.{Need}
 
-any_shown : (name : List ℕ) (names : List (Bor (List ℕ))) → list_any (λ other. bytes_eq name other.now) names ≡ list_any (bytes_eq name) (map (λ n. n.now) names)
-any_shown name [] = refl
-any_shown name (n ∷ names) = ap (λ (b : Bool). bytes_eq name n.now || b) (any_shown name names)
+same_tests : (r s : Bool) → (r ≡ true → s ≡ true) → (s ≡ true → r ≡ true) → r ≡ s
+same_tests true s h k = sym (h refl)
+same_tests false true h k = k refl
+same_tests false false h k = refl
 
-pub known_there : (test : List (List ℕ) → Bool) (file : List ℕ) (names : List (List ℕ)) (name : List ℕ) → has_entry test file name ≡ true → true ≡ is_known test file names name
-known_there test file names name h = rw h refl
+turned : (a b : List ℕ) → bytes_eq a b ≡ bytes_eq b a
+turned a b =
+    same_tests (bytes_eq a b) (bytes_eq b a) (λ h. (bytes_eq-Decides b a).1 (sym ((bytes_eq-Decides a b).0 h)))
+    (λ h. (bytes_eq-Decides a b).1 (sym ((bytes_eq-Decides b a).0 h)))
 
-pub known_among : (test : List (List ℕ) → Bool) (file : List ℕ) (names : List (Bor (List ℕ))) (name : List ℕ) (b : Bool) → has_entry test file name ≡ false → b ≡ list_any (λ other. bytes_eq name other.now) names → b ≡ is_known test file (map (λ n. n.now) names) name
-known_among test file names name b h e = e ∙ any_shown name names ∙ rw h refl
+-- no name is among none
+pub known_none : (test : List (List ℕ) → Bool) (file other : List ℕ) → has_entry test file other ≡ is_known test file [] other
+known_none test file other = by (has_entry test file other)
+  where
+    by : (b : Bool) → b ≡ (b || false)
+    by true = refl
+    by false = refl
+
+-- one more name is known
+pub known_more : (test : List (List ℕ) → Bool) (file : List ℕ) (names : List (List ℕ)) (name other : List ℕ) (new old : Bool) → new ≡ (bytes_eq name other || old) → old ≡ is_known test file names other
+    → new ≡ is_known test file (names ++ name ∷ []) other
+known_more test file names name other new old e is =
+    e ∙ (λ i. turned name other i || is i)
+    ∙ by (bytes_eq other name) (has_entry test file other) (list_any (bytes_eq other) names)
+    ∙ sym (ap (λ b. has_entry test file other || b) (list_any-append (bytes_eq other) names (name ∷ [])))
+  where
+    by : (a b c : Bool) → (a || (b || c)) ≡ (b || (c || (a || false)))
+    by true true c = refl
+    by true false true = refl
+    by true false false = refl
+    by false true c = refl
+    by false false true = refl
+    by false false false = refl
 
 module _ (test : List (List ℕ) → Bool) (file : List ℕ) where
   next : (names : List (List ℕ)) (needs : List Need) (i : ℕ) (need : Need) → i < length needs → need ≡ get_or needs i need

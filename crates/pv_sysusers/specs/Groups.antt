@@ -2,6 +2,7 @@
 use Rattle.std.specs.Prelude.{ℕ, Bool, ◌||◌, List, [], ◌∷◌, ◌++◌, codes, Option, Some, None, is_some, if◌then◌else◌}
 use Rattle.std.specs.Fmt.{decimal}
 use Rattle.pv_accounts.specs.InUse.{Ids, id_of, is_held, is_held_beside}
+use Rattle.pv_path.specs.Printing.{printed}
 use Rattle.pv_text.specs.Said.{said_at}
 use Rattle.pv_text.specs.declared.place.Place.{Place}
 use Rattle.pv_sysusers.specs.Pools.{free_number}
@@ -14,7 +15,7 @@ pub record Choice : Type 0 where
 
 -- what is said of a fixed number that is in use
 abbrev pub in_use_message : Place → ℕ → List ℕ → List ℕ
-in_use_message place n name = said_at place (decimal n ++ codes " is in use for " ++ name)
+in_use_message place n name = said_at place (decimal n ++ codes " is in use for " ++ printed name)
 
 -- the fixed number of a group, where no other group has it and no user of another name, or else one of the pool
 abbrev pub group_choice : (ℕ → Bool) → Ids → Ids → List ℕ → Option (ℕ × Place) → Choice

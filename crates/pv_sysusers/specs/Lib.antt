@@ -1,4 +1,5 @@
 pub mod Lines
+pub mod Settled
 pub mod Shown
 pub mod Needs
 pub mod Pools
@@ -8,3 +9,5 @@ pub mod Deciding
 pub mod Texts
 pub mod Plans
 pub mod Planning
+pub mod Allowed
+pub mod Finishing

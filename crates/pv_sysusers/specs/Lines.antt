@@ -5,6 +5,7 @@ use Rattle.std.specs.Str.{bytes_eq}
 use Rattle.pv_requests.specs.Same.{same_user}
 use Rattle.pv_requests.specs.declared.request.Request.{Request}
 use Rattle.pv_requests.specs.declared.request.Request.TheVariants as request
+use Rattle.pv_path.specs.Printing.{printed}
 use Rattle.pv_text.specs.Said.{said_at}
 use Rattle.pv_text.specs.declared.place.Place.{Place}
 use Rattle.pv_sysusers.specs.declared.path_ids.PathId.{PathId}
@@ -57,7 +58,7 @@ with_counting lines line = if is_some (earlier lines line) then lines else lines
 
 -- what is said of a u line that comes again and says something else
 abbrev pub duplicate_message : Place → List ℕ → List ℕ
-duplicate_message place name = said_at place (codes "duplicate line for " ++ name)
+duplicate_message place name = said_at place (codes "duplicate line for " ++ printed name)
 
 -- what is said of a u line of a user that has one already: nothing where they say the same
 abbrev pub said_again : List Line → Line → List (List ℕ)

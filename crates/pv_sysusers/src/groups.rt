@@ -8,7 +8,7 @@ use crate::fixed::Fixed;
 use crate::needs::Need;
 use crate::pool::Pool;
 use pv_accounts::InUse;
-use pv_path::Bytes;
+use pv_path::{Bytes, add_printed};
 use pv_text::{Messages, Place};
 use std::alloc::{AllocError, Global};
 
@@ -34,8 +34,8 @@ pub(crate) fn say_in_use(
     let number = n.to_string(alloc)?;
     let mut text = Vec::from_slice(alloc, number.as_bytes())?;
     text.extend_from_slice(b" is in use for ")?;
-    text.extend_from_slice(name)?;
-    said.push_at(place, text.as_slice())
+    add_printed(&mut text, name)?;
+    said.push_at(place, &text)
 }
 
 /// The number that a line fixes for a group, where the group may get it, or else one of the pool.

@@ -4,6 +4,7 @@
 mod fault;
 mod fixed;
 mod groups;
+mod laws;
 mod lines;
 mod needs;
 mod path_ids;
@@ -13,8 +14,12 @@ mod texts;
 mod users;
 
 pub use fault::PlanFault;
+pub use laws::{
+    a_plan_among_new_files_gives_the_same_texts, groups_that_are_there_stay,
+    users_that_are_there_stay,
+};
 pub use path_ids::{PathId, PathIds};
-pub use planned::{Texts, plan};
+pub use planned::{Texts, duplicates, plan, say_all};
 
 #[cfg(test)]
 mod tests;

@@ -5,6 +5,7 @@ ghost use Rattle.pv_sysusers.specs.Lines.{counting, duplicate_message, first_use
 ghost use Rattle.pv_sysusers.specs.Shown.{IsIndexed, shown, shown_line};
 
 use crate::path_ids::{PathId, PathIds};
+use pv_path::add_printed;
 use pv_requests::{Request, RequestList, is_same_user};
 use pv_text::{Messages, Place};
 use std::alloc::{AllocError, Global};
@@ -64,8 +65,8 @@ fn say_duplicate(
     ensures { OnOk result (said.new ≡ said.old ++ duplicate_message (place_of line.now) name.now ∷ []) }
 {
     let mut text = Vec::from_slice(alloc, b"duplicate line for ")?;
-    text.extend_from_slice(name)?;
-    said.push_at(place_of(line), text.as_slice())
+    add_printed(&mut text, name)?;
+    said.push_at(place_of(line), &text)
 }
 
 impl<'a> Lines<'a> {

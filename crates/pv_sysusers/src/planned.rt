@@ -1,9 +1,10 @@
 //! The plan of a run: the texts of the account files.
-ghost use Rattle.std.specs.Prelude.{◌≡◌, ◌++◌, Ok, option_map, slice_get, IfOk, IfErr, OnOk, OnErr};
+ghost use Rattle.std.specs.Prelude.{◌≡◌, ◌++◌, [], Ok, option_map, slice_get, IfOk, IfErr, OnOk, OnErr};
 ghost use Rattle.std.specs.List.{flat_map};
 ghost use Rattle.pv_text.specs.Said.{SaidPart};
 ghost use Rattle.pv_sysusers.specs.Deciding.{Lacks, Told};
 ghost use Rattle.pv_sysusers.specs.Texts.{gshadow_text, membership_of};
+ghost use Rattle.pv_sysusers.specs.Lines.{lines_from, said_duplicates};
 ghost use Rattle.pv_sysusers.specs.Needs.{kept};
 ghost use Rattle.pv_sysusers.specs.Plans.{plan_of, planned, texts_by};
 ghost use Rattle.pv_sysusers.specs.Planning.{AreNumbers, IsWanted, Misses, files_in, files_of, numbers_in};
@@ -208,8 +209,8 @@ fn say_one(said: &Messages, i: usize, messages: &mut Messages) -> Result<(), All
     }
 }
 
-/// Says all messages of a list.
-fn say_all(said: &Messages, messages: &mut Messages) -> Result<(), AllocError>
+/// Says all messages of a list. Where memory runs out nothing or a front part of it is said.
+pub fn say_all(said: &Messages, messages: &mut Messages) -> Result<(), AllocError>
     ensures ok { OnOk result (messages.new ≡ messages.old ++ said.now) }
     ensures part { SaidPart said.now messages.old messages.new }
 {
@@ -217,6 +218,15 @@ fn say_all(said: &Messages, messages: &mut Messages) -> Result<(), AllocError>
         say_one(said, i, messages)?;
     }
     Ok(())
+}
+
+/// What is said of lines that come again (sysusers.d(5)).
+pub fn duplicates(alloc: Global, requests: &RequestList) -> Result<Messages, AllocError>
+    ensures { IfOk result (λ said. said ≡ said_duplicates [] (lines_from [] 0 requests.now)) }
+{
+    let mut said = Messages::new(alloc);
+    let _lines = counted(alloc, requests, &PathIds::new(alloc), &mut said)?;
+    Ok(said)
 }
 
 /// What a run makes of the account files, by its requests, the owners of the objects at their paths and the day: the

@@ -1,8 +1,7 @@
 //! Worked plans.
 use super::*;
-use pv_path::Bytes;
 use pv_requests::{RequestList, read_request};
-use pv_text::{Facts, Messages, Place};
+use pv_text::{Facts, Messages, OneLine, Place};
 use std::alloc::Global;
 use std::test::Fail;
 
@@ -12,7 +11,7 @@ fn requests_of(alloc: Global, lines: &[&[u8]]) -> Result<RequestList, Fail> {
     let mut requests = RequestList::new(alloc);
     for line in lines {
         let place = Place {
-            file: Bytes::copy_of(alloc, b"A")?,
+            file: OneLine::copy_of(alloc, b"A")?,
             number: 1,
         };
         if let Ok(request) = read_request(alloc, line, place, &facts) {

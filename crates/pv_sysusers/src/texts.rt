@@ -1,7 +1,8 @@
 //! The texts of the account files with new entries and new members.
-ghost use Rattle.std.specs.Prelude.{◌≡◌, [], ◌∷◌, ◌++◌, true, map, unwrap_or, IfOk, OnOk};
+ghost use Rattle.std.specs.Prelude.{◌≡◌, [], ◌∷◌, ◌++◌, true, map, unwrap_or, if◌then◌else◌, IfOk, OnOk};
 ghost use Rattle.std.specs.List.{flat_map, list_any};
 ghost use Rattle.std.specs.Str.{bytes_eq};
+ghost use Rattle.pv_accounts.specs.Among.{is_among};
 ghost use Rattle.pv_accounts.specs.Edits.{appended};
 ghost use Rattle.pv_accounts.specs.Entries.{is_gshadow, is_shadow};
 ghost use Rattle.pv_accounts.specs.Kinds.{has_members, test_of};
@@ -12,8 +13,8 @@ ghost use Rattle.pv_sysusers.specs.Texts.{group_line, group_text, gshadow_text, 
 use crate::lines::Line;
 use crate::needs::Need;
 use crate::users::NewUser;
-use pv_accounts::{Kind, add_member_in, append_entries, shadow_view};
-use pv_gshadow::{gshadow_view, new_group};
+use pv_accounts::{EntryNames, Kind, add_member_in, append_entries};
+use pv_gshadow::new_group;
 use pv_path::Bytes;
 use pv_requests::Request;
 use std::alloc::{AllocError, Global};
@@ -198,25 +199,19 @@ pub(crate) fn passwd_text(alloc: Global, made: &[NewUser], file: &[u8]) -> Resul
     Ok(Bytes::from_vec(with_lines(alloc, file, &entries)?))
 }
 
-/// Whether /etc/shadow has an entry of a user.
-fn has_shadow(file: &[u8], name: &[u8]) -> bool
-    ensures { result ≡ has_entry is_shadow file.now name.now }
-{
-    shadow_view(file).entry(name).is_some()
-}
-
-/// Adds the shadow entry of a new user, where he has none.
+/// Adds the shadow entry of a new user, whose name is not known yet.
 fn add_shadow_line(
     alloc: Global,
     day: u64,
-    file: &[u8],
+    known: &EntryNames<'_>,
     lines: &mut Vec<Vec<u8>>,
     user: &NewUser,
 ) -> Result<(), AllocError>
     ensures { let old = map (λ line. line.items) lines.old.items in
-        OnOk result (map (λ line. line.items) lines.new.items ≡ old ++ shadow_lines day file.now user.now) }
+        OnOk result (map (λ line. line.items) lines.new.items
+        ≡ old ++ (if is_among known.now user.now.account.name then [] else shadow_line day user.now ∷ [])) }
 {
-    if has_shadow(file, user.account.name.as_slice()) {
+    if known.contains(user.account.name.as_slice()) {
         return Ok(());
     }
     lines.push(shadow_line(alloc, day, user)?)?;
@@ -232,50 +227,28 @@ pub(crate) fn shadow_text(
 ) -> Result<Bytes, AllocError>
     ensures { IfOk result (λ text. text ≡ shadow_text day made.now file.now) }
 {
+    let known = EntryNames::of(alloc, Kind::Shadow, file)?;
     let mut entries = Vec::new(alloc);
     for user in made {
-        add_shadow_line(alloc, day, file, &mut entries, user)?;
+        add_shadow_line(alloc, day, &known, &mut entries, user)?;
     }
     Ok(Bytes::from_vec(with_lines(alloc, file, &entries)?))
-}
-
-/// Whether /etc/gshadow has an entry of a group.
-fn has_gshadow(file: &[u8], name: &[u8]) -> bool
-    ensures { result ≡ has_entry is_gshadow file.now name.now }
-{
-    gshadow_view(file).entry(name).is_some()
-}
-
-/// Whether a name is among names.
-fn is_among(names: &[&[u8]], name: &[u8]) -> bool
-    ensures { result ≡ list_any (λ other. bytes_eq name.now other.now) names.now }
-{
-    names.iter().any(|other| name == *other)
-}
-
-/// Whether a group has an entry in /etc/gshadow, or its name is among names.
-fn is_known(file: &[u8], names: &[&[u8]], name: &[u8]) -> bool
-    ensures { result ≡ is_known is_gshadow file.now (map (λ n. n.now) names.now) name.now }
-{
-    if has_gshadow(file, name) {
-        true
-    } else {
-        is_among(names, name)
-    }
 }
 
 /// The names of needed groups that have no entry in /etc/gshadow yet, each once.
 fn without_entry<'a>(
     alloc: Global,
-    file: &[u8],
+    file: &'a [u8],
     needs: &'a [Need],
 ) -> Result<Vec<&'a [u8]>, AllocError>
-    ensures { IfOk result (λ names. map (λ n. n.now) names.items ≡ without_entry is_gshadow file.now [] needs.entry.now) }
+    ensures { IfOk result (λ names. map (λ n. n.now) names.items ≡ without_entry is_gshadow file.entry.now [] needs.entry.now) }
 {
+    let mut known = EntryNames::of(alloc, Kind::Gshadow, file)?;
     let mut names = Vec::new(alloc);
     for need in needs {
         let name = need.name.as_slice();
-        if !is_known(file, &names, name) {
+        if !known.contains(name) {
+            known.add(name)?;
             names.push(name)?;
         }
     }

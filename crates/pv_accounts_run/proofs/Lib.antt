@@ -1,0 +1,10 @@
+pub mod MovingLaws
+pub mod StagingLaws
+pub mod SweepingLaws
+pub mod CarryingLaws
+pub mod ActedLaws
+pub mod EditingLaws
+pub mod RunningLaws
+pub mod SameLaws
+pub mod StopLaws
+pub mod MendedLaws

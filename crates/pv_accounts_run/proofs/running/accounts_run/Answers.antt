@@ -1,0 +1,86 @@
+use Rattle.std.proofs.Common.{◌≡◌, ◌++◌, [], IfOk, IfErr, ℕ, ◌≤◌, length, List, append_assoc, arith, ap, sym, subst, ◌∙◌}
+use Rattle.std.specs.Prelude.{nat_lt}
+use Rattle.pv_steps.specs.Trees.{places}
+use Rattle.pv_sysusers.specs.Lines.{lines_from, said_duplicates}
+use Rattle.pv_text.specs.Said.{SaidPart}
+use Rattle.pv_doing.specs.Courses.{carried_of}
+use Rattle.pv_doing.specs.declared.carried.Carried.{Carried}
+use Rattle.pv_accounts_run.specs.Accounted.{edits_by, edits_unless, lacking_in, lacking_unless, plan_at, unusable_texts}
+use Rattle.pv_accounts_run.specs.Carrying.{IsAccountStep}
+use Rattle.pv_accounts_run.specs.Running.{Lacks}
+use Rattle.pv_accounts_run.proofs.MendedLaws.{none_mended, run_mended}
+use Rattle.pv_accounts_run.proofs.RunningLaws.{nil_of, ok_accounted, some_accounted, some_lacking, some_said}
+use Rattle.pv_accounts_run.proofs.running.accounts_run.Goals as goal
+
+pub returns-in_err-say_unusable-clause-part : goal.returns-in_err-say_unusable-clause-part
+returns-in_err-say_unusable-clause-part g c =
+    let s = places (g.T.Tree.state c.args.tree.now) in
+    let some : 1 ≤ length (unusable_texts s) = subst (λ ys. 1 ≤ length ys) c.in_ok-unusable.ensures (omega (arith, c.len.ensures, c.if-len-gt0.true)) in
+    let e = some_said c.args.requests.now (unusable_texts s) (plan_at c.args.requests.now c.args.now s).said some in
+    subst (λ ys. SaidPart ys c.args.messages.now c.say_unusable.new.messages) (ap (λ ys. said_duplicates [] (lines_from [] 0 c.args.requests.now) ++ ys) c.in_ok-unusable.ensures ∙ sym e) c.say_unusable.ensures.part
+
+pub returns-then-len-gt0-clause-ok : goal.returns-then-len-gt0-clause-ok
+returns-then-len-gt0-clause-ok g c =
+    let t = g.T.Tree.state c.args.tree.now in
+    let some : 1 ≤ length (unusable_texts (places t)) = subst (λ ys. 1 ≤ length ys) c.in_ok-unusable.ensures (omega (arith, c.len.ensures, c.if-len-gt0.true)) in
+    some_accounted c.args.requests.now c.args.now t some
+
+pub returns-then-len-gt0-clause-said : goal.returns-then-len-gt0-clause-said
+returns-then-len-gt0-clause-said g c =
+    let s = places (g.T.Tree.state c.args.tree.now) in
+    let some : 1 ≤ length (unusable_texts s) = subst (λ ys. 1 ≤ length ys) c.in_ok-unusable.ensures (omega (arith, c.len.ensures, c.if-len-gt0.true)) in
+    let e = some_said c.args.requests.now (unusable_texts s) (plan_at c.args.requests.now c.args.now s).said some in
+    c.in_ok-say_unusable.ensures.ok
+    ∙ append_assoc c.args.messages.now (said_duplicates [] (lines_from [] 0 c.args.requests.now)) c.in_ok-unusable.unusable
+    ∙ ap (λ ys. c.args.messages.now ++ ys) (ap (λ ys. said_duplicates [] (lines_from [] 0 c.args.requests.now) ++ ys) c.in_ok-unusable.ensures ∙ sym e)
+
+pub returns-then-len-gt0-clause-enough : goal.returns-then-len-gt0-clause-enough
+returns-then-len-gt0-clause-enough g c =
+    let s = places (g.T.Tree.state c.args.tree.now) in
+    let some : 1 ≤ length (unusable_texts s) = subst (λ ys. 1 ≤ length ys) c.in_ok-unusable.ensures (omega (arith, c.len.ensures, c.if-len-gt0.true)) in
+    some_lacking (unusable_texts s) (lacking_in (plan_at c.args.requests.now c.args.now s).texts) some
+
+pub returns-then-len-gt0-clause-part : goal.returns-then-len-gt0-clause-part
+returns-then-len-gt0-clause-part g c =
+    let s = places (g.T.Tree.state c.args.tree.now) in
+    let some : 1 ≤ length (unusable_texts s) = subst (λ ys. 1 ≤ length ys) c.in_ok-unusable.ensures (omega (arith, c.len.ensures, c.if-len-gt0.true)) in
+    let e = some_said c.args.requests.now (unusable_texts s) (plan_at c.args.requests.now c.args.now s).said some in
+    subst (λ ys. SaidPart ys c.args.messages.now c.say_unusable.new.messages) (ap (λ ys. said_duplicates [] (lines_from [] 0 c.args.requests.now) ++ ys) c.in_ok-unusable.ensures ∙ sym e) c.say_unusable.ensures.part
+
+pub returns-clause-ok : goal.returns-clause-ok
+returns-clause-ok g c =
+    let t = g.T.Tree.state c.args.tree.now in
+    let none : unusable_texts (places t) ≡ [] = nil_of (unusable_texts (places t)) (subst (λ ys. length ys ≤ 0) c.in_ok-unusable.ensures (omega (arith, c.len.ensures, c.if-len-gt0.false))) in
+    ok_accounted c.args.requests.now c.args.now t none c.run_usable.result (g.T.Tree.state c.run_usable.new.tree) c.run_usable.ensures.enough c.run_usable.ensures.ok
+
+pub returns-clause-carried : goal.returns-clause-carried
+returns-clause-carried g c =
+    let t = g.T.Tree.state c.args.tree.now in
+    let none : unusable_texts (places t) ≡ [] = nil_of (unusable_texts (places t)) (subst (λ ys. length ys ≤ 0) c.in_ok-unusable.ensures (omega (arith, c.len.ensures, c.if-len-gt0.false))) in
+    subst (λ (ys : List (List ℕ)). IfOk c.run_usable.result (λ (d : Carried). d ≡ carried_of (nat_lt 0 (length ys)))) (sym none) c.run_usable.ensures.carried
+
+pub returns-clause-lacking : goal.returns-clause-lacking
+returns-clause-lacking g c =
+    let t = g.T.Tree.state c.args.tree.now in
+    let none : unusable_texts (places t) ≡ [] = nil_of (unusable_texts (places t)) (subst (λ ys. length ys ≤ 0) c.in_ok-unusable.ensures (omega (arith, c.len.ensures, c.if-len-gt0.false))) in
+    subst (λ (ys : List (List ℕ)). IfErr c.run_usable.result (Lacks (lacking_unless ys (lacking_in (plan_at c.args.requests.now c.args.now (places t)).texts)))) (sym none) c.run_usable.ensures.lacking
+
+pub returns-in_err-unusable-clause-mended : goal.returns-in_err-unusable-clause-mended
+returns-in_err-unusable-clause-mended g c =
+    none_mended c.args.requests.now c.args.now c.ranges.now.fits (g.T.Tree.state c.args.tree.now) (g.T.Tree.steps c.args.tree.now) c.is_present-rooted.ensures.tree
+
+pub returns-in_err-say_unusable-clause-mended : goal.returns-in_err-say_unusable-clause-mended
+returns-in_err-say_unusable-clause-mended g c =
+    none_mended c.args.requests.now c.args.now c.ranges.now.fits (g.T.Tree.state c.args.tree.now) (g.T.Tree.steps c.args.tree.now) c.is_present-rooted.ensures.tree
+
+pub returns-then-len-gt0-clause-mended : goal.returns-then-len-gt0-clause-mended
+returns-then-len-gt0-clause-mended g c =
+    none_mended c.args.requests.now c.args.now c.ranges.now.fits (g.T.Tree.state c.args.tree.now) (g.T.Tree.steps c.args.tree.now) c.is_present-rooted.ensures.tree
+
+pub returns-clause-mended : goal.returns-clause-mended
+returns-clause-mended g c =
+    let t = g.T.Tree.state c.args.tree.now in
+    let plan = plan_at c.args.requests.now c.args.now (places t) in
+    let none : unusable_texts (places t) ≡ [] = nil_of (unusable_texts (places t)) (subst (λ ys. length ys ≤ 0) c.in_ok-unusable.ensures (omega (arith, c.len.ensures, c.if-len-gt0.false))) in
+    run_mended c.args.requests.now c.args.now c.ranges.now.fits (edits_by (places t) plan.texts) (IsAccountStep (edits_by (places t) plan.texts)) t (g.T.Tree.steps c.args.tree.now)
+    (g.T.Tree.state c.run_usable.new.tree) (g.T.Tree.steps c.run_usable.new.tree) c.is_present-rooted.ensures.tree (sym (ap (λ xs. edits_unless xs (edits_by (places t) plan.texts)) none)) c.run_usable.ensures.acted.ran

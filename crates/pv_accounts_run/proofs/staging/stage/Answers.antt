@@ -1,0 +1,75 @@
+use Rattle.std.proofs.Common.{sym, ap, subst, ◌∙◌, arith, Ok, OnOk}
+use Rattle.pv_path.specs.Paths.{Path, is_prefix, staging_of}
+use Rattle.pv_steps.specs.declared.node.Kind.TheVariants.{Directory}
+use Rattle.pv_steps.specs.Trees.{IsKindIn, places}
+use Rattle.pv_steps.specs.Steps.{HasRoom, made}
+use Rattle.pv_steps.specs.Acting.{Acted}
+use Rattle.pv_steps.proofs.ActingLaws.{Moves, acted_passed, acted_within}
+use Rattle.pv_dress.specs.Dressing.{CanWear, ChangedAt, Dressing, GivesDress, wear}
+use Rattle.pv_dress.specs.Edits.{SameOutside}
+use Rattle.pv_walk.specs.declared.new_file.NewFile.{NewFile}
+use Rattle.pv_walk.specs.Making.{held_object}
+use Rattle.pv_walk.specs.Staging.{GivesNew}
+use Rattle.pv_walk.proofs.Outcomes.{on_ok}
+use Rattle.pv_walk.proofs.StageLaws.{staged_room}
+use Rattle.pv_walk.proofs.SweepLaws.{short_name}
+use Rattle.pv_accounts_run.specs.Edits.{most_staged, new_file}
+use Rattle.pv_accounts_run.proofs.ActedLaws.{can_dress, dressed_acted, made_acted, staged_gives}
+use Rattle.pv_accounts_run.proofs.StagingLaws.{stage_some}
+use Rattle.pv_accounts_run.proofs.staging.stage.Goals as goal
+
+pub staging-requires-clause-short : goal.staging-requires-clause-short
+staging-requires-clause-short g c = short_name c.args.edit.now.path c.requires.edit.short
+
+pub put_held-requires-clause-not_root : goal.put_held-requires-clause-not_root
+put_held-requires-clause-not_root g c = λ e. stage_some c.args.edit.now c.requires.edit (sym c.in_ok-stage.ensures ∙ e)
+
+pub put_held-requires-clause-room : goal.put_held-requires-clause-room
+put_held-requires-clause-room g c =
+    let edit = c.args.edit.now in
+    let s = places (g.T.Tree.state c.args.tree.now) in
+    subst (HasRoom s) (sym c.in_ok-stage.ensures)
+    (staged_room s edit.path (subst (λ (p : Path). IsKindIn Directory s p) (sym c.requires.edit.parent) c.requires.directory) c.requires.free)
+
+pub returns-in_err-put_held-clause-acted : goal.returns-in_err-put_held-clause-acted
+returns-in_err-put_held-clause-acted g c =
+    let edit = c.args.edit.now in
+    let t = g.T.Tree.state c.args.tree.now in
+    acted_passed g.T.Tree c.put_held.result c.from_residual-in_err-put_held.result c.in_err-put_held.was c.from_residual-in_err-put_held.ensures.1
+    (acted_within g.T.Tree 2 most_staged (omega arith) (made_acted g.T.Tree edit c.requires.edit
+    (subst (λ (n : NewFile). Acted g.T.Tree (SameOutside (is_prefix (staging_of edit.path)) t) (GivesNew (staging_of edit.path) n) 2 c.args.now c.args.tree.now c.put_held.new.tree c.put_held.result) c.in_ok-new.ensures
+    (subst (λ (p : Path). Acted g.T.Tree (SameOutside (is_prefix p) t) (GivesNew p c.in_ok-new.new) 2 c.args.now c.args.tree.now c.put_held.new.tree c.put_held.result) c.in_ok-stage.ensures c.put_held.ensures.acted))))
+
+pub dress-requires : goal.dress-requires
+dress-requires g c =
+    let edit = c.args.edit.now in
+    let t = g.T.Tree.state c.args.tree.now in
+    let is =
+    c.in_ok-put_held.ensures.ok ∙ ap (λ (n : NewFile). made c.args.now c.in_ok-stage.stage (held_object n.what c.args.now) (places t)) c.in_ok-new.ensures
+    ∙ ap (λ (p : Path). made c.args.now p (held_object (new_file edit).what c.args.now) (places t)) c.in_ok-stage.ensures
+    in
+    subst (λ (p : Path). CanWear (g.T.Tree.state c.put_held.new.tree) p edit.dress) (sym c.in_ok-stage.ensures)
+    (can_dress edit c.requires.edit c.args.now t (g.T.Tree.state c.put_held.new.tree) is)
+
+pub returns-clause-ok : goal.returns-clause-ok
+returns-clause-ok g c =
+    let edit = c.args.edit.now in
+    let t = g.T.Tree.state c.args.tree.now in
+    let u = g.T.Tree.state c.put_held.new.tree in
+    let is =
+    c.in_ok-put_held.ensures.ok ∙ ap (λ (n : NewFile). made c.args.now c.in_ok-stage.stage (held_object n.what c.args.now) (places t)) c.in_ok-new.ensures
+    ∙ ap (λ (p : Path). made c.args.now p (held_object (new_file edit).what c.args.now) (places t)) c.in_ok-stage.ensures
+    in
+    on_ok c.dress.result (λ h. staged_gives edit c.requires.edit c.args.now t u is (g.T.Tree.state c.dress.new.tree) h)
+    (subst (λ (p : Path). OnOk c.dress.result (ChangedAt (wear edit.dress) p c.args.now u (g.T.Tree.state c.dress.new.tree))) c.in_ok-stage.ensures c.dress.ensures.ok)
+
+pub returns-clause-acted : goal.returns-clause-acted
+returns-clause-acted g c =
+    let moves : Moves g.T.Tree = record { stays = g.met.T.Tree.reaches_self; goes_on = g.met.T.Tree.reaches_on; never_falls = g.met.T.Tree.never_falls } in
+    let edit = c.args.edit.now in
+    let t = g.T.Tree.state c.args.tree.now in
+    let u = g.T.Tree.state c.put_held.new.tree in
+    dressed_acted g.T.Tree edit c.requires.edit moves
+    (subst (λ (n : NewFile). Acted g.T.Tree (SameOutside (is_prefix (staging_of edit.path)) t) (GivesNew (staging_of edit.path) n) 2 c.args.now c.args.tree.now c.put_held.new.tree (Ok c.in_ok-put_held.field-0)) c.in_ok-new.ensures
+    (subst (λ (p : Path). Acted g.T.Tree (SameOutside (is_prefix p) t) (GivesNew p c.in_ok-new.new) 2 c.args.now c.args.tree.now c.put_held.new.tree (Ok c.in_ok-put_held.field-0)) c.in_ok-stage.ensures c.in_ok-put_held.ensures.acted))
+    (subst (λ (p : Path). Acted g.T.Tree (Dressing p edit.dress u) (GivesDress p edit.dress u) 5 c.args.now c.put_held.new.tree c.dress.new.tree c.dress.result) c.in_ok-stage.ensures c.dress.ensures.acted)

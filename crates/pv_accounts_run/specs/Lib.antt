@@ -1,0 +1,5 @@
+pub mod Edits
+pub mod Carrying
+pub mod Accounted
+pub mod Running
+pub mod Mended

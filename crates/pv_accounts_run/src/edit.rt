@@ -1,0 +1,14 @@
+//! One account file whose text changes.
+use pv_dress::Dress;
+use pv_path::{Bytes, TreePath};
+
+/// The new text of an account file, with all that the file is to have.
+#[derive(Debug, Drop)]
+pub struct Edit {
+    /// Where the file stands.
+    pub path: TreePath,
+    /// The new text.
+    pub text: Bytes,
+    /// Owner, mode, ACL, extended attributes and letters.
+    pub dress: Dress,
+}

@@ -1,0 +1,71 @@
+//! Account files that cannot be used, and what is said of them.
+ghost use Rattle.std.specs.Prelude.{◌≡◌, ◌++◌, ◌∷◌, ◌<◌, ◌^◌, [], true, length, IfOk, OnOk};
+ghost use Rattle.pv_path.specs.Names.{is_name};
+ghost use Rattle.pv_accounts_run.specs.Edits.{etc};
+ghost use Rattle.pv_steps.specs.Trees.{kind_of, places};
+ghost use Rattle.pv_accounts_run.specs.Accounted.{other_text, unusable_text, unusable_texts};
+
+use crate::paths::file_path;
+use pv_path::TreePath;
+use pv_steps::{Kind, Tree, kind_at};
+use pv_table::{left_text, place_text};
+use pv_text::Messages;
+use pv_walk::{Walked, walk};
+use std::alloc::{AllocError, Global};
+
+/// What is said of account files that cannot be used, in the order in which they are staged.
+pub(crate) fn unusable_texts<T: Tree>(alloc: Global, tree: &T) -> Result<Messages, AllocError>
+    ensures { IfOk result (λ said. said ≡ unusable_texts (places (T.state tree.now))) }
+{
+    let mut said = Messages::new(alloc);
+    judge_file(alloc, tree, b"group", &mut said)?;
+    judge_file(alloc, tree, b"gshadow", &mut said)?;
+    judge_file(alloc, tree, b"shadow", &mut said)?;
+    judge_file(alloc, tree, b"passwd", &mut said)?;
+    Ok(said)
+}
+
+/// The same of one file.
+fn judge_file<T: Tree>(
+    alloc: Global,
+    tree: &T,
+    name: &[u8],
+    said: &mut Messages,
+) -> Result<(), AllocError>
+    requires { is_name name.now ≡ true }
+    ensures { OnOk result (said.new ≡ said.old ++ unusable_text (places (T.state tree.now)) (etc ++ name.now ∷ [])) }
+{
+    let path = file_path(alloc, name)?;
+    judge(alloc, tree, &path, said)
+}
+
+/// The same of what stands at a path.
+fn judge<T: Tree>(
+    alloc: Global,
+    tree: &T,
+    path: &TreePath,
+    said: &mut Messages,
+) -> Result<(), AllocError>
+    requires { length path.now < 2 ^ 32 }
+    ensures { OnOk result (said.new ≡ said.old ++ unusable_text (places (T.state tree.now)) path.now) }
+{
+    match walk(alloc, tree, path, 0)? {
+        Walked::Refused(place, why) => said.push(&place_text(alloc, path, place, why)?),
+        Walked::Present | Walked::Absent(_) => say_other(alloc, tree, path, said),
+    }
+}
+
+/// Says that something else than a file stands at a path, where it does.
+fn say_other<T: Tree>(
+    alloc: Global,
+    tree: &T,
+    path: &TreePath,
+    said: &mut Messages,
+) -> Result<(), AllocError>
+    ensures { OnOk result (said.new ≡ said.old ++ other_text path.now (kind_of (places (T.state tree.now) path.now))) }
+{
+    match kind_at(tree, path) {
+        None | Some(Kind::File) => Ok(()),
+        Some(kind) => said.push(&left_text(alloc, path, kind)?),
+    }
+}
