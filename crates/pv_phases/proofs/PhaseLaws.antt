@@ -1,0 +1,239 @@
+-- Laws of phases carried out one after the other: nothing done, one phase more, one that was stopped, and all done.
+use Rattle.std.specs.Prelude.{◌≡◌, ℕ, ◌+◌, ◌<◌, ◌≤◌, ◌^◌, Bool, true, false, ◌||◌, List, [], ◌∷◌, ◌++◌, length, take, drop, get_or, Result, Ok, Err, IsErrAnd, IsErrOf}
+use Rattle.std.proofs.Common.{zero, suc, refl, sym, ap, subst, ◌∙◌, inl, inr, arith, append_assoc, append-nil}
+use Rattle.std.proofs.Math.Seq.{drop-length, take-nil}
+use Rattle.pv_clean.specs.Cleaning.{IsCleanStep}
+use Rattle.pv_clean.proofs.CleanLaws.{takes_only}
+use Rattle.pv_create.specs.Ways.{lines_course}
+use Rattle.pv_create.proofs.LineLaws.{line_start}
+use Rattle.pv_doing.specs.Courses.{Partway, IsStepOfSome, carried_of}
+use Rattle.pv_doing.specs.declared.carried.Carried.{Carried}
+use Rattle.pv_doing.specs.declared.carried.Carried.TheVariants.{Whole}
+use Rattle.pv_doing.proofs.CourseLaws.{Going, going_start, going_next, next_left, none_left, one_within, one_part, partway_start, end_whole, end_said, end_part, end_refused, end_acted}
+use Rattle.pv_create.specs.Mended.{IsMended}
+use Rattle.pv_dress.proofs.OperationLaws.{bares-same}
+use Rattle.pv_laws.proofs.Moments.{created_same}
+use Rattle.pv_steps.specs.Runs.{after_all}
+use Rattle.pv_steps.specs.Same.{Same}
+use Rattle.pv_dress.specs.Edits.{Pruned}
+use Rattle.pv_lines.specs.declared.line.Line.{Line}
+use Rattle.pv_remove.proofs.RunLaws.{removal_mended, purge_mended}
+use Rattle.pv_remove.proofs.TakeLaws.{pruned_start}
+use Rattle.pv_steps.specs.Acting.{refused, Acted}
+use Rattle.pv_steps.specs.Content.{Removes}
+use Rattle.pv_steps.specs.declared.step.Step.{Step}
+use Rattle.pv_steps.specs.declared.tree.Tree.{Ghosts}
+use Rattle.pv_steps.specs.declared.tree.TreeFault.{TreeFault}
+use Rattle.pv_steps.specs.declared.tree.TreeFault.TheVariants.{Failed}
+use Rattle.pv_steps.specs.Trees.{Files, IsTree, places}
+use Rattle.pv_steps.proofs.ActingLaws.{Moves, acted_none}
+use Rattle.pv_steps.proofs.RunLaws.{ran_none}
+use Rattle.pv_table.specs.Active.{in_create_order}
+use Rattle.pv_table.specs.Cleaned.{is_aged}
+use Rattle.pv_table.specs.Created.{after_each, said_of_each, one_is_refused, taken_by_each, created, created_messages}
+use Rattle.pv_table.specs.Removed.{is_gone, is_purged}
+use Rattle.pv_text.specs.Said.{SaidPart}
+use Rattle.pv_phases.specs.Phases.{HasSaidStopped, IsMendedBy, IsSaidAtWork, IsSaidStopped, is_step_of, left_by, most_steps_of, falls_short, on_way, phases_course, said_in}
+use Rattle.pv_phases.specs.declared.phase.Phase.{Phase}
+use Rattle.pv_phases.specs.declared.phase.Phase.TheVariants.{Remove, Clean, Create, Purge}
+
+-- ---- front parts
+
+-- of a front part, and of all and a front part of the rest
+pub front_of : (a b : List (List ℕ)) (n : ℕ) → (m : ℕ) × (take n a ≡ take m (a ++ b))
+front_of [] b zero = (0, refl)
+front_of [] b (suc n) = (0, refl)
+front_of (x ∷ a) b zero = (0, refl)
+front_of (x ∷ a) b (suc n) = let below = front_of a b n in (suc below.0, ap (λ (r : List (List ℕ)). x ∷ r) below.1)
+
+pub back_of : (a b : List (List ℕ)) (n : ℕ) → (m : ℕ) × (a ++ take n b ≡ take m (a ++ b))
+back_of [] b n = (n, refl)
+back_of (x ∷ a) b n = let below = back_of a b n in (suc below.0, ap (λ (r : List (List ℕ)). x ∷ r) below.1)
+
+-- ---- nothing done
+
+pub phase_start : (lines : List Line) (now : ℕ) (phase : Phase) (t : Files) → on_way lines now phase t t
+phase_start lines now Remove t = pruned_start (is_gone lines t) t
+phase_start lines now Clean t = pruned_start (is_aged lines now t) t
+phase_start lines now Create t = partway_start (lines_course now) (line_start now) (in_create_order lines) t
+phase_start lines now Purge t = pruned_start (is_purged lines t) t
+
+-- a create run that has done nothing is mended
+nothing_mended : (lines : List Line) (now : ℕ) (t : Files) (h : List Step) → IsMended lines now t (drop (length h) h)
+nothing_mended lines now t h n later repeatable quiet again =
+    let none : take n (drop (length h) h) ≡ [] = ap (take n) (drop-length h) ∙ take-nil n in
+    subst (λ (steps : List Step). Same (created lines later (after_all t steps now)) (created lines now t)) (sym none)
+    (λ q plain. bares-same (places (created lines later t)) (places (created lines now t)) q (created_same lines later now t t (λ p. refl) q))
+
+-- of several phases nothing is said
+several_mended : (phase other : Phase) (phases : List Phase) (lines : List Line) (now : ℕ) (t : Files) (steps : List Step) → IsMendedBy (phase ∷ other ∷ phases) lines now t steps
+several_mended Remove other phases lines now t steps = tt
+several_mended Clean other phases lines now t steps = tt
+several_mended Create other phases lines now t steps = tt
+several_mended Purge other phases lines now t steps = tt
+
+-- a run that has done nothing is mended
+module _ (lines : List Line) (now : ℕ) (t : Files) (h : List Step) (fits : now < 2 ^ 64) (tree : IsTree t) where
+  one_none : (phase : Phase) → IsMendedBy (phase ∷ []) lines now t (drop (length h) h)
+  one_none Remove =
+      removal_mended lines (Removes (is_gone lines t)) now t h t h fits tree
+      (ran_none (Pruned (is_gone lines t) t) (Removes (is_gone lines t)) now t h t h (pruned_start (is_gone lines t) t) refl refl)
+  one_none Clean =
+      takes_only (is_aged lines now t) t (IsCleanStep (is_aged lines now t) t) now h t h
+      (ran_none (Pruned (is_aged lines now t) t) (IsCleanStep (is_aged lines now t) t) now t h t h (pruned_start (is_aged lines now t) t) refl refl)
+  one_none Create = nothing_mended lines now t h
+  one_none Purge =
+      purge_mended lines (Removes (is_purged lines t)) now t h t h fits tree
+      (ran_none (Pruned (is_purged lines t) t) (Removes (is_purged lines t)) now t h t h (pruned_start (is_purged lines t) t) refl refl)
+
+  pub none_mended : (phases : List Phase) → IsMendedBy phases lines now t (drop (length h) h)
+  none_mended [] = tt
+  none_mended (phase ∷ []) = one_none phase
+  none_mended (phase ∷ other ∷ phases) = several_mended phase other phases lines now t (drop (length h) h)
+
+-- ---- what a stopped run has said
+
+-- it is a front part of what is said in all phases
+module _ (lines : List Line) (now : ℕ) where
+  at_work_front : (phase : Phase) (t : Files) (said rest : List (List ℕ)) → IsSaidAtWork lines now phase t said → (k : ℕ) × (said ≡ take k (said_in lines now phase t ++ rest))
+  at_work_front Remove t said rest none = (0, none)
+  at_work_front Clean t said rest none = (0, none)
+  at_work_front Create t said rest front = let more = front_of (created_messages lines now t) rest front.0 in (more.0, front.1 ∙ more.1)
+  at_work_front Purge t said rest none = (0, none)
+
+  pub stopped_front : (phases : List Phase) (t : Files) (said : List (List ℕ)) → IsSaidStopped lines now phases t said → (k : ℕ) × (said ≡ take k (said_of_each (phases_course lines now).whole phases t))
+  stopped_front [] t said stopped = absurd stopped
+  stopped_front (phase ∷ phases) t said (inl work) = at_work_front phase t said (said_of_each (phases_course lines now).whole phases (left_by lines now phase t)) work
+  stopped_front (phase ∷ phases) t said (inr later) =
+      let below = stopped_front phases (left_by lines now phase t) later.0 later.1.1 in
+      let more = back_of (said_in lines now phase t) (said_of_each (phases_course lines now).whole phases (left_by lines now phase t)) below.0 in
+      (more.0, later.1.0 ∙ ap (λ (r : List (List ℕ)). said_in lines now phase t ++ r) below.1 ∙ more.1)
+
+-- ---- some phases are done
+
+-- where one of those that are left is stopped, all before it has been said
+pub record Telling {S : Type 0} (tree : Ghosts S) (lines : List Line) (now : ℕ) (all left : List Phase) (a b : S) (old new : List (List ℕ)) : Type 0 where
+  pub before : List (List ℕ)
+  pub told : new ≡ old ++ before
+  pub further : (said : List (List ℕ)) → IsSaidStopped lines now left (tree.state b) said → IsSaidStopped lines now all (tree.state a) (before ++ said)
+
+-- the first phase begins where the run began, and the stop law holds so far
+pub record Mending {S : Type 0} (tree : Ghosts S) (lines : List Line) (now : ℕ) (all : List Phase) (i : ℕ) (a b : S) : Type 0 where
+  pub still : i ≡ 0 → b ≡ a
+  pub law : IsMendedBy all lines now (tree.state a) (drop (length (tree.steps a)) (tree.steps b))
+
+pub record OnPhases {S : Type 0} (tree : Ghosts S) (lines : List Line) (now : ℕ) (all : List Phase) (i : ℕ) (carried : Carried) (a b : S) (old new : List (List ℕ)) : Type 0 where
+  pub refused : Bool
+  pub ended : carried ≡ carried_of refused
+  pub going : Going (phases_course lines now) tree all (drop i all) now refused a b old new
+  pub telling : Telling tree lines now all (drop i all) a b old new
+  pub mending : Mending tree lines now all i a b
+
+module _ {S : Type 0} (tree : Ghosts S) (moves : Moves tree) (lines : List Line) (now : ℕ) (all : List Phase) (a : S) (old : List (List ℕ)) where
+  abbrev t : Files
+  t = tree.state a
+
+  abbrev start : (x : Phase) (u : Files) → on_way lines now x u u
+  start = phase_start lines now
+
+  pub phases_start : now < 2 ^ 64 → IsTree t → OnPhases tree lines now all 0 Whole a a old old
+  phases_start fits is = record {
+    refused = false;
+    ended = refl;
+    going = going_start (phases_course lines now) tree moves start all now a old;
+    telling = record { before = []; told = sym (append-nil old); further = λ said stopped. stopped };
+    mending = record { still = λ none. refl; law = none_mended lines now t (tree.steps a) fits is all };
+  }
+
+  -- ---- one more
+
+  module _ (i : ℕ) (phase : Phase) (within : i < length all) (is : phase ≡ get_or all i phase) (carried : Carried) (b : S) (new : List (List ℕ)) (run : OnPhases tree lines now all i carried a b old new) where
+    abbrev rest : List Phase
+    rest = drop (i + 1) all
+
+    next : drop i all ≡ phase ∷ rest
+    next = next_left all i phase within is
+
+    going : Going (phases_course lines now) tree all (phase ∷ rest) now run.refused a b old new
+    going = subst (λ ps. Going (phases_course lines now) tree all ps now run.refused a b old new) next run.going
+
+    telling : Telling tree lines now all (phase ∷ rest) a b old new
+    telling = subst (λ ps. Telling tree lines now all ps a b old new) next run.telling
+
+    pub phases_part : (said : List (List ℕ)) → SaidPart (said_in lines now phase (tree.state b)) new said → SaidPart (said_of_each (phases_course lines now).whole all t) old said
+    phases_part said part = one_part (phases_course lines now) tree moves start all now a old rest phase run.refused b new going said part
+
+    pub phases_acted : {B : Type 0} {d : S} {r : Result B TreeFault} → Acted tree (on_way lines now phase (tree.state b)) (is_step_of lines now phase (tree.state b)) (most_steps_of lines now phase (tree.state b)) now b d r
+        → Acted tree (Partway (phases_course lines now) all t) (IsStepOfSome (phases_course lines now) all t) (taken_by_each (phases_course lines now).whole all t) now a d r
+    phases_acted one = one_within (phases_course lines now) tree moves start all now a old rest phase run.refused b new going one
+
+    said_at_work : (more : List (List ℕ)) → IsSaidStopped lines now (phase ∷ []) (tree.state b) more → IsSaidStopped lines now all t (telling.before ++ more)
+    said_at_work more (inl work) = telling.further more (inl work)
+    said_at_work more (inr later) = absurd later.1.1
+
+    pub phases_stopped : (said : List (List ℕ)) → HasSaidStopped lines now (phase ∷ []) (tree.state b) new said → HasSaidStopped lines now all t old said
+    phases_stopped said one = (
+      telling.before ++ one.0,
+      (one.1.0 ∙ ap (λ (r : List (List ℕ)). r ++ one.0) telling.told ∙ append_assoc old telling.before one.0, said_at_work one.0 one.1.1),
+    )
+
+    pub phases_mended : (d : S) → IsMendedBy (phase ∷ []) lines now (tree.state b) (drop (length (tree.steps b)) (tree.steps d)) → IsMendedBy all lines now t (drop (length (tree.steps a)) (tree.steps d))
+    phases_mended d one = by all i within is run.mending.still
+      where
+        by : (phases : List Phase) (j : ℕ) → j < length phases → phase ≡ get_or phases j phase → (j ≡ 0 → b ≡ a) → IsMendedBy phases lines now t (drop (length (tree.steps a)) (tree.steps d))
+        by [] j in_it at still = tt
+        by (p ∷ []) zero in_it at still =
+            subst (λ (x : Phase). IsMendedBy (x ∷ []) lines now t (drop (length (tree.steps a)) (tree.steps d))) at
+            (subst (λ (x : S). IsMendedBy (phase ∷ []) lines now (tree.state x) (drop (length (tree.steps x)) (tree.steps d))) (still refl) one)
+        by (p ∷ []) (suc j) in_it at still = absurd (omega (arith, in_it))
+        by (p ∷ q ∷ phases) j in_it at still = several_mended p q phases lines now t (drop (length (tree.steps a)) (tree.steps d))
+
+    pub phases_next : {B : Type 0} (d : S) {y : B} (said : List (List ℕ)) (ended : Carried) → tree.state d ≡ left_by lines now phase (tree.state b) → said ≡ new ++ said_in lines now phase (tree.state b)
+        → Acted tree (on_way lines now phase (tree.state b)) (is_step_of lines now phase (tree.state b)) (most_steps_of lines now phase (tree.state b)) now b d (Ok y)
+        → IsMendedBy (phase ∷ []) lines now (tree.state b) (drop (length (tree.steps b)) (tree.steps d))
+        → ((yet : Bool) → carried ≡ carried_of yet → ended ≡ carried_of (yet || falls_short lines now phase (tree.state b)))
+        → OnPhases tree lines now all (i + 1) ended a d old said
+    phases_next d {y} said ended done says one law counts = record {
+      refused = run.refused || falls_short lines now phase (tree.state b);
+      ended = counts run.refused run.ended;
+      going = going_next (phases_course lines now) tree moves start all now a old rest phase run.refused b new going d {y = y} said done says one;
+      telling = record {
+        before = telling.before ++ said_in lines now phase (tree.state b);
+        told = says ∙ ap (λ (r : List (List ℕ)). r ++ said_in lines now phase (tree.state b)) telling.told ∙ append_assoc old telling.before (said_in lines now phase (tree.state b));
+        further = λ more stopped.
+            subst (IsSaidStopped lines now all t) (sym (append_assoc telling.before (said_in lines now phase (tree.state b)) more))
+            (telling.further (said_in lines now phase (tree.state b) ++ more) (inr (more, (refl, subst (λ (u : Files). IsSaidStopped lines now rest u more) done stopped))));
+      };
+      mending = record { still = λ none. absurd (omega (arith, none)); law = phases_mended d law };
+    }
+
+  -- ---- all are done
+
+  module _ (i : ℕ) (past : length all ≤ i) (carried : Carried) (b : S) (new : List (List ℕ)) (run : OnPhases tree lines now all i carried a b old new) where
+    all_done : Going (phases_course lines now) tree all [] now run.refused a b old new
+    all_done = subst (λ ps. Going (phases_course lines now) tree all ps now run.refused a b old new) (none_left all i past) run.going
+
+    pub phases_whole : tree.state b ≡ after_each (phases_course lines now).whole all t
+    phases_whole = end_whole (phases_course lines now) tree moves start all now a old run.refused b new all_done
+
+    pub phases_said : new ≡ old ++ said_of_each (phases_course lines now).whole all t
+    phases_said = end_said (phases_course lines now) tree moves start all now a old run.refused b new all_done
+
+    pub phases_told : SaidPart (said_of_each (phases_course lines now).whole all t) old new
+    phases_told = end_part (phases_course lines now) tree moves start all now a old run.refused b new all_done
+
+    pub phases_ended : carried ≡ carried_of (one_is_refused (phases_course lines now).whole all t)
+    phases_ended = run.ended ∙ ap carried_of (end_refused (phases_course lines now) tree moves start all now a old run.refused b new all_done)
+
+    pub phases_done : {B : Type 0} (r : Result B TreeFault) → refused r ≡ 0
+        → Acted tree (Partway (phases_course lines now) all t) (IsStepOfSome (phases_course lines now) all t) (taken_by_each (phases_course lines now).whole all t) now a b r
+    phases_done r none_refused = end_acted (phases_course lines now) tree moves start all now a old run.refused b new all_done r none_refused
+
+-- what holds of some lines and phases holds of those that are the same
+pub both : (P : List Line → List Phase → Type 0) {lines others : List Line} {phases more : List Phase} → lines ≡ others → phases ≡ more → P lines phases → P others more
+both P {lines} {others} {phases} {more} e f x = subst (λ (ps : List Phase). P others ps) f (subst (λ (ls : List Line). P ls phases) e x)
+
+-- a step that was refused to a call was refused to the one that passed its fault on
+pub failed_before : {A B : Type 0} {e : TreeFault} (q : Result A TreeFault) (r : Result B TreeFault) → q ≡ Err e → IsErrAnd r (λ y. y ≡ e) → IsErrOf r Failed → IsErrOf q Failed
+failed_before q (Ok x) was given failed = absurd given
+failed_before q (Err f) was given failed = let is : f ≡ Failed = cc in was ∙ ap Err (sym given) ∙ ap Err is

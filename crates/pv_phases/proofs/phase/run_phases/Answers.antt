@@ -1,0 +1,93 @@
+use Rattle.std.proofs.Common.{◌≡◌, ◌≤◌, length, get_or, arith, refl}
+use Rattle.std.proofs.lemmas.List.{get_or_default}
+use Rattle.pv_steps.proofs.ActingLaws.{Moves, acted_passed}
+use Rattle.pv_phases.specs.Phases.{falls_short}
+use Rattle.pv_phases.specs.declared.phase.Phase.{Phase}
+use Rattle.pv_phases.specs.declared.phase.Phase.TheVariants.{Remove}
+use Rattle.pv_phases.proofs.PhaseLaws.{failed_before, phases_start, phases_part, phases_acted, phases_stopped, phases_mended, phases_next, phases_whole, phases_said, phases_told, phases_ended, phases_done}
+use Rattle.pv_phases.proofs.phase.run_phases.Goals as goal
+
+pub loop-phase-init : goal.loop-phase-init
+loop-phase-init g c =
+    let moves : Moves g.T.Tree = record { stays = g.met.T.Tree.reaches_self; goes_on = g.met.T.Tree.reaches_on; never_falls = g.met.T.Tree.never_falls } in
+    phases_start g.T.Tree moves c.args.table.now c.args.now c.args.phases.now c.args.tree.now c.args.messages.now c.ranges.now.fits c.look-root.ensures.tree
+
+pub returns-in_err-one-clause-part : goal.returns-in_err-one-clause-part
+returns-in_err-one-clause-part g c =
+    let moves : Moves g.T.Tree = record { stays = g.met.T.Tree.reaches_self; goes_on = g.met.T.Tree.reaches_on; never_falls = g.met.T.Tree.never_falls } in
+    let i = c.loop-phase.phase-index in
+    let phase : Phase = get_or c.args.phases.now i Remove in
+    let is : phase ≡ get_or c.args.phases.now i phase = get_or_default c.args.phases.now i Remove phase c.loop-phase-test.true in
+    phases_part g.T.Tree moves c.args.table.now c.args.now c.args.phases.now c.args.tree.now c.args.messages.now i phase c.loop-phase-test.true is c.loop-phase.carried c.loop-phase.tree c.loop-phase.messages c.loop-phase.invariant
+    c.do_phase.new.messages c.do_phase.ensures.part
+
+pub returns-in_err-one-clause-stopped : goal.returns-in_err-one-clause-stopped
+returns-in_err-one-clause-stopped g c =
+    let moves : Moves g.T.Tree = record { stays = g.met.T.Tree.reaches_self; goes_on = g.met.T.Tree.reaches_on; never_falls = g.met.T.Tree.never_falls } in
+    let i = c.loop-phase.phase-index in
+    let phase : Phase = get_or c.args.phases.now i Remove in
+    let is : phase ≡ get_or c.args.phases.now i phase = get_or_default c.args.phases.now i Remove phase c.loop-phase-test.true in
+    λ failed. phases_stopped g.T.Tree moves c.args.table.now c.args.now c.args.phases.now c.args.tree.now c.args.messages.now i phase c.loop-phase-test.true is c.loop-phase.carried c.loop-phase.tree c.loop-phase.messages c.loop-phase.invariant
+    c.do_phase.new.messages (c.do_phase.ensures.stopped (failed_before c.do_phase.result c.from_residual.result c.in_err-one.was c.from_residual.ensures.1 failed))
+
+pub returns-in_err-one-clause-acted : goal.returns-in_err-one-clause-acted
+returns-in_err-one-clause-acted g c =
+    let moves : Moves g.T.Tree = record { stays = g.met.T.Tree.reaches_self; goes_on = g.met.T.Tree.reaches_on; never_falls = g.met.T.Tree.never_falls } in
+    let i = c.loop-phase.phase-index in
+    let phase : Phase = get_or c.args.phases.now i Remove in
+    let is : phase ≡ get_or c.args.phases.now i phase = get_or_default c.args.phases.now i Remove phase c.loop-phase-test.true in
+    acted_passed g.T.Tree c.do_phase.result c.from_residual.result c.in_err-one.was c.from_residual.ensures.1
+    (phases_acted g.T.Tree moves c.args.table.now c.args.now c.args.phases.now c.args.tree.now c.args.messages.now i phase c.loop-phase-test.true is c.loop-phase.carried c.loop-phase.tree c.loop-phase.messages c.loop-phase.invariant c.do_phase.ensures.acted)
+
+pub returns-in_err-one-clause-mended : goal.returns-in_err-one-clause-mended
+returns-in_err-one-clause-mended g c =
+    let moves : Moves g.T.Tree = record { stays = g.met.T.Tree.reaches_self; goes_on = g.met.T.Tree.reaches_on; never_falls = g.met.T.Tree.never_falls } in
+    let i = c.loop-phase.phase-index in
+    let phase : Phase = get_or c.args.phases.now i Remove in
+    let is : phase ≡ get_or c.args.phases.now i phase = get_or_default c.args.phases.now i Remove phase c.loop-phase-test.true in
+    phases_mended g.T.Tree moves c.args.table.now c.args.now c.args.phases.now c.args.tree.now c.args.messages.now i phase c.loop-phase-test.true is c.loop-phase.carried c.loop-phase.tree c.loop-phase.messages c.loop-phase.invariant
+    c.do_phase.new.tree c.do_phase.ensures.mended
+
+pub loop-phase-preserved : goal.loop-phase-preserved
+loop-phase-preserved g c =
+    let moves : Moves g.T.Tree = record { stays = g.met.T.Tree.reaches_self; goes_on = g.met.T.Tree.reaches_on; never_falls = g.met.T.Tree.never_falls } in
+    let i = c.loop-phase.phase-index in
+    let phase : Phase = get_or c.args.phases.now i Remove in
+    let is : phase ≡ get_or c.args.phases.now i phase = get_or_default c.args.phases.now i Remove phase c.loop-phase-test.true in
+    phases_next g.T.Tree moves c.args.table.now c.args.now c.args.phases.now c.args.tree.now c.args.messages.now i phase c.loop-phase-test.true is c.loop-phase.carried c.loop-phase.tree c.loop-phase.messages c.loop-phase.invariant
+    c.do_phase.new.tree c.do_phase.new.messages c.and-carried.result c.in_ok-one.ensures.ok c.in_ok-one.ensures.said c.in_ok-one.ensures.acted c.in_ok-one.ensures.mended
+    (λ yet ended. c.and-carried.ensures yet (falls_short c.args.table.now c.args.now phase (g.T.Tree.state c.loop-phase.tree)) ended c.in_ok-one.ensures.carried)
+
+pub returns-clause-ok : goal.returns-clause-ok
+returns-clause-ok g c =
+    let moves : Moves g.T.Tree = record { stays = g.met.T.Tree.reaches_self; goes_on = g.met.T.Tree.reaches_on; never_falls = g.met.T.Tree.never_falls } in
+    let past : length c.args.phases.now ≤ c.loop-phase.phase-index = omega (arith, c.loop-phase-test.false) in
+    phases_whole g.T.Tree moves c.args.table.now c.args.now c.args.phases.now c.args.tree.now c.args.messages.now c.loop-phase.phase-index past c.loop-phase.carried c.loop-phase.tree c.loop-phase.messages c.loop-phase.invariant
+
+pub returns-clause-said : goal.returns-clause-said
+returns-clause-said g c =
+    let moves : Moves g.T.Tree = record { stays = g.met.T.Tree.reaches_self; goes_on = g.met.T.Tree.reaches_on; never_falls = g.met.T.Tree.never_falls } in
+    let past : length c.args.phases.now ≤ c.loop-phase.phase-index = omega (arith, c.loop-phase-test.false) in
+    phases_said g.T.Tree moves c.args.table.now c.args.now c.args.phases.now c.args.tree.now c.args.messages.now c.loop-phase.phase-index past c.loop-phase.carried c.loop-phase.tree c.loop-phase.messages c.loop-phase.invariant
+
+pub returns-clause-carried : goal.returns-clause-carried
+returns-clause-carried g c =
+    let moves : Moves g.T.Tree = record { stays = g.met.T.Tree.reaches_self; goes_on = g.met.T.Tree.reaches_on; never_falls = g.met.T.Tree.never_falls } in
+    let past : length c.args.phases.now ≤ c.loop-phase.phase-index = omega (arith, c.loop-phase-test.false) in
+    phases_ended g.T.Tree moves c.args.table.now c.args.now c.args.phases.now c.args.tree.now c.args.messages.now c.loop-phase.phase-index past c.loop-phase.carried c.loop-phase.tree c.loop-phase.messages c.loop-phase.invariant
+
+pub returns-clause-part : goal.returns-clause-part
+returns-clause-part g c =
+    let moves : Moves g.T.Tree = record { stays = g.met.T.Tree.reaches_self; goes_on = g.met.T.Tree.reaches_on; never_falls = g.met.T.Tree.never_falls } in
+    let past : length c.args.phases.now ≤ c.loop-phase.phase-index = omega (arith, c.loop-phase-test.false) in
+    phases_told g.T.Tree moves c.args.table.now c.args.now c.args.phases.now c.args.tree.now c.args.messages.now c.loop-phase.phase-index past c.loop-phase.carried c.loop-phase.tree c.loop-phase.messages c.loop-phase.invariant
+
+pub returns-clause-acted : goal.returns-clause-acted
+returns-clause-acted g c =
+    let moves : Moves g.T.Tree = record { stays = g.met.T.Tree.reaches_self; goes_on = g.met.T.Tree.reaches_on; never_falls = g.met.T.Tree.never_falls } in
+    let past : length c.args.phases.now ≤ c.loop-phase.phase-index = omega (arith, c.loop-phase-test.false) in
+    phases_done g.T.Tree moves c.args.table.now c.args.now c.args.phases.now c.args.tree.now c.args.messages.now c.loop-phase.phase-index past c.loop-phase.carried c.loop-phase.tree c.loop-phase.messages c.loop-phase.invariant _ refl
+
+pub returns-clause-mended : goal.returns-clause-mended
+returns-clause-mended g c =
+    c.loop-phase.invariant.mending.law

@@ -1,0 +1,109 @@
+-- The phases of a run of systemd-tmpfiles(8), one after the other: removing, cleaning, creating, or purging alone. All are
+-- judged by the lines that are active when the run begins, each over the tree that those before it leave.
+use Rattle.std.specs.Prelude.{◌≡◌, ◌⊎◌, ℕ, Bool, false, List, [], ◌∷◌, ◌++◌, take, if◌then◌else◌, ⊤}
+use Rattle.pv_clean.specs.Cleaning.{IsCleanStep, TakesOnly, most_steps}
+use Rattle.pv_create.specs.Mended as create
+use Rattle.pv_create.specs.Ways.{lines_course}
+use Rattle.pv_doing.specs.Courses.{Course, Partway, IsStepOfSome}
+use Rattle.pv_dress.specs.Edits.{Pruned}
+use Rattle.pv_find.specs.Whole.{count_of}
+use Rattle.pv_lines.specs.declared.line.Line.{Line}
+use Rattle.pv_remove.specs.Ended as remove
+use Rattle.pv_steps.specs.Content.{Removes}
+use Rattle.pv_steps.specs.declared.step.Step.{Step}
+use Rattle.pv_steps.specs.Trees.{Files}
+use Rattle.pv_table.specs.Active.{in_create_order}
+use Rattle.pv_table.specs.Cleaned.{cleaned, is_aged}
+use Rattle.pv_table.specs.Created.{created, created_messages, some_refusal_counts, work}
+use Rattle.pv_table.specs.Removed.{is_gone, is_purge_unfinished, is_purged, is_unfinished, purged, purged_messages, removed, removed_messages}
+use Rattle.pv_words.specs.declared.options.Options.{Options}
+use Rattle.pv_phases.specs.declared.phase.Phase.{Phase}
+use Rattle.pv_phases.specs.declared.phase.Phase.TheVariants.{Remove, Clean, Create, Purge}
+
+-- a phase, if it is asked for
+abbrev pub asked : Bool → Phase → List Phase
+asked wanted phase = if wanted then phase ∷ [] else []
+
+-- the phases that options ask for, in their order; a report has none
+abbrev pub phases_of : Options → List Phase
+phases_of options = if options.report then [] else asked options.remove Remove ++ asked options.clean Clean ++ asked options.create Create ++ asked options.purge Purge
+
+-- ---- one phase
+
+-- the tree that it leaves
+abbrev pub left_by : List Line → ℕ → Phase → Files → Files
+left_by lines now Remove t = removed lines now t
+left_by lines now Clean t = cleaned lines now t
+left_by lines now Create t = created lines now t
+left_by lines now Purge t = purged lines now t
+
+-- what is said of its lines
+abbrev pub said_in : List Line → ℕ → Phase → Files → List (List ℕ)
+said_in lines now Remove t = removed_messages lines t
+said_in lines now Clean t = []
+said_in lines now Create t = created_messages lines now t
+said_in lines now Purge t = purged_messages lines t
+
+-- whether something in it is not carried out
+abbrev pub falls_short : List Line → ℕ → Phase → Files → Bool
+falls_short lines now Remove t = is_unfinished lines t
+falls_short lines now Clean t = false
+falls_short lines now Create t = some_refusal_counts lines now t
+falls_short lines now Purge t = is_purge_unfinished lines t
+
+-- the most steps that it takes
+abbrev pub most_steps_of : List Line → ℕ → Phase → Files → ℕ
+most_steps_of lines now Remove t = count_of (is_gone lines t) t
+most_steps_of lines now Clean t = most_steps (is_aged lines now t) t
+most_steps_of lines now Create t = work lines now t
+most_steps_of lines now Purge t = count_of (is_purged lines t) t
+
+-- on the way: some of what goes is gone; or some lines are done, and the next is at work
+abbrev pub on_way : List Line → ℕ → Phase → Files → Files → Type 0
+on_way lines now Remove t u = Pruned (is_gone lines t) t u
+on_way lines now Clean t u = Pruned (is_aged lines now t) t u
+on_way lines now Create t u = Partway (lines_course now) (in_create_order lines) t u
+on_way lines now Purge t u = Pruned (is_purged lines t) t u
+
+-- a step of it
+abbrev pub is_step_of : List Line → ℕ → Phase → Files → Step → Type 0
+is_step_of lines now Remove t step = Removes (is_gone lines t) step
+is_step_of lines now Clean t step = IsCleanStep (is_aged lines now t) t step
+is_step_of lines now Create t step = IsStepOfSome (lines_course now) (in_create_order lines) t step
+is_step_of lines now Purge t step = Removes (is_purged lines t) step
+
+-- phases one after the other
+abbrev pub phases_course : List Line → ℕ → Course Phase
+phases_course lines now = record {
+  whole = record { after = left_by lines now; says = said_in lines now; is_refused = falls_short lines now; takes = most_steps_of lines now };
+  way = on_way lines now;
+  steps = is_step_of lines now;
+}
+
+-- ---- stopped runs
+
+-- what a phase may have said where it was stopped: creating some of its first messages, the others nothing
+abbrev pub IsSaidAtWork : List Line → ℕ → Phase → Files → List (List ℕ) → Type 0
+IsSaidAtWork lines now Create t said = (n : ℕ) × (said ≡ take n (created_messages lines now t))
+IsSaidAtWork lines now phase t said = said ≡ []
+
+-- what may have been said where one of these phases was stopped: all of those before it, and what it says at work
+abbrev pub IsSaidStopped : List Line → ℕ → List Phase → Files → List (List ℕ) → Type 0
+IsSaidStopped lines now [] t said = ⊥
+IsSaidStopped lines now (phase ∷ phases) t said =
+    IsSaidAtWork lines now phase t said
+    ⊎ ((more : List (List ℕ)) × ((said ≡ said_in lines now phase t ++ more) × IsSaidStopped lines now phases (left_by lines now phase t) more))
+
+-- the same of messages that were there before
+abbrev pub HasSaidStopped : List Line → ℕ → List Phase → Files → List (List ℕ) → List (List ℕ) → Type 0
+HasSaidStopped lines now phases t old new = (said : List (List ℕ)) × ((new ≡ old ++ said) × IsSaidStopped lines now phases t said)
+
+-- a run of one phase from a tree, stopped after any of these steps. Removing, purging, and creating under its premises
+-- are mended: a whole run from there, at any moment, leaves the tree of one whole run, stamps and staging names aside. A
+-- stopped clean has taken only what the whole clean takes. Of several phases nothing is said
+abbrev pub IsMendedBy : List Phase → List Line → ℕ → Files → List Step → Type 0
+IsMendedBy (Remove ∷ []) lines now t steps = remove.IsMended (removed lines) now t steps
+IsMendedBy (Clean ∷ []) lines now t steps = TakesOnly (is_aged lines now t) now t steps
+IsMendedBy (Create ∷ []) lines now t steps = create.IsMended lines now t steps
+IsMendedBy (Purge ∷ []) lines now t steps = remove.IsMended (purged lines) now t steps
+IsMendedBy phases lines now t steps = ⊤

@@ -1,0 +1,126 @@
+//! The phases of a run, one after the other.
+ghost use Rattle.std.specs.Prelude.{◌≡◌, ◌++◌, ◌∷◌, [], drop, length, IfOk, IsErrOf, OnOk};
+ghost use Rattle.std.specs.List.{AllByRecursion};
+ghost use Rattle.pv_doing.specs.Courses.{Partway, IsStepOfSome, carried_of};
+ghost use Rattle.pv_lines.specs.Lines.{IsLine};
+ghost use Rattle.pv_steps.specs.declared.tree.TreeFault.TheVariants.{Failed};
+ghost use Rattle.pv_steps.specs.Acting.{Acted};
+ghost use Rattle.pv_table.specs.Created.{after_each, said_of_each, one_is_refused, taken_by_each};
+ghost use Rattle.pv_text.specs.Said.{SaidPart};
+ghost use Rattle.pv_phases.specs.Phases.{asked, falls_short, HasSaidStopped, is_step_of, IsMendedBy, left_by, most_steps_of, on_way, phases_course, phases_of, said_in};
+
+use pv_clean::clean_run;
+use pv_create::create_run;
+use pv_doing::Carried;
+use pv_path::TreePath;
+use pv_remove::{purge_run, remove_run};
+use pv_steps::{Tree, TreeFault};
+use pv_table::Table;
+use pv_text::Messages;
+use pv_words::Options;
+use std::alloc::{AllocError, Global};
+
+/// A phase of a run (systemd-tmpfiles(8)).
+#[derive(Clone, Copy, Debug)]
+pub enum Phase {
+    /// What lines r, R and D name is taken away.
+    Remove,
+    /// What is old is taken away.
+    Clean,
+    /// Lines make and adjust what they name.
+    Create,
+    /// What lines with `$` name is taken away.
+    Purge,
+}
+
+/// The phases that options ask for, in their order; a report has none.
+pub fn phases_of(alloc: Global, options: &Options) -> Result<Vec<Phase>, AllocError>
+    ensures { IfOk result (λ phases. phases.items ≡ phases_of options.entry.now) }
+{
+    let mut phases = Vec::new(alloc);
+    if options.report {
+        return Ok(phases);
+    }
+    add_phase(&mut phases, options.remove, Phase::Remove)?;
+    add_phase(&mut phases, options.clean, Phase::Clean)?;
+    add_phase(&mut phases, options.create, Phase::Create)?;
+    add_phase(&mut phases, options.purge, Phase::Purge)?;
+    Ok(phases)
+}
+
+/// Adds a phase, if it is asked for.
+fn add_phase(phases: &mut Vec<Phase>, wanted: bool, phase: Phase) -> Result<(), AllocError>
+    ensures { OnOk result (phases.new.items ≡ phases.old.items ++ asked wanted phase) }
+{
+    if wanted {
+        phases.push(phase)?;
+    }
+    Ok(())
+}
+
+/// Carries out phases one after the other, each over the tree that those before it leave.
+pub fn run_phases<T: Tree>(
+    alloc: Global,
+    tree: &mut T,
+    phases: &[Phase],
+    table: &Table,
+    now: u64,
+    messages: &mut Messages,
+) -> Result<Carried, TreeFault>
+    requires lines { AllByRecursion IsLine table.now }
+    ensures ok { OnOk result (T.state tree.new ≡ after_each (phases_course table.now now).whole phases.now (T.state tree.old)) }
+    ensures said { OnOk result (messages.new
+        ≡ messages.old ++ said_of_each (phases_course table.now now).whole phases.now (T.state tree.old)) }
+    ensures carried { IfOk result (λ c. c
+        ≡ carried_of (one_is_refused (phases_course table.now now).whole phases.now (T.state tree.old))) }
+    ensures part { SaidPart (said_of_each (phases_course table.now now).whole phases.now (T.state tree.old))
+        messages.old messages.new }
+    ensures stopped { IsErrOf result Failed
+        → HasSaidStopped table.now now phases.now (T.state tree.old) messages.old messages.new }
+    ensures acted { Acted T.Tree (Partway (phases_course table.now now) phases.now (T.state tree.old))
+        (IsStepOfSome (phases_course table.now now) phases.now (T.state tree.old))
+        (taken_by_each (phases_course table.now now).whole phases.now (T.state tree.old)) now tree.old tree.new result }
+    ensures mended { IsMendedBy phases.now table.now now (T.state tree.old)
+        (drop (length (T.steps tree.old)) (T.steps tree.new)) }
+{
+    // Where nothing is asked for, too, it began with a tree.
+    let _root = tree.look(&TreePath::root(alloc));
+    let mut carried = Carried::Whole;
+    for phase in phases {
+        let one = do_phase(alloc, tree, *phase, table, now, messages)?;
+        carried = carried.and(one);
+    }
+    Ok(carried)
+}
+
+/// Carries out a phase.
+fn do_phase<T: Tree>(
+    alloc: Global,
+    tree: &mut T,
+    phase: Phase,
+    table: &Table,
+    now: u64,
+    messages: &mut Messages,
+) -> Result<Carried, TreeFault>
+    requires lines { AllByRecursion IsLine table.now }
+    ensures ok { OnOk result (T.state tree.new ≡ left_by table.now now phase (T.state tree.old)) }
+    ensures said { OnOk result (messages.new ≡ messages.old ++ said_in table.now now phase (T.state tree.old)) }
+    ensures carried { IfOk result (λ c. c ≡ carried_of (falls_short table.now now phase (T.state tree.old))) }
+    ensures part { SaidPart (said_in table.now now phase (T.state tree.old)) messages.old messages.new }
+    ensures stopped { IsErrOf result Failed
+        → HasSaidStopped table.now now (phase ∷ []) (T.state tree.old) messages.old messages.new }
+    ensures acted { Acted T.Tree (on_way table.now now phase (T.state tree.old)) (is_step_of table.now now phase (T.state tree.old))
+        (most_steps_of table.now now phase (T.state tree.old)) now tree.old tree.new result }
+    ensures mended { IsMendedBy (phase ∷ []) table.now now (T.state tree.old)
+        (drop (length (T.steps tree.old)) (T.steps tree.new)) }
+{
+    match phase {
+        Phase::Remove => remove_run(alloc, tree, table.lines(), now, messages),
+        Phase::Clean => {
+            clean_run(alloc, tree, table.lines(), now)?;
+            Ok(Carried::Whole)
+        }
+        Phase::Create => create_run(alloc, tree, table, now, messages),
+        Phase::Purge => purge_run(alloc, tree, table.lines(), now, messages),
+    }
+}
