@@ -1,23 +1,23 @@
 -- From a run over an image to the answer to its bytes.
-use Rattle.std.specs.Prelude.{◌≡◌, ◌≢◌, ℕ, ◌+◌, ◌-◌, ◌<◌, ◌≤◌, List, [], ◌∷◌, ◌++◌, length, take, drop, Option, Some, None, Result, Ok, Err, IfOk, IfSome}
+use Rattle.std.specs.Prelude.{◌≡◌, ◌≢◌, ℕ, ◌+◌, ◌-◌, ◌<◌, ◌≤◌, List, [], ◌∷◌, ◌++◌, length, drop, Option, Some, None, Result, Ok, Err, IfOk, IfSome}
 use Rattle.std.proofs.Common.{subst, sym, ap, ◌∙◌, arith}
 use Rattle.pv_text.specs.Facts.{Values}
-use Rattle.pv_text.specs.Said.{SaidPart}
 use Rattle.pv_steps.specs.declared.step.Step.{Step}
 use Rattle.pv_steps.specs.Trees.{Files}
 use Rattle.pv_steps.specs.Runs.{Ran}
 use Rattle.pv_image.specs.Images.{IsImage}
 use Rattle.pv_image.specs.Spelling.{text_of}
 use Rattle.pv_tree.specs.Held.{Held}
-use Rattle.pv_create.specs.Mended.{IsMended}
 use Rattle.pv_words.specs.declared.options.Options.{Options}
 use Rattle.provision_run.specs.declared.answer.Answer.{Answer}
 use Rattle.provision_run.specs.declared.outcome.Outcome.{Outcome}
 use Rattle.provision_run.specs.declared.outcome.Outcome.TheVariants.{Done, ConfigInvalid, NotCarriedOut, Usage, BadImage, NoFreeId, Memory, ReadFault, WriteFault, Stopped}
-use Rattle.provision_run.specs.declared.run.RunEnd.{RunEnd}
-use Rattle.provision_run.specs.declared.run.RunEnd.TheVariants as end
+use Rattle.provision_run.specs.declared.ending.RunEnd.{RunEnd}
+use Rattle.provision_run.specs.declared.ending.RunEnd.TheVariants as end
+use Rattle.provision_run.specs.Tasks.{task_of}
 use Rattle.provision_run.specs.Words.{moment_of}
-use Rattle.provision_run.specs.Whole.{run_lines, run_way, final, read_messages, line_messages, run_messages, run_end, run_work}
+use Rattle.provision_run.proofs.TaskLaws.{front_by}
+use Rattle.provision_run.specs.Whole.{final, HasSaidBy, HasSaidStoppedBy, IsMendedAnewIn, IsMendedIn, IsSaid, read_messages, run_end, run_way, run_work}
 use Rattle.provision_run.specs.Answers.{IsAnswer, IsAnswered, IsRun, IsWhole, IsStopped, IsOwn, outcome_of, outcome, messages_text, stopped_text, most_bytes}
 
 -- an outcome of a run that was not stopped
@@ -136,12 +136,15 @@ module _ (options : Options) (facts : Values) (moment : ℕ) (t u : Files) (h k 
   all_told : k ≡ ran.steps
   all_told = ran.told ∙ ap (λ x. x ++ ran.steps) start
 
-  pub whole_run : (found : Outcome) (out : List ℕ) → found ≡ outcome options facts moment t → u ≡ final options facts moment t
-      → out ≡ messages_text (run_messages options facts moment t) ++ text_of facts u → IfSome options.stop_after (λ n. length k ≤ n)
+  pub whole_run : (found : Outcome) (out : List ℕ) (said : List (List ℕ)) → IsSaid options facts moment t said → found ≡ outcome options facts moment t → u ≡ final options facts moment t
+      → out ≡ messages_text (read_messages options facts t ++ said) ++ text_of facts u → IsImage out facts u → IfSome options.stop_after (λ n. length k ≤ n)
       → IsWhole options facts moment t found out
-  whole_run found out is end text few = record {
+  whole_run found out said is_said is end text image few = record {
     end = is;
-    text = text ∙ ap (λ x. messages_text (run_messages options facts moment t) ++ text_of facts x) end;
+    said = said;
+    is_said = is_said;
+    text = text ∙ ap (λ x. messages_text (read_messages options facts t ++ said) ++ text_of facts x) end;
+    again = subst (IsImage out facts) end image;
     steps = ran.steps;
     way = ran.along;
     reached = sym end ∙ ran.reached;
@@ -150,20 +153,25 @@ module _ (options : Options) (facts : Values) (moment : ℕ) (t u : Files) (h k 
 
   pub stopped_run : (n : ℕ) (out : List ℕ) (said : List (List ℕ)) → options.stop_after ≡ Some n → length k ≡ n
       → (length k - length h) + 1 ≤ run_work options facts moment t
-      → SaidPart (line_messages options facts moment t) (read_messages options facts t) said
-      → out ≡ messages_text (said ++ stopped_text n ∷ []) ++ text_of facts u
-      → IsMended (run_lines options facts t) moment t (drop (length h) k)
+      → HasSaidStoppedBy (task_of options) options facts moment t [] said
+      → out ≡ messages_text (said ++ stopped_text n ∷ []) ++ text_of facts u → IsImage out facts u
+      → IsMendedIn (task_of options) options facts moment t (drop (length h) k)
+      → IsMendedAnewIn (task_of options) options facts moment t (drop (length h) k)
       → IsStopped options facts moment t n out
-  stopped_run n out said limit count bound part text mended = record {
+  stopped_run n out said limit count bound stopped text image mended anew = record {
     limit = limit;
     fewer = fewer;
     steps = ran.steps;
     count = ap length (sym all_told) ∙ count;
     way = ran.along;
-    told = part.0;
-    text = text ∙ ap (λ x. messages_text (x ++ stopped_text n ∷ []) ++ text_of facts u) part.1
-        ∙ ap (λ x. messages_text (read_messages options facts t ++ take part.0 (line_messages options facts moment t) ++ stopped_text n ∷ []) ++ text_of facts x) ran.reached;
-    mended = subst (IsMended (run_lines options facts t) moment t) (ap (λ x. drop (length x) k) start ∙ all_told) mended;
+    said = stopped.0;
+    front = front_by (task_of options) options facts moment t stopped.0 stopped.1.1;
+    at_work = stopped.1.1;
+    text = text ∙ ap (λ x. messages_text (x ++ stopped_text n ∷ []) ++ text_of facts u) stopped.1.0
+        ∙ ap (λ x. messages_text (read_messages options facts t ++ stopped.0 ++ stopped_text n ∷ []) ++ text_of facts x) ran.reached;
+    again = subst (IsImage out facts) ran.reached image;
+    mended = subst (IsMendedIn (task_of options) options facts moment t) (ap (λ x. drop (length x) k) start ∙ all_told) mended;
+    anew = subst (IsMendedAnewIn (task_of options) options facts moment t) (ap (λ x. drop (length x) k) start ∙ all_told) anew;
   }
     where
       fewer : n < run_work options facts moment t
@@ -176,31 +184,35 @@ module _ (options : Options) (facts : Values) (moment : ℕ) (t u : Files) (h k 
 module _ (options : Options) (facts : Values) (moment : ℕ) (old new : Held) (Q : Step → Type 0) (start : old.steps ≡ [])
     (ran : Ran (run_way options facts moment old.files) Q moment old.files old.steps new.files new.steps) (kept : Held) (same : kept ≡ new) where
   pub whole_answered : (e : RunEnd) → e ≡ run_end options facts moment old.files → new.files ≡ final options facts moment old.files
-      → (said : List (List ℕ)) → said ≡ run_messages options facts moment old.files
+      → (said : List (List ℕ)) → HasSaidBy (task_of options) options facts moment old.files [] said
       → {E : Type 0} (r : Result Answer E) → IfOk r (λ a. a.outcome ≡ outcome_of e) → IfOk r (λ a. a.output.items ≡ messages_text said ++ text_of facts kept.files)
+      → IfOk r (λ a. IsImage a.output.items facts kept.files)
       → IfOk r (λ _. IfSome options.stop_after (λ n. length kept.steps ≤ n))
       → IfOk r (λ a. IsAnswered options facts moment old.files a.outcome a.output.items)
-  whole_answered e is end said all (Err f) found text few = tt
-  whole_answered e is end said all (Ok a) found text few =
+  whole_answered e is end said all (Err f) found text image few = tt
+  whole_answered e is end said all (Ok a) found text image few =
       answered_whole options facts moment old.files e a.outcome a.output.items found
-      (whole_run options facts moment old.files new.files old.steps new.steps Q start ran a.outcome a.output.items
+      (whole_run options facts moment old.files new.files old.steps new.steps Q start ran a.outcome a.output.items all.0 all.1.0
       (found ∙ ap outcome_of is) end
-      (text ∙ ap (λ x. messages_text x ++ text_of facts kept.files) all ∙ ap (λ (x : Held). messages_text (run_messages options facts moment old.files) ++ text_of facts x.files) same)
+      (text ∙ ap (λ x. messages_text x ++ text_of facts kept.files) all.1.1 ∙ ap (λ (x : Held). messages_text (read_messages options facts old.files ++ all.0) ++ text_of facts x.files) same)
+      (subst (λ (x : Held). IsImage a.output.items facts x.files) same image)
       (subst (λ (x : Held). IfSome options.stop_after (λ n. length x.steps ≤ n)) same few))
 
   pub stopped_answered : (n : ℕ) (said : List (List ℕ)) → options.stop_after ≡ Some n
       → (length new.steps - length old.steps) + 1 ≤ run_work options facts moment old.files
-      → SaidPart (line_messages options facts moment old.files) (read_messages options facts old.files) said
-      → IsMended (run_lines options facts old.files) moment old.files (drop (length old.steps) new.steps)
+      → HasSaidStoppedBy (task_of options) options facts moment old.files [] said
+      → IsMendedIn (task_of options) options facts moment old.files (drop (length old.steps) new.steps)
+      → IsMendedAnewIn (task_of options) options facts moment old.files (drop (length old.steps) new.steps)
       → {E : Type 0} (r : Result Answer E) → IfOk r (λ a. a.outcome ≡ Stopped n) → IfOk r (λ _. length kept.steps ≡ n)
       → IfOk r (λ a. a.output.items ≡ messages_text (said ++ stopped_text n ∷ []) ++ text_of facts kept.files)
+      → IfOk r (λ a. IsImage a.output.items facts kept.files)
       → IfOk r (λ a. IsAnswered options facts moment old.files a.outcome a.output.items)
-  stopped_answered n said limit bound part mended (Err f) found count text = tt
-  stopped_answered n said limit bound part mended (Ok a) found count text =
+  stopped_answered n said limit bound part mended anew (Err f) found count text image = tt
+  stopped_answered n said limit bound part mended anew (Ok a) found count text image =
       subst (λ x. IsAnswered options facts moment old.files x a.output.items) (sym found)
       (stopped_run options facts moment old.files new.files old.steps new.steps Q start ran n a.output.items said limit
       (ap (λ (x : Held). length x.steps) (sym same) ∙ count) bound part
-      (text ∙ ap (λ (x : Held). messages_text (said ++ stopped_text n ∷ []) ++ text_of facts x.files) same) mended)
+      (text ∙ ap (λ (x : Held). messages_text (said ++ stopped_text n ∷ []) ++ text_of facts x.files) same) (subst (λ (x : Held). IsImage a.output.items facts x.files) same image) mended anew)
 
 -- the same over a tree that is another by name alone
 pub over_same : (options : Options) (facts : Values) (moment : ℕ) (a b : Held) → a ≡ b → {E : Type 0} (r : Result Answer E)

@@ -8,7 +8,6 @@ use Rattle.pv_text.specs.Facts.{Values}
 use Rattle.pv_steps.specs.declared.step.Step.{Step}
 use Rattle.pv_steps.specs.Trees.{Files}
 use Rattle.pv_steps.specs.Runs.{Along, after_all}
-use Rattle.pv_create.specs.Mended.{IsMended}
 use Rattle.pv_words.specs.declared.options.Options.{Options}
 use Rattle.pv_image.specs.declared.fault.ImageFault.{ImageFault}
 use Rattle.pv_image.specs.declared.fault.ImageFault.TheVariants as fault
@@ -16,10 +15,12 @@ use Rattle.pv_image.specs.Images.{IsImage, HasImageFault}
 use Rattle.pv_image.specs.Spelling.{text_of}
 use Rattle.provision_run.specs.declared.outcome.Outcome.{Outcome}
 use Rattle.provision_run.specs.declared.outcome.Outcome.TheVariants.{Done, ConfigInvalid, NotCarriedOut, Usage, BadImage, NoFreeId, Memory, ReadFault, WriteFault, Stopped}
-use Rattle.provision_run.specs.declared.run.RunEnd.{RunEnd}
-use Rattle.provision_run.specs.declared.run.RunEnd.TheVariants as end
-use Rattle.provision_run.specs.Words.{meaning, moment_of}
-use Rattle.provision_run.specs.Whole.{run_lines, run_way, final, read_messages, line_messages, run_messages, run_end, run_work}
+use Rattle.provision_run.specs.declared.ending.RunEnd.{RunEnd}
+use Rattle.provision_run.specs.declared.ending.RunEnd.TheVariants as end
+use Rattle.provision_run.specs.Tasks.{task_of}
+use Rattle.provision_run.specs.Words.{moment_of}
+use Rattle.provision_run.specs.Whole.{run_way, final, IsMendedAnewIn, IsMendedIn, IsSaid, IsSaidStoppedBy, read_messages, run_end, run_work}
+use Rattle.pv_words.specs.Meaning.{options_of}
 
 -- the status with which the program ends
 abbrev pub status_of : Outcome → ℕ
@@ -75,15 +76,18 @@ outcome_of (end.NoFreeId name) = NoFreeId name
 abbrev pub outcome : Options → Values → ℕ → Files → Outcome
 outcome options facts moment t = outcome_of (run_end options facts moment t)
 
--- all that it says, and then the image of the tree that it leaves, with the facts of the input
-abbrev pub output : Options → Values → ℕ → Files → List ℕ
-output options facts moment t = messages_text (run_messages options facts moment t) ++ text_of facts (final options facts moment t)
+-- what is said in reading, what is said then, and the image of the tree that it leaves, with the facts of the input
+abbrev pub output : Options → Values → ℕ → Files → List (List ℕ) → List ℕ
+output options facts moment t said = messages_text (read_messages options facts t ++ said) ++ text_of facts (final options facts moment t)
 
--- a run that was not stopped: how it ended and what it has written; legal steps lead to the tree that it leaves, no
--- more than the limit where one was given
+-- a run that was not stopped: how it ended and what it has written, which is an image again; legal steps lead to the
+-- tree that it leaves, no more than the limit where one was given
 pub record IsWhole (options : Options) (facts : Values) (moment : ℕ) (t : Files) (found : Outcome) (out : List ℕ) : Type 0 where
   pub end : found ≡ outcome options facts moment t
-  pub text : out ≡ output options facts moment t
+  pub said : List (List ℕ)
+  pub is_said : IsSaid options facts moment t said
+  pub text : out ≡ output options facts moment t said
+  pub again : IsImage out facts (final options facts moment t)
   pub steps : List Step
   pub way : Along (run_way options facts moment t) t steps moment
   pub reached : final options facts moment t ≡ after_all t steps moment
@@ -95,20 +99,23 @@ pub record IsWhole (options : Options) (facts : Values) (moment : ℕ) (t : File
 abbrev pub stopped_text : ℕ → List ℕ
 stopped_text n = codes "stopped after " ++ decimal n ++ codes " steps"
 
--- what a run has written that was stopped after n steps, which are fewer than the most that it takes: a front part of
--- what it says, which has at least what is said in reading, that it was stopped, and the image of the tree after the n
--- steps; and a whole run from that tree mends it
+-- what a run has written that was stopped after n steps, which are fewer than the most that it takes: what is said in
+-- reading, the first of what is said then (in the phases, of the one that was stopped what it says at work), that it was
+-- stopped, and the image of the tree after the n steps; this is an image again, and where it has one phase, or makes
+-- accounts, the stop law of it holds, also where the lines are read anew of that tree
 pub record IsStopped (options : Options) (facts : Values) (moment : ℕ) (t : Files) (n : ℕ) (out : List ℕ) : Type 0 where
   pub limit : options.stop_after ≡ Some n
   pub fewer : n < run_work options facts moment t
   pub steps : List Step
   pub count : length steps ≡ n
   pub way : Along (run_way options facts moment t) t steps moment
-  pub told : ℕ
-  pub text : out
-      ≡ messages_text (read_messages options facts t ++ take told (line_messages options facts moment t) ++ stopped_text n ∷ [])
-      ++ text_of facts (after_all t steps moment)
-  pub mended : IsMended (run_lines options facts t) moment t steps
+  pub said : List (List ℕ)
+  pub front : (whole : List (List ℕ)) × (IsSaid options facts moment t whole × ((k : ℕ) × (said ≡ take k whole)))
+  pub at_work : IsSaidStoppedBy (task_of options) options facts moment t said
+  pub text : out ≡ messages_text (read_messages options facts t ++ said ++ stopped_text n ∷ []) ++ text_of facts (after_all t steps moment)
+  pub again : IsImage out facts (after_all t steps moment)
+  pub mended : IsMendedIn (task_of options) options facts moment t steps
+  pub anew : IsMendedAnewIn (task_of options) options facts moment t steps
 
 -- ---- answers
 
@@ -155,7 +162,7 @@ HasOutputBy (Some options) clock input found out = IsAnswer options clock input 
 
 -- the whole output that belongs to words, the clock, an input and an outcome
 abbrev pub HasOutput : List (List ℕ) → ℕ → List ℕ → Outcome → List ℕ → Type 0
-HasOutput words clock input found out = IsOwn found × HasOutputBy (meaning words) clock input found out
+HasOutput words clock input found out = IsOwn found × HasOutputBy (options_of words) clock input found out
 
 -- what a call wrote: the whole output, a front part of some output after a failed write, or nothing
 abbrev pub HasWritten : List (List ℕ) → ℕ → List ℕ → Outcome → Option (List ℕ) → Option (List ℕ) → Type 0

@@ -1,5 +1,9 @@
-pub mod Built
-pub mod Taking
 pub mod Words
+pub mod Tasks
+pub mod Ending
+pub mod Phased
+pub mod Reported
+pub mod Accounts
+pub mod Rereading
 pub mod Whole
 pub mod Answers

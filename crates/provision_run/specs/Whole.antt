@@ -1,73 +1,128 @@
--- A whole run over a tree: the lines that it reads of the tree, the tree that it leaves, what it says, how it ends, and
--- the most steps that it takes (systemd-tmpfiles(8)).
-use Rattle.std.specs.Prelude.{ℕ, Bool, true, ◌||◌, List, ◌++◌, None, if◌then◌else◌}
-use Rattle.pv_create.specs.Ways.{lines_course}
-use Rattle.pv_doing.specs.declared.carried.Carried.{Carried}
-use Rattle.pv_doing.specs.declared.carried.Carried.TheVariants as carried
-use Rattle.pv_doing.specs.Courses.{Partway, IsStepOfSome, carried_of}
-use Rattle.pv_lines.specs.declared.line.Line.{Line}
-use Rattle.pv_text.specs.Facts.{Values}
+-- A whole run over a tree, by what its options ask for: the tree that it leaves, what it says, how it ends, and the most
+-- steps that it takes (systemd-tmpfiles(8), systemd-sysusers(8)).
+use Rattle.std.specs.Prelude.{◌≡◌, ◌⊎◌, ℕ, List, [], ◌++◌, take, ⊤}
+use Rattle.pv_accounts_run.specs.Accounted.{accounted}
+use Rattle.pv_accounts_run.specs.Carrying.{AccountWay, IsAccountStep}
+use Rattle.pv_accounts_run.specs.Mended as accounts
+use Rattle.pv_conf.specs.Known.{configured}
+use Rattle.pv_phases.specs.Phases.{IsMendedBy, IsSaidStopped, phases_of}
 use Rattle.pv_steps.specs.declared.step.Step.{Step}
 use Rattle.pv_steps.specs.Trees.{Files}
-use Rattle.pv_conf.specs.Known.{configured}
-use Rattle.pv_table.specs.Active.{active, duplicates, in_create_order}
-use Rattle.pv_table.specs.Created.{created, created_messages, some_refusal_counts, work}
+use Rattle.pv_text.specs.Facts.{Values}
+use Rattle.pv_text.specs.Said.{SaidPart}
 use Rattle.pv_words.specs.declared.options.Options.{Options}
-use Rattle.provision_run.specs.Built.{built_lines, some_unbuilt, unbuilt_messages}
-use Rattle.provision_run.specs.declared.run.RunEnd.{RunEnd}
-use Rattle.provision_run.specs.declared.run.RunEnd.TheVariants.{Done, ConfigInvalid, NotCarriedOut}
+use Rattle.provision_run.specs.declared.ending.RunEnd.{RunEnd}
+use Rattle.provision_run.specs.declared.task.Task.{Task}
+use Rattle.provision_run.specs.declared.task.Task.TheVariants.{Phases, Report, Accounts}
+use Rattle.provision_run.specs.Accounts.{account_messages, accounts_end, accounts_work, requests_messages, run_edits, run_requests}
+use Rattle.provision_run.specs.Phased.{is_phases_step, lines_messages, phase_messages, phased, phases_end, phases_way, phases_work, run_lines}
+use Rattle.provision_run.specs.Reported.{IsReportOf, report_end}
+use Rattle.provision_run.specs.Rereading.{IsMendedAnew}
+use Rattle.provision_run.specs.Tasks.{task_of}
 
--- the active lines of the configuration, of those that are carried out so far
-abbrev pub run_lines : Options → Values → Files → List Line
-run_lines options facts t = active options.boot None None (built_lines (configured t facts options.words).lines)
+-- ---- by the task
 
--- the tree after all lines
-abbrev pub final : Options → Values → ℕ → Files → Files
-final options facts moment t = created (run_lines options facts t) moment t
-
--- what is said of lines of the configuration before any is carried out: of those that are not built, and of duplicates
-abbrev pub listed_messages : Options → List Line → List (List ℕ)
-listed_messages options lines = unbuilt_messages lines ++ duplicates options.boot None None (built_lines lines)
+-- the tree that it leaves
+unfoldable pub final_by : Task → Options → Values → ℕ → Files → Files
+final_by Phases options facts moment t = phased options facts moment t
+final_by Report options facts moment t = t
+final_by Accounts options facts moment t = accounted (run_requests options facts t) moment t
 
 -- what is said in reading the configuration, and of its lines before any is carried out
+unfoldable pub read_by : Task → Options → Values → Files → List (List ℕ)
+read_by Phases options facts t = lines_messages options facts t
+read_by Report options facts t = (configured t facts options.words).messages
+read_by Accounts options facts t = requests_messages options facts t
+
+-- what is said then
+unfoldable pub IsSaidBy : Task → Options → Values → ℕ → Files → List (List ℕ) → Type 0
+IsSaidBy Phases options facts moment t said = said ≡ phase_messages options facts moment t
+IsSaidBy Report options facts moment t said = IsReportOf (configured t facts options.words).lines said
+IsSaidBy Accounts options facts moment t said = said ≡ account_messages options facts moment t
+
+-- how it ends
+unfoldable pub end_by : Task → Options → Values → ℕ → Files → RunEnd
+end_by Phases options facts moment t = phases_end options facts moment t
+end_by Report options facts moment t = report_end options facts t
+end_by Accounts options facts moment t = accounts_end options facts moment t
+
+-- on the way: some phases are done, the next is at work; the tree is as it was; or the first account files have their new
+-- texts
+unfoldable pub way_by : Task → Options → Values → ℕ → Files → Files → Type 0
+way_by Phases options facts moment t u = phases_way options facts moment t u
+way_by Report options facts moment t u = u ≡ t
+way_by Accounts options facts moment t u = AccountWay (run_edits options facts moment t) t u
+
+-- a step of it
+unfoldable pub is_step_by : Task → Options → Values → ℕ → Files → Step → Type 0
+is_step_by Phases options facts moment t step = is_phases_step options facts moment t step
+is_step_by Report options facts moment t step = ⊥
+is_step_by Accounts options facts moment t step = IsAccountStep (run_edits options facts moment t) step
+
+-- the most steps that it takes
+unfoldable pub work_by : Task → Options → Values → ℕ → Files → ℕ
+work_by Phases options facts moment t = phases_work options facts moment t
+work_by Report options facts moment t = 0
+work_by Accounts options facts moment t = accounts_work options facts moment t
+
+-- ---- what is said
+
+-- what a whole run has said after messages that were there before
+abbrev pub HasSaidBy : Task → Options → Values → ℕ → Files → List (List ℕ) → List (List ℕ) → Type 0
+HasSaidBy task options facts moment t old new =
+    (said : List (List ℕ)) × (IsSaidBy task options facts moment t said × (new ≡ old ++ read_by task options facts t ++ said))
+
+-- what any run has said: a front part of what is said in reading, or of all that a whole run says
+abbrev pub HasSaidPartBy : Task → Options → Values → ℕ → Files → List (List ℕ) → List (List ℕ) → Type 0
+HasSaidPartBy task options facts moment t old new =
+    SaidPart (read_by task options facts t) old new
+    ⊎ ((said : List (List ℕ)) × (IsSaidBy task options facts moment t said × SaidPart (read_by task options facts t ++ said) old new))
+
+-- what may be said after reading where a step was refused: of the phases before the one at work all, and of this what it
+-- says at work; a front part of what is said of account files; a report does no step
+unfoldable pub IsSaidStoppedBy : Task → Options → Values → ℕ → Files → List (List ℕ) → Type 0
+IsSaidStoppedBy Phases options facts moment t said = IsSaidStopped (run_lines options facts t) moment (phases_of options) t said
+IsSaidStoppedBy Report options facts moment t said = ⊥
+IsSaidStoppedBy Accounts options facts moment t said = (k : ℕ) × (said ≡ take k (account_messages options facts moment t))
+
+-- what a run has said of which a step was refused
+abbrev pub HasSaidStoppedBy : Task → Options → Values → ℕ → Files → List (List ℕ) → List (List ℕ) → Type 0
+HasSaidStoppedBy task options facts moment t old new =
+    (said : List (List ℕ)) × ((new ≡ old ++ read_by task options facts t ++ said) × IsSaidStoppedBy task options facts moment t said)
+
+-- ---- the stop laws
+
+-- of a run of one phase, and of one that makes accounts; a report does no step
+unfoldable pub IsMendedIn : Task → Options → Values → ℕ → Files → List Step → Type 0
+IsMendedIn Phases options facts moment t steps = IsMendedBy (phases_of options) (run_lines options facts t) moment t steps
+IsMendedIn Report options facts moment t steps = steps ≡ []
+IsMendedIn Accounts options facts moment t steps = accounts.IsMended (run_requests options facts t) moment t steps
+
+-- of a run of one phase, where the second run reads its lines anew
+unfoldable pub IsMendedAnewIn : Task → Options → Values → ℕ → Files → List Step → Type 0
+IsMendedAnewIn Phases options facts moment t steps = IsMendedAnew options facts moment t steps
+IsMendedAnewIn Report options facts moment t steps = ⊤
+IsMendedAnewIn Accounts options facts moment t steps = ⊤
+
+-- ---- by the options
+
+abbrev pub final : Options → Values → ℕ → Files → Files
+final options facts moment t = final_by (task_of options) options facts moment t
+
 abbrev pub read_messages : Options → Values → Files → List (List ℕ)
-read_messages options facts t = (configured t facts options.words).messages ++ listed_messages options (configured t facts options.words).lines
+read_messages options facts t = read_by (task_of options) options facts t
 
--- what is said of the lines of the configuration, each at its turn
-abbrev pub line_messages : Options → Values → ℕ → Files → List (List ℕ)
-line_messages options facts moment t = created_messages (run_lines options facts t) moment t
+abbrev pub IsSaid : Options → Values → ℕ → Files → List (List ℕ) → Type 0
+IsSaid options facts moment t said = IsSaidBy (task_of options) options facts moment t said
 
--- all that is said, the configuration first
-abbrev pub run_messages : Options → Values → ℕ → Files → List (List ℕ)
-run_messages options facts moment t = read_messages options facts t ++ line_messages options facts moment t
-
--- on the way: some lines are done, the next is at work
-abbrev pub run_way : Options → Values → ℕ → Files → Files → Type 0
-run_way options facts moment t u = Partway (lines_course moment) (in_create_order (run_lines options facts t)) t u
-
--- a step that one of the lines asks for
-abbrev pub is_run_step : Options → Values → ℕ → Files → Step → Type 0
-is_run_step options facts moment t step = IsStepOfSome (lines_course moment) (in_create_order (run_lines options facts t)) t step
-
--- a line was refused, or a file word was not found
-abbrev pub is_uncarried : Carried → Bool → Bool
-is_uncarried carried.Whole missing = missing
-is_uncarried carried.NotCarriedOut missing = true
-
--- something could not be carried out, or else a line was refused in reading or is not built
-abbrev pub end_of : Bool → Bool → RunEnd
-end_of uncarried invalid = if uncarried then NotCarriedOut else if invalid then ConfigInvalid else Done
-
--- whether a line was refused in reading or is not built
-abbrev pub is_invalid : Options → Values → Files → Bool
-is_invalid options facts t = (configured t facts options.words).invalid || some_unbuilt (configured t facts options.words).lines
-
--- how a run over a tree ends
 abbrev pub run_end : Options → Values → ℕ → Files → RunEnd
-run_end options facts moment t = end_of
-    (is_uncarried (carried_of (some_refusal_counts (run_lines options facts t) moment t)) (configured t facts options.words).missing)
-    (is_invalid options facts t)
+run_end options facts moment t = end_by (task_of options) options facts moment t
 
--- the most steps that a run over a tree takes
+abbrev pub run_way : Options → Values → ℕ → Files → Files → Type 0
+run_way options facts moment t u = way_by (task_of options) options facts moment t u
+
+abbrev pub is_run_step : Options → Values → ℕ → Files → Step → Type 0
+is_run_step options facts moment t step = is_step_by (task_of options) options facts moment t step
+
 abbrev pub run_work : Options → Values → ℕ → Files → ℕ
-run_work options facts moment t = work (run_lines options facts t) moment t
+run_work options facts moment t = work_by (task_of options) options facts moment t

@@ -1,21 +1,23 @@
 //! What a run says, from the words and the bytes of its input.
-ghost use Rattle.std.specs.Prelude.{◌≡◌, ◌≢◌, ◌≤◌, ◌↔◌, ◌++◌, ◌∷◌, [], true, None, map, string_bytes, length, IfOk, IfSome, IsErrOf, OnOk, OnErr};
+ghost use Rattle.std.specs.Prelude.{◌≡◌, ◌≢◌, ◌≤◌, ◌↔◌, ◌++◌, ◌∷◌, [], None, map, string_bytes, length, IfOk, IfSome, IsErrOf, OnOk, OnErr};
+ghost use Rattle.pv_image.specs.Images.{IsImage};
 ghost use Rattle.pv_image.specs.Spelling.{text_of};
 ghost use Rattle.pv_io.specs.Faults.{HasRisen};
-ghost use Rattle.provision_run.specs.Words.{is_built, meaning, moment_of};
+ghost use Rattle.pv_words.specs.Meaning.{options_of};
+ghost use Rattle.provision_run.specs.Words.{moment_of};
 ghost use Rattle.provision_run.specs.Answers.{HasOutput, IsAnswer, IsAnswered, IsOwn, IsRefused, message, messages_text, bad_image_text, stopped_text, outcome_of, most_bytes};
 ghost use Rattle.provision_run.specs.declared.answer.NoAnswer.TheVariants.{Memory, ReadFault};
 
+use crate::ending::RunEnd;
 use crate::message::{add_message, bad_image, print_messages, say_stopped};
 use crate::outcome::Outcome;
-use crate::run::{RunEnd, run_on_tree};
-use crate::words::meaning;
+use crate::run::run_on_tree;
 use pv_image::{Image, ImageFault, read_image, write_image};
 use pv_io::{ReadAllFault, Source, read_all};
 use pv_steps::TreeFault;
 use pv_text::{Facts, Messages};
 use pv_tree::{Fused, MemTree};
-use pv_words::{Options, WordsFault};
+use pv_words::{Options, WordsFault, options_of};
 use std::alloc::{AllocError, AllocFailed, Global};
 
 /// How a run ends, with its whole output.
@@ -90,6 +92,7 @@ fn finish(
     facts: &Facts,
 ) -> Result<Answer, AllocError>
     ensures text { IfOk result (λ answer. answer.output.items ≡ messages_text messages.now ++ text_of facts.now tree.now.files) }
+    ensures again { IfOk result (λ answer. IsImage answer.output.items facts.now tree.now.files) }
     ensures outcome { IfOk result (λ answer. answer.outcome ≡ outcome) }
 {
     let mut output = print_messages(alloc, messages)?;
@@ -105,7 +108,6 @@ fn run_whole(
     options: &Options,
     moment: u64,
 ) -> Result<Answer, AllocError>
-    requires built { is_built options.now ≡ true }
     requires limit { options.now.stop_after ≡ None }
     requires fresh { image.tree.steps ≡ [] }
     ensures { IfOk result (λ answer. IsAnswered options.entry.now image.facts moment image.tree.files answer.outcome answer.output.items) }
@@ -127,7 +129,6 @@ fn run_fused(
     limit: u64,
     moment: u64,
 ) -> Result<Answer, AllocError>
-    requires built { is_built options.now ≡ true }
     requires limit { options.now.stop_after ≡ Some limit }
     requires fresh { image.tree.steps ≡ [] }
     ensures { IfOk result (λ answer. IsAnswered options.entry.now image.facts moment image.tree.files answer.outcome answer.output.items) }
@@ -153,6 +154,7 @@ fn stop(
     ensures outcome { IfOk result (λ answer. answer.outcome ≡ Outcome.Stopped limit) }
     ensures text { IfOk result (λ answer. answer.output.items
         ≡ messages_text (messages.old ++ stopped_text limit ∷ []) ++ text_of facts.now tree.now.files) }
+    ensures again { IfOk result (λ answer. IsImage answer.output.items facts.now tree.now.files) }
 {
     say_stopped(alloc, limit, messages)?;
     finish(alloc, Outcome::Stopped(limit), messages, tree, facts)
@@ -165,7 +167,6 @@ fn run_over(
     options: &Options,
     clock: u64,
 ) -> Result<Answer, AllocError>
-    requires built { is_built options.now ≡ true }
     requires fresh { image.tree.steps ≡ [] }
     ensures { IfOk result (λ answer. IsAnswered options.entry.now image.facts (moment_of options.entry.now clock) image.tree.files answer.outcome answer.output.items) }
 {
@@ -183,7 +184,6 @@ fn answer_bytes(
     options: &Options,
     clock: u64,
 ) -> Result<Answer, AllocError>
-    requires built { is_built options.now ≡ true }
     requires fits { length bytes.now ≤ most_bytes }
     ensures { IfOk result (λ answer. IsAnswer options.entry.now clock bytes.now answer.outcome answer.output.items) }
 {
@@ -201,7 +201,6 @@ fn answer_source<S: Source>(
     clock: u64,
     source: &mut S,
 ) -> Result<Answer, NoAnswer>
-    requires built { is_built options.now ≡ true }
     ensures output { IfOk result (λ answer. IfSome (S.left source.old)
         (λ input. IsAnswer options.entry.now clock input answer.outcome answer.output.items)) }
     ensures own { IfOk result (λ answer. IsOwn answer.outcome × (answer.outcome ≢ Outcome.Usage)) }
@@ -225,12 +224,12 @@ pub fn respond<S: Source>(
     ensures output { IfOk result (λ answer. IfSome (S.left source.old)
         (λ input. HasOutput (map string_bytes words.now) clock input answer.outcome answer.output.items)) }
     ensures own { IfOk result (λ answer. IsOwn answer.outcome) }
-    ensures usage { IfOk result (λ answer. (answer.outcome ≡ Outcome.Usage) ↔ (meaning (map string_bytes words.now) ≡ None)) }
-    ensures known { IsErrOf result NoAnswer.ReadFault → meaning (map string_bytes words.now) ≢ None }
+    ensures usage { IfOk result (λ answer. (answer.outcome ≡ Outcome.Usage) ↔ (options_of (map string_bytes words.now) ≡ None)) }
+    ensures known { IsErrOf result NoAnswer.ReadFault → options_of (map string_bytes words.now) ≢ None }
     ensures cause { IsErrOf result NoAnswer.ReadFault → HasRisen (S.faults source.old) (S.faults source.new) }
-    ensures unread { meaning (map string_bytes words.now) ≡ None → source.new ≡ source.old }
+    ensures unread { options_of (map string_bytes words.now) ≡ None → source.new ≡ source.old }
 {
-    match meaning(alloc, words) {
+    match options_of(alloc, words) {
         Ok(options) => answer_source(alloc, &options, clock, source),
         Err(WordsFault::Usage) => Ok(one_message(alloc, Outcome::Usage, b"usage")?),
         Err(WordsFault::Memory) => Err(NoAnswer::Memory),

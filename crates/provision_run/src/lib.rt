@@ -1,22 +1,19 @@
 //! One run of the program, from words and an image to messages and an image.
 #![tactic(auto)]
 
+mod accounting;
 mod answer;
-mod built;
-#[cfg(test)]
-mod images;
+mod carrying;
+mod ending;
 mod message;
 mod outcome;
-#[cfg(test)]
-mod reading_tests;
+mod reading;
+mod reporting;
 mod run;
-#[cfg(test)]
-mod staging_tests;
-#[cfg(test)]
-mod tests;
+mod task;
 mod top;
-mod words;
 
+pub use ending::RunEnd;
 pub use outcome::{Outcome, status};
-pub use run::{RunEnd, run_on_tree};
+pub use run::run_on_tree;
 pub use top::provision;

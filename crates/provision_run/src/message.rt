@@ -1,5 +1,6 @@
 //! The texts of messages, and how they are printed.
-ghost use Rattle.std.specs.Prelude.{◌≡◌, ◌++◌, ◌∷◌, [], IfOk, OnOk};
+ghost use Rattle.std.specs.Prelude.{◌≡◌, ◌++◌, ◌∷◌, [], true, IfOk, OnOk};
+ghost use Rattle.pv_text.specs.Lines.{are_lines, is_line};
 ghost use Rattle.provision_run.specs.Answers.{message, messages_text, message_at, bad_image_text, at_line, stopped_text};
 
 use pv_image::ImageFault;
@@ -16,9 +17,10 @@ pub fn add_message(output: &mut Vec<u8>, text: &[u8]) -> Result<(), AllocError>
     Ok(())
 }
 
-/// The text of all messages.
+/// The text of all messages, each of which is one line.
 pub fn print_messages(alloc: Global, messages: &Messages) -> Result<Vec<u8>, AllocError>
-    ensures { IfOk result (λ text. text.items ≡ messages_text messages.now) }
+    ensures lines { are_lines messages.now ≡ true }
+    ensures text { IfOk result (λ text. text.items ≡ messages_text messages.now) }
 {
     let mut output = Vec::new(alloc);
     for i in 0..messages.len() {
@@ -66,7 +68,8 @@ pub fn bad_image(alloc: Global, fault: ImageFault) -> Result<Vec<u8>, AllocError
 
 /// `stopped after N steps`.
 fn stopped_text(alloc: Global, count: u64) -> Result<Vec<u8>, AllocError>
-    ensures { IfOk result (λ text. text.items ≡ stopped_text count) }
+    ensures text { IfOk result (λ text. text.items ≡ stopped_text count) }
+    ensures line { IfOk result (λ text. is_line text.items ≡ true) }
 {
     let mut text = Vec::from_slice(alloc, b"stopped after ")?;
     let number = count.to_string(alloc)?;

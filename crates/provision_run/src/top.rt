@@ -1,7 +1,7 @@
 //! The top call: words, clock, source and sink.
 ghost use Rattle.std.specs.Prelude.{◌≡◌, ◌⊎◌, None, map, string_bytes, IfSome};
 ghost use Rattle.pv_io.specs.Faults.{HasRisen};
-ghost use Rattle.provision_run.specs.Words.{meaning};
+ghost use Rattle.pv_words.specs.Meaning.{options_of};
 ghost use Rattle.provision_run.specs.Answers.{HasWritten};
 
 use crate::answer::{NoAnswer, respond};
@@ -10,7 +10,7 @@ use pv_io::{Sink, Source, write_all_of};
 use std::alloc::Global;
 
 /// Runs the program: reads an image from the source, carries out what the words ask for at the moment of the
-/// clock, and writes the messages and the image of the tree to the sink (systemd-tmpfiles(8)).
+/// clock, and writes the messages and the image of the tree to the sink (systemd-tmpfiles(8), systemd-sysusers(8)).
 pub fn provision<S: Source, K: Sink>(
     alloc: Global,
     words: &[String],
@@ -23,10 +23,10 @@ pub fn provision<S: Source, K: Sink>(
         (λ input. HasWritten (map string_bytes words.now) clock_micros input result (K.written sink.old) (K.written sink.new)) }
 
     // Usage comes exactly for words without a meaning, and then the source is not read.
-    ensures usage { result ≡ Outcome.Usage → meaning (map string_bytes words.now) ≡ None }
-    ensures known { meaning (map string_bytes words.now) ≡ None →
+    ensures usage { result ≡ Outcome.Usage → options_of (map string_bytes words.now) ≡ None }
+    ensures known { options_of (map string_bytes words.now) ≡ None →
         (result ≡ Outcome.Usage) ⊎ ((result ≡ Outcome.WriteFault) ⊎ (result ≡ Outcome.Memory)) }
-    ensures unread { meaning (map string_bytes words.now) ≡ None → source.new ≡ source.old }
+    ensures unread { options_of (map string_bytes words.now) ≡ None → source.new ≡ source.old }
 
     // The two ends are blamed only where their counts of faults rose.
     ensures read_fault { result ≡ Outcome.ReadFault → HasRisen (S.faults source.old) (S.faults source.new) }

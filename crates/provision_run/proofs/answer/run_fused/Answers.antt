@@ -1,9 +1,9 @@
-use Rattle.std.proofs.Common.{ap, ◌∙◌, ◌++◌, ◌+◌, ◌-◌, ◌≤◌, length, subst}
+use Rattle.std.proofs.Common.{ap, ◌∙◌, ◌+◌, ◌-◌, ◌≤◌, List, ℕ, length, subst}
 use Rattle.std.specs.Prelude.{◌≡◌, Err, IfOk}
-use Rattle.pv_text.specs.Said.{SaidPart}
 use Rattle.pv_steps.specs.Acting.{refused}
-use Rattle.provision_run.specs.declared.run.RunEnd.{RunEnd}
-use Rattle.provision_run.specs.Whole.{is_run_step, read_messages, line_messages, run_messages, run_work}
+use Rattle.provision_run.specs.declared.ending.RunEnd.{RunEnd}
+use Rattle.provision_run.specs.Tasks.{task_of}
+use Rattle.provision_run.specs.Whole.{HasSaidBy, HasSaidStoppedBy, is_run_step, run_work}
 use Rattle.pv_tree.proofs.FuseLaws.{burnt_within, burnt_out}
 use Rattle.provision_run.proofs.AnswerLaws.{always, whole_answered, stopped_answered, over_same, limited}
 use Rattle.provision_run.proofs.answer.run_fused.Goals as goal
@@ -15,8 +15,8 @@ returns-in-Ok c =
     (whole_answered c.args.options.now c.args.image.facts c.args.moment c.new-fused.result.inner c.run_on_tree.new.tree.inner
     (is_run_step c.args.options.now c.args.image.facts c.args.moment c.new-fused.result.inner.files) (ap (λ f. f.inner.steps) c.new-fused.ensures ∙ c.requires.fresh) c.in-Ok.ensures.acted.ran c.inner.result.now c.inner.ensures
     c.in-Ok.end c.in-Ok.ensures.end c.in-Ok.ensures.ok c.run_on_tree.new.messages
-    (c.in-Ok.ensures.said ∙ ap (λ x. x ++ run_messages c.args.options.now c.args.image.facts c.args.moment c.new-fused.result.inner.files) c.new-messages.ensures)
-    c.finish.result (subst (λ o. IfOk c.finish.result (λ a. a.outcome ≡ o)) c.outcome_of.ensures c.finish.ensures.outcome) c.finish.ensures.text (limited c.args.options.now.stop_after c.args.limit (length c.inner.result.now.steps) c.requires.limit c.finish.result (always c.finish.result (rw c.inner.ensures (burnt_within _ _ _ _ (rw (c.new-fused.ensures, c.requires.fresh) at c.in-Ok.ensures.acted.reaches.1))))))
+    (subst (λ (old : List (List ℕ)). HasSaidBy (task_of c.args.options.now) c.args.options.now c.args.image.facts c.args.moment c.new-fused.result.inner.files old c.run_on_tree.new.messages) c.new-messages.ensures c.in-Ok.ensures.said)
+    c.finish.result (subst (λ o. IfOk c.finish.result (λ a. a.outcome ≡ o)) c.outcome_of.ensures c.finish.ensures.outcome) c.finish.ensures.text c.finish.ensures.again (limited c.args.options.now.stop_after c.args.limit (length c.inner.result.now.steps) c.requires.limit c.finish.result (always c.finish.result (rw c.inner.ensures (burnt_within _ _ _ _ (rw (c.new-fused.ensures, c.requires.fresh) at c.in-Ok.ensures.acted.reaches.1))))))
 
 pub returns : goal.returns
 returns c =
@@ -26,6 +26,6 @@ returns c =
     (is_run_step c.args.options.now c.args.image.facts c.args.moment c.new-fused.result.inner.files) (ap (λ f. f.inner.steps) c.new-fused.ensures ∙ c.requires.fresh) c.in-Err-Failed.ensures.acted.ran c.inner-in-Err-Failed.result.now c.inner-in-Err-Failed.ensures
     c.args.limit c.run_on_tree.new.messages c.requires.limit
     (subst (λ f. (length c.run_on_tree.new.tree.inner.steps - length c.new-fused.result.inner.steps) + refused {A = RunEnd} (Err f) ≤ run_work c.args.options.now c.args.image.facts c.args.moment c.new-fused.result.inner.files) c.in-Err-Failed.field-0-is c.in-Err-Failed.ensures.acted.bound)
-    (subst (λ x. SaidPart (line_messages c.args.options.now c.args.image.facts c.args.moment c.new-fused.result.inner.files) (x ++ read_messages c.args.options.now c.args.image.facts c.new-fused.result.inner.files) c.run_on_tree.new.messages) c.new-messages.ensures (c.in-Err-Failed.ensures.read (ap Err c.in-Err-Failed.field-0-is)))
-    c.in-Err-Failed.ensures.mended
-    c.stop.result c.stop.ensures.outcome (always c.stop.result (rw c.inner-in-Err-Failed.ensures (burnt_out _ _ _ _ (rw (c.new-fused.ensures, c.requires.fresh) at c.in-Err-Failed.ensures.acted.reaches.1) (rw c.new-fused.ensures at (c.in-Err-Failed.ensures.acted.cause (ap Err c.in-Err-Failed.field-0-is)))))) c.stop.ensures.text)
+    (subst (λ (old : List (List ℕ)). HasSaidStoppedBy (task_of c.args.options.now) c.args.options.now c.args.image.facts c.args.moment c.new-fused.result.inner.files old c.run_on_tree.new.messages) c.new-messages.ensures (c.in-Err-Failed.ensures.read (ap Err c.in-Err-Failed.field-0-is)))
+    c.in-Err-Failed.ensures.mended c.in-Err-Failed.ensures.anew
+    c.stop.result c.stop.ensures.outcome (always c.stop.result (rw c.inner-in-Err-Failed.ensures (burnt_out _ _ _ _ (rw (c.new-fused.ensures, c.requires.fresh) at c.in-Err-Failed.ensures.acted.reaches.1) (rw c.new-fused.ensures at (c.in-Err-Failed.ensures.acted.cause (ap Err c.in-Err-Failed.field-0-is)))))) c.stop.ensures.text c.stop.ensures.again)

@@ -1,3 +1,5 @@
+use Rattle.std.proofs.Common.{map, string_bytes}
+use Rattle.provision_run.proofs.WrittenLaws.{front_written}
 use Rattle.provision_run.proofs.AnswerLaws.{own_not_read, own_not_written}
 use Rattle.provision_run.proofs.top.provision.Goals as goal
 
@@ -6,3 +8,7 @@ returns-in-Ok-write_all_of-clause-read_fault g c = λ e. absurd (own_not_read _ 
 
 pub returns-in-Ok-write_all_of-clause-write_fault : goal.returns-in-Ok-write_all_of-clause-write_fault
 returns-in-Ok-write_all_of-clause-write_fault g c = λ e. absurd (own_not_written _ c.in-Ok.ensures.own e)
+
+pub returns-in-Err-clause-written : goal.returns-in-Err-clause-written
+returns-in-Err-clause-written g c =
+    front_written (map string_bytes c.args.words.now) c.args.clock_micros (g.S.Source.left c.args.source.now) c.in-Ok.answer.outcome c.in-Ok.answer.output.items c.deref.result.now _ _ c.deref.ensures.value c.in-Ok.ensures.output c.in-Err.ensures.front

@@ -1,0 +1,160 @@
+-- Laws of runs by their task: what a task's own words say holds by the task.
+use Rattle.std.specs.Prelude.{◌≡◌, ℕ, List, ◌++◌, length, take, drop, Result, Ok, Err, OnOk, IfOk}
+use Rattle.std.proofs.Common.{refl, subst, inr}
+use Rattle.std.proofs.Math.Seq.{drop-length}
+use Rattle.pv_accounts_run.specs.Accounted.{accounted}
+use Rattle.pv_accounts_run.specs.Carrying.{AccountWay, IsAccountStep}
+use Rattle.pv_accounts_run.specs.Mended as accounts
+use Rattle.pv_phases.specs.Phases.{HasSaidStopped, IsMendedBy, phases_of}
+use Rattle.pv_phases.proofs.PhaseLaws.{stopped_front}
+use Rattle.pv_steps.specs.Acting.{Acted, refused}
+use Rattle.pv_steps.specs.declared.step.Step.{Step}
+use Rattle.pv_steps.specs.declared.tree.Tree.{Ghosts}
+use Rattle.pv_steps.specs.declared.tree.TreeFault.{TreeFault}
+use Rattle.pv_steps.proofs.ActingLaws.{Moves, acted_none}
+use Rattle.pv_steps.specs.Trees.{Files}
+use Rattle.pv_text.specs.Facts.{Values}
+use Rattle.pv_text.specs.Said.{SaidPart}
+use Rattle.pv_words.specs.declared.options.Options.{Options}
+use Rattle.provision_run.specs.declared.ending.RunEnd.{RunEnd}
+use Rattle.provision_run.specs.declared.task.Task.{Task}
+use Rattle.provision_run.specs.declared.task.Task.TheVariants.{Phases, Report, Accounts}
+use Rattle.provision_run.specs.Accounts.{account_messages, accounts_end, accounts_work, requests_messages, run_edits, run_requests}
+use Rattle.provision_run.specs.Phased.{is_phases_step, lines_messages, phase_messages, phased, phases_end, phases_way, phases_work, run_lines}
+use Rattle.provision_run.specs.Reported.{HasReported, HasReportedPart, report_end}
+use Rattle.provision_run.specs.Rereading.{IsMendedAnew}
+use Rattle.provision_run.specs.Whole.{end_by, final_by, HasSaidBy, HasSaidPartBy, HasSaidStoppedBy, IsMendedAnewIn, IsMendedIn, IsSaidBy, IsSaidStoppedBy, is_step_by, read_by, way_by, work_by}
+
+on_ok : {A E P Q : Type 0} (r : Result A E) → (P → Q) → OnOk r P → OnOk r Q
+on_ok (Ok x) f p = f p
+on_ok (Err e) f p = tt
+
+-- what may be said where a step was refused is a front part of what is said in all
+pub front_by : (asked : Task) (options : Options) (facts : Values) (moment : ℕ) (t : Files) (said : List (List ℕ)) → IsSaidStoppedBy asked options facts moment t said
+    → (whole : List (List ℕ)) × (IsSaidBy asked options facts moment t whole × ((k : ℕ) × (said ≡ take k whole)))
+unfolding IsSaidBy IsSaidStoppedBy
+front_by Phases options facts moment t said stopped =
+    (phase_messages options facts moment t, (refl, stopped_front (run_lines options facts t) moment (phases_of options) t said stopped))
+front_by Report options facts moment t said stopped = absurd stopped
+front_by Accounts options facts moment t said stopped = (account_messages options facts moment t, (refl, stopped))
+
+module _ (options : Options) (facts : Values) (moment : ℕ) (t : Files) where
+  -- ---- phases
+
+  pub phases_left : (k : Task) → Phases ≡ k → (r : Result RunEnd TreeFault) (u : Files) → OnOk r (u ≡ phased options facts moment t) → OnOk r (u ≡ final_by k options facts moment t)
+  unfolding final_by
+  phases_left k is r u h = subst (λ (j : Task). OnOk r (u ≡ final_by j options facts moment t)) is h
+
+  pub phases_said : (k : Task) → Phases ≡ k → (r : Result RunEnd TreeFault) (old new : List (List ℕ))
+      → OnOk r (new ≡ old ++ lines_messages options facts t ++ phase_messages options facts moment t) → OnOk r (HasSaidBy k options facts moment t old new)
+  unfolding IsSaidBy read_by
+  phases_said k is r old new h =
+      subst (λ (j : Task). OnOk r (HasSaidBy j options facts moment t old new)) is
+      (on_ok {Q = HasSaidBy Phases options facts moment t old new} r (λ e. (phase_messages options facts moment t, (refl, e))) h)
+
+  pub phases_ended : (k : Task) → Phases ≡ k → (r : Result RunEnd TreeFault) → IfOk r (λ end. end ≡ phases_end options facts moment t) → IfOk r (λ end. end ≡ end_by k options facts moment t)
+  unfolding end_by
+  phases_ended k is r h = subst (λ (j : Task). IfOk r (λ end. end ≡ end_by j options facts moment t)) is h
+
+  pub phases_part : (k : Task) → Phases ≡ k → (old new : List (List ℕ)) → SaidPart (lines_messages options facts t ++ phase_messages options facts moment t) old new → HasSaidPartBy k options facts moment t old new
+  unfolding IsSaidBy read_by
+  phases_part k is old new h =
+      subst (λ (j : Task). HasSaidPartBy j options facts moment t old new) is (inr (phase_messages options facts moment t, (refl, h)))
+
+  pub phases_stopped : (k : Task) → Phases ≡ k → (old new : List (List ℕ)) → HasSaidStopped (run_lines options facts t) moment (phases_of options) t (old ++ lines_messages options facts t) new
+      → HasSaidStoppedBy k options facts moment t old new
+  unfolding IsSaidStoppedBy read_by
+  phases_stopped k is old new h = subst (λ (j : Task). HasSaidStoppedBy j options facts moment t old new) is h
+
+  pub phases_mended : (k : Task) → Phases ≡ k → (steps : List Step) → IsMendedBy (phases_of options) (run_lines options facts t) moment t steps → IsMendedIn k options facts moment t steps
+  unfolding IsMendedIn
+  phases_mended k is steps h = subst (λ (j : Task). IsMendedIn j options facts moment t steps) is h
+
+  pub phases_anew : (k : Task) → Phases ≡ k → (steps : List Step) → IsMendedAnew options facts moment t steps → IsMendedAnewIn k options facts moment t steps
+  unfolding IsMendedAnewIn
+  phases_anew k is steps h = subst (λ (j : Task). IsMendedAnewIn j options facts moment t steps) is h
+
+  -- ---- accounts
+
+  pub accounts_left : (k : Task) → Accounts ≡ k → (r : Result RunEnd TreeFault) (u : Files) → OnOk r (u ≡ accounted (run_requests options facts t) moment t) → OnOk r (u ≡ final_by k options facts moment t)
+  unfolding final_by
+  accounts_left k is r u h = subst (λ (j : Task). OnOk r (u ≡ final_by j options facts moment t)) is h
+
+  pub accounts_said : (k : Task) → Accounts ≡ k → (r : Result RunEnd TreeFault) (old new : List (List ℕ))
+      → OnOk r (new ≡ old ++ requests_messages options facts t ++ account_messages options facts moment t) → OnOk r (HasSaidBy k options facts moment t old new)
+  unfolding IsSaidBy read_by
+  accounts_said k is r old new h =
+      subst (λ (j : Task). OnOk r (HasSaidBy j options facts moment t old new)) is
+      (on_ok {Q = HasSaidBy Accounts options facts moment t old new} r (λ e. (account_messages options facts moment t, (refl, e))) h)
+
+  pub accounts_ended : (k : Task) → Accounts ≡ k → (r : Result RunEnd TreeFault) → IfOk r (λ end. end ≡ accounts_end options facts moment t) → IfOk r (λ end. end ≡ end_by k options facts moment t)
+  unfolding end_by
+  accounts_ended k is r h = subst (λ (j : Task). IfOk r (λ end. end ≡ end_by j options facts moment t)) is h
+
+  pub accounts_part : (k : Task) → Accounts ≡ k → (old new : List (List ℕ)) → SaidPart (requests_messages options facts t ++ account_messages options facts moment t) old new
+      → HasSaidPartBy k options facts moment t old new
+  unfolding IsSaidBy read_by
+  accounts_part k is old new h =
+      subst (λ (j : Task). HasSaidPartBy j options facts moment t old new) is (inr (account_messages options facts moment t, (refl, h)))
+
+  pub accounts_stopped : (k : Task) → Accounts ≡ k → (old new : List (List ℕ)) → SaidPart (account_messages options facts moment t) (old ++ requests_messages options facts t) new
+      → HasSaidStoppedBy k options facts moment t old new
+  unfolding IsSaidStoppedBy read_by
+  accounts_stopped k is old new h =
+      subst (λ (j : Task). HasSaidStoppedBy j options facts moment t old new) is (take h.0 (account_messages options facts moment t), (h.1, (h.0, refl)))
+
+  pub accounts_mended : (k : Task) → Accounts ≡ k → (steps : List Step) → accounts.IsMended (run_requests options facts t) moment t steps → IsMendedIn k options facts moment t steps
+  unfolding IsMendedIn
+  accounts_mended k is steps h = subst (λ (j : Task). IsMendedIn j options facts moment t steps) is h
+
+  pub accounts_anew : (k : Task) → Accounts ≡ k → (steps : List Step) → IsMendedAnewIn k options facts moment t steps
+  unfolding IsMendedAnewIn
+  accounts_anew k is steps = subst (λ (j : Task). IsMendedAnewIn j options facts moment t steps) is tt
+
+  -- ---- reports
+
+  pub report_left : (k : Task) → Report ≡ k → t ≡ final_by k options facts moment t
+  unfolding final_by
+  report_left k is = subst (λ (j : Task). t ≡ final_by j options facts moment t) is refl
+
+  pub report_said : (k : Task) → Report ≡ k → (old new : List (List ℕ)) → HasReported options facts t old new → HasSaidBy k options facts moment t old new
+  unfolding IsSaidBy read_by
+  report_said k is old new h = subst (λ (j : Task). HasSaidBy j options facts moment t old new) is h
+
+  pub report_ended : (k : Task) → Report ≡ k → (end : RunEnd) → end ≡ report_end options facts t → end ≡ end_by k options facts moment t
+  unfolding end_by
+  report_ended k is end h = subst (λ (j : Task). end ≡ end_by j options facts moment t) is h
+
+  pub report_part : (k : Task) → Report ≡ k → (old new : List (List ℕ)) → HasReportedPart options facts t old new → HasSaidPartBy k options facts moment t old new
+  unfolding IsSaidBy read_by
+  report_part k is old new h = subst (λ (j : Task). HasSaidPartBy j options facts moment t old new) is h
+
+  pub report_mended : (k : Task) → Report ≡ k → (told : List Step) → IsMendedIn k options facts moment t (drop (length told) told)
+  unfolding IsMendedIn
+  report_mended k is told = subst (λ (j : Task). IsMendedIn j options facts moment t (drop (length told) told)) is (drop-length told)
+
+  pub report_anew : (k : Task) → Report ≡ k → (steps : List Step) → IsMendedAnewIn k options facts moment t steps
+  unfolding IsMendedAnewIn
+  report_anew k is steps = subst (λ (j : Task). IsMendedAnewIn j options facts moment t steps) is tt
+
+module _ {S : Type 0} (tree : Ghosts S) (options : Options) (facts : Values) (moment : ℕ) (t : Files) where
+  pub phases_acted : (k : Task) → Phases ≡ k → (a b : S) (r : Result RunEnd TreeFault)
+      → Acted tree (phases_way options facts moment t) (is_phases_step options facts moment t) (phases_work options facts moment t) moment a b r
+      → Acted tree (way_by k options facts moment t) (is_step_by k options facts moment t) (work_by k options facts moment t) moment a b r
+  unfolding way_by is_step_by work_by
+  phases_acted k is a b r h =
+      subst (λ (j : Task). Acted tree (way_by j options facts moment t) (is_step_by j options facts moment t) (work_by j options facts moment t) moment a b r) is h
+
+  pub accounts_acted : (k : Task) → Accounts ≡ k → (a b : S) (r : Result RunEnd TreeFault)
+      → Acted tree (AccountWay (run_edits options facts moment t) t) (IsAccountStep (run_edits options facts moment t)) (accounts_work options facts moment t) moment a b r
+      → Acted tree (way_by k options facts moment t) (is_step_by k options facts moment t) (work_by k options facts moment t) moment a b r
+  unfolding way_by is_step_by work_by
+  accounts_acted k is a b r h =
+      subst (λ (j : Task). Acted tree (way_by j options facts moment t) (is_step_by j options facts moment t) (work_by j options facts moment t) moment a b r) is h
+
+  pub report_acted : (k : Task) → Report ≡ k → Moves tree → (a : S) (r : Result RunEnd TreeFault) → tree.state a ≡ t → refused r ≡ 0
+      → Acted tree (way_by k options facts moment t) (is_step_by k options facts moment t) (work_by k options facts moment t) moment a a r
+  unfolding way_by is_step_by work_by
+  report_acted k is moves a r same none =
+      subst (λ (j : Task). Acted tree (way_by j options facts moment t) (is_step_by j options facts moment t) (work_by j options facts moment t) moment a a r) is
+      (acted_none tree moves (way_by Report options facts moment t) (is_step_by Report options facts moment t) 0 moment a r none same)

@@ -1,0 +1,167 @@
+use Rattle.std.proofs.Common.{List, inl, refl, subst}
+use Rattle.pv_accounts_run.specs.Carrying.{AccountWay, IsAccountStep}
+use Rattle.pv_accounts_run.proofs.MendedLaws.{none_mended, run_mended}
+use Rattle.pv_dress.proofs.EditLaws.{same-refl}
+use Rattle.pv_requests.specs.declared.request.Request.{Request}
+use Rattle.pv_steps.proofs.ActingLaws.{Moves, acted_none, no_memory}
+use Rattle.provision_run.specs.Accounts.{accounts_work, account_messages, requests_messages, run_edits, run_requests}
+use Rattle.provision_run.proofs.AccountLaws.{Finished, ended_acted, ended_end, ended_ok, ended_part, ended_said, ended_stopped}
+use Rattle.provision_run.proofs.RunLaws.{said_first}
+use Rattle.provision_run.proofs.accounting.make_accounts.Goals as goal
+
+pub returns-in_err-read-clause-part : goal.returns-in_err-read-clause-part
+returns-in_err-read-clause-part g c =
+    said_first (requests_messages c.args.options.now c.args.facts.now (g.T.Tree.state c.args.tree.now)) (account_messages c.args.options.now c.args.facts.now c.args.moment (g.T.Tree.state c.args.tree.now)) _ _ c.read_requests.ensures.part
+
+pub returns-in_err-read-clause-acted : goal.returns-in_err-read-clause-acted
+returns-in_err-read-clause-acted g c =
+    let moves : Moves g.T.Tree = record { stays = g.met.T.Tree.reaches_self; goes_on = g.met.T.Tree.reaches_on; never_falls = g.met.T.Tree.never_falls } in
+    let t = g.T.Tree.state c.args.tree.now in
+    let edits = run_edits c.args.options.now c.args.facts.now c.args.moment t in
+    acted_none g.T.Tree moves (AccountWay edits t) (IsAccountStep edits) (accounts_work c.args.options.now c.args.facts.now c.args.moment t) c.args.moment c.args.tree.now
+    c.from_residual.result (no_memory c.from_residual.result c.from_residual.ensures.1) (inl (same-refl t))
+
+pub returns-in_err-read-clause-mended : goal.returns-in_err-read-clause-mended
+returns-in_err-read-clause-mended g c =
+    let t = g.T.Tree.state c.args.tree.now in
+    none_mended (run_requests c.args.options.now c.args.facts.now t) c.args.moment c.ranges.moment.fits t (g.T.Tree.steps c.args.tree.now) c.look-root.ensures.tree
+
+pub returns-clause-ok : goal.returns-clause-ok
+returns-clause-ok g c =
+    let tree = g.T.Tree in
+    let a = c.args.tree.now in
+    let b = c.accounts_run-answer.new.tree in
+    let finished : Finished tree (run_requests c.args.options.now c.args.facts.now (tree.state a)) c.args.moment a b c.read_requests.new.messages c.accounts_run-answer.new.messages c.accounts_run-answer.result =
+    subst (λ (rs : List Request). Finished tree rs c.args.moment a b c.read_requests.new.messages c.accounts_run-answer.new.messages c.accounts_run-answer.result) c.in_ok-read.ensures.lines (record {
+      ok = c.accounts_run-answer.ensures.ok;
+      said = c.accounts_run-answer.ensures.said;
+      carried = c.accounts_run-answer.ensures.carried;
+      enough = c.accounts_run-answer.ensures.enough;
+      lacking = c.accounts_run-answer.ensures.lacking;
+      lacking_said = c.accounts_run-answer.ensures.lacking_said;
+      lacking_idle = c.accounts_run-answer.ensures.lacking_idle;
+      part = c.accounts_run-answer.ensures.part;
+      acted = c.accounts_run-answer.ensures.acted;
+    }) in
+    ended_ok tree c.args.options.now c.args.facts.now c.args.moment a b c.args.messages.now c.read_requests.new.messages c.accounts_run-answer.new.messages c.ended.new.messages c.in_ok-read.read.missing c.in_ok-read.read.invalid
+    c.in_ok-read.ensures.said c.accounts_run-answer.result c.ended.result finished c.ended.ensures
+
+pub returns-clause-said : goal.returns-clause-said
+returns-clause-said g c =
+    let tree = g.T.Tree in
+    let a = c.args.tree.now in
+    let b = c.accounts_run-answer.new.tree in
+    let finished : Finished tree (run_requests c.args.options.now c.args.facts.now (tree.state a)) c.args.moment a b c.read_requests.new.messages c.accounts_run-answer.new.messages c.accounts_run-answer.result =
+    subst (λ (rs : List Request). Finished tree rs c.args.moment a b c.read_requests.new.messages c.accounts_run-answer.new.messages c.accounts_run-answer.result) c.in_ok-read.ensures.lines (record {
+      ok = c.accounts_run-answer.ensures.ok;
+      said = c.accounts_run-answer.ensures.said;
+      carried = c.accounts_run-answer.ensures.carried;
+      enough = c.accounts_run-answer.ensures.enough;
+      lacking = c.accounts_run-answer.ensures.lacking;
+      lacking_said = c.accounts_run-answer.ensures.lacking_said;
+      lacking_idle = c.accounts_run-answer.ensures.lacking_idle;
+      part = c.accounts_run-answer.ensures.part;
+      acted = c.accounts_run-answer.ensures.acted;
+    }) in
+    ended_said tree c.args.options.now c.args.facts.now c.args.moment a b c.args.messages.now c.read_requests.new.messages c.accounts_run-answer.new.messages c.ended.new.messages c.in_ok-read.read.missing c.in_ok-read.read.invalid
+    c.in_ok-read.ensures.said c.accounts_run-answer.result c.ended.result finished c.ended.ensures
+
+pub returns-clause-end : goal.returns-clause-end
+returns-clause-end g c =
+    let tree = g.T.Tree in
+    let a = c.args.tree.now in
+    let b = c.accounts_run-answer.new.tree in
+    let finished : Finished tree (run_requests c.args.options.now c.args.facts.now (tree.state a)) c.args.moment a b c.read_requests.new.messages c.accounts_run-answer.new.messages c.accounts_run-answer.result =
+    subst (λ (rs : List Request). Finished tree rs c.args.moment a b c.read_requests.new.messages c.accounts_run-answer.new.messages c.accounts_run-answer.result) c.in_ok-read.ensures.lines (record {
+      ok = c.accounts_run-answer.ensures.ok;
+      said = c.accounts_run-answer.ensures.said;
+      carried = c.accounts_run-answer.ensures.carried;
+      enough = c.accounts_run-answer.ensures.enough;
+      lacking = c.accounts_run-answer.ensures.lacking;
+      lacking_said = c.accounts_run-answer.ensures.lacking_said;
+      lacking_idle = c.accounts_run-answer.ensures.lacking_idle;
+      part = c.accounts_run-answer.ensures.part;
+      acted = c.accounts_run-answer.ensures.acted;
+    }) in
+    ended_end tree c.args.options.now c.args.facts.now c.args.moment a b c.args.messages.now c.read_requests.new.messages c.accounts_run-answer.new.messages c.ended.new.messages c.in_ok-read.read.missing c.in_ok-read.read.invalid
+    c.accounts_run-answer.result c.ended.result c.in_ok-read.ensures.missing c.in_ok-read.ensures.invalid finished c.ended.ensures
+
+pub returns-clause-part : goal.returns-clause-part
+returns-clause-part g c =
+    let tree = g.T.Tree in
+    let a = c.args.tree.now in
+    let b = c.accounts_run-answer.new.tree in
+    let finished : Finished tree (run_requests c.args.options.now c.args.facts.now (tree.state a)) c.args.moment a b c.read_requests.new.messages c.accounts_run-answer.new.messages c.accounts_run-answer.result =
+    subst (λ (rs : List Request). Finished tree rs c.args.moment a b c.read_requests.new.messages c.accounts_run-answer.new.messages c.accounts_run-answer.result) c.in_ok-read.ensures.lines (record {
+      ok = c.accounts_run-answer.ensures.ok;
+      said = c.accounts_run-answer.ensures.said;
+      carried = c.accounts_run-answer.ensures.carried;
+      enough = c.accounts_run-answer.ensures.enough;
+      lacking = c.accounts_run-answer.ensures.lacking;
+      lacking_said = c.accounts_run-answer.ensures.lacking_said;
+      lacking_idle = c.accounts_run-answer.ensures.lacking_idle;
+      part = c.accounts_run-answer.ensures.part;
+      acted = c.accounts_run-answer.ensures.acted;
+    }) in
+    ended_part tree c.args.options.now c.args.facts.now c.args.moment a b c.args.messages.now c.read_requests.new.messages c.accounts_run-answer.new.messages c.ended.new.messages c.in_ok-read.read.missing c.in_ok-read.read.invalid
+    c.in_ok-read.ensures.said c.accounts_run-answer.result c.ended.result finished c.ended.ensures
+
+pub returns-clause-stopped : goal.returns-clause-stopped
+returns-clause-stopped g c =
+    let tree = g.T.Tree in
+    let a = c.args.tree.now in
+    let b = c.accounts_run-answer.new.tree in
+    let finished : Finished tree (run_requests c.args.options.now c.args.facts.now (tree.state a)) c.args.moment a b c.read_requests.new.messages c.accounts_run-answer.new.messages c.accounts_run-answer.result =
+    subst (λ (rs : List Request). Finished tree rs c.args.moment a b c.read_requests.new.messages c.accounts_run-answer.new.messages c.accounts_run-answer.result) c.in_ok-read.ensures.lines (record {
+      ok = c.accounts_run-answer.ensures.ok;
+      said = c.accounts_run-answer.ensures.said;
+      carried = c.accounts_run-answer.ensures.carried;
+      enough = c.accounts_run-answer.ensures.enough;
+      lacking = c.accounts_run-answer.ensures.lacking;
+      lacking_said = c.accounts_run-answer.ensures.lacking_said;
+      lacking_idle = c.accounts_run-answer.ensures.lacking_idle;
+      part = c.accounts_run-answer.ensures.part;
+      acted = c.accounts_run-answer.ensures.acted;
+    }) in
+    λ failed.
+    ended_stopped tree c.args.options.now c.args.facts.now c.args.moment a b c.args.messages.now c.read_requests.new.messages c.accounts_run-answer.new.messages c.ended.new.messages c.in_ok-read.read.missing c.in_ok-read.read.invalid
+    c.in_ok-read.ensures.said c.accounts_run-answer.result c.ended.result finished c.ended.ensures
+
+pub returns-clause-acted : goal.returns-clause-acted
+returns-clause-acted g c =
+    let tree = g.T.Tree in
+    let a = c.args.tree.now in
+    let b = c.accounts_run-answer.new.tree in
+    let finished : Finished tree (run_requests c.args.options.now c.args.facts.now (tree.state a)) c.args.moment a b c.read_requests.new.messages c.accounts_run-answer.new.messages c.accounts_run-answer.result =
+    subst (λ (rs : List Request). Finished tree rs c.args.moment a b c.read_requests.new.messages c.accounts_run-answer.new.messages c.accounts_run-answer.result) c.in_ok-read.ensures.lines (record {
+      ok = c.accounts_run-answer.ensures.ok;
+      said = c.accounts_run-answer.ensures.said;
+      carried = c.accounts_run-answer.ensures.carried;
+      enough = c.accounts_run-answer.ensures.enough;
+      lacking = c.accounts_run-answer.ensures.lacking;
+      lacking_said = c.accounts_run-answer.ensures.lacking_said;
+      lacking_idle = c.accounts_run-answer.ensures.lacking_idle;
+      part = c.accounts_run-answer.ensures.part;
+      acted = c.accounts_run-answer.ensures.acted;
+    }) in
+    ended_acted tree c.accounts_run-answer.new.messages c.ended.new.messages c.in_ok-read.read.missing c.in_ok-read.read.invalid c.accounts_run-answer.result c.ended.result c.ended.ensures finished.acted
+
+pub returns-clause-mended : goal.returns-clause-mended
+returns-clause-mended g c =
+    let tree = g.T.Tree in
+    let a = c.args.tree.now in
+    let b = c.accounts_run-answer.new.tree in
+    let finished : Finished tree (run_requests c.args.options.now c.args.facts.now (tree.state a)) c.args.moment a b c.read_requests.new.messages c.accounts_run-answer.new.messages c.accounts_run-answer.result =
+    subst (λ (rs : List Request). Finished tree rs c.args.moment a b c.read_requests.new.messages c.accounts_run-answer.new.messages c.accounts_run-answer.result) c.in_ok-read.ensures.lines (record {
+      ok = c.accounts_run-answer.ensures.ok;
+      said = c.accounts_run-answer.ensures.said;
+      carried = c.accounts_run-answer.ensures.carried;
+      enough = c.accounts_run-answer.ensures.enough;
+      lacking = c.accounts_run-answer.ensures.lacking;
+      lacking_said = c.accounts_run-answer.ensures.lacking_said;
+      lacking_idle = c.accounts_run-answer.ensures.lacking_idle;
+      part = c.accounts_run-answer.ensures.part;
+      acted = c.accounts_run-answer.ensures.acted;
+    }) in
+    run_mended (run_requests c.args.options.now c.args.facts.now (tree.state a)) c.args.moment c.ranges.moment.fits (run_edits c.args.options.now c.args.facts.now c.args.moment (tree.state a)) _ (tree.state a) (tree.steps a) (tree.state b) (tree.steps b)
+    c.look-root.ensures.tree refl finished.acted.ran

@@ -1,0 +1,114 @@
+use Rattle.std.proofs.Common.{drop, length, refl, sym}
+use Rattle.pv_steps.proofs.ActingLaws.{Moves, no_memory}
+use Rattle.provision_run.proofs.TaskLaws.{accounts_acted, accounts_anew, accounts_ended, accounts_left, accounts_mended, accounts_part, accounts_said, accounts_stopped, phases_acted, phases_anew, phases_ended, phases_left, phases_mended, phases_part, phases_said, phases_stopped, report_acted, report_anew, report_ended, report_left, report_mended, report_part, report_said}
+use Rattle.provision_run.proofs.run.do_task.Goals as goal
+
+pub returns-in-Phases-clause-ok : goal.returns-in-Phases-clause-ok
+returns-in-Phases-clause-ok g c =
+    phases_left c.args.options.now c.args.facts.now c.args.moment (g.T.Tree.state c.args.tree.now) c.args.task (sym c.in-Phases.is) c.carry_out.result (g.T.Tree.state c.carry_out.new.tree) c.carry_out.ensures.ok
+
+pub returns-in-Phases-clause-said : goal.returns-in-Phases-clause-said
+returns-in-Phases-clause-said g c =
+    phases_said c.args.options.now c.args.facts.now c.args.moment (g.T.Tree.state c.args.tree.now) c.args.task (sym c.in-Phases.is) c.carry_out.result c.args.messages.now c.carry_out.new.messages c.carry_out.ensures.said
+
+pub returns-in-Phases-clause-end : goal.returns-in-Phases-clause-end
+returns-in-Phases-clause-end g c =
+    phases_ended c.args.options.now c.args.facts.now c.args.moment (g.T.Tree.state c.args.tree.now) c.args.task (sym c.in-Phases.is) c.carry_out.result c.carry_out.ensures.end
+
+pub returns-in-Phases-clause-part : goal.returns-in-Phases-clause-part
+returns-in-Phases-clause-part g c =
+    phases_part c.args.options.now c.args.facts.now c.args.moment (g.T.Tree.state c.args.tree.now) c.args.task (sym c.in-Phases.is) c.args.messages.now c.carry_out.new.messages c.carry_out.ensures.part
+
+pub returns-in-Phases-clause-stopped : goal.returns-in-Phases-clause-stopped
+returns-in-Phases-clause-stopped g c =
+    λ failed. phases_stopped c.args.options.now c.args.facts.now c.args.moment (g.T.Tree.state c.args.tree.now) c.args.task (sym c.in-Phases.is) c.args.messages.now c.carry_out.new.messages (c.carry_out.ensures.stopped failed)
+
+pub returns-in-Phases-clause-acted : goal.returns-in-Phases-clause-acted
+returns-in-Phases-clause-acted g c =
+    phases_acted g.T.Tree c.args.options.now c.args.facts.now c.args.moment (g.T.Tree.state c.args.tree.now) c.args.task (sym c.in-Phases.is) c.args.tree.now c.carry_out.new.tree c.carry_out.result c.carry_out.ensures.acted
+
+pub returns-in-Phases-clause-mended : goal.returns-in-Phases-clause-mended
+returns-in-Phases-clause-mended g c =
+    phases_mended c.args.options.now c.args.facts.now c.args.moment (g.T.Tree.state c.args.tree.now) c.args.task (sym c.in-Phases.is) (drop (length (g.T.Tree.steps c.args.tree.now)) (g.T.Tree.steps c.carry_out.new.tree)) c.carry_out.ensures.mended
+
+pub returns-in-Phases-clause-anew : goal.returns-in-Phases-clause-anew
+returns-in-Phases-clause-anew g c =
+    phases_anew c.args.options.now c.args.facts.now c.args.moment (g.T.Tree.state c.args.tree.now) c.args.task (sym c.in-Phases.is) (drop (length (g.T.Tree.steps c.args.tree.now)) (g.T.Tree.steps c.carry_out.new.tree)) c.carry_out.ensures.anew
+
+pub returns-in-Accounts-clause-ok : goal.returns-in-Accounts-clause-ok
+returns-in-Accounts-clause-ok g c =
+    accounts_left c.args.options.now c.args.facts.now c.args.moment (g.T.Tree.state c.args.tree.now) c.args.task (sym c.in-Accounts.is) c.make_accounts.result (g.T.Tree.state c.make_accounts.new.tree) c.make_accounts.ensures.ok
+
+pub returns-in-Accounts-clause-said : goal.returns-in-Accounts-clause-said
+returns-in-Accounts-clause-said g c =
+    accounts_said c.args.options.now c.args.facts.now c.args.moment (g.T.Tree.state c.args.tree.now) c.args.task (sym c.in-Accounts.is) c.make_accounts.result c.args.messages.now c.make_accounts.new.messages c.make_accounts.ensures.said
+
+pub returns-in-Accounts-clause-end : goal.returns-in-Accounts-clause-end
+returns-in-Accounts-clause-end g c =
+    accounts_ended c.args.options.now c.args.facts.now c.args.moment (g.T.Tree.state c.args.tree.now) c.args.task (sym c.in-Accounts.is) c.make_accounts.result c.make_accounts.ensures.end
+
+pub returns-in-Accounts-clause-part : goal.returns-in-Accounts-clause-part
+returns-in-Accounts-clause-part g c =
+    accounts_part c.args.options.now c.args.facts.now c.args.moment (g.T.Tree.state c.args.tree.now) c.args.task (sym c.in-Accounts.is) c.args.messages.now c.make_accounts.new.messages c.make_accounts.ensures.part
+
+pub returns-in-Accounts-clause-stopped : goal.returns-in-Accounts-clause-stopped
+returns-in-Accounts-clause-stopped g c =
+    λ failed. accounts_stopped c.args.options.now c.args.facts.now c.args.moment (g.T.Tree.state c.args.tree.now) c.args.task (sym c.in-Accounts.is) c.args.messages.now c.make_accounts.new.messages (c.make_accounts.ensures.stopped failed)
+
+pub returns-in-Accounts-clause-acted : goal.returns-in-Accounts-clause-acted
+returns-in-Accounts-clause-acted g c =
+    accounts_acted g.T.Tree c.args.options.now c.args.facts.now c.args.moment (g.T.Tree.state c.args.tree.now) c.args.task (sym c.in-Accounts.is) c.args.tree.now c.make_accounts.new.tree c.make_accounts.result c.make_accounts.ensures.acted
+
+pub returns-in-Accounts-clause-mended : goal.returns-in-Accounts-clause-mended
+returns-in-Accounts-clause-mended g c =
+    accounts_mended c.args.options.now c.args.facts.now c.args.moment (g.T.Tree.state c.args.tree.now) c.args.task (sym c.in-Accounts.is) (drop (length (g.T.Tree.steps c.args.tree.now)) (g.T.Tree.steps c.make_accounts.new.tree)) c.make_accounts.ensures.mended
+
+pub returns-in-Accounts-clause-anew : goal.returns-in-Accounts-clause-anew
+returns-in-Accounts-clause-anew g c =
+    accounts_anew c.args.options.now c.args.facts.now c.args.moment (g.T.Tree.state c.args.tree.now) c.args.task (sym c.in-Accounts.is) (drop (length (g.T.Tree.steps c.args.tree.now)) (g.T.Tree.steps c.make_accounts.new.tree))
+
+pub returns-in_err-report_run-in-Report-clause-part : goal.returns-in_err-report_run-in-Report-clause-part
+returns-in_err-report_run-in-Report-clause-part g c =
+    report_part c.args.options.now c.args.facts.now c.args.moment (g.T.Tree.state c.args.tree.now) c.args.task (sym c.in-Report.is) c.args.messages.now c.report_run.new.messages c.report_run.ensures.part
+
+pub returns-in_err-report_run-in-Report-clause-acted : goal.returns-in_err-report_run-in-Report-clause-acted
+returns-in_err-report_run-in-Report-clause-acted g c =
+    let moves : Moves g.T.Tree = record { stays = g.met.T.Tree.reaches_self; goes_on = g.met.T.Tree.reaches_on; never_falls = g.met.T.Tree.never_falls } in
+    report_acted g.T.Tree c.args.options.now c.args.facts.now c.args.moment (g.T.Tree.state c.args.tree.now) c.args.task (sym c.in-Report.is) moves c.args.tree.now c.from_residual.result refl (no_memory c.from_residual.result c.from_residual.ensures.1)
+
+pub returns-in_err-report_run-in-Report-clause-mended : goal.returns-in_err-report_run-in-Report-clause-mended
+returns-in_err-report_run-in-Report-clause-mended g c =
+    report_mended c.args.options.now c.args.facts.now c.args.moment (g.T.Tree.state c.args.tree.now) c.args.task (sym c.in-Report.is) (g.T.Tree.steps c.args.tree.now)
+
+pub returns-in_err-report_run-in-Report-clause-anew : goal.returns-in_err-report_run-in-Report-clause-anew
+returns-in_err-report_run-in-Report-clause-anew g c =
+    report_anew c.args.options.now c.args.facts.now c.args.moment (g.T.Tree.state c.args.tree.now) c.args.task (sym c.in-Report.is) (drop (length (g.T.Tree.steps c.args.tree.now)) (g.T.Tree.steps c.args.tree.now))
+
+pub returns-in_ok-report_run-in-Report-clause-ok : goal.returns-in_ok-report_run-in-Report-clause-ok
+returns-in_ok-report_run-in-Report-clause-ok g c =
+    report_left c.args.options.now c.args.facts.now c.args.moment (g.T.Tree.state c.args.tree.now) c.args.task (sym c.in-Report.is)
+
+pub returns-in_ok-report_run-in-Report-clause-said : goal.returns-in_ok-report_run-in-Report-clause-said
+returns-in_ok-report_run-in-Report-clause-said g c =
+    report_said c.args.options.now c.args.facts.now c.args.moment (g.T.Tree.state c.args.tree.now) c.args.task (sym c.in-Report.is) c.args.messages.now c.report_run.new.messages c.in_ok-report_run-in-Report.ensures.said
+
+pub returns-in_ok-report_run-in-Report-clause-end : goal.returns-in_ok-report_run-in-Report-clause-end
+returns-in_ok-report_run-in-Report-clause-end g c =
+    report_ended c.args.options.now c.args.facts.now c.args.moment (g.T.Tree.state c.args.tree.now) c.args.task (sym c.in-Report.is) c.in_ok-report_run-in-Report.field-0 c.in_ok-report_run-in-Report.ensures.end
+
+pub returns-in_ok-report_run-in-Report-clause-part : goal.returns-in_ok-report_run-in-Report-clause-part
+returns-in_ok-report_run-in-Report-clause-part g c =
+    report_part c.args.options.now c.args.facts.now c.args.moment (g.T.Tree.state c.args.tree.now) c.args.task (sym c.in-Report.is) c.args.messages.now c.report_run.new.messages c.report_run.ensures.part
+
+pub returns-in_ok-report_run-in-Report-clause-acted : goal.returns-in_ok-report_run-in-Report-clause-acted
+returns-in_ok-report_run-in-Report-clause-acted g c =
+    let moves : Moves g.T.Tree = record { stays = g.met.T.Tree.reaches_self; goes_on = g.met.T.Tree.reaches_on; never_falls = g.met.T.Tree.never_falls } in
+    report_acted g.T.Tree c.args.options.now c.args.facts.now c.args.moment (g.T.Tree.state c.args.tree.now) c.args.task (sym c.in-Report.is) moves c.args.tree.now _ refl refl
+
+pub returns-in_ok-report_run-in-Report-clause-mended : goal.returns-in_ok-report_run-in-Report-clause-mended
+returns-in_ok-report_run-in-Report-clause-mended g c =
+    report_mended c.args.options.now c.args.facts.now c.args.moment (g.T.Tree.state c.args.tree.now) c.args.task (sym c.in-Report.is) (g.T.Tree.steps c.args.tree.now)
+
+pub returns-in_ok-report_run-in-Report-clause-anew : goal.returns-in_ok-report_run-in-Report-clause-anew
+returns-in_ok-report_run-in-Report-clause-anew g c =
+    report_anew c.args.options.now c.args.facts.now c.args.moment (g.T.Tree.state c.args.tree.now) c.args.task (sym c.in-Report.is) (drop (length (g.T.Tree.steps c.args.tree.now)) (g.T.Tree.steps c.args.tree.now))

@@ -1,0 +1,16 @@
+-- What the options of a run ask for (systemd-tmpfiles(8), systemd-sysusers(8)).
+use Rattle.std.specs.Prelude.{Bool, true, false}
+use Rattle.pv_text.specs.declared.tool.Tool.{Tool}
+use Rattle.pv_text.specs.declared.tool.Tool.TheVariants.{Tmpfiles, Sysusers}
+use Rattle.pv_words.specs.declared.options.Options.{Options}
+use Rattle.provision_run.specs.declared.task.Task.{Task}
+use Rattle.provision_run.specs.declared.task.Task.TheVariants.{Phases, Report, Accounts}
+
+-- accounts of systemd-sysusers; of systemd-tmpfiles a report where it is asked for, else phases
+abbrev pub task_by : Tool → Bool → Task
+task_by Tmpfiles true = Report
+task_by Tmpfiles false = Phases
+task_by Sysusers report = Accounts
+
+abbrev pub task_of : Options → Task
+task_of options = task_by options.tool options.report

@@ -1,0 +1,93 @@
+//! A run that makes users and groups.
+ghost use Rattle.std.specs.Prelude.{◌≡◌, ◌∷◌, [], ◌++◌, true, drop, length, IfOk, IsErrOf, OnOk, OnErr};
+ghost use Rattle.pv_text.specs.Lines.{is_line};
+ghost use Rattle.pv_text.specs.Said.{SaidPart};
+ghost use Rattle.pv_steps.specs.declared.tree.TreeFault.TheVariants.{Failed};
+ghost use Rattle.pv_steps.specs.Acting.{Acted};
+ghost use Rattle.pv_accounts_run.specs.Accounted.{accounted};
+ghost use Rattle.pv_accounts_run.specs.Carrying.{AccountWay, IsAccountStep};
+ghost use Rattle.pv_accounts_run.specs.Mended.{IsMended};
+ghost use Rattle.provision_run.specs.Accounts.{account_messages, accounts_end, accounts_work, IsEnded, lacking_text, requests_messages, run_edits, run_requests};
+
+use crate::ending::{RunEnd, end_of};
+use pv_accounts_run::{AccountsFault, Carried, accounts_run};
+use pv_conf::read_requests;
+use pv_path::{TreePath, print_bytes};
+use pv_steps::{Tree, TreeFault};
+use pv_text::{Facts, Messages};
+use pv_words::Options;
+use std::alloc::{AllocError, Global};
+
+/// Reads the configuration of a tree and makes the users and groups that its lines ask for (systemd-sysusers(8)).
+pub(crate) fn make_accounts<T: Tree>(
+    alloc: Global,
+    options: &Options,
+    facts: &Facts,
+    moment: u64,
+    tree: &mut T,
+    messages: &mut Messages,
+) -> Result<RunEnd, TreeFault>
+    ensures ok { OnOk result (T.state tree.new ≡ accounted (run_requests options.entry.now facts.now (T.state tree.old)) moment (T.state tree.old)) }
+    ensures said { OnOk result (messages.new
+        ≡ messages.old ++ requests_messages options.entry.now facts.now (T.state tree.old) ++ account_messages options.entry.now facts.now moment (T.state tree.old)) }
+    ensures end { IfOk result (λ end. end ≡ accounts_end options.entry.now facts.now moment (T.state tree.old)) }
+    ensures part { SaidPart
+        (requests_messages options.entry.now facts.now (T.state tree.old) ++ account_messages options.entry.now facts.now moment (T.state tree.old))
+        messages.old messages.new }
+    ensures stopped { IsErrOf result Failed → SaidPart (account_messages options.entry.now facts.now moment (T.state tree.old))
+        (messages.old ++ requests_messages options.entry.now facts.now (T.state tree.old)) messages.new }
+    ensures acted { Acted T.Tree
+        (AccountWay (run_edits options.entry.now facts.now moment (T.state tree.old)) (T.state tree.old))
+        (IsAccountStep (run_edits options.entry.now facts.now moment (T.state tree.old)))
+        (accounts_work options.entry.now facts.now moment (T.state tree.old))
+        moment tree.old tree.new result }
+    ensures mended { IsMended (run_requests options.entry.now facts.now (T.state tree.old)) moment (T.state tree.old)
+        (drop (length (T.steps tree.old)) (T.steps tree.new)) }
+{
+    // Whatever the run answers, it began with a tree.
+    let _root = tree.look(&TreePath::root(alloc));
+    let read = read_requests(alloc, tree, &options.words, facts, messages)?;
+    let answer = accounts_run(alloc, tree, &read.lines, moment, messages);
+    ended(alloc, answer, read.missing, read.invalid, messages)
+}
+
+/// How a run ended, by its answer and what was read; it says for which name no number is left.
+fn ended(
+    alloc: Global,
+    answer: Result<Carried, AccountsFault>,
+    missing: bool,
+    invalid: bool,
+    messages: &mut Messages,
+) -> Result<RunEnd, TreeFault>
+    ensures { IsEnded answer missing invalid result messages.old messages.new }
+{
+    match answer {
+        Ok(carried) => Ok(end_of(carried, missing, invalid)),
+        Err(AccountsFault::NoFreeId(name)) => {
+            say_lacking(alloc, name.as_slice(), messages)?;
+            Ok(RunEnd::NoFreeId(name))
+        }
+        Err(AccountsFault::Failed) => Err(TreeFault::Failed),
+        Err(AccountsFault::Memory) => Err(TreeFault::Memory),
+    }
+}
+
+/// `no free id for NAME`.
+fn lacking_text(alloc: Global, name: &[u8]) -> Result<Vec<u8>, AllocError>
+    ensures text { IfOk result (λ text. text.items ≡ lacking_text name.now) }
+    ensures line { IfOk result (λ text. is_line text.items ≡ true) }
+{
+    let mut text = Vec::from_slice(alloc, b"no free id for ")?;
+    let printed = print_bytes(alloc, name)?;
+    text.extend_from_slice(&printed)?;
+    Ok(text)
+}
+
+/// Says that no number is left for a name.
+fn say_lacking(alloc: Global, name: &[u8], messages: &mut Messages) -> Result<(), AllocError>
+    ensures ok { OnOk result (messages.new ≡ messages.old ++ lacking_text name.now ∷ []) }
+    ensures err { OnErr result (messages.new ≡ messages.old) }
+{
+    let text = lacking_text(alloc, name)?;
+    messages.push(&text)
+}

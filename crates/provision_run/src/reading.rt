@@ -1,0 +1,76 @@
+//! What a run reads before it carries out lines.
+ghost use Rattle.std.specs.Prelude.{◌≡◌, ◌++◌, IfOk, OnOk};
+ghost use Rattle.std.specs.List.{AllByRecursion};
+ghost use Rattle.pv_text.specs.Said.{SaidPart};
+ghost use Rattle.pv_lines.specs.Lines.{IsLine};
+ghost use Rattle.pv_conf.specs.Known.{configured};
+ghost use Rattle.pv_table.specs.Active.{active, duplicates};
+ghost use Rattle.provision_run.specs.Phased.{is_invalid, lines_messages, run_lines};
+
+use pv_conf::read_configuration;
+use pv_lines::LineList;
+use pv_steps::Tree;
+use pv_table::{Table, build};
+use pv_text::{Facts, Messages};
+use pv_words::Options;
+use std::alloc::{AllocError, Global};
+
+/// What a run reads.
+#[derive(Debug, Drop)]
+pub(crate) struct RunTable {
+    /// The active lines.
+    pub table: Table,
+    /// Whether a line was refused.
+    pub invalid: bool,
+    /// Whether a file word was not found.
+    pub missing: bool,
+}
+
+/// Reads the configuration of a tree, and says of each line that makes what stands at the path of an earlier one that it
+/// is a duplicate.
+pub(crate) fn read_run<T: Tree>(
+    alloc: Global,
+    options: &Options,
+    facts: &Facts,
+    tree: &T,
+    messages: &mut Messages,
+) -> Result<RunTable, AllocError>
+    ensures lines { IfOk result (λ run. run.table ≡ run_lines options.entry.now facts.now (T.state tree.now)) }
+    ensures invalid { IfOk result (λ run. run.invalid ≡ is_invalid options.entry.now facts.now (T.state tree.now)) }
+    ensures missing { IfOk result (λ run. run.missing ≡ (configured (T.state tree.now) facts.now options.entry.now.words).missing) }
+    ensures whole { IfOk result (λ run. AllByRecursion IsLine run.table) }
+    ensures said { OnOk result (messages.new ≡ messages.old ++ lines_messages options.entry.now facts.now (T.state tree.now)) }
+    ensures part { SaidPart (lines_messages options.entry.now facts.now (T.state tree.now)) messages.old messages.new }
+{
+    let read = read_configuration(alloc, tree, &options.words, facts, messages)?;
+    let table = build_active(alloc, read.lines, options, messages)?;
+    Ok(RunTable {
+        table,
+        invalid: read.invalid,
+        missing: read.missing,
+    })
+}
+
+/// The active lines, by the filters of the options.
+fn build_active(
+    alloc: Global,
+    lines: LineList,
+    options: &Options,
+    messages: &mut Messages,
+) -> Result<Table, AllocError>
+    ensures table { IfOk result (λ table. table
+        ≡ active options.entry.now.boot options.entry.now.prefix options.entry.now.exclude_prefix lines) }
+    ensures said { OnOk result (messages.new
+        ≡ messages.old ++ duplicates options.entry.now.boot options.entry.now.prefix options.entry.now.exclude_prefix lines) }
+    ensures part { SaidPart (duplicates options.entry.now.boot options.entry.now.prefix options.entry.now.exclude_prefix lines)
+        messages.old messages.new }
+{
+    build(
+        alloc,
+        lines,
+        options.boot,
+        options.prefix.as_ref(),
+        options.exclude_prefix.as_ref(),
+        messages,
+    )
+}

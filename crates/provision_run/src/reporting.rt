@@ -1,0 +1,34 @@
+//! A report on the lines of a configuration.
+ghost use Rattle.std.specs.Prelude.{◌≡◌, IfOk, OnOk};
+ghost use Rattle.provision_run.specs.Reported.{HasReported, HasReportedPart, report_end};
+
+use crate::ending::{RunEnd, end_of};
+use pv_conf::read_configuration;
+use pv_doing::Carried;
+use pv_report::{report, say_report};
+use pv_steps::Tree;
+use pv_sysusers::say_all;
+use pv_text::{Facts, Messages};
+use pv_words::Options;
+use std::alloc::{AllocError, Global};
+
+/// Reads the configuration of a tree and reports on all its lines, active or not: which of them share a path, and which
+/// have a reason against repeating.
+pub(crate) fn report_run<T: Tree>(
+    alloc: Global,
+    options: &Options,
+    facts: &Facts,
+    tree: &T,
+    messages: &mut Messages,
+) -> Result<RunEnd, AllocError>
+    ensures said { OnOk result (HasReported options.entry.now facts.now (T.state tree.now) messages.old messages.new) }
+    ensures end { IfOk result (λ end. end ≡ report_end options.entry.now facts.now (T.state tree.now)) }
+    ensures part { HasReportedPart options.entry.now facts.now (T.state tree.now) messages.old messages.new }
+{
+    let read = read_configuration(alloc, tree, &options.words, facts, messages)?;
+    let found = report(alloc, &read.lines)?;
+    let mut said = Messages::new(alloc);
+    say_report(alloc, &read.lines, &found, &mut said)?;
+    say_all(&said, messages)?;
+    Ok(end_of(Carried::Whole, read.missing, read.invalid))
+}
