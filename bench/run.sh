@@ -48,6 +48,30 @@ many() { head_of "$(many_lines "$1")"; directories /g; echo end; }
 # among COUNT FILES: the same in a tree of so many files
 among() { head_of "$(many_lines "$1")"; directories /f; files /f "$2"; directories /g; echo end; }
 
+# present COUNT: so many lines, each for a directory that is there and gets another mode
+present_lines() { awk -v count="$1" 'BEGIN { for (i = 0; i < count; i++) printf "d /g/d%05d 0700 0 0\n", i }'; }
+children() { awk -v count="$1" -v rest="$(rest -)" 'BEGIN { for (i = 0; i < count; i++) printf "d /g/d%05d 0755 0 0 0,0,0,0 %s\n", i, rest }'; }
+present() { head_of "$(present_lines "$1")"; directories /g; children "$1"; echo end; }
+
+# mixed COUNT: so many lines of ten types over so many directories that are there
+mixed_lines() {
+  awk -v count="$1" 'BEGIN {
+    split("d /g/d%05d 0700|f /g/d%05d/f 0600 - - - text|p /g/d%05d/p 0600|L /g/d%05d/l - - - - /t|c /g/d%05d/c 0600 - - - 1:3|z /g/d%05d 0711|e /g/d%05d 0750|a+ /g/d%05d - - - - u:5:r|t /g/d%05d - - - - user.a=1|h /g/d%05d - - - - +i", line, "|")
+    for (i = 0; i < count; i++) printf line[i % 10 + 1] "\n", i }'
+}
+mixed() { head_of "$(mixed_lines "$1")"; directories /g; children "$1"; echo end; }
+
+# pattern COUNT: one line whose pattern matches a tenth of so many files in one directory
+pattern() { head_of 'z /f/f*7 0640'; directories /f; files /f "$1"; echo end; }
+
+# deep COUNT: one line that gives all directories a mode, which stand so many one in another
+deep() {
+  printf 'tree-image %s\n' "$version"; directories /
+  awk -v count="$1" -v rest="$(rest -)" 'BEGIN {
+    path = "/a"; for (i = 0; i < count; i++) { printf "d %s 0755 0 0 0,0,0,0 %s\n", path, rest; path = path "/a" } }'
+  head_of 'Z /a 0700' | tail -n +3; echo end
+}
+
 # levels COUNT: one line of so many levels
 deep_path() { awk -v count="$1" 'BEGIN { for (i = 0; i < count; i++) printf "/a" }'; }
 levels() { head_of "d $(deep_path "$1") 0755 0 0"; echo end; }
@@ -66,12 +90,43 @@ heap() {
   head_of 'd /x 0755 0 0' | tail -n +3; echo end
 }
 
+# nested LINES COUNT: so many directories one in another below /v, for a phase that takes them away
+nested() {
+  head_of "$1"
+  awk -v count="$2" -v rest="$(rest -)" 'BEGIN {
+    path = "/v"; for (i = 0; i < count; i++) { printf "d %s 0755 0 0 0,0,0,0 %s\n", path, rest; path = path "/a" } }'
+  echo end
+}
+
+# full LINES COUNT: a directory /v of so many empty files, for a phase that takes them away
+full() { head_of "$1"; directories /v; files /v "$2"; echo end; }
+
+# accounts USERS MEMBERS: account files of 10,000 entries, and lines for so many new users and members
+account_file() { awk -v form="$1" 'BEGIN { for (i = 0; i < 10000; i++) { line = form; gsub(/%/, i, line); print line } }' | base64 -w 0; }
+account_lines() {
+  awk -v users="$1" -v members="$2" 'BEGIN {
+    for (i = 0; i < users; i++) printf "u app%d %d\n", i, 20000 + i
+    for (i = 0; i < members; i++) printf "m app%d u%d\n", i, i }'
+}
+accounts() {
+  printf 'tree-image %s\n' "$version"; directories / /etc
+  printf 'f /etc/group 0644 0 0 0,0,0,0 %s\n' "$(rest "$(account_file 'u%:x:1%:')")"
+  printf 'f /etc/passwd 0644 0 0 0,0,0,0 %s\n' "$(rest "$(account_file 'u%:x:1%:1%::/:/bin/sh')")"
+  printf 'f /etc/shadow 0600 0 0 0,0,0,0 %s\n' "$(rest "$(account_file 'u%:*:1::::::')")"
+  directories /etc/sysusers.d
+  printf 'f /etc/sysusers.d/a.conf 0644 0 0 0,0,0,0 %s\n' "$(rest "$(account_lines "$1" "$2" | base64 -w 0)")"
+  echo end
+}
+
 # The program as it is in this checkout: what an earlier run left is taken away before.
 build() {
   rm -f "$program"
   (cd "$top/crates/provision" && rt run -- systemd-tmpfiles --create < /dev/null > /dev/null) || true
   [ -x "$program" ] || { echo "bench: the program could not be built" >&2; exit 1; }
 }
+
+# The words of the rows that follow.
+words='systemd-tmpfiles --create'
 
 folder=${1:-}
 only_images=$folder
@@ -81,10 +136,10 @@ if [ -z "$folder" ]; then folder=$(mktemp -d); trap 'rm -rf "$folder"' EXIT; bui
 measure() {
   best=
   for _ in 1 2 3; do
-    read -r user system memory < <( (ulimit -s 256; /usr/bin/time -q -f '%U %S %M' -o "$folder/time" \
-      "$program" systemd-tmpfiles --create < "$folder/$1" > "$folder/out"; cat "$folder/time") )
-    best=$(awk -v best="$best" -v user="$user" -v system="$system" 'BEGIN {
-      now = user + system; print (best == "" || now < best) ? now : best }')
+    read -r user kernel memory < <( (ulimit -s 256; /usr/bin/time -q -f '%U %S %M' -o "$folder/time" \
+      "$program" $words < "$folder/$1" > "$folder/out"; cat "$folder/time") )
+    best=$(awk -v best="$best" -v user="$user" -v kernel="$kernel" 'BEGIN {
+      now = user + kernel; print (best == "" || now < best) ? now : best }')
   done
   grep -q '^end$' "$folder/out" || { echo "bench: no image came out for $1" >&2; exit 1; }
   mebibytes=$((memory / 1024))
@@ -109,12 +164,37 @@ row wide100k    wide10k  wide 100000
 row wide300k    wide10k  wide 300000
 row spread10k   -        spread 10000
 row spread300k  spread10k spread 300000
+row read2000    -        nested '# none' 2000
+row read4000    read2000 nested '# none' 4000
 row lines1k     -        many 1000
 row lines10k    lines1k  many 10000
 row among1k     wide100k among 1000 100000
+row present2k   -        present 2000
+row present10k  present2k present 10000
+row mixed2k     -        mixed 2000
+row mixed10k    mixed2k  mixed 10000
+row pattern10k  -        pattern 10000
+row pattern100k pattern10k pattern 100000
+row deep500     -        deep 500
+row deep2000    deep500  deep 2000
 row levels500   -        levels 500
 row levels2000  levels500 levels 2000
 row chain500    -        chain 500
 row chain2000   chain500 chain 2000
 row heap2000    -        heap 2000
 row heap8000    heap2000 heap 8000
+row heap32k     heap8000 heap 32000
+row heap128k    heap32k  heap 128000
+words='systemd-tmpfiles --remove'
+row gone500     -        nested 'R /v' 500
+row gone2000    gone500  nested 'R /v' 2000
+row taken10k    -        full 'R /v' 10000
+row taken100k   taken10k full 'R /v' 100000
+words='systemd-tmpfiles --clean'
+row aged500     -        nested 'd /v - - - 0' 500
+row aged2000    aged500  nested 'd /v - - - 0' 2000
+row old10k      -        full 'd /v - - - 0' 10000
+row old100k     old10k   full 'd /v - - - 0' 100000
+words=systemd-sysusers
+row users1000   -        accounts 1000 0
+row members1000 users1000 accounts 1000 1000
