@@ -3,6 +3,7 @@ use Rattle.std.proofs.Common.{◌≡◌, Bool, true, false, ◌&&◌, List, [], 
 use Rattle.std.specs.List.{list_all}
 use Rattle.std.specs.Option.{option_map_or}
 use Rattle.std.proofs.lemmas.List.Folds.{list_all-append}
+use Rattle.std.proofs.lemmas.Bool.{and_parts}
 use Rattle.pv_acl.specs.declared.line.Entry.{Entry}
 use Rattle.pv_acl.specs.declared.line.Entry.TheVariants as entry
 use Rattle.pv_acl.specs.declared.line.AclLine.{AclLine}
@@ -14,7 +15,7 @@ use Rattle.pv_acl.specs.declared.perm.Named.{Named}
 use Rattle.pv_acl.specs.NamedEntries.{is_before, is_ordered, is_perm, is_named, put_named}
 use Rattle.pv_acl.specs.Parts.{is_part, is_acl, base_of}
 use Rattle.pv_acl.specs.Applying.{put_entry, kept, part_after, default_after, acl_after, is_entry, is_line}
-use Rattle.pv_acl.proofs.Booleans.{both, list_all-filter}
+use Rattle.pv_acl.proofs.Filters.{list_all-filter}
 use Rattle.pv_acl.proofs.Putting.{is_ordered-put_named}
 
 -- what an allowed part has, one by one
@@ -28,12 +29,12 @@ pub record IsAllowed (part : Part) : Type 0 where
 
 pub allowed_of : (part : Part) → is_part part ≡ true → IsAllowed part
 allowed_of part h =
-    let a = both (is_perm part.owner && is_perm part.group && is_perm part.other && list_all is_named part.named && is_ordered part.named)
+    let a = and_parts (is_perm part.owner && is_perm part.group && is_perm part.other && list_all is_named part.named && is_ordered part.named)
     (option_map_or is_perm part.mask true) h in
-    let b = both (is_perm part.owner && is_perm part.group && is_perm part.other && list_all is_named part.named) (is_ordered part.named) a.0 in
-    let c = both (is_perm part.owner && is_perm part.group && is_perm part.other) (list_all is_named part.named) b.0 in
-    let d = both (is_perm part.owner && is_perm part.group) (is_perm part.other) c.0 in
-    let e = both (is_perm part.owner) (is_perm part.group) d.0 in
+    let b = and_parts (is_perm part.owner && is_perm part.group && is_perm part.other && list_all is_named part.named) (is_ordered part.named) a.0 in
+    let c = and_parts (is_perm part.owner && is_perm part.group && is_perm part.other) (list_all is_named part.named) b.0 in
+    let d = and_parts (is_perm part.owner && is_perm part.group) (is_perm part.other) c.0 in
+    let e = and_parts (is_perm part.owner) (is_perm part.group) d.0 in
     record { owner = e.0; group = e.1; other = d.1; named = c.1; ordered = b.1; mask = a.1 }
 
 pub is_part-from : (part : Part) → IsAllowed part → is_part part ≡ true
@@ -76,7 +77,7 @@ is_part-put_entry part (entry.Mask perm) h k =
 pub is_part-fold : (es : List Entry) (part : Part) → is_part part ≡ true → list_all is_entry es ≡ true → is_part (fold put_entry part es) ≡ true
 is_part-fold [] part h all = h
 is_part-fold (e ∷ es) part h all =
-    let parts = both (is_entry e) (list_all is_entry es) all in
+    let parts = and_parts (is_entry e) (list_all is_entry es) all in
     is_part-fold es (put_entry part e) (is_part-put_entry part e h parts.0) parts.1
 
 pub is_part-base_of : (part : Part) → is_part part ≡ true → is_part (base_of part) ≡ true
@@ -100,8 +101,8 @@ is_part-default_after how access None (e ∷ es) a h all = is_part-part_after ho
 -- allowed entries make an allowed ACL of an allowed one
 pub is_acl-acl_after : (acl : Acl) (line : AclLine) (how : How) (directory : Bool) → is_acl acl ≡ true → is_line line ≡ true → is_acl (acl_after acl line how directory) ≡ true
 is_acl-acl_after acl line how directory h k =
-    let parts = both (is_part acl.access) (option_map_or is_part acl.default_part true) h in
-    let entries = both (list_all is_entry line.access) (list_all is_entry line.default_part) k in
+    let parts = and_parts (is_part acl.access) (option_map_or is_part acl.default_part true) h in
+    let entries = and_parts (list_all is_entry line.access) (list_all is_entry line.default_part) k in
     let access = is_part-part_after how acl.access line.access parts.0 entries.0 in
     rw access (by_kind directory (is_part-default_after how (part_after how acl.access line.access) acl.default_part line.default_part access parts.1 entries.1) parts.1)
   where

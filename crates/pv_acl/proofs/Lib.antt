@@ -1,4 +1,5 @@
-pub mod Booleans
+pub mod Filters
+pub mod Ordered
 pub mod Order
 pub mod Putting
 pub mod Allowed

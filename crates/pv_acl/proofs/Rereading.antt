@@ -6,6 +6,7 @@ use Rattle.std.specs.Fmt.{decimal}
 use Rattle.std.proofs.lemmas.Bool.Decides.{nat_tests}
 use Rattle.std.proofs.lemmas.Fmt.{decimal_nonempty}
 use Rattle.std.proofs.lemmas.List.Folds.{list_all-append}
+use Rattle.std.proofs.lemmas.Bool.{and_parts}
 use Rattle.pv_acl.specs.declared.line.Entry.{Entry}
 use Rattle.pv_acl.specs.declared.line.Entry.TheVariants as entry
 use Rattle.pv_acl.specs.declared.parse.Place.{Place}
@@ -21,7 +22,6 @@ use Rattle.pv_acl.specs.Spelling.{decimal_id}
 use Rattle.pv_acl.specs.Texts.{perm_text, who_text, named_text, mask_texts}
 use Rattle.pv_acl.proofs.Numerals.{number_of-decimal}
 use Rattle.pv_acl.proofs.Splitting.{lacks, split_none, split_at, each_perm, perm_of-perm_text, no_comma-perm_text, no_colon-perm_text, lacks-decimal}
-use Rattle.pv_acl.proofs.Booleans.{both}
 
 id_fits : (id : ℕ) → is_id id ≡ true → id < 2 ^ 64
 id_fits id h = grind (arith, nat_tests)
@@ -92,7 +92,7 @@ named_plain of_default who p h k = by_part of_default who h
 
 pub reads_named : (of_default : Bool) (x : Named) → is_named x ≡ true → Reads of_default (named_text x) (entry.Named x)
 reads_named of_default x h =
-    let parts = both (is_id (id_of x.who)) (is_perm x.perm) h in
+    let parts = and_parts (is_id (id_of x.who)) (is_perm x.perm) h in
     record { plain = named_plain of_default x.who x.perm parts.0 parts.1; read = named_reads of_default x.who x.perm parts.0 parts.1 }
 
 -- the base entries and the mask
@@ -140,7 +140,7 @@ read_both of_default (t ∷ ts) us (e ∷ es) fs h k = (h.0, read_both of_defaul
 pub read_names : (of_default : Bool) (xs : List Named) → list_all is_named xs ≡ true → AllRead of_default (map named_text xs) (map (λ x. entry.Named x) xs)
 read_names of_default [] h = tt
 read_names of_default (x ∷ xs) h =
-    let parts = both (is_named x) (list_all is_named xs) h in
+    let parts = and_parts (is_named x) (list_all is_named xs) h in
     (reads_named of_default x parts.0, read_names of_default xs parts.1)
 
 abbrev pub mask_entries : Option ℕ → List Entry

@@ -9,6 +9,7 @@ use Rattle.std.proofs.lemmas.Bool.Decides.{nat_tests}
 use Rattle.std.proofs.lemmas.Slice.Eq.{bytes_eq-Decides}
 use Rattle.std.proofs.lemmas.List.Folds.{list_all-append}
 use Rattle.std.proofs.lemmas.List.Sums.{fold-append}
+use Rattle.std.proofs.lemmas.Bool.{and_parts}
 use Rattle.pv_acl.specs.declared.line.Entry.{Entry}
 use Rattle.pv_acl.specs.declared.line.Entry.TheVariants as entry
 use Rattle.pv_acl.specs.declared.line.AclLine.{AclLine}
@@ -25,10 +26,11 @@ use Rattle.pv_acl.specs.Parts.{is_part, is_acl, base_of, part_of_mode, acl_of_mo
 use Rattle.pv_acl.specs.Spelling.{IsSpelt, decimal_id}
 use Rattle.pv_acl.specs.Texts.{perm_text, named_text, mask_texts, access_texts, default_texts, part_texts, is_user, is_group, or_dash, acl_text}
 use Rattle.pv_acl.proofs.Allowed.{IsAllowed, allowed_of}
-use Rattle.pv_acl.proofs.Order.{who_asym, is_ordered-filter}
+use Rattle.pv_acl.proofs.Order.{who_asym}
+use Rattle.pv_acl.proofs.Putting.{is_ordered-filter}
 use Rattle.pv_acl.proofs.Rereading.{AllRead, read_both, read_names, read_mask, read_line, plain_line, mask_entries, reads_owner, reads_group, reads_other}
 use Rattle.pv_acl.proofs.Splitting.{lacks, split_join}
-use Rattle.pv_acl.proofs.Booleans.{both, filter_whole, list_all-filter}
+use Rattle.pv_acl.proofs.Filters.{filter_whole, list_all-filter}
 
 -- an entry put after all others
 put_last : (ys : List Named) (y : Named) → all_before ys y ≡ true → put_named y ys ≡ ys ++ y ∷ []
@@ -37,16 +39,16 @@ put_last ys y h = rw (filter_whole (λ x. is_before x y) ys h, none_after ys h) 
     none_after : (zs : List Named) → all_before zs y ≡ true → filter (is_before y) zs ≡ []
     none_after [] k = refl
     none_after (z ∷ zs) k =
-        let parts = both (is_before z y) (all_before zs y) k in
+        let parts = and_parts (is_before z y) (all_before zs y) k in
         rw (who_asym z.who y.who parts.0) (none_after zs parts.1)
 
 -- entries before another in a list that is in order
 before_of : (ys : List Named) (x : Named) (xs : List Named) → is_ordered (ys ++ x ∷ xs) ≡ true → all_before ys x ≡ true
 before_of [] x xs o = refl
 before_of (y ∷ ys) x xs o =
-    let parts = both (list_all (is_before y) (ys ++ x ∷ xs)) (is_ordered (ys ++ x ∷ xs)) o in
-    let cut = both (list_all (is_before y) ys) (list_all (is_before y) (x ∷ xs)) (sym (list_all-append (is_before y) ys (x ∷ xs)) ∙ parts.0) in
-    let here = both (is_before y x) (list_all (is_before y) xs) cut.1 in
+    let parts = and_parts (list_all (is_before y) (ys ++ x ∷ xs)) (is_ordered (ys ++ x ∷ xs)) o in
+    let cut = and_parts (list_all (is_before y) ys) (list_all (is_before y) (x ∷ xs)) (sym (list_all-append (is_before y) ys (x ∷ xs)) ∙ parts.0) in
+    let here = and_parts (is_before y x) (list_all (is_before y) xs) cut.1 in
     rw here.0 (before_of ys x xs parts.1)
 
 put_names : (xs ys : List Named) (part : Part) → is_ordered (ys ++ xs) ≡ true → fold put_entry (record part { named = ys }) (map (λ x. entry.Named x) xs) ≡ record part { named = ys ++ xs }
@@ -84,7 +86,7 @@ kind_after g (Group u) p h = (refl, refl)
 no_users : (g p : ℕ) (xs : List Named) → list_all (is_before (record { who = Group g; perm = p })) xs ≡ true → (filter is_user xs ≡ []) × (filter is_group xs ≡ xs)
 no_users g p [] h = (refl, refl)
 no_users g p (x ∷ xs) h =
-    let parts = both (is_before (record { who = Group g; perm = p }) x) (list_all (is_before (record { who = Group g; perm = p })) xs) h in
+    let parts = and_parts (is_before (record { who = Group g; perm = p }) x) (list_all (is_before (record { who = Group g; perm = p })) xs) h in
     let k = kind_after g x.who x.perm parts.0 in
     let r = no_users g p xs parts.1 in
     (rw k.0 r.0, rw k.1 (ap (λ (zs : List Named). x ∷ zs) r.1))
@@ -100,7 +102,7 @@ users_first (Group g) p xs h rest =
 users_groups : (xs : List Named) → is_ordered xs ≡ true → filter is_user xs ++ filter is_group xs ≡ xs
 users_groups [] o = refl
 users_groups (x ∷ xs) o =
-    let parts = both (list_all (is_before x) xs) (is_ordered xs) o in
+    let parts = and_parts (list_all (is_before x) xs) (is_ordered xs) o in
     users_first x.who x.perm xs parts.0 (users_groups xs parts.1)
 
 -- the entries of a part with its base entries
@@ -191,7 +193,7 @@ texts_split (t ∷ ts) field h e other = ap (slice_split (λ b. b == 44)) (sym (
 -- the text of an ACL reads as its line
 pub text_reads : (field : List ℕ) (acl : Acl) → acl_text acl ≡ field → is_acl acl ≡ true → field ≢ codes "-" → acl_line_of decimal_id decimal_id field ≡ Ok (line_in acl)
 text_reads field acl text allowed other =
-    let parts = both (is_part acl.access) (option_map_or is_part acl.default_part true) allowed in
+    let parts = and_parts (is_part acl.access) (option_map_or is_part acl.default_part true) allowed in
     let r = parts_read acl.access acl.default_part parts.0 parts.1 in
     ap (λ (ts : List (List ℕ)). line_of (map (text_entry_of decimal_id decimal_id) ts))
     (texts_split (access_texts acl.access ++ default_texts acl.default_part) field r.0 text other) ∙ r.1
@@ -206,7 +208,7 @@ default_part_is false access (Some part) h kind = let bad : false ≡ true = kin
 -- an ACL is what its line makes of the mode
 pub line_makes : (field : List ℕ) (mode : ℕ) (directory : Bool) (acl : Acl) → IsSpelt field mode directory acl → acl_after (acl_of_mode mode) (line_in acl) Add directory ≡ acl
 line_makes field mode directory acl spelt =
-    let parts = both (is_part acl.access) (option_map_or is_part acl.default_part true) spelt.allowed in
+    let parts = and_parts (is_part acl.access) (option_map_or is_part acl.default_part true) spelt.allowed in
     let access : part_after Add (part_of_mode mode) (access_entries acl.access) ≡ acl.access =
     ap (λ (p : Part). part_after Add p (access_entries acl.access)) (sym spelt.base) ∙ access_is acl.access (allowed_of acl.access parts.0).ordered in
     ap (λ (a : Part). record { access = a; default_part = if directory then default_after Add a None (default_entries acl.default_part) else None }) access

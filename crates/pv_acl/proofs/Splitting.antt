@@ -1,5 +1,5 @@
 -- Texts between bytes, and what the text of a permission or of an ID reads as.
-use Rattle.std.proofs.Common.{◌≡◌, ℕ, ◌<◌, ◌≤◌, zero, suc, Bool, true, false, not, ◌==◌, List, [], ◌∷◌, ◌++◌, Some, refl, sym, ap, ◌∙◌, arith, ◌^◌, ◌⊎◌}
+use Rattle.std.proofs.Common.{◌≡◌, ℕ, ◌<◌, ◌≤◌, zero, suc, Bool, true, not, ◌==◌, List, [], ◌∷◌, ◌++◌, Some, refl, ap, ◌∙◌, arith, ◌^◌, ◌⊎◌}
 use Rattle.std.specs.List.{list_all, slice_split, onto_first, join_with_byte}
 use Rattle.std.specs.Fmt.{decimal}
 use Rattle.std.specs.Str.Parse.{AllDigits}
@@ -7,10 +7,10 @@ use Rattle.std.proofs.lemmas.Bool.Decides.{nat_tests}
 use Rattle.std.proofs.lemmas.List.Splits.{slice_split-cons_no, slice_split-cons_yes}
 use Rattle.std.proofs.lemmas.Fmt.{decimal_is_IsNumeral}
 use Rattle.std.proofs.lemmas.Str.Parse.{digit_from_value}
+use Rattle.std.proofs.lemmas.Bool.{and_parts, not-true}
 use Rattle.pv_acl.specs.NamedEntries.{is_perm}
 use Rattle.pv_acl.specs.Texts.{perm_text}
 use Rattle.pv_acl.specs.Entries.{perm_of}
-use Rattle.pv_acl.proofs.Booleans.{both}
 
 -- whether a byte stands nowhere in a text
 abbrev pub lacks : ℕ → List ℕ → Bool
@@ -19,12 +19,8 @@ lacks c text = list_all (λ b. not (b == c)) text
 pub split_none : (c : ℕ) (xs : List ℕ) → lacks c xs ≡ true → slice_split (λ b. b == c) xs ≡ xs ∷ []
 split_none c [] h = refl
 split_none c (x ∷ xs) h =
-    let parts = both (not (x == c)) (lacks c xs) h in
-    slice_split-cons_no (λ b. b == c) x xs (not_true (x == c) parts.0) ∙ ap (onto_first x) (split_none c xs parts.1)
-  where
-    not_true : (b : Bool) → not b ≡ true → b ≡ false
-    not_true true e = sym e
-    not_true false e = refl
+    let parts = and_parts (not (x == c)) (lacks c xs) h in
+    slice_split-cons_no (λ b. b == c) x xs (not-true (x == c) parts.0) ∙ ap (onto_first x) (split_none c xs parts.1)
 
 pub split_at : (c : ℕ) (xs ys : List ℕ) → lacks c xs ≡ true → slice_split (λ b. b == c) (xs ++ c ∷ ys) ≡ xs ∷ slice_split (λ b. b == c) ys
 split_at c [] ys h = slice_split-cons_yes (λ b. b == c) c ys (same c)
@@ -32,18 +28,14 @@ split_at c [] ys h = slice_split-cons_yes (λ b. b == c) c ys (same c)
     same : (n : ℕ) → (n == n) ≡ true
     same n = grind (arith, nat_tests)
 split_at c (x ∷ xs) ys h =
-    let parts = both (not (x == c)) (lacks c xs) h in
-    slice_split-cons_no (λ b. b == c) x (xs ++ c ∷ ys) (not_true (x == c) parts.0) ∙ ap (onto_first x) (split_at c xs ys parts.1)
-  where
-    not_true : (b : Bool) → not b ≡ true → b ≡ false
-    not_true true e = sym e
-    not_true false e = refl
+    let parts = and_parts (not (x == c)) (lacks c xs) h in
+    slice_split-cons_no (λ b. b == c) x (xs ++ c ∷ ys) (not-true (x == c) parts.0) ∙ ap (onto_first x) (split_at c xs ys parts.1)
 
 -- joined texts without the byte come apart again
 pub split_join : (t : List ℕ) (ts : List (List ℕ)) → list_all (lacks 44) (t ∷ ts) ≡ true → slice_split (λ b. b == 44) (join_with_byte 44 (t ∷ ts)) ≡ t ∷ ts
-split_join t [] h = let parts = both (lacks 44 t) true h in split_none 44 t parts.0
+split_join t [] h = let parts = and_parts (lacks 44 t) true h in split_none 44 t parts.0
 split_join t (u ∷ us) h =
-    let parts = both (lacks 44 t) (list_all (lacks 44) (u ∷ us)) h in
+    let parts = and_parts (lacks 44 t) (list_all (lacks 44) (u ∷ us)) h in
     split_at 44 t (join_with_byte 44 (u ∷ us)) parts.0 ∙ ap (λ (ts : List (List ℕ)). t ∷ ts) (split_join u us parts.1)
 
 -- a fact of each permission

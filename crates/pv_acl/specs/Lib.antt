@@ -1,3 +1,4 @@
+pub mod Ordered
 pub mod NamedEntries
 pub mod Parts
 pub mod Applying

@@ -1,12 +1,12 @@
 -- Whom named entries speak of, and the order in which they stand (acl(5)).
-use Rattle.std.specs.Prelude.{ℕ, Bool, true, false, ◌&&◌, nat_le, List, [], ◌∷◌, ◌++◌, filter, fold, bit_or}
-use Rattle.std.specs.List.{list_all}
+use Rattle.std.specs.Prelude.{ℕ, Bool, true, false, ◌&&◌, nat_le, List, [], ◌∷◌, fold, bit_or}
 use Rattle.std.specs.Ordering.{nat_cmp, is_lt}
 use Rattle.std.specs.declared.cmp.Ordering.{Ordering}
 use Rattle.std.specs.declared.cmp.Ordering.TheVariants.{Less, Greater}
 use Rattle.pv_acl.specs.declared.perm.Who.{Who}
 use Rattle.pv_acl.specs.declared.perm.Who.TheVariants.{User, Group}
 use Rattle.pv_acl.specs.declared.perm.Named.{Named}
+use Rattle.pv_acl.specs.Ordered.{all_before_by, is_ordered_by, put_by}
 
 -- the order of named entries: users by ID, then groups by ID
 abbrev pub who_cmp : Who → Who → Ordering
@@ -21,17 +21,15 @@ is_before x y = is_lt (who_cmp x.who y.who)
 
 -- whether each of the entries stands before this one
 abbrev pub all_before : List Named → Named → Bool
-all_before xs y = list_all (λ x. is_before x y) xs
+all_before = all_before_by is_before
 
 -- whether named entries are in order, each user and each group at most once
 abbrev pub is_ordered : List Named → Bool
-is_ordered [] = true
-is_ordered (x ∷ xs) = list_all (is_before x) xs && is_ordered xs
+is_ordered = is_ordered_by is_before
 
--- an entry put among others: after those that stand before it, in the place of one for the same user
--- or group, and before the rest
+-- an entry put among others at its place, over one for the same user or group
 abbrev pub put_named : Named → List Named → List Named
-put_named y xs = filter (λ x. is_before x y) xs ++ y ∷ filter (is_before y) xs
+put_named = put_by is_before
 
 -- whether there are no named entries
 abbrev pub is_empty : List Named → Bool

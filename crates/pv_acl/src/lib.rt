@@ -25,6 +25,3 @@ pub use part::{Acl, Part, effective_mask};
 pub use perm::{Named, Perm, Who};
 pub use print::print_acl;
 pub use read::read_acl;
-
-#[cfg(test)]
-mod tests;

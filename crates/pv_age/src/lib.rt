@@ -14,6 +14,3 @@ pub use fault::AgeFault;
 pub use laws::printed_numbers_with_units_read_back_as_their_sum;
 pub use old::is_old;
 pub use stamps::StampSet;
-
-#[cfg(test)]
-mod tests;

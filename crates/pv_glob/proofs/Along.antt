@@ -2,7 +2,8 @@
 use Rattle.std.proofs.Common.{◌≡◌, ℕ, ◌+◌, ◌-◌, ◌<◌, ◌≤◌, Bool, true, false, ◌&&◌, ◌||◌, ◌==◌, List, [], ◌∷◌, ◌++◌, length, Option, Some, None, refl, sym, ap, ◌∙◌, arith, append_assoc, length-append, suc, subst, Bor, get_or, take, drop}
 use Rattle.std.proofs.Math.Seq.{take-length}
 use Rattle.std.proofs.lemmas.Bool.Decides.{nat_tests}
-use Rattle.pv_path.proofs.PathLaws.{both_true, or_true}
+use Rattle.std.proofs.lemmas.Bool.{and_parts}
+use Rattle.std.proofs.Math.Bool.{or-true, or-false}
 use Rattle.pv_glob.specs.declared.element.Element.{Element}
 use Rattle.pv_glob.specs.declared.element.Element.TheVariants.{Byte, Any, Many, OneOf}
 use Rattle.pv_glob.specs.Matching.{byte_matches, after_many, name_matches, component_matches}
@@ -42,11 +43,7 @@ period_matches (element ∷ elements) name = false
 
 pub first_of_period : (elements : List Element) (name : List ℕ) → name_matches elements true (46 ∷ name) ≡ period_matches (behind_stars elements) name
 first_of_period [] name = refl
-first_of_period (Many ∷ elements) name = or_false _ ∙ first_of_period elements name
-  where
-    or_false : (b : Bool) → (b || false) ≡ b
-    or_false true = refl
-    or_false false = refl
+first_of_period (Many ∷ elements) name = or-false _ ∙ first_of_period elements name
 first_of_period (Byte c ∷ elements) name = refl
 first_of_period (Any ∷ elements) name = refl
 first_of_period (OneOf set ∷ elements) name = refl
@@ -60,11 +57,7 @@ matches_later elements (b ∷ name) = after_many (name_matches elements) false n
 
 -- `*` and what follows it match where the rest of the elements do at once or later
 pub many_now_or_later : (elements : List Element) (name : List ℕ) → rest_matches (Many ∷ elements) name ≡ (rest_matches elements name || matches_later elements name)
-many_now_or_later elements [] = sym (or_false _)
-  where
-    or_false : (b : Bool) → (b || false) ≡ b
-    or_false true = refl
-    or_false false = refl
+many_now_or_later elements [] = sym (or-false _)
 many_now_or_later elements (b ∷ name) = refl
 
 -- no element of a list is `*`
@@ -88,9 +81,9 @@ front_taken (Many ∷ front) elements name plain e = cc
 front_taken (Byte c ∷ front) elements [] plain e = cc
 front_taken (Any ∷ front) elements [] plain e = cc
 front_taken (OneOf set ∷ front) elements [] plain e = cc
-front_taken (Byte c ∷ front) elements (b ∷ name) plain e = one_more (Byte c) front elements b name (front_taken front elements name plain (both_true (byte_matches (Byte c) false b) _ e).1)
-front_taken (Any ∷ front) elements (b ∷ name) plain e = one_more Any front elements b name (front_taken front elements name plain (both_true (byte_matches Any false b) _ e).1)
-front_taken (OneOf set ∷ front) elements (b ∷ name) plain e = one_more (OneOf set) front elements b name (front_taken front elements name plain (both_true (byte_matches (OneOf set) false b) _ e).1)
+front_taken (Byte c ∷ front) elements (b ∷ name) plain e = one_more (Byte c) front elements b name (front_taken front elements name plain (and_parts (byte_matches (Byte c) false b) _ e).1)
+front_taken (Any ∷ front) elements (b ∷ name) plain e = one_more Any front elements b name (front_taken front elements name plain (and_parts (byte_matches Any false b) _ e).1)
+front_taken (OneOf set ∷ front) elements (b ∷ name) plain e = one_more (OneOf set) front elements b name (front_taken front elements name plain (and_parts (byte_matches (OneOf set) false b) _ e).1)
 
 -- where `*` may take bytes, the rest of the elements matches behind some
 pub many_takes : (elements : List Element) (name : List ℕ) → after_many (name_matches elements) false name ≡ true → (taken : List ℕ) × (left : List ℕ) × (name ≡ taken ++ left) × (rest_matches elements left ≡ true)
@@ -105,7 +98,7 @@ many_takes elements (b ∷ name) e = by_now (rest_matches elements (b ∷ name))
 -- `*` may take more bytes in front of those that it took
 pub many_takes_more : (elements : List Element) (taken name : List ℕ) → rest_matches (Many ∷ elements) name ≡ true → rest_matches (Many ∷ elements) (taken ++ name) ≡ true
 many_takes_more elements [] name e = e
-many_takes_more elements (b ∷ taken) name e = rw (many_takes_more elements taken name e) (or_true (rest_matches elements (b ∷ (taken ++ name))))
+many_takes_more elements (b ∷ taken) name e = rw (many_takes_more elements taken name e) (or-true (rest_matches elements (b ∷ (taken ++ name))))
 
 -- of two ends of one list the longer one ends in the shorter one
 pub longer_end : (front other left right : List ℕ) → front ++ left ≡ other ++ right → length right ≤ length left → (between : List ℕ) × (left ≡ between ++ right)

@@ -4,9 +4,10 @@ use Rattle.std.specs.Prelude.{find, unwrap_or}
 use Rattle.std.specs.List.{flat_map, list_all, list_any, slice_split, starts_with, onto_first}
 use Rattle.std.proofs.lemmas.Bool.Decides.{nat_tests}
 use Rattle.std.proofs.lemmas.List.Folds.{list_any-append}
+use Rattle.std.proofs.lemmas.Bool.{and_parts, or_parts, not-true}
 use Rattle.pv_path.specs.Names.{same_bytes, is_dots, is_name, is_name_byte, is_staging, staging_mark}
 use Rattle.pv_path.specs.Paths.{Path, has_names, has_staging}
-use Rattle.pv_path.proofs.PathLaws.{both_true, is_name-parts}
+use Rattle.pv_path.proofs.PathLaws.{is_name-parts}
 use Rattle.pv_glob.specs.declared.element.Element.{Element}
 use Rattle.pv_glob.specs.declared.element.Element.TheVariants.{Byte}
 use Rattle.pv_glob.specs.declared.fault.PatternFault.{PatternFault}
@@ -16,10 +17,6 @@ use Rattle.pv_glob.specs.Matching.{literal_of}
 use Rattle.pv_glob.specs.Elements.{element_at, elements_of, has_fault_at}
 use Rattle.pv_glob.specs.Braces.{Rest, expansions_of, rests_of, whole, with_place}
 use Rattle.pv_glob.specs.Parsing.{component_fault, components_of, first_fault, has_fault, name_fault, pattern_of, plains_of, words_of}
-
-both_false : (a b : Bool) → (a || b) ≡ false → (a ≡ false) × (b ≡ false)
-both_false true b e = absurd (let no_way : true ≡ false = e in cc)
-both_false false b e = (refl, e)
 
 -- ---- bytes
 
@@ -34,11 +31,11 @@ record IsOrdinary (b : ℕ) : Type 0 where
 
 ordinary : (b : ℕ) → is_special b ≡ false → IsOrdinary b
 ordinary b e =
-    let u = both_false _ (b == 125) e in
-    let v = both_false _ (b == 123) u.0 in
-    let w = both_false _ (b == 91) v.0 in
-    let x = both_false _ (b == 63) w.0 in
-    let y = both_false (b == 92) (b == 42) x.0 in
+    let u = or_parts _ (b == 125) e in
+    let v = or_parts _ (b == 123) u.0 in
+    let w = or_parts _ (b == 91) v.0 in
+    let x = or_parts _ (b == 63) w.0 in
+    let y = or_parts (b == 92) (b == 42) x.0 in
     record { backslash = y.0; star = y.1; mark = x.1; bracket = w.1; brace = v.1; end = u.1 }
 
 -- a special byte is no other byte
@@ -155,7 +152,7 @@ same_escaped (b ∷ bytes) [] h = by_test (is_special b) refl
     by_test : (t : Bool) → is_special b ≡ t → same_bytes (escaped (b ∷ bytes)) [] ≡ false
     by_test true e = rw e refl
     by_test false e = rw e refl
-same_escaped (b ∷ bytes) (c ∷ word) h = by_test (both_false (is_special c) (list_any is_special word) h) (same_escaped bytes word) (is_special b) refl
+same_escaped (b ∷ bytes) (c ∷ word) h = by_test (or_parts (is_special c) (list_any is_special word) h) (same_escaped bytes word) (is_special b) refl
   where
     by_test : (is_special c ≡ false) × (list_any is_special word ≡ false) → (list_any is_special word ≡ false → same_bytes (escaped bytes) word ≡ same_bytes bytes word)
         → (t : Bool) → is_special b ≡ t → same_bytes (escaped (b ∷ bytes)) (c ∷ word) ≡ same_bytes (b ∷ bytes) (c ∷ word)
@@ -166,7 +163,7 @@ same_escaped (b ∷ bytes) (c ∷ word) h = by_test (both_false (is_special c) (
 begins_escaped : (bytes word : List ℕ) → list_any is_special word ≡ false → starts_with nat_eq (escaped bytes) word ≡ starts_with nat_eq bytes word
 begins_escaped bytes [] h = refl
 begins_escaped [] (c ∷ word) h = refl
-begins_escaped (b ∷ bytes) (c ∷ word) h = by_test (both_false (is_special c) (list_any is_special word) h) (begins_escaped bytes word) (is_special b) refl
+begins_escaped (b ∷ bytes) (c ∷ word) h = by_test (or_parts (is_special c) (list_any is_special word) h) (begins_escaped bytes word) (is_special b) refl
   where
     by_test : (is_special c ≡ false) × (list_any is_special word ≡ false) → (list_any is_special word ≡ false → starts_with nat_eq (escaped bytes) word ≡ starts_with nat_eq bytes word)
         → (t : Bool) → is_special b ≡ t → starts_with nat_eq (escaped (b ∷ bytes)) (c ∷ word) ≡ starts_with nat_eq (b ∷ bytes) (c ∷ word)
@@ -188,7 +185,7 @@ name_clear name is none =
 any_escaped : (test : ℕ → Bool) (bytes : List ℕ) → test 92 ≡ false → list_any test bytes ≡ false → list_any test (escaped bytes) ≡ false
 any_escaped test [] mark e = refl
 any_escaped test (b ∷ bytes) mark e =
-    let u = both_false (test b) (list_any test bytes) e in
+    let u = or_parts (test b) (list_any test bytes) e in
     by_test (any_escaped test bytes mark u.1) u.0 (is_special b) refl
   where
     by_test : list_any test (escaped bytes) ≡ false → test b ≡ false → (t : Bool) → is_special b ≡ t → list_any test (escaped (b ∷ bytes)) ≡ false
@@ -199,18 +196,14 @@ any_escaped test (b ∷ bytes) mark e =
 no_byte : (c : ℕ) (name : List ℕ) → ((b : ℕ) → is_name_byte b ≡ true → (b == c) ≡ false) → list_all is_name_byte name ≡ true → list_any (λ b. b == c) name ≡ false
 no_byte c [] clear e = refl
 no_byte c (b ∷ name) clear e =
-    let u = both_true (is_name_byte b) (list_all is_name_byte name) e in
+    let u = and_parts (is_name_byte b) (list_all is_name_byte name) e in
     rw (clear b u.0) (no_byte c name clear u.1)
 
-not_true : (t : Bool) → not t ≡ true → t ≡ false
-not_true true e = absurd (let no_way : false ≡ true = e in cc)
-not_true false e = refl
-
 no_nul : (name : List ℕ) → is_name name ≡ true → list_any (λ b. b == 0) (escaped name) ≡ false
-no_nul name is = any_escaped (λ b. b == 0) name refl (no_byte 0 name (λ b e. not_true (b == 0) (both_true (nat_lt b 256) (not (b == 0)) (both_true _ (not (b == 47)) e).0).1) (is_name-parts name is).2)
+no_nul name is = any_escaped (λ b. b == 0) name refl (no_byte 0 name (λ b e. not-true (b == 0) (and_parts (nat_lt b 256) (not (b == 0)) (and_parts _ (not (b == 47)) e).0).1) (is_name-parts name is).2)
 
 no_slash : (name : List ℕ) → is_name name ≡ true → list_any (λ b. b == 47) (escaped name) ≡ false
-no_slash name is = any_escaped (λ b. b == 47) name refl (no_byte 47 name (λ b e. not_true (b == 47) (both_true _ (not (b == 47)) e).1) (is_name-parts name is).2)
+no_slash name is = any_escaped (λ b. b == 47) name refl (no_byte 47 name (λ b e. not-true (b == 47) (and_parts _ (not (b == 47)) e).1) (is_name-parts name is).2)
 
 above_none : (n : ℕ) → nat_lt 0 (suc n) ≡ true
 above_none n = grind (arith, nat_tests)
@@ -230,7 +223,7 @@ is_slash b = b == 47
 split_clear : (bytes rest : List ℕ) (pieces : List (List ℕ)) → list_any is_slash bytes ≡ false → slice_split is_slash rest ≡ [] ∷ pieces → slice_split is_slash (bytes ++ rest) ≡ bytes ∷ pieces
 split_clear [] rest pieces none e = e
 split_clear (b ∷ bytes) rest pieces none e =
-    let u = both_false (is_slash b) (list_any is_slash bytes) none in
+    let u = or_parts (is_slash b) (list_any is_slash bytes) none in
     rw u.0 (ap (onto_first b) (split_clear bytes rest pieces u.1 e))
 
 abbrev slashed : Path → List ℕ
@@ -239,13 +232,13 @@ slashed path = flat_map (λ n. 47 ∷ escaped n) path
 pieces_are : (path : Path) → has_names path ≡ true → slice_split is_slash (slashed path) ≡ [] ∷ map escaped path
 pieces_are [] h = refl
 pieces_are (name ∷ path) h =
-    let u = both_true (is_name name) (has_names path) h in
+    let u = and_parts (is_name name) (has_names path) h in
     ap (λ (ps : List (List ℕ)). [] ∷ ps) (split_clear (escaped name) (slashed path) (map escaped path) (no_slash name u.0) (pieces_are path u.1))
 
 all_kept : (path : Path) → has_names path ≡ true → filter (λ component. nat_lt 0 (length component)) (map escaped path) ≡ map escaped path
 all_kept [] h = refl
 all_kept (name ∷ path) h =
-    let u = both_true (is_name name) (has_names path) h in
+    let u = and_parts (is_name name) (has_names path) h in
     rw (some_bytes name u.0) (ap (λ (ps : List (List ℕ)). escaped name ∷ ps) (all_kept path u.1))
 
 components_are : (path : Path) → has_names path ≡ true → components_of (slashed path) ≡ map escaped path
@@ -254,7 +247,7 @@ components_are path h = ap (filter (λ component. nat_lt 0 (length component))) 
 clear_of_nul : (path : Path) → has_names path ≡ true → list_any (λ b. b == 0) (slashed path) ≡ false
 clear_of_nul [] h = refl
 clear_of_nul (name ∷ path) h =
-    let u = both_true (is_name name) (has_names path) h in
+    let u = and_parts (is_name name) (has_names path) h in
     list_any-append (λ b. b == 0) (escaped name) (slashed path) ∙ ap (λ (t : Bool). t || list_any (λ b. b == 0) (slashed path)) (no_nul name u.0) ∙ clear_of_nul path u.1
 
 -- ---- whole paths
@@ -262,8 +255,8 @@ clear_of_nul (name ∷ path) h =
 names_clear : (path : Path) → has_names path ≡ true → has_staging path ≡ false → first_fault name_fault (map escaped path) ≡ None
 names_clear [] h none = refl
 names_clear (name ∷ path) h none =
-    let u = both_true (is_name name) (has_names path) h in
-    let v = both_false (is_staging name) (has_staging path) none in
+    let u = and_parts (is_name name) (has_names path) h in
+    let v = or_parts (is_staging name) (has_staging path) none in
     rw (name_clear name u.0 v.0) (names_clear path u.1 v.1)
 
 plains_are : (path : Path) → plains_of 1 (map escaped path) ≡ Ok (literal_of path ∷ [])

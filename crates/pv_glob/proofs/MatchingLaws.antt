@@ -5,24 +5,21 @@ use Rattle.std.specs.Cmp.Lexicographic.{pointwise, as_long}
 use Rattle.std.proofs.Common.{get_or, sym, ap, ◌∙◌, arith}
 use Rattle.std.specs.List.{list_all}
 use Rattle.std.proofs.lemmas.Bool.Decides.{nat_tests}
+use Rattle.std.proofs.lemmas.Bool.{and_parts, not-true, and_right}
 use Rattle.pv_path.specs.Names.{same_bytes}
 use Rattle.pv_path.specs.Paths.{Path, has_staging, is_prefix, same_path, same_path-decides}
-use Rattle.pv_path.proofs.PathLaws.{both_true, prefix_whole}
+use Rattle.pv_path.proofs.PathLaws.{prefix_whole}
 use Rattle.pv_glob.specs.declared.element.Element.{Element}
 use Rattle.pv_glob.specs.declared.element.Element.TheVariants.{Byte}
 use Rattle.pv_glob.specs.Matching.{are_expansions, component_matches, literal_of, matches, name_matches, some_matches}
 
 -- no matched path has a staging name
 pub matches-no_staging : (components : List (List Element)) (path : Path) → matches components path ≡ true → has_staging path ≡ false
-matches-no_staging components path e = by_test (has_staging path) (both_true (not (has_staging path)) (pointwise component_matches components path) e).0
-  where
-    by_test : (t : Bool) → not t ≡ true → t ≡ false
-    by_test true e = sym e
-    by_test false e = refl
+matches-no_staging components path e = not-true (has_staging path) (and_parts (not (has_staging path)) (pointwise component_matches components path) e).0
 
 -- a matched path has as many names as the pattern has components
 pub matches-length : (components : List (List Element)) (path : Path) → matches components path ≡ true → length components ≡ length path
-matches-length components path e = as_long component_matches components path (both_true (not (has_staging path)) (pointwise component_matches components path) e).1
+matches-length components path e = as_long component_matches components path (and_parts (not (has_staging path)) (pointwise component_matches components path) e).1
 
 -- of two paths that one pattern matches none begins with the other
 pub matched_prefix : (components : List (List Element)) (p q : Path) → matches components p ≡ true → matches components q ≡ true → is_prefix p q ≡ true → p ≡ q
@@ -49,10 +46,6 @@ names_fit [] (n ∷ q) = refl
 names_fit (m ∷ path) [] = refl
 names_fit (m ∷ path) (n ∷ q) = rw (bytes_match m true n) (ap (λ (t : Bool). same_bytes m n && t) (names_fit path q))
 
-and_false : (a b : Bool) → b ≡ false → (a && b) ≡ false
-and_false true b e = e
-and_false false b e = refl
-
 -- a path without a staging name is matched by its literal alone
 pub literal_alone : (path q : Path) → has_staging path ≡ false → matches (literal_of path) q ≡ same_path path q
 literal_alone path q none = by_test (same_path path q) refl
@@ -62,7 +55,7 @@ literal_alone path q none = by_test (same_path path q) refl
         let one : path ≡ q = (same_path-decides path q).0 is in
         let clear : has_staging q ≡ false = sym (ap has_staging one) ∙ none in
         rw clear (names_fit path q)
-    by_test false is = and_false (not (has_staging q)) _ (names_fit path q ∙ is) ∙ sym is
+    by_test false is = and_right (not (has_staging q)) _ (names_fit path q ∙ is) ∙ sym is
 
 -- ---- patterns with braces
 
@@ -70,7 +63,7 @@ literal_alone path q none = by_test (same_path path q) refl
 pub some_matches-found : (plains : List (List (List Element))) (n : ℕ) (path : Path) → list_all (λ plain. length plain == n) plains ≡ true → some_matches plains path ≡ true → (length path ≡ n) × (has_staging path ≡ false)
 some_matches-found [] n path all e = absurd (let no_way : false ≡ true = e in cc)
 some_matches-found (plain ∷ plains) n path all e =
-    let u = both_true (length plain == n) (list_all (λ p. length p == n) plains) all in
+    let u = and_parts (length plain == n) (list_all (λ p. length p == n) plains) all in
     by_first (matches plain path) refl u.0 (some_matches-found plains n path u.1)
   where
     by_first : (t : Bool) → matches plain path ≡ t → (length plain == n) ≡ true → (some_matches plains path ≡ true → (length path ≡ n) × (has_staging path ≡ false)) → (length path ≡ n) × (has_staging path ≡ false)

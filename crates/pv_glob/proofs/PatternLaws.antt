@@ -7,7 +7,7 @@ use Rattle.std.specs.Result.{result_map_both}
 use Rattle.std.proofs.lemmas.List.{length-map}
 use Rattle.std.proofs.Math.Nat.{div-lt_iff_lt-mul, div-mul-le_self, mul-le-mul_right, mul_comm}
 use Rattle.std.proofs.lemmas.Bool.Decides.{nat_tests}
-use Rattle.pv_path.proofs.PathLaws.{both_true}
+use Rattle.std.proofs.lemmas.Bool.{and_parts}
 use Rattle.pv_glob.specs.declared.element.Element.{Element}
 use Rattle.pv_glob.specs.declared.fault.PatternFault.{PatternFault}
 use Rattle.pv_glob.specs.declared.fault.PatternFault.TheVariants as fault
@@ -24,7 +24,7 @@ are_long n plains = list_all (λ plain. length plain == n) plains
 long_append : (n : ℕ) (some others : List (List (List Element))) → are_long n some ≡ true → are_long n others ≡ true → are_long n (some ++ others) ≡ true
 long_append n [] others a b = b
 long_append n (plain ∷ some) others a b =
-    let u = both_true (length plain == n) (are_long n some) a in
+    let u = and_parts (length plain == n) (are_long n some) a in
     rw u.0 (long_append n some others u.1 b)
 
 long_followed : (n : ℕ) (plain : List (List Element)) (words : List (List Element)) → (length plain == n) ≡ true → are_long (n + 1) (map (λ word. plain ++ word) (map (λ word. word ∷ []) words)) ≡ true
@@ -36,7 +36,7 @@ long_followed n plain (word ∷ words) e =
 long_joined : (n : ℕ) (plains : List (List (List Element))) (words : List (List Element)) → are_long n plains ≡ true → are_long (n + 1) (joined plains (map (λ word. word ∷ []) words)) ≡ true
 long_joined n [] words e = refl
 long_joined n (plain ∷ plains) words e =
-    let u = both_true (length plain == n) (are_long n plains) e in
+    let u = and_parts (length plain == n) (are_long n plains) e in
     long_append (n + 1) (map (λ word. plain ++ word) (map (λ word. word ∷ []) words)) (joined plains (map (λ word. word ∷ []) words)) (long_followed n plain words u.0) (long_joined n plains words u.1)
 
 is_same : (n : ℕ) → (n == n) ≡ true
@@ -45,7 +45,7 @@ is_same n = grind (arith, nat_tests)
 -- all are as long as the first
 long_first : (n : ℕ) (plain : List (List Element)) (plains : List (List (List Element))) → are_long n (plain ∷ plains) ≡ true → are_expansions (plain ∷ plains) ≡ true
 long_first n plain plains e =
-    let u = both_true (length plain == n) (are_long n plains) e in
+    let u = and_parts (length plain == n) (are_long n plains) e in
     let is : n ≡ length plain = let t = u.0 in grind (arith, nat_tests) in
     ap (λ k. are_long k plains) (sym is) ∙ u.1
 

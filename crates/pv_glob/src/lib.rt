@@ -21,6 +21,3 @@ pub use laws::an_escaped_path_spells_its_literal;
 pub use parse::parse_pattern;
 pub use pattern::{Pattern, literal, matches, matches_first};
 pub use plain::Plain;
-
-#[cfg(test)]
-mod tests;

@@ -9,8 +9,6 @@ mod fault;
 mod memory;
 mod plan;
 mod standard;
-#[cfg(test)]
-mod tests;
 mod transfer;
 mod whole;
 

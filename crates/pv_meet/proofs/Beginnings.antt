@@ -5,6 +5,7 @@ use Rattle.std.specs.Cmp.Lexicographic.{pointwise}
 use Rattle.std.proofs.lemmas.Bool.Decides.{nat_tests}
 use Rattle.pv_path.specs.Names.{is_name_byte, is_dots, is_staging}
 use Rattle.std.specs.Cmp.{nat_eq_equiv}
+use Rattle.std.proofs.Math.Bool.{and-true}
 use Rattle.pv_meet.specs.declared.beginning.Beginning.{Beginning}
 use Rattle.pv_meet.specs.declared.beginning.Beginning.TheVariants.{Nothing, Dot, TwoDots, DotHash, DotHashT, DotHashTf, Other}
 use Rattle.pv_meet.specs.Pairs.{could_be_name, beginning_after, may_follow, may_end}
@@ -37,10 +38,6 @@ fine Other word = true
 eqb-swap : (a b : ℕ) → (a == b) ≡ (b == a)
 eqb-swap a b = nat_eq_equiv.symm a b
 
-and_true : (a : Bool) → (a && true) ≡ a
-and_true true = refl
-and_true false = refl
-
 and_assoc : (a b c : Bool) → (a && (b && c)) ≡ ((a && b) && c)
 and_assoc true b c = refl
 and_assoc false b c = refl
@@ -51,7 +48,7 @@ on_other (b ∷ word) = ap (λ x. is_name_byte b && x) (on_other word)
 
 on_two : (word : List ℕ) → goes_on TwoDots word ≡ (words word && fine TwoDots word)
 on_two [] = refl
-on_two (b ∷ word) = ap (λ x. is_name_byte b && x) (on_other word) ∙ sym (and_true (is_name_byte b && words word))
+on_two (b ∷ word) = ap (λ x. is_name_byte b && x) (on_other word) ∙ sym (and-true (is_name_byte b && words word))
 
 swap : (w t x : Bool) → ((w && t) && x) ≡ ((w && x) && t)
 swap true true true = refl
@@ -68,7 +65,7 @@ on_tf (b ∷ word) = ap (λ x. (is_name_byte b && not (b == 45)) && x) (on_other
 by_byte : (w t : Bool) (word : List ℕ) (x : Beginning) → goes_on x word ≡ (words word && fine x word)
     → (w && goes_on (if t then x else Other) word) ≡ ((w && words word) && (if t then fine x word else true))
 by_byte w true word x e = ap (λ y. w && y) e ∙ and_assoc w (words word) (fine x word)
-by_byte w false word x e = ap (λ y. w && y) (on_other word) ∙ sym (and_true (w && words word))
+by_byte w false word x e = ap (λ y. w && y) (on_other word) ∙ sym (and-true (w && words word))
 
 on_t : (word : List ℕ) → goes_on DotHashT word ≡ (words word && fine DotHashT word)
 on_t [] = refl
@@ -101,7 +98,7 @@ begins needle word = pointwise nat_eq needle (take (length needle) word)
 
 fine_tf : (word : List ℕ) → fine DotHashTf word ≡ not (pointwise nat_eq (45 ∷ []) (take 1 word))
 fine_tf [] = refl
-fine_tf (b ∷ word) = ap not (eqb-swap b 45 ∙ sym (and_true (45 == b)))
+fine_tf (b ∷ word) = ap not (eqb-swap b 45 ∙ sym (and-true (45 == b)))
 
 fine_by : (n b : ℕ) (x y : Bool) → x ≡ not y → (if b == n then x else true) ≡ not ((n == b) && y)
 fine_by n b x y e = by (b == n) (n == b) (eqb-swap b n)
@@ -132,7 +129,7 @@ fine_dot (b ∷ word) = by (b == 46) refl (b == 35) refl
     by : (t : Bool) → (b == 46) ≡ t → (u : Bool) → (b == 35) ≡ u
         → (if t then fine TwoDots word else if u then fine DotHash word else true) ≡ (not (false || (t && pointwise nat_eq word [])) && not ((35 == b) && pointwise nat_eq (116 ∷ 102 ∷ 45 ∷ []) (take 3 word)))
     by true s true h = absurd (let one : b ≡ 46 = grind (arith, nat_tests) in let two : b ≡ 35 = grind (arith, nat_tests) in omega arith)
-    by true s false h = fine_two word ∙ sym (and_true (not (pointwise nat_eq word []))) ∙ ap (λ x. not (pointwise nat_eq word []) && not (x && pointwise nat_eq (116 ∷ 102 ∷ 45 ∷ []) (take 3 word))) (sym (eqb-swap 35 b ∙ h))
+    by true s false h = fine_two word ∙ sym (and-true (not (pointwise nat_eq word []))) ∙ ap (λ x. not (pointwise nat_eq word []) && not (x && pointwise nat_eq (116 ∷ 102 ∷ 45 ∷ []) (take 3 word))) (sym (eqb-swap 35 b ∙ h))
     by false s true h = fine_hash word ∙ ap (λ x. not (x && pointwise nat_eq (116 ∷ 102 ∷ 45 ∷ []) (take 3 word))) (sym (eqb-swap 35 b ∙ h))
     by false s false h = ap (λ x. not (x && pointwise nat_eq (116 ∷ 102 ∷ 45 ∷ []) (take 3 word))) (sym (eqb-swap 35 b ∙ h))
 

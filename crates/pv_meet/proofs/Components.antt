@@ -5,6 +5,7 @@ use Rattle.std.proofs.lemmas.Bool.Decides.{nat_tests}
 use Rattle.std.proofs.lemmas.List.{drop_more, drop_all, drop-drop, get_or_past}
 use Rattle.std.proofs.lemmas.List.Elements.{All-append, All-cons, All-nil}
 use Rattle.std.proofs.lemmas.List.Folds.{list_any-append}
+use Rattle.std.proofs.Math.Bool.{or-false, or_comm}
 use Rattle.pv_glob.specs.declared.element.Element.{Element}
 use Rattle.pv_glob.specs.declared.element.Element.TheVariants.{Byte, Any, Many, OneOf}
 use Rattle.pv_glob.specs.Matching.{is_hiding, name_matches, after_many}
@@ -28,17 +29,13 @@ abbrev stays : List Element → Bool → ℕ → List ℕ → Bool
 stays [] first b name = false
 stays (element ∷ elements) first b name = is_many element && (not (is_hiding first b) && name_matches (element ∷ elements) false name)
 
-or_false : (a : Bool) → (a || false) ≡ a
-or_false true = refl
-or_false false = refl
-
 -- a `*` may take nothing
 skip : (elements : List Element) (name : List ℕ) → name_matches elements false name ≡ true → name_matches (Many ∷ elements) false name ≡ true
 skip elements [] e = e
 skip elements (b ∷ name) e = ap (λ t. t || (not (is_hiding false b) && after_many (name_matches elements) false name)) e
 
 absorb : (s t r h : Bool) → (s ≡ true → t ≡ true) → (((h && s) || r) || (h && t)) ≡ ((h && t) || r)
-absorb s t r false e = or_false r
+absorb s t r false e = or-false r
 absorb true t r true e = ap (λ x. x) (sym (ap (λ x. x || r) (e refl)))
 absorb false true true true e = refl
 absorb false true false true e = refl
@@ -55,18 +52,12 @@ byte_step (Many ∷ elements) first b name =
     ap (λ t. t || (not (is_hiding first b) && name_matches (Many ∷ elements) false name)) (byte_step elements first b name)
     ∙ by elements
   where
-    turn : (a b : Bool) → (a || b) ≡ (b || a)
-    turn true true = refl
-    turn true false = refl
-    turn false true = refl
-    turn false false = refl
-
     by : (es : List Element) → ((stays es first b name || front (rest es) first b name) || (not (is_hiding first b) && name_matches (Many ∷ es) false name))
         ≡ ((not (is_hiding first b) && name_matches (Many ∷ es) false name) || front (rest es) first b name)
-    by [] = sym (or_false _)
-    by (Byte c ∷ es) = turn (front (Byte c ∷ es) first b name) (not (is_hiding first b) && name_matches (Many ∷ Byte c ∷ es) false name)
-    by (Any ∷ es) = turn (front (Any ∷ es) first b name) (not (is_hiding first b) && name_matches (Many ∷ Any ∷ es) false name)
-    by (OneOf set ∷ es) = turn (front (OneOf set ∷ es) first b name) (not (is_hiding first b) && name_matches (Many ∷ OneOf set ∷ es) false name)
+    by [] = sym (or-false _)
+    by (Byte c ∷ es) = or_comm (front (Byte c ∷ es) first b name) (not (is_hiding first b) && name_matches (Many ∷ Byte c ∷ es) false name)
+    by (Any ∷ es) = or_comm (front (Any ∷ es) first b name) (not (is_hiding first b) && name_matches (Many ∷ Any ∷ es) false name)
+    by (OneOf set ∷ es) = or_comm (front (OneOf set ∷ es) first b name) (not (is_hiding first b) && name_matches (Many ∷ OneOf set ∷ es) false name)
     by (Many ∷ es) = absorb (name_matches (Many ∷ es) false name) (name_matches (Many ∷ Many ∷ es) false name) (front (rest es) first b name) (not (is_hiding first b)) (skip (Many ∷ es) name)
 
 -- ---- by places
@@ -133,7 +124,7 @@ module _ (elements : List Element) (first : Bool) (b : ℕ) (name : List ℕ) wh
       by : (t : Bool) → is_many (element_at elements at) ≡ t → list_any taken_at (if t then at ∷ [] else []) ≡ (t && (not (is_hiding first b) && name_matches (drop at elements) false name))
       by true e =
           let many : element_at elements at ≡ Many = many_is (element_at elements at) e in
-          or_false (taken_at at) ∙ ap (λ (x : Element). takes x first b && name_matches (drop (if is_many x then at else at + 1) elements) false name) many
+          or-false (taken_at at) ∙ ap (λ (x : Element). takes x first b && name_matches (drop (if is_many x then at else at + 1) elements) false name) many
       by false e = refl
 
   plain_part : (at : ℕ) → list_any taken_at (if nat_lt (past_stars elements at) (length elements) then past_stars elements at ∷ [] else []) ≡ front (rest (drop at elements)) first b name
@@ -147,7 +138,7 @@ module _ (elements : List Element) (first : Bool) (b : ℕ) (name : List ℕ) wh
           let k = past_stars elements at in
           let is = at_place elements k (let n : k < length elements = grind (arith, nat_tests) in n) in
           let plain = rest_plain (drop at elements) (element_at elements k) (drop (k + 1) elements) (rest_at ∙ is) in
-          or_false (taken_at k) ∙ ap (λ (x : Bool). takes (element_at elements k) first b && name_matches (drop (if x then k else k + 1) elements) false name) plain
+          or-false (taken_at k) ∙ ap (λ (x : Bool). takes (element_at elements k) first b && name_matches (drop (if x then k else k + 1) elements) false name) plain
           ∙ ap (λ (x : List Element). front x first b name) (sym is)
       by false l =
           let is = past_end elements (past_stars elements at) (let n : length elements ≤ past_stars elements at = grind (arith, nat_tests) in n) in

@@ -1,5 +1,5 @@
 -- The first path of two reaches that are given part by part is the earlier of the first paths of the parts.
-use Rattle.std.proofs.Common.{◌≡◌, ℕ, ◌+◌, ◌<◌, ◌⊎◌, inl, inr, Bool, true, false, ◌&&◌, ◌||◌, List, [], ◌∷◌, map, length, take, get_or, Option, Some, None, refl, sym, ap, ◌∙◌, subst, if◌then◌else◌}
+use Rattle.std.proofs.Common.{◌≡◌, ℕ, ◌+◌, ◌<◌, inl, inr, Bool, true, false, ◌&&◌, ◌||◌, List, [], ◌∷◌, map, length, take, get_or, Option, Some, None, refl, sym, ap, ◌∙◌, subst, if◌then◌else◌}
 use Rattle.std.specs.Prelude.{IsNone, IfSome}
 use Rattle.std.specs.Ordering.{is_gt}
 use Rattle.std.specs.Cmp.{IsTotalOrder, nat_cmp_total}
@@ -7,8 +7,9 @@ use Rattle.std.specs.Cmp.Lexicographic.{lists_total}
 use Rattle.std.proofs.lemmas.Cmp.{then_total, on_total, upto}
 use Rattle.std.proofs.lemmas.List.{get_or_default}
 use Rattle.std.proofs.lemmas.List.Folds.{list_any_more}
+use Rattle.std.proofs.Math.Bool.{or-true, or-false, and-false}
+use Rattle.std.proofs.lemmas.Bool.{or_cases}
 use Rattle.pv_path.specs.Paths.{Path, has_names}
-use Rattle.pv_path.proofs.PathLaws.{or_true}
 use Rattle.pv_glob.specs.declared.element.Element.{Element}
 use Rattle.pv_meet.specs.Meeting.{are_met, in_reach, is_met, reached}
 use Rattle.pv_meet.specs.Words.{Finds, IsFirst, earlier_of, rank, shared_cmp}
@@ -38,10 +39,6 @@ finds_first test (Some path) finds = finds
 pub finds_same : (p q : Path → Bool) (found : Option Path) → ((path : Path) → p path ≡ q path) → Finds p found → Finds q found
 finds_same p q found same finds = subst (λ (test : Path → Bool). Finds test found) (λ j path. same path j) finds
 
-or_cases : (a b : Bool) → (a || b) ≡ true → (a ≡ true) ⊎ (b ≡ true)
-or_cases true b e = inl refl
-or_cases false b e = inr e
-
 module _ (p q : Path → Bool) where
   abbrev either : Path → Bool
   either path = p path || q path
@@ -49,12 +46,8 @@ module _ (p q : Path → Bool) where
   no_left : (next : Option Path) → ((path : Path) → p path ≡ false) → Finds q next → Finds either next
   no_left next none finds = finds_same q either next (λ path. sym (ap (λ t. t || q path) (none path))) finds
 
-  or_false : (a : Bool) → (a || false) ≡ a
-  or_false true = refl
-  or_false false = refl
-
   no_right : (found : Option Path) → Finds p found → ((path : Path) → q path ≡ false) → Finds either found
-  no_right found finds none = finds_same p either found (λ path. sym (ap (λ t. p path || t) (none path) ∙ or_false (p path))) finds
+  no_right found finds none = finds_same p either found (λ path. sym (ap (λ t. p path || t) (none path) ∙ or-false (p path))) finds
 
   -- the earlier of two first paths is the first that passes either test
   pub finds_either : (found next : Option Path) → Finds p found → Finds q next → Finds either (earlier_of found next)
@@ -64,7 +57,7 @@ module _ (p q : Path → Bool) where
     where
       by : (t : Bool) → is_gt (shared_cmp path other) ≡ t → Finds either (if t then Some other else Some path)
       by true after = record {
-        passes = ap (λ t. p other || t) right.passes ∙ or_true (p other);
+        passes = ap (λ t. p other || t) right.passes ∙ or-true (p other);
         least = λ third e. elim (or_cases (p third) (q third) e) [
           | inl f ↦ (let back : is_gt (shared_cmp other path) ≡ false = ap is_gt (shared_total.antisymm other path) ∙ not_both (shared_cmp path other) after in
               upto shared_total other path third back (left.least third f))
@@ -93,38 +86,30 @@ spread_left true true true false = refl
 spread_left true true false false = refl
 spread_left true false c d = refl
 
-alone : (a : Bool) → (a || false) ≡ a
-alone true = refl
-alone false = refl
-
-nowhere : (a : Bool) → (a && false) ≡ false
-nowhere true = refl
-nowhere false = refl
-
 module _ (a_below b_below : Bool) where
   -- two expansions alone
   pub plain_pair : (a b : List (List Element)) (path : Path) → is_met a a_below b b_below path ≡ are_met (a ∷ []) a_below (b ∷ []) b_below path
-  plain_pair a b path = sym (ap (λ t. has_names path && t && (in_reach b b_below path || false)) (alone (in_reach a a_below path)) ∙ ap (λ t. has_names path && in_reach a a_below path && t) (alone (in_reach b b_below path)))
+  plain_pair a b path = sym (ap (λ t. has_names path && t && (in_reach b b_below path || false)) (or-false (in_reach a a_below path)) ∙ ap (λ t. has_names path && in_reach a a_below path && t) (or-false (in_reach b b_below path)))
 
   -- no expansions
   pub none_right : (a : List (List (List Element))) (path : Path) → are_met a a_below [] b_below path ≡ false
-  none_right a path = nowhere (has_names path && reached a a_below path)
+  none_right a path = and-false (has_names path && reached a a_below path)
 
   pub none_left : (b : List (List (List Element))) (path : Path) → are_met [] a_below b b_below path ≡ false
-  none_left b path = ap (λ t. t && reached b b_below path) (nowhere (has_names path))
+  none_left b path = ap (λ t. t && reached b b_below path) (and-false (has_names path))
 
   -- one expansion more
   more_right : (a b : List (List (List Element))) (i : ℕ) → i < length b → (path : Path)
       → are_met a a_below (take (i + 1) b) b_below path ≡ (are_met a a_below (take i b) b_below path || are_met a a_below (get_or b i [] ∷ []) b_below path)
   more_right a b i l path =
       let front = has_names path && reached a a_below path in
-      ap (λ t. front && t) (list_any_more (λ plain. in_reach plain b_below path) b i [] l ∙ ap (λ t. reached (take i b) b_below path || t) (sym (alone (in_reach (get_or b i []) b_below path))))
+      ap (λ t. front && t) (list_any_more (λ plain. in_reach plain b_below path) b i [] l ∙ ap (λ t. reached (take i b) b_below path || t) (sym (or-false (in_reach (get_or b i []) b_below path))))
       ∙ spread_right (has_names path) (reached a a_below path) (reached (take i b) b_below path) (reached (get_or b i [] ∷ []) b_below path)
 
   more_left : (a b : List (List (List Element))) (i : ℕ) → i < length a → (path : Path)
       → are_met (take (i + 1) a) a_below b b_below path ≡ (are_met (take i a) a_below b b_below path || are_met (get_or a i [] ∷ []) a_below b b_below path)
   more_left a b i l path =
-      ap (λ t. has_names path && t && reached b b_below path) (list_any_more (λ plain. in_reach plain a_below path) a i [] l ∙ ap (λ t. reached (take i a) a_below path || t) (sym (alone (in_reach (get_or a i []) a_below path))))
+      ap (λ t. has_names path && t && reached b b_below path) (list_any_more (λ plain. in_reach plain a_below path) a i [] l ∙ ap (λ t. reached (take i a) a_below path || t) (sym (or-false (in_reach (get_or a i []) a_below path))))
       ∙ spread_left (has_names path) (reached (take i a) a_below path) (reached (get_or a i [] ∷ []) a_below path) (reached b b_below path)
 
   pub step_right : (a : List (List Element)) (b : List (List (List Element))) (i : ℕ) (item plain : List (List Element)) (found next : Option Path) → i < length b → item ≡ get_or b i item → plain ≡ item

@@ -6,6 +6,7 @@ use Rattle.std.proofs.lemmas.Bool.Decides.{nat_tests}
 use Rattle.std.proofs.lemmas.List.Folds.{sum_by-replicate}
 use Rattle.std.proofs.lemmas.List.Sums.{sum_by-cons}
 use Rattle.std.specs.Ordering.{is_gt}
+use Rattle.std.proofs.lemmas.Option.{same_Some}
 use Rattle.pv_meet.specs.declared.moves.Move.{Move}
 use Rattle.pv_meet.specs.Machines.{Machine, reads, goes_by, targets}
 use Rattle.pv_meet.specs.Search.{Found, word_at, unfound, Leads, HasUpTo, Covers, IsSearched, Noted, Asked, FirstEnd}
@@ -24,9 +25,6 @@ leads_on machine word at moves is leads move b byte c goes = (
       ∙ leads.3 (b ∷ rest) (any_here (λ to. reads machine to rest) (machine.after at b) move.to (subst (λ (xs : List ℕ). Contains xs move.to) (is b) (move_target moves b move c goes)) e),
 )
 
-some_same : (u v : List ℕ) → Some u ≡ Some v → u ≡ v
-some_same u v e = cc
-
 module _ (machine : Machine) (from : Found) (level done : List ℕ) (found : Found) (next : List ℕ) (was : Asked machine from level done found next) where
   -- a place of the level has its word still
   pub level_word : (at : ℕ) → Contains level at → (at < length found) × ((ranks : List ℕ) × (word_at from at ≡ Some ranks) × (word_at found at ≡ Some ranks) × (length ranks ≡ was.depth))
@@ -44,7 +42,7 @@ module _ (machine : Machine) (from : Found) (level done : List ℕ) (found : Fou
       → ((b : ℕ) → targets moves b ≡ machine.after at b) → Noted found next word moves found' next' → Asked machine from level (done ++ at ∷ []) found' next'
   asked_more at word moves found' next' c is moves_are noted =
       let w = (level_word at c).1 in
-      let same : w.0 ≡ word = some_same w.0 word (sym w.2 ∙ is) in
+      let same : w.0 ≡ word = same_Some w.0 word (sym w.2 ∙ is) in
       let before : word_at from at ≡ Some word = w.1 ∙ ap Some same in
       record {
         depth = was.depth;
@@ -55,7 +53,7 @@ module _ (machine : Machine) (from : Found) (level done : List ℕ) (found : Fou
           | inl old ↦ noted.kept to (ranks ++ rank b ∷ []) (was.all q b to ranks old e t)
           | inr new ↦ (
               let m = target_move moves b to (subst (λ (xs : List ℕ). Contains xs to) (ap (λ x. machine.after x b) (sym new) ∙ sym (moves_are b)) t) in
-              let ranks_are : word ≡ ranks = some_same word ranks (sym before ∙ ap (word_at from) new ∙ e) in
+              let ranks_are : word ≡ ranks = same_Some word ranks (sym before ∙ ap (word_at from) new ∙ e) in
               subst (λ (x : ℕ). HasUpTo found' x (ranks ++ rank b ∷ [])) m.3
               (subst (λ (x : List ℕ). HasUpTo found' m.0.to (x ++ rank b ∷ [])) ranks_are (noted.all m.0 b m.1 m.2)))
         ];
@@ -82,7 +80,7 @@ module _ (machine : Machine) (from : Found) (level : List ℕ) (found : Found) (
                 let u = sound.1.0 ++ rest in
                 let spelled : map rank u ≡ has.0 ++ map rank rest = map-append rank sound.1.0 rest ∙ ap (λ x. x ++ map rank rest) sound.1.2 in
                 let w = was.before.level_is at c in
-                let same : w.1.0 ≡ ranks = some_same w.1.0 ranks (sym w.1.1 ∙ is) in
+                let same : w.1.0 ≡ ranks = same_Some w.1.0 ranks (sym w.1.1 ∙ is) in
                 let long : length ranks ≡ was.depth = sym (ap length same) ∙ w.1.2 in
                 let less : length u < length word =
                 (let a = first_is_short (ranks ++ map rank (b ∷ rest)) (map rank word) first in
@@ -144,7 +142,7 @@ module _ (machine : Machine) (found : Found) (places : List ℕ) (at : ℕ) wher
       (was.0.0, Contains-append_left places (at ∷ []) was.0.0 was.0.1, was.0.2, was.0.3),
       λ q ranks c e r. elim (Contains-push_cases places at q c) [
         | inl k ↦ was.1 q ranks k e r
-        | inr s ↦ (let same : word ≡ ranks = some_same word ranks (sym is ∙ ap (word_at found) s ∙ r) in ap (λ x. is_gt (shortlex first x)) (sym same) ∙ order)
+        | inr s ↦ (let same : word ≡ ranks = same_Some word ranks (sym is ∙ ap (word_at found) s ∙ r) in ap (λ x. is_gt (shortlex first x)) (sym same) ∙ order)
       ],
     )
 
@@ -154,7 +152,7 @@ module _ (machine : Machine) (found : Found) (places : List ℕ) (at : ℕ) wher
       (at, Contains-push places at, is_end, is),
       λ q ranks c e r. elim (Contains-push_cases places at q c) [
         | inl k ↦ before first was order q ranks k e r
-        | inr s ↦ (let same : word ≡ ranks = some_same word ranks (sym is ∙ ap (word_at found) s ∙ r) in ap (λ x. is_gt (shortlex word x)) (sym same) ∙ same_is_first word)
+        | inr s ↦ (let same : word ≡ ranks = same_Some word ranks (sym is ∙ ap (word_at found) s ∙ r) in ap (λ x. is_gt (shortlex word x)) (sym same) ∙ same_is_first word)
       ],
     )
       where
@@ -196,7 +194,7 @@ starts machine others places = (
 
     sound : (at : ℕ) (ranks : List ℕ) → word_at (Some [] ∷ replicate others None) at ≡ Some ranks → (length ranks ≤ 0) × Leads machine ranks at
     sound zero ranks e =
-        let same : [] ≡ ranks = some_same [] ranks e in
+        let same : [] ≡ ranks = same_Some [] ranks e in
         subst (λ (x : List ℕ). (length x ≤ 0) × Leads machine x 0) same (omega arith, ([], All-nil (λ b. b < 256), refl, λ rest r. r))
     sound (suc at) ranks e = absurd (let differ : ◌≡◌ {A = Option (List ℕ)} None (Some ranks) = sym (none_else others at) ∙ e in cc)
 
@@ -229,7 +227,7 @@ module _ (machine : Machine) (found : Found) (level : List ℕ) (searched : IsSe
         long : length first ≡ searched.0
         long =
             let w = searched.1.level_is is_first.0.0 is_first.0.1 in
-            ap length (some_same first w.1.0 (sym is_first.0.3 ∙ w.1.1)) ∙ w.1.2
+            ap length (same_Some first w.1.0 (sym is_first.0.3 ∙ w.1.1)) ∙ w.1.2
 
         by_rest : (other : List ℕ) (at : ℕ) (ranks rest : List ℕ) → Contains level at → word_at found at ≡ Some ranks → reads machine at rest ≡ true
             → is_gt (shortlex (ranks ++ map rank rest) (map rank other)) ≡ false → is_gt (shortlex first (map rank other)) ≡ false
@@ -237,7 +235,7 @@ module _ (machine : Machine) (found : Found) (level : List ℕ) (searched : IsSe
             first_trans first ranks (map rank other) (is_first.1 at ranks c r is) (ap (λ x. is_gt (shortlex x (map rank other))) (sym (append-nil ranks)) ∙ order)
         by_rest other at ranks (b ∷ rest) c is r order =
             let w = searched.1.level_is at c in
-            let same : length ranks ≡ searched.0 = ap length (some_same ranks w.1.0 (sym is ∙ w.1.1)) ∙ w.1.2 in
+            let same : length ranks ≡ searched.0 = ap length (same_Some ranks w.1.0 (sym is ∙ w.1.1)) ∙ w.1.2 in
             first_trans first (ranks ++ map rank (b ∷ rest)) (map rank other)
             (shorter_is_first first (ranks ++ map rank (b ∷ rest)) (omega (arith, long, same, length-append ranks (map rank (b ∷ rest))))) order
 

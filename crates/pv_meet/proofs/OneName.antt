@@ -3,8 +3,10 @@ use Rattle.std.proofs.Common.{◌≡◌, ℕ, Bool, true, false, not, ◌&&◌, 
 use Rattle.std.specs.Prelude.{IfOk, IfSome, IsNone, Result, Ok, Err}
 use Rattle.std.specs.Ordering.{is_gt}
 use Rattle.std.proofs.lemmas.Bool.Decides.{nat_tests}
+use Rattle.std.proofs.lemmas.Bool.{and_parts}
+use Rattle.std.proofs.lemmas.Option.{same_Some}
+use Rattle.std.proofs.Math.Bool.{and-true}
 use Rattle.pv_path.specs.Names.{is_name, is_staging}
-use Rattle.pv_path.proofs.PathLaws.{both_true}
 use Rattle.pv_glob.specs.declared.element.Element.{Element}
 use Rattle.pv_glob.specs.declared.element.Element.TheVariants.{Byte, Any, Many, OneOf}
 use Rattle.pv_glob.specs.Matching.{component_matches, matches, name_matches}
@@ -17,48 +19,41 @@ use Rattle.pv_meet.proofs.Shortlex.{same_is_first}
 abbrev Never : Type 0
 Never = ◌≡◌ {A = Bool} false true
 
-some_same : (u v : List ℕ) → Some u ≡ Some v → u ≡ v
-some_same u v e = cc
-
 same_number : (n : ℕ) → (n == n) ≡ true
 same_number n = grind (arith, nat_tests)
 
-and_true : (a : Bool) → (a && true) ≡ a
-and_true true = refl
-and_true false = refl
-
 -- written bytes match themselves alone
 pub written_alone : (elements : List Element) (name other : List ℕ) (first : Bool) → written elements ≡ Some name → name_matches elements first other ≡ true → name ≡ other
-written_alone [] name [] first e m = sym (some_same [] name e)
+written_alone [] name [] first e m = sym (same_Some [] name e)
 written_alone [] name (c ∷ other) first e m = absurd (let differ : Never = m in cc)
 written_alone (Byte b ∷ elements) name [] first e m = absurd (let differ : Never = m in cc)
-written_alone (Byte b ∷ elements) name (c ∷ other) first e m = by (written elements) refl e (λ bytes is. written_alone elements bytes other false is (both_true (c == b) (name_matches elements false other) m).1)
+written_alone (Byte b ∷ elements) name (c ∷ other) first e m = by (written elements) refl e (λ bytes is. written_alone elements bytes other false is (and_parts (c == b) (name_matches elements false other) m).1)
   where
     by : (o : Option (List ℕ)) → written elements ≡ o → option_map (λ bytes. b ∷ bytes) o ≡ Some name → ((bytes : List ℕ) → written elements ≡ Some bytes → bytes ≡ other) → name ≡ c ∷ other
     by None is f on = cc
     by (Some bytes) is f on =
-        let test = (both_true (c == b) (name_matches elements false other) m).0 in
+        let test = (and_parts (c == b) (name_matches elements false other) m).0 in
         let same : b ≡ c = grind (arith, nat_tests) in
-        sym (some_same (b ∷ bytes) name f) ∙ ap (λ x. x ∷ bytes) same ∙ ap (λ (x : List ℕ). c ∷ x) (on bytes is)
+        sym (same_Some (b ∷ bytes) name f) ∙ ap (λ x. x ∷ bytes) same ∙ ap (λ (x : List ℕ). c ∷ x) (on bytes is)
 written_alone (Any ∷ elements) name other first e m = cc
 written_alone (Many ∷ elements) name other first e m = cc
 written_alone (OneOf set ∷ elements) name other first e m = cc
 
 written_matches : (elements : List Element) (name : List ℕ) (first : Bool) → written elements ≡ Some name → name_matches elements first name ≡ true
-written_matches [] name first e = subst (λ (x : List ℕ). name_matches [] first x ≡ true) (some_same [] name e) refl
+written_matches [] name first e = subst (λ (x : List ℕ). name_matches [] first x ≡ true) (same_Some [] name e) refl
 written_matches (Byte b ∷ elements) name first e = by (written elements) e (λ bytes is. written_matches elements bytes false is) refl
   where
     by : (o : Option (List ℕ)) → option_map (λ bytes. b ∷ bytes) o ≡ Some name → ((bytes : List ℕ) → written elements ≡ Some bytes → name_matches elements false bytes ≡ true) → written elements ≡ o → name_matches (Byte b ∷ elements) first name ≡ true
     by None f on is = cc
     by (Some bytes) f on is =
-        subst (λ (x : List ℕ). name_matches (Byte b ∷ elements) first x ≡ true) (some_same (b ∷ bytes) name f) (ap (λ (t : Bool). t && name_matches elements false bytes) (same_number b) ∙ on bytes is)
+        subst (λ (x : List ℕ). name_matches (Byte b ∷ elements) first x ≡ true) (same_Some (b ∷ bytes) name f) (ap (λ (t : Bool). t && name_matches elements false bytes) (same_number b) ∙ on bytes is)
 written_matches (Any ∷ elements) name first e = cc
 written_matches (Many ∷ elements) name first e = cc
 written_matches (OneOf set ∷ elements) name first e = cc
 
 one_matches : (component : List Element) (name : List ℕ) → is_staging name ≡ false → matches (component ∷ []) (name ∷ []) ≡ component_matches component name
 one_matches component name clear =
-    ap (λ (t : Bool). not (t || false) && (component_matches component name && true)) clear ∙ and_true (component_matches component name)
+    ap (λ (t : Bool). not (t || false) && (component_matches component name && true)) clear ∙ and-true (component_matches component name)
 
 -- a pattern of one component matches a path of one name
 pub one_is : (plain root : List (List Element)) (component copy : List Element) (name other : List ℕ) → root ≡ [] → plain ≡ root ++ copy ∷ [] → copy ≡ component → other ≡ name → is_staging name ≡ false
@@ -92,7 +87,7 @@ module _ (a b : List Element) (name : List ℕ) where
 
       by : (t : Bool) → shares a b name ≡ t → (o : Option (List ℕ)) → o ≡ (if t then Some name else None) → OneFound o
       by true own None f = absurd (let no : None ≡ Some name = f in cc)
-      by true own (Some word) f = (λ e. absurd (let differ : Never = sym e in cc), subst (IsFirst word_cmp (shares a b)) (sym (some_same word name f)) (first own))
+      by true own (Some word) f = (λ e. absurd (let differ : Never = sym e in cc), subst (IsFirst word_cmp (shares a b)) (sym (same_Some word name f)) (first own))
       by false not_own None f = (λ _ other. none not_own other (shares a b other) refl, tt)
       by false not_own (Some word) f = absurd (let no : Some word ≡ None = f in cc)
 
@@ -102,7 +97,7 @@ module _ (a b : List Element) (name : List ℕ) where
     where
       same : shares a b name ≡ (is_name name && not (is_staging name) && component_matches b name)
       same = ap (λ (t : Bool). is_name name && not (is_staging name) && t && component_matches b name) (written_matches a name true is)
-          ∙ ap (λ (t : Bool). t && component_matches b name) (and_true (is_name name && not (is_staging name)))
+          ∙ ap (λ (t : Bool). t && component_matches b name) (and-true (is_name name && not (is_staging name)))
 
   -- the second component is written
   right_found : written b ≡ Some name → (found : Option (List ℕ)) → found ≡ name_by a name → OneFound found
@@ -110,7 +105,7 @@ module _ (a b : List Element) (name : List ℕ) where
     where
       same : shares a b name ≡ (is_name name && not (is_staging name) && component_matches a name)
       same = ap (λ (t : Bool). is_name name && not (is_staging name) && component_matches a name && t) (written_matches b name true is)
-          ∙ and_true (is_name name && not (is_staging name) && component_matches a name)
+          ∙ and-true (is_name name && not (is_staging name) && component_matches a name)
 
   abbrev NoneShared : Option (List ℕ) → Type 0
   NoneShared found = IsNone found → (other : List ℕ) → shares a b other ≡ false

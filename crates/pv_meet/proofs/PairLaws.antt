@@ -5,6 +5,7 @@ use Rattle.std.specs.Option.{option_to_list}
 use Rattle.std.proofs.Math.Nat.{add-mul-div_left, add-mul-mod_self_left, div-eq_of_lt, mod-eq_of_lt, mul_comm}
 use Rattle.std.proofs.lemmas.List.Elements.{All-head, All-tail}
 use Rattle.std.proofs.lemmas.List.Folds.{list_any-append}
+use Rattle.std.proofs.Math.Bool.{or-false}
 use Rattle.pv_glob.specs.declared.element.Element.{Element}
 use Rattle.pv_glob.specs.Matching.{component_matches, name_matches}
 use Rattle.pv_meet.specs.declared.beginning.Beginning.{Beginning}
@@ -156,11 +157,7 @@ module _ (a b : List Element) where
       by false = omega arith
 
   by_target : (p : ℕ → Bool) (t : Bool) (n : ℕ) → list_any p (option_to_list (if t then Some n else None)) ≡ (t && p n)
-  by_target p true n = by (p n)
-    where
-      by : (x : Bool) → (x || false) ≡ x
-      by true = refl
-      by false = refl
+  by_target p true n = or-false (p n)
   by_target p false n = refl
 
   pub pair_reads : (word : List ℕ) (spot : Spot) → spot.left ≤ length a → spot.right ≤ length b → reads (pair_machine a b) (number_of (length b + 1) spot) word ≡ read_at spot word

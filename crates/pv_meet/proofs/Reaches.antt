@@ -4,13 +4,13 @@ use Rattle.std.specs.List.{list_all, list_any}
 use Rattle.std.specs.Ordering.{nat_cmp, is_gt, ordering_then}
 use Rattle.std.specs.declared.cmp.Ordering.{Ordering}
 use Rattle.std.specs.Cmp.Lexicographic.{pointwise, slice_cmp}
-use Rattle.std.proofs.lemmas.Bool.{cases_lt}
+use Rattle.std.proofs.lemmas.Bool.{cases_lt, and_parts, not-true, or_cases}
 use Rattle.std.proofs.lemmas.Bool.Decides.{nat_tests}
 use Rattle.std.proofs.lemmas.Cmp.{ranked, by_ranked}
 use Rattle.std.proofs.lemmas.List.{get_or-take, length-take-le}
+use Rattle.std.proofs.Math.Bool.{or-true}
 use Rattle.pv_path.specs.Names.{is_name, is_staging}
 use Rattle.pv_path.specs.Paths.{Path, has_names, has_staging}
-use Rattle.pv_path.proofs.PathLaws.{both_true}
 use Rattle.pv_glob.specs.declared.element.Element.{Element}
 use Rattle.pv_glob.specs.Matching.{component_matches, matches}
 use Rattle.pv_meet.specs.Meeting.{has_room, in_reach, is_met, met_at, shares}
@@ -25,8 +25,8 @@ Never = ◌≡◌ {A = Bool} false true
 module _ {X : Type 0} (p : X → Bool) (d : X) where
   all_at : (xs : List X) → list_all p xs ≡ true → (k : ℕ) → k < length xs → p (get_or xs k d) ≡ true
   all_at [] e k l = absurd (omega arith)
-  all_at (x ∷ xs) e zero l = (both_true (p x) (list_all p xs) e).0
-  all_at (x ∷ xs) e (suc k) l = all_at xs (both_true (p x) (list_all p xs) e).1 k (omega arith)
+  all_at (x ∷ xs) e zero l = (and_parts (p x) (list_all p xs) e).0
+  all_at (x ∷ xs) e (suc k) l = all_at xs (and_parts (p x) (list_all p xs) e).1 k (omega arith)
 
   all_from : (xs : List X) → ((k : ℕ) → k < length xs → p (get_or xs k d) ≡ true) → list_all p xs ≡ true
   all_from [] at = refl
@@ -54,13 +54,13 @@ module _ {X Y : Type 0} (test : X → Y → Bool) (d : X) (e : Y) where
   pairs_long [] [] h = refl
   pairs_long [] (y ∷ ys) h = absurd (let differ : Never = h in cc)
   pairs_long (x ∷ xs) [] h = absurd (let differ : Never = h in cc)
-  pairs_long (x ∷ xs) (y ∷ ys) h = ap suc (pairs_long xs ys (both_true (test x y) (pointwise test xs ys) h).1)
+  pairs_long (x ∷ xs) (y ∷ ys) h = ap suc (pairs_long xs ys (and_parts (test x y) (pointwise test xs ys) h).1)
 
   pairs_at : (xs : List X) (ys : List Y) → pointwise test xs ys ≡ true → (k : ℕ) → k < length xs → test (get_or xs k d) (get_or ys k e) ≡ true
   pairs_at [] ys h k l = absurd (omega arith)
   pairs_at (x ∷ xs) [] h k l = absurd (let differ : Never = h in cc)
-  pairs_at (x ∷ xs) (y ∷ ys) h zero l = (both_true (test x y) (pointwise test xs ys) h).0
-  pairs_at (x ∷ xs) (y ∷ ys) h (suc k) l = pairs_at xs ys (both_true (test x y) (pointwise test xs ys) h).1 k (omega arith)
+  pairs_at (x ∷ xs) (y ∷ ys) h zero l = (and_parts (test x y) (pointwise test xs ys) h).0
+  pairs_at (x ∷ xs) (y ∷ ys) h (suc k) l = pairs_at xs ys (and_parts (test x y) (pointwise test xs ys) h).1 k (omega arith)
 
   pairs_from : (xs : List X) (ys : List Y) → length xs ≡ length ys → ((k : ℕ) → k < length xs → test (get_or xs k d) (get_or ys k e) ≡ true) → pointwise test xs ys ≡ true
   pairs_from [] [] long at = refl
@@ -76,14 +76,6 @@ slices_first order d (x ∷ xs) [] long at = absurd (omega (arith, long))
 slices_first order d (x ∷ xs) (y ∷ ys) long at =
     then_first (order x y) (slice_cmp order xs ys) (at 0 (omega arith)) (slices_first order d xs ys (omega (arith, long)) (λ k l. at (suc k) (omega arith)))
 
-not_true : (t : Bool) → not t ≡ true → t ≡ false
-not_true true e = absurd (let differ : Never = e in cc)
-not_true false e = refl
-
-or_cases : (a b : Bool) → (a || b) ≡ true → (a ≡ true) ⊎ (b ≡ true)
-or_cases true b e = inl refl
-or_cases false b e = inr e
-
 -- ---- one reach
 
 module _ (components : List (List Element)) (below : Bool) (path : Path) where
@@ -95,19 +87,19 @@ module _ (components : List (List Element)) (below : Bool) (path : Path) where
 
   matched : (names : Path) → matches components names ≡ true → (length components ≡ length names) × ((k : ℕ) → k < length components → component_matches (get_or components k []) (get_or names k []) ≡ true)
   matched names e =
-      let w = (both_true (not (has_staging names)) (pointwise component_matches components names) e).1 in
+      let w = (and_parts (not (has_staging names)) (pointwise component_matches components names) e).1 in
       (pairs_long component_matches [] [] components names w, pairs_at component_matches [] [] components names w)
 
   pub reached : in_reach components below path ≡ true → Reached
   reached e =
-      let w = both_true (not (has_staging path)) _ e in
-      by (not_true (has_staging path) w.0) (or_cases (matches components path) _ w.1)
+      let w = and_parts (not (has_staging path)) _ e in
+      by (not-true (has_staging path) w.0) (or_cases (matches components path) _ w.1)
     where
       by : has_staging path ≡ false → (matches components path ≡ true) ⊎ ((below && nat_lt (length components) (length path) && matches components (take (length components) path)) ≡ true) → Reached
       by clear (inl whole) = let m = matched path whole in record { clear = clear; long = inl m.0; names = m.1 }
       by clear (inr part) =
-          let w = both_true (below && nat_lt (length components) (length path)) (matches components (take (length components) path)) part in
-          let v = both_true below (nat_lt (length components) (length path)) w.0 in
+          let w = and_parts (below && nat_lt (length components) (length path)) (matches components (take (length components) path)) part in
+          let v = and_parts below (nat_lt (length components) (length path)) w.0 in
           let v1 = v.1 in
           let less : length components < length path = grind (arith, nat_tests) in
           let m = matched (take (length components) path) w.1 in
@@ -120,10 +112,6 @@ module _ (components : List (List Element)) (below : Bool) (path : Path) where
   pub reach_from : Reached → in_reach components below path ≡ true
   reach_from r = ap (λ t. not t && (matches components path || (below && nat_lt (length components) (length path) && matches components (take (length components) path)))) r.clear ∙ by r.long
     where
-      or_true : (a : Bool) → (a || true) ≡ true
-      or_true true = refl
-      or_true false = refl
-
       by : (length components ≡ length path) ⊎ ((below ≡ true) × (length components < length path))
           → (matches components path || (below && nat_lt (length components) (length path) && matches components (take (length components) path))) ≡ true
       by (inl same) =
@@ -140,17 +128,17 @@ module _ (components : List (List Element)) (below : Bool) (path : Path) where
           ∙ pairs_from component_matches [] [] components (take n path) (sym long) (λ k l. ap (component_matches (get_or components k [])) (get_or-take n path k [] l) ∙ r.names k l) in
           ap (λ t. matches components path || (t && nat_lt n (length path) && matches components (take n path))) less.0
           ∙ ap (λ t. matches components path || (t && matches components (take n path))) test
-          ∙ ap (λ t. matches components path || t) whole ∙ or_true (matches components path)
+          ∙ ap (λ t. matches components path || t) whole ∙ or-true (matches components path)
 
 -- ---- two reaches
 
 module _ (a b : List Element) (name : List ℕ) where
   pub shares_facts : shares a b name ≡ true → (is_name name ≡ true) × (is_staging name ≡ false) × (component_matches a name ≡ true) × (component_matches b name ≡ true)
   shares_facts e =
-      let w = both_true (is_name name && not (is_staging name) && component_matches a name) (component_matches b name) e in
-      let v = both_true (is_name name && not (is_staging name)) (component_matches a name) w.0 in
-      let u = both_true (is_name name) (not (is_staging name)) v.0 in
-      (u.0, not_true (is_staging name) u.1, v.1, w.1)
+      let w = and_parts (is_name name && not (is_staging name) && component_matches a name) (component_matches b name) e in
+      let v = and_parts (is_name name && not (is_staging name)) (component_matches a name) w.0 in
+      let u = and_parts (is_name name) (not (is_staging name)) v.0 in
+      (u.0, not-true (is_staging name) u.1, v.1, w.1)
 
   pub shares_from : is_name name ≡ true → is_staging name ≡ false → component_matches a name ≡ true → component_matches b name ≡ true → shares a b name ≡ true
   shares_from p q r s =
@@ -206,8 +194,8 @@ module _ (a : List (List Element)) (a_below : Bool) (b : List (List Element)) (b
 
   pub met : (path : Path) → is_met a a_below b b_below path ≡ true → Met path
   met path e =
-      let w = both_true (has_names path && in_reach a a_below path) (in_reach b b_below path) e in
-      let v = both_true (has_names path) (in_reach a a_below path) w.0 in
+      let w = and_parts (has_names path && in_reach a a_below path) (in_reach b b_below path) e in
+      let v = and_parts (has_names path) (in_reach a a_below path) w.0 in
       let r = reached a a_below path v.1 in
       let s = reached b b_below path w.1 in
       let la = long_of a a_below path r in

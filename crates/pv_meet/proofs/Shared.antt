@@ -3,8 +3,9 @@ use Rattle.std.proofs.Common.{◌≡◌, ℕ, ◌<◌, ◌≤◌, Bool, true, fa
 use Rattle.std.specs.List.{list_all}
 use Rattle.std.proofs.lemmas.List.{length-map}
 use Rattle.std.proofs.lemmas.Bool.Decides.{nat_tests}
+use Rattle.std.proofs.lemmas.Bool.{and_parts}
+use Rattle.std.proofs.Math.Bool.{and-false, and-true}
 use Rattle.pv_path.specs.Names.{is_name, is_name_byte, is_dots, is_staging}
-use Rattle.pv_path.proofs.PathLaws.{both_true}
 use Rattle.pv_glob.specs.declared.element.Element.{Element}
 use Rattle.pv_glob.specs.Matching.{component_matches}
 use Rattle.pv_meet.specs.Meeting.{shares}
@@ -12,19 +13,11 @@ use Rattle.pv_meet.specs.Pairs.{is_shared}
 use Rattle.pv_meet.specs.Words.{IsFirst, rank, word_cmp}
 use Rattle.pv_meet.proofs.Shortlex.{first_is_short}
 
-and_false : (a : Bool) → (a && false) ≡ false
-and_false true = refl
-and_false false = refl
-
-and_true : (a : Bool) → (a && true) ≡ a
-and_true true = refl
-and_true false = refl
-
 moved : (some most named dots staged left right : Bool)
     → (((((some && most) && named) && dots) && staged) && left && right) ≡ (((((some && named) && dots) && staged) && left && right) && most)
 moved false most named dots staged left right = refl
-moved true false named dots staged left right = sym (and_false (((named && dots) && staged) && left && right))
-moved true true named dots staged left right = sym (and_true (((named && dots) && staged) && left && right))
+moved true false named dots staged left right = sym (and-false (((named && dots) && staged) && left && right))
+moved true true named dots staged left right = sym (and-true (((named && dots) && staged) && left && right))
 
 pub shares_is : (a b : List Element) (word : List ℕ) → shares a b word ≡ (is_shared a b word && nat_le (length word) 255)
 shares_is a b word =
@@ -36,12 +29,12 @@ module _ (a b : List Element) where
   shared_name word e l =
       let short : nat_le (length word) 255 ≡ true = grind (arith, nat_tests) in
       let all : shares a b word ≡ true = shares_is a b word ∙ ap (λ t. t && nat_le (length word) 255) e ∙ short in
-      let w = both_true (is_name word && not (is_staging word) && component_matches a word) (component_matches b word) all in
-      let v = both_true (is_name word && not (is_staging word)) (component_matches a word) w.0 in
-      (both_true (is_name word) (not (is_staging word)) v.0).0
+      let w = and_parts (is_name word && not (is_staging word) && component_matches a word) (component_matches b word) all in
+      let v = and_parts (is_name word && not (is_staging word)) (component_matches a word) w.0 in
+      (and_parts (is_name word) (not (is_staging word)) v.0).0
 
   none_shared : (word : List ℕ) (t : Bool) → is_shared a b word ≡ t → ((is_shared a b word ≡ true) → nat_le (length word) 255 ≡ false) → shares a b word ≡ false
-  none_shared word true e long = shares_is a b word ∙ ap (λ t. is_shared a b word && t) (long e) ∙ and_false (is_shared a b word)
+  none_shared word true e long = shares_is a b word ∙ ap (λ t. is_shared a b word && t) (long e) ∙ and-false (is_shared a b word)
   none_shared word false e long = shares_is a b word ∙ ap (λ t. t && nat_le (length word) 255) e
 
   -- no word, no name
@@ -59,5 +52,5 @@ module _ (a b : List Element) where
     pub first_short : length word ≤ 255 → IsFirst word_cmp (shares a b) word
     first_short l = record {
       passes = (let short : nat_le (length word) 255 ≡ true = grind (arith, nat_tests) in shares_is a b word ∙ ap (λ t. t && nat_le (length word) 255) first.passes ∙ short);
-      least = λ other e. first.least other (both_true (is_shared a b other) (nat_le (length other) 255) (sym (shares_is a b other) ∙ e)).0;
+      least = λ other e. first.least other (and_parts (is_shared a b other) (nat_le (length other) 255) (sym (shares_is a b other) ∙ e)).0;
     }

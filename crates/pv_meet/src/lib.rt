@@ -19,6 +19,3 @@ pub use meeting::{Reach, meet};
 pub use moves::{Move, MoveList, Moves};
 pub use pair::PairMachine;
 pub use search::least_word;
-
-#[cfg(test)]
-mod tests;

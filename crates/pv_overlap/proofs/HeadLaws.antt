@@ -1,9 +1,11 @@
 -- The head of a pattern begins each path that it reaches, so patterns that share a path have related heads.
-use Rattle.std.proofs.Common.{◌≡◌, ℕ, suc, ◌<◌, ◌≤◌, ◌⊎◌, inl, inr, Bool, true, false, ◌&&◌, ◌||◌, List, [], ◌∷◌, length, get_or, Option, Some, None, refl, ap, ◌∙◌, arith, if◌then◌else◌}
+use Rattle.std.proofs.Common.{◌≡◌, ℕ, suc, ◌<◌, ◌≤◌, inl, inr, Bool, true, false, ◌&&◌, ◌||◌, List, [], ◌∷◌, length, get_or, Option, Some, None, refl, ap, ◌∙◌, arith, if◌then◌else◌}
 use Rattle.std.specs.Option.{option_map_or}
+use Rattle.std.proofs.lemmas.Bool.{and_parts, or_cases}
+use Rattle.std.proofs.Math.Bool.{or-true}
 use Rattle.pv_path.specs.Names.{is_name, same_bytes}
 use Rattle.pv_path.specs.Paths.{Path, has_names, is_prefix}
-use Rattle.pv_path.proofs.PathLaws.{both_true, is_prefix-refl, is_prefix-trans, or_true, prefixes_compare, same_bytes-refl}
+use Rattle.pv_path.proofs.PathLaws.{is_prefix-refl, is_prefix-trans, prefixes_compare, same_bytes-refl}
 use Rattle.pv_glob.specs.declared.element.Element.{Element}
 use Rattle.pv_glob.specs.Matching.{component_matches}
 use Rattle.pv_meet.specs.Meeting.{are_met, in_reach, reached as reaches}
@@ -60,10 +62,6 @@ common_begins path (plain ∷ plains) =
     let shorter = common path (head_of plain) in
     is_prefix-trans (common_with shorter plains) shorter path (common_begins shorter plains) (common_left path (head_of plain))
 
-or_cases : (a b : Bool) → (a || b) ≡ true → (a ≡ true) ⊎ (b ≡ true)
-or_cases true b e = inl refl
-or_cases false b e = inr e
-
 module _ (below : Bool) (path : Path) where
   -- what the head and those of expansions have in common begins each path that one of them reaches
   common_reached : (head : Path) (plains : List (List (List Element))) → reaches plains below path ≡ true → is_prefix (common_with head plains) path ≡ true
@@ -85,9 +83,9 @@ module _ (below : Bool) (path : Path) where
 
 pub met_heads : (a : List (List (List Element))) (a_below : Bool) (b : List (List (List Element))) (b_below : Bool) (path : Path) → are_met a a_below b b_below path ≡ true → related (head_of_all a) (head_of_all b) ≡ true
 met_heads a a_below b b_below path e =
-    let w = both_true (has_names path && reaches a a_below path) (reaches b b_below path) e in
-    let v = both_true (has_names path) (reaches a a_below path) w.0 in
+    let w = and_parts (has_names path && reaches a a_below path) (reaches b b_below path) e in
+    let v = and_parts (has_names path) (reaches a a_below path) w.0 in
     elim (prefixes_compare (head_of_all a) (head_of_all b) path (all_reached a_below path a v.1) (all_reached b_below path b w.1)) [
       | inl p ↦ ap (λ t. t || is_prefix (head_of_all b) (head_of_all a)) p
-      | inr p ↦ ap (λ t. is_prefix (head_of_all a) (head_of_all b) || t) p ∙ or_true (is_prefix (head_of_all a) (head_of_all b))
+      | inr p ↦ ap (λ t. is_prefix (head_of_all a) (head_of_all b) || t) p ∙ or-true (is_prefix (head_of_all a) (head_of_all b))
     ]

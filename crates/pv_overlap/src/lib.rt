@@ -12,6 +12,3 @@ pub use heads::head;
 pub use laws::patterns_that_meet_have_related_heads;
 pub use pair::{Pair, PairList};
 pub use walk::pairs_by;
-
-#[cfg(test)]
-mod tests;

@@ -13,16 +13,10 @@ use Rattle.std.proofs.lemmas.Bool.Decides.{nat_tests}
 use Rattle.std.proofs.Math.Seq.{take-append_seam, drop-append_seam}
 use Rattle.std.proofs.lemmas.List.{take-append-drop, length-take}
 use Rattle.std.proofs.lemmas.List.Folds.{list_all-append, list_any-append}
-use Rattle.pv_path.specs.Names.{same_bytes, is_name, is_name_byte, is_dots, is_staging, staging_name}
+use Rattle.std.proofs.lemmas.Bool.{and_parts}
+use Rattle.std.proofs.Math.Bool.{or-true}
+use Rattle.pv_path.specs.Names.{name_cmp, same_bytes, is_name, is_name_byte, is_dots, is_staging, staging_name}
 use Rattle.pv_path.specs.Paths.{Path, has_names, path_cmp, path_total, path_exact, same_path, same_path-decides, rest_under, is_prefix, parent_of, last_name, has_staging, staging_of}
-
-pub both_true : (a b : Bool) → (a && b) ≡ true → (a ≡ true) × (b ≡ true)
-both_true true b e = (refl, e)
-both_true false b e = absurd (let no : false ≡ true = e in cc)
-
-pub or_true : (a : Bool) → (a || true) ≡ true
-or_true true = refl
-or_true false = refl
 
 -- ---- the tests of equality decide it
 
@@ -60,10 +54,10 @@ tied {R = R} o x = by_value (R x x) (o.antisymm x x)
 pub path_cmp-refl : (p : Path) → path_cmp p p ≡ Equal
 path_cmp-refl = tied path_total
 
-pub name_cmp-refl : (a : List ℕ) → slice_cmp nat_cmp a a ≡ Equal
+pub name_cmp-refl : (a : List ℕ) → name_cmp a a ≡ Equal
 name_cmp-refl = tied nat_list_cmp_total
 
-pub name_cmp-exact : (a b : List ℕ) → slice_cmp nat_cmp a b ≡ Equal → a ≡ b
+pub name_cmp-exact : (a b : List ℕ) → name_cmp a b ≡ Equal → a ≡ b
 name_cmp-exact = slice_cmp-IsAntisymmetric nat_cmp-IsAntisymmetric
 
 -- the order finds two paths equal only where they are
@@ -163,8 +157,8 @@ prefixes_compare [] q r a b = inl refl
 prefixes_compare (n ∷ p) [] r a b = inr refl
 prefixes_compare (n ∷ p) (m ∷ q) [] a b = cc
 prefixes_compare (n ∷ p) (m ∷ q) (k ∷ r) a b =
-    let u = both_true (same_bytes n k) (is_prefix p r) a in
-    let v = both_true (same_bytes m k) (is_prefix q r) b in
+    let u = and_parts (same_bytes n k) (is_prefix p r) a in
+    let v = and_parts (same_bytes m k) (is_prefix q r) b in
     let same : n ≡ m = (bytes_decides n k).0 u.0 ∙ sym ((bytes_decides m k).0 v.0) in
     by_below ((bytes_decides n m).1 same) ((bytes_decides m n).1 (sym same)) (prefixes_compare p q r u.1 v.1)
   where
@@ -267,7 +261,7 @@ prefix_between [] r q e a b = refl
 prefix_between (n ∷ p) r [] e a b = cc
 prefix_between (n ∷ p) [] (m ∷ q) e a b = absurd (a refl)
 prefix_between (n ∷ p) (k ∷ r) (m ∷ q) e a b =
-    let u = both_true (same_bytes n m) (is_prefix p q) e in
+    let u = and_parts (same_bytes n m) (is_prefix p q) e in
     let same : n ≡ m = (bytes_decides n m).0 u.0 in
     by_order (slice_cmp nat_cmp n k) refl (nat_list_cmp_total.antisymm k n ∙ refl) same (prefix_between p r q u.1)
   where
@@ -286,9 +280,9 @@ prefix_between (n ∷ p) (k ∷ r) (m ∷ q) e a b =
 
 pub is_name-parts : (n : List ℕ) → is_name n ≡ true → (1 ≤ length n) × (length n ≤ 255) × (list_all is_name_byte n ≡ true) × (is_dots n ≡ false)
 is_name-parts n e =
-    let u = both_true _ (not (is_dots n)) e in
-    let v = both_true _ (list_all is_name_byte n) u.0 in
-    let w = both_true (nat_le 1 (length n)) (nat_le (length n) 255) v.0 in
+    let u = and_parts _ (not (is_dots n)) e in
+    let v = and_parts _ (list_all is_name_byte n) u.0 in
+    let w = and_parts (nat_le 1 (length n)) (nat_le (length n) 255) v.0 in
     (grind (arith, nat_tests), grind (arith, nat_tests), v.1, grind (arith, nat_tests))
 
 pub is_name-from : (n : List ℕ) → 1 ≤ length n → length n ≤ 255 → list_all is_name_byte n ≡ true → is_dots n ≡ false → is_name n ≡ true
@@ -304,15 +298,15 @@ pub has_names-push : (p : Path) (n : List ℕ) → has_names p ≡ true → is_n
 has_names-push p n a b = rw (has_names-append p (n ∷ []), a, b)
 
 pub has_names-take : (i : ℕ) (p : Path) → has_names p ≡ true → has_names (take i p) ≡ true
-has_names-take i p e = (both_true (has_names (take i p)) (has_names (drop i p)) (sym (has_names-append (take i p) (drop i p)) ∙ ap has_names (take-append-drop i p) ∙ e)).0
+has_names-take i p e = (and_parts (has_names (take i p)) (has_names (drop i p)) (sym (has_names-append (take i p) (drop i p)) ∙ ap has_names (take-append-drop i p) ∙ e)).0
 
 pub has_names-prefix : (p q : Path) → is_prefix p q ≡ true → has_names q ≡ true → has_names p ≡ true
 has_names-prefix p q above names =
     let parts = prefix_parts p q above in
-    (both_true (has_names p) (has_names parts.0) (sym (has_names-append p parts.0) ∙ ap has_names (sym parts.1) ∙ names)).0
+    (and_parts (has_names p) (has_names parts.0) (sym (has_names-append p parts.0) ∙ ap has_names (sym parts.1) ∙ names)).0
 
 pub has_names-drop : (i : ℕ) (p : Path) → has_names p ≡ true → has_names (drop i p) ≡ true
-has_names-drop i p e = (both_true (has_names (take i p)) (has_names (drop i p)) (sym (has_names-append (take i p) (drop i p)) ∙ ap has_names (take-append-drop i p) ∙ e)).1
+has_names-drop i p e = (and_parts (has_names (take i p)) (has_names (drop i p)) (sym (has_names-append (take i p) (drop i p)) ∙ ap has_names (take-append-drop i p) ∙ e)).1
 
 pub has_names-parent_of : (p : Path) → has_names p ≡ true → has_names (parent_of p) ≡ true
 has_names-parent_of p = has_names-take (length p - 1) p
@@ -323,8 +317,8 @@ has_names-rest p q r e h = rw (← (rest_under-drop p q r e)) (has_names-drop (l
 pub is_name-last_name : (p : Path) (n : List ℕ) → has_names p ≡ true → last_name p ≡ Some n → is_name n ≡ true
 is_name-last_name p n h e =
     let whole : has_names (parent_of p ++ n ∷ []) ≡ true = sym (ap has_names (path_parts p n e)) ∙ h in
-    let last = both_true (has_names (parent_of p)) (has_names (n ∷ [])) (sym (has_names-append (parent_of p) (n ∷ [])) ∙ whole) in
-    (both_true (is_name n) true last.1).0
+    let last = and_parts (has_names (parent_of p)) (has_names (n ∷ [])) (sym (has_names-append (parent_of p) (n ∷ [])) ∙ whole) in
+    (and_parts (is_name n) true last.1).0
 
 -- ---- staging names
 
@@ -359,7 +353,7 @@ has_staging-append = list_any-append is_staging
 pub has_staging-staging_of : (p : Path) → p ≢ [] → has_staging (staging_of p) ≡ true
 has_staging-staging_of [] other = absurd (other refl)
 has_staging-staging_of (n ∷ []) other = refl
-has_staging-staging_of (n ∷ k ∷ p) other = let below : has_staging (staging_of (k ∷ p)) ≡ true = has_staging-staging_of (k ∷ p) (λ e. absurd (let no_root : k ∷ p ≡ [] = e in cc)) in rw below (or_true (is_staging n))
+has_staging-staging_of (n ∷ k ∷ p) other = let below : has_staging (staging_of (k ∷ p)) ≡ true = has_staging-staging_of (k ∷ p) (λ e. absurd (let no_root : k ∷ p ≡ [] = e in cc)) in rw below (or-true (is_staging n))
 
 -- what extends a path with a staging name has one too
 pub has_staging-extends : (p q : Path) → is_prefix p q ≡ true → has_staging p ≡ true → has_staging q ≡ true

@@ -2,11 +2,11 @@
 use Rattle.std.proofs.Common.{◌≡◌, ℕ, ◌+◌, ◌<◌, Bool, true, false, ◌==◌, List, [], ◌∷◌, length, drop, get_or, Result, Ok, Err, refl, sym, ap, ◌∙◌, arith, append_assoc, zero, suc, map, Bor}
 use Rattle.std.specs.List.{list_all, slice_split, onto_first}
 use Rattle.std.proofs.lemmas.List.{at_drop_more, length-map}
+use Rattle.std.proofs.lemmas.Bool.{and_parts}
 use Rattle.pv_path.specs.declared.fault.PathFault.TheVariants as fault
 use Rattle.pv_path.specs.declared.fault.PathFault.{PathFault}
 use Rattle.pv_path.specs.Names.{is_name_byte}
 use Rattle.pv_path.specs.Paths.{Path}
-use Rattle.pv_path.proofs.PathLaws.{both_true}
 use Rattle.pv_path.specs.Parsing.{Gives, is_path_byte, joined, names_of, piece_of}
 
 pub joined-assoc : (a b c : Result Path PathFault) → joined (joined a b) c ≡ joined a (joined b c)
@@ -33,7 +33,7 @@ are_names-onto_first b (piece ∷ pieces) is all = rw (is, all)
 pub are_names-split : (text : List ℕ) → list_all is_path_byte text ≡ true → are_names (slice_split (λ b. b == 47) text) ≡ true
 are_names-split [] e = refl
 are_names-split (b ∷ text) e =
-    let both = both_true (is_path_byte b) (list_all is_path_byte text) e in
+    let both = and_parts (is_path_byte b) (list_all is_path_byte text) e in
     by_byte (b == 47) refl both.0 (are_names-split text both.1)
   where
     by_byte : (slash : Bool) → (b == 47) ≡ slash → is_path_byte b ≡ true → are_names (slice_split (λ c. c == 47) text) ≡ true
@@ -45,8 +45,8 @@ are_names-split (b ∷ text) e =
 
 pub piece_is_names : (pieces : List (List ℕ)) (i : ℕ) (d : List ℕ) → i < length pieces → are_names pieces ≡ true → list_all is_name_byte (get_or pieces i d) ≡ true
 piece_is_names [] i d h e = absurd (omega arith)
-piece_is_names (piece ∷ pieces) zero d h e = (both_true (list_all is_name_byte piece) (are_names pieces) e).0
-piece_is_names (piece ∷ pieces) (suc i) d h e = piece_is_names pieces i d (omega arith) (both_true (list_all is_name_byte piece) (are_names pieces) e).1
+piece_is_names (piece ∷ pieces) zero d h e = (and_parts (list_all is_name_byte piece) (are_names pieces) e).0
+piece_is_names (piece ∷ pieces) (suc i) d h e = piece_is_names pieces i d (omega arith) (and_parts (list_all is_name_byte piece) (are_names pieces) e).1
 
 -- a fault of a piece is the fault of the whole
 pub fault_stays : (f : PathFault) (path : Path) (read rest : Result Path PathFault) → Gives (Err f) read → Gives (Err f) (joined (joined (Ok path) read) rest)

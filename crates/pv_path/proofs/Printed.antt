@@ -1,16 +1,13 @@
 -- Bytes are printed in runs.
-use Rattle.std.proofs.Common.{◌≡◌, ◌≤◌, ℕ, suc, ◌+◌, ◌-◌, Bool, true, false, ◌&&◌, cond, List, [], ◌∷◌, ◌++◌, take, drop, length, get_or, refl, sym, ap, ◌∙◌, arith, append_assoc}
+use Rattle.std.proofs.Common.{◌≡◌, ◌≤◌, ℕ, suc, ◌+◌, ◌-◌, Bool, true, false, cond, List, [], ◌∷◌, ◌++◌, take, drop, length, get_or, refl, sym, ap, ◌∙◌, arith, append_assoc}
 use Rattle.std.specs.List.{prefix_len}
 use Rattle.std.proofs.lemmas.List.{take_rest}
+use Rattle.std.proofs.Math.Bool.{and-true}
 use Rattle.pv_path.specs.Printing.{is_plain, is_plain_but, printed_by, printed_byte_by}
 
 -- with nothing more hidden, the plain bytes are as ever
 pub hidden_none : is_plain_but [] ≡ is_plain
-hidden_none j b = and_true (is_plain b) j
-  where
-    and_true : (a : Bool) → (a && true) ≡ a
-    and_true true = refl
-    and_true false = refl
+hidden_none j b = and-true (is_plain b) j
 
 -- the bytes in front that are printed as themselves, and what stands after them
 pub plain_run : (p : ℕ → Bool) (bytes : List ℕ) → printed_by p bytes ≡ take (prefix_len p bytes) bytes ++ printed_by p (drop (prefix_len p bytes) bytes)

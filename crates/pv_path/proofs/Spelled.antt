@@ -7,12 +7,13 @@ use Rattle.std.proofs.lemmas.Bool.Decides.{nat_tests}
 use Rattle.std.proofs.lemmas.List.Folds.{list_all-append}
 use Rattle.std.proofs.lemmas.List.Splits.{length-slice_split}
 use Rattle.std.proofs.lemmas.List.Sums.{count_by-le-length}
+use Rattle.std.proofs.lemmas.Bool.{and_parts}
 use Rattle.pv_path.specs.Names.{is_dots, is_name, is_name_byte, is_staging}
 use Rattle.pv_path.specs.Parsing.{begins_with_slash, is_path_byte, joined, names_of, path_of, piece_of}
 use Rattle.pv_path.specs.Paths.{Path, has_names, has_staging}
 use Rattle.pv_path.specs.declared.fault.PathFault.{PathFault}
 use Rattle.pv_path.specs.declared.fault.PathFault.TheVariants as fault
-use Rattle.pv_path.proofs.PathLaws.{both_true, is_name-from}
+use Rattle.pv_path.proofs.PathLaws.{is_name-from}
 use Rattle.pv_path.proofs.Pieces.{are_names-split}
 
 -- a name of at most 240 bytes that is no staging name
@@ -46,7 +47,7 @@ piece_of-spelled (b ∷ bs) path bytes e = by_fault (is_dots (b ∷ bs)) refl (n
 names_of-spelled : (pieces : List (List ℕ)) (path : Path) → list_all (list_all is_name_byte) pieces ≡ true → names_of pieces ≡ Ok path → AreSpelled (length pieces) path
 names_of-spelled [] path bytes e = let is : path ≡ [] = cc in rw is (record { names = refl; few = omega arith })
 names_of-spelled (piece ∷ pieces) path bytes e =
-    let both = both_true (list_all is_name_byte piece) (list_all (list_all is_name_byte) pieces) bytes in
+    let both = and_parts (list_all is_name_byte piece) (list_all (list_all is_name_byte) pieces) bytes in
     by_parts (piece_of piece) refl (names_of pieces) refl e (λ p. piece_of-spelled piece p both.0) (λ p. names_of-spelled pieces p both.1)
   where
     by_parts : (one : Result Path PathFault) → piece_of piece ≡ one → (rest : Result Path PathFault) → names_of pieces ≡ rest → joined one rest ≡ Ok path
@@ -84,9 +85,9 @@ path_of-spelled text path e = by_text (begins_with_slash text) (list_all is_path
 pub spelled_names : (path : Path) → list_all is_spelled path ≡ true → (has_names path ≡ true) × (list_all (λ name. nat_le (length name) 240) path ≡ true) × (has_staging path ≡ false)
 spelled_names [] e = (refl, refl, refl)
 spelled_names (name ∷ path) e =
-    let u = both_true (is_spelled name) (list_all is_spelled path) e in
-    let v = both_true (is_name name && nat_le (length name) 240) (not (is_staging name)) u.0 in
-    let w = both_true (is_name name) (nat_le (length name) 240) v.0 in
+    let u = and_parts (is_spelled name) (list_all is_spelled path) e in
+    let v = and_parts (is_name name && nat_le (length name) 240) (not (is_staging name)) u.0 in
+    let w = and_parts (is_name name) (nat_le (length name) 240) v.0 in
     let below = spelled_names path u.1 in
     let plain : is_staging name ≡ false = grind (arith, nat_tests, v.1) in
     (rw (w.0, below.0) refl, rw (w.1, below.1) refl, rw (plain, below.2) refl)

@@ -1,11 +1,17 @@
 -- Names of directory entries: what stands between the slashes of a path (path_resolution(7)).
 use Rattle.std.specs.Prelude.{ℕ, Bool, not, ◌&&◌, ◌||◌, ◌==◌, nat_le, nat_lt, nat_eq, List, ◌++◌, length, codes}
 use Rattle.std.specs.List.{list_all, starts_with}
-use Rattle.std.specs.Cmp.Lexicographic.{pointwise}
+use Rattle.std.specs.Ordering.{nat_cmp}
+use Rattle.std.specs.Cmp.Lexicographic.{pointwise, slice_cmp}
+use Rattle.std.specs.declared.cmp.Ordering.{Ordering}
 
 -- whether two names, or two texts, are the same bytes
 abbrev pub same_bytes : List ℕ → List ℕ → Bool
 same_bytes = pointwise nat_eq
+
+-- the order of names, by bytes
+abbrev pub name_cmp : List ℕ → List ℕ → Ordering
+name_cmp = slice_cmp nat_cmp
 
 -- `.` and `..` stand for a directory itself and its parent, and are no names
 abbrev pub is_dots : List ℕ → Bool

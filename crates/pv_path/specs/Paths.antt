@@ -2,12 +2,11 @@
 use Rattle.std.specs.Prelude.{◌≡◌, ℕ, ◌-◌, Bool, true, false, ◌&&◌, List, [], ◌∷◌, length, take, Option, Some, None, slice_get, if◌then◌else◌}
 use Rattle.std.specs.List.{list_all, list_any}
 use Rattle.std.specs.Bool.{Decides}
-use Rattle.std.specs.Ordering.{nat_cmp}
 use Rattle.std.specs.Cmp.{IsTotalOrder}
 use Rattle.std.specs.Cmp.Lexicographic.{slice_cmp, pointwise, pointwise_decides, bytes_decides, lists_total, nat_list_cmp_total}
 use Rattle.std.specs.FinMap.{IsAntisymmetric, slice_cmp-IsAntisymmetric, nat_cmp-IsAntisymmetric}
 use Rattle.std.specs.declared.cmp.Ordering.{Ordering}
-use Rattle.pv_path.specs.Names.{same_bytes, is_name, is_staging, staging_name}
+use Rattle.pv_path.specs.Names.{name_cmp, same_bytes, is_name, is_staging, staging_name}
 
 -- a path: its names, each as its bytes
 abbrev pub Path : Type 0
@@ -19,7 +18,7 @@ has_names path = list_all is_name path
 
 -- the order of paths: name by name, names by bytes, a prefix before what extends it
 abbrev pub path_cmp : Path → Path → Ordering
-path_cmp = slice_cmp (slice_cmp nat_cmp)
+path_cmp = slice_cmp name_cmp
 
 -- the order of paths is total
 pub path_total : IsTotalOrder path_cmp

@@ -28,6 +28,3 @@ pub type WordList = Sequence<Bytes>;
 
 /// Paths in some order.
 pub type PathList = Sequence<TreePath>;
-
-#[cfg(test)]
-mod tests;

@@ -1,4 +1,4 @@
-use Rattle.pv_acl.proofs.Order.{is_ordered-push}
+use Rattle.pv_acl.proofs.Putting.{is_ordered-push}
 use Rattle.pv_acl.proofs.list.NamedList.push.Goals as goal
 
 pub invariant_of-self-2 : goal.invariant_of-self-2

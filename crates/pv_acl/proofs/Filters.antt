@@ -1,26 +1,12 @@
--- Tests that hold together, and a test that cannot hold.
-use Rattle.std.proofs.Common.{◌≡◌, Bool, true, false, ◌&&◌, List, [], ◌∷◌, refl, filter, if◌then◌else◌}
+-- Filters of lists, and what all elements of a filter pass.
+use Rattle.std.proofs.Common.{◌≡◌, Bool, true, false, List, [], ◌∷◌, refl, filter, if◌then◌else◌}
 use Rattle.std.specs.List.{list_all}
-
--- the parts of a test that both hold
-pub both : (a b : Bool) → (a && b) ≡ true → (a ≡ true) × (b ≡ true)
-both true b h = (refl, h)
-both false b h = cc
-
--- a test that would contradict itself fails
-pub false_by : (b : Bool) → (b ≡ true → b ≡ false) → b ≡ false
-false_by true h = h refl
-false_by false h = refl
-
--- a test that cannot fail holds
-pub true_by : (b : Bool) → (b ≡ false → b ≡ true) → b ≡ true
-true_by true h = refl
-true_by false h = h refl
+use Rattle.std.proofs.lemmas.Bool.{and_parts}
 
 pub filter_whole : {X : Type 0} (p : X → Bool) → (xs : List X) → list_all p xs ≡ true → filter p xs ≡ xs
 filter_whole p [] h = refl
 filter_whole p (x ∷ xs) h =
-    let parts = both (p x) (list_all p xs) h in
+    let parts = and_parts (p x) (list_all p xs) h in
     rw (parts.0, filter_whole p xs parts.1)
 
 -- a test of each element of a filter, as it was before, at one more element
@@ -31,7 +17,7 @@ kept_all q x ys here rest false = rest
 pub list_all-filter : {X : Type 0} (p q : X → Bool) → (xs : List X) → list_all q xs ≡ true → list_all q (filter p xs) ≡ true
 list_all-filter p q [] h = refl
 list_all-filter p q (x ∷ xs) h =
-    let parts = both (q x) (list_all q xs) h in
+    let parts = and_parts (q x) (list_all q xs) h in
     kept_all q x (filter p xs) parts.0 (list_all-filter p q xs parts.1) (p x)
 
 -- what passes a filter passes its test
