@@ -2,6 +2,7 @@
 use Rattle.std.proofs.Common.{◌≡◌, ℕ, ◌+◌, ◌<◌, Bool, true, false, ◌||◌, List, [], ◌++◌, take, drop, length, get_or, append_assoc, refl, sym, ap, ◌∙◌, add-one}
 use Rattle.std.proofs.lemmas.List.{append-nil, take_at}
 use Rattle.std.proofs.Math.Seq.{drop-cons, take-suc}
+use Rattle.std.proofs.Math.Bool.{or-false}
 use Rattle.pv_path.specs.Paths.{Path}
 use Rattle.pv_steps.specs.Trees.{Files}
 use Rattle.pv_layers.specs.Folders.{found_in}
@@ -12,10 +13,6 @@ or_assoc : (a b c : Bool) → ((a || b) || c) ≡ (a || (b || c))
 or_assoc true b c = refl
 or_assoc false b c = refl
 
-or_none : (a : Bool) → (a || false) ≡ a
-or_none true = refl
-or_none false = refl
-
 followed_assoc : (a b c : Choice) → followed (followed a b) c ≡ followed a (followed b c)
 followed_assoc a b c = λ i. record {
   files = append_assoc a.files b.files c.files i;
@@ -24,7 +21,7 @@ followed_assoc a b c = λ i. record {
 }
 
 followed_nothing : (a : Choice) → followed a nothing ≡ a
-followed_nothing a = λ i. record { files = append-nil a.files i; missing = or_none a.missing i; messages = append-nil a.messages i }
+followed_nothing a = λ i. record { files = append-nil a.files i; missing = or-false a.missing i; messages = append-nil a.messages i }
 
 -- a part of all choices is made, and the rest is left
 pub record Partly (all rest : Choice) (old : List (List ℕ)) (files : List Path) (missing : Bool) (messages : List (List ℕ)) : Type 0 where

@@ -3,9 +3,10 @@ use Rattle.std.specs.Prelude.{◌≡◌, ℕ, Bool, true, false, cond, ◌||◌,
 use Rattle.std.proofs.Common.{sym, ap, subst, append-nil, ◌∙◌}
 use Rattle.std.specs.List.{AllByRecursion, flat_map, fold, list_any}
 use Rattle.std.specs.Result.{result_ok}
+use Rattle.std.proofs.Math.Bool.{or-true}
 use Rattle.pv_path.specs.Names.{same_bytes, is_name}
 use Rattle.pv_path.specs.Paths.{Path, is_prefix}
-use Rattle.pv_path.proofs.PathLaws.{is_prefix-append, or_true}
+use Rattle.pv_path.proofs.PathLaws.{is_prefix-append}
 use Rattle.pv_path.specs.Parsing.{begins_with_slash, path_of}
 use Rattle.pv_steps.specs.declared.node.Kind.{Kind}
 use Rattle.pv_steps.specs.declared.node.Kind.TheVariants.{Directory, File, Link, Fifo, CharDevice, BlockDevice}
@@ -88,7 +89,7 @@ module _ (t u : Files) where
   below-all [] same = tt
   below-all (f ∷ fs) same = (
     λ rest. same (f ++ rest) (ap (λ b. b || is_within fs (f ++ rest)) (is_prefix-append f rest)),
-    below-all fs (λ q h. same q (ap (λ b. is_prefix f q || b) h ∙ or_true (is_prefix f q))),
+    below-all fs (λ q h. same q (ap (λ b. is_prefix f q || b) h ∙ or-true (is_prefix f q))),
   )
 
   pub found_at-same : (path : Path) → content_of (places t path) ≡ content_of (places u path) → found_at t path ≡ found_at u path
@@ -176,7 +177,7 @@ pub children-input : (input : Path → Bool) (fs : List Path) (name : List ℕ) 
 children-input input [] name has = tt
 children-input input (f ∷ fs) name has = (
   has (f ++ name ∷ []) (ap (λ b. b || is_within fs (f ++ name ∷ [])) (is_prefix-append f (name ∷ []))),
-  children-input input fs name (λ path is. has path (ap (λ b. is_prefix f path || b) is ∙ or_true (is_prefix f path))),
+  children-input input fs name (λ path is. has path (ap (λ b. is_prefix f path || b) is ∙ or-true (is_prefix f path))),
 )
 
 judge-input : (input : Path → Bool) (path : Path) → input path ≡ true → (c : Option (Kind × List ℕ)) → IsFoundWithin input (judge path c)

@@ -1,3 +1,4 @@
 pub mod Folders
 pub mod Choices
 pub mod Inputs
+pub mod Places

@@ -2,6 +2,7 @@
 ghost use Rattle.std.specs.Prelude.{◌≡◌, ℕ, true, List, IfOk, OnOk};
 ghost use Rattle.std.specs.List.{fold, flat_map};
 ghost use Rattle.pv_path.specs.Names.{is_name};
+ghost use Rattle.pv_layers.specs.Places.{inputs};
 ghost use Rattle.pv_layers.specs.Folders.{last_folder, folders, is_conf, conf_names_in, with_name, conf_names};
 
 use pv_path::{Name, PathList, TreePath, child};
@@ -34,6 +35,18 @@ pub(crate) fn folders(alloc: Global, tool: Tool) -> Result<PathList, AllocError>
     list.push(child(alloc, &child(alloc, &root, b"run")?, last)?)?;
     list.push(child(alloc, &child(alloc, &local, b"lib")?, last)?)?;
     list.push(child(alloc, &child(alloc, &usr, b"lib")?, last)?)?;
+    Ok(list)
+}
+
+/// The paths from which the lines of systemd-tmpfiles are read: its folders, and the files of users and groups
+/// (tmpfiles.d(5), passwd(5), group(5)).
+pub fn inputs(alloc: Global) -> Result<PathList, AllocError>
+    ensures { IfOk result (λ list. list ≡ inputs) }
+{
+    let mut list = folders(alloc, Tool::Tmpfiles)?;
+    let etc = child(alloc, &TreePath::root(alloc), b"etc")?;
+    list.push(child(alloc, &etc, b"passwd")?)?;
+    list.push(child(alloc, &etc, b"group")?)?;
     Ok(list)
 }
 

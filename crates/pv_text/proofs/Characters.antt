@@ -4,46 +4,43 @@ use Rattle.std.specs.List.{list_all, flat_map, join_with_byte}
 use Rattle.std.specs.Fmt.{decimal}
 use Rattle.std.proofs.lemmas.Bool.Decides.{nat_tests}
 use Rattle.std.proofs.lemmas.Fmt.{decimal_by_steps}
+use Rattle.std.proofs.lemmas.Bool.{and_parts, and_from}
 use Rattle.pv_path.specs.Paths.{Path}
 use Rattle.pv_path.specs.Printing.{hex_digit, is_plain, printed, printed_by, printed_byte_by, printed_path}
-use Rattle.pv_path.proofs.PathLaws.{both_true}
 use Rattle.pv_text.specs.declared.place.Place.{Place}
 use Rattle.pv_text.specs.Lines.{lacks, is_line, are_lines}
 use Rattle.pv_text.specs.Said.{said_at}
 
 -- ---- tests of all bytes
 
-pub both_yes : (a b : Bool) → a ≡ true → b ≡ true → (a && b) ≡ true
-both_yes a b p q = rw (p, q) refl
-
 pub all_weaker : {A : Type 0} (p q : A → Bool) → ((x : A) → p x ≡ true → q x ≡ true) → (xs : List A) → list_all p xs ≡ true → list_all q xs ≡ true
 all_weaker p q more [] e = refl
 all_weaker p q more (x ∷ xs) e =
-    let parts = both_true (p x) (list_all p xs) e in
-    both_yes (q x) (list_all q xs) (more x parts.0) (all_weaker p q more xs parts.1)
+    let parts = and_parts (p x) (list_all p xs) e in
+    and_from (q x) (list_all q xs) (more x parts.0) (all_weaker p q more xs parts.1)
 
 pub all_append : {A : Type 0} (p : A → Bool) (xs ys : List A) → list_all p xs ≡ true → list_all p ys ≡ true → list_all p (xs ++ ys) ≡ true
 all_append p [] ys e f = f
 all_append p (x ∷ xs) ys e f =
-    let parts = both_true (p x) (list_all p xs) e in
-    both_yes (p x) (list_all p (xs ++ ys)) parts.0 (all_append p xs ys parts.1 f)
+    let parts = and_parts (p x) (list_all p xs) e in
+    and_from (p x) (list_all p (xs ++ ys)) parts.0 (all_append p xs ys parts.1 f)
 
 pub all_front : {A : Type 0} (p : A → Bool) (xs ys : List A) → list_all p (xs ++ ys) ≡ true → list_all p xs ≡ true
 all_front p [] ys e = refl
 all_front p (x ∷ xs) ys e =
-    let parts = both_true (p x) (list_all p (xs ++ ys)) e in
-    both_yes (p x) (list_all p xs) parts.0 (all_front p xs ys parts.1)
+    let parts = and_parts (p x) (list_all p (xs ++ ys)) e in
+    and_from (p x) (list_all p xs) parts.0 (all_front p xs ys parts.1)
 
 pub all_back : {A : Type 0} (p : A → Bool) (xs ys : List A) → list_all p (xs ++ ys) ≡ true → list_all p ys ≡ true
 all_back p [] ys e = e
-all_back p (x ∷ xs) ys e = all_back p xs ys (both_true (p x) (list_all p (xs ++ ys)) e).1
+all_back p (x ∷ xs) ys e = all_back p xs ys (and_parts (p x) (list_all p (xs ++ ys)) e).1
 
 pub all_joined : (p : ℕ → Bool) (c : ℕ) → p c ≡ true → (pieces : List (List ℕ)) → list_all (list_all p) pieces ≡ true → list_all p (join_with_byte c pieces) ≡ true
 all_joined p c fits [] e = refl
-all_joined p c fits (piece ∷ []) e = (both_true (list_all p piece) true e).0
+all_joined p c fits (piece ∷ []) e = (and_parts (list_all p piece) true e).0
 all_joined p c fits (piece ∷ next ∷ pieces) e =
-    let parts = both_true (list_all p piece) (list_all (list_all p) (next ∷ pieces)) e in
-    all_append p piece (c ∷ join_with_byte c (next ∷ pieces)) parts.0 (both_yes (p c) (list_all p (join_with_byte c (next ∷ pieces))) fits (all_joined p c fits (next ∷ pieces) parts.1))
+    let parts = and_parts (list_all p piece) (list_all (list_all p) (next ∷ pieces)) e in
+    all_append p piece (c ∷ join_with_byte c (next ∷ pieces)) parts.0 (and_from (p c) (list_all p (join_with_byte c (next ∷ pieces))) fits (all_joined p c fits (next ∷ pieces) parts.1))
 
 -- ---- digits
 
@@ -56,8 +53,8 @@ digit_is d small = grind (arith, nat_tests)
 -- a decimal text has digits alone
 pub digits_alone : (n : ℕ) → n < 2 ^ 64 → list_all is_digit (decimal n) ≡ true
 digits_alone n small =
-    decimal_by_steps (λ _ text. list_all is_digit text ≡ true) (λ m lt. both_yes (is_digit (48 + m)) true (digit_is m lt) refl)
-    (λ m text le e. all_append is_digit text ((48 + m % 10) ∷ []) e (both_yes (is_digit (48 + m % 10)) true (digit_is (m % 10) (omega arith)) refl)) n small
+    decimal_by_steps (λ _ text. list_all is_digit text ≡ true) (λ m lt. and_from (is_digit (48 + m)) true (digit_is m lt) refl)
+    (λ m text le e. all_append is_digit text ((48 + m % 10) ∷ []) e (and_from (is_digit (48 + m % 10)) true (digit_is (m % 10) (omega arith)) refl)) n small
 
 pub digit_lacks : (c : ℕ) → is_digit c ≡ false → (b : ℕ) → is_digit b ≡ true → not (b == c) ≡ true
 digit_lacks c odd b digit = by_test (b == c) refl
@@ -82,7 +79,7 @@ hex_is d = by_test (nat_lt d 10) refl
 pub printed_all : (plain p : ℕ → Bool) → p 92 ≡ true → p 120 ≡ true → ((d : ℕ) → p (hex_digit d) ≡ true) → (bytes : List ℕ) → list_all (λ b. not (plain b) || p b) bytes ≡ true → list_all p (printed_by plain bytes) ≡ true
 printed_all plain p slash letter digit [] e = refl
 printed_all plain p slash letter digit (b ∷ bytes) e =
-    let parts = both_true (not (plain b) || p b) (list_all (λ x. not (plain x) || p x) bytes) e in
+    let parts = and_parts (not (plain b) || p b) (list_all (λ x. not (plain x) || p x) bytes) e in
     all_append p (printed_byte_by plain b) (printed_by plain bytes) (by_test (plain b) refl parts.0) (printed_all plain p slash letter digit bytes parts.1)
   where
     by_test : (t : Bool) → plain b ≡ t → (not (plain b) || p b) ≡ true → list_all p (printed_byte_by plain b) ≡ true
@@ -103,7 +100,7 @@ or_yes false = refl
 -- a byte that is printed as itself is no hidden one
 pub plain_lacks : (plain : ℕ → Bool) (c : ℕ) → plain c ≡ false → (bytes : List ℕ) → list_all (λ b. not (plain b) || not (b == c)) bytes ≡ true
 plain_lacks plain c hidden [] = refl
-plain_lacks plain c hidden (b ∷ bytes) = both_yes (not (plain b) || not (b == c)) (list_all (λ x. not (plain x) || not (x == c)) bytes) (by_test (b == c) refl) (plain_lacks plain c hidden bytes)
+plain_lacks plain c hidden (b ∷ bytes) = and_from (not (plain b) || not (b == c)) (list_all (λ x. not (plain x) || not (x == c)) bytes) (by_test (b == c) refl) (plain_lacks plain c hidden bytes)
   where
     by_test : (t : Bool) → (b == c) ≡ t → (not (plain b) || not (b == c)) ≡ true
     by_test true e = let same : b ≡ c = grind (arith, nat_tests) in let none : plain b ≡ false = ap plain same ∙ hidden in ap (λ (t : Bool). not t || not (b == c)) none
@@ -138,4 +135,4 @@ one_line-said place text file small one =
 
 -- a line more
 pub lines-push : (lines : List (List ℕ)) (line : List ℕ) → are_lines lines ≡ true → is_line line ≡ true → are_lines (lines ++ line ∷ []) ≡ true
-lines-push lines line all one = all_append is_line lines (line ∷ []) all (both_yes (is_line line) true one refl)
+lines-push lines line all one = all_append is_line lines (line ∷ []) all (and_from (is_line line) true one refl)

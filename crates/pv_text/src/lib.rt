@@ -18,12 +18,9 @@ pub use escapes::unescape;
 pub use facts::{FACT_LETTERS, Facts};
 pub use fault::{ExpandFault, FieldFault};
 pub use lent::Fields;
-pub use messages::Messages;
+pub use messages::{Messages, say_all};
 pub use one_line::OneLine;
 pub use place::Place;
 pub use reading::{fields, is_blank};
 pub use specifiers::expand;
 pub use tool::Tool;
-
-#[cfg(test)]
-mod tests;

@@ -1,8 +1,8 @@
 //! The messages of a run, in the order in which they are said.
 ghost use Rattle.std.specs.Prelude.{◌≡◌, ℕ, true, List, [], ◌∷◌, ◌++◌, length, IfOk, IfSome, OnOk, OnErr, slice_get};
-ghost use Rattle.std.specs.Option.{option_copied};
+ghost use Rattle.std.specs.Option.{option_copied, option_to_list};
 ghost use Rattle.pv_text.specs.Lines.{are_lines, is_line};
-ghost use Rattle.pv_text.specs.Said.{said_at};
+ghost use Rattle.pv_text.specs.Said.{SaidPart, said_at};
 
 use crate::one_line::OneLine;
 use crate::place::Place;
@@ -76,6 +76,28 @@ impl Messages {
             Some(line) => Some(line.as_slice()),
             None => None,
         }
+    }
+}
+
+/// Says all messages of a list. Where memory runs out nothing or a front part of it is said.
+pub fn say_all(said: &Messages, messages: &mut Messages) -> Result<(), AllocError>
+    ensures ok { OnOk result (messages.new ≡ messages.old ++ said.now) }
+    ensures part { SaidPart said.now messages.old messages.new }
+{
+    for i in 0..said.len() {
+        say_one(said, i, messages)?;
+    }
+    Ok(())
+}
+
+/// Says the message at a place of a list, where there is one.
+fn say_one(said: &Messages, i: usize, messages: &mut Messages) -> Result<(), AllocError>
+    ensures ok { OnOk result (messages.new ≡ messages.old ++ option_to_list (slice_get said.now i)) }
+    ensures err { OnErr result (messages.new ≡ messages.old) }
+{
+    match said.line(i) {
+        Some(line) => messages.push(line),
+        None => Ok(()),
     }
 }
 

@@ -1,0 +1,21 @@
+-- The paths from which the lines of systemd-tmpfiles are read (tmpfiles.d(5), passwd(5), group(5)).
+use Rattle.std.specs.Prelude.{Bool, List, [], ◌∷◌, ◌++◌, codes}
+use Rattle.pv_path.specs.Paths.{Path}
+use Rattle.pv_text.specs.declared.tool.Tool.TheVariants.{Tmpfiles}
+use Rattle.pv_layers.specs.Folders.{folders}
+use Rattle.pv_layers.specs.Inputs.{is_within}
+
+-- the files of users and groups
+abbrev pub passwd_path : Path
+passwd_path = codes "etc" ∷ codes "passwd" ∷ []
+
+abbrev pub group_path : Path
+group_path = codes "etc" ∷ codes "group" ∷ []
+
+-- the folders of configuration files, and the files of users and groups
+abbrev pub inputs : List Path
+inputs = folders Tmpfiles ++ passwd_path ∷ group_path ∷ []
+
+-- whether a path lies at or below one of them
+abbrev pub is_input : Path → Bool
+is_input path = is_within inputs path
