@@ -5,6 +5,7 @@ use Rattle.std.specs.List.{list_all}
 use Rattle.std.specs.Fmt.{decimal}
 use Rattle.std.specs.Option.{option_map_or}
 use Rattle.std.proofs.lemmas.Bool.Decides.{nat_tests}
+use Rattle.std.proofs.lemmas.Bool.{and_parts, and_from}
 use Rattle.pv_acl.specs.declared.part.Acl.{Acl}
 use Rattle.pv_acl.specs.declared.part.Part.{Part}
 use Rattle.pv_acl.specs.declared.perm.Named.{Named}
@@ -13,18 +14,17 @@ use Rattle.pv_acl.specs.declared.perm.Who.TheVariants.{User, Group}
 use Rattle.pv_acl.specs.NamedEntries.{id_of, is_id, is_named, is_ordered, is_perm}
 use Rattle.pv_acl.specs.Parts.{is_acl, is_part}
 use Rattle.pv_acl.specs.Texts.{access_texts, default_texts, is_group, is_user, letter, mask_texts, named_text, part_texts, perm_text, who_text}
-use Rattle.pv_path.proofs.PathLaws.{both_true}
-use Rattle.pv_text.proofs.Characters.{all_append, all_weaker, both_yes, digits_alone, is_digit}
+use Rattle.pv_text.proofs.Characters.{all_append, all_weaker, digits_alone, is_digit}
 
 pub id_fits : (id : ℕ) → is_id id ≡ true → id < 2 ^ 64
 id_fits id e = grind (arith, nat_tests)
 
 pub all_filter : {A : Type 0} (p q : A → Bool) (xs : List A) → list_all p xs ≡ true → list_all p (filter q xs) ≡ true
 all_filter p q [] e = refl
-all_filter p q (x ∷ xs) e = let parts = both_true (p x) (list_all p xs) e in by_test parts.0 (all_filter p q xs parts.1) (q x) refl
+all_filter p q (x ∷ xs) e = let parts = and_parts (p x) (list_all p xs) e in by_test parts.0 (all_filter p q xs parts.1) (q x) refl
   where
     by_test : p x ≡ true → list_all p (filter q xs) ≡ true → (t : Bool) → q x ≡ t → list_all p (filter q (x ∷ xs)) ≡ true
-    by_test first rest true f = rw f (both_yes (p x) (list_all p (filter q xs)) first rest)
+    by_test first rest true f = rw f (and_from (p x) (list_all p (filter q xs)) first rest)
     by_test first rest false f = rw f rest
 
 pub part_names : (part : Part) → is_part part ≡ true → list_all is_named part.named ≡ true
@@ -34,9 +34,9 @@ part_names part e =
     let t = is_perm part.other in
     let n = list_all is_named part.named in
     let r = is_ordered part.named in
-    let five = (both_true (o && g && t && n && r) (option_map_or is_perm part.mask true) e).0 in
-    let four = (both_true (o && g && t && n) r five).0 in
-    (both_true (o && g && t) n four).1
+    let five = (and_parts (o && g && t && n && r) (option_map_or is_perm part.mask true) e).0 in
+    let four = (and_parts (o && g && t && n) r five).0 in
+    (and_parts (o && g && t) n four).1
 
 -- a test that digits, the letters of entries, the dash and the colon pass
 pub record PassesEntries (p : ℕ → Bool) : Type 0 where
@@ -77,13 +77,13 @@ module _ (p : ℕ → Bool) (passes : PassesEntries p) where
   named_passes x e =
       let colon : list_all p (codes ":") ≡ true = rw passes.colon refl in
       all_append p (who_text x.who ++ codes ":") (perm_text x.perm)
-      (all_append p (who_text x.who) (codes ":") (who_passes x.who (both_true (is_id (id_of x.who)) (is_perm x.perm) e).0) colon) (perm_passes x.perm)
+      (all_append p (who_text x.who) (codes ":") (who_passes x.who (and_parts (is_id (id_of x.who)) (is_perm x.perm) e).0) colon) (perm_passes x.perm)
 
   names_pass : (xs : List Named) → list_all is_named xs ≡ true → AllPass (map named_text xs)
   names_pass [] e = refl
   names_pass (x ∷ xs) e =
-      let parts = both_true (is_named x) (list_all is_named xs) e in
-      both_yes (list_all p (named_text x)) (list_all (list_all p) (map named_text xs)) (named_passes x parts.0) (names_pass xs parts.1)
+      let parts = and_parts (is_named x) (list_all is_named xs) e in
+      and_from (list_all p (named_text x)) (list_all (list_all p) (map named_text xs)) (named_passes x parts.0) (names_pass xs parts.1)
 
   -- a letter, two colons and a permission
   base_passes : (c perm : ℕ) → p c ≡ true → list_all p (c ∷ 58 ∷ 58 ∷ perm_text perm) ≡ true
@@ -91,7 +91,7 @@ module _ (p : ℕ → Bool) (passes : PassesEntries p) where
 
   mask_passes : (mask : Option ℕ) → AllPass (mask_texts mask)
   mask_passes None = refl
-  mask_passes (Some perm) = both_yes (list_all p (109 ∷ 58 ∷ 58 ∷ perm_text perm)) true (base_passes 109 perm passes.mask) refl
+  mask_passes (Some perm) = and_from (list_all p (109 ∷ 58 ∷ 58 ∷ perm_text perm)) true (base_passes 109 perm passes.mask) refl
 
   part_passes : (part : Part) → is_part part ≡ true → AllPass (part_texts part)
   part_passes part e =
@@ -102,9 +102,9 @@ module _ (p : ℕ → Bool) (passes : PassesEntries p) where
       let owner = codes "u::" ++ perm_text part.owner in
       let group = codes "g::" ++ perm_text part.group in
       let other = codes "o::" ++ perm_text part.other in
-      let u = both_yes (q owner) (list_all q users) (base_passes 117 part.owner passes.user) (names_pass (filter is_user part.named) (all_filter is_named is_user part.named named)) in
-      let g = both_yes (q group) (list_all q groups) (base_passes 103 part.group passes.group) (names_pass (filter is_group part.named) (all_filter is_named is_group part.named named)) in
-      let o = both_yes (q other) true (base_passes 111 part.other passes.other) refl in
+      let u = and_from (q owner) (list_all q users) (base_passes 117 part.owner passes.user) (names_pass (filter is_user part.named) (all_filter is_named is_user part.named named)) in
+      let g = and_from (q group) (list_all q groups) (base_passes 103 part.group passes.group) (names_pass (filter is_group part.named) (all_filter is_named is_group part.named named)) in
+      let o = and_from (q other) true (base_passes 111 part.other passes.other) refl in
       all_append q (owner ∷ users ++ group ∷ groups ++ mask_texts part.mask) (other ∷ [])
       (all_append q (owner ∷ users ++ group ∷ groups) (mask_texts part.mask)
       (all_append q (owner ∷ users) (group ∷ groups) u g) (mask_passes part.mask)) o
@@ -112,9 +112,9 @@ module _ (p : ℕ → Bool) (passes : PassesEntries p) where
   after_d : (texts : List (List ℕ)) → AllPass texts → AllPass (map (λ text. codes "d:" ++ text) texts)
   after_d [] e = refl
   after_d (text ∷ texts) e =
-      let parts = both_true (list_all p text) (list_all (list_all p) texts) e in
+      let parts = and_parts (list_all p text) (list_all (list_all p) texts) e in
       let first : list_all p (codes "d:" ++ text) ≡ true = let rest = parts.0 in rw (passes.default_mark, passes.colon, rest) refl in
-      both_yes (list_all p (codes "d:" ++ text)) (list_all (list_all p) (map (λ t. codes "d:" ++ t) texts)) first (after_d texts parts.1)
+      and_from (list_all p (codes "d:" ++ text)) (list_all (list_all p) (map (λ t. codes "d:" ++ t) texts)) first (after_d texts parts.1)
 
   default_passes : (part : Option Part) → option_map_or is_part part true ≡ true → AllPass (default_texts part)
   default_passes None e = refl
@@ -122,7 +122,7 @@ module _ (p : ℕ → Bool) (passes : PassesEntries p) where
 
   pub entries_pass : (acl : Acl) → is_acl acl ≡ true → AllPass (access_texts acl.access ++ default_texts acl.default_part)
   entries_pass acl e =
-      let parts = both_true (is_part acl.access) (option_map_or is_part acl.default_part true) e in
+      let parts = and_parts (is_part acl.access) (option_map_or is_part acl.default_part true) e in
       all_append (list_all p) (access_texts acl.access) (default_texts acl.default_part)
       (all_append (list_all p) (map named_text acl.access.named) (mask_texts acl.access.mask) (names_pass acl.access.named (part_names acl.access parts.0)) (mask_passes acl.access.mask))
       (default_passes acl.default_part parts.1)

@@ -5,18 +5,18 @@ use Rattle.std.specs.List.{flat_map, list_all, slice_split, join_with_byte}
 use Rattle.std.proofs.lemmas.Bool.Decides.{nat_tests}
 use Rattle.std.proofs.lemmas.List.{take_more, take_rest, length-map}
 use Rattle.std.proofs.lemmas.List.Splits.{join_with_byte-slice_split}
+use Rattle.std.proofs.lemmas.Bool.{and_parts, and_from}
 use Rattle.pv_path.specs.Printing.{hex_digit, printed_by}
-use Rattle.pv_path.proofs.PathLaws.{both_true}
 use Rattle.pv_steps.specs.declared.attr.Attr.{Attr}
 use Rattle.pv_steps.specs.declared.node.Kind.{Kind}
 use Rattle.pv_steps.specs.declared.node.Kind.TheVariants.{Directory, File, Link, Fifo, CharDevice, BlockDevice}
-use Rattle.pv_steps.specs.Attributes.{all_before, are_attrs, comes_before, is_attr, is_attr_name, is_ordered}
+use Rattle.pv_steps.specs.Attributes.{are_bytes, all_before, are_attrs, comes_before, is_attr, is_attr_name, is_ordered}
 use Rattle.pv_steps.specs.Objects.{AttrsFit}
 use Rattle.pv_steps.proofs.AttrOrder.{before_trans, is_ordered-push}
-use Rattle.pv_image.specs.Spelling.{attr_text, attr_texts, attrs_text, are_bytes, is_plain_in_attr}
+use Rattle.pv_image.specs.Spelling.{attr_text, attr_texts, attrs_text, is_plain_in_attr}
 use Rattle.pv_text.specs.Lines.{lacks}
 use Rattle.pv_image.specs.Reading.{AreAttrs, IsAttr, IsByteText, Reads, texts}
-use Rattle.pv_text.proofs.Characters.{all_append, all_back, all_joined, both_yes, hex_lacks, plain_lacks, printed_all}
+use Rattle.pv_text.proofs.Characters.{all_append, all_back, all_joined, hex_lacks, plain_lacks, printed_all}
 use Rattle.pv_image.proofs.Cutting.{are_apart, split_join}
 use Rattle.pv_image.proofs.Paths.{get_or-texts}
 use Rattle.pv_image.proofs.Printing.{printed_by-injective}
@@ -60,7 +60,7 @@ attr_apart attr = all_joined (λ b. not (b == 44)) 61 refl (attr_texts attr) (rw
 
 attrs_apart : (attrs : List Attr) → are_apart 44 (map attr_text attrs) ≡ true
 attrs_apart [] = refl
-attrs_apart (attr ∷ attrs) = both_yes (lacks 44 (attr_text attr)) (are_apart 44 (map attr_text attrs)) (attr_apart attr) (attrs_apart attrs)
+attrs_apart (attr ∷ attrs) = and_from (lacks 44 (attr_text attr)) (are_apart 44 (map attr_text attrs)) (attr_apart attr) (attrs_apart attrs)
 
 attrs_again : (attr : Attr) (attrs : List Attr) → slice_split (λ b. b == 44) (join_with_byte 44 (map attr_text (attr ∷ attrs))) ≡ map attr_text (attr ∷ attrs)
 attrs_again attr attrs = split_join 44 (attr_text attr) (map attr_text attrs) (attrs_apart (attr ∷ attrs))
@@ -83,10 +83,10 @@ are_apart_of : (attr : Attr) (attrs : List Attr) → are_attrs (attr ∷ attrs) 
 are_apart_of attr attrs e =
     let each = list_all (λ (x : Attr). is_attr x.name x.value) attrs in
     let one = is_attr attr.name attr.value in
-    let parts = both_true (one && each) (list_all (comes_before attr) attrs && is_ordered attrs) e in
-    let first = both_true one each parts.0 in
-    let last = both_true (list_all (comes_before attr) attrs) (is_ordered attrs) parts.1 in
-    (first.0, both_yes each (is_ordered attrs) first.1 last.1)
+    let parts = and_parts (one && each) (list_all (comes_before attr) attrs && is_ordered attrs) e in
+    let first = and_parts one each parts.0 in
+    let last = and_parts (list_all (comes_before attr) attrs) (is_ordered attrs) parts.1 in
+    (first.0, and_from each (is_ordered attrs) first.1 last.1)
 
 listed_once : (xs ys : List Attr) → are_attrs xs ≡ true → are_attrs ys ≡ true → map attr_text xs ≡ map attr_text ys → xs ≡ ys
 listed_once [] [] f g e = refl
@@ -127,8 +127,8 @@ two_texts (p ∷ q ∷ r ∷ pieces) attr e = cc
 
 attr_bytes : (attr : Attr) → IsAttr attr → IsByteText attr.name × IsByteText attr.value
 attr_bytes attr is =
-    let three = both_true (is_attr_name attr.name && nat_le (length attr.value) 65536 && are_bytes attr.name) (are_bytes attr.value) is in
-    ((both_true (is_attr_name attr.name && nat_le (length attr.value) 65536) (are_bytes attr.name) three.0).1, three.1)
+    let three = and_parts (is_attr_name attr.name && nat_le (length attr.value) 65536 && are_bytes attr.name) (are_bytes attr.value) is in
+    ((and_parts (is_attr_name attr.name && nat_le (length attr.value) 65536) (are_bytes attr.name) three.0).1, three.1)
 
 module _ (name value : List ℕ) where
   pub none_name : ((x : List ℕ) → IsByteText x → name ≢ printed_by is_plain_in_attr x) → (attr : Attr) → IsAttr attr → name ∷ value ∷ [] ≢ attr_texts attr
@@ -183,9 +183,9 @@ pieces_none (p ∷ pieces) (suc i) d h none (x ∷ xs) is e = pieces_none pieces
 early_none : (done : List Attr) (attr : Attr) (more : List Attr) → is_ordered (done ++ attr ∷ more) ≡ true → all_before done attr ≡ true
 early_none [] attr more e = refl
 early_none (x ∷ done) attr more e =
-    let parts = both_true (list_all (comes_before x) (done ++ attr ∷ more)) (is_ordered (done ++ attr ∷ more)) e in
-    let next = both_true (comes_before x attr) (list_all (comes_before x) more) (all_back (comes_before x) done (attr ∷ more) parts.0) in
-    both_yes (comes_before x attr) (all_before done attr) next.0 (early_none done attr more parts.1)
+    let parts = and_parts (list_all (comes_before x) (done ++ attr ∷ more)) (is_ordered (done ++ attr ∷ more)) e in
+    let next = and_parts (comes_before x attr) (list_all (comes_before x) more) (all_back (comes_before x) done (attr ∷ more) parts.0) in
+    and_from (comes_before x attr) (all_before done attr) next.0 (early_none done attr more parts.1)
 
 -- a list of which a front is read goes on with what is read next
 goes_on : (pieces : List (List ℕ)) (i : ℕ) (d : List ℕ) (done : List Attr) (attr : Attr) → i < length pieces → are_attrs done ≡ true → take i pieces ≡ map attr_text done → get_or pieces i d ≡ attr_text attr → IsAttr attr → (xs : List Attr) → are_attrs xs ≡ true → pieces ≡ map attr_text xs
@@ -213,7 +213,7 @@ pub order_none : (pieces : List (Bor (List ℕ))) (i : ℕ) (d : Bor (List ℕ))
 order_none pieces i d done attr h ok so_far here is early xs are e =
     let fits : i < length (texts pieces) = simp length-map h in
     let on = goes_on (texts pieces) i d.now done attr fits ok so_far (get_or-texts pieces i d ∙ here) is xs are e in
-    let ordered : is_ordered (done ++ attr ∷ on.0) ≡ true = subst (λ (ys : List Attr). is_ordered ys ≡ true) on.1 (both_true (list_all (λ (x : Attr). is_attr x.name x.value) xs) (is_ordered xs) are).1 in
+    let ordered : is_ordered (done ++ attr ∷ on.0) ≡ true = subst (λ (ys : List Attr). is_ordered ys ≡ true) on.1 (and_parts (list_all (λ (x : Attr). is_attr x.name x.value) xs) (is_ordered xs) are).1 in
     let yes = early_none done attr on.0 ordered in
     let bad : true ≡ false = sym yes ∙ early in
     cc
@@ -221,16 +221,16 @@ order_none pieces i d done attr h ok so_far here is early xs are e =
 pub attrs_more : (done : List Attr) (attr : Attr) → are_attrs done ≡ true → IsAttr attr → all_before done attr ≡ true → are_attrs (done ++ attr ∷ []) ≡ true
 attrs_more done attr ok is late =
     let test = λ (x : Attr). is_attr x.name x.value in
-    let parts = both_true (list_all test done) (is_ordered done) ok in
-    both_yes (list_all test (done ++ attr ∷ [])) (is_ordered (done ++ attr ∷ [])) (all_append test done (attr ∷ []) parts.0 (both_yes (test attr) true is refl)) (is_ordered-push done attr parts.1 late)
+    let parts = and_parts (list_all test done) (is_ordered done) ok in
+    and_from (list_all test (done ++ attr ∷ [])) (is_ordered (done ++ attr ∷ [])) (all_append test done (attr ∷ []) parts.0 (and_from (test attr) true is refl)) (is_ordered-push done attr parts.1 late)
 
 -- what comes after the last of a list comes after all
 after_last : (xs : List Attr) (last attr : Attr) → is_ordered (xs ++ last ∷ []) ≡ true → comes_before last attr ≡ true → all_before (xs ++ last ∷ []) attr ≡ true
-after_last [] last attr e late = both_yes (comes_before last attr) true late refl
+after_last [] last attr e late = and_from (comes_before last attr) true late refl
 after_last (x ∷ xs) last attr e late =
-    let parts = both_true (list_all (comes_before x) (xs ++ last ∷ [])) (is_ordered (xs ++ last ∷ [])) e in
-    let next = both_true (comes_before x last) true (all_back (comes_before x) xs (last ∷ []) parts.0) in
-    both_yes (comes_before x attr) (all_before (xs ++ last ∷ []) attr) (before_trans x.name last.name attr.name next.0 late) (after_last xs last attr parts.1 late)
+    let parts = and_parts (list_all (comes_before x) (xs ++ last ∷ [])) (is_ordered (xs ++ last ∷ [])) e in
+    let next = and_parts (comes_before x last) true (all_back (comes_before x) xs (last ∷ []) parts.0) in
+    and_from (comes_before x attr) (all_before (xs ++ last ∷ []) attr) (before_trans x.name last.name attr.name next.0 late) (after_last xs last attr parts.1 late)
 
 -- what does not come after the last does not come after all
 before_last : (xs : List Attr) (last attr : Attr) → comes_before last attr ≡ false → all_before (xs ++ last ∷ []) attr ≡ false
@@ -260,7 +260,7 @@ late_is xs last attr are e = by_test (comes_before last attr) refl
     front = ends_in xs last e
 
     ordered : is_ordered (front.0 ++ last ∷ []) ≡ true
-    ordered = subst (λ (ys : List Attr). is_ordered ys ≡ true) front.1 (both_true (list_all (λ (x : Attr). is_attr x.name x.value) xs) (is_ordered xs) are).1
+    ordered = subst (λ (ys : List Attr). is_ordered ys ≡ true) front.1 (and_parts (list_all (λ (x : Attr). is_attr x.name x.value) xs) (is_ordered xs) are).1
 
     by_test : (t : Bool) → comes_before last attr ≡ t → comes_before last attr ≡ all_before xs attr
     by_test true q = q ∙ sym (ap (λ (ys : List Attr). all_before ys attr) front.1 ∙ after_last front.0 last attr ordered q)

@@ -3,6 +3,7 @@ use Rattle.std.proofs.Common.{◌≡◌, ◌≢◌, ℕ, ◌+◌, ◌*◌, ◌/�
 use Rattle.std.specs.List.{list_all}
 use Rattle.std.specs.Option.{option_map_or}
 use Rattle.std.proofs.lemmas.Bool.Decides.{nat_tests}
+use Rattle.std.proofs.lemmas.Bool.{and_parts}
 use Rattle.pv_acl.specs.declared.part.Acl.{Acl}
 use Rattle.pv_acl.specs.declared.part.Part.{Part}
 use Rattle.pv_acl.specs.NamedEntries.{is_named, is_ordered, is_perm}
@@ -10,7 +11,6 @@ use Rattle.pv_acl.specs.Parts.{base_of, is_acl, is_part, mode_of, part_of_mode}
 use Rattle.pv_acl.specs.Texts.{acl_text}
 use Rattle.pv_path.specs.Paths.{Path}
 use Rattle.pv_path.specs.Printing.{printed_path}
-use Rattle.pv_path.proofs.PathLaws.{both_true}
 use Rattle.pv_steps.specs.declared.node.Kind.{Kind}
 use Rattle.pv_steps.specs.declared.node.Kind.TheVariants.{Directory, File, Link, Fifo, CharDevice, BlockDevice}
 use Rattle.pv_steps.specs.declared.object.Object.{Object}
@@ -19,7 +19,7 @@ use Rattle.pv_image.specs.declared.node.Plain.{Plain}
 use Rattle.pv_image.specs.declared.extras.Extras.{Extras}
 use Rattle.pv_image.specs.declared.payload.Payload.{Payload}
 use Rattle.pv_image.specs.declared.version.Version.{Version}
-use Rattle.pv_image.specs.Spelling.{IsBytePath, IsEntry, IsExtras, IsPayload, columns, extra_texts, extras_of, kind_text, mode_text, payload_of, payload_text}
+use Rattle.pv_image.specs.Spelling.{HasNames, IsEntry, IsExtras, IsPayload, columns, extra_texts, extras_of, kind_text, mode_text, payload_of, payload_text}
 use Rattle.pv_image.specs.Nodes.{IsAclOf, IsPlain, object_of, plain_texts}
 
 -- ---- the letter of a kind, and the digits of a mode
@@ -80,15 +80,15 @@ base_fits part e =
     let t = is_perm part.other in
     let n = list_all is_named part.named in
     let r = is_ordered part.named in
-    let five = (both_true (o && g && t && n && r) (option_map_or is_perm part.mask true) e).0 in
-    let four = (both_true (o && g && t && n) r five).0 in
-    let three = (both_true (o && g && t) n four).0 in
-    let two = both_true (o && g) t three in
-    let one = both_true o g two.0 in
+    let five = (and_parts (o && g && t && n && r) (option_map_or is_perm part.mask true) e).0 in
+    let four = (and_parts (o && g && t && n) r five).0 in
+    let three = (and_parts (o && g && t) n four).0 in
+    let two = and_parts (o && g) t three in
+    let one = and_parts o g two.0 in
     record { owner = perm_is part.owner one.0; group = perm_is part.group one.1; other = perm_is part.other two.1 }
 
 access_is : (acl : Acl) → is_acl acl ≡ true → is_part acl.access ≡ true
-access_is acl e = (both_true (is_part acl.access) (option_map_or is_part acl.default_part true) e).0
+access_is acl e = (and_parts (is_part acl.access) (option_map_or is_part acl.default_part true) e).0
 
 base_is : (special : ℕ) (part : Part) → BaseFits part → base_of part ≡ part_of_mode (mode_of special part)
 base_is special part fits =
@@ -175,7 +175,7 @@ module _ (version : Version) (kind path mode uid gid stamps acl : List ℕ) (mor
   pub none_plain : ((x : Plain) → IsPlain x → plain_columns ≢ plain_texts x) → (e : Path × Object) → IsEntry version e → all_columns ≢ columns version e
   none_plain none e is same = none (plain_at e.1) (plain_is e.1 is.object) (plain_part e same)
 
-  pub none_path : ((x : Path) → IsBytePath x → path ≢ printed_path x) → (e : Path × Object) → IsEntry version e → all_columns ≢ columns version e
+  pub none_path : ((x : Path) → HasNames x → path ≢ printed_path x) → (e : Path × Object) → IsEntry version e → all_columns ≢ columns version e
   none_path none e is same = none e.0 is.path (let p : path ≡ printed_path e.0 = cc in p)
 
   module _ (plain : Plain) (read : IsPlain plain × (plain_columns ≡ plain_texts plain)) where
@@ -200,7 +200,7 @@ module _ (version : Version) (kind path mode uid gid stamps acl : List ℕ) (mor
         none (payload_of e.1) (subst (λ (k : Kind). IsPayload k (payload_of e.1)) alike.0 (payload_is e.1 is.object))
         (subst (λ (k : Kind). payload ≡ payload_text k (payload_of e.1)) alike.0 here)
 
-    pub entry_is : (names : Path) (list : Acl) (extras : Extras) (rest : Payload) → IsBytePath names × (path ≡ printed_path names) → IsAclOf plain.kind plain.mode list × (acl ≡ acl_text list)
+    pub entry_is : (names : Path) (list : Acl) (extras : Extras) (rest : Payload) → HasNames names × (path ≡ printed_path names) → IsAclOf plain.kind plain.mode list × (acl ≡ acl_text list)
         → IsExtras version plain.kind extras × (more ≡ extra_texts version extras)
         → IsPayload plain.kind rest × (payload ≡ payload_text plain.kind rest) → IsEntry version (names, object_of plain list extras rest) × (all_columns ≡ columns version (names, object_of plain list extras rest))
     entry_is names list extras rest p a x w =

@@ -3,17 +3,18 @@ use Rattle.std.proofs.Common.{◌≡◌, ◌≢◌, ℕ, zero, suc, ◌<◌, ◌
 use Rattle.std.specs.List.{list_all}
 use Rattle.std.proofs.lemmas.Bool.Decides.{nat_tests}
 use Rattle.std.proofs.lemmas.List.{length-take-le, take-append-drop}
+use Rattle.std.proofs.lemmas.Bool.{and_parts, and_from}
 use Rattle.base64.proofs.EngineFacts.{encode_of-append}
 use Rattle.base64.specs.GeneralPurpose.{IsBytes, encode_of}
 use Rattle.base64.specs.Engines.{standard}
 use Rattle.base64.specs.Rfc4648.{encode_symbols, padding_len}
-use Rattle.pv_path.proofs.PathLaws.{both_true}
 use Rattle.pv_path.specs.Printing.{printed}
 use Rattle.pv_steps.specs.declared.node.Kind.{Kind}
 use Rattle.pv_steps.specs.declared.node.Kind.TheVariants.{Directory, File, Link, Fifo, CharDevice, BlockDevice}
-use Rattle.pv_image.specs.Spelling.{IsPayload, are_bytes, content_text, numbers_text, payload_text}
+use Rattle.pv_steps.specs.Attributes.{are_bytes}
+use Rattle.pv_image.specs.Spelling.{IsPayload, content_text, numbers_text, payload_text}
 use Rattle.pv_image.specs.Reading.{AreNumbers, IsByteTarget, IsByteText, Reads, of_bytes, of_numbers}
-use Rattle.pv_text.proofs.Characters.{all_append, both_yes}
+use Rattle.pv_text.proofs.Characters.{all_append}
 
 -- ---- bytes, by index and as a test
 
@@ -25,19 +26,19 @@ byte_below b h = grind (arith, nat_tests)
 
 pub bytes_all : (bytes : List ℕ) → IsBytes bytes → are_bytes bytes ≡ true
 bytes_all [] h = refl
-bytes_all (b ∷ bytes) h = both_yes (nat_lt b 256) (are_bytes bytes) (byte_is b (h 0)) (bytes_all bytes (λ i. h (suc i)))
+bytes_all (b ∷ bytes) h = and_from (nat_lt b 256) (are_bytes bytes) (byte_is b (h 0)) (bytes_all bytes (λ i. h (suc i)))
 
 pub all_bytes : (bytes : List ℕ) → are_bytes bytes ≡ true → IsBytes bytes
 all_bytes [] e i = omega arith
-all_bytes (b ∷ bytes) e zero = byte_below b (both_true (nat_lt b 256) (are_bytes bytes) e).0
-all_bytes (b ∷ bytes) e (suc i) = all_bytes bytes (both_true (nat_lt b 256) (are_bytes bytes) e).1 i
+all_bytes (b ∷ bytes) e zero = byte_below b (and_parts (nat_lt b 256) (are_bytes bytes) e).0
+all_bytes (b ∷ bytes) e (suc i) = all_bytes bytes (and_parts (nat_lt b 256) (are_bytes bytes) e).1 i
 
 -- ---- Base64
 
 get_or_all : (p : ℕ → Bool) → p 0 ≡ true → (xs : List ℕ) → list_all p xs ≡ true → (i : ℕ) → p (get_or xs i 0) ≡ true
 get_or_all p z [] e i = z
-get_or_all p z (x ∷ xs) e zero = (both_true (p x) (list_all p xs) e).0
-get_or_all p z (x ∷ xs) e (suc i) = get_or_all p z xs (both_true (p x) (list_all p xs) e).1 i
+get_or_all p z (x ∷ xs) e zero = (and_parts (p x) (list_all p xs) e).0
+get_or_all p z (x ∷ xs) e (suc i) = get_or_all p z xs (and_parts (p x) (list_all p xs) e).1 i
 
 -- what the 64 symbols pass
 module _ (p : ℕ → Bool) (z : p 0 ≡ true) (t : List ℕ) (table : list_all p t ≡ true) where
@@ -53,7 +54,7 @@ module _ (p : ℕ → Bool) (z : p 0 ≡ true) (t : List ℕ) (table : list_all 
 
 padding_all : (p : ℕ → Bool) → p 61 ≡ true → (n : ℕ) → list_all p (replicate n 61) ≡ true
 padding_all p e zero = refl
-padding_all p e (suc n) = both_yes (p 61) (list_all p (replicate n 61)) e (padding_all p e n)
+padding_all p e (suc n) = and_from (p 61) (list_all p (replicate n 61)) e (padding_all p e n)
 
 pub encoded_all : (p : ℕ → Bool) → p 0 ≡ true → p 61 ≡ true → list_all p standard.encode_table ≡ true → (m : List ℕ) → list_all p (encode_of standard m) ≡ true
 encoded_all p z pad table m = all_append p (encode_symbols standard.encode_table m) (replicate (padding_len (length m)) 61) (symbols_all p z standard.encode_table table m) (padding_all p pad (padding_len (length m)))

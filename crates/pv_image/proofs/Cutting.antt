@@ -2,8 +2,8 @@
 use Rattle.std.proofs.Common.{◌≡◌, ℕ, Bool, true, ◌==◌, List, [], ◌∷◌, Option, Some, None, sym, ap, ◌∙◌}
 use Rattle.std.specs.List.{list_all, slice_split, join_with_byte}
 use Rattle.std.proofs.lemmas.List.Splits.{join_with_byte-slice_split}
+use Rattle.std.proofs.lemmas.Bool.{and_parts}
 use Rattle.pv_acl.proofs.Splitting.{split_at, split_none}
-use Rattle.pv_path.proofs.PathLaws.{both_true}
 use Rattle.pv_text.specs.Lines.{lacks}
 use Rattle.pv_image.specs.Reading.{Reads}
 
@@ -12,9 +12,9 @@ are_apart c pieces = list_all (lacks c) pieces
 
 -- pieces without the byte are found again after they were joined by it
 pub split_join : (c : ℕ) (piece : List ℕ) (pieces : List (List ℕ)) → are_apart c (piece ∷ pieces) ≡ true → slice_split (λ b. b == c) (join_with_byte c (piece ∷ pieces)) ≡ piece ∷ pieces
-split_join c piece [] e = split_none c piece (both_true (lacks c piece) true e).0
+split_join c piece [] e = split_none c piece (and_parts (lacks c piece) true e).0
 split_join c piece (next ∷ pieces) e =
-    let parts = both_true (lacks c piece) (are_apart c (next ∷ pieces)) e in
+    let parts = and_parts (lacks c piece) (are_apart c (next ∷ pieces)) e in
     split_at c piece (join_with_byte c (next ∷ pieces)) parts.0 ∙ ap (λ (ps : List (List ℕ)). piece ∷ ps) (split_join c next pieces parts.1)
 
 -- to read the pieces is to read the text

@@ -8,8 +8,9 @@ use Rattle.std.specs.FinMap.Entries.{below_all}
 use Rattle.std.specs.declared.cmp.Ordering.{Ordering}
 use Rattle.std.specs.declared.cmp.Ordering.TheVariants.{Less, Equal, Greater}
 use Rattle.std.proofs.lemmas.List.Concat.{flat_map-append}
-use Rattle.pv_path.specs.Paths.{Path, has_names, parent_of, path_cmp, path_total, same_path}
-use Rattle.pv_path.proofs.PathLaws.{both_true, parent_of-differs, parent_of-is_prefix, path_cmp-exact, prefix_not_greater}
+use Rattle.std.proofs.lemmas.Bool.{and_parts, and_from}
+use Rattle.pv_path.specs.Paths.{Path, parent_of, path_cmp, path_total, same_path}
+use Rattle.pv_path.proofs.PathLaws.{parent_of-differs, parent_of-is_prefix, path_cmp-exact, prefix_not_greater}
 use Rattle.pv_steps.specs.Objects.{is_directory}
 use Rattle.pv_steps.specs.declared.node.Kind.TheVariants.{Directory}
 use Rattle.pv_steps.specs.declared.object.Object.{Object}
@@ -18,13 +19,13 @@ use Rattle.pv_steps.proofs.NameLaws.{both_T, less_T}
 use Rattle.pv_text.specs.Facts.{Values}
 use Rattle.pv_image.specs.Spelling.{IsEntry, Shows, end_text, extras_of, fact_text, header_text, line, node_text, old_text_of, text_in, text_of}
 use Rattle.pv_text.specs.Lines.{is_line}
-use Rattle.pv_image.specs.Images.{HasFault, cut_off, misspelt, misplaced, later, HasImageFault, HaveText, IsCut, IsImage, Spells, Stage, Before, InFacts, InNodes, After, What, Note, Header, Fact, Node, End, are_byte_names, follows, has_parent, is_byte_fact, is_note, is_root, judged}
+use Rattle.pv_image.specs.Images.{HasFault, cut_off, misspelt, misplaced, later, HasImageFault, HaveText, IsCut, IsImage, Spells, Stage, Before, InFacts, InNodes, After, What, Note, Header, Fact, Node, End, follows, has_parent, is_byte_fact, is_note, is_root, judged}
 use Rattle.pv_image.specs.Progress.{Fails}
 use Rattle.pv_image.specs.declared.fault.ImageFault.{ImageFault}
 use Rattle.pv_image.specs.declared.fault.ImageFault.TheVariants as fault
 use Rattle.pv_image.specs.declared.version.Version.{Version}
 use Rattle.pv_image.specs.declared.version.Version.TheVariants.{One, Two}
-use Rattle.pv_text.proofs.Characters.{all_append, all_back, both_yes}
+use Rattle.pv_text.proofs.Characters.{all_append, all_back}
 use Rattle.pv_image.proofs.Facts.{fact_whole}
 use Rattle.pv_image.proofs.Order.{any_dir, dir_at, turned}
 use Rattle.pv_image.proofs.Solid.{node_whole}
@@ -131,13 +132,11 @@ module _ (files : Files) (is : IsTree files) where
   there done e es whole =
       fin.get-entries files e.0 ∙ ap (fin.find path_cmp e.0) whole ∙ find_at path_cmp path_total done e es (sorted_at done (e ∷ es) whole)
 
-  entries_are : (version : Version) → ((path : Path) (o : Object) → places files path ≡ Some o → Shows version (extras_of o)) → (done es : List (Path × Object)) → all ≡ done ++ es → list_all (λ e. are_byte_names e.0) es ≡ true → AllByRecursion (IsEntry version) es
-  entries_are version shown done [] whole fit = tt
-  entries_are version shown done (e ∷ es) whole fit =
+  entries_are : (version : Version) → ((path : Path) (o : Object) → places files path ≡ Some o → Shows version (extras_of o)) → (done es : List (Path × Object)) → all ≡ done ++ es → AllByRecursion (IsEntry version) es
+  entries_are version shown done [] whole = tt
+  entries_are version shown done (e ∷ es) whole =
       let here = there done e es whole in
-      let parts = both_true (are_byte_names e.0) (list_all (λ x. are_byte_names x.0) es) fit in
-      let names : has_names e.0 ≡ true = is.names e.0 (ap is_some here) in
-      (record { path = record { names = names; bytes = parts.0 }; object = is.objects e.0 e.1 here; shown = shown e.0 e.1 here }, entries_are version shown (done ++ e ∷ []) es (whole ∙ sym (append_assoc done (e ∷ []) es)) parts.1)
+      (record { path = is.names e.0 (ap is_some here); object = is.objects e.0 e.1 here; shown = shown e.0 e.1 here }, entries_are version shown (done ++ e ∷ []) es (whole ∙ sym (append_assoc done (e ∷ []) es)))
 
   -- the directory of each path but the root is among those before it
   parent_before : (done : List (Path × Object)) (e : Path × Object) (es : List (Path × Object)) → all ≡ done ++ e ∷ es → e.0 ≢ [] → has_parent done e.0 ≡ true
@@ -164,7 +163,7 @@ module _ (files : Files) (is : IsTree files) where
           let here : places files [] ≡ Some e.1 = ap (places files) (sym q) ∙ there [] e rest whole in
           let kind : Some e.1.node.kind ≡ Some Directory = rw here at is.root in
           let dir : e.1.node.kind ≡ Directory = cc in
-          both_yes (same_path e.0 []) (is_directory e.1.node.kind) (ap (λ (x : Path). same_path x []) q) (ap is_directory dir)
+          and_from (same_path e.0 []) (is_directory e.1.node.kind) (ap (λ (x : Path). same_path x []) q) (ap is_directory dir)
       by_path (n ∷ p) q =
           let less : path_cmp [] e.0 ≡ Less = ap (path_cmp []) q in
           let none : fin.find path_cmp [] rest ≡ None = find_below path_cmp path_total [] e.0 rest less (both_T (below_all path_cmp e.0 rest) (fin.is_sorted path_cmp rest) (sorted_at [] (e ∷ rest) whole)).0 in
@@ -230,7 +229,7 @@ tree_sound version files is facts are = by_first (root_first files is (fin.entri
 facts_sound : (version : Version) → (facts : Values) (tail : List ℕ) → Sound (InFacts version (fin.entries facts)) tail → (done es : List (ℕ × List ℕ)) → fin.entries facts ≡ done ++ es → list_all is_byte_fact es ≡ true → Sound (InFacts version done) (flat_map line (map fact_text es) ++ tail)
 facts_sound version facts tail sound done [] whole fit n f h = sound n f (subst (λ (es : List (ℕ × List ℕ)). HasFault n (InFacts version es) tail f) (sym (whole ∙ append-nil done)) h)
 facts_sound version facts tail sound done (x ∷ es) whole fit n f h =
-    let parts = both_true (is_byte_fact x) (list_all is_byte_fact es) fit in
+    let parts = and_parts (is_byte_fact x) (list_all is_byte_fact es) fit in
     let after = flat_map line (map fact_text es) ++ tail in
     let glued : flat_map line (map fact_text (x ∷ es)) ++ tail ≡ line (fact_text x) ++ after = append_assoc (line (fact_text x)) (flat_map line (map fact_text es)) tail in
     let in_order : T (fin.is_sorted nat_cmp (done ++ x ∷ es)) = subst (λ (xs : List (ℕ × List ℕ)). T (fin.is_sorted nat_cmp xs)) whole (fin.entries_sorted facts) in
@@ -250,8 +249,8 @@ header_sound version tail sound n f h = sound (suc n) f (step_on n Before (InFac
 notes_sound : (tail : List ℕ) → Sound Before tail → (notes : List (List ℕ)) → list_all (λ note. is_note note && is_line note) notes ≡ true → Sound Before (flat_map line notes ++ tail)
 notes_sound tail sound [] fit n f h = sound n f h
 notes_sound tail sound (note ∷ notes) fit n f h =
-    let parts = both_true (is_note note && is_line note) (list_all (λ x. is_note x && is_line x) notes) fit in
-    let own = both_true (is_note note) (is_line note) parts.0 in
+    let parts = and_parts (is_note note && is_line note) (list_all (λ x. is_note x && is_line x) notes) fit in
+    let own = and_parts (is_note note) (is_line note) parts.0 in
     let after = flat_map line notes ++ tail in
     let glued : flat_map line (note ∷ notes) ++ tail ≡ line note ++ after = append_assoc (line note) (flat_map line notes) tail in
     notes_sound tail sound notes parts.1 (suc n) f
@@ -263,14 +262,8 @@ text_parts version facts files =
     ∙ ap (λ (t : List ℕ). t ++ end_lines) (flat_map-append line (map fact_text (fin.entries facts)) (map (node_text version) (fin.entries files)))
     ∙ append_assoc (flat_map line (map fact_text (fin.entries facts))) (flat_map line (map (node_text version) (fin.entries files))) end_lines)
 
-names_back : (es : List (Path × Object)) → list_all are_byte_names (map (λ e. e.0) es) ≡ true → list_all (λ e. are_byte_names e.0) es ≡ true
-names_back [] e = refl
-names_back (x ∷ es) e =
-    let parts = both_true (are_byte_names x.0) (list_all are_byte_names (map (λ y. y.0) es)) e in
-    both_yes (are_byte_names x.0) (list_all (λ y. are_byte_names y.0) es) parts.0 (names_back es parts.1)
-
 tree_entries : (version : Version) (facts : Values) (files : Files) → HaveText version facts files → AllByRecursion (IsEntry version) (fin.entries files)
-tree_entries version facts files fit = entries_are files fit.tree version fit.shown [] (fin.entries files) refl (names_back (fin.entries files) fit.names_fit)
+tree_entries version facts files fit = entries_are files fit.tree version fit.shown [] (fin.entries files) refl
 
 pub image_sound : (bytes : List ℕ) (facts : Values) (files : Files) (f : ImageFault) → IsImage bytes facts files → HasImageFault bytes f → ⊥
 image_sound bytes facts files f image h =
@@ -322,8 +315,8 @@ lines_once [] [] f g e = refl
 lines_once [] (y ∷ ys) f g e = absurd (some_line y (flat_map line ys) e)
 lines_once (x ∷ xs) [] f g e = absurd (some_line x (flat_map line xs) (sym e))
 lines_once (x ∷ xs) (y ∷ ys) f g e =
-    let pf = both_true (is_line x) (list_all is_line xs) f in
-    let pg = both_true (is_line y) (list_all is_line ys) g in
+    let pf = and_parts (is_line x) (list_all is_line xs) f in
+    let pg = and_parts (is_line y) (list_all is_line ys) g in
     let both = one_cut (line x ++ flat_map line xs) x y (flat_map line xs) (flat_map line ys) (first_cut x (flat_map line xs) pf.0) (record { bytes_are = e; whole = pg.0 }) in
     let same : x ≡ y = both.0 in
     let below : xs ≡ ys = lines_once xs ys pf.1 pg.1 both.1 in
@@ -386,23 +379,23 @@ whats_of version notes facts nodes = map (λ note. Note) notes ++ (Header versio
 notes_spell : (notes : List (List ℕ)) → list_all (λ note. is_note note && is_line note) notes ≡ true → AllSpell notes (map (λ note. Note) notes) × (list_all is_line notes ≡ true)
 notes_spell [] e = (tt, refl)
 notes_spell (note ∷ notes) e =
-    let parts = both_true (is_note note && is_line note) (list_all (λ x. is_note x && is_line x) notes) e in
-    let own = both_true (is_note note) (is_line note) parts.0 in
+    let parts = and_parts (is_note note && is_line note) (list_all (λ x. is_note x && is_line x) notes) e in
+    let own = and_parts (is_note note) (is_line note) parts.0 in
     let below = notes_spell notes parts.1 in
-    ((own.0, below.0), both_yes (is_line note) (list_all is_line notes) own.1 below.1)
+    ((own.0, below.0), and_from (is_line note) (list_all is_line notes) own.1 below.1)
 
 facts_spell : (facts : List (ℕ × List ℕ)) → list_all is_byte_fact facts ≡ true → AllSpell (map fact_text facts) (map (λ fact. Fact fact) facts) × (list_all is_line (map fact_text facts) ≡ true)
 facts_spell [] e = (tt, refl)
 facts_spell (fact ∷ facts) e =
-    let parts = both_true (is_byte_fact fact) (list_all is_byte_fact facts) e in
+    let parts = and_parts (is_byte_fact fact) (list_all is_byte_fact facts) e in
     let below = facts_spell facts parts.1 in
-    (((parts.0, refl), below.0), both_yes (is_line (fact_text fact)) (list_all is_line (map fact_text facts)) (fact_whole fact parts.0) below.1)
+    (((parts.0, refl), below.0), and_from (is_line (fact_text fact)) (list_all is_line (map fact_text facts)) (fact_whole fact parts.0) below.1)
 
 nodes_spell : (version : Version) (nodes : List (Path × Object)) → AllByRecursion (IsEntry version) nodes → AllSpell (map (node_text version) nodes) (map (λ e. Node version e) nodes) × (list_all is_line (map (node_text version) nodes) ≡ true)
 nodes_spell version [] are = (tt, refl)
 nodes_spell version (e ∷ nodes) are =
     let below = nodes_spell version nodes are.1 in
-    (((are.0, refl), below.0), both_yes (is_line (node_text version e)) (list_all is_line (map (node_text version) nodes)) (node_whole version e are.0) below.1)
+    (((are.0, refl), below.0), and_from (is_line (node_text version e)) (list_all is_line (map (node_text version) nodes)) (node_whole version e are.0) below.1)
 
 module _ (version : Version) (notes : List (List ℕ)) (facts : List (ℕ × List ℕ)) (nodes : List (Path × Object)) where
   texts_spell : list_all (λ note. is_note note && is_line note) notes ≡ true → list_all is_byte_fact facts ≡ true → AllByRecursion (IsEntry version) nodes → AllSpell (texts_of version notes facts nodes) (whats_of version notes facts nodes) × (list_all is_line (texts_of version notes facts nodes) ≡ true)
@@ -417,7 +410,7 @@ module _ (version : Version) (notes : List (List ℕ)) (facts : List (ℕ × Lis
       let more : AllSpell (map fact_text facts ++ last) (map (λ fact. Fact fact) facts ++ says) = spell_append (map fact_text facts) last (map (λ fact. Fact fact) facts) says b.0 tail in
       let more_lines : list_all is_line (map fact_text facts ++ last) ≡ true = all_append is_line (map fact_text facts) last b.1 tail_lines in (
         spell_append notes (header_text version ∷ (map fact_text facts ++ last)) (map (λ note. Note) notes) (Header version ∷ (map (λ fact. Fact fact) facts ++ says)) a.0 (refl, more),
-        all_append is_line notes (header_text version ∷ (map fact_text facts ++ last)) a.1 (both_yes (is_line (header_text version)) (list_all is_line (map fact_text facts ++ last)) (header_whole version) more_lines),
+        all_append is_line notes (header_text version ∷ (map fact_text facts ++ last)) a.1 (and_from (is_line (header_text version)) (list_all is_line (map fact_text facts ++ last)) (header_whole version) more_lines),
       )
 
   all_facts : filter_map fact_in (whats_of version notes facts nodes) ≡ facts

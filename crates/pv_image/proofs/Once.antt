@@ -1,21 +1,21 @@
 -- No text is the spelling of two values.
 use Rattle.std.proofs.Common.{◌≡◌, ◌≢◌, ℕ, zero, suc, ◌+◌, ◌-◌, ◌*◌, ◌/◌, ◌%◌, ◌<◌, Bool, true, false, not, ◌&&◌, ◌==◌, nat_lt, List, [], ◌∷◌, ◌++◌, length, get_or, replicate, refl, sym, ap, ◌∙◌, subst, arith, codes, if◌then◌else◌}
 use Rattle.std.specs.List.{list_all}
-use Rattle.std.proofs.lemmas.Bool.{eqb-true}
+use Rattle.std.proofs.lemmas.Bool.{eqb-true, and_parts}
 use Rattle.std.proofs.lemmas.Bool.Decides.{nat_tests}
 use Rattle.base64.specs.GeneralPurpose.{encode_of}
 use Rattle.base64.specs.Engines.{standard}
 use Rattle.base64.specs.Rfc4648.{encode_symbols, padding_len}
-use Rattle.pv_path.proofs.PathLaws.{both_true}
 use Rattle.pv_text.specs.Lines.{lacks}
-use Rattle.pv_image.specs.Spelling.{are_bytes, content_text}
+use Rattle.pv_steps.specs.Attributes.{are_bytes}
+use Rattle.pv_image.specs.Spelling.{content_text}
 use Rattle.pv_image.proofs.Contents.{byte_below, encoded_all, symbols_all}
 
 -- ---- lists in parts
 
 first_no : (c x : ℕ) (t : List ℕ) → lacks c (x ∷ t) ≡ true → x ≡ c → ⊥
 first_no c x t e is =
-    let here : not (x == c) ≡ true = (both_true (not (x == c)) (lacks c t) e).0 in
+    let here : not (x == c) ≡ true = (and_parts (not (x == c)) (lacks c t) e).0 in
     let bad : not (c == c) ≡ true = subst (λ (y : ℕ). not (y == c) ≡ true) is here in
     let same : (c == c) ≡ true = grind arith in
     let no : not (c == c) ≡ false = rw same refl in
@@ -29,7 +29,7 @@ fronts c (x ∷ t) [] r s p q e = absurd (first_no c x t p (let h : x ≡ c = cc
 fronts c (x ∷ t) (y ∷ u) r s p q e =
     let rest : t ++ c ∷ r ≡ u ++ c ∷ s = cc in
     let first : x ≡ y = cc in
-    let below = fronts c t u r s (both_true (not (x == c)) (lacks c t) p).1 (both_true (not (y == c)) (lacks c u) q).1 rest in
+    let below = fronts c t u r s (and_parts (not (x == c)) (lacks c t) p).1 (and_parts (not (y == c)) (lacks c u) q).1 rest in
     (let same : t ≡ u = below.0 in cc, below.1)
 
 module _ {A : Type 0} (p : A → Bool) where
@@ -41,14 +41,14 @@ module _ {A : Type 0} (p : A → Bool) where
   parted [] [] r s a b c d e = (refl, e)
   parted [] (y ∷ ys) [] s a b c d e = cc
   parted [] (y ∷ ys) (z ∷ r) s a b c d e =
-      absurd (clash y z (both_true (p y) (list_all p ys) b).0 (both_true (not (p z)) (list_all (λ x. not (p x)) r) c).0 (let h : y ≡ z = cc in h))
+      absurd (clash y z (and_parts (p y) (list_all p ys) b).0 (and_parts (not (p z)) (list_all (λ x. not (p x)) r) c).0 (let h : y ≡ z = cc in h))
   parted (x ∷ xs) [] r [] a b c d e = cc
   parted (x ∷ xs) [] r (z ∷ s) a b c d e =
-      absurd (clash x z (both_true (p x) (list_all p xs) a).0 (both_true (not (p z)) (list_all (λ y. not (p y)) s) d).0 (let h : x ≡ z = cc in h))
+      absurd (clash x z (and_parts (p x) (list_all p xs) a).0 (and_parts (not (p z)) (list_all (λ y. not (p y)) s) d).0 (let h : x ≡ z = cc in h))
   parted (x ∷ xs) (y ∷ ys) r s a b c d e =
       let rest : xs ++ r ≡ ys ++ s = cc in
       let first : x ≡ y = cc in
-      let below = parted xs ys r s (both_true (p x) (list_all p xs) a).1 (both_true (p y) (list_all p ys) b).1 c d rest in
+      let below = parted xs ys r s (and_parts (p x) (list_all p xs) a).1 (and_parts (p y) (list_all p ys) b).1 c d rest in
       (let same : xs ≡ ys = below.0 in cc, below.1)
 
 -- ---- Base64
@@ -71,7 +71,7 @@ all_to p (suc n) = p n && all_to p n
 pub all_to_is : (p : ℕ → Bool) (n i : ℕ) → all_to p n ≡ true → i < n → p i ≡ true
 unfolding all_to
 all_to_is p zero i e h = absurd (omega arith)
-all_to_is p (suc n) i e h = by_test (i == n) refl (both_true (p n) (all_to p n) e).0 (all_to_is p n i (both_true (p n) (all_to p n) e).1)
+all_to_is p (suc n) i e h = by_test (i == n) refl (and_parts (p n) (all_to p n) e).0 (all_to_is p n i (and_parts (p n) (all_to p n) e).1)
   where
     by_test : (t : Bool) → (i == n) ≡ t → p n ≡ true → (i < n → p i ≡ true) → p i ≡ true
     by_test true q here below = let same : i ≡ n = eqb-true i n q in rw same here
@@ -107,8 +107,8 @@ symbols_once (a ∷ []) [] f g e = cc
 symbols_once (a ∷ c ∷ []) [] f g e = cc
 symbols_once (a ∷ c ∷ x ∷ m) [] f g e = cc
 symbols_once (a ∷ []) (b ∷ []) f g e =
-    let fa = byte_below a (both_true (nat_lt a 256) true f).0 in
-    let fb = byte_below b (both_true (nat_lt b 256) true g).0 in
+    let fa = byte_below a (and_parts (nat_lt a 256) true f).0 in
+    let fb = byte_below b (and_parts (nat_lt b 256) true g).0 in
     let first : get_or table (a / 4) 0 ≡ get_or table (b / 4) 0 = cc in
     let second : get_or table (a % 4 * 16) 0 ≡ get_or table (b % 4 * 16) 0 = cc in
     ap (λ (z : ℕ). z ∷ []) (one_byte a b fa fb (symbol_once (a / 4) (b / 4) (omega arith) (omega arith) first) (symbol_once (a % 4 * 16) (b % 4 * 16) (omega arith) (omega arith) second))
@@ -117,12 +117,12 @@ symbols_once (a ∷ []) (b ∷ d ∷ y ∷ n) f g e = cc
 symbols_once (a ∷ c ∷ []) (b ∷ []) f g e = cc
 symbols_once (a ∷ c ∷ x ∷ m) (b ∷ []) f g e = cc
 symbols_once (a ∷ c ∷ []) (b ∷ d ∷ []) f g e =
-    let pf = both_true (nat_lt a 256) (are_bytes (c ∷ [])) f in
-    let pg = both_true (nat_lt b 256) (are_bytes (d ∷ [])) g in
+    let pf = and_parts (nat_lt a 256) (are_bytes (c ∷ [])) f in
+    let pg = and_parts (nat_lt b 256) (are_bytes (d ∷ [])) g in
     let fa = byte_below a pf.0 in
     let fb = byte_below b pg.0 in
-    let fc = byte_below c (both_true (nat_lt c 256) true pf.1).0 in
-    let fd = byte_below d (both_true (nat_lt d 256) true pg.1).0 in
+    let fc = byte_below c (and_parts (nat_lt c 256) true pf.1).0 in
+    let fd = byte_below d (and_parts (nat_lt d 256) true pg.1).0 in
     let first : get_or table (a / 4) 0 ≡ get_or table (b / 4) 0 = cc in
     let second : get_or table (a % 4 * 16 + c / 16) 0 ≡ get_or table (b % 4 * 16 + d / 16) 0 = cc in
     let third : get_or table (c % 16 * 4) 0 ≡ get_or table (d % 16 * 4) 0 = cc in
@@ -133,12 +133,12 @@ symbols_once (a ∷ c ∷ []) (b ∷ d ∷ []) f g e =
 symbols_once (a ∷ c ∷ []) (b ∷ d ∷ y ∷ n) f g e = cc
 symbols_once (a ∷ c ∷ x ∷ m) (b ∷ d ∷ []) f g e = cc
 symbols_once (a ∷ c ∷ x ∷ m) (b ∷ d ∷ y ∷ n) f g e =
-    let pf = both_true (nat_lt a 256) (are_bytes (c ∷ x ∷ m)) f in
-    let pg = both_true (nat_lt b 256) (are_bytes (d ∷ y ∷ n)) g in
-    let qf = both_true (nat_lt c 256) (are_bytes (x ∷ m)) pf.1 in
-    let qg = both_true (nat_lt d 256) (are_bytes (y ∷ n)) pg.1 in
-    let rf = both_true (nat_lt x 256) (are_bytes m) qf.1 in
-    let rg = both_true (nat_lt y 256) (are_bytes n) qg.1 in
+    let pf = and_parts (nat_lt a 256) (are_bytes (c ∷ x ∷ m)) f in
+    let pg = and_parts (nat_lt b 256) (are_bytes (d ∷ y ∷ n)) g in
+    let qf = and_parts (nat_lt c 256) (are_bytes (x ∷ m)) pf.1 in
+    let qg = and_parts (nat_lt d 256) (are_bytes (y ∷ n)) pg.1 in
+    let rf = and_parts (nat_lt x 256) (are_bytes m) qf.1 in
+    let rg = and_parts (nat_lt y 256) (are_bytes n) qg.1 in
     let fa = byte_below a pf.0 in
     let fb = byte_below b pg.0 in
     let fc = byte_below c qf.0 in

@@ -5,6 +5,7 @@ use Rattle.std.specs.Fmt.{decimal}
 use Rattle.std.specs.Option.{option_map_or}
 use Rattle.std.proofs.lemmas.Bool.Decides.{nat_tests}
 use Rattle.std.proofs.lemmas.Fmt.{decimal_injective}
+use Rattle.std.proofs.lemmas.Bool.{and_parts, and_from}
 use Rattle.pv_acl.specs.declared.part.Acl.{Acl}
 use Rattle.pv_acl.specs.declared.part.Part.{Part}
 use Rattle.pv_acl.specs.declared.perm.Named.{Named}
@@ -13,9 +14,8 @@ use Rattle.pv_acl.specs.declared.perm.Who.TheVariants.{User, Group}
 use Rattle.pv_acl.specs.NamedEntries.{id_of, is_before, is_id, is_named, is_ordered, is_perm}
 use Rattle.pv_acl.specs.Parts.{base_of, is_acl, is_part}
 use Rattle.pv_acl.specs.Texts.{access_texts, acl_text, default_texts, is_group, is_user, mask_texts, named_text, or_dash, part_texts, perm_text, who_text}
-use Rattle.pv_path.proofs.PathLaws.{both_true}
 use Rattle.pv_image.proofs.Cutting.{are_apart, split_join}
-use Rattle.pv_text.proofs.Characters.{all_append, all_weaker, both_yes, decimal_lacks, digit_lacks}
+use Rattle.pv_text.proofs.Characters.{all_append, all_weaker, decimal_lacks, digit_lacks}
 use Rattle.pv_image.proofs.Once.{fronts, parted}
 use Rattle.pv_image.proofs.AclLetters.{PassesEntries, all_filter, entries_pass, id_fits, part_names}
 
@@ -74,8 +74,8 @@ same_who (Group a) (Group b) e f = ap Group f
 
 named_once : (x y : Named) → is_named x ≡ true → is_named y ≡ true → named_text x ≡ named_text y → x ≡ y
 named_once x y f g e =
-    let px = both_true (is_id (id_of x.who)) (is_perm x.perm) f in
-    let py = both_true (is_id (id_of y.who)) (is_perm y.perm) g in
+    let px = and_parts (is_id (id_of x.who)) (is_perm x.perm) f in
+    let py = and_parts (is_id (id_of y.who)) (is_perm y.perm) g in
     let same : spelt (letter_of x.who) (id_of x.who) x.perm ≡ spelt (letter_of y.who) (id_of y.who) y.perm = sym (named_is x.who x.perm) ∙ e ∙ named_is y.who y.perm in
     let first : letter_of x.who ≡ letter_of y.who = cc in
     let rest : decimal (id_of x.who) ++ 58 ∷ perm_text x.perm ≡ decimal (id_of y.who) ++ 58 ∷ perm_text y.perm = cc in
@@ -89,8 +89,8 @@ names_once [] [] f g e = refl
 names_once [] (y ∷ ys) f g e = cc
 names_once (x ∷ xs) [] f g e = cc
 names_once (x ∷ xs) (y ∷ ys) f g e =
-    let px = both_true (is_named x) (list_all is_named xs) f in
-    let py = both_true (is_named y) (list_all is_named ys) g in
+    let px = and_parts (is_named x) (list_all is_named xs) f in
+    let py = and_parts (is_named y) (list_all is_named ys) g in
     let first : named_text x ≡ named_text y = cc in
     let rest : map named_text xs ≡ map named_text ys = cc in
     let same : x ≡ y = named_once x y px.0 py.0 first in
@@ -116,14 +116,14 @@ name_begins x = rw (named_is x.who x.perm) (by_who x.who)
 
 names_begin : (xs : List Named) → list_all is_name_text (map named_text xs) ≡ true
 names_begin [] = refl
-names_begin (x ∷ xs) = both_yes (is_name_text (named_text x)) (list_all is_name_text (map named_text xs)) (name_begins x) (names_begin xs)
+names_begin (x ∷ xs) = and_from (is_name_text (named_text x)) (list_all is_name_text (map named_text xs)) (name_begins x) (names_begin xs)
 
 abbrev opposite : (List ℕ → Bool) → List ℕ → Bool
 opposite p text = not (p text)
 
 mask_other : (p : List ℕ → Bool) → ((perm : ℕ) → not (p (codes "m::" ++ perm_text perm)) ≡ true) → (mask : Option ℕ) → list_all (opposite p) (mask_texts mask) ≡ true
 mask_other p h None = refl
-mask_other p h (Some perm) = both_yes (not (p (codes "m::" ++ perm_text perm))) true (h perm) refl
+mask_other p h (Some perm) = and_from (not (p (codes "m::" ++ perm_text perm))) true (h perm) refl
 
 default_other : (p : List ℕ → Bool) → ((text : List ℕ) → not (p (codes "d:" ++ text)) ≡ true) → (part : Option Part) → list_all (opposite p) (default_texts part) ≡ true
 default_other p h None = refl
@@ -131,7 +131,7 @@ default_other p h (Some part) = each (part_texts part)
   where
     each : (texts : List (List ℕ)) → list_all (opposite p) (map (λ text. codes "d:" ++ text) texts) ≡ true
     each [] = refl
-    each (text ∷ texts) = both_yes (not (p (codes "d:" ++ text))) (list_all (opposite p) (map (λ t. codes "d:" ++ t) texts)) (h text) (each texts)
+    each (text ∷ texts) = and_from (not (p (codes "d:" ++ text))) (list_all (opposite p) (map (λ t. codes "d:" ++ t) texts)) (h text) (each texts)
 
 mask_begins : (mask : Option ℕ) → list_all (begins 109) (mask_texts mask) ≡ true
 mask_begins None = refl
@@ -151,13 +151,13 @@ mask_once (Some p) (Some q) f g e =
 ordered_parts : (xs : List Named) → is_ordered xs ≡ true → xs ≡ filter is_user xs ++ filter is_group xs
 ordered_parts [] e = refl
 ordered_parts (x ∷ xs) e =
-    let parts = both_true (list_all (is_before x) xs) (is_ordered xs) e in
+    let parts = and_parts (list_all (is_before x) xs) (is_ordered xs) e in
     by_who parts.0 (ordered_parts xs parts.1) x.who x.perm refl
   where
     no_users : (id perm : ℕ) (ys : List Named) → list_all (is_before (record { who = Group id; perm = perm })) ys ≡ true → (filter is_user ys ≡ []) × (filter is_group ys ≡ ys)
     no_users id perm [] f = (refl, refl)
     no_users id perm (y ∷ ys) f =
-        let parts = both_true (is_before (record { who = Group id; perm = perm }) y) (list_all (is_before (record { who = Group id; perm = perm })) ys) f in
+        let parts = and_parts (is_before (record { who = Group id; perm = perm }) y) (list_all (is_before (record { who = Group id; perm = perm })) ys) f in
         by_name y.who y.perm refl parts.0 (no_users id perm ys parts.1)
       where
         by_name : (who : Who) (p : ℕ) → y ≡ record { who = who; perm = p } → is_before (record { who = Group id; perm = perm }) y ≡ true → (filter is_user ys ≡ []) × (filter is_group ys ≡ ys) → (filter is_user (y ∷ ys) ≡ []) × (filter is_group (y ∷ ys) ≡ y ∷ ys)
@@ -248,11 +248,11 @@ part_once p q f g e =
         let t = is_perm part.other in
         let n = list_all is_named part.named in
         let r = is_ordered part.named in
-        let five = both_true (o && g && t && n && r) (option_map_or is_perm part.mask true) h in
-        let four = both_true (o && g && t && n) r five.0 in
-        let three = both_true (o && g && t) n four.0 in
-        let two = both_true (o && g) t three.0 in
-        let one = both_true o g two.0 in
+        let five = and_parts (o && g && t && n && r) (option_map_or is_perm part.mask true) h in
+        let four = and_parts (o && g && t && n) r five.0 in
+        let three = and_parts (o && g && t) n four.0 in
+        let two = and_parts (o && g) t three.0 in
+        let one = and_parts o g two.0 in
         (one.0, one.1, two.1, four.1, five.1)
 
 strip : (ts us : List (List ℕ)) → map (λ text. codes "d:" ++ text) ts ≡ map (λ text. codes "d:" ++ text) us → ts ≡ us
@@ -358,8 +358,8 @@ acl_once a b f g base e =
     (all_append (opposite is_name_text) mb db (mask_other is_name_text other b.access.mask) (default_other is_name_text not_name b.default_part))
     (sym (append_assoc na ma da) ∙ texts ∙ append_assoc nb mb db) in
     let two = parted (begins 109) ma mb da db (mask_begins a.access.mask) (mask_begins b.access.mask) (default_other (begins 109) not_mask a.default_part) (default_other (begins 109) not_mask b.default_part) one.1 in
-    let fa = both_true (is_part a.access) (option_map_or is_part a.default_part true) f in
-    let fb = both_true (is_part b.access) (option_map_or is_part b.default_part true) g in
+    let fa = and_parts (is_part a.access) (option_map_or is_part a.default_part true) f in
+    let fb = and_parts (is_part b.access) (option_map_or is_part b.default_part true) g in
     let named : a.access.named ≡ b.access.named = names_once a.access.named b.access.named (part_names a.access fa.0) (part_names b.access fb.0) one.0 in
     let mask : a.access.mask ≡ b.access.mask = mask_once a.access.mask b.access.mask (mask_fits a.access fa.0) (mask_fits b.access fb.0) two.0 in
     let rest : a.default_part ≡ b.default_part = default_once a.default_part b.default_part fa.1 fb.1 two.1 in
@@ -370,4 +370,4 @@ acl_once a b f g base e =
   where
     mask_fits : (part : Part) → is_part part ≡ true → option_map_or is_perm part.mask true ≡ true
     mask_fits part h =
-        (both_true (is_perm part.owner && is_perm part.group && is_perm part.other && list_all is_named part.named && is_ordered part.named) (option_map_or is_perm part.mask true) h).1
+        (and_parts (is_perm part.owner && is_perm part.group && is_perm part.other && list_all is_named part.named && is_ordered part.named) (option_map_or is_perm part.mask true) h).1

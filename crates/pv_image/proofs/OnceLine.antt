@@ -4,11 +4,11 @@ use Rattle.std.specs.List.{slice_split, join_with_byte}
 use Rattle.std.specs.Fmt.{decimal}
 use Rattle.std.proofs.lemmas.Bool.Decides.{nat_tests}
 use Rattle.std.proofs.lemmas.Fmt.{decimal_injective}
+use Rattle.std.proofs.lemmas.Bool.{and_parts}
 use Rattle.pv_acl.specs.Parts.{base_of, part_of_mode}
 use Rattle.pv_acl.specs.Texts.{acl_text}
 use Rattle.pv_path.specs.Names.{is_name}
 use Rattle.pv_path.specs.Paths.{Path, has_names}
-use Rattle.pv_path.proofs.PathLaws.{both_true}
 use Rattle.pv_path.specs.Printing.{is_plain, printed, printed_path}
 use Rattle.pv_steps.specs.declared.node.Kind.{Kind}
 use Rattle.pv_steps.specs.declared.node.Kind.TheVariants.{Directory, File, Link, Fifo, CharDevice, BlockDevice}
@@ -19,7 +19,7 @@ use Rattle.pv_image.specs.declared.extras.Extras.{Extras}
 use Rattle.pv_image.specs.declared.payload.Payload.{Payload}
 use Rattle.pv_image.specs.declared.version.Version.{Version}
 use Rattle.pv_image.specs.declared.version.Version.TheVariants.{One, Two}
-use Rattle.pv_image.specs.Spelling.{IsBytePath, IsEntry, IsExtras, IsPayload, attrs_text, columns, end_text, extra_texts, extras_of, fact_text, fact_texts, header_text, kind_text, letters_text, mode_text, node_text, number_texts, numbers_text, path_texts, payload_of, payload_text, stamp_texts, stamps_text}
+use Rattle.pv_image.specs.Spelling.{HasNames, IsEntry, IsExtras, IsPayload, attrs_text, columns, end_text, extra_texts, extras_of, fact_text, fact_texts, header_text, kind_text, letters_text, mode_text, node_text, number_texts, numbers_text, path_texts, payload_of, payload_text, stamp_texts, stamps_text}
 use Rattle.pv_image.specs.Images.{IsByteFact, Spells, What, Note, Header, Fact, Node, End, is_note}
 use Rattle.pv_image.proofs.AttrTexts.{attrs_are, attrs_once}
 use Rattle.pv_image.proofs.Columns.{acl_is, extras_is, kind_text-injective, last_apart, mode_at, mode_text-injective, payload_is, plain_is, special_is}
@@ -35,12 +35,12 @@ use Rattle.pv_image.proofs.Solid.{node_again}
 
 path_texts_once : (p q : Path) → has_names p ≡ true → has_names q ≡ true → path_texts p ≡ path_texts q → p ≡ q
 path_texts_once [] [] f g e = refl
-path_texts_once [] (m ∷ q) f g e = absurd (no_text m (both_true (is_name m) (has_names q) g).0 (let h : [] ≡ printed m = cc in h))
+path_texts_once [] (m ∷ q) f g e = absurd (no_text m (and_parts (is_name m) (has_names q) g).0 (let h : [] ≡ printed m = cc in h))
   where
     no_text : (m : List ℕ) → is_name m ≡ true → [] ≡ printed m → ⊥
     no_text [] f h = let no : is_name [] ≡ false = refl in cc
     no_text (b ∷ m) f h = some_printed is_plain refl b (printed m) (sym h)
-path_texts_once (n ∷ p) [] f g e = absurd (no_text n (both_true (is_name n) (has_names p) f).0 (let h : [] ≡ printed n = cc in h))
+path_texts_once (n ∷ p) [] f g e = absurd (no_text n (and_parts (is_name n) (has_names p) f).0 (let h : [] ≡ printed n = cc in h))
   where
     no_text : (m : List ℕ) → is_name m ≡ true → [] ≡ printed m → ⊥
     no_text [] f h = let no : is_name [] ≡ false = refl in cc
@@ -58,10 +58,10 @@ path_texts_once (n ∷ p) (m ∷ q) f g e = names (n ∷ p) (m ∷ q) (let h : m
         let below : p ≡ q = names p q rest in
         cc
 
-path_once : (p q : Path) → IsBytePath p → IsBytePath q → printed_path p ≡ printed_path q → p ≡ q
+path_once : (p q : Path) → HasNames p → HasNames q → printed_path p ≡ printed_path q → p ≡ q
 path_once p q f g e =
     let joined : join_with_byte 47 (path_texts p) ≡ join_with_byte 47 (path_texts q) = path_joined p ∙ e ∙ sym (path_joined q) in
-    path_texts_once p q f.names g.names (sym (path_again p f) ∙ ap (slice_split (λ b. b == 47)) joined ∙ path_again q g)
+    path_texts_once p q f g (sym (path_again p f) ∙ ap (slice_split (λ b. b == 47)) joined ∙ path_again q g)
 
 stamps_once : (a b : Stamps) → StampsFit a → StampsFit b → stamps_text a ≡ stamps_text b → a ≡ b
 stamps_once a b f g e =
@@ -205,7 +205,7 @@ no_note version e h =
     front.no_colon (colon front.letter front.rest k)
   where
     colon : (b : ℕ) (rest : List ℕ) → is_note (b ∷ 32 ∷ rest) ≡ true → b ≡ 58
-    colon b rest k = let one : (58 == b) ≡ true = (both_true (58 == b) true k).0 in grind (arith, nat_tests)
+    colon b rest k = let one : (58 == b) ≡ true = (and_parts (58 == b) true k).0 in grind (arith, nat_tests)
 
 -- ---- what a line says
 

@@ -1,5 +1,5 @@
 -- What comes after all entries of a list that is in order.
-use Rattle.std.proofs.Common.{◌≡◌, ◌≢◌, ℕ, ◌-◌, Bool, true, false, ◌&&◌, ◌||◌, List, [], ◌∷◌, ◌++◌, length, Option, Some, None, option_map, refl, sym, ap, ◌∙◌, subst, arith, T, suc}
+use Rattle.std.proofs.Common.{◌≡◌, ◌≢◌, ℕ, ◌-◌, Bool, true, false, ◌&&◌, List, [], ◌∷◌, ◌++◌, length, Option, Some, None, option_map, refl, sym, ap, ◌∙◌, subst, arith, T, suc}
 use Rattle.std.specs.Prelude.{slice_get}
 use Rattle.std.specs.Option.{option_map_or}
 use Rattle.std.specs.List.{list_all, list_any}
@@ -10,17 +10,18 @@ use Rattle.std.specs.FinMap.Entries.{below_all}
 use Rattle.std.specs.declared.cmp.Ordering.{Ordering}
 use Rattle.std.specs.declared.cmp.Ordering.TheVariants.{Less, Equal, Greater}
 use Rattle.pv_path.specs.Paths.{Path, path_cmp, path_total, same_path, parent_of, same_path-decides}
-use Rattle.pv_path.proofs.PathLaws.{both_true, path_cmp-exact, path_cmp-refl}
+use Rattle.pv_path.proofs.PathLaws.{path_cmp-exact, path_cmp-refl}
 use Rattle.pv_steps.specs.declared.node.Kind.{Kind}
 use Rattle.pv_steps.specs.declared.node.Kind.TheVariants.{Directory, File, Link, Fifo, CharDevice, BlockDevice}
 use Rattle.pv_steps.specs.declared.node.Node.{Node}
 use Rattle.pv_steps.specs.declared.object.Object.{Object}
 use Rattle.pv_steps.specs.Objects.{PayloadFits, is_directory}
 use Rattle.std.proofs.lemmas.List.{nil_from_length}
+use Rattle.std.proofs.lemmas.Bool.{and_parts, and_from}
+use Rattle.std.proofs.Math.Bool.{or-false}
 use Rattle.pv_steps.specs.Trees.{Files, IsKind, kind_of, node_at, places}
 use Rattle.pv_steps.proofs.NameLaws.{both_T, less_T}
 use Rattle.pv_image.specs.Images.{follows, has_parent}
-use Rattle.pv_text.proofs.Characters.{both_yes}
 
 pub less_is : (r : Ordering) → is_lt r ≡ true → r ≡ Less
 less_is Less e = refl
@@ -37,20 +38,20 @@ module _ {K X : Type 0} (R : K → K → Ordering) where
   -- what comes after the last comes after all
   pub before_all : IsTotalOrder R → (es : List (K × X)) (k : K) → T (fin.is_sorted R es) → follows R es k ≡ true → all_before es k ≡ true
   before_all o [] k h e = refl
-  before_all o (x ∷ []) k h e = both_yes (is_lt (R x.0 k)) true e refl
+  before_all o (x ∷ []) k h e = and_from (is_lt (R x.0 k)) true e refl
   before_all o (x ∷ y ∷ es) k h e =
       let rest = before_all o (y ∷ es) k (both_T (below_all R x.0 (y ∷ es)) (fin.is_sorted R (y ∷ es)) h).1 e in
       let below = (both_T (below_all R x.0 (y ∷ es)) (fin.is_sorted R (y ∷ es)) h).0 in
       let one : R x.0 y.0 ≡ Less = less_T (R x.0 y.0) (both_T (is_lt (R x.0 y.0)) (below_all R x.0 es) below).0 in
-      let two : R y.0 k ≡ Less = less_is (R y.0 k) (both_true (is_lt (R y.0 k)) (all_before es k) rest).0 in
+      let two : R y.0 k ≡ Less = less_is (R y.0 k) (and_parts (is_lt (R y.0 k)) (all_before es k) rest).0 in
       let three : R x.0 k ≡ Less = o.trans x.0 y.0 k one two in
-      both_yes (is_lt (R x.0 k)) (all_before (y ∷ es) k) (ap is_lt three) rest
+      and_from (is_lt (R x.0 k)) (all_before (y ∷ es) k) (ap is_lt three) rest
 
   -- it is put at the end
   pub put_last : IsTotalOrder R → (es : List (K × X)) (k : K) (v : X) → all_before es k ≡ true → fin.put R k v es ≡ es ++ (k, v) ∷ []
   put_last o [] k v e = refl
   put_last o (x ∷ es) k v e =
-      let parts = both_true (is_lt (R x.0 k)) (all_before es k) e in
+      let parts = and_parts (is_lt (R x.0 k)) (all_before es k) e in
       let below : fin.put R k v es ≡ es ++ (k, v) ∷ [] = put_last o es k v parts.1 in
       let greater : R k x.0 ≡ Greater = turned o x.0 k parts.0 in
       rw greater (ap (λ (ys : List (K × X)). x ∷ ys) below)
@@ -59,7 +60,7 @@ module _ {K X : Type 0} (R : K → K → Ordering) where
   pub find_last : IsTotalOrder R → (es : List (K × X)) (k : K) → all_before es k ≡ true → fin.find R k es ≡ None
   find_last o [] k e = refl
   find_last o (x ∷ es) k e =
-      let parts = both_true (is_lt (R x.0 k)) (all_before es k) e in
+      let parts = and_parts (is_lt (R x.0 k)) (all_before es k) e in
       let greater : R k x.0 ≡ Greater = turned o x.0 k parts.0 in
       rw greater (find_last o es k parts.1)
 
@@ -94,10 +95,6 @@ none_below path (e ∷ es) h =
     let other : same_path e.0 path ≡ false = same_false e.0 path (λ q. let tied : path_cmp path e.0 ≡ Equal = subst (λ (p : Path). path_cmp path p ≡ Equal) (sym q) (path_cmp-refl path) in cc) in
     rw other (none_below path es (both_T (is_lt (path_cmp path e.0)) (below_all path_cmp path es) h).1)
 
-or_false : (b : Bool) → (b || false) ≡ b
-or_false true = refl
-or_false false = refl
-
 pub any_dir : (path : Path) (es : List (Path × Object)) → T (fin.is_sorted path_cmp es) → list_any (is_dir_at path) es ≡ dir_at (fin.find path_cmp path es)
 unfolding dir_at
 any_dir path [] h = refl
@@ -113,7 +110,7 @@ any_dir path (e ∷ es) h = by_order_of (any_dir path es (both_T (below_all path
         let same : path ≡ e.0 = path_cmp-exact path e.0 q in
         let is : same_path e.0 path ≡ true = (same_path-decides e.0 path).1 (sym same) in
         let none : list_any (is_dir_at path) es ≡ false = none_below path es (subst (λ (p : Path). T (below_all path_cmp p es)) (sym same) (both_T (below_all path_cmp e.0 es) (fin.is_sorted path_cmp es) h).0) in
-        rw (q, is, none) (or_false (is_directory e.1.node.kind))
+        rw (q, is, none) (or-false (is_directory e.1.node.kind))
 
 at_node : Option Node → Bool
 at_node None = false

@@ -1,14 +1,13 @@
 -- Paths are read name by name.
 use Rattle.std.proofs.Common.{◌≡◌, ◌≢◌, ℕ, zero, suc, ◌+◌, ◌<◌, ◌≤◌, true, List, [], ◌∷◌, ◌++◌, ◌-◌, length, get_or, map, take, drop, refl, sym, ap, ◌∙◌, arith, Bor}
-use Rattle.std.specs.List.{list_all}
 use Rattle.std.proofs.lemmas.List.{take_more, length-map}
+use Rattle.std.proofs.lemmas.Bool.{and_parts, and_from}
 use Rattle.pv_path.specs.Names.{is_name}
 use Rattle.pv_path.specs.Paths.{Path, has_names}
 use Rattle.pv_path.specs.Printing.{printed}
-use Rattle.pv_path.proofs.PathLaws.{both_true}
-use Rattle.pv_image.specs.Spelling.{IsByteName, IsBytePath, are_bytes}
+use Rattle.pv_image.specs.Spelling.{IsName, HasNames}
 use Rattle.pv_image.specs.Reading.{texts}
-use Rattle.pv_text.proofs.Characters.{both_yes, all_append}
+use Rattle.pv_text.proofs.Characters.{all_append}
 
 pub get_or-texts : {A : Type 0} (pieces : List (Bor A)) (i : ℕ) (d : Bor A) → get_or (texts pieces) i d.now ≡ (get_or pieces i d).now
 get_or-texts [] i d = refl
@@ -26,22 +25,19 @@ names_more pieces i d path name h so_far is =
     let here : get_or (texts pieces) i d.now ≡ printed name = get_or-texts pieces i d ∙ is in
     take_more (texts pieces) i d.now fits ∙ rw (so_far, here) (sym (map-append_one printed path name))
 
-pub path_more : (path : Path) (name : List ℕ) → IsBytePath path → IsByteName name → IsBytePath (path ++ name ∷ [])
-path_more path name is one = record {
-  names = all_append is_name path (name ∷ []) is.names (both_yes (is_name name) true one.name refl);
-  bytes = all_append are_bytes path (name ∷ []) is.bytes (both_yes (are_bytes name) true one.fit refl);
-}
+pub path_more : (path : Path) (name : List ℕ) → HasNames path → IsName name → HasNames (path ++ name ∷ [])
+path_more path name is one = all_append is_name path (name ∷ []) is (and_from (is_name name) true one refl)
 
 -- a piece that is no name is in no path
-pub names_none : (pieces : List (Bor (List ℕ))) (i : ℕ) (d : Bor (List ℕ)) → i < length pieces → ((name : List ℕ) → IsByteName name → (get_or pieces i d).now ≢ printed name) → (path : Path) → IsBytePath path → texts pieces ≢ map printed path
+pub names_none : (pieces : List (Bor (List ℕ))) (i : ℕ) (d : Bor (List ℕ)) → i < length pieces → ((name : List ℕ) → IsName name → (get_or pieces i d).now ≢ printed name) → (path : Path) → HasNames path → texts pieces ≢ map printed path
 names_none [] i d h none path is e = omega arith
 names_none (p ∷ pieces) i d h none [] is e = cc
 names_none (p ∷ pieces) zero d h none (name ∷ path) is e =
     let here : p.now ≡ printed name = cc in
-    none name (record { name = (both_true (is_name name) (has_names path) is.names).0; fit = (both_true (are_bytes name) (list_all are_bytes path) is.bytes).0 }) here
+    none name (and_parts (is_name name) (has_names path) is).0 here
 names_none (p ∷ pieces) (suc i) d h none (name ∷ path) is e =
     let below : texts pieces ≡ map printed path = cc in
-    names_none pieces i d (omega arith) none path (record { names = (both_true (is_name name) (has_names path) is.names).1; bytes = (both_true (are_bytes name) (list_all are_bytes path) is.bytes).1 }) below
+    names_none pieces i d (omega arith) none path (and_parts (is_name name) (has_names path) is).1 below
 
 -- a list is its last slice after those before it
 last_of : (ps : List (Bor (List ℕ))) (m : ℕ) (h : Bor (List ℕ)) → length ps ≡ suc m → texts (take m ps) ++ (get_or ps m h).now ∷ [] ≡ texts ps

@@ -4,12 +4,12 @@ use Rattle.std.specs.List.{list_all, prefix_len}
 use Rattle.std.proofs.lemmas.Bool.Decides.{nat_tests}
 use Rattle.std.proofs.lemmas.List.{take-append-drop}
 use Rattle.std.proofs.lemmas.List.Concat.{flat_map-append}
+use Rattle.std.proofs.lemmas.Bool.{and_parts, and_from}
 use Rattle.pv_path.specs.Printing.{hex_digit, is_plain, printed, printed_by, printed_byte_by}
-use Rattle.pv_path.proofs.PathLaws.{both_true}
 use Rattle.pv_path.proofs.Printed.{plain_front}
-use Rattle.pv_image.specs.Spelling.{are_bytes}
+use Rattle.pv_steps.specs.Attributes.{are_bytes}
 use Rattle.pv_image.specs.Reading.{IsFront}
-use Rattle.pv_text.proofs.Characters.{all_append, all_back, all_front, both_yes}
+use Rattle.pv_text.proofs.Characters.{all_append, all_back, all_front}
 
 pub hex_digit-injective : (d e : ℕ) → hex_digit d ≡ hex_digit e → d ≡ e
 hex_digit-injective d e same = by_tests (nat_lt d 10) refl (nat_lt e 10) refl
@@ -28,7 +28,7 @@ consed d b bytes others p q = cc
 
 bytes_back : (done more : List ℕ) → are_bytes (done ++ more) ≡ true → are_bytes more ≡ true
 bytes_back [] more e = e
-bytes_back (d ∷ done) more e = bytes_back done more (both_true (nat_lt d 256) (are_bytes (done ++ more)) e).1
+bytes_back (d ∷ done) more e = bytes_back done more (and_parts (nat_lt d 256) (are_bytes (done ++ more)) e).1
 
 -- what is printed where those that pass a test stand for themselves, and a backslash does not
 module _ (plain : ℕ → Bool) (slash : plain 92 ≡ false) where
@@ -91,7 +91,7 @@ module _ (plain : ℕ → Bool) (slash : plain 92 ≡ false) where
 
       by_more : (m : List ℕ) → are_bytes m ≡ true → rest ≡ printed_by plain m → ⊥
       by_more [] fit is = some is
-      by_more (b ∷ m) fit is = none (b, printed_by plain m) (small b (both_true (nat_lt b 256) (are_bytes m) fit).0) is
+      by_more (b ∷ m) fit is = none (b, printed_by plain m) (small b (and_parts (nat_lt b 256) (are_bytes m) fit).0) is
 
 -- one printed byte, and the run of plain ones after it, are read
 pub printed_more : (plain : ℕ → Bool) (text bytes new rest after left : List ℕ) (byte : ℕ) → are_bytes text ≡ true → text ≡ printed_by plain bytes ++ rest → are_bytes bytes ≡ true → byte < 256 → rest ≡ printed_byte_by plain byte ++ after
@@ -111,7 +111,7 @@ printed_more plain text bytes new rest after left byte ok so_far are small is gr
     let all : are_bytes (front ++ (one ++ (run ++ left))) ≡ true = subst (λ (t : List ℕ). are_bytes t ≡ true) parts ok in
     let last : are_bytes run ≡ true = all_front (λ b. nat_lt b 256) run left (all_back (λ b. nat_lt b 256) one (run ++ left) (all_back (λ b. nat_lt b 256) front (one ++ (run ++ left)) all)) in
     let byte_fits : nat_lt byte 256 ≡ true = grind (arith, nat_tests) in
-    let first : are_bytes (bytes ++ byte ∷ []) ≡ true = all_append (λ b. nat_lt b 256) bytes (byte ∷ []) are (both_yes (nat_lt byte 256) true byte_fits refl) in
+    let first : are_bytes (bytes ++ byte ∷ []) ≡ true = all_append (λ b. nat_lt b 256) bytes (byte ∷ []) are (and_from (nat_lt byte 256) true byte_fits refl) in
     (parts ∙ sym joined, subst (λ (t : List ℕ). are_bytes t ≡ true) (sym grown) (all_append (λ b. nat_lt b 256) (bytes ++ byte ∷ []) run first last))
 
 pub printed_injective : (a b : List ℕ) → printed a ≡ printed b → a ≡ b
@@ -121,5 +121,5 @@ printed_injective a b e = printed_by-injective is_plain refl a b e
 pub plain_prints : (p : ℕ → Bool) (text : List ℕ) → list_all p text ≡ true → printed_by p text ≡ text
 plain_prints p [] plain = refl
 plain_prints p (b ∷ text) plain =
-    let both = both_true (p b) (list_all p text) plain in
+    let both = and_parts (p b) (list_all p text) plain in
     rw both.0 (ap (λ (t : List ℕ). b ∷ t) (plain_prints p text both.1))

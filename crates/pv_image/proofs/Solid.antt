@@ -3,12 +3,12 @@ use Rattle.std.proofs.Common.{◌≡◌, ℕ, ◌/◌, ◌%◌, ◌<◌, ◌^◌
 use Rattle.std.specs.List.{list_all, flat_map, slice_split, join_with_byte}
 use Rattle.std.specs.Fmt.{decimal}
 use Rattle.std.proofs.lemmas.Bool.Decides.{nat_tests}
+use Rattle.std.proofs.lemmas.Bool.{and_parts, and_from}
 use Rattle.pv_acl.specs.declared.part.Acl.{Acl}
 use Rattle.pv_acl.specs.Parts.{is_acl}
 use Rattle.pv_acl.specs.Texts.{access_texts, acl_text, default_texts, or_dash}
 use Rattle.pv_path.specs.Paths.{Path}
 use Rattle.pv_path.specs.Printing.{hex_digit, is_plain, is_plain_but, printed, printed_by, printed_path}
-use Rattle.pv_path.proofs.PathLaws.{both_true}
 use Rattle.pv_steps.specs.declared.node.Kind.{Kind}
 use Rattle.pv_steps.specs.declared.node.Kind.TheVariants.{Directory, File, Link, Fifo, CharDevice, BlockDevice}
 use Rattle.pv_steps.specs.declared.node.Stamps.{Stamps}
@@ -22,7 +22,7 @@ use Rattle.pv_image.specs.declared.version.Version.{Version}
 use Rattle.pv_image.specs.declared.version.Version.TheVariants.{One, Two}
 use Rattle.pv_text.specs.Lines.{lacks}
 use Rattle.pv_image.specs.Spelling.{IsEntry, IsPayload, attr_text, attr_texts, attrs_text, columns, content_text, extra_texts, extras_of, kind_text, letters_text, mode_text, node_text, numbers_text, payload_of, payload_text, stamps_text}
-use Rattle.pv_text.proofs.Characters.{all_append, all_joined, all_weaker, both_yes, digits_alone, is_digit, printed_all}
+use Rattle.pv_text.proofs.Characters.{all_append, all_joined, all_weaker, digits_alone, is_digit, printed_all}
 use Rattle.pv_image.proofs.AclLetters.{PassesEntries, all_filter, entries_pass}
 use Rattle.pv_image.proofs.Contents.{encoded_all}
 use Rattle.pv_image.proofs.Columns.{mode_at, payload_is}
@@ -46,12 +46,12 @@ plain_solid : (b : ℕ) → (not (is_plain b) || is_solid b) ≡ true
 plain_solid b = by_test (is_plain b) refl
   where
     by_test : (t : Bool) → is_plain b ≡ t → (not (is_plain b) || is_solid b) ≡ true
-    by_test true e = rw e (let low : nat_le 33 b ≡ true = (both_true (nat_le 33 b) (nat_le b 126) (both_true (nat_le 33 b && nat_le b 126) (not (b == 92)) e).0).0 in grind (arith, nat_tests))
+    by_test true e = rw e (let low : nat_le 33 b ≡ true = (and_parts (nat_le 33 b) (nat_le b 126) (and_parts (nat_le 33 b && nat_le b 126) (not (b == 92)) e).0).0 in grind (arith, nat_tests))
     by_test false e = rw e refl
 
 all_plain_solid : (bytes : List ℕ) → list_all (λ b. not (is_plain b) || is_solid b) bytes ≡ true
 all_plain_solid [] = refl
-all_plain_solid (b ∷ bytes) = both_yes (not (is_plain b) || is_solid b) (list_all (λ x. not (is_plain x) || is_solid x) bytes) (plain_solid b) (all_plain_solid bytes)
+all_plain_solid (b ∷ bytes) = and_from (not (is_plain b) || is_solid b) (list_all (λ x. not (is_plain x) || is_solid x) bytes) (plain_solid b) (all_plain_solid bytes)
 
 hex_solid : (d : ℕ) → is_solid (hex_digit d) ≡ true
 hex_solid d = by_test (nat_lt d 10) refl
@@ -76,7 +76,7 @@ hidden_solid hidden b = by_test (is_plain b) refl (plain_solid b)
 
 all_hidden_solid : (hidden bytes : List ℕ) → list_all (λ b. not (is_plain_but hidden b) || is_solid b) bytes ≡ true
 all_hidden_solid hidden [] = refl
-all_hidden_solid hidden (b ∷ bytes) = both_yes (not (is_plain_but hidden b) || is_solid b) (list_all (λ x. not (is_plain_but hidden x) || is_solid x) bytes) (hidden_solid hidden b) (all_hidden_solid hidden bytes)
+all_hidden_solid hidden (b ∷ bytes) = and_from (not (is_plain_but hidden b) || is_solid b) (list_all (λ x. not (is_plain_but hidden x) || is_solid x) bytes) (hidden_solid hidden b) (all_hidden_solid hidden bytes)
 
 -- more hidden bytes change nothing
 pub printed_but_solid : (hidden bytes : List ℕ) → AreSolid (printed_by (is_plain_but hidden) bytes)
@@ -150,7 +150,7 @@ attr_solid attr =
 
 all_attrs_solid : (attrs : List Attr) → AllSolid (map attr_text attrs)
 all_attrs_solid [] = refl
-all_attrs_solid (attr ∷ attrs) = both_yes (list_all is_solid (attr_text attr)) (list_all (list_all is_solid) (map attr_text attrs)) (attr_solid attr) (all_attrs_solid attrs)
+all_attrs_solid (attr ∷ attrs) = and_from (list_all is_solid (attr_text attr)) (list_all (list_all is_solid) (map attr_text attrs)) (attr_solid attr) (all_attrs_solid attrs)
 
 attrs_solid : (attrs : List Attr) → AreSolid (attrs_text attrs)
 attrs_solid [] = refl
@@ -173,10 +173,10 @@ columns_solid version e is =
     (all_append (list_all is_solid) (extra_texts version (extras_of o)) (payload_text o.node.kind (payload_of o) ∷ []) (extras_solid version (extras_of o)) last)
 
 solid_apart : (b : ℕ) → is_solid b ≡ true → not (b == 32) ≡ true
-solid_apart b e = (both_true (not (b == 10)) (not (b == 32)) e).1
+solid_apart b e = (and_parts (not (b == 10)) (not (b == 32)) e).1
 
 solid_whole : (b : ℕ) → is_solid b ≡ true → not (b == 10) ≡ true
-solid_whole b e = (both_true (not (b == 10)) (not (b == 32)) e).0
+solid_whole b e = (and_parts (not (b == 10)) (not (b == 32)) e).0
 
 pub pieces_apart : (texts : List (List ℕ)) → AllSolid texts → are_apart 32 texts ≡ true
 pieces_apart texts e = all_weaker (list_all is_solid) (lacks 32) (λ text f. all_weaker is_solid (λ b. not (b == 32)) solid_apart text f) texts e

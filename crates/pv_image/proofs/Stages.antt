@@ -7,7 +7,7 @@ use Rattle.std.specs.Ordering.{eq_by_cmp, is_lt, nat_cmp}
 use Rattle.std.specs.declared.cmp.Ordering.{Ordering}
 use Rattle.std.specs.FinMap as fin
 use Rattle.std.proofs.lemmas.List.Concat.{flat_map-append}
-use Rattle.pv_path.proofs.PathLaws.{both_true}
+use Rattle.std.proofs.lemmas.Bool.{and_parts, and_from}
 use Rattle.pv_path.specs.Paths.{Path, path_cmp, parent_of, same_path, same_path-decides}
 use Rattle.pv_steps.specs.declared.object.Object.{Object}
 use Rattle.pv_steps.specs.Objects.{is_directory}
@@ -16,13 +16,13 @@ use Rattle.pv_steps.specs.Trees.{Files, IsKind, IsTree}
 use Rattle.pv_text.specs.Facts.{Values}
 use Rattle.pv_image.specs.Spelling.{IsEntry, Shows, end_text, extras_of, fact_text, header_text, line, node_text}
 use Rattle.pv_text.specs.Lines.{is_line}
-use Rattle.pv_image.specs.Images.{HasFault, cut_off, misspelt, misplaced, later, IsByteFact, IsCut, IsImage, Spells, Stage, Before, InFacts, InNodes, After, What, Note, Header, Fact, Node, End, are_byte_names, bad, follows, is_byte_fact, is_note, is_root, has_parent, judged, after_root, after_node, same_version}
+use Rattle.pv_image.specs.Images.{HasFault, cut_off, misspelt, misplaced, later, IsByteFact, IsCut, IsImage, Spells, Stage, Before, InFacts, InNodes, After, What, Note, Header, Fact, Node, End, bad, follows, is_byte_fact, is_note, is_root, has_parent, judged, after_root, after_node, same_version}
 use Rattle.pv_image.specs.Progress.{Fails, FactsRead, HasNoFactNext, IsLast, IsLastPath, Leads, NotesRead, Refuses, TreeRead}
 use Rattle.pv_image.specs.declared.fault.ImageFault.{ImageFault}
 use Rattle.pv_image.specs.declared.fault.ImageFault.TheVariants as fault
 use Rattle.pv_image.specs.declared.version.Version.{Version}
 use Rattle.pv_image.specs.declared.version.Version.TheVariants.{One, Two}
-use Rattle.pv_text.proofs.Characters.{all_append, both_yes}
+use Rattle.pv_text.proofs.Characters.{all_append}
 use Rattle.pv_image.proofs.Order.{has_parent-from_kind}
 
 -- a version is the same as itself
@@ -164,7 +164,7 @@ notes_none bytes = record { notes = []; are_notes = refl; text = refl }
 pub notes_more : (bytes rest text after : List ℕ) → NotesRead bytes rest → IsCut rest text after → is_note text ≡ true → NotesRead bytes after
 notes_more bytes rest text after read cut note = record {
   notes = read.notes ++ text ∷ [];
-  are_notes = all_append (λ t. is_note t && is_line t) read.notes (text ∷ []) read.are_notes (both_yes (is_note text && is_line text) true (both_yes (is_note text) (is_line text) note cut.whole) refl);
+  are_notes = all_append (λ t. is_note t && is_line t) read.notes (text ∷ []) read.are_notes (and_from (is_note text && is_line text) true (and_from (is_note text) (is_line text) note cut.whole) refl);
   text =
       read.text ∙ ap (λ (t : List ℕ). flat_map line read.notes ++ t) cut.bytes_are
       ∙ sym (append_assoc (flat_map line read.notes) (line text) after)
@@ -184,7 +184,7 @@ lines_more f xs x bytes rest text after read cut is =
 
 pub facts_more : (bytes : List ℕ) (old new : Values) (fact : ℕ × List ℕ) (rest text after : List ℕ) → FactsRead bytes old rest → fin.entries new ≡ fin.entries old ++ fact ∷ [] → IsByteFact fact → IsCut rest text after → text ≡ fact_text fact → FactsRead bytes new after
 facts_more bytes old new fact rest text after read added fits cut is = record {
-  fit = subst (λ (es : List (ℕ × List ℕ)). list_all is_byte_fact es ≡ true) (sym added) (all_append is_byte_fact (fin.entries old) (fact ∷ []) read.fit (both_yes (is_byte_fact fact) true fits refl));
+  fit = subst (λ (es : List (ℕ × List ℕ)). list_all is_byte_fact es ≡ true) (sym added) (all_append is_byte_fact (fin.entries old) (fact ∷ []) read.fit (and_from (is_byte_fact fact) true fits refl));
   text = subst (λ (es : List (ℕ × List ℕ)). bytes ≡ flat_map line (map fact_text es) ++ after) (sym added) (lines_more fact_text (fin.entries old) fact bytes rest text after read.text cut is);
 }
 
@@ -195,14 +195,12 @@ all_by_append P (y ∷ ys) x all is = (all.0, all_by_append P ys x all.1 is)
 pub tree_more : (version : Version) (bytes : List ℕ) (old new : Files) (e : Path × Object) (rest text after : List ℕ) → TreeRead version bytes old rest → fin.entries new ≡ fin.entries old ++ e ∷ [] → IsEntry version e → IsCut rest text after → text ≡ node_text version e
     → TreeRead version bytes new after
 tree_more version bytes old new e rest text after read added entry cut is = record {
-  fit = subst (λ (es : List (Path × Object)). list_all (λ x. are_byte_names x.0) es ≡ true) (sym added) (all_append (λ x. are_byte_names x.0) (fin.entries old) (e ∷ []) read.fit (both_yes (are_byte_names e.0) true entry.path.bytes refl));
   shown = subst (AllByRecursion (λ x. Shows version (extras_of x.1))) (sym added) (all_by_append (λ x. Shows version (extras_of x.1)) (fin.entries old) e read.shown entry.shown);
   text = subst (λ (es : List (Path × Object)). bytes ≡ flat_map line (map (node_text version) es) ++ after) (sym added) (lines_more (node_text version) (fin.entries old) e bytes rest text after read.text cut is);
 }
 
 pub tree_one : (version : Version) (bytes : List ℕ) (files : Files) (e : Path × Object) (text after : List ℕ) → fin.entries files ≡ e ∷ [] → IsEntry version e → IsCut bytes text after → text ≡ node_text version e → TreeRead version bytes files after
 tree_one version bytes files e text after one entry cut is = record {
-  fit = subst (λ (es : List (Path × Object)). list_all (λ x. are_byte_names x.0) es ≡ true) (sym one) (both_yes (are_byte_names e.0) true entry.path.bytes refl);
   shown = subst (AllByRecursion (λ x. Shows version (extras_of x.1))) (sym one) (entry.shown, tt);
   text = subst (λ (es : List (Path × Object)). bytes ≡ flat_map line (map (node_text version) es) ++ after) (sym one) (lines_more (node_text version) [] e bytes bytes text after refl cut is);
 }
@@ -219,7 +217,7 @@ path_more old new e added path = sym (ap (λ (es : List (Path × Object)). follo
 
 pub root_last : (files : Files) (e : Path × Object) → is_root e ≡ true → fin.entries files ≡ e ∷ [] → IsLastPath files []
 root_last files e root one path =
-    let is : e.0 ≡ [] = (same_path-decides e.0 []).0 (both_true (same_path e.0 []) (is_directory e.1.node.kind) root).0 in
+    let is : e.0 ≡ [] = (same_path-decides e.0 []).0 (and_parts (same_path e.0 []) (is_directory e.1.node.kind) root).0 in
     ap (λ (p : Path). is_lt (path_cmp p path)) (sym is) ∙ sym (ap (λ (es : List (Path × Object)). follows path_cmp es path) one)
 
 -- a node that follows the last one, in a directory that was read before, and in none
@@ -257,7 +255,7 @@ whole_image version bytes facts files after_header after_facts rest notes read t
   version = version;
   notes = notes.notes;
   are_notes = notes.are_notes;
-  fit = record { facts_fit = read.fit; names_fit = names (fin.entries files) tree.fit; tree = is; shown = λ path o here. found_all (λ x. Shows version (extras_of x)) (fin.entries files) path o tree.shown (sym (fin.get-entries files path) ∙ here) };
+  fit = record { facts_fit = read.fit; tree = is; shown = λ path o here. found_all (λ x. Shows version (extras_of x)) (fin.entries files) path o tree.shown (sym (fin.get-entries files path) ∙ here) };
   text =
       let front = flat_map line notes.notes in
       let f = flat_map line (map fact_text (fin.entries facts)) in
@@ -269,12 +267,6 @@ whole_image version bytes facts files after_header after_facts rest notes read t
       ∙ append_assoc f n (line end_text ++ [])) in
       notes.text ∙ ap (λ (t : List ℕ). front ++ (line (header_text version) ++ t)) parts ∙ ap (λ (t : List ℕ). front ++ t) (sym joined);
 }
-  where
-    names : (es : List (Path × Object)) → list_all (λ e. are_byte_names e.0) es ≡ true → list_all are_byte_names (map (λ e. e.0) es) ≡ true
-    names [] e = refl
-    names (x ∷ es) e =
-        let parts = both_true (are_byte_names x.0) (list_all (λ y. are_byte_names y.0) es) e in
-        both_yes (are_byte_names x.0) (list_all are_byte_names (map (λ y. y.0) es)) parts.0 (names es parts.1)
 
 -- ---- no line is too long
 
@@ -340,7 +332,7 @@ never_long n stage bytes f (later {next = next} {rest = rest} what cut spells is
 -- ---- the first line is one
 
 feed_first : (x : ℕ) (t : List ℕ) → is_line (x ∷ t) ≡ true → x ≡ 10 → ⊥
-feed_first x t e is = let here : not (x == 10) ≡ true = (both_true (not (x == 10)) (is_line t) e).0 in let bad : not (10 == 10) ≡ true = subst (λ (y : ℕ). not (y == 10) ≡ true) is here in let no : not (10 == 10) ≡ false = refl in cc
+feed_first x t e is = let here : not (x == 10) ≡ true = (and_parts (not (x == 10)) (is_line t) e).0 in let bad : not (10 == 10) ≡ true = subst (λ (y : ℕ). not (y == 10) ≡ true) is here in let no : not (10 == 10) ≡ false = refl in cc
 
 one_front : (t u r s : List ℕ) → is_line t ≡ true → is_line u ≡ true → t ++ 10 ∷ r ≡ u ++ 10 ∷ s → (t ≡ u) × (r ≡ s)
 one_front [] [] r s p q e = (refl, cc)
@@ -349,7 +341,7 @@ one_front (x ∷ t) [] r s p q e = absurd (feed_first x t p (let h : x ≡ 10 = 
 one_front (x ∷ t) (y ∷ u) r s p q e =
     let rest : t ++ 10 ∷ r ≡ u ++ 10 ∷ s = cc in
     let first : x ≡ y = cc in
-    let below = one_front t u r s (both_true (not (x == 10)) (is_line t) p).1 (both_true (not (y == 10)) (is_line u) q).1 rest in
+    let below = one_front t u r s (and_parts (not (x == 10)) (is_line t) p).1 (and_parts (not (y == 10)) (is_line u) q).1 rest in
     (let same : t ≡ u = below.0 in cc, below.1)
 
 pub one_cut : (bytes t u r s : List ℕ) → IsCut bytes t r → IsCut bytes u s → (t ≡ u) × (r ≡ s)
@@ -419,7 +411,6 @@ facts_on version n stage bytes m old new fact text rest after lead cut read is a
 -- the end is read
 pub tree_end : (version : Version) (bytes : List ℕ) (files : Files) (rest text after : List ℕ) → TreeRead version bytes files rest → IsCut rest text after → text ≡ end_text → TreeRead version bytes files (line end_text ++ after)
 tree_end version bytes files rest text after read cut is = record {
-  fit = read.fit;
   shown = read.shown;
   text = read.text ∙ ap (λ (t : List ℕ). flat_map line (map (node_text version) (fin.entries files)) ++ t) (cut.bytes_are ∙ ap (λ (t : List ℕ). line t ++ after) is);
 }

@@ -7,18 +7,17 @@ use Rattle.std.specs.Ordering.{nat_cmp, is_lt, is_eq, eq_by_cmp}
 use Rattle.std.specs.declared.cmp.Ordering.{Ordering}
 use Rattle.std.specs.declared.cmp.Ordering.TheVariants.{Less, Equal, Greater}
 use Rattle.std.specs.Cmp.{nat_cmp_total, unsigned_tied}
-use Rattle.std.proofs.lemmas.Bool.{eqb-true, eq-eqb}
+use Rattle.std.proofs.lemmas.Bool.{eqb-true, eq-eqb, and_parts, and_from}
 use Rattle.std.proofs.lemmas.List.{flat_map_more, take_more}
 use Rattle.std.proofs.lemmas.Grind.{flat_map-append}
 use Rattle.std.specs.FinMap as fin
 use Rattle.std.specs.FinMap.Entries.{find, is_sorted, below_all}
 use Rattle.pv_path.specs.Paths.{Path}
-use Rattle.pv_path.proofs.PathLaws.{both_true}
 use Rattle.pv_text.specs.Facts.{Values, fact_letters, is_fact, is_fact_letter, is_fact_value, HasFactsAlone}
 use Rattle.pv_steps.specs.declared.object.Object.{Object}
 use Rattle.pv_steps.specs.Trees.{Files, IsTree}
-use Rattle.pv_image.specs.Images.{HaveText, are_byte_names, is_byte_fact}
-use Rattle.pv_text.proofs.Characters.{all_append, both_yes}
+use Rattle.pv_image.specs.Images.{HaveText, is_byte_fact}
+use Rattle.pv_text.proofs.Characters.{all_append}
 use Rattle.pv_image.specs.Spelling.{header_text, end_text, fact_text, node_text, line, text_of}
 use Rattle.pv_image.specs.declared.version.Version.TheVariants.{Two}
 use Rattle.pv_image.specs.Writing.{fact_fits, fact_line, fact_line_of, node_line}
@@ -56,19 +55,19 @@ rises (l ∷ ls) = is_below l ls && rises ls
 below_listed : (facts : Values) (x : ℕ) (ls : List ℕ) → is_below x ls ≡ true → below_all nat_cmp x (listed facts ls) ≡ true
 below_listed facts x [] h = refl
 below_listed facts x (l ∷ ls) h =
-    let rest = below_listed facts x ls (both_true _ _ h).1 in
+    let rest = below_listed facts x ls (and_parts _ _ h).1 in
     elim (fin.get facts l) as (λ v. below_all nat_cmp x (cons_option (option_map (λ value. (l, value)) v) (listed facts ls)) ≡ true) [
       | None ↦ rest
-      | Some value ↦ both_yes _ _ (both_true _ _ h).0 rest
+      | Some value ↦ and_from _ _ (and_parts _ _ h).0 rest
     ]
 
 sorted_listed : (facts : Values) (ls : List ℕ) → rises ls ≡ true → is_sorted nat_cmp (listed facts ls) ≡ true
 sorted_listed facts [] h = refl
 sorted_listed facts (l ∷ ls) h =
-    let rest = sorted_listed facts ls (both_true _ _ h).1 in
+    let rest = sorted_listed facts ls (and_parts _ _ h).1 in
     elim (fin.get facts l) as (λ v. is_sorted nat_cmp (cons_option (option_map (λ value. (l, value)) v) (listed facts ls)) ≡ true) [
       | None ↦ rest
-      | Some value ↦ both_yes _ _ (below_listed facts l ls (both_true _ _ h).0) rest
+      | Some value ↦ and_from _ _ (below_listed facts l ls (and_parts _ _ h).0) rest
     ]
 
 -- what is found among listed facts is what the facts have
@@ -117,7 +116,7 @@ nothing false = refl
 shows : (q : ℕ) (value : Option (List ℕ)) → IfSome value (λ v. is_fact q v ≡ true) → cond (list_any (eq_by_cmp nat_cmp q) fact_letters) value None ≡ value
 shows q None h = nothing (list_any (eq_by_cmp nat_cmp q) fact_letters)
 shows q (Some v) h =
-    let letter = (both_true (is_fact_letter q) (is_fact_value v) h).0 in
+    let letter = (and_parts (is_fact_letter q) (is_fact_value v) h).0 in
     ap (λ b. cond b (Some v) None) (tied_any q fact_letters letter)
 
 -- the facts are those with the twelve letters
@@ -153,11 +152,11 @@ parts_of_text facts files =
 listed_fit : (facts : Values) (letters : List ℕ) → list_all (fact_fits facts) letters ≡ true → list_all is_byte_fact (listed facts letters) ≡ true
 listed_fit facts [] e = refl
 listed_fit facts (l ∷ ls) e =
-    let rest = listed_fit facts ls (both_true _ _ e).1 in
-    let here = (both_true _ _ e).0 in
+    let rest = listed_fit facts ls (and_parts _ _ e).1 in
+    let here = (and_parts _ _ e).0 in
     elim (fin.get facts l) as (λ v. option_map_or (λ value. is_byte_fact (l, value)) v true ≡ true → list_all is_byte_fact (cons_option (option_map (λ value. (l, value)) v) (listed facts ls)) ≡ true) [
       | None ↦ λ h. rest
-      | Some value ↦ λ h. both_yes _ _ h rest
+      | Some value ↦ λ h. and_from _ _ h rest
     ] here
 
 pub facts_fit : (facts : Values) → HasFactsAlone facts → list_all (fact_fits facts) fact_letters ≡ true → list_all is_byte_fact (fin.entries facts) ≡ true
@@ -165,14 +164,10 @@ facts_fit facts alone e = ap (list_all is_byte_fact) (entries_listed facts alone
 
 -- a test of one item more
 pub fits_more : {A : Type 0} (p : A → Bool) (xs : List A) (i : ℕ) (d : A) → i < length xs → list_all p (take i xs) ≡ true → p (get_or xs i d) ≡ true → list_all p (take (i + 1) xs) ≡ true
-fits_more p xs i d within e f = ap (list_all p) (take_more xs i d within) ∙ all_append p (take i xs) (get_or xs i d ∷ []) e (both_yes _ _ f refl)
+fits_more p xs i d within e f = ap (list_all p) (take_more xs i d within) ∙ all_append p (take i xs) (get_or xs i d ∷ []) e (and_from _ _ f refl)
 
-keys_fit : (es : List (Path × Object)) → list_all (λ e. are_byte_names e.0) es ≡ true → list_all are_byte_names (map (λ e. e.0) es) ≡ true
-keys_fit [] e = refl
-keys_fit (x ∷ es) e = both_yes _ _ (both_true _ _ e).0 (keys_fit es (both_true _ _ e).1)
-
-pub have_text : (facts : Values) (files : Files) → list_all is_byte_fact (fin.entries facts) ≡ true → list_all (λ e. are_byte_names e.0) (fin.entries files) ≡ true → IsTree files → HaveText Two facts files
-have_text facts files f g is = record { facts_fit = f; names_fit = keys_fit (fin.entries files) g; tree = is; shown = λ path o here. tt }
+pub have_text : (facts : Values) (files : Files) → list_all is_byte_fact (fin.entries facts) ≡ true → IsTree files → HaveText Two facts files
+have_text facts files f is = record { facts_fit = f; tree = is; shown = λ path o here. tt }
 
 -- ---- the nodes of a walk
 
@@ -186,10 +181,6 @@ module _ (o : List ℕ) (es all : List (Path × Object)) (e : Path × Object) (n
 
   pub walk_line : (done : List ℕ) → done ++ flat_map node_line es ≡ o ++ flat_map node_line all → (done ++ node_line e) ++ flat_map node_line (drop 1 es) ≡ o ++ flat_map node_line all
   walk_line done is = append_assoc done (node_line e) (flat_map node_line (drop 1 es)) ∙ sym (ap (λ (v : List (Path × Object)). done ++ flat_map node_line v) walk_parts) ∙ is
-
-  pub walk_fits : list_all (λ x. are_byte_names x.0) all ≡ list_all (λ x. are_byte_names x.0) es → are_byte_names e.0 ≡ true → list_all (λ x. are_byte_names x.0) all ≡ list_all (λ x. are_byte_names x.0) (drop 1 es)
-  walk_fits is fit =
-      is ∙ ap (list_all (λ (x : Path × Object). are_byte_names x.0)) walk_parts ∙ ap (λ b. b && list_all (λ (x : Path × Object). are_byte_names x.0) (drop 1 es)) fit
 
   pub walk_shorter : length (drop 1 es) < length es
   walk_shorter = let l = ap length walk_parts in omega (arith, l)

@@ -11,7 +11,8 @@ use Rattle.pv_text.specs.Lines.{is_line}
 use Rattle.pv_steps.specs.declared.object.Object.{Object}
 use Rattle.pv_steps.specs.Objects.{is_directory}
 use Rattle.pv_steps.specs.Trees.{Files, IsTree, places}
-use Rattle.pv_image.specs.Spelling.{IsEntry, Shows, are_bytes, extras_of, header_text, end_text, fact_text, node_text, line, text_in}
+use Rattle.pv_steps.specs.Attributes.{are_bytes}
+use Rattle.pv_image.specs.Spelling.{IsEntry, Shows, extras_of, header_text, end_text, fact_text, node_text, line, text_in}
 use Rattle.pv_image.specs.declared.fault.ImageFault.{ImageFault}
 use Rattle.pv_image.specs.declared.fault.ImageFault.TheVariants as fault
 use Rattle.pv_image.specs.declared.version.Version.{Version}
@@ -30,14 +31,9 @@ is_byte_fact fact = is_fact fact.0 fact.1 && are_bytes fact.1
 abbrev pub IsByteFact : ℕ × List ℕ → Type 0
 IsByteFact fact = is_byte_fact fact ≡ true
 
--- a path whose names are bytes
-abbrev pub are_byte_names : Path → Bool
-are_byte_names path = list_all are_bytes path
-
--- facts and a tree that have a text of a version: values and names are bytes, and the version shows each object
+-- facts and a tree that have a text of a version: values are bytes, and the version shows each object
 pub record HaveText (version : Version) (facts : Values) (files : Files) : Type 0 where
   pub facts_fit : list_all is_byte_fact (fin.entries facts) ≡ true
-  pub names_fit : list_all are_byte_names (fin.keys files) ≡ true
   pub tree : IsTree files
   pub shown : (path : Path) (o : Object) → places files path ≡ Some o → Shows version (extras_of o)
 

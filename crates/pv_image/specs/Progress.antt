@@ -9,7 +9,7 @@ use Rattle.pv_steps.specs.Trees.{Files}
 use Rattle.pv_text.specs.Facts.{Values}
 use Rattle.pv_image.specs.Spelling.{Shows, extras_of, fact_text, line, node_text}
 use Rattle.pv_text.specs.Lines.{is_line}
-use Rattle.pv_image.specs.Images.{HasFault, IsByteFact, IsCut, Stage, What, are_byte_names, follows, is_byte_fact, is_note, judged}
+use Rattle.pv_image.specs.Images.{HasFault, IsByteFact, IsCut, Stage, What, follows, is_byte_fact, is_note, judged}
 use Rattle.pv_image.specs.declared.fault.ImageFault.{ImageFault}
 use Rattle.pv_image.specs.declared.version.Version.{Version}
 use Rattle.pv_image.specs.declared.fault.ImageFault.TheVariants as fault
@@ -41,7 +41,6 @@ pub record FactsRead (bytes : List ℕ) (facts : Values) (rest : List ℕ) : Typ
 
 -- the nodes of a tree were read in a version
 pub record TreeRead (version : Version) (bytes : List ℕ) (files : Files) (rest : List ℕ) : Type 0 where
-  pub fit : list_all (λ e. are_byte_names e.0) (fin.entries files) ≡ true
   pub shown : AllByRecursion (λ e. Shows version (extras_of e.1)) (fin.entries files)
   pub text : bytes ≡ flat_map line (map (node_text version) (fin.entries files)) ++ rest
 

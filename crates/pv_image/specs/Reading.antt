@@ -3,10 +3,9 @@ use Rattle.std.specs.Prelude.{◌≡◌, ◌≢◌, ℕ, ◌/◌, ◌%◌, ◌<�
 use Rattle.std.specs.Borrow.{Bor}
 use Rattle.pv_text.specs.Facts.{is_fact_value}
 use Rattle.pv_steps.specs.declared.attr.Attr.{Attr}
-use Rattle.pv_steps.specs.Attributes.{are_attrs, is_attr}
+use Rattle.pv_steps.specs.Attributes.{are_bytes, are_attrs, is_attr}
 use Rattle.pv_steps.specs.Objects.{IsTarget}
 use Rattle.pv_image.specs.declared.payload.Payload.{Payload}
-use Rattle.pv_image.specs.Spelling.{are_bytes}
 use Rattle.pv_path.specs.Printing.{hex_digit, is_plain_but, printed_byte_by}
 
 -- what stands in a text: a value of this kind of which the text is the spelling, or that there is none

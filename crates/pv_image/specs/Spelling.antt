@@ -1,8 +1,8 @@
 -- How facts and nodes are spelled in the two versions of a tree image. The form is this project's own: the ACL column
 -- as in the texts of acl(5), without the base entries, the names of attributes as in xattr(7), letters as in chattr(1),
 -- and the bytes of files in Base64 as the engine `STANDARD` encodes them.
-use Rattle.std.specs.Prelude.{◌≡◌, ℕ, ◌+◌, ◌/◌, ◌%◌, Bool, true, nat_lt, List, [], ◌∷◌, ◌++◌, map, codes}
-use Rattle.std.specs.List.{flat_map, join_with_byte, list_all}
+use Rattle.std.specs.Prelude.{◌≡◌, ℕ, ◌+◌, ◌/◌, ◌%◌, Bool, true, List, [], ◌∷◌, ◌++◌, map, codes}
+use Rattle.std.specs.List.{flat_map, join_with_byte}
 use Rattle.std.specs.Fmt.{decimal}
 use Rattle.std.specs.FinMap as fin
 use Rattle.base64.specs.GeneralPurpose.{encode_of}
@@ -18,6 +18,7 @@ use Rattle.pv_steps.specs.declared.node.Kind.{Kind}
 use Rattle.pv_steps.specs.declared.node.Kind.TheVariants.{Directory, File, Link, Fifo, CharDevice, BlockDevice}
 use Rattle.pv_steps.specs.declared.node.Stamps.{Stamps}
 use Rattle.pv_steps.specs.declared.object.Object.{Object}
+use Rattle.pv_steps.specs.Attributes.{are_bytes}
 use Rattle.pv_steps.specs.Letters.{letters_of}
 use Rattle.pv_steps.specs.Objects.{IsObject, PayloadFits, NumbersFit, AttrsFit, LettersFit}
 use Rattle.pv_steps.specs.Trees.{Files}
@@ -26,21 +27,13 @@ use Rattle.pv_image.specs.declared.payload.Payload.{Payload}
 use Rattle.pv_image.specs.declared.version.Version.{Version}
 use Rattle.pv_image.specs.declared.version.Version.TheVariants.{One, Two}
 
--- whether each number is a byte
-abbrev pub are_bytes : List ℕ → Bool
-are_bytes text = list_all (λ b. nat_lt b 256) text
-
 -- ---- names and paths
 
--- a name of bytes
-pub record IsByteName (bytes : List ℕ) : Type 0 where
-  pub name : is_name bytes ≡ true
-  pub fit : are_bytes bytes ≡ true
+abbrev pub IsName : List ℕ → Type 0
+IsName bytes = is_name bytes ≡ true
 
--- a path whose names are bytes
-pub record IsBytePath (path : Path) : Type 0 where
-  pub names : has_names path ≡ true
-  pub bytes : list_all are_bytes path ≡ true
+abbrev pub HasNames : Path → Type 0
+HasNames path = has_names path ≡ true
 
 -- what stands between the slashes of a printed path
 abbrev pub path_texts : Path → List (List ℕ)
@@ -137,9 +130,9 @@ columns version e =
     kind_text e.1.node.kind ∷ printed_path e.0 ∷ mode_text (mode_of e.1.node.special e.1.node.acl.access) ∷ decimal e.1.node.uid
     ∷ decimal e.1.node.gid ∷ stamps_text e.1.node.stamps ∷ acl_text e.1.node.acl ∷ extra_texts version (extras_of e.1) ++ payload_text e.1.node.kind (payload_of e.1) ∷ []
 
--- what a node line can spell: a path of bytes, and an object that a tree may have and that the version shows
+-- what a node line can spell: a path, and an object that a tree may have and that the version shows
 pub record IsEntry (version : Version) (e : Path × Object) : Type 0 where
-  pub path : IsBytePath e.0
+  pub path : HasNames e.0
   pub object : IsObject e.1
   pub shown : Shows version (extras_of e.1)
 

@@ -13,21 +13,18 @@ mod node;
 mod payload;
 mod pieces;
 mod printed;
-mod reading;
+mod reader;
 mod tree;
 mod version;
-mod whole;
 mod write;
+mod writer;
 
 pub use fault::ImageFault;
 pub use laws::{
     an_old_text_is_an_image, bytes_are_one_image, bytes_have_one_fault, image_has_no_fault,
     line_says_one_thing, text_is_an_image, text_is_read_again,
 };
-pub use reading::{Image, read_image};
+pub use reader::{Image, read_image};
 pub use version::Version;
-pub use whole::write_image;
 pub use write::print_node;
-
-#[cfg(test)]
-mod tests;
+pub use writer::write_image;

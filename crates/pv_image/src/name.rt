@@ -2,7 +2,7 @@
 ghost use Rattle.std.specs.Prelude.{◌≡◌, ◌↔◌, IsTrue, true, List, [], ◌∷◌, map, IfOk};
 ghost use Rattle.std.specs.List.{list_all};
 ghost use Rattle.pv_path.specs.Printing.{is_plain_but, printed, printed_path};
-ghost use Rattle.pv_image.specs.Spelling.{IsByteName, IsBytePath, path_texts};
+ghost use Rattle.pv_image.specs.Spelling.{IsName, HasNames, path_texts};
 ghost use Rattle.pv_image.specs.Reading.{Reads, texts};
 
 use crate::pieces::pieces_of;
@@ -19,7 +19,7 @@ fn is_plain_text(text: &[u8]) -> bool
 
 /// The name that a text prints.
 fn read_name(alloc: Global, text: &[u8]) -> Result<Option<Name>, AllocError>
-    ensures { IfOk result (Reads printed IsByteName text.now) }
+    ensures { IfOk result (Reads printed IsName text.now) }
 {
     if is_plain_text(text) && is_name(text) {
         return Ok(Some(Name::of(alloc, text)?));
@@ -29,7 +29,7 @@ fn read_name(alloc: Global, text: &[u8]) -> Result<Option<Name>, AllocError>
 
 /// The name that a text prints, of which some bytes may stand for others.
 fn read_printed_name(alloc: Global, text: &[u8]) -> Result<Option<Name>, AllocError>
-    ensures { IfOk result (Reads printed IsByteName text.now) }
+    ensures { IfOk result (Reads printed IsName text.now) }
 {
     let Some(bytes) = read_printed(alloc, text)? else {
         return Ok(None);
@@ -42,7 +42,7 @@ fn read_printed_name(alloc: Global, text: &[u8]) -> Result<Option<Name>, AllocEr
 
 /// The path whose names the texts print.
 fn names_of(alloc: Global, pieces: &[&[u8]]) -> Result<Option<TreePath>, AllocError>
-    ensures { IfOk result (Reads (map printed) IsBytePath (texts pieces.now)) }
+    ensures { IfOk result (Reads (map printed) HasNames (texts pieces.now)) }
 {
     let mut path = TreePath::root(alloc);
     for piece in pieces {
@@ -66,7 +66,7 @@ fn is_slash(pieces: &[&[u8]]) -> bool
 
 /// The path that texts between slashes print.
 fn path_of(alloc: Global, pieces: &[&[u8]]) -> Result<Option<TreePath>, AllocError>
-    ensures { IfOk result (Reads path_texts IsBytePath (texts pieces.now)) }
+    ensures { IfOk result (Reads path_texts HasNames (texts pieces.now)) }
 {
     if is_slash(pieces) {
         return Ok(Some(TreePath::root(alloc)));
@@ -79,7 +79,7 @@ fn path_of(alloc: Global, pieces: &[&[u8]]) -> Result<Option<TreePath>, AllocErr
 
 /// The path that a text prints.
 pub(crate) fn read_path(alloc: Global, text: &[u8]) -> Result<Option<TreePath>, AllocError>
-    ensures { IfOk result (Reads printed_path IsBytePath text.now) }
+    ensures { IfOk result (Reads printed_path HasNames text.now) }
 {
     let pieces = pieces_of(alloc, text, b'/')?;
     path_of(alloc, pieces.as_slice())

@@ -8,8 +8,8 @@ ghost use Rattle.pv_acl.specs.Parts.{mode_of};
 ghost use Rattle.pv_acl.specs.Texts.{acl_text};
 ghost use Rattle.pv_path.specs.Printing.{printed, printed_path};
 ghost use Rattle.pv_image.specs.declared.version.Version.TheVariants.{Two};
-ghost use Rattle.pv_image.specs.Images.{are_byte_names};
-ghost use Rattle.pv_image.specs.Spelling.{are_bytes, attr_text, attrs_text, content_text, fact_text, kind_text, letters_text, line, mode_text, node_text, numbers_text, object_text, payload_text, stamps_text};
+ghost use Rattle.pv_steps.specs.Attributes.{are_bytes};
+ghost use Rattle.pv_image.specs.Spelling.{attr_text, attrs_text, content_text, fact_text, kind_text, letters_text, line, mode_text, node_text, numbers_text, object_text, payload_text, stamps_text};
 ghost use Rattle.pv_image.specs.Writing.{with_columns};
 
 use base64::engine::general_purpose::STANDARD;
@@ -155,8 +155,7 @@ fn add_stamps(output: &mut Vec<u8>, stamps: &Stamps) -> Result<(), AllocError>
 
 /// Adds a slash and printed bytes.
 fn add_name(output: &mut Vec<u8>, name: &[u8]) -> Result<(), AllocError>
-    ensures text { OnOk result (output.new.items ≡ output.old.items ++ 47 ∷ printed name.now) }
-    ensures bytes { OnOk result (are_bytes name.now ≡ true) }
+    ensures { OnOk result (output.new.items ≡ output.old.items ++ 47 ∷ printed name.now) }
 {
     output.push(b'/')?;
     add_printed(output, name)?;
@@ -165,9 +164,8 @@ fn add_name(output: &mut Vec<u8>, name: &[u8]) -> Result<(), AllocError>
 
 /// Adds the printed names of a path, each after a slash.
 fn add_names(output: &mut Vec<u8>, path: &[Name]) -> Result<(), AllocError>
-    ensures text { let names = flat_map (λ n. 47 ∷ printed n) path.now in
+    ensures { let names = flat_map (λ n. 47 ∷ printed n) path.now in
         OnOk result (output.new.items ≡ output.old.items ++ names) }
-    ensures bytes { OnOk result (are_byte_names path.now ≡ true) }
 {
     for name in path {
         add_name(output, name.bytes())?;
@@ -177,8 +175,7 @@ fn add_names(output: &mut Vec<u8>, path: &[Name]) -> Result<(), AllocError>
 
 /// Adds a space and a printed path.
 fn add_path(output: &mut Vec<u8>, path: &[Name]) -> Result<(), AllocError>
-    ensures text { OnOk result (output.new.items ≡ output.old.items ++ 32 ∷ printed_path path.now) }
-    ensures bytes { OnOk result (are_byte_names path.now ≡ true) }
+    ensures { OnOk result (output.new.items ≡ output.old.items ++ 32 ∷ printed_path path.now) }
 {
     if path.is_empty() {
         return add_column(output, b"/");
@@ -285,9 +282,8 @@ pub(crate) fn add_node(
     node: &Node,
     payload: &[u8],
 ) -> Result<(), AllocError>
-    ensures text { OnOk result (output.new.items ≡ output.old.items ++ line (node_text Two
+    ensures { OnOk result (output.new.items ≡ output.old.items ++ line (node_text Two
         (path.now, record { node = node.now; payload = payload.now }))) }
-    ensures bytes { OnOk result (are_byte_names path.now ≡ true) }
 {
     output.push(kind_letter(node.kind))?;
     add_path(output, path)?;

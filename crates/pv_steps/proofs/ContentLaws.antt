@@ -1,7 +1,8 @@
 -- Laws of contents: steps leave presence, kind and payload of the paths that they do not alter.
-use Rattle.std.specs.Prelude.{◌≡◌, ℕ, Bool, true, false, cond, ◌||◌, List, [], ◌∷◌, Option, Some, None, is_some, option_map}
+use Rattle.std.specs.Prelude.{◌≡◌, ℕ, Bool, true, false, cond, List, [], ◌∷◌, Option, Some, None, is_some, option_map}
 use Rattle.std.specs.List.{AllByRecursion}
 use Rattle.std.proofs.Common.{refl, sym, ap, ◌∙◌}
+use Rattle.std.proofs.lemmas.Bool.{or_parts}
 use Rattle.pv_path.specs.Paths.{Path, same_path, same_path-decides, rest_under, is_prefix, parent_of}
 use Rattle.pv_path.proofs.PathLaws.{is_some-rest_under}
 use Rattle.pv_steps.specs.declared.node.Kind.TheVariants.{Directory, File, Link, Fifo}
@@ -29,10 +30,6 @@ content-touched now path t q = content-on_at (parent_of path) (modified now) (λ
 content-put : (now : ℕ) (path : Path) (o : Option Object) (t : Places) (q : Path) → same_path path q ≡ false → content_of (touched now path (put_at path o t) q) ≡ content_of (t q)
 content-put now path o t q d = content-touched now path (put_at path o t) q ∙ ap (λ b. content_of (cond b o (t q))) d
 
-neither : (a b : Bool) → (a || b) ≡ false → (a ≡ false) × (b ≡ false)
-neither true b h = absurd (let no : true ≡ false = h in cc)
-neither false b h = (refl, h)
-
 content-moved : (now : ℕ) (from to : Path) (t : Places) (q : Path) → is_prefix from q ≡ false → is_prefix to q ≡ false → content_of (moved now from to t q) ≡ content_of (t q)
 content-moved now from to t q a b = by (rest_under to q) refl
   where
@@ -56,7 +53,7 @@ content-after_at t (SetAcl path acl) now q d = content-on_at path (with_acl acl 
 content-after_at t (SetAttrs path attrs) now q d = content-on_at path (with_attrs attrs now) (λ o. refl) t q
 content-after_at t (SetLetters path letters) now q d = content-on_at path (with_letters letters now) (λ o. refl) t q
 content-after_at t (SetStamps path access modify) now q d = content-on_at path (with_stamps access modify now) (λ o. refl) t q
-content-after_at t (Rename from to) now q d = let two = neither (is_prefix from q) (is_prefix to q) d in content-moved now from to t q two.0 two.1
+content-after_at t (Rename from to) now q d = let two = or_parts (is_prefix from q) (is_prefix to q) d in content-moved now from to t q two.0 two.1
 content-after_at t (Unlink path) now q d = content-put now path None t q d
 content-after_at t (RemoveDir path) now q d = content-put now path None t q d
 

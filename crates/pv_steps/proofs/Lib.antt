@@ -5,6 +5,7 @@ pub mod StepLaws
 pub mod TreeLaws
 pub mod RunLaws
 pub mod ActingLaws
+pub mod TryingLaws
 pub mod NameLaws
 pub mod ContentLaws
 pub mod LeavingLaws

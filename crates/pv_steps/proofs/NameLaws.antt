@@ -13,7 +13,7 @@ use Rattle.std.specs.FinMap.Entries.{below_all, is_sorted}
 use Rattle.std.proofs.lemmas.Map.Lookups.{btree_set_from_contains, exact_bytes}
 use Rattle.pv_path.specs.Paths.{Path, path_cmp, rest_under}
 use Rattle.pv_path.proofs.PathLaws.{name_cmp-refl, path_cmp-exact, rest_under-append, rest_under-Some}
-use Rattle.pv_steps.proofs.AttrOrder.{name_cmp}
+use Rattle.pv_path.specs.Names.{name_cmp}
 use Rattle.pv_steps.proofs.StepLaws.{tied}
 use Rattle.pv_steps.specs.declared.object.Object.{Object}
 use Rattle.pv_steps.specs.Trees.{Files, places, single, child_name, names_below}

@@ -3,13 +3,12 @@ use Rattle.std.specs.Prelude.{◌≡◌, ℕ, ◌/◌, ◌%◌, ◌^◌, ◌<◌
 use Rattle.std.proofs.Common.{refl, sym, subst, arith, inl, inr, ◌⊎◌, lit≤}
 use Rattle.std.proofs.lemmas.Bool.Decides.{nat_tests}
 use Rattle.std.specs.List.{list_all}
+use Rattle.std.proofs.lemmas.Bool.{and_parts, and_from}
 use Rattle.pv_acl.specs.declared.part.Acl.{Acl}
 use Rattle.pv_acl.specs.declared.part.Part.{Part}
 use Rattle.pv_acl.specs.NamedEntries.{is_perm}
 use Rattle.pv_acl.specs.Parts as parts
 use Rattle.pv_acl.specs.Parts.{is_acl, is_part, special_of, part_of_mode, acl_of_mode}
-use Rattle.pv_path.proofs.PathLaws.{both_true}
-use Rattle.pv_steps.proofs.AttrPutting.{both_yes}
 use Rattle.pv_steps.specs.declared.attr.Attr.{Attr}
 use Rattle.pv_steps.specs.Attributes.{are_attrs}
 use Rattle.pv_steps.specs.declared.node.Kind.{Kind}
@@ -25,17 +24,17 @@ small n = let h : n % 8 ≤ 7 = omega arith in grind (arith, nat_tests)
 
 is_part-with_mode : (mode : ℕ) (part : Part) → is_part part ≡ true → is_part (parts.with_mode mode part) ≡ true
 is_part-with_mode mode part h =
-    let abcdef = both_true _ _ h in
-    let abcde = both_true _ _ abcdef.0 in
-    let d = (both_true _ _ abcde.0).1 in
-    both_yes _ _ (both_yes _ _ (both_yes _ _ (both_yes _ _ (both_yes _ _ (small (mode / 64)) (small (mode / 8))) (small mode)) d) abcde.1) abcdef.1
+    let abcdef = and_parts _ _ h in
+    let abcde = and_parts _ _ abcdef.0 in
+    let d = (and_parts _ _ abcde.0).1 in
+    and_from _ _ (and_from _ _ (and_from _ _ (and_from _ _ (and_from _ _ (small (mode / 64)) (small (mode / 8))) (small mode)) d) abcde.1) abcdef.1
 
 pub is_acl-with_mode : (mode : ℕ) (acl : Acl) → is_acl acl ≡ true → is_acl (record acl { access = parts.with_mode mode acl.access }) ≡ true
 is_acl-with_mode mode acl h =
-    both_yes _ _ (is_part-with_mode mode acl.access (both_true _ _ h).0) (both_true (is_part acl.access) _ h).1
+    and_from _ _ (is_part-with_mode mode acl.access (and_parts _ _ h).0) (and_parts (is_part acl.access) _ h).1
 
 is_acl-of_mode : (mode : ℕ) → is_acl (acl_of_mode mode) ≡ true
-is_acl-of_mode mode = both_yes _ _ (is_part-with_mode mode (part_of_mode 0) refl) refl
+is_acl-of_mode mode = and_from _ _ (is_part-with_mode mode (part_of_mode 0) refl) refl
 
 module _ (now : ℕ) (fits : now < 2 ^ 64) where
   pub IsObject-changed : (o : Object) → IsObject o → IsObject (changed now o)

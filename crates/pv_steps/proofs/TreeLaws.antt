@@ -2,6 +2,8 @@
 use Rattle.std.specs.Prelude.{◌≡◌, ◌≢◌, ℕ, ◌^◌, ◌<◌, Bool, true, false, cond, ◌&&◌, List, [], ◌∷◌, ◌++◌, Option, Some, None, is_some, option_map}
 use Rattle.std.proofs.Common.{refl, sym, ap, subst, ◌∙◌, inl, inr, ◌⊎◌, append_assoc, lit≤}
 use Rattle.std.proofs.lemmas.List.{append-nil}
+use Rattle.std.proofs.lemmas.Option.{same_Some}
+use Rattle.std.proofs.lemmas.Bool.{false_from_ne_true}
 use Rattle.pv_path.specs.Paths.{Path, same_path, rest_under, is_prefix, parent_of, has_names, same_path-decides}
 use Rattle.pv_path.proofs.PathLaws.{parent_of-push, path_ends, rest_under-Some, rest_under-append, rest_under-None, is_some-rest_under, is_prefix-trans, parent_of-is_prefix, parent_of-differs, is_prefix-antisym, parent_parts, has_names-append, has_names-both}
 use Rattle.pv_acl.specs.declared.part.Acl.{Acl}
@@ -72,12 +74,9 @@ module _ (t : Places) (tree : IsTreeIn t) where
 
 -- ---- one object changed
 
-some_of : {A : Type 0} (x y : A) → Some x ≡ Some y → x ≡ y
-some_of x y e = cc
-
 on_some : (f : Object → Object) (o : Option Object) (y : Object) → option_map f o ≡ Some y → (x : Object) × (o ≡ Some x) × (f x ≡ y)
 on_some f None y e = cc
-on_some f (Some x) y e = (x, refl, some_of (f x) y e)
+on_some f (Some x) y e = (x, refl, same_Some (f x) y e)
 
 pub IsTreeIn-on_at : (path : Path) (f : Object → Object) (t : Places) → ((o : Object) → (f o).node.kind ≡ o.node.kind)
     → ((o : Object) → t path ≡ Some o → IsObject o → IsObject (f o)) → IsTreeIn t → IsTreeIn (on_at path f t)
@@ -129,7 +128,7 @@ module _ (path : Path) (t : Places) (tree : IsTreeIn t) where
         ] refl;
     objects = λ q y.
         elim (same_path path q) as (λ b. cond b (Some o) (t q) ≡ Some y → IsObject y) [
-          | true ↦ λ e. subst IsObject (some_of o y e) whole
+          | true ↦ λ e. subst IsObject (same_Some o y e) whole
           | false ↦ λ e. tree.objects q y e
         ];
   }
@@ -197,16 +196,12 @@ no_prefix_nil : (path : Path) → path ≢ [] → is_prefix path [] ≡ false
 no_prefix_nil [] h = absurd (h refl)
 no_prefix_nil (n ∷ path) h = refl
 
-not_true : (b : Bool) → (b ≡ true → ⊥) → b ≡ false
-not_true true h = absurd (h refl)
-not_true false h = refl
-
 true_not_false : (b : Bool) → b ≡ true → b ≡ false → ⊥
 true_not_false b h e = cc
 
 -- what is no prefix of a path is no prefix of its parent
 no_prefix_above : (p q : Path) → is_prefix p q ≡ false → is_prefix p (parent_of q) ≡ false
-no_prefix_above p q h = not_true (is_prefix p (parent_of q)) (λ e. true_not_false _ (is_prefix-trans p (parent_of q) q e (parent_of-is_prefix q)) h)
+no_prefix_above p q h = false_from_ne_true (is_prefix p (parent_of q)) (λ e. true_not_false _ (is_prefix-trans p (parent_of q) q e (parent_of-is_prefix q)) h)
 
 no_rest_no_prefix : (p q : Path) → rest_under p q ≡ None → is_prefix p q ≡ false
 no_rest_no_prefix p q e = sym (is_some-rest_under p q) ∙ ap is_some e
@@ -227,7 +222,7 @@ module _ (now : ℕ) (from to : Path) (t : Places) (tree : IsTreeIn t) (fits : n
   parent_of_to_outside = no_prefix_above from to can.outside
 
   parent_of_to_above : rest_under to (parent_of to) ≡ None
-  parent_of_to_above = rest_under-None to (parent_of to) (not_true (is_prefix to (parent_of to)) (λ e. parent_of-differs to to_nonempty (is_prefix-antisym (parent_of to) to (parent_of-is_prefix to) e)))
+  parent_of_to_above = rest_under-None to (parent_of to) (false_from_ne_true (is_prefix to (parent_of to)) (λ e. parent_of-differs to to_nonempty (is_prefix-antisym (parent_of to) to (parent_of-is_prefix to) e)))
 
   pub moved_under : (q rest : Path) → rest_under to q ≡ Some rest → moved now from to t q ≡ carried now from t rest
   moved_under q rest e = ap (moved_at now from to t q) e

@@ -1,8 +1,9 @@
 -- Extended attributes of an object: their names, their values, and lists of them in order (xattr(7)).
-use Rattle.std.specs.Prelude.{ℕ, ◌-◌, Bool, true, not, ◌&&◌, ◌==◌, nat_le, nat_lt, nat_eq, List, [], ◌∷◌, ◌++◌, length, take, drop, filter, fold, codes}
+use Rattle.std.specs.Prelude.{ℕ, ◌-◌, Bool, not, ◌&&◌, ◌==◌, nat_le, nat_lt, nat_eq, List, length, take, drop, fold, codes}
 use Rattle.std.specs.List.{list_all, list_any, starts_with}
-use Rattle.std.specs.Ordering.{nat_cmp, is_lt}
-use Rattle.std.specs.Cmp.Lexicographic.{slice_cmp}
+use Rattle.std.specs.Ordering.{is_lt}
+use Rattle.pv_acl.specs.Ordered.{all_before_by, is_ordered_by, put_by}
+use Rattle.pv_path.specs.Names.{name_cmp}
 use Rattle.pv_steps.specs.declared.attr.Attr.{Attr}
 
 -- the bytes of a name but for the first and the last
@@ -26,25 +27,23 @@ is_attr name value = is_attr_name name && nat_le (length value) 65536 && are_byt
 
 -- whether the name of an attribute comes before that of another, byte by byte
 abbrev pub comes_before : Attr → Attr → Bool
-comes_before x y = is_lt (slice_cmp nat_cmp x.name y.name)
+comes_before x y = is_lt (name_cmp x.name y.name)
 
 -- whether each of some attributes comes before this one
 abbrev pub all_before : List Attr → Attr → Bool
-all_before xs y = list_all (λ x. comes_before x y) xs
+all_before = all_before_by comes_before
 
 -- whether attributes are in order, each name at most once
 abbrev pub is_ordered : List Attr → Bool
-is_ordered [] = true
-is_ordered (x ∷ xs) = list_all (comes_before x) xs && is_ordered xs
+is_ordered = is_ordered_by comes_before
 
 -- the attributes that an object may have: allowed, and in order
 abbrev pub are_attrs : List Attr → Bool
 are_attrs xs = list_all (λ x. is_attr x.name x.value) xs && is_ordered xs
 
--- an attribute put among others: after those that come before it, in the place of one of its name, and before the
--- rest
+-- an attribute put among others at its place, over one of its name
 abbrev pub put_attr : Attr → List Attr → List Attr
-put_attr y xs = filter (λ x. comes_before x y) xs ++ y ∷ filter (comes_before y) xs
+put_attr = put_by comes_before
 
 -- attributes put among others, one after another
 abbrev pub put_attrs : List Attr → List Attr → List Attr

@@ -5,6 +5,7 @@ pub mod Trees
 pub mod Steps
 pub mod Runs
 pub mod Acting
+pub mod Trying
 pub mod Same
 pub mod Content
 pub mod Refusal

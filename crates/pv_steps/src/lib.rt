@@ -13,7 +13,7 @@ mod step;
 mod tree;
 mod why;
 
-pub use asking::try_step;
+pub use asking::{try_all, try_step};
 pub use attr::{Attr, AttrList, is_attr, is_attr_name};
 pub use laws::{
     a_run_leaves_what_it_does_not_alter, a_run_outside_leaves_contents, a_run_passes_trees,
@@ -27,6 +27,3 @@ pub use object::Object;
 pub use step::Step;
 pub use tree::{Tree, TreeFault};
 pub use why::Why;
-
-#[cfg(test)]
-mod tests;

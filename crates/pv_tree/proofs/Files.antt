@@ -17,7 +17,8 @@ use Rattle.pv_steps.proofs.NameLaws.{both_T, less_T}
 use Rattle.pv_steps.specs.declared.object.Object.{Object}
 use Rattle.pv_steps.specs.Trees.{Files, places}
 use Rattle.pv_tree.specs.declared.slot.Slot.{Slot}
-use Rattle.pv_tree.specs.Children.{name_cmp, IsSorted}
+use Rattle.pv_path.specs.Names.{name_cmp}
+use Rattle.pv_tree.specs.Children.{IsSorted}
 use Rattle.pv_tree.specs.Edges.{Edges, led}
 use Rattle.pv_tree.specs.Slots.{child_in, object_in, number_in, places_in, below, entries_below, entries_in, files_of, IsForest}
 use Rattle.pv_tree.proofs.EdgeLaws.{Once, led-on, no_longer}

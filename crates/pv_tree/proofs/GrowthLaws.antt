@@ -19,7 +19,7 @@ use Rattle.pv_steps.specs.Steps.{put_at}
 use Rattle.pv_steps.specs.Trees.{Files, Places, places, IsPresentIn, IsKind, IsKindIn, kind_of}
 use Rattle.pv_steps.proofs.TreeLaws.{not_absent, present_of_kind}
 use Rattle.pv_tree.specs.declared.slot.Slot.{Slot}
-use Rattle.pv_tree.specs.Children.{name_cmp}
+use Rattle.pv_path.specs.Names.{name_cmp}
 use Rattle.pv_tree.specs.Growth.{Grown, IsShared, AreOnWay, IsGrowing}
 use Rattle.pv_tree.specs.Held.{root_alone}
 use Rattle.pv_tree.specs.Slots.{number_in, object_in, places_in, files_of, IsForest, AreFree, IsTreeOf}

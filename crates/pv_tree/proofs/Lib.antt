@@ -8,5 +8,4 @@ pub mod Files
 pub mod State
 pub mod WalkLaws
 pub mod GrowthLaws
-pub mod Looking
 pub mod FuseLaws

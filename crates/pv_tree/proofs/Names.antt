@@ -16,7 +16,8 @@ use Rattle.pv_path.proofs.PathLaws.{name_cmp-exact}
 use Rattle.pv_steps.proofs.NameLaws.{both_T, less_T}
 use Rattle.pv_tree.specs.Finding.{IsRising, IsFoundAt, IsGapAt}
 use Rattle.pv_tree.proofs.Halving.{rising_found, rising_none, stands, length_rising, missed}
-use Rattle.pv_tree.specs.Children.{Children, name_cmp, IsSorted, orders_of, without}
+use Rattle.pv_path.specs.Names.{name_cmp}
+use Rattle.pv_tree.specs.Children.{Children, IsSorted, orders_of, without}
 
 abbrev pub Entries : Type 0
 Entries = List (List ℕ × ℕ)

@@ -11,7 +11,8 @@ use Rattle.std.specs.declared.cmp.Ordering.TheVariants.{Less, Equal, Greater}
 use Rattle.pv_path.proofs.PathLaws.{name_cmp-refl, name_cmp-exact}
 use Rattle.pv_steps.specs.declared.object.Object.{Object}
 use Rattle.pv_tree.specs.declared.slot.Slot.{Slot}
-use Rattle.pv_tree.specs.Children.{Children, name_cmp}
+use Rattle.pv_path.specs.Names.{name_cmp}
+use Rattle.pv_tree.specs.Children.{Children}
 use Rattle.pv_tree.specs.Edges.{IsSet, IsChanged, IsPlaced}
 use Rattle.pv_tree.specs.Slots.{child_in, object_in, next_number}
 

@@ -25,7 +25,8 @@ use Rattle.pv_steps.proofs.TreeLaws.{tree_after, IsTreeIn-put, not_absent, prese
 use Rattle.pv_steps.proofs.NameLaws.{both_T, less_T, names_below-rise, names_below-are}
 use Rattle.pv_tree.specs.declared.slot.Slot.{Slot}
 use Rattle.pv_tree.specs.Changes.{IsRemovable}
-use Rattle.pv_tree.specs.Children.{Children, name_cmp}
+use Rattle.pv_path.specs.Names.{name_cmp}
+use Rattle.pv_tree.specs.Children.{Children}
 use Rattle.pv_tree.specs.Edges.{led}
 use Rattle.pv_tree.specs.Held.{Held}
 use Rattle.pv_tree.specs.Slots.{child_in, object_in, number_in, slot_in, places_in, files_of, IsForest, AreFree, IsTreeOf}

@@ -14,7 +14,8 @@ use Rattle.pv_path.proofs.PathLaws.{name_cmp-refl}
 use Rattle.pv_steps.proofs.NameLaws.{both_T, less_T}
 use Rattle.pv_steps.specs.declared.object.Object.{Object}
 use Rattle.pv_tree.specs.declared.slot.Slot.{Slot}
-use Rattle.pv_tree.specs.Children.{name_cmp, IsSorted}
+use Rattle.pv_path.specs.Names.{name_cmp}
+use Rattle.pv_tree.specs.Children.{IsSorted}
 use Rattle.pv_tree.specs.Edges.{led}
 use Rattle.pv_tree.specs.Slots.{child_in, object_in, number_in, below, entries_below, entries_in}
 use Rattle.pv_tree.specs.Walks.{children_in, below_from, left_in, IsWay, IsWalk}

@@ -1,14 +1,10 @@
 -- The children of a directory: the number of each by its name, in byte order of the names (readdir(3)).
 use Rattle.std.specs.Prelude.{ℕ, not, List, filter, map, T}
 use Rattle.std.specs.FinMap as fin
-use Rattle.std.specs.Ordering.{nat_cmp, eq_by_cmp}
-use Rattle.std.specs.Cmp.Lexicographic.{slice_cmp}
+use Rattle.std.specs.Ordering.{eq_by_cmp}
 use Rattle.std.specs.Coded.{Coded, coded_list, coded_ℕ}
 use Rattle.std.specs.declared.cmp.Ordering.{Ordering}
-
--- the order of names, by bytes
-abbrev pub name_cmp : List ℕ → List ℕ → Ordering
-name_cmp = slice_cmp nat_cmp
+use Rattle.pv_path.specs.Names.{name_cmp}
 
 -- numbers by name
 abbrev pub Children : Type 0

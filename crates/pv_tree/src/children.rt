@@ -3,7 +3,8 @@ ghost use Rattle.std.specs.Prelude.{◌≡◌, ℕ, ◌+◌, ◌^◌, ◌<◌, �
 ghost use Rattle.std.specs.Option.{option_copied};
 ghost use Rattle.std.specs.FinMap as fin;
 ghost use Rattle.pv_tree.specs.Finding.{IsFoundAt, IsGapAt};
-ghost use Rattle.pv_tree.specs.Children.{name_cmp, IsSorted, orders_of, without};
+ghost use Rattle.pv_path.specs.Names.{name_cmp};
+ghost use Rattle.pv_tree.specs.Children.{IsSorted, orders_of, without};
 
 use crate::probe::{Probe, find, place_of};
 use pv_path::{Name, NameList};

@@ -10,8 +10,6 @@ mod mem_tree;
 mod probe;
 mod slot;
 mod slots;
-#[cfg(test)]
-mod tests;
 mod walk;
 
 pub use builder::{BuildFault, TreeBuilder};

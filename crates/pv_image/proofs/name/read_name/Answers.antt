@@ -1,10 +1,8 @@
-use Rattle.std.proofs.Common.{◌≡◌, ℕ, Bool, [], true, sym, ap, subst, ◌∙◌, arith}
+use Rattle.std.proofs.Common.{◌≡◌, ℕ, Bool, [], true, sym, ap, subst, ◌∙◌}
 use Rattle.std.specs.List.{list_all}
 use Rattle.pv_path.specs.Names.{is_name}
 use Rattle.pv_path.specs.Printing.{is_plain_but, printed, printed_by}
 use Rattle.pv_path.proofs.Printed.{hidden_none}
-use Rattle.pv_image.specs.Spelling.{are_bytes}
-use Rattle.pv_image.proofs.Contents.{bytes_all}
 use Rattle.pv_image.proofs.Printing.{plain_prints}
 use Rattle.pv_image.proofs.name.read_name.Goals as goal
 
@@ -15,5 +13,4 @@ returns-then-is_name c =
     let itself : printed c.args.text.now ≡ c.args.text.now =
     subst (λ (p : ℕ → Bool). printed_by p c.args.text.now ≡ c.args.text.now) hidden_none (plain_prints (is_plain_but []) c.args.text.now plain) in
     let named : is_name c.args.text.now ≡ true = sym c.is_name.ensures ∙ c.if-is_name.true in
-    let fit : are_bytes c.args.text.now ≡ true = bytes_all c.args.text.now (λ i. let f = c.type_inv.text i in omega arith) in
-    (record { name = ap is_name same ∙ named; fit = ap are_bytes same ∙ fit }, sym (ap printed same ∙ itself))
+    (ap is_name same ∙ named, sym (ap printed same ∙ itself))

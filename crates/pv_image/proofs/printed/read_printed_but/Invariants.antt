@@ -1,6 +1,6 @@
 use Rattle.std.proofs.Common.{◌≡◌, ◌++◌, true, length}
 use Rattle.pv_path.specs.Printing.{is_plain_but, printed_by}
-use Rattle.pv_image.specs.Spelling.{are_bytes}
+use Rattle.pv_steps.specs.Attributes.{are_bytes}
 use Rattle.pv_image.proofs.printed.read_printed_but.Given as goal
 
 abbrev pub invariant-loop-rest : goal.invariant-loop-rest

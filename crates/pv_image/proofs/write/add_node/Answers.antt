@@ -8,8 +8,8 @@ use Rattle.pv_image.specs.Writing.{with_columns}
 use Rattle.pv_image.proofs.Lines.{joined_columns}
 use Rattle.pv_image.proofs.write.add_node.Goals as goal
 
-pub returns-clause-text : goal.returns-clause-text
-returns-clause-text c =
+pub returns : goal.returns
+returns c =
     let n = c.args.node.now in
     let o = c.args.output.now.items in
     let p = printed_path c.args.path.now in
@@ -18,7 +18,7 @@ returns-clause-text c =
     let y = payload_text n.kind (record { bytes = c.args.payload.now; major = n.major; minor = n.minor }) in
     let others = acl_text n.acl ∷ attrs_text n.attrs ∷ letters_text n.letters ∷ y ∷ [] in
     let e1 = c.in_ok-push.ensures.items ∙ ap (λ x. o ++ x) (sym c.kind_letter.ensures) in
-    let e2 = c.in_ok-add_path.ensures.text ∙ ap (λ x. x ++ 32 ∷ p) e1 in
+    let e2 = c.in_ok-add_path.ensures ∙ ap (λ x. x ++ 32 ∷ p) e1 in
     let e3 = c.in_ok-add_owner.ensures ∙ ap (λ x. with_columns x owner) e2 in
     let e4 = c.in_ok-add_stamps.ensures ∙ ap (λ x. x ++ 32 ∷ s) e3 in
     let e5 = c.in_ok-add_others.ensures ∙ ap (λ x. with_columns x others) e4 in

@@ -1,0 +1,67 @@
+//! The text of a whole image.
+ghost use Rattle.std.specs.Prelude.{◌≡◌, ◌++◌, true, IfOk, OnOk};
+ghost use Rattle.std.specs.List.{flat_map, list_all};
+ghost use Rattle.std.specs.FinMap as fin;
+ghost use Rattle.pv_text.specs.Facts.{HasFactsAlone};
+ghost use Rattle.pv_image.specs.Writing.{fact_fits, fact_line, fact_line_of, node_line};
+ghost use Rattle.pv_steps.specs.Trees.{IsTree};
+ghost use Rattle.pv_image.specs.Spelling.{text_of};
+ghost use Rattle.pv_image.specs.Images.{IsImage, is_byte_fact};
+
+use crate::line::header;
+use crate::version::Version;
+use crate::write::{add_fact, add_node};
+use pv_text::{FACT_LETTERS, Facts};
+use pv_tree::MemTree;
+use std::alloc::{AllocError, Global};
+
+/// Writes the one text of facts and a tree, in version 2, which is an image of them.
+pub fn write_image(alloc: Global, tree: &MemTree, facts: &Facts) -> Result<Vec<u8>, AllocError>
+    ensures text { IfOk result (λ text. text.items ≡ text_of facts.now tree.now.files) }
+    ensures image { IfOk result (λ text. IsImage text.items facts.now tree.now.files) }
+{
+    let mut output = Vec::from_slice(alloc, header(Version::Two))?;
+    output.push(b'\n')?;
+    add_facts(&mut output, facts)?;
+    add_nodes(alloc, &mut output, tree)?;
+    output.extend_from_slice(b"end\n")?;
+    Ok(output)
+}
+
+/// Adds the lines of all facts, in the order of their letters.
+fn add_facts(output: &mut Vec<u8>, facts: &Facts) -> Result<(), AllocError>
+    ensures text { let lines = flat_map fact_line (fin.entries facts.now) in
+        OnOk result (output.new.items ≡ output.old.items ++ lines) }
+    ensures fit { OnOk result (list_all is_byte_fact (fin.entries facts.now) ≡ true) }
+{
+    for letter in &FACT_LETTERS {
+        add_fact_of(output, facts, *letter)?;
+    }
+    Ok(())
+}
+
+/// Adds the line of the fact with a letter, where it has a value.
+fn add_fact_of(output: &mut Vec<u8>, facts: &Facts, letter: u8) -> Result<(), AllocError>
+    ensures ok { OnOk result (output.new.items ≡ output.old.items ++ fact_line_of facts.now letter) }
+    ensures facts { HasFactsAlone facts.now }
+    ensures fits { OnOk result (fact_fits facts.now letter ≡ true) }
+{
+    match facts.get(letter) {
+        Some(value) => add_fact(output, letter, value),
+        None => Ok(()),
+    }
+}
+
+/// Adds the lines of all nodes, in the order of their paths.
+fn add_nodes(alloc: Global, output: &mut Vec<u8>, tree: &MemTree) -> Result<(), AllocError>
+    ensures text { let lines = flat_map node_line (fin.entries tree.now.files) in
+        OnOk result (output.new.items ≡ output.old.items ++ lines) }
+    ensures tree { IsTree tree.now.files }
+{
+    let mut walk = tree.walk(alloc)?;
+    while let Some(place) = walk.place() {
+        add_node(alloc, output, place.names, place.node, place.payload)?;
+        walk.advance()?;
+    }
+    Ok(())
+}

@@ -1,0 +1,31 @@
+-- Steps tried one after the other: when they may be asked for, and what is left where all of them are done or one is not
+-- (this project's own).
+use Rattle.std.specs.Prelude.{◌≡◌, ◌≢◌, ℕ, List, [], ◌∷◌, ◌++◌, Result, OnOk, OnErr, IsErrOf, ⊤}
+use Rattle.std.specs.List.{AllByRecursion}
+use Rattle.pv_io.specs.Faults.{HasRisen}
+use Rattle.pv_steps.specs.declared.step.Step.{Step}
+use Rattle.pv_steps.specs.declared.tree.Tree.{Ghosts}
+use Rattle.pv_steps.specs.declared.tree.TreeFault.{TreeFault}
+use Rattle.pv_steps.specs.declared.tree.TreeFault.TheVariants.{Failed}
+use Rattle.pv_steps.specs.Runs.{after_all}
+use Rattle.pv_steps.specs.Steps.{Can, StepFits, after}
+use Rattle.pv_steps.specs.Trees.{Files, places}
+
+-- each step may be done when those before it are done
+abbrev pub CanAll : Files → List Step → ℕ → Type 0
+CanAll t [] now = ⊤
+CanAll t (step ∷ steps) now = Can (places t) step × CanAll (after t step now) steps now
+
+-- a front part of some steps was done and told, all of them exactly where the answer is Ok; `tree` is what trees of this
+-- type tell of themselves
+pub record TriedAll {S : Type 0} (tree : Ghosts S) (steps : List Step) (now : ℕ) (old new : S) (r : Result (Unit {0}) TreeFault) : Type 0 where
+  pub done : List Step
+  pub left : List Step
+  pub parts : done ++ left ≡ steps
+  pub state : tree.state new ≡ after_all (tree.state old) done now
+  pub told : tree.steps new ≡ tree.steps old ++ done
+  pub fits : AllByRecursion StepFits done
+  pub whole : OnOk r (left ≡ [])
+  pub short : OnErr r (left ≢ [])
+  pub reaches : tree.reaches old new
+  pub cause : IsErrOf r Failed → HasRisen (tree.faults old) (tree.faults new)

@@ -1,5 +1,0 @@
-use Rattle.std.proofs.Common.{length}
-use Rattle.pv_tree.proofs.tests.tree_text.Given as goal
-
-abbrev pub decreases-loop-place : goal.decreases-loop-place
-decreases-loop-place g l = length l.walk
