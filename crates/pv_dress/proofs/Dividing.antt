@@ -1,7 +1,6 @@
 -- Entries of a line, done after the base entries among them, are done once.
 use Rattle.std.specs.Prelude.{◌≡◌, Bool, true, false, not, ◌&&◌, ◌||◌, List, [], ◌∷◌, ◌++◌, fold, filter, Option, Some, None, if◌then◌else◌}
 use Rattle.std.proofs.Common.{refl, sym, ap, ◌∙◌}
-use Rattle.pv_path.proofs.PathLaws.{or_true}
 use Rattle.pv_acl.specs.declared.line.Entry.{Entry}
 use Rattle.pv_acl.specs.declared.line.Entry.TheVariants as entry
 use Rattle.pv_acl.specs.declared.line.AclLine.{AclLine}
@@ -15,6 +14,7 @@ use Rattle.pv_dress.specs.declared.bare.Bare.{Bare}
 use Rattle.pv_dress.specs.declared.operation.Guard.{Guard}
 use Rattle.std.specs.List.{list_any}
 use Rattle.std.proofs.lemmas.List.Folds.{list_any-append}
+use Rattle.std.proofs.Math.Bool.{or-true, or-false}
 use Rattle.pv_dress.specs.declared.operation.Change.TheVariants.{Write, Append, Owner, Mode, Entries, Attrs, Letters}
 use Rattle.pv_dress.specs.declared.operation.Operation.{Operation}
 use Rattle.pv_dress.specs.declared.operation.Operation.TheVariants.{Make, Renew, Erase, Adjust}
@@ -204,26 +204,22 @@ run-parts (x ∷ xs) b = run-append (parts_of x) (parts xs) b ∙ ap (λ (o : Op
 
 module _ (p : Operation → Bool) (each : (guard : Guard) (line : AclLine) (how : How) → list_any is_base line.access ≡ true
     → (p (Adjust guard (Entries (base_line line) Add)) || (p (Adjust guard (Entries line how)) || false)) ≡ p (Adjust guard (Entries line how))) where
-  alone : (b : Bool) → (b || false) ≡ b
-  alone true = refl
-  alone false = refl
-
   any-parts_of : (x : Operation) → list_any p (parts_of x) ≡ p x
-  any-parts_of (Make new) = alone (p (Make new))
-  any-parts_of (Renew test new) = alone (p (Renew test new))
-  any-parts_of Erase = alone (p Erase)
-  any-parts_of (Adjust guard (Write bytes)) = alone (p (Adjust guard (Write bytes)))
-  any-parts_of (Adjust guard (Append bytes)) = alone (p (Adjust guard (Append bytes)))
-  any-parts_of (Adjust guard (Owner uid gid)) = alone (p (Adjust guard (Owner uid gid)))
-  any-parts_of (Adjust guard (Mode mode masked)) = alone (p (Adjust guard (Mode mode masked)))
+  any-parts_of (Make new) = or-false (p (Make new))
+  any-parts_of (Renew test new) = or-false (p (Renew test new))
+  any-parts_of Erase = or-false (p Erase)
+  any-parts_of (Adjust guard (Write bytes)) = or-false (p (Adjust guard (Write bytes)))
+  any-parts_of (Adjust guard (Append bytes)) = or-false (p (Adjust guard (Append bytes)))
+  any-parts_of (Adjust guard (Owner uid gid)) = or-false (p (Adjust guard (Owner uid gid)))
+  any-parts_of (Adjust guard (Mode mode masked)) = or-false (p (Adjust guard (Mode mode masked)))
   any-parts_of (Adjust guard (Entries line how)) = by (list_any is_base line.access) refl
     where
       by : (t : Bool) → list_any is_base line.access ≡ t
           → list_any p (if t then Adjust guard (Entries (base_line line) Add) ∷ Adjust guard (Entries line how) ∷ [] else Adjust guard (Entries line how) ∷ []) ≡ p (Adjust guard (Entries line how))
       by true e = each guard line how e
-      by false e = alone (p (Adjust guard (Entries line how)))
-  any-parts_of (Adjust guard (Attrs attrs)) = alone (p (Adjust guard (Attrs attrs)))
-  any-parts_of (Adjust guard (Letters how letters)) = alone (p (Adjust guard (Letters how letters)))
+      by false e = or-false (p (Adjust guard (Entries line how)))
+  any-parts_of (Adjust guard (Attrs attrs)) = or-false (p (Adjust guard (Attrs attrs)))
+  any-parts_of (Adjust guard (Letters how letters)) = or-false (p (Adjust guard (Letters how letters)))
 
   any-parts : (xs : List Operation) → list_any p (parts xs) ≡ list_any p xs
   any-parts [] = refl
@@ -231,7 +227,7 @@ module _ (p : Operation → Bool) (each : (guard : Guard) (line : AclLine) (how 
 
 gives-parts : (guard : Guard) (line : AclLine) (how : How) → list_any is_base line.access ≡ true
     → (is_adjusting gives_base (Adjust guard (Entries (base_line line) Add)) || (is_adjusting gives_base (Adjust guard (Entries line how)) || false)) ≡ is_adjusting gives_base (Adjust guard (Entries line how))
-gives-parts guard line how e = ap (λ t. list_any is_base (filter is_base line.access) || (t || false)) e ∙ or_true (list_any is_base (filter is_base line.access)) ∙ sym e
+gives-parts guard line how e = ap (λ t. list_any is_base (filter is_base line.access) || (t || false)) e ∙ or-true (list_any is_base (filter is_base line.access)) ∙ sym e
 
 no_makes : (xs : List Operation) → list_any is_make (parts xs) ≡ list_any is_make xs
 no_makes = any-parts is_make (λ guard line how e. refl)

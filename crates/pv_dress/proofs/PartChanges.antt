@@ -2,6 +2,7 @@
 use Rattle.std.specs.Prelude.{◌≡◌, false, List, [], ◌∷◌, fold}
 use Rattle.std.proofs.Common.{refl, ◌∙◌, inl, inr}
 use Rattle.std.specs.List.{list_any}
+use Rattle.std.proofs.lemmas.Bool.{or_parts}
 use Rattle.pv_acl.specs.declared.line.Entry.{Entry}
 use Rattle.pv_acl.specs.declared.line.Entry.TheVariants as entry
 use Rattle.pv_acl.specs.declared.line.How.{How}
@@ -9,7 +10,7 @@ use Rattle.pv_acl.specs.declared.line.How.TheVariants.{Replace, Add}
 use Rattle.pv_acl.specs.declared.part.Part.{Part}
 use Rattle.pv_acl.specs.Applying.{put_entry, kept, part_after}
 use Rattle.pv_dress.specs.Reasons.{is_base}
-use Rattle.pv_dress.proofs.Settling.{neither, Settled, settled_then, settled_twice, IsChained}
+use Rattle.pv_dress.proofs.Settling.{Settled, settled_then, settled_twice, IsChained}
 use Rattle.pv_dress.proofs.Cutting.{Base}
 use Rattle.pv_dress.proofs.Puts.{Puts, puts_then, puts_twice}
 
@@ -77,7 +78,7 @@ base-put_entry (entry.Mask perm) h p = refl
 base-entries : (es : List Entry) → list_any is_base es ≡ false → (p : Part) → base (fold put_entry p es) ≡ base p
 base-entries [] h p = refl
 base-entries (e ∷ es) h p =
-    let parts = neither (is_base e) (list_any is_base es) h in
+    let parts = or_parts (is_base e) (list_any is_base es) h in
     base-entries es parts.1 (put_entry p e) ∙ base-put_entry e parts.0 p
 
 base-kept : (how : How) (p : Part) → base (kept how p) ≡ base p

@@ -3,6 +3,7 @@ use Rattle.std.specs.Prelude.{◌≡◌, Bool, true, false, ◌&&◌, cond, List
 use Rattle.std.proofs.Common.{refl, sym, ap, subst, ◌∙◌, inl, inr, append_assoc, append-nil}
 use Rattle.std.proofs.lemmas.List.Sums.{fold-append}
 use Rattle.std.proofs.lemmas.List.Elements.{filter-append, filter_agree}
+use Rattle.std.proofs.Math.Bool.{and_self, and_comm}
 use Rattle.pv_dress.proofs.Settling.{IsChained}
 
 module _ {X K : Type 0} (key : X → K) (before : K → K → Bool) (trans : (a b c : K) → before a b ≡ true → before b c ≡ true → before a c ≡ true) (asym : (a b : K) → before a b ≡ true → before b a ≡ false)
@@ -74,36 +75,26 @@ module _ {X K : Type 0} (key : X → K) (before : K → K → Bool) (trans : (a 
       self' : before w (key y) ≡ false
       self' = rw same (before-self w)
 
-      and_same : (b : Bool) → (b && b) ≡ b
-      and_same true = refl
-      and_same false = refl
-
       apart : (b c : Bool) → (b ≡ true → c ≡ false) → (b && c) ≡ false
       apart true c e = e refl
       apart false c e = refl
 
       lower : filter (under w) (placed w y xs) ≡ filter (under w) xs
       lower =
-          filter-placed (under w) w y xs ∙ rw (self, filter-within (under w) (under w) xs (λ x. and_same (under w x)), filter-apart (under w) (over w) xs (λ x. apart (over w x) (under w x) (asym w (key x))))
+          filter-placed (under w) w y xs ∙ rw (self, filter-within (under w) (under w) xs (λ x. and_self (under w x)), filter-apart (under w) (over w) xs (λ x. apart (over w x) (under w x) (asym w (key x))))
           (append-nil (filter (under w) xs))
 
       upper : filter (over w) (placed w y xs) ≡ filter (over w) xs
       upper =
           filter-placed (over w) w y xs ∙ rw (self', filter-apart (over w) (under w) xs (λ x. apart (under w x) (over w x) (asym (key x) w)))
-          (filter-within (over w) (over w) xs (λ x. and_same (over w x)))
+          (filter-within (over w) (over w) xs (λ x. and_self (over w x)))
 
   -- those that pass a test pass a wider one
   filter-inner : (p q : X → Bool) (xs : List X) → ((x : X) → (q x && p x) ≡ q x) → filter p (filter q xs) ≡ filter q xs
   filter-inner p q xs inner = filter-filter p q xs ∙ filter_agree (λ x. q x && p x) q inner xs
 
   filter-swap : (p q : X → Bool) (xs : List X) → filter p (filter q xs) ≡ filter q (filter p xs)
-  filter-swap p q xs = filter-filter p q xs ∙ filter_agree (λ x. q x && p x) (λ x. p x && q x) (λ x. swap (q x) (p x)) xs ∙ sym (filter-filter q p xs)
-    where
-      swap : (b c : Bool) → (b && c) ≡ (c && b)
-      swap true true = refl
-      swap true false = refl
-      swap false true = refl
-      swap false false = refl
+  filter-swap p q xs = filter-filter p q xs ∙ filter_agree (λ x. q x && p x) (λ x. p x && q x) (λ x. and_comm (q x) (p x)) xs ∙ sym (filter-filter q p xs)
 
   -- two tests of which the first implies the second, or its opposite
   both-first : (b c : Bool) → (b ≡ true → c ≡ true) → (b && c) ≡ b

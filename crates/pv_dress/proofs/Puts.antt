@@ -5,7 +5,8 @@ use Rattle.pv_acl.specs.declared.perm.Named.{Named}
 use Rattle.pv_acl.specs.NamedEntries.{who_cmp}
 use Rattle.pv_acl.proofs.Order.{who_trans, who_asym, who_same}
 use Rattle.pv_steps.specs.declared.attr.Attr.{Attr}
-use Rattle.pv_steps.proofs.AttrOrder.{name_cmp, before_trans, before_asym, before_same}
+use Rattle.pv_path.specs.Names.{name_cmp}
+use Rattle.pv_steps.proofs.AttrOrder.{before_trans, before_asym, before_same}
 use Rattle.pv_dress.proofs.Settling.{IsChained}
 use Rattle.pv_dress.proofs.Placing as placing
 

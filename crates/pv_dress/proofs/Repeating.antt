@@ -7,6 +7,8 @@ use Rattle.std.specs.Cmp.Lexicographic.{bytes_decides}
 use Rattle.std.proofs.lemmas.List.{take-append-drop}
 use Rattle.std.proofs.lemmas.List.Sums.{fold-append}
 use Rattle.std.proofs.lemmas.List.Folds.{list_any-append}
+use Rattle.std.proofs.Math.Bool.{or-true}
+use Rattle.std.proofs.lemmas.Bool.{and_parts, or_parts}
 use Rattle.pv_acl.specs.declared.line.Entry.{Entry}
 use Rattle.pv_acl.specs.declared.part.Acl.{Acl}
 use Rattle.pv_acl.specs.Applying.{acl_after}
@@ -24,7 +26,6 @@ use Rattle.pv_steps.specs.Objects.{is_directory}
 use Rattle.pv_dress.specs.Nodes.{is_link, same_kind}
 use Rattle.pv_dress.specs.Operations.{admits, stays, changed, done, run}
 use Rattle.pv_dress.specs.Reasons.{is_adjusting, is_append, is_masked, gives_base, is_make, is_renewal, is_erasure, is_idle, no_entries, has_append, has_mixed_mask, makes_late, has_late_make, IsRepeatable}
-use Rattle.pv_dress.proofs.Settling.{neither}
 use Rattle.pv_dress.proofs.NodeChanges.{Keeps}
 use Rattle.pv_dress.proofs.Absorbing.{adjusted, all_adjusted, keeps-adjusted, adjusted_twice}
 
@@ -38,7 +39,7 @@ run-split : (k : ℕ) (xs : List Operation) (b : Option Bare) → run xs b ≡ r
 run-split k xs b = ap (λ (l : List Operation). run l b) (sym (take-append-drop k xs)) ∙ run-append (take k xs) (drop k xs) b
 
 any-front : {X : Type 0} (p : X → Bool) (xs ys : List X) → list_any p (xs ++ ys) ≡ false → list_any p xs ≡ false
-any-front p xs ys h = (neither (list_any p xs) (list_any p ys) (sym (list_any-append p xs ys) ∙ h)).0
+any-front p xs ys h = (or_parts (list_any p xs) (list_any p ys) (sym (list_any-append p xs ys) ∙ h)).0
 
 -- ---- what stays in the place of a new object
 
@@ -49,10 +50,6 @@ same_kind-refl Link = refl
 same_kind-refl Fifo = refl
 same_kind-refl CharDevice = refl
 same_kind-refl BlockDevice = refl
-
-or-true : (a : Bool) → (a || true) ≡ true
-or-true true = refl
-or-true false = refl
 
 -- a new object stays in its own place
 stays-self : (test : Test) (new : Body) → stays test new new ≡ true
@@ -197,20 +194,20 @@ abbrev Unmixed : List Operation → Type 0
 Unmixed xs = (list_any (is_adjusting is_masked) xs ≡ false) ⊎ (list_any (is_adjusting gives_base) xs ≡ false)
 
 unmixed-rest : (x : Operation) (xs : List Operation) → Unmixed (x ∷ xs) → Unmixed xs
-unmixed-rest x xs (inl h) = inl (neither (is_adjusting is_masked x) (list_any (is_adjusting is_masked) xs) h).1
-unmixed-rest x xs (inr h) = inr (neither (is_adjusting gives_base x) (list_any (is_adjusting gives_base) xs) h).1
+unmixed-rest x xs (inl h) = inl (or_parts (is_adjusting is_masked x) (list_any (is_adjusting is_masked) xs) h).1
+unmixed-rest x xs (inr h) = inr (or_parts (is_adjusting gives_base x) (list_any (is_adjusting gives_base) xs) h).1
 
 twice : (xs : List Operation) → list_any is_erasure xs ≡ false → has_append xs ≡ false → Unmixed xs → makes_late xs ≡ false → (b : Option Bare) → run xs (run xs b) ≡ run xs b
 twice [] erase append mask late b = refl
 twice (x ∷ xs) erase append mask late b =
     by (is_adjusting is_idle x) (is_make x) refl refl late
-    (λ e. twice xs (neither (is_erasure x) (list_any is_erasure xs) erase).1 (neither (is_adjusting is_append x) (has_append xs) append).1 (unmixed-rest x xs mask) e b)
+    (λ e. twice xs (or_parts (is_erasure x) (list_any is_erasure xs) erase).1 (or_parts (is_adjusting is_append x) (has_append xs) append).1 (unmixed-rest x xs mask) e b)
   where
     erased : (is_erasure x ≡ false) × (list_any is_erasure xs ≡ false)
-    erased = neither (is_erasure x) (list_any is_erasure xs) erase
+    erased = or_parts (is_erasure x) (list_any is_erasure xs) erase
 
     appended : (is_adjusting is_append x ≡ false) × (has_append xs ≡ false)
-    appended = neither (is_adjusting is_append x) (has_append xs) append
+    appended = or_parts (is_adjusting is_append x) (has_append xs) append
 
     by_make : (y : Operation) → is_make y ≡ true → list_any is_renewal xs ≡ false → run (y ∷ xs) (run (y ∷ xs) b) ≡ run (y ∷ xs) b
     by_make (Make new) m r = make_twice xs erased.1 r appended.1 (unmixed-rest x xs mask) new b
@@ -307,11 +304,7 @@ absorbed xs k b h = by (list_any is_erasure xs) refl
 
 idle-run : (xs : List Operation) → list_all (is_adjusting is_idle) xs ≡ true → (b : Option Bare) → run xs b ≡ b
 idle-run [] h b = refl
-idle-run (x ∷ xs) h b = let e = both (is_adjusting is_idle x) (list_all (is_adjusting is_idle) xs) h in ap (λ (o : Option Bare). run xs o) (idle-done x e.0 b) ∙ idle-run xs e.1 b
-  where
-    both : (a b : Bool) → (a && b) ≡ true → (a ≡ true) × (b ≡ true)
-    both true b e = (refl, e)
-    both false b e = cc
+idle-run (x ∷ xs) h b = let e = and_parts (is_adjusting is_idle x) (list_all (is_adjusting is_idle) xs) h in ap (λ (o : Option Bare). run xs o) (idle-done x e.0 b) ∙ idle-run xs e.1 b
 
 -- where an object fails the test of the first make, the list ends as from nothing
 pub from_the_gap : (idle xs : List Operation) (test : Test) (new b : Bare) → list_all (is_adjusting is_idle) idle ≡ true → stays test new.body b.body ≡ false

@@ -1,11 +1,8 @@
 -- Changes that leave an attribute as it is or give it one value, and what holds of such changes in a row.
-use Rattle.std.specs.Prelude.{◌≡◌, Bool, true, false, ◌||◌, List, [], ◌∷◌, fold, ◌⊎◌}
+use Rattle.std.specs.Prelude.{◌≡◌, Bool, false, List, [], ◌∷◌, fold, ◌⊎◌}
 use Rattle.std.specs.List.{list_any}
 use Rattle.std.proofs.Common.{refl, sym, ◌∙◌, inl, inr}
-
-pub neither : (a b : Bool) → (a || b) ≡ false → (a ≡ false) × (b ≡ false)
-neither false b e = (refl, e)
-neither true b e = absurd (let no : true ≡ false = e in cc)
+use Rattle.std.proofs.lemmas.Bool.{or_parts}
 
 -- ---- one attribute
 
@@ -40,5 +37,5 @@ pub chained_all : {A X : Type 0} (P : (A → A) → Type 0) → IsChained P → 
     → ((x : X) → bad x ≡ false → P (change x)) → (xs : List X) → list_any bad xs ≡ false → P (λ a. fold (λ a x. change x a) a xs)
 chained_all P chained change bad each [] e = chained.none
 chained_all P chained change bad each (x ∷ xs) e =
-    let parts = neither (bad x) (list_any bad xs) e in
+    let parts = or_parts (bad x) (list_any bad xs) e in
     chained.both (change x) (λ a. fold (λ a x. change x a) a xs) (each x parts.0) (chained_all P chained change bad each xs parts.1)

@@ -2,8 +2,9 @@
 use Rattle.std.specs.Prelude.{◌≡◌, ◌≢◌, ℕ, ◌/◌, ◌%◌, ◌≤◌, true, false, cond, ◌&&◌, Option, Some, None, is_some, option_map, Result, Ok, Err, OnOk, [], ◌⊎◌}
 use Rattle.std.proofs.Common.{refl, sym, ap, subst, ◌∙◌, inl, inr, arith}
 use Rattle.std.proofs.lemmas.Bool.Decides.{nat_tests}
+use Rattle.std.proofs.lemmas.Bool.{and_parts}
+use Rattle.std.proofs.lemmas.Option.{same_Some}
 use Rattle.pv_path.specs.Paths.{Path, same_path}
-use Rattle.pv_path.proofs.PathLaws.{both_true}
 use Rattle.pv_acl.specs.declared.part.Part.{Part}
 use Rattle.pv_acl.specs.NamedEntries.{is_perm}
 use Rattle.pv_acl.specs.Parts as parts
@@ -36,9 +37,6 @@ use Rattle.pv_dress.specs.Wearing.{HasOwner, HasMode, Changing, Gives, GivesAcl,
 restored : (o x : Object) → o.node.stamps ≡ x.node.stamps → bare o ≡ bare x → o ≡ x
 restored o x stamps same = λ i. record (same i) { node = record (same i).node { stamps = stamps i } }
 
-some_of : (a b : Object) → Some a ≡ Some b → a ≡ b
-some_of a b e = cc
-
 -- a change that keeps the stamps
 abbrev pub Keeps : (Object → Object) → Type 0
 Keeps change = (o : Object) → (change o).node.stamps ≡ o.node.stamps
@@ -58,7 +56,7 @@ module _ (path : Path) (change : Object → Object) (now : ℕ) (t : Files) (o :
   module _ (s : Step) (leaves : after_at (places t) s now ≡ on_at path (λ x. changed now (change x)) (places t)) where
     -- the change is seen, stamps aside
     pub change_busy : Keeps change → change o ≢ o → Differ t (after t s now)
-    change_busy keeps differs = (path, λ e. differs (restored (change o) o (keeps o) (some_of (bare (change o)) (bare o) (sym (sym old ∙ e ∙ new)))))
+    change_busy keeps differs = (path, λ e. differs (restored (change o) o (keeps o) (same_Some (bare (change o)) (bare o) (sym (sym old ∙ e ∙ new)))))
       where
         old : bares (places t) path ≡ Some (bare o)
         old = ap (option_map bare) there
@@ -113,7 +111,7 @@ module _ (now : ℕ) (c d : Object → Object) (past : (o : Object) → d (chang
 
   pub changed_then : (path : Path) (t u v : Files) → ChangedAt c path now t u → ChangedAt d path now u v → ChangedAt (λ x. d (c x)) path now t v
   changed_then path t u v h g =
-      let same : g.old ≡ h.object = some_of g.old h.object (sym g.there ∙ after_change path c now t u h) in
+      let same : g.old ≡ h.object = same_Some g.old h.object (sym g.there ∙ after_change path c now t u h) in
       record {
         old = h.old;
         object = g.object;
@@ -144,10 +142,10 @@ record Digits (m special : ℕ) (part : Part) : Type 0 where
 
 digits : (special : ℕ) (part : Part) → is_part part ≡ true → Digits (mode_of special part) special part
 digits special part h =
-    let bases = (both_true _ _ (both_true _ _ (both_true _ _ h).0).0).0 in
-    let first = (both_true (is_perm part.owner && is_perm part.group) (is_perm part.other) bases) in
-    let o = le_seven part.owner (both_true (is_perm part.owner) (is_perm part.group) first.0).0 in
-    let g = le_seven part.group (both_true (is_perm part.owner) (is_perm part.group) first.0).1 in
+    let bases = (and_parts _ _ (and_parts _ _ (and_parts _ _ h).0).0).0 in
+    let first = (and_parts (is_perm part.owner && is_perm part.group) (is_perm part.other) bases) in
+    let o = le_seven part.owner (and_parts (is_perm part.owner) (is_perm part.group) first.0).0 in
+    let g = le_seven part.group (and_parts (is_perm part.owner) (is_perm part.group) first.0).1 in
     let a = le_seven part.other first.1 in
     record { owner = omega arith; group = omega arith; other = omega arith; bits = omega arith; bound = λ s. omega arith }
 
@@ -159,7 +157,7 @@ owner_worn new o e = record { uid = sym (ap (λ x. x.node.uid) e); gid = sym (ap
 
 module _ (kind : Kind) (new : Dress) (fits : IsDress kind new) where
   mode_digits : Digits (dress_mode new) new.special new.acl.access
-  mode_digits = digits new.special new.acl.access (both_true (is_part new.acl.access) _ fits.acl).0
+  mode_digits = digits new.special new.acl.access (and_parts (is_part new.acl.access) _ fits.acl).0
 
   pub mode_bound : dress_mode new ≤ 4095
   mode_bound = mode_digits.bound fits.special
@@ -340,7 +338,7 @@ module _ (path : Path) (new : Dress) (t : Files) (can : CanWear t path new) (nod
       no_acl e = other (ap (λ v. v.acl) standing.1.1 ∙ acl_worn new object e)
 
       other_acl : (o : Object) → places t path ≡ Some o → o.node.acl ≢ new.acl
-      other_acl o e h = let same : object ≡ o = some_of object o (sym there ∙ e) in other (ap (λ v. v.acl) standing.1.1 ∙ ap (λ v. v.node.acl) same ∙ h)
+      other_acl o e h = let same : object ≡ o = same_Some object o (sym there ∙ e) in other (ap (λ v. v.acl) standing.1.1 ∙ ap (λ v. v.node.acl) same ∙ h)
 
       pub acl_asks : Asks (Changing path (wear_acl new) t) (GivesAcl path new t) t (SetAcl path new.acl) now
       acl_asks =
@@ -401,7 +399,7 @@ module _ (path : Path) (new : Dress) (t : Files) (can : CanWear t path new) (nod
       no_part e = other (ap part standing.1.1 ∙ worn object e)
 
       other_part : Lacks (λ o. part o.node) wanted path t
-      other_part o e h = let same : object ≡ o = some_of object o (sym there ∙ e) in other (ap part standing.1.1 ∙ ap (λ v. part v.node) same ∙ h)
+      other_part o e h = let same : object ≡ o = same_Some object o (sym there ∙ e) in other (ap part standing.1.1 ∙ ap (λ v. part v.node) same ∙ h)
 
       pub part_asks : Can (places t) step → Asks (Changing path change t) (Gives (λ o. part o.node) wanted step path t) t step now
       part_asks able =
@@ -424,12 +422,12 @@ module _ (path : Path) (now : ℕ) (t u : Files) {A : Type 0} (part : Object →
 
   pub lacks_before : (wanted : A) → Lacks part wanted path u → Lacks part wanted path t
   lacks_before wanted lacks o e h =
-      let same : first.old ≡ o = some_of first.old o (sym first.there ∙ e) in
+      let same : first.old ≡ o = same_Some first.old o (sym first.there ∙ e) in
       lacks first.object (after_change path change now t u first) (part_kept first.old first.object first.is ∙ ap part same ∙ h)
 
   pub kept_after : (c : Object → Object) (wanted : A) → ((o : Object) → part o ≡ wanted → c o ≡ o) → ((o : Object) → c o ≡ o → part o ≡ wanted) → IsKeptBy c path t → IsKeptBy c path u
   kept_after c wanted wears worn kept o e =
-      let same : first.object ≡ o = some_of first.object o (sym (after_change path change now t u first) ∙ e) in
+      let same : first.object ≡ o = same_Some first.object o (sym (after_change path change now t u first) ∙ e) in
       wears o (ap part (sym same) ∙ part_kept first.old first.object first.is ∙ worn first.old (kept first.old first.there))
 
 -- ---- the changes one after another
@@ -458,7 +456,7 @@ module _ (path : Path) (new : Dress) (now : ℕ) (t : Files) where
   gives_acl u first s gives = inr (inr (inl (
     gives.is,
     λ o e h.
-        let same : first.old ≡ o = some_of first.old o (sym first.there ∙ e) in
+        let same : first.old ≡ o = same_Some first.old o (sym first.there ∙ e) in
         gives.other first.object (after_change path first_two now t u first) (same_acl first.old first.object first.is ∙ ap (λ x. (first_two x).node.acl) same ∙ h),
   )))
 

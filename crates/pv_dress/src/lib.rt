@@ -19,10 +19,5 @@ pub use laws::{
 };
 pub use mask::{masked_special, set_masked_base};
 pub use operation::{Change, Guard, Operation, Test};
-pub use run::{admits, run_operations};
+pub use run::{admits, run_operations, stays};
 pub use wear::dress;
-
-#[cfg(test)]
-mod run_tests;
-#[cfg(test)]
-mod tests;

@@ -160,7 +160,7 @@ pub fn admits(guard: Guard, kind: Kind) -> bool
 }
 
 /// Whether an object stays where a new one is wanted.
-fn stays(test: Test, new: &Body, old: &Body) -> bool
+pub fn stays(test: Test, new: &Body, old: &Body) -> bool
     ensures { result ≡ stays test new.now old.now }
 {
     same_kind(new.kind, old.kind) && (!test.exact || same_substance(new, old))

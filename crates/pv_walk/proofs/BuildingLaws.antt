@@ -2,6 +2,7 @@
 use Rattle.std.specs.Prelude.{◌≡◌, ◌≢◌, ℕ, ◌≤◌, Bool, true, false, cond, List, [], ◌∷◌, ◌++◌, length, Option, Some, None, is_some, option_map}
 use Rattle.std.proofs.Common.{refl, sym, ap, subst, ◌∙◌, inl, inr, ◌⊎◌, append_assoc, arith, length-append}
 use Rattle.std.proofs.lemmas.List.{append-nil}
+use Rattle.std.proofs.lemmas.Bool.{cases_Bool}
 use Rattle.pv_acl.specs.declared.part.Acl.{Acl}
 use Rattle.pv_acl.specs.Parts.{mode_of}
 use Rattle.pv_dress.specs.declared.bare.Bare.{Bare}
@@ -15,21 +16,19 @@ use Rattle.pv_path.specs.Paths.{Path, is_prefix, same_path, parent_of, rest_unde
 use Rattle.pv_path.proofs.PathLaws.{rest_under-append, rest_under-None, prefix_parts, length-parent_of, parent_of-differs, is_prefix-append, path_ends, parent_of-push, same_path-refl}
 use Rattle.pv_steps.specs.declared.node.Kind.{Kind}
 use Rattle.pv_steps.specs.declared.node.Kind.TheVariants.{Directory, File, Link, Fifo, CharDevice, BlockDevice}
-use Rattle.pv_steps.specs.declared.object.Object.{Object}
 use Rattle.pv_steps.specs.declared.step.Step.{Step}
 use Rattle.pv_steps.specs.declared.step.Step.TheVariants.{MakeDir, MakeFile, MakeFifo, MakeDevice, MakeLink, Write, SetMode, SetOwner, SetAcl, SetAttrs, SetLetters, SetStamps, Rename, Unlink, RemoveDir}
 use Rattle.pv_steps.specs.Objects.{bare, changed, modified, AclFits}
 use Rattle.pv_steps.specs.Same.{bares}
-use Rattle.pv_steps.specs.Steps.{HasRoom, made, put_at, touched}
+use Rattle.pv_steps.specs.Steps.{HasRoom, made, touched}
 use Rattle.pv_steps.specs.Trees.{Files, Places, places, kind_of, IsKindIn, IsAbsentIn}
-use Rattle.pv_walk.specs.declared.listing.Piece.{Piece}
 use Rattle.pv_walk.specs.declared.listing.Piece.TheVariants.{Make, Wear}
 use Rattle.pv_walk.specs.declared.new_file.NewFile.{NewFile}
-use Rattle.pv_walk.specs.Copying.{object_of, standing, with_subtree, GivesBare, GivesPart}
+use Rattle.pv_walk.specs.Copying.{object_of, standing, with_subtree, GivesBare}
 use Rattle.pv_walk.specs.Making.{held_object}
-use Rattle.pv_walk.specs.Pieces.{what_of, file_of, plain, IsWhole, CanDo, IsDone, GivesPiece, place_of, after_piece, HasPlace, IsDoable}
+use Rattle.pv_walk.specs.Pieces.{what_of, file_of, plain, IsWhole, after_piece, HasPlace}
 use Rattle.pv_walk.specs.Staging.{GivesNew, new_mode, new_payload}
-use Rattle.pv_walk.proofs.RemovalLaws.{true_or_false, apart, no_same}
+use Rattle.pv_walk.proofs.RemovalLaws.{apart, no_same}
 
 -- these objects stand at and below a path, all stamps now, and else the tree is the old one; the directory of the path has
 -- changed once something stands there
@@ -111,7 +110,7 @@ module _ (now : ℕ) (stage : Path) (nonempty : stage ≢ []) (t : Files) (paren
   with_outside s q h = ap (λ v. cond (same_path (parent_of stage) q) (option_map (modified now) v) v) (ap (standing now s (places t q)) (rest_under-None stage q h))
 
   pub built_end : (s : Path → Option Bare) (u : Files) → IsBuilt now stage s t u → is_some (s []) ≡ true → places u ≡ with_subtree now stage s (places t)
-  built_end s u b top = λ i q. at q (true_or_false (is_prefix stage q)) i
+  built_end s u b top = λ i q. at q (cases_Bool (is_prefix stage q)) i
     where
       touched_else : (((r : Path) → s r ≡ None) × (places u ≡ places t)) ⊎ ((is_some (s []) ≡ true) × ((q : Path) → is_prefix stage q ≡ false → places u q ≡ touched now stage (places t) q)) → (q : Path) → is_prefix stage q ≡ false → places u q ≡ touched now stage (places t) q
       touched_else (inl e) q h = absurd (some_none (s []) top (e.0 []))

@@ -1,33 +1,36 @@
 -- Laws of what is copied: the objects of a tree as those of a copy.
-use Rattle.std.specs.Prelude.{◌≡◌, ℕ, ◌<◌, ◌≤◌, ◌^◌, Bool, true, false, cond, ◌||◌, List, [], ◌∷◌, ◌++◌, Option, Some, None, IfSome, is_some, option_map, unwrap_or}
-use Rattle.std.proofs.Common.{refl, sym, ap, subst, ◌∙◌, arith, lit≤, inl, inr, ◌⊎◌, append_assoc}
+use Rattle.std.specs.Prelude.{◌⊎◌, ◌≡◌, ℕ, ◌≤◌, Bool, true, false, cond, ◌||◌, List, [], ◌∷◌, ◌++◌, Option, Some, None, IfSome, is_some, option_map, unwrap_or, map, filter_map}
+use Rattle.std.proofs.Common.{refl, sym, ap, subst, ◌∙◌, lit≤, append_assoc, inl, inr}
 use Rattle.std.proofs.lemmas.List.{append-nil}
 use Rattle.std.proofs.lemmas.Map.Keys.{IsDistinct-from_sorted}
+use Rattle.std.specs.List.{cons_option}
 use Rattle.std.specs.Ordering.{nat_cmp}
 use Rattle.std.specs.Cmp.Lexicographic.{slice_cmp}
-use Rattle.pv_path.specs.Paths.{Path, has_staging}
-use Rattle.pv_path.proofs.PathLaws.{has_staging-append}
+use Rattle.pv_path.specs.Paths.{Path, same_path, rest_under, has_staging}
+use Rattle.pv_path.proofs.PathLaws.{has_staging-append, rest_under-append}
 use Rattle.pv_steps.specs.declared.node.Kind.{Kind}
 use Rattle.pv_steps.specs.declared.node.Kind.TheVariants.{Directory, File, Link, Fifo, CharDevice, BlockDevice}
 use Rattle.pv_steps.specs.declared.node.Node.{Node}
 use Rattle.pv_steps.specs.declared.object.Object.{Object}
 use Rattle.pv_steps.specs.Objects.{PayloadFits, NumbersFit, IsObject, IsId, with_owner, with_mode}
-use Rattle.pv_steps.specs.Trees.{Files, Places, places, kind_of, names_below, node_at, payload_at, IsPresentIn, IsTree}
+use Rattle.pv_steps.specs.Trees.{Files, places, kind_of, names_below, node_at, payload_at, IsPresentIn, IsTree}
 use Rattle.pv_steps.proofs.ObjectLaws.{IsObject-with_owner, IsObject-with_mode}
 use Rattle.pv_steps.proofs.NameLaws.{names_below-rise, names_below-are}
+use Rattle.pv_steps.proofs.StepLaws.{is_among}
 use Rattle.pv_steps.proofs.TreeLaws.{present_above, directory_above}
 use Rattle.pv_dress.specs.declared.bare.Bare.{Bare}
 use Rattle.pv_dress.specs.declared.bare.Body.{Body}
-use Rattle.pv_dress.specs.Dressing.{IsDress, dress_mode}
+use Rattle.pv_dress.specs.Dressing.{IsDress}
 use Rattle.pv_dress.specs.Nodes.{bare_of, bares_of, is_link}
 use Rattle.pv_dress.specs.Operations as operations
+use Rattle.pv_dress.proofs.EditLaws.{path_cases}
 use Rattle.pv_dress.proofs.WearLaws.{mode_bound}
 use Rattle.pv_walk.specs.declared.copying.TopNode.{TopNode}
-use Rattle.pv_walk.specs.Copying.{IsTopNode, moded, topped, copied}
-use Rattle.pv_walk.specs.Pieces.{what_of, file_of, plain, IsWhole, names_at}
+use Rattle.pv_walk.specs.Copying.{IsTopNode, moded, topped, copy_from}
+use Rattle.pv_walk.specs.Pieces.{what_of, plain, IsWhole, names_at}
 use Rattle.pv_walk.specs.Staging.{HasTarget}
-use Rattle.pv_walk.proofs.PlanLaws.{kind_in, is_in, IsSubtree}
-use Rattle.pv_walk.proofs.RemovalLaws.{true_or_false}
+use Rattle.pv_walk.proofs.PlanLaws.{kind_in, IsSubtree}
+use Rattle.pv_walk.proofs.PreparedLaws.{among_first, among_later, among_others}
 
 -- ---- payloads
 
@@ -131,35 +134,50 @@ top_kind top b = by top.mode (is_link b.body.kind)
 
 -- ---- the subtree
 
+some_bare : (o : Option Object) → is_some (option_map bare_of o) ≡ true → is_some o ≡ true
+some_bare None h = h
+some_bare (Some x) h = refl
+
+-- what is copied is there
+pub copied_stands : (top : Bare → Bare) (source : Path) (t : Files) (q : Path) → is_some (copy_from top source (bares_of (places t)) q) ≡ true → is_some (places t (source ++ q)) ≡ true
+copied_stands top source t [] h = ap (λ (p : Path). is_some (places t p)) (append-nil source) ∙ some_bare (places t source) (some_top (bares_of (places t) source) h)
+  where
+    some_top : (o : Option Bare) → is_some (option_map top o) ≡ true → is_some o ≡ true
+    some_top None h = h
+    some_top (Some x) h = refl
+copied_stands top source t (n ∷ q) h = by (has_staging (n ∷ q)) h
+  where
+    by : (c : Bool) → is_some (cond c None (bares_of (places t) (source ++ n ∷ q))) ≡ true → is_some (places t (source ++ n ∷ q)) ≡ true
+    by true e = let no : false ≡ true = e in cc
+    by false e = some_bare (places t (source ++ n ∷ q)) e
+
+-- what comes below the source is among those below the path to which it is copied
+pub among_copied : (source path rest : Path) (paths : List Path) → is_among (source ++ rest) paths ≡ true → is_among (path ++ rest) (map (λ r. path ++ r) (filter_map (rest_under source) paths)) ≡ true
+among_copied source path rest [] h = h
+among_copied source path rest (k ∷ paths) h = by (among_copied source path rest paths) (rest_under source k) refl (path_cases k (source ++ rest)) h
+  where
+    by : (is_among (source ++ rest) paths ≡ true → is_among (path ++ rest) (map (λ r. path ++ r) (filter_map (rest_under source) paths)) ≡ true) → (o : Option Path) → rest_under source k ≡ o
+        → (k ≡ source ++ rest) ⊎ (same_path k (source ++ rest) ≡ false) → is_among (source ++ rest) (k ∷ paths) ≡ true
+        → is_among (path ++ rest) (map (λ r. path ++ r) (cons_option o (filter_map (rest_under source) paths))) ≡ true
+    by more o e (inl same) g =
+        let is : o ≡ Some rest = sym e ∙ ap (rest_under source) same ∙ rest_under-append source rest in
+        subst (λ (v : Option Path). is_among (path ++ rest) (map (λ r. path ++ r) (cons_option v (filter_map (rest_under source) paths))) ≡ true) (sym is)
+        (among_first (path ++ rest) (map (λ r. path ++ r) (filter_map (rest_under source) paths)))
+    by more None e (inr other) g = more (among_others (source ++ rest) k paths other g)
+    by more (Some r) e (inr other) g = among_later (path ++ r) (path ++ rest) (map (λ r. path ++ r) (filter_map (rest_under source) paths)) (more (among_others (source ++ rest) k paths other g))
+
 module _ (top : TopNode) (fits : IsTopNode top) (source : Path) (t : Files) (tree : IsTree t) where
   abbrev subtree : Path → Option Bare
-  subtree = copied top source (places t)
-
-  some_bare : (o : Option Object) → is_some (option_map bare_of o) ≡ true → is_some o ≡ true
-  some_bare None h = h
-  some_bare (Some x) h = refl
-
-  some_top : (o : Option Bare) → is_some (option_map (topped top) o) ≡ true → is_some o ≡ true
-  some_top None h = h
-  some_top (Some x) h = refl
+  subtree = copy_from (topped top) source (bares_of (places t))
 
   -- no name below the top is a staging name
-  visible : (q : Path) → is_some (copied top source (places t) q) ≡ true → has_staging q ≡ false
+  visible : (q : Path) → is_some (copy_from (topped top) source (bares_of (places t)) q) ≡ true → has_staging q ≡ false
   visible [] h = refl
   visible (n ∷ q) h = by (has_staging (n ∷ q)) h
     where
       by : (c : Bool) → is_some (cond c None (bares_of (places t) (source ++ n ∷ q))) ≡ true → c ≡ false
       by true e = let no : false ≡ true = e in cc
       by false e = refl
-
-  -- what is copied is there
-  pub stands : (q : Path) → is_some (copied top source (places t) q) ≡ true → is_some (places t (source ++ q)) ≡ true
-  stands [] h = ap (λ (p : Path). is_some (places t p)) (append-nil source) ∙ some_bare (places t source) (some_top (bares_of (places t) source) h)
-  stands (n ∷ q) h = by (has_staging (n ∷ q)) h
-    where
-      by : (c : Bool) → is_some (cond c None (bares_of (places t) (source ++ n ∷ q))) ≡ true → is_some (places t (source ++ n ∷ q)) ≡ true
-      by true e = let no : false ≡ true = e in cc
-      by false e = some_bare (places t (source ++ n ∷ q)) e
 
   kind_bare : (o : Option Object) → option_map (λ (b : Bare). b.body.kind) (option_map bare_of o) ≡ kind_of o
   kind_bare None = refl
@@ -169,7 +187,7 @@ module _ (top : TopNode) (fits : IsTopNode top) (source : Path) (t : Files) (tre
   kind_top None = refl
   kind_top (Some x) = ap Some (top_kind top (bare_of x))
 
-  kind_copied : (q : Path) → has_staging q ≡ false → kind_in (copied top source (places t)) q ≡ kind_of (places t (source ++ q))
+  kind_copied : (q : Path) → has_staging q ≡ false → kind_in (copy_from (topped top) source (bares_of (places t))) q ≡ kind_of (places t (source ++ q))
   kind_copied [] h = kind_top (places t source) ∙ ap (λ (p : Path). kind_of (places t p)) (sym (append-nil source))
   kind_copied (n ∷ q) h = ap (λ c. option_map (λ (b : Bare). b.body.kind) (cond c None (bares_of (places t) (source ++ n ∷ q)))) h ∙ kind_bare (places t (source ++ n ∷ q))
 
@@ -177,13 +195,13 @@ module _ (top : TopNode) (fits : IsTopNode top) (source : Path) (t : Files) (tre
   or_false true b h = h
   or_false false b h = refl
 
-  deeper : (r : Path) (n : List ℕ) (x : Path) → is_some (copied top source (places t) (r ++ n ∷ x)) ≡ true → IsPresentIn (places t) ((source ++ r) ++ n ∷ x)
-  deeper r n x h = ap (λ (p : Path). is_some (places t p)) (append_assoc source r (n ∷ x)) ∙ stands (r ++ n ∷ x) h
+  deeper : (r : Path) (n : List ℕ) (x : Path) → is_some (copy_from (topped top) source (bares_of (places t)) (r ++ n ∷ x)) ≡ true → IsPresentIn (places t) ((source ++ r) ++ n ∷ x)
+  deeper r n x h = ap (λ (p : Path). is_some (places t p)) (append_assoc source r (n ∷ x)) ∙ copied_stands (topped top) source t (r ++ n ∷ x) h
 
-  above_visible : (r : Path) (n : List ℕ) (x : Path) → is_some (copied top source (places t) (r ++ n ∷ x)) ≡ true → has_staging r ≡ false
+  above_visible : (r : Path) (n : List ℕ) (x : Path) → is_some (copy_from (topped top) source (bares_of (places t)) (r ++ n ∷ x)) ≡ true → has_staging r ≡ false
   above_visible r n x h = or_false (has_staging r) (has_staging (n ∷ x)) (sym (has_staging-append r (n ∷ x)) ∙ visible (r ++ n ∷ x) h)
 
-  object_fits : (q : Path) (b : Bare) → copied top source (places t) q ≡ Some b → IsWhole b
+  object_fits : (q : Path) (b : Bare) → copy_from (topped top) source (bares_of (places t)) q ≡ Some b → IsWhole b
   object_fits [] b e = by (places t source) refl e
     where
       by : (o : Option Object) → places t source ≡ o → option_map (topped top) (option_map bare_of o) ≡ Some b → IsWhole b
@@ -196,7 +214,7 @@ module _ (top : TopNode) (fits : IsTopNode top) (source : Path) (t : Files) (tre
       by false None there h = let no : None ≡ Some b = h in cc
       by false (Some x) there h = let same : bare_of x ≡ b = (let both : Some (bare_of x) ≡ Some b = h in cc) in subst IsWhole same (whole_object x (tree.objects (source ++ n ∷ q) x there))
 
-  pub copied_subtree : IsSubtree (copied top source (places t)) (names_at source t)
+  pub copied_subtree : IsSubtree (copy_from (topped top) source (bares_of (places t))) (names_at source t)
   copied_subtree = record {
     closed = λ r n x h. kind_copied r (above_visible r n x h) ∙ directory_above (places t) tree (source ++ r) n x (deeper r n x h);
     fits = object_fits;
@@ -207,11 +225,11 @@ module _ (top : TopNode) (fits : IsTopNode top) (source : Path) (t : Files) (tre
   }
 
   -- so its special bits are those of an object
-  pub special_fits : (q : Path) (b : Bare) → copied top source (places t) q ≡ Some b → b.dress.special ≤ 7
+  pub special_fits : (q : Path) (b : Bare) → copy_from (topped top) source (bares_of (places t)) q ≡ Some b → b.dress.special ≤ 7
   special_fits q b e = (object_fits q b e).dress.special
 
 -- the top of a copy of what is there
-pub top_present : (top : TopNode) (source : Path) (t : Files) → is_some (places t source) ≡ true → is_some (copied top source (places t) []) ≡ true
+pub top_present : (top : TopNode) (source : Path) (t : Files) → is_some (places t source) ≡ true → is_some (copy_from (topped top) source (bares_of (places t)) []) ≡ true
 top_present top source t = by (places t source)
   where
     by : (o : Option Object) → is_some o ≡ true → is_some (option_map (topped top) (option_map bare_of o)) ≡ true

@@ -1,10 +1,11 @@
 -- Laws of how a copy is listed: the pieces that are listed and those that tasks stand for, what they cost, and that the
 -- list ends.
-use Rattle.std.specs.Prelude.{◌≡◌, ℕ, ◌+◌, ◌-◌, ◌*◌, ◌≤◌, ◌<◌, Bool, true, false, cond, List, [], ◌∷◌, ◌++◌, length, map, filter, filter_map, sum, Option, Some, None, is_some, option_map}
+use Rattle.std.specs.Prelude.{◌≡◌, ℕ, ◌+◌, ◌-◌, ◌*◌, ◌≤◌, ◌<◌, Bool, true, false, cond, List, [], ◌∷◌, ◌++◌, length, map, filter, filter_map, Option, Some, None, is_some, option_map}
 use Rattle.std.proofs.Common.{zero, suc, refl, sym, ap, subst, ◌∙◌, inl, inr, ◌⊎◌, arith, append_assoc, length-append}
 use Rattle.std.proofs.lemmas.List.{append-nil}
 use Rattle.std.specs.List.{cons_option}
 use Rattle.std.specs.FinMap as fin
+use Rattle.std.proofs.lemmas.Bool.{cases_Bool}
 use Rattle.pv_dress.specs.declared.bare.Bare.{Bare}
 use Rattle.pv_path.specs.Paths.{Path, same_path, rest_under}
 use Rattle.pv_path.proofs.PathLaws.{rest_under-append, rest_under-Some, same_path-refl}
@@ -17,13 +18,13 @@ use Rattle.pv_walk.specs.Copying.{copied_count}
 use Rattle.pv_walk.specs.Listing.{times}
 use Rattle.pv_walk.specs.Pieces.{file_of, built, made_of, IsPlan, IsDoable, AreDoable, cost_of, piece_cost, last_piece, tasks_before, pieces_now, tasks_left}
 use Rattle.pv_walk.specs.Staging.{most_staged}
-use Rattle.pv_walk.proofs.CountLaws.{times-append, times-filter, times-keys, length-times, same_or_not, one-same}
+use Rattle.pv_walk.proofs.CountLaws.{times-filter, times-keys, length-times, same_or_not}
 use Rattle.pv_walk.proofs.BuildingLaws.{rest_same}
 use Rattle.pv_dress.specs.Nodes.{bare_of}
 use Rattle.pv_walk.specs.Making.{held_object}
 use Rattle.pv_walk.proofs.ListingLaws.{cond-one, cond-zero}
-use Rattle.pv_walk.proofs.RemovalLaws.{true_or_false, apart, no_same}
-use Rattle.pv_walk.proofs.PlanLaws.{Subtree, Fills, IsSubtree, each_below, around, pieces_below, below_fills}
+use Rattle.pv_walk.proofs.RemovalLaws.{apart, no_same}
+use Rattle.pv_walk.proofs.PlanLaws.{Subtree, IsSubtree, each_below, around, pieces_below, below_fills}
 
 -- ---- costs
 
@@ -130,7 +131,7 @@ module _ (subtree : Subtree) (source : Path) (t : Files) (stands : (q : Path) �
   -- pieces that make the subtree cost no more than seven steps for each object of it
   pub cost_bound : (pieces : List Piece) → IsPlan pieces → made_of pieces ≡ subtree → IsPriced pieces → cost_of pieces ≤ most_staged * copied_count subtree source t
   cost_bound pieces plan whole price =
-      let few = length-times (made_places pieces) (filter (λ rest. is_some (subtree rest)) (filter_map (rest_under source) (fin.keys t))) (λ q. once q (true_or_false (is_some (subtree q)))) in
+      let few = length-times (made_places pieces) (filter (λ rest. is_some (subtree rest)) (filter_map (rest_under source) (fin.keys t))) (λ q. once q (cases_Bool (is_some (subtree q)))) in
       omega (arith, price, few)
     where
       once : (q : Path) → (is_some (subtree q) ≡ true) ⊎ (is_some (subtree q) ≡ false) → times q (made_places pieces) ≤ times q (filter (λ rest. is_some (subtree rest)) (filter_map (rest_under source) (fin.keys t)))

@@ -1,15 +1,16 @@
 -- Laws of copies: pieces of work that are done one after the other, and the copy that comes to its path.
-use Rattle.std.specs.Prelude.{◌≡◌, ◌≢◌, ℕ, ◌+◌, ◌-◌, ◌*◌, ◌≤◌, Bool, true, false, cond, List, [], ◌∷◌, ◌++◌, length, filter, filter_map, Option, Some, None, is_some, option_map, Result, Ok}
-use Rattle.std.proofs.Common.{refl, sym, ap, subst, ◌∙◌, inl, inr, ◌⊎◌, arith, append_assoc}
+use Rattle.std.specs.Prelude.{◌≡◌, ◌≢◌, ℕ, ◌+◌, ◌-◌, ◌*◌, ◌≤◌, Bool, true, false, cond, List, [], ◌∷◌, ◌++◌, filter, filter_map, Option, Some, None, is_some, option_map, Result, Ok}
+use Rattle.std.proofs.Common.{refl, sym, ap, subst, ◌∙◌, inl, inr, ◌⊎◌, arith}
 use Rattle.std.proofs.lemmas.List.{append-nil}
 use Rattle.std.specs.FinMap as fin
+use Rattle.std.proofs.lemmas.Bool.{cases_Bool}
 use Rattle.pv_dress.specs.declared.bare.Bare.{Bare}
 use Rattle.pv_dress.specs.declared.bare.Dress.{Dress}
 use Rattle.pv_dress.specs.Dressing.{Dressing, GivesDress}
 use Rattle.pv_dress.specs.Edits.{SameOutside, count_at}
 use Rattle.pv_dress.proofs.DressLaws.{outside_dressing}
 use Rattle.pv_dress.proofs.EditLaws.{bares-touched, staging_outside}
-use Rattle.pv_path.specs.Paths.{Path, is_prefix, same_path, parent_of, rest_under, has_staging, staging_of}
+use Rattle.pv_path.specs.Paths.{Path, is_prefix, same_path, parent_of, rest_under, staging_of}
 use Rattle.pv_path.proofs.PathLaws.{is_prefix-append, is_prefix-trans, is_prefix-refl, rest_under-Some, prefix_rest, is_some-rest_under, parent_of-staging_of, has_staging-staging_of}
 use Rattle.pv_steps.specs.declared.node.Kind.TheVariants.{Directory}
 use Rattle.pv_steps.specs.declared.object.Object.{Object}
@@ -26,9 +27,9 @@ use Rattle.pv_steps.proofs.StepLaws.{is_some-touched}
 use Rattle.pv_walk.specs.declared.listing.Piece.{Piece}
 use Rattle.pv_walk.specs.declared.listing.Piece.TheVariants.{Make, Wear}
 use Rattle.pv_walk.specs.declared.new_file.NewFile.{NewFile}
-use Rattle.pv_walk.specs.Copying.{copied_count, object_of, standing, with_subtree, CopyingOver, GivesPart, IsStagingOf, IsCopyStep}
+use Rattle.pv_walk.specs.Copying.{copied_count, object_of, standing, with_subtree, CopyingOver, GivesPart, IsStagingOf, IsCopyStep, Subtree}
 use Rattle.pv_walk.specs.Listing.{times}
-use Rattle.pv_walk.specs.Pieces.{file_of, CanDo, IsDone, GivesPiece, place_of, piece_cost, cost_of, after_piece, built, IsDoable, AreDoable, made_of, IsPlan}
+use Rattle.pv_walk.specs.Pieces.{CanDo, IsDone, GivesPiece, place_of, piece_cost, cost_of, after_piece, built, IsDoable, AreDoable, made_of, IsPlan}
 use Rattle.pv_walk.specs.Putting.{IsMakingWay}
 use Rattle.pv_walk.specs.Removal.{Publishing}
 use Rattle.pv_walk.specs.Staging.{IsNewFile, IsPublishing, GivesNew, most_staged, most_new}
@@ -37,9 +38,9 @@ use Rattle.pv_walk.proofs.CountLaws.{times-filter, times-keys, length-times, sam
 use Rattle.pv_walk.proofs.CopyListing.{rests_of, cost-push}
 use Rattle.pv_walk.proofs.ListingLaws.{cond-one, cond-zero}
 use Rattle.pv_walk.proofs.PlanLaws.{built-append, doable-last}
-use Rattle.pv_walk.proofs.PublishLaws.{stage_outside, staged_outside}
+use Rattle.pv_walk.proofs.PublishLaws.{staged_outside}
 use Rattle.pv_walk.proofs.PuttingLaws.{none_under}
-use Rattle.pv_walk.proofs.RemovalLaws.{true_or_false, apart, no_same}
+use Rattle.pv_walk.proofs.RemovalLaws.{apart, no_same}
 
 -- some pieces of a list are done, and these are left
 pub record Doing (now : ℕ) (stage : Path) (t : Files) (all left : List Piece) (u : Files) : Type 0 where
@@ -58,7 +59,7 @@ module _ (now : ℕ) (stage : Path) (nonempty : stage ≢ []) (t : Files) (paren
 
   -- nor does it while a piece is done
   pub doing_way : (left : List Piece) (u : Files) → Doing now stage t all left u → (rest : Path) (w : Files) → SameOutside (is_prefix (stage ++ rest)) u w → SameOutside (is_prefix stage) t w
-  doing_way left u e rest w h q out = h q (elim (true_or_false (is_prefix (stage ++ rest) q)) [
+  doing_way left u e rest w h q out = h q (elim (cases_Bool (is_prefix (stage ++ rest) q)) [
     | inl p ↦ absurd (apart (is_prefix stage q) (is_prefix-trans stage (stage ++ rest) q (is_prefix-append stage rest) p) out)
     | inr d ↦ d
   ]) ∙ doing_outside left u e q out
@@ -127,6 +128,23 @@ next_done tree moves now stage nonempty all left front p is a b c parent doing r
 
 -- ---- the copy comes to its path
 
+-- ---- stamps aside
+
+-- a subtree stands the same, whatever the moment at which it was put
+module _ (path : Path) (s : Subtree) (t : Places) where
+  bare_standing : (now later : ℕ) (old : Option Object) (o : Option Path) → option_map bare (standing now s old o) ≡ option_map bare (standing later s old o)
+  bare_standing now later old None = refl
+  bare_standing now later old (Some rest) = by (s rest)
+    where
+      by : (v : Option Bare) → option_map bare (option_map (object_of now) v) ≡ option_map bare (option_map (object_of later) v)
+      by None = refl
+      by (Some b) = refl
+
+  pub bares_with : (now later : ℕ) (q : Path) → bares (with_subtree now path s t) q ≡ bares (with_subtree later path s t) q
+  bares_with now later q =
+      bares-touched now path (λ q. standing now s (t q) (rest_under path q)) q ∙ bare_standing now later (t q) (rest_under path q)
+      ∙ sym (bares-touched later path (λ q. standing later s (t q) (rest_under path q)) q)
+
 module _ (now : ℕ) (path : Path) (nonempty : path ≢ []) (s : Path → Option Bare) (t : Files) (parent : IsKindIn Directory (places t) (parent_of path)) (tree : IsTree t) (free : IsAbsentIn (places t) (staging_of path))
     (stage_nonempty : staging_of path ≢ []) (stage_parent : IsKindIn Directory (places t) (parent_of (staging_of path))) where
   abbrev staged : Places
@@ -185,7 +203,7 @@ module _ (now : ℕ) (path : Path) (nonempty : path ≢ []) (s : Path → Option
           by None e =
               let outside : is_prefix path q ≡ false = sym (is_some-rest_under path q) ∙ ap is_some e in
               ap (moved_at now (staging_of path) path (with_subtree now (staging_of path) s (places t)) q) e
-              ∙ outside_is q outside (true_or_false (is_prefix (staging_of path) q)) ∙ sym (with_outside now path nonempty t parent s q outside)
+              ∙ outside_is q outside (cases_Bool (is_prefix (staging_of path) q)) ∙ sym (with_outside now path nonempty t parent s q outside)
 
   pub copy_staged : is_some (s []) ≡ true → is_some (with_subtree now (staging_of path) s (places t) (staging_of path)) ≡ true
   copy_staged top =
@@ -199,10 +217,10 @@ module _ (now : ℕ) (path : Path) (nonempty : path ≢ []) (s : Path → Option
   -- no more has to make way than stood at and below the path before
   pub copy_count : (u : Files) → places u ≡ with_subtree now (staging_of path) s (places t) → count_at u path ≤ count_at t path
   copy_count u is = length-times (filter (is_prefix path) (fin.keys u)) (filter (is_prefix path) (fin.keys t))
-      (λ q. omega (arith, times-filter (is_prefix path) q (fin.keys u), times-filter (is_prefix path) q (fin.keys t), same q (true_or_false (is_prefix path q))))
+      (λ q. omega (arith, times-filter (is_prefix path) q (fin.keys u), times-filter (is_prefix path) q (fin.keys t), same q (cases_Bool (is_prefix path q))))
     where
       out : (q : Path) → is_prefix path q ≡ true → is_prefix (staging_of path) q ≡ false
-      out q h = elim (true_or_false (is_prefix (staging_of path) q)) [
+      out q h = elim (cases_Bool (is_prefix (staging_of path) q)) [
         | inl e ↦ absurd (stage_apart q h e)
         | inr e ↦ e
       ]
@@ -224,19 +242,6 @@ module _ (now : ℕ) (path : Path) (nonempty : path ≢ []) (s : Path → Option
 
   -- ---- on the way
 
-  bare_standing : (now later : ℕ) (old : Option Object) (o : Option Path) → option_map bare (standing now s old o) ≡ option_map bare (standing later s old o)
-  bare_standing now later old None = refl
-  bare_standing now later old (Some rest) = by (s rest)
-    where
-      by : (v : Option Bare) → option_map bare (option_map (object_of now) v) ≡ option_map bare (option_map (object_of later) v)
-      by None = refl
-      by (Some b) = refl
-
-  bares_with : (later : ℕ) (q : Path) → bares (with_subtree now path s (places t)) q ≡ bares (with_subtree later path s (places t)) q
-  bares_with later q =
-      bares-touched now path (λ q. standing now s (places t q) (rest_under path q)) q ∙ bare_standing now later (places t q) (rest_under path q)
-      ∙ sym (bares-touched later path (λ q. standing later s (places t q) (rest_under path q)) q)
-
   -- while the copy is made under its staging name
   pub copy_before : (u : Files) → SameOutside (is_prefix (staging_of path)) t u → CopyingOver path s t u
   copy_before u h = inl (λ q plain. IsMakingWay.kept (h q (staging_outside (staging_of path) (has_staging-staging_of path nonempty) q plain)))
@@ -245,14 +250,14 @@ module _ (now : ℕ) (path : Path) (nonempty : path ≢ []) (s : Path → Option
   pub copy_published : (u : Files) → places u ≡ with_subtree now (staging_of path) s (places t) → SameOutside (is_prefix (staging_of path)) t u → (w : Files) → Publishing now path u w → CopyingOver path s t w
   copy_published u is before w (inl p) = inl (λ q plain.
       (let kept : bares (places u) q ≡ bares (places t) q = before q (staging_outside (staging_of path) (has_staging-staging_of path nonempty) q plain) in
-      elim (true_or_false (is_prefix path q)) [
+      elim (cases_Bool (is_prefix path q)) [
         | inl e ↦ elim (p.within q e) [
           | inl gone ↦ IsMakingWay.gone e (ap (option_map bare) gone)
           | inr same ↦ IsMakingWay.kept (same ∙ kept)
         ]
         | inr e ↦ IsMakingWay.kept (p.outside q e ∙ kept)
       ]))
-  copy_published u is before w (inr e) = inr (λ q plain. e q ∙ ap (λ (x : Places). bares x q) (ap (moved now (staging_of path) path) is ∙ copy_moved) ∙ bares_with 0 q)
+  copy_published u is before w (inr e) = inr (λ q plain. e q ∙ ap (λ (x : Places). bares x q) (ap (moved now (staging_of path) path) is ∙ copy_moved) ∙ bares_with path s (places t) now 0 q)
 
 -- a piece that gives an object what it is to wear
 pub worn_acted : {S A : Type 0} (tree : Ghosts S) (stage rest : Path) (new : Dress) (piece : Piece) (p : Path) {now : ℕ} {a b : S} {r : Result A TreeFault} → piece ≡ Wear rest new → p ≡ stage ++ rest

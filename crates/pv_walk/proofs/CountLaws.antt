@@ -88,7 +88,7 @@ none_below x (e ∷ es) h =
 tied : (o : Ordering) → is_eq o ≡ true → o ≡ Equal
 tied o e = elim o as (λ v. is_eq v ≡ true → v ≡ Equal) [ Equal ↦ λ _. refl | _ ↦ λ h. cc ] e
 
-tied-same : (q p : Path) → eq_by_cmp path_cmp q p ≡ same_path p q
+pub tied-same : (q p : Path) → eq_by_cmp path_cmp q p ≡ same_path p q
 tied-same q p =
     elim (same_path p q) as (λ s. same_path p q ≡ s → eq_by_cmp path_cmp q p ≡ s) [
       | true ↦ λ e. ap (λ v. is_eq (path_cmp q v)) (one-same p q e) ∙ ap is_eq (path_cmp-refl q)

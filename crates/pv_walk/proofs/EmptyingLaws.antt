@@ -1,6 +1,7 @@
 -- Laws of what is left after all below a path, or at and below it, has been taken away.
 use Rattle.std.specs.Prelude.{◌≡◌, ℕ, ◌≤◌, Bool, true, false, cond, not, ◌&&◌, List, [], ◌∷◌, ◌++◌, map, Option, Some, None, is_some, option_map}
 use Rattle.std.proofs.Common.{refl, sym, ap, subst, ◌∙◌, arith, inl, inr}
+use Rattle.std.proofs.lemmas.Bool.{not-true, cases_Bool, and_parts, and_from}
 use Rattle.pv_path.specs.Paths.{Path, same_path, is_prefix, parent_of}
 use Rattle.pv_path.proofs.PathLaws.{is_prefix-refl, parent_of-push}
 use Rattle.pv_steps.specs.declared.node.Kind.TheVariants.{Directory}
@@ -13,7 +14,7 @@ use Rattle.pv_dress.specs.Edits.{cut, cut_below, taken, emptied}
 use Rattle.pv_walk.specs.Removal.{is_below}
 use Rattle.pv_walk.specs.Listing.{times, is_child, children_of, stands_below, IsListing}
 use Rattle.pv_walk.proofs.CountLaws.{times-self, times-children, same_or_not, is_child-push}
-use Rattle.pv_walk.proofs.RemovalLaws.{cond-true, true_or_false, apart, both, both_true, no_same, none_of, below_nonempty, is_below-append, child_above, is_below-parent_of, IsKept, all_gone, all_gone-gone, all_gone-same, all_gone-touched}
+use Rattle.pv_walk.proofs.RemovalLaws.{cond-true, apart, no_same, none_of, below_nonempty, is_below-append, child_above, is_below-parent_of, IsKept, all_gone, all_gone-gone, all_gone-same, all_gone-touched}
 use Rattle.pv_walk.proofs.ListingLaws.{cond-one, cond-zero, child_counts}
 
 module _ (now : ℕ) (files : Files) (path : Path) where
@@ -24,7 +25,7 @@ module _ (now : ℕ) (files : Files) (path : Path) where
   emptied-some n ns e = rw e
 
   no_child : names_below files path ≡ [] → (q : Path) → is_child path q ≡ true → is_some (places files q) ≡ false
-  no_child e q c = elim (true_or_false (is_some (places files q))) [
+  no_child e q c = elim (cases_Bool (is_some (places files q))) [
     | inl s ↦
         let counts = child_counts files path path q c s in
         let none : times q (children_of files path) ≡ 0 = ap (λ ns. times q (map (λ n. path ++ n ∷ []) ns)) e in
@@ -37,12 +38,12 @@ module _ (now : ℕ) (files : Files) (path : Path) where
       let here : times (path ++ n ∷ []) (children_of files path) ≡ times (path ++ n ∷ []) ((path ++ n ∷ []) ∷ map (λ m. path ++ m ∷ []) ns) = ap (λ ms. times (path ++ n ∷ []) (map (λ m. path ++ m ∷ []) ms)) e in
       let some : 1 ≤ cond (is_child path (path ++ n ∷ []) && is_some (places files (path ++ n ∷ []))) 1 0 =
       omega (arith, here, times-self (path ++ n ∷ []) (map (λ m. path ++ m ∷ []) ns), times-children files path (path ++ n ∷ [])) in
-      (both (is_child path (path ++ n ∷ [])) (is_some (places files (path ++ n ∷ []))) (cond-true _ some)).1
+      (and_parts (is_child path (path ++ n ∷ [])) (is_some (places files (path ++ n ∷ []))) (cond-true _ some)).1
 
   module _ (tree : IsTree files) where
     -- where the path has no children, nothing is below it
     pub nothing_below : names_below files path ≡ [] → (q : Path) → is_below path q ≡ true → places files q ≡ None
-    nothing_below e q h = elim (true_or_false (is_some (places files q))) [
+    nothing_below e q h = elim (cases_Bool (is_some (places files q))) [
       | inl s ↦
           let child = child_above (places files) tree path q h s in
           absurd (apart (is_some (places files (path ++ child.0 ∷ []))) child.1 (no_child e (path ++ child.0 ∷ []) (is_child-push path child.0)))
@@ -83,31 +84,31 @@ module _ (now : ℕ) (files : Files) (path : Path) where
       none_listed e [] is = refl
       none_listed e (p ∷ ps) is =
           let some : 1 ≤ times p listed = subst (λ ls. 1 ≤ times p ls) (sym is) (omega (arith, times-self p ps)) in
-          let parts = both (is_below path p) (is_some (places files p)) (cond-true (stands_below files path p) (omega (arith, l.once p))) in
+          let parts = and_parts (is_below path p) (is_some (places files p)) (cond-true (stands_below files path p) (omega (arith, l.once p))) in
           absurd (apart (is_some (places files p)) parts.1 (ap is_some (nothing_below e p parts.0)))
 
       -- no listed path lies directly in what is not the path and does not stand below it
       no_parent : (q : Path) → same_path path q ≡ false → stands_below files path q ≡ false → (r : Path) → 1 ≤ times r listed → same_path (parent_of r) q ≡ false
       no_parent q d h r g = no_same (parent_of r) q (λ e.
-          let parts = both (is_below path r) (is_some (places files r)) (cond-true (stands_below files path r) (omega (arith, l.once r))) in
+          let parts = and_parts (is_below path r) (is_some (places files r)) (cond-true (stands_below files path r) (omega (arith, l.once r))) in
           let apart_of : same_path path (parent_of r) ≡ false = ap (same_path path) e ∙ d in
           let below : is_below path q ≡ true = subst (λ s. is_below path s ≡ true) e (is_below-parent_of path r parts.0 apart_of) in
           let present : is_some (places files q) ≡ true = subst (IsPresent files) e (present_of_kind (places files) (parent_of r) Directory (tree.parents r parts.1 (below_nonempty path r parts.0))) in
-          apart (stands_below files path q) (both_true (is_below path q) (is_some (places files q)) below present) h)
+          apart (stands_below files path q) (and_from (is_below path q) (is_some (places files q)) below present) h)
 
       some_listed : (n : List ℕ) (ns : List (List ℕ)) → names_below files path ≡ n ∷ ns → (q : Path) → all_gone now listed (places files) q ≡ on_at path (modified now) (cut_below path (places files)) q
-      some_listed n ns e q = elim (true_or_false (stands_below files path q)) [
+      some_listed n ns e q = elim (cases_Bool (stands_below files path q)) [
         | inl s ↦
-            let parts = both (is_below path q) (is_some (places files q)) s in
-            let two = both (is_prefix path q) (not (same_path path q)) parts.0 in
-            let other : same_path path q ≡ false = negated (same_path path q) two.1 in
+            let parts = and_parts (is_below path q) (is_some (places files q)) s in
+            let two = and_parts (is_prefix path q) (not (same_path path q)) parts.0 in
+            let other : same_path path q ≡ false = not-true (same_path path q) two.1 in
             all_gone-gone now (places files) q listed (omega (arith, l.once q, cond-one (stands_below files path q) s))
             ∙ sym (ap (λ b. cond b (option_map (modified now) (cut_below path (places files) q)) (cut_below path (places files) q)) other ∙ cut_below-at q other ∙ ap (λ b. cond b None (places files q)) two.0)
         | inr d ↦
             let zero_times : times q listed ≡ 0 = omega (arith, l.once q, cond-zero (stands_below files path q) d) in
             elim (same_or_not path q) [
               | inl s ↦
-                  let child : stands_below files path (path ++ n ∷ []) ≡ true = both_true (is_below path (path ++ n ∷ [])) (is_some (places files (path ++ n ∷ []))) (is_below-append path n []) (first_child n ns e) in
+                  let child : stands_below files path (path ++ n ∷ []) ≡ true = and_from (is_below path (path ++ n ∷ [])) (is_some (places files (path ++ n ∷ []))) (is_below-append path n []) (first_child n ns e) in
                   all_gone-touched now (places files) q listed zero_times (path ++ n ∷ []) (omega (arith, l.once (path ++ n ∷ []), cond-one (stands_below files path (path ++ n ∷ [])) child)) (parent_of-push path n ∙ s.0)
                   ∙ sym (ap (λ b. cond b (option_map (modified now) (cut_below path (places files) q)) (cut_below path (places files) q)) s.1 ∙ ap (option_map (modified now)) (cut_below-here q s.1))
               | inr other ↦
@@ -117,10 +118,6 @@ module _ (now : ℕ) (files : Files) (path : Path) where
             ]
       ]
         where
-          negated : (b : Bool) → not b ≡ true → b ≡ false
-          negated true h = absurd (let no : false ≡ true = h in cc)
-          negated false h = refl
-
           absent_below : (r : Path) → is_below path r ≡ true → stands_below files path r ≡ false → is_some (places files r) ≡ false
           absent_below r h d = sym (ap (λ b. b && is_some (places files r)) h) ∙ d
 
@@ -138,7 +135,7 @@ module _ (now : ℕ) (files : Files) (path : Path) where
       where
         other : same_path path q ≡ false
         other = elim (same_or_not path q) [
-          | inl s ↦ absurd (let no : not (same_path path q) ≡ true = (both (is_prefix path q) (not (same_path path q)) h).1 in let off : false ≡ true = sym (ap not s.1) ∙ no in cc)
+          | inl s ↦ absurd (let no : not (same_path path q) ≡ true = (and_parts (is_prefix path q) (not (same_path path q)) h).1 in let off : false ≡ true = sym (ap not s.1) ∙ no in cc)
           | inr d ↦ d
         ]
 

@@ -18,3 +18,4 @@ pub mod BuildingLaws
 pub mod CopiedLaws
 pub mod CopyListing
 pub mod CopyingLaws
+pub mod PreparedLaws

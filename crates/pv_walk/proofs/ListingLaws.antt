@@ -2,6 +2,7 @@
 use Rattle.std.specs.Prelude.{◌≡◌, ℕ, ◌+◌, ◌≤◌, ◌<◌, Bool, true, false, cond, ◌&&◌, List, [], ◌∷◌, ◌++◌, length, filter, is_some}
 use Rattle.std.proofs.Common.{refl, sym, ap, subst, ◌∙◌, arith, inl, inr, ◌⊎◌, length-append, zero, suc}
 use Rattle.std.specs.FinMap as fin
+use Rattle.std.proofs.lemmas.Bool.{cases_Bool, and_parts, and_from}
 use Rattle.pv_path.specs.Paths.{Path, same_path, parent_of}
 use Rattle.pv_path.proofs.PathLaws.{same_path-refl, parent_parts, length-parent_of}
 use Rattle.pv_steps.specs.declared.node.Kind.TheVariants.{Directory}
@@ -11,7 +12,7 @@ use Rattle.pv_walk.specs.Removal.{is_below, count_below}
 use Rattle.pv_walk.specs.Listing.{stands_below, ParentsFirst, IsListing}
 use Rattle.pv_walk.specs.Listing.{times, is_child, children_of}
 use Rattle.pv_walk.proofs.CountLaws.{times-append, times-push, times-filter, times-keys, times-children, length-times, same_or_not, is_child-push}
-use Rattle.pv_walk.proofs.RemovalLaws.{zero_or_more, not_below_itself, below_parts, cond-true, true_or_false, apart, both, both_true, below_nonempty, is_below-child, is_below-below, parent_of-child, is_below-parent_of}
+use Rattle.pv_walk.proofs.RemovalLaws.{zero_or_more, not_below_itself, below_parts, cond-true, apart, below_nonempty, is_below-child, is_below-below, parent_of-child, is_below-parent_of}
 
 -- what has been listed, and the work that is left: the children of what was listed
 pub record Listing (files : Files) (path : Path) (listed work : List Path) : Type 0 where
@@ -34,25 +35,25 @@ cond-zero b e = ap (λ c. cond c 1 0) e
 module _ (files : Files) (path : Path) where
   child_stands : (p q : Path) → (p ≡ path) ⊎ (is_below path p ≡ true) → (is_child p q && is_some (places files q)) ≡ true → stands_below files path q ≡ true
   child_stands p q where_p h =
-      let parts = both (is_child p q) (is_some (places files q)) h in
+      let parts = and_parts (is_child p q) (is_some (places files q)) h in
       let under = is_below-child p q parts.0 in
-      both_true (is_below path q) (is_some (places files q))
+      and_from (is_below path q) (is_some (places files q))
       (elim where_p [ inl e ↦ subst (λ s. is_below s q ≡ true) e under | inr b ↦ is_below-below path p q b under ])
       parts.1
 
   children_within : (p q : Path) → (p ≡ path) ⊎ (is_below path p ≡ true) → times q (children_of files p) ≤ cond (stands_below files path q) 1 0
   children_within p q where_p =
       let is = times-children files p q in
-      elim (true_or_false (is_child p q && is_some (places files q))) [
+      elim (cases_Bool (is_child p q && is_some (places files q))) [
         | inl e ↦ omega (arith, is, cond-one (is_child p q && is_some (places files q)) e, cond-one (stands_below files path q) (child_stands p q where_p e))
         | inr d ↦ omega (arith, is, cond-zero (is_child p q && is_some (places files q)) d)
       ]
 
   a_child : (p q : Path) → 1 ≤ times q (children_of files p) → is_child p q ≡ true
-  a_child p q h = (both (is_child p q) (is_some (places files q)) (cond-true (is_child p q && is_some (places files q)) (subst (λ n. 1 ≤ n) (times-children files p q) h))).0
+  a_child p q h = (and_parts (is_child p q) (is_some (places files q)) (cond-true (is_child p q && is_some (places files q)) (subst (λ n. 1 ≤ n) (times-children files p q) h))).0
 
   pub child_counts : (p q : Path) → is_child p q ≡ true → IsPresent files q → times q (children_of files p) ≡ 1
-  child_counts p q c present = times-children files p q ∙ cond-one (is_child p q && is_some (places files q)) (both_true (is_child p q) (is_some (places files q)) c present)
+  child_counts p q c present = times-children files p q ∙ cond-one (is_child p q && is_some (places files q)) (and_from (is_child p q) (is_some (places files q)) c present)
 
   -- in the beginning the children of the path are the work
   pub listing_start : Listing files path [] (children_of files path)
@@ -73,7 +74,7 @@ module _ (files : Files) (path : Path) where
       let one : ◌≡◌ {A = ℕ} (cond (same_path p p) 1 0) 1 = ap (λ b. cond b 1 0) (same_path-refl p) in
       let counts = times-push p work p in
       let stands : stands_below files path p ≡ true = cond-true (stands_below files path p) (omega (arith, l.members p, counts, one)) in
-      let below : is_below path p ≡ true = (both (is_below path p) (is_some (places files p)) stands).0 in
+      let below : is_below path p ≡ true = (and_parts (is_below path p) (is_some (places files p)) stands).0 in
       let new : times p listed ≡ 0 = omega (arith, l.members p, counts, one, cond-le (stands_below files path p)) in
       let fresh : (q : Path) → 1 ≤ times q (children_of files p) → times q listed + times q (work ++ p ∷ []) ≡ 0 =
       λ q c. elim (zero_or_more (times q listed + times q (work ++ p ∷ []))) [
@@ -135,9 +136,9 @@ module _ (files : Files) (path : Path) where
     -- when no work is left, all is listed
     pub listing_end : IsListing files path listed
     listing_end = record {
-      once = λ q. elim (true_or_false (stands_below files path q)) [
+      once = λ q. elim (cases_Bool (stands_below files path q)) [
         | inl e ↦
-            let parts = both (is_below path q) (is_some (places files q)) e in
+            let parts = and_parts (is_below path q) (is_some (places files q)) e in
             let some = complete (length q) q (omega arith) parts.0 parts.1 in
             omega (arith, some, l.members q, cond-one (stands_below files path q) e)
         | inr d ↦ omega (arith, l.members q, cond-zero (stands_below files path q) d)

@@ -1,5 +1,5 @@
 -- Laws of lists of pieces of work: what they make, and which of them make a whole subtree.
-use Rattle.std.specs.Prelude.{◌≡◌, ◌≢◌, ℕ, ◌+◌, ◌<◌, Bool, true, false, cond, ◌||◌, ◌&&◌, List, [], ◌∷◌, ◌++◌, length, Option, Some, None, is_some, option_map}
+use Rattle.std.specs.Prelude.{◌≡◌, ℕ, ◌<◌, Bool, true, false, cond, ◌||◌, ◌&&◌, List, [], ◌∷◌, ◌++◌, length, Option, Some, None, is_some, option_map}
 use Rattle.std.proofs.Common.{zero, suc, refl, sym, ap, subst, ◌∙◌, inl, inr, ◌⊎◌, arith, append_assoc, length-append}
 use Rattle.std.proofs.lemmas.List.{append-nil}
 use Rattle.std.specs.List.{list_any, AllByRecursion, IsDistinct}
@@ -8,17 +8,18 @@ use Rattle.std.specs.Ordering.{eq_by_cmp, is_eq, nat_cmp}
 use Rattle.std.specs.Cmp.Lexicographic.{slice_cmp}
 use Rattle.std.specs.declared.cmp.Ordering.{Ordering}
 use Rattle.std.specs.declared.cmp.Ordering.TheVariants.{Less, Equal, Greater}
+use Rattle.std.proofs.lemmas.Bool.{or_right, cases_Bool}
 use Rattle.pv_dress.specs.declared.bare.Bare.{Bare}
 use Rattle.pv_dress.proofs.EditLaws.{path_cases}
 use Rattle.pv_path.specs.Names.{same_bytes}
-use Rattle.pv_path.specs.Paths.{Path, is_prefix, same_path, parent_of}
+use Rattle.pv_path.specs.Paths.{Path, is_prefix, same_path}
 use Rattle.pv_path.proofs.PathLaws.{same_bytes-refl, same_bytes-decides, same_path-refl, name_cmp-refl, name_cmp-exact, parent_of-push, is_prefix-append, is_prefix-refl, is_prefix-trans, prefix_parts}
 use Rattle.pv_steps.specs.declared.node.Kind.{Kind}
 use Rattle.pv_steps.specs.declared.node.Kind.TheVariants.{Directory}
 use Rattle.pv_walk.specs.declared.listing.Piece.{Piece}
 use Rattle.pv_walk.specs.declared.listing.Piece.TheVariants.{Make, Wear}
 use Rattle.pv_walk.specs.Pieces.{file_of, plain, after_piece, built, HasPlace, IsWhole, IsDoable, AreDoable}
-use Rattle.pv_walk.proofs.RemovalLaws.{true_or_false, apart, both}
+use Rattle.pv_walk.proofs.RemovalLaws.{apart}
 
 abbrev pub Subtree : Type 0
 Subtree = Path → Option Bare
@@ -88,12 +89,8 @@ tied n m h = name_cmp-exact n m (equal (slice_cmp nat_cmp n m) h)
     equal Equal e = refl
     equal Greater e = cc
 
-or_right : (a b : Bool) → b ≡ true → (a || b) ≡ true
-or_right true b h = refl
-or_right false b h = h
-
 not_bytes : (n m : List ℕ) → (n ≡ m → ⊥) → same_bytes n m ≡ false
-not_bytes n m d = elim (true_or_false (same_bytes n m)) [ inl e ↦ absurd (d ((same_bytes-decides n m).0 e)) | inr e ↦ e ]
+not_bytes n m d = elim (cases_Bool (same_bytes n m)) [ inl e ↦ absurd (d ((same_bytes-decides n m).0 e)) | inr e ↦ e ]
 
 -- what lies below one child does not lie below another
 pub child_apart : (r : Path) (n m : List ℕ) (x : Path) → (n ≡ m → ⊥) → is_prefix (r ++ n ∷ []) (r ++ m ∷ x) ≡ false
@@ -112,7 +109,7 @@ no_child_root (a ∷ r) n = refl
 pub not_under_child : (r : Path) (ns : List (List ℕ)) (q : Path) → is_prefix r q ≡ false → is_under_child r ns q ≡ false
 not_under_child r [] q h = refl
 not_under_child r (n ∷ ns) q h =
-    let here : is_prefix (r ++ n ∷ []) q ≡ false = elim (true_or_false (is_prefix (r ++ n ∷ []) q)) [
+    let here : is_prefix (r ++ n ∷ []) q ≡ false = elim (cases_Bool (is_prefix (r ++ n ∷ []) q)) [
       | inl e ↦ absurd (apart (is_prefix r q) (is_prefix-trans r (r ++ n ∷ []) q (is_prefix-append r (n ∷ [])) e) h)
       | inr e ↦ e
     ] in
@@ -126,7 +123,7 @@ not_under_itself r (n ∷ ns) = ap (λ b. b || is_under_child r ns r) (no_child_
 pub under_child : (r : Path) (ns : List (List ℕ)) (n : List ℕ) (x : Path) → is_in n ns ≡ true → is_under_child r ns (r ++ n ∷ x) ≡ true
 under_child r [] n x h = let no : false ≡ true = h in cc
 under_child r (m ∷ ns) n x h =
-    elim (true_or_false (same_bytes n m)) [
+    elim (cases_Bool (same_bytes n m)) [
       | inl e ↦
           let same : n ≡ m = (same_bytes-decides n m).0 e in
           ap (λ b. b || is_under_child r ns (r ++ n ∷ x))
@@ -135,7 +132,7 @@ under_child r (m ∷ ns) n x h =
     ]
   where
     behind : same_bytes n m ≡ false → is_in n ns ≡ true
-    behind d = elim (true_or_false (eq_by_cmp (slice_cmp nat_cmp) n m)) [
+    behind d = elim (cases_Bool (eq_by_cmp (slice_cmp nat_cmp) n m)) [
       | inl e ↦ absurd (apart (same_bytes n m) ((same_bytes-decides n m).1 (tied n m e)) d)
       | inr e ↦ sym (ap (λ b. b || is_in n ns) e) ∙ h
     ]
@@ -201,7 +198,7 @@ module _ (subtree : Subtree) (names : Path → List (List ℕ)) (is : IsSubtree 
 
   -- so nothing has to be done there
   nothing_fills : (r : Path) (s : Subtree) → subtree r ≡ None → nothing_below s r → Fills subtree s [] (is_prefix r)
-  nothing_fills r s e empty = record { doable = tt; fills = λ i q. at q (true_or_false (is_prefix r q)) i }
+  nothing_fills r s e empty = record { doable = tt; fills = λ i q. at q (cases_Bool (is_prefix r q)) i }
     where
       at : (q : Path) → (is_prefix r q ≡ true) ⊎ (is_prefix r q ≡ false) → s q ≡ cond (is_prefix r q) (subtree q) (s q)
       at q (inl h) =
@@ -283,7 +280,7 @@ module _ (subtree : Subtree) (names : Path → List (List ℕ)) (is : IsSubtree 
 
           by : ((x : Path) × (q ≡ r ++ x)) → cond (is_under_child r ns q) (subtree q) (first q) ≡ subtree q
           by ([], e) = absurd (apart (same_path r q) (ap (same_path r) (e ∙ append-nil r) ∙ same_path-refl r) d)
-          by (n ∷ x, e) = at n x e (true_or_false (is_some (subtree q)))
+          by (n ∷ x, e) = at n x e (cases_Bool (is_some (subtree q)))
 
       at_all : (q : Path) → (r ≡ q) ⊎ (same_path r q ≡ false) → built pieces s q ≡ cond (is_prefix r q) (subtree q) (s q)
       at_all q (inl e) = subst (λ (p : Path). built pieces s p ≡ cond (is_prefix r p) (subtree p) (s p)) e
@@ -292,7 +289,7 @@ module _ (subtree : Subtree) (names : Path → List (List ℕ)) (is : IsSubtree 
           ∙ ap (λ c. cond c (subtree r) (s r)) (sym (is_prefix-refl r)))
       at_all q (inr d) =
           ap (λ c. cond c (option_map (λ (o : Bare). record o { dress = b.dress }) (built (inner ++ Make r (file_of b) ∷ []) s q)) (built (inner ++ Make r (file_of b) ∷ []) s q)) d
-          ∙ ap (λ (v : Subtree). v q) built_first ∙ below q d (true_or_false (is_prefix r q))
+          ∙ ap (λ (v : Subtree). v q) built_first ∙ below q d (cases_Bool (is_prefix r q))
 
       pub object_fills : Fills subtree s pieces (is_prefix r)
       object_fills = record {

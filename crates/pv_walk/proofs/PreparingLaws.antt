@@ -7,8 +7,9 @@ use Rattle.std.proofs.lemmas.List.Sums.{fold_more}
 use Rattle.std.proofs.lemmas.List.Folds.{list_all-append}
 use Rattle.std.proofs.lemmas.List.FromFn.{get_or-map-range_with_len, length-map-range_with_len}
 use Rattle.std.proofs.lemmas.List.Filters.{length-filter_more}
+use Rattle.std.proofs.lemmas.Bool.{and_parts}
 use Rattle.pv_path.specs.Paths.{Path, same_path, is_prefix, parent_of, has_staging, staging_of}
-use Rattle.pv_path.proofs.PathLaws.{both_true, is_prefix-append, length-parent_of, has_staging-append, has_staging-staging_of, length-prefix}
+use Rattle.pv_path.proofs.PathLaws.{is_prefix-append, length-parent_of, has_staging-append, has_staging-staging_of, length-prefix}
 use Rattle.pv_steps.specs.declared.node.Kind.TheVariants.{Directory}
 use Rattle.pv_steps.specs.declared.object.Object.{Object}
 use Rattle.pv_steps.specs.Objects.{bare, modified}
@@ -55,7 +56,7 @@ plain_take k path plain = by (has_staging (take k path)) (has_staging (drop k pa
 
 pub short_take : (k : ℕ) (path : Path) → can_stage path ≡ true → can_stage (take k path) ≡ true
 short_take k path short =
-    (both_true (can_stage (take k path)) (can_stage (drop k path)) (sym (list_all-append (λ name. nat_le (length name) 250) (take k path) (drop k path)) ∙ ap can_stage (take-append-drop k path) ∙ short)).0
+    (and_parts (can_stage (take k path)) (can_stage (drop k path)) (sym (list_all-append (λ name. nat_le (length name) 250) (take k path) (drop k path)) ∙ ap can_stage (take-append-drop k path) ∙ short)).0
 
 take_within : (i m : ℕ) (path : Path) → i ≤ m → take i (take m path) ≡ take i path
 take_within zero m path le = refl

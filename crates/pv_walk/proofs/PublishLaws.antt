@@ -1,6 +1,8 @@
 -- Laws of publishing: what is staged for a path comes to it in one step, after what stood there has made way.
 use Rattle.std.specs.Prelude.{◌≡◌, ◌≢◌, ℕ, ◌≤◌, Bool, true, false, cond, List, [], ◌∷◌, ◌++◌, length, Option, Some, None, is_some, option_map}
 use Rattle.std.proofs.Common.{refl, sym, ap, subst, ◌∙◌, arith, inl, inr, length-append}
+use Rattle.std.proofs.lemmas.Option.{same_Some}
+use Rattle.std.proofs.lemmas.Bool.{false_from_ne_true, cases_Bool}
 use Rattle.pv_path.specs.Names.{staging_name}
 use Rattle.pv_path.specs.Paths.{Path, same_path, is_prefix, rest_under, parent_of, last_name, staging_of}
 use Rattle.pv_path.proofs.PathLaws.{is_prefix-refl, is_prefix-append, prefix_whole, prefixes_compare, parent_parts, parent_of-staging_of, parent_of-differs, length-parent_of, length-staging_of, staging_of-push, last_name-push, rest_under-None, is_some-rest_under}
@@ -11,7 +13,7 @@ use Rattle.pv_steps.specs.Trees.{Files, Places, places, kind_of, IsPresentIn, Is
 use Rattle.pv_steps.specs.Steps.{touched, moved, moved_at, carried, Movable, Yields, absent, directories}
 use Rattle.pv_steps.specs.Same.{Differ}
 use Rattle.pv_dress.specs.Edits.{cut, taken, emptied}
-use Rattle.pv_walk.proofs.RemovalLaws.{IsKept, modified_kept, kept-kind, true_or_false, apart, no_same, is_below-append, not_below_itself}
+use Rattle.pv_walk.proofs.RemovalLaws.{IsKept, modified_kept, kept-kind, apart, no_same, is_below-append, not_below_itself}
 use Rattle.pv_walk.proofs.EmptyingLaws.{emptied-below, emptied-kept, emptied-outside, present-taken}
 
 -- ---- a path and its staging name
@@ -22,11 +24,8 @@ module _ (path : Path) (nonempty : path ≢ []) where
       let parts = parent_parts path nonempty in
       let stage : staging_of path ≡ parent_of path ++ staging_name parts.0 ∷ [] = ap staging_of parts.1 ∙ staging_of-push (parent_of path) parts.0 in
       let names : Some (staging_name parts.0) ≡ Some parts.0 = sym (last_name-push (parent_of path) (staging_name parts.0)) ∙ ap last_name (sym stage ∙ e ∙ parts.1) ∙ last_name-push (parent_of path) parts.0 in
-      shorter parts.0 (some_same (staging_name parts.0) parts.0 names)
+      shorter parts.0 (same_Some (staging_name parts.0) parts.0 names)
     where
-      some_same : (a b : List ℕ) → Some a ≡ Some b → a ≡ b
-      some_same a b e = cc
-
       shorter : (n : List ℕ) → staging_name n ≡ n → ⊥
       shorter n e = let l = ap length e in omega arith
 
@@ -37,20 +36,16 @@ module _ (path : Path) (nonempty : path ≢ []) where
       by [] h l = h refl
       by (n ∷ p) h l = omega (arith, length-staging_of (n ∷ p))
 
-  not_true : (b : Bool) → (b ≡ true → ⊥) → b ≡ false
-  not_true true h = absurd (h refl)
-  not_true false h = refl
-
   -- neither lies at or below the other
   pub stage_outside : is_prefix path (staging_of path) ≡ false
-  stage_outside = not_true (is_prefix path (staging_of path)) (λ e. staging_differs (sym (prefix_whole path (staging_of path) e (omega (arith, length-staging_of path)))))
+  stage_outside = false_from_ne_true (is_prefix path (staging_of path)) (λ e. staging_differs (sym (prefix_whole path (staging_of path) e (omega (arith, length-staging_of path)))))
 
   pub path_outside : is_prefix (staging_of path) path ≡ false
-  path_outside = not_true (is_prefix (staging_of path) path) (λ e. staging_differs (prefix_whole (staging_of path) path e (omega (arith, length-staging_of path))))
+  path_outside = false_from_ne_true (is_prefix (staging_of path) path) (λ e. staging_differs (prefix_whole (staging_of path) path e (omega (arith, length-staging_of path))))
 
   -- nor what lies below the staging name
   pub staged_outside : (rest : Path) → is_prefix path (staging_of path ++ rest) ≡ false
-  staged_outside rest = not_true (is_prefix path (staging_of path ++ rest)) (λ e. elim (prefixes_compare path (staging_of path) (staging_of path ++ rest) e (is_prefix-append (staging_of path) rest)) [
+  staged_outside rest = false_from_ne_true (is_prefix path (staging_of path ++ rest)) (λ e. elim (prefixes_compare path (staging_of path) (staging_of path ++ rest) e (is_prefix-append (staging_of path) rest)) [
     | inl h ↦ apart (is_prefix path (staging_of path)) h stage_outside
     | inr h ↦ apart (is_prefix (staging_of path) path) h path_outside
   ])
@@ -88,7 +83,7 @@ module _ (now : ℕ) (path : Path) where
   pub cleared-taken : (files : Files) → IsPresent files path → IsCleared now path (places files) (taken now path (places files))
   cleared-taken files present = record {
     same = λ q h d. at q ∙ touched_at (places files) q h false d;
-    kept = λ q h. elim (true_or_false (same_path (parent_of path) q)) [
+    kept = λ q h. elim (cases_Bool (same_path (parent_of path) q)) [
       | inl e ↦ inr (at q ∙ touched_at (places files) q h true e)
       | inr d ↦ inl (at q ∙ touched_at (places files) q h false d)
     ];
@@ -121,7 +116,7 @@ module _ (now : ℕ) (path : Path) where
     touched_same : (q : Path) → is_prefix path q ≡ false → touched now (staging_of path) (touched now path u) q ≡ touched now (staging_of path) (touched now path t) q
     touched_same q h =
         let up : same_path (parent_of (staging_of path)) q ≡ same_path (parent_of path) q = ap (λ p. same_path p q) (parent_of-staging_of path) in
-        elim (true_or_false (same_path (parent_of path) q)) [
+        elim (cases_Bool (same_path (parent_of path) q)) [
           | inl e ↦ both_touched u t q (up ∙ e) e (modified_kept now (t q) (u q) (clear.kept q h))
           | inr d ↦ none_touched u q (up ∙ d) d ∙ clear.same q h d ∙ sym (none_touched t q (up ∙ d) d)
         ]

@@ -3,6 +3,7 @@
 use Rattle.std.specs.Prelude.{◌≡◌, ◌≢◌, ℕ, ◌+◌, ◌≤◌, Bool, true, false, cond, [], ◌∷◌, filter, Option, Some, None, is_some, option_map, Result, Ok}
 use Rattle.std.proofs.Common.{refl, sym, ap, ◌∙◌, arith, inl, inr, ◌⊎◌}
 use Rattle.std.specs.FinMap as fin
+use Rattle.std.proofs.lemmas.Bool.{cases_Bool}
 use Rattle.pv_path.specs.Paths.{Path, same_path, is_prefix, parent_of, staging_of}
 use Rattle.pv_path.proofs.PathLaws.{is_prefix-refl, is_prefix-trans, parent_of-is_prefix, has_staging-staging_of}
 use Rattle.pv_steps.specs.declared.object.Object.{Object}
@@ -21,7 +22,7 @@ use Rattle.pv_walk.specs.Staging.{new_object, GivesNew, IsPublishing}
 use Rattle.pv_walk.specs.Removal.{Publishing}
 use Rattle.pv_walk.specs.Putting.{IsPutting, Putting, IsMakingWay, PuttingOver, IsPutStep, put_over}
 use Rattle.pv_walk.specs.Listing.{times}
-use Rattle.pv_walk.proofs.RemovalLaws.{true_or_false, apart, no_same}
+use Rattle.pv_walk.proofs.RemovalLaws.{apart, no_same}
 use Rattle.pv_walk.proofs.CountLaws.{times-filter, times-keys, length-times}
 use Rattle.pv_walk.proofs.PublishLaws.{IsCleared, moved_same, stage_outside}
 use Rattle.pv_walk.proofs.PuttingLaws.{moved-made, none_under, outside_stage}
@@ -40,7 +41,7 @@ module _ (path : Path) (nonempty : path ≢ []) (t : Places) where
 
   -- what stands there stood there
   cut-present : (q : Path) → IsPresentIn (cut path t) q → (is_prefix path q ≡ false) × (cut path t q ≡ t q)
-  cut-present q h = elim (true_or_false (is_prefix path q)) [
+  cut-present q h = elim (cases_Bool (is_prefix path q)) [
     | inl e ↦ absurd (let no : false ≡ true = sym (ap is_some (cut-inside q e)) ∙ h in cc)
     | inr e ↦ (e, cut-outside q e)
   ]
@@ -65,7 +66,7 @@ module _ (path : Path) (nonempty : path ≢ []) (t : Places) where
   }
     where
       above : (q : Path) → is_prefix path q ≡ false → is_prefix path (parent_of q) ≡ false
-      above q h = elim (true_or_false (is_prefix path (parent_of q))) [
+      above q h = elim (cases_Bool (is_prefix path (parent_of q))) [
         | inl e ↦ absurd (apart (is_prefix path q) (is_prefix-trans path (parent_of q) q e (parent_of-is_prefix q)) h)
         | inr e ↦ e
       ]
@@ -116,7 +117,7 @@ module _ (now : ℕ) (path : Path) (nonempty : path ≢ []) (file : NewFile) (t 
           (no_same (staging_of path) q (λ s. apart (is_prefix path q) e (ap (is_prefix path) (sym s) ∙ stage_outside path nonempty))))
 
       same : (q : Path) → cond (is_prefix path q) (times q (fin.keys u)) 0 ≤ cond (is_prefix path q) (times q (fin.keys t)) 0
-      same q = elim (true_or_false (is_prefix path q)) [
+      same q = elim (cases_Bool (is_prefix path q)) [
         | inl e ↦
             let count : times q (fin.keys u) ≡ times q (fin.keys t) = times-keys u q ∙ ap (λ b. cond b 1 0) (present q e) ∙ sym (times-keys t q) in
             omega (arith, ap (λ b. cond b (times q (fin.keys u)) 0) e, ap (λ b. cond b (times q (fin.keys t)) 0) e, count)
@@ -127,7 +128,7 @@ module _ (now : ℕ) (path : Path) (nonempty : path ≢ []) (file : NewFile) (t 
 
   -- while what stands there makes way, or the new object comes to its path
   pub over_published : IsTree t → IsAbsentIn (places t) (staging_of path) → (w : Files) → Publishing now path u w → PuttingOver path file t w
-  over_published tree free w (inl p) = inl (λ q plain. elim (true_or_false (is_prefix path q)) [
+  over_published tree free w (inl p) = inl (λ q plain. elim (cases_Bool (is_prefix path q)) [
     | inl e ↦ elim (p.within q e) [
       | inl gone ↦ IsMakingWay.gone e (ap (option_map bare) gone)
       | inr same ↦ IsMakingWay.kept (same ∙ outside_stage now path nonempty file t u is q plain)
@@ -171,7 +172,7 @@ module _ (path : Path) (t : Files) (tree : IsTree t) (none : IsAbsentIn (places 
   cut_absent = λ i q. at q i
     where
       at : (q : Path) → cut path (places t) q ≡ places t q
-      at q = elim (true_or_false (is_prefix path q)) [
+      at q = elim (cases_Bool (is_prefix path q)) [
         | inl e ↦ ap (λ b. cond b None (places t q)) e ∙ sym (none_under (places t) tree path q none e)
         | inr e ↦ ap (λ b. cond b None (places t q)) e
       ]
@@ -180,7 +181,7 @@ module _ (path : Path) (t : Files) (tree : IsTree t) (none : IsAbsentIn (places 
   count_absent = length-times (filter (is_prefix path) (fin.keys t)) [] (λ q. omega (arith, times-filter (is_prefix path) q (fin.keys t), fewer q))
     where
       fewer : (q : Path) → cond (is_prefix path q) (times q (fin.keys t)) 0 ≤ 0
-      fewer q = elim (true_or_false (is_prefix path q)) [
+      fewer q = elim (cases_Bool (is_prefix path q)) [
         | inl e ↦
             let count : times q (fin.keys t) ≡ 0 = times-keys t q ∙ ap (λ v. cond (is_some v) 1 0) (none_under (places t) tree path q none e) in
             omega (arith, ap (λ b. cond b (times q (fin.keys t)) 0) e, count)

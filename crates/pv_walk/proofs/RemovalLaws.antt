@@ -2,6 +2,7 @@
 use Rattle.std.specs.Prelude.{◌≡◌, ◌≢◌, ℕ, ◌+◌, ◌≤◌, Bool, true, false, cond, not, ◌&&◌, List, [], ◌∷◌, ◌++◌, Option, Some, None, is_some, option_map}
 use Rattle.std.proofs.Common.{refl, sym, ap, subst, ◌∙◌, arith, inl, inr, ◌⊎◌, append_assoc, zero, suc}
 use Rattle.std.proofs.lemmas.List.{append-nil}
+use Rattle.std.proofs.lemmas.Bool.{and_parts, and_from, not-true}
 use Rattle.pv_path.specs.Paths.{Path, same_path, is_prefix, parent_of, same_path-decides}
 use Rattle.pv_path.proofs.PathLaws.{same_path-refl, is_prefix-append, prefix_parts, is_prefix-parent_of, parent_of-push}
 use Rattle.pv_steps.specs.declared.object.Object.{Object}
@@ -23,19 +24,13 @@ pub cond-true : (b : Bool) → 1 ≤ cond b 1 0 → b ≡ true
 cond-true true h = refl
 cond-true false h = absurd (omega arith)
 
-pub true_or_false : (b : Bool) → (b ≡ true) ⊎ (b ≡ false)
-true_or_false true = inl refl
-true_or_false false = inr refl
-
 pub apart : (b : Bool) → b ≡ true → b ≡ false → ⊥
 apart b h e = cc
 
-pub both : (a b : Bool) → (a && b) ≡ true → (a ≡ true) × (b ≡ true)
-both true b h = (refl, h)
-both false b h = absurd (let no : false ≡ true = h in cc)
-
-pub both_true : (a b : Bool) → a ≡ true → b ≡ true → (a && b) ≡ true
-both_true a b h g = ap (λ x. x && b) h ∙ g
+-- what does not hold where something that follows from it does not
+pub unless : (a b : Bool) → (a ≡ true → b ≡ true) → b ≡ false → a ≡ false
+unless true b f h = sym (f refl) ∙ h
+unless false b f h = refl
 
 pub no_same : (p q : Path) → (p ≡ q → ⊥) → same_path p q ≡ false
 no_same p q h = elim (same_path p q) as (λ b. same_path p q ≡ b → b ≡ false) [ true ↦ λ e. absurd (h ((same_path-decides p q).0 e)) | false ↦ λ e. refl ] refl
@@ -48,7 +43,7 @@ none_of (Some x) h = cc
 
 pub below_parts : (path q : Path) → is_below path q ≡ true → (n : List ℕ) × (rest : Path) × (q ≡ path ++ n ∷ rest)
 below_parts path q h =
-    let parts = both (is_prefix path q) (not (same_path path q)) h in
+    let parts = and_parts (is_prefix path q) (not (same_path path q)) h in
     let found = prefix_parts path q parts.0 in
     by found.0 found.1 parts.1
   where
@@ -62,7 +57,7 @@ longer (m ∷ path) n rest e = longer path n rest (let tail : path ≡ path ++ n
 
 pub is_below-append : (path : Path) (n : List ℕ) (rest : Path) → is_below path (path ++ n ∷ rest) ≡ true
 is_below-append path n rest =
-    both_true (is_prefix path (path ++ n ∷ rest)) _ (is_prefix-append path (n ∷ rest)) (ap not (no_same path (path ++ n ∷ rest) (longer path n rest)))
+    and_from (is_prefix path (path ++ n ∷ rest)) _ (is_prefix-append path (n ∷ rest)) (ap not (no_same path (path ++ n ∷ rest) (longer path n rest)))
 
 pub is_below-child : (path q : Path) → is_child path q ≡ true → is_below path q ≡ true
 is_below-child path q h = let parts = child_parts path q h in subst (λ p. is_below path p ≡ true) (sym parts.1) (is_below-append path parts.0 [])
@@ -105,12 +100,8 @@ child_above t tree path q h present =
 -- its directory lies at the path or below it
 pub is_below-parent_of : (path q : Path) → is_below path q ≡ true → same_path path (parent_of q) ≡ false → is_below path (parent_of q) ≡ true
 is_below-parent_of path q h other =
-    let parts = both (is_prefix path q) (not (same_path path q)) h in
-    both_true (is_prefix path (parent_of q)) _ (is_prefix-parent_of path q parts.0 (λ e. apart (same_path path q) ((same_path-decides path q).1 e) (by (same_path path q) parts.1))) (ap not other)
-  where
-    by : (b : Bool) → not b ≡ true → b ≡ false
-    by true e = absurd (let no : false ≡ true = e in cc)
-    by false e = refl
+    let parts = and_parts (is_prefix path q) (not (same_path path q)) h in
+    and_from (is_prefix path (parent_of q)) _ (is_prefix-parent_of path q parts.0 (λ e. apart (same_path path q) ((same_path-decides path q).1 e) (not-true (same_path path q) parts.1))) (ap not other)
 
 -- ---- one object gone
 
@@ -165,7 +156,7 @@ pub kept-bare : (now : ℕ) (old new : Option Object) → IsKept now old new →
 kept-bare now old new (inl e) = ap (option_map bare) e
 kept-bare now old new (inr e) = ap (option_map bare) e ∙ elim old as (λ o. option_map bare (option_map (modified now) o) ≡ option_map bare o) [ None ↦ refl | Some x ↦ refl ]
 
-not_first : (p q : Path) (ps : List Path) → times q (p ∷ ps) ≡ 0 → (same_path p q ≡ false) × (times q ps ≡ 0)
+pub not_first : (p q : Path) (ps : List Path) → times q (p ∷ ps) ≡ 0 → (same_path p q ≡ false) × (times q ps ≡ 0)
 not_first p q ps h = by (same_path p q) refl
   where
     by : (b : Bool) → same_path p q ≡ b → (same_path p q ≡ false) × (times q ps ≡ 0)

@@ -1,11 +1,13 @@
 -- Runs of removals, one after another.
-use Rattle.std.specs.Prelude.{◌≡◌, ◌≢◌, ◌⊎◌, ◌↔◌, ℕ, ◌+◌, ◌≤◌, Bool, true, false, IsTrue, [], None, option_map, Result, Ok}
+use Rattle.std.specs.Prelude.{◌≡◌, ◌≢◌, ◌⊎◌, ◌↔◌, ℕ, ◌+◌, ◌≤◌, Bool, true, false, IsTrue, [], Option, Some, None, option_map, Result, Ok}
+use Rattle.std.specs.Option.{option_map_or}
 use Rattle.std.proofs.Common.{refl, sym, ap, subst, ◌∙◌, inl, inr, arith}
 use Rattle.pv_path.specs.Paths.{Path, is_prefix, same_path, parent_of, same_path-decides}
-use Rattle.pv_steps.specs.Objects.{bare, modified}
+use Rattle.pv_steps.specs.Objects.{bare, is_directory, modified}
 use Rattle.pv_path.proofs.PathLaws.{same_path-refl}
-use Rattle.pv_steps.specs.declared.node.Kind.TheVariants.{Directory}
-use Rattle.pv_steps.specs.Trees.{Files, Places, places, IsPresent, IsEmptyIn, IsKind}
+use Rattle.pv_steps.specs.declared.node.Kind.{Kind}
+use Rattle.pv_steps.specs.declared.node.Kind.TheVariants.{Directory, File, Link, Fifo, CharDevice, BlockDevice}
+use Rattle.pv_steps.specs.Trees.{Files, Places, places, kind_of, IsPresent, IsEmptyIn, IsKind}
 use Rattle.pv_steps.specs.Steps.{Can, after, after_at, gone}
 use Rattle.pv_steps.specs.Runs.{IsNotIdle}
 use Rattle.pv_steps.specs.Same.{Differ}
@@ -17,7 +19,7 @@ use Rattle.pv_steps.proofs.ActingLaws.{Moves, Asks, acted_then, acted_weaken, ac
 use Rattle.pv_dress.specs.Edits.{Pruned}
 use Rattle.pv_steps.specs.Content.{Removes}
 use Rattle.pv_steps.proofs.ContentLaws.{removes-wider}
-use Rattle.pv_walk.specs.Removal.{is_below, removal, MayHaveGone}
+use Rattle.pv_walk.specs.Removal.{is_below, removal, removal_at, MayHaveGone}
 use Rattle.pv_walk.proofs.RemovalLaws.{kept-bare, gone-here, gone-other, gone-parent}
 use Rattle.pv_walk.proofs.Outcomes.{gone_differs}
 use Rattle.pv_walk.proofs.SweepLaws.{pruned_then, pruned-none, pruned-wider, below_prefix}
@@ -62,35 +64,46 @@ widened tree path {m = m} {a = a} n le acted =
 
 -- ---- the step that takes away one object
 
+-- the test of what stands at a path is whether it is a directory
+pub directory_decides : (kind : Option Kind) → IsTrue (option_map_or is_directory kind false) ↔ (kind ≡ Some Directory)
+directory_decides None = (λ h. cc, λ e. cc)
+directory_decides (Some Directory) = (λ h. refl, λ e. refl)
+directory_decides (Some File) = (λ h. cc, λ e. cc)
+directory_decides (Some Link) = (λ h. cc, λ e. cc)
+directory_decides (Some Fifo) = (λ h. cc, λ e. cc)
+directory_decides (Some CharDevice) = (λ h. cc, λ e. cc)
+directory_decides (Some BlockDevice) = (λ h. cc, λ e. cc)
+
 module _ (now : ℕ) (path : Path) where
   removal_leaves : (directory : Bool) (t : Places) → after_at t (removal directory path) now ≡ gone now path t
   removal_leaves true t = refl
   removal_leaves false t = refl
 
-  pub after_removal : (directory : Bool) (t u : Files) → u ≡ after t (removal directory path) now → places u ≡ gone now path (places t)
-  after_removal directory t u is = ap places is ∙ at_after t (removal directory path) now ∙ removal_leaves directory (places t)
+  -- what it leaves, also where the object stood in another tree
+  pub after_removal : (files t u : Files) → u ≡ after t (removal_at files path) now → places u ≡ gone now path (places t)
+  after_removal files t u is = ap places is ∙ at_after t (removal_at files path) now ∙ removal_leaves (option_map_or is_directory (kind_of (places files path)) false) (places t)
 
-  module _ (t : Files) (present : IsPresent t path) (empty : IsEmptyIn (places t) path) (nonempty : path ≢ []) where
-    pub can_remove : (directory : Bool) → IsTrue directory ↔ IsKind Directory t path → Can (places t) (removal directory path)
+  module _ (files t : Files) (same : kind_of (places files path) ≡ kind_of (places t path)) (present : IsPresent t path) (empty : IsEmptyIn (places t) path) (nonempty : path ≢ []) where
+    can_remove : (directory : Bool) → IsTrue directory ↔ IsKind Directory t path → Can (places t) (removal directory path)
     can_remove true kind = (kind.0 refl, (empty, nonempty))
     can_remove false kind = (present, λ is. (let no : false ≡ true = kind.1 is in cc))
 
-    removal_differs : (directory : Bool) → Differ t (after t (removal directory path) now)
-    removal_differs directory = gone_differs t (after t (removal directory path) now) path now present (after_removal directory t (after t (removal directory path) now) refl)
-
-    removal_busy : (directory : Bool) → IsNotIdle t (removal directory path) now
-    removal_busy true = removal_differs true
-    removal_busy false = removal_differs false
+    removal_busy : (directory : Bool) → Differ t (after t (removal directory path) now) → IsNotIdle t (removal directory path) now
+    removal_busy true differ = differ
+    removal_busy false differ = differ
 
     removal_removes : (directory : Bool) → Removes (same_path path) (removal directory path)
     removal_removes true = same_path-refl path
     removal_removes false = same_path-refl path
 
-    pub removal_asks : (directory : Bool) → IsTrue directory ↔ IsKind Directory t path → Asks (MayHaveGone now path t) (Removes (same_path path)) t (removal directory path) now
-    removal_asks directory kind = record {
-      start = inl refl;
-      can = can_remove directory kind;
-      busy = removal_busy directory;
-      there = λ u is. inr (after_removal directory t u is);
-      gives = removal_removes directory;
-    }
+    -- it may be asked for, also where the object, of the same kind, stood in another tree
+    pub removal_asks : Asks (MayHaveGone now path t) (Removes (same_path path)) t (removal_at files path) now
+    removal_asks =
+        let directory = option_map_or is_directory (kind_of (places files path)) false in
+        record {
+          start = inl refl;
+          can = can_remove directory (subst (λ (k : Option Kind). IsTrue directory ↔ (k ≡ Some Directory)) same (directory_decides (kind_of (places files path))));
+          busy = removal_busy directory (gone_differs t (after t (removal_at files path) now) path now present (after_removal files t (after t (removal_at files path) now) refl));
+          there = λ u is. inr (after_removal files t u is);
+          gives = removal_removes directory;
+        }

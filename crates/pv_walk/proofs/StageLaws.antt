@@ -4,8 +4,10 @@ use Rattle.std.proofs.Common.{refl, sym, ap, subst, ◌∙◌, inl, inr, arith, 
 use Rattle.std.specs.List.{list_all}
 use Rattle.std.proofs.lemmas.Bool.Decides.{nat_tests}
 use Rattle.std.proofs.lemmas.List.Folds.{list_all-append}
+use Rattle.std.proofs.lemmas.Bool.{and_parts}
+use Rattle.std.proofs.lemmas.Option.{same_Some}
 use Rattle.pv_path.specs.Paths.{Path, same_path, is_prefix, last_name, parent_of, staging_of}
-use Rattle.pv_path.proofs.PathLaws.{both_true, path_parts, is_prefix-refl, parent_of-staging_of}
+use Rattle.pv_path.proofs.PathLaws.{path_parts, is_prefix-refl, parent_of-staging_of}
 use Rattle.pv_acl.specs.Parts.{is_acl, acl_of_mode, special_of, mode_of, part_of_mode}
 use Rattle.pv_steps.specs.declared.node.Kind.TheVariants.{Directory, File}
 use Rattle.pv_steps.specs.declared.object.Object.{Object}
@@ -172,9 +174,6 @@ module _ (path : Path) (nonempty : path ≢ []) (now : ℕ) (t : Files) (room : 
 
 -- ---- owners and mode
 
-some_of : (a b : Object) → Some a ≡ Some b → a ≡ b
-some_of a b e = cc
-
 new_mode_bound : (what : NewKind) (mode : ℕ) → mode ≤ 4095 → new_mode what mode ≤ 4095
 new_mode_bound new.Directory mode h = h
 new_mode_bound (new.File content) mode h = h
@@ -243,7 +242,7 @@ module _ (path : Path) (nonempty : path ≢ []) (now : ℕ) (t : Files) (file : 
   pub dress_gives : (v : Files) → ChangedAt (wear (new_dress file)) path now u v → places v ≡ made now path (new_object file now) (places t)
   dress_gives v h =
       let old : Some h.old ≡ Some plain = sym h.there ∙ there_held in
-      let there : h.old ≡ plain = some_of h.old plain old in
+      let there : h.old ≡ plain = same_Some h.old plain old in
       let same : h.object ≡ new_object file now = dressed h.old h.object there h.is in
       h.left ∙ (λ i. put_at path (Some (same i)) (is i)) ∙ (λ j q. put_at-made now path (places t) nonempty plain (new_object file now) q j)
 
@@ -269,8 +268,8 @@ module _ {S : Type 0} (tree : Ghosts S) (moves : Moves tree) (path : Path) (none
 pub short_last : (path : Path) (n : List ℕ) → list_all (λ name. nat_le (length name) 250) path ≡ true → last_name path ≡ Some n → length n ≤ 250
 short_last path n h e =
     let parts : list_all (λ name. nat_le (length name) 250) (parent_of path ++ n ∷ []) ≡ true = ap (list_all (λ name. nat_le (length name) 250)) (sym (path_parts path n e)) ∙ h in
-    let last = (both_true (list_all (λ name. nat_le (length name) 250) (parent_of path)) _ (sym (list_all-append (λ name. nat_le (length name) 250) (parent_of path) (n ∷ [])) ∙ parts)).1 in
-    let fits = (both_true (nat_le (length n) 250) true last).0 in
+    let last = (and_parts (list_all (λ name. nat_le (length name) 250) (parent_of path)) _ (sym (list_all-append (λ name. nat_le (length name) 250) (parent_of path) (n ∷ [])) ∙ parts)).1 in
+    let fits = (and_parts (nat_le (length n) 250) true last).0 in
     grind (arith, nat_tests)
 
 pub staged_room : (t : Places) (path : Path) → IsKindIn Directory t (parent_of path) → IsAbsentIn t (staging_of path) → HasRoom t (staging_of path)

@@ -10,6 +10,8 @@ use Rattle.std.specs.FinMap as fin
 use Rattle.pv_path.specs.Paths.{Path, same_path, is_prefix, parent_of, last_name, staging_of}
 use Rattle.std.proofs.lemmas.Bool.Decides.{nat_tests}
 use Rattle.std.proofs.lemmas.List.Elements.{All-get_or}
+use Rattle.std.proofs.lemmas.Bool.{cases_Bool, and_parts}
+use Rattle.std.proofs.lemmas.Option.{same_Some}
 use Rattle.pv_path.proofs.PathLaws.{is_prefix-refl, last_name-push, path_parts}
 use Rattle.pv_steps.specs.declared.object.Object.{Object}
 use Rattle.pv_steps.specs.Objects.{bare}
@@ -19,7 +21,7 @@ use Rattle.pv_walk.specs.Staging.{prefixes, can_stage, staging_names, is_under_a
 use Rattle.pv_walk.specs.Removal.{is_below, count_below}
 use Rattle.pv_walk.specs.Listing.{times, stands_below}
 use Rattle.pv_walk.proofs.CountLaws.{times-filter, times-keys, length-times, same_or_not}
-use Rattle.pv_walk.proofs.RemovalLaws.{both, true_or_false}
+use Rattle.pv_walk.proofs.RemovalLaws.{unless}
 use Rattle.pv_walk.proofs.ListingLaws.{times-below, cond-zero}
 
 -- ---- pruning composes
@@ -33,7 +35,7 @@ bare_present (Some x) (Some y) e = refl
 module _ (inside : Path → Bool) (t u : Files) (p : Pruned inside t u) where
   -- what is still there was there
   pub pruned_present : (q : Path) → IsPresent u q → IsPresent t q
-  pruned_present q h = elim (true_or_false (inside q)) [
+  pruned_present q h = elim (cases_Bool (inside q)) [
     | inl e ↦ elim (p.within q e) [
       | inl gone ↦ absurd (let no : false ≡ true = sym (ap is_some gone) ∙ h in cc)
       | inr same ↦ sym (bare_present (places u q) (places t q) same) ∙ h
@@ -45,7 +47,7 @@ module _ (inside : Path → Bool) (t u : Files) (p : Pruned inside t u) where
   pub pruned_then : (narrow : Path → Bool) → ((q : Path) → narrow q ≡ true → inside q ≡ true) → (v : Files) → Pruned narrow u v → Pruned inside t v
   pruned_then narrow within v n = record {
     outside = λ q e. n.outside q (unless (narrow q) (inside q) (within q) e) ∙ p.outside q e;
-    within = λ q e. elim (true_or_false (narrow q)) [
+    within = λ q e. elim (cases_Bool (narrow q)) [
       | inl h ↦ elim (n.within q h) [
         | inl gone ↦ inl gone
         | inr same ↦ elim (p.within q e) [
@@ -60,10 +62,6 @@ module _ (inside : Path → Bool) (t u : Files) (p : Pruned inside t u) where
     ];
   }
     where
-      unless : (a b : Bool) → (a ≡ true → b ≡ true) → b ≡ false → a ≡ false
-      unless true b f h = sym (f refl) ∙ h
-      unless false b f h = refl
-
       absent : (x y : Option Object) → option_map bare y ≡ option_map bare x → x ≡ None → y ≡ None
       absent x None same gone = refl
       absent x (Some y) same gone = let no : Some (bare y) ≡ None = same ∙ ap (option_map bare) gone in cc
@@ -90,7 +88,7 @@ pub pruned-wider : (narrow inside : Path → Bool) → ((q : Path) → narrow q 
 pruned-wider narrow inside within t u p = pruned_then inside t t (pruned-none inside t) narrow within u p
 
 pub below_prefix : (path q : Path) → is_below path q ≡ true → is_prefix path q ≡ true
-below_prefix path q h = (both (is_prefix path q) _ h).0
+below_prefix path q h = (and_parts (is_prefix path q) _ h).0
 
 -- ---- counts
 
@@ -180,8 +178,8 @@ module _ (path : Path) where
       last false b g = ap (λ c. c || false) g
 
 all_end : (xs : Path) (n : List ℕ) → can_stage (xs ++ n ∷ []) ≡ true → nat_le (length n) 250 ≡ true
-all_end [] n h = (both (nat_le (length n) 250) true h).0
-all_end (x ∷ xs) n h = all_end xs n (both (nat_le (length x) 250) (can_stage (xs ++ n ∷ [])) h).1
+all_end [] n h = (and_parts (nat_le (length n) 250) true h).0
+all_end (x ∷ xs) n h = all_end xs n (and_parts (nat_le (length x) 250) (can_stage (xs ++ n ∷ [])) h).1
 
 -- the last name of a path whose names are short is short
 pub short_name : (path : Path) → can_stage path ≡ true → (n : List ℕ) → last_name path ≡ Some n → length n ≤ 250
@@ -197,10 +195,7 @@ short_last path short i name h is last e =
     let here = All-get_or (λ n. nat_le (length n) 250 ≡ true) path i name h (AllPass-from_list_all (λ n. nat_le (length n) 250) path short) in
     let fits : nat_le (length name) 250 ≡ true = subst (λ n. nat_le (length n) 250 ≡ true) (sym is) here in
     let same : Some name ≡ Some last = sym (last_name-push (take i path) name) ∙ e in
-    subst (λ n. length n ≤ 250) (some_same name last same) (le_from (length name) fits)
+    subst (λ n. length n ≤ 250) (same_Some name last same) (le_from (length name) fits)
   where
-    some_same : (a b : List ℕ) → Some a ≡ Some b → a ≡ b
-    some_same a b e = cc
-
     le_from : (n : ℕ) → nat_le n 250 ≡ true → n ≤ 250
     le_from n h = grind (arith, nat_tests)

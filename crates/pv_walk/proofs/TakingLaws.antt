@@ -1,19 +1,28 @@
 -- Laws of paths that are taken away one after the other, the last one of a list first.
-use Rattle.std.specs.Prelude.{◌≡◌, ◌≢◌, ℕ, ◌+◌, ◌≤◌, Bool, true, false, cond, ◌||◌, ◌⊎◌, List, [], ◌∷◌, ◌++◌, map, None, is_some, option_map}
+use Rattle.std.specs.Prelude.{◌≡◌, ◌≢◌, ℕ, ◌+◌, ◌≤◌, Bool, true, false, cond, ◌||◌, ◌⊎◌, List, [], ◌∷◌, ◌++◌, map, reverse, None, is_some, option_map}
 use Rattle.std.specs.List.{list_any}
-use Rattle.std.proofs.Common.{refl, sym, ap, subst, ◌∙◌, arith, inl, inr, append_assoc}
-use Rattle.std.proofs.lemmas.List.{append-nil}
-use Rattle.pv_path.specs.Paths.{Path, same_path, parent_of}
+use Rattle.std.proofs.Common.{refl, sym, ap, subst, ◌∙◌, arith, inl, inr}
+use Rattle.pv_path.specs.Paths.{Path, same_path, same_path-decides, parent_of}
+use Rattle.std.proofs.lemmas.Bool.{cases_Bool, and_parts, or_right}
 use Rattle.pv_path.proofs.PathLaws.{path_ends, parent_of-push, same_path-refl}
+use Rattle.pv_steps.specs.declared.step.Step.{Step}
 use Rattle.pv_steps.specs.Objects.{modified, bare}
 use Rattle.pv_steps.specs.Trees.{Files, Places, places, names_below, IsEmptyIn, IsPresent}
-use Rattle.pv_steps.specs.Steps.{gone}
+use Rattle.pv_steps.specs.Steps.{after, gone}
+use Rattle.pv_steps.specs.Runs.{after_all}
+use Rattle.pv_steps.specs.Content.{Removes}
+use Rattle.pv_steps.proofs.RunLaws.{after_all-append}
+use Rattle.pv_steps.proofs.ActingLaws.{Asks}
+use Rattle.pv_steps.proofs.TryingLaws.{AllAsk, ask_first, reverse-first}
+use Rattle.pv_steps.proofs.ContentLaws.{removes-wider}
 use Rattle.pv_dress.specs.Edits.{Pruned}
-use Rattle.pv_walk.specs.Removal.{is_below, is_one_of, loses_child, without, MayHaveGone}
-use Rattle.pv_walk.specs.Listing.{times, children_of, stands_below, ParentsFirst, IsListing, AreRemovable}
-use Rattle.pv_walk.proofs.CountLaws.{times-append, times-push, same_or_not, is_child-push}
-use Rattle.pv_walk.proofs.RemovalLaws.{zero_or_more, cond-true, true_or_false, apart, both, no_same, none_of, below_nonempty, all_gone, all_gone-none, all_gone-gone, all_gone-kept, all_gone-same, all_gone-touched, kept-present, kept-bare}
+use Rattle.pv_walk.specs.Removal.{is_below, is_one_of, loses_child, removal_at, without, MayHaveGone}
+use Rattle.pv_walk.specs.Listing.{times, children_of, stands_below, IsListing, AreRemovable}
+use Rattle.pv_walk.proofs.CountLaws.{times-self, same_or_not, is_child-push}
+use Rattle.pv_walk.proofs.RemovalLaws.{zero_or_more, cond-true, apart, no_same, none_of, unless, below_nonempty, all_gone, all_gone-none, all_gone-gone, all_gone-kept, all_gone-same, all_gone-touched, kept-kind, kept-present, kept-bare, IsKept}
 use Rattle.pv_walk.proofs.ListingLaws.{cond-one, cond-le, child_counts}
+use Rattle.pv_walk.proofs.Removing.{after_removal, removal_asks}
+use Rattle.pv_walk.proofs.SweepLaws.{pruned-none}
 
 -- ---- paths in a list
 
@@ -34,7 +43,7 @@ one_of-some (p ∷ paths) q h = by (same_path p q) refl (one_of-some paths q) h
     by false e rest h = omega (arith, ap (λ b. cond b 1 0 + times q paths) e, rest h)
 
 pub one_of-counted : (paths : List Path) (q : Path) → 1 ≤ times q paths → is_one_of paths q ≡ true
-one_of-counted paths q some = elim (true_or_false (is_one_of paths q)) [
+one_of-counted paths q some = elim (cases_Bool (is_one_of paths q)) [
   | inl e ↦ e
   | inr e ↦ absurd (let none = one_of-none paths q e in omega (arith, none, some))
 ]
@@ -54,95 +63,102 @@ any_child goes q r (n ∷ names) some h = elim (same_or_not (q ++ n ∷ []) r) [
   | inl e ↦ ap (λ b. b || list_any (λ m. goes (q ++ m ∷ [])) names) (ap goes e.0 ∙ h)
   | inr d ↦
       let later : 1 ≤ times r (map (λ m. q ++ m ∷ []) names) = omega (arith, some, ap (λ b. cond b 1 0 + times r (map (λ m. q ++ m ∷ []) names)) d) in
-      or_true (goes (q ++ n ∷ [])) (any_child goes q r names later h)
+      or_right (goes (q ++ n ∷ [])) _ (any_child goes q r names later h)
 ]
-  where
-    or_true : (b : Bool) {c : Bool} → c ≡ true → (b || c) ≡ true
-    or_true true e = refl
-    or_true false e = e
 
--- ---- some of the paths have gone
+-- ---- some of the paths go
 
--- the paths at the front are still there, those at the back are gone
-pub record Taking (now : ℕ) (files : Files) (paths front : List Path) (u : Files) : Type 0 where
-  pub back : List Path
-  pub whole : front ++ back ≡ paths
-  pub is : places u ≡ all_gone now back (places files)
+-- the steps that take away what stands at some paths, the last one first
+abbrev pub steps_of : Files → List Path → List Step
+steps_of files paths = reverse (map (removal_at files) paths)
 
-order_back : (files : Files) (front back : List Path) → ParentsFirst files [] (front ++ back) → ParentsFirst files [] back
-order_back files [] back h = h
-order_back files (p ∷ front) back h = order_back files front back h.1
+-- so an object goes last whose path is the first
+steps_first : (files : Files) (p : Path) (paths : List Path) → steps_of files (p ∷ paths) ≡ steps_of files paths ++ removal_at files p ∷ []
+steps_first files p paths = reverse-first (removal_at files p) (map (removal_at files) paths)
 
-pub taking_start : (now : ℕ) (files : Files) (paths : List Path) → Taking now files paths paths files
-taking_start now files paths = record { back = []; whole = append-nil paths; is = refl }
+module _ (now : ℕ) (files : Files) where
+  -- what they leave
+  pub all_removed : (paths : List Path) (u : Files) → u ≡ after_all files (steps_of files paths) now → places u ≡ all_gone now paths (places files)
+  all_removed [] u is = ap places is
+  all_removed (p ∷ paths) u is =
+      let before = after_all files (steps_of files paths) now in
+      let last : u ≡ after before (removal_at files p) now =
+      is ∙ ap (λ ss. after_all files ss now) (steps_first files p paths) ∙ after_all-append files (steps_of files paths) (removal_at files p ∷ []) now in
+      after_removal now p files before u last ∙ ap (gone now p) (all_removed paths before refl)
+
+  module _ (inside : Path → Bool) where
+    -- stamps aside, only objects at the paths are gone
+    removed_pruned : (paths : List Path) (u : Files) → ((q : Path) → is_one_of paths q ≡ true → inside q ≡ true) → places u ≡ all_gone now paths (places files) → Pruned inside files u
+    removed_pruned paths u within is =
+        let at : (q : Path) → places u q ≡ all_gone now paths (places files) q = λ q. ap (λ (t : Places). t q) is in
+        let kept : (q : Path) → times q paths ≡ 0 → option_map bare (places u q) ≡ option_map bare (places files q) =
+        λ q none. ap (option_map bare) (at q) ∙ kept-bare now (places files q) (all_gone now paths (places files) q) (all_gone-kept now (places files) q paths none) in
+        record {
+          outside = λ q h. kept q (one_of-none paths q (unless (is_one_of paths q) (inside q) (within q) h));
+          within = λ q h. elim (zero_or_more (times q paths)) [
+            | inl z ↦ inr (kept q z)
+            | inr m ↦ inl (at q ∙ all_gone-gone now (places files) q paths m)
+          ];
+        }
+
+    -- the first of some paths may be taken away when the others are
+    module _ (p : Path) (paths : List Path) (ok : AreRemovable files (p ∷ paths)) (u : Files) (is : places u ≡ all_gone now paths (places files)) where
+      first_counts : times p (p ∷ paths) ≡ 1 + times p paths
+      first_counts = times-self p paths
+
+      first_stands : is_some (places files p) ≡ true
+      first_stands = cond-true (is_some (places files p)) (omega (arith, ok.once p, first_counts))
+
+      first_kept : IsKept now (places files p) (places u p)
+      first_kept =
+          subst (IsKept now (places files p)) (sym (ap (λ (t : Places). t p) is))
+          (all_gone-kept now (places files) p paths (omega (arith, ok.once p, first_counts, cond-le (is_some (places files p)))))
+
+      first_empty : IsEmptyIn (places u) p
+      first_empty name = ap (λ (t : Places). t (p ++ name ∷ [])) is ∙ elim (cases_Bool (is_some (places files (p ++ name ∷ [])))) [
+        | inl s ↦
+            let there : 1 ≤ times (p ++ name ∷ []) paths + 0 = ok.order.0 (p ++ name ∷ []) (is_child-push p name) s in
+            all_gone-gone now (places files) (p ++ name ∷ []) paths (omega (arith, there))
+        | inr d ↦ all_gone-none now (places files) (p ++ name ∷ []) paths (none_of (places files (p ++ name ∷ [])) d)
+      ]
+
+      first_nonempty : p ≢ []
+      first_nonempty root = let none : times p (p ∷ paths) ≡ 0 = ap (λ q. times q (p ∷ paths)) root ∙ ok.no_root in omega (arith, none, first_counts)
+
+      first_asks : Asks (MayHaveGone now p u) (Removes (same_path p)) u (removal_at files p) now
+      first_asks =
+          removal_asks now p files u (sym (kept-kind now (places files p) (places u p) first_kept))
+          (kept-present now (places files p) (places u p) first_kept ∙ first_stands) first_empty first_nonempty
+
+    -- the others can be taken away
+    others_removable : (p : Path) (paths : List Path) → AreRemovable files (p ∷ paths) → AreRemovable files paths
+    others_removable p paths ok = record {
+      once = λ q. let more = ok.once q in omega (arith, more);
+      no_root = let none = ok.no_root in omega (arith, none);
+      order = ok.order.1;
+    }
+
+    -- so all steps may be asked for
+    pub removals_ask : (paths : List Path) → AreRemovable files paths → ((q : Path) → is_one_of paths q ≡ true → inside q ≡ true)
+        → AllAsk (Pruned inside files) (Removes inside) files (steps_of files paths) now
+    removals_ask [] ok within = pruned-none inside files
+    removals_ask (p ∷ paths) ok within =
+        let u = after_all files (steps_of files paths) now in
+        let is = all_removed paths u refl in
+        let ask = first_asks p paths ok u is in
+        let others : (q : Path) → is_one_of paths q ≡ true → inside q ≡ true = λ q h. within q (or_right (same_path p q) _ h) in
+        let first : inside p ≡ true = within p (ap (λ b. b || is_one_of paths p) (same_path-refl p)) in
+        ask_first (Pruned inside files) (Removes inside) now files (removal_at files p) (map (removal_at files) paths)
+        (removals_ask paths (others_removable p paths ok) others)
+        (record {
+          start = removed_pruned paths u others is;
+          can = ask.can;
+          busy = ask.busy;
+          there = λ v e. removed_pruned (p ∷ paths) v within (after_removal now p files u v e ∙ ap (gone now p) is);
+          gives = removes-wider (same_path p) inside (λ q e. subst (λ r. inside r ≡ true) ((same_path-decides p q).0 e) first) (removal_at files p) ask.gives;
+        })
 
 module _ (now : ℕ) (files : Files) (paths : List Path) (ok : AreRemovable files paths) where
-  counted : (front back : List Path) → front ++ back ≡ paths → (q : Path) → times q paths ≡ times q front + times q back
-  counted front back e q = ap (times q) (sym e) ∙ times-append q front back
-
-  -- stamps aside, only objects at the paths are gone
-  pub taking_pruned : (front : List Path) (u : Files) → Taking now files paths front u → Pruned (is_one_of paths) files u
-  taking_pruned front u e =
-      let at : (q : Path) → places u q ≡ all_gone now e.back (places files) q = λ q. ap (λ (t : Places). t q) e.is in
-      record {
-        outside = λ q h.
-            let none : times q e.back ≡ 0 = omega (arith, one_of-none paths q h, counted front e.back e.whole q) in
-            ap (option_map bare) (at q) ∙ kept-bare now (places files q) (all_gone now e.back (places files) q) (all_gone-kept now (places files) q e.back none);
-        within = λ q h. elim (zero_or_more (times q e.back)) [
-          | inl z ↦ inr (ap (option_map bare) (at q) ∙ kept-bare now (places files q) (all_gone now e.back (places files) q) (all_gone-kept now (places files) q e.back z))
-          | inr m ↦ inl (at q ∙ all_gone-gone now (places files) q e.back m)
-        ];
-      }
-
-  -- the last path of the front may be taken away
-  module _ (front : List Path) (p : Path) (u : Files) (e : Taking now files paths (front ++ p ∷ []) u) where
-    last_counts : times p paths ≡ times p front + 1 + times p e.back
-    last_counts = omega (arith, counted (front ++ p ∷ []) e.back e.whole p, times-push p front p, ap (λ b. cond {A = ℕ} b 1 0) (same_path-refl p))
-
-    last_stands : is_some (places files p) ≡ true
-    last_stands = cond-true (is_some (places files p)) (omega (arith, ok.once p, last_counts))
-
-    last_new : times p e.back ≡ 0
-    last_new = omega (arith, ok.once p, last_counts, cond-le (is_some (places files p)))
-
-    last_at : (q : Path) → places u q ≡ all_gone now e.back (places files) q
-    last_at q = ap (λ (t : Places). t q) e.is
-
-    pub last_listed : is_one_of paths p ≡ true
-    last_listed = one_of-counted paths p (omega (arith, last_counts))
-
-    pub last_nonempty : p ≢ []
-    last_nonempty root = let some : 1 ≤ times p paths = omega (arith, last_counts) in let none : times p paths ≡ 0 = ap (λ q. times q paths) root ∙ ok.no_root in omega (arith, some, none)
-
-    pub last_present : IsPresent u p
-    last_present =
-        ap is_some (last_at p)
-        ∙ kept-present now (places files p) (all_gone now e.back (places files) p) (all_gone-kept now (places files) p e.back last_new)
-        ∙ last_stands
-
-    whole_split : front ++ p ∷ e.back ≡ paths
-    whole_split = sym (append_assoc front (p ∷ []) e.back) ∙ e.whole
-
-    last_order : ParentsFirst files [] (p ∷ e.back)
-    last_order = order_back files front (p ∷ e.back) (subst (ParentsFirst files []) (sym whole_split) ok.order)
-
-    pub last_empty : IsEmptyIn (places u) p
-    last_empty name = last_at (p ++ name ∷ []) ∙ elim (true_or_false (is_some (places files (p ++ name ∷ [])))) [
-      | inl s ↦
-          let there : 1 ≤ times (p ++ name ∷ []) e.back + 0 = last_order.0 (p ++ name ∷ []) (is_child-push p name) s in
-          all_gone-gone now (places files) (p ++ name ∷ []) e.back (omega (arith, there))
-      | inr d ↦ all_gone-none now (places files) (p ++ name ∷ []) e.back (none_of (places files (p ++ name ∷ [])) d)
-    ]
-
-    -- and then the front is shorter
-    pub taking_next : (v : Files) → places v ≡ gone now p (places u) → Taking now files paths front v
-    taking_next v is = record { back = p ∷ e.back; whole = whole_split; is = is ∙ ap (gone now p) e.is }
-
-    -- whether it was taken away or not
-    pub taking_may : (v : Files) → MayHaveGone now p u v → Pruned (is_one_of paths) files v
-    taking_may v (inl same) = subst (Pruned (is_one_of paths) files) (sym same) (taking_pruned (front ++ p ∷ []) u e)
-    taking_may v (inr is) = taking_pruned front v (taking_next v is)
-
   -- ---- all of them have gone
 
   -- a path in the list whose directory is a path is a child that this loses
@@ -174,14 +190,14 @@ module _ (now : ℕ) (files : Files) (paths : List Path) (ok : AreRemovable file
   pub taken_without : all_gone now paths (places files) ≡ without (is_one_of paths) (modified now) files
   taken_without = λ i q. all_gone-without q i
 
-  pub taking_end : (u : Files) → Taking now files paths [] u → places u ≡ without (is_one_of paths) (modified now) files
-  taking_end u e = e.is ∙ ap (λ (ps : List Path). all_gone now ps (places files)) e.whole ∙ taken_without
+  pub all_without : (u : Files) → u ≡ after_all files (steps_of files paths) now → places u ≡ without (is_one_of paths) (modified now) files
+  all_without u is = all_removed now files paths u is ∙ taken_without
 
 -- ---- what stands below a path
 
 module _ (files : Files) (path : Path) (listed : List Path) (l : IsListing files path listed) where
   stands : (q : Path) → 1 ≤ times q listed → (is_below path q ≡ true) × (is_some (places files q) ≡ true)
-  stands q some = both (is_below path q) (is_some (places files q)) (cond-true (stands_below files path q) (omega (arith, some, l.once q)))
+  stands q some = and_parts (is_below path q) (is_some (places files q)) (cond-true (stands_below files path q) (omega (arith, some, l.once q)))
 
   -- it can be taken away
   pub listed_removable : AreRemovable files listed

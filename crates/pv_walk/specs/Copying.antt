@@ -1,12 +1,13 @@
 -- Copies: what stands at and below one path comes once more to another, each object with all it has but its stamps
 -- (tmpfiles.d(5), C; cp(1), -a).
-use Rattle.std.specs.Prelude.{◌≡◌, ◌⊎◌, ℕ, ◌≤◌, true, false, List, [], ◌∷◌, ◌++◌, length, filter, filter_map, Option, Some, None, IfSome, is_some, option_map, unwrap_or, if◌then◌else◌}
+use Rattle.std.specs.Prelude.{◌≡◌, ◌⊎◌, ℕ, ◌≤◌, false, [], ◌∷◌, ◌++◌, length, filter, filter_map, Option, Some, None, IfSome, is_some, option_map, unwrap_or, if◌then◌else◌}
 use Rattle.std.specs.FinMap as fin
 use Rattle.pv_dress.specs.declared.bare.Bare.{Bare}
 use Rattle.pv_dress.specs.Dressing.{dress_mode}
-use Rattle.pv_dress.specs.Nodes.{bares_of, is_link}
+use Rattle.pv_dress.specs.Nodes.{is_link}
 use Rattle.pv_dress.specs.Operations.{with_mode}
 use Rattle.pv_path.specs.Paths.{Path, rest_under, has_staging, staging_of}
+use Rattle.pv_steps.specs.declared.node.Stamps.{Stamps}
 use Rattle.pv_steps.specs.declared.object.Object.{Object}
 use Rattle.pv_steps.specs.declared.step.Step.{Step}
 use Rattle.pv_steps.specs.declared.step.Step.TheVariants.{MakeDir, MakeFile, MakeFifo, MakeDevice, MakeLink, Write, SetMode, SetOwner, SetAcl, SetAttrs, SetLetters}
@@ -35,27 +36,31 @@ moded (Some mode) b = if is_link b.body.kind then b else record b { dress = with
 abbrev pub topped : TopNode → Bare → Bare
 topped top b = moded top.mode (record b { dress = record b.dress { uid = unwrap_or top.uid b.dress.uid; gid = unwrap_or top.gid b.dress.gid } })
 
--- the copy of what stands at and below a path, by what comes after it; staging names are left out
-abbrev pub copied : TopNode → Path → Places → Path → Option Bare
-copied top source t [] = option_map (topped top) (bares_of t source)
-copied top source t (name ∷ rest) = if has_staging (name ∷ rest) then None else bares_of t (source ++ name ∷ rest)
+-- what is to stand at and below a path, by what comes after it
+abbrev pub Subtree : Type 0
+Subtree = Path → Option Bare
+
+-- the copy of what stands at and below a path, with another top; staging names are left out
+abbrev pub copy_from : (Bare → Bare) → Path → (Path → Option Bare) → Subtree
+copy_from top source at [] = option_map top (at source)
+copy_from top source at (name ∷ rest) = if has_staging (name ∷ rest) then None else at (source ++ name ∷ rest)
 
 -- how many objects a copy has, of those at and below a path
-abbrev pub copied_count : (Path → Option Bare) → Path → Files → ℕ
+abbrev pub copied_count : Subtree → Path → Files → ℕ
 copied_count subtree source t = length (filter (λ rest. is_some (subtree rest)) (filter_map (rest_under source) (fin.keys t)))
 
 -- ---- what it leaves, stamps included
 
--- a new object, all four stamps now
-abbrev pub object_of : ℕ → Bare → Object
-object_of now b = record {
+-- an object with these stamps
+abbrev pub with_stamps : Stamps → Bare → Object
+with_stamps stamps b = record {
   node = record {
     kind = b.body.kind;
     special = b.dress.special;
     uid = b.dress.uid;
     gid = b.dress.gid;
     acl = b.dress.acl;
-    stamps = stamped now;
+    stamps = stamps;
     major = b.body.major;
     minor = b.body.minor;
     attrs = b.dress.attrs;
@@ -64,17 +69,21 @@ object_of now b = record {
   payload = b.body.payload;
 }
 
+-- a new object, all four stamps now
+abbrev pub object_of : ℕ → Bare → Object
+object_of now b = with_stamps (stamped now) b
+
 -- what stands at a path that has this rest below the place of a subtree of new objects; the old object elsewhere
-abbrev pub standing : ℕ → (Path → Option Bare) → Option Object → Option Path → Option Object
+abbrev pub standing : ℕ → Subtree → Option Object → Option Path → Option Object
 standing now subtree old None = old
 standing now subtree old (Some rest) = option_map (object_of now) (subtree rest)
 
 -- a subtree of new objects stands at a path in the place of all that stood at and below it; its directory has changed
-abbrev pub with_subtree : ℕ → Path → (Path → Option Bare) → Places → Places
+abbrev pub with_subtree : ℕ → Path → Subtree → Places → Places
 with_subtree now path subtree t = touched now path (λ q. standing now subtree (t q) (rest_under path q))
 
 -- on the way, at each path without a staging name: what stood at the path makes way, or the copy has come there whole
-abbrev pub CopyingOver : Path → (Path → Option Bare) → Files → Files → Type 0
+abbrev pub CopyingOver : Path → Subtree → Files → Files → Type 0
 CopyingOver path subtree t u =
     ((q : Path) → has_staging q ≡ false → IsMakingWay path q (bares (places t) q) (bares (places u) q))
     ⊎ ((q : Path) → has_staging q ≡ false → bares (places u) q ≡ bares (with_subtree 0 path subtree (places t)) q)
@@ -104,9 +113,9 @@ pub record GivesPart (path : Path) (subtree : Path → Option Bare) (step : Step
   pub gives : GivesBare (path ++ rest) object step
 
 -- so under the staging name of a path
-abbrev pub IsStagingOf : Path → (Path → Option Bare) → Step → Type 0
+abbrev pub IsStagingOf : Path → Subtree → Step → Type 0
 IsStagingOf path subtree step = GivesPart (staging_of path) subtree step
 
 -- a step stages an object of a copy, or publishes the copy
-abbrev pub IsCopyStep : Path → (Path → Option Bare) → Step → Type 0
+abbrev pub IsCopyStep : Path → Subtree → Step → Type 0
 IsCopyStep path subtree step = IsStagingOf path subtree step ⊎ IsPublishing path step

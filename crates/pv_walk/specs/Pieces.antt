@@ -18,6 +18,7 @@ use Rattle.pv_walk.specs.declared.listing.Piece.{Piece}
 use Rattle.pv_walk.specs.declared.listing.Piece.TheVariants.{Make, Wear}
 use Rattle.pv_walk.specs.declared.listing.Task.{Task}
 use Rattle.pv_walk.specs.declared.listing.Task.TheVariants.{Open, Close}
+use Rattle.pv_walk.specs.Copying.{Subtree}
 use Rattle.pv_walk.specs.Making.{held_object}
 use Rattle.pv_walk.specs.Staging.{IsNewFile, GivesNew}
 
@@ -82,31 +83,31 @@ cost_of [] = 0
 cost_of (piece ∷ pieces) = cost_of pieces + piece_cost piece
 
 -- the objects that stand after a piece, where these stood before it
-abbrev pub after_piece : Piece → (Path → Option Bare) → Path → Option Bare
+abbrev pub after_piece : Piece → Subtree → Subtree
 after_piece (Make rest file) s q = if same_path rest q then Some (bare_of (held_object file.what 0)) else s q
 after_piece (Wear rest dress) s q = if same_path rest q then option_map (λ (b : Bare). record b { dress = dress }) (s q) else s q
 
 -- the objects that stand after all of them
-abbrev pub built : List Piece → (Path → Option Bare) → Path → Option Bare
+abbrev pub built : List Piece → Subtree → Subtree
 built [] s = s
 built (piece ∷ pieces) s = after_piece piece (built pieces s)
 
 -- a place in which an object can be made: the top, or in a directory that is there
-abbrev pub HasPlace : (Path → Option Bare) → Path → Type 0
+abbrev pub HasPlace : Subtree → Path → Type 0
 HasPlace s rest = (rest ≡ []) ⊎ ((is_some (s []) ≡ true) × (option_map (λ b. b.body.kind) (s (parent_of rest)) ≡ Some Directory))
 
 -- a piece of a subtree that can be done where these objects stand
-abbrev pub IsDoable : (Path → Option Bare) → (Path → Option Bare) → Piece → Type 0
+abbrev pub IsDoable : Subtree → Subtree → Piece → Type 0
 IsDoable subtree s (Make rest file) = (b : Bare) × ((subtree rest ≡ Some b) × (IsWhole b × ((file ≡ file_of b) × ((s rest ≡ None) × HasPlace s rest))))
 IsDoable subtree s (Wear rest dress) = (b : Bare) × ((subtree rest ≡ Some b) × (IsWhole b × ((dress ≡ b.dress) × (s rest ≡ Some (plain b)))))
 
 -- so each of them
-abbrev pub AreDoable : (Path → Option Bare) → (Path → Option Bare) → List Piece → Type 0
+abbrev pub AreDoable : Subtree → Subtree → List Piece → Type 0
 AreDoable subtree s [] = Unit {0}
 AreDoable subtree s (piece ∷ pieces) = AreDoable subtree s pieces × IsDoable subtree (built pieces s) piece
 
 -- what they make, where nothing stood
-abbrev pub made_of : List Piece → Path → Option Bare
+abbrev pub made_of : List Piece → Subtree
 made_of pieces = built pieces (λ q. None)
 
 -- pieces of which each can be done where nothing stood at first
@@ -129,10 +130,10 @@ tasks_before rest names None = []
 tasks_before rest names (Some b) = Close (Make rest (file_of b)) ∷ map (λ name. Open (rest ++ name ∷ [])) names
 
 -- a task gives the last pieces of what it stands for, and leaves tasks for those before them
-abbrev pub pieces_now : (Path → Option Bare) → Task → List Piece
+abbrev pub pieces_now : Subtree → Task → List Piece
 pieces_now subtree (Close piece) = piece ∷ []
 pieces_now subtree (Open rest) = last_piece rest (subtree rest)
 
-abbrev pub tasks_left : (Path → Option Bare) → (Path → List (List ℕ)) → Task → List Task
+abbrev pub tasks_left : Subtree → (Path → List (List ℕ)) → Task → List Task
 tasks_left subtree names (Close piece) = []
 tasks_left subtree names (Open rest) = tasks_before rest (names rest) (subtree rest)

@@ -1,13 +1,15 @@
 -- Removal: what stands below a path is taken away, and what publishing a path may have done on the way
 -- (unlink(2), rmdir(2), rename(2)).
-use Rattle.std.specs.Prelude.{◌≡◌, ◌⊎◌, ℕ, Bool, not, ◌&&◌, List, [], ◌∷◌, ◌++◌, length, filter, None, option_map, if◌then◌else◌}
+use Rattle.std.specs.Prelude.{◌≡◌, ◌⊎◌, ℕ, Bool, false, not, ◌&&◌, List, [], ◌∷◌, ◌++◌, length, filter, None, option_map, if◌then◌else◌}
 use Rattle.std.specs.List.{list_any}
+use Rattle.std.specs.Option.{option_map_or}
 use Rattle.std.specs.FinMap as fin
 use Rattle.pv_path.specs.Paths.{Path, is_prefix, same_path, staging_of}
 use Rattle.pv_steps.specs.declared.step.Step.{Step}
 use Rattle.pv_steps.specs.declared.step.Step.TheVariants.{Unlink, RemoveDir}
 use Rattle.pv_steps.specs.declared.object.Object.{Object}
-use Rattle.pv_steps.specs.Trees.{Files, Places, places, names_below}
+use Rattle.pv_steps.specs.Objects.{is_directory}
+use Rattle.pv_steps.specs.Trees.{Files, Places, places, kind_of, names_below}
 use Rattle.pv_steps.specs.Steps.{gone, moved}
 use Rattle.pv_steps.specs.Same.{bares}
 use Rattle.pv_dress.specs.Edits.{Pruned}
@@ -19,6 +21,10 @@ is_below path q = is_prefix path q && not (same_path path q)
 -- the step that takes away a directory, or else another object
 abbrev pub removal : Bool → Path → Step
 removal directory path = if directory then RemoveDir path else Unlink path
+
+-- the step that takes away what stands at a path in a tree
+abbrev pub removal_at : Files → Path → Step
+removal_at files path = removal (option_map_or is_directory (kind_of (places files path)) false) path
 
 -- how many objects stand below a path
 abbrev pub count_below : Files → Path → ℕ

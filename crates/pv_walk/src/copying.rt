@@ -1,11 +1,12 @@
 //! Copies of all that stands at and below a path.
 ghost use Rattle.std.specs.Prelude.{◌≡◌, ◌≢◌, ◌≤◌, ◌+◌, ◌*◌, [], ◌++◌, true, false, is_some, OnOk};
 ghost use Rattle.pv_dress.specs.Edits.{SameOutside, count_at};
+ghost use Rattle.pv_dress.specs.Nodes.{bares_of};
 ghost use Rattle.pv_path.specs.Paths.{Path, is_prefix, parent_of, has_staging, staging_of};
 ghost use Rattle.pv_steps.specs.declared.node.Kind.TheVariants.{Directory};
 ghost use Rattle.pv_steps.specs.Acting.{Acted};
 ghost use Rattle.pv_steps.specs.Trees.{places, IsKind, IsAbsentIn, IsPresent};
-ghost use Rattle.pv_walk.specs.Copying.{copied, copied_count, with_subtree, CopyingOver, IsStagingOf, GivesPart, IsCopyStep, IsTopNode};
+ghost use Rattle.pv_walk.specs.Copying.{copy_from, copied_count, topped, with_subtree, CopyingOver, IsStagingOf, GivesPart, IsCopyStep, IsTopNode};
 ghost use Rattle.pv_walk.specs.Pieces.{CanDo, IsDone, GivesPiece, place_of, piece_cost, cost_of, IsPlan, made_of};
 ghost use Rattle.pv_walk.specs.Staging.{can_stage, most_staged, most_new};
 
@@ -46,13 +47,13 @@ pub fn stage_copy<T: Tree>(
     requires free { IsAbsentIn (places (T.state tree.old)) (staging_of path.now) }
     requires source { IsPresent (T.state tree.old) source.now }
     requires top { IsTopNode top.now }
-    ensures acted { let subtree = copied top.now source.now (places (T.state tree.old)) in
+    ensures acted { let subtree = copy_from (topped top.now) source.now (bares_of (places (T.state tree.old))) in
         Acted T.Tree (SameOutside (is_prefix (staging_of path.now)) (T.state tree.old))
         (IsStagingOf path.now subtree)
         (most_staged * copied_count subtree source.now (T.state tree.old)) now tree.old tree.new result }
     ensures ok { OnOk result (places (T.state tree.new)
         ≡ with_subtree now (staging_of path.now)
-        (copied top.now source.now (places (T.state tree.old))) (places (T.state tree.old))) }
+        (copy_from (topped top.now) source.now (bares_of (places (T.state tree.old)))) (places (T.state tree.old))) }
 {
     let stage = staging(alloc, path)?;
     // In a tree nothing stands below an absent path.
@@ -144,9 +145,9 @@ pub fn copy_over<T: Tree>(
     requires source { IsPresent (T.state tree.old) source.now }
     requires top { IsTopNode top.now }
     ensures ok { OnOk result (places (T.state tree.new)
-        ≡ with_subtree now path.now (copied top.now source.now (places (T.state tree.old)))
+        ≡ with_subtree now path.now (copy_from (topped top.now) source.now (bares_of (places (T.state tree.old))))
         (places (T.state tree.old))) }
-    ensures acted { let subtree = copied top.now source.now (places (T.state tree.old)) in
+    ensures acted { let subtree = copy_from (topped top.now) source.now (bares_of (places (T.state tree.old))) in
         Acted T.Tree (CopyingOver path.now subtree (T.state tree.old)) (IsCopyStep path.now subtree)
         (count_at (T.state tree.old) path.now
         + most_new * copied_count subtree source.now (T.state tree.old)) now tree.old tree.new result }

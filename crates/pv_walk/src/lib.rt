@@ -13,12 +13,13 @@ mod sweeping;
 mod walking;
 
 pub use copying::{TopNode, copy_over, stage_copy};
-pub use new_file::{NewFile, NewKind};
+pub use listing::topped;
+pub use new_file::{NewFile, NewKind, new_bare};
 pub use preparing::prepare;
 pub use publishing::publish;
 pub use put::{put_new, put_over};
 pub use pv_steps::Why;
-pub use remove::{below, remove_all, remove_below};
+pub use remove::{below, removal, remove_all, remove_below};
 pub use stage::{put_held, stage_file};
 pub use sweeping::sweep;
-pub use walking::{Walked, blocked, walk};
+pub use walking::{Walked, blocked, refusal_of, walk};

@@ -2,7 +2,7 @@
 ghost use Rattle.std.specs.Prelude.{◌≡◌, ◌≤◌, ◌*◌, ◌++◌, ◌∷◌, [], map, Some, IfOk, OnOk};
 ghost use Rattle.pv_dress.specs.Nodes.{bares_of};
 ghost use Rattle.pv_steps.specs.Trees.{places, node_at, payload_at, IsTree};
-ghost use Rattle.pv_walk.specs.Copying.{copied, copied_count, topped, IsTopNode};
+ghost use Rattle.pv_walk.specs.Copying.{copy_from, copied_count, topped, IsTopNode};
 ghost use Rattle.pv_walk.specs.Pieces.{IsPlan, made_of, cost_of, file_of, what_of, names_at, pieces_now, tasks_left};
 ghost use Rattle.pv_walk.specs.Staging.{most_staged};
 ghost use Rattle.pv_walk.specs.declared.listing.Piece.TheVariants.{Make, Wear};
@@ -44,9 +44,9 @@ pub(crate) fn pieces_of<T: Tree>(
     requires top { IsTopNode top.now }
     ensures plan { IfOk result (λ pieces. IsPlan pieces.items) }
     ensures all { IfOk result (λ pieces. made_of pieces.items
-        ≡ copied top.now source.now (places (T.state tree.now))) }
+        ≡ copy_from (topped top.now) source.now (bares_of (places (T.state tree.now)))) }
     ensures few { IfOk result (λ pieces. cost_of pieces.items ≤ most_staged
-        * copied_count (copied top.now source.now (places (T.state tree.now))) source.now
+        * copied_count (copy_from (topped top.now) source.now (bares_of (places (T.state tree.now)))) source.now
         (T.state tree.now)) }
     ensures tree { IsTree (T.state tree.now) }
 {
@@ -73,10 +73,10 @@ fn list_next<T: Tree>(
 ) -> Result<(), AllocError>
     requires top { IsTopNode top.now }
     ensures left { OnOk result (work.new.items ≡ work.old.items ++ tasks_left
-        (copied top.now source.now (places (T.state tree.now)))
+        (copy_from (topped top.now) source.now (bares_of (places (T.state tree.now))))
         (names_at source.now (T.state tree.now)) task) }
     ensures listed { OnOk result (pieces.new.items ≡ pieces.old.items ++ pieces_now
-        (copied top.now source.now (places (T.state tree.now))) task) }
+        (copy_from (topped top.now) source.now (bares_of (places (T.state tree.now)))) task) }
 {
     match task {
         Task::Open(rest) => open(alloc, tree, source, top, &rest, work, pieces),
@@ -96,10 +96,10 @@ fn open<T: Tree>(
 ) -> Result<(), AllocError>
     requires top { IsTopNode top.now }
     ensures left { OnOk result (work.new.items ≡ work.old.items ++ tasks_left
-        (copied top.now source.now (places (T.state tree.now)))
+        (copy_from (topped top.now) source.now (bares_of (places (T.state tree.now))))
         (names_at source.now (T.state tree.now)) (Open rest.now)) }
     ensures listed { OnOk result (pieces.new.items ≡ pieces.old.items ++ pieces_now
-        (copied top.now source.now (places (T.state tree.now))) (Open rest.now)) }
+        (copy_from (topped top.now) source.now (bares_of (places (T.state tree.now)))) (Open rest.now)) }
 {
     match object_at(alloc, tree, source, top, rest)? {
         None => Ok(()),
@@ -198,7 +198,7 @@ fn object_at<T: Tree>(
     rest: &TreePath,
 ) -> Result<Option<Bare>, AllocError>
     ensures object { IfOk result (λ object. object
-        ≡ copied top.now source.now (places (T.state tree.now)) rest.now) }
+        ≡ copy_from (topped top.now) source.now (bares_of (places (T.state tree.now))) rest.now) }
     ensures tree { IsTree (T.state tree.now) }
 {
     // In a tree nothing is half made.
@@ -220,7 +220,7 @@ fn top_at<T: Tree>(
     top: &TopNode,
 ) -> Result<Option<Bare>, AllocError>
     ensures { IfOk result (λ object. object
-        ≡ copied top.now source.now (places (T.state tree.now)) []) }
+        ≡ copy_from (topped top.now) source.now (bares_of (places (T.state tree.now))) []) }
 {
     match bare_at(alloc, tree, source)? {
         None => Ok(None),
@@ -228,8 +228,8 @@ fn top_at<T: Tree>(
     }
 }
 
-/// An object as the top of a copy.
-fn topped(top: &TopNode, object: Bare) -> Bare
+/// An object as the top of a copy: a link takes owners alone.
+pub fn topped(top: &TopNode, object: Bare) -> Bare
     ensures { result ≡ topped top.now object }
 {
     let mut new = object;

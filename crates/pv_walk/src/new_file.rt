@@ -1,9 +1,14 @@
 //! New objects, as a caller asks for them.
-ghost use Rattle.std.specs.Prelude.{◌≡◌};
-ghost use Rattle.pv_walk.specs.Staging.{new_kind, new_payload, new_major, new_minor};
+ghost use Rattle.std.specs.Prelude.{◌≡◌, IfOk};
+ghost use Rattle.pv_dress.specs.Nodes.{bare_of};
+ghost use Rattle.pv_walk.specs.Making.{new_dress};
+ghost use Rattle.pv_walk.specs.Staging.{new_kind, new_payload, new_major, new_minor, new_mode, new_object};
 
+use pv_acl::Acl;
+use pv_dress::{Bare, Body, Dress};
 use pv_path::Bytes;
-use pv_steps::Kind;
+use pv_steps::{AttrList, Kind, LetterSet, special_bits};
+use std::alloc::{AllocError, Global};
 
 /// A new object with its mode and owners.
 #[derive(Debug, Drop)]
@@ -68,5 +73,49 @@ impl NewKind {
             NewKind::Device { major, minor, .. } => (*major, *minor),
             _ => (0, 0),
         }
+    }
+}
+
+/// A new object without its stamps.
+pub fn new_bare(alloc: Global, new: &NewFile) -> Result<Bare, AllocError>
+    ensures { IfOk result (λ bare. bare ≡ bare_of (new_object new.now 0)) }
+{
+    let (major, minor) = new.what.numbers();
+    Ok(Bare {
+        body: Body {
+            kind: new.what.kind(),
+            payload: Bytes::copy_of(alloc, new.what.payload())?,
+            major,
+            minor,
+        },
+        dress: dress_of(alloc, new),
+    })
+}
+
+/// What a new object is to wear: no more than its mode gives, no extended attributes and no letters.
+pub(crate) fn dress_of(alloc: Global, new: &NewFile) -> Dress
+    ensures { result ≡ new_dress new.now }
+{
+    let mode = mode_of(&new.what, new.mode);
+    Dress {
+        uid: new.uid,
+        gid: new.gid,
+        special: special_bits(mode),
+        acl: Acl::of_mode(alloc, mode),
+        attrs: AttrList::new(alloc),
+        letters: LetterSet::new(),
+    }
+}
+
+/// The mode of a new object: of a link always 0777.
+fn mode_of(what: &NewKind, mode: u16) -> u16
+    ensures { result ≡ new_mode what.now mode }
+{
+    match what {
+        NewKind::Link(_) => 0o777,
+        NewKind::Directory => mode,
+        NewKind::File(_) => mode,
+        NewKind::Fifo => mode,
+        NewKind::Device { .. } => mode,
     }
 }

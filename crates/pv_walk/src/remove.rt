@@ -1,5 +1,5 @@
 //! Removal of what stands below a path.
-ghost use Rattle.std.specs.Prelude.{◌≡◌, ◌≢◌, [], ◌++◌, length, IfOk, OnOk};
+ghost use Rattle.std.specs.Prelude.{◌≡◌, ◌≢◌, [], ◌++◌, length, map, IfOk, OnOk};
 ghost use Rattle.pv_path.specs.Paths.{same_path};
 ghost use Rattle.pv_steps.specs.Trees.{places, IsPresent, IsEmptyIn, IsTree};
 ghost use Rattle.pv_steps.specs.Steps.{gone};
@@ -7,11 +7,11 @@ ghost use Rattle.pv_steps.specs.Objects.{modified};
 ghost use Rattle.pv_steps.specs.Content.{Removes};
 ghost use Rattle.pv_dress.specs.Edits.{Pruned, emptied};
 ghost use Rattle.pv_steps.specs.Acting.{Acted};
-ghost use Rattle.pv_walk.specs.Removal.{is_below, is_one_of, without, count_below, removal, MayHaveGone};
+ghost use Rattle.pv_walk.specs.Removal.{is_below, is_one_of, without, count_below, removal_at, MayHaveGone};
 ghost use Rattle.pv_walk.specs.Listing.{children_of, IsListing, AreRemovable};
 
 use pv_path::{TreePath, child};
-use pv_steps::{Step, Tree, TreeFault, is_directory, try_step};
+use pv_steps::{Step, Tree, TreeFault, is_directory, try_all, try_step};
 use std::alloc::{AllocError, Global};
 
 /// Adds the paths of what stands in the directory at a path, in byte order; nothing where no
@@ -62,34 +62,47 @@ pub(crate) fn remove<T: Tree>(tree: &mut T, path: TreePath, now: u64) -> Result<
     ensures acted { Acted T.Tree (MayHaveGone now path (T.state tree.old))
         (Removes (same_path path)) 1 now tree.old tree.new result }
 {
-    let step = removal(is_directory(tree, &path), path);
+    let step = removal(tree, path);
     try_step(tree, step, now)
 }
 
-/// The step that takes away what stands at a path and has nothing below it.
-fn removal(directory: bool, path: TreePath) -> Step
-    ensures { result ≡ removal directory path }
+/// The step that takes away what stands at a path and has nothing below it (unlink(2), rmdir(2)). It takes no memory.
+pub fn removal<T: Tree>(tree: &T, path: TreePath) -> Step
+    ensures { result ≡ removal_at (T.state tree.now) path }
 {
-    if directory {
+    if is_directory(tree, &path) {
         Step::RemoveDir { path }
     } else {
         Step::Unlink { path }
     }
 }
 
+/// The steps that take away what stands at some paths, in the order of the paths.
+fn removals<T: Tree>(alloc: Global, tree: &T, paths: Vec<TreePath>) -> Result<Vec<Step>, AllocError>
+    ensures { IfOk result (λ steps. steps.items ≡ map (removal_at (T.state tree.now)) paths.items) }
+{
+    let mut steps = Vec::new(alloc);
+    for path in paths {
+        steps.push(removal(tree, path))?;
+    }
+    Ok(steps)
+}
+
 /// Takes away what stands at some paths, from the last one on. A directory that stays and lost a child has changed.
-pub fn remove_all<T: Tree>(tree: &mut T, paths: Vec<TreePath>, now: u64) -> Result<(), TreeFault>
+pub fn remove_all<T: Tree>(
+    alloc: Global,
+    tree: &mut T,
+    paths: Vec<TreePath>,
+    now: u64,
+) -> Result<(), TreeFault>
     requires { AreRemovable (T.state tree.old) paths.items }
     ensures gone { OnOk result
         (places (T.state tree.new) ≡ without (is_one_of paths.items) (modified now) (T.state tree.old)) }
     ensures acted { Acted T.Tree (Pruned (is_one_of paths.items) (T.state tree.old))
         (Removes (is_one_of paths.items)) (length paths.items) now tree.old tree.new result }
 {
-    let mut left = paths;
-    while let Some(last) = left.pop() {
-        remove(tree, last, now)?;
-    }
-    Ok(())
+    let steps = removals(alloc, tree, paths)?;
+    try_all(tree, steps, now)
 }
 
 /// Takes away all that stands below a path: children in byte order, each directory after its
@@ -107,5 +120,5 @@ pub fn remove_below<T: Tree>(
         (count_below (T.state tree.old) path.now) now tree.old tree.new result }
 {
     let paths = below(alloc, tree, path)?;
-    remove_all(tree, paths, now)
+    remove_all(alloc, tree, paths, now)
 }

@@ -1,5 +1,5 @@
 //! New objects, made under a staging name.
-ghost use Rattle.std.specs.Prelude.{◌≡◌, ◌≢◌, ◌≤◌, true, [], IfOk, OnOk};
+ghost use Rattle.std.specs.Prelude.{◌≡◌, ◌≢◌, true, [], IfOk, OnOk};
 ghost use Rattle.std.specs.Option.{option_copied};
 ghost use Rattle.pv_path.specs.Paths.{parent_of, is_prefix, staging_of};
 ghost use Rattle.pv_steps.specs.declared.step.Step.TheVariants.{Write};
@@ -8,14 +8,13 @@ ghost use Rattle.pv_steps.specs.Trees.{places, IsKind, IsAbsentIn};
 ghost use Rattle.pv_steps.specs.Steps.{HasRoom, made};
 ghost use Rattle.pv_dress.specs.Edits.{SameOutside};
 ghost use Rattle.pv_steps.specs.Acting.{Acted};
-ghost use Rattle.pv_walk.specs.Staging.{IsNewFile, GivesNew, new_object, new_mode, can_stage, most_staged};
-ghost use Rattle.pv_walk.specs.Making.{make_step, content_of, held_object, new_dress};
+ghost use Rattle.pv_walk.specs.Staging.{IsNewFile, GivesNew, new_object, can_stage, most_staged};
+ghost use Rattle.pv_walk.specs.Making.{make_step, content_of, held_object};
 
-use crate::new_file::{NewFile, NewKind};
-use pv_acl::Acl;
-use pv_dress::{Dress, dress};
+use crate::new_file::{NewFile, NewKind, dress_of};
+use pv_dress::dress;
 use pv_path::{Bytes, TreePath, staging};
-use pv_steps::{AttrList, LetterSet, Step, Tree, TreeFault, special_bits, try_step};
+use pv_steps::{Step, Tree, TreeFault, try_step};
 use std::alloc::{AllocError, Global};
 
 /// Makes a new object under the staging name of a path, with its content, owners and mode, all four stamps
@@ -133,36 +132,5 @@ fn content_of(what: &NewKind) -> Option<&Bytes>
         NewKind::Link(_) => None,
         NewKind::Fifo => None,
         NewKind::Device { .. } => None,
-    }
-}
-
-/// What a new object is to wear: no more than its mode gives, no extended attributes and no letters.
-fn dress_of(alloc: Global, new: &NewFile) -> Dress
-    requires { new.now.mode ≤ 4095 }
-    ensures { result ≡ new_dress new.now }
-{
-    let mode = mode_of(&new.what, new.mode);
-    Dress {
-        uid: new.uid,
-        gid: new.gid,
-        special: special_bits(mode),
-        acl: Acl::of_mode(alloc, mode),
-        attrs: AttrList::new(alloc),
-        letters: LetterSet::new(),
-    }
-}
-
-/// The mode of a new object: of a link always 0777.
-fn mode_of(what: &NewKind, mode: u16) -> u16
-    requires { mode ≤ 4095 }
-    ensures value { result ≡ new_mode what.now mode }
-    ensures range { result ≤ 4095 }
-{
-    match what {
-        NewKind::Link(_) => 0o777,
-        NewKind::Directory => mode,
-        NewKind::File(_) => mode,
-        NewKind::Fifo => mode,
-        NewKind::Device { .. } => mode,
     }
 }

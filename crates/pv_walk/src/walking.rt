@@ -2,7 +2,7 @@
 ghost use Rattle.std.specs.Prelude.{◌≡◌, ◌<◌, ◌≤◌, ◌^◌, length, IfOk};
 ghost use Rattle.std.specs.Option.{option_or};
 ghost use Rattle.pv_steps.specs.Trees.{places, IsTree};
-ghost use Rattle.pv_steps.specs.Refusal.{why_blocked};
+ghost use Rattle.pv_steps.specs.Refusal.{refusal, why_blocked};
 ghost use Rattle.pv_walk.specs.Walking.{walked, unrefused, first_blocked};
 ghost use Rattle.pv_walk.specs.Seeing.{seen_of, seen_kind, seen_owner, why_owner, if_absent};
 
@@ -60,6 +60,23 @@ pub fn walk<T: Tree>(
     match why_owner(above, owner_of(place, made)) {
         Some(why) => Ok(Walked::Refused(last, why)),
         None => Ok(end_of(or_absent(absent, place, last))),
+    }
+}
+
+/// The place at which such a walk is refused, counted by the names that lead to it, and why.
+pub fn refusal_of<T: Tree>(
+    alloc: Global,
+    tree: &T,
+    path: &TreePath,
+    made: u32,
+) -> Result<Option<(u32, Why)>, AllocError>
+    requires { length path.now < 2 ^ 32 }
+    ensures refusal { IfOk result (λ place. place ≡ refusal (places (T.state tree.now)) path.now made) }
+    ensures tree { IsTree (T.state tree.now) }
+{
+    match walk(alloc, tree, path, made)? {
+        Walked::Refused(place, why) => Ok(Some((place, why))),
+        Walked::Present | Walked::Absent(_) => Ok(None),
     }
 }
 

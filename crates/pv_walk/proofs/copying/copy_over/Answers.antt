@@ -1,12 +1,13 @@
-use Rattle.std.proofs.Common.{◌+◌, ◌*◌, [], sym, ap, ◌∙◌, arith}
+use Rattle.std.proofs.Common.{◌+◌, ◌*◌, ap, ◌∙◌, arith}
 use Rattle.std.specs.Prelude.{is_some}
 use Rattle.pv_dress.specs.Edits.{count_at}
-use Rattle.pv_path.specs.Paths.{Path, parent_of, staging_of}
+use Rattle.pv_path.specs.Paths.{Path, staging_of}
 use Rattle.pv_path.proofs.PathLaws.{parent_of-staging_of}
 use Rattle.pv_steps.specs.Steps.{moved}
 use Rattle.pv_steps.specs.Trees.{Places, places, kind_of}
 use Rattle.pv_steps.proofs.ActingLaws.{Moves, acted_passed}
-use Rattle.pv_walk.specs.Copying.{copied, copied_count}
+use Rattle.pv_dress.specs.Nodes.{bares_of}
+use Rattle.pv_walk.specs.Copying.{copy_from, copied_count, topped}
 use Rattle.pv_walk.specs.Staging.{most_new}
 use Rattle.pv_walk.proofs.CopiedLaws.{top_present}
 use Rattle.pv_walk.proofs.CopyingLaws.{copy_moved, copy_staged, copy_staging, copy_acted, copied_some}
@@ -18,7 +19,7 @@ pub publish-requires-clause-staged : goal.publish-requires-clause-staged
 publish-requires-clause-staged g c =
     let t = g.T.Tree.state c.args.tree.now in
     let path = c.args.path.now in
-    let s = copied c.args.top.now c.args.source.now (places t) in
+    let s = copy_from (topped c.args.top.now) c.args.source.now (bares_of (places t)) in
     let up = ap (λ (p : Path). kind_of (places t p)) (parent_of-staging_of path) ∙ c.requires.parent in
     ap (λ (x : Places). is_some (x (staging_of path))) c.in_ok-stage_copy.ensures.ok
     ∙ copy_staged c.args.now path c.requires.not_root s t c.requires.parent c.look-there.ensures.tree c.requires.free (staging_nonempty path c.requires.not_root) up (top_present c.args.top.now c.args.source.now t c.requires.source)
@@ -27,7 +28,7 @@ pub returns-clause-ok : goal.returns-clause-ok
 returns-clause-ok g c =
     let t = g.T.Tree.state c.args.tree.now in
     let path = c.args.path.now in
-    let s = copied c.args.top.now c.args.source.now (places t) in
+    let s = copy_from (topped c.args.top.now) c.args.source.now (bares_of (places t)) in
     let up = ap (λ (p : Path). kind_of (places t p)) (parent_of-staging_of path) ∙ c.requires.parent in
     on_ok c.publish.result
     (λ e. e ∙ ap (moved c.args.now (staging_of path) path) c.in_ok-stage_copy.ensures.ok
@@ -38,7 +39,7 @@ pub returns-in_err-stage_copy-clause-acted : goal.returns-in_err-stage_copy-clau
 returns-in_err-stage_copy-clause-acted g c =
     let t = g.T.Tree.state c.args.tree.now in
     let path = c.args.path.now in
-    let s = copied c.args.top.now c.args.source.now (places t) in
+    let s = copy_from (topped c.args.top.now) c.args.source.now (bares_of (places t)) in
     let up = ap (λ (p : Path). kind_of (places t p)) (parent_of-staging_of path) ∙ c.requires.parent in
     let n = copied_count s c.args.source.now t in
     acted_passed g.T.Tree c.stage_copy.result c.from_residual.result c.in_err-stage_copy.was c.from_residual.ensures.1
@@ -50,7 +51,7 @@ returns-clause-acted g c =
     let moves : Moves g.T.Tree = record { stays = g.met.T.Tree.reaches_self; goes_on = g.met.T.Tree.reaches_on; never_falls = g.met.T.Tree.never_falls } in
     let t = g.T.Tree.state c.args.tree.now in
     let path = c.args.path.now in
-    let s = copied c.args.top.now c.args.source.now (places t) in
+    let s = copy_from (topped c.args.top.now) c.args.source.now (bares_of (places t)) in
     let up = ap (λ (p : Path). kind_of (places t p)) (parent_of-staging_of path) ∙ c.requires.parent in
     copy_acted g.T.Tree c.args.now path c.requires.not_root s c.args.tree.now c.stage_copy.new.tree c.requires.parent c.look-there.ensures.tree c.requires.free (staging_nonempty path c.requires.not_root) up
     (copied_count s c.args.source.now t) moves (copied_some s c.args.source.now t (top_present c.args.top.now c.args.source.now t c.requires.source) c.requires.source)

@@ -1,10 +1,10 @@
-use Rattle.std.proofs.Common.{◌≡◌, ◌≤◌, ◌+◌, ◌-◌, ℕ, true, sym, ap, subst, ◌∙◌, refl, [], ◌∷◌, ◌++◌, List, length, Result, arith}
+use Rattle.std.proofs.Common.{◌≡◌, ◌-◌, sym, ◌∙◌, refl, [], arith}
 use Rattle.std.proofs.lemmas.List.{nil_from_length}
 use Rattle.pv_dress.specs.Edits.{SameOutside}
 use Rattle.pv_path.specs.Paths.{is_prefix}
 use Rattle.pv_steps.proofs.ActingLaws.{Moves, well, acted_none, acted_within, acted_passed}
 use Rattle.pv_walk.specs.Copying.{GivesPart}
-use Rattle.pv_walk.specs.Pieces.{piece_cost, cost_of, made_of}
+use Rattle.pv_walk.specs.Pieces.{cost_of, made_of}
 use Rattle.pv_walk.proofs.CopyListing.{cost-push}
 use Rattle.pv_walk.proofs.CopyingLaws.{doing_start, doing_outside, doing_can, doing_end, one_more, next_done}
 use Rattle.pv_walk.proofs.copying.put_pieces.Goals as goal

@@ -1,10 +1,11 @@
-use Rattle.std.proofs.Common.{◌*◌, ◌++◌, [], sym, ap, ◌∙◌}
+use Rattle.std.proofs.Common.{◌*◌, ◌++◌, [], ap, ◌∙◌}
 use Rattle.pv_path.specs.Paths.{Path, parent_of, staging_of}
 use Rattle.pv_path.proofs.PathLaws.{is_prefix-append, parent_of-staging_of}
 use Rattle.pv_dress.specs.declared.bare.Bare.{Bare}
 use Rattle.std.specs.Prelude.{Option, is_some}
 use Rattle.pv_steps.specs.Trees.{places, kind_of}
-use Rattle.pv_walk.specs.Copying.{copied, copied_count, with_subtree}
+use Rattle.pv_dress.specs.Nodes.{bares_of}
+use Rattle.pv_walk.specs.Copying.{copy_from, copied_count, with_subtree, topped}
 use Rattle.pv_walk.specs.Pieces.{made_of}
 use Rattle.pv_walk.specs.Staging.{most_staged}
 use Rattle.pv_walk.proofs.CopiedLaws.{top_present}
@@ -31,7 +32,7 @@ put_pieces-requires-clause-free g c = λ rest.
 pub returns-clause-acted : goal.returns-clause-acted
 returns-clause-acted g c =
     let t = g.T.Tree.state c.args.tree.now in
-    let s = copied c.args.top.now c.args.source.now (places t) in
+    let s = copy_from (topped c.args.top.now) c.args.source.now (bares_of (places t)) in
     staged_acted g.T.Tree c.args.path.now c.in_ok-stage.stage s c.in_ok-pieces.pieces.items (most_staged * copied_count s c.args.source.now t) c.in_ok-stage.ensures c.in_ok-pieces.ensures.all c.in_ok-pieces.ensures.few c.put_pieces.ensures.acted
 
 pub returns-clause-ok : goal.returns-clause-ok

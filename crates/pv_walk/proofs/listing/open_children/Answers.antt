@@ -1,8 +1,6 @@
-use Rattle.std.proofs.Common.{◌≡◌, sym, ap, subst, ◌∙◌, List, [], ◌∷◌, ◌++◌, map, ℕ, true, false, Some}
+use Rattle.std.proofs.Common.{◌≡◌, sym, ap, ◌∙◌, List, [], ◌∷◌, ◌++◌, map, ℕ, true, false}
 use Rattle.std.proofs.lemmas.List.{append-nil, take_all}
-use Rattle.pv_path.specs.Paths.{Path}
-use Rattle.pv_steps.specs.Trees.{places, kind_of, names_below}
-use Rattle.pv_steps.specs.declared.node.Kind.TheVariants.{Directory}
+use Rattle.pv_steps.specs.Trees.{names_below}
 use Rattle.pv_walk.specs.declared.listing.Task.TheVariants.{Open}
 use Rattle.pv_walk.proofs.EmptyingLaws.{no_names}
 use Rattle.pv_walk.proofs.listing.open_children.Goals as goal

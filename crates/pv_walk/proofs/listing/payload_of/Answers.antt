@@ -1,7 +1,4 @@
-use Rattle.std.proofs.Common.{sym}
 use Rattle.pv_walk.proofs.CopiedLaws.{no_payload}
-use Rattle.pv_walk.proofs.PlanLaws.{below_fills}
-use Rattle.pv_walk.proofs.BuildingLaws.{worn_built, made_built, made_gives}
 use Rattle.pv_walk.proofs.listing.payload_of.Goals as goal
 
 pub returns-in_default : goal.returns-in_default

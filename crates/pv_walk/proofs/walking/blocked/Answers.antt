@@ -1,8 +1,7 @@
-use Rattle.std.proofs.Common.{◌≡◌, ◌<◌, ◌+◌, ◌-◌, length, take, sym, ap, ◌∙◌, arith, [], ◌∷◌, ◌++◌, get_or}
+use Rattle.std.proofs.Common.{◌≡◌, ◌<◌, ◌+◌, ◌-◌, length, sym, ap, ◌∙◌, arith, [], ◌∷◌, ◌++◌, get_or}
 use Rattle.std.specs.List.{range_with_len}
 use Rattle.std.proofs.lemmas.List.{take_more}
 use Rattle.pv_steps.specs.Trees.{places}
-use Rattle.pv_walk.specs.Seeing.{seen_of, seen_kind}
 use Rattle.pv_walk.specs.Walking.{blocked_from}
 use Rattle.pv_walk.proofs.WalkLaws.{range_start, range_step, range_none, blocked_here, blocked_next}
 use Rattle.pv_walk.proofs.walking.blocked.Goals as goal
