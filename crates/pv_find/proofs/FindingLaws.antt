@@ -16,6 +16,7 @@ use Rattle.std.proofs.lemmas.List.Elements.{filter_more}
 use Rattle.std.proofs.lemmas.List.Kept.{IsStrictlySortedBy-filter, Contains-dedup, Contains-from_dedup}
 use Rattle.std.proofs.lemmas.Map.Lookups.{btree_set_from_contains}
 use Rattle.std.proofs.lemmas.Map.Views.{any-filter_same, list_any-from_Contains, Contains-from_any}
+use Rattle.std.proofs.Math.Bool.{and_comm, and-false, and-true, or-false}
 use Rattle.pv_path.specs.Names.{is_staging}
 use Rattle.pv_path.specs.Paths.{Path, path_cmp, path_total, same_path, same_path-decides, is_prefix, has_staging, parent_of}
 use Rattle.pv_path.proofs.PathLaws.{path_cmp-refl, path_cmp-exact, name_cmp-refl, name_cmp-exact, is_prefix-refl, path_ends, parent_of-push, has_staging-append}
@@ -26,7 +27,7 @@ use Rattle.pv_glob.specs.declared.element.Element.TheVariants.{Byte}
 use Rattle.pv_steps.specs.declared.node.Kind.TheVariants.{Directory}
 use Rattle.pv_steps.specs.declared.object.Object.{Object}
 use Rattle.pv_steps.specs.Trees.{Files, places, kind_of, child_name, names_below, IsTree}
-use Rattle.pv_steps.proofs.AttrOrder.{name_cmp}
+use Rattle.pv_path.specs.Names.{name_cmp}
 use Rattle.pv_steps.proofs.NameLaws.{child_name-Some, child_name-push, names_below-are}
 use Rattle.pv_steps.proofs.TreeLaws.{present_above, present_of_kind, directory_above}
 use Rattle.pv_walk.specs.Removal.{is_one_of}
@@ -105,12 +106,6 @@ one_of-dedup q paths = true_both (is_one_of (dedup same_path paths) q) (is_one_o
     back : is_one_of paths q ≡ true → is_one_of (dedup same_path paths) q ≡ true
     back h = alike (dedup same_path paths) ∙ list_any-from_Contains (lists_equiv nat_list_eq_equiv) q (dedup same_path paths) (Contains-dedup (lists_equiv nat_list_eq_equiv) equal paths q (Contains-from_any equal q paths (sym (alike paths) ∙ h)))
 
-and-swap : (a b : Bool) → (a && b) ≡ (b && a)
-and-swap true true = refl
-and-swap true false = refl
-and-swap false true = refl
-and-swap false false = refl
-
 -- a list in order is decided by its members
 pub in_order_is : (files : Files) (f : Path → Bool) (paths : List Path) → IsStrictlySortedBy path_cmp paths
     → ((q : Path) → is_one_of paths q ≡ (is_some (places files q) && f q)) → paths ≡ filter f (fin.keys files)
@@ -118,7 +113,7 @@ in_order_is files f paths rises members =
     btree_set_from_contains path_total (record { keys = paths }) (record { keys = filter f (fin.keys files) }) rises
     (IsStrictlySortedBy-filter path_cmp f (fin.keys files) (keys_rise (fin.entries files) (fin.entries_sorted files)))
     (λ q.
-    one_of-tied paths q ∙ members q ∙ and-swap (is_some (places files q)) (f q)
+    one_of-tied paths q ∙ members q ∙ and_comm (is_some (places files q)) (f q)
     ∙ ap (λ b. f q && b) (fin.contains_key-keys files q)
     ∙ sym (any-filter_same (eq_by_cmp path_cmp q) f (f q) (λ k e. ap f (sym (path_cmp-exact q k (tied (path_cmp q k) e)))) (fin.keys files)))
     path_cmp-exact
@@ -130,16 +125,12 @@ one_is files path if_there members rises = in_order_is files (same_path path) if
 
 -- ---- one component more
 
-pub and_false : (a : Bool) → (a && false) ≡ false
-and_false true = refl
-and_false false = refl
-
 -- where a path and one name lie directly below one of some paths, it is the path
 pub none_there : (f : List ℕ → Bool) (q : Path) (paths : List Path) → ((p : Path) → child_name p q ≡ None) → (b : Bool)
     → list_any (λ p. b && option_map_or f (child_name p q) false) paths ≡ false
 none_there f q [] childless b = refl
 none_there f q (p ∷ paths) childless b =
-    ap (λ x. x || list_any (λ r. b && option_map_or f (child_name r q) false) paths) (ap (λ o. b && option_map_or f o false) (childless p) ∙ and_false b)
+    ap (λ x. x || list_any (λ r. b && option_map_or f (child_name r q) false) paths) (ap (λ o. b && option_map_or f o false) (childless p) ∙ and-false b)
     ∙ none_there f q paths childless b
 
 no_child : (p above : Path) (n : List ℕ) → same_path p above ≡ false → child_name p (above ++ n ∷ []) ≡ None
@@ -167,7 +158,7 @@ one_above f above n b (p ∷ paths) =
   where
     here : (s : Bool) → same_path p above ≡ s → (b && option_map_or f (child_name p (above ++ n ∷ [])) false) ≡ (s && (b && f n))
     here true e = ap (λ v. b && option_map_or f (child_name v (above ++ n ∷ [])) false) ((same_path-decides p above).0 e) ∙ ap (λ o. b && option_map_or f o false) (child_name-push above n)
-    here false e = ap (λ o. b && option_map_or f o false) (no_child p above n e) ∙ and_false b
+    here false e = ap (λ o. b && option_map_or f o false) (no_child p above n e) ∙ and-false b
 
 pub root_no_child : (p : Path) → child_name p [] ≡ None
 root_no_child p = by (child_name p []) refl
@@ -183,15 +174,11 @@ root_no_child p = by (child_name p []) refl
 -- a pattern of one component more matches a path of one name more
 push_matches : (plain : List (List Element)) (component : List Element) (above : Path) (n : List ℕ)
     → pointwise component_matches (plain ++ component ∷ []) (above ++ n ∷ []) ≡ (pointwise component_matches plain above && component_matches component n)
-push_matches [] component [] n = and_true (component_matches component n)
-  where
-    and_true : (b : Bool) → (b && true) ≡ b
-    and_true true = refl
-    and_true false = refl
-push_matches [] component (m ∷ []) n = and_false (component_matches component m)
-push_matches [] component (m ∷ k ∷ above) n = and_false (component_matches component m)
-push_matches (c ∷ []) component [] n = and_false (component_matches c n)
-push_matches (c ∷ d ∷ plain) component [] n = and_false (component_matches c n)
+push_matches [] component [] n = and-true (component_matches component n)
+push_matches [] component (m ∷ []) n = and-false (component_matches component m)
+push_matches [] component (m ∷ k ∷ above) n = and-false (component_matches component m)
+push_matches (c ∷ []) component [] n = and-false (component_matches c n)
+push_matches (c ∷ d ∷ plain) component [] n = and-false (component_matches c n)
 push_matches (c ∷ plain) component (m ∷ above) n = ap (λ b. component_matches c m && b) (push_matches plain component above n) ∙ and_assoc (component_matches c m) (pointwise component_matches plain above) (component_matches component n)
   where
     and_assoc : (a b c : Bool) → (a && (b && c)) ≡ ((a && b) && c)
@@ -227,7 +214,7 @@ one_component_more files tree plain component paths next before after q = elim (
       after q
       ∙ ap (λ (r : Path). list_any (λ p. extends files (component ∷ []) p r) paths) root
       ∙ none_there (λ n. matches (component ∷ []) (n ∷ [])) [] paths root_no_child (is_some (places files []))
-      ∙ sym (ap (λ b. is_some (places files []) && b) (no_root_match plain component) ∙ and_false (is_some (places files [])))
+      ∙ sym (ap (λ b. is_some (places files []) && b) (no_root_match plain component) ∙ and-false (is_some (places files [])))
       ∙ sym (ap (λ (r : Path). is_some (places files r) && matches (plain ++ component ∷ []) r) root)
   | inr (above, name, e) ↦
       after q
@@ -280,11 +267,11 @@ children_pass files f path q = children_are path q (filter f (names_below files 
   where
     by : (o : Option (List ℕ)) → child_name path q ≡ o
         → option_map_or (λ m. list_any (eq_by_cmp name_cmp m) (filter f (names_below files path))) o false ≡ (is_some (places files q) && option_map_or f o false)
-    by None is = sym (and_false (is_some (places files q)))
+    by None is = sym (and-false (is_some (places files q)))
     by (Some m) is =
         any-filter_same (eq_by_cmp name_cmp m) f (f m) (λ k e. ap f (sym (name_cmp-exact m k (tied (name_cmp m k) e)))) (names_below files path)
         ∙ ap (λ b. f m && b) (names_below-are files path m ∙ ap (λ (r : Path). is_some (places files r)) (sym (child_name-Some path q m is)))
-        ∙ and-swap (f m) (is_some (places files q))
+        ∙ and_comm (f m) (is_some (places files q))
 
 -- those that a pattern of one component matches
 pub children_match : (files : Files) (plain : List (List Element)) (path q : Path)
@@ -297,11 +284,7 @@ pub child_matches : (files : Files) (plain : List (List Element)) (path q : Path
 child_matches files plain path q name only fits = true_both _ _ forth back
   where
     in_cond : (b : Bool) → is_one_of (cond b ((path ++ name ∷ []) ∷ []) []) q ≡ true → (b ≡ true) × (path ++ name ∷ [] ≡ q)
-    in_cond true h = (refl, (same_path-decides (path ++ name ∷ []) q).0 (sym (or_false (same_path (path ++ name ∷ []) q)) ∙ h))
-      where
-        or_false : (b : Bool) → (b || false) ≡ b
-        or_false true = refl
-        or_false false = refl
+    in_cond true h = (refl, (same_path-decides (path ++ name ∷ []) q).0 (sym (or-false (same_path (path ++ name ∷ []) q)) ∙ h))
     in_cond false h = cc
 
     forth : is_one_of (cond (is_some (places files (path ++ name ∷ []))) ((path ++ name ∷ []) ∷ []) []) q ≡ true → extends files plain path q ≡ true
@@ -335,8 +318,8 @@ nothing_matches files plain name only fits q (p ∷ paths) = nothing_matches fil
         at false e = refl
 
     by : (o : Option (List ℕ)) → (is_some (places files q) && option_map_or (λ n. matches plain (n ∷ [])) o false) ≡ false
-    by None = and_false (is_some (places files q))
-    by (Some n) = ap (λ b. is_some (places files q) && b) (none n) ∙ and_false (is_some (places files q))
+    by None = and-false (is_some (places files q))
+    by (Some n) = ap (λ b. is_some (places files q) && b) (none n) ∙ and-false (is_some (places files q))
 
 -- ---- one item more of a loop
 
@@ -379,7 +362,7 @@ plain_more q there old new more plains i plain within is before after here =
 -- the root is all that a pattern without components matches
 pub root_matches : (files : Files) → IsTree files → (q : Path) → is_one_of ([] ∷ []) q ≡ (is_some (places files q) && matches [] q)
 root_matches files tree [] = sym (ap (λ b. b && true) (present_of_kind (places files) [] Directory tree.root))
-root_matches files tree (n ∷ q) = sym (ap (λ b. is_some (places files (n ∷ q)) && b) (and_false (not (has_staging (n ∷ q)))) ∙ and_false (is_some (places files (n ∷ q))))
+root_matches files tree (n ∷ q) = sym (ap (λ b. is_some (places files (n ∷ q)) && b) (and-false (not (has_staging (n ∷ q)))) ∙ and-false (is_some (places files (n ∷ q))))
 
 pub root_present : (files : Files) → IsTree files → is_some (places files []) ≡ false → ⊥
 root_present files tree none = let there = present_of_kind (places files) [] Directory tree.root in cc
@@ -403,19 +386,15 @@ no_names files tree path other = by (names_below files path) refl
 
 -- ---- what stands at and below a path
 
-pub or_false : (a : Bool) → (a || false) ≡ a
-or_false true = refl
-or_false false = refl
-
 -- one path, where something stands there
 pub standing_is : (files : Files) (path q : Path) → is_one_of (cond (is_some (places files path)) (path ∷ []) []) q ≡ (is_some (places files q) && same_path path q)
 standing_is files path q = by (is_some (places files path)) refl (same_path path q) refl
   where
     by : (b : Bool) → is_some (places files path) ≡ b → (s : Bool) → same_path path q ≡ s → is_one_of (cond b (path ∷ []) []) q ≡ (is_some (places files q) && s)
-    by true there true e = or_false (same_path path q) ∙ e ∙ sym (ap (λ b. b && true) (ap (λ (r : Path). is_some (places files r)) (sym ((same_path-decides path q).0 e)) ∙ there))
-    by true there false e = or_false (same_path path q) ∙ e ∙ sym (and_false (is_some (places files q)))
+    by true there true e = or-false (same_path path q) ∙ e ∙ sym (ap (λ b. b && true) (ap (λ (r : Path). is_some (places files r)) (sym ((same_path-decides path q).0 e)) ∙ there))
+    by true there false e = or-false (same_path path q) ∙ e ∙ sym (and-false (is_some (places files q)))
     by false there true e = sym (ap (λ b. b && true) (ap (λ (r : Path). is_some (places files r)) (sym ((same_path-decides path q).0 e)) ∙ there))
-    by false there false e = sym (and_false (is_some (places files q)))
+    by false there false e = sym (and-false (is_some (places files q)))
 
 -- a listing has what stands below
 pub listed_are : (files : Files) (path : Path) (listed : List Path) → IsListing files path listed → (q : Path) → is_one_of listed q ≡ stands_below files path q
@@ -447,4 +426,4 @@ keys_passing files f q =
     sym (one_of-tied (filter f (fin.keys files)) q)
     ∙ any-filter_same (eq_by_cmp path_cmp q) f (f q) (λ k e. ap f (sym (path_cmp-exact q k (tied (path_cmp q k) e)))) (fin.keys files)
     ∙ ap (λ b. f q && b) (sym (fin.contains_key-keys files q))
-    ∙ and-swap (f q) (is_some (places files q))
+    ∙ and_comm (f q) (is_some (places files q))

@@ -12,10 +12,12 @@ use Rattle.std.specs.Ordering.{eq_by_cmp, is_eq, ordering_reverse}
 use Rattle.std.specs.declared.cmp.Ordering.{Ordering}
 use Rattle.std.specs.declared.cmp.Ordering.TheVariants.{Less, Equal}
 use Rattle.std.specs.FinMap as fin
+use Rattle.std.proofs.lemmas.Bool.{and_parts, and_from}
+use Rattle.std.proofs.Math.Bool.{or-false, or-true}
 use Rattle.pv_path.specs.Paths.{Path, path_cmp, path_total, same_path, same_path-decides, is_prefix}
 use Rattle.pv_path.proofs.PathLaws.{same_path-refl, path_cmp-refl, path_cmp-exact, name_cmp-refl, name_cmp-exact, is_prefix-append, is_prefix-trans, is_prefix-refl, prefix_parts, prefix_not_greater}
 use Rattle.pv_steps.specs.Trees.{Files, places, names_below, IsTree, IsPresent}
-use Rattle.pv_steps.proofs.AttrOrder.{name_cmp}
+use Rattle.pv_path.specs.Names.{name_cmp}
 use Rattle.pv_steps.proofs.NameLaws.{names_below-are}
 use Rattle.pv_steps.proofs.TreeLaws.{present_above}
 use Rattle.pv_walk.specs.Removal.{is_one_of}
@@ -29,18 +31,11 @@ use Rattle.pv_find.proofs.FindingLaws.{one_of-tied, same_tied, true_both, tied}
 
 -- ---- members of lists
 
-both : (a b : Bool) → (a && b) ≡ true → (a ≡ true) × (b ≡ true)
-both true b h = (refl, h)
-both false b h = absurd (let wrong : false ≡ true = h in cc)
-
-both_true : (a b : Bool) → a ≡ true → b ≡ true → (a && b) ≡ true
-both_true a b h g = ap (λ x. x && b) h ∙ g
-
 -- what all of a list pass, each member passes
 pub member_passes : {A : Type 0} (e : A → A → Bool) → ((x y : A) → e x y ≡ true → x ≡ y) → (g : A → Bool) (x : A) (ys : List A) → list_all g ys ≡ true → list_any (e x) ys ≡ true → g x ≡ true
 member_passes e exact g x [] all some = cc
 member_passes e exact g x (y ∷ ys) all some =
-    let parts = both (g y) (list_all g ys) all in
+    let parts = and_parts (g y) (list_all g ys) all in
     by parts.0 (member_passes e exact g x ys parts.1) (e x y) refl some
   where
     by : g y ≡ true → (list_any (e x) ys ≡ true → g x ≡ true) → (b : Bool) → e x y ≡ b → (b || list_any (e x) ys) ≡ true → g x ≡ true
@@ -51,7 +46,7 @@ member_passes e exact g x (y ∷ ys) all some =
 pub members_pass : {A : Type 0} (e : A → A → Bool) → ((x : A) → e x x ≡ true) → (g : A → Bool) (ys : List A) → ((x : A) → list_any (e x) ys ≡ true → g x ≡ true) → list_all g ys ≡ true
 members_pass e same g [] each = refl
 members_pass e same g (y ∷ ys) each =
-    both_true (g y) (list_all g ys) (each y (ap (λ b. b || list_any (e y) ys) (same y)))
+    and_from (g y) (list_all g ys) (each y (ap (λ b. b || list_any (e y) ys) (same y)))
     (members_pass e same g ys (λ x h. each x (or_true (e x y) h)))
   where
     or_true : (b : Bool) {c : Bool} → c ≡ true → (b || c) ≡ true
@@ -98,13 +93,13 @@ each-all_at test files path each =
 -- what goes whole, in its parts
 pub goes_parts : (test : Path → Bool) (files : Files) (path : Path) → goes_whole test files path ≡ true → (is_some (places files path) ≡ true) × (not (length path == 0) ≡ true) × (all_at test files path ≡ true)
 goes_parts test files path h =
-    let one = both (is_some (places files path) && not (length path == 0)) (all_at test files path) h in
-    let two = both (is_some (places files path)) (not (length path == 0)) one.0 in
+    let one = and_parts (is_some (places files path) && not (length path == 0)) (all_at test files path) h in
+    let two = and_parts (is_some (places files path)) (not (length path == 0)) one.0 in
     (two.0, two.1, one.1)
 
 pub goes_from : (test : Path → Bool) (files : Files) (path : Path) → is_some (places files path) ≡ true → not (length path == 0) ≡ true → all_at test files path ≡ true → goes_whole test files path ≡ true
 goes_from test files path there below_root all =
-    both_true (is_some (places files path) && not (length path == 0)) (all_at test files path) (both_true (is_some (places files path)) (not (length path == 0)) there below_root) all
+    and_from (is_some (places files path) && not (length path == 0)) (all_at test files path) (and_from (is_some (places files path)) (not (length path == 0)) there below_root) all
 
 -- tests that agree on what stands there decide alike what goes whole
 pub goes_whole-same : (f g : Path → Bool) (files : Files) → ((q : Path) → is_some (places files q) ≡ true → f q ≡ g q) → (path : Path) → goes_whole f files path ≡ goes_whole g files path
@@ -190,10 +185,6 @@ or_absorbs true true = refl
 or_absorbs true false = refl
 or_absorbs false b = refl
 
-or_false : (a : Bool) → (a || false) ≡ a
-or_false true = refl
-or_false false = refl
-
 one_of-append : (xs ys : List Path) (q : Path) → is_one_of (xs ++ ys) q ≡ (is_one_of xs q || is_one_of ys q)
 one_of-append xs ys q = list_any-append (λ p. same_path p q) xs ys
 
@@ -224,11 +215,7 @@ module _ (paths : List Path) (files : Files) (tree : IsTree files) (rises : IsSt
     split = sym (append_assoc front (p ∷ []) d.back) ∙ d.all
 
     listed : is_one_of paths p ≡ true
-    listed = ap (λ (xs : List Path). is_one_of xs p) (sym split) ∙ one_of-append front (p ∷ d.back) p ∙ ap (λ b. is_one_of front p || b) (one_of-itself d.back p) ∙ or_true (is_one_of front p)
-      where
-        or_true : (a : Bool) → (a || true) ≡ true
-        or_true true = refl
-        or_true false = refl
+    listed = ap (λ (xs : List Path). is_one_of xs p) (sym split) ∙ one_of-append front (p ∷ d.back) p ∙ ap (λ b. is_one_of front p || b) (one_of-itself d.back p) ∙ or-true (is_one_of front p)
 
     -- a child that is one of the paths is decided
     child_behind : (n : List ℕ) → is_one_of paths (p ++ n ∷ []) ≡ true → is_one_of d.back (p ++ n ∷ []) ≡ true
@@ -240,8 +227,8 @@ module _ (paths : List Path) (files : Files) (tree : IsTree files) (rises : IsSt
 
     child_decided : (n : List ℕ) → is_one_of whole (p ++ n ∷ []) ≡ goes_whole (is_one_of paths) files (p ++ n ∷ [])
     child_decided n = true_both (is_one_of whole (p ++ n ∷ [])) (goes_whole (is_one_of paths) files (p ++ n ∷ []))
-        (λ h. (both (is_one_of d.back (p ++ n ∷ [])) (goes_whole (is_one_of paths) files (p ++ n ∷ [])) (sym (d.decided (p ++ n ∷ [])) ∙ h)).1)
-        (λ h. d.decided (p ++ n ∷ []) ∙ both_true (is_one_of d.back (p ++ n ∷ [])) (goes_whole (is_one_of paths) files (p ++ n ∷ [])) (child_behind n (goes_in paths files (p ++ n ∷ []) h)) h)
+        (λ h. (and_parts (is_one_of d.back (p ++ n ∷ [])) (goes_whole (is_one_of paths) files (p ++ n ∷ [])) (sym (d.decided (p ++ n ∷ [])) ∙ h)).1)
+        (λ h. d.decided (p ++ n ∷ []) ∙ and_from (is_one_of d.back (p ++ n ∷ [])) (goes_whole (is_one_of paths) files (p ++ n ∷ [])) (child_behind n (goes_in paths files (p ++ n ∷ []) h)) h)
 
     here : (not (length p == 0) && list_all (λ n. is_one_of whole (p ++ n ∷ [])) (names_below files p)) ≡ goes_whole (is_one_of paths) files p
     here =
@@ -260,12 +247,12 @@ module _ (paths : List Path) (files : Files) (tree : IsTree files) (rises : IsSt
         by q true e =
             ap (λ (r : Path). (is_one_of d.back q && goes_whole (is_one_of paths) files q) || goes_whole (is_one_of paths) files r) ((same_path-decides p q).0 e)
             ∙ or_absorbs (is_one_of d.back q) (goes_whole (is_one_of paths) files q)
-        by q false e = or_false (is_one_of d.back q && goes_whole (is_one_of paths) files q)
+        by q false e = or-false (is_one_of d.back q && goes_whole (is_one_of paths) files q)
 
 pub deciding_end : (paths : List Path) (files : Files) (whole : List Path) → Deciding paths files [] whole → (q : Path) → is_one_of whole q ≡ goes_whole (is_one_of paths) files q
 deciding_end paths files whole d q = d.decided q ∙ true_both (is_one_of d.back q && goes_whole (is_one_of paths) files q) (goes_whole (is_one_of paths) files q)
-    (λ h. (both (is_one_of d.back q) (goes_whole (is_one_of paths) files q) h).1)
-    (λ h. both_true (is_one_of d.back q) (goes_whole (is_one_of paths) files q) (ap (λ (xs : List Path). is_one_of xs q) d.all ∙ goes_in paths files q h) h)
+    (λ h. (and_parts (is_one_of d.back q) (goes_whole (is_one_of paths) files q) h).1)
+    (λ h. and_from (is_one_of d.back q) (goes_whole (is_one_of paths) files q) (ap (λ (xs : List Path). is_one_of xs q) d.all ∙ goes_in paths files q h) h)
 
 -- ---- the deepest last
 
@@ -385,7 +372,7 @@ inserted old new path q all updates is below_root =
     sym (one_of-tied new q) ∙ updates ∙ ap (λ b. cond (is_eq (path_cmp path q)) true b) (one_of-tied old q)
     ∙ ap (λ b. cond b true (is_one_of old q)) (sym (same_tied path q))
     ∙ by (same_path path q) (is_one_of old q)
-    ∙ ap (λ b. is_one_of old q || (same_path path q && b)) (sym (both_true (not (length path == 0)) all (ap not (no_root path below_root)) is))
+    ∙ ap (λ b. is_one_of old q || (same_path path q && b)) (sym (and_from (not (length path == 0)) all (ap not (no_root path below_root)) is))
   where
     no_root : (p : Path) → (p ≡ [] → ⊥) → (length p == 0) ≡ false
     no_root [] h = absurd (h refl)

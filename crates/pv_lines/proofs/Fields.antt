@@ -1,18 +1,16 @@
 -- What the fields of a line are that were read.
-use Rattle.std.specs.Prelude.{◌≡◌, ℕ, ◌<◌, ◌≤◌, ◌^◌, Bool, true, false, not, ◌&&◌, ◌||◌, ◌==◌, nat_le, nat_lt, List, [], ◌∷◌, length, Option, Some, None, IfSome, Result, Ok, Err, if◌then◌else◌, refl}
+use Rattle.std.specs.Prelude.{◌≡◌, ℕ, ◌≤◌, Bool, true, false, not, ◌&&◌, ◌||◌, ◌==◌, nat_le, nat_lt, List, [], ◌∷◌, length, Option, Some, None, IfSome, Result, Ok, Err, if◌then◌else◌, refl}
 use Rattle.std.specs.Char.{is_digit}
 use Rattle.std.specs.List.{list_all, list_any, slice_split}
 use Rattle.std.specs.Str.Parse.{digits_value}
 use Rattle.std.specs.Result.{result_map_both}
 use Rattle.std.proofs.Common.{arith, sym, ap, subst, ◌∙◌}
 use Rattle.std.proofs.lemmas.Bool.Decides.{nat_tests}
+use Rattle.std.proofs.lemmas.Bool.{and_parts}
 use Rattle.pv_age.specs.declared.age.Age.{Age}
-use Rattle.pv_age.specs.declared.fault.AgeFault.{AgeFault}
-use Rattle.pv_age.specs.Ages.{age_of}
-use Rattle.pv_path.proofs.PathLaws.{both_true}
 use Rattle.pv_path.specs.Parsing.{path_of}
 use Rattle.pv_path.specs.Paths.{Path}
-use Rattle.pv_path.specs.Results.{◌>>=◌, in_words, or_fault}
+use Rattle.pv_path.specs.Results.{◌>>=◌, or_fault}
 use Rattle.pv_path.specs.declared.fault.PathFault.{PathFault}
 use Rattle.pv_path.specs.declared.fault.PathFault.TheVariants as path_fault
 use Rattle.pv_glob.specs.Parsing.{pattern_of}
@@ -21,7 +19,6 @@ use Rattle.pv_glob.specs.declared.fault.PatternFault.{PatternFault}
 use Rattle.pv_steps.specs.Objects.{IsTarget}
 use Rattle.pv_text.specs.Facts.{Values}
 use Rattle.pv_text.specs.declared.place.Place.{Place}
-use Rattle.pv_lines.specs.declared.fault.LineFault.{LineFault}
 use Rattle.pv_lines.specs.declared.fault.LineFault.TheVariants as fault
 use Rattle.pv_lines.specs.declared.line.Argument.{Argument}
 use Rattle.pv_lines.specs.declared.line.LineId.{LineId}
@@ -35,7 +32,7 @@ use Rattle.pv_lines.specs.ArgumentField.{checked_target, device_in, device_of}
 use Rattle.pv_lines.specs.Faults.{of_path, of_pattern}
 use Rattle.pv_lines.specs.Lines.{AreIds, IsArgument, IsConfigured, IsLine, IsLinePath}
 use Rattle.pv_lines.specs.ModeField.{is_mode_text, line_age_of, mode_after, mode_of}
-use Rattle.pv_lines.specs.PathField.{allowed, current, expansion, is_moved, is_root, named_of, path_named}
+use Rattle.pv_lines.specs.PathField.{allowed, current, expansion, is_root, named_of, path_named}
 use Rattle.pv_lines.proofs.Rows.{IsTyped}
 use Rattle.pv_lines.proofs.Sizes.{pattern_of-few}
 use Rattle.pv_path.proofs.Spelled.{path_of-spelled, spelled_names}
@@ -49,7 +46,7 @@ bound_ok (Err fault) f y e use_it = absurd (let no : Err fault ≡ Ok y = e in c
 
 is_mode_text-small : (text : List ℕ) → is_mode_text text ≡ true → digits_value 8 text ≤ 0o7777
 is_mode_text-small text is =
-    let both = both_true (nat_le 1 (length text) && nat_le (length text) 5 && list_all (λ b. is_digit b 8) text) (nat_le (digits_value 8 text) 0o7777) is in
+    let both = and_parts (nat_le 1 (length text) && nat_le (length text) 5 && list_all (λ b. is_digit b 8) text) (nat_le (digits_value 8 text) 0o7777) is in
     grind (arith, nat_tests, both.1)
 
 mode_after-small : (masked new_only : Bool) (text : List ℕ) (mode : LineMode) → mode_after masked new_only text ≡ Some mode → mode.value ≤ 0o7777

@@ -1,9 +1,8 @@
 -- Sets of letters, one letter after another, and attributes, one word after another.
-use Rattle.std.specs.Prelude.{◌≡◌, ℕ, ◌+◌, ◌^◌, ◌<◌, ◌≤◌, Bool, true, false, ◌==◌, List, [], ◌∷◌, length, position, Option, Some, None, option_map, option_and_then, IfSome, refl}
-use Rattle.std.specs.Int.{bit_at}
+use Rattle.std.specs.Prelude.{◌≡◌, ℕ, ◌+◌, ◌^◌, ◌<◌, ◌≤◌, ◌==◌, List, [], ◌∷◌, length, position, Option, Some, None, option_map, option_and_then, refl}
 use Rattle.std.specs.Int.Bits.{or_zero_r}
 use Rattle.std.specs.Int.RustNames.{bit_or}
-use Rattle.std.proofs.Common.{arith, sym, ap, subst, ◌∙◌, take, drop, get_or, add-one}
+use Rattle.std.proofs.Common.{arith, sym, ap, subst, ◌∙◌, drop, get_or, add-one}
 use Rattle.std.proofs.Math.Pow.{pow-lt}
 use Rattle.std.proofs.Math.ListN.{drop_of_length-le}
 use Rattle.std.proofs.Math.Seq.{drop-cons}

@@ -1,12 +1,12 @@
 -- What a line is that the definition reads, by what is looked up.
-use Rattle.std.specs.Prelude.{◌≡◌, ℕ, ◌≤◌, Bool, true, false, not, ◌&&◌, ◌==◌, nat_le, List, Option, Some, None, option_map, IfSome, Result, Ok, Err, if◌then◌else◌, refl}
+use Rattle.std.specs.Prelude.{◌≡◌, ℕ, ◌≤◌, Bool, true, false, not, ◌==◌, nat_le, List, Option, Some, None, option_map, IfSome, Ok, Err, if◌then◌else◌, refl}
 use Rattle.std.specs.Option.{option_or}
-use Rattle.std.proofs.Common.{arith, sym, subst}
+use Rattle.std.proofs.Common.{arith, subst}
 use Rattle.std.proofs.lemmas.Bool.Decides.{nat_tests}
 use Rattle.std.proofs.lemmas.Option.{option_and_then_some}
+use Rattle.std.proofs.lemmas.Bool.{and_parts}
 use Rattle.pv_acl.specs.Entries.{id_or_name}
 use Rattle.pv_acl.specs.Numbers.{may_be_written, number_of, written_id}
-use Rattle.pv_path.proofs.PathLaws.{both_true}
 use Rattle.pv_path.specs.Results.{◌>>=◌, or_fault}
 use Rattle.pv_steps.specs.Objects.{IsId}
 use Rattle.pv_text.specs.Facts.{Values}
@@ -18,7 +18,7 @@ use Rattle.pv_lines.specs.declared.line.LineId.{LineId}
 use Rattle.pv_lines.specs.declared.types.Row.{Row}
 use Rattle.pv_lines.specs.ArgumentField.{Lookup, argument_of}
 use Rattle.pv_lines.specs.Lines.{AreIds, IsLine, IsLinePath, given, line_of, line_with, text, texts_of}
-use Rattle.pv_lines.specs.ModeField.{line_age_of, mode_of, owner_in, owner_of, without_colon}
+use Rattle.pv_lines.specs.ModeField.{line_age_of, mode_of, owner_of, without_colon}
 use Rattle.pv_lines.specs.PathField.{named_of}
 use Rattle.pv_lines.specs.TypeField.{typed_of}
 use Rattle.pv_lines.proofs.Fields.{bound_ok, mode_of-small, named_of-named}
@@ -45,7 +45,7 @@ written_id-is_id text id e = option_and_then_some (λ n. if may_be_written n the
     by_test : (n : ℕ) (may : Bool) → may_be_written n ≡ may → (if may then Some n else None) ≡ Some id → IsId id
     by_test n true m is =
         let same : n ≡ id = cc in
-        let both = both_true (nat_le n 4294967294) (not (n == 65535)) m in
+        let both = and_parts (nat_le n 4294967294) (not (n == 65535)) m in
         let small : n ≤ 4294967294 = grind (arith, nat_tests, both.0) in
         omega (arith, same, small)
     by_test n false m is = absurd (let no : None ≡ Some id = is in cc)

@@ -1,5 +1,5 @@
 -- Octal digits, and the numbers that a few of them write.
-use Rattle.std.proofs.Common.{◌≡◌, ℕ, zero, suc, ◌+◌, ◌-◌, ◌*◌, ◌^◌, ◌<◌, ◌≤◌, Bool, true, false, List, [], ◌∷◌, length, take, get_or, refl, sym, ap, subst, ◌∙◌, arith, rules}
+use Rattle.std.proofs.Common.{◌≡◌, ℕ, zero, suc, ◌+◌, ◌-◌, ◌*◌, ◌^◌, ◌<◌, ◌≤◌, Bool, true, List, [], ◌∷◌, length, take, get_or, arith, rules}
 use Rattle.std.specs.Char.{is_digit, digit_value}
 use Rattle.std.specs.List.{list_all}
 use Rattle.std.specs.Str.Parse.{digits_value, AllDigits}
@@ -8,7 +8,7 @@ use Rattle.std.proofs.lemmas.Bool.Decides.{nat_tests}
 use Rattle.std.proofs.lemmas.Int.Digits.{digits_value-lt, digits_value_more}
 use Rattle.std.proofs.lemmas.Str.{digit_value_digit}
 use Rattle.std.proofs.lemmas.Str.Parse.{digit_from_value, digits_value-take-le}
-use Rattle.pv_path.proofs.PathLaws.{both_true}
+use Rattle.std.proofs.lemmas.Bool.{and_parts}
 
 -- the test of octal digits
 abbrev pub octal : List ℕ → Bool
@@ -20,7 +20,7 @@ digit_small b is = grind (arith, nat_tests, is)
 all_digits : (text : List ℕ) → octal text ≡ true → AllDigits 8 text
 all_digits [] all = search rules
 all_digits (b ∷ text) all =
-    let both = both_true (is_digit b 8) (octal text) all in
+    let both = and_parts (is_digit b 8) (octal text) all in
     (digit_small b both.0, all_digits text both.1)
 
 -- a byte that is an octal digit
@@ -37,8 +37,8 @@ is_octal b is =
 
 pub octal_at : (text : List ℕ) (i : ℕ) → octal text ≡ true → i < length text → IsOctal (get_or text i 0)
 octal_at [] i all h = absurd (omega (arith, h))
-octal_at (b ∷ text) zero all h = is_octal b (both_true (is_digit b 8) (octal text) all).0
-octal_at (b ∷ text) (suc i) all h = octal_at text i (both_true (is_digit b 8) (octal text) all).1 (omega (arith, h))
+octal_at (b ∷ text) zero all h = is_octal b (and_parts (is_digit b 8) (octal text) all).0
+octal_at (b ∷ text) (suc i) all h = octal_at text i (and_parts (is_digit b 8) (octal text) all).1 (omega (arith, h))
 
 -- at most five octal digits write at most 32767
 short_value : (text : List ℕ) → octal text ≡ true → length text ≤ 5 → digits_value 8 text ≤ 32767

@@ -1,11 +1,10 @@
 -- What a type is that is read with its modifiers.
-use Rattle.std.specs.Prelude.{◌≡◌, ℕ, Bool, true, false, not, ◌&&◌, ◌||◌, ◌==◌, List, [], ◌∷◌, find, Option, Some, None, option_map, IfSome, IsSomeAnd, Result, Ok, Err, if◌then◌else◌, refl}
-use Rattle.std.specs.List.{list_all, list_any, AllByRecursion}
-use Rattle.std.proofs.Common.{arith, sym, ap, subst, ◌∙◌}
+use Rattle.std.specs.Prelude.{◌≡◌, ℕ, Bool, true, false, ◌&&◌, ◌||◌, ◌==◌, List, [], ◌∷◌, find, Option, Some, None, option_map, IfSome, IsSomeAnd, Ok, Err, if◌then◌else◌, refl}
+use Rattle.std.specs.List.{list_all, AllByRecursion}
+use Rattle.std.proofs.Common.{arith, subst, ◌∙◌}
 use Rattle.std.proofs.lemmas.Bool.Decides.{nat_tests}
-use Rattle.pv_path.proofs.PathLaws.{both_true}
+use Rattle.std.proofs.lemmas.Bool.{and_parts}
 use Rattle.pv_path.specs.Results.{◌>>=◌, or_fault}
-use Rattle.pv_lines.specs.declared.fault.LineFault.{LineFault}
 use Rattle.pv_lines.specs.declared.fault.LineFault.TheVariants.{UnknownType, BadModifier}
 use Rattle.pv_lines.specs.declared.type_field.Typed.{Typed}
 use Rattle.pv_lines.specs.declared.types.Row.{Row}
@@ -133,7 +132,7 @@ takes-has_mark row mark [] all has = absurd (let no : false ≡ true = has in cc
 takes-has_mark row mark (other ∷ marks) all has = by_first (other == mark) refl has (takes-has_mark row mark marks both.1)
   where
     both : (takes row other ≡ true) × (list_all (takes row) marks ≡ true)
-    both = both_true (takes row other) (list_all (takes row) marks) all
+    both = and_parts (takes row other) (list_all (takes row) marks) all
 
     by_first : (is : Bool) → (other == mark) ≡ is → (is || has_mark marks mark) ≡ true → (has_mark marks mark ≡ true → takes row mark ≡ true) → takes row mark ≡ true
     by_first true is stands below = let same : other ≡ mark = grind (arith, nat_tests, is) in subst (λ m. takes row m ≡ true) same both.0

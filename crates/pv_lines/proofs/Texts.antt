@@ -1,5 +1,5 @@
 -- The texts of a line, and what is read of them.
-use Rattle.std.proofs.Common.{◌≡◌, ℕ, zero, suc, List, [], ◌∷◌, ◌++◌, drop, length, map, Option, Some, None, Result, Ok, Err, option_map, refl, sym, ap, subst, ◌∙◌, append-nil}
+use Rattle.std.proofs.Common.{◌≡◌, ℕ, zero, suc, List, [], ◌∷◌, ◌++◌, drop, length, map, Some, None, Result, Ok, Err, option_map, refl, sym, ap, ◌∙◌, append-nil}
 use Rattle.std.specs.Prelude.{slice_get}
 use Rattle.pv_path.specs.Results.{◌>>=◌, in_words}
 use Rattle.pv_text.specs.Escapes.{unescaped}
@@ -7,7 +7,6 @@ use Rattle.pv_text.specs.Facts.{Values}
 use Rattle.pv_text.specs.Fields.{Span, Cut, fields_of, text_at}
 use Rattle.pv_text.specs.declared.fault.FieldFault.{FieldFault}
 use Rattle.pv_text.specs.declared.place.Place.{Place}
-use Rattle.pv_lines.specs.declared.fault.LineFault.{LineFault}
 use Rattle.pv_lines.specs.declared.fault.LineFault.TheVariants as fault
 use Rattle.pv_lines.specs.ArgumentField.{Lookup}
 use Rattle.pv_lines.specs.Lines.{line_of, line_with}

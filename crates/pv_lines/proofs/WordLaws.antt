@@ -1,6 +1,6 @@
 -- Words, one byte of a text after another.
-use Rattle.std.specs.Prelude.{◌≡◌, ℕ, Bool, true, false, ◌==◌, List, [], ◌∷◌, ◌++◌, Option, Some, None, option_map, refl}
-use Rattle.std.proofs.Common.{sym, ap, subst, ◌∙◌, append_assoc}
+use Rattle.std.specs.Prelude.{◌≡◌, ℕ, true, false, ◌==◌, List, [], ◌∷◌, ◌++◌, Option, Some, None, option_map, refl}
+use Rattle.std.proofs.Common.{ap, append_assoc}
 use Rattle.pv_text.specs.Fields.{is_quote}
 use Rattle.pv_lines.specs.declared.attributes.WordReader.{WordReader}
 use Rattle.pv_lines.specs.ArgumentField.{begun, begun_words, is_space, with_word, words_from}

@@ -8,7 +8,6 @@ use Rattle.base64.specs.Engines.{standard}
 use Rattle.pv_acl.specs.Entries.{acl_line_of}
 use Rattle.pv_acl.specs.Numbers.{number_of}
 use Rattle.pv_path.specs.Parsing.{path_of}
-use Rattle.pv_path.specs.Paths.{Path}
 use Rattle.pv_path.specs.Results.{◌>>=◌, in_words, or_fault}
 use Rattle.pv_path.specs.declared.fault.PathFault.TheVariants as path_fault
 use Rattle.pv_steps.specs.Attributes.{is_attr, put_attr}

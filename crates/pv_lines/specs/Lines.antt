@@ -1,5 +1,5 @@
 -- The line that a text spells, field by field from the left, or its first fault (tmpfiles.d(5)); and what each such line is.
-use Rattle.std.specs.Prelude.{◌≡◌, ◌⊎◌, ℕ, ◌<◌, ◌≤◌, ◌^◌, Bool, true, false, not, ◌&&◌, ◌||◌, nat_le, List, [], ◌∷◌, codes, length, map, slice_get, slice_index_or, Option, Some, None, IfSome, Result, Ok, Err, if◌then◌else◌}
+use Rattle.std.specs.Prelude.{◌≡◌, ℕ, ◌<◌, ◌≤◌, ◌^◌, Bool, true, false, nat_le, List, [], codes, length, map, slice_get, slice_index_or, Option, Some, None, IfSome, Result, Ok, if◌then◌else◌}
 use Rattle.std.specs.List.{list_all}
 use Rattle.pv_acl.specs.Applying.{is_line}
 use Rattle.pv_path.specs.Names.{same_bytes}
@@ -9,7 +9,7 @@ use Rattle.pv_steps.specs.Attributes.{are_attrs}
 use Rattle.pv_steps.specs.Objects.{IsId, IsTarget}
 use Rattle.pv_text.specs.Escapes.{unescaped}
 use Rattle.pv_text.specs.Facts.{Values}
-use Rattle.pv_text.specs.Fields.{Span, fields_of, text_at}
+use Rattle.pv_text.specs.Fields.{fields_of, text_at}
 use Rattle.pv_text.specs.declared.place.Place.{Place}
 use Rattle.pv_lines.specs.declared.fault.LineFault.{LineFault}
 use Rattle.pv_lines.specs.declared.fault.LineFault.TheVariants as fault

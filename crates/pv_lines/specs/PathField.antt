@@ -1,6 +1,6 @@
 -- The field Path: a path, or a pattern of paths (tmpfiles.d(5), "Path"; glob(7)).
-use Rattle.std.specs.Prelude.{ℕ, Bool, true, false, not, ◌&&◌, ◌||◌, nat_eq, List, [], ◌∷◌, ◌++◌, codes, drop, Result, Ok, Err, if◌then◌else◌}
-use Rattle.std.specs.List.{starts_with, list_any}
+use Rattle.std.specs.Prelude.{ℕ, Bool, true, false, not, ◌&&◌, ◌||◌, nat_eq, List, [], ◌∷◌, codes, drop, Result, Ok, Err, if◌then◌else◌}
+use Rattle.std.specs.List.{starts_with}
 use Rattle.std.specs.Result.{result_map_both}
 use Rattle.pv_path.specs.Parsing.{path_of}
 use Rattle.pv_path.specs.Results.{◌>>=◌, in_words}

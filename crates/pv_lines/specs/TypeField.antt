@@ -1,5 +1,5 @@
 -- The field Type: a letter, and then modifiers, each at most once (tmpfiles.d(5), "Type").
-use Rattle.std.specs.Prelude.{ℕ, Bool, true, false, not, ◌&&◌, ◌||◌, ◌==◌, List, [], ◌∷◌, Result, Ok, Err, if◌then◌else◌}
+use Rattle.std.specs.Prelude.{ℕ, Bool, true, not, ◌&&◌, ◌||◌, ◌==◌, List, [], ◌∷◌, Result, Ok, Err, if◌then◌else◌}
 use Rattle.std.specs.List.{list_any, list_all}
 use Rattle.pv_path.specs.Results.{◌>>=◌, or_fault}
 use Rattle.pv_lines.specs.declared.fault.LineFault.{LineFault}

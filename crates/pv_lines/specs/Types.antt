@@ -1,5 +1,5 @@
 -- The table of types: what each letter takes (tmpfiles.d(5), "Type" and the sections on each type).
-use Rattle.std.specs.Prelude.{ℕ, Bool, true, false, ◌==◌, List, [], ◌∷◌, codes, find, Option, option_map}
+use Rattle.std.specs.Prelude.{ℕ, true, false, ◌==◌, List, [], ◌∷◌, find, Option, option_map}
 use Rattle.pv_lines.specs.declared.types.Row.{Row}
 use Rattle.pv_lines.specs.declared.types.Wanted.{Wanted}
 use Rattle.pv_lines.specs.declared.types.Wanted.TheVariants.{Content, Bytes, Target, Source, Device, Entries, Attrs, Letters, Nothing}

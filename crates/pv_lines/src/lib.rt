@@ -19,6 +19,3 @@ pub use read::read_line;
 
 /// Lines in some order.
 pub type LineList = pv_path::Sequence<Line>;
-
-#[cfg(test)]
-mod tests;

@@ -3,8 +3,9 @@ use Rattle.std.proofs.Common.{◌≡◌, ◌∙◌, sym, ap, refl, arith, suc, z
 use Rattle.std.specs.Prelude.{ℕ, ◌+◌, ◌<◌, ◌≤◌, ◌⊎◌, Bool, true, false, not, cond, ◌&&◌, ◌||◌, ◌==◌, List, [], ◌∷◌, length, take, find, Option, Some, None, is_some}
 use Rattle.std.specs.List.{list_any, range_with_len}
 use Rattle.std.specs.Option.{option_map_or}
-use Rattle.std.proofs.lemmas.Bool.{cases_lt, eqb-true}
+use Rattle.std.proofs.lemmas.Bool.{cases_lt, eqb-true, or_parts}
 use Rattle.std.proofs.Math.Seq.{take-append_seam}
+use Rattle.std.proofs.Math.Bool.{or-true}
 use Rattle.pv_dress.specs.declared.operation.Operation.TheVariants.{Erase}
 use Rattle.pv_dress.specs.declared.operation.Test.{Test}
 use Rattle.pv_lines.specs.declared.line.Line.{Line}
@@ -22,7 +23,6 @@ use Rattle.pv_table.specs.Asked.{clears_below, made_at, operations}
 use Rattle.pv_table.specs.Asking.{asks, deeds}
 use Rattle.pv_table.specs.Pointwise.{touches}
 use Rattle.pv_table.specs.Reaching.{governs, is_creating, is_deep, names, names_above, path_in, reaches, reaches_below}
-use Rattle.pv_table.proofs.PlaceLaws.{either_false}
 
 -- ---- lines that make something have a path
 
@@ -93,12 +93,8 @@ some_first : (test : ℕ → Bool) (n a k : ℕ) → a ≤ k → k < a + n → t
 some_first test zero a k low high e = absurd (omega arith)
 some_first test (suc n) a k low high e = by_place (cases_lt a k) (some_first test n (a + 1) k)
   where
-    or_true : (b : Bool) → (b || true) ≡ true
-    or_true true = refl
-    or_true false = refl
-
     by_place : (a < k) ⊎ (k ≤ a) → (a + 1 ≤ k → k < a + 1 + n → test k ≡ true → list_any test (range_with_len (a + 1) n) ≡ true) → (test a || list_any test (range_with_len (a + 1) n)) ≡ true
-    by_place (inl l) rest = rw (rest (omega arith) (omega arith) e) (or_true (test a))
+    by_place (inl l) rest = rw (rest (omega arith) (omega arith) e) (or-true (test a))
     by_place (inr l) rest = let same : k ≡ a = omega arith in let here : test a ≡ true = ap test (sym same) ∙ e in rw here refl
 
 -- a line over a path names what lies below that path from above
@@ -118,8 +114,8 @@ names_above-literal line path q is under other =
 -- a line that makes something
 made_at-elsewhere : (line : Line) (making : Making) (path q : Path) → asks line ≡ Create making → line.path ≡ Literal path → governs line q ≡ false → made_at making path q ≡ []
 made_at-elsewhere line making path q asked is none =
-    let u = either_false (reaches line q) (is_creating line && is_prefix q (path_in line.path)) none in
-    let v = either_false (names line q) (reaches_below line && names_above line q) u.0 in
+    let u = or_parts (reaches line q) (is_creating line && is_prefix q (path_in line.path)) none in
+    let v = or_parts (names line q) (reaches_below line && names_above line q) u.0 in
     let other : same_path path q ≡ false = rw is at v.0 in
     let beside : is_prefix q path ≡ false = rw is at u.1 in
     rw (other, beside) (by_test (is_prefix path q) refl (clears_below making) refl (both_false (reaches_below line) (names_above line q) v.1) other)
@@ -148,8 +144,8 @@ made_at-elsewhere line making path q asked is none =
 
 touches-elsewhere : (line : Line) (touching : Touching) (q : Path) → asks line ≡ Touch touching → governs line q ≡ false → touches line touching q ≡ false
 touches-elsewhere line touching q asked none =
-    let u = either_false (reaches line q) (is_creating line && is_prefix q (path_in line.path)) none in
-    let v = either_false (names line q) (reaches_below line && names_above line q) u.0 in
+    let u = or_parts (reaches line q) (is_creating line && is_prefix q (path_in line.path)) none in
+    let v = or_parts (names line q) (reaches_below line && names_above line q) u.0 in
     rw v.0 (by_deep touching.deep refl (names_above line q) v.1)
   where
     deep_below : touching.deep ≡ true → reaches_below line ≡ true

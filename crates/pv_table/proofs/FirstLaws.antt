@@ -4,13 +4,14 @@ use Rattle.std.specs.Prelude.{ℕ, Bool, true, false, cond, ◌&&◌, ◌||◌, 
 use Rattle.std.specs.Option.{option_or}
 use Rattle.std.proofs.Common.{◌<◌, ◌+◌, get_or}
 use Rattle.std.proofs.lemmas.List.{take_more, length-take}
+use Rattle.std.proofs.Math.Bool.{and-false}
 use Rattle.pv_path.specs.Names.{same_bytes}
 use Rattle.pv_lines.specs.declared.line.Line.{Line}
 use Rattle.pv_lines.specs.declared.line.LinePath.TheVariants.{Literal}
 use Rattle.pv_table.specs.Reaching.{is_creating}
 use Rattle.pv_table.specs.Building.{first_place, makes}
 use Rattle.pv_table.specs.Ranking.{first_known, first_under, makes_under}
-use Rattle.pv_table.proofs.PlaceLaws.{and_false, first_place-push, option_or-none}
+use Rattle.pv_table.proofs.PlaceLaws.{first_place-push, option_or-none}
 use Rattle.pv_path.specs.Paths.{Path, is_prefix, same_path, same_path-decides}
 
 same_path-sym : (p q : Path) → same_path p q ≡ true → same_path q p ≡ true
@@ -40,7 +41,7 @@ noted known old new path place wants is q = is q ∙ by_test (same_path path q) 
       where
         by_back : (b : Bool) → same_path q path ≡ b → old q ≡ option_or (old q) (cond (known q && b) (Some place) None)
         by_back true back = absurd (let yes = same_path-sym q path back in cc)
-        by_back false back = rw (and_false (known q)) (option_or-none (old q))
+        by_back false back = rw (and-false (known q)) (option_or-none (old q))
 
     by_test : (b : Bool) → same_path path q ≡ b → cond b (Some place) (old q) ≡ option_or (old q) (cond (known q && same_path q path) (Some place) None)
     by_test true test = here test
@@ -58,7 +59,7 @@ not_noted known old path place wants q = by_test (same_path q path) refl
 
     by_test : (b : Bool) → same_path q path ≡ b → old q ≡ option_or (old q) (cond (known q && b) (Some place) None)
     by_test true test = let same : q ≡ path = (same_path-decides q path).0 test in by_values (known q) (old q) (ap (λ (p : Path). known p && is_none (old p)) same ∙ wants)
-    by_test false test = rw (and_false (known q)) (option_or-none (old q))
+    by_test false test = rw (and-false (known q)) (option_or-none (old q))
 
 -- ---- all prefixes of a path
 
@@ -139,4 +140,4 @@ first_known_other table lines i line old within there other before =
     (λ q. option_or-none (old q) ∙ ap (λ (b : Bool). option_or (old q) (cond b (Some i) None)) (sym (none q)))
   where
     none : (q : Path) → (is_some (first_place (makes q) table) && makes_under q line) ≡ false
-    none q = rw other (and_false (is_some (first_place (makes q) table)))
+    none q = rw other (and-false (is_some (first_place (makes q) table)))

@@ -3,24 +3,25 @@ use Rattle.std.proofs.Common.{◌≡◌, ◌∙◌, sym, ap, refl}
 use Rattle.std.specs.Prelude.{ℕ, Bool, true, false, cond, not, List, [], ◌∷◌, ◌++◌, length, filter, fold, find, Option, Some, None, is_some, slice_get}
 use Rattle.std.specs.List.{list_any}
 use Rattle.std.specs.Option.{option_or}
+use Rattle.std.proofs.lemmas.Bool.{and_parts, or_parts, not-true}
+use Rattle.std.proofs.Math.Bool.{and-false, and-true}
 use Rattle.pv_glob.specs.declared.pattern.Pattern.{Pattern}
 use Rattle.pv_lines.specs.declared.line.Line.{Line}
 use Rattle.pv_lines.specs.declared.line.LinePath.TheVariants.{Literal, Glob}
 use Rattle.pv_path.specs.Paths.{Path, same_path, same_path-decides}
-use Rattle.pv_path.proofs.PathLaws.{both_true}
 use Rattle.pv_table.specs.Active.{active, are_distinct, make_same, stays, with_line}
 use Rattle.pv_table.specs.Building.{IsIndexOf, first_place, makes}
 use Rattle.pv_table.specs.Reaching.{is_creating, path_in}
-use Rattle.pv_table.proofs.PlaceLaws.{and_false, and_true, either_false, not_true, first_place-none, first_place-push, found, list_any-find, missing, option_or-none}
+use Rattle.pv_table.proofs.PlaceLaws.{first_place-none, first_place-push, found, list_any-find, missing, option_or-none}
 
 -- ---- the line that makes the same
 
 -- a creating line makes what an earlier one makes exactly where that makes what stands at its path
 make_same-makes : (line first : Line) → is_creating line ≡ true → make_same first line ≡ makes (path_in line.path) first
-make_same-makes line first e = rw (e, and_true (is_creating first)) refl
+make_same-makes line first e = rw (e, and-true (is_creating first)) refl
 
 make_same-other : (line first : Line) → is_creating line ≡ false → make_same first line ≡ false
-make_same-other line first e = rw (e, and_false (is_creating first)) refl
+make_same-other line first e = rw (e, and-false (is_creating first)) refl
 
 -- the first line that makes what a line over a path makes
 pub find-literal : (kept : List Line) (line : Line) (path : Path) → line.path ≡ Literal path → find (λ first. make_same first line) kept ≡ find (makes path) kept
@@ -98,14 +99,14 @@ index-glob kept look line pattern index none is = index-push kept look look line
 
 any_more : {A : Type 0} (test : A → Bool) (xs : List A) (x : A) → list_any test xs ≡ false → test x ≡ false → list_any test (xs ++ x ∷ []) ≡ false
 any_more test [] x none other = rw other refl
-any_more test (y ∷ xs) x none other = let u = either_false (test y) (list_any test xs) none in rw u.0 (any_more test xs x u.1 other)
+any_more test (y ∷ xs) x none other = let u = or_parts (test y) (list_any test xs) none in rw u.0 (any_more test xs x u.1 other)
 
 apart-push : (kept : List Line) (line : Line) → are_distinct kept ≡ true → list_any (λ first. make_same first line) kept ≡ false → are_distinct (kept ++ line ∷ []) ≡ true
 apart-push [] line distinct none = refl
 apart-push (first ∷ kept) line distinct none =
-    let u = either_false (make_same first line) (list_any (λ first. make_same first line) kept) none in
-    let v = both_true (not (list_any (make_same first) kept)) (are_distinct kept) distinct in
-    let w = any_more (make_same first) kept line (not_true (list_any (make_same first) kept) v.0) u.0 in
+    let u = or_parts (make_same first line) (list_any (λ first. make_same first line) kept) none in
+    let v = and_parts (not (list_any (make_same first) kept)) (are_distinct kept) distinct in
+    let w = any_more (make_same first) kept line (not-true (list_any (make_same first) kept) v.0) u.0 in
     rw w (apart-push kept line v.1 u.1)
 
 -- a line more that makes what none of them makes

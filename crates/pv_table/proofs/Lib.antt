@@ -9,3 +9,5 @@ pub mod OrderLaws
 pub mod AskingLaws
 pub mod QuietLaws
 pub mod SayingLaws
+pub mod EffectLaws
+pub mod ListedLaws

@@ -4,13 +4,13 @@ use Rattle.std.specs.Prelude.{ℕ, ◌+◌, Bool, true, false, not, cond, ◌&&�
 use Rattle.std.specs.List.{enumerate_from, list_all}
 use Rattle.std.specs.List.Sorted.{IsPermutation}
 use Rattle.std.proofs.lemmas.List.Sorted.{IsPermutation-append_left, IsPermutation-cons, IsPermutation-map, IsPermutation-refl, IsPermutation-to_front, IsPermutation-trans}
+use Rattle.std.proofs.lemmas.Bool.{and_parts, and_from, not-true}
 use Rattle.pv_lines.specs.declared.line.Line.{Line}
 use Rattle.pv_path.specs.Paths.{Path, is_prefix, same_path, same_path-decides}
-use Rattle.pv_path.proofs.PathLaws.{both_true, is_prefix-antisym, is_prefix-trans}
+use Rattle.pv_path.proofs.PathLaws.{is_prefix-antisym, is_prefix-trans}
 use Rattle.pv_table.specs.Active.{Listed, in_create_order, is_touching, placed}
 use Rattle.pv_table.specs.Orders.{AboveFirst, IsCreateOrder, lies_under}
 use Rattle.pv_table.specs.Reaching.{is_creating, path_in}
-use Rattle.pv_table.proofs.PlaceLaws.{not_true}
 
 -- ---- each line once
 
@@ -32,9 +32,6 @@ all_placed-permute s (x ∷ lines) =
 
 -- ---- what lies above comes first
 
-both : (a b : Bool) → a ≡ true → b ≡ true → (a && b) ≡ true
-both a b e f = rw (e, f) refl
-
 is_not : (a : Bool) → (a ≡ true → ⊥) → not a ≡ true
 is_not true f = absurd (f refl)
 is_not false f = refl
@@ -45,36 +42,36 @@ under-trans a b c first second =
     let p = path_in a.path in
     let q = path_in b.path in
     let r = path_in c.path in
-    let u = both_true (is_prefix p q) (not (same_path p q)) first in
-    let v = both_true (is_prefix q r) (not (same_path q r)) second in
+    let u = and_parts (is_prefix p q) (not (same_path p q)) first in
+    let v = and_parts (is_prefix q r) (not (same_path q r)) second in
     let w = is_prefix-trans p q r u.0 v.0 in
-    both (is_prefix p r) (not (same_path p r)) w (is_not (same_path p r) (other p q r u.0 v.0 u.1))
+    and_from (is_prefix p r) (not (same_path p r)) w (is_not (same_path p r) (other p q r u.0 v.0 u.1))
   where
     other : (p q r : Path) → is_prefix p q ≡ true → is_prefix q r ≡ true → not (same_path p q) ≡ true → same_path p r ≡ true → ⊥
     other p q r a b apart same =
         let one : p ≡ r = (same_path-decides p r).0 same in
         let back : is_prefix q p ≡ true = rw one b in
         let equal : same_path p q ≡ true = (same_path-decides p q).1 (is_prefix-antisym p q a back) in
-        let no = not_true (same_path p q) apart in
+        let no = not-true (same_path p q) apart in
         cc
 
 under-one_way : (a b : Line) → lies_under a b ≡ true → lies_under b a ≡ true → ⊥
 under-one_way a b first second =
     let p = path_in a.path in
     let q = path_in b.path in
-    let u = both_true (is_prefix p q) (not (same_path p q)) first in
-    let v = both_true (is_prefix q p) (not (same_path q p)) second in
+    let u = and_parts (is_prefix p q) (not (same_path p q)) first in
+    let v = and_parts (is_prefix q p) (not (same_path q p)) second in
     let equal : same_path p q ≡ true = (same_path-decides p q).1 (is_prefix-antisym p q u.0 v.0) in
-    let no = not_true (same_path p q) u.1 in
+    let no = not-true (same_path p q) u.1 in
     cc
 
 -- what lies above none of some lines lies above none of those that lie above them
 none_above : (x e : Line) (s : List Line) → lies_under x e ≡ true → list_all (λ line. not (lies_under line e)) s ≡ true → list_all (λ line. not (lies_under line x)) s ≡ true
 none_above x e [] below none = refl
 none_above x e (y ∷ s) below none =
-    let u = both_true (not (lies_under y e)) (list_all (λ line. not (lies_under line e)) s) none in
-    both (not (lies_under y x)) (list_all (λ line. not (lies_under line x)) s)
-    (is_not (lies_under y x) (λ above. absurd (let yes = under-trans y x e above below in let no = not_true (lies_under y e) u.0 in cc)))
+    let u = and_parts (not (lies_under y e)) (list_all (λ line. not (lies_under line e)) s) none in
+    and_from (not (lies_under y x)) (list_all (λ line. not (lies_under line x)) s)
+    (is_not (lies_under y x) (λ above. absurd (let yes = under-trans y x e above below in let no = not-true (lies_under y e) u.0 in cc)))
     (none_above x e s below u.1)
 
 -- the lines without their places
@@ -83,12 +80,12 @@ lines_of s = map (λ line. line.1) s
 
 -- a test that all of some lines and a further one pass is passed by all when that is placed
 all-placed : (test : Line → Bool) (s : List Listed) (x : Listed) → list_all test (lines_of s) ≡ true → test x.1 ≡ true → list_all test (lines_of (placed s x)) ≡ true
-all-placed test [] x all one = both (test x.1) true one refl
-all-placed test (e ∷ s) x all one = let u = both_true (test e.1) (list_all test (lines_of s)) all in by_test (lies_under x.1 e.1) u.0 (all-placed test s x u.1 one)
+all-placed test [] x all one = and_from (test x.1) true one refl
+all-placed test (e ∷ s) x all one = let u = and_parts (test e.1) (list_all test (lines_of s)) all in by_test (lies_under x.1 e.1) u.0 (all-placed test s x u.1 one)
   where
     by_test : (b : Bool) → test e.1 ≡ true → list_all test (lines_of (placed s x)) ≡ true → list_all test (lines_of (cond b (x ∷ e ∷ s) (e ∷ placed s x))) ≡ true
-    by_test true here rest = both (test x.1) (test e.1 && list_all test (lines_of s)) one all
-    by_test false here rest = both (test e.1) (list_all test (lines_of (placed s x))) here rest
+    by_test true here rest = and_from (test x.1) (test e.1 && list_all test (lines_of s)) one all
+    by_test false here rest = and_from (test e.1) (list_all test (lines_of (placed s x))) here rest
 
 placed-above : (s : List Listed) (x : Listed) → AboveFirst (lines_of s) → AboveFirst (lines_of (placed s x))
 placed-above [] x above = (refl, tt)
@@ -96,7 +93,7 @@ placed-above (e ∷ s) x above = by_test (lies_under x.1 e.1) refl (placed-above
   where
     by_test : (b : Bool) → lies_under x.1 e.1 ≡ b → AboveFirst (lines_of (placed s x)) → AboveFirst (lines_of (cond b (x ∷ e ∷ s) (e ∷ placed s x)))
     by_test true below rest = (
-      both (not (lies_under e.1 x.1)) (list_all (λ line. not (lies_under line x.1)) (lines_of s))
+      and_from (not (lies_under e.1 x.1)) (list_all (λ line. not (lies_under line x.1)) (lines_of s))
           (is_not (lies_under e.1 x.1) (λ up. under-one_way x.1 e.1 below up)) (none_above x.1 e.1 (lines_of s) below above.0),
       above,
     )

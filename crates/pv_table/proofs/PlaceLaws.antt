@@ -1,31 +1,12 @@
 -- The place of the first item that passes a test.
 use Rattle.std.proofs.Common.{◌≡◌, ◌∙◌, sym, ap, refl, arith, suc, zero, add-one, append_assoc, drop, drop-cons, get_or}
-use Rattle.std.specs.Prelude.{ℕ, ◌+◌, ◌<◌, Bool, true, false, not, cond, ◌&&◌, ◌||◌, List, [], ◌∷◌, ◌++◌, length, map, filter, find, Option, Some, None, is_some, option_map, slice_get}
+use Rattle.std.specs.Prelude.{ℕ, ◌+◌, ◌<◌, Bool, true, false, cond, ◌||◌, List, [], ◌∷◌, ◌++◌, length, map, filter, find, Option, Some, None, is_some, option_map, slice_get}
 use Rattle.std.specs.List.{list_any, enumerate_from}
 use Rattle.std.specs.Option.{option_or}
+use Rattle.std.proofs.lemmas.Bool.{or_parts}
 use Rattle.pv_table.specs.Building.{first_place}
 
 -- ---- tests
-
-pub and_false : (b : Bool) → (b && false) ≡ false
-and_false true = refl
-and_false false = refl
-
-pub and_true : (b : Bool) → (b && true) ≡ b
-and_true true = refl
-and_true false = refl
-
-pub either_false : (a b : Bool) → (a || b) ≡ false → (a ≡ false) × (b ≡ false)
-either_false true b e = cc
-either_false false b e = (refl, e)
-
-pub not_false : (a : Bool) → not a ≡ false → a ≡ true
-not_false true e = refl
-not_false false e = cc
-
-pub not_true : (a : Bool) → not a ≡ true → a ≡ false
-not_true true e = cc
-not_true false e = refl
 
 pub option_or-none : (o : Option ℕ) → o ≡ option_or o None
 option_or-none None = refl
@@ -44,7 +25,7 @@ list_any-find {A} test (x ∷ xs) = by_test (test x) (list_any-find test xs)
 
 pub first_place-none : {A : Type 0} (test : A → Bool) (xs : List A) → list_any test xs ≡ false → first_place test xs ≡ None
 first_place-none test [] none = refl
-first_place-none test (x ∷ xs) none = let u = either_false (test x) (list_any test xs) none in rw (u.0, first_place-none test xs u.1) refl
+first_place-none test (x ∷ xs) none = let u = or_parts (test x) (list_any test xs) none in rw (u.0, first_place-none test xs u.1) refl
 
 -- where no item passes, none is found
 pub missing : {A : Type 0} (test : A → Bool) (xs : List A) → first_place test xs ≡ None → (list_any test xs ≡ false) × (find test xs ≡ None)

@@ -1,4 +1,5 @@
--- Whether lines are refused does not depend on the moment of a run: refusals read kinds and owners alone.
+-- Runs of lines from trees that are the same but for stamps leave such trees, and refuse and say the same, whatever their
+-- moments.
 use Rattle.std.proofs.Common.{◌≡◌, ◌∙◌, sym, ap, subst, refl}
 use Rattle.std.specs.Prelude.{ℕ, ◌-◌, ◌+◌, Bool, true, false, not, cond, ◌&&◌, ◌||◌, ◌==◌, nat_lt, List, [], ◌∷◌, ◌++◌, length, take, map, filter, fold, Option, Some, None, is_some, option_map, option_and_then, unwrap_or, T}
 use Rattle.std.specs.FinMap as fin
@@ -23,6 +24,7 @@ use Rattle.pv_steps.specs.Same.{bares}
 use Rattle.pv_steps.specs.Steps.{made, on_at, put_at, touched}
 use Rattle.pv_steps.specs.Trees.{Files, Places, kind_of, places, tabulate, entries_at}
 use Rattle.pv_steps.proofs.StepLaws.{find-entries_at, is_among}
+use Rattle.pv_walk.specs.Copying.{object_of, standing, with_subtree, Subtree}
 use Rattle.pv_walk.specs.Preparing.{parent_file, parents_of, prepared, with_parent}
 use Rattle.pv_walk.specs.Staging.{new_object, staging_names}
 use Rattle.pv_table.specs.declared.deed.Deed.{Deed}
@@ -30,10 +32,12 @@ use Rattle.pv_table.specs.declared.deed.Deed.TheVariants.{Create, Copy, Touch, I
 use Rattle.pv_table.specs.declared.deed.Touching.{Touching}
 use Rattle.pv_table.specs.Active.{in_create_order}
 use Rattle.pv_table.specs.Asking.{asks, id_for_new}
-use Rattle.pv_table.specs.Created.{IsQuiet, after_each, by_line, by_turn, one_is_refused}
-use Rattle.pv_table.specs.Effects.{adjusted, as_bare, become, carried_out, is_touched, object_of, prepare, put, put_paths, restamped, same_bare, touch, turn_after, turned, turns}
+use Rattle.pv_text.specs.Said.{said_at}
+use Rattle.pv_table.specs.Created.{Doing, IsQuiet, after_each, by_line, by_turn, created, created_messages, one_is_refused, said_of_each}
+use Rattle.pv_table.specs.Effects.{adjusted, as_bare, become, carried_out, is_touched, prepare, put_paths, restamped, same_bare, touch, turn_after, turned, turns}
 use Rattle.pv_table.specs.Reaching.{names, path_in}
-use Rattle.pv_table.specs.Turns.{Refused, Subtree, Turn, View, copied, decide, has_something, named_refusal, owner_made, refused_at, source_refusal, view_of}
+use Rattle.pv_table.specs.Saying.{found, refused_text, texts, turn_texts}
+use Rattle.pv_table.specs.Turns.{Refused, Turn, View, copied, decide, has_something, named_refusal, owner_made, refused_at, source_refusal, view_of}
 
 -- ---- places that differ in stamps alone
 
@@ -234,20 +238,15 @@ become_alike now later (operation ∷ operations) x y same = become_alike now la
 
 -- ---- what is done at a path
 
--- what stands at a path where a subtree is put, by what comes after the path at which it is put
-abbrev laid : ℕ → Subtree → Places → Path → Option Path → Option Object
-laid now subtree t q None = t q
-laid now subtree t q (Some rest) = option_map (object_of now) (subtree rest)
-
-put_alike : (now later : ℕ) (path : Path) (subtree : Subtree) (t u : Places) → Alike t u → Alike (put now path subtree t) (put later path subtree u)
+put_alike : (now later : ℕ) (path : Path) (subtree : Subtree) (t u : Places) → Alike t u → Alike (with_subtree now path subtree t) (with_subtree later path subtree u)
 put_alike now later path subtree t u alike =
-    touched_alike now later path (λ q. laid now subtree t q (rest_under path q)) (λ q. laid later subtree u q (rest_under path q)) (λ q. by_rest q (rest_under path q))
+    touched_alike now later path (λ q. standing now subtree (t q) (rest_under path q)) (λ q. standing later subtree (u q) (rest_under path q)) (λ q. by_rest q (rest_under path q))
   where
     new : (o : Option Bare) → option_map bare (option_map (object_of now) o) ≡ option_map bare (option_map (object_of later) o)
     new None = refl
     new (Some b) = refl
 
-    by_rest : (q : Path) (o : Option Path) → option_map bare (laid now subtree t q o) ≡ option_map bare (laid later subtree u q o)
+    by_rest : (q : Path) (o : Option Path) → option_map bare (standing now subtree (t q) o) ≡ option_map bare (standing later subtree (u q) o)
     by_rest q None = alike q
     by_rest q (Some rest) = new (subtree rest)
 
@@ -265,7 +264,7 @@ turned_alike now later deed path (Turn.Put subtree) t u alike =
     let paths : put_paths deed path t ++ fin.keys t ≡ put_paths deed path u ++ fin.keys u =
     ap (λ (ps : List Path). ps ++ fin.keys t) (put_paths_alike deed path t u keys) ∙ ap (λ (ps : List Path). put_paths deed path u ++ ps) keys
     in
-    tabulate_alike (put_paths deed path t ++ fin.keys t) (put_paths deed path u ++ fin.keys u) paths (put now path subtree (places t)) (put later path subtree (places u)) (put_alike now later path subtree (places t) (places u) alike)
+    tabulate_alike (put_paths deed path t ++ fin.keys t) (put_paths deed path u ++ fin.keys u) paths (with_subtree now path subtree (places t)) (with_subtree later path subtree (places u)) (put_alike now later path subtree (places t) (places u) alike)
 turned_alike now later deed path (Turn.Become operations) t u alike =
     tabulate_alike (fin.keys t) (fin.keys u) (keys_alike t u alike) (on_at path (become now operations) (places t)) (on_at path (become later operations) (places u))
     (on_at_alike path (become now operations) (become later operations) (become_alike now later operations) (places t) (places u) alike)
@@ -410,33 +409,80 @@ turns_alike line t u same = by_deed (asks line)
     by_deed (Touch touching) = ap (filter (names line)) same
     by_deed Idle = refl
 
-all_turns_alike : (now later : ℕ) (line : Line) (paths : List Path) (t u : Files) → Alike (places t) (places u) → Alike (places (after_each (by_turn now line) paths t)) (places (after_each (by_turn later line) paths u))
-all_turns_alike now later line [] t u alike = alike
-all_turns_alike now later line (path ∷ paths) t u alike = all_turns_alike now later line paths (turn_after now line path t) (turn_after later line path u) (turn_alike now later line path t u alike)
+-- ---- what is said
 
-turns_refused : (now later : ℕ) (line : Line) (paths : List Path) (t u : Files) → Alike (places t) (places u) → one_is_refused (by_turn now line) paths t ≡ one_is_refused (by_turn later line) paths u
-turns_refused now later line [] t u alike = refl
-turns_refused now later line (path ∷ paths) t u alike =
-    ap (λ (o : Option Refused). is_some o || one_is_refused (by_turn now line) paths (turn_after now line path t)) (refused_alike line path (places t) (places u) alike)
-    ∙ ap (λ (b : Bool). is_some (refused_at line path (places u)) || b) (turns_refused now later line paths (turn_after now line path t) (turn_after later line path u) (turn_alike now later line path t u alike))
+found_alike : (now later : ℕ) (deed : Deed) (path : Path) (t u : Files) → Alike (places t) (places u) → Alike (places (found now deed path t)) (places (found later deed path u))
+found_alike now later (Create making) path t u alike = prepare_alike now later path t u alike
+found_alike now later (Copy copying) path t u alike = prepare_alike now later path t u alike
+found_alike now later (Touch touching) path t u alike = alike
+found_alike now later Idle path t u alike = alike
+
+-- the texts of a line at a path, by whether it is refused
+abbrev texts_by : ℕ → Line → Path → Files → Option Refused → List (List ℕ)
+texts_by now line path t (Some place) = refused_text place ∷ []
+texts_by now line path t None = turn_texts path (decide (asks line) (view_of (found now (asks line) path t)) path)
+
+texts_alike : (now later : ℕ) (line : Line) (path : Path) (t u : Files) → Alike (places t) (places u) → texts now line path t ≡ texts later line path u
+texts_alike now later line path t u alike = by_refusal (refused_at line path (places t)) (refused_at line path (places u)) (refused_alike line path (places t) (places u) alike)
+  where
+    by_refusal : (a b : Option Refused) → a ≡ b → texts_by now line path t a ≡ texts_by later line path u b
+    by_refusal None None e =
+        ap (λ (v : View). turn_texts path (decide (asks line) v path)) (view_alike (found now (asks line) path t) (found later (asks line) path u) (found_alike now later (asks line) path t u alike))
+    by_refusal None (Some b) e = cc
+    by_refusal (Some a) None e = cc
+    by_refusal (Some a) (Some b) e = let one : a ≡ b = cc in ap (λ (place : Refused). refused_text place ∷ []) one
+
+-- ---- one after the other
+
+-- two ways of doing something that keep trees alike, and refuse and say the same
+record IsTimeless {A : Type 0} (d e : Doing A) : Type 0 where
+  pub after : (x : A) (t u : Files) → Alike (places t) (places u) → Alike (places (d.after x t)) (places (e.after x u))
+  pub refuses : (x : A) (t u : Files) → Alike (places t) (places u) → d.is_refused x t ≡ e.is_refused x u
+  pub says : (x : A) (t u : Files) → Alike (places t) (places u) → d.says x t ≡ e.says x u
+
+module _ {A : Type 0} (d e : Doing A) (timeless : IsTimeless d e) where
+  each_after : (xs : List A) (t u : Files) → Alike (places t) (places u) → Alike (places (after_each d xs t)) (places (after_each e xs u))
+  each_after [] t u alike = alike
+  each_after (x ∷ xs) t u alike = each_after xs (d.after x t) (e.after x u) (timeless.after x t u alike)
+
+  each_refuses : (xs : List A) (t u : Files) → Alike (places t) (places u) → one_is_refused d xs t ≡ one_is_refused e xs u
+  each_refuses [] t u alike = refl
+  each_refuses (x ∷ xs) t u alike = λ i. timeless.refuses x t u alike i || each_refuses xs (d.after x t) (e.after x u) (timeless.after x t u alike) i
+
+  each_says : (xs : List A) (t u : Files) → Alike (places t) (places u) → said_of_each d xs t ≡ said_of_each e xs u
+  each_says [] t u alike = refl
+  each_says (x ∷ xs) t u alike = λ i. timeless.says x t u alike i ++ each_says xs (d.after x t) (e.after x u) (timeless.after x t u alike) i
+
+turn_timeless : (now later : ℕ) (line : Line) → IsTimeless (by_turn now line) (by_turn later line)
+turn_timeless now later line = record {
+  after = turn_alike now later line;
+  refuses = λ path t u alike. ap is_some (refused_alike line path (places t) (places u) alike);
+  says = λ path t u alike. ap (map (said_at line.place)) (texts_alike now later line path t u alike);
+}
+
+line_timeless : (now later : ℕ) → IsTimeless (by_line now) (by_line later)
+line_timeless now later = record {
+  after = λ line t u alike.
+      subst (λ (paths : List Path). Alike (places (after_each (by_turn now line) (turns line t) t)) (places (after_each (by_turn later line) paths u))) (turns_alike line t u (keys_alike t u alike))
+      (each_after (by_turn now line) (by_turn later line) (turn_timeless now later line) (turns line t) t u alike);
+  refuses = λ line t u alike.
+      each_refuses (by_turn now line) (by_turn later line) (turn_timeless now later line) (turns line t) t u alike
+      ∙ ap (λ (paths : List Path). one_is_refused (by_turn later line) paths u) (turns_alike line t u (keys_alike t u alike));
+  says = λ line t u alike.
+      each_says (by_turn now line) (by_turn later line) (turn_timeless now later line) (turns line t) t u alike
+      ∙ ap (λ (paths : List Path). said_of_each (by_turn later line) paths u) (turns_alike line t u (keys_alike t u alike));
+}
 
 -- ---- all lines
 
-line_alike : (now later : ℕ) (line : Line) (t u : Files) → Alike (places t) (places u) → Alike (places (after_each (by_turn now line) (turns line t) t)) (places (after_each (by_turn later line) (turns line u) u))
-line_alike now later line t u alike =
-    subst (λ (paths : List Path). Alike (places (after_each (by_turn now line) (turns line t) t)) (places (after_each (by_turn later line) paths u))) (turns_alike line t u (keys_alike t u alike))
-    (all_turns_alike now later line (turns line t) t u alike)
+pub created_alike : (lines : List Line) (now later : ℕ) (t u : Files) → Alike (places t) (places u) → Alike (places (created lines now t)) (places (created lines later u))
+created_alike lines now later t u alike = each_after (by_line now) (by_line later) (line_timeless now later) (in_create_order lines) t u alike
 
-line_refused : (now later : ℕ) (line : Line) (t u : Files) → Alike (places t) (places u) → one_is_refused (by_turn now line) (turns line t) t ≡ one_is_refused (by_turn later line) (turns line u) u
-line_refused now later line t u alike =
-    turns_refused now later line (turns line t) t u alike ∙ ap (λ (paths : List Path). one_is_refused (by_turn later line) paths u) (turns_alike line t u (keys_alike t u alike))
+pub messages_alike : (lines : List Line) (now later : ℕ) (t u : Files) → Alike (places t) (places u) → created_messages lines now t ≡ created_messages lines later u
+messages_alike lines now later t u alike = each_says (by_line now) (by_line later) (line_timeless now later) (in_create_order lines) t u alike
 
-lines_refused : (now later : ℕ) (lines : List Line) (t u : Files) → Alike (places t) (places u) → one_is_refused (by_line now) lines t ≡ one_is_refused (by_line later) lines u
-lines_refused now later [] t u alike = refl
-lines_refused now later (line ∷ lines) t u alike =
-    ap (λ (b : Bool). b || one_is_refused (by_line now) lines (after_each (by_turn now line) (turns line t) t)) (line_refused now later line t u alike)
-    ∙ ap (λ (b : Bool). one_is_refused (by_turn later line) (turns line u) u || b)
-    (lines_refused now later lines (after_each (by_turn now line) (turns line t) t) (after_each (by_turn later line) (turns line u) u) (line_alike now later line t u alike))
+pub quiet_alike : (lines : List Line) (now later : ℕ) (t u : Files) → Alike (places t) (places u) → IsQuiet lines now t → IsQuiet lines later u
+quiet_alike lines now later t u alike quiet = sym (each_refuses (by_line now) (by_line later) (line_timeless now later) (in_create_order lines) t u alike) ∙ quiet
 
 pub quiet_at_any_moment : (lines : List Line) (now later : ℕ) (t : Files) → IsQuiet lines now t → IsQuiet lines later t
-quiet_at_any_moment lines now later t quiet = lines_refused later now (in_create_order lines) t t (λ q. refl) ∙ quiet
+quiet_at_any_moment lines now later t quiet = quiet_alike lines now later t t (λ q. refl) quiet

@@ -4,7 +4,7 @@ use Rattle.std.specs.Prelude.{ℕ, ◌+◌, ◌<◌, ◌≤◌, ◌≢◌, ◌�
 use Rattle.std.specs.List.{list_any, enumerate_from}
 use Rattle.std.specs.Cmp.{nat_cmp_is}
 use Rattle.std.specs.declared.cmp.Ordering.TheVariants.{Less, Equal, Greater}
-use Rattle.std.proofs.lemmas.Bool.{cases_lt}
+use Rattle.std.proofs.lemmas.Bool.{cases_lt, and_parts, or_parts, not-false, not-true}
 use Rattle.std.specs.BTreeMap.{insert_entry}
 use Rattle.pv_path.specs.Paths.{Path, is_prefix, same_path, same_path-decides}
 use Rattle.std.proofs.Common.{get_or}
@@ -14,12 +14,12 @@ use Rattle.pv_lines.specs.declared.line.LinePath.TheVariants.{Literal}
 use Rattle.pv_table.specs.Building.{makes}
 use Rattle.pv_table.specs.Ranking.{first_known}
 use Rattle.pv_path.proofs.PathLaws.{same_path-refl}
-use Rattle.pv_path.proofs.PathLaws.{both_true, is_prefix-refl, is_prefix-trans, prefix_whole, prefixes_compare}
+use Rattle.pv_path.proofs.PathLaws.{is_prefix-refl, is_prefix-trans, prefix_whole, prefixes_compare}
 use Rattle.pv_lines.specs.declared.line.Line.{Line}
 use Rattle.pv_table.specs.Active.{Listed, are_distinct, make_same, placed}
 use Rattle.pv_table.specs.Reaching.{is_creating, path_in}
 use Rattle.pv_table.specs.Building.{first_place}
-use Rattle.pv_table.proofs.PlaceLaws.{either_false, next_item, not_false, not_true}
+use Rattle.pv_table.proofs.PlaceLaws.{next_item}
 use Rattle.pv_table.specs.Ranking.{Rank, first_under, makes_under, rank_cmp, rank_of, with_rank}
 
 -- ---- the first place
@@ -75,18 +75,18 @@ first_place-least {A} test (y ∷ xs) j x there passes = by_test (λ k h. first_
 
 none_passes : {A : Type 0} (test : A → Bool) (xs : List A) (j : ℕ) (x : A) → list_any test xs ≡ false → slice_get xs j ≡ Some x → test x ≡ false
 none_passes test [] j x none there = cc
-none_passes test (y ∷ xs) zero x none there = let same : y ≡ x = cc in let u = either_false (test y) (list_any test xs) none in ap test (sym same) ∙ u.0
-none_passes test (y ∷ xs) (suc j) x none there = let u = either_false (test y) (list_any test xs) none in none_passes test xs j x u.1 there
+none_passes test (y ∷ xs) zero x none there = let same : y ≡ x = cc in let u = or_parts (test y) (list_any test xs) none in ap test (sym same) ∙ u.0
+none_passes test (y ∷ xs) (suc j) x none there = let u = or_parts (test y) (list_any test xs) none in none_passes test xs j x u.1 there
 
 pub distinct-apart : (lines : List Line) (i j : ℕ) (a b : Line) → are_distinct lines ≡ true → slice_get lines i ≡ Some a → slice_get lines j ≡ Some b → i < j → make_same a b ≡ false
 distinct-apart [] i j a b e at_i at_j l = cc
 distinct-apart (line ∷ lines) i zero a b e at_i at_j l = absurd (omega arith)
 distinct-apart (line ∷ lines) zero (suc j) a b e at_i at_j l =
     let same : line ≡ a = cc in
-    let u = both_true (not (list_any (make_same line) lines)) (are_distinct lines) e in
-    ap (λ (c : Line). make_same c b) (sym same) ∙ none_passes (make_same line) lines j b (not_true (list_any (make_same line) lines) u.0) at_j
+    let u = and_parts (not (list_any (make_same line) lines)) (are_distinct lines) e in
+    ap (λ (c : Line). make_same c b) (sym same) ∙ none_passes (make_same line) lines j b (not-true (list_any (make_same line) lines) u.0) at_j
 distinct-apart (line ∷ lines) (suc i) (suc j) a b e at_i at_j l =
-    let u = both_true (not (list_any (make_same line) lines)) (are_distinct lines) e in
+    let u = and_parts (not (list_any (make_same line) lines)) (are_distinct lines) e in
     distinct-apart lines i j a b u.1 at_i at_j (omega arith)
 
 -- ---- ranks
@@ -120,7 +120,7 @@ has_first lines x i =
 first-below : (lines : List Line) (x e : Listed) → IsItem lines x → IsItem lines e → is_prefix (path_at x) (path_at e) ≡ true → first_of lines x ≤ first_of lines e
 first-below lines x e is_x is_e under =
     let w = first_place-passes (makes_under (path_at e)) lines (first_of lines e) (has_first lines e is_e).is in
-    let u = both_true (is_creating w.item) (is_prefix (path_at e) (path_in w.item.path)) w.passes in
+    let u = and_parts (is_creating w.item) (is_prefix (path_at e) (path_in w.item.path)) w.passes in
     let passes = passes_under (path_at x) w.item u.0 (is_prefix-trans (path_at x) (path_at e) (path_in w.item.path) under u.1) in
     let v = first_place-least (makes_under (path_at x)) lines (first_of lines e) w.item w.there passes in
     let same : Some v.place ≡ Some (first_of lines x) = sym v.is ∙ (has_first lines x is_x).is in
@@ -133,8 +133,8 @@ lies_below p q = is_prefix p q && not (same_path p q)
 
 strictly : (p q : Path) → lies_below p q ≡ true → (is_prefix p q ≡ true) × (length p < length q)
 strictly p q e =
-    let u = both_true (is_prefix p q) (not (same_path p q)) e in
-    let other = not_true (same_path p q) u.1 in
+    let u = and_parts (is_prefix p q) (not (same_path p q)) e in
+    let other = not-true (same_path p q) u.1 in
     (u.0, by_length (cases_lt (length p) (length q)) u.0 other)
   where
     by_length : (length p < length q) ⊎ (length q ≤ length p) → is_prefix p q ≡ true → same_path p q ≡ false → length p < length q
@@ -150,7 +150,7 @@ shorter p q r a b beside other = by_prefix (prefixes_compare p q r a b)
     by_length u (inr l) = absurd (other (prefix_whole q p u l))
 
     by_prefix : (is_prefix p q ≡ true) ⊎ (is_prefix q p ≡ true) → length q < length p
-    by_prefix (inl u) = absurd (other (sym ((same_path-decides p q).0 (let e : not (same_path p q) ≡ false = rw u at beside in not_false (same_path p q) e))))
+    by_prefix (inl u) = absurd (other (sym ((same_path-decides p q).0 (let e : not (same_path p q) ≡ false = rw u at beside in not-false (same_path p q) e))))
     by_prefix (inr u) = by_length u (cases_lt (length q) (length p))
 
 -- one rank comes before another
@@ -187,8 +187,8 @@ before-beside lines x e is_x is_e beside other l = by_first (cases_lt (first_of 
         let w = first_place-passes (makes_under (path_at e)) lines (first_of lines e) (has_first lines e is_e).is in
         let one : Some v.item ≡ Some w.item = sym v.there ∙ ap (slice_get lines) (sym same) ∙ w.there in
         let item : w.item ≡ v.item = cc in
-        let u = both_true (is_creating v.item) (is_prefix (path_at x) (path_in v.item.path)) v.passes in
-        let t = both_true (is_creating w.item) (is_prefix (path_at e) (path_in w.item.path)) w.passes in
+        let u = and_parts (is_creating v.item) (is_prefix (path_at x) (path_in v.item.path)) v.passes in
+        let t = and_parts (is_creating w.item) (is_prefix (path_at e) (path_in w.item.path)) w.passes in
         shorter (path_at x) (path_at e) (path_in v.item.path) u.1 (sym (ap (λ (c : Line). is_prefix (path_at e) (path_in c.path)) item) ∙ t.1) beside other
 
     by_first : (first_of lines e < first_of lines x) ⊎ (first_of lines x ≤ first_of lines e) → IsBefore (rank_of lines e.1) (rank_of lines x.1)
@@ -270,10 +270,10 @@ not_first lines x e is_x is_e beside other here =
     let v = first_place-passes (makes_under (path_at x)) lines (first_of lines x) (has_first lines x is_x).is in
     let one : Some v.item ≡ Some e.1 = sym v.there ∙ ap (slice_get lines) (sym here) ∙ is_e.at in
     let item : v.item ≡ e.1 = cc in
-    let u = both_true (is_creating v.item) (is_prefix (path_at x) (path_in v.item.path)) v.passes in
+    let u = and_parts (is_creating v.item) (is_prefix (path_at x) (path_in v.item.path)) v.passes in
     let under : is_prefix (path_at x) (path_at e) ≡ true = sym (ap (λ (c : Line). is_prefix (path_at x) (path_in c.path)) item) ∙ u.1 in
     let same : not (same_path (path_at x) (path_at e)) ≡ false = rw under at beside in
-    other (sym ((same_path-decides (path_at x) (path_at e)).0 (not_false (same_path (path_at x) (path_at e)) same)))
+    other (sym ((same_path-decides (path_at x) (path_at e)).0 (not-false (same_path (path_at x) (path_at e)) same)))
 
 insert-placed : (lines : List Line) → are_distinct lines ≡ true → (x : Listed) → IsItem lines x → (s : List Listed) → Each (IsOld lines x.0) s → Rises lines s → (first_of lines x ≡ x.0) ⊎ Has (first_of lines x) s → IsPlaced lines s x
 insert-placed lines distinct x is_x [] old rises first = record { same = refl; rises = (tt, tt) }
@@ -374,7 +374,7 @@ first_there lines n line s item there = by_place (cases_lt (first_of lines (n, l
     by_place : (first_of lines (n, line) < n) ⊎ (n ≤ first_of lines (n, line)) → (first_of lines (n, line) ≡ n) ⊎ Has (first_of lines (n, line)) s
     by_place (inl l) =
         let v = first_place-passes (makes_under (path_in line.path)) lines (first_of lines (n, line)) (has_first lines (n, line) item).is in
-        let u = both_true (is_creating v.item) (is_prefix (path_in line.path) (path_in v.item.path)) v.passes in
+        let u = and_parts (is_creating v.item) (is_prefix (path_in line.path) (path_in v.item.path)) v.passes in
         inr (there (first_of lines (n, line)) v.item l v.there u.0)
     by_place (inr l) = let own = (has_first lines (n, line) item).own in inl (omega (arith, l, own))
 

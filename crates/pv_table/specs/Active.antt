@@ -1,6 +1,7 @@
 -- Which lines are active, and in which order they are carried out (tmpfiles.d(5), systemd-tmpfiles(8)).
 use Rattle.std.specs.Prelude.{ℕ, Bool, true, false, not, ◌&&◌, ◌||◌, ◌==◌, length, codes, List, [], ◌∷◌, ◌++◌, map, filter, fold, find, Option, if◌then◌else◌}
 use Rattle.std.specs.List.{list_any, slice_split, enumerate_from}
+use Rattle.std.specs.Bool.{beq}
 use Rattle.std.specs.Option.{option_eq, option_map_or}
 use Rattle.pv_age.specs.declared.age.Age.{Age}
 use Rattle.pv_lines.specs.declared.line.Argument.{Argument}
@@ -50,19 +51,14 @@ with_line lines line = if list_any (λ first. make_same first line) lines then l
 abbrev pub active : Bool → Option Path → Option Path → List Line → List Line
 active boot prefix exclude lines = fold with_line [] (filter (stays boot prefix exclude) lines)
 
--- whether both are true, or neither is
-abbrev pub alike : Bool → Bool → Bool
-alike true b = b
-alike false b = not b
-
 abbrev pub same_mode : LineMode → LineMode → Bool
-same_mode a b = a.value == b.value && alike a.masked b.masked && alike a.new_only b.new_only
+same_mode a b = a.value == b.value && beq a.masked b.masked && beq a.new_only b.new_only
 
 abbrev pub same_id : LineId → LineId → Bool
-same_id a b = a.id == b.id && alike a.new_only b.new_only
+same_id a b = a.id == b.id && beq a.new_only b.new_only
 
 abbrev pub same_age : Age → Age → Bool
-same_age a b = a.micros == b.micros && a.by.0 == b.by.0 && alike a.spare_first b.spare_first
+same_age a b = a.micros == b.micros && a.by.0 == b.by.0 && beq a.spare_first b.spare_first
 
 -- whether the arguments of two creating lines are the same
 abbrev pub same_argument : Argument → Argument → Bool
@@ -75,11 +71,11 @@ same_argument a b = false
 
 -- whether two lines have the same modifiers that say when they hold: `!`, `-` and `$`
 abbrev pub same_times : Line → Line → Bool
-same_times a b = alike a.boot b.boot && alike a.minus b.minus && alike a.purge b.purge
+same_times a b = beq a.boot b.boot && beq a.minus b.minus && beq a.purge b.purge
 
 -- whether two lines have the same modifiers that say what they do: `+`, `=` and `~`
 abbrev pub same_ways : Line → Line → Bool
-same_ways a b = alike a.plus b.plus && alike a.replace b.replace && alike a.encoded b.encoded
+same_ways a b = beq a.plus b.plus && beq a.replace b.replace && beq a.encoded b.encoded
 
 -- whether two lines have the same type and modifiers
 abbrev pub same_type : Line → Line → Bool

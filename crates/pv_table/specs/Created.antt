@@ -10,6 +10,7 @@ use Rattle.pv_lines.specs.declared.line.Line.{Line}
 use Rattle.pv_path.specs.Paths.{Path, rest_under}
 use Rattle.pv_steps.specs.declared.object.Object.{Object}
 use Rattle.pv_steps.specs.Trees.{Files, places}
+use Rattle.pv_walk.specs.Copying.{Subtree}
 use Rattle.pv_walk.specs.Preparing.{parent_count}
 use Rattle.pv_walk.specs.Staging.{staging_names, count_at_all, most_new}
 use Rattle.pv_table.specs.declared.deed.Deed.{Deed}
@@ -19,7 +20,7 @@ use Rattle.pv_table.specs.Active.{in_create_order}
 use Rattle.pv_table.specs.Asking.{asks}
 use Rattle.pv_table.specs.Effects.{same_bare, become, put_paths, prepare, is_touched, turn_after, turns}
 use Rattle.pv_table.specs.Saying.{turn_messages}
-use Rattle.pv_table.specs.Turns.{Turn, Subtree, view_of, has_something, decide, refused_at}
+use Rattle.pv_table.specs.Turns.{Turn, view_of, has_something, decide, refused_at}
 
 -- ---- one after the other
 

@@ -13,16 +13,17 @@ use Rattle.pv_path.specs.Names.{same_bytes}
 use Rattle.pv_path.specs.Paths.{Path, same_path, is_prefix, rest_under, has_staging}
 use Rattle.pv_steps.specs.declared.attr.Attr.{Attr}
 use Rattle.pv_steps.specs.declared.object.Object.{Object}
-use Rattle.pv_steps.specs.Objects.{changed, modified, stamped}
-use Rattle.pv_steps.specs.Steps.{on_at, touched}
-use Rattle.pv_steps.specs.Trees.{Files, Places, places, tabulate}
+use Rattle.pv_steps.specs.Objects.{changed, modified}
+use Rattle.pv_steps.specs.Steps.{on_at}
+use Rattle.pv_steps.specs.Trees.{Files, places, tabulate}
+use Rattle.pv_walk.specs.Copying.{with_stamps, with_subtree}
 use Rattle.pv_walk.specs.Preparing.{parents_of, prepared}
 use Rattle.pv_table.specs.declared.deed.Deed.{Deed}
 use Rattle.pv_table.specs.declared.deed.Deed.TheVariants.{Create, Copy, Touch, Idle}
 use Rattle.pv_table.specs.declared.deed.Touching.{Touching}
 use Rattle.pv_table.specs.Asking.{asks}
 use Rattle.pv_table.specs.Reaching.{names, path_in}
-use Rattle.pv_table.specs.Turns.{Refused, Turn, Subtree, view_of, decide, has_something, refused_at}
+use Rattle.pv_table.specs.Turns.{Refused, Turn, view_of, decide, has_something, refused_at}
 
 -- ---- one object
 
@@ -40,21 +41,7 @@ same_bare a b =
 
 -- an object with its stamps, as one without says
 abbrev pub as_bare : Bare → Object → Object
-as_bare b o = record {
-  node = record {
-    kind = b.body.kind;
-    special = b.dress.special;
-    uid = b.dress.uid;
-    gid = b.dress.gid;
-    acl = b.dress.acl;
-    stamps = o.node.stamps;
-    major = b.body.major;
-    minor = b.body.minor;
-    attrs = b.dress.attrs;
-    letters = b.dress.letters;
-  };
-  payload = b.body.payload;
-}
+as_bare b o = with_stamps o.node.stamps b
 
 -- the change stamp is now where the object differs, that of modification where its bytes do
 abbrev pub restamped : ℕ → Bare → Object → Object
@@ -75,33 +62,7 @@ adjusted now o operation = by (done operation (Some (bare_of o)))
 abbrev pub become : ℕ → List Operation → Object → Object
 become now operations o = fold (adjusted now) o operations
 
--- a new object, all four stamps now
-abbrev pub object_of : ℕ → Bare → Object
-object_of now b = record {
-  node = record {
-    kind = b.body.kind;
-    special = b.dress.special;
-    uid = b.dress.uid;
-    gid = b.dress.gid;
-    acl = b.dress.acl;
-    stamps = stamped now;
-    major = b.body.major;
-    minor = b.body.minor;
-    attrs = b.dress.attrs;
-    letters = b.dress.letters;
-  };
-  payload = b.body.payload;
-}
-
 -- ---- a tree
-
--- a subtree of new objects stands at a path in the place of all that stood at and below it; its directory has changed
-abbrev pub put : ℕ → Path → Subtree → Places → Places
-put now path subtree t = touched now path (λ q. by q (rest_under path q))
-  where
-    by : Path → Option Path → Option Object
-    by q None = t q
-    by q (Some rest) = option_map (object_of now) (subtree rest)
 
 -- the paths at which a line may put something: its own, and one for each path below what it copies
 abbrev pub put_paths : Deed → Path → Files → List Path
@@ -112,7 +73,7 @@ put_paths deed path t = path ∷ []
 abbrev pub turned : ℕ → Deed → Path → Turn → Files → Files
 turned now deed path Turn.Nothing t = t
 turned now deed path (Turn.Left kind) t = t
-turned now deed path (Turn.Put subtree) t = tabulate (put_paths deed path t ++ fin.keys t) (put now path subtree (places t))
+turned now deed path (Turn.Put subtree) t = tabulate (put_paths deed path t ++ fin.keys t) (with_subtree now path subtree (places t))
 turned now deed path (Turn.Become operations) t = tabulate (fin.keys t) (on_at path (become now operations) (places t))
 
 -- what an earlier run has staged along a path is taken away, and absent parents are put

@@ -1,9 +1,10 @@
 -- Which lines share a path, and why carrying out lines twice may leave something else than carrying them out once
 -- (this project's own).
-use Rattle.std.specs.Prelude.{◌≡◌, ◌≢◌, ◌⊎◌, ℕ, ◌<◌, Bool, true, false, ◌||◌, ◌==◌, List, [], ◌∷◌, codes, Option, Some, None, is_some, slice_get}
+use Rattle.std.specs.Prelude.{◌≡◌, ◌≢◌, ◌⊎◌, ℕ, ◌<◌, Bool, true, false, ◌||◌, ◌==◌, List, [], Option, Some, None, is_some, slice_get}
 use Rattle.std.specs.List.{list_any}
 use Rattle.pv_dress.specs.declared.operation.Operation.{Operation}
 use Rattle.pv_dress.specs.Reasons.{is_adjusting, is_append, gives_base}
+use Rattle.pv_layers.specs.Places.{is_input}
 use Rattle.pv_lines.specs.declared.line.Line.{Line}
 use Rattle.pv_lines.specs.declared.line.LineMode.{LineMode}
 use Rattle.pv_path.specs.Paths.{Path, has_names, is_prefix}
@@ -62,21 +63,6 @@ has_masked_mode line = by line.mode
     by : Option LineMode → Bool
     by None = false
     by (Some mode) = mode.masked
-
--- the folders of configuration files and the files of users and groups, from which lines are read
-abbrev pub inputs : List Path
-inputs =
-    (codes "etc" ∷ codes "tmpfiles.d" ∷ [])
-    ∷ (codes "run" ∷ codes "tmpfiles.d" ∷ [])
-    ∷ (codes "usr" ∷ codes "local" ∷ codes "lib" ∷ codes "tmpfiles.d" ∷ [])
-    ∷ (codes "usr" ∷ codes "lib" ∷ codes "tmpfiles.d" ∷ [])
-    ∷ (codes "etc" ∷ codes "passwd" ∷ [])
-    ∷ (codes "etc" ∷ codes "group" ∷ [])
-    ∷ []
-
--- whether a path lies at or below one of them
-abbrev pub is_input : Path → Bool
-is_input q = list_any (λ path. is_prefix path q) inputs
 
 -- whether a line writes bytes: w
 abbrev pub is_writing : Line → Bool

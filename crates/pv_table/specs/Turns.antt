@@ -1,22 +1,23 @@
 -- A line at its turn: whether it is refused, and what is done at a path that it names, by what stands there without its
 -- stamps (tmpfiles.d(5)).
-use Rattle.std.specs.Prelude.{ℕ, Bool, true, false, not, ◌&&◌, List, [], ◌∷◌, ◌++◌, length, take, Option, Some, None, is_some, option_map, unwrap_or, if◌then◌else◌}
+use Rattle.std.specs.Prelude.{ℕ, Bool, true, false, not, ◌&&◌, List, [], ◌∷◌, length, take, Option, Some, None, is_some, option_map, unwrap_or, if◌then◌else◌}
 use Rattle.std.specs.List.{list_all, range_with_len}
 use Rattle.std.specs.Option.{option_map_or, option_or, option_and_then}
 use Rattle.std.specs.FinMap as fin
 use Rattle.pv_dress.specs.declared.bare.Bare.{Bare}
 use Rattle.pv_dress.specs.declared.operation.Operation.{Operation}
-use Rattle.pv_dress.specs.Nodes.{bare_of, bares_of, is_link, same_kind}
-use Rattle.pv_dress.specs.Operations.{admits, stays, with_mode}
+use Rattle.pv_dress.specs.Nodes.{bare_of, bares_of, same_kind}
+use Rattle.pv_dress.specs.Operations.{admits, stays}
 use Rattle.pv_lines.specs.declared.line.Line.{Line}
-use Rattle.pv_lines.specs.declared.line.LineMode.{LineMode}
 use Rattle.pv_path.specs.Names.{is_staging}
-use Rattle.pv_path.specs.Paths.{Path, has_staging}
+use Rattle.pv_path.specs.Paths.{Path}
 use Rattle.pv_steps.specs.declared.node.Kind.{Kind}
 use Rattle.pv_steps.specs.declared.why.Why.{Why}
 use Rattle.pv_steps.specs.Objects.{is_directory}
 use Rattle.pv_steps.specs.Refusal.{refusal, first_refused, why_blocked}
 use Rattle.pv_steps.specs.Trees.{Files, Places, places, kind_of, child_name}
+use Rattle.pv_walk.specs.declared.copying.TopNode.{TopNode}
+use Rattle.pv_walk.specs.Copying.{Subtree, copy_from, topped}
 use Rattle.pv_walk.specs.Staging.{new_object}
 use Rattle.pv_table.specs.declared.deed.Copying.{Copying}
 use Rattle.pv_table.specs.declared.deed.Deed.{Deed}
@@ -74,10 +75,6 @@ pub record View : Type 0 where
 abbrev pub view_of : Files → View
 view_of t = record { paths = fin.keys t; at = bares_of (places t) }
 
--- what is to stand at and below a path, by what comes after it
-abbrev pub Subtree : Type 0
-Subtree = Path → Option Bare
-
 -- what is done at a path: nothing; an object of this kind is left with a message; what stands there, with all below,
 -- gives way to a subtree; or it is adjusted by operations
 pub data Turn : Type 0 where
@@ -91,20 +88,21 @@ abbrev pub single : Bare → Subtree
 single b [] = Some b
 single b (name ∷ rest) = None
 
+-- what the top of a copy gets, by whether it is a directory
+abbrev pub top_of : Copying → Bool → TopNode
+top_of copying directory = record {
+  mode = option_map (λ mode. mode_for_new (Some mode) directory) copying.mode;
+  uid = copying.uid;
+  gid = copying.gid;
+}
+
 -- a copied object with the mode and the owners of a line; a link takes owners alone
-abbrev pub topped : Copying → Bare → Bare
-topped copying b = moded copying.mode (record b { dress = record b.dress { uid = unwrap_or copying.uid b.dress.uid; gid = unwrap_or copying.gid b.dress.gid } })
-  where
-    moded : Option LineMode → Bare → Bare
-    moded None b = b
-    moded (Some mode) b =
-        if is_link b.body.kind then b
-        else record b { dress = with_mode b.body.kind (mode_for_new (Some mode) (is_directory b.body.kind)) false b.dress }
+abbrev pub topped_by : Copying → Bare → Bare
+topped_by copying b = topped (top_of copying (is_directory b.body.kind)) b
 
 -- the copy of what stands at and below a path, staging names left out
 abbrev pub copy_of : Copying → View → Subtree
-copy_of copying view [] = option_map (topped copying) (view.at copying.source)
-copy_of copying view (name ∷ rest) = if has_staging (name ∷ rest) then None else view.at (copying.source ++ name ∷ rest)
+copy_of copying view = copy_from (topped_by copying) copying.source view.at
 
 -- whether a path is that of an object directly below another, staging names aside
 abbrev pub is_visible_child : Path → Path → Bool

@@ -3,12 +3,12 @@ ghost use Rattle.std.specs.Prelude.{◌≡◌, [], ◌∷◌, ◌++◌, IfOk, On
 ghost use Rattle.std.specs.Option.{option_copied};
 ghost use Rattle.pv_text.specs.Said.{SaidPart};
 ghost use Rattle.pv_table.specs.Active.{active, dropped_message, duplicate_message, duplicates, line_message, with_line};
-ghost use Rattle.pv_table.specs.Reaching.{path_in};
 
+use crate::reach::path_of;
 use crate::same::ask_same;
 use crate::staying::stays;
 use crate::table::Table;
-use pv_lines::{Line, LineList, LinePath};
+use pv_lines::{Line, LineList};
 use pv_path::{TreePath, print_path};
 use pv_text::Messages;
 use std::alloc::{AllocError, Global};
@@ -83,14 +83,4 @@ fn say_duplicate(alloc: Global, line: &Line, messages: &mut Messages) -> Result<
     let path = print_path(alloc, &path_of(alloc, line)?)?;
     text.extend_from_slice(&path)?;
     messages.push_at(&line.place, &text)
-}
-
-/// The path of a line that makes something; of another line the root.
-fn path_of(alloc: Global, line: &Line) -> Result<TreePath, AllocError>
-    ensures { IfOk result (λ path. path ≡ path_in line.now.path) }
-{
-    match &line.path {
-        LinePath::Literal(path) => path.copy(),
-        LinePath::Glob(_) => Ok(TreePath::root(alloc)),
-    }
 }

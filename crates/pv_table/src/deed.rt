@@ -1,8 +1,12 @@
 //! What a line asks for in the create phase, whatever its letter.
+ghost use Rattle.std.specs.Prelude.{◌≡◌};
+ghost use Rattle.pv_table.specs.Turns.{top_of};
+
+use crate::asking::mode_for_new;
 use pv_dress::{Guard, Operation, Test};
 use pv_lines::LineMode;
 use pv_path::{Sequence, TreePath};
-use pv_walk::NewFile;
+use pv_walk::{NewFile, TopNode};
 
 /// Operations in their order.
 pub type OperationList = Sequence<Operation>;
@@ -47,6 +51,20 @@ pub struct Copying {
     pub renews: bool,
     /// What is set of an object that stays and is of the kind.
     pub sets: OperationList,
+}
+
+impl Copying {
+    /// What the top of the copy gets, by whether it is a directory: the special bits of a masked mode are for a directory
+    /// alone.
+    pub fn top(&self, directory: bool) -> TopNode
+        ensures { result ≡ top_of self.now directory }
+    {
+        TopNode {
+            mode: self.mode.map(|mode| mode_for_new(Some(mode), directory)),
+            uid: self.uid,
+            gid: self.gid,
+        }
+    }
 }
 
 /// What is to be set of objects that are there.

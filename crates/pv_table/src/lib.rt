@@ -26,7 +26,7 @@ pub use laws::{
 };
 pub use message::{left_text, place_text, say_left, say_refused, say_source_refused};
 pub use order::{create_order, remove_order};
-pub use reach::{is_creating, names, names_first, sparing_of, taking_of};
+pub use reach::{is_creating, names, names_first, path_of, sparing_of, taking_of};
 pub use reason::Reason;
 pub use scope::Scope;
 pub use scoping::scope_of;
@@ -35,6 +35,3 @@ pub use taking::{Sparing, Taking};
 
 /// Places of lines in some order.
 pub type IndexList = pv_path::Sequence<usize>;
-
-#[cfg(test)]
-mod tests;

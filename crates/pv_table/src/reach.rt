@@ -1,12 +1,13 @@
 //! Which paths a line names, and what it is for besides creating.
-ghost use Rattle.std.specs.Prelude.{◌≡◌, ◌≤◌, length, take};
+ghost use Rattle.std.specs.Prelude.{◌≡◌, ◌≤◌, length, take, IfOk};
 ghost use Rattle.pv_table.specs.Active.{is_taking};
-ghost use Rattle.pv_table.specs.Reaching.{is_creating, names, sparing_of, taking_of};
+ghost use Rattle.pv_table.specs.Reaching.{is_creating, names, path_in, sparing_of, taking_of};
 
 use crate::taking::{Sparing, Taking};
 use pv_glob::{matches, matches_first};
 use pv_lines::{Line, LinePath};
 use pv_path::TreePath;
+use std::alloc::{AllocError, Global};
 
 /// What a line takes away in the remove phase at a path that it names (tmpfiles.d(5), r, R and D).
 pub fn taking_of(line: &Line) -> Taking
@@ -44,6 +45,16 @@ pub fn is_creating(line: &Line) -> bool
     ensures { result ≡ is_creating line.now }
 {
     matches!(&line.path, LinePath::Literal(_))
+}
+
+/// The path of a line that names one path; the root for a pattern.
+pub fn path_of(alloc: Global, line: &Line) -> Result<TreePath, AllocError>
+    ensures { IfOk result (λ path. path ≡ path_in line.now.path) }
+{
+    match &line.path {
+        LinePath::Literal(path) => path.copy(),
+        LinePath::Glob(_) => Ok(TreePath::root(alloc)),
+    }
 }
 
 /// Whether a line names a path: its own, or one that its pattern matches. It takes no memory.

@@ -1,4 +1,4 @@
-use Rattle.std.proofs.Common.{◌≡◌, ◌∙◌, ◌*◌, ◌+◌, ◌-◌, arith, sym}
+use Rattle.std.proofs.Common.{arith}
 use Rattle.pv_lines.proofs.Octal.{goes}
 use Rattle.pv_lines.proofs.mode_field.octal_value.Goals as goal
 
