@@ -2,6 +2,7 @@
 use Rattle.std.specs.Prelude.{◌≡◌, ◌⊎◌, ℕ, ◌+◌, ◌≤◌, Bool, true, false, List, [], take, fold, Option, Some, None, is_some, option_map, IfSome, Result, Ok, Err, OnOk, if◌then◌else◌, cond}
 use Rattle.std.proofs.Common.{zero, suc, refl, sym, ap, subst, ◌∙◌, inl, inr, arith}
 use Rattle.std.proofs.Math.Seq.{take-nil}
+use Rattle.std.proofs.lemmas.Option.{same_Some}
 use Rattle.pv_path.specs.Names.{same_bytes}
 use Rattle.pv_path.specs.Paths.{Path, same_path}
 use Rattle.pv_path.proofs.PathLaws.{same_bytes-decides, same_path-refl}
@@ -38,9 +39,6 @@ use Rattle.pv_adjust.proofs.Making.{with_payload}
 use Rattle.pv_adjust.proofs.SetLaws.{Front, IsSet, Kept, worn, set_of, front_none}
 use Rattle.pv_adjust.proofs.Unwritten.{unwritten}
 use Rattle.pv_adjust.proofs.Becoming.{bare_cases, bytes_cases, bare_restamped, restamped-same, restamped-changed, restamped-modified, restamped_then, becomes}
-
-some_of : {A : Type 0} (a b : A) → Some a ≡ Some b → a ≡ b
-some_of a b e = cc
 
 -- ---- one object
 
@@ -80,7 +78,7 @@ module _ (path : Path) (sets : List Operation) (are : AreSets sets) (t : Files) 
   new = set.new
 
   wanted_new : is.new ≡ new
-  wanted_new = some_of is.new new (sym is.is ∙ set.is)
+  wanted_new = same_Some is.new new (sym is.is ∙ set.is)
 
   wanted_dress : wanted.dress ≡ new.dress
   wanted_dress = is.dress ∙ ap (λ (b : Bare). b.dress) wanted_new
@@ -162,7 +160,7 @@ module _ (path : Path) (sets : List Operation) (are : AreSets sets) (t : Files) 
 
     pub adjusted_ok : (v : Files) → ChangedAt (wear wanted.dress) path now u v → places v ≡ on_at path (become now sets) (places t)
     adjusted_ok v h =
-        let same : h.old ≡ second = some_of h.old second (sym h.there ∙ there_now) in
+        let same : h.old ≡ second = same_Some h.old second (sym h.there ∙ there_now) in
         let change : IsChanged (wear wanted.dress) now second h.object = subst (λ x. IsChanged (wear wanted.dress) now x h.object) same h.is in
         λ j q.
         (ap (λ (p : Places). p q) h.left ∙ ap (λ (v : Option Object). cond (same_path path q) (Some h.object) v) (puts q)
@@ -219,7 +217,7 @@ module _ (path : Path) (sets : List Operation) (are : AreSets sets) (t : Files) 
 
     lacks : {A : Type 0} (part : Object → A) (given : A) → part second ≡ part o → Lacks part given path u → Lacks part given path t
     lacks part given same other x e h =
-        other second (there_now u wrote) (same ∙ ap part (some_of o x (sym there ∙ e)) ∙ h)
+        other second (there_now u wrote) (same ∙ ap part (same_Some o x (sym there ∙ e)) ∙ h)
 
     gives_dress : (s : Step) → GivesDress path wanted.dress u s → GivesDress path wanted.dress t s
     gives_dress s (inl e) = inl e
@@ -250,7 +248,7 @@ module _ (path : Path) (sets : List Operation) (are : AreSets sets) (t : Files) 
       ∙ ap (λ (b : Bare). if same_bare b (bare_of o) then 0 else most_changed) (ap bare_of (becomes 0 sets are o new set.is) ∙ bare_restamped 0 new o)
 
   kept_now : (change : Object → Object) → change o ≡ o → IsKeptBy change path t
-  kept_now change e x at = subst (λ y. change y ≡ y) (some_of o x (sym there ∙ at)) e
+  kept_now change e x at = subst (λ y. change y ≡ y) (same_Some o x (sym there ∙ at)) e
 
   -- nothing is written where the bytes stay
   holds : (bytes : Option (List ℕ)) → (holding bytes o).payload ≡ new.body.payload → new.body.payload ≡ o.payload → holding bytes o ≡ o
@@ -268,7 +266,7 @@ module _ (path : Path) (sets : List Operation) (are : AreSets sets) (t : Files) 
 
   module _ (u : Files) (wrote : places u ≡ on_at path (written now wanted.bytes) (places t)) where
     kept_then : (change : Object → Object) → change second ≡ second → IsKeptBy change path u
-    kept_then change e x at = subst (λ y. change y ≡ y) (some_of second x (sym (there_now u wrote) ∙ at)) e
+    kept_then change e x at = subst (λ y. change y ≡ y) (same_Some second x (sym (there_now u wrote) ∙ at)) e
 
     bare_dress : (bare_of second).dress ≡ (bare_of o).dress
     bare_dress = ap (λ (b : Bare). b.dress) bare_second
@@ -385,4 +383,4 @@ wanted_without path t sets are node seen none made e o there = record {
 }
   where
     same : node ≡ o.node
-    same = some_of node o.node (seen ∙ ap (option_map (λ (x : Object). x.node)) there)
+    same = same_Some node o.node (seen ∙ ap (option_map (λ (x : Object). x.node)) there)

@@ -26,7 +26,7 @@ use Rattle.pv_table.specs.declared.deed.Deed.{Deed}
 use Rattle.pv_table.specs.declared.deed.Deed.TheVariants.{Idle}
 use Rattle.pv_table.specs.Asking.{asks, bytes_of, contents_to_set, deeds, device, id_to_set, link_to, making, mode_to_set, owners_and_mode, set_by, touching, without_links, writing}
 use Rattle.pv_adjust.specs.Sets.{AreSets, AtMostOne, SetsBytes, SetsMode, SetsOther}
-use Rattle.pv_adjust.specs.Asked.{sets_of}
+use Rattle.pv_table.specs.Repeatable.{sets_of}
 
 -- ---- the parts of a list
 

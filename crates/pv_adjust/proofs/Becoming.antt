@@ -4,8 +4,9 @@ use Rattle.std.specs.Bool.{Decides}
 use Rattle.std.specs.Option.{option_eq}
 use Rattle.std.specs.Cmp.Lexicographic.{pointwise_decides}
 use Rattle.std.proofs.Common.{refl, sym, ap, ◌∙◌, inl, inr, ◌⊎◌, rules}
-use Rattle.std.proofs.lemmas.Bool.{eqb-true, eq-eqb}
+use Rattle.std.proofs.lemmas.Bool.{eqb-true, eq-eqb, and_parts}
 use Rattle.std.proofs.lemmas.Grind.{fold-append}
+use Rattle.std.proofs.lemmas.Option.{same_Some}
 use Rattle.pv_acl.specs.declared.part.Acl.{Acl}
 use Rattle.pv_acl.specs.declared.part.Part.{Part}
 use Rattle.pv_acl.specs.declared.perm.Named.{Named}
@@ -14,7 +15,6 @@ use Rattle.pv_acl.specs.contracts.part.AclPartialEq as acl_eq
 use Rattle.pv_acl.specs.contracts.part.PartPartialEq as part_eq
 use Rattle.pv_acl.specs.contracts.perm.NamedPartialEq as named_eq
 use Rattle.pv_acl.specs.contracts.perm.PermPartialEq as perm_eq
-use Rattle.pv_acl.proofs.Booleans.{both}
 use Rattle.pv_path.specs.Names.{same_bytes}
 use Rattle.pv_path.proofs.PathLaws.{same_bytes-decides}
 use Rattle.pv_steps.specs.declared.attr.Attr.{Attr}
@@ -34,9 +34,6 @@ use Rattle.pv_dress.proofs.OperationLaws.{run-append}
 use Rattle.pv_table.specs.Effects.{same_attr, same_bare, as_bare, restamped, adjusted, become}
 use Rattle.pv_adjust.specs.Sets.{AreSets, AtMostOne, SetsBytes, SetsOwners, SetsMode}
 use Rattle.pv_adjust.proofs.Making.{with_payload, BytesMade, OwnersMade, ModeMade, bytes_made, owners_made, mode_made}
-
-some_of : {A : Type 0} (a b : A) → Some a ≡ Some b → a ≡ b
-some_of a b e = cc
 
 -- ---- the same but for stamps
 
@@ -73,14 +70,14 @@ default_decides : (x y : Option Part) → Decides (option_eq (part_eq.TheImpl.eq
 default_decides None None = (λ h. refl, λ e. refl)
 default_decides None (Some y) = (λ h. let wrong : false ≡ true = h in cc, λ e. cc)
 default_decides (Some x) None = (λ h. let wrong : false ≡ true = h in cc, λ e. cc)
-default_decides (Some x) (Some y) = (λ h. ap Some ((part_decides x y).0 h), λ e. (part_decides x y).1 (some_of x y e))
+default_decides (Some x) (Some y) = (λ h. ap Some ((part_decides x y).0 h), λ e. (part_decides x y).1 (same_Some x y e))
 
 acl_decides : (a b : Acl) → Decides ((acl_eq.TheImpl.eq-value).it a b) (a ≡ b)
 acl_decides a b =
     let part = part_decides a.access b.access in
     let other = default_decides a.default_part b.default_part in (
       λ h.
-          let two = both ((part_eq.TheImpl.eq-value).it a.access b.access) (option_eq (part_eq.TheImpl.eq-value).it a.default_part b.default_part) h in
+          let two = and_parts ((part_eq.TheImpl.eq-value).it a.access b.access) (option_eq (part_eq.TheImpl.eq-value).it a.default_part b.default_part) h in
           λ i. record { access = part.0 two.0 i; default_part = other.0 two.1 i },
       λ e. let p = part.1 (ap (λ (x : Acl). x.access) e) in let q = other.1 (ap (λ (x : Acl). x.default_part) e) in (λ i. p i && q i),
     )
@@ -90,15 +87,15 @@ same_attr-decides a b = attrs.same_attr a b
 
 pub same_bare-true : (a b : Bare) → same_bare a b ≡ true → a ≡ b
 same_bare-true a b h =
-    let l1 = both _ _ h in
-    let l2 = both _ _ l1.0 in
-    let l3 = both _ _ l2.0 in
-    let l4 = both _ _ l3.0 in
-    let l5 = both _ _ l4.0 in
-    let l6 = both _ _ l5.0 in
-    let l7 = both _ _ l6.0 in
-    let l8 = both _ _ l7.0 in
-    let l9 = both (same_kind a.body.kind b.body.kind) (same_bytes a.body.payload b.body.payload) l8.0 in
+    let l1 = and_parts _ _ h in
+    let l2 = and_parts _ _ l1.0 in
+    let l3 = and_parts _ _ l2.0 in
+    let l4 = and_parts _ _ l3.0 in
+    let l5 = and_parts _ _ l4.0 in
+    let l6 = and_parts _ _ l5.0 in
+    let l7 = and_parts _ _ l6.0 in
+    let l8 = and_parts _ _ l7.0 in
+    let l9 = and_parts (same_kind a.body.kind b.body.kind) (same_bytes a.body.payload b.body.payload) l8.0 in
     let kind = same_kind-true a.body.kind b.body.kind l9.0 in
     let payload = (same_bytes-decides a.body.payload b.body.payload).0 l9.1 in
     let major = eqb-true a.body.major b.body.major l8.1 in
@@ -207,8 +204,8 @@ module _ (now : ℕ) where
 
 module _ (now : ℕ) where
   one_becomes : (is : Guard → Change → Type 0) (xs : List Operation) → AtMostOne is xs → (o : Object) (new : Bare) → run xs (Some (bare_of o)) ≡ Some new → become now xs o ≡ restamped now new o
-  one_becomes is [] h o new e = sym (restamped-same now new o (some_of new (bare_of o) (sym e)))
-  one_becomes is (Adjust guard change ∷ []) h o new e = ap (λ (x : Bare). restamped now x o) (some_of _ _ e)
+  one_becomes is [] h o new e = sym (restamped-same now new o (same_Some new (bare_of o) (sym e)))
+  one_becomes is (Adjust guard change ∷ []) h o new e = ap (λ (x : Bare). restamped now x o) (same_Some _ _ e)
   one_becomes is (x ∷ []) h o new e = absurd h
   one_becomes is (x ∷ y ∷ xs) h o new e = absurd h
 
@@ -257,5 +254,5 @@ module _ (now : ℕ) where
   becomes sets (AreSets.several bytes owners mode e one two three) o new is =
       ap (λ (xs : List Operation). become now xs o) e ∙ several_become bytes owners mode one two three o
       ∙ ap (λ (x : Bare). restamped now x o)
-      (some_of _ _ (sym (run_several bytes owners mode one two three o) ∙ ap (λ (xs : List Operation). run xs (Some (bare_of o))) (sym e) ∙ is))
+      (same_Some _ _ (sym (run_several bytes owners mode one two three o) ∙ ap (λ (xs : List Operation). run xs (Some (bare_of o))) (sym e) ∙ is))
   becomes sets (AreSets.alone h) o new is = one_becomes _ sets h o new is

@@ -5,6 +5,7 @@ use Rattle.std.specs.List.{list_all}
 use Rattle.std.proofs.Common.{refl, sym, ap, ◌∙◌, arith}
 use Rattle.std.proofs.lemmas.Bool.Decides.{nat_tests}
 use Rattle.std.proofs.lemmas.Nat.{and_le_l, or_lt}
+use Rattle.std.proofs.lemmas.Bool.{and_parts}
 use Rattle.pv_acl.specs.declared.part.Acl.{Acl}
 use Rattle.pv_acl.specs.declared.part.Part.{Part}
 use Rattle.pv_acl.specs.declared.line.AclLine.{AclLine}
@@ -13,7 +14,6 @@ use Rattle.pv_acl.specs.NamedEntries.{is_perm}
 use Rattle.pv_acl.specs.Applying.{acl_after}
 use Rattle.pv_acl.specs.Parts as parts
 use Rattle.pv_acl.specs.Parts.{is_acl, is_part, special_of}
-use Rattle.pv_acl.proofs.Booleans.{both}
 use Rattle.pv_acl.proofs.Allowed.{allowed_of, is_part-from}
 use Rattle.pv_steps.specs.declared.attr.Attr.{Attr}
 use Rattle.pv_steps.specs.Attributes.{is_attr, is_ordered, are_attrs, put_attr, put_attrs}
@@ -136,7 +136,7 @@ cut_perm n a = let h : bit_and (n % 8) a ≤ 7 = (let l = and_le_l (n % 8) a in 
 
 is_acl-with_masked : (mode : ℕ) (acl : Acl) → is_acl acl ≡ true → is_acl (record acl { access = with_masked mode acl.access }) ≡ true
 is_acl-with_masked mode acl h =
-    let two = both (is_part acl.access) _ h in
+    let two = and_parts (is_part acl.access) _ h in
     let a = allowed_of acl.access two.0 in
     let part : is_part (with_masked mode acl.access) ≡ true = is_part-from (with_masked mode acl.access) (record {
       owner = cut_perm (mode / 64) (granted acl.access);
@@ -221,14 +221,14 @@ fits_entries BlockDevice special acl line how real h = h
 are_attrs-all : (given xs : List Attr) → list_all (λ x. is_attr x.name x.value) given ≡ true → are_attrs xs ≡ true → are_attrs (put_attrs given xs) ≡ true
 are_attrs-all [] xs each h = h
 are_attrs-all (y ∷ given) xs each h =
-    let two = both (is_attr y.name y.value) (list_all (λ x. is_attr x.name x.value) given) each in
+    let two = and_parts (is_attr y.name y.value) (list_all (λ x. is_attr x.name x.value) given) each in
     are_attrs-all given (put_attr y xs) two.1 (are_attrs-put_attr y xs two.0 h)
 
 pub fits_attrs : (kind : Kind) (given xs : List Attr) → is_link kind ≡ false → are_attrs given ≡ true → AttrsFit kind xs → AttrsFit kind (put_attrs given xs)
 fits_attrs kind given xs real g h = by kind real h
   where
     all : are_attrs xs ≡ true → are_attrs (put_attrs given xs) ≡ true
-    all = are_attrs-all given xs (both (list_all (λ x. is_attr x.name x.value) given) (is_ordered given) g).0
+    all = are_attrs-all given xs (and_parts (list_all (λ x. is_attr x.name x.value) given) (is_ordered given) g).0
 
     by : (kind : Kind) → is_link kind ≡ false → AttrsFit kind xs → AttrsFit kind (put_attrs given xs)
     by Directory real h = all h

@@ -1,17 +1,18 @@
 -- Laws of a line that adjusts what is there, at each path that it names: carrying it out at one neither adds nor takes away
 -- paths, so that the list made first stays right.
-use Rattle.std.specs.Prelude.{◌≡◌, ℕ, ◌+◌, ◌≤◌, ◌<◌, ◌^◌, Bool, true, false, cond, not, ◌||◌, nat_le, List, [], ◌∷◌, ◌++◌, filter, length, take, drop, get_or, Option, Some, None, Result, Ok, is_some}
+use Rattle.std.specs.Prelude.{◌≡◌, ℕ, ◌+◌, ◌≤◌, ◌<◌, ◌^◌, Bool, true, false, cond, not, ◌||◌, nat_le, List, [], ◌∷◌, ◌++◌, filter, length, take, drop, get_or, Option, Some, None, Result, Ok, Err, IsErrAnd, is_some}
 use Rattle.std.specs.FinMap as fin
 use Rattle.std.specs.List.{list_all}
 use Rattle.std.specs.Cmp.Lexicographic.{pointwise}
 use Rattle.std.proofs.Common.{refl, sym, ap, subst, ◌∙◌, arith}
 use Rattle.std.proofs.lemmas.Bool.Decides.{nat_tests}
 use Rattle.std.proofs.lemmas.List.{take_more}
-use Rattle.pv_acl.proofs.Booleans.{both}
-use Rattle.pv_doing.specs.Courses.{Course, Partway, IsStepOfSome, carried_of}
+use Rattle.std.proofs.lemmas.Bool.{and_parts}
+use Rattle.pv_doing.specs.Courses.{Course, carried_of, each_of, CarriesOut}
 use Rattle.pv_doing.specs.declared.carried.Carried.{Carried}
 use Rattle.pv_doing.specs.declared.carried.Carried.TheVariants.{Whole}
-use Rattle.pv_doing.proofs.CourseLaws.{Going, going_start, going_next, next_left, none_left, one_within, one_part, partway_start, end_whole, end_said, end_part, end_refused, end_acted}
+use Rattle.pv_doing.proofs.CarryingLaws.{carried_none, Underway, underway_start, underway_failed, underway_next, underway_end}
+use Rattle.pv_doing.proofs.CourseLaws.{next_left, none_left, partway_start}
 use Rattle.pv_glob.specs.declared.element.Element.{Element}
 use Rattle.pv_glob.specs.Matching.{component_matches, matches, some_matches}
 use Rattle.pv_lines.specs.declared.line.Line.{Line}
@@ -22,11 +23,8 @@ use Rattle.pv_path.specs.Paths.{Path, has_staging}
 use Rattle.pv_path.proofs.PathLaws.{same_path-refl}
 use Rattle.pv_steps.specs.declared.tree.Tree.{Ghosts}
 use Rattle.pv_steps.specs.declared.tree.TreeFault.{TreeFault}
-use Rattle.pv_steps.specs.Acting.{refused, Acted}
-use Rattle.pv_steps.proofs.ActingLaws.{Moves, acted_none}
-use Rattle.pv_text.specs.Said.{SaidPart}
-use Rattle.pv_table.specs.Created.{by_turn, after_each, said_of_each, one_is_refused, taken_by_each}
-use Rattle.pv_table.specs.Saying.{turn_messages}
+use Rattle.pv_steps.specs.declared.tree.TreeFault.TheVariants.{Memory}
+use Rattle.pv_steps.proofs.ActingLaws.{Moves}
 use Rattle.pv_steps.specs.Trees.{Files, places, IsPresent}
 use Rattle.pv_walk.specs.Listing.{times}
 use Rattle.pv_walk.proofs.CountLaws.{times-filter, times-keys, times-push, one-same}
@@ -38,7 +36,7 @@ use Rattle.pv_table.specs.Effects.{carried_out, touch, turn_after, turns}
 use Rattle.pv_table.specs.Reaching.{names, names_in}
 use Rattle.pv_table.specs.Turns.{Refused, refused_at}
 use Rattle.pv_adjust.specs.Named.{touching_course}
-use Rattle.pv_adjust.specs.Reached.{AdjustingReached, GivesReached, IsPartSet}
+use Rattle.pv_adjust.specs.Reached.{IsPartSet}
 use Rattle.pv_adjust.proofs.ReachedLaws.{is_some-touched, places-touch, times-take}
 
 -- ---- presence
@@ -64,16 +62,16 @@ as_long : (xs : List (List Element)) (ys : Path) → pointwise component_matches
 as_long [] [] h = refl
 as_long [] (y ∷ ys) h = let wrong : false ≡ true = h in cc
 as_long (x ∷ xs) [] h = let wrong : false ≡ true = h in cc
-as_long (x ∷ xs) (y ∷ ys) h = let rest = as_long xs ys (both (component_matches x y) (pointwise component_matches xs ys) h).1 in omega (arith, rest)
+as_long (x ∷ xs) (y ∷ ys) h = let rest = as_long xs ys (and_parts (component_matches x y) (pointwise component_matches xs ys) h).1 in omega (arith, rest)
 
 matched_short : (plains : List (List (List Element))) (q : Path) → list_all (λ plain. nat_le (length plain) 4294967295) plains ≡ true → some_matches plains q ≡ true → length q < 2 ^ 32
 matched_short [] q short h = let wrong : false ≡ true = h in cc
-matched_short (plain ∷ plains) q short h = by (matches plain q) refl h (matched_short plains q (both (nat_le (length plain) 4294967295) (list_all (λ plain. nat_le (length plain) 4294967295) plains) short).1)
+matched_short (plain ∷ plains) q short h = by (matches plain q) refl h (matched_short plains q (and_parts (nat_le (length plain) 4294967295) (list_all (λ plain. nat_le (length plain) 4294967295) plains) short).1)
   where
     by : (s : Bool) → matches plain q ≡ s → (s || some_matches plains q) ≡ true → (some_matches plains q ≡ true → length q < 2 ^ 32) → length q < 2 ^ 32
     by true e f rest =
-        let long = as_long plain q (both (not (has_staging q)) (pointwise component_matches plain q) e).1 in
-        let few : nat_le (length plain) 4294967295 ≡ true = (both (nat_le (length plain) 4294967295) (list_all (λ plain. nat_le (length plain) 4294967295) plains) short).0 in
+        let long = as_long plain q (and_parts (not (has_staging q)) (pointwise component_matches plain q) e).1 in
+        let few : nat_le (length plain) 4294967295 ≡ true = (and_parts (nat_le (length plain) 4294967295) (list_all (λ plain. nat_le (length plain) 4294967295) plains) short).0 in
         let small : length plain ≤ 4294967295 = grind (arith, nat_tests) in
         omega (arith, long, small)
     by false e f rest = rest f
@@ -119,19 +117,15 @@ course_start now line touching x t = λ q. IsPartSet.kept refl
 
 -- some of the paths are done, and each path that was there is there
 pub record OnLine {S : Type 0} (tree : Ghosts S) (now : ℕ) (line : Line) (touching : Touching) (items left : List Path) (carried : Carried) (a b : S) (old new : List (List ℕ)) : Type 0 where
-  pub refused : Bool
-  pub ended : carried ≡ carried_of refused
-  pub going : Going (touching_course now line touching) tree items left now refused a b old new
+  pub under : Underway tree (touching_course now line touching) items left now carried a b old new
   pub standing : (q : Path) → is_some (places (tree.state b) q) ≡ is_some (places (tree.state a) q)
 
 -- a call that gives up before anything is done
-pub none_acted : {S B : Type 0} (tree : Ghosts S) → Moves tree → (now : ℕ) (line : Line) (touching : Touching) (a : S) (r : Result B TreeFault) → refused r ≡ 0
-    → Acted tree (Partway (touching_course now line touching) (turns line (tree.state a)) (tree.state a)) (IsStepOfSome (touching_course now line touching) (turns line (tree.state a)) (tree.state a))
-    (taken_by_each (by_turn now line) (turns line (tree.state a)) (tree.state a)) now a a r
-none_acted tree moves now line touching a r none =
-    acted_none tree moves (Partway (touching_course now line touching) (turns line (tree.state a)) (tree.state a)) (IsStepOfSome (touching_course now line touching) (turns line (tree.state a)) (tree.state a))
-    (taken_by_each (by_turn now line) (turns line (tree.state a)) (tree.state a)) now a r none
-    (partway_start (touching_course now line touching) (course_start now line touching) (turns line (tree.state a)) (tree.state a))
+pub line_none : {S : Type 0} (tree : Ghosts S) → Moves tree → (now : ℕ) (line : Line) (touching : Touching) (a : S) (old : List (List ℕ)) (r : Result Carried TreeFault) → IsErrAnd r (λ e. e ≡ Memory)
+    → CarriesOut tree (each_of (touching_course now line touching)) (turns line (tree.state a)) now a a old old r
+line_none tree moves now line touching a old r memory =
+    carried_none tree (each_of (touching_course now line touching)) (turns line (tree.state a)) now a old moves
+    (partway_start (touching_course now line touching) (course_start now line touching) (turns line (tree.state a)) (tree.state a)) old refl r memory
 
 module _ {S : Type 0} (tree : Ghosts S) (moves : Moves tree) (now : ℕ) (line : Line) (touching : Touching) (deed : asks line ≡ Touch touching) (items : List Path) (a : S) (are : items ≡ filter (names line) (fin.keys (tree.state a))) (old : List (List ℕ)) where
   abbrev course : Course Path
@@ -144,66 +138,32 @@ module _ {S : Type 0} (tree : Ghosts S) (moves : Moves tree) (now : ℕ) (line :
   all_turns = are ∙ named_turns line touching deed t
 
   pub line_start : OnLine tree now line touching items items Whole a a old old
-  line_start = record {
-    refused = false;
-    ended = refl;
-    going = going_start course tree moves (course_start now line touching) items now a old;
-    standing = λ q. refl;
-  }
+  line_start = record { under = underway_start tree moves course (course_start now line touching) items now a old; standing = λ q. refl }
 
-  module _ (i : ℕ) (at : Path) (lt : i < length items) (is : at ≡ get_or items i at) (carried : Carried) (b : S) (new : List (List ℕ)) (on : OnLine tree now line touching items (drop i items) carried a b old new) where
-    going : Going course tree items (at ∷ drop (i + 1) items) now on.refused a b old new
-    going = subst (λ (left : List Path). Going course tree items left now on.refused a b old new) (next_left items i at lt is) on.going
-
+  module _ (i : ℕ) (at : Path) (lt : i < length items) (is : at ≡ get_or items i at) (carried : Carried) (b : S) (mid : List (List ℕ)) (on : OnLine tree now line touching items (drop i items) carried a b old mid) where
     pub present_now : IsPresent (tree.state b) at
     present_now = on.standing at ∙ (stands_named line t items are i at lt is).1
 
     pub short_now : IsLine line → length at < 2 ^ 32
     short_now whole = named_short line whole at (stands_named line t items are i at lt is).0
 
-    -- one more path, whatever the answer
-    pub one_more_acted : {B : Type 0} (d : S) (r : Result B TreeFault) → Acted tree (AdjustingReached touching at (tree.state b)) (GivesReached touching at (tree.state b)) ((by_turn now line).takes at (tree.state b)) now b d r
-        → Acted tree (Partway course (turns line t) t) (IsStepOfSome course (turns line t) t) (taken_by_each course.whole (turns line t) t) now a d r
-    one_more_acted d r one =
-        subst (λ (all : List Path). Acted tree (Partway course all t) (IsStepOfSome course all t) (taken_by_each course.whole all t) now a d r) all_turns
-        (one_within course tree moves (course_start now line touching) items now a old (drop (i + 1) items) at on.refused b new going one)
-
-    pub one_more_part : (said : List (List ℕ)) → SaidPart (turn_messages now line at (tree.state b)) new said → SaidPart (said_of_each course.whole (turns line t) t) old said
-    one_more_part said part =
-        subst (λ (all : List Path). SaidPart (said_of_each course.whole all t) old said) all_turns
-        (one_part course tree moves (course_start now line touching) items now a old (drop (i + 1) items) at on.refused b new going said part)
+    -- one more path, at which it failed
+    pub line_failed : (d : S) (new : List (List ℕ)) {e : TreeFault} (q r : Result Carried TreeFault) → q ≡ Err e → IsErrAnd r (λ y. y ≡ e) → CarriesOut tree course at now b d mid new q
+        → CarriesOut tree (each_of course) (turns line t) now a d old new r
+    line_failed d new q r was passed one =
+        subst (λ (all : List Path). CarriesOut tree (each_of course) all now a d old new r) all_turns
+        (underway_failed tree moves course (course_start now line touching) items now a old (drop i items) (drop (i + 1) items) at (next_left items i at lt is) carried b mid on.under d new q r was passed one)
 
     -- and when it is done
-    pub line_next : {B : Type 0} (d : S) (y : B) (said : List (List ℕ)) (one ended : Carried) → tree.state d ≡ turn_after now line at (tree.state b) → said ≡ new ++ turn_messages now line at (tree.state b)
-        → one ≡ carried_of (is_some (refused_at line at (places (tree.state b)))) → ((p q : Bool) → carried ≡ carried_of p → one ≡ carried_of q → ended ≡ carried_of (p || q))
-        → Acted tree (AdjustingReached touching at (tree.state b)) (GivesReached touching at (tree.state b)) ((by_turn now line).takes at (tree.state b)) now b d (Ok y)
-        → OnLine tree now line touching items (drop (i + 1) items) ended a d old said
-    line_next d y said one ended done says is_one both_ended acted = record {
-      refused = on.refused || is_some (refused_at line at (places (tree.state b)));
-      ended = both_ended on.refused (is_some (refused_at line at (places (tree.state b)))) on.ended is_one;
-      going = going_next course tree moves (course_start now line touching) items now a old (drop (i + 1) items) at on.refused b new going d said done says acted;
-      standing = λ q. ap (λ f. is_some (places f q)) done ∙ turn_keeps now line touching deed at (tree.state b) q ∙ on.standing q;
+    pub line_next : (d : S) (new : List (List ℕ)) (one ended : Carried) → CarriesOut tree course at now b d mid new (Ok one)
+        → ((p q : Bool) → carried ≡ carried_of p → one ≡ carried_of q → ended ≡ carried_of (p || q)) → OnLine tree now line touching items (drop (i + 1) items) ended a d old new
+    line_next d new one ended done both_ended = record {
+      under = underway_next tree moves course (course_start now line touching) items now a old (drop i items) (drop (i + 1) items) at (next_left items i at lt is) carried b mid on.under d new one ended done both_ended;
+      standing = λ q. ap (λ f. is_some (places f q)) done.ok ∙ turn_keeps now line touching deed at (tree.state b) q ∙ on.standing q;
     }
 
-  module _ (i : ℕ) (past : length items ≤ i) (carried : Carried) (b : S) (new : List (List ℕ)) (on : OnLine tree now line touching items (drop i items) carried a b old new) where
-    all_gone : Going course tree items [] now on.refused a b old new
-    all_gone = subst (λ (left : List Path). Going course tree items left now on.refused a b old new) (none_left items i past) on.going
-
-    pub line_whole : tree.state b ≡ after_each course.whole (turns line t) t
-    line_whole = end_whole course tree moves (course_start now line touching) items now a old on.refused b new all_gone ∙ ap (λ (all : List Path). after_each course.whole all t) all_turns
-
-    pub line_said : new ≡ old ++ said_of_each course.whole (turns line t) t
-    line_said = end_said course tree moves (course_start now line touching) items now a old on.refused b new all_gone ∙ ap (λ (all : List Path). old ++ said_of_each course.whole all t) all_turns
-
-    pub line_part : SaidPart (said_of_each course.whole (turns line t) t) old new
-    line_part = subst (λ (all : List Path). SaidPart (said_of_each course.whole all t) old new) all_turns (end_part course tree moves (course_start now line touching) items now a old on.refused b new all_gone)
-
-    pub line_carried : carried ≡ carried_of (one_is_refused course.whole (turns line t) t)
-    line_carried =
-        on.ended ∙ ap carried_of (end_refused course tree moves (course_start now line touching) items now a old on.refused b new all_gone)
-        ∙ ap (λ (all : List Path). carried_of (one_is_refused course.whole all t)) all_turns
-
-    pub line_acted : {B : Type 0} (y : B) → Acted tree (Partway course (turns line t) t) (IsStepOfSome course (turns line t) t) (taken_by_each course.whole (turns line t) t) now a b (Ok y)
-    line_acted y =
-        subst (λ (all : List Path). Acted tree (Partway course all t) (IsStepOfSome course all t) (taken_by_each course.whole all t) now a b (Ok y)) all_turns
-        (end_acted course tree moves (course_start now line touching) items now a old on.refused b new all_gone (Ok y) refl)
+  pub line_end : (i : ℕ) → length items ≤ i → (carried : Carried) (b : S) (new : List (List ℕ)) → OnLine tree now line touching items (drop i items) carried a b old new
+      → CarriesOut tree (each_of course) (turns line t) now a b old new (Ok carried)
+  line_end i past carried b new on =
+      subst (λ (all : List Path). CarriesOut tree (each_of course) all now a b old new (Ok carried)) all_turns
+      (underway_end tree moves course (course_start now line touching) items now a old (drop i items) (none_left items i past) carried b new on.under)

@@ -2,6 +2,8 @@
 use Rattle.std.specs.Prelude.{◌≡◌, ◌⊎◌, ℕ, Bool, true, false, ◌||◌, ◌∷◌, ◌++◌, List, [], Option, Some, option_map, if◌then◌else◌}
 use Rattle.std.proofs.Common.{refl, sym, ap, subst, ◌∙◌, inl, inr}
 use Rattle.std.proofs.lemmas.List.Folds.{list_any-append}
+use Rattle.std.proofs.lemmas.Option.{same_Some}
+use Rattle.std.proofs.lemmas.Bool.{or_parts}
 use Rattle.pv_steps.specs.Attributes.{put_attrs}
 use Rattle.pv_steps.specs.Letters.{letters_after}
 use Rattle.pv_dress.specs.declared.bare.Bare.{Bare}
@@ -14,7 +16,6 @@ use Rattle.pv_dress.specs.Nodes.{carries_letters, is_file, is_link}
 use Rattle.pv_dress.specs.Operations.{admits, changed, run}
 use Rattle.pv_dress.specs.Reasons.{is_adjusting}
 use Rattle.pv_dress.proofs.OperationLaws.{run-append}
-use Rattle.pv_dress.proofs.Settling.{neither}
 use Rattle.pv_adjust.specs.Sets.{is_writing, writes, AreSets, AtMostOne, SetsBytes, SetsOwners, SetsMode}
 use Rattle.pv_adjust.proofs.Making.{with_payload, BytesMade, OwnersMade, bytes_made, owners_made, mode_made}
 
@@ -102,8 +103,8 @@ module _ (bytes owners mode : List Operation) (first : AtMostOne SetsBytes bytes
 
   parts_unwritten : writes (bytes ++ (owners ++ mode)) ≡ false → (writes bytes ≡ false) × ((writes owners ≡ false) × (writes mode ≡ false))
   parts_unwritten e =
-      let one = neither (writes bytes) (writes (owners ++ mode)) (sym (list_any-append (is_adjusting is_writing) bytes (owners ++ mode)) ∙ e) in
-      let two = neither (writes owners) (writes mode) (sym (list_any-append (is_adjusting is_writing) owners mode) ∙ one.1) in
+      let one = or_parts (writes bytes) (writes (owners ++ mode)) (sym (list_any-append (is_adjusting is_writing) bytes (owners ++ mode)) ∙ e) in
+      let two = or_parts (writes owners) (writes mode) (sym (list_any-append (is_adjusting is_writing) owners mode) ∙ one.1) in
       (one.0, (two.0, two.1))
 
   blind_several : (writes (bytes ++ (owners ++ mode)) ≡ false) ⊎ (is_file b.body.kind ≡ false) → Blind (bytes ++ (owners ++ mode)) b
@@ -141,15 +142,12 @@ set_stays sets (AreSets.several bytes owners mode e one two three) b =
     (some.0, ap (λ (xs : List Operation). run xs (Some b)) e ∙ some.1)
 set_stays sets (AreSets.alone h) b = some_most _ sets h b
 
-some_of : (a b : Bare) → Some a ≡ Some b → a ≡ b
-some_of a b e = cc
-
 -- what sets that write no bytes make of an object is told by one with other bytes
 pub unwritten : (sets : List Operation) → AreSets sets → (b : Bare) (p : List ℕ) → (writes sets ≡ false) ⊎ (is_file b.body.kind ≡ false) → (new : Bare) → run sets (Some (with_payload p b)) ≡ Some new
     → run sets (Some b) ≡ Some (with_payload b.body.payload new)
 unwritten sets are b p none new e =
     let blind = blind_sets sets are b none in
     let some = set_stays sets are b in
-    let given : new ≡ with_payload p some.0 = some_of _ _ (sym e ∙ blind p ∙ ap (option_map (with_payload p)) some.1) in
-    let own : some.0 ≡ with_payload b.body.payload some.0 = some_of _ _ (sym some.1 ∙ blind b.body.payload ∙ ap (option_map (with_payload b.body.payload)) some.1) in
+    let given : new ≡ with_payload p some.0 = same_Some _ _ (sym e ∙ blind p ∙ ap (option_map (with_payload p)) some.1) in
+    let own : some.0 ≡ with_payload b.body.payload some.0 = same_Some _ _ (sym some.1 ∙ blind b.body.payload ∙ ap (option_map (with_payload b.body.payload)) some.1) in
     some.1 ∙ ap Some (own ∙ ap (with_payload b.body.payload) (sym given))

@@ -1,6 +1,7 @@
 -- Laws of writing the bytes of a file: nothing is asked where it holds them, else one step gives them.
 use Rattle.std.specs.Prelude.{◌≡◌, ◌≢◌, ℕ, Bool, true, false, List, Option, Some, None, option_map, Result, Ok, Err, OnOk, if◌then◌else◌}
 use Rattle.std.proofs.Common.{refl, sym, ap, subst, ◌∙◌, inl, inr}
+use Rattle.std.proofs.lemmas.Option.{same_Some}
 use Rattle.pv_path.specs.Names.{same_bytes}
 use Rattle.pv_path.specs.Paths.{Path}
 use Rattle.pv_path.proofs.PathLaws.{same_bytes-decides}
@@ -18,9 +19,6 @@ use Rattle.pv_dress.specs.Dressing.{IsKeptBy, Lacks}
 use Rattle.pv_dress.specs.Wearing.{Changing}
 use Rattle.pv_dress.proofs.EditLaws.{path_cases, bares-on_at, on_at-else, on_at-here}
 use Rattle.pv_adjust.specs.Adjusting.{GivesBytes, holding, written}
-
-some_of : {A : Type 0} (a b : A) → Some a ≡ Some b → a ≡ b
-some_of a b e = cc
 
 -- ---- nothing to write
 
@@ -55,10 +53,10 @@ module _ (path : Path) (t : Files) (file : IsKind File t path) (own bytes : List
   there = stands.1
 
   own_is : own ≡ o.payload
-  own_is = some_of own o.payload (seen ∙ ap (option_map (λ (x : Object). x.payload)) there)
+  own_is = same_Some own o.payload (seen ∙ ap (option_map (λ (x : Object). x.payload)) there)
 
   at_path : (x : Object) → places t path ≡ Some x → o ≡ x
-  at_path x e = some_of o x (sym there ∙ e)
+  at_path x e = same_Some o x (sym there ∙ e)
 
   -- the file holds them
   pub held_already : same_bytes own bytes ≡ true → places t ≡ on_at path (written now (Some bytes)) (places t)
@@ -81,7 +79,7 @@ module _ (path : Path) (t : Files) (file : IsKind File t path) (own bytes : List
     not_kept kept = others (sym (ap (λ (y : Object). y.payload) (kept o there)))
 
     busy : Differ t (after t (Write path bytes) now)
-    busy = (path, λ e. others (ap (λ (y : Object). y.payload) (some_of (bare o) (bare (with_content bytes now o)) (sym (ap (option_map bare) there) ∙ e ∙ after_is))))
+    busy = (path, λ e. others (ap (λ (y : Object). y.payload) (same_Some (bare o) (bare (with_content bytes now o)) (sym (ap (option_map bare) there) ∙ e ∙ after_is))))
       where
         after_is : bares (places (after t (Write path bytes) now)) path ≡ Some (bare (with_content bytes now o))
         after_is = ap (λ p. bares p path) (at_after t (Write path bytes) now) ∙ ap (option_map bare) (on_at-here path (with_content bytes now) (places t) ∙ ap (option_map (with_content bytes now)) there)

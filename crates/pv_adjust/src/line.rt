@@ -1,13 +1,10 @@
 //! A line that adjusts what is there, at each path that it names.
-ghost use Rattle.std.specs.Prelude.{◌≡◌, ◌++◌, filter, IfOk, OnOk};
+ghost use Rattle.std.specs.Prelude.{◌≡◌, filter};
 ghost use Rattle.std.specs.FinMap as fin;
-ghost use Rattle.pv_doing.specs.Courses.{Partway, IsStepOfSome, carried_of};
+ghost use Rattle.pv_doing.specs.Courses.{each_of, CarriesOut};
 ghost use Rattle.pv_lines.specs.Lines.{IsLine};
-ghost use Rattle.pv_steps.specs.Acting.{Acted};
-ghost use Rattle.pv_text.specs.Said.{SaidPart};
 ghost use Rattle.pv_table.specs.declared.deed.Deed.TheVariants.{Touch};
 ghost use Rattle.pv_table.specs.Asking.{asks};
-ghost use Rattle.pv_table.specs.Created.{by_line};
 ghost use Rattle.pv_table.specs.Effects.{turns};
 ghost use Rattle.pv_table.specs.Reaching.{names};
 ghost use Rattle.pv_adjust.specs.Named.{touching_course};
@@ -34,20 +31,8 @@ pub fn adjust_named<T: Tree>(
 ) -> Result<Carried, TreeFault>
     requires line { IsLine line.now }
     requires deed { asks line.now ≡ Touch touching.now }
-
-    // What the whole line leaves, stamps included, what is said of it and how it ends.
-    ensures ok { OnOk result (T.state tree.new ≡ (by_line now).after line.now (T.state tree.old)) }
-    ensures said { OnOk result (messages.new
-        ≡ messages.old ++ (by_line now).says line.now (T.state tree.old)) }
-    ensures carried { IfOk result (λ c. c
-        ≡ carried_of ((by_line now).is_refused line.now (T.state tree.old))) }
-
-    // What is said and done, whatever the answer.
-    ensures part { SaidPart ((by_line now).says line.now (T.state tree.old)) messages.old messages.new }
-    ensures acted { let course = touching_course now line.now touching.now in
-        let turns = turns line.now (T.state tree.old) in
-        Acted T.Tree (Partway course turns (T.state tree.old)) (IsStepOfSome course turns (T.state tree.old))
-        ((by_line now).takes line.now (T.state tree.old)) now tree.old tree.new result }
+    ensures { CarriesOut T.Tree (each_of (touching_course now line.now touching.now)) (turns line.now (T.state tree.old))
+        now tree.old tree.new messages.old messages.new result }
 {
     let paths = named_paths(alloc, tree, line)?;
     touch_each(alloc, tree, line, touching, &paths, now, messages)
@@ -66,16 +51,8 @@ fn touch_each<T: Tree>(
     requires line { IsLine line.now }
     requires deed { asks line.now ≡ Touch touching.now }
     requires paths { paths.now ≡ filter (names line.now) (fin.keys (T.state tree.old)) }
-    ensures ok { OnOk result (T.state tree.new ≡ (by_line now).after line.now (T.state tree.old)) }
-    ensures said { OnOk result (messages.new
-        ≡ messages.old ++ (by_line now).says line.now (T.state tree.old)) }
-    ensures carried { IfOk result (λ c. c
-        ≡ carried_of ((by_line now).is_refused line.now (T.state tree.old))) }
-    ensures part { SaidPart ((by_line now).says line.now (T.state tree.old)) messages.old messages.new }
-    ensures acted { let course = touching_course now line.now touching.now in
-        let turns = turns line.now (T.state tree.old) in
-        Acted T.Tree (Partway course turns (T.state tree.old)) (IsStepOfSome course turns (T.state tree.old))
-        ((by_line now).takes line.now (T.state tree.old)) now tree.old tree.new result }
+    ensures { CarriesOut T.Tree (each_of (touching_course now line.now touching.now)) (turns line.now (T.state tree.old))
+        now tree.old tree.new messages.old messages.new result }
 {
     let mut carried = Carried::Whole;
     for path in paths {

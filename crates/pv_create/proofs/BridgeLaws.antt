@@ -4,7 +4,7 @@ use Rattle.std.specs.Prelude.{◌≡◌, ◌≢◌, ◌⊎◌, ℕ, ◌+◌, ◌
 use Rattle.std.proofs.Common.{zero, suc, refl, sym, ap, subst, ◌∙◌, arith, inl, inr}
 use Rattle.std.proofs.Math.Bool.{or-true}
 use Rattle.std.proofs.Math.Seq.{take-append_seam, take-length}
-use Rattle.std.proofs.lemmas.Bool.{or_cases}
+use Rattle.std.proofs.lemmas.Bool.{or_cases, and_parts}
 use Rattle.std.specs.FinMap as fin
 use Rattle.std.specs.List.{list_any, list_all}
 use Rattle.pv_acl.specs.declared.line.AclLine.{AclLine}
@@ -37,10 +37,11 @@ use Rattle.pv_lines.specs.declared.line.Argument.{Argument}
 use Rattle.pv_lines.specs.declared.line.Argument.TheVariants as argument
 use Rattle.pv_lines.specs.declared.line.Line.{Line}
 use Rattle.pv_lines.specs.declared.line.LineMode.{LineMode}
+use Rattle.pv_walk.specs.Copying.{Subtree}
 use Rattle.pv_walk.specs.Listing.{times}
 use Rattle.pv_walk.specs.Staging.{new_object, new_kind}
 use Rattle.pv_walk.proofs.CountLaws.{times-filter, times-keys, same_or_not}
-use Rattle.pv_walk.proofs.RemovalLaws.{apart, both, zero_or_more}
+use Rattle.pv_walk.proofs.RemovalLaws.{apart, zero_or_more}
 use Rattle.pv_table.specs.declared.deed.Deed.{Deed}
 use Rattle.pv_table.specs.declared.deed.Deed.TheVariants.{Create, Copy, Touch, Idle}
 use Rattle.pv_table.specs.declared.deed.Making.{Making}
@@ -53,13 +54,13 @@ use Rattle.pv_table.specs.Pointwise.{parent_bare, after_turn, touches}
 use Rattle.pv_table.specs.Reaching.{names, names_above, path_in, is_deep}
 use Rattle.pv_table.specs.Repeatable.{sets_of}
 use Rattle.pv_table.specs.Saying.{found}
-use Rattle.pv_table.specs.Turns.{Turn, Subtree, view_of, copied, has_something, decide, making_turn}
+use Rattle.pv_table.specs.Turns.{Turn, view_of, copied, has_something, decide, making_turn}
 use Rattle.pv_doing.specs.Courses.{Partway}
 use Rattle.pv_adjust.specs.Named.{touching_course}
 use Rattle.pv_adjust.specs.Reached.{IsPartSet}
 use Rattle.pv_make.specs.OnWay.{OnWay, IsMidway, turn_at, sets_at}
 use Rattle.pv_laws.specs.Stopping as stopping
-use Rattle.pv_laws.specs.Stopping.{IsRenewal, CopiesNothing}
+use Rattle.pv_laws.specs.Stopping.{IsRenewal}
 use Rattle.pv_laws.proofs.Lines.{IsPlain, line_point, turns_made, turns_touch, asked_made, asked_touch}
 use Rattle.pv_laws.proofs.Making.{is_dir, IsShaped, does_stay, turn_by, IsPlainDirectory, first_on_some, below_after, asked_here, asked_above, asked_else, ready_here}
 use Rattle.pv_laws.proofs.Repeated.{first_makes}
@@ -370,7 +371,7 @@ module _ (now : ℕ) (line : Line) (touching : Touching) (e : asks line ≡ Touc
             reached = sym (ap (λ b. b || (touching.deep && is_prefix p.0 q && not (has_staging q))) other) ∙ p.2
 
             deep : (touching.deep ≡ true) × (is_prefix p.0 q ≡ true)
-            deep = both touching.deep (is_prefix p.0 q) (both (touching.deep && is_prefix p.0 q) (not (has_staging q)) reached).0
+            deep = and_parts touching.deep (is_prefix p.0 q) (and_parts (touching.deep && is_prefix p.0 q) (not (has_staging q)) reached).0
 
             cut : take (length p.0) q ≡ p.0
             cut = let rest = prefix_parts p.0 q deep.1 in ap (take (length p.0)) rest.1 ∙ take-append_seam p.0 rest.0

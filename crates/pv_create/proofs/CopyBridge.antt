@@ -4,6 +4,7 @@ use Rattle.std.specs.Prelude.{◌≡◌, ℕ, ◌^◌, ◌<◌, Bool, true, fals
 use Rattle.std.proofs.Common.{refl, sym, ap, subst, ◌∙◌, inl, inr}
 use Rattle.std.proofs.Math.Seq.{drop-append_seam}
 use Rattle.std.specs.List.{AllByRecursion}
+use Rattle.std.proofs.lemmas.Bool.{or_parts}
 use Rattle.pv_path.specs.Paths.{Path, has_staging, same_path-decides}
 use Rattle.pv_steps.specs.declared.step.Step.{Step}
 use Rattle.pv_steps.specs.Runs.{after_all, Ran}
@@ -41,7 +42,7 @@ use Rattle.pv_laws.proofs.CopyStops.{copies_mend}
 use Rattle.pv_laws.proofs.CopyWays.{copies_on_the_way}
 use Rattle.pv_laws.proofs.Lines.{line_is_plain}
 use Rattle.pv_laws.proofs.Making.{IsShaped}
-use Rattle.pv_laws.proofs.Prepared.{neither, bare_some}
+use Rattle.pv_laws.proofs.Prepared.{bare_some}
 use Rattle.pv_laws.proofs.Sets.{impossible}
 use Rattle.pv_laws.proofs.Shapes.{tree_shaped}
 use Rattle.pv_laws.proofs.Touching.{turn_open, first_turn}
@@ -161,9 +162,9 @@ line_way now line t u is shape quiet way = by (asks line) refl
 pub run_way : (now : ℕ) (lines : List Line) (t u : Files) → AllByRecursion IsSafe lines → IsShaped (bares_of (places t)) → one_is_refused (by_line now) lines t ≡ false
     → Partway (lines_course now) lines t u → PartwayOf lines now t u
 run_way now [] t u are shape quiet same = same
-run_way now (line ∷ lines) t u are shape quiet (inl way) = inl (line_way now line t u are.0.is shape (neither ((by_line now).is_refused line t) (one_is_refused (by_line now) lines ((by_line now).after line t)) quiet).0 way)
+run_way now (line ∷ lines) t u are shape quiet (inl way) = inl (line_way now line t u are.0.is shape (or_parts ((by_line now).is_refused line t) (one_is_refused (by_line now) lines ((by_line now).after line t)) quiet).0 way)
 run_way now (line ∷ lines) t u are shape quiet (inr later) =
-    let two = neither ((by_line now).is_refused line t) (one_is_refused (by_line now) lines ((by_line now).after line t)) quiet in
+    let two = or_parts ((by_line now).is_refused line t) (one_is_refused (by_line now) lines ((by_line now).after line t)) quiet in
     inr (run_way now lines ((by_line now).after line t) u are.1 (line_pointed now line are.0 t shape two.0).shape two.1 later)
 
 -- ---- runs that were cut short

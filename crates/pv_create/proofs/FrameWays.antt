@@ -3,7 +3,7 @@ use Rattle.std.specs.Prelude.{◌≡◌, ℕ, Bool, true, false, not, ◌&&◌, 
 use Rattle.std.proofs.Common.{refl, sym, ap, subst, ◌∙◌, inl, inr}
 use Rattle.std.proofs.Math.Seq.{drop-append_seam}
 use Rattle.std.specs.FinMap as fin
-use Rattle.std.specs.List.{AllByRecursion}
+use Rattle.std.specs.List.{AllByRecursion, list_any}
 use Rattle.std.specs.Option.{option_map_or}
 use Rattle.pv_path.specs.Paths.{Path, same_path, is_prefix, has_staging, same_path-decides}
 use Rattle.pv_path.proofs.PathLaws.{same_path-refl}
@@ -19,6 +19,7 @@ use Rattle.pv_dress.specs.Operations.{stays, run}
 use Rattle.pv_dress.proofs.OperationLaws.{bares_of-same}
 use Rattle.pv_lines.specs.declared.line.Line.{Line}
 use Rattle.pv_lines.specs.Lines.{IsLine}
+use Rattle.pv_walk.specs.Copying.{Subtree}
 use Rattle.pv_walk.specs.Staging.{new_object}
 use Rattle.pv_walk.proofs.RemovalLaws.{apart}
 use Rattle.pv_table.specs.declared.deed.Copying.{Copying}
@@ -32,7 +33,7 @@ use Rattle.pv_table.specs.Created.{after_each, by_turn, by_line}
 use Rattle.pv_table.specs.Effects.{is_touched, turn_after, turns}
 use Rattle.pv_table.specs.Reaching.{names, path_in, governs}
 use Rattle.pv_table.specs.Saying.{found}
-use Rattle.pv_table.specs.Turns.{Turn, Subtree, view_of, single, copied, has_something, decide, making_turn}
+use Rattle.pv_table.specs.Turns.{Turn, view_of, single, copied, has_something, decide, making_turn}
 use Rattle.pv_adjust.specs.Named.{touching_course}
 use Rattle.pv_adjust.specs.Reached.{IsPartSet}
 use Rattle.pv_doing.specs.Courses.{Partway}
@@ -42,7 +43,7 @@ use Rattle.pv_laws.proofs.AllPoints.{turns_copy}
 use Rattle.pv_laws.proofs.Frames.{IsFree, ungoverned, names_literal, creates, not_reached, turn_away, touch_kept}
 use Rattle.pv_laws.proofs.Lines.{line_is_plain, turns_made, turns_touch}
 use Rattle.pv_laws.proofs.Making.{IsShaped, dir_there, ready_here}
-use Rattle.pv_laws.proofs.Orders.{all_in_order, all_tests}
+use Rattle.pv_table.proofs.ListedLaws.{all_in_order, all_tests}
 use Rattle.pv_laws.proofs.Sets.{impossible}
 use Rattle.pv_laws.proofs.Shapes.{tree_shaped}
 use Rattle.pv_create.specs.OnTheWay.{IsFramed}
@@ -182,10 +183,16 @@ lines_stay now (line ∷ lines) are t u shape q plain away (inr later) =
 -- ---- a run
 
 module _ (table : List Line) (are : AllByRecursion IsLine table) where
+  -- at a moment on its way
+  pub run_stays : (now : ℕ) (t u : Files) → IsShaped (bares_of (places t)) → (q : Path) → has_staging q ≡ false → list_any (λ line. governs line q) table ≡ false → Partway (lines_course now) (in_create_order table) t u
+      → bares_of (places u) q ≡ bares_of (places t) q
+  run_stays now t u shape q plain free way =
+      lines_stay now (in_create_order table) (all_in_order IsLine table are) t u shape q plain
+      (all_in_order (λ (line : Line). governs line q ≡ false) table (all_away now q plain table free)) way
+
   pub framed : (Q : Step → Type 0) (now : ℕ) (t : Files) (h : List Step) (u : Files) (k : List Step) → IsTree t → Ran (Partway (lines_course now) (in_create_order table) t) Q now t h u k
       → IsFramed table now t (drop (length h) k)
   framed Q now t h u k tree run =
       subst (λ (steps : List Step). IsFramed table now t steps) (sym (ap (drop (length h)) run.told ∙ drop-append_seam h run.steps)) (λ n q plain free.
-      lines_stay now (in_create_order table) (all_in_order IsLine table are) t (after_all t (take n run.steps) now) (tree_shaped (places t) tree) q plain
-      (all_in_order (λ (line : Line). governs line q ≡ false) table (all_away now q plain table free))
+      run_stays now t (after_all t (take n run.steps) now) (tree_shaped (places t) tree) q plain free
       (along_prefix (Partway (lines_course now) (in_create_order table) t) t run.steps now n run.along))

@@ -8,6 +8,7 @@ use Rattle.std.proofs.lemmas.List.Folds.{list_all-append}
 use Rattle.std.specs.FinMap as fin
 use Rattle.std.specs.List.{list_any, list_all, AllByRecursion}
 use Rattle.std.specs.Option.{option_map_or}
+use Rattle.std.proofs.lemmas.Bool.{and_parts}
 use Rattle.pv_path.specs.Paths.{has_names, Path, has_staging}
 use Rattle.pv_steps.specs.declared.node.Kind.{Kind}
 use Rattle.pv_steps.specs.declared.node.Kind.TheVariants.{Directory}
@@ -36,7 +37,7 @@ use Rattle.pv_lines.specs.declared.line.Line.{Line}
 use Rattle.pv_lines.specs.declared.line.LineMode.{LineMode}
 use Rattle.pv_lines.specs.declared.line.LinePath.{LinePath}
 use Rattle.pv_lines.specs.Lines.{IsLine}
-use Rattle.pv_walk.proofs.RemovalLaws.{apart, both}
+use Rattle.pv_walk.proofs.RemovalLaws.{apart}
 use Rattle.pv_table.specs.declared.deed.Copying.{Copying}
 use Rattle.pv_table.specs.declared.deed.Deed.{Deed}
 use Rattle.pv_table.specs.declared.deed.Deed.TheVariants.{Create, Copy, Touch, Idle}
@@ -48,7 +49,8 @@ use Rattle.pv_table.specs.Asking.{asks, deeds, mode_to_set, owners_and_mode, set
 use Rattle.pv_table.specs.Created.{after_each, by_turn, by_line}
 use Rattle.pv_table.specs.Effects.{carried_out, is_touched, turn_after}
 use Rattle.pv_table.specs.Reaching.{governs, is_creating, names, taking_of}
-use Rattle.pv_table.specs.Repeatable.{HasReason, IsAt, changes_content, is_input, is_writing, sets_of, takes_named}
+use Rattle.pv_layers.specs.Places.{is_input}
+use Rattle.pv_table.specs.Repeatable.{HasReason, IsAt, changes_content, is_writing, sets_of, takes_named}
 use Rattle.pv_table.specs.Turns.{Refused, refused_at}
 use Rattle.pv_doing.specs.Courses.{Partway}
 use Rattle.pv_adjust.specs.Named.{touching_course}
@@ -57,7 +59,7 @@ use Rattle.pv_laws.proofs.AllFrames.{each_kept}
 use Rattle.pv_laws.proofs.Frames.{turn_refused}
 use Rattle.pv_laws.proofs.Lines.{copy_literal, made_literal, turns_idle, turns_touch}
 use Rattle.pv_laws.proofs.Making.{nothing_unnamed, IsShaped}
-use Rattle.pv_laws.proofs.Orders.{all_in_order}
+use Rattle.pv_table.proofs.ListedLaws.{all_in_order}
 use Rattle.pv_laws.proofs.Sets.{impossible, is_adjustment, asked, sets_adjust}
 use Rattle.pv_laws.proofs.Shapes.{tree_shaped}
 use Rattle.pv_laws.proofs.Touching.{touch_point, turn_open}
@@ -120,7 +122,7 @@ done_held (Adjust guard change) h (Some b) =
 
 run_held : (xs : List Operation) → list_all keeps xs ≡ true → (o : Option Bare) → held (run xs o) ≡ held o
 run_held [] h o = refl
-run_held (x ∷ xs) h o = let two = both (keeps x) (list_all keeps xs) h in run_held xs two.1 (done x o) ∙ done_held x two.0 o
+run_held (x ∷ xs) h o = let two = and_parts (keeps x) (list_all keeps xs) h in run_held xs two.1 (done x o) ∙ done_held x two.0 o
 
 one_part : (x : Operation) → keeps x ≡ true → list_all keeps (parts_of x) ≡ true
 one_part (Make n) h = impossible h
@@ -141,13 +143,13 @@ one_part (Adjust guard (Letters how letters)) h = refl
 parts_keep : (xs : List Operation) → list_all keeps xs ≡ true → list_all keeps (parts xs) ≡ true
 parts_keep [] h = refl
 parts_keep (x ∷ xs) h =
-    let two = both (keeps x) (list_all keeps xs) h in
+    let two = and_parts (keeps x) (list_all keeps xs) h in
     list_all-append keeps (parts_of x) (parts xs) ∙ ap (λ b. b && list_all keeps (parts xs)) (one_part x two.0) ∙ parts_keep xs two.1
 
 front_keeps : (k : ℕ) (xs : List Operation) → list_all keeps xs ≡ true → list_all keeps (take k xs) ≡ true
 front_keeps zero xs h = refl
 front_keeps (suc k) [] h = refl
-front_keeps (suc k) (x ∷ xs) h = let two = both (keeps x) (list_all keeps xs) h in ap (λ b. b && list_all keeps (take k xs)) two.0 ∙ front_keeps k xs two.1
+front_keeps (suc k) (x ∷ xs) h = let two = and_parts (keeps x) (list_all keeps xs) h in ap (λ b. b && list_all keeps (take k xs)) two.0 ∙ front_keeps k xs two.1
 
 -- whole, and in front parts
 record KeepsHeld (xs : List Operation) : Type 0 where

@@ -6,6 +6,7 @@ use Rattle.std.proofs.Common.{refl, sym, ap, subst, ◌∙◌, inl, inr, zero, s
 use Rattle.std.proofs.Math.Seq.{drop-append_seam}
 use Rattle.std.specs.FinMap as fin
 use Rattle.std.specs.List.{list_any, list_all, AllByRecursion}
+use Rattle.std.proofs.lemmas.Bool.{not-true, and_parts}
 use Rattle.pv_path.specs.Paths.{Path, has_names, has_staging, is_prefix, same_path, same_path-decides}
 use Rattle.pv_path.proofs.PathLaws.{prefix_parts}
 use Rattle.pv_steps.specs.declared.object.Object.{Object}
@@ -22,11 +23,12 @@ use Rattle.pv_dress.specs.Dressing.{GivesDress}
 use Rattle.pv_dress.specs.Nodes.{bare_of, bares_of}
 use Rattle.pv_lines.specs.declared.line.Line.{Line}
 use Rattle.pv_lines.specs.Lines.{IsLine}
+use Rattle.pv_walk.specs.Copying.{Subtree}
 use Rattle.pv_walk.specs.Preparing.{IsPrepareStep, parent_file}
 use Rattle.pv_walk.specs.Preparing as preparing
 use Rattle.pv_walk.specs.Putting.{IsPutStep}
 use Rattle.pv_walk.specs.Staging.{staging_names, is_under_any}
-use Rattle.pv_walk.proofs.RemovalLaws.{apart, both}
+use Rattle.pv_walk.proofs.RemovalLaws.{apart}
 use Rattle.pv_table.specs.declared.deed.Copying.{Copying}
 use Rattle.pv_table.specs.declared.deed.Deed.{Deed}
 use Rattle.pv_table.specs.declared.deed.Deed.TheVariants.{Create, Copy, Touch, Idle}
@@ -38,9 +40,10 @@ use Rattle.pv_table.specs.Asking.{asks}
 use Rattle.pv_table.specs.Created.{by_line}
 use Rattle.pv_table.specs.Effects.{is_touched, turn_after}
 use Rattle.pv_table.specs.Reaching.{governs, names, path_in}
-use Rattle.pv_table.specs.Repeatable.{HasReason, inputs, is_input}
+use Rattle.pv_layers.specs.Places.{inputs, is_input}
+use Rattle.pv_table.specs.Repeatable.{HasReason}
 use Rattle.pv_table.specs.Saying.{found}
-use Rattle.pv_table.specs.Turns.{Subtree, Turn, copied}
+use Rattle.pv_table.specs.Turns.{Turn, copied}
 use Rattle.pv_doing.specs.Courses.{Partway, IsStepOfSome}
 use Rattle.pv_adjust.specs.Adjusting.{GivesBytes, GivesSet}
 use Rattle.pv_adjust.specs.Named.{touching_course}
@@ -49,7 +52,7 @@ use Rattle.pv_laws.proofs.AllFrames.{not_above, not_below, each_kept}
 use Rattle.pv_laws.proofs.Frames.{ungoverned}
 use Rattle.pv_laws.proofs.Lines.{copy_path, line_is_plain, turns_touch}
 use Rattle.pv_laws.proofs.Making.{IsShaped, dir_there}
-use Rattle.pv_laws.proofs.Orders.{all_in_order, all_map, all_tests}
+use Rattle.pv_table.proofs.ListedLaws.{all_in_order, all_map, all_tests}
 use Rattle.pv_laws.proofs.Sets.{impossible}
 use Rattle.pv_laws.proofs.Shapes.{tree_shaped}
 use Rattle.pv_create.specs.Ways.{IsLineStep, IsStepBy, lines_course}
@@ -83,13 +86,9 @@ module _ (f q : Path) (plain : has_staging f ≡ false) (under : is_prefix f q �
     reached_plain : (touching : Touching) (p at : Path) → names line p ≡ true → is_touched touching p at ≡ true → has_staging at ≡ false
     reached_plain touching p at named h = by (same_path p at) refl h
       where
-        negated : (c : Bool) → not c ≡ true → c ≡ false
-        negated true g = impossible g
-        negated false g = refl
-
         by : (c : Bool) → same_path p at ≡ c → (c || (touching.deep && is_prefix p at && not (has_staging at))) ≡ true → has_staging at ≡ false
         by true e g = ap has_staging (sym ((same_path-decides p at).0 e)) ∙ names_plain line is p named
-        by false e g = negated (has_staging at) (both (touching.deep && is_prefix p at) (not (has_staging at)) g).1
+        by false e g = not-true (has_staging at) (and_parts (touching.deep && is_prefix p at) (not (has_staging at)) g).1
 
     touched_outside : (touching : Touching) (paths : List Path) → AllByRecursion (λ p. names line p ≡ true) paths → (t : Files) → IsStepOfSome (touching_course now line touching) paths t step → alters step q ≡ false
     touched_outside touching [] named t h = absurd h
@@ -194,7 +193,7 @@ above_of test q [] all any = impossible any
 above_of test q (p ∷ paths) all any = by (is_prefix p q) refl any (above_of test q paths two.1)
   where
     two : (test p ≡ true) × (list_all test paths ≡ true)
-    two = both (test p) (list_all test paths) all
+    two = and_parts (test p) (list_all test paths) all
 
     by : (b : Bool) → is_prefix p q ≡ b → (b || list_any (λ r. is_prefix r q) paths) ≡ true
         → (list_any (λ r. is_prefix r q) paths ≡ true → (f : Path) × ((test f ≡ true) × (is_prefix f q ≡ true))) → (f : Path) × ((test f ≡ true) × (is_prefix f q ≡ true))
@@ -220,10 +219,6 @@ module _ (lines : List Line) (are : AllByRecursion IsLine lines) (free : (i : �
       shape : IsShaped (bares_of (places t))
       shape = tree_shaped (places t) tree
 
-      negated : (c : Bool) → not c ≡ true → c ≡ false
-      negated true g = impossible g
-      negated false g = refl
-
       -- what is absent where a folder is absent
       nothing : (v : Files) → IsTree v → (f : Path) → is_prefix f q ≡ true → content_of (places v f) ≡ None → content_of (places v q) ≡ None
       nothing v is f under none = at (places v q) refl
@@ -242,13 +237,13 @@ module _ (lines : List Line) (are : AllByRecursion IsLine lines) (free : (i : �
       below staged f folder under = at (places t f) refl
         where
           own : is_input f ≡ true
-          own = (both (is_input f) (has_names f && not (has_staging f)) folder).0
+          own = (and_parts (is_input f) (has_names f && not (has_staging f)) folder).0
 
           rest : (has_names f ≡ true) × (not (has_staging f) ≡ true)
-          rest = both (has_names f) (not (has_staging f)) (both (is_input f) (has_names f && not (has_staging f)) folder).1
+          rest = and_parts (has_names f) (not (has_staging f)) (and_parts (is_input f) (has_names f && not (has_staging f)) folder).1
 
           plain : has_staging f ≡ false
-          plain = negated (has_staging f) rest.1
+          plain = not-true (has_staging f) rest.1
 
           kept : content_of (places (after_all t steps now) f) ≡ content_of (places t f)
           kept = input_on_way lines are free now t (after_all t steps now) tree there way f own plain

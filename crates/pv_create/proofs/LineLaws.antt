@@ -1,19 +1,25 @@
 -- Laws of one line at its turn, by what it asks for.
-use Rattle.std.specs.Prelude.{◌≡◌, ℕ, ◌+◌, Bool, true, false, ◌||◌, [], ◌∷◌, Result}
-use Rattle.std.proofs.Common.{refl, sym, ap, subst, ◌∙◌, arith}
+use Rattle.std.specs.Prelude.{◌≡◌, ℕ, ◌+◌, false, [], ◌∷◌, Result, List, ◌++◌, Ok, IfOk, OnOk, IsErrAnd}
+use Rattle.std.proofs.Common.{refl, sym, ap, subst, ◌∙◌, arith, append-nil}
+use Rattle.std.proofs.Math.Bool.{or-false}
 use Rattle.pv_adjust.specs.Named.{touching_course}
 use Rattle.pv_adjust.proofs.NamedLaws.{course_start}
-use Rattle.pv_doing.specs.Courses.{Partway, IsStepOfSome}
+use Rattle.pv_doing.specs.Courses.{each_of, carried_of, CarriesOut}
+use Rattle.pv_doing.specs.declared.carried.Carried.{Carried}
+use Rattle.pv_doing.specs.declared.carried.Carried.TheVariants.{Whole}
+use Rattle.pv_doing.proofs.CarryingLaws.{carried_none, carried_told}
 use Rattle.pv_doing.proofs.CourseLaws.{partway_start}
 use Rattle.pv_lines.specs.declared.line.Line.{Line}
-use Rattle.pv_make.specs.OnWay.{OnWay, IsStepOf}
+use Rattle.pv_make.specs.OnWay.{OnWay, IsStepOf, making_course}
 use Rattle.pv_path.specs.Paths.{Path}
 use Rattle.pv_steps.specs.declared.step.Step.{Step}
 use Rattle.pv_steps.specs.declared.tree.Tree.{Ghosts}
 use Rattle.pv_steps.specs.declared.tree.TreeFault.{TreeFault}
-use Rattle.pv_steps.specs.Acting.{refused, Acted}
+use Rattle.pv_steps.specs.declared.tree.TreeFault.TheVariants.{Memory}
+use Rattle.pv_steps.specs.Acting.{Acted}
 use Rattle.pv_steps.specs.Trees.{Files}
-use Rattle.pv_steps.proofs.ActingLaws.{Moves, acted_none, acted_weaken}
+use Rattle.pv_steps.proofs.ActingLaws.{Moves, acted_weaken}
+use Rattle.pv_text.specs.Said.{SaidPart}
 use Rattle.pv_table.specs.declared.deed.Copying.{Copying}
 use Rattle.pv_table.specs.declared.deed.Deed.{Deed}
 use Rattle.pv_table.specs.declared.deed.Deed.TheVariants.{Create, Copy, Touch, Idle}
@@ -23,11 +29,7 @@ use Rattle.pv_table.specs.Asking.{asks}
 use Rattle.pv_table.specs.Created.{by_turn, by_line, after_each, said_of_each, one_is_refused, taken_by_each}
 use Rattle.pv_table.specs.Effects.{turns}
 use Rattle.pv_table.specs.Reaching.{path_in}
-use Rattle.pv_create.specs.Ways.{WayOf, LineWay, IsStepBy, IsLineStep}
-
-or_false : (b : Bool) → (b || false) ≡ b
-or_false true = refl
-or_false false = refl
+use Rattle.pv_create.specs.Ways.{WayOf, LineWay, IsStepBy, IsLineStep, line_course}
 
 -- ---- nothing is done yet
 
@@ -40,68 +42,71 @@ way_start Idle now line t = λ q plain. refl
 pub line_start : (now : ℕ) (line : Line) (t : Files) → LineWay now line t t
 line_start now line t = way_start (asks line) now line t
 
--- a call that gives up before anything is done, or has nothing to do
-pub line_none : {S B : Type 0} (tree : Ghosts S) → Moves tree → (now : ℕ) (line : Line) (a : S) (r : Result B TreeFault) → refused r ≡ 0
-    → Acted tree (LineWay now line (tree.state a)) (IsLineStep now line (tree.state a)) ((by_line now).takes line (tree.state a)) now a a r
-line_none tree moves now line a r none =
-    acted_none tree moves (LineWay now line (tree.state a)) (IsLineStep now line (tree.state a)) ((by_line now).takes line (tree.state a)) now a r none
-    (line_start now line (tree.state a))
+-- a call that gives up before anything is done
+pub line_none : {S : Type 0} (tree : Ghosts S) → Moves tree → (now : ℕ) (line : Line) (a : S) (old : List (List ℕ)) (r : Result Carried TreeFault) → IsErrAnd r (λ e. e ≡ Memory) → CarriesOut tree (line_course now) line now a a old old r
+line_none tree moves now line a old r memory = carried_none tree (line_course now) line now a old moves (line_start now line (tree.state a)) old refl r memory
 
 -- ---- a line that makes something or copies has one turn, at its path
 
-pub making_turns : (line : Line) (making : Making) → asks line ≡ Create making → (t : Files) → turns line t ≡ path_in line.path ∷ []
+making_turns : (line : Line) (making : Making) → asks line ≡ Create making → (t : Files) → turns line t ≡ path_in line.path ∷ []
 making_turns line making e t = rw e refl
 
-pub copying_turns : (line : Line) (copying : Copying) → asks line ≡ Copy copying → (t : Files) → turns line t ≡ path_in line.path ∷ []
+copying_turns : (line : Line) (copying : Copying) → asks line ≡ Copy copying → (t : Files) → turns line t ≡ path_in line.path ∷ []
 copying_turns line copying e t = rw e refl
 
 module _ (now : ℕ) (line : Line) (t : Files) (one : turns line t ≡ path_in line.path ∷ []) where
   abbrev path : Path
   path = path_in line.path
 
-  pub one_refused : (by_turn now line).is_refused path t ≡ (by_line now).is_refused line t
-  one_refused = sym (or_false ((by_turn now line).is_refused path t)) ∙ ap (λ paths. one_is_refused (by_turn now line) paths t) (sym one)
+  one_refused : (by_turn now line).is_refused path t ≡ (by_line now).is_refused line t
+  one_refused = sym (or-false ((by_turn now line).is_refused path t)) ∙ ap (λ paths. one_is_refused (by_turn now line) paths t) (sym one)
 
   one_takes : (by_turn now line).takes path t ≡ (by_line now).takes line t
   one_takes =
       (let same : (by_turn now line).takes path t ≡ (by_turn now line).takes path t + 0 = omega arith in same)
       ∙ ap (λ paths. taken_by_each (by_turn now line) paths t) (sym one)
 
-module _ {S B : Type 0} (tree : Ghosts S) (now : ℕ) (line : Line) (a b : S) (r : Result B TreeFault) where
-  one_acted : turns line (tree.state a) ≡ path_in line.path ∷ []
-      → ((u : Files) → OnWay now line (path_in line.path) (tree.state a) u → LineWay now line (tree.state a) u)
-      → ((step : Step) → IsStepOf now line (path_in line.path) (tree.state a) step → IsLineStep now line (tree.state a) step)
-      → Acted tree (OnWay now line (path_in line.path) (tree.state a)) (IsStepOf now line (path_in line.path) (tree.state a)) ((by_turn now line).takes (path_in line.path) (tree.state a)) now a b r
-      → Acted tree (LineWay now line (tree.state a)) (IsLineStep now line (tree.state a)) ((by_line now).takes line (tree.state a)) now a b r
-  one_acted one way step acted =
-      let t = tree.state a in
-      let takes = one_takes now line t one in
-      acted_weaken tree (OnWay now line (path_in line.path) t) (LineWay now line t) (IsStepOf now line (path_in line.path) t) (IsLineStep now line t)
-      ((by_turn now line).takes (path_in line.path) t) ((by_line now).takes line t) way step (omega (arith, takes)) acted
+  one_says : (by_turn now line).says path t ≡ (by_line now).says line t
+  one_says = sym (append-nil ((by_turn now line).says path t)) ∙ ap (λ paths. said_of_each (by_turn now line) paths t) (sym one)
 
-  pub making_acted : (making : Making) → asks line ≡ Create making
-      → Acted tree (OnWay now line (path_in line.path) (tree.state a)) (IsStepOf now line (path_in line.path) (tree.state a)) ((by_turn now line).takes (path_in line.path) (tree.state a)) now a b r
-      → Acted tree (LineWay now line (tree.state a)) (IsLineStep now line (tree.state a)) ((by_line now).takes line (tree.state a)) now a b r
-  making_acted making e acted =
-      one_acted (making_turns line making e (tree.state a)) (λ u way. subst (λ deed. WayOf deed now line (tree.state a) u) (sym e) way)
-      (λ step is. subst (λ deed. IsStepBy deed now line (tree.state a) step) (sym e) is) acted
+module _ {S : Type 0} (tree : Ghosts S) (now : ℕ) (line : Line) (a b : S) (old new : List (List ℕ)) (r : Result Carried TreeFault) where
+  abbrev t : Files
+  t = tree.state a
 
-  pub copying_acted : (copying : Copying) → asks line ≡ Copy copying
-      → Acted tree (OnWay now line (path_in line.path) (tree.state a)) (IsStepOf now line (path_in line.path) (tree.state a)) ((by_turn now line).takes (path_in line.path) (tree.state a)) now a b r
-      → Acted tree (LineWay now line (tree.state a)) (IsLineStep now line (tree.state a)) ((by_line now).takes line (tree.state a)) now a b r
-  copying_acted copying e acted =
-      one_acted (copying_turns line copying e (tree.state a)) (λ u way. subst (λ deed. WayOf deed now line (tree.state a) u) (sym e) way)
-      (λ step is. subst (λ deed. IsStepBy deed now line (tree.state a) step) (sym e) is) acted
+  one_carried : turns line t ≡ path_in line.path ∷ [] → ((u : Files) → OnWay now line (path_in line.path) t u → LineWay now line t u)
+      → ((step : Step) → IsStepOf now line (path_in line.path) t step → IsLineStep now line t step)
+      → CarriesOut tree (making_course now line) (path_in line.path) now a b old new r → CarriesOut tree (line_course now) line now a b old new r
+  one_carried one way step done = record {
+    ok = subst (λ (paths : List Path). OnOk r (tree.state b ≡ after_each (by_turn now line) paths t)) (sym one) done.ok;
+    said = subst (λ (says : List (List ℕ)). OnOk r (new ≡ old ++ says)) (one_says now line t one) done.said;
+    carried = subst (λ refused. IfOk r (λ ended. ended ≡ carried_of refused)) (one_refused now line t one) done.carried;
+    part = subst (λ (says : List (List ℕ)). SaidPart says old new) (one_says now line t one) done.part;
+    acted =
+        let takes = one_takes now line t one in
+        acted_weaken tree (OnWay now line (path_in line.path) t) (LineWay now line t) (IsStepOf now line (path_in line.path) t) (IsLineStep now line t)
+        ((by_turn now line).takes (path_in line.path) t) ((by_line now).takes line t) way step (omega (arith, takes)) done.acted;
+  }
 
--- ---- a line that adjusts what is there
+  pub making_carried : (making : Making) → asks line ≡ Create making → CarriesOut tree (making_course now line) (path_in line.path) now a b old new r → CarriesOut tree (line_course now) line now a b old new r
+  making_carried making e done =
+      one_carried (making_turns line making e t) (λ u way. subst (λ deed. WayOf deed now line t u) (sym e) way)
+      (λ step is. subst (λ deed. IsStepBy deed now line t step) (sym e) is) done
 
-pub touching_acted : {S B : Type 0} (tree : Ghosts S) (now : ℕ) (line : Line) (touching : Touching) → asks line ≡ Touch touching → (a b : S) (r : Result B TreeFault)
-    → Acted tree (Partway (touching_course now line touching) (turns line (tree.state a)) (tree.state a)) (IsStepOfSome (touching_course now line touching) (turns line (tree.state a)) (tree.state a))
-    ((by_line now).takes line (tree.state a)) now a b r
-    → Acted tree (LineWay now line (tree.state a)) (IsLineStep now line (tree.state a)) ((by_line now).takes line (tree.state a)) now a b r
-touching_acted tree now line touching e a b r acted =
-    let t = tree.state a in
-    subst (λ deed. Acted tree (WayOf deed now line t) (IsStepBy deed now line t) ((by_line now).takes line t) now a b r) (sym e) acted
+  pub copying_carried : (copying : Copying) → asks line ≡ Copy copying → CarriesOut tree (making_course now line) (path_in line.path) now a b old new r → CarriesOut tree (line_course now) line now a b old new r
+  copying_carried copying e done =
+      one_carried (copying_turns line copying e t) (λ u way. subst (λ deed. WayOf deed now line t u) (sym e) way)
+      (λ step is. subst (λ deed. IsStepBy deed now line t step) (sym e) is) done
+
+  -- ---- a line that adjusts what is there
+
+  pub touching_carried : (touching : Touching) → asks line ≡ Touch touching → CarriesOut tree (each_of (touching_course now line touching)) (turns line t) now a b old new r → CarriesOut tree (line_course now) line now a b old new r
+  touching_carried touching e done = record {
+    ok = done.ok;
+    said = done.said;
+    carried = done.carried;
+    part = done.part;
+    acted = subst (λ deed. Acted tree (WayOf deed now line t) (IsStepBy deed now line t) ((by_line now).takes line t) now a b r) (sym e) done.acted;
+  }
 
 -- ---- a line that asks for nothing has no turn
 
@@ -109,11 +114,17 @@ module _ (now : ℕ) (line : Line) (e : asks line ≡ Idle) (t : Files) where
   no_turn : turns line t ≡ []
   no_turn = rw e refl
 
-  pub idle_after : t ≡ (by_line now).after line t
+  idle_after : t ≡ (by_line now).after line t
   idle_after = ap (λ paths. after_each (by_turn now line) paths t) (sym no_turn)
 
-  pub idle_says : [] ≡ (by_line now).says line t
+  idle_says : [] ≡ (by_line now).says line t
   idle_says = ap (λ paths. said_of_each (by_turn now line) paths t) (sym no_turn)
 
-  pub idle_refused : false ≡ (by_line now).is_refused line t
+  idle_refused : false ≡ (by_line now).is_refused line t
   idle_refused = ap (λ paths. one_is_refused (by_turn now line) paths t) (sym no_turn)
+
+pub idle_carried : {S : Type 0} (tree : Ghosts S) → Moves tree → (now : ℕ) (line : Line) (a : S) (old : List (List ℕ)) → asks line ≡ Idle → CarriesOut tree (line_course now) line now a a old old (Ok Whole)
+idle_carried tree moves now line a old e =
+    carried_told tree (line_course now) line now a old moves (line_start now line (tree.state a)) old Whole (idle_after now line e (tree.state a))
+    (sym (append-nil old) ∙ ap (λ (says : List (List ℕ)). old ++ says) (idle_says now line e (tree.state a)))
+    (ap carried_of (idle_refused now line e (tree.state a)))

@@ -16,6 +16,7 @@ use Rattle.pv_dress.specs.declared.operation.Operation.TheVariants.{Make}
 use Rattle.pv_dress.specs.Dressing.{GivesDress}
 use Rattle.pv_dress.specs.Nodes.{bare_of, bares_of, same_kind}
 use Rattle.std.specs.Option.{option_map_or}
+use Rattle.std.proofs.lemmas.Bool.{not-true, or_parts, and_parts}
 use Rattle.pv_dress.specs.Operations.{stays, run}
 use Rattle.pv_dress.proofs.OperationLaws.{run-twice}
 use Rattle.pv_lines.specs.declared.line.Line.{Line}
@@ -24,10 +25,9 @@ use Rattle.pv_lines.specs.declared.line.LinePath.TheVariants.{Literal, Glob}
 use Rattle.pv_lines.specs.Lines.{IsLine, IsLinePath}
 use Rattle.pv_walk.specs.declared.new_file.NewFile.{NewFile}
 use Rattle.pv_walk.specs.Listing.{times}
-use Rattle.pv_walk.specs.Preparing.{IsPrepareStep, parent_file}
+use Rattle.pv_walk.specs.Preparing.{parent_file}
 use Rattle.pv_walk.specs.Preparing as preparing
 use Rattle.pv_walk.specs.Staging.{staging_names, is_under_any, new_object, new_mode, GivesNew, IsPublishing}
-use Rattle.pv_walk.proofs.RemovalLaws.{both}
 use Rattle.pv_walk.proofs.StageLaws.{mode_again}
 use Rattle.pv_table.specs.declared.deed.Copying.{Copying}
 use Rattle.pv_table.specs.declared.deed.Deed.{Deed}
@@ -42,12 +42,12 @@ use Rattle.pv_table.specs.Effects.{carried_out, is_touched, prepare, turn_after,
 use Rattle.pv_table.specs.Pointwise.{after_turn, parent_bare}
 use Rattle.pv_table.specs.Reaching.{names, path_in}
 use Rattle.pv_table.specs.Saying.{found}
-use Rattle.pv_table.specs.Turns.{Turn, Subtree, View, view_of, single, copied, copy_of, copying_turn, making_turn, has_something, decide}
+use Rattle.pv_table.specs.Turns.{Turn, View, view_of, single, copied, copy_of, copying_turn, making_turn, has_something, decide}
 use Rattle.pv_adjust.specs.Adjusting.{GivesBytes}
 use Rattle.pv_adjust.specs.Named.{touching_course}
 use Rattle.pv_doing.specs.Courses.{IsStepOfSome}
 use Rattle.pv_make.specs.OnWay.{IsStepOf, turn_at, puts_parents}
-use Rattle.pv_walk.specs.Copying.{GivesBare}
+use Rattle.pv_walk.specs.Copying.{GivesBare, Subtree}
 use Rattle.pv_laws.specs.Copying.{turn_of}
 use Rattle.pv_laws.proofs.AllPoints.{IsSafe, line_pointed, all_safe, state_after}
 use Rattle.pv_laws.proofs.Copies.{decide_some}
@@ -55,8 +55,8 @@ use Rattle.pv_laws.proofs.CopyShapes.{IsCopyTurn, puts, becomes, leaves, copy_tu
 use Rattle.pv_laws.proofs.CopyWays.{comes_inside, comes_above}
 use Rattle.pv_laws.proofs.Lines.{line_is_plain, line_point, asked_made, copy_path, turns_touch}
 use Rattle.pv_laws.proofs.Making.{is_dir, IsShaped, object_after, asked_here, asked_above, ready_here}
-use Rattle.pv_laws.proofs.Orders.{all_map, all_tests}
-use Rattle.pv_laws.proofs.Prepared.{neither, bare_some, filled}
+use Rattle.pv_laws.proofs.Prepared.{bare_some, filled}
+use Rattle.pv_table.proofs.ListedLaws.{all_map, all_tests}
 use Rattle.pv_laws.proofs.Sets.{impossible, is_adjustment, IsMaking, line_is_making, deep_repeatable}
 use Rattle.pv_laws.proofs.Shapes.{plain_prefix, tree_shaped}
 use Rattle.pv_laws.proofs.Touching.{turn_open, first_turn, touch_point, touched_all, set_if, set_by_each, set_by_any, set_never, own_path, adjusts, once_named}
@@ -294,13 +294,9 @@ any_holds f c each (x ∷ xs) h = by (f x) refl h (any_holds f c each xs)
 pub names_plain : (line : Line) → IsLine line → (p : Path) → names line p ≡ true → has_staging p ≡ false
 names_plain line is p named = by line.path refl is.fits.path
   where
-    negated : (c : Bool) → not c ≡ true → c ≡ false
-    negated true g = impossible g
-    negated false g = refl
-
     by : (path : LinePath) → line.path ≡ path → IsLinePath is.row path → has_staging p ≡ false
     by (Literal path) e h = ap has_staging (sym ((same_path-decides path p).0 (ap (λ (x : LinePath). names (record line { path = x }) p) (sym e) ∙ named))) ∙ h.1.unstaged
-    by (Glob pattern) e h = negated (has_staging p) (any_holds _ (not (has_staging p)) (λ x g. (both (not (has_staging p)) _ g).0) pattern (ap (λ (x : LinePath). names (record line { path = x }) p) (sym e) ∙ named))
+    by (Glob pattern) e h = not-true (has_staging p) (any_holds _ (not (has_staging p)) (λ x g. (and_parts (not (has_staging p)) _ g).0) pattern (ap (λ (x : LinePath). names (record line { path = x }) p) (sym e) ∙ named))
 
 module _ (now : ℕ) (line : Line) (is : IsLine line) (touching : Touching) (e : asks line ≡ Touch touching) (adjust : list_all is_adjustment touching.sets ≡ true) (step : Step) where
   -- a step gives what stands at a path after some turns
@@ -314,13 +310,9 @@ module _ (now : ℕ) (line : Line) (is : IsLine line) (touching : Touching) (e :
   reached_plain : (p q : Path) → names line p ≡ true → is_touched touching p q ≡ true → has_staging q ≡ false
   reached_plain p q named h = by (same_path p q) refl h
     where
-      negated : (c : Bool) → not c ≡ true → c ≡ false
-      negated true g = impossible g
-      negated false g = refl
-
       by : (c : Bool) → same_path p q ≡ c → (c || (touching.deep && is_prefix p q && not (has_staging q))) ≡ true → has_staging q ≡ false
       by true f g = ap has_staging (sym ((same_path-decides p q).0 f)) ∙ names_plain line is p named
-      by false f g = negated (has_staging q) (both (touching.deep && is_prefix p q) (not (has_staging q)) g).1
+      by false f g = not-true (has_staging q) (and_parts (touching.deep && is_prefix p q) (not (has_staging q)) g).1
 
   -- what was set stays, by turns after
   stays_set : (q : Path) (paths : List Path) (old : Option Bare) (new : Bare) → run touching.sets old ≡ Some new → (touching.deep ≡ false → times q paths ≡ 0) → set_by_each now touching adjust q paths (Some new) ≡ Some new
@@ -405,13 +397,13 @@ lines_left now [] safe t shape quiet step h = absurd h
 lines_left now (line ∷ lines) safe t shape quiet step (inl own) = by left.there
   where
     left : IsLeft t ((by_line now).after line t) step
-    left = line_left now line safe.0 t shape (neither ((by_line now).is_refused line t) (one_is_refused (by_line now) lines ((by_line now).after line t)) quiet).0 step own
+    left = line_left now line safe.0 t shape (or_parts ((by_line now).is_refused line t) (one_is_refused (by_line now) lines ((by_line now).after line t)) quiet).0 step own
 
     by : (bares_of (places t) left.path ≡ Some left.object) ⊎ (bares_of (places ((by_line now).after line t)) left.path ≡ Some left.object) → IsLeftBy now (line ∷ lines) t step
     by (inl before) = record { k = zero; path = left.path; plain = left.plain; object = left.object; there = before; gives = left.gives }
     by (inr after) = record { k = suc zero; path = left.path; plain = left.plain; object = left.object; there = after; gives = left.gives }
 lines_left now (line ∷ lines) safe t shape quiet step (inr later) =
-    let two = neither ((by_line now).is_refused line t) (one_is_refused (by_line now) lines ((by_line now).after line t)) quiet in
+    let two = or_parts ((by_line now).is_refused line t) (one_is_refused (by_line now) lines ((by_line now).after line t)) quiet in
     let left = lines_left now lines safe.1 ((by_line now).after line t) (line_pointed now line safe.0 t shape two.0).shape two.1 step later in
     record { k = suc left.k; path = left.path; plain = left.plain; object = left.object; there = left.there; gives = left.gives }
 

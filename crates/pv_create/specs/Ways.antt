@@ -10,7 +10,7 @@ use Rattle.pv_steps.specs.Trees.{Files}
 use Rattle.pv_table.specs.declared.deed.Deed.{Deed}
 use Rattle.pv_table.specs.declared.deed.Deed.TheVariants.{Create, Copy, Touch, Idle}
 use Rattle.pv_table.specs.Asking.{asks}
-use Rattle.pv_table.specs.Created.{by_line_that_counts}
+use Rattle.pv_table.specs.Created.{by_line, by_line_that_counts}
 use Rattle.pv_table.specs.Effects.{turns}
 use Rattle.pv_table.specs.Reaching.{path_in}
 
@@ -34,6 +34,10 @@ IsStepBy Idle now line t step = ⊥
 abbrev pub IsLineStep : ℕ → Line → Files → Step → Type 0
 IsLineStep now line t step = IsStepBy (asks line) now line t step
 
--- lines one after the other; a refusal of a line with `-` does not count
+-- a line, of which each refusal counts
+abbrev pub line_course : ℕ → Course Line
+line_course now = record { whole = by_line now; way = LineWay now; steps = IsLineStep now }
+
+-- the same, but that a refusal of a line with `-` does not count
 abbrev pub lines_course : ℕ → Course Line
 lines_course now = record { whole = by_line_that_counts now; way = LineWay now; steps = IsLineStep now }

@@ -11,7 +11,8 @@ ghost use Rattle.pv_steps.specs.Runs.{after_all};
 ghost use Rattle.pv_steps.specs.Trees.{Files, places, IsTree};
 ghost use Rattle.pv_table.specs.declared.reason.Reason.TheVariants as reason;
 ghost use Rattle.pv_table.specs.Active.{in_create_order};
-ghost use Rattle.pv_table.specs.Repeatable.{HasReason, is_input};
+ghost use Rattle.pv_layers.specs.Places.{is_input};
+ghost use Rattle.pv_table.specs.Repeatable.{HasReason};
 ghost use Rattle.pv_create.specs.Ways.{lines_course};
 
 /// Lines none of which may change what lines are read from leave, at each moment on their way and whatever is refused,

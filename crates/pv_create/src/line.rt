@@ -1,11 +1,8 @@
 //! One line carried out, by what it asks for.
-ghost use Rattle.std.specs.Prelude.{◌≡◌, ◌&&◌, ◌++◌, not, Bool, IfOk, OnOk};
-ghost use Rattle.pv_doing.specs.Courses.{carried_of};
+ghost use Rattle.std.specs.Prelude.{◌≡◌, ◌&&◌, not, Bool};
+ghost use Rattle.pv_doing.specs.Courses.{carried_of, CarriesOut};
 ghost use Rattle.pv_lines.specs.Lines.{IsLine};
-ghost use Rattle.pv_steps.specs.Acting.{Acted};
-ghost use Rattle.pv_text.specs.Said.{SaidPart};
-ghost use Rattle.pv_table.specs.Created.{by_line, by_line_that_counts};
-ghost use Rattle.pv_create.specs.Ways.{LineWay, IsLineStep};
+ghost use Rattle.pv_create.specs.Ways.{line_course, lines_course};
 
 use pv_adjust::adjust_named;
 use pv_doing::Carried;
@@ -26,15 +23,7 @@ pub(crate) fn carry_out<T: Tree>(
     messages: &mut Messages,
 ) -> Result<Carried, TreeFault>
     requires line { IsLine line.now }
-    ensures ok { OnOk result (T.state tree.new ≡ (by_line now).after line.now (T.state tree.old)) }
-    ensures said { OnOk result (messages.new
-        ≡ messages.old ++ (by_line now).says line.now (T.state tree.old)) }
-    ensures carried { IfOk result (λ c. c
-        ≡ carried_of ((by_line_that_counts now).is_refused line.now (T.state tree.old))) }
-    ensures part { SaidPart ((by_line now).says line.now (T.state tree.old)) messages.old messages.new }
-    ensures acted { Acted T.Tree (LineWay now line.now (T.state tree.old))
-        (IsLineStep now line.now (T.state tree.old))
-        ((by_line now).takes line.now (T.state tree.old)) now tree.old tree.new result }
+    ensures { CarriesOut T.Tree (lines_course now) line.now now tree.old tree.new messages.old messages.new result }
 {
     let carried = carry_out_asked(alloc, tree, line, now, messages)?;
     Ok(counted(line, carried))
@@ -49,15 +38,7 @@ fn carry_out_asked<T: Tree>(
     messages: &mut Messages,
 ) -> Result<Carried, TreeFault>
     requires line { IsLine line.now }
-    ensures ok { OnOk result (T.state tree.new ≡ (by_line now).after line.now (T.state tree.old)) }
-    ensures said { OnOk result (messages.new
-        ≡ messages.old ++ (by_line now).says line.now (T.state tree.old)) }
-    ensures carried { IfOk result (λ c. c
-        ≡ carried_of ((by_line now).is_refused line.now (T.state tree.old))) }
-    ensures part { SaidPart ((by_line now).says line.now (T.state tree.old)) messages.old messages.new }
-    ensures acted { Acted T.Tree (LineWay now line.now (T.state tree.old))
-        (IsLineStep now line.now (T.state tree.old))
-        ((by_line now).takes line.now (T.state tree.old)) now tree.old tree.new result }
+    ensures { CarriesOut T.Tree (line_course now) line.now now tree.old tree.new messages.old messages.new result }
 {
     match asks(alloc, line)? {
         Deed::Create(making) => make(alloc, tree, line, &making, now, messages),

@@ -1,7 +1,7 @@
 //! Lines carried out in their order.
 ghost use Rattle.std.specs.Prelude.{◌≡◌, ◌++◌, true, Some, is_some, slice_get, drop, length, IfOk, OnOk};
 ghost use Rattle.std.specs.List.{AllByRecursion};
-ghost use Rattle.pv_doing.specs.Courses.{Partway, IsStepOfSome, carried_of};
+ghost use Rattle.pv_doing.specs.Courses.{Partway, IsStepOfSome, carried_of, each_of, CarriesOut};
 ghost use Rattle.pv_lines.specs.Lines.{IsLine};
 ghost use Rattle.pv_steps.specs.Acting.{Acted};
 ghost use Rattle.pv_text.specs.Said.{SaidPart};
@@ -65,7 +65,7 @@ pub fn create_run<T: Tree>(
     run_in_order(alloc, tree, table, now, messages)
 }
 
-/// The same, without the law.
+/// The same, without the laws.
 fn run_in_order<T: Tree>(
     alloc: Global,
     tree: &mut T,
@@ -74,18 +74,8 @@ fn run_in_order<T: Tree>(
     messages: &mut Messages,
 ) -> Result<Carried, TreeFault>
     requires lines { AllByRecursion IsLine table.now }
-
-    // What a whole run leaves, stamps and staging names included, what it says and how it ends.
-    ensures ok { OnOk result (T.state tree.new ≡ created table.now now (T.state tree.old)) }
-    ensures said { OnOk result (messages.new
-        ≡ messages.old ++ created_messages table.now now (T.state tree.old)) }
-    ensures carried { IfOk result (λ c. c ≡ carried_of (some_refusal_counts table.now now (T.state tree.old))) }
-
-    // What any run has said and done, whatever it answers.
-    ensures part { SaidPart (created_messages table.now now (T.state tree.old)) messages.old messages.new }
-    ensures acted { Acted T.Tree (Partway (lines_course now) (in_create_order table.now) (T.state tree.old))
-        (IsStepOfSome (lines_course now) (in_create_order table.now) (T.state tree.old))
-        (work table.now now (T.state tree.old)) now tree.old tree.new result }
+    ensures { CarriesOut T.Tree (each_of (lines_course now)) (in_create_order table.now) now tree.old tree.new
+        messages.old messages.new result }
 {
     let order = create_order(alloc, table)?;
     let mut carried = Carried::Whole;

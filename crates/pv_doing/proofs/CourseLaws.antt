@@ -1,9 +1,10 @@
 -- Laws of what is done one after the other: what holds when some is done, when one thing is cut short, and when all is
 -- done.
-use Rattle.std.specs.Prelude.{◌≡◌, ℕ, ◌+◌, ◌<◌, ◌≤◌, Bool, true, false, ◌||◌, List, [], ◌∷◌, ◌++◌, length, take, drop, get_or, Result, Ok}
+use Rattle.std.specs.Prelude.{◌≡◌, ℕ, ◌+◌, ◌<◌, ◌≤◌, Bool, true, false, ◌||◌, List, [], ◌∷◌, ◌++◌, length, drop, get_or, Result, Ok}
 use Rattle.std.proofs.Common.{zero, suc, refl, sym, ap, subst, ◌∙◌, inl, inr, arith, append-nil}
 use Rattle.std.proofs.Math.Seq.{drop-cons}
-use Rattle.std.proofs.lemmas.List.{append_assoc, drop_all, take_all}
+use Rattle.std.proofs.lemmas.List.{append_assoc, drop_all}
+use Rattle.std.proofs.Math.Bool.{or-false}
 use Rattle.pv_steps.specs.declared.step.Step.{Step}
 use Rattle.pv_steps.specs.declared.tree.Tree.{Ghosts}
 use Rattle.pv_steps.specs.declared.tree.TreeFault.{TreeFault}
@@ -11,6 +12,7 @@ use Rattle.pv_steps.specs.Trees.{Files}
 use Rattle.pv_steps.specs.Acting.{refused as refused_of, Acted}
 use Rattle.pv_steps.proofs.ActingLaws.{Moves, well, acted_none, acted_then, acted_weaken, acted_within, acted_ended}
 use Rattle.pv_text.specs.Said.{SaidPart}
+use Rattle.pv_text.proofs.SaidLaws.{said_first, said_then, said_whole}
 use Rattle.pv_table.specs.Created.{after_each, said_of_each, one_is_refused, taken_by_each}
 use Rattle.pv_doing.specs.Courses.{Course, Partway, IsStepOfSome}
 
@@ -27,30 +29,14 @@ none_left all i h = drop_all i all h
 
 -- ---- parts of what is said
 
-part_in : (ys zs : List (List ℕ)) (n : ℕ) → (k : ℕ) × (take k (ys ++ zs) ≡ take n ys)
-part_in ys zs zero = (zero, refl)
-part_in [] zs (suc n) = (zero, refl)
-part_in (y ∷ ys) zs (suc n) = let more = part_in ys zs n in (suc more.0, ap (λ xs. y ∷ xs) more.1)
-
-part_after : (xs ys zs : List (List ℕ)) (n : ℕ) → (k : ℕ) × (take k (xs ++ (ys ++ zs)) ≡ xs ++ take n ys)
-part_after [] ys zs n = part_in ys zs n
-part_after (x ∷ xs) ys zs n = let more = part_after xs ys zs n in (suc more.0, ap (λ vs. x ∷ vs) more.1)
-
 -- a part of what is said of one, after all that is said of those before it
 part_said : (all before one rest old mid new : List (List ℕ)) → all ≡ before ++ (one ++ rest) → mid ≡ old ++ before → SaidPart one mid new → SaidPart all old new
 part_said all before one rest old mid new whole said part =
-    let more = part_after before one rest part.0 in (
-      more.0,
-      part.1 ∙ ap (λ x. x ++ take part.0 one) said ∙ append_assoc old before (take part.0 one)
-          ∙ ap (λ x. old ++ x) (sym more.1 ∙ ap (take more.0) (sym whole)),
-    )
+    subst (λ (x : List (List ℕ)). SaidPart x old new) (sym whole) (said_then before (one ++ rest) old mid new said (said_first one rest mid new part))
 
--- nothing said, and all said
+-- nothing is said
 pub part_none : (all old : List (List ℕ)) → SaidPart all old old
 part_none all old = (zero, sym (append-nil old))
-
-pub part_whole : (all old new : List (List ℕ)) → new ≡ old ++ all → SaidPart all old new
-part_whole all old new e = (length all, e ∙ ap (λ x. old ++ x) (sym (take_all (length all) all (omega arith))))
 
 -- ---- some is done
 
@@ -62,10 +48,6 @@ partway_start c start (x ∷ xs) t = inl (start x t)
 or_assoc : (a b c : Bool) → (a || (b || c)) ≡ ((a || b) || c)
 or_assoc true b c = refl
 or_assoc false b c = refl
-
-or_false : (b : Bool) → (b || false) ≡ b
-or_false true = refl
-or_false false = refl
 
 -- from one tree, after which all are to be done, to another, after which these are left; whether one was refused so far,
 -- and what is said
@@ -152,10 +134,10 @@ module _ {A S : Type 0} (c : Course A) (tree : Ghosts S) (moves : Moves tree) (s
     end_said = going.said ∙ ap (λ v. old ++ v) (sym (going.to_say ∙ append-nil going.before))
 
     pub end_part : SaidPart (said_of_each c.whole all (tree.state a)) old new
-    end_part = part_whole (said_of_each c.whole all (tree.state a)) old new end_said
+    end_part = said_whole (said_of_each c.whole all (tree.state a)) old new end_said
 
     pub end_refused : refused ≡ one_is_refused c.whole all (tree.state a)
-    end_refused = sym (going.refusals ∙ or_false refused)
+    end_refused = sym (going.refusals ∙ or-false refused)
 
     pub end_acted : {B : Type 0} (r : Result B TreeFault) → refused_of r ≡ 0
         → Acted tree (Partway c all (tree.state a)) (IsStepOfSome c all (tree.state a)) (taken_by_each c.whole all (tree.state a)) now a b r

@@ -12,6 +12,17 @@ pub enum Carried {
 }
 
 impl Carried {
+    /// How what was done ended, by whether something was refused or could not be taken away.
+    pub fn of(refused: bool) -> Carried
+        ensures { result ≡ carried_of refused }
+    {
+        if refused {
+            Carried::NotCarriedOut
+        } else {
+            Carried::Whole
+        }
+    }
+
     /// How what ended so, and then something more, ended.
     pub fn and(self, one: Carried) -> Carried
         ensures { (a b : Bool) → self ≡ carried_of a → one ≡ carried_of b → result ≡ carried_of (a || b) }

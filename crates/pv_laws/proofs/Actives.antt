@@ -1,38 +1,28 @@
 -- The active lines of a configuration: no two make one object, each is one of the lines, and they have no reason where the
 -- lines have none.
-use Rattle.std.specs.Prelude.{◌≡◌, ℕ, ◌<◌, Bool, true, false, not, cond, ◌||◌, List, [], ◌∷◌, ◌++◌, filter, fold, Option, Some, None}
+use Rattle.std.specs.Prelude.{◌≡◌, ℕ, ◌<◌, Bool, true, false, not, cond, List, [], ◌∷◌, ◌++◌, filter, fold, Option, Some, None}
 use Rattle.std.proofs.Common.{zero, suc, refl, sym, ap, subst, arith, append_assoc}
 use Rattle.std.specs.List.{list_any, AllByRecursion}
+use Rattle.std.proofs.lemmas.Bool.{or_from, not-true, or_parts, and_parts, and_from}
 use Rattle.pv_path.specs.Paths.{Path}
 use Rattle.pv_lines.specs.declared.line.Line.{Line}
-use Rattle.pv_walk.proofs.RemovalLaws.{both, both_true}
 use Rattle.pv_table.specs.declared.reason.Reason.{Reason}
 use Rattle.pv_table.specs.Active.{stays, make_same, with_line, active, are_distinct}
 use Rattle.pv_table.specs.Repeatable.{IsAt, HasReason, below as made_below, IsRepeatable}
-use Rattle.pv_laws.proofs.Orders.{all_append, all_filter}
-use Rattle.pv_laws.proofs.Prepared.{neither}
-use Rattle.pv_laws.proofs.Sets.{impossible}
+use Rattle.pv_table.proofs.ListedLaws.{all_append, all_filter}
 
 -- ---- no two make one object
-
-or_none : (a b : Bool) → a ≡ false → b ≡ false → (a || b) ≡ false
-or_none true b h g = impossible (sym h)
-or_none false b h g = g
 
 distinct_push : (lines : List Line) (line : Line) → are_distinct lines ≡ true → list_any (λ first. make_same first line) lines ≡ false → are_distinct (lines ++ line ∷ []) ≡ true
 distinct_push [] line h none = refl
 distinct_push (first ∷ lines) line h none =
-    let two = both (not (list_any (make_same first) lines)) (are_distinct lines) h in
-    let free = neither (make_same first line) (list_any (λ l. make_same l line) lines) none in
-    both_true (not (list_any (make_same first) (lines ++ line ∷ []))) (are_distinct (lines ++ line ∷ [])) (ap not (pushed lines (negated (list_any (make_same first) lines) two.0) free.0)) (distinct_push lines line two.1 free.1)
+    let two = and_parts (not (list_any (make_same first) lines)) (are_distinct lines) h in
+    let free = or_parts (make_same first line) (list_any (λ l. make_same l line) lines) none in
+    and_from (not (list_any (make_same first) (lines ++ line ∷ []))) (are_distinct (lines ++ line ∷ [])) (ap not (pushed lines (not-true (list_any (make_same first) lines) two.0) free.0)) (distinct_push lines line two.1 free.1)
   where
-    negated : (b : Bool) → not b ≡ true → b ≡ false
-    negated true g = impossible g
-    negated false g = refl
-
     pushed : (ls : List Line) → list_any (make_same first) ls ≡ false → make_same first line ≡ false → list_any (make_same first) (ls ++ line ∷ []) ≡ false
-    pushed [] g k = or_none (make_same first line) false k refl
-    pushed (l ∷ ls) g k = let both_none = neither (make_same first l) (list_any (make_same first) ls) g in or_none (make_same first l) (list_any (make_same first) (ls ++ line ∷ [])) both_none.0 (pushed ls both_none.1 k)
+    pushed [] g k = or_from (make_same first line) false k refl
+    pushed (l ∷ ls) g k = let both_none = or_parts (make_same first l) (list_any (make_same first) ls) g in or_from (make_same first l) (list_any (make_same first) (ls ++ line ∷ [])) both_none.0 (pushed ls both_none.1 k)
 
 with_distinct : (lines : List Line) (line : Line) → are_distinct lines ≡ true → are_distinct (with_line lines line) ≡ true
 with_distinct lines line h = by (list_any (λ first. make_same first line) lines) refl

@@ -2,6 +2,7 @@
 use Rattle.std.specs.Prelude.{◌≡◌, ℕ, Bool, true, false, ◌&&◌, List, [], ◌∷◌, Option, Some, None, is_some}
 use Rattle.std.proofs.Common.{refl, sym, ap, subst, ◌∙◌, inl, inr}
 use Rattle.std.specs.List.{list_any, list_all, AllByRecursion}
+use Rattle.std.proofs.lemmas.Bool.{or_parts}
 use Rattle.pv_path.specs.Paths.{Path, same_path, is_prefix, has_staging, same_path-decides}
 use Rattle.pv_path.proofs.PathLaws.{rest_under-None, same_path-refl}
 use Rattle.pv_steps.specs.Trees.{Files, places, IsTree}
@@ -28,8 +29,8 @@ use Rattle.pv_laws.proofs.CopyShapes.{at_outside, copied_shaped}
 use Rattle.pv_laws.proofs.Frames.{IsFree, ungoverned, not_reached, IsKept, kept_same, turn_kept, line_kept, midway_frame}
 use Rattle.pv_laws.proofs.Lines.{path_named, line_is_plain, copy_literal, copy_path, copy_source}
 use Rattle.pv_laws.proofs.Making.{IsShaped}
-use Rattle.pv_laws.proofs.Orders.{all_in_order}
-use Rattle.pv_laws.proofs.Prepared.{neither, bare_some, filled}
+use Rattle.pv_laws.proofs.Prepared.{bare_some, filled}
+use Rattle.pv_table.proofs.ListedLaws.{all_in_order}
 use Rattle.pv_laws.proofs.Sets.{is_adjustment, asked, sets_adjust}
 use Rattle.pv_laws.proofs.Shapes.{tree_shaped}
 
@@ -132,7 +133,7 @@ module _ (now : ℕ) (q : Path) (plain : has_staging q ≡ false) where
 
   pub all_away : (lines : List Line) → list_any (λ line. governs line q) lines ≡ false → AllByRecursion (λ line. governs line q ≡ false) lines
   all_away [] h = tt
-  all_away (line ∷ lines) h = let two = neither (governs line q) (list_any (λ l. governs l q) lines) h in (two.0, all_away lines two.1)
+  all_away (line ∷ lines) h = let two = or_parts (governs line q) (list_any (λ l. governs l q) lines) h in (two.0, all_away lines two.1)
 
   module _ (lines : List Line) (are : AllByRecursion IsLine lines) (free : list_any (λ line. governs line q) lines ≡ false) (t : Files) (tree : IsTree t) where
     in_order_away : AllByRecursion (λ (line : Line). governs line q ≡ false) (in_create_order lines)

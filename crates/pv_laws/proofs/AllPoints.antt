@@ -1,10 +1,11 @@
 -- The definition of what lines leave at each path by itself gives what they leave, lines that copy among them.
-use Rattle.std.specs.Prelude.{◌≡◌, ◌≢◌, ℕ, ◌+◌, Bool, true, false, not, cond, ◌&&◌, ◌||◌, List, [], ◌∷◌, ◌++◌, length, map, take, fold, Option, Some, None, is_some, option_map, unwrap_or, slice_get}
+use Rattle.std.specs.Prelude.{◌≡◌, ◌≢◌, ℕ, ◌+◌, Bool, true, false, not, cond, ◌&&◌, List, [], ◌∷◌, ◌++◌, length, map, take, fold, Option, Some, None, is_some, option_map, unwrap_or, slice_get}
 use Rattle.std.proofs.Common.{refl, sym, arith, ap, subst, ◌∙◌, append_assoc}
 use Rattle.std.proofs.lemmas.List.{append-nil, take_all}
 use Rattle.std.specs.FinMap as fin
 use Rattle.std.specs.List.{list_all, filter_map, enumerate_from, AllByRecursion}
 use Rattle.std.specs.Option.{option_map_or, option_or}
+use Rattle.std.proofs.lemmas.Bool.{or_left, or_parts}
 use Rattle.pv_path.specs.Paths.{Path, same_path, is_prefix, rest_under, has_staging, same_path-decides}
 use Rattle.pv_path.proofs.PathLaws.{rest_under-Some, same_path-refl}
 use Rattle.pv_steps.specs.declared.node.Kind.{Kind}
@@ -39,13 +40,15 @@ use Rattle.pv_table.specs.Repeatable.{IsAt, HasReason, IsRepeatable, sets_of}
 use Rattle.pv_table.specs.Turns.{Refused, Turn, view_of, source_refusal, copied, copy_of, copying_turn, owner_made, refused_at, decide}
 use Rattle.pv_laws.specs.Moments.{Agree}
 use Rattle.pv_laws.specs.Stopping.{CopiesNothing}
-use Rattle.pv_laws.proofs.Copies.{among_front, among_copied, decide_some, copied_point}
+use Rattle.pv_walk.proofs.CopiedLaws.{among_copied}
+use Rattle.pv_laws.proofs.Copies.{decide_some, copied_point}
 use Rattle.pv_laws.proofs.CopyShapes.{IsCopyTurn, puts, becomes, leaves, copy_turns, copied_shaped}
 use Rattle.pv_laws.proofs.Lines.{path_named, line_is_plain, line_point, copy_literal, copy_path, copy_source}
 use Rattle.pv_laws.proofs.Making.{is_dir, IsShaped, dir_there}
-use Rattle.pv_laws.proofs.Orders.{all_ordered, all_listed, all_in_order, all_at}
+use Rattle.pv_table.proofs.ListedLaws.{all_ordered, all_listed, all_in_order, all_at}
 use Rattle.pv_laws.proofs.Points.{get-tabulated, point_asked, listed, all_front, quiet_front}
-use Rattle.pv_laws.proofs.Prepared.{neither, bare_some, has_some, in_parents, among_first, among_later, among_left, among_right}
+use Rattle.pv_laws.proofs.Prepared.{bare_some}
+use Rattle.pv_walk.proofs.PreparedLaws.{has_some, in_parents, among_first, among_later, among_left, among_right, stands_among}
 use Rattle.pv_laws.proofs.Sets.{impossible, is_adjustment, asked, sets_adjust}
 use Rattle.pv_laws.proofs.Shapes.{shape_same, tree_shaped}
 use Rattle.pv_laws.proofs.Touching.{turn_open, first_turn}
@@ -196,7 +199,7 @@ module _ (line : Line) (safe : IsSafe line) (s : Bares) (shape : IsShaped (fin.g
         some_name : (name : List ℕ) (p : Path) → q ≡ name ∷ p → is_among q (point_paths line s ++ fin.keys s) ≡ true
         some_name name p f = shown (among_later path q ((parents_of path ++ copies_of) ++ fin.keys s) (
             subst (λ (ps : List Path). is_among q ps ≡ true) (sym (append_assoc (parents_of path) copies_of (fin.keys s))) (
-            among_left q (parents_of path) (copies_of ++ fin.keys s) (in_parents q path other ∙ ap (λ b. b && has_some q) high ∙ ap has_some f))))
+            among_left q (parents_of path) (copies_of ++ fin.keys s) (stands_among q (parents_of path) (in_parents q path other ∙ ap (λ b. b && has_some q) high ∙ ap has_some f)))))
 
         by : (p : Path) → q ≡ p → is_among q (point_paths line s ++ fin.keys s) ≡ true
         by [] f = keyed (ap (λ (p : Path). is_some (fin.get s p)) f ∙ dir_there (fin.get s []) shape.root)
@@ -208,7 +211,7 @@ module _ (line : Line) (safe : IsSafe line) (s : Bares) (shape : IsShaped (fin.g
         by : (c : Bool) → is_some (cond c None (fin.get s (copying.source ++ name ∷ rest))) ≡ true → is_among q (point_paths line s ++ fin.keys s) ≡ true
         by true g = impossible g
         by false g = shown (among_later path q ((parents_of path ++ copies_of) ++ fin.keys s) (
-            among_front q (parents_of path ++ copies_of) (fin.keys s) (among_right q (parents_of path) copies_of (
+            among_left q (parents_of path ++ copies_of) (fin.keys s) (among_right q (parents_of path) copies_of (
             subst (λ (p : Path). is_among p copies_of ≡ true) (sym f) (among_copied copying.source path (name ∷ rest) (fin.keys s) (sym (fin.contains_key-keys s (copying.source ++ name ∷ rest)) ∙ g))))))
 
     turn_listed : (turn : Turn) → IsCopyTurn copying (view s) turn → (rest : Path) → rest_under path q ≡ Some rest → is_some (after_turn turn rest (fin.get s q)) ≡ true → is_among q (point_paths line s ++ fin.keys s) ≡ true
@@ -260,7 +263,7 @@ pub points_after : (now : ℕ) (lines : List Line) (s : Bares) (t : Files) → A
     → Agree (fold pointwise_after s lines) (after_each (by_line now) lines t)
 points_after now [] s t are shape quiet agree = agree
 points_after now (line ∷ lines) s t are shape quiet agree =
-    let two = neither ((by_line now).is_refused line t) (one_is_refused (by_line now) lines ((by_line now).after line t)) quiet in
+    let two = or_parts ((by_line now).is_refused line t) (one_is_refused (by_line now) lines ((by_line now).after line t)) quiet in
     let one = line_pointed now line are.0 t shape two.0 in
     points_after now lines (pointwise_after s line) ((by_line now).after line t) are.1 one.shape two.1 (λ q plain.
     pointwise_is line are.0 s (shape_same (bares_of (places t)) (fin.get s) agree shape) q plain
@@ -302,10 +305,6 @@ module _ (lines : List Line) (are : AllByRecursion IsLine lines) (repeatable : I
       away : (copying : Copying) → asks line.1 ≡ Copy copying → is_prefix copying.source (path_in line.1.path) ≡ false
       away copying e = by (is_prefix copying.source (path_in line.1.path)) refl
         where
-          or_left : (a c : Bool) → a ≡ true → (a || c) ≡ true
-          or_left true c g = refl
-          or_left false c g = impossible g
-
           named : names line.1 (path_in line.1.path) ≡ true
           named = ap (λ (p : LinePath). names (record line.1 { path = p }) (path_in line.1.path)) (copy_literal line.1 placed.is copying e) ∙ same_path-refl (path_in line.1.path)
 

@@ -3,6 +3,7 @@ use Rattle.std.specs.Prelude.{◌≡◌, ℕ, Bool, true, false, ◌&&◌, ◌||
 use Rattle.std.proofs.Common.{refl, sym, ap, subst, ◌∙◌, inl, inr}
 use Rattle.std.proofs.lemmas.List.{append-nil}
 use Rattle.std.specs.List.{list_all}
+use Rattle.std.proofs.lemmas.Bool.{or_left, or_right, or_parts, and_parts}
 use Rattle.pv_path.specs.Paths.{has_names, Path, same_path, is_prefix, rest_under, has_staging, same_path-decides}
 use Rattle.pv_path.proofs.PathLaws.{is_prefix-append, is_prefix-antisym, same_path-refl, rest_under-None, rest_under-Some, has_staging-append}
 use Rattle.pv_steps.specs.Same.{Same}
@@ -16,7 +17,7 @@ use Rattle.pv_lines.specs.declared.line.Line.{Line}
 use Rattle.pv_lines.specs.declared.line.LinePath.{LinePath}
 use Rattle.pv_lines.specs.declared.line.LinePath.TheVariants.{Literal, Glob}
 use Rattle.pv_lines.specs.Lines.{IsLine}
-use Rattle.pv_walk.proofs.RemovalLaws.{apart, both}
+use Rattle.pv_walk.proofs.RemovalLaws.{apart}
 use Rattle.pv_table.specs.declared.deed.Copying.{Copying}
 use Rattle.pv_table.specs.declared.deed.Deed.{Deed}
 use Rattle.pv_table.specs.declared.deed.Deed.TheVariants.{Create, Copy, Touch, Idle}
@@ -39,7 +40,7 @@ use Rattle.pv_laws.proofs.Frames.{named_above, deep_reaches}
 use Rattle.pv_laws.proofs.AllFrames.{each_kept}
 use Rattle.pv_laws.proofs.Lines.{line_is_plain, line_point, copy_literal, copy_path, copy_source, creating_row, creating_adjusts_none}
 use Rattle.pv_laws.proofs.Making.{same_unnamed, IsShaped}
-use Rattle.pv_laws.proofs.Prepared.{neither, bare_some, filled}
+use Rattle.pv_laws.proofs.Prepared.{bare_some, filled}
 use Rattle.pv_laws.proofs.Repeated as repeated
 use Rattle.pv_laws.proofs.Repeated.{IsAskedAt, asked_at, touch_adjusts}
 use Rattle.pv_laws.proofs.Sets.{impossible, is_adjustment, asked, sets_adjust}
@@ -53,14 +54,6 @@ own_name line creates q = by line.path creates
     by : (path : LinePath) → is_creating (record line { path = path }) ≡ true → names (record line { path = path }) q ≡ same_path (path_in path) q
     by (Literal path) h = refl
     by (Glob pattern) h = impossible h
-
-or_left : (a c : Bool) → a ≡ true → (a || c) ≡ true
-or_left true c g = refl
-or_left false c g = impossible g
-
-or_right : (a c : Bool) → c ≡ true → (a || c) ≡ true
-or_right true c g = refl
-or_right false c g = g
 
 -- a line that copies reaches its path and all below it
 copy_reaches : (line : Line) → IsLine line → (copying : Copying) → asks line ≡ Copy copying → (q : Path) → is_prefix (path_in line.path) q ≡ true → reaches line q ≡ true
@@ -132,7 +125,7 @@ module _ (line : Line) (safe : IsSafe line) (now later : ℕ) (v w : Files) (sha
           is = rest_under-Some p q rest f
 
           rest_is_plain : has_staging rest ≡ false
-          rest_is_plain = (neither (has_staging p) (has_staging rest) (sym (has_staging-append p rest) ∙ ap has_staging (sym is) ∙ plain)).1
+          rest_is_plain = (or_parts (has_staging p) (has_staging rest) (sym (has_staging-append p rest) ∙ ap has_staging (sym is) ∙ plain)).1
 
       present_same : bares_of (places ((by_line later).after line w)) q ≡ bares_of (places ((by_line now).after line v)) q
       present_same = by (rest_under p q) refl
@@ -192,7 +185,7 @@ module _ (line : Line) (safe : IsSafe line) (now later : ℕ) (v w : Files) (sha
           at : IsAskedAt line q → IsParentAlike
           at (repeated.object making e s f) = absurd (apart (same_path p q) ((same_path-decides p q).1 s) other)
           at (repeated.parent making e s f) = asked_point none true (λ b. ap (λ xs. run xs b) f)
-          at (repeated.below making e g d f) = absurd (apart (is_prefix p q) (both (is_prefix p q) (clears_below making) g).0 (not_under (is_prefix p q) refl))
+          at (repeated.below making e g d f) = absurd (apart (is_prefix p q) (and_parts (is_prefix p q) (clears_below making) g).0 (not_under (is_prefix p q) refl))
           at (repeated.set touching e t f) = impossible (sym no_touch ∙ touch_adjusts q line touching e)
           at (repeated.nothing f) = asked_point none false (λ b. ap (λ xs. run xs b) f)
 
@@ -232,10 +225,10 @@ module _ (a b : Line) (is_a : IsLine a) (is_b : IsLine b) (repeatable : IsRepeat
   after_b = (by_line later).after b t
 
   a_first : ((by_line now).is_refused a t ≡ false) × ((by_line now).is_refused b after_a ≡ false)
-  a_first = let two = neither ((by_line now).is_refused a t) (one_is_refused (by_line now) (b ∷ []) after_a) quiet in (two.0, (neither ((by_line now).is_refused b after_a) false two.1).0)
+  a_first = let two = or_parts ((by_line now).is_refused a t) (one_is_refused (by_line now) (b ∷ []) after_a) quiet in (two.0, (or_parts ((by_line now).is_refused b after_a) false two.1).0)
 
   b_first : ((by_line later).is_refused b t ≡ false) × ((by_line later).is_refused a after_b ≡ false)
-  b_first = let two = neither ((by_line later).is_refused b t) (one_is_refused (by_line later) (a ∷ []) after_b) again in (two.0, (neither ((by_line later).is_refused a after_b) false two.1).0)
+  b_first = let two = or_parts ((by_line later).is_refused b t) (one_is_refused (by_line later) (a ∷ []) after_b) again in (two.0, (or_parts ((by_line later).is_refused a after_b) false two.1).0)
 
   shape : IsShaped (bares_of (places t))
   shape = tree_shaped (places t) tree
@@ -306,10 +299,10 @@ module _ (a b : Line) (is_a : IsLine a) (is_b : IsLine b) (repeatable : IsRepeat
 
     -- a path that a line makes as a parent, and does not reach
     parent_of : (line : Line) → reaches line q ≡ false → governs line q ≡ true → (is_creating line ≡ true) × (is_prefix q (path_in line.path) ≡ true) × (same_path (path_in line.path) q ≡ false)
-    parent_of line none governed = (two.0, two.1, sym (own_name line two.0 q) ∙ (neither (names line q) (reaches_below line && names_above line q) none).0)
+    parent_of line none governed = (two.0, two.1, sym (own_name line two.0 q) ∙ (or_parts (names line q) (reaches_below line && names_above line q) none).0)
       where
         two : (is_creating line ≡ true) × (is_prefix q (path_in line.path) ≡ true)
-        two = both (is_creating line) (is_prefix q (path_in line.path)) (sym (ap (λ c. c || (is_creating line && is_prefix q (path_in line.path))) none) ∙ governed)
+        two = and_parts (is_creating line) (is_prefix q (path_in line.path)) (sym (ap (λ c. c || (is_creating line && is_prefix q (path_in line.path))) none) ∙ governed)
 
     by_both : governs a q ≡ true → governs b q ≡ true → IsSwapped
     by_both in_a in_b =

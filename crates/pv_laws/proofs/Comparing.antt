@@ -5,6 +5,7 @@ use Rattle.std.proofs.lemmas.Bool.Decides.{nat_tests}
 use Rattle.std.specs.List.{list_all}
 use Rattle.std.specs.Option.{option_eq}
 use Rattle.std.specs.Cmp.Lexicographic.{pointwise}
+use Rattle.std.proofs.lemmas.Bool.{and_parts}
 use Rattle.pv_path.specs.Names.{same_bytes}
 use Rattle.pv_path.proofs.PathLaws.{same_bytes-decides}
 use Rattle.pv_acl.specs.contracts.part.AclPartialEq as acl_eq
@@ -25,7 +26,6 @@ use Rattle.pv_dress.specs.declared.operation.Operation.TheVariants.{Make, Renew,
 use Rattle.pv_dress.specs.Nodes.{bare_of, same_kind}
 use Rattle.pv_dress.specs.Operations as operations
 use Rattle.pv_dress.specs.Operations.{admits, run}
-use Rattle.pv_walk.proofs.RemovalLaws.{both}
 use Rattle.pv_table.specs.Effects.{same_attr, same_bare, as_bare, restamped, become}
 use Rattle.pv_laws.proofs.Sets.{impossible, is_adjustment}
 
@@ -48,7 +48,7 @@ list_is : {A : Type 0} (eq : A → A → Bool) → ((x y : A) → eq x y ≡ tru
 list_is eq each [] [] h = refl
 list_is eq each [] (y ∷ ys) h = impossible h
 list_is eq each (x ∷ xs) [] h = impossible h
-list_is eq each (x ∷ xs) (y ∷ ys) h = let two = both (eq x y) (pointwise eq xs ys) h in λ i. each x y two.0 i ∷ list_is eq each xs ys two.1 i
+list_is eq each (x ∷ xs) (y ∷ ys) h = let two = and_parts (eq x y) (pointwise eq xs ys) h in λ i. each x y two.0 i ∷ list_is eq each xs ys two.1 i
 
 option_is : {A : Type 0} (eq : A → A → Bool) → ((x y : A) → eq x y ≡ true → x ≡ y) → (a b : Option A) → option_eq eq a b ≡ true → a ≡ b
 option_is eq each None None h = refl
@@ -58,10 +58,10 @@ option_is eq each (Some x) (Some y) h = ap Some (each x y h)
 
 part_is : (a b : Part) → (part_eq.TheImpl.eq-value).it a b ≡ true → a ≡ b
 part_is a b h =
-    let owner = both _ _ h in
-    let group = both _ _ owner.1 in
-    let other = both _ _ group.1 in
-    let named = both _ _ other.1 in
+    let owner = and_parts _ _ h in
+    let group = and_parts _ _ owner.1 in
+    let other = and_parts _ _ group.1 in
+    let named = and_parts _ _ other.1 in
     λ i. record {
       owner = same_number a.owner b.owner owner.0 i;
       group = same_number a.group b.group group.0 i;
@@ -72,7 +72,7 @@ part_is a b h =
 
 acl_is : (a b : Acl) → (acl_eq.TheImpl.eq-value).it a b ≡ true → a ≡ b
 acl_is a b h =
-    let access = both _ _ h in
+    let access = and_parts _ _ h in
     λ i. record {
       access = part_is a.access b.access access.0 i;
       default_part = option_is (part_eq.TheImpl.eq-value).it part_is a.default_part b.default_part access.1 i;
@@ -80,21 +80,21 @@ acl_is a b h =
 
 attr_is : (a b : Attr) → same_attr a b ≡ true → a ≡ b
 attr_is a b h =
-    let two = both (same_bytes a.name b.name) (same_bytes a.value b.value) h in
+    let two = and_parts (same_bytes a.name b.name) (same_bytes a.value b.value) h in
     λ i. record { name = (same_bytes-decides a.name b.name).0 two.0 i; value = (same_bytes-decides a.value b.value).0 two.1 i }
 
 -- what is found the same is the same
 pub same_bare_is : (a b : Bare) → same_bare a b ≡ true → a ≡ b
 same_bare_is a b h =
-    let letters = both _ _ h in
-    let attrs = both _ _ letters.0 in
-    let acl = both _ _ attrs.0 in
-    let special = both _ _ acl.0 in
-    let gid = both _ _ special.0 in
-    let uid = both _ _ gid.0 in
-    let minor = both _ _ uid.0 in
-    let major = both _ _ minor.0 in
-    let payload = both _ _ major.0 in
+    let letters = and_parts _ _ h in
+    let attrs = and_parts _ _ letters.0 in
+    let acl = and_parts _ _ attrs.0 in
+    let special = and_parts _ _ acl.0 in
+    let gid = and_parts _ _ special.0 in
+    let uid = and_parts _ _ gid.0 in
+    let minor = and_parts _ _ uid.0 in
+    let major = and_parts _ _ minor.0 in
+    let payload = and_parts _ _ major.0 in
     λ i. record {
       body = record {
         kind = same_kind_is a.body.kind b.body.kind payload.0 i;

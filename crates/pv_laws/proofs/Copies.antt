@@ -1,16 +1,13 @@
 -- What a line that copies, and is not refused, leaves at each path by itself, stamps and staging names aside.
-use Rattle.std.specs.Prelude.{◌≡◌, ◌≢◌, ◌⊎◌, ℕ, Bool, true, false, not, cond, ◌&&◌, ◌||◌, List, [], ◌∷◌, ◌++◌, map, Option, Some, None, is_some, option_map, unwrap_or, if◌then◌else◌}
+use Rattle.std.specs.Prelude.{◌≡◌, ◌≢◌, ◌⊎◌, ℕ, Bool, true, false, not, cond, ◌&&◌, ◌||◌, List, [], ◌∷◌, ◌++◌, Option, Some, None, is_some, option_map, unwrap_or, if◌then◌else◌}
 use Rattle.std.proofs.Common.{refl, sym, ap, subst, ◌∙◌, inl, inr}
-use Rattle.std.proofs.lemmas.List.{append-nil}
 use Rattle.std.specs.FinMap as fin
-use Rattle.std.specs.List.{list_all, filter_map, cons_option}
+use Rattle.std.specs.List.{list_all}
 use Rattle.std.specs.Option.{option_map_or}
-use Rattle.std.specs.Ordering.{eq_by_cmp, is_eq}
-use Rattle.std.specs.declared.cmp.Ordering.{Ordering}
-use Rattle.std.specs.declared.cmp.Ordering.TheVariants.{Equal}
+use Rattle.std.proofs.lemmas.Bool.{not-true, or_from}
 use Rattle.pv_path.specs.Names.{is_staging}
-use Rattle.pv_path.specs.Paths.{Path, path_cmp, same_path, is_prefix, rest_under, has_staging, same_path-decides}
-use Rattle.pv_path.proofs.PathLaws.{path_cmp-exact, is_prefix-append, is_prefix-trans, is_prefix-antisym, rest_under-self, rest_under-append, is_some-rest_under, has_staging-append}
+use Rattle.pv_path.specs.Paths.{Path, same_path, is_prefix, rest_under, has_staging, same_path-decides}
+use Rattle.pv_path.proofs.PathLaws.{is_prefix-append, is_prefix-trans, is_prefix-antisym, rest_under-self, rest_under-append, is_some-rest_under, has_staging-append}
 use Rattle.pv_steps.specs.declared.node.Kind.{Kind}
 use Rattle.pv_steps.specs.Objects.{is_directory}
 use Rattle.pv_steps.specs.Trees.{Files, places, child_name}
@@ -22,67 +19,22 @@ use Rattle.pv_dress.proofs.EditLaws.{path_cases, same_path-no}
 use Rattle.pv_walk.proofs.RemovalLaws.{apart}
 use Rattle.pv_table.specs.declared.deed.Copying.{Copying}
 use Rattle.pv_table.specs.declared.deed.Deed.TheVariants.{Copy}
-use Rattle.pv_table.specs.Effects.{put_paths, turned, prepare, carried_out}
+use Rattle.pv_table.specs.Effects.{turned, prepare, carried_out}
 use Rattle.pv_table.specs.Pointwise.{Bares, view, parent_bare, after_turn, at_made}
-use Rattle.pv_table.specs.Turns.{Turn, View, view_of, topped, copy_of, is_visible_child, is_childless, copying_turn, decide}
+use Rattle.pv_table.specs.Turns.{Turn, View, view_of, topped_by, copy_of, is_visible_child, is_childless, copying_turn, decide}
 use Rattle.pv_laws.specs.Moments.{Agree}
 use Rattle.pv_laws.proofs.Making.{IsShaped, IsDone, left_done, put_done, become_done, ready_here, ready_else}
-use Rattle.pv_laws.proofs.Prepared.{filled, bare_some, among_first, among_later}
+use Rattle.pv_table.proofs.EffectLaws.{copy_keyed}
+use Rattle.pv_walk.proofs.PreparedLaws.{among_first, among_later, among_others}
+use Rattle.pv_laws.proofs.Prepared.{filled, bare_some}
 use Rattle.pv_laws.proofs.Sets.{impossible, is_adjustment}
 use Rattle.pv_laws.proofs.Touching.{same_tests}
-
--- ---- which paths are looked at
-
-tied : (o : Ordering) → is_eq o ≡ true → o ≡ Equal
-tied Equal e = refl
-tied o e = impossible e
-
-among_cases : (q x : Path) (xs : List Path) → is_among q (x ∷ xs) ≡ true → (q ≡ x) ⊎ (is_among q xs ≡ true)
-among_cases q x xs h = by (eq_by_cmp path_cmp q x) refl h
-  where
-    by : (b : Bool) → eq_by_cmp path_cmp q x ≡ b → (b || is_among q xs) ≡ true → (q ≡ x) ⊎ (is_among q xs ≡ true)
-    by true e g = inl (path_cmp-exact q x (tied (path_cmp q x) e))
-    by false e g = inr g
-
-pub among_front : (q : Path) (xs ys : List Path) → is_among q xs ≡ true → is_among q (xs ++ ys) ≡ true
-among_front q [] ys h = impossible h
-among_front q (x ∷ xs) ys h = at (among_cases q x xs h) (among_front q xs ys)
-  where
-    at : (q ≡ x) ⊎ (is_among q xs ≡ true) → (is_among q xs ≡ true → is_among q (xs ++ ys) ≡ true) → is_among q (x ∷ (xs ++ ys)) ≡ true
-    at (inl e) later = subst (λ (r : Path). is_among q (r ∷ (xs ++ ys)) ≡ true) e (among_first q (xs ++ ys))
-    at (inr g) later = among_later x q (xs ++ ys) (later g)
-
--- what lies below the source is looked at below the other path
-pub among_copied : (source path rest : Path) (keys : List Path) → is_among (source ++ rest) keys ≡ true → is_among (path ++ rest) (map (λ r. path ++ r) (filter_map (rest_under source) keys)) ≡ true
-among_copied source path rest [] h = impossible h
-among_copied source path rest (x ∷ keys) h = by (among_cases (source ++ rest) x keys h) (among_copied source path rest keys)
-  where
-    more : (r : Option Path) → is_among (path ++ rest) (map (λ r. path ++ r) (filter_map (rest_under source) keys)) ≡ true → is_among (path ++ rest) (map (λ r. path ++ r) (cons_option r (filter_map (rest_under source) keys))) ≡ true
-    more None g = g
-    more (Some r) g = among_later (path ++ r) (path ++ rest) (map (λ r. path ++ r) (filter_map (rest_under source) keys)) g
-
-    by : (source ++ rest ≡ x) ⊎ (is_among (source ++ rest) keys ≡ true) → (is_among (source ++ rest) keys ≡ true → is_among (path ++ rest) (map (λ r. path ++ r) (filter_map (rest_under source) keys)) ≡ true)
-        → is_among (path ++ rest) (map (λ r. path ++ r) (cons_option (rest_under source x) (filter_map (rest_under source) keys))) ≡ true
-    by (inl e) later =
-        ap (λ (o : Option Path). is_among (path ++ rest) (map (λ r. path ++ r) (cons_option o (filter_map (rest_under source) keys)))) (ap (rest_under source) (sym e) ∙ rest_under-append source rest)
-        ∙ among_first (path ++ rest) (map (λ r. path ++ r) (filter_map (rest_under source) keys))
-    by (inr g) later = more (rest_under source x) (later g)
 
 -- ---- what is done at the path
 
 module _ (now : ℕ) (copying : Copying) (path : Path) (u : Files) where
-  copy_keyed : (rest : Path) → is_some (copy_of copying (view_of u) rest) ≡ true → is_among (path ++ rest) (put_paths (Copy copying) path u ++ fin.keys u) ≡ true
-  copy_keyed [] h = subst (λ (q : Path). is_among q (put_paths (Copy copying) path u ++ fin.keys u) ≡ true) (sym (append-nil path)) (among_first path (map (λ rest. path ++ rest) (filter_map (rest_under copying.source) (fin.keys u)) ++ fin.keys u))
-  copy_keyed (name ∷ rest) h = by (has_staging (name ∷ rest)) h
-    where
-      by : (b : Bool) → is_some (cond b None (bares_of (places u) (copying.source ++ name ∷ rest))) ≡ true → is_among (path ++ name ∷ rest) (put_paths (Copy copying) path u ++ fin.keys u) ≡ true
-      by true g = impossible g
-      by false g = among_later path (path ++ name ∷ rest) (map (λ r. path ++ r) (filter_map (rest_under copying.source) (fin.keys u)) ++ fin.keys u) (
-          among_front (path ++ name ∷ rest) (map (λ r. path ++ r) (filter_map (rest_under copying.source) (fin.keys u))) (fin.keys u) (
-          among_copied copying.source path (name ∷ rest) (fin.keys u) (among_keys u (copying.source ++ name ∷ rest) ∙ sym (bare_some (places u (copying.source ++ name ∷ rest))) ∙ g)))
-
   copy_done : IsDone now (Copy copying) path u (Turn.Put (copy_of copying (view_of u)))
-  copy_done = put_done now (Copy copying) path u (copy_of copying (view_of u)) copy_keyed
+  copy_done = put_done now (Copy copying) path u (copy_of copying (view_of u)) (copy_keyed copying path u)
 
   pub copying_done : list_all is_adjustment copying.sets ≡ true → (kind : Kind) (b : Option Bare) → IsDone now (Copy copying) path u (copying_turn copying (view_of u) path kind b)
   copying_done adjust kind None = copy_done
@@ -102,11 +54,11 @@ among_all f (x ∷ xs) each = ap (λ b. b && list_all f xs) (each x (among_first
 
 all_among : (f : Path → Bool) (xs : List Path) → list_all f xs ≡ true → (q : Path) → is_among q xs ≡ true → f q ≡ true
 all_among f [] all q h = impossible h
-all_among f (x ∷ xs) all q h = by (f x) refl all (among_cases q x xs h) (all_among f xs)
+all_among f (x ∷ xs) all q h = by (f x) refl all (path_cases x q) (all_among f xs)
   where
-    by : (b : Bool) → f x ≡ b → (b && list_all f xs) ≡ true → (q ≡ x) ⊎ (is_among q xs ≡ true) → (list_all f xs ≡ true → (r : Path) → is_among r xs ≡ true → f r ≡ true) → f q ≡ true
-    by true e g (inl s) later = ap f s ∙ e
-    by true e g (inr k) later = later g q k
+    by : (b : Bool) → f x ≡ b → (b && list_all f xs) ≡ true → (x ≡ q) ⊎ (same_path x q ≡ false) → (list_all f xs ≡ true → (r : Path) → is_among r xs ≡ true → f r ≡ true) → f q ≡ true
+    by true e g (inl same) later = ap f (sym same) ∙ e
+    by true e g (inr other) later = later g q (among_others q x xs other h)
     by false e g s later = impossible g
 
 -- what has the same visible children is childless alike
@@ -123,19 +75,11 @@ childless_same a b path same = same_tests (is_childless a path) (is_childless b 
 child_plain : (path q : Path) → has_staging path ≡ false → is_visible_child path q ≡ true → (name : List ℕ) × (q ≡ path ++ name ∷ []) × (has_staging q ≡ false)
 child_plain path q plain h = by (child_name path q) refl h
   where
-    negated : (b : Bool) → not b ≡ true → b ≡ false
-    negated true g = impossible g
-    negated false g = refl
-
-    or_none : (a b : Bool) → a ≡ false → b ≡ false → (a || b) ≡ false
-    or_none true b g k = impossible (sym g)
-    or_none false b g k = k
-
     by : (o : Option (List ℕ)) → child_name path q ≡ o → option_map_or (λ name. not (is_staging name)) o false ≡ true → (name : List ℕ) × (q ≡ path ++ name ∷ []) × (has_staging q ≡ false)
     by None e g = impossible g
     by (Some name) e g =
         let is : q ≡ path ++ name ∷ [] = child_name-Some path q name e in
-        (name, is, ap has_staging is ∙ has_staging-append path (name ∷ []) ∙ or_none (has_staging path) (has_staging (name ∷ [])) plain (or_none (is_staging name) false (negated (is_staging name) g) refl))
+        (name, is, ap has_staging is ∙ has_staging-append path (name ∷ []) ∙ or_from (has_staging path) (has_staging (name ∷ [])) plain (or_from (is_staging name) false (not-true (is_staging name) g) refl))
 
 -- ---- the whole turn
 
@@ -261,7 +205,7 @@ module _ (now : ℕ) (copying : Copying) (adjust : list_all is_adjustment copyin
         by false e = e
 
     pub copy_there : (rest : Path) → copy_of copying (view_of ready) rest ≡ copy_of copying (view_of t) rest
-    copy_there [] = ap (option_map (topped copying)) source_ready
+    copy_there [] = ap (option_map (topped_by copying)) source_ready
     copy_there (name ∷ rest) = by (has_staging (name ∷ rest)) refl
       where
         by : (c : Bool) → has_staging (name ∷ rest) ≡ c → cond c None (bares_of (places ready) (copying.source ++ name ∷ rest)) ≡ cond c None (bares_of (places t) (copying.source ++ name ∷ rest))
@@ -291,7 +235,7 @@ module _ (now : ℕ) (copying : Copying) (adjust : list_all is_adjustment copyin
       copy_agrees rest = copy_there rest ∙ at rest
         where
           at : (r : Path) → copy_of copying (view_of t) r ≡ copy_of copying (view s) r
-          at [] = ap (option_map (topped copying)) (sym (agree copying.source plain_source))
+          at [] = ap (option_map (topped_by copying)) (sym (agree copying.source plain_source))
           at (name ∷ r) = by (has_staging (name ∷ r)) refl
             where
               by : (c : Bool) → has_staging (name ∷ r) ≡ c → cond c None (bares_of (places t) (copying.source ++ name ∷ r)) ≡ cond c None (fin.get s (copying.source ++ name ∷ r))

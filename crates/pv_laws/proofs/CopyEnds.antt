@@ -3,6 +3,7 @@ use Rattle.std.specs.Prelude.{◌≡◌, ℕ, Bool, true, false, cond, ◌&&◌,
 use Rattle.std.proofs.Common.{refl, sym, ap, subst, ◌∙◌}
 use Rattle.std.proofs.lemmas.List.{append-nil}
 use Rattle.std.specs.List.{list_all}
+use Rattle.std.proofs.lemmas.Bool.{or_parts}
 use Rattle.pv_path.specs.Paths.{Path, is_prefix, rest_under, has_staging}
 use Rattle.pv_path.proofs.PathLaws.{is_prefix-append, is_prefix-refl, is_prefix-antisym, rest_under-self, rest_under-append, has_staging-append}
 use Rattle.pv_steps.specs.Objects.{is_directory}
@@ -23,7 +24,7 @@ use Rattle.pv_table.specs.Effects.{carried_out}
 use Rattle.pv_table.specs.Pointwise.{after_turn}
 use Rattle.pv_table.specs.Reaching.{path_in}
 use Rattle.pv_table.specs.Repeatable.{sets_of}
-use Rattle.pv_table.specs.Turns.{Turn, view_of, topped, copy_of, is_childless, copying_turn, refused_at}
+use Rattle.pv_table.specs.Turns.{Turn, view_of, topped_by, copy_of, is_childless, copying_turn, refused_at}
 use Rattle.pv_laws.specs.Copying.{IsCopyMidway, kept, parent, some_set, gone, turn_of}
 use Rattle.pv_laws.proofs.AllPoints.{IsSafe, turns_copy}
 use Rattle.pv_laws.proofs.Copies.{left_before, decided_before, childless_less}
@@ -31,7 +32,6 @@ use Rattle.pv_laws.proofs.CopyMends.{copy_mends, begun_mends, IsBegun}
 use Rattle.pv_laws.proofs.CopyMends as mends
 use Rattle.pv_laws.proofs.Lines.{copy_path, copy_source}
 use Rattle.pv_laws.proofs.Making.{IsShaped}
-use Rattle.pv_laws.proofs.Prepared.{neither}
 use Rattle.pv_laws.proofs.Sets.{impossible, is_adjustment, asked, sets_adjust, adjusted_some}
 use Rattle.pv_laws.proofs.Touching.{turn_open, first_turn, same_tests}
 use Rattle.pv_laws.proofs.Ways.{all_take}
@@ -49,7 +49,7 @@ pub below_plain : (p rest : Path) → has_staging p ≡ false → has_staging re
 below_plain p rest h g = has_staging-append p rest ∙ ap (λ b. b || has_staging rest) h ∙ g
 
 rest_plain : (p rest : Path) → has_staging (p ++ rest) ≡ false → has_staging rest ≡ false
-rest_plain p rest h = (neither (has_staging p) (has_staging rest) (sym (has_staging-append p rest) ∙ h)).1
+rest_plain p rest h = (or_parts (has_staging p) (has_staging rest) (sym (has_staging-append p rest) ∙ h)).1
 
 -- where the same stands at and below a path
 pub inside_same : (p : Path) (t u : Files) → has_staging p ≡ false → ((q : Path) → has_staging q ≡ false → is_prefix p q ≡ true → bares_of (places u) q ≡ bares_of (places t) q) → (rest : Path) → inside p u rest ≡ inside p t rest
@@ -63,7 +63,7 @@ inside_same p t u plain same (name ∷ rest) = by (has_staging (name ∷ rest)) 
 -- the same is copied where the same stands at and below the source
 pub same_copy : (copying : Copying) (t u : Files) → has_staging copying.source ≡ false → ((rest : Path) → has_staging rest ≡ false → bares_of (places u) (copying.source ++ rest) ≡ bares_of (places t) (copying.source ++ rest))
     → (rest : Path) → copy_of copying (view_of t) rest ≡ copy_of copying (view_of u) rest
-same_copy copying t u plain same [] = ap (option_map (topped copying)) (ap (bares_of (places t)) (sym (append-nil copying.source)) ∙ sym (same [] refl) ∙ ap (bares_of (places u)) (append-nil copying.source))
+same_copy copying t u plain same [] = ap (option_map (topped_by copying)) (ap (bares_of (places t)) (sym (append-nil copying.source)) ∙ sym (same [] refl) ∙ ap (bares_of (places u)) (append-nil copying.source))
 same_copy copying t u plain same (name ∷ rest) = by (has_staging (name ∷ rest)) refl
   where
     by : (c : Bool) → has_staging (name ∷ rest) ≡ c → cond c None (bares_of (places t) (copying.source ++ name ∷ rest)) ≡ cond c None (bares_of (places u) (copying.source ++ name ∷ rest))
@@ -170,7 +170,7 @@ module _ (line : Line) (safe : IsSafe line) (copying : Copying) (e : asks line �
 
     -- where it was done, and some of what later lines set
     module _ (ys : Path → List Operation) (ys_adjust : (rest : Path) → list_all is_adjustment (ys rest) ≡ true) (both_repeatable : IsRepeatable (copying.sets ++ ys []))
-        (of_kind : same_kind b.body.kind (topped copying b).body.kind ≡ true) (again : run copying.sets (Some (topped copying b)) ≡ Some (topped copying b))
+        (of_kind : same_kind b.body.kind (topped_by copying b).body.kind ≡ true) (again : run copying.sets (Some (topped_by copying b)) ≡ Some (topped_by copying b))
         (pieces : (rest : Path) → (k : ℕ) × (has_staging rest ≡ false → inside p u rest ≡ run (take k (ys rest)) (after_turn (turn_at t) rest (inside p t rest)))) where
       abbrev j : Path → ℕ
       j rest = (pieces rest).0
@@ -205,4 +205,4 @@ module _ (line : Line) (safe : IsSafe line) (copying : Copying) (e : asks line �
       pub done_ends : (rest : Path) → has_staging rest ≡ false → IsRepeatable (ys rest) → run (ys rest) (after_turn (turn_at u) rest (inside p u rest)) ≡ run (ys rest) (after_turn (turn_at t) rest (inside p t rest))
       done_ends rest plain repeatable_there =
           (λ i. run (ys rest) (after_turn (copying_turn copying (view_of u) p b.body.kind ((pieces []).1 refl i)) rest ((pieces rest).1 plain i)))
-          ∙ copy_mends copying b.body.kind p (view_of t) (view_of u) (topped copying b) (ap (option_map (topped copying)) present) of_kind again ys ys_adjust both_repeatable adjust (inside p t) j still_full rest repeatable_there (copies_same rest)
+          ∙ copy_mends copying b.body.kind p (view_of t) (view_of u) (topped_by copying b) (ap (option_map (topped_by copying)) present) of_kind again ys ys_adjust both_repeatable adjust (inside p t) j still_full rest repeatable_there (copies_same rest)

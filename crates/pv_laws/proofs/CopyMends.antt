@@ -2,6 +2,7 @@
 use Rattle.std.specs.Prelude.{◌≡◌, ℕ, Bool, true, false, cond, ◌&&◌, List, [], ◌∷◌, ◌++◌, take, Option, Some, None, if◌then◌else◌, ◌⊎◌}
 use Rattle.std.proofs.Common.{refl, sym, ap, subst, ◌∙◌, inl, inr}
 use Rattle.std.specs.List.{list_all}
+use Rattle.std.proofs.lemmas.Bool.{and_parts, and_from}
 use Rattle.pv_path.specs.Paths.{Path}
 use Rattle.pv_steps.specs.declared.node.Kind.{Kind}
 use Rattle.pv_steps.specs.Objects.{is_directory}
@@ -13,14 +14,14 @@ use Rattle.pv_dress.specs.Reasons.{IsRepeatable}
 use Rattle.pv_dress.proofs.OperationLaws.{absorbed, run-append}
 use Rattle.pv_table.specs.declared.deed.Copying.{Copying}
 use Rattle.pv_table.specs.Pointwise.{after_turn}
-use Rattle.pv_table.specs.Turns.{Turn, View, copy_of, is_childless, copying_turn, Subtree}
+use Rattle.pv_table.specs.Turns.{Turn, View, copy_of, is_childless, copying_turn}
 use Rattle.pv_laws.proofs.Sets.{is_adjustment}
 use Rattle.pv_laws.proofs.Shapes.{IsLike, adjusted_like}
 use Rattle.pv_laws.proofs.Stops.{take_after}
 use Rattle.pv_laws.proofs.Ways.{all_take, parts_adjust}
 use Rattle.pv_dress.specs.Dividing.{parts}
 use Rattle.pv_dress.proofs.Dividing.{run-parts}
-use Rattle.pv_walk.proofs.RemovalLaws.{both, both_true}
+use Rattle.pv_walk.specs.Copying.{Subtree}
 
 -- what is set by a line, then in part by later ones, is set whole by both again
 module _ (sets ys : List Operation) (said_none : IsRepeatable (sets ++ ys)) where
@@ -167,7 +168,7 @@ module _ (copying : Copying) (kind : Kind) (path : Path) (v w : View) (a c : Pat
   shown x s empty renews own = if s then (if empty then Turn.Put (copy_of copying x) else Turn.Become copying.sets) else if renews then Turn.Put (copy_of copying x) else Turn.Left own
 
   both_empty : (is_directory kind && is_childless v path) ≡ true → (is_directory kind && is_childless w path) ≡ true
-  both_empty e = let two = both (is_directory kind) (is_childless v path) e in both_true (is_directory kind) (is_childless w path) two.0 (emptier two.1)
+  both_empty e = let two = and_parts (is_directory kind) (is_childless v path) e in and_from (is_directory kind) (is_childless w path) two.0 (emptier two.1)
 
   as_shown : (y : Bare) (s empty renews : Bool) → same_kind kind y.body.kind ≡ s → (is_directory kind && is_childless w path) ≡ empty → copying.renews ≡ renews → second (Some y) ≡ shown w s empty renews y.body.kind
   as_shown y s empty renews e f g =

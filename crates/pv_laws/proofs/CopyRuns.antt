@@ -4,6 +4,7 @@ use Rattle.std.specs.Prelude.{◌≡◌, ◌⊎◌, ℕ, Bool, true, false, ◌|
 use Rattle.std.proofs.Common.{refl, sym, ap, subst, ◌∙◌, inl, inr}
 use Rattle.std.proofs.lemmas.List.{append-nil}
 use Rattle.std.specs.List.{enumerate_from, AllByRecursion}
+use Rattle.std.proofs.lemmas.Bool.{or_parts}
 use Rattle.pv_path.specs.Paths.{has_names, Path, is_prefix, has_staging}
 use Rattle.pv_path.proofs.PathLaws.{is_prefix-append, is_prefix-refl}
 use Rattle.pv_steps.specs.Trees.{Files, places, IsTree}
@@ -33,8 +34,9 @@ use Rattle.pv_laws.proofs.AllFrames.{frame_after}
 use Rattle.pv_laws.proofs.Frozen.{away_all, source_partway}
 use Rattle.pv_laws.proofs.Later.{IsAfter, all_adjust, all_shaped, later_point, later_way}
 use Rattle.pv_laws.proofs.Making.{same_unnamed, IsShaped}
-use Rattle.pv_laws.proofs.Orders.{all_map, Pairwise}
-use Rattle.pv_laws.proofs.Prepared.{neither, bare_some}
+use Rattle.pv_laws.proofs.Orders.{Pairwise}
+use Rattle.pv_laws.proofs.Prepared.{bare_some}
+use Rattle.pv_table.proofs.ListedLaws.{all_map}
 use Rattle.pv_laws.proofs.Regions.{IsBeside, Before, region_after, region_partway, Passes}
 use Rattle.pv_laws.proofs.Sets.{impossible}
 use Rattle.pv_laws.proofs.Settings.{own_again, top_kind, later_repeatable, own_repeatable, both_repeatable}
@@ -46,7 +48,7 @@ use Rattle.pv_laws.proofs.Touching.{first_turn}
 pub quiet_parts : (now : ℕ) (xs ys : List Line) (t : Files) → one_is_refused (by_line now) (xs ++ ys) t ≡ false → (one_is_refused (by_line now) xs t ≡ false) × (one_is_refused (by_line now) ys (after_each (by_line now) xs t) ≡ false)
 quiet_parts now [] ys t h = (refl, h)
 quiet_parts now (x ∷ xs) ys t h =
-    let two = neither ((by_line now).is_refused x t) (one_is_refused (by_line now) (xs ++ ys) ((by_line now).after x t)) h in
+    let two = or_parts ((by_line now).is_refused x t) (one_is_refused (by_line now) (xs ++ ys) ((by_line now).after x t)) h in
     let rest = quiet_parts now xs ys ((by_line now).after x t) two.1 in
     (ap (λ b. b || one_is_refused (by_line now) xs ((by_line now).after x t)) two.0 ∙ rest.0, rest.1)
 
@@ -75,7 +77,7 @@ module _ (xs ys : List Line) (line : Line) (safe : IsSafe line) (copying : Copyi
     quiet_first = (quiet_parts now xs (line ∷ ys) t quiet).0
 
     pub quiet_two : ((by_line now).is_refused line middle ≡ false) × (one_is_refused (by_line now) ys ((by_line now).after line middle) ≡ false)
-    quiet_two = neither ((by_line now).is_refused line middle) (one_is_refused (by_line now) ys ((by_line now).after line middle)) (quiet_parts now xs (line ∷ ys) t quiet).1
+    quiet_two = or_parts ((by_line now).is_refused line middle) (one_is_refused (by_line now) ys ((by_line now).after line middle)) (quiet_parts now xs (line ∷ ys) t quiet).1
 
     pub middle_shaped : IsShaped (bares_of (places middle))
     middle_shaped = all_shaped now xs safe_xs t shape quiet_first

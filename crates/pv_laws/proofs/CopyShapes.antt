@@ -3,6 +3,8 @@ use Rattle.std.specs.Prelude.{◌≡◌, ◌≢◌, ◌⊎◌, ℕ, Bool, true, 
 use Rattle.std.proofs.Common.{refl, sym, ap, subst, ◌∙◌, inl, inr, append_assoc}
 use Rattle.std.proofs.lemmas.List.{append-nil}
 use Rattle.std.specs.List.{list_all}
+use Rattle.std.proofs.lemmas.Option.{same_Some}
+use Rattle.std.proofs.lemmas.Bool.{or_parts, and_parts}
 use Rattle.pv_path.specs.Paths.{has_names, Path, same_path, is_prefix, rest_under, has_staging, same_path-decides}
 use Rattle.pv_path.proofs.PathLaws.{has_names-append, has_names-both, has_names-prefix, is_prefix-append, is_prefix-trans, is_prefix-antisym, prefix_parts, prefixes_compare, rest_under-self, rest_under-append, rest_under-Some, rest_under-None, is_some-rest_under, has_staging-append}
 use Rattle.pv_steps.specs.declared.node.Kind.{Kind}
@@ -16,24 +18,24 @@ use Rattle.pv_dress.specs.Operations.{with_mode, run}
 use Rattle.pv_lines.specs.declared.line.LineMode.{LineMode}
 use Rattle.pv_dress.proofs.EditLaws.{path_cases}
 use Rattle.pv_walk.specs.Preparing.{IsAbove}
-use Rattle.pv_walk.proofs.RemovalLaws.{apart, both}
+use Rattle.pv_walk.proofs.RemovalLaws.{apart}
 use Rattle.pv_table.specs.declared.deed.Copying.{Copying}
 use Rattle.pv_table.specs.declared.deed.Deed.TheVariants.{Copy}
 use Rattle.pv_table.specs.Asking.{mode_for_new}
 use Rattle.pv_table.specs.Effects.{prepare, carried_out}
 use Rattle.pv_table.specs.Pointwise.{parent_bare, after_turn}
-use Rattle.pv_table.specs.Turns.{Turn, View, view_of, topped, copy_of, is_childless, copying_turn}
+use Rattle.pv_table.specs.Turns.{Turn, View, view_of, topped_by, copy_of, is_childless, copying_turn}
 use Rattle.pv_laws.proofs.Copies.{source_ready, left_inside, left_outside, below_ready}
 use Rattle.pv_laws.proofs.Making.{is_dir, IsShaped, ready_here, ready_else}
-use Rattle.pv_laws.proofs.Prepared.{filled, neither}
+use Rattle.pv_laws.proofs.Prepared.{filled}
 use Rattle.pv_laws.proofs.Sets.{impossible, is_adjustment, adjusted_none}
 use Rattle.pv_laws.proofs.Shapes.{adjusted_like, plain_prefix}
 
 -- a copied object is what its source is
-pub topped_body : (copying : Copying) (b : Bare) → (topped copying b).body ≡ b.body
+pub topped_body : (copying : Copying) (b : Bare) → (topped_by copying b).body ≡ b.body
 topped_body copying b = by copying.mode refl
   where
-    by : (m : Option LineMode) → copying.mode ≡ m → (topped copying b).body ≡ b.body
+    by : (m : Option LineMode) → copying.mode ≡ m → (topped_by copying b).body ≡ b.body
     by None e = rw e
     by (Some mode) e = rw e (at (is_link b.body.kind) (with_mode b.body.kind (mode_for_new (Some mode) (is_directory b.body.kind)) false (record b.dress { uid = unwrap_or copying.uid b.dress.uid; gid = unwrap_or copying.gid b.dress.gid })))
       where
@@ -128,11 +130,8 @@ module _ (now : ℕ) (copying : Copying) (adjust : list_all is_adjustment copyin
           let differ : p ≢ path = (λ same. two.0.1 (is_prefix-antisym q path two.0.0 (ap (λ r. is_prefix r q) (sym same) ∙ above))) in
           ap is_dir (ready_else now path unstaged t shape p (plain_prefix p q above plain) differ ∙ ap (λ c. filled c (old p)) high) ∙ high_dir p (plain_prefix p q above plain) high differ
 
-  some_is : (u v : Bare) → Some u ≡ Some v → u ≡ v
-  some_is u v h = cc
-
   filled_numbers : (q : Path) → has_staging q ≡ false → (above : Bool) (c : Option Bare) → old q ≡ c → (x : Bare) → filled above c ≡ Some x → is_directory x.body.kind ≡ true → (x.body.major ≡ 0) × (x.body.minor ≡ 0)
-  filled_numbers q plain true None f x e h = subst (λ (y : Bare). (y.body.major ≡ 0) × (y.body.minor ≡ 0)) (some_is parent_bare x e) (refl, refl)
+  filled_numbers q plain true None f x e h = subst (λ (y : Bare). (y.body.major ≡ 0) × (y.body.minor ≡ 0)) (same_Some parent_bare x e) (refl, refl)
   filled_numbers q plain true (Some y) f x e h = shape.plain q x plain (f ∙ e) h
   filled_numbers q plain false c f x e h = shape.plain q x plain (f ∙ e) h
 
@@ -145,8 +144,8 @@ module _ (now : ℕ) (copying : Copying) (adjust : list_all is_adjustment copyin
 
   -- ---- the copy, by what stands there
 
-  copy_top : copy_of copying (view_of (prepare now path t)) [] ≡ Some (topped copying b)
-  copy_top = ap (option_map (topped copying)) (source_ready now copying adjust path unstaged plain_source t shape b present ∙ present)
+  copy_top : copy_of copying (view_of (prepare now path t)) [] ≡ Some (topped_by copying b)
+  copy_top = ap (option_map (topped_by copying)) (source_ready now copying adjust path unstaged plain_source t shape b present ∙ present)
 
   copy_below : (name : List ℕ) (rest : Path) → copy_of copying (view_of (prepare now path t)) (name ∷ rest) ≡ cond (has_staging (name ∷ rest)) None (ready (copying.source ++ name ∷ rest))
   copy_below name rest = refl
@@ -177,7 +176,7 @@ module _ (now : ℕ) (copying : Copying) (adjust : list_all is_adjustment copyin
       ∙ ready_above copying.source (copying.source ++ name ∷ back) (source_plain (name ∷ back) there.0) (is_prefix-append copying.source (name ∷ back)) (longer copying.source name back) there.1
   copied_dir (first ∷ front) name back h =
       let there = copied_there first (front ++ name ∷ back) h in
-      let plain : has_staging (first ∷ front) ≡ false = (neither (has_staging (first ∷ front)) (has_staging (name ∷ back)) (sym (has_staging-append (first ∷ front) (name ∷ back)) ∙ there.0)).0 in
+      let plain : has_staging (first ∷ front) ≡ false = (or_parts (has_staging (first ∷ front)) (has_staging (name ∷ back)) (sym (has_staging-append (first ∷ front) (name ∷ back)) ∙ there.0)).0 in
       ap is_dir (copy_below first front) ∙ ap (λ c. is_dir (cond c None (ready (copying.source ++ first ∷ front)))) plain
       ∙ ready_above (copying.source ++ first ∷ front) (copying.source ++ (first ∷ front ++ name ∷ back)) (source_plain (first ∷ front ++ name ∷ back) there.0) (source_above (first ∷ front) (name ∷ back))
       (λ e. longer (copying.source ++ first ∷ front) name back (e ∙ sym (append_assoc copying.source (first ∷ front) (name ∷ back)))) there.1
@@ -256,7 +255,7 @@ module _ (now : ℕ) (copying : Copying) (adjust : list_all is_adjustment copyin
   -- directories have no numbers
   put_numbers : (rest : Path) (x : Bare) → copy_of copying (view_of (prepare now path t)) rest ≡ Some x → is_directory x.body.kind ≡ true → (x.body.major ≡ 0) × (x.body.minor ≡ 0)
   put_numbers [] x e h =
-      let body : x.body ≡ b.body = ap (λ (y : Bare). y.body) (some_is x (topped copying b) (sym e ∙ copy_top)) ∙ topped_body copying b in
+      let body : x.body ≡ b.body = ap (λ (y : Bare). y.body) (same_Some x (topped_by copying b) (sym e ∙ copy_top)) ∙ topped_body copying b in
       let numbers = shape.plain copying.source b plain_source present (ap (λ (y : Body). is_directory y.kind) (sym body) ∙ h) in
       (ap (λ (y : Body). y.major) body ∙ numbers.0, ap (λ (y : Body). y.minor) body ∙ numbers.1)
   put_numbers (name ∷ rest) x e h =
@@ -267,7 +266,7 @@ module _ (now : ℕ) (copying : Copying) (adjust : list_all is_adjustment copyin
   set_numbers q plain None f x e h = absurd (let no : None ≡ Some x = sym (adjusted_none copying.sets adjust) ∙ e in cc)
   set_numbers q plain (Some y) f x e h =
       let like = adjusted_like copying.sets adjust y in
-      let same : like.0 ≡ x = some_is like.0 x (sym like.1 ∙ e) in
+      let same : like.0 ≡ x = same_Some like.0 x (sym like.1 ∙ e) in
       let numbers = shape.plain q y plain f (sym (ap is_directory like.2.kind) ∙ ap (λ (z : Bare). is_directory z.body.kind) same ∙ h) in
       (sym (ap (λ (z : Bare). z.body.major) same) ∙ like.2.major ∙ numbers.0, sym (ap (λ (z : Bare). z.body.minor) same) ∙ like.2.minor ∙ numbers.1)
 
@@ -302,7 +301,7 @@ module _ (now : ℕ) (copying : Copying) (adjust : list_all is_adjustment copyin
     put_named (name ∷ rest) there =
         let copied = copied_there name rest there in
         let whole : has_names (copying.source ++ name ∷ rest) ≡ true = ready_named (copying.source ++ name ∷ rest) (source_plain (name ∷ rest) copied.0) copied.1 in
-        has_names-both path (name ∷ rest) names (both (has_names copying.source) (has_names (name ∷ rest)) (sym (has_names-append copying.source (name ∷ rest)) ∙ whole)).1
+        has_names-both path (name ∷ rest) names (and_parts (has_names copying.source) (has_names (name ∷ rest)) (sym (has_names-append copying.source (name ∷ rest)) ∙ whole)).1
 
     set_there : (c : Option Bare) → is_some (run copying.sets c) ≡ true → is_some c ≡ true
     set_there None h = sym (ap is_some (adjusted_none copying.sets adjust)) ∙ h

@@ -1,5 +1,5 @@
 -- What a run of lines, of which some copy, has left when it was cut short, a whole run of the same lines mends.
-use Rattle.pv_laws.proofs.Orders.{all_in_order}
+use Rattle.pv_table.proofs.ListedLaws.{all_in_order}
 use Rattle.pv_laws.proofs.Shapes.{tree_shaped}
 use Rattle.pv_laws.proofs.AllFrames.{shape_after, shape_after}
 use Rattle.pv_laws.proofs.Making.{IsShaped, same_unnamed}
@@ -7,6 +7,7 @@ use Rattle.std.specs.Prelude.{◌≡◌, ◌⊎◌, ℕ, Bool, true, false, ◌&
 use Rattle.std.proofs.Common.{refl, sym, ap, subst, ◌∙◌, inl, inr}
 use Rattle.std.specs.FinMap as fin
 use Rattle.std.specs.List.{enumerate_from, AllByRecursion}
+use Rattle.std.proofs.lemmas.Bool.{or_parts, and_parts}
 use Rattle.pv_path.specs.Paths.{has_names, Path, is_prefix, has_staging}
 use Rattle.pv_path.proofs.PathLaws.{prefix_parts, has_staging-append}
 use Rattle.pv_steps.specs.Same.{Same}
@@ -16,7 +17,6 @@ use Rattle.pv_dress.specs.Nodes.{bares_of}
 use Rattle.pv_dress.proofs.OperationLaws.{bares-same}
 use Rattle.pv_lines.specs.declared.line.Line.{Line}
 use Rattle.pv_lines.specs.Lines.{IsLine}
-use Rattle.pv_walk.proofs.RemovalLaws.{both}
 use Rattle.pv_table.specs.declared.deed.Copying.{Copying}
 use Rattle.pv_table.specs.declared.deed.Deed.{Deed}
 use Rattle.pv_table.specs.declared.deed.Deed.TheVariants.{Create, Copy, Touch, Idle}
@@ -31,7 +31,6 @@ use Rattle.pv_laws.specs.Moments.{Agree}
 use Rattle.pv_laws.proofs.AllPoints.{state_whole, all_safe}
 use Rattle.pv_laws.proofs.CopyRuns.{copy_mended}
 use Rattle.pv_laws.proofs.Parents.{IsOutside, outside_mended}
-use Rattle.pv_laws.proofs.Prepared.{neither}
 use Rattle.pv_laws.proofs.Sets.{impossible}
 use Rattle.pv_laws.proofs.Splits.{IsSplit, split, line_of}
 
@@ -62,7 +61,7 @@ module _ (lines : List Line) (are : AllByRecursion IsLine lines) (distinct : are
         at : (rest : Path) → q ≡ path_in found.one.1.path ++ rest → (b : Bare) → bares_of (places t) copying.source ≡ Some b → IsMendedHere
         at rest is b f = subst (λ (p : Path). bares_of (places (created lines later u)) p ≡ bares_of (places (created lines now t)) p) (sym is) (
             copy_mended lines are distinct repeatable now later t u tree there quiet again way found.before found.after found.one found.whole copying e b f rest
-            (neither (has_staging (path_in found.one.1.path)) (has_staging rest) (sym (has_staging-append (path_in found.one.1.path) rest) ∙ ap has_staging (sym is) ∙ plain)).1
+            (or_parts (has_staging (path_in found.one.1.path)) (has_staging rest) (sym (has_staging-append (path_in found.one.1.path) rest) ∙ ap has_staging (sym is) ∙ plain)).1
             (ap has_names (sym is) ∙ named))
 
         by : (b : Option Bare) → bares_of (places t) copying.source ≡ b → IsMendedHere
@@ -74,7 +73,7 @@ module _ (lines : List Line) (are : AllByRecursion IsLine lines) (distinct : are
       where
         at : (found : IsSplit (test q) (ordered (enumerate_from 0 lines))) → (d : Deed) → asks found.one.1 ≡ d → IsMendedHere
         at found (Copy copying) e =
-            let two = both (is_some (bares_of (places t) copying.source)) (is_prefix (path_in found.one.1.path) q) (sym (ap (reached_by t q found.one.1) e) ∙ found.passes) in
+            let two = and_parts (is_some (bares_of (places t) copying.source)) (is_prefix (path_in found.one.1.path) q) (sym (ap (reached_by t q found.one.1) e) ∙ found.passes) in
             below found copying e two.0 two.1
         at found (Create making) e = impossible (sym (ap (reached_by t q found.one.1) e) ∙ found.passes)
         at found (Touch touching) e = impossible (sym (ap (reached_by t q found.one.1) e) ∙ found.passes)

@@ -4,6 +4,7 @@ use Rattle.std.specs.Prelude.{◌≡◌, ◌≢◌, ◌⊎◌, ℕ, Bool, true, 
 use Rattle.std.proofs.Common.{zero, suc, refl, sym, ap, subst, ◌∙◌, inl, inr}
 use Rattle.std.specs.FinMap as fin
 use Rattle.std.specs.List.{list_all, AllByRecursion}
+use Rattle.std.proofs.lemmas.Bool.{or_parts}
 use Rattle.pv_path.specs.Paths.{Path, same_path, is_prefix, rest_under, has_staging, same_path-decides}
 use Rattle.pv_path.proofs.PathLaws.{is_prefix-antisym, rest_under-self, rest_under-None}
 use Rattle.pv_steps.specs.Same.{Same}
@@ -38,8 +39,8 @@ use Rattle.pv_laws.proofs.Copies.{left_before, decided_before, decide_agrees}
 use Rattle.pv_laws.proofs.CopyShapes.{at_outside}
 use Rattle.pv_laws.proofs.Lines.{line_is_plain, line_point, copy_path, copy_source}
 use Rattle.pv_laws.proofs.Making.{IsShaped, dir_there}
-use Rattle.pv_laws.proofs.Orders.{all_in_order}
-use Rattle.pv_laws.proofs.Prepared.{neither, bare_some, filled}
+use Rattle.pv_laws.proofs.Prepared.{bare_some, filled}
+use Rattle.pv_table.proofs.ListedLaws.{all_in_order}
 use Rattle.pv_laws.proofs.Sets.{impossible, is_adjustment, adjusted_none, asked, sets_adjust}
 use Rattle.pv_laws.proofs.Shapes.{tree_shaped}
 use Rattle.pv_laws.proofs.Touching.{turn_open, first_turn}
@@ -175,7 +176,7 @@ module _ (now : ℕ) where
   reached (first ∷ lines) t safe shape quiet k line at = by k at (λ n later. reached lines ((by_line now).after first t) safe.1 (line_pointed now first safe.0 t shape two.0).shape two.1 n line later)
     where
       two : ((by_line now).is_refused first t ≡ false) × (one_is_refused (by_line now) lines ((by_line now).after first t) ≡ false)
-      two = neither ((by_line now).is_refused first t) (one_is_refused (by_line now) lines ((by_line now).after first t)) quiet
+      two = or_parts ((by_line now).is_refused first t) (one_is_refused (by_line now) lines ((by_line now).after first t)) quiet
 
       same : Some first ≡ Some line → first ≡ line
       same e = cc

@@ -4,6 +4,7 @@ use Rattle.std.proofs.Common.{zero, suc, refl, sym, ap, subst, ◌∙◌, arith,
 use Rattle.std.proofs.Math.Seq.{take-append_seam}
 use Rattle.std.specs.FinMap as fin
 use Rattle.std.specs.List.{list_all, AllByRecursion}
+use Rattle.std.proofs.lemmas.Bool.{or_parts, and_parts}
 use Rattle.pv_path.specs.Paths.{Path, same_path, is_prefix, has_staging, same_path-decides}
 use Rattle.pv_path.proofs.PathLaws.{prefix_parts, prefix_whole}
 use Rattle.pv_steps.specs.Trees.{Files, places}
@@ -15,7 +16,7 @@ use Rattle.pv_dress.specs.Operations.{run}
 use Rattle.pv_lines.specs.declared.line.Line.{Line}
 use Rattle.pv_lines.specs.declared.line.LinePath.{LinePath}
 use Rattle.pv_lines.specs.Lines.{IsLine}
-use Rattle.pv_walk.proofs.RemovalLaws.{apart, both, zero_or_more}
+use Rattle.pv_walk.proofs.RemovalLaws.{apart, zero_or_more}
 use Rattle.pv_table.specs.declared.deed.Deed.{Deed}
 use Rattle.pv_table.specs.declared.deed.Deed.TheVariants.{Create, Copy, Touch, Idle}
 use Rattle.pv_table.specs.declared.deed.Making.{Making}
@@ -30,8 +31,7 @@ use Rattle.pv_table.specs.Turns.{Refused, copied, refused_at}
 use Rattle.pv_laws.specs.Stopping.{IsMidway}
 use Rattle.pv_laws.proofs.Lines.{IsPlain, made_literal, made_passes, turns_made, turns_touch, turns_idle, asked_made}
 use Rattle.pv_laws.proofs.Making.{IsShaped, clears_none, made_point}
-use Rattle.pv_laws.proofs.Orders.{all_tests}
-use Rattle.pv_laws.proofs.Prepared.{neither}
+use Rattle.pv_table.proofs.ListedLaws.{all_tests}
 use Rattle.pv_laws.proofs.Repeated.{IsAskedAt, object, parent, below, set, nothing, asked_at}
 use Rattle.pv_laws.proofs.Sets.{impossible, is_adjustment, IsMaking, line_is_making, adjusted_none}
 use Rattle.pv_laws.proofs.Shapes.{IsLike, adjusted_like, made_shaped, shape_same, shaped_like}
@@ -47,8 +47,8 @@ pub record IsFree (line : Line) (q : Path) : Type 0 where
 
 pub ungoverned : (line : Line) (q : Path) → governs line q ≡ false → IsFree line q
 ungoverned line q h =
-    let two = neither (reaches line q) (is_creating line && is_prefix q (path_in line.path)) h in
-    let one = neither (names line q) (reaches_below line && names_above line q) two.0 in
+    let two = or_parts (reaches line q) (is_creating line && is_prefix q (path_in line.path)) h in
+    let one = or_parts (names line q) (reaches_below line && names_above line q) two.0 in
     record { unnamed = one.0; unreached = one.1; no_parent = two.1 }
 
 -- a path that a line names lies above another
@@ -110,7 +110,7 @@ module _ (line : Line) (is : IsLine line) (q : Path) (free : IsFree line q) wher
       by (object making e s f) = absurd (apart (names line q) (names_literal making e q ∙ (same_path-decides (path_in line.path) q).1 s) free.unnamed)
       by (parent making e s f) = absurd (apart (is_creating line && is_prefix q (path_in line.path)) (ap (λ b. b && is_prefix q (path_in line.path)) (creates making e) ∙ s) free.no_parent)
       by (below making e g d f) =
-          let two = both (is_prefix (path_in line.path) q) (clears_below making) g in
+          let two = and_parts (is_prefix (path_in line.path) q) (clears_below making) g in
           absurd (not_reached (path_in line.path) (Create making) e (renewing making e two.1) (own_named making e) two.0 d)
       by (set touching e t f) = absurd (not_touched touching e t)
       by (nothing f) = f

@@ -16,7 +16,7 @@ use Rattle.pv_table.specs.Repeatable.{IsAt, HasReason, IsRepeatable}
 use Rattle.pv_table.specs.Turns.{copied}
 use Rattle.pv_laws.specs.Copying.{PartwayOf}
 use Rattle.pv_laws.proofs.AllFrames.{frame_after, frame_partway}
-use Rattle.pv_laws.proofs.Orders.{all_ordered, all_at, all_in_order}
+use Rattle.pv_table.proofs.ListedLaws.{all_ordered, all_at, all_in_order}
 use Rattle.pv_laws.proofs.Shapes.{tree_shaped}
 
 module _ (lines : List Line) (are : AllByRecursion IsLine lines) (repeatable : IsRepeatable lines) (source : Path) where

@@ -3,6 +3,7 @@ use Rattle.std.specs.Prelude.{◌≡◌, ◌⊎◌, ℕ, true, false, ◌&&◌, 
 use Rattle.std.proofs.Common.{refl, sym, ap, ◌∙◌, inl, inr}
 use Rattle.std.specs.List.{list_all, AllByRecursion}
 use Rattle.std.proofs.lemmas.List.Folds.{list_all-append}
+use Rattle.std.proofs.lemmas.Bool.{or_parts}
 use Rattle.pv_path.specs.Paths.{Path, is_prefix, has_staging}
 use Rattle.pv_steps.specs.Trees.{Files, places}
 use Rattle.pv_dress.specs.Dividing.{parts}
@@ -25,7 +26,6 @@ use Rattle.pv_laws.specs.Stopping.{IsMidway}
 use Rattle.pv_laws.proofs.AllPoints.{IsSafe, line_pointed}
 use Rattle.pv_laws.proofs.Lines.{line_is_plain, line_point}
 use Rattle.pv_laws.proofs.Making.{IsShaped}
-use Rattle.pv_laws.proofs.Prepared.{neither}
 use Rattle.pv_laws.proofs.Regions.{IsBeside, IsClearing, asks_there, beside_after, beside_way}
 use Rattle.pv_laws.proofs.Repeated.{adjuster_adjusts, create_adjusts_not, copy_adjusts_not}
 use Rattle.pv_laws.proofs.Sets.{impossible, is_adjustment}
@@ -91,7 +91,7 @@ module _ (p : Path) (line : Line) (q : Path) (under : is_prefix p q ≡ true) wh
 pub all_shaped : (now : ℕ) (lines : List Line) → AllByRecursion IsSafe lines → (t : Files) → IsShaped (bares_of (places t)) → one_is_refused (by_line now) lines t ≡ false → IsShaped (bares_of (places (after_each (by_line now) lines t)))
 all_shaped now [] safe t shape quiet = shape
 all_shaped now (line ∷ lines) safe t shape quiet =
-    let two = neither ((by_line now).is_refused line t) (one_is_refused (by_line now) lines ((by_line now).after line t)) quiet in
+    let two = or_parts ((by_line now).is_refused line t) (one_is_refused (by_line now) lines ((by_line now).after line t)) quiet in
     all_shaped now lines safe.1 ((by_line now).after line t) (line_pointed now line safe.0 t shape two.0).shape two.1
 
 module _ (p q : Path) (under : is_prefix p q ≡ true) where
@@ -107,7 +107,7 @@ module _ (p q : Path) (under : is_prefix p q ≡ true) where
         → bares_of (places (after_each (by_line now) lines t)) q ≡ run (operations_of lines q) (bares_of (places t) q)
     later_point [] safe after t shape quiet = refl
     later_point (line ∷ lines) safe after t shape quiet =
-        let two = neither ((by_line now).is_refused line t) (one_is_refused (by_line now) lines ((by_line now).after line t)) quiet in
+        let two = or_parts ((by_line now).is_refused line t) (one_is_refused (by_line now) lines ((by_line now).after line t)) quiet in
         later_point lines safe.1 after.1 ((by_line now).after line t) (line_pointed now line safe.0 t shape two.0).shape two.1
         ∙ ap (run (operations_of lines q)) (after_point p line q under now safe.0 t shape two.0 plain after.0 ∙ sym (run-parts (operations line q) (bares_of (places t) q)))
         ∙ sym (run-append (parts (operations line q)) (operations_of lines q) (bares_of (places t) q))
@@ -117,12 +117,12 @@ module _ (p q : Path) (under : is_prefix p q ≡ true) where
         → (k : ℕ) × (bares_of (places u) q ≡ run (take k (operations_of lines q)) (bares_of (places t) q))
     later_way [] safe after t u shape quiet same = (0, sym (bares_of-same (places t) (places u) q (same q plain)))
     later_way (line ∷ lines) safe after t u shape quiet (inl way) =
-        let two = neither ((by_line now).is_refused line t) (one_is_refused (by_line now) lines ((by_line now).after line t)) quiet in
+        let two = or_parts ((by_line now).is_refused line t) (one_is_refused (by_line now) lines ((by_line now).after line t)) quiet in
         let some = after_way p line q under now safe.0 t shape two.0 plain after.0 u way in
         let front = take_front some.0 (parts (operations line q)) (operations_of lines q) in
         (front.0, some.1 ∙ ap (λ xs. run xs (bares_of (places t) q)) (sym front.1))
     later_way (line ∷ lines) safe after t u shape quiet (inr later) =
-        let two = neither ((by_line now).is_refused line t) (one_is_refused (by_line now) lines ((by_line now).after line t)) quiet in
+        let two = or_parts ((by_line now).is_refused line t) (one_is_refused (by_line now) lines ((by_line now).after line t)) quiet in
         let some = later_way lines safe.1 after.1 ((by_line now).after line t) u (line_pointed now line safe.0 t shape two.0).shape two.1 later in
         let back = take_after some.0 (parts (operations line q)) (operations_of lines q) in (
           back.0,

@@ -3,6 +3,7 @@ use Rattle.std.specs.Prelude.{◌≡◌, ◌≢◌, ◌⊎◌, ℕ, Bool, true, 
 use Rattle.std.proofs.Common.{refl, sym, ap, subst, ◌∙◌, inl, inr}
 use Rattle.std.specs.List.{list_all, AllByRecursion}
 use Rattle.std.specs.FinMap as fin
+use Rattle.std.proofs.lemmas.Bool.{or_parts}
 use Rattle.pv_path.specs.Paths.{has_names, Path, is_prefix, has_staging}
 use Rattle.pv_steps.specs.declared.node.Kind.{Kind}
 use Rattle.pv_steps.specs.declared.node.Kind.TheVariants.{Directory}
@@ -41,7 +42,6 @@ use Rattle.pv_table.specs.Pointwise.{touches}
 use Rattle.pv_table.specs.Reaching.{names, path_in, is_creating}
 use Rattle.pv_table.specs.Turns.{copied, owner_made, refused_at, Refused}
 use Rattle.pv_laws.proofs.Making.{is_dir, IsShaped, made_point}
-use Rattle.pv_laws.proofs.Prepared.{neither}
 use Rattle.pv_laws.proofs.Sets.{impossible, is_adjustment, IsMaking, line_is_making, adjusted_none, IsAsked, makes, copies, adjusts as sets_owners, writes, sets, idle, asked}
 use Rattle.pv_laws.proofs.Shapes.{IsLike, adjusted_like, made_shaped, shape_same, shaped_like}
 use Rattle.pv_laws.proofs.Touching.{turn_open, first_turn, set_point, adjusts}
@@ -409,7 +409,7 @@ pub lines_point : (now : ℕ) (lines : List Line) (t : Files) → AllByRecursion
     → (q : Path) → has_staging q ≡ false → bares_of (places (after_each (by_line now) lines t)) q ≡ run (operations_of lines q) (bares_of (places t) q)
 lines_point now [] t are shape quiet q plain = refl
 lines_point now (line ∷ lines) t are shape quiet q plain =
-    let two = neither ((by_line now).is_refused line t) (one_is_refused (by_line now) lines ((by_line now).after line t)) quiet in
+    let two = or_parts ((by_line now).is_refused line t) (one_is_refused (by_line now) lines ((by_line now).after line t)) quiet in
     let one = line_point now line are.0 t shape two.0 in
     lines_point now lines ((by_line now).after line t) are.1 one.shape two.1 q plain
     ∙ ap (run (operations_of lines q)) (one.point q plain ∙ sym (run-parts (operations line q) (bares_of (places t) q)))

@@ -7,6 +7,7 @@ use Rattle.std.specs.FinMap as fin
 use Rattle.std.specs.List.{list_all}
 use Rattle.std.specs.Option.{option_map_or}
 use Rattle.std.specs.Str.{bytes_eq}
+use Rattle.std.proofs.lemmas.Bool.{and_from}
 use Rattle.pv_path.specs.Paths.{has_names, Path, same_path, is_prefix, rest_under, parent_of, has_staging, same_path-decides}
 use Rattle.pv_path.proofs.PathLaws.{same_path-refl, is_prefix-antisym, rest_under-self, rest_under-None, rest_under-Some, prefix_rest}
 use Rattle.pv_steps.specs.declared.node.Kind.{Kind}
@@ -14,8 +15,7 @@ use Rattle.pv_steps.specs.declared.node.Kind.TheVariants.{Directory, File, Link,
 use Rattle.pv_steps.specs.declared.object.Object.{Object}
 use Rattle.pv_steps.specs.Objects.{is_directory, modified}
 use Rattle.pv_steps.specs.Trees.{Files, Places, places}
-use Rattle.pv_steps.specs.Steps.{on_at}
-use Rattle.pv_steps.proofs.StepLaws.{is_among, places-tabulate, among_keys, is_some-on_at}
+use Rattle.pv_steps.proofs.StepLaws.{is_among}
 use Rattle.pv_dress.specs.declared.bare.Bare.{Bare}
 use Rattle.pv_dress.specs.declared.operation.Operation.{Operation}
 use Rattle.pv_dress.specs.declared.operation.Operation.TheVariants.{Make, Renew, Erase}
@@ -23,19 +23,21 @@ use Rattle.pv_dress.specs.declared.operation.Test.{Test}
 use Rattle.pv_dress.specs.Nodes.{bare_of, bares_of, is_link, same_kind, same_substance}
 use Rattle.pv_dress.specs.Operations.{stays, done, run}
 use Rattle.pv_dress.proofs.EditLaws.{path_cases, same_path-no, on_at-here, on_at-else}
+use Rattle.pv_walk.specs.Copying.{Subtree, object_of, with_subtree}
 use Rattle.pv_walk.specs.declared.new_file.NewKind.{NewKind}
 use Rattle.pv_walk.specs.declared.new_file.NewKind.TheVariants as new
 use Rattle.pv_walk.specs.Staging.{new_object, new_kind, new_major, new_minor}
-use Rattle.pv_walk.proofs.RemovalLaws.{apart, both_true}
+use Rattle.pv_walk.proofs.RemovalLaws.{apart}
 use Rattle.pv_table.specs.declared.deed.Deed.{Deed}
 use Rattle.pv_table.specs.declared.deed.Deed.TheVariants.{Create}
 use Rattle.pv_table.specs.declared.deed.Making.{Making}
 use Rattle.pv_table.specs.Asked.{first_of, clears_below, made_at}
-use Rattle.pv_table.specs.Effects.{object_of, put, put_paths, turned, prepare, carried_out, become}
+use Rattle.pv_table.specs.Effects.{put_paths, turned, prepare, carried_out, become}
 use Rattle.pv_table.specs.Pointwise.{parent_bare, after_turn}
-use Rattle.pv_table.specs.Turns.{Subtree, Turn, single, making_turn}
+use Rattle.pv_table.specs.Turns.{Turn, single, making_turn}
 use Rattle.pv_laws.proofs.Comparing.{become-bare}
-use Rattle.pv_laws.proofs.Prepared.{filled, prepared-here, prepared-else, place-prepare, among_first, among_right, bare_some}
+use Rattle.pv_table.proofs.EffectLaws.{place-become, place-prepare, place-put, single_keyed}
+use Rattle.pv_laws.proofs.Prepared.{filled, prepared-here, prepared-else}
 use Rattle.pv_laws.proofs.Sets.{impossible, is_adjustment, IsMaking, adjusted_none, only_adjusts, left_alone}
 
 -- ---- what the laws need of a tree, stamps aside
@@ -84,10 +86,10 @@ new_bares now None = refl
 new_bares now (Some b) = refl
 
 module _ (now : ℕ) (path : Path) (subtree : Subtree) (t : Places) (q : Path) where
-  pub put-outside : rest_under path q ≡ None → bares_of (put now path subtree t) q ≡ bares_of t q
+  pub put-outside : rest_under path q ≡ None → bares_of (with_subtree now path subtree t) q ≡ bares_of t q
   put-outside e = rw e (stamped now (same_path (parent_of path) q) (t q))
 
-  pub put-inside : (rest : Path) → rest_under path q ≡ Some rest → bares_of (put now path subtree t) q ≡ subtree rest
+  pub put-inside : (rest : Path) → rest_under path q ≡ Some rest → bares_of (with_subtree now path subtree t) q ≡ subtree rest
   put-inside rest e = rw e (stamped now (same_path (parent_of path) q) (option_map (object_of now) (subtree rest)) ∙ new_bares now (subtree rest))
 
 -- ---- what is done at the path
@@ -106,32 +108,17 @@ module _ (now : ℕ) (deed : Deed) (path : Path) (u : Files) where
 
   -- a subtree is put whole, where the paths at which it may have something are looked at
   module _ (subtree : Subtree) (keyed : (rest : Path) → is_some (subtree rest) ≡ true → is_among (path ++ rest) (put_paths deed path u ++ fin.keys u) ≡ true) where
-    put_key : (q : Path) → is_some (put now path subtree (places u) q) ≡ true → is_among q (put_paths deed path u ++ fin.keys u) ≡ true
-    put_key q h = by (rest_under path q) refl
-      where
-        by : (r : Option Path) → rest_under path q ≡ r → is_among q (put_paths deed path u ++ fin.keys u) ≡ true
-        by None e = among_right q (put_paths deed path u) (fin.keys u) (
-            among_keys u q ∙ sym (bare_some (places u q)) ∙ sym (ap is_some (put-outside now path subtree (places u) q e)) ∙ bare_some (put now path subtree (places u) q) ∙ h)
-        by (Some rest) e = subst (λ (r : Path). is_among r (put_paths deed path u ++ fin.keys u) ≡ true) (sym (rest_under-Some path q rest e)) (
-            keyed rest (sym (ap is_some (put-inside now path subtree (places u) q rest e)) ∙ bare_some (put now path subtree (places u) q) ∙ h))
-
-    place_put : (q : Path) → places (turned now deed path (Turn.Put subtree) u) q ≡ put now path subtree (places u) q
-    place_put q = places-tabulate (put_paths deed path u ++ fin.keys u) (put now path subtree (places u)) q (put_key q)
-
     pub put_done : IsDone (Turn.Put subtree)
     put_done = record {
-      outside = λ q e. ap (option_map bare_of) (place_put q) ∙ put-outside now path subtree (places u) q e;
-      inside = λ q rest e. ap (option_map bare_of) (place_put q) ∙ put-inside now path subtree (places u) q rest e;
+      outside = λ q e. ap (option_map bare_of) (place-put now deed path u subtree keyed q) ∙ put-outside now path subtree (places u) q e;
+      inside = λ q rest e. ap (option_map bare_of) (place-put now deed path u subtree keyed q) ∙ put-inside now path subtree (places u) q rest e;
     }
 
-  place_become : (xs : List Operation) (q : Path) → places (turned now deed path (Turn.Become xs) u) q ≡ on_at path (become now xs) (places u) q
-  place_become xs q = places-tabulate (fin.keys u) (on_at path (become now xs) (places u)) q (λ h. among_keys u q ∙ sym (is_some-on_at path (become now xs) (places u) q) ∙ h)
-
   become_else : (xs : List Operation) (q : Path) → same_path path q ≡ false → after_it (Turn.Become xs) q ≡ bares_of (places u) q
-  become_else xs q d = ap (option_map bare_of) (place_become xs q ∙ on_at-else path q (become now xs) (places u) d)
+  become_else xs q d = ap (option_map bare_of) (place-become now deed path u xs q ∙ on_at-else path q (become now xs) (places u) d)
 
   become_here : (xs : List Operation) → list_all is_adjustment xs ≡ true → after_it (Turn.Become xs) path ≡ run xs (bares_of (places u) path)
-  become_here xs h = ap (option_map bare_of) (place_become xs path ∙ on_at-here path (become now xs) (places u)) ∙ by (places u path)
+  become_here xs h = ap (option_map bare_of) (place-become now deed path u xs path ∙ on_at-here path (become now xs) (places u)) ∙ by (places u path)
     where
       by : (o : Option Object) → option_map bare_of (option_map (become now xs) o) ≡ run xs (option_map bare_of o)
       by None = sym (adjusted_none xs h)
@@ -150,11 +137,7 @@ module _ (now : ℕ) (deed : Deed) (path : Path) (u : Files) where
 -- so is each turn of a line that makes an object
 module _ (now : ℕ) (making : Making) (path : Path) (u : Files) (is : IsMaking making) where
   new_done : IsDone now (Create making) path u (Turn.Put (single (bare_of (new_object making.new 0))))
-  new_done = put_done now (Create making) path u (single (bare_of (new_object making.new 0))) keyed
-    where
-      keyed : (rest : Path) → is_some (single (bare_of (new_object making.new 0)) rest) ≡ true → is_among (path ++ rest) (path ∷ fin.keys u) ≡ true
-      keyed [] h = subst (λ (q : Path). is_among q (path ∷ fin.keys u) ≡ true) (sym (append-nil path)) (among_first path (fin.keys u))
-      keyed (name ∷ rest) h = impossible h
+  new_done = put_done now (Create making) path u (single (bare_of (new_object making.new 0))) (single_keyed making path u (bare_of (new_object making.new 0)))
 
   pub making_done : (b : Option Bare) → IsDone now (Create making) path u (making_turn making b)
   making_done None = new_done
@@ -251,8 +234,8 @@ module _ (making : Making) (is : IsMaking making) where
   same_directory : (x : Bare) → IsPlainDirectory x → is_directory (new_kind making.new.what) ≡ true → same_substance new_bare.body x.body ≡ true
   same_directory x dir own =
       let numbers = new_numbers making.new.what own in
-      both_true ((not (is_link x.body.kind) || bytes_eq new_bare.body.payload x.body.payload) && new_bare.body.major == x.body.major) (new_bare.body.minor == x.body.minor) (
-      both_true (not (is_link x.body.kind) || bytes_eq new_bare.body.payload x.body.payload) (new_bare.body.major == x.body.major)
+      and_from ((not (is_link x.body.kind) || bytes_eq new_bare.body.payload x.body.payload) && new_bare.body.major == x.body.major) (new_bare.body.minor == x.body.minor) (
+      and_from (not (is_link x.body.kind) || bytes_eq new_bare.body.payload x.body.payload) (new_bare.body.major == x.body.major)
       (ap (λ (k : Kind). not (is_link k) || bytes_eq new_bare.body.payload x.body.payload) (directory_is x.body.kind dir.0))
       (eqb_zero new_bare.body.major x.body.major numbers.0 dir.1))
       (eqb_zero new_bare.body.minor x.body.minor numbers.1 dir.2)

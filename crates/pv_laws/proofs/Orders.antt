@@ -1,92 +1,16 @@
--- The order of the create phase: which lines are carried out, and that a line that makes an object comes before those that
--- make one below it.
-use Rattle.std.specs.Prelude.{⊤, ◌≡◌, ◌≢◌, ℕ, ◌+◌, Bool, true, false, not, cond, ◌&&◌, ◌||◌, List, [], ◌∷◌, ◌++◌, map, filter, fold, slice_get}
-use Rattle.std.proofs.Common.{suc, refl, sym, ap, ◌∙◌, arith}
+-- The order of the create phase: a line that makes an object comes before those that make one below it.
+use Rattle.std.specs.Prelude.{⊤, ◌≡◌, ◌≢◌, ℕ, ◌+◌, Bool, true, false, not, cond, ◌&&◌, ◌||◌, List, [], ◌∷◌, filter, fold}
+use Rattle.std.proofs.Common.{refl, sym, ap, ◌∙◌}
 use Rattle.std.specs.List.{list_any, enumerate_from, AllByRecursion}
+use Rattle.std.proofs.lemmas.Bool.{not-true, and_parts}
 use Rattle.pv_path.specs.Paths.{Path, same_path, is_prefix, same_path-decides}
 use Rattle.pv_path.proofs.PathLaws.{is_prefix-trans, is_prefix-antisym}
 use Rattle.pv_lines.specs.declared.line.Line.{Line}
-use Rattle.pv_walk.proofs.RemovalLaws.{apart, both}
-use Rattle.pv_table.specs.Active.{make_same, are_distinct, Listed, placed, is_touching, ordered, in_create_order}
+use Rattle.pv_walk.proofs.RemovalLaws.{apart}
+use Rattle.pv_table.specs.Active.{make_same, are_distinct, Listed, placed}
 use Rattle.pv_table.specs.Reaching.{path_in, is_creating}
-use Rattle.pv_table.specs.Repeatable.{IsAt}
+use Rattle.pv_table.proofs.ListedLaws.{all_map, all_placed}
 use Rattle.pv_laws.proofs.Sets.{impossible}
-
--- ---- what holds of all lines holds of those that are carried out
-
-module _ {A : Type 0} (P : A → Type 0) where
-  pub all_append : (xs ys : List A) → AllByRecursion P xs → AllByRecursion P ys → AllByRecursion P (xs ++ ys)
-  all_append [] ys h g = g
-  all_append (x ∷ xs) ys h g = (h.0, all_append xs ys h.1 g)
-
-  pub all_filter : (test : A → Bool) (xs : List A) → AllByRecursion P xs → AllByRecursion P (filter test xs)
-  all_filter test [] h = tt
-  all_filter test (x ∷ xs) h =
-      let rest = all_filter test xs h.1 in
-      elim (test x) as (λ b. AllByRecursion P (cond b (x ∷ filter test xs) (filter test xs))) [ true ↦ (h.0, rest) | false ↦ rest ]
-
-pub all_tests : {A : Type 0} (test : A → Bool) (xs : List A) → AllByRecursion (λ x. test x ≡ true) (filter test xs)
-all_tests test [] = tt
-all_tests test (x ∷ xs) = by (test x) refl (all_tests test xs)
-  where
-    by : (b : Bool) → test x ≡ b → AllByRecursion (λ x. test x ≡ true) (filter test xs) → AllByRecursion (λ x. test x ≡ true) (cond b (x ∷ filter test xs) (filter test xs))
-    by true e rest = (e, rest)
-    by false e rest = rest
-
-pub all_map : {A : Type 0} (P Q : A → Type 0) → ((x : A) → P x → Q x) → (xs : List A) → AllByRecursion P xs → AllByRecursion Q xs
-all_map P Q f [] h = tt
-all_map P Q f (x ∷ xs) h = (f x h.0, all_map P Q f xs h.1)
-
-module _ (P : Listed → Type 0) where
-  pub all_placed : (xs : List Listed) (x : Listed) → AllByRecursion P xs → P x → AllByRecursion P (placed xs x)
-  all_placed [] x h g = (g, tt)
-  all_placed (first ∷ xs) x h g =
-      let rest = all_placed xs x h.1 g in
-      elim (is_prefix (path_in x.1.path) (path_in first.1.path) && not (same_path (path_in x.1.path) (path_in first.1.path))) as (λ b. AllByRecursion P (cond b (x ∷ first ∷ xs) (first ∷ placed xs x))) [
-        | true ↦ (g, h)
-        | false ↦ (h.0, rest)
-      ]
-
-  all_folded : (xs acc : List Listed) → AllByRecursion P acc → AllByRecursion P xs → AllByRecursion P (fold placed acc xs)
-  all_folded [] acc h g = h
-  all_folded (x ∷ xs) acc h g = all_folded xs (placed acc x) (all_placed acc x h g.0) g.1
-
-  -- the lines that make an object, in their order
-  abbrev pub makers : List Listed → List Listed
-  makers lines = fold placed [] (filter (λ line. is_creating line.1) lines)
-
-  -- and those that adjust what is there
-  abbrev pub adjusters : List Listed → List Listed
-  adjusters lines = filter (λ line. is_touching line.1) lines
-
-  pub all_makers : (lines : List Listed) → AllByRecursion P lines → AllByRecursion P (makers lines)
-  all_makers lines h = all_folded (filter (λ line. is_creating line.1) lines) [] tt (all_filter P (λ line. is_creating line.1) lines h)
-
-  pub all_ordered : (lines : List Listed) → AllByRecursion P lines → AllByRecursion P (ordered lines)
-  all_ordered lines h = all_append P (makers lines) (adjusters lines) (all_makers lines h) (all_filter P (λ line. is_touching line.1) lines h)
-
--- each of them makes an object
-pub makers_create : (lines : List Listed) → AllByRecursion (λ (line : Listed). is_creating line.1 ≡ true) (fold placed [] (filter (λ line. is_creating line.1) lines))
-makers_create lines = all_folded (λ (line : Listed). is_creating line.1 ≡ true) (filter (λ line. is_creating line.1) lines) [] tt (all_tests (λ (line : Listed). is_creating line.1) lines)
-
-pub all_listed : (P : Line → Type 0) (n : ℕ) (lines : List Line) → AllByRecursion P lines → AllByRecursion (λ (line : Listed). P line.1) (enumerate_from n lines)
-all_listed P n [] h = tt
-all_listed P n (line ∷ lines) h = (h.0, all_listed P (n + 1) lines h.1)
-
-all_unlisted : (P : Line → Type 0) (lines : List Listed) → AllByRecursion (λ (line : Listed). P line.1) lines → AllByRecursion P (map (λ line. line.1) lines)
-all_unlisted P [] h = tt
-all_unlisted P (line ∷ lines) h = (h.0, all_unlisted P lines h.1)
-
-pub all_in_order : (P : Line → Type 0) (lines : List Line) → AllByRecursion P lines → AllByRecursion P (in_create_order lines)
-all_in_order P lines h = all_unlisted P (ordered (enumerate_from 0 lines)) (all_ordered (λ (line : Listed). P line.1) (enumerate_from 0 lines) (all_listed P 0 lines h))
-
--- each stands at its place
-pub all_at : (lines rest : List Line) (n : ℕ) → ((i : ℕ) → slice_get lines (n + i) ≡ slice_get rest i) → AllByRecursion (λ (line : Listed). IsAt lines line.0 line.1) (enumerate_from n rest)
-all_at lines [] n h = tt
-all_at lines (line ∷ rest) n h = (
-  (let same : n ≡ n + 0 = omega arith in ap (slice_get lines) same ∙ h 0),
-  all_at lines rest (n + 1) (λ i. (let same : n + 1 + i ≡ n + suc i = omega arith in ap (slice_get lines) same ∙ h (suc i))),
-)
 
 -- ---- what lies above comes first
 
@@ -164,16 +88,12 @@ others line creates n m (l ∷ lines) h = by (is_creating l) refl (list_any (mak
 distinct_listed : (n : ℕ) (lines : List Line) → are_distinct lines ≡ true → Pairwise Differ (filter (λ (l : Listed). is_creating l.1) (enumerate_from n lines))
 distinct_listed n [] h = tt
 distinct_listed n (line ∷ lines) h =
-    by (is_creating line) refl (both (not (list_any (make_same line) lines)) (are_distinct lines) h) (distinct_listed (n + 1) lines)
+    by (is_creating line) refl (and_parts (not (list_any (make_same line) lines)) (are_distinct lines) h) (distinct_listed (n + 1) lines)
   where
-    negated : (b : Bool) → not b ≡ true → b ≡ false
-    negated true g = impossible g
-    negated false g = refl
-
     by : (c : Bool) → is_creating line ≡ c → (not (list_any (make_same line) lines) ≡ true) × (are_distinct lines ≡ true)
         → (are_distinct lines ≡ true → Pairwise Differ (filter (λ (l : Listed). is_creating l.1) (enumerate_from (n + 1) lines)))
         → Pairwise Differ (cond c ((n, line) ∷ filter (λ (l : Listed). is_creating l.1) (enumerate_from (n + 1) lines)) (filter (λ (l : Listed). is_creating l.1) (enumerate_from (n + 1) lines)))
-    by true e two rest = (others line e n (n + 1) lines (negated (list_any (make_same line) lines) two.0), rest two.1)
+    by true e two rest = (others line e n (n + 1) lines (not-true (list_any (make_same line) lines) two.0), rest two.1)
     by false e two rest = rest two.1
 
 -- so a line that makes an object comes before those that make one below it

@@ -2,6 +2,7 @@
 use Rattle.std.specs.Prelude.{◌≡◌, ℕ, Bool, true, false, cond, List, [], ◌∷◌, map, take, Option, Some, None, is_some}
 use Rattle.std.proofs.Common.{suc, refl, sym, ap, subst, ◌∙◌, inl, inr}
 use Rattle.std.specs.List.{list_all, enumerate_from, AllByRecursion}
+use Rattle.std.proofs.lemmas.Bool.{or_parts}
 use Rattle.pv_path.specs.Paths.{has_names, Path, same_path, is_prefix, has_staging}
 use Rattle.pv_path.proofs.PathLaws.{is_prefix-refl, rest_under-None}
 use Rattle.pv_steps.specs.Trees.{Files, places, IsTree}
@@ -39,7 +40,7 @@ use Rattle.pv_laws.proofs.Frozen.{source_partway}
 use Rattle.pv_laws.proofs.Lines.{source_named, line_is_plain, line_point, copy_path, copy_source}
 use Rattle.pv_laws.proofs.Making.{IsShaped}
 use Rattle.pv_laws.proofs.Orders.{Pairwise}
-use Rattle.pv_laws.proofs.Prepared.{neither, bare_some, filled}
+use Rattle.pv_laws.proofs.Prepared.{bare_some, filled}
 use Rattle.pv_laws.proofs.Repeated.{asked_copy}
 use Rattle.pv_laws.proofs.Sets.{impossible, is_adjustment, asked, sets_adjust}
 use Rattle.pv_laws.proofs.Shapes.{tree_shaped}
@@ -161,7 +162,7 @@ module _ (t : Files) (q : Path) (plain : has_staging q ≡ false) (now : ℕ) wh
       → bares_of (places (after_each (by_line now) lines v)) q ≡ run (operations_of (map (swapped t) lines) q) (bares_of (places v) q)
   swaps_point [] safe outside free v shape alike quiet = refl
   swaps_point (line ∷ lines) safe outside free v shape alike quiet =
-      let two = neither ((by_line now).is_refused line v) (one_is_refused (by_line now) lines ((by_line now).after line v)) quiet in
+      let two = or_parts ((by_line now).is_refused line v) (one_is_refused (by_line now) lines ((by_line now).after line v)) quiet in
       swaps_point lines safe.1 outside.1 free.1 ((by_line now).after line v) (line_pointed now line safe.0 v shape two.0).shape
       (all_alike t q plain now line safe.0 outside.0 v shape alike.0 two.0 lines safe.1 free.0 alike.1) two.1
       ∙ ap (run (operations_of (map (swapped t) lines) q)) (swap_point t q plain now line safe.0 outside.0 v shape alike.0 two.0 ∙ sym (run-parts (operations (swapped t line) q) (bares_of (places v) q)))
@@ -171,10 +172,10 @@ module _ (t : Files) (q : Path) (plain : has_staging q ≡ false) (now : ℕ) wh
       → PartwayOf lines now v u → IsPiece (map (swapped t) lines) q (bares_of (places v) q) (bares_of (places u) q)
   swaps_way [] safe outside free v u shape alike quiet same = IsPiece.piece 0 (sym (bares_of-same (places v) (places u) q (same q plain)))
   swaps_way (line ∷ lines) safe outside free v u shape alike quiet (inl way) =
-      let two = neither ((by_line now).is_refused line v) (one_is_refused (by_line now) lines ((by_line now).after line v)) quiet in
+      let two = or_parts ((by_line now).is_refused line v) (one_is_refused (by_line now) lines ((by_line now).after line v)) quiet in
       midway_piece (swapped t line) (map (swapped t) lines) q (bares_of (places v) q) (bares_of (places u) q) (swap_way t q plain now line safe.0 outside.0 v shape alike.0 two.0 u way)
   swaps_way (line ∷ lines) safe outside free v u shape alike quiet (inr later) =
-      let two = neither ((by_line now).is_refused line v) (one_is_refused (by_line now) lines ((by_line now).after line v)) quiet in
+      let two = or_parts ((by_line now).is_refused line v) (one_is_refused (by_line now) lines ((by_line now).after line v)) quiet in
       later_piece (swapped t line) (map (swapped t) lines) q (bares_of (places v) q) (bares_of (places u) q) (
       subst (λ b. IsPiece (map (swapped t) lines) q b (bares_of (places u) q)) (swap_point t q plain now line safe.0 outside.0 v shape alike.0 two.0 ∙ sym (run-parts (operations (swapped t line) q) (bares_of (places v) q)))
       (swaps_way lines safe.1 outside.1 free.1 ((by_line now).after line v) u (line_pointed now line safe.0 v shape two.0).shape

@@ -9,6 +9,7 @@ use Rattle.std.specs.Option.{option_map_or}
 use Rattle.std.specs.Ordering.{eq_by_cmp, is_eq}
 use Rattle.std.specs.declared.cmp.Ordering.{Ordering}
 use Rattle.std.specs.declared.cmp.Ordering.TheVariants.{Equal}
+use Rattle.std.proofs.lemmas.Bool.{or_parts}
 use Rattle.pv_path.specs.Paths.{Path, path_cmp, path_total, same_path, is_prefix, rest_under, has_staging, same_path-decides}
 use Rattle.pv_path.proofs.PathLaws.{path_cmp-exact, rest_under-self, rest_under-Some, is_some-rest_under}
 use Rattle.pv_steps.specs.Trees.{Files}
@@ -34,7 +35,7 @@ use Rattle.pv_table.specs.Repeatable.{sets_of}
 use Rattle.pv_table.specs.Turns.{copied, making_turn}
 use Rattle.pv_laws.proofs.Lines.{IsPlain, asked_made, asked_touch, asked_idle}
 use Rattle.pv_laws.proofs.Making.{is_dir, IsShaped, dir_there, asked_here, asked_above, asked_else, object_after, below_after}
-use Rattle.pv_laws.proofs.Prepared.{neither, has_some, in_parents, among_first, among_later, among_left, among_right}
+use Rattle.pv_walk.proofs.PreparedLaws.{has_some, in_parents, among_first, among_later, among_left, among_right, stands_among}
 use Rattle.pv_laws.proofs.Repeated.{IsAskedAt, object, parent, below, set, nothing, asked_at}
 use Rattle.pv_laws.proofs.Sets.{impossible, is_adjustment, IsMaking, line_is_making, adjusted_none, asked, sets_adjust}
 
@@ -197,10 +198,10 @@ module _ (line : Line) (is : IsPlain line) (s : Bares) (shape : IsShaped (fin.ge
       new none (object making e same f) = among_made making e (subst (λ (p : Path). is_among p (path_in line.path ∷ (parents_of (path_in line.path) ++ fin.keys s)) ≡ true) same (among_first (path_in line.path) (parents_of (path_in line.path) ++ fin.keys s)))
       new none (parent making e high f) = elim (path_cases q (path_in line.path)) [
         | inl same ↦ among_made making e (subst (λ (p : Path). is_among p (path_in line.path ∷ (parents_of (path_in line.path) ++ fin.keys s)) ≡ true) (sym same) (among_first (path_in line.path) (parents_of (path_in line.path) ++ fin.keys s)))
-        | inr d ↦ among_made making e (among_later (path_in line.path) q (parents_of (path_in line.path) ++ fin.keys s) (among_left q (parents_of (path_in line.path)) (fin.keys s) (
+        | inr d ↦ among_made making e (among_later (path_in line.path) q (parents_of (path_in line.path) ++ fin.keys s) (among_left q (parents_of (path_in line.path)) (fin.keys s) (stands_among q (parents_of (path_in line.path)) (
             in_parents q (path_in line.path) (λ same. apart (same_path q (path_in line.path)) ((same_path-decides q (path_in line.path)).1 same) d)
             ∙ ap (λ b. b && has_some q) high
-            ∙ root (λ at_root. apart (is_some (fin.get s q)) (ap (λ (p : Path). is_some (fin.get s p)) at_root ∙ dir_there (fin.get s []) shape.root) (ap is_some none)))))
+            ∙ root (λ at_root. apart (is_some (fin.get s q)) (ap (λ (p : Path). is_some (fin.get s p)) at_root ∙ dir_there (fin.get s []) shape.root) (ap is_some none))))))
       ]
       new none (below making e g d f) = impossible (sym (ap (λ xs. is_some (run xs (fin.get s q))) f) ∙ h)
       new none (set touching e t f) = impossible (
@@ -222,5 +223,5 @@ pub quiet_front : (now k : ℕ) (lines : List Line) (t : Files) → one_is_refus
 quiet_front now zero lines t quiet = refl
 quiet_front now (suc k) [] t quiet = refl
 quiet_front now (suc k) (line ∷ lines) t quiet =
-    let two = neither ((by_line now).is_refused line t) (one_is_refused (by_line now) lines ((by_line now).after line t)) quiet in
+    let two = or_parts ((by_line now).is_refused line t) (one_is_refused (by_line now) lines ((by_line now).after line t)) quiet in
     ap (λ b. b || one_is_refused (by_line now) (take k lines) ((by_line now).after line t)) two.0 ∙ quiet_front now k lines ((by_line now).after line t) two.1

@@ -2,6 +2,7 @@
 use Rattle.std.specs.Prelude.{◌≡◌, ◌≢◌, ◌⊎◌, ℕ, Bool, true, false, not, cond, ◌&&◌, ◌||◌, List, [], ◌∷◌, ◌++◌, take, Option, Some, None, is_some}
 use Rattle.std.proofs.Common.{zero, suc, refl, sym, ap, subst, ◌∙◌, inl, inr}
 use Rattle.std.specs.List.{list_all, AllByRecursion}
+use Rattle.std.proofs.lemmas.Bool.{or_parts, and_parts}
 use Rattle.pv_path.specs.Paths.{Path, is_prefix, has_staging}
 use Rattle.pv_path.proofs.PathLaws.{same_path-refl, is_prefix-refl, is_prefix-trans, prefixes_compare, rest_under-None}
 use Rattle.pv_steps.specs.Trees.{Files, places}
@@ -14,7 +15,7 @@ use Rattle.pv_dress.specs.Nodes.{bare_of, bares_of, same_kind, same_substance}
 use Rattle.pv_dress.specs.Operations.{run}
 use Rattle.pv_dress.proofs.OperationLaws.{bares_of-same}
 use Rattle.pv_lines.specs.declared.line.Line.{Line}
-use Rattle.pv_walk.proofs.RemovalLaws.{apart, both}
+use Rattle.pv_walk.proofs.RemovalLaws.{apart}
 use Rattle.pv_walk.specs.Staging.{new_object, new_kind}
 use Rattle.pv_table.specs.declared.deed.Copying.{Copying}
 use Rattle.pv_table.specs.declared.deed.Deed.{Deed}
@@ -36,7 +37,7 @@ use Rattle.pv_laws.proofs.AllPoints.{IsSafe, line_pointed, turns_copy, copy_idle
 use Rattle.pv_laws.proofs.CopyShapes.{at_outside}
 use Rattle.pv_laws.proofs.Lines.{line_is_plain, line_point, copy_path, copy_source, IsPlain, asked_made}
 use Rattle.pv_laws.proofs.Making.{is_dir, IsShaped, does_stay, clears_some, clears_none, first_on_none, first_on_some, asked_here}
-use Rattle.pv_laws.proofs.Prepared.{neither, bare_some, filled}
+use Rattle.pv_laws.proofs.Prepared.{bare_some, filled}
 use Rattle.pv_laws.proofs.Repeated as repeated
 use Rattle.pv_laws.proofs.Repeated.{IsAskedAt, asked_at}
 use Rattle.pv_laws.proofs.Sets.{impossible, is_adjustment, IsMaking, line_is_making, only_adjusts, asked, sets_adjust}
@@ -99,7 +100,7 @@ stuck_step now line safe makes t shape quiet p plain outside stuck = by (asks li
     asks_no_more : IsAskedAt line p → run (operations line p) (bares_of (places t) p) ≡ bares_of (places t) p
     asks_no_more (repeated.object making e s f) = absurd (apart (is_prefix (path_in line.path) p) (ap (is_prefix (path_in line.path)) (sym s) ∙ is_prefix-refl (path_in line.path)) outside)
     asks_no_more (repeated.parent making e s f) = ap (λ xs. run xs (bares_of (places t) p)) f ∙ parent_kept (bares_of (places t) p) stuck
-    asks_no_more (repeated.below making e g d f) = absurd (apart (is_prefix (path_in line.path) p) (both (is_prefix (path_in line.path) p) (clears_below making) g).0 outside)
+    asks_no_more (repeated.below making e g d f) = absurd (apart (is_prefix (path_in line.path) p) (and_parts (is_prefix (path_in line.path) p) (clears_below making) g).0 outside)
     asks_no_more (repeated.set touching e g f) = impossible (sym makes ∙ touch_adjusts touching e)
     asks_no_more (repeated.nothing f) = ap (λ xs. run xs (bares_of (places t) p)) f
 
@@ -206,7 +207,7 @@ module _ (p : Path) (line : Line) (beside : IsBeside p line) (q : Path) (under :
       by (repeated.object making e s f) = absurd (not_there s)
       by (repeated.parent making e s f) = absurd (apart (is_prefix q (path_in line.path)) s not_lower)
       by (repeated.below making e g d f) =
-          let two = both (is_prefix (path_in line.path) q) (clears_below making) g in
+          let two = and_parts (is_prefix (path_in line.path) q) (clears_below making) g in
           inr (record { making = making; makes = e; clears = two.1; above = higher two.0 })
       by (repeated.set touching e g f) = impossible (sym beside.makes ∙ touch_makes touching e)
       by (repeated.nothing f) = inl f
@@ -267,7 +268,7 @@ module _ (now : ℕ) where
       → (t : Files) → IsShaped (bares_of (places t)) → one_is_refused (by_line now) lines t ≡ false → IsStuck (bares_of (places t) x) → IsStuck (bares_of (places (after_each (by_line now) lines t)) x)
   stuck_all x plain [] safe makes outside t shape quiet stuck = stuck
   stuck_all x plain (line ∷ lines) safe makes outside t shape quiet stuck =
-      let two = neither ((by_line now).is_refused line t) (one_is_refused (by_line now) lines ((by_line now).after line t)) quiet in
+      let two = or_parts ((by_line now).is_refused line t) (one_is_refused (by_line now) lines ((by_line now).after line t)) quiet in
       stuck_all x plain lines safe.1 makes.1 outside.1 ((by_line now).after line t) (line_pointed now line safe.0 t shape two.0).shape two.1
       (stuck_step now line safe.0 makes.0 t shape two.0 x plain outside.0 stuck)
 
@@ -287,7 +288,7 @@ module _ (now : ℕ) where
         apart (is_dir (bares_of (places (after_each (by_line now) (line ∷ lines) t)) (path_in line.path))) (passes (path_in line.path) clearing.above other stuck.there) stuck.no_dir
       where
         two : ((by_line now).is_refused line t ≡ false) × (one_is_refused (by_line now) lines ((by_line now).after line t) ≡ false)
-        two = neither ((by_line now).is_refused line t) (one_is_refused (by_line now) lines ((by_line now).after line t)) quiet
+        two = or_parts ((by_line now).is_refused line t) (one_is_refused (by_line now) lines ((by_line now).after line t)) quiet
 
         plain : IsPlain line
         plain = line_is_plain line safe.is (ap copied clearing.makes)
@@ -314,7 +315,7 @@ module _ (now : ℕ) where
         (region_after lines safe.1 beside.1 before.1 ((by_line now).after line t) (line_pointed now line safe.0 t shape two.0).shape two.1 passes q plain under)
       where
         two : ((by_line now).is_refused line t ≡ false) × (one_is_refused (by_line now) lines ((by_line now).after line t) ≡ false)
-        two = neither ((by_line now).is_refused line t) (one_is_refused (by_line now) lines ((by_line now).after line t)) quiet
+        two = or_parts ((by_line now).is_refused line t) (one_is_refused (by_line now) lines ((by_line now).after line t)) quiet
 
         by : (bares_of (places ((by_line now).after line t)) q ≡ bares_of (places t) q) ⊎ IsClearing p line → bares_of (places (after_each (by_line now) lines ((by_line now).after line t))) q ≡ bares_of (places ((by_line now).after line t)) q
             → bares_of (places (after_each (by_line now) (line ∷ lines) t)) q ≡ bares_of (places t) q
@@ -329,7 +330,7 @@ module _ (now : ℕ) where
     region_partway (line ∷ lines) rest safe beside before t u shape quiet passes (inl way) = inl (λ q plain under. by q (beside_way now p line safe.0 beside.0 t shape two.0 q plain under u way))
       where
         two : ((by_line now).is_refused line t ≡ false) × (one_is_refused (by_line now) lines ((by_line now).after line t) ≡ false)
-        two = neither ((by_line now).is_refused line t) (one_is_refused (by_line now) lines ((by_line now).after line t)) quiet
+        two = or_parts ((by_line now).is_refused line t) (one_is_refused (by_line now) lines ((by_line now).after line t)) quiet
 
         by : (q : Path) → (bares_of (places u) q ≡ bares_of (places t) q) ⊎ IsClearing p line → bares_of (places u) q ≡ bares_of (places t) q
         by q (inl e) = e
@@ -338,7 +339,7 @@ module _ (now : ℕ) where
         by (region_partway lines rest safe.1 beside.1 before.1 ((by_line now).after line t) u (line_pointed now line safe.0 t shape two.0).shape two.1 passes later)
       where
         two : ((by_line now).is_refused line t ≡ false) × (one_is_refused (by_line now) lines ((by_line now).after line t) ≡ false)
-        two = neither ((by_line now).is_refused line t) (one_is_refused (by_line now) lines ((by_line now).after line t)) quiet
+        two = or_parts ((by_line now).is_refused line t) (one_is_refused (by_line now) lines ((by_line now).after line t)) quiet
 
         first_same : (q : Path) → has_staging q ≡ false → is_prefix p q ≡ true → bares_of (places ((by_line now).after line t)) q ≡ bares_of (places t) q
         first_same q plain under = at (beside_after now p line safe.0 beside.0 t shape two.0 q plain under)

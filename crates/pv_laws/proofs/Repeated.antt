@@ -4,6 +4,7 @@ use Rattle.std.proofs.Common.{refl, sym, ap, subst, ◌∙◌, arith, inl, inr}
 use Rattle.std.specs.List.{list_any, list_all, flat_map, enumerate_from, AllByRecursion}
 use Rattle.std.proofs.lemmas.Grind.{flat_map-append}
 use Rattle.std.proofs.lemmas.List.Folds.{list_any-append, list_all-append}
+use Rattle.std.proofs.lemmas.Bool.{or_parts, or_left, false_from_ne_true, and_parts}
 use Rattle.pv_path.specs.Paths.{has_names, Path, same_path, is_prefix, has_staging, same_path-decides}
 use Rattle.pv_path.proofs.PathLaws.{is_prefix-refl}
 use Rattle.pv_dress.specs.declared.operation.Change.{Change}
@@ -19,7 +20,7 @@ use Rattle.pv_lines.specs.declared.line.Line.{Line}
 use Rattle.pv_lines.specs.declared.line.LinePath.{LinePath}
 use Rattle.pv_lines.specs.declared.line.LinePath.TheVariants.{Literal, Glob}
 use Rattle.pv_lines.specs.Lines.{IsLine, IsLinePath}
-use Rattle.pv_walk.proofs.RemovalLaws.{apart, both, zero_or_more}
+use Rattle.pv_walk.proofs.RemovalLaws.{apart, zero_or_more}
 use Rattle.pv_table.specs.declared.deed.Copying.{Copying}
 use Rattle.pv_table.specs.declared.deed.Deed.{Deed}
 use Rattle.pv_table.specs.declared.deed.Deed.TheVariants.{Create, Copy, Touch, Idle}
@@ -34,8 +35,8 @@ use Rattle.pv_table.specs.Reaching.{names, names_above, path_in, is_creating, is
 use Rattle.pv_table.specs.Repeatable.{IsAt, sets_of, sets_base, has_masked_mode, HasReason, IsRepeatable}
 use Rattle.pv_laws.proofs.Lines.{made_creates, creating_adjusts_none, creating_row, asked_made, asked_touch, asked_idle}
 use Rattle.pv_laws.proofs.Making.{first_make, first_renew, asked_here, asked_above, asked_else}
-use Rattle.pv_laws.proofs.Orders.{all_tests, all_map, all_makers, all_ordered, makers_create, all_listed, all_at, Pairwise, path_of, ComesAfter, makers_ordered}
-use Rattle.pv_laws.proofs.Prepared.{neither}
+use Rattle.pv_laws.proofs.Orders.{Pairwise, path_of, ComesAfter, makers_ordered}
+use Rattle.pv_table.proofs.ListedLaws.{all_tests, all_map, all_makers, all_ordered, makers_create, all_listed, all_at}
 use Rattle.pv_laws.proofs.Sets.{impossible, is_adjustment, IsMaking, line_is_making, only_adjusts, asked, sets_adjust, sets_unmixed, sets_masked, adjustments_renew_none, adjustments_timely}
 
 -- ---- the operations of one line
@@ -107,10 +108,6 @@ asked_reaches test line is q h = by (asked_at line q)
     own : (line_path : LinePath) → IsLinePath is.row line_path → is.row.creates ≡ true → path_in line_path ≡ q → names (record line { path = line_path }) q ≡ true
     own (Literal path) fits c s = (same_path-decides path q).1 s
     own (Glob pattern) fits c s = impossible (sym fits.0 ∙ c)
-
-    or_left : (a b : Bool) → a ≡ true → (a || b) ≡ true
-    or_left true b e = refl
-    or_left false b e = impossible e
 
     named : names line q ≡ true → reaches line q ≡ true
     named e = or_left (names line q) (reaches_below line && names_above line q) e
@@ -207,7 +204,7 @@ module _ (q : Path) where
   makers_begin (line ∷ lines) adjusts order h = by (asked_at line.1 q) (makers_begin lines adjusts.1 order.1)
     where
       two : (list_any is_erasure (operations line.1 q) ≡ false) × (list_any is_erasure (listed_asked lines) ≡ false)
-      two = neither (list_any is_erasure (operations line.1 q)) (list_any is_erasure (listed_asked lines)) (sym (list_any-append is_erasure (operations line.1 q) (listed_asked lines)) ∙ h)
+      two = or_parts (list_any is_erasure (operations line.1 q)) (list_any is_erasure (listed_asked lines)) (sym (list_any-append is_erasure (operations line.1 q) (listed_asked lines)) ∙ h)
 
       later : is_prefix q (path_of line) ≡ true → list_any is_renewal (listed_asked lines) ≡ false
       later high = all_renew_none lines (all_map (ComesAfter line) (λ l. path_of l ≢ q) (λ l after e. apart (is_prefix (path_of l) (path_of line)) (ap (λ (p : Path). is_prefix p (path_of line)) e ∙ high) after) lines order.0) adjusts.1
@@ -265,13 +262,9 @@ module _ (q : Path) where
 
       by : (b : Bool) → list_any is_erasure (xs ++ ys) ≡ b → has_late_make (xs ++ ys) ≡ false
       by true e = ap (λ b. not b && makes_late (xs ++ ys)) e
-      by false e = ap (λ b. not b && makes_late (xs ++ ys)) e ∙ at (begins (neither (list_any is_erasure xs) (list_any is_erasure ys) (sym (list_any-append is_erasure xs ys) ∙ e)).0)
+      by false e = ap (λ b. not b && makes_late (xs ++ ys)) e ∙ at (begins (or_parts (list_any is_erasure xs) (list_any is_erasure ys) (sym (list_any-append is_erasure xs ys) ∙ e)).0)
 
 -- ---- where no line has a reason
-
-pub some_or_none : (b : Bool) → (b ≡ true → ⊥) → b ≡ false
-some_or_none true h = absurd (h refl)
-some_or_none false h = refl
 
 module _ (lines : List Line) (are : AllByRecursion IsLine lines) (distinct : are_distinct lines ≡ true) (repeatable : IsRepeatable lines) (q : Path) where
   -- a line at its place
@@ -291,7 +284,7 @@ module _ (lines : List Line) (are : AllByRecursion IsLine lines) (distinct : are
 
   -- nothing is appended
   append_none : has_append (flat_map (λ (line : Listed). operations line.1 q) (ordered (enumerate_from 0 lines))) ≡ false
-  append_none = some_or_none _ (λ h. (
+  append_none = false_from_ne_true _ (λ h. (
       let found = some_line q IsListed (is_adjusting is_append) (ordered (enumerate_from 0 lines)) in_order h in
       repeatable found.0.0 reason.Append (HasReason.append found.0.1 found.1.at (asked_sets is_append found.0.1 q found.2))))
 
@@ -335,7 +328,7 @@ module _ (lines : List Line) (are : AllByRecursion IsLine lines) (distinct : are
       by (inl z) (inr y) = repeatable b.0.0 reason.Mask (HasReason.mask b.0.1 a.0.1 a.0.0 q b.1.at a.1.at (omega (arith, y)) named (reached_first, reached_second) (inl (masked, base)))
 
   mask_none : has_names q ≡ true → has_mixed_mask (flat_map (λ (line : Listed). operations line.1 q) (ordered (enumerate_from 0 lines))) ≡ false
-  mask_none named = some_or_none _ (λ h. (let two = both _ _ h in mixed_none named two.0 two.1))
+  mask_none named = false_from_ne_true _ (λ h. (let two = and_parts _ _ h in mixed_none named two.0 two.1))
 
   -- no make comes late
   pub makers_adjust_none : AllByRecursion (λ (line : Listed). is_touching line.1 ≡ false) (fold placed [] (filter (λ (l : Listed). is_creating l.1) (enumerate_from 0 lines)))

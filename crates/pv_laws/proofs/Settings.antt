@@ -4,6 +4,7 @@ use Rattle.std.proofs.Common.{refl, sym, ap, subst, ◌∙◌, arith, inl, inr}
 use Rattle.std.specs.List.{list_any, list_all, AllByRecursion}
 use Rattle.std.proofs.lemmas.Grind.{flat_map-append}
 use Rattle.std.proofs.lemmas.List.Folds.{list_any-append, list_all-append}
+use Rattle.std.proofs.lemmas.Bool.{false_from_ne_true, or_left, and_parts}
 use Rattle.pv_path.specs.Paths.{has_names, Path, is_prefix}
 use Rattle.pv_path.proofs.PathLaws.{same_path-refl}
 use Rattle.pv_steps.specs.declared.node.Kind.{Kind}
@@ -25,7 +26,7 @@ use Rattle.pv_lines.specs.declared.line.Line.{Line}
 use Rattle.pv_lines.specs.declared.line.LineMode.{LineMode}
 use Rattle.pv_lines.specs.declared.line.LinePath.{LinePath}
 use Rattle.pv_lines.specs.Lines.{IsLine}
-use Rattle.pv_walk.proofs.RemovalLaws.{apart, both, zero_or_more}
+use Rattle.pv_walk.proofs.RemovalLaws.{apart, zero_or_more}
 use Rattle.pv_table.specs.declared.deed.Copying.{Copying}
 use Rattle.pv_table.specs.declared.deed.Deed.{Deed}
 use Rattle.pv_table.specs.declared.deed.Deed.TheVariants.{Copy, Idle}
@@ -35,12 +36,12 @@ use Rattle.pv_table.specs.Asked.{operations, operations_of}
 use Rattle.pv_table.specs.Asking.{asks, id_to_set, without_links, mode_to_set}
 use Rattle.pv_table.specs.Reaching.{path_in, names, reaches}
 use Rattle.pv_table.specs.Repeatable.{sets_of, has_masked_mode, HasReason, IsRepeatable}
-use Rattle.pv_table.specs.Turns.{copied, topped}
+use Rattle.pv_table.specs.Turns.{copied, topped_by}
 use Rattle.pv_laws.proofs.CopyShapes.{topped_body}
 use Rattle.pv_laws.proofs.Later.{IsAfter, after_adjusts}
 use Rattle.pv_laws.proofs.Lines.{copy_literal}
-use Rattle.pv_laws.proofs.Repeated.{asked_parts, listed_asked, unlisted, some_line, some_or_none, asked_sets, asked_reaches, slices_same}
-use Rattle.pv_laws.proofs.Sets.{impossible, is_adjustment, IsAsked, asked, sets_adjust, sets_unmixed, sets_masked, adjustments_repeatable}
+use Rattle.pv_laws.proofs.Repeated.{asked_parts, listed_asked, unlisted, some_line, asked_sets, asked_reaches, slices_same}
+use Rattle.pv_laws.proofs.Sets.{is_adjustment, IsAsked, asked, sets_adjust, sets_unmixed, sets_masked, adjustments_repeatable}
 use Rattle.pv_laws.proofs.Sets as sets
 use Rattle.pv_laws.proofs.Splits.{IsKnown, line_of}
 use Rattle.pv_laws.proofs.Tops.{copied_by, top_again}
@@ -73,8 +74,8 @@ pub sets_in_parts : (line : Line) (copying : Copying) → asks line ≡ Copy cop
 sets_in_parts line copying e = subst (λ (c : Copying). parts c.sets ≡ c.sets) (sym (is_copied_by line copying e)) (ap (λ xs. Adjust Every (Owner (id_to_set line.user) (id_to_set line.group)) ∷ xs) (one_part line.mode))
 
 -- they change nothing of its own copy
-pub own_again : (line : Line) (copying : Copying) (b : Bare) → asks line ≡ Copy copying → run copying.sets (Some (topped copying b)) ≡ Some (topped copying b)
-own_again line copying b e = subst (λ (c : Copying). run c.sets (Some (topped c b)) ≡ Some (topped c b)) (sym (is_copied_by line copying e)) (top_again line b)
+pub own_again : (line : Line) (copying : Copying) (b : Bare) → asks line ≡ Copy copying → run copying.sets (Some (topped_by copying b)) ≡ Some (topped_by copying b)
+own_again line copying b e = subst (λ (c : Copying). run c.sets (Some (topped_by c b)) ≡ Some (topped_by c b)) (sym (is_copied_by line copying e)) (top_again line b)
 
 own_kind : (k : Kind) → same_kind k k ≡ true
 own_kind Directory = refl
@@ -84,7 +85,7 @@ own_kind Fifo = refl
 own_kind CharDevice = refl
 own_kind BlockDevice = refl
 
-pub top_kind : (copying : Copying) (b : Bare) → same_kind b.body.kind (topped copying b).body.kind ≡ true
+pub top_kind : (copying : Copying) (b : Bare) → same_kind b.body.kind (topped_by copying b).body.kind ≡ true
 top_kind copying b = ap (λ (body : Body). same_kind b.body.kind body.kind) (topped_body copying b) ∙ own_kind b.body.kind
 
 -- ---- adjustments of lines of which none has a reason
@@ -102,7 +103,7 @@ module _ (lines : List Line) (are : AllByRecursion IsLine lines) (distinct : are
 
   module _ (q : Path) (named : has_names q ≡ true) (xs : List Operation) (adjust : list_all is_adjustment xs ≡ true) (setters : (test : Change → Bool) → list_any (is_adjusting test) xs ≡ true → IsSetter q test) where
     append_none : has_append xs ≡ false
-    append_none = some_or_none _ (λ h. (let found = setters is_append h in repeatable found.one.0 reason.Append (HasReason.append found.one.1 found.known.at found.sets_it)))
+    append_none = false_from_ne_true _ (λ h. (let found = setters is_append h in repeatable found.one.0 reason.Append (HasReason.append found.one.1 found.known.at found.sets_it)))
 
     mixed_none : list_any (is_adjusting is_masked) xs ≡ true → list_any (is_adjusting gives_base) xs ≡ true → ⊥
     mixed_none m g = by (zero_or_more (a.one.0 - b.one.0)) (zero_or_more (b.one.0 - a.one.0))
@@ -127,7 +128,7 @@ module _ (lines : List Line) (are : AllByRecursion IsLine lines) (distinct : are
         by (inl z) (inr y) = repeatable b.one.0 reason.Mask (HasReason.mask b.one.1 a.one.1 a.one.0 q b.known.at a.known.at (omega (arith, y)) named (a.reached, b.reached) (inl (masked, b.sets_it)))
 
     pub setters_repeatable : reasons.IsRepeatable xs
-    setters_repeatable = adjustments_repeatable xs adjust append_none (some_or_none _ (λ h. (let two = both _ _ h in mixed_none two.0 two.1)))
+    setters_repeatable = adjustments_repeatable xs adjust append_none (false_from_ne_true _ (λ h. (let two = and_parts _ _ h in mixed_none two.0 two.1)))
 
   module _ (p : Path) (after : List Listed) (known : AllByRecursion Known after) (later : AllByRecursion (λ (l : Listed). IsAfter p l.1) after) where
     module _ (q : Path) (under : is_prefix p q ≡ true) where
@@ -157,10 +158,6 @@ module _ (lines : List Line) (are : AllByRecursion IsLine lines) (distinct : are
 
       own_adjust : list_all is_adjustment own ≡ true
       own_adjust = subst (λ d. list_all is_adjustment (sets_of d) ≡ true) e (sets_adjust copier.1 (asks copier.1) (asked copier.1))
-
-      or_left : (a c : Bool) → a ≡ true → (a || c) ≡ true
-      or_left true c g = refl
-      or_left false c g = impossible g
 
       own_reaches : reaches copier.1 q ≡ true
       own_reaches = or_left (names copier.1 q) _ (ap (names copier.1) (here ∙ sym at) ∙ ap (λ (path : LinePath). names (record copier.1 { path = path }) (path_in copier.1.path)) (copy_literal copier.1 is.is copying e) ∙ same_path-refl (path_in copier.1.path))

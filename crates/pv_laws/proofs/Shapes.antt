@@ -3,6 +3,7 @@ use Rattle.std.specs.Prelude.{◌≡◌, ◌≢◌, ◌⊎◌, ℕ, Bool, true, 
 use Rattle.std.proofs.Common.{refl, sym, ap, subst, ◌∙◌, inl, inr}
 use Rattle.std.specs.List.{list_all}
 use Rattle.std.proofs.lemmas.List.{append-nil}
+use Rattle.std.proofs.lemmas.Option.{same_Some}
 use Rattle.pv_path.specs.Paths.{has_names, Path, same_path, is_prefix, has_staging, same_path-decides}
 use Rattle.pv_path.proofs.PathLaws.{has_names-prefix, same_path-refl, is_prefix-trans, is_prefix-antisym, prefix_parts, has_staging-extends}
 use Rattle.pv_steps.specs.declared.node.Kind.{Kind}
@@ -173,9 +174,6 @@ module _ (making : Making) (is : IsMaking making) (path : Path) (unstaged : has_
   numbers_at : (q : Path) (x : Bare) → has_staging q ≡ false → made q ≡ Some x → is_directory x.body.kind ≡ true → (x.body.major ≡ 0) × (x.body.minor ≡ 0)
   numbers_at q x plain e dir = elim (path_cases path q) [ inl s ↦ at s | inr d ↦ by d (is_prefix q path) refl ]
     where
-      some_is : (u v : Bare) → Some u ≡ Some v → u ≡ v
-      some_is u v h = cc
-
       like_numbers : (z : Bare) → IsHere z → is_directory z.body.kind ≡ true → (z.body.major ≡ 0) × (z.body.minor ≡ 0)
       like_numbers z (fresh s) h = subst (λ (w : Bare). (w.body.major ≡ 0) × (w.body.minor ≡ 0)) (sym s) (own_numbers (ap (λ (w : Bare). is_directory w.body.kind) (sym s) ∙ h))
       like_numbers z (kept y s like) h =
@@ -183,11 +181,11 @@ module _ (making : Making) (is : IsMaking making) (path : Path) (unstaged : has_
           (like.major ∙ old.0, like.minor ∙ old.1)
 
       at : path ≡ q → (x.body.major ≡ 0) × (x.body.minor ≡ 0)
-      at s = let same : here.0 ≡ x = some_is here.0 x (sym here.1 ∙ ap made s ∙ e) in
+      at s = let same : here.0 ≡ x = same_Some here.0 x (sym here.1 ∙ ap made s ∙ e) in
           subst (λ (w : Bare). (w.body.major ≡ 0) × (w.body.minor ≡ 0)) same (like_numbers here.0 here.2 (ap (λ (w : Bare). is_directory w.body.kind) same ∙ dir))
 
       parent_numbers : (b : Option Bare) → a q ≡ b → done (Make parent_bare) b ≡ Some x → (x.body.major ≡ 0) × (x.body.minor ≡ 0)
-      parent_numbers None s h = subst (λ (w : Bare). (w.body.major ≡ 0) × (w.body.minor ≡ 0)) (some_is parent_bare x h) (refl, refl)
+      parent_numbers None s h = subst (λ (w : Bare). (w.body.major ≡ 0) × (w.body.minor ≡ 0)) (same_Some parent_bare x h) (refl, refl)
       parent_numbers (Some y) s h = shape.plain q x plain (s ∙ h) dir
 
       by : same_path path q ≡ false → (b : Bool) → is_prefix q path ≡ b → (x.body.major ≡ 0) × (x.body.minor ≡ 0)
@@ -244,14 +242,11 @@ shaped_like a b like shape = record {
         by (inl e) = sym (ap is_some e) ∙ h
         by (inr both) = ap is_some both.2
 
-    some_is : (u v : Bare) → Some u ≡ Some v → u ≡ v
-    some_is u v h = cc
-
     numbers : (q : Path) (y : Bare) → has_staging q ≡ false → b q ≡ Some y → is_directory y.body.kind ≡ true
         → (b q ≡ a q) ⊎ ((x : Bare) × (z : Bare) × (a q ≡ Some x) × (b q ≡ Some z) × IsLike x z) → (y.body.major ≡ 0) × (y.body.minor ≡ 0)
     numbers q y plain e h (inl s) = shape.plain q y plain (sym s ∙ e) h
     numbers q y plain e h (inr both) =
-        let same : both.1 ≡ y = some_is both.1 y (sym both.3 ∙ e) in
+        let same : both.1 ≡ y = same_Some both.1 y (sym both.3 ∙ e) in
         let old = shape.plain q both.0 plain both.2 (ap is_directory (sym both.4.kind) ∙ ap (λ (w : Bare). is_directory w.body.kind) same ∙ h) in
         subst (λ (w : Bare). (w.body.major ≡ 0) × (w.body.minor ≡ 0)) same (both.4.major ∙ old.0, both.4.minor ∙ old.1)
 
@@ -292,9 +287,6 @@ tree_shaped t tree = record { root = kind_dir (t []) tree.root; above = above; p
         by : (o : Option Object) → t q ≡ o → option_map bare_of o ≡ Some x → (x.body.major ≡ 0) × (x.body.minor ≡ 0)
         by None f g = absurd (let no : None ≡ Some x = g in cc)
         by (Some o) f g =
-            let same : bare_of o ≡ x = some_is (bare_of o) x g in
+            let same : bare_of o ≡ x = same_Some (bare_of o) x g in
             subst (λ (w : Bare). (w.body.major ≡ 0) × (w.body.minor ≡ 0)) same
             (fitting o.node.kind o.node.major o.node.minor (ap (λ (w : Bare). is_directory w.body.kind) same ∙ h) (tree.objects q o f).numbers)
-          where
-            some_is : (u v : Bare) → Some u ≡ Some v → u ≡ v
-            some_is u v k = cc

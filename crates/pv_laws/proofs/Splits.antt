@@ -19,7 +19,8 @@ use Rattle.pv_table.specs.Repeatable.{IsAt, IsRepeatable, below}
 use Rattle.pv_table.specs.Turns.{copied}
 use Rattle.pv_laws.proofs.Later.{IsAfter, adjusts, beside}
 use Rattle.pv_laws.proofs.Lines.{copy_literal}
-use Rattle.pv_laws.proofs.Orders.{all_append, all_listed, all_ordered, all_at, all_tests, Pairwise, makers_create}
+use Rattle.pv_table.proofs.ListedLaws.{all_append, all_listed, all_ordered, all_at, all_tests, makers_create}
+use Rattle.pv_laws.proofs.Orders.{Pairwise}
 use Rattle.pv_laws.proofs.Regions.{IsBeside, Before}
 use Rattle.pv_laws.proofs.Repeated.{copy_adjusts_not}
 use Rattle.pv_laws.proofs.Sets.{impossible}

@@ -28,7 +28,9 @@ use Rattle.pv_laws.specs.CarryingOut.{IsCarriedOut}
 use Rattle.pv_laws.proofs.Frames.{turn_refused}
 use Rattle.pv_laws.proofs.Lines.{turns_made, turns_touch, turns_idle, line_is_plain, copy_path}
 use Rattle.pv_laws.proofs.Making.{IsDone, making_done, does_stay, turn_by}
-use Rattle.pv_laws.proofs.Prepared.{bare_none, place-prepare, prepared-at, swept, filled, has_some, in_prefixes, in_parents, all_taken-none, all_taken-stage}
+use Rattle.pv_walk.proofs.PreparedLaws.{bare_none, has_some, in_prefixes, in_parents, all_taken-none, all_taken-stage}
+use Rattle.pv_table.proofs.EffectLaws.{place-prepare}
+use Rattle.pv_laws.proofs.Prepared.{prepared-at, swept, filled}
 use Rattle.pv_laws.proofs.Sets.{is_adjustment, IsMaking, line_is_making, adjusted_none, asked, sets_adjust}
 use Rattle.pv_laws.proofs.Touching.{turn_open, first_turn, touch_point}
 use Rattle.pv_laws.proofs.AllPoints.{turns_copy}

@@ -5,6 +5,7 @@ use Rattle.std.proofs.Common.{zero, suc, refl, sym, ap, subst, ◌∙◌, inl, i
 use Rattle.std.specs.List.{list_any, enumerate_from, AllByRecursion}
 use Rattle.std.proofs.lemmas.Grind.{flat_map-append}
 use Rattle.std.proofs.lemmas.List.Folds.{list_any-append}
+use Rattle.std.proofs.lemmas.Bool.{or_parts}
 use Rattle.pv_path.specs.Paths.{has_names, Path, is_prefix, has_staging, same_path-decides}
 use Rattle.pv_path.proofs.PathLaws.{is_prefix-refl}
 use Rattle.pv_steps.specs.Trees.{Files, places, IsTree}
@@ -35,8 +36,8 @@ use Rattle.pv_table.specs.Turns.{copied}
 use Rattle.pv_laws.specs.Stopping.{IsRenewal, IsMidway, Partway, IsPiece}
 use Rattle.pv_laws.proofs.Lines.{IsPlain, asked_made, line_is_plain, line_point, lines_point}
 use Rattle.pv_laws.proofs.Making.{same_unnamed, IsShaped, asked_here, first_renew}
-use Rattle.pv_laws.proofs.Orders.{all_append, all_in_order, all_map, all_tests, Pairwise, ComesAfter, makers_ordered}
-use Rattle.pv_laws.proofs.Prepared.{neither}
+use Rattle.pv_laws.proofs.Orders.{Pairwise, ComesAfter, makers_ordered}
+use Rattle.pv_table.proofs.ListedLaws.{all_append, all_in_order, all_map, all_tests}
 use Rattle.pv_laws.proofs.Repeated.{IsAskedAt, object, parent, below, set, nothing, asked_at, operations_repeatable, makers_adjust_none}
 use Rattle.pv_laws.proofs.Sets.{impossible, IsMaking, line_is_making}
 use Rattle.pv_laws.proofs.Shapes.{tree_shaped, tree_shaped}
@@ -73,7 +74,7 @@ pub partway_piece : (lines : List Line) (now : ℕ) (t u : Files) → AllByRecur
 partway_piece [] now t u are shape quiet same q plain = IsPiece.piece 0 (sym (bares_of-same (places t) (places u) q (same q plain)))
 partway_piece (line ∷ lines) now t u are shape quiet (inl way) q plain = midway_piece line lines q (bares_of (places t) q) (bares_of (places u) q) (way q plain)
 partway_piece (line ∷ lines) now t u are shape quiet (inr later) q plain =
-    let two = neither ((by_line now).is_refused line t) (one_is_refused (by_line now) lines ((by_line now).after line t)) quiet in
+    let two = or_parts ((by_line now).is_refused line t) (one_is_refused (by_line now) lines ((by_line now).after line t)) quiet in
     let one = line_point now line are.0 t shape two.0 in
     later_piece line lines q (bares_of (places t) q) (bares_of (places u) q) (
     subst (λ b. IsPiece lines q b (bares_of (places u) q)) (one.point q plain ∙ sym (run-parts (operations line q) (bares_of (places t) q)))
@@ -174,7 +175,7 @@ module _ (lines : List Line) (are : AllByRecursion IsLine lines) (distinct : are
     nothing_before : (before : List Line) → AllByRecursion (λ first. GoesBefore first line) before → list_any is_erasure (operations_of before q) ≡ false → operations_of before q ≡ []
     nothing_before [] goes none = refl
     nothing_before (first ∷ before) goes none =
-        let two = neither (list_any is_erasure (parts (operations first q))) (list_any is_erasure (operations_of before q)) (sym (list_any-append is_erasure (parts (operations first q)) (operations_of before q)) ∙ none) in
+        let two = or_parts (list_any is_erasure (parts (operations first q))) (list_any is_erasure (operations_of before q)) (sym (list_any-append is_erasure (parts (operations first q)) (operations_of before q)) ∙ none) in
         ap (λ xs. parts xs ++ operations_of before q) (nothing_asked first goes.0 two.0) ∙ nothing_before before goes.1 two.1
 
   -- what the lines before it left gives way to the line's own object, so that nothing is as good
@@ -201,7 +202,7 @@ module _ (lines : List Line) (are : AllByRecursion IsLine lines) (distinct : are
       by : (e : Bool) → list_any is_erasure all ≡ e → run all None ≡ run all old
       by true e = erased-alike all e None old
       by false e =
-          let none : operations_of before q ≡ [] = nothing_before line renewal.making renewal.makes renewal.at before goes (neither _ _ (sym (list_any-append is_erasure (operations_of before q) (parts (operations line q) ++ operations_of after q)) ∙ ap (list_any is_erasure) (sym split) ∙ e)).0 in
+          let none : operations_of before q ≡ [] = nothing_before line renewal.making renewal.makes renewal.at before goes (or_parts _ _ (sym (list_any-append is_erasure (operations_of before q) (parts (operations line q) ++ operations_of after q)) ∙ ap (list_any is_erasure) (sym split) ∙ e)).0 in
           let is : all ≡ Renew renewal.test own ∷ (parts renewal.making.sets ++ operations_of after q) =
           split ∙ ap (λ xs. xs ++ (parts (operations line q) ++ operations_of after q)) none
           ∙ ap (λ xs. parts xs ++ operations_of after q) (asks_there ∙ ap (λ x. x ∷ renewal.making.sets) (first_renew renewal.making is_making renewal.test renewal.renews)) in

@@ -4,6 +4,7 @@ use Rattle.std.proofs.Common.{refl, sym, ap, subst, ◌∙◌, inl, inr}
 use Rattle.std.proofs.lemmas.List.{map-append}
 use Rattle.std.proofs.lemmas.Option.{slice_get-map}
 use Rattle.std.specs.List.{list_any, enumerate_from, AllByRecursion}
+use Rattle.std.proofs.lemmas.Bool.{or_left, or_right}
 use Rattle.pv_path.specs.Paths.{Path, same_path, is_prefix}
 use Rattle.pv_steps.specs.Trees.{Files, places}
 use Rattle.pv_dress.specs.declared.operation.Operation.TheVariants.{Make, Erase}
@@ -196,10 +197,6 @@ module _ (t : Files) where
       by None e g = absurd (let no : None ≡ Some new = g in cc)
       by (Some line) e g = (line, e, is (swapped t line) new g)
 
-  or_left : (a c : Bool) → a ≡ true → (a || c) ≡ true
-  or_left true c g = refl
-  or_left false c g = impossible g
-
   or_keeps : (a b c : Bool) → (b ≡ true → c ≡ true) → (a || b) ≡ true → (a || c) ≡ true
   or_keeps true b c f g = refl
   or_keeps false b c f g = f g
@@ -224,13 +221,9 @@ module _ (t : Files) where
       parents : (is_creating (swapped t line) && is_prefix q (path_in (swapped t line).path)) ≡ (is_creating line && is_prefix q (path_in line.path))
       parents = λ i. swapped_creating line i && is_prefix q (path_in (swapped_path line i))
 
-      second : (a b : Bool) → b ≡ true → (a || b) ≡ true
-      second true b g = refl
-      second false b g = g
-
       by : (b : Bool) → reaches (swapped t line) q ≡ b → (reaches (swapped t line) q || (is_creating line && is_prefix q (path_in line.path))) ≡ true → governs line q ≡ true
       by true e g = or_left (reaches line q) (is_creating line && is_prefix q (path_in line.path)) (reaches_less line q e)
-      by false e g = second (reaches line q) (is_creating line && is_prefix q (path_in line.path)) (sym (ap (λ b. b || (is_creating line && is_prefix q (path_in line.path))) e) ∙ g)
+      by false e g = or_right (reaches line q) (is_creating line && is_prefix q (path_in line.path)) (sym (ap (λ b. b || (is_creating line && is_prefix q (path_in line.path))) e) ∙ g)
 
   appends_less : (line : Line) → appends (swapped t line) ≡ true → appends line ≡ true
   appends_less line = by (swap t line)

@@ -19,7 +19,7 @@ use Rattle.pv_lines.specs.declared.line.LineId.{LineId}
 use Rattle.pv_lines.specs.declared.line.LineMode.{LineMode}
 use Rattle.pv_table.specs.declared.deed.Copying.{Copying}
 use Rattle.pv_table.specs.Asking.{id_for_new, id_to_set, without_links, mode_to_set, owners_and_mode, source_of}
-use Rattle.pv_table.specs.Turns.{topped}
+use Rattle.pv_table.specs.Turns.{topped_by}
 use Rattle.pv_laws.proofs.Sets.{masked_low, no_special, own_owner, mode_of_line}
 
 -- what a line copies
@@ -62,7 +62,7 @@ of_kind b kind = record b { body = record b.body { kind = kind } }
 
 abbrev IsSetAgain : Line → Option LineMode → Bare → Kind → Type 0
 IsSetAgain line mode b kind =
-    run (mode_to_set mode (without_links Every)) (Some (topped (copied_by (record line { mode = mode })) (of_kind b kind))) ≡ Some (topped (copied_by (record line { mode = mode })) (of_kind b kind))
+    run (mode_to_set mode (without_links Every)) (Some (topped_by (copied_by (record line { mode = mode })) (of_kind b kind))) ≡ Some (topped_by (copied_by (record line { mode = mode })) (of_kind b kind))
 
 low_special : (line : Line) (b : Bare) (kind : Kind) (value : ℕ)
     → record (owned line b kind) { dress = record (owned line b kind).dress { special = 0; acl = record b.dress.acl { access = with_masked value (parts.with_mode (value % 512) b.dress.acl.access) } } }
@@ -89,7 +89,7 @@ mode_again line (Some mode) b kind = by kind mode.new_only mode.masked
     by CharDevice false true = ap (λ (x : Bare). Some x) (low_special line b CharDevice mode.value)
     by BlockDevice false true = ap (λ (x : Bare). Some x) (low_special line b BlockDevice mode.value)
 
-top_owners : (line : Line) (mode : Option LineMode) (b : Bare) (kind : Kind) → ((topped (copied_by (record line { mode = mode })) (of_kind b kind)).dress.uid ≡ unwrap_or (id_for_new line.user) b.dress.uid) × ((topped (copied_by (record line { mode = mode })) (of_kind b kind)).dress.gid ≡ unwrap_or (id_for_new line.group) b.dress.gid)
+top_owners : (line : Line) (mode : Option LineMode) (b : Bare) (kind : Kind) → ((topped_by (copied_by (record line { mode = mode })) (of_kind b kind)).dress.uid ≡ unwrap_or (id_for_new line.user) b.dress.uid) × ((topped_by (copied_by (record line { mode = mode })) (of_kind b kind)).dress.gid ≡ unwrap_or (id_for_new line.group) b.dress.gid)
 top_owners line None b kind = (refl, refl)
 top_owners line (Some mode) b Directory = (refl, refl)
 top_owners line (Some mode) b File = (refl, refl)
@@ -99,8 +99,8 @@ top_owners line (Some mode) b CharDevice = (refl, refl)
 top_owners line (Some mode) b BlockDevice = (refl, refl)
 
 -- so all that is set changes nothing of it
-pub top_again : (line : Line) (b : Bare) → run (copied_by line).sets (Some (topped (copied_by line) b)) ≡ Some (topped (copied_by line) b)
+pub top_again : (line : Line) (b : Bare) → run (copied_by line).sets (Some (topped_by (copied_by line) b)) ≡ Some (topped_by (copied_by line) b)
 top_again line b =
     let owners = top_owners line line.mode b b.body.kind in
-    owners_again line.user line.group b.dress.uid b.dress.gid (mode_to_set line.mode (without_links Every)) (topped (copied_by line) b) owners.0 owners.1
+    owners_again line.user line.group b.dress.uid b.dress.gid (mode_to_set line.mode (without_links Every)) (topped_by (copied_by line) b) owners.0 owners.1
     ∙ mode_again line line.mode b b.body.kind

@@ -5,6 +5,7 @@ use Rattle.std.proofs.lemmas.List.{length-take}
 use Rattle.std.proofs.Math.Seq.{take-append_seam}
 use Rattle.std.specs.FinMap as fin
 use Rattle.std.specs.List.{list_any, list_all, range_with_len}
+use Rattle.std.proofs.lemmas.Bool.{or_parts, or_right, or_cases, and_parts}
 use Rattle.pv_path.specs.Paths.{Path, same_path, is_prefix, has_staging, same_path-decides}
 use Rattle.pv_path.proofs.PathLaws.{same_path-refl, prefix_parts, prefix_whole}
 use Rattle.pv_steps.specs.declared.object.Object.{Object}
@@ -19,7 +20,7 @@ use Rattle.pv_lines.specs.declared.line.Line.{Line}
 use Rattle.pv_walk.specs.Listing.{times}
 use Rattle.pv_walk.proofs.CountLaws.{times-filter, times-keys, same_or_not}
 use Rattle.pv_walk.proofs.PreparingLaws.{prefix_take}
-use Rattle.pv_walk.proofs.RemovalLaws.{apart, both, zero_or_more}
+use Rattle.pv_walk.proofs.RemovalLaws.{apart, zero_or_more}
 use Rattle.pv_table.specs.declared.deed.Deed.{Deed}
 use Rattle.pv_table.specs.declared.deed.Deed.TheVariants.{Touch}
 use Rattle.pv_table.specs.declared.deed.Touching.{Touching}
@@ -32,7 +33,7 @@ use Rattle.pv_table.specs.Repeatable.{sets_of}
 use Rattle.pv_table.specs.Turns.{refused_at}
 use Rattle.pv_laws.proofs.Comparing.{become-bare}
 use Rattle.pv_laws.proofs.Making.{IsShaped, dir_there}
-use Rattle.pv_laws.proofs.Prepared.{neither, bare_some}
+use Rattle.pv_laws.proofs.Prepared.{bare_some}
 use Rattle.pv_laws.proofs.Sets.{impossible, is_adjustment, adjusted_none, asked, sets_adjust, deep_repeatable}
 
 -- ---- a turn that is not refused
@@ -49,7 +50,7 @@ none_there (Some x) e = impossible (sym e)
 pub first_turn : (now : ℕ) (line : Line) (path : Path) (paths : List Path) (t : Files) → one_is_refused (by_turn now line) (path ∷ paths) t ≡ false
     → (refused_at line path (places t) ≡ None) × (one_is_refused (by_turn now line) paths (turn_after now line path t) ≡ false)
 first_turn now line path paths t quiet =
-    let two = neither (is_some (refused_at line path (places t))) (one_is_refused (by_turn now line) paths (turn_after now line path t)) quiet in
+    let two = or_parts (is_some (refused_at line path (places t))) (one_is_refused (by_turn now line) paths (turn_after now line path t)) quiet in
     (none_there (refused_at line path (places t)) two.0, two.1)
 
 -- ---- one turn
@@ -148,13 +149,9 @@ pub any_range : (f : ℕ → Bool) (a n k : ℕ) → a ≤ k → k < a + n → f
 any_range f a zero k le lt h = absurd (omega (arith, le, lt))
 any_range f a (suc n) k le lt h = by (zero_or_more (k - a)) (any_range f (a + 1) n k)
   where
-    either_one : (b c : Bool) → c ≡ true → (b || c) ≡ true
-    either_one true c e = refl
-    either_one false c e = e
-
     by : (k - a ≡ 0) ⊎ (1 ≤ k - a) → (a + 1 ≤ k → k < a + 1 + n → f k ≡ true → list_any f (range_with_len (a + 1) n) ≡ true) → (f a || list_any f (range_with_len (a + 1) n)) ≡ true
     by (inl z) later = let same : a ≡ k = omega (arith, z, le) in ap (λ b. b || list_any f (range_with_len (a + 1) n)) (ap f same ∙ h)
-    by (inr m) later = either_one (f a) (list_any f (range_with_len (a + 1) n)) (later (omega (arith, m)) (omega (arith, lt)) h)
+    by (inr m) later = or_right (f a) (list_any f (range_with_len (a + 1) n)) (later (omega (arith, m)) (omega (arith, lt)) h)
 
 pub in_range : (f : ℕ → Bool) (a n : ℕ) → list_any f (range_with_len a n) ≡ true → (k : ℕ) × (a ≤ k) × (k < a + n) × (f k ≡ true)
 in_range f a zero h = impossible h
@@ -193,10 +190,6 @@ pub same_tests : (a b : Bool) → (a ≡ true → b ≡ true) → (b ≡ true �
 same_tests true b f g = sym (f refl)
 same_tests false true f g = g refl
 same_tests false false f g = refl
-
-either : (a b : Bool) → (a || b) ≡ true → (a ≡ true) ⊎ (b ≡ true)
-either true b h = inl refl
-either false b h = inr h
 
 -- ---- a line at all paths that it names
 
@@ -244,7 +237,7 @@ module _ (now : ℕ) (line : Line) (touching : Touching) (e : asks line ≡ Touc
               deeper = sym (ap (λ b. b || (touching.deep && is_prefix found.0 q && not (has_staging q))) d) ∙ found.2
 
               above : is_prefix found.0 q ≡ true
-              above = (both touching.deep (is_prefix found.0 q) (both (touching.deep && is_prefix found.0 q) (not (has_staging q)) deeper).0).1
+              above = (and_parts touching.deep (is_prefix found.0 q) (and_parts (touching.deep && is_prefix found.0 q) (not (has_staging q)) deeper).0).1
 
               cut : take (length found.0) q ≡ found.0
               cut = let parts = prefix_parts found.0 q above in ap (take (length found.0)) parts.1 ∙ take-append_seam found.0 parts.0
@@ -257,14 +250,14 @@ module _ (now : ℕ) (line : Line) (touching : Touching) (e : asks line ≡ Touc
                   at (inr m) = omega (arith, m)
 
       from_touches : touches line touching q ≡ true → list_any (λ p. is_touched touching p q) named ≡ true
-      from_touches h = by (either (names line q) (touching.deep && names_above line q && not (has_staging q)) h)
+      from_touches h = by (or_cases (names line q) (touching.deep && names_above line q && not (has_staging q)) h)
         where
           by : (names line q ≡ true) ⊎ ((touching.deep && names_above line q && not (has_staging q)) ≡ true) → list_any (λ p. is_touched touching p q) named ≡ true
           by (inl own) = any_kept (λ p. is_touched touching p q) (names line) q (fin.keys t) (listed q there) own (ap (λ b. b || (touching.deep && is_prefix q q && not (has_staging q))) (same_path-refl q))
           by (inr below) = any_kept (λ p. is_touched touching p q) (names line) (take found.0 q) (fin.keys t) (listed (take found.0 q) present) found.3 (reaches_below (take found.0 q) (prefix_take found.0 q))
             where
               found : (k : ℕ) × (0 ≤ k) × (k < 0 + length q) × (names line (take k q) ≡ true)
-              found = in_range (λ k. names line (take k q)) 0 (length q) (both touching.deep (names_above line q) (both (touching.deep && names_above line q) (not (has_staging q)) below).0).1
+              found = in_range (λ k. names line (take k q)) 0 (length q) (and_parts touching.deep (names_above line q) (and_parts (touching.deep && names_above line q) (not (has_staging q)) below).0).1
 
               present : is_some (bares_of (places t) (take found.0 q)) ≡ true
               present = dir_there (bares_of (places t) (take found.0 q)) (

@@ -5,6 +5,8 @@ use Rattle.std.specs.FinMap as fin
 use Rattle.std.specs.List.{list_any, list_all}
 use Rattle.std.specs.Option.{option_map_or}
 use Rattle.std.proofs.lemmas.List.Folds.{list_all-append}
+use Rattle.std.proofs.lemmas.Bool.{or_parts, and_parts, and_from}
+use Rattle.std.proofs.lemmas.Option.{same_Some}
 use Rattle.pv_path.specs.Paths.{Path, is_prefix}
 use Rattle.pv_path.proofs.PathLaws.{is_prefix-refl}
 use Rattle.pv_acl.specs.declared.line.How.TheVariants.{Replace, Add}
@@ -29,7 +31,6 @@ use Rattle.pv_steps.specs.declared.node.Kind.{Kind}
 use Rattle.pv_steps.specs.declared.node.Kind.TheVariants.{File}
 use Rattle.pv_steps.specs.Attributes.{put_attrs}
 use Rattle.pv_steps.specs.Letters.{letters_after}
-use Rattle.pv_walk.proofs.RemovalLaws.{both, both_true}
 use Rattle.pv_walk.specs.Staging.{new_object, new_kind}
 use Rattle.pv_table.specs.declared.deed.Deed.{Deed}
 use Rattle.pv_table.specs.declared.deed.Deed.TheVariants.{Create}
@@ -42,7 +43,6 @@ use Rattle.pv_table.specs.Turns.{Turn, single, decide, making_turn}
 use Rattle.pv_laws.specs.Between.{IsAkin, Replaces, IsBetween}
 use Rattle.pv_laws.specs.Stopping.{IsRenewal, IsMidway}
 use Rattle.pv_laws.proofs.Making.{does_stay, first_on_none, first_on_some}
-use Rattle.pv_laws.proofs.Prepared.{neither}
 use Rattle.pv_laws.proofs.Repeated.{IsAskedAt, object, parent, below, set, nothing, asked_at, first_makes}
 use Rattle.pv_laws.proofs.Sets.{impossible, IsAsked, makes, copies, adjusts, writes, sets, idle, asked, is_adjustment, IsMaking, line_is_making, only_adjusts, adjusted_none, sets_adjust}
 use Rattle.pv_laws.proofs.Shapes.{IsLike, adjusted_like}
@@ -61,7 +61,7 @@ SetsOwnerOnce (x ∷ xs) = ((is_adjusting sets_owner x ≡ false) × SetsOwnerOn
 
 none_once : (xs : List Operation) → list_any (is_adjusting sets_owner) xs ≡ false → SetsOwnerOnce xs
 none_once [] h = tt
-none_once (x ∷ xs) h = inr (neither (is_adjusting sets_owner x) (list_any (is_adjusting sets_owner) xs) h).1
+none_once (x ∷ xs) h = inr (or_parts (is_adjusting sets_owner x) (list_any (is_adjusting sets_owner) xs) h).1
 
 mode_sets_none : (mode : Option LineMode) (guard : Option Guard) → list_any (is_adjusting sets_owner) (parts (mode_to_set mode guard)) ≡ false
 mode_sets_none None guard = refl
@@ -126,12 +126,12 @@ parts_adjust (Adjust guard change ∷ xs) h = list_all-append is_adjustment (par
 pub all_take : (p : Operation → Bool) (k : ℕ) (xs : List Operation) → list_all p xs ≡ true → list_all p (take k xs) ≡ true
 all_take p zero xs h = refl
 all_take p (suc k) [] h = refl
-all_take p (suc k) (x ∷ xs) h = let two = both (p x) (list_all p xs) h in both_true (p x) (list_all p (take k xs)) two.0 (all_take p k xs two.1)
+all_take p (suc k) (x ∷ xs) h = let two = and_parts (p x) (list_all p xs) h in and_from (p x) (list_all p (take k xs)) two.0 (all_take p k xs two.1)
 
 none_take : (p : Operation → Bool) (k : ℕ) (xs : List Operation) → list_any p xs ≡ false → list_any p (take k xs) ≡ false
 none_take p zero xs h = refl
 none_take p (suc k) [] h = refl
-none_take p (suc k) (x ∷ xs) h = let two = neither (p x) (list_any p xs) h in ap (λ b. b || list_any p (take k xs)) two.0 ∙ none_take p k xs two.1
+none_take p (suc k) (x ∷ xs) h = let two = or_parts (p x) (list_any p xs) h in ap (λ b. b || list_any p (take k xs)) two.0 ∙ none_take p k xs two.1
 
 change_uid : (kind : Kind) (change : Change) (b : Bare) → sets_owner change ≡ false → (changed kind change b).dress.uid ≡ b.dress.uid
 change_uid kind (Write bytes) b h = elim (is_file kind) as (λ t. (cond t (record b { body = record b.body { payload = bytes } }) b).dress.uid ≡ b.dress.uid) [ true ↦ refl | false ↦ refl ]
@@ -148,27 +148,18 @@ adjust_uid guard change b h = elim (admits guard b.body.kind) as (λ t. (cond t 
 
 -- where none sets owners, the owner stays
 uid_stays : (xs : List Operation) → list_all is_adjustment xs ≡ true → list_any (is_adjusting sets_owner) xs ≡ false → (b c : Bare) → run xs (Some b) ≡ Some c → c.dress.uid ≡ b.dress.uid
-uid_stays [] h none b c e = ap (λ (x : Bare). x.dress.uid) (same c b (sym e))
-  where
-    same : (u v : Bare) → Some u ≡ Some v → u ≡ v
-    same u v g = cc
+uid_stays [] h none b c e = ap (λ (x : Bare). x.dress.uid) (same_Some c b (sym e))
 uid_stays (Make n ∷ xs) h none b c e = impossible h
 uid_stays (Renew test n ∷ xs) h none b c e = impossible h
 uid_stays (Erase ∷ xs) h none b c e = impossible h
 uid_stays (Adjust guard change ∷ xs) h none b c e =
-    let two = neither (sets_owner change) (list_any (is_adjusting sets_owner) xs) none in
+    let two = or_parts (sets_owner change) (list_any (is_adjusting sets_owner) xs) none in
     uid_stays xs h two.1 (cond (admits guard b.body.kind) (changed b.body.kind change b) b) c e ∙ adjust_uid guard change b two.0
 
 -- after the first of them the owner is that of the start or of the end
 front_uid : (xs : List Operation) → list_all is_adjustment xs ≡ true → SetsOwnerOnce xs → (k : ℕ) (b y z : Bare) → run (take k xs) (Some b) ≡ Some y → run xs (Some b) ≡ Some z → (y.dress.uid ≡ b.dress.uid) ⊎ (y.dress.uid ≡ z.dress.uid)
-front_uid xs h once zero b y z e f = inl (ap (λ (x : Bare). x.dress.uid) (same y b (sym e)))
-  where
-    same : (u v : Bare) → Some u ≡ Some v → u ≡ v
-    same u v g = cc
-front_uid [] h once (suc k) b y z e f = inl (ap (λ (x : Bare). x.dress.uid) (same y b (sym e)))
-  where
-    same : (u v : Bare) → Some u ≡ Some v → u ≡ v
-    same u v g = cc
+front_uid xs h once zero b y z e f = inl (ap (λ (x : Bare). x.dress.uid) (same_Some y b (sym e)))
+front_uid [] h once (suc k) b y z e f = inl (ap (λ (x : Bare). x.dress.uid) (same_Some y b (sym e)))
 front_uid (Make n ∷ xs) h once (suc k) b y z e f = impossible h
 front_uid (Renew test n ∷ xs) h once (suc k) b y z e f = impossible h
 front_uid (Erase ∷ xs) h once (suc k) b y z e f = impossible h

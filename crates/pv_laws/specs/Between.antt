@@ -12,7 +12,8 @@ use Rattle.pv_table.specs.Asking.{asks}
 use Rattle.pv_table.specs.Pointwise.{Bares, view, state}
 use Rattle.pv_table.specs.Reaching.{path_in}
 use Rattle.pv_table.specs.Repeatable.{IsAt}
-use Rattle.pv_table.specs.Turns.{Turn, Subtree, decide}
+use Rattle.pv_table.specs.Turns.{Turn, decide}
+use Rattle.pv_walk.specs.Copying.{Subtree}
 use Rattle.pv_laws.specs.Moments.{Agree}
 
 -- two objects have the same kind and the same owner

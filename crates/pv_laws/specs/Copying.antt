@@ -17,7 +17,8 @@ use Rattle.pv_table.specs.Created.{by_line, IsQuiet}
 use Rattle.pv_table.specs.Effects.{prepare}
 use Rattle.pv_table.specs.Pointwise.{parent_bare}
 use Rattle.pv_table.specs.Reaching.{path_in}
-use Rattle.pv_table.specs.Turns.{Subtree, Turn, view_of, copied, decide}
+use Rattle.pv_table.specs.Turns.{Turn, view_of, copied, decide}
+use Rattle.pv_walk.specs.Copying.{Subtree}
 use Rattle.pv_laws.specs.Stopping.{OnWay}
 
 -- at a path, from what stood there when a line that copies began, before its copy has come to its path: the same, or a

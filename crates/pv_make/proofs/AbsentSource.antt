@@ -2,16 +2,15 @@
 -- and so there is nothing to say.
 use Rattle.std.specs.Prelude.{◌≡◌, ℕ, zero, suc, ◌+◌, ◌<◌, true, false, List, [], ◌∷◌, length, take, get_or, Option, Some, None, is_some}
 use Rattle.std.proofs.Common.{refl, sym, ap, subst, ◌∙◌, inl, inr, ◌⊎◌, arith}
-use Rattle.std.specs.Ordering.{eq_by_cmp}
 use Rattle.std.proofs.lemmas.List.FromFn.{get_or-map-range_with_len, length-map-range_with_len}
-use Rattle.pv_path.specs.Paths.{Path, path_cmp, parent_of}
+use Rattle.pv_path.specs.Paths.{Path, parent_of, same_path}
 use Rattle.pv_path.proofs.PathLaws.{length-parent_of}
 use Rattle.pv_steps.specs.declared.object.Object.{Object}
 use Rattle.pv_steps.specs.Trees.{Files, places, IsTree}
 use Rattle.pv_steps.proofs.StepLaws.{is_among}
-use Rattle.pv_dress.specs.Edits.{all_taken}
+use Rattle.pv_dress.proofs.EditLaws.{path_cases}
 use Rattle.pv_walk.specs.Preparing.{IsAbove, parents_of}
-use Rattle.pv_walk.specs.Staging.{staging_names}
+use Rattle.pv_walk.proofs.PreparedLaws.{among_others, prepared_present}
 use Rattle.pv_walk.proofs.PreparingLaws.{above_take, take_parent}
 use Rattle.pv_walk.proofs.PuttingLaws.{none_under}
 use Rattle.pv_table.specs.declared.deed.Copying.{Copying}
@@ -19,21 +18,20 @@ use Rattle.pv_table.specs.declared.deed.Deed.TheVariants.{Copy}
 use Rattle.pv_table.specs.Effects.{prepare}
 use Rattle.pv_table.specs.Saying.{turn_texts}
 use Rattle.pv_table.specs.Turns.{decide, view_of}
-use Rattle.pv_make.proofs.PreparedLaws.{parents_present, all_taken_present, prepare_at}
-use Rattle.pv_make.proofs.CopySettleLaws.{same_key, first_or_later}
+use Rattle.pv_table.proofs.EffectLaws.{place-prepare}
 
 -- ---- the parents of a path
 
 -- a path among others is one of them
 among_at : (q d : Path) (ps : List Path) → is_among q ps ≡ true → (i : ℕ) × ((i < length ps) × (get_or ps i d ≡ q))
 among_at q d [] h = absurd (let no : false ≡ true = h in cc)
-among_at q d (p ∷ ps) h = by (among_at q d ps) (first_or_later (eq_by_cmp path_cmp q p) (is_among q ps) h)
+among_at q d (p ∷ ps) h = by (among_at q d ps) (path_cases p q)
   where
-    by : (is_among q ps ≡ true → (i : ℕ) × ((i < length ps) × (get_or ps i d ≡ q))) → (eq_by_cmp path_cmp q p ≡ true) ⊎ (is_among q ps ≡ true)
+    by : (is_among q ps ≡ true → (i : ℕ) × ((i < length ps) × (get_or ps i d ≡ q))) → (p ≡ q) ⊎ (same_path p q ≡ false)
         → (i : ℕ) × ((i < length (p ∷ ps)) × (get_or (p ∷ ps) i d ≡ q))
-    by later (inl e) = (zero, (omega arith, sym (same_key q p e)))
-    by later (inr e) =
-        let found = later e in
+    by later (inl e) = (zero, (omega arith, e))
+    by later (inr other) =
+        let found = later (among_others q p ps other h) in
         (suc found.0, (let lt = found.1.0 in omega (arith, lt), found.1.1))
 
 above_parent : (path q : Path) → is_among q (parents_of path) ≡ true → IsAbove q path
@@ -52,17 +50,17 @@ none_of None h = refl
 none_of (Some x) h = absurd (let no : false ≡ true = h refl in cc)
 
 module _ (now : ℕ) (path : Path) (t : Files) where
-  prepared_present : (q : Path) → is_some (places (prepare now path t) q) ≡ true → (IsAbove q path) ⊎ (is_some (places t q) ≡ true)
-  prepared_present q h = by (parents_present now (parents_of path) (all_taken now (staging_names path) (places t)) q (sym (ap is_some (prepare_at now path t q)) ∙ h))
+  above_or_there : (q : Path) → is_some (places (prepare now path t) q) ≡ true → (IsAbove q path) ⊎ (is_some (places t q) ≡ true)
+  above_or_there q h = by (prepared_present now path (places t) q (sym (ap is_some (place-prepare now path t q)) ∙ h))
     where
-      by : (is_among q (parents_of path) ≡ true) ⊎ (is_some (all_taken now (staging_names path) (places t) q) ≡ true) → (IsAbove q path) ⊎ (is_some (places t q) ≡ true)
+      by : (is_among q (parents_of path) ≡ true) ⊎ (is_some (places t q) ≡ true) → (IsAbove q path) ⊎ (is_some (places t q) ≡ true)
       by (inl e) = inl (above_parent path q e)
-      by (inr e) = inr (all_taken_present now (staging_names path) (places t) q e)
+      by (inr e) = inr e
 
   module _ (tree : IsTree t) (source : Path) (nothing : is_some (places t source) ≡ false) where
     -- where a parent is put at the source, nothing stands at the path
     none_there : is_some (places (prepare now path t) source) ≡ true → places (prepare now path t) path ≡ None
-    none_there h = none_of (places (prepare now path t) path) (λ there. by (prepared_present source h) (prepared_present path there))
+    none_there h = none_of (places (prepare now path t) path) (λ there. by (above_or_there source h) (above_or_there path there))
       where
         by : (IsAbove source path) ⊎ (is_some (places t source) ≡ true) → (IsAbove path path) ⊎ (is_some (places t path) ≡ true) → false ≡ true
         by (inr e) there = sym nothing ∙ e

@@ -1,6 +1,6 @@
 -- Laws of a line that copies, carried out at its path: its refusals, and what it leaves, says and does after its path is
 -- prepared.
-use Rattle.std.specs.Prelude.{◌≡◌, ℕ, ◌+◌, ◌*◌, ◌≤◌, Bool, true, false, List, [], ◌∷◌, map, take, Option, Some, None, is_some, option_map, unwrap_or, Result, Ok, if◌then◌else◌}
+use Rattle.std.specs.Prelude.{◌≡◌, ℕ, ◌+◌, ◌*◌, ◌≤◌, Bool, true, false, List, [], map, take, Option, Some, None, is_some, option_map, unwrap_or, Result, Ok, if◌then◌else◌}
 use Rattle.std.specs.Option.{option_or, option_and_then}
 use Rattle.std.proofs.Common.{refl, sym, ap, subst, ◌∙◌, inl, inr, ◌⊎◌, arith}
 use Rattle.pv_adjust.specs.Adjusting.{GivesSet}
@@ -30,9 +30,9 @@ use Rattle.pv_table.specs.declared.deed.Deed.TheVariants.{Copy}
 use Rattle.pv_table.specs.Asking.{asks, id_for_new}
 use Rattle.pv_table.specs.Created.{by_turn, deed_work, turn_work}
 use Rattle.pv_table.specs.Effects.{carried_out, prepare, turn_after, turned}
-use Rattle.pv_table.specs.Saying.{found, refused_text, texts, turn_messages, turn_texts}
-use Rattle.pv_table.specs.Turns.{Refused, Turn, Subtree, copied, decide, has_something, named_refusal, owner_made, refused_at, source_owner, source_refusal, view_of}
-use Rattle.pv_walk.specs.Copying.{with_subtree}
+use Rattle.pv_table.specs.Saying.{found, texts, turn_messages, turn_texts}
+use Rattle.pv_table.specs.Turns.{Refused, Turn, copied, decide, has_something, named_refusal, owner_made, refused_at, source_owner, source_refusal, view_of}
+use Rattle.pv_walk.specs.Copying.{with_subtree, Subtree}
 use Rattle.pv_walk.specs.Preparing.{IsPreparing, Preparing, IsPrepareStep, parent_file, parent_count, CanPass}
 use Rattle.pv_walk.specs.Putting.{IsMakingWay}
 use Rattle.pv_walk.specs.Staging.{new_object, staging_names, count_at_all, most_new}
@@ -98,13 +98,6 @@ module _ (now : ℕ) (line : Line) (path : Path) (copying : Copying) (asked : as
       by None user p q h = absurd (let no : None ≡ Some owner = h in cc)
       by (Some x) None p q h = (ap is_some p, (let both : Some x.node.uid ≡ Some owner = h in let it : owner ≡ x.node.uid = cc in it) ∙ sym (λ i. made (p i) (q i)) ∙ is)
       by (Some x) (Some y) p q h = (ap is_some p, (let both : Some y ≡ Some owner = h in let it : owner ≡ y = cc in it) ∙ sym (λ i. made (p i) (q i)) ∙ is)
-
-  module _ (place : Refused) (refused : refused_at line path (places t) ≡ Some place) where
-    pub refused_after : t ≡ turn_after now line path t
-    refused_after = rw refused refl
-
-    pub refused_says : turn_messages now line path t ≡ said_at line.place (refused_text place) ∷ []
-    refused_says = rw refused refl
 
   -- ---- nothing to copy
 

@@ -1,28 +1,24 @@
 -- Laws of a copy at a prepared path: that what is put is what the table says, where it may stand, and how many steps it takes.
-use Rattle.std.specs.Prelude.{◌≡◌, ℕ, ◌+◌, ◌*◌, ◌≤◌, Bool, true, false, not, ◌&&◌, ◌||◌, cond, List, [], ◌∷◌, ◌++◌, length, map, filter, filter_map, Option, Some, None, IfSome, is_some, option_map, Result, Ok, if◌then◌else◌}
+use Rattle.std.specs.Prelude.{◌≡◌, ℕ, ◌+◌, ◌*◌, ◌≤◌, Bool, true, false, not, ◌&&◌, cond, List, [], ◌∷◌, ◌++◌, length, map, filter, filter_map, Option, Some, None, IfSome, is_some, option_map, Result, Ok, if◌then◌else◌}
 use Rattle.std.specs.List.{cons_option, list_all}
 use Rattle.std.specs.Option.{option_map_or}
-use Rattle.std.proofs.Common.{suc, refl, sym, ap, subst, ◌∙◌, inl, inr, ◌⊎◌, arith, append-nil}
+use Rattle.std.proofs.Common.{suc, refl, sym, ap, subst, ◌∙◌, inl, arith}
 use Rattle.std.specs.FinMap as fin
-use Rattle.std.specs.Ordering.{eq_by_cmp, is_eq}
-use Rattle.std.specs.declared.cmp.Ordering.{Ordering}
-use Rattle.std.specs.declared.cmp.Ordering.TheVariants.{Less, Equal, Greater}
+use Rattle.std.proofs.Math.Bool.{not-not}
 use Rattle.pv_dress.specs.declared.bare.Bare.{Bare}
 use Rattle.pv_dress.specs.Edits.{count_at}
 use Rattle.pv_dress.specs.Nodes.{bare_of, bares_of, same_kind}
 use Rattle.pv_lines.specs.declared.line.LineMode.{LineMode}
 use Rattle.pv_path.specs.Names.{is_staging}
-use Rattle.pv_path.specs.Paths.{Path, path_cmp, same_path, parent_of, rest_under, has_staging}
-use Rattle.pv_path.proofs.PathLaws.{path_cmp-exact, rest_under-append, rest_under-Some}
+use Rattle.pv_path.specs.Paths.{Path, same_path, rest_under}
+use Rattle.pv_path.proofs.PathLaws.{rest_under-append}
 use Rattle.pv_dress.specs.declared.operation.Operation.{Operation}
 use Rattle.pv_steps.specs.declared.node.Kind.{Kind}
 use Rattle.pv_steps.specs.declared.node.Kind.TheVariants.{Directory, File, Link, Fifo, CharDevice, BlockDevice}
 use Rattle.pv_steps.specs.declared.object.Object.{Object}
-use Rattle.pv_dress.proofs.EditLaws.{bares-touched}
-use Rattle.pv_steps.specs.Objects.{bare, is_directory, modified}
+use Rattle.pv_steps.specs.Objects.{bare, is_directory}
 use Rattle.pv_steps.specs.Same.{bares}
-use Rattle.pv_steps.specs.Trees.{Files, Places, places, kind_of, child_name, IsTree}
-use Rattle.pv_steps.proofs.StepLaws.{same_files, is_among, places-tabulate, among_keys, is_some-on_at}
+use Rattle.pv_steps.specs.Trees.{Files, places, kind_of, child_name, IsTree}
 use Rattle.pv_steps.specs.declared.tree.Tree.{Ghosts}
 use Rattle.pv_steps.specs.declared.tree.TreeFault.{TreeFault}
 use Rattle.pv_steps.specs.Acting.{refused, Acted}
@@ -31,17 +27,16 @@ use Rattle.pv_table.specs.declared.deed.Copying.{Copying}
 use Rattle.pv_table.specs.declared.deed.Deed.TheVariants.{Copy}
 use Rattle.pv_table.specs.Asking.{mode_for_new}
 use Rattle.pv_table.specs.Created.{turn_work, put_count}
-use Rattle.pv_table.specs.Effects.{become, put, put_paths, turned}
-use Rattle.pv_table.specs.Turns.{Turn, Subtree, view_of, copy_of, copying_turn, topped, is_childless, is_visible_child}
-use Rattle.pv_walk.specs.Copying as walk
-use Rattle.pv_walk.specs.Copying.{IsTopNode, copied, copied_count, with_subtree, standing, CopyingOver, IsCopyStep}
-use Rattle.pv_steps.specs.Steps.{on_at}
+use Rattle.pv_table.specs.Effects.{turned}
+use Rattle.pv_table.specs.Turns.{Turn, view_of, copy_of, copying_turn, topped_by, top_of, is_childless, is_visible_child}
+use Rattle.pv_walk.specs.Copying.{IsTopNode, copy_from, copied_count, topped, with_subtree, CopyingOver, IsCopyStep, Subtree}
 use Rattle.pv_walk.specs.Putting.{IsMakingWay}
 use Rattle.pv_walk.specs.Staging.{most_new}
 use Rattle.pv_make.specs.declared.choosing.Choice.{Choice}
 use Rattle.pv_make.specs.declared.choosing.Choice.TheVariants as choice
-use Rattle.pv_make.specs.Copies.{IsCopying, top_of, copy_turn, copy_chosen, kept_copy, CopySettlingBy, CopySettling, IsCopySettleStepBy, IsCopySettleStep}
-use Rattle.pv_make.proofs.PreparedLaws.{among_first, among_later, among_left, among_right}
+use Rattle.pv_make.specs.Copies.{IsCopying, copy_turn, copy_chosen, kept_copy, CopySettlingBy, CopySettling, IsCopySettleStepBy, IsCopySettleStep}
+use Rattle.pv_table.proofs.EffectLaws.{place-put, copy_keyed}
+use Rattle.pv_walk.proofs.CopyingLaws.{bares_with}
 use Rattle.pv_make.proofs.TableLaws.{mode_fits}
 
 -- ---- what is put
@@ -54,93 +49,18 @@ top_fits path copying directory is = record { mode = by copying.mode is.mode; ui
     by None h = tt
     by (Some mode) h = mode_fits (Some mode) directory h
 
-module _ (copying : Copying) (directory : Bool) (b : Bare) (kind : directory ≡ is_directory b.body.kind) where
-  top_same : walk.topped (top_of copying directory) b ≡ topped copying b
-  top_same = by copying.mode
-    where
-      by : (mode : Option LineMode) → walk.topped (top_of (record copying { mode = mode }) directory) b ≡ topped (record copying { mode = mode }) b
-      by None = refl
-      by (Some mode) = ap (λ d. walk.topped (top_of (record copying { mode = Some mode }) d) b) kind
-
 -- the copy is the one that the table says
 pub copy_same : (copying : Copying) (directory : Bool) (u : Files) → ((o : Object) → places u copying.source ≡ Some o → directory ≡ is_directory o.node.kind)
-    → copied (top_of copying directory) copying.source (places u) ≡ copy_of copying (view_of u)
+    → copy_from (topped (top_of copying directory)) copying.source (bares_of (places u)) ≡ copy_of copying (view_of u)
 copy_same copying directory u kind = λ i rest. at rest i
   where
-    top : (o : Option Object) → places u copying.source ≡ o → option_map (walk.topped (top_of copying directory)) (option_map bare_of o) ≡ option_map (topped copying) (option_map bare_of o)
+    top : (o : Option Object) → places u copying.source ≡ o → option_map (topped (top_of copying directory)) (option_map bare_of o) ≡ option_map (topped_by copying) (option_map bare_of o)
     top None e = refl
-    top (Some o) e = ap Some (top_same copying directory (bare_of o) (kind o e))
+    top (Some o) e = ap (λ d. Some (topped (top_of copying d) (bare_of o))) (kind o e)
 
-    at : (rest : Path) → copied (top_of copying directory) copying.source (places u) rest ≡ copy_of copying (view_of u) rest
+    at : (rest : Path) → copy_from (topped (top_of copying directory)) copying.source (bares_of (places u)) rest ≡ copy_of copying (view_of u) rest
     at [] = top (places u copying.source) refl
     at (name ∷ rest) = refl
-
--- ---- where it stands
-
-module _ (now : ℕ) (path : Path) (s : Subtree) (t : Places) where
-  pub put_with : (q : Path) → put now path s t q ≡ with_subtree now path s t q
-  put_with q = by (rest_under path q) refl
-    where
-      by : (o : Option Path) → rest_under path q ≡ o → put now path s t q ≡ with_subtree now path s t q
-      by None e = rw e refl
-      by (Some rest) e = rw e refl
-
-tied : (o : Ordering) → is_eq o ≡ true → o ≡ Equal
-tied Less h = cc
-tied Equal h = refl
-tied Greater h = cc
-
-pub same_key : (q p : Path) → eq_by_cmp path_cmp q p ≡ true → q ≡ p
-same_key q p h = path_cmp-exact q p (tied (path_cmp q p) h)
-
-pub first_or_later : (a b : Bool) → (a || b) ≡ true → (a ≡ true) ⊎ (b ≡ true)
-first_or_later true b h = inl refl
-first_or_later false b h = inr h
-
--- what follows the source in a list of paths comes after the path
-among_moved : (source path rest : Path) (ks : List Path) → is_among (source ++ rest) ks ≡ true → is_among (path ++ rest) (map (λ r. path ++ r) (filter_map (rest_under source) ks)) ≡ true
-among_moved source path rest [] h = h
-among_moved source path rest (k ∷ ks) h = by (among_moved source path rest ks) (rest_under source k) refl (first_or_later (eq_by_cmp path_cmp (source ++ rest) k) (is_among (source ++ rest) ks) h)
-  where
-    by : (is_among (source ++ rest) ks ≡ true → is_among (path ++ rest) (map (λ r. path ++ r) (filter_map (rest_under source) ks)) ≡ true) → (o : Option Path) → rest_under source k ≡ o
-        → (eq_by_cmp path_cmp (source ++ rest) k ≡ true) ⊎ (is_among (source ++ rest) ks ≡ true) → is_among (path ++ rest) (map (λ r. path ++ r) (cons_option o (filter_map (rest_under source) ks))) ≡ true
-    by more None e (inl g) = absurd (let no : Some rest ≡ None = sym (rest_under-append source rest) ∙ ap (rest_under source) (same_key (source ++ rest) k g) ∙ e in cc)
-    by more None e (inr g) = more g
-    by more (Some r) e (inl g) =
-        let both : Some rest ≡ Some r = sym (rest_under-append source rest) ∙ ap (rest_under source) (same_key (source ++ rest) k g) ∙ e in
-        let same : rest ≡ r = cc in
-        subst (λ (x : Path). is_among (path ++ rest) ((path ++ x) ∷ map (λ r. path ++ r) (filter_map (rest_under source) ks)) ≡ true) same (among_first (path ++ rest) (map (λ r. path ++ r) (filter_map (rest_under source) ks)))
-    by more (Some r) e (inr g) = among_later (path ++ r) (path ++ rest) (map (λ r. path ++ r) (filter_map (rest_under source) ks)) (more g)
-
-module _ (now : ℕ) (path : Path) (copying : Copying) (u : Files) (s : Subtree) (stands : (q : Path) → is_some (s q) ≡ true → is_some (places u (copying.source ++ q)) ≡ true) where
-  some_modified : (b : Bool) (f : Object → Object) (v : Option Object) → is_some (cond b (option_map f v) v) ≡ true → is_some v ≡ true
-  some_modified true f None h = h
-  some_modified true f (Some x) h = refl
-  some_modified false f v h = h
-
-  some_object : (o : Option Bare) → is_some (option_map (walk.object_of now) o) ≡ true → is_some o ≡ true
-  some_object None h = h
-  some_object (Some b) h = refl
-
-  among : (q : Path) → is_some (put now path s (places u) q) ≡ true → is_among q (put_paths (Copy copying) path u ++ fin.keys u) ≡ true
-  among q h = by (rest_under path q) refl
-    where
-      there : is_some (standing now s (places u q) (rest_under path q)) ≡ true
-      there = some_modified (same_path (parent_of path) q) (modified now) (standing now s (places u q) (rest_under path q)) (sym (ap is_some (put_with now path s (places u) q)) ∙ h)
-
-      by : (o : Option Path) → rest_under path q ≡ o → is_among q (put_paths (Copy copying) path u ++ fin.keys u) ≡ true
-      by None e = among_right q (put_paths (Copy copying) path u) (fin.keys u) (among_keys u q ∙ (sym (ap (λ (o : Option Path). is_some (standing now s (places u q) o)) e) ∙ there))
-      by (Some rest) e =
-          let some : is_some (s rest) ≡ true = some_object (s rest) (sym (ap (λ (o : Option Path). is_some (standing now s (places u q) o)) e) ∙ there) in
-          let key : is_among (copying.source ++ rest) (fin.keys u) ≡ true = among_keys u (copying.source ++ rest) ∙ stands rest some in
-          let moved = among_moved copying.source path rest (fin.keys u) key in
-          subst (λ (p : Path). is_among p (put_paths (Copy copying) path u ++ fin.keys u) ≡ true) (sym (rest_under-Some path q rest e))
-          (among_left (path ++ rest) (put_paths (Copy copying) path u) (fin.keys u) (among_later path (path ++ rest) (map (λ r. path ++ r) (filter_map (rest_under copying.source) (fin.keys u))) moved))
-
-  pub copy_tree : (v : Files) → places v ≡ with_subtree now path s (places u) → v ≡ turned now (Copy copying) path (Turn.Put s) u
-  copy_tree v is = same_files v _ (λ q.
-      ap (λ (x : Places). x q) is ∙ sym (put_with now path s (places u) q)
-      ∙ sym (places-tabulate (put_paths (Copy copying) path u ++ fin.keys u) (put now path s (places u)) q (among q)))
 
 -- ---- how many steps it takes
 
@@ -172,10 +92,6 @@ copy_work path copying s u =
 
 -- ---- a directory that holds nothing
 
-not_twice : (b : Bool) → not (not b) ≡ b
-not_twice true = refl
-not_twice false = refl
-
 pub childless : (path : Path) (ks : List Path) → list_all is_staging (filter_map (child_name path) ks) ≡ list_all (λ q. not (is_visible_child path q)) ks
 childless path [] = refl
 childless path (k ∷ ks) = by (child_name path k) (childless path ks)
@@ -183,7 +99,7 @@ childless path (k ∷ ks) = by (child_name path k) (childless path ks)
     by : (o : Option (List ℕ)) → list_all is_staging (filter_map (child_name path) ks) ≡ list_all (λ q. not (is_visible_child path q)) ks
         → list_all is_staging (cons_option o (filter_map (child_name path) ks)) ≡ (not (option_map_or (λ name. not (is_staging name)) o false) && list_all (λ q. not (is_visible_child path q)) ks)
     by None e = e
-    by (Some n) e = ap (λ b. is_staging n && b) e ∙ ap (λ b. b && list_all (λ q. not (is_visible_child path q)) ks) (sym (not_twice (is_staging n)))
+    by (Some n) e = ap (λ b. is_staging n && b) e ∙ ap (λ b. b && list_all (λ q. not (is_visible_child path q)) ks) (sym (not-not (is_staging n)))
 
 -- ---- what is chosen
 
@@ -290,43 +206,15 @@ module _ (copying : Copying) (path : Path) (u : Files) where
 
 -- ---- stamps aside
 
-module _ (path : Path) (s : Subtree) (t : Places) where
-  bare_standing : (now later : ℕ) (old : Option Object) (o : Option Path) → option_map bare (standing now s old o) ≡ option_map bare (standing later s old o)
-  bare_standing now later old None = refl
-  bare_standing now later old (Some rest) = by (s rest)
-    where
-      by : (v : Option Bare) → option_map bare (option_map (walk.object_of now) v) ≡ option_map bare (option_map (walk.object_of later) v)
-      by None = refl
-      by (Some b) = refl
-
-  bares_with : (now later : ℕ) (q : Path) → bares (with_subtree now path s t) q ≡ bares (with_subtree later path s t) q
-  bares_with now later q =
-      bares-touched now path (λ q. standing now s (t q) (rest_under path q)) q ∙ bare_standing now later (t q) (rest_under path q)
-      ∙ sym (bares-touched later path (λ q. standing later s (t q) (rest_under path q)) q)
-
-module _ (copying : Copying) (u : Files) where
-  pub table_stands : (q : Path) → is_some (copy_of copying (view_of u) q) ≡ true → is_some (places u (copying.source ++ q)) ≡ true
-  table_stands [] h = ap (λ (p : Path). is_some (places u p)) (append-nil copying.source) ∙ some (places u copying.source) h
-    where
-      some : (o : Option Object) → is_some (option_map (topped copying) (option_map bare_of o)) ≡ true → is_some o ≡ true
-      some None h = h
-      some (Some x) h = refl
-  table_stands (n ∷ q) h = by (has_staging (n ∷ q)) (places u (copying.source ++ n ∷ q)) h
-    where
-      by : (c : Bool) (o : Option Object) → is_some (cond c None (option_map bare_of o)) ≡ true → is_some o ≡ true
-      by true o h = absurd (let no : false ≡ true = h in cc)
-      by false None h = h
-      by false (Some x) h = refl
-
 -- what is put stands at the path as the copy does, stamps aside
 pub put_bares : (now : ℕ) (path : Path) (copying : Copying) (u : Files) → IsTree u → (s : Subtree) → copy_turn copying path u ≡ Turn.Put s → (q : Path)
     → bares (places (turned now (Copy copying) path (Turn.Put s) u)) q ≡ bares (with_subtree 0 path s (places u)) q
 put_bares now path copying u tree s e q =
     let same = (put_is_copy copying path u s e).0 in
-    let stands : (q : Path) → is_some (s q) ≡ true → is_some (places u (copying.source ++ q)) ≡ true = λ q h. table_stands copying u q (sym (ap (λ (v : Subtree). is_some (v q)) same) ∙ h) in
-    ap (option_map bare)
-    (places-tabulate (put_paths (Copy copying) path u ++ fin.keys u) (put now path s (places u)) q (among now path copying u s stands q) ∙ put_with now path s (places u) q)
-    ∙ bares_with path s (places u) now 0 q
+    ap (λ (v : Subtree). bares (places (turned now (Copy copying) path (Turn.Put v) u)) q) same
+    ∙ ap (option_map bare) (place-put now (Copy copying) path u (copy_of copying (view_of u)) (copy_keyed copying path u) q)
+    ∙ bares_with path (copy_of copying (view_of u)) (places u) now 0 q
+    ∙ sym (ap (λ (v : Subtree). bares (with_subtree 0 path v (places u)) q) same)
 
 -- ---- calls
 
@@ -377,11 +265,3 @@ settle_none tree moves now path copying a r none =
 -- what is chosen is what is done
 pub chosen_turn : (copying : Copying) (path : Path) (u : Files) (found : Option Choice) (choice : Choice) → copy_chosen copying u found ≡ copy_turn copying path u → found ≡ Some choice → copy_turn copying path u ≡ copy_chosen copying u (Some choice)
 chosen_turn copying path u found choice is e = sym is ∙ ap (copy_chosen copying u) e
-
-pub become_tree : (now : ℕ) (path : Path) (copying : Copying) (u : Files) (operations : List Operation) (v : Files) → places v ≡ on_at path (become now operations) (places u)
-    → v ≡ turned now (Copy copying) path (Turn.Become operations) u
-become_tree now path copying u operations v is = same_files v _ (λ q. ap (λ (x : Places). x q) is ∙ sym (at q))
-  where
-    at : (q : Path) → places (turned now (Copy copying) path (Turn.Become operations) u) q ≡ on_at path (become now operations) (places u) q
-    at q = places-tabulate (fin.keys u) (on_at path (become now operations) (places u)) q
-        (λ h. among_keys u q ∙ (sym (is_some-on_at path (become now operations) (places u) q) ∙ h))

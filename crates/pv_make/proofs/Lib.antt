@@ -1,9 +1,9 @@
 pub mod TableLaws
 pub mod ChoosingLaws
-pub mod PreparedLaws
 pub mod SettleLaws
 pub mod MakeLaws
 pub mod CopyTable
 pub mod CopySettleLaws
 pub mod AbsentSource
 pub mod CopyLaws
+pub mod RefusedLaws

@@ -1,5 +1,5 @@
 -- Laws of a line that makes something: what it leaves, says and takes, by what is done before its path and at it.
-use Rattle.std.specs.Prelude.{◌≡◌, ℕ, ◌+◌, ◌*◌, ◌≤◌, Bool, true, false, cond, List, [], ◌∷◌, map, take, Option, Some, None, is_some, option_map, unwrap_or, Result, Ok, if◌then◌else◌}
+use Rattle.std.specs.Prelude.{◌≡◌, ℕ, ◌+◌, ◌*◌, ◌≤◌, Bool, true, false, cond, List, [], map, take, Option, Some, None, is_some, option_map, unwrap_or, Result, Ok, if◌then◌else◌}
 use Rattle.std.specs.Option.{option_or, option_and_then}
 use Rattle.std.proofs.Common.{refl, sym, ap, subst, ◌∙◌, inl, inr, ◌⊎◌, arith}
 use Rattle.pv_adjust.specs.Adjusting.{GivesSet}
@@ -31,8 +31,9 @@ use Rattle.pv_table.specs.declared.deed.Making.{Making}
 use Rattle.pv_table.specs.Asking.{asks, id_for_new}
 use Rattle.pv_table.specs.Created.{by_turn, deed_work, turn_work}
 use Rattle.pv_table.specs.Effects.{carried_out, prepare, turn_after, turned}
-use Rattle.pv_table.specs.Saying.{found, refused_text, texts, turn_messages, turn_texts}
-use Rattle.pv_table.specs.Turns.{Refused, Turn, Subtree, copied, decide, has_something, refused_at, source_owner, source_refusal, view_of}
+use Rattle.pv_table.specs.Saying.{found, texts, turn_messages, turn_texts}
+use Rattle.pv_table.specs.Turns.{Refused, Turn, copied, decide, has_something, refused_at, source_owner, source_refusal, view_of}
+use Rattle.pv_walk.specs.Copying.{Subtree}
 use Rattle.pv_walk.specs.Preparing.{IsPreparing, Preparing, IsPrepareStep, parent_file, parent_count, CanPass}
 use Rattle.pv_walk.specs.Putting.{IsMakingWay, put_over}
 use Rattle.pv_walk.specs.Staging.{new_object, staging_names, count_at_all, most_new}
@@ -85,16 +86,7 @@ module _ (now : ℕ) (line : Line) (path : Path) (making : Making) (asked : asks
       by None e = refl
       by (Some place) e = absurd (let no : Some (Refused.named path place.0 place.1) ≡ None = e in cc)
 
-  -- ---- what a refused line does
-
-  module _ (place : Refused) (refused : refused_at line path (places t) ≡ Some place) where
-    pub refused_after : t ≡ turn_after now line path t
-    refused_after = rw refused refl
-
-    pub refused_says : turn_messages now line path t ≡ said_at line.place (refused_text place) ∷ []
-    refused_says = rw refused refl
-
-  -- ---- what another does
+  -- ---- what a line does that is not refused
 
   module _ (free : refused_at line path (places t) ≡ None) (u : Files) (is : u ≡ prepare now path t) where
     pub after_is : turn_after now line path t ≡ carried_out now (asks line) path t

@@ -2,9 +2,9 @@
 use Rattle.std.specs.Prelude.{◌≡◌, ◌≢◌, ℕ, nat_le, ◌+◌, Bool, true, false, not, ◌&&◌, ◌||◌, cond, List, [], ◌∷◌, ◌++◌, length, Option, Some, None, is_some, option_map, Result, if◌then◌else◌}
 use Rattle.std.specs.List.{list_all}
 use Rattle.std.specs.Option.{option_map_or}
-use Rattle.std.proofs.Common.{refl, sym, ap, subst, ◌∙◌, inl, inr, ◌⊎◌, arith, append-nil, length-append}
+use Rattle.std.proofs.Common.{refl, sym, ap, subst, ◌∙◌, arith, append-nil, length-append}
 use Rattle.std.proofs.lemmas.Bool.Decides.{nat_tests}
-use Rattle.std.specs.FinMap as fin
+use Rattle.std.proofs.lemmas.Bool.{and_parts}
 use Rattle.pv_dress.specs.declared.bare.Bare.{Bare}
 use Rattle.pv_dress.specs.declared.bare.Body.{Body}
 use Rattle.pv_dress.specs.declared.operation.Operation.{Operation}
@@ -13,36 +13,36 @@ use Rattle.pv_dress.specs.Edits.{cut, count_at}
 use Rattle.pv_dress.specs.Nodes.{bare_of, same_kind, same_substance}
 use Rattle.pv_dress.specs.Operations.{stays}
 use Rattle.pv_path.specs.Paths.{Path, same_path, is_prefix, rest_under, parent_of}
-use Rattle.pv_path.proofs.PathLaws.{both_true, is_some-rest_under, rest_under-Some, rest_under-self, same_path-refl}
+use Rattle.pv_path.proofs.PathLaws.{is_some-rest_under, rest_under-Some, rest_under-self, same_path-refl}
 use Rattle.pv_steps.specs.declared.node.Kind.TheVariants.{Directory}
 use Rattle.pv_steps.specs.declared.object.Object.{Object}
 use Rattle.pv_steps.specs.declared.tree.Tree.{Ghosts}
 use Rattle.pv_steps.specs.declared.tree.TreeFault.{TreeFault}
 use Rattle.pv_steps.specs.Acting.{Acted}
 use Rattle.pv_steps.specs.Objects.{modified, is_directory}
-use Rattle.pv_steps.specs.Steps.{put_at, on_at}
+use Rattle.pv_steps.specs.Steps.{put_at}
 use Rattle.pv_steps.specs.Trees.{Files, Places, places, kind_of, IsTree, IsPresent}
 use Rattle.pv_steps.proofs.ActingLaws.{acted_within}
-use Rattle.pv_steps.proofs.StepLaws.{same_files, is_among, places-tabulate, among_keys, is_some-touched, is_some-on_at}
-use Rattle.pv_dress.proofs.EditLaws.{path_cases, put_at-else}
+use Rattle.pv_dress.proofs.EditLaws.{put_at-else}
 use Rattle.pv_table.specs.declared.deed.Deed.TheVariants.{Create}
 use Rattle.pv_table.specs.declared.deed.Making.{Making}
 use Rattle.pv_table.specs.Created.{turn_work, put_count}
-use Rattle.pv_table.specs.Effects.{become, put, turned}
-use Rattle.pv_table.specs.Turns.{Turn, Subtree, making_turn, single}
+use Rattle.pv_table.specs.Effects.{turned}
+use Rattle.pv_table.specs.Turns.{Turn, making_turn, single}
+use Rattle.pv_walk.specs.Copying.{Subtree, with_subtree}
 use Rattle.pv_walk.specs.declared.new_file.NewFile.{NewFile}
 use Rattle.pv_walk.specs.Putting.{PuttingOver, IsPutStep, put_over}
 use Rattle.pv_walk.specs.Staging.{can_stage, new_kind, new_object, most_new}
 use Rattle.pv_walk.proofs.PuttingLaws.{no_prefix_no_same}
 use Rattle.pv_walk.proofs.RemovalLaws.{no_same}
 use Rattle.pv_make.specs.Settling.{IsMaking, settling_turn, SettlingBy, Settling, IsSettleStepBy, IsSettleStep}
-use Rattle.pv_make.proofs.PreparedLaws.{among_first, among_later}
+use Rattle.pv_table.proofs.EffectLaws.{place-put, put_is, single_keyed}
 
 -- ---- a new object
 
 module _ (now : ℕ) (path : Path) (file : NewFile) (t : Places) where
   -- what is put is what a call that puts a new object leaves
-  pub put_single : (q : Path) → put now path (single (bare_of (new_object file 0))) t q ≡ put_over now path file t q
+  pub put_single : (q : Path) → with_subtree now path (single (bare_of (new_object file 0))) t q ≡ put_over now path file t q
   put_single q = by (rest_under path q) refl
     where
       over : (x y : Option Object) → x ≡ y → cond (same_path (parent_of path) q) (option_map (modified now) x) x ≡ cond (same_path (parent_of path) q) (option_map (modified now) y) y
@@ -66,47 +66,22 @@ module _ (now : ℕ) (path : Path) (file : NewFile) (t : Places) where
           shorter : path ≡ path ++ name ∷ rest → ⊥
           shorter l = let n = ap length l in omega (arith, n, length-append path (name ∷ rest))
 
-      by : (r : Option Path) → rest_under path q ≡ r → put now path (single (bare_of (new_object file 0))) t q ≡ put_over now path file t q
+      by : (r : Option Path) → rest_under path q ≡ r → with_subtree now path (single (bare_of (new_object file 0))) t q ≡ put_over now path file t q
       by None e = rw e (over (t q) _ (sym (beside (sym (is_some-rest_under path q) ∙ ap is_some e))))
       by (Some []) e = rw e (over (Some (new_object file now)) _ (sym (here (rest_under-Some path q [] e ∙ append-nil path))))
       by (Some (name ∷ rest)) e = rw e (over None _ (sym (below (longer name rest (rest_under-Some path q (name ∷ rest) e)) (inside (ap is_some e)))))
 
-  -- and stands among the paths at which something may stand
-  pub over_key : (keys : List Path) → ((q : Path) → is_some (t q) ≡ true → is_among q keys ≡ true) → (q : Path)
-      → is_some (put_over now path file t q) ≡ true → is_among q (path ∷ keys) ≡ true
-  over_key keys there q h = by (path_cases path q)
-    where
-      cut_some : (b : Bool) → is_some (cond b None (t q)) ≡ true → is_some (t q) ≡ true
-      cut_some true e = absurd (let no : false ≡ true = e in cc)
-      cut_some false e = e
-
-      by : (path ≡ q) ⊎ (same_path path q ≡ false) → is_among q (path ∷ keys) ≡ true
-      by (inl e) = subst (λ (p : Path). is_among q (p ∷ keys) ≡ true) (sym e) (among_first q keys)
-      by (inr d) =
-          let put : is_some (put_at path (Some (new_object file now)) (cut path t) q) ≡ true = sym (is_some-touched now path (put_at path (Some (new_object file now)) (cut path t)) q) ∙ h in
-          among_later path q keys (there q (cut_some (is_prefix path q) (sym (ap is_some (put_at-else path q (Some (new_object file now)) (cut path t) d)) ∙ put)))
-
 module _ (now : ℕ) (path : Path) (making : Making) (u : Files) where
-  put_same : put now path (single (bare_of (new_object making.new 0))) (places u) ≡ put_over now path making.new (places u)
-  put_same = λ i q. put_single now path making.new (places u) q i
-
   pub put_places : (q : Path) → places (turned now (Create making) path (Turn.Put (single (bare_of (new_object making.new 0)))) u) q ≡ put_over now path making.new (places u) q
   put_places q =
-      places-tabulate (path ∷ fin.keys u) (put now path (single (bare_of (new_object making.new 0))) (places u)) q
-      (λ h. over_key now path making.new (places u) (fin.keys u) (λ p k. among_keys u p ∙ k) q (sym (ap (λ (x : Places). is_some (x q)) put_same) ∙ h))
+      place-put now (Create making) path u (single (bare_of (new_object making.new 0))) (single_keyed making path u (bare_of (new_object making.new 0))) q
       ∙ put_single now path making.new (places u) q
 
   pub put_tree : (v : Files) → places v ≡ put_over now path making.new (places u)
       → v ≡ turned now (Create making) path (Turn.Put (single (bare_of (new_object making.new 0)))) u
-  put_tree v is = same_files v _ (λ q. ap (λ (x : Places). x q) is ∙ sym (put_places q))
-
-  pub become_tree : (operations : List Operation) (v : Files) → places v ≡ on_at path (become now operations) (places u)
-      → v ≡ turned now (Create making) path (Turn.Become operations) u
-  become_tree operations v is = same_files v _ (λ q. ap (λ (x : Places). x q) is ∙ sym (at q))
-    where
-      at : (q : Path) → places (turned now (Create making) path (Turn.Become operations) u) q ≡ on_at path (become now operations) (places u) q
-      at q = places-tabulate (fin.keys u) (on_at path (become now operations) (places u)) q
-          (λ h. among_keys u q ∙ (sym (is_some-on_at path (become now operations) (places u) q) ∙ h))
+  put_tree v is =
+      put_is now (Create making) path u (single (bare_of (new_object making.new 0))) (single_keyed making path u (bare_of (new_object making.new 0))) v
+      (is ∙ sym (λ i q. put_single now path making.new (places u) q i))
 
 -- ---- what is chosen
 
@@ -195,7 +170,7 @@ module _ (making : Making) (path : Path) (u : Files) where
 pub stageable : (path : Path) → list_all (λ name. nat_le (length name) 240) path ≡ true → can_stage path ≡ true
 stageable [] h = refl
 stageable (name ∷ path) h =
-    let parts = both_true (nat_le (length name) 240) (list_all (λ n. nat_le (length n) 240) path) h in
+    let parts = and_parts (nat_le (length name) 240) (list_all (λ n. nat_le (length n) 240) path) h in
     let short : nat_le (length name) 240 ≡ true = parts.0 in
     let one : nat_le (length name) 250 ≡ true = grind (arith, nat_tests) in
     let rest = stageable path parts.1 in

@@ -1,5 +1,5 @@
 -- What a line that copies does at its path itself, once the path is prepared (tmpfiles.d(5), C).
-use Rattle.std.specs.Prelude.{◌≢◌, ◌<◌, ◌≤◌, ◌^◌, Bool, [], length, Option, Some, None, IfSome, option_map, if◌then◌else◌}
+use Rattle.std.specs.Prelude.{◌≢◌, ◌<◌, ◌≤◌, ◌^◌, Bool, [], length, Option, Some, None, IfSome, if◌then◌else◌}
 use Rattle.pv_adjust.specs.Adjusting.{Adjusting, GivesSet}
 use Rattle.pv_adjust.specs.Sets.{AreSets}
 use Rattle.pv_dress.specs.Nodes.{same_kind}
@@ -11,9 +11,7 @@ use Rattle.pv_steps.specs.Same.{Same}
 use Rattle.pv_steps.specs.Trees.{Files}
 use Rattle.pv_table.specs.declared.deed.Copying.{Copying}
 use Rattle.pv_table.specs.declared.deed.Deed.TheVariants.{Copy}
-use Rattle.pv_table.specs.Asking.{mode_for_new}
 use Rattle.pv_table.specs.Turns.{Turn, view_of, copy_of, decide}
-use Rattle.pv_walk.specs.declared.copying.TopNode.{TopNode}
 use Rattle.pv_walk.specs.Copying.{CopyingOver, IsCopyStep}
 use Rattle.pv_make.specs.declared.choosing.Choice.{Choice}
 use Rattle.pv_make.specs.declared.choosing.Choice.TheVariants as choice
@@ -26,14 +24,6 @@ pub record IsCopying (path : Path) (copying : Copying) : Type 0 where
   pub uid : IfSome copying.uid IsId
   pub gid : IfSome copying.gid IsId
   pub sets : AreSets copying.sets
-
--- what the top of the copy gets
-abbrev pub top_of : Copying → Bool → TopNode
-top_of copying directory = record {
-  mode = option_map (λ mode. mode_for_new (Some mode) directory) copying.mode;
-  uid = copying.uid;
-  gid = copying.gid;
-}
 
 -- what is done at a path
 abbrev pub copy_turn : Copying → Path → Files → Turn

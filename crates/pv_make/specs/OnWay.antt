@@ -6,6 +6,7 @@ use Rattle.pv_dress.specs.declared.operation.Operation.{Operation}
 use Rattle.pv_dress.specs.Dividing.{parts}
 use Rattle.pv_dress.specs.Nodes.{bares_of}
 use Rattle.pv_dress.specs.Operations.{run}
+use Rattle.pv_doing.specs.Courses.{Course}
 use Rattle.pv_lines.specs.declared.line.Line.{Line}
 use Rattle.pv_path.specs.Paths.{Path, same_path, is_prefix, has_staging}
 use Rattle.pv_steps.specs.declared.step.Step.{Step}
@@ -13,16 +14,17 @@ use Rattle.pv_steps.specs.Same.{Same}
 use Rattle.pv_steps.specs.Trees.{Files, Places, places}
 use Rattle.pv_walk.specs.Preparing.{IsAbove, IsPrepareStep}
 use Rattle.pv_walk.specs.Putting.{IsPutStep}
-use Rattle.pv_walk.specs.Copying.{IsCopyStep}
+use Rattle.pv_walk.specs.Copying.{IsCopyStep, Subtree}
 use Rattle.pv_table.specs.declared.deed.Copying.{Copying}
 use Rattle.pv_table.specs.declared.deed.Deed.{Deed}
 use Rattle.pv_table.specs.declared.deed.Deed.TheVariants.{Create, Copy, Touch}
 use Rattle.pv_table.specs.declared.deed.Making.{Making}
 use Rattle.pv_table.specs.Asking.{asks}
+use Rattle.pv_table.specs.Created.{by_turn}
 use Rattle.pv_table.specs.Effects.{is_touched, turn_after}
 use Rattle.pv_table.specs.Pointwise.{parent_bare}
 use Rattle.pv_table.specs.Saying.{found}
-use Rattle.pv_table.specs.Turns.{Turn, Subtree, view_of, has_something, decide, refused_at}
+use Rattle.pv_table.specs.Turns.{Turn, view_of, has_something, decide, refused_at}
 use Rattle.pv_adjust.specs.Adjusting.{GivesSet}
 
 -- ---- what is done
@@ -76,3 +78,9 @@ pub data IsStepOf (now : ℕ) (line : Line) (path : Path) (t : Files) (step : St
       → IsCopyStep path subtree step → IsStepOf now line path t step
   sets : (operations : List Operation) → turn_at now line path t ≡ Turn.Become operations
       → GivesSet path operations (found now (asks line) path t) step → IsStepOf now line path t step
+
+-- ---- the line at a path
+
+-- what it does, what it may have left on its way, and its steps
+abbrev pub making_course : ℕ → Line → Course Path
+making_course now line = record { whole = by_turn now line; way = OnWay now line; steps = IsStepOf now line }

@@ -1,5 +1,5 @@
 //! What a line that copies does at its path itself.
-ghost use Rattle.std.specs.Prelude.{◌≡◌, ◌++◌, ◌&&◌, map, Some, option_map, OnOk, IfOk};
+ghost use Rattle.std.specs.Prelude.{◌≡◌, ◌++◌, ◌&&◌, map, Some, OnOk, IfOk};
 ghost use Rattle.std.specs.List.{list_all};
 ghost use Rattle.pv_lines.specs.Lines.{IsConfigured};
 ghost use Rattle.pv_path.specs.Names.{is_staging};
@@ -10,21 +10,19 @@ ghost use Rattle.pv_steps.specs.Trees.{places, kind_of, IsKind, IsAbsentIn, IsPr
 ghost use Rattle.pv_steps.specs.Objects.{is_directory};
 ghost use Rattle.pv_steps.specs.Acting.{Acted};
 ghost use Rattle.pv_table.specs.declared.deed.Deed.TheVariants.{Copy};
-ghost use Rattle.pv_table.specs.Asking.{mode_for_new};
 ghost use Rattle.pv_table.specs.Created.{turn_work};
 ghost use Rattle.pv_table.specs.Effects.{turned};
 ghost use Rattle.pv_table.specs.Saying.{turn_texts};
 ghost use Rattle.pv_table.specs.Turns.{Turn, view_of, copy_of, is_childless};
-ghost use Rattle.pv_make.specs.Copies.{IsCopying, copy_turn, copy_chosen, kept_copy, top_of, CopySettling, CopySettlingBy, IsCopySettleStep, IsCopySettleStepBy};
+ghost use Rattle.pv_make.specs.Copies.{IsCopying, copy_turn, copy_chosen, kept_copy, CopySettling, CopySettlingBy, IsCopySettleStep, IsCopySettleStepBy};
 
 use crate::choosing::Choice;
 use pv_adjust::adjust;
-use pv_lines::LineMode;
 use pv_path::{Name, TreePath, is_staging};
 use pv_steps::{Kind, Tree, TreeFault, is_directory, kind_at};
 use pv_table::{Copying, say_left};
 use pv_text::{Messages, Place};
-use pv_walk::{TopNode, copy_over};
+use pv_walk::copy_over;
 use std::alloc::{AllocError, Global};
 
 /// Does what is to be done at a prepared path: puts the copy, in the place of what gives way; adjusts what is of the kind;
@@ -84,35 +82,8 @@ fn put_copy<T: Tree>(
         (IsCopySettleStepBy copying.now path.now turn (T.state tree.old))
         (turn_work (Copy copying.now) path.now turn (T.state tree.old)) now tree.old tree.new result }
 {
-    let top = top_of(copying, is_directory(tree, &copying.source));
+    let top = copying.top(is_directory(tree, &copying.source));
     copy_over(alloc, tree, &copying.source, path, &top, now)
-}
-
-/// What the top of the copy gets.
-fn top_of(copying: &Copying, directory: bool) -> TopNode
-    ensures { result ≡ top_of copying.now directory }
-{
-    TopNode {
-        mode: mode_of(copying.mode, directory),
-        uid: copying.uid,
-        gid: copying.gid,
-    }
-}
-
-/// The mode that it gets, where one is given: the special bits of a masked mode are for a directory alone.
-fn mode_of(field: Option<LineMode>, directory: bool) -> Option<u16>
-    ensures { result ≡ option_map (λ mode. mode_for_new (Some mode) directory) field }
-{
-    match field {
-        None => None,
-        Some(mode) => {
-            if mode.masked && !directory {
-                Some(mode.value % 512)
-            } else {
-                Some(mode.value)
-            }
-        }
-    }
 }
 
 /// What is to be done at a path, if anything.

@@ -1,29 +1,23 @@
 //! A line that copies, carried out at its path.
-ghost use Rattle.std.specs.Prelude.{◌≡◌, ◌++◌, None, option_map, unwrap_or, OnOk, IfOk};
+ghost use Rattle.std.specs.Prelude.{◌≡◌, None, option_map, unwrap_or};
 ghost use Rattle.pv_lines.specs.Lines.{IsConfigured, IsLine};
-ghost use Rattle.pv_steps.specs.Acting.{Acted};
 ghost use Rattle.pv_steps.specs.Trees.{places, IsPresent, IsTree};
-ghost use Rattle.pv_text.specs.Said.{SaidPart};
 ghost use Rattle.pv_table.specs.declared.deed.Deed.TheVariants.{Copy};
 ghost use Rattle.pv_table.specs.Asking.{asks, id_for_new};
-ghost use Rattle.pv_table.specs.Created.{by_turn};
-ghost use Rattle.pv_table.specs.Effects.{turn_after};
 ghost use Rattle.pv_table.specs.Reaching.{path_in};
-ghost use Rattle.pv_table.specs.Saying.{turn_messages};
 ghost use Rattle.pv_table.specs.Turns.{refused_at, source_refusal, owner_made};
-ghost use Rattle.pv_doing.specs.Courses.{carried_of};
-ghost use Rattle.pv_make.specs.OnWay.{OnWay, IsStepOf};
+ghost use Rattle.pv_doing.specs.Courses.{CarriesOut};
+ghost use Rattle.pv_make.specs.OnWay.{making_course};
 ghost use Rattle.pv_make.specs.Copies.{IsCopying};
 
 use crate::copy_settling::settle_copy;
-use crate::making::refusal_of;
 use pv_doing::Carried;
 use pv_lines::{Line, LineId, LinePath};
 use pv_path::TreePath;
 use pv_steps::{Tree, TreeFault};
 use pv_table::{Copying, say_refused, say_source_refused};
 use pv_text::Messages;
-use pv_walk::{blocked, prepare};
+use pv_walk::{blocked, prepare, refusal_of};
 use std::alloc::Global;
 
 /// Carries out a line that copies what stands at another path (tmpfiles.d(5), C). A refused line does nothing but say so;
@@ -41,22 +35,8 @@ pub fn copy<T: Tree>(
 ) -> Result<Carried, TreeFault>
     requires line { IsLine line.now }
     requires asked { asks line.now ≡ Copy copying.now }
-
-    // What it leaves, stamps and staging names included, what it says, and whether it was refused.
-    ensures ok { OnOk result (T.state tree.new
-        ≡ turn_after now line.now (path_in line.now.path) (T.state tree.old)) }
-    ensures said { OnOk result (messages.new
-        ≡ messages.old ++ turn_messages now line.now (path_in line.now.path) (T.state tree.old)) }
-    ensures carried { IfOk result (λ c. c ≡ carried_of
-        ((by_turn now line.now).is_refused (path_in line.now.path) (T.state tree.old))) }
-
-    // What it has said and done, whatever it answers.
-    ensures part { SaidPart (turn_messages now line.now (path_in line.now.path) (T.state tree.old))
-        messages.old messages.new }
-    ensures acted { Acted T.Tree (OnWay now line.now (path_in line.now.path) (T.state tree.old))
-        (IsStepOf now line.now (path_in line.now.path) (T.state tree.old))
-        ((by_turn now line.now).takes (path_in line.now.path) (T.state tree.old))
-        now tree.old tree.new result }
+    ensures run { CarriesOut T.Tree (making_course now line.now) (path_in line.now.path) now tree.old tree.new
+        messages.old messages.new result }
     ensures tree { IsTree (T.state tree.old) }
 {
     match &line.path {
@@ -78,16 +58,8 @@ fn copy_at<T: Tree>(
     requires path { IsConfigured path.now }
     requires copying { IsCopying path.now copying.now }
     requires asked { asks line.now ≡ Copy copying.now }
-    ensures ok { OnOk result (T.state tree.new ≡ turn_after now line.now path.now (T.state tree.old)) }
-    ensures said { OnOk result (messages.new
-        ≡ messages.old ++ turn_messages now line.now path.now (T.state tree.old)) }
-    ensures carried { IfOk result (λ c. c
-        ≡ carried_of ((by_turn now line.now).is_refused path.now (T.state tree.old))) }
-    ensures part { SaidPart (turn_messages now line.now path.now (T.state tree.old))
-        messages.old messages.new }
-    ensures acted { Acted T.Tree (OnWay now line.now path.now (T.state tree.old))
-        (IsStepOf now line.now path.now (T.state tree.old))
-        ((by_turn now line.now).takes path.now (T.state tree.old)) now tree.old tree.new result }
+    ensures run { CarriesOut T.Tree (making_course now line.now) path.now now tree.old tree.new
+        messages.old messages.new result }
     ensures tree { IsTree (T.state tree.old) }
 {
     if let Some((count, why)) = blocked(alloc, tree, &copying.source)? {
@@ -117,26 +89,15 @@ fn copy_here<T: Tree>(
     requires passed { source_refusal (places (T.state tree.old)) copying.now.source ≡ None }
     requires something { IsPresent (T.state tree.old) copying.now.source }
     requires owner { owner ≡ owner_made line.now (places (T.state tree.old)) }
-    ensures ok { OnOk result (T.state tree.new ≡ turn_after now line.now path.now (T.state tree.old)) }
-    ensures said { OnOk result (messages.new
-        ≡ messages.old ++ turn_messages now line.now path.now (T.state tree.old)) }
-    ensures carried { IfOk result (λ c. c
-        ≡ carried_of ((by_turn now line.now).is_refused path.now (T.state tree.old))) }
-    ensures part { SaidPart (turn_messages now line.now path.now (T.state tree.old))
-        messages.old messages.new }
-    ensures acted { Acted T.Tree (OnWay now line.now path.now (T.state tree.old))
-        (IsStepOf now line.now path.now (T.state tree.old))
-        ((by_turn now line.now).takes path.now (T.state tree.old)) now tree.old tree.new result }
+    ensures { CarriesOut T.Tree (making_course now line.now) path.now now tree.old tree.new
+        messages.old messages.new result }
 {
     match refusal_of(alloc, tree, path, owner)? {
         Some((count, why)) => {
             say_refused(alloc, &line.place, path, count, why, messages)?;
             Ok(Carried::NotCarriedOut)
         }
-        None => {
-            copy_unrefused(alloc, tree, line, path, copying, now, messages)?;
-            Ok(Carried::Whole)
-        }
+        None => copy_unrefused(alloc, tree, line, path, copying, now, messages),
     }
 }
 
@@ -162,21 +123,16 @@ fn copy_unrefused<T: Tree>(
     copying: &Copying,
     now: u64,
     messages: &mut Messages,
-) -> Result<(), TreeFault>
+) -> Result<Carried, TreeFault>
     requires path { IsConfigured path.now }
     requires copying { IsCopying path.now copying.now }
     requires asked { asks line.now ≡ Copy copying.now }
     requires unrefused { refused_at line.now path.now (places (T.state tree.old)) ≡ None }
     requires something { IsPresent (T.state tree.old) copying.now.source }
-    ensures ok { OnOk result (T.state tree.new ≡ turn_after now line.now path.now (T.state tree.old)) }
-    ensures said { OnOk result (messages.new
-        ≡ messages.old ++ turn_messages now line.now path.now (T.state tree.old)) }
-    ensures part { SaidPart (turn_messages now line.now path.now (T.state tree.old))
-        messages.old messages.new }
-    ensures acted { Acted T.Tree (OnWay now line.now path.now (T.state tree.old))
-        (IsStepOf now line.now path.now (T.state tree.old))
-        ((by_turn now line.now).takes path.now (T.state tree.old)) now tree.old tree.new result }
+    ensures { CarriesOut T.Tree (making_course now line.now) path.now now tree.old tree.new
+        messages.old messages.new result }
 {
     prepare(alloc, tree, path, now)?;
-    settle_copy(alloc, tree, &line.place, path, copying, now, messages)
+    settle_copy(alloc, tree, &line.place, path, copying, now, messages)?;
+    Ok(Carried::Whole)
 }

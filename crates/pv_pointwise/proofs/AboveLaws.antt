@@ -1,6 +1,7 @@
 -- Tests of the numbers of a range.
-use Rattle.std.proofs.Common.{◌≡◌, ◌∙◌, ℕ, ◌+◌, ◌<◌, Bool, true, false, ◌||◌, zero, suc, refl, sym, ap, arith}
+use Rattle.std.proofs.Common.{◌≡◌, ◌∙◌, ℕ, ◌+◌, ◌<◌, Bool, true, false, ◌||◌, zero, suc, sym, ap, arith}
 use Rattle.std.specs.List.{list_any, range_with_len}
+use Rattle.std.proofs.lemmas.Bool.{or_right}
 
 module _ (f : ℕ → Bool) where
   -- one that passes
@@ -13,10 +14,6 @@ module _ (f : ℕ → Bool) where
       let less : j < n = omega (arith, within) in
       let sum : a + 1 + j ≡ m = omega (arith, is) in
       or_right (f a) (list_any f (range_with_len (a + 1) n)) (any_there (a + 1) n j m less sum h)
-    where
-      or_right : (b c : Bool) → c ≡ true → (b || c) ≡ true
-      or_right true c e = refl
-      or_right false c e = e
 
   -- none passes of one number more
   pub none_more : (a n m : ℕ) → a + n ≡ m → list_any f (range_with_len a n) ≡ false → f m ≡ false → list_any f (range_with_len a (suc n)) ≡ false

@@ -1,22 +1,17 @@
 //! What a line that copies leaves at and below its path.
-ghost use Rattle.std.specs.Prelude.{◌≡◌, Some, false, IfOk, if◌then◌else◌};
+ghost use Rattle.std.specs.Prelude.{◌≡◌, Some, IfOk};
 ghost use Rattle.std.specs.FinMap as fin;
-ghost use Rattle.pv_dress.specs.Nodes.{is_link};
-ghost use Rattle.pv_dress.specs.Operations.{with_mode};
 ghost use Rattle.pv_path.specs.Paths.{Path, has_staging, rest_under};
-ghost use Rattle.pv_steps.specs.Objects.{is_directory};
 ghost use Rattle.pv_table.specs.declared.deed.Deed.TheVariants.{Copy};
-ghost use Rattle.pv_table.specs.Asking.{mode_for_new};
 ghost use Rattle.pv_table.specs.Pointwise.{after_turn, view};
-ghost use Rattle.pv_table.specs.Turns.{View, copy_of, copying_turn, decide, is_childless, topped};
+ghost use Rattle.pv_table.specs.Turns.{View, copy_of, copying_turn, decide, is_childless, topped_by};
 
 use crate::made::adjusted;
 use crate::standing::Standing;
 use pv_dress::Bare;
-use pv_lines::LineMode;
 use pv_path::{Name, TreePath, carry, is_staging};
-use pv_steps::{Kind, special_bits};
 use pv_table::Copying;
+use pv_walk::topped;
 use std::alloc::{AllocError, Global};
 
 /// What a line that copies leaves at a path, which comes by a rest after its own.
@@ -92,7 +87,7 @@ fn copied(
     ensures { IfOk result (λ copy. copy ≡ copy_of copying.now (view before.now) rest.now) }
 {
     match rest {
-        [] => Ok(Some(topped(copying, source)?)),
+        [] => Ok(Some(topped_by(copying, source)?)),
         [_, ..] => {
             if is_staged(rest) {
                 return Ok(None);
@@ -109,42 +104,9 @@ fn is_staged(names: &[Name]) -> bool
 }
 
 /// A copied object with the mode and the owners of a line; a link takes owners alone.
-fn topped(copying: &Copying, source: &Bare) -> Result<Bare, AllocError>
-    ensures { IfOk result (λ top. top ≡ topped copying.now source.now) }
+fn topped_by(copying: &Copying, source: &Bare) -> Result<Bare, AllocError>
+    ensures { IfOk result (λ top. top ≡ topped_by copying.now source.now) }
 {
-    let mut top = source.copy()?;
-    top.dress.uid = copying.uid.unwrap_or(top.dress.uid);
-    top.dress.gid = copying.gid.unwrap_or(top.dress.gid);
-    match copying.mode {
-        Some(mode) => set_mode(&mut top, mode),
-        None => {}
-    }
-    Ok(top)
-}
-
-/// Gives a copied object the mode of a line.
-fn set_mode(top: &mut Bare, mode: LineMode)
-    ensures { top.new
-        ≡ (if is_link top.old.body.kind then top.old
-        else record top.old { dress = with_mode top.old.body.kind (mode_for_new (Some mode) (is_directory top.old.body.kind)) false top.old.dress }) }
-{
-    match top.body.kind {
-        Kind::Link => {}
-        kind => {
-            let value = mode_for_new(mode, kind.is_directory());
-            top.dress.special = special_bits(value);
-            top.dress.acl.access.set_base(value);
-        }
-    }
-}
-
-/// The mode that a new object gets: the special bits of a masked one are for a directory alone.
-fn mode_for_new(mode: LineMode, directory: bool) -> u16
-    ensures { result ≡ mode_for_new (Some mode) directory }
-{
-    if mode.masked && !directory {
-        mode.value % 512
-    } else {
-        mode.value
-    }
+    let top = copying.top(source.body.kind.is_directory());
+    Ok(topped(&top, source.copy()?))
 }

@@ -9,10 +9,3 @@ mod state;
 
 pub use standing::Standing;
 pub use state::{after_line, state_after};
-
-#[cfg(test)]
-mod created_tests;
-#[cfg(test)]
-mod phase_tests;
-#[cfg(test)]
-mod tests;

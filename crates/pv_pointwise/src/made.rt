@@ -1,56 +1,17 @@
 //! What a line that makes an object leaves at and below its path.
 ghost use Rattle.std.specs.Prelude.{◌≡◌, true, Some, IfOk};
 ghost use Rattle.std.specs.Option.{option_copied, option_map_or};
-ghost use Rattle.pv_dress.specs.Nodes.{bare_of, same_substance};
+ghost use Rattle.pv_dress.specs.Nodes.{bare_of};
 ghost use Rattle.pv_dress.specs.Operations.{stays};
 ghost use Rattle.pv_table.specs.Pointwise.{after_turn, parent_bare};
 ghost use Rattle.pv_table.specs.Turns.{Turn, making_turn, single};
-ghost use Rattle.pv_walk.specs.Staging.{new_mode, new_object};
+ghost use Rattle.pv_walk.specs.Staging.{new_object};
 
-use pv_acl::Acl;
-use pv_dress::{Bare, Body, Dress, Test, run_operations};
-use pv_path::{Bytes, Name};
-use pv_steps::{AttrList, Kind, LetterSet, special_bits};
+use pv_dress::{Bare, Body, Test, run_operations, stays};
+use pv_path::Name;
 use pv_table::{Making, OperationList};
-use pv_walk::{NewFile, NewKind};
+use pv_walk::{NewFile, NewKind, new_bare};
 use std::alloc::{AllocError, Global};
-
-/// A new object without its stamps.
-fn new_bare(alloc: Global, new: &NewFile) -> Result<Bare, AllocError>
-    ensures { IfOk result (λ bare. bare ≡ bare_of (new_object new.now 0)) }
-{
-    let (major, minor) = new.what.numbers();
-    let mode = mode_of(&new.what, new.mode);
-    Ok(Bare {
-        body: Body {
-            kind: new.what.kind(),
-            payload: Bytes::copy_of(alloc, new.what.payload())?,
-            major,
-            minor,
-        },
-        dress: Dress {
-            uid: new.uid,
-            gid: new.gid,
-            special: special_bits(mode),
-            acl: Acl::of_mode(alloc, mode),
-            attrs: AttrList::new(alloc),
-            letters: LetterSet::new(),
-        },
-    })
-}
-
-/// The mode of a new object: of a link always 0777.
-fn mode_of(what: &NewKind, mode: u16) -> u16
-    ensures { result ≡ new_mode what.now mode }
-{
-    match what {
-        NewKind::Link(_) => 0o777,
-        NewKind::Directory => mode,
-        NewKind::File(_) => mode,
-        NewKind::Fifo => mode,
-        NewKind::Device { .. } => mode,
-    }
-}
 
 /// The directory that a line puts where nothing stands above its path.
 pub(crate) fn parent_bare(alloc: Global) -> Result<Bare, AllocError>
@@ -134,18 +95,6 @@ fn is_kept(renew: Option<Test>, new: &Body, old: &Body) -> bool
 {
     match renew {
         None => true,
-        Some(test) => {
-            (new.kind == old.kind && (!test.exact || has_substance(new, old)))
-                || (test.spares_directories && old.kind.is_directory())
-        }
+        Some(test) => stays(test, new, old),
     }
-}
-
-/// Whether the target of a link and the numbers of a device are those that are wanted.
-fn has_substance(wanted: &Body, body: &Body) -> bool
-    ensures { result ≡ same_substance wanted.now body.now }
-{
-    (!matches!(body.kind, Kind::Link) || wanted.payload.is_same(&body.payload))
-        && wanted.major == body.major
-        && wanted.minor == body.minor
 }

@@ -11,9 +11,9 @@ ghost use Rattle.pv_walk.specs.Preparing.{parents_of};
 
 use crate::point::point;
 use crate::standing::Standing;
-use pv_lines::{Line, LinePath};
+use pv_lines::Line;
 use pv_path::{TreePath, carry, is_prefix};
-use pv_table::{Deed, Table, asks, create_order};
+use pv_table::{Deed, Table, asks, create_order, path_of};
 use std::alloc::{AllocError, Global};
 
 /// What the first lines of a table leave at each path, in the order of the create phase (tmpfiles.d(5)): no line is
@@ -55,16 +55,6 @@ pub fn after_line(alloc: Global, line: &Line, before: &Standing) -> Result<Stand
     let path = path_of(alloc, line)?;
     let paths = touched_paths(alloc, &deed, &path, before)?;
     tabulated(alloc, line, &deed, &path, before, &paths)
-}
-
-/// The path of a line that names one path.
-fn path_of(alloc: Global, line: &Line) -> Result<TreePath, AllocError>
-    ensures { IfOk result (λ path. path ≡ path_in line.now.path) }
-{
-    match &line.path {
-        LinePath::Literal(path) => path.copy(),
-        LinePath::Glob(_) => Ok(TreePath::root(alloc)),
-    }
 }
 
 /// What a line leaves at some paths.

@@ -1,10 +1,41 @@
+use Rattle.std.proofs.Common.{◌≡◌, ◌++◌, List, ℕ, OnOk, subst}
 use Rattle.pv_doing.specs.Courses.{Partway, IsStepOfSome}
+use Rattle.pv_steps.specs.Acting.{Acted}
+use Rattle.pv_text.specs.Said.{SaidPart}
 use Rattle.pv_table.specs.Active.{in_create_order}
 use Rattle.pv_create.specs.Ways.{lines_course}
 use Rattle.pv_create.proofs.CopyBridge.{mended, mended_again, stopped, between}
 use Rattle.pv_create.proofs.FrameWays.{framed}
+use Rattle.pv_create.proofs.RunLaws.{counting_says, counting_takes}
 use Rattle.pv_create.proofs.StepLaws.{given}
 use Rattle.pv_create.proofs.run.create_run.Goals as goal
+
+-- ---- what it leaves, says and tells; a refusal of a line with `-` changes neither the texts nor the bound
+
+pub returns-clause-ok : goal.returns-clause-ok
+returns-clause-ok g c = c.run_in_order.ensures.ok
+
+pub returns-clause-said : goal.returns-clause-said
+returns-clause-said g c =
+    subst (λ (says : List (List ℕ)). OnOk c.run_in_order.result (c.run_in_order.new.messages ≡ c.args.messages.now ++ says))
+    (counting_says c.args.now (in_create_order c.args.table.now) (g.T.Tree.state c.args.tree.now)) c.run_in_order.ensures.said
+
+pub returns-clause-carried : goal.returns-clause-carried
+returns-clause-carried g c = c.run_in_order.ensures.carried
+
+pub returns-clause-part : goal.returns-clause-part
+returns-clause-part g c =
+    subst (λ (says : List (List ℕ)). SaidPart says c.args.messages.now c.run_in_order.new.messages)
+    (counting_says c.args.now (in_create_order c.args.table.now) (g.T.Tree.state c.args.tree.now)) c.run_in_order.ensures.part
+
+pub returns-clause-acted : goal.returns-clause-acted
+returns-clause-acted g c =
+    let lines = in_create_order c.args.table.now in
+    let t = g.T.Tree.state c.args.tree.now in
+    subst (λ most. Acted g.T.Tree (Partway (lines_course c.args.now) lines t) (IsStepOfSome (lines_course c.args.now) lines t) most c.args.now c.args.tree.now c.run_in_order.new.tree c.run_in_order.result)
+    (counting_takes c.args.now lines t) c.run_in_order.ensures.acted
+
+-- ---- the laws
 
 pub returns-clause-mended : goal.returns-clause-mended
 returns-clause-mended g c =

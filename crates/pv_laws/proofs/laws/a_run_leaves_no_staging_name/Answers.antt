@@ -1,7 +1,7 @@
 use Rattle.std.proofs.Common.{inl, inr}
 use Rattle.pv_lines.specs.Lines.{IsLine}
 use Rattle.pv_table.specs.Active.{in_create_order}
-use Rattle.pv_laws.proofs.Orders.{all_in_order}
+use Rattle.pv_table.proofs.ListedLaws.{all_in_order}
 use Rattle.pv_laws.proofs.Staged.{lines_stage}
 use Rattle.pv_laws.proofs.laws.a_run_leaves_no_staging_name.Goals as goal
 

@@ -12,9 +12,10 @@ use Rattle.pv_table.specs.Effects.{become, turned}
 use Rattle.pv_table.specs.Saying.{turn_texts}
 use Rattle.pv_table.specs.Turns.{Turn}
 use Rattle.pv_text.specs.Said.{said_at}
+use Rattle.pv_table.proofs.EffectLaws.{become_is}
 use Rattle.pv_walk.proofs.Outcomes.{on_ok}
 use Rattle.pv_make.specs.declared.choosing.Choice.TheVariants as choice
-use Rattle.pv_make.proofs.CopySettleLaws.{settle_none, settled_by, chosen_turn, become_tree}
+use Rattle.pv_make.proofs.CopySettleLaws.{settle_none, settled_by, chosen_turn}
 use Rattle.pv_make.proofs.copy_settling.settle_copy.Goals as goal
 
 pub returns-in_err-choose_copy-clause-acted : goal.returns-in_err-choose_copy-clause-acted
@@ -42,7 +43,7 @@ returns-in-Some-Become-clause-ok g c =
     let turn = chosen_turn c.args.copying.now c.args.path.now t c.in_ok-choose_copy.field-0 choice.Become c.in_ok-choose_copy.ensures.turn (c.in-Some-Become.is ∙ ap Some c.in-Some-Become.field-0-is) in
     on_ok c.adjust.result
     (λ e. subst (λ (v : Turn). u ≡ turned c.args.now (Copy c.args.copying.now) c.args.path.now v t) (sym turn)
-    (become_tree c.args.now c.args.path.now c.args.copying.now t c.args.copying.now.sets u
+    (become_is c.args.now (Copy c.args.copying.now) c.args.path.now t c.args.copying.now.sets u
     (subst (λ (xs : List Operation). places u ≡ on_at c.args.path.now (become c.args.now xs) (places t)) c.as_slice.ensures e)))
     c.adjust.ensures.ok
 

@@ -1,8 +1,13 @@
-use Rattle.std.proofs.Common.{◌++◌, List, ℕ, sym, ap, subst, ◌∙◌}
-use Rattle.pv_steps.proofs.ActingLaws.{Moves, acted_passed}
+use Rattle.std.proofs.Common.{◌++◌, List, ℕ, Ok, is_some, refl, sym, ap, subst, ◌∙◌}
+use Rattle.pv_doing.specs.Courses.{carried_of}
+use Rattle.pv_doing.specs.declared.carried.Carried.TheVariants.{Whole}
+use Rattle.pv_doing.proofs.CarryingLaws.{carried_failed}
+use Rattle.pv_doing.proofs.CourseLaws.{part_none}
+use Rattle.pv_steps.proofs.ActingLaws.{Moves, acted_ended}
 use Rattle.pv_text.specs.Said.{SaidPart}
-use Rattle.pv_walk.proofs.Outcomes.{on_ok}
-use Rattle.pv_make.proofs.PreparedLaws.{prepare_is}
+use Rattle.pv_table.specs.Saying.{turn_messages}
+use Rattle.pv_make.specs.OnWay.{making_course}
+use Rattle.pv_table.proofs.EffectLaws.{prepare_is}
 use Rattle.pv_make.proofs.SettleLaws.{stageable}
 use Rattle.pv_make.proofs.CopyLaws.{copy_pass, copy_after, copy_says, prepare_acted, copied_acted}
 use Rattle.pv_make.proofs.CopySettleLaws.{put_bares}
@@ -20,43 +25,44 @@ settle_copy-requires-clause-parent g c = c.in_ok-prepare.ensures.parent c.requir
 pub settle_copy-requires-clause-free : goal.settle_copy-requires-clause-free
 settle_copy-requires-clause-free g c = c.in_ok-prepare.ensures.free c.requires.copying.nonempty
 
-pub returns-in_err-prepare-clause-acted : goal.returns-in_err-prepare-clause-acted
-returns-in_err-prepare-clause-acted g c =
-    acted_passed g.T.Tree c.prepare.result c.from_residual.result c.in_err-prepare.was c.from_residual.ensures.1
-    (prepare_acted g.T.Tree c.args.now c.args.line.now c.args.path.now c.args.copying.now c.requires.asked c.args.tree.now c.prepare.new.tree c.requires.unrefused c.requires.something c.prepare.ensures.acted)
+pub returns-in_err-prepare : goal.returns-in_err-prepare
+returns-in_err-prepare g c =
+    let line = c.args.line.now in
+    let path = c.args.path.now in
+    carried_failed g.T.Tree (making_course c.args.now line) path c.args.now c.args.tree.now c.args.messages.now c.prepare.new.tree c.args.messages.now c.prepare.result c.from_residual.result c.in_err-prepare.was c.from_residual.ensures.1
+    (part_none (turn_messages c.args.now line path (g.T.Tree.state c.args.tree.now)) c.args.messages.now)
+    (prepare_acted g.T.Tree c.args.now line path c.args.copying.now c.requires.asked c.args.tree.now c.prepare.new.tree c.requires.unrefused c.requires.something c.prepare.ensures.acted)
 
-pub returns-clause-ok : goal.returns-clause-ok
-returns-clause-ok g c =
-    let t = g.T.Tree.state c.args.tree.now in
-    let u = g.T.Tree.state c.prepare.new.tree in
-    let is = prepare_is c.args.now c.args.path.now t u c.in_ok-prepare.ensures.ok in
-    on_ok c.settle_copy.result
-    (λ e. e ∙ sym (copy_after c.args.now c.args.line.now c.args.path.now c.args.copying.now c.requires.asked t c.requires.unrefused c.requires.something u is))
-    c.settle_copy.ensures.ok
-
-pub returns-clause-said : goal.returns-clause-said
-returns-clause-said g c =
-    let t = g.T.Tree.state c.args.tree.now in
-    let u = g.T.Tree.state c.prepare.new.tree in
-    let is = prepare_is c.args.now c.args.path.now t u c.in_ok-prepare.ensures.ok in
-    on_ok c.settle_copy.result
-    (λ e. e ∙ ap (λ (v : List (List ℕ)). c.args.messages.now ++ v) (sym (copy_says c.args.now c.args.line.now c.args.path.now c.args.copying.now c.requires.asked t c.requires.unrefused c.requires.something u is)))
-    c.settle_copy.ensures.said
-
-pub returns-clause-part : goal.returns-clause-part
-returns-clause-part g c =
-    let t = g.T.Tree.state c.args.tree.now in
-    let u = g.T.Tree.state c.prepare.new.tree in
-    let is = prepare_is c.args.now c.args.path.now t u c.in_ok-prepare.ensures.ok in
-    subst (λ (v : List (List ℕ)). SaidPart v c.args.messages.now c.settle_copy.new.messages)
-    (sym (copy_says c.args.now c.args.line.now c.args.path.now c.args.copying.now c.requires.asked t c.requires.unrefused c.requires.something u is))
-    c.settle_copy.ensures.part
-
-pub returns-clause-acted : goal.returns-clause-acted
-returns-clause-acted g c =
+pub returns-in_err-settle_copy : goal.returns-in_err-settle_copy
+returns-in_err-settle_copy g c =
     let moves : Moves g.T.Tree = record { stays = g.met.T.Tree.reaches_self; goes_on = g.met.T.Tree.reaches_on; never_falls = g.met.T.Tree.never_falls } in
+    let now = c.args.now in
+    let line = c.args.line.now in
+    let path = c.args.path.now in
+    let copying = c.args.copying.now in
+    let t = g.T.Tree.state c.args.tree.now in
     let u = g.T.Tree.state c.prepare.new.tree in
-    copied_acted g.T.Tree c.args.now c.args.line.now c.args.path.now c.args.copying.now c.requires.asked c.args.tree.now c.prepare.new.tree c.requires.unrefused c.requires.something moves
-    (prepare_is c.args.now c.args.path.now (g.T.Tree.state c.args.tree.now) u c.in_ok-prepare.ensures.ok)
-    (put_bares c.args.now c.args.path.now c.args.copying.now u c.settle_copy.ensures.tree)
-    c.in_ok-prepare.ensures.acted c.settle_copy.ensures.acted
+    let is = prepare_is now path t u c.in_ok-prepare.ensures.ok in
+    let says = sym (copy_says now line path copying c.requires.asked t c.requires.unrefused c.requires.something u is) in
+    carried_failed g.T.Tree (making_course now line) path now c.args.tree.now c.args.messages.now c.settle_copy.new.tree c.settle_copy.new.messages c.settle_copy.result c.from_residual-in_err-settle_copy.result c.in_err-settle_copy.was c.from_residual-in_err-settle_copy.ensures.1
+    (subst (λ (v : List (List ℕ)). SaidPart v c.args.messages.now c.settle_copy.new.messages) says c.settle_copy.ensures.part)
+    (copied_acted g.T.Tree now line path copying c.requires.asked c.args.tree.now c.prepare.new.tree c.requires.unrefused c.requires.something moves is (put_bares now path copying u c.settle_copy.ensures.tree) c.in_ok-prepare.ensures.acted c.settle_copy.ensures.acted)
+
+pub returns : goal.returns
+returns g c =
+    let moves : Moves g.T.Tree = record { stays = g.met.T.Tree.reaches_self; goes_on = g.met.T.Tree.reaches_on; never_falls = g.met.T.Tree.never_falls } in
+    let now = c.args.now in
+    let line = c.args.line.now in
+    let path = c.args.path.now in
+    let copying = c.args.copying.now in
+    let t = g.T.Tree.state c.args.tree.now in
+    let u = g.T.Tree.state c.prepare.new.tree in
+    let is = prepare_is now path t u c.in_ok-prepare.ensures.ok in
+    let says = sym (copy_says now line path copying c.requires.asked t c.requires.unrefused c.requires.something u is) in
+    record {
+      ok = c.in_ok-settle_copy.ensures.ok ∙ sym (copy_after now line path copying c.requires.asked t c.requires.unrefused c.requires.something u is);
+      said = c.in_ok-settle_copy.ensures.said ∙ ap (λ (v : List (List ℕ)). c.args.messages.now ++ v) says;
+      carried = ap (λ r. carried_of (is_some r)) (sym c.requires.unrefused);
+      part = subst (λ (v : List (List ℕ)). SaidPart v c.args.messages.now c.settle_copy.new.messages) says c.settle_copy.ensures.part;
+      acted = acted_ended g.T.Tree (Ok Whole) refl (copied_acted g.T.Tree now line path copying c.requires.asked c.args.tree.now c.prepare.new.tree c.requires.unrefused c.requires.something moves is (put_bares now path copying u c.settle_copy.ensures.tree) c.in_ok-prepare.ensures.acted c.in_ok-settle_copy.ensures.acted);
+    }

@@ -9,8 +9,9 @@ use Rattle.pv_table.specs.declared.deed.Deed.TheVariants.{Create}
 use Rattle.pv_table.specs.Created.{change_work}
 use Rattle.pv_table.specs.Effects.{become, turned}
 use Rattle.pv_table.specs.Turns.{Turn}
+use Rattle.pv_table.proofs.EffectLaws.{become_is}
 use Rattle.pv_walk.proofs.Outcomes.{on_ok}
-use Rattle.pv_make.proofs.SettleLaws.{stageable, put_nonroot, put_tree, put_acted, become_present, become_tree, settled_by}
+use Rattle.pv_make.proofs.SettleLaws.{stageable, put_nonroot, put_tree, put_acted, become_present, settled_by}
 use Rattle.pv_make.proofs.settling.settle.Goals as goal
 
 pub put_over-requires-clause-not_root : goal.put_over-requires-clause-not_root
@@ -46,7 +47,7 @@ returns-in-Become-clause-ok g c =
     let u = g.T.Tree.state c.adjust.new.tree in
     on_ok c.adjust.result
     (λ e. subst (λ (v : Turn). u ≡ turned c.args.now (Create c.args.making.now) c.args.path.now v t) c.in-Become.ensures.turn
-    (become_tree c.args.now c.args.path.now c.args.making.now t c.args.making.now.sets u
+    (become_is c.args.now (Create c.args.making.now) c.args.path.now t c.args.making.now.sets u
     (subst (λ (xs : List Operation). places u ≡ on_at c.args.path.now (become c.args.now xs) (places t)) c.as_slice.ensures e)))
     c.adjust.ensures.ok
 

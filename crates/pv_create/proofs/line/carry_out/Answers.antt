@@ -1,0 +1,20 @@
+use Rattle.std.proofs.Common.{Ok, refl}
+use Rattle.pv_doing.proofs.CarryingLaws.{carried_failed}
+use Rattle.pv_steps.proofs.ActingLaws.{acted_ended}
+use Rattle.pv_table.specs.Created.{by_line}
+use Rattle.pv_create.specs.Ways.{lines_course}
+use Rattle.pv_create.proofs.line.carry_out.Goals as goal
+
+pub returns-in_err-carried : goal.returns-in_err-carried
+returns-in_err-carried g c =
+    carried_failed g.T.Tree (lines_course c.args.now) c.args.line.now c.args.now c.args.tree.now c.args.messages.now c.carry_out_asked.new.tree c.carry_out_asked.new.messages
+    c.carry_out_asked.result c.from_residual.result c.in_err-carried.was c.from_residual.ensures.1 c.carry_out_asked.ensures.part c.carry_out_asked.ensures.acted
+
+pub returns : goal.returns
+returns g c = record {
+  ok = c.in_ok-carried.ensures.ok;
+  said = c.in_ok-carried.ensures.said;
+  carried = c.counted.ensures ((by_line c.args.now).is_refused c.args.line.now (g.T.Tree.state c.args.tree.now)) c.in_ok-carried.ensures.carried;
+  part = c.in_ok-carried.ensures.part;
+  acted = acted_ended g.T.Tree (Ok c.counted.result) refl c.in_ok-carried.ensures.acted;
+}

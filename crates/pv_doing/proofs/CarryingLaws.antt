@@ -1,0 +1,100 @@
+-- Laws of what is carried out and told: before anything is done, by the answer of a call, and for several things, one after
+-- the other.
+use Rattle.std.specs.Prelude.{◌≡◌, ℕ, Bool, false, ◌||◌, List, [], ◌∷◌, ◌++◌, Result, Ok, Err, IsErrAnd}
+use Rattle.std.proofs.Common.{refl, sym, ap, subst, ◌∙◌}
+use Rattle.pv_steps.specs.declared.tree.Tree.{Ghosts}
+use Rattle.pv_steps.specs.declared.tree.TreeFault.{TreeFault}
+use Rattle.pv_steps.specs.declared.tree.TreeFault.TheVariants.{Memory}
+use Rattle.pv_steps.specs.Acting.{Acted}
+use Rattle.pv_steps.specs.Trees.{Files}
+use Rattle.pv_steps.proofs.ActingLaws.{Moves, acted_none, acted_passed, no_memory}
+use Rattle.pv_text.specs.Said.{SaidPart}
+use Rattle.pv_text.proofs.SaidLaws.{said_whole}
+use Rattle.pv_doing.specs.Courses.{Course, each_of, carried_of, CarriesOut}
+use Rattle.pv_doing.specs.declared.carried.Carried.{Carried}
+use Rattle.pv_doing.specs.declared.carried.Carried.TheVariants.{Whole}
+use Rattle.pv_doing.proofs.CourseLaws.{Going, going_start, going_next, one_within, one_part, part_none, end_whole, end_said, end_part, end_refused, end_acted}
+
+module _ {S A : Type 0} (tree : Ghosts S) (c : Course A) (x : A) (now : ℕ) (a : S) (old : List (List ℕ)) where
+  -- memory ran out before anything was done or said
+  pub carried_none : Moves tree → c.way x (tree.state a) (tree.state a) → (new : List (List ℕ)) → new ≡ old → (r : Result Carried TreeFault) → IsErrAnd r (λ e. e ≡ Memory) → CarriesOut tree c x now a a old new r
+  carried_none moves start new unsaid (Ok ended) memory = absurd memory
+  carried_none moves start new unsaid (Err e) memory = record {
+    ok = tt;
+    said = tt;
+    carried = tt;
+    part = subst (SaidPart (c.whole.says x (tree.state a)) old) (sym unsaid) (part_none (c.whole.says x (tree.state a)) old);
+    acted = acted_none tree moves (c.way x (tree.state a)) (c.steps x (tree.state a)) (c.whole.takes x (tree.state a)) now a (Err e) (no_memory {A = Carried} (Err e) memory) start;
+  }
+
+  -- there is nothing to be done, and all is said
+  pub carried_told : Moves tree → c.way x (tree.state a) (tree.state a) → (new : List (List ℕ)) (ended : Carried) → tree.state a ≡ c.whole.after x (tree.state a) → new ≡ old ++ c.whole.says x (tree.state a)
+      → ended ≡ carried_of (c.whole.is_refused x (tree.state a)) → CarriesOut tree c x now a a old new (Ok ended)
+  carried_told moves start new ended done said is = record {
+    ok = done;
+    said = said;
+    carried = is;
+    part = said_whole (c.whole.says x (tree.state a)) old new said;
+    acted = acted_none tree moves (c.way x (tree.state a)) (c.steps x (tree.state a)) (c.whole.takes x (tree.state a)) now a (Ok ended) refl start;
+  }
+
+  -- the fault of a call on the way is passed on
+  pub carried_failed : {B : Type 0} (b : S) (new : List (List ℕ)) {e : TreeFault} (q : Result B TreeFault) (r : Result Carried TreeFault) → q ≡ Err e → IsErrAnd r (λ y. y ≡ e)
+      → SaidPart (c.whole.says x (tree.state a)) old new → Acted tree (c.way x (tree.state a)) (c.steps x (tree.state a)) (c.whole.takes x (tree.state a)) now a b q
+      → CarriesOut tree c x now a b old new r
+  carried_failed b new q (Ok ended) was passed part acted = absurd passed
+  carried_failed b new q (Err y) was passed part acted = record {
+    ok = tt;
+    said = tt;
+    carried = tt;
+    part = part;
+    acted = acted_passed tree q (Err y) was passed acted;
+  }
+
+-- ---- one after the other
+
+-- all are to be carried out from one tree on, and these are left from another; how those before them ended
+pub record Underway {S A : Type 0} (tree : Ghosts S) (c : Course A) (all left : List A) (now : ℕ) (carried : Carried) (a b : S) (old new : List (List ℕ)) : Type 0 where
+  pub refused : Bool
+  pub ended : carried ≡ carried_of refused
+  pub going : Going c tree all left now refused a b old new
+
+module _ {S A : Type 0} (tree : Ghosts S) (moves : Moves tree) (c : Course A) (start : (x : A) (t : Files) → c.way x t t) (all : List A) (now : ℕ) (a : S) (old : List (List ℕ)) where
+  pub underway_start : Underway tree c all all now Whole a a old old
+  underway_start = record { refused = false; ended = refl; going = going_start c tree moves start all now a old }
+
+  -- ---- one more
+
+  module _ (left rest : List A) (x : A) (next : left ≡ x ∷ rest) (carried : Carried) (b : S) (mid : List (List ℕ)) (under : Underway tree c all left now carried a b old mid) (d : S) (new : List (List ℕ)) where
+    going : Going c tree all (x ∷ rest) now under.refused a b old mid
+    going = subst (λ (xs : List A). Going c tree all xs now under.refused a b old mid) next under.going
+
+    -- that failed
+    pub underway_failed : {e : TreeFault} (q r : Result Carried TreeFault) → q ≡ Err e → IsErrAnd r (λ y. y ≡ e) → CarriesOut tree c x now b d mid new q → CarriesOut tree (each_of c) all now a d old new r
+    underway_failed q r was passed one =
+        carried_failed tree (each_of c) all now a old d new q r was passed
+        (one_part c tree moves start all now a old rest x under.refused b mid going new one.part)
+        (one_within c tree moves start all now a old rest x under.refused b mid going one.acted)
+
+    -- and that ended
+    pub underway_next : (one ended : Carried) → CarriesOut tree c x now b d mid new (Ok one)
+        → ((p q : Bool) → carried ≡ carried_of p → one ≡ carried_of q → ended ≡ carried_of (p || q)) → Underway tree c all rest now ended a d old new
+    underway_next one ended done both = record {
+      refused = under.refused || c.whole.is_refused x (tree.state b);
+      ended = both under.refused (c.whole.is_refused x (tree.state b)) under.ended done.carried;
+      going = going_next c tree moves start all now a old rest x under.refused b mid going d new done.ok done.said done.acted;
+    }
+
+  -- ---- all are carried out
+
+  pub underway_end : (left : List A) → left ≡ [] → (carried : Carried) (b : S) (new : List (List ℕ)) → Underway tree c all left now carried a b old new → CarriesOut tree (each_of c) all now a b old new (Ok carried)
+  underway_end left none carried b new under = record {
+    ok = end_whole c tree moves start all now a old under.refused b new gone;
+    said = end_said c tree moves start all now a old under.refused b new gone;
+    carried = under.ended ∙ ap carried_of (end_refused c tree moves start all now a old under.refused b new gone);
+    part = end_part c tree moves start all now a old under.refused b new gone;
+    acted = end_acted c tree moves start all now a old under.refused b new gone (Ok carried) refl;
+  }
+    where
+      gone : Going c tree all [] now under.refused a b old new
+      gone = subst (λ (xs : List A). Going c tree all xs now under.refused a b old new) none under.going
