@@ -6,6 +6,8 @@ use Rattle.std.specs.FinMap as fin
 use Rattle.std.specs.Option.{option_map_or}
 use Rattle.std.specs.Ordering.{eq_by_cmp, is_eq}
 use Rattle.std.proofs.lemmas.List.Folds.{list_any-append}
+use Rattle.std.proofs.Math.Bool.{and-true, and-false}
+use Rattle.std.proofs.lemmas.Bool.{and_parts, and_from}
 use Rattle.pv_lines.specs.declared.line.Line.{Line}
 use Rattle.pv_path.specs.Paths.{Path, path_cmp, same_path, is_prefix, parent_of}
 use Rattle.pv_path.proofs.PathLaws.{path_ends, parent_of-push, is_prefix-refl}
@@ -16,9 +18,8 @@ use Rattle.pv_steps.proofs.NameLaws.{child_name-Some}
 use Rattle.pv_steps.proofs.TreeLaws.{present_above}
 use Rattle.pv_dress.specs.Edits.{Pruned}
 use Rattle.pv_walk.specs.Removal.{is_one_of}
-use Rattle.pv_walk.proofs.RemovalLaws.{both, both_true}
 use Rattle.pv_find.specs.Whole.{goes_whole}
-use Rattle.pv_find.proofs.FindingLaws.{true_both, one_of-tied, same_tied, and_false, keys_passing, one_above, root_no_child, none_there, any_more}
+use Rattle.pv_find.proofs.FindingLaws.{true_both, one_of-tied, same_tied, keys_passing, one_above, root_no_child, none_there, any_more}
 use Rattle.pv_find.proofs.WholeLaws.{goes_parts, goes_from, goes_whole-same, all_at-each, push_length}
 use Rattle.pv_table.specs.declared.scope.Scope.{Scope}
 use Rattle.pv_table.specs.Cleaned.{is_aged, is_old_by, may_go}
@@ -89,8 +90,8 @@ module _ (lines : List Line) (now : ℕ) (files : Files) where
     where
       by : (o : Option Object) (v : Option Scope)
           → (not (is_some o && list_any (λ line. names line (path ++ n ∷ [])) lines) && is_old_by v now o) ≡ ((true && not (list_any (λ line. names line (path ++ n ∷ [])) lines)) && is_old_by v now o)
-      by None None = sym (and_false (not (list_any (λ line. names line (path ++ n ∷ [])) lines)))
-      by None (Some v) = sym (and_false (not (list_any (λ line. names line (path ++ n ∷ [])) lines)))
+      by None None = sym (and-false (not (list_any (λ line. names line (path ++ n ∷ [])) lines)))
+      by None (Some v) = sym (and-false (not (list_any (λ line. names line (path ++ n ∷ [])) lines)))
       by (Some o) v = refl
 
   same_child : (d q : Path) → (is_some (places files q) && option_map_or (λ n. may_go lines now files (d ++ n ∷ [])) (child_name d q) false) ≡ (is_some (places files q) && option_map_or (λ n. may_go lines now files q) (child_name d q) false)
@@ -110,7 +111,7 @@ module _ (lines : List Line) (now : ℕ) (files : Files) where
         | inl root ↦
             ap (λ (r : Path). list_any (λ d. is_some (places files r) && option_map_or (λ n. may_go lines now files r) (child_name d r) false) all) root
             ∙ none_there (λ n. may_go lines now files []) [] all root_no_child (is_some (places files []))
-            ∙ sym (and_false (is_some (places files [])))
+            ∙ sym (and-false (is_some (places files [])))
             ∙ sym (ap (λ (r : Path). is_some (places files r) && may_go lines now files r) root)
         | inr (above, name, e) ↦
             ap (λ (r : Path). list_any (λ d. is_some (places files r) && option_map_or (λ n. may_go lines now files r) (child_name d r) false) all) e
@@ -135,9 +136,9 @@ module _ (lines : List Line) (now : ℕ) (files : Files) where
   -- what may go whole is aged
   pub goes_aged : (q : Path) → goes_whole (may_go lines now files) files q ≡ is_aged lines now files q
   goes_aged q = true_both (goes_whole (may_go lines now files) files q) (is_aged lines now files q)
-      (λ h. let parts = goes_parts (may_go lines now files) files q h in both_true (is_some (places files q)) (all_at (may_go lines now files) files q) parts.0 parts.2)
+      (λ h. let parts = goes_parts (may_go lines now files) files q h in and_from (is_some (places files q)) (all_at (may_go lines now files) files q) parts.0 parts.2)
       (λ h.
-      let parts = both (is_some (places files q)) (all_at (may_go lines now files) files q) h in
+      let parts = and_parts (is_some (places files q)) (all_at (may_go lines now files) files q) h in
       goes_from (may_go lines now files) files q parts.0 (below_root q (all_at-each (may_go lines now files) files q parts.1 q parts.0 (is_prefix-refl q))) parts.1)
 
   pub whole_aged : (found : List Path) → ((q : Path) → is_one_of found q ≡ (is_some (places files q) && may_go lines now files q)) → (q : Path) → goes_whole (is_one_of found) files q ≡ is_aged lines now files q
@@ -146,12 +147,8 @@ module _ (lines : List Line) (now : ℕ) (files : Files) where
       ∙ goes_aged q
 
   pub found_there : (found : List Path) → ((q : Path) → is_one_of found q ≡ (is_some (places files q) && may_go lines now files q)) → (q : Path) → is_one_of found q ≡ true → is_some (places files q) ≡ true
-  found_there found are q h = (both (is_some (places files q)) (may_go lines now files q) (sym (are q) ∙ h)).0
+  found_there found are q h = (and_parts (is_some (places files q)) (may_go lines now files q) (sym (are q) ∙ h)).0
 
 -- all paths of a tree stand at and below the root
 pub all_keys : (files : Files) (q : Path) → is_one_of (filter (is_prefix []) (fin.keys files)) q ≡ is_some (places files q)
-all_keys files q = keys_passing files (is_prefix []) q ∙ by (is_some (places files q))
-  where
-    by : (b : Bool) → (b && true) ≡ b
-    by true = refl
-    by false = refl
+all_keys files q = keys_passing files (is_prefix []) q ∙ and-true (is_some (places files q))

@@ -1,15 +1,16 @@
 -- Cleaning leaves presence, kind and payload at each path from which lines are read, where none of the lines may change what
 -- is read there: what is cleaned goes by an age that a line gives it from above.
 use Rattle.std.specs.Prelude.{◌≡◌, ℕ, ◌+◌, ◌-◌, ◌==◌, ◌<◌, ◌≤◌, Bool, true, false, cond, not, ◌&&◌, ◌||◌, List, [], ◌∷◌, length, take, drop, Option, None, is_some, option_map, option_and_then}
-use Rattle.std.proofs.Common.{zero, suc, refl, sym, ap, ◌∙◌, arith}
+use Rattle.std.proofs.Common.{zero, suc, refl, ap, ◌∙◌, arith}
+use Rattle.std.proofs.lemmas.Bool.{false_from_ne_true, true_from_ne_false}
 use Rattle.std.proofs.lemmas.List.{take-take}
 use Rattle.std.specs.List.{list_all, list_any}
 use Rattle.std.specs.Option.{option_map_or, option_or}
-use Rattle.pv_steps.specs.Objects.{changed}
-use Rattle.pv_steps.specs.Same.{Same}
+use Rattle.std.proofs.Math.Bool.{and-false}
+use Rattle.std.proofs.lemmas.Bool.{or_right, and_parts}
 use Rattle.pv_age.specs.declared.age.Age.{Age}
 use Rattle.pv_lines.specs.declared.line.Line.{Line}
-use Rattle.pv_path.specs.Paths.{has_staging, has_names, Path, parent_of}
+use Rattle.pv_path.specs.Paths.{has_names, Path, parent_of}
 use Rattle.pv_path.proofs.PathLaws.{is_prefix-refl, length-parent_of}
 use Rattle.pv_steps.specs.declared.step.Step.{Step}
 use Rattle.pv_steps.specs.declared.step.Step.TheVariants.{SetStamps, Unlink, RemoveDir}
@@ -18,20 +19,21 @@ use Rattle.pv_steps.proofs.ContentLaws.{removal_inside}
 use Rattle.pv_steps.specs.Runs.{after_all, Ran}
 use Rattle.pv_steps.specs.Trees.{IsTree, Files, places}
 use Rattle.pv_dress.specs.Edits.{Pruned}
-use Rattle.pv_walk.proofs.RemovalLaws.{apart, both}
-use Rattle.pv_find.proofs.FindingLaws.{and_false}
+use Rattle.pv_walk.proofs.RemovalLaws.{apart}
 use Rattle.pv_find.proofs.WholeLaws.{all_at-each}
 use Rattle.pv_table.specs.declared.reason.Reason.TheVariants as reason
 use Rattle.pv_table.specs.declared.scope.Scope.{Scope}
 use Rattle.pv_table.specs.Asking.{asks}
-use Rattle.pv_table.specs.Cleaned.{cleaned, is_aged, is_old_by, may_go}
-use Rattle.pv_table.specs.Reaching.{is_creating, is_deep, names, sparing_of, spares_below, takes_below, taking_of}
+use Rattle.pv_table.specs.Cleaned.{is_aged, is_old_by, may_go}
+use Rattle.pv_table.specs.Reaching.{governs, is_creating, is_deep, names, sparing_of, spares_below, takes_below, taking_of}
 use Rattle.pv_table.specs.Removed.{all_at}
-use Rattle.pv_table.specs.Repeatable.{HasReason, is_input, is_writing, takes_named}
+use Rattle.pv_layers.specs.Places.{is_input}
+use Rattle.pv_table.specs.Repeatable.{HasReason, is_writing, takes_named}
 use Rattle.pv_table.specs.Scopes.{first_age, gives_age, inherited, is_exempting, is_sparing_itself, own_scope, scope_at, scope_of_first}
 use Rattle.pv_table.proofs.PlaceLaws.{first_place-none, missing}
 use Rattle.pv_clean.specs.Cleaning.{IsCleanStep}
-use Rattle.pv_remove.proofs.InputLaws.{MayChange, governs_below, kept_content, kept_on_run, none_passes, or_last}
+use Rattle.pv_remove.proofs.InputLaws.{MayChange, governs_below, kept_content, kept_on_run, none_passes}
+use Rattle.pv_remove.proofs.RunLaws.{any_weaken}
 
 -- ---- where no line gives an age
 
@@ -59,9 +61,9 @@ module _ (lines : List Line) where
 -- a line with an age that names what a path lies below may change what is read from the path
 aging_may : (line : Line) (q : Path) (k : ℕ) → k < length q + 1 → names line (take k q) ≡ true → is_some line.age ≡ true → MayChange line q
 aging_may line q k within named aged = record {
-  changes = or_last (is_creating line || is_writing line || takes_named (taking_of line)) (is_some line.age) aged;
+  changes = or_right (is_creating line || is_writing line || takes_named (taking_of line)) (is_some line.age) aged;
   governs = governs_below line q k within named (ap (λ b. b || line.purge)
-      (or_last (is_deep (asks line) || takes_below (taking_of line) || option_map_or spares_below (sparing_of line) false) (is_some line.age) aged));
+      (or_right (is_deep (asks line) || takes_below (taking_of line) || option_map_or spares_below (sparing_of line) false) (is_some line.age) aged));
 }
 
 -- a step of a clean phase leaves what does not go
@@ -71,29 +73,47 @@ cleaning_leaves goes t (RemoveDir path) q h stays = removal_inside goes (RemoveD
 cleaning_leaves goes t (SetStamps path access modify) q h stays = refl
 cleaning_leaves goes t step q h stays = absurd h
 
-module _ (lines : List Line) (free : (i : ℕ) → HasReason lines i reason.Input → ⊥) (now : ℕ) (t : Files) (tree : IsTree t) where
-  none_may_go : (q : Path) → is_input q ≡ true → has_names q ≡ true → may_go lines now t q ≡ false
-  none_may_go [] input named = refl
-  none_may_go (name ∷ rest) input named =
+-- where no line gives an age to what a path lies below, it may not go
+module _ (lines : List Line) (now : ℕ) (t : Files) where
+  ageless : (q : Path) → ((k : ℕ) → k < length q + 1 → list_any (gives_age (take k q)) lines ≡ false) → may_go lines now t q ≡ false
+  ageless [] none = refl
+  ageless (name ∷ rest) none =
       ap (λ (s : Option Scope). (not (length (name ∷ rest) == 0) && not (list_any (λ line. names line (name ∷ rest)) lines)) && is_old_by s now (places t (name ∷ rest)))
       (no_scope lines (parent_of (name ∷ rest)) (length (parent_of (name ∷ rest))) none_above)
-      ∙ and_false (not (length (name ∷ rest) == 0) && not (list_any (λ line. names line (name ∷ rest)) lines))
+      ∙ and-false (not (length (name ∷ rest) == 0) && not (list_any (λ line. names line (name ∷ rest)) lines))
     where
       none_above : (j : ℕ) → j ≤ length (parent_of (name ∷ rest)) → list_any (gives_age (take j (parent_of (name ∷ rest)))) lines ≡ false
       none_above j le =
           let up = length-parent_of (name ∷ rest) in
           let front : take j (parent_of (name ∷ rest)) ≡ take j (name ∷ rest) = take-take j (length (name ∷ rest) - 1) (name ∷ rest) (omega (arith, le, up)) in
-          none_passes lines free (name ∷ rest) input named (gives_age (take j (parent_of (name ∷ rest)))) (λ line i at h.
-          let two = both (names line (take j (parent_of (name ∷ rest)))) (is_some line.age) h in
-          aging_may line (name ∷ rest) j (omega (arith, le, up)) (ap (names line) (sym front) ∙ two.0) two.1)
+          ap (λ (path : Path). list_any (gives_age path) lines) front ∙ none j (omega (arith, le, up))
+
+  -- what is aged may go
+  pub aged_goes : (q : Path) → is_aged lines now t q ≡ true → may_go lines now t q ≡ true
+  aged_goes q h =
+      let two = and_parts (is_some (places t q)) (all_at (may_go lines now t) t q) h in
+      all_at-each (may_go lines now t) t q two.1 q two.0 (is_prefix-refl q)
+
+  -- what is aged is governed by a line that gives an age to what it lies below
+  pub aged_governed : (q : Path) → is_aged lines now t q ≡ true → list_any (λ line. governs line q) lines ≡ true
+  aged_governed q h = true_from_ne_false (list_any (λ line. governs line q) lines) (λ away.
+      apart (may_go lines now t q) (aged_goes q h) (ageless q (λ k within.
+      false_from_ne_true (list_any (gives_age (take k q)) lines) (λ some.
+      apart (list_any (λ line. governs line q) lines) (any_weaken (gives_age (take k q)) (λ line. governs line q) (λ line e.
+      let two = and_parts (names line (take k q)) (is_some line.age) e in
+      (aging_may line q k within two.0 two.1).governs) lines some) away))))
+
+module _ (lines : List Line) (free : (i : ℕ) → HasReason lines i reason.Input → ⊥) (now : ℕ) (t : Files) (tree : IsTree t) where
+  none_may_go : (q : Path) → is_input q ≡ true → has_names q ≡ true → may_go lines now t q ≡ false
+  none_may_go q input named = ageless lines now t q (λ k within. none_passes lines free q input named (gives_age (take k q)) (λ line i at h.
+      let two = and_parts (names line (take k q)) (is_some line.age) h in
+      aging_may line q k within two.0 two.1))
 
   pub none_aged : (q : Path) → is_input q ≡ true → is_aged lines now t q ≡ false
   none_aged q input = by (is_aged lines now t q) refl
     where
       by : (b : Bool) → is_aged lines now t q ≡ b → b ≡ false
-      by true h =
-          let two = both (is_some (places t q)) (all_at (may_go lines now t) t q) h in
-          absurd (apart (may_go lines now t q) (all_at-each (may_go lines now t) t q two.1 q two.0 (is_prefix-refl q)) (none_may_go q input (tree.names q two.0)))
+      by true h = absurd (apart (may_go lines now t q) (aged_goes lines now t q h) (none_may_go q input (tree.names q (and_parts (is_some (places t q)) (all_at (may_go lines now t) t q) h).0)))
       by false h = refl
 
   -- at each moment on the way

@@ -1,4 +1,4 @@
 pub mod AgeLaws
 pub mod CleanLaws
 pub mod InputLaws
-pub mod TaskLaws
+pub mod CleanSteps

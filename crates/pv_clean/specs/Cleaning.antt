@@ -9,9 +9,8 @@ use Rattle.pv_steps.specs.Runs.{after_all}
 use Rattle.pv_steps.specs.Same.{bares}
 use Rattle.pv_steps.specs.Trees.{Files, places, IsAbsentIn, IsPresent}
 use Rattle.pv_walk.specs.Listing.{times, is_child}
-use Rattle.pv_walk.specs.Removal.{loses_child, removal}
+use Rattle.pv_walk.specs.Removal.{loses_child, removal_at}
 use Rattle.pv_find.specs.Whole.{count_of}
-use Rattle.pv_clean.specs.declared.tasks.Stamped.{Stamped}
 
 -- a directory stays and loses a child
 abbrev pub stays_and_loses : (Path → Bool) → Files → Path → Bool
@@ -21,27 +20,25 @@ stays_and_loses goes t q = not (goes q) && loses_child goes t q
 abbrev pub is_task : (Path → Bool) → Files → Path → Bool
 is_task goes t q = goes q || loses_child goes t q
 
--- the stamps of access and of modification of what stands at a path; 0 where nothing does
-abbrev pub stamped_at : Files → Path → Stamped
-stamped_at t path = record {
-  path = path;
-  access = option_map_or (λ o. o.node.stamps.access) (places t path) 0;
-  modify = option_map_or (λ o. o.node.stamps.modify) (places t path) 0;
-}
+-- the step that gives a path the stamps of access and of modification that stand there in a tree; 0 where nothing does
+abbrev pub giving_back : Files → Path → Step
+giving_back t path =
+    SetStamps path (option_map_or (λ o. o.node.stamps.access) (places t path) 0) (option_map_or (λ o. o.node.stamps.modify) (places t path) 0)
 
 -- the step at a path: what goes is taken away, what stays gets its stamps back
-abbrev pub task_step : Bool → Bool → Stamped → Step
-task_step going directory s = if going then removal directory s.path else SetStamps s.path s.access s.modify
+abbrev pub clean_step : (Path → Bool) → Files → Path → Step
+clean_step goes t path = if goes path then removal_at t path else giving_back t path
 
 -- each present child of a path that goes stands after it in the list
 abbrev pub GoAfter : (Path → Bool) → Files → List Path → Type 0
 GoAfter goes t [] = ⊤
 GoAfter goes t (p ∷ ps) = ((q : Path) → is_child p q ≡ true → IsPresent t q → goes q ≡ true → 1 ≤ times q ps) × GoAfter goes t ps
 
--- what a clean phase has to do from the last on: each path once with its stamps, and all that goes in one after it
-pub record ArePlanned (goes : Path → Bool) (t : Files) (tasks : List Stamped) : Type 0 where
+-- the steps of a clean phase, from the last on: one at each path that goes or loses a child, and those at all that goes in
+-- it after it in the list
+pub record ArePlanned (goes : Path → Bool) (t : Files) (steps : List Step) : Type 0 where
   pub paths : List Path
-  pub are : tasks ≡ map (stamped_at t) paths
+  pub are : steps ≡ map (clean_step goes t) paths
   pub once : (q : Path) → times q paths ≡ cond (is_some (places t q) && is_task goes t q) 1 0
   pub order : GoAfter goes t paths
 

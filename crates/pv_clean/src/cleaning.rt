@@ -6,9 +6,9 @@ ghost use Rattle.pv_table.specs.Cleaned.{cleaned, is_aged};
 ghost use Rattle.pv_clean.specs.Cleaning.{most_steps, IsCleanStep, TakesOnly};
 
 use crate::aging::aged_paths;
-use crate::tasks::{do_tasks, tasks};
+use crate::steps::clean_steps;
 use pv_lines::Line;
-use pv_steps::{Tree, TreeFault};
+use pv_steps::{Tree, TreeFault, try_all};
 use std::alloc::Global;
 
 /// Takes away what is old enough (tmpfiles.d(5), "Age", x and X), as all of it is judged by the stamps that stand when the
@@ -43,6 +43,6 @@ fn clean<T: Tree>(alloc: Global, tree: &mut T, lines: &[Line], now: u64) -> Resu
         (most_steps (is_aged lines.now now (T.state tree.old)) (T.state tree.old)) now tree.old tree.new result }
 {
     let aged = aged_paths(alloc, tree, lines, now)?;
-    let tasks = tasks(alloc, tree, &aged)?;
-    do_tasks(tree, tasks, &aged, now)
+    let steps = clean_steps(alloc, tree, &aged)?;
+    try_all(tree, steps, now)
 }

@@ -1,5 +1,6 @@
-//! Laws of what cleanings leave on their way. Each function does nothing; its contract is the law.
+//! Laws of what cleanings take, and of what they leave on their way. Each function does nothing; its contract is the law.
 ghost use Rattle.std.specs.Prelude.{◌≡◌, ◌⊎◌, ℕ, List, true};
+ghost use Rattle.std.specs.List.{list_any};
 ghost use Rattle.pv_lines.specs.declared.line.Line.{Line as LineValue};
 ghost use Rattle.pv_path.specs.Paths.{Path};
 ghost use Rattle.pv_steps.specs.Content.{content_of};
@@ -8,7 +9,9 @@ ghost use Rattle.pv_steps.specs.Trees.{Files, places, IsAbsentIn, IsTree};
 ghost use Rattle.pv_dress.specs.Edits.{Pruned};
 ghost use Rattle.pv_table.specs.declared.reason.Reason.TheVariants as reason;
 ghost use Rattle.pv_table.specs.Cleaned.{is_aged};
-ghost use Rattle.pv_table.specs.Repeatable.{HasReason, is_input};
+ghost use Rattle.pv_layers.specs.Places.{is_input};
+ghost use Rattle.pv_table.specs.Reaching.{governs};
+ghost use Rattle.pv_table.specs.Repeatable.{HasReason};
 
 /// Whatever a cleaning on its way has taken away is aged in the tree in which it began, and all else stands as it stood,
 /// stamps aside.
@@ -23,4 +26,10 @@ pub fn a_cleaning_leaves_what_lines_are_read_from()
     ensures { (lines : List LineValue) (now : ℕ) (t u : Files) (q : Path) → IsTree t
         → ((i : ℕ) → HasReason lines i reason.Input → ⊥) → Pruned (is_aged lines now t) t u → is_input q ≡ true
         → content_of (places u q) ≡ content_of (places t q) }
+{}
+
+/// What is aged is governed by a line.
+pub fn what_is_aged_is_governed()
+    ensures { (lines : List LineValue) (now : ℕ) (t : Files) (q : Path) → is_aged lines now t q ≡ true
+        → list_any (λ line. governs line q) lines ≡ true }
 {}

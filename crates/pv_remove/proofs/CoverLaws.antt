@@ -8,6 +8,8 @@ use Rattle.std.proofs.lemmas.Bool.Decides.{nat_tests}
 use Rattle.std.proofs.lemmas.List.FromFn.{length-range_with_len, get_or-range_with_len}
 use Rattle.std.proofs.lemmas.List.Folds.{list_any_at, Any-from_list_any}
 use Rattle.std.proofs.Math.Seq.{take-append_seam}
+use Rattle.std.proofs.Math.Bool.{and-false}
+use Rattle.std.proofs.lemmas.Bool.{and_parts, and_from}
 use Rattle.pv_lines.specs.declared.line.Line.{Line}
 use Rattle.pv_lines.specs.declared.line.LinePath.{LinePath}
 use Rattle.pv_lines.specs.declared.line.LinePath.TheVariants.{Literal, Glob}
@@ -22,8 +24,8 @@ use Rattle.pv_steps.specs.Objects.{is_directory}
 use Rattle.pv_steps.specs.Trees.{Files, places, kind_of, IsTree}
 use Rattle.pv_steps.proofs.TreeLaws.{present_above, directory_above}
 use Rattle.pv_walk.specs.Removal.{is_below, is_one_of}
-use Rattle.pv_walk.proofs.RemovalLaws.{both, both_true, below_parts, is_below-append}
-use Rattle.pv_find.proofs.FindingLaws.{true_both, one_of-tied, any_more, and_false}
+use Rattle.pv_walk.proofs.RemovalLaws.{below_parts, is_below-append}
+use Rattle.pv_find.proofs.FindingLaws.{true_both, one_of-tied, any_more}
 use Rattle.pv_table.specs.declared.taking.Taking.{Taking}
 use Rattle.pv_table.specs.declared.taking.Taking.TheVariants as taking
 use Rattle.pv_table.specs.Reaching.{names, names_in, taking_of}
@@ -36,12 +38,6 @@ use Rattle.pv_remove.specs.Covering.{takes}
 pub if_ok : {A E : Type 0} (P Q : A → Type 0) (r : Result A E) → ((x : A) → P x → Q x) → IfOk r P → IfOk r Q
 if_ok P Q (Ok x) f h = f x h
 if_ok P Q (Err e) f h = h
-
-pub and-swap : (a b : Bool) → (a && b) ≡ (b && a)
-and-swap true true = refl
-and-swap true false = refl
-and-swap false true = refl
-and-swap false false = refl
 
 -- ---- lists
 
@@ -153,11 +149,11 @@ module _ (files : Files) (tree : IsTree files) (line : Line) (q : Path) where
   directory_is p e = ap (λ k. option_map_or is_directory k false) e
 
   off : (a b : Bool) → (a && false) ≡ (b && false)
-  off a b = and_false a ∙ sym (and_false b)
+  off a b = and-false a ∙ sym (and-false b)
 
   none_taken : (ps : List Path) → list_any (λ p. is_none (refused_place line (places files) p) && false) ps ≡ false
   none_taken [] = refl
-  none_taken (p ∷ ps) = ap (λ b. b || list_any (λ r. is_none (refused_place line (places files) r) && false) ps) (and_false (is_none (refused_place line (places files) p))) ∙ none_taken ps
+  none_taken (p ∷ ps) = ap (λ b. b || list_any (λ r. is_none (refused_place line (places files) r) && false) ps) (and-false (is_none (refused_place line (places files) p))) ∙ none_taken ps
 
   pub covers_named : list_any (λ p. is_none (refused_place line (places files) p) && takes (taking_of line) files p q) (filter (names line) (fin.keys files)) ≡ (is_some (places files q) && covers line (places files) q)
   covers_named = by (taking_of line) refl
@@ -166,62 +162,62 @@ module _ (files : Files) (tree : IsTree files) (line : Line) (q : Path) where
       itself = true_both _ _
           (λ h.
           let found = any_in (names line) (λ p. is_none (refused_place line (places files) p) && takes taking.Itself files p q) (fin.keys files) h in
-          let parts = both (is_none (refused_place line (places files) found.0)) (is_some (places files q) && same_path found.0 q) found.3 in
-          let two = both (is_some (places files q)) (same_path found.0 q) parts.1 in
+          let parts = and_parts (is_none (refused_place line (places files) found.0)) (is_some (places files q) && same_path found.0 q) found.3 in
+          let two = and_parts (is_some (places files q)) (same_path found.0 q) parts.1 in
           let same : found.0 ≡ q = (same_path-decides found.0 q).0 two.1 in
-          both_true (is_some (places files q)) (is_named line (places files) q) two.0 (subst (λ (r : Path). is_named line (places files) r ≡ true) same (both_true (names line found.0) (is_none (refused_place line (places files) found.0)) found.2 parts.0)))
+          and_from (is_some (places files q)) (is_named line (places files) q) two.0 (subst (λ (r : Path). is_named line (places files) r ≡ true) same (and_from (names line found.0) (is_none (refused_place line (places files) found.0)) found.2 parts.0)))
           (λ h.
-          let parts = both (is_some (places files q)) (is_named line (places files) q) h in
-          let two = both (names line q) (is_none (refused_place line (places files) q)) parts.1 in
+          let parts = and_parts (is_some (places files q)) (is_named line (places files) q) h in
+          let two = and_parts (names line q) (is_none (refused_place line (places files) q)) parts.1 in
           in_any (names line) (λ p. is_none (refused_place line (places files) p) && takes taking.Itself files p q) (fin.keys files) q (key_there q parts.0) two.0
-          (both_true (is_none (refused_place line (places files) q)) (is_some (places files q) && same_path q q) two.1 (both_true (is_some (places files q)) (same_path q q) parts.0 (same_path-refl q))))
+          (and_from (is_none (refused_place line (places files) q)) (is_some (places files q) && same_path q q) two.1 (and_from (is_some (places files q)) (same_path q q) parts.0 (same_path-refl q))))
 
       whole : list_any (λ p. is_none (refused_place line (places files) p) && takes taking.Whole files p q) (filter (names line) (fin.keys files)) ≡ (is_some (places files q) && list_any (λ k. is_named line (places files) (take k q)) (range_with_len 0 (length q + 1)))
       whole = true_both _ _
           (λ h.
           let found = any_in (names line) (λ p. is_none (refused_place line (places files) p) && takes taking.Whole files p q) (fin.keys files) h in
-          let parts = both (is_none (refused_place line (places files) found.0)) (is_some (places files q) && is_prefix found.0 q) found.3 in
-          let two = both (is_some (places files q)) (is_prefix found.0 q) parts.1 in
+          let parts = and_parts (is_none (refused_place line (places files) found.0)) (is_some (places files q) && is_prefix found.0 q) found.3 in
+          let two = and_parts (is_some (places files q)) (is_prefix found.0 q) parts.1 in
           let rest = prefix_parts found.0 q two.1 in
           let first : take (length found.0) q ≡ found.0 = ap (take (length found.0)) rest.1 ∙ take-append_seam found.0 rest.0 in
           let within : length found.0 < length q + 1 = omega (arith, ap length rest.1, length-append found.0 rest.0) in
-          both_true (is_some (places files q)) (list_any (λ k. is_named line (places files) (take k q)) (range_with_len 0 (length q + 1))) two.0
+          and_from (is_some (places files q)) (list_any (λ k. is_named line (places files) (take k q)) (range_with_len 0 (length q + 1))) two.0
           (in_range (λ k. is_named line (places files) (take k q)) (length q + 1) (length found.0) within
-          (subst (λ (r : Path). is_named line (places files) r ≡ true) (sym first) (both_true (names line found.0) (is_none (refused_place line (places files) found.0)) found.2 parts.0))))
+          (subst (λ (r : Path). is_named line (places files) r ≡ true) (sym first) (and_from (names line found.0) (is_none (refused_place line (places files) found.0)) found.2 parts.0))))
           (λ h.
-          let parts = both (is_some (places files q)) (list_any (λ k. is_named line (places files) (take k q)) (range_with_len 0 (length q + 1))) h in
+          let parts = and_parts (is_some (places files q)) (list_any (λ k. is_named line (places files) (take k q)) (range_with_len 0 (length q + 1))) h in
           let found = from_range (λ k. is_named line (places files) (take k q)) (length q + 1) parts.1 in
           let rest = take_rest_of found.0 q (omega (arith, found.1)) in
-          let two = both (names line (take found.0 q)) (is_none (refused_place line (places files) (take found.0 q))) found.2 in
+          let two = and_parts (names line (take found.0 q)) (is_none (refused_place line (places files) (take found.0 q))) found.2 in
           let there = present_above (places files) tree (take found.0 q) rest.0 (subst (λ (r : Path). is_some (places files r) ≡ true) rest.1 parts.0) in
           let under : is_prefix (take found.0 q) q ≡ true = subst (λ (r : Path). is_prefix (take found.0 q) r ≡ true) (sym rest.1) (is_prefix-append (take found.0 q) rest.0) in
           in_any (names line) (λ p. is_none (refused_place line (places files) p) && takes taking.Whole files p q) (fin.keys files) (take found.0 q) (key_there (take found.0 q) there) two.0
-          (both_true (is_none (refused_place line (places files) (take found.0 q))) (is_some (places files q) && is_prefix (take found.0 q) q) two.1 (both_true (is_some (places files q)) (is_prefix (take found.0 q) q) parts.0 under)))
+          (and_from (is_none (refused_place line (places files) (take found.0 q))) (is_some (places files q) && is_prefix (take found.0 q) q) two.1 (and_from (is_some (places files q)) (is_prefix (take found.0 q) q) parts.0 under)))
 
       contents : list_any (λ p. is_none (refused_place line (places files) p) && takes taking.Contents files p q) (filter (names line) (fin.keys files)) ≡ (is_some (places files q) && list_any (λ k. is_named line (places files) (take k q) && is_directory_at (places files) (take k q)) (range_with_len 0 (length q)))
       contents = true_both _ _
           (λ h.
           let found = any_in (names line) (λ p. is_none (refused_place line (places files) p) && takes taking.Contents files p q) (fin.keys files) h in
-          let parts = both (is_none (refused_place line (places files) found.0)) (is_some (places files q) && is_below found.0 q) found.3 in
-          let two = both (is_some (places files q)) (is_below found.0 q) parts.1 in
+          let parts = and_parts (is_none (refused_place line (places files) found.0)) (is_some (places files q) && is_below found.0 q) found.3 in
+          let two = and_parts (is_some (places files q)) (is_below found.0 q) parts.1 in
           let rest = below_parts found.0 q two.1 in
           let first : take (length found.0) q ≡ found.0 = ap (take (length found.0)) rest.2 ∙ take-append_seam found.0 (rest.0 ∷ rest.1) in
           let within : length found.0 < length q = omega (arith, ap length rest.2, length-append found.0 (rest.0 ∷ rest.1)) in
           let directory = directory_is found.0 (directory_above (places files) tree found.0 rest.0 rest.1 (subst (λ (r : Path). is_some (places files r) ≡ true) rest.2 two.0)) in
-          both_true (is_some (places files q)) (list_any (λ k. is_named line (places files) (take k q) && is_directory_at (places files) (take k q)) (range_with_len 0 (length q))) two.0
+          and_from (is_some (places files q)) (list_any (λ k. is_named line (places files) (take k q) && is_directory_at (places files) (take k q)) (range_with_len 0 (length q))) two.0
           (in_range (λ k. is_named line (places files) (take k q) && is_directory_at (places files) (take k q)) (length q) (length found.0) within
           (subst (λ (r : Path). (is_named line (places files) r && is_directory_at (places files) r) ≡ true) (sym first)
-          (both_true (is_named line (places files) found.0) (is_directory_at (places files) found.0) (both_true (names line found.0) (is_none (refused_place line (places files) found.0)) found.2 parts.0) directory))))
+          (and_from (is_named line (places files) found.0) (is_directory_at (places files) found.0) (and_from (names line found.0) (is_none (refused_place line (places files) found.0)) found.2 parts.0) directory))))
           (λ h.
-          let parts = both (is_some (places files q)) (list_any (λ k. is_named line (places files) (take k q) && is_directory_at (places files) (take k q)) (range_with_len 0 (length q))) h in
+          let parts = and_parts (is_some (places files q)) (list_any (λ k. is_named line (places files) (take k q) && is_directory_at (places files) (take k q)) (range_with_len 0 (length q))) h in
           let found = from_range (λ k. is_named line (places files) (take k q) && is_directory_at (places files) (take k q)) (length q) parts.1 in
           let rest = take_rest_of found.0 q (omega (arith, found.1)) in
-          let one = both (is_named line (places files) (take found.0 q)) (is_directory_at (places files) (take found.0 q)) found.2 in
-          let two = both (names line (take found.0 q)) (is_none (refused_place line (places files) (take found.0 q))) one.0 in
+          let one = and_parts (is_named line (places files) (take found.0 q)) (is_directory_at (places files) (take found.0 q)) found.2 in
+          let two = and_parts (names line (take found.0 q)) (is_none (refused_place line (places files) (take found.0 q))) one.0 in
           let there = present_above (places files) tree (take found.0 q) rest.0 (subst (λ (r : Path). is_some (places files r) ≡ true) rest.1 parts.0) in
           let under : is_below (take found.0 q) q ≡ true = deeper (take found.0 q) rest.0 rest.1 (omega (arith, rest.2, found.1)) in
           in_any (names line) (λ p. is_none (refused_place line (places files) p) && takes taking.Contents files p q) (fin.keys files) (take found.0 q) (key_there (take found.0 q) there) two.0
-          (both_true (is_none (refused_place line (places files) (take found.0 q))) (is_some (places files q) && is_below (take found.0 q) q) two.1 (both_true (is_some (places files q)) (is_below (take found.0 q) q) parts.0 under)))
+          (and_from (is_none (refused_place line (places files) (take found.0 q))) (is_some (places files q) && is_below (take found.0 q) q) two.1 (and_from (is_some (places files q)) (is_below (take found.0 q) q) parts.0 under)))
         where
           deeper : (p r : Path) → q ≡ p ++ r → length p < length q → is_below p q ≡ true
           deeper p [] e less = absurd (omega (arith, less, ap length e, length-append p []))
@@ -231,11 +227,11 @@ module _ (files : Files) (tree : IsTree files) (line : Line) (q : Path) where
       by taking.Itself e = rw e itself
       by taking.Whole e = rw e whole
       by taking.Contents e = rw e contents
-      by taking.Nothing e = rw e (none_taken (filter (names line) (fin.keys files)) ∙ sym (and_false (is_some (places files q))))
+      by taking.Nothing e = rw e (none_taken (filter (names line) (fin.keys files)) ∙ sym (and-false (is_some (places files q))))
 
   -- a line that takes nothing covers nothing
   pub nothing_covered : taking_of line ≡ taking.Nothing → (is_some (places files q) && covers line (places files) q) ≡ false
-  nothing_covered e = rw e (and_false (is_some (places files q)))
+  nothing_covered e = rw e (and-false (is_some (places files q)))
 
 -- ---- sizes
 
@@ -245,7 +241,7 @@ named_short line path is named = by line.path is.fits.path named
   where
     short : (plains : List (List (List Element))) → list_all (λ plain. nat_le (length plain) 4294967295) plains ≡ true → some_matches plains path ≡ true → length path < 2 ^ 32
     short [] all h = cc
-    short (plain ∷ plains) all h = at (matches plain path) refl (both (nat_le (length plain) 4294967295) (list_all (λ p. nat_le (length p) 4294967295) plains) all) h (short plains)
+    short (plain ∷ plains) all h = at (matches plain path) refl (and_parts (nat_le (length plain) 4294967295) (list_all (λ p. nat_le (length p) 4294967295) plains) all) h (short plains)
       where
         at : (b : Bool) → matches plain path ≡ b → (nat_le (length plain) 4294967295 ≡ true) × (list_all (λ p. nat_le (length p) 4294967295) plains ≡ true) → (b || some_matches plains path) ≡ true
             → (list_all (λ p. nat_le (length p) 4294967295) plains ≡ true → some_matches plains path ≡ true → length path < 2 ^ 32) → length path < 2 ^ 32

@@ -1,38 +1,38 @@
 -- Taking away what lines name, or what lines with `$` name, leaves presence, kind and payload at each path from which lines
 -- are read, where none of the lines may change what is read there.
-use Rattle.std.specs.Prelude.{cond, ◌≡◌, ℕ, ◌+◌, ◌-◌, ◌==◌, ◌<◌, ◌≤◌, ◌⊎◌, Bool, true, false, not, ◌&&◌, ◌||◌, List, length, take, drop, Option, Some, None, is_none, is_some, option_map, if◌then◌else◌}
+use Rattle.std.specs.Prelude.{◌≡◌, ℕ, ◌+◌, ◌-◌, ◌==◌, ◌<◌, ◌≤◌, ◌⊎◌, Bool, true, false, not, ◌&&◌, ◌||◌, List, length, take, drop, Option, Some, None, is_none, is_some, option_map, if◌then◌else◌}
 use Rattle.std.proofs.Common.{refl, sym, ap, ◌∙◌, arith, inl, inr}
 use Rattle.std.proofs.Math.Seq.{take-append_seam}
-use Rattle.std.proofs.lemmas.Bool.{eqb-true}
+use Rattle.std.proofs.lemmas.Bool.{eqb-true, or_right, and_parts, and_from}
 use Rattle.std.proofs.lemmas.List.{length-append, take_all}
 use Rattle.std.proofs.lemmas.List.Folds.{Any-from_list_any}
 use Rattle.std.proofs.lemmas.Option.{get_or_from_slice_get, slice_get-get_or, slice_get_within}
 use Rattle.std.specs.List.{AllByRecursion, list_any, range_with_len}
 use Rattle.std.specs.Option.{option_map_or}
-use Rattle.pv_steps.specs.Same.{bares, Same}
 use Rattle.pv_lines.specs.declared.line.Line.{Line}
 use Rattle.pv_lines.specs.declared.line.LinePath.{LinePath}
 use Rattle.pv_lines.specs.declared.line.LinePath.TheVariants.{Literal, Glob}
 use Rattle.pv_lines.specs.Lines.{IsLine, IsLinePath}
 use Rattle.pv_lines.specs.Types.{type_of}
-use Rattle.pv_path.specs.Paths.{has_staging, has_names, Path, is_prefix}
+use Rattle.pv_path.specs.Paths.{has_names, Path, is_prefix}
 use Rattle.pv_path.proofs.PathLaws.{is_prefix-refl, prefix_parts, same_path-refl}
 use Rattle.pv_steps.specs.declared.object.Object.{Object, Object}
 use Rattle.pv_steps.specs.declared.step.Step.{Step}
 use Rattle.pv_steps.specs.Content.{content_of}
-use Rattle.pv_steps.specs.Objects.{modified, bare}
+use Rattle.pv_steps.specs.Objects.{bare}
 use Rattle.pv_steps.specs.Runs.{after_all, Ran}
 use Rattle.pv_steps.specs.Trees.{IsTree, Files, Places, places}
 use Rattle.pv_dress.specs.Edits.{Pruned}
-use Rattle.pv_walk.proofs.RemovalLaws.{apart, both, both_true, zero_or_more}
+use Rattle.pv_walk.proofs.RemovalLaws.{apart, zero_or_more}
 use Rattle.pv_find.proofs.WholeLaws.{goes_parts, all_at-each}
 use Rattle.pv_table.specs.declared.reason.Reason.TheVariants as reason
 use Rattle.pv_table.specs.declared.taking.Taking.{Taking}
 use Rattle.pv_table.specs.declared.taking.Taking.TheVariants as taking
 use Rattle.pv_table.specs.Asking.{asks}
 use Rattle.pv_table.specs.Reaching.{governs, is_creating, is_deep, names, names_above, names_in, path_in, reaches_below, sparing_of, spares_below, takes_below, taking_of}
-use Rattle.pv_table.specs.Removed.{purged, removed, covers, files_without, is_directory_at, is_gone, is_named, is_purged, purges, refused_place}
-use Rattle.pv_table.specs.Repeatable.{HasReason, IsAt, changes_content, is_input, is_writing, takes_named}
+use Rattle.pv_table.specs.Removed.{covers, is_directory_at, is_gone, is_named, is_purged, purges, refused_place}
+use Rattle.pv_table.specs.Repeatable.{HasReason, IsAt, changes_content, is_writing, takes_named}
+use Rattle.pv_layers.specs.Places.{is_input}
 use Rattle.pv_remove.proofs.CoverLaws.{at_place, from_range, in_range}
 use Rattle.pv_remove.proofs.StopLaws.{told_prefix}
 
@@ -52,10 +52,6 @@ module _ (goes : Path → Bool) (t : Files) where
   kept_on_run Q now h u k run n q = kept_content (after_all t (take n (drop (length h) k)) now) q (told_prefix (Pruned goes t) Q now t h u k run n)
 
 -- ---- lines that may change what is read
-
-pub or_last : (a b : Bool) → b ≡ true → (a || b) ≡ true
-or_last true b h = refl
-or_last false b h = h
 
 -- a line may change what is read from a path
 pub record MayChange (line : Line) (q : Path) : Type 0 where
@@ -86,14 +82,14 @@ module _ (line : Line) (q : Path) where
       by : (length q - k ≡ 0) ⊎ (1 ≤ length q - k) → governs line q ≡ true
       by (inl z) = named_governs (ap (names line) (sym (take_all k q (omega (arith, z)))) ∙ named)
       by (inr m) = ap (λ b. b || (is_creating line && is_prefix q (path_in line.path)))
-          (or_last (names line q) (reaches_below line && names_above line q)
-          (both_true (reaches_below line) (names_above line q) deep (in_range (λ j. names line (take j q)) (length q) k (omega (arith, m)) named)))
+          (or_right (names line q) (reaches_below line && names_above line q)
+          (and_from (reaches_below line) (names_above line q) deep (in_range (λ j. names line (take j q)) (length q) k (omega (arith, m)) named)))
 
 -- ---- what is covered
 
 module _ (line : Line) where
   taking_changes : (v : Taking) → taking_of line ≡ v → takes_named v ≡ true → changes_content line ≡ true
-  taking_changes v e h = ap (λ b. b || is_some line.age) (or_last (is_creating line || is_writing line) (takes_named (taking_of line)) (ap takes_named e ∙ h))
+  taking_changes v e h = ap (λ b. b || is_some line.age) (or_right (is_creating line || is_writing line) (takes_named (taking_of line)) (ap takes_named e ∙ h))
 
   creating_changes : is_creating line ≡ true → changes_content line ≡ true
   creating_changes h = ap (λ b. ((b || is_writing line) || takes_named (taking_of line)) || is_some line.age) h
@@ -101,7 +97,7 @@ module _ (line : Line) where
   taking_reaches : (v : Taking) → taking_of line ≡ v → takes_below v ≡ true → reaches_below line ≡ true
   taking_reaches v e h =
       ap (λ b. ((b || option_map_or spares_below (sparing_of line) false) || is_some line.age) || line.purge)
-      (or_last (is_deep (asks line)) (takes_below (taking_of line)) (ap takes_below e ∙ h))
+      (or_right (is_deep (asks line)) (takes_below (taking_of line)) (ap takes_below e ∙ h))
 
   module _ (is : IsLine line) where
     makes_creating : is.row.creates ≡ true → is_creating line ≡ true
@@ -131,11 +127,11 @@ module _ (line : Line) where
         letter false false true h e = eqb-true line.letter 68 h
         letter false false false h e = absurd cc
 
-    covering_may : (t : Places) (q : Path) → covers line t q ≡ true → MayChange line q
+    pub covering_may : (t : Places) (q : Path) → covers line t q ≡ true → MayChange line q
     covering_may t q = by (taking_of line) refl
       where
         unrefused : (p : Path) → is_named line t p ≡ true → names line p ≡ true
-        unrefused p h = (both (names line p) (is_none (refused_place line t p)) h).0
+        unrefused p h = (and_parts (names line p) (is_none (refused_place line t p)) h).0
 
         itself : taking_of line ≡ taking.Itself → is_named line t q ≡ true → MayChange line q
         itself e h = record { changes = taking_changes taking.Itself e refl; governs = named_governs line q (unrefused q h) }
@@ -151,7 +147,7 @@ module _ (line : Line) where
         contents : taking_of line ≡ taking.Contents → list_any (λ k. is_named line t (take k q) && is_directory_at t (take k q)) (range_with_len 0 (length q)) ≡ true → MayChange line q
         contents e h =
             let found = from_range (λ k. is_named line t (take k q) && is_directory_at t (take k q)) (length q) h in
-            let named = (both (is_named line t (take found.0 q)) (is_directory_at t (take found.0 q)) found.2).0 in
+            let named = (and_parts (is_named line t (take found.0 q)) (is_directory_at t (take found.0 q)) found.2).0 in
             record {
               changes = creating_changes (makes_creating (emptying_makes e));
               governs = governs_below line q found.0 (omega (arith, found.1)) (unrefused (take found.0 q) named) (taking_reaches taking.Contents e refl);
@@ -165,17 +161,17 @@ module _ (line : Line) where
 
     -- ---- what is purged
 
-    purging_may : (t : Places) (q : Path) → purges line t q ≡ true → MayChange line q
+    pub purging_may : (t : Places) (q : Path) → purges line t q ≡ true → MayChange line q
     purging_may t q h =
-        let one = both (line.purge && is_prefix (path_in line.path) q) (is_none (refused_place line t (path_in line.path))) h in
-        let two = both line.purge (is_prefix (path_in line.path) q) one.0 in
+        let one = and_parts (line.purge && is_prefix (path_in line.path) q) (is_none (refused_place line t (path_in line.path))) h in
+        let two = and_parts line.purge (is_prefix (path_in line.path) q) one.0 in
         let makes : is.row.creates ≡ true = is.fits.purge two.0 in
         let parts = prefix_parts (path_in line.path) q two.1 in
         let front : take (length (path_in line.path)) q ≡ path_in line.path = ap (take (length (path_in line.path))) parts.1 ∙ take-append_seam (path_in line.path) parts.0 in
         record {
           changes = creating_changes (makes_creating makes);
           governs = governs_below line q (length (path_in line.path)) (omega (arith, ap length parts.1, length-append (path_in line.path) parts.0)) (ap (names line) front ∙ makes_named makes)
-              (or_last (is_deep (asks line) || takes_below (taking_of line) || option_map_or spares_below (sparing_of line) false || is_some line.age) line.purge two.0);
+              (or_right (is_deep (asks line) || takes_below (taking_of line) || option_map_or spares_below (sparing_of line) false || is_some line.age) line.purge two.0);
         }
 
 -- ---- the two phases
@@ -200,9 +196,9 @@ module _ (lines : List Line) (are : AllByRecursion IsLine lines) (free : (i : �
     where
       by : (b : Bool) → is_purged lines t q ≡ b → b ≡ false
       by true h = absurd (apart (list_any (λ line. purges line (places t) q) lines)
-          (both (is_some (places t q) && not (length q == 0)) (list_any (λ line. purges line (places t) q) lines) h).1
-          (none_passes lines free q input (tree.names q (both (is_some (places t q)) (not (length q == 0))
-          (both (is_some (places t q) && not (length q == 0)) (list_any (λ line. purges line (places t) q) lines) h).0).0)
+          (and_parts (is_some (places t q) && not (length q == 0)) (list_any (λ line. purges line (places t) q) lines) h).1
+          (none_passes lines free q input (tree.names q (and_parts (is_some (places t q)) (not (length q == 0))
+          (and_parts (is_some (places t q) && not (length q == 0)) (list_any (λ line. purges line (places t) q) lines) h).0).0)
           (λ line. purges line (places t) q) (λ line i at. purging_may line (is_at line i at) (places t) q)))
       by false h = refl
 

@@ -1,10 +1,9 @@
 -- Laws of what is said of lines, one after the other.
-use Rattle.std.specs.Prelude.{◌≡◌, ℕ, ◌+◌, ◌^◌, ◌<◌, List, [], ◌∷◌, ◌++◌, length, map, take, drop, filter, Some, None, slice_get}
+use Rattle.std.specs.Prelude.{◌≡◌, ℕ, ◌+◌, ◌^◌, ◌<◌, List, [], ◌∷◌, ◌++◌, length, map, take, filter}
 use Rattle.std.proofs.Common.{refl, sym, ap, subst, ◌∙◌, arith, zero, suc, append_assoc, get_or}
 use Rattle.std.specs.List.{flat_map}
 use Rattle.std.specs.FinMap as fin
 use Rattle.std.proofs.lemmas.List.{flat_map_more, map-append, take_more}
-use Rattle.std.proofs.Math.Seq.{take-add}
 use Rattle.pv_lines.specs.declared.line.Line.{Line}
 use Rattle.pv_lines.specs.declared.line.LinePath.{LinePath}
 use Rattle.pv_lines.specs.declared.line.LinePath.TheVariants.{Literal, Glob}
@@ -32,22 +31,6 @@ pub map_more : {A B C : Type 0} (g : B → C) (f : A → List B) (items : List A
 map_more g f items i x old now new within is before after =
     after ∙ ap (λ bs. bs ++ map g (f x)) before ∙ append_assoc old (map g (flat_map f (take i items))) (map g (f x))
     ∙ ap (λ bs. old ++ bs) (sym (map-append g (flat_map f (take i items)) (f x)) ∙ ap (map g) (flat_map_more f [] (take i items) x ∙ ap (flat_map f) (taken_more items i x within is)))
-
--- ---- one line of what is said
-
-pub at_line : (i : ℕ) (xs : List (List ℕ)) (x : List ℕ) → slice_get xs i ≡ Some x → take 1 (drop i xs) ≡ x ∷ []
-at_line i [] x e = cc
-at_line zero (y ∷ xs) x e = let same : y ≡ x = cc in ap (λ z. z ∷ []) same
-at_line (suc i) (y ∷ xs) x e = at_line i xs x e
-
-pub past_lines : (i : ℕ) (xs : List (List ℕ)) → slice_get xs i ≡ None → take 1 (drop i xs) ≡ []
-past_lines zero [] e = refl
-past_lines (suc i) [] e = refl
-past_lines zero (y ∷ xs) e = cc
-past_lines (suc i) (y ∷ xs) e = past_lines i xs e
-
-pub line_more : (i : ℕ) (xs old now new : List (List ℕ)) → now ≡ old ++ take i xs → new ≡ now ++ take 1 (drop i xs) → new ≡ old ++ take (i + 1) xs
-line_more i xs old now new before after = after ∙ ap (λ ys. ys ++ take 1 (drop i xs)) before ∙ append_assoc old (take i xs) (take 1 (drop i xs)) ∙ ap (λ ys. old ++ ys) (sym (take-add i 1 xs))
 
 -- ---- sizes
 

@@ -1,4 +1,5 @@
 pub mod CoverLaws
+pub mod GovernedLaws
 pub mod InputLaws
 pub mod JudgeLaws
 pub mod RunLaws

@@ -4,6 +4,7 @@ use Rattle.std.proofs.Common.{refl, sym, ap, ◌∙◌, suc}
 use Rattle.std.proofs.lemmas.Bool.Decides.{nat_tests}
 use Rattle.std.proofs.Common.{arith}
 use Rattle.std.specs.List.{list_any}
+use Rattle.std.proofs.Math.Bool.{and-true}
 use Rattle.pv_lines.specs.declared.line.Line.{Line}
 use Rattle.pv_path.specs.Paths.{Path, is_prefix}
 use Rattle.pv_path.proofs.PathLaws.{is_prefix-refl, is_prefix-trans}
@@ -30,6 +31,12 @@ below_no_root (n ∷ p) (m ∷ q) under h = more (length q)
     more : (k : ℕ) → not (suc k == 0) ≡ true
     more k = let no : (suc k == 0) ≡ false = grind (arith, nat_tests) in ap not no
 
+-- what goes whole goes with all that stands below it
+pub goes_below : (test : Path → Bool) (t : Files) (p q : Path) → goes_whole test t p ≡ true → is_prefix p q ≡ true → is_some (places t q) ≡ true → goes_whole test t q ≡ true
+goes_below test t p q h under there =
+    let parts = goes_parts test t p h in
+    goes_from test t q there (below_no_root p q under parts.1) (each-all_at test t q (λ r at below. all_at-each test t p parts.2 r at (is_prefix-trans p q r under below)))
+
 -- what goes whole with others that go whole
 pub goes_again : (test : Path → Bool) (t : Files) (q : Path) → goes_whole (goes_whole test t) t q ≡ goes_whole test t q
 goes_again test t q = true_both (goes_whole (goes_whole test t) t q) (goes_whole test t q)
@@ -38,8 +45,7 @@ goes_again test t q = true_both (goes_whole (goes_whole test t) t q) (goes_whole
     all_at-each (goes_whole test t) t q parts.2 q parts.0 (is_prefix-refl q))
     (λ h.
     let parts = goes_parts test t q h in
-    goes_from (goes_whole test t) t q parts.0 parts.1 (each-all_at (goes_whole test t) t q (λ r there under.
-    goes_from test t r there (below_no_root q r under parts.1) (each-all_at test t r (λ s at below. all_at-each test t q parts.2 s at (is_prefix-trans q r s under below))))))
+    goes_from (goes_whole test t) t q parts.0 parts.1 (each-all_at (goes_whole test t) t q (λ r there under. goes_below test t q r h under there)))
 
 -- paths that go whole by some test go whole with each other
 pub goes_together : (keys : List Path) (test : Path → Bool) (t : Files) → ((q : Path) → is_one_of keys q ≡ goes_whole test t q) → (q : Path) → is_one_of keys q ≡ goes_whole (is_one_of keys) t q
@@ -65,8 +71,8 @@ removal_mended lines Q now t h u k fits tree run = run_mends (removed lines) (is
 
 -- ---- purging
 
--- where all below a path passes with it, what passes goes whole
-any_weaken : {A : Type 0} (f g : A → Bool) → ((x : A) → f x ≡ true → g x ≡ true) → (xs : List A) → list_any f xs ≡ true → list_any g xs ≡ true
+-- where one test passes what another does, some pass it where some pass the other
+pub any_weaken : {A : Type 0} (f g : A → Bool) → ((x : A) → f x ≡ true → g x ≡ true) → (xs : List A) → list_any f xs ≡ true → list_any g xs ≡ true
 any_weaken f g more [] h = cc
 any_weaken f g more (x ∷ xs) h = by (f x) refl (any_weaken f g more xs) h
   where
@@ -92,14 +98,10 @@ purges_is line t path q purge is unrefused = sym (
     ap (λ b. (b && is_prefix (path_in line.path) q) && is_none (refused_place line t (path_in line.path))) purge
     ∙ ap (λ (p : Path). is_prefix p q && is_none (refused_place line t p)) (sym is)
     ∙ ap (λ (r : Option (ℕ × Why)). is_prefix path q && is_none r) unrefused
-    ∙ and_true (is_prefix path q))
-  where
-    and_true : (b : Bool) → (b && true) ≡ b
-    and_true true = refl
-    and_true false = refl
+    ∙ and-true (is_prefix path q))
 
 -- what is purged goes whole
-purges_whole : (lines : List Line) (t : Files) (q : Path) → goes_whole (λ r. list_any (λ line. purges line (places t) r) lines) t q ≡ is_purged lines t q
+pub purges_whole : (lines : List Line) (t : Files) (q : Path) → goes_whole (λ r. list_any (λ line. purges line (places t) r) lines) t q ≡ is_purged lines t q
 purges_whole lines t q = by (is_some (places t q)) refl
   where
     by : (b : Bool) → is_some (places t q) ≡ b

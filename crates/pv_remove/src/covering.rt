@@ -13,7 +13,7 @@ use pv_lines::Line;
 use pv_path::TreePath;
 use pv_steps::{Tree, Why};
 use pv_table::{Taking, taking_of};
-use pv_walk::{Walked, below, walk};
+use pv_walk::{below, refusal_of};
 use std::alloc::{AllocError, Global};
 
 /// The present paths that some line covers, in no order.
@@ -129,8 +129,5 @@ pub(crate) fn refusal<T: Tree>(
     requires { length path.now < 2 ^ 32 }
     ensures { IfOk result (λ refusal. refusal ≡ refused_place line.now (places (T.state tree.now)) path.now) }
 {
-    match walk(alloc, tree, path, owner_given(line))? {
-        Walked::Refused(place, why) => Ok(Some((place, why))),
-        Walked::Present | Walked::Absent(_) => Ok(None),
-    }
+    refusal_of(alloc, tree, path, owner_given(line))
 }

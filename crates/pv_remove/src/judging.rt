@@ -12,10 +12,10 @@ ghost use Rattle.pv_table.specs.Removed.{is_directory_at, is_gone, is_unfinished
 
 use crate::covering::refusal;
 use pv_find::{is_among, named_paths};
-use pv_lines::{Line, LinePath};
+use pv_lines::Line;
 use pv_path::{TreePath, print_path};
 use pv_steps::{Kind, Tree, is_directory, kind_at};
-use pv_table::{Taking, say_left, say_refused, taking_of};
+use pv_table::{Taking, path_of, say_left, say_refused, taking_of};
 use pv_text::{Messages, Place};
 use std::alloc::{AllocError, Global};
 use std::collections::BTreeSet;
@@ -79,20 +79,10 @@ fn judged_paths<T: Tree>(alloc: Global, tree: &T, line: &Line) -> Result<Vec<Tre
 fn own_path(alloc: Global, line: &Line) -> Result<Vec<TreePath>, AllocError>
     ensures { IfOk result (λ paths. paths.items ≡ path_in line.now.path ∷ []) }
 {
-    let path = path_in(alloc, line)?;
+    let path = path_of(alloc, line)?;
     let mut paths = Vec::new(alloc);
     paths.push(path)?;
     Ok(paths)
-}
-
-/// The path of a line that names one path; the root for a pattern.
-pub(crate) fn path_in(alloc: Global, line: &Line) -> Result<TreePath, AllocError>
-    ensures { IfOk result (λ path. path ≡ path_in line.now.path) }
-{
-    match &line.path {
-        LinePath::Literal(path) => path.copy(),
-        LinePath::Glob(_) => Ok(TreePath::root(alloc)),
-    }
 }
 
 /// Says of a line at one path what is to be said, and whether it was not carried out there.

@@ -1,7 +1,7 @@
-//! Laws of removals and purges that were cut short, and of what both leave on their way. Each function does nothing; its
-//! contract is the law.
+//! Laws of removals and purges that were cut short, of what both take, and of what they leave on their way. Each function
+//! does nothing; its contract is the law.
 ghost use Rattle.std.specs.Prelude.{◌≡◌, ℕ, List, true};
-ghost use Rattle.std.specs.List.{AllByRecursion};
+ghost use Rattle.std.specs.List.{AllByRecursion, list_any};
 ghost use Rattle.pv_lines.specs.declared.line.Line.{Line as LineValue};
 ghost use Rattle.pv_lines.specs.Lines.{IsLine};
 ghost use Rattle.pv_path.specs.Paths.{Path};
@@ -10,8 +10,10 @@ ghost use Rattle.pv_steps.specs.Same.{Same};
 ghost use Rattle.pv_steps.specs.Trees.{Files, places, IsTree};
 ghost use Rattle.pv_dress.specs.Edits.{Pruned};
 ghost use Rattle.pv_table.specs.declared.reason.Reason.TheVariants as reason;
+ghost use Rattle.pv_table.specs.Reaching.{governs};
 ghost use Rattle.pv_table.specs.Removed.{is_gone, is_purged, purged, removed};
-ghost use Rattle.pv_table.specs.Repeatable.{HasReason, is_input};
+ghost use Rattle.pv_layers.specs.Places.{is_input};
+ghost use Rattle.pv_table.specs.Repeatable.{HasReason};
 
 /// From a tree in which a removal may have been cut short, a whole removal leaves what it leaves from the start, at
 /// whatever moment, whatever the lines; stamps and staging names aside.
@@ -39,4 +41,16 @@ pub fn a_purge_leaves_what_lines_are_read_from()
     ensures { (lines : List LineValue) (t u : Files) (q : Path) → IsTree t → AllByRecursion IsLine lines
         → ((i : ℕ) → HasReason lines i reason.Input → ⊥) → Pruned (is_purged lines t) t u → is_input q ≡ true
         → content_of (places u q) ≡ content_of (places t q) }
+{}
+
+/// What goes in the remove phase is governed by a line.
+pub fn what_is_removed_is_governed()
+    ensures { (lines : List LineValue) (t : Files) (q : Path) → AllByRecursion IsLine lines → is_gone lines t q ≡ true
+        → list_any (λ line. governs line q) lines ≡ true }
+{}
+
+/// The same of purging.
+pub fn what_is_purged_is_governed()
+    ensures { (lines : List LineValue) (t : Files) (q : Path) → AllByRecursion IsLine lines → is_purged lines t q ≡ true
+        → list_any (λ line. governs line q) lines ≡ true }
 {}

@@ -5,12 +5,11 @@ ghost use Rattle.pv_walk.specs.Removal.{is_one_of};
 ghost use Rattle.pv_find.specs.Whole.{goes_whole};
 ghost use Rattle.pv_remove.specs.Ended.{TakesAway};
 
-use crate::ending::{carried_of, say_all};
 use crate::taking_away::take_away;
 use pv_doing::Carried;
 use pv_path::TreePath;
 use pv_steps::{Tree, TreeFault};
-use pv_text::Messages;
+use pv_text::{Messages, say_all};
 use std::alloc::Global;
 use std::collections::BTreeSet;
 
@@ -43,6 +42,6 @@ pub(crate) fn carry_out<T: Tree>(
         unfinished,
     } = plan;
     take_away(alloc, tree, paths, now)?;
-    say_all(messages, &said)?;
-    Ok(carried_of(unfinished))
+    say_all(&said, messages)?;
+    Ok(Carried::of(unfinished))
 }

@@ -11,14 +11,13 @@ ghost use Rattle.pv_table.specs.Removed.{is_purge_unfinished, is_purged, purge_r
 ghost use Rattle.pv_remove.specs.Ended.{IsMended, TakesAway};
 
 use crate::covering::refusal;
-use crate::judging::path_in;
 use crate::plan::{Plan, carry_out};
 use pv_doing::Carried;
 use pv_find::{at_and_below, whole_of};
 use pv_lines::Line;
 use pv_path::TreePath;
 use pv_steps::{Tree, TreeFault, Why, is_present};
-use pv_table::say_refused;
+use pv_table::{path_of, say_refused};
 use pv_text::Messages;
 use std::alloc::{AllocError, Global};
 
@@ -93,7 +92,7 @@ fn paths_of<T: Tree>(alloc: Global, tree: &T, line: &Line) -> Result<Vec<TreePat
     if !line.purge {
         return Ok(Vec::new(alloc));
     }
-    let path = path_in(alloc, line)?;
+    let path = path_of(alloc, line)?;
     match refusal(alloc, tree, line, &path)? {
         Some(_) => Ok(Vec::new(alloc)),
         None => at_and_below(alloc, tree, &path),
@@ -129,7 +128,7 @@ fn judge_purge_line<T: Tree>(
     ensures said { OnOk result (said.new ≡ said.old ++ map (said_at line.now.place) (purge_texts line.now (places (T.state tree.now)))) }
     ensures unfinished { IfOk result (λ unfinished. unfinished ≡ is_some (purge_refusal line.now (places (T.state tree.now)))) }
 {
-    let path = path_in(alloc, line)?;
+    let path = path_of(alloc, line)?;
     match purge_refusal(alloc, tree, line, &path)? {
         Some((place, why)) => {
             say_refused(alloc, &line.place, &path, place, why, said)?;

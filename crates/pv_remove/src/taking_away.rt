@@ -30,5 +30,5 @@ pub(crate) fn take_away<T: Tree>(
         (count_of (is_one_of paths.keys) (T.state tree.old)) now tree.old tree.new result }
 {
     let ordered = deepest_last(alloc, paths)?;
-    remove_all(tree, ordered, now)
+    remove_all(alloc, tree, ordered, now)
 }

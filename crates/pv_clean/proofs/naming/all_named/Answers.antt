@@ -1,17 +1,18 @@
 use Rattle.std.proofs.Common.{◌&&◌, ◌∙◌, sym, ap, List, is_some}
 use Rattle.std.specs.List.{list_any}
 use Rattle.std.proofs.lemmas.List.{take_all}
+use Rattle.std.proofs.Math.Bool.{and-false}
 use Rattle.pv_lines.specs.declared.line.Line.{Line}
 use Rattle.pv_path.specs.Paths.{Path}
 use Rattle.pv_steps.specs.Trees.{places}
 use Rattle.pv_walk.specs.Removal.{is_one_of}
 use Rattle.pv_table.specs.Reaching.{names}
-use Rattle.pv_find.proofs.FindingLaws.{and_false, keys_passing}
+use Rattle.pv_find.proofs.FindingLaws.{keys_passing}
 use Rattle.pv_clean.proofs.AgeLaws.{named_more}
 use Rattle.pv_clean.proofs.naming.all_named.Goals as goal
 
 pub loop-line-init : goal.loop-line-init
-loop-line-init g c = λ q. ap (λ (xs : List Path). is_one_of xs q) c.new-named.ensures.empty ∙ sym (and_false (is_some (places (g.T.Tree.state c.args.tree.now) q)))
+loop-line-init g c = λ q. ap (λ (xs : List Path). is_one_of xs q) c.new-named.ensures.empty ∙ sym (and-false (is_some (places (g.T.Tree.state c.args.tree.now) q)))
 
 pub loop-line-preserved : goal.loop-line-preserved
 loop-line-preserved g c = λ q.

@@ -1,12 +1,13 @@
 use Rattle.std.proofs.Common.{◌≡◌, ◌∙◌, sym, ap, List, filter}
 use Rattle.std.specs.FinMap as fin
+use Rattle.std.proofs.Math.Bool.{and_comm}
 use Rattle.pv_path.specs.Paths.{Path, is_prefix, same_path}
 use Rattle.pv_walk.specs.Removal.{is_below, is_one_of}
 use Rattle.pv_walk.specs.Listing.{IsListing}
 use Rattle.pv_find.proofs.FindingLaws.{keys_passing, listed_are}
 use Rattle.pv_table.specs.declared.taking.Taking.{Taking}
 use Rattle.pv_remove.specs.Covering.{takes}
-use Rattle.pv_remove.proofs.CoverLaws.{and-swap, if_ok}
+use Rattle.pv_remove.proofs.CoverLaws.{if_ok}
 use Rattle.pv_remove.proofs.covering.taken_paths.Goals as goal
 
 pub returns-in-Itself : goal.returns-in-Itself
@@ -28,4 +29,4 @@ returns-in-Contents g c =
     let t = g.T.Tree.state c.args.tree.now in
     let path = c.args.path.now in
     if_ok (λ paths. IsListing t path paths.items) (λ paths. (q : Path) → is_one_of paths.items q ≡ takes c.args.taking t path q) c.below.result
-    (λ paths l q. listed_are t path paths.items l q ∙ and-swap (is_below path q) _ ∙ ap (λ (v : Taking). takes v t path q) (sym c.in-Contents.is)) c.below.ensures.all
+    (λ paths l q. listed_are t path paths.items l q ∙ and_comm (is_below path q) _ ∙ ap (λ (v : Taking). takes v t path q) (sym c.in-Contents.is)) c.below.ensures.all

@@ -13,7 +13,7 @@ pub returns : goal.returns
 returns g c = record {
   ok = c.in_ok-take_away.ensures.gone;
   said = c.in_ok-say_all.ensures.ok;
-  carried = c.carried_of.ensures;
+  carried = c.of.ensures;
   part = c.say_all.ensures.part;
   silent = λ failed. cc;
   acted = acted_ended g.T.Tree _ refl c.in_ok-take_away.ensures.acted;

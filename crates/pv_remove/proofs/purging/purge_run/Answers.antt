@@ -1,5 +1,4 @@
-use Rattle.std.proofs.Common.{◌≡◌, Bool}
-use Rattle.pv_path.specs.Paths.{Path}
+use Rattle.std.proofs.Common.{◌≡◌}
 use Rattle.pv_steps.specs.Content.{Removes}
 use Rattle.pv_steps.proofs.ActingLaws.{Moves}
 use Rattle.pv_walk.specs.Removal.{is_one_of}

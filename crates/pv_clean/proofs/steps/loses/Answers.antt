@@ -3,7 +3,7 @@ use Rattle.std.specs.List.{list_any}
 use Rattle.std.proofs.lemmas.List.{take_all}
 use Rattle.pv_walk.specs.Removal.{is_one_of}
 use Rattle.pv_find.proofs.FindingLaws.{no_names}
-use Rattle.pv_clean.proofs.tasks.loses.Goals as goal
+use Rattle.pv_clean.proofs.steps.loses.Goals as goal
 
 pub returns-then-not-is_directory : goal.returns-then-not-is_directory
 returns-then-not-is_directory g c =

@@ -1,7 +1,0 @@
-use Rattle.std.proofs.Common.{◌≡◌, ◌++◌, map, filter, take}
-use Rattle.pv_walk.specs.Removal.{is_one_of}
-use Rattle.pv_clean.specs.Cleaning.{is_task, stamped_at}
-use Rattle.pv_clean.proofs.tasks.tasks.Given as goal
-
-abbrev pub invariant-loop-path : goal.invariant-loop-path
-invariant-loop-path g l = l.found.items ≡ l.initial.found.items ++ map (stamped_at (g.T.Tree.state l.tree)) (filter (is_task (is_one_of l.going.keys) (g.T.Tree.state l.tree)) (take l.path-index l.path-items))
