@@ -3,6 +3,7 @@ use Rattle.std.proofs.Common.{◌≡◌, ℕ, Bool, true, false, ◌||◌, ◌==
 use Rattle.std.specs.Prelude.{find}
 use Rattle.std.specs.Option.{option_map_or}
 use Rattle.std.proofs.lemmas.Bool.{eqb-true}
+use Rattle.std.proofs.lemmas.Option.{same_Some}
 use Rattle.pv_path.specs.Paths.{Path, has_names, has_staging, is_prefix}
 use Rattle.pv_lines.specs.declared.line.Argument.{Argument}
 use Rattle.pv_lines.specs.declared.line.Argument.TheVariants as argument
@@ -59,9 +60,6 @@ found_copies (row ∷ rows) each line h = by (row.0 == line.letter) refl (found_
     by true e rest h = sym (eqb-true row.0 line.letter e) ∙ each.0 line h
     by false e rest h = rest h
 
-some_same : {A : Type 0} (x y : A) → Some x ≡ Some y → x ≡ y
-some_same x y e = cc
-
 module _ (line : Line) (is : IsLine line) (source : Path) (copies_it : copied (asks line) ≡ Some source) where
   letter_is : line.letter ≡ 67
   letter_is = found_copies deeds rows_copy line (ap is_some copies_it)
@@ -70,10 +68,10 @@ module _ (line : Line) (is : IsLine line) (source : Path) (copies_it : copied (a
   row_is = ap type_of (sym letter_is) ∙ is.is_type
 
   creates : is.row.creates ≡ true
-  creates = ap (λ row. row.creates) (sym (some_same _ is.row row_is))
+  creates = ap (λ row. row.creates) (sym (same_Some _ is.row row_is))
 
   configured : (path : Path) → IsArgument is.row.wanted (argument.Source path) → IsConfigured path
-  configured path = subst (λ row. IsArgument row.wanted (argument.Source path) → IsConfigured path) (some_same _ is.row row_is) (λ h. h)
+  configured path = subst (λ row. IsArgument row.wanted (argument.Source path) → IsConfigured path) (same_Some _ is.row row_is) (λ h. h)
 
   pub copy_literal : line.path ≡ Literal (path_in line.path)
   copy_literal = by line.path is.fits.path
@@ -89,7 +87,7 @@ module _ (line : Line) (is : IsLine line) (source : Path) (copies_it : copied (a
   source_unstaged = sym (ap has_staging argument_is) ∙ by line.argument is.fits.argument
     where
       argument_is : source_of line.argument ≡ source
-      argument_is = some_same (source_of line.argument) source (sym (ap copied copying_is) ∙ copies_it)
+      argument_is = same_Some (source_of line.argument) source (sym (ap copied copying_is) ∙ copies_it)
 
       by : (a : Argument) → IsArgument is.row.wanted a → has_staging (source_of a) ≡ false
       by (argument.FileBytes bytes) h = refl

@@ -43,7 +43,3 @@ sources_clear lines are paths same = subst (All (λ path. has_staging path ≡ f
     each k l =
         let found = source_of lines k l in
         source_unstaged found.1 (subst IsLine (get_or_from_slice_get lines found.0 found.1 found.1 found.2) (All-from_recursion IsLine lines are found.0 found.1 (slice_get_within lines found.0 found.1 found.2))) (get_or (sources_of lines) k []) found.3
-
-pub lines_push : (lines : List Line) (line : Line) → AllByRecursion IsLine lines → IsLine line → AllByRecursion IsLine (lines ++ line ∷ [])
-lines_push [] line are is = (is, tt)
-lines_push (first ∷ lines) line are is = (are.0, lines_push lines line are.1 is)

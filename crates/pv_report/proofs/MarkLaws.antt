@@ -2,14 +2,14 @@
 use Rattle.std.proofs.Common.{◌≡◌, ◌≢◌, ℕ, zero, suc, ◌+◌, ◌-◌, ◌<◌, ◌≤◌, ◌⊎◌, inl, inr, Bool, true, false, not, ◌&&◌, nat_lt, List, [], ◌∷◌, ◌++◌, length, map, filter, get_or, All, AllPairs, if◌then◌else◌, Contains, Option, Some, None, is_some, refl, sym, ap, ◌∙◌, subst, arith}
 use Rattle.std.specs.Prelude.{slice_get}
 use Rattle.std.specs.List.{cons_option, flat_map}
-use Rattle.std.proofs.lemmas.Bool.{cases_lt}
+use Rattle.std.proofs.lemmas.Bool.{cases_lt, and_parts, or_cases, or_left, or_right, and_from}
 use Rattle.std.proofs.lemmas.Bool.Decides.{nat_tests}
 use Rattle.std.proofs.lemmas.List.{get_or_append_left, get_or-append_right, get_or-map, length-append, length-map}
 use Rattle.std.proofs.lemmas.List.Elements.{Contains-append_cases, Contains-append_left, Contains-append_right}
 use Rattle.std.proofs.lemmas.List.Kept.{AllPairs-filter}
 use Rattle.std.proofs.lemmas.Option.{get_or_from_slice_get, slice_get-get_or, slice_get_past, slice_get_within}
 use Rattle.pv_path.specs.Paths.{Path, has_names, has_staging, is_prefix, same_path, same_path-decides}
-use Rattle.pv_path.proofs.PathLaws.{both_true, is_prefix-trans, same_path-refl}
+use Rattle.pv_path.proofs.PathLaws.{is_prefix-trans, same_path-refl}
 use Rattle.pv_lines.specs.declared.line.Line.{Line}
 use Rattle.pv_lines.specs.declared.line.LinePath.{LinePath}
 use Rattle.pv_lines.specs.declared.line.LinePath.TheVariants.{Literal, Glob}
@@ -22,14 +22,15 @@ use Rattle.pv_table.specs.declared.reason.Reason.{Reason}
 use Rattle.pv_table.specs.declared.reason.Reason.TheVariants as reason
 use Rattle.pv_table.specs.Asking.{asks}
 use Rattle.pv_table.specs.Reaching.{governs, is_creating, names, names_above, names_in, path_in, reaches, reaches_below}
-use Rattle.pv_table.specs.Repeatable.{appends, changes_content, has_masked_mode, HasReason, inputs, is_input, IsAt, below as made_below, Overlap, sets_base}
+use Rattle.pv_layers.specs.Places.{inputs, is_input}
+use Rattle.pv_table.specs.Repeatable.{appends, changes_content, has_masked_mode, HasReason, IsAt, below as made_below, Overlap, sets_base}
 use Rattle.pv_table.specs.Turns.{copied}
 use Rattle.pv_report.specs.Marks.{is_below, Mark, mark_if, marks_by, marks_of, mixes, outer_marks, own_marks, pair_marks, rank, reason_at, shared_marks}
 use Rattle.pv_report.specs.Reporting.{both_reach, IsShared, ListsOverlaps}
 use Rattle.pv_report.specs.Subjects.{MayAnswer, meets, no_reach, reach_at, reach_of, reach_under, reaches_of, sources_of}
 use Rattle.pv_report.proofs.CopyLaws.{copy_reaches, named_there, source_unstaged, unstaged}
 use Rattle.pv_report.proofs.Members.{filter_in, first_in, flat_in, in_filter, in_flat, in_none, in_one}
-use Rattle.pv_report.proofs.ReachLaws.{and_from, any_at, any_from, both_from, both_met, both_parts, first_both, IsUnstaged, MetBefore, met_under, or_cases, or_left, or_right, under_met}
+use Rattle.pv_report.proofs.ReachLaws.{any_at, any_from, both_from, both_met, both_parts, first_both, IsUnstaged, MetBefore, met_under, under_met}
 
 abbrev Never : Type 0
 Never = ◌≡◌ {A = Bool} false true
@@ -289,9 +290,9 @@ module _ (lines : List Line) (are : All IsLine lines) (pairs : List Pair)
     where
       below_is : (i j : ℕ) (line other : Line) → IsAt lines i line → IsAt lines j other → is_below line other ≡ true → HasReason lines i reason.Below
       below_is i j line other at there e =
-          let w = both_true (is_creating line && is_some (copied (asks other)) && is_prefix (path_in other.path) (path_in line.path)) (not (same_path (path_in other.path) (path_in line.path))) e in
-          let v = both_true (is_creating line && is_some (copied (asks other))) (is_prefix (path_in other.path) (path_in line.path)) w.0 in
-          let u = both_true (is_creating line) (is_some (copied (asks other))) v.0 in
+          let w = and_parts (is_creating line && is_some (copied (asks other)) && is_prefix (path_in other.path) (path_in line.path)) (not (same_path (path_in other.path) (path_in line.path))) e in
+          let v = and_parts (is_creating line && is_some (copied (asks other))) (is_prefix (path_in other.path) (path_in line.path)) w.0 in
+          let u = and_parts (is_creating line) (is_some (copied (asks other))) v.0 in
           let source = some_of (copied (asks other)) u.1 in
           made_below line other j source.0 at there u.0 source.1 v.1 (λ same. (let differ : Never = sym (ap not (same_path-self (path_in other.path) (path_in line.path) same)) ∙ w.1 in cc))
         where
@@ -305,8 +306,8 @@ module _ (lines : List Line) (are : All IsLine lines) (pairs : List Pair)
           HasReason.mask b a pair.first pair.path bt at ((listed pair c).0) parts.0 (parts.1, parts.2) (by (or_cases (has_masked_mode a && sets_base b) (sets_base a && has_masked_mode b) e))
         where
           by : ((has_masked_mode a && sets_base b) ≡ true) ⊎ ((sets_base a && has_masked_mode b) ≡ true) → ((has_masked_mode a ≡ true) × (sets_base b ≡ true)) ⊎ ((sets_base a ≡ true) × (has_masked_mode b ≡ true))
-          by (inl f) = inl (both_true (has_masked_mode a) (sets_base b) f)
-          by (inr f) = inr (both_true (sets_base a) (has_masked_mode b) f)
+          by (inl f) = inl (and_parts (has_masked_mode a) (sets_base b) f)
+          by (inr f) = inr (and_parts (sets_base a) (has_masked_mode b) f)
 
   -- a path from which lines are read is configured without staging names
   input_clear : (k : ℕ) → k < length inputs → has_staging (get_or inputs k []) ≡ false
@@ -389,7 +390,7 @@ module _ (lines : List Line) (are : All IsLine lines) (pairs : List Pair)
       by : (reaches line q ≡ true) ⊎ ((is_creating line && is_prefix q (path_in line.path)) ≡ true) → ReachedUnder line path
       by (inl f) = (q, named, f, above)
       by (inr f) =
-          let w = both_true (is_creating line) (is_prefix q (path_in line.path)) f in
+          let w = and_parts (is_creating line) (is_prefix q (path_in line.path)) f in
           (path_in line.path, named_of i line at, own_reach line w.0, is_prefix-trans path q (path_in line.path) above w.1)
 
   under_pair : (i : ℕ) (line : Line) → IsAt lines i line → (path : Path) → has_staging path ≡ false → ReachedUnder line path → (j : ℕ) → count ≤ j → j < length (reaches_of lines) → reach_at (reaches_of lines) j ≡ reach_under path → HasPair i j

@@ -6,7 +6,7 @@ use Rattle.std.specs.declared.cmp.Ordering.{Ordering}
 use Rattle.std.specs.declared.cmp.Ordering.TheVariants.{Less, Equal, Greater}
 use Rattle.std.proofs.lemmas.Bool.Decides.{nat_tests}
 use Rattle.std.proofs.lemmas.Cmp.{and_equiv, by_ranked, on_equiv, on_total, ranked, then_total}
-use Rattle.pv_path.proofs.PathLaws.{both_true}
+use Rattle.std.proofs.lemmas.Bool.{and_parts}
 use Rattle.pv_report.specs.Marks.{Mark, mark_cmp}
 
 -- whether two marks are the same
@@ -35,7 +35,7 @@ mark_tied x y = ap (λ (t : Bool). t && nat_eq x.1 y.1) (number_tied x.0 y.0) �
 
 pub same_exact : (x y : Mark) → same_mark x y ≡ true → x ≡ y
 same_exact x y e =
-    let both = both_true (nat_eq x.0 y.0) (nat_eq x.1 y.1) e in
+    let both = and_parts (nat_eq x.0 y.0) (nat_eq x.1 y.1) e in
     let p = both.0 in
     let q = both.1 in
     let a : x.0 ≡ y.0 = grind (arith, nat_tests) in

@@ -6,14 +6,15 @@ use Rattle.std.specs.Cmp.{IsTotalOrder, nat_cmp_total}
 use Rattle.std.specs.Cmp.Lexicographic.{lists_total, slice_cmp}
 use Rattle.std.specs.declared.cmp.Ordering.{Ordering}
 use Rattle.std.proofs.Math.Seq.{take-append_seam}
-use Rattle.std.proofs.lemmas.Bool.{cases_lt}
+use Rattle.std.proofs.lemmas.Bool.{cases_lt, and_parts, or_cases, or_left, or_right, and_from}
 use Rattle.std.proofs.lemmas.Bool.Decides.{nat_tests}
 use Rattle.std.proofs.lemmas.Cmp.{then_total, on_total, upto, ranked, by_ranked, tied_itself}
 use Rattle.std.proofs.lemmas.List.{length-map, length-take-le, take-append-drop, take-take, take_all}
 use Rattle.std.proofs.lemmas.List.FromFn.{get_or-range_with_len, length-range_with_len}
+use Rattle.std.proofs.Math.Bool.{or-true}
 use Rattle.pv_path.specs.Names.{is_name}
 use Rattle.pv_path.specs.Paths.{Path, has_names, has_staging, is_prefix, same_path-decides}
-use Rattle.pv_path.proofs.PathLaws.{both_true, is_prefix-append, or_true, prefix_parts, same_path-refl}
+use Rattle.pv_path.proofs.PathLaws.{is_prefix-append, prefix_parts, same_path-refl}
 use Rattle.pv_glob.specs.declared.element.Element.{Element}
 use Rattle.pv_glob.specs.declared.element.Element.TheVariants.{Byte}
 use Rattle.pv_glob.specs.Matching.{literal_of, matches, some_matches}
@@ -52,31 +53,14 @@ module _ {X : Type 0} (p : X → Bool) (d : X) where
   pub any_from : (xs : List X) (k : ℕ) → k < length xs → p (get_or xs k d) ≡ true → list_any p xs ≡ true
   any_from [] k l e = absurd (omega (arith, l))
   any_from (x ∷ xs) zero l e = ap (λ (t : Bool). t || list_any p xs) e
-  any_from (x ∷ xs) (suc k) l e = ap (λ (t : Bool). p x || t) (any_from xs k (omega (arith, l)) e) ∙ or_true (p x)
+  any_from (x ∷ xs) (suc k) l e = ap (λ (t : Bool). p x || t) (any_from xs k (omega (arith, l)) e) ∙ or-true (p x)
 
   pub all_take : (n : ℕ) (xs : List X) → list_all p xs ≡ true → list_all p (take n xs) ≡ true
   all_take zero xs e = refl
   all_take (suc n) [] e = refl
   all_take (suc n) (x ∷ xs) e =
-      let both = both_true (p x) (list_all p xs) e in
+      let both = and_parts (p x) (list_all p xs) e in
       ap (λ (t : Bool). t && list_all p (take n xs)) both.0 ∙ all_take n xs both.1
-
-pub or_cases : (a b : Bool) → (a || b) ≡ true → (a ≡ true) ⊎ (b ≡ true)
-or_cases true b e = inl refl
-or_cases false b e = inr e
-
-not_true : (t : Bool) → not t ≡ true → t ≡ false
-not_true true e = absurd (let differ : Never = e in cc)
-not_true false e = refl
-
-pub or_left : (a b : Bool) → a ≡ true → (a || b) ≡ true
-or_left a b e = ap (λ (t : Bool). t || b) e
-
-pub or_right : (a b : Bool) → b ≡ true → (a || b) ≡ true
-or_right a b e = ap (λ (t : Bool). a || t) e ∙ or_true a
-
-pub and_from : (a b : Bool) → a ≡ true → b ≡ true → (a && b) ≡ true
-and_from a b e f = ap (λ (t : Bool). t && b) e ∙ f
 
 -- ---- one expansion
 
@@ -106,13 +90,13 @@ abbrev lies_below : Plain → Bool → Path → Bool
 lies_below plain below q = below && nat_lt (length plain) (length q) && matches plain (take (length plain) q)
 
 pub in_reach-names : (plain : Plain) (below : Bool) (q : Path) → in_reach plain below q ≡ true → Names plain below q
-in_reach-names plain below q e = by (or_cases (matches plain q) (lies_below plain below q) (both_true (not (has_staging q)) (matches plain q || lies_below plain below q) e).1)
+in_reach-names plain below q e = by (or_cases (matches plain q) (lies_below plain below q) (and_parts (not (has_staging q)) (matches plain q || lies_below plain below q) e).1)
   where
     by : (matches plain q ≡ true) ⊎ (lies_below plain below q ≡ true) → Names plain below q
     by (inl whole) = named plain below q whole
     by (inr part) =
-        let w = both_true (below && nat_lt (length plain) (length q)) (matches plain (take (length plain) q)) part in
-        let v = both_true below (nat_lt (length plain) (length q)) w.0 in
+        let w = and_parts (below && nat_lt (length plain) (length q)) (matches plain (take (length plain) q)) part in
+        let v = and_parts below (nat_lt (length plain) (length q)) w.0 in
         let v1 = v.1 in
         let less : length plain < length q = grind (arith, nat_tests) in
         record { matched = w.1; long = inr (v.0, less) }
@@ -196,8 +180,8 @@ named_met a b q fit x y =
     let v = get_or b.pattern y.0 [] in
     let p = take (max (length u) (length v)) q in
     let met = cut_met u v a.below b.below q fit x.2 y.2 in
-    let w = both_true (has_names p && in_reach u a.below p) (in_reach v b.below p) met in
-    let z = both_true (has_names p) (in_reach u a.below p) w.0 in
+    let w = and_parts (has_names p && in_reach u a.below p) (in_reach v b.below p) met in
+    let z = and_parts (has_names p) (in_reach u a.below p) w.0 in
     let long : length p ≡ max (length u) (length v) = cut_length u v a.below b.below q fit x.2 y.2 in
     let s = names_short u a.below q x.2 in
     let t = names_short v b.below q y.2 in (
@@ -235,7 +219,7 @@ module _ (line : Line) (clear : IsUnstaged line.path) where
           let found = any_at (λ plain. matches plain q) [] (plains_of line.path) (sym (names_in_some line.path clear q) ∙ own) in
           (found.0, found.1, named (get_or (plains_of line.path) found.0 []) (reaches_below line) q found.2)
       by (inr above) =
-          let w = both_true (reaches_below line) (names_above line q) above in
+          let w = and_parts (reaches_below line) (names_above line q) above in
           let i = any_at (λ k. names line (take k q)) 0 (range_with_len 0 (length q)) w.1 in
           let i1 = i.1 in
           let counted = length-range_with_len 0 (length q) in
@@ -270,15 +254,15 @@ module _ (line : Line) (clear : IsUnstaged line.path) where
 
 meets_parts : (a b : Reach) (q : Path) → meets a b q ≡ true → (has_names q ≡ true) × (reached a.pattern a.below q ≡ true) × (reached b.pattern b.below q ≡ true)
 meets_parts a b q e =
-    let w = both_true (has_names q && reached a.pattern a.below q) (reached b.pattern b.below q) e in
-    let v = both_true (has_names q) (reached a.pattern a.below q) w.0 in
+    let w = and_parts (has_names q && reached a.pattern a.below q) (reached b.pattern b.below q) e in
+    let v = and_parts (has_names q) (reached a.pattern a.below q) w.0 in
     (v.0, v.1, w.1)
 
 module _ (a b : Line) (a_clear : IsUnstaged a.path) (b_clear : IsUnstaged b.path) where
   pub both_parts : (q : Path) → both_reach a b q ≡ true → (has_names q ≡ true) × (reaches a q ≡ true) × (reaches b q ≡ true)
   both_parts q e =
-      let w = both_true (has_names q && reaches a q) (reaches b q) e in
-      let v = both_true (has_names q) (reaches a q) w.0 in
+      let w = and_parts (has_names q && reaches a q) (reaches b q) e in
+      let v = and_parts (has_names q) (reaches a q) w.0 in
       (v.0, v.1, w.1)
 
   pub both_from : (q : Path) → has_names q ≡ true → reaches a q ≡ true → reaches b q ≡ true → both_reach a b q ≡ true

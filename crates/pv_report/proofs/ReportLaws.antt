@@ -4,7 +4,7 @@ use Rattle.std.specs.Prelude.{◌↔◌, OnOk, Result, Ok, Err, slice_get}
 use Rattle.std.specs.List.{AllByRecursion}
 use Rattle.std.proofs.lemmas.List.{get_or_push, length_push}
 use Rattle.std.proofs.lemmas.List.Elements.{All-from_recursion}
-use Rattle.std.proofs.lemmas.Option.{slice_get-get_or}
+use Rattle.std.proofs.lemmas.Option.{slice_get-get_or, same_Some}
 use Rattle.pv_lines.specs.declared.line.Line.{Line}
 use Rattle.pv_lines.specs.Lines.{IsLine}
 use Rattle.pv_meet.specs.declared.meeting.Reach.{Reach}
@@ -36,9 +36,6 @@ last_pushed old text =
     let long = length_push old text in
     slice_get-get_or (old ++ text ∷ []) (length (old ++ text ∷ []) - 1) [] (omega (arith, long)) ∙ ap Some (get_or_push old text [] (length (old ++ text ∷ []) - 1) (omega (arith, long)))
 
-some_same : (x y : List ℕ) → Some x ≡ Some y → x ≡ y
-some_same x y e = cc
-
 pub on_ok : {T E : Type 0} {P Q : Type 0} (r : Result T E) → (P → Q) → OnOk r P → OnOk r Q
 on_ok (Ok x) f p = f p
 on_ok (Err fault) f p = tt
@@ -46,7 +43,7 @@ on_ok (Err fault) f p = tt
 -- the last message of a report is the verdict on its lines
 pub verdict_said : (lines : List Line) (list : List Unrepeatable) (old new : List (List ℕ)) → new ≡ old ++ verdict list ∷ [] → ListsReasons lines list → SaysRepeatable new ↔ IsRepeatable lines
 verdict_said lines list old new e lists = (
-  λ says. (none_listed lines list lists).0 ((verdict_none list).0 (some_same (verdict list) repeatable (sym last ∙ says))),
+  λ says. (none_listed lines list lists).0 ((verdict_none list).0 (same_Some (verdict list) repeatable (sym last ∙ says))),
   λ none. last ∙ ap Some ((verdict_none list).1 ((none_listed lines list lists).1 none)),
 )
   where

@@ -14,7 +14,7 @@ use Rattle.pv_overlap.specs.Answers.{Answers}
 use Rattle.pv_overlap.specs.Heads.{head_of_all}
 use Rattle.pv_table.specs.Asking.{asks}
 use Rattle.pv_table.specs.Reaching.{reaches_below}
-use Rattle.pv_table.specs.Repeatable.{inputs}
+use Rattle.pv_layers.specs.Places.{inputs}
 use Rattle.pv_table.specs.Turns.{copied}
 
 -- the expansions of what a line names

@@ -3,7 +3,6 @@
 #![tactic(auto)]
 
 mod asker;
-mod inputs;
 mod laws;
 mod listing;
 mod marking;
@@ -16,7 +15,4 @@ mod traits;
 pub use laws::the_reasons_are_one_list;
 pub use listing::{ReasonList, Report, Unrepeatable};
 pub use reporting::report;
-pub use saying::say_report;
-
-#[cfg(test)]
-mod tests;
+pub use saying::{say_report, verdict};

@@ -86,8 +86,8 @@ fn unrepeatable_text(
     Ok(text)
 }
 
-/// The verdict on lines with these reasons.
-fn verdict(list: &[Unrepeatable]) -> &'static [u8]
+/// The verdict on lines with these reasons, `repeatable` or `not repeatable`. It takes no memory.
+pub fn verdict(list: &[Unrepeatable]) -> &'static [u8]
     ensures text { result.now ≡ verdict list.now }
     ensures line { is_line result.now ≡ true }
 {

@@ -8,8 +8,8 @@ ghost use Rattle.pv_table.specs.Asking.{asks};
 ghost use Rattle.pv_table.specs.Turns.{copied};
 ghost use Rattle.pv_report.specs.Subjects.{reach_of, reach_under, reaches_of, sources_of};
 
-use crate::inputs::inputs;
 use crate::reach::{reach_of, reach_under};
+use pv_layers::inputs;
 use pv_lines::Line;
 use pv_meet::Reach;
 use pv_path::{PathList, TreePath};

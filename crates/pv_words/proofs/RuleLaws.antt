@@ -3,6 +3,7 @@ use Rattle.std.proofs.Common.{◌≡◌, ◌∙◌, ◌||◌, ℕ, Bool, cond, t
 use Rattle.std.specs.List.{find, list_all}
 use Rattle.std.specs.Option.{option_map, unwrap_or}
 use Rattle.std.specs.Str.{bytes_eq}
+use Rattle.std.proofs.lemmas.Bool.{not-true}
 use Rattle.clap.specs.Walk.{Row, Rule, arg_by_id, arg_by_index, arg_by_long, has_row, takes_values, used, with_default, with_values, without}
 use Rattle.clap.specs.Simple.{Shape, built, filled, with_index}
 use Rattle.clap.specs.Kinds.{Kinds, or_else}
@@ -114,18 +115,14 @@ found-passes f p (y ∷ ys) x found all = go (p y) found (both (f y) (list_all f
 pub each : (f : OptionName → Bool) → list_all f all_options ≡ true → (option : OptionName) → f option ≡ true
 each f all option = found-passes f (λ (o : OptionName). same_bytes (name_of o) (name_of option)) all_options option (named-own option) all
 
-is_no : (b : Bool) → not b ≡ true → b ≡ false
-is_no false e = refl
-is_no true e = sym e
-
 pub id-own : (option : OptionName) → bytes_eq (name_of option) (name_of option) ≡ true
 id-own = each (λ (o : OptionName). bytes_eq (name_of o) (name_of o)) refl
 
 pub id-files : (option : OptionName) → bytes_eq (name_of option) files_id ≡ false
-id-files option = is_no (bytes_eq (name_of option) files_id) (each (λ (o : OptionName). not (bytes_eq (name_of o) files_id)) refl option)
+id-files option = not-true (bytes_eq (name_of option) files_id) (each (λ (o : OptionName). not (bytes_eq (name_of o) files_id)) refl option)
 
 pub files-id : (option : OptionName) → bytes_eq files_id (name_of option) ≡ false
-files-id option = is_no (bytes_eq files_id (name_of option)) (each (λ (o : OptionName). not (bytes_eq files_id (name_of o))) refl option)
+files-id option = not-true (bytes_eq files_id (name_of option)) (each (λ (o : OptionName). not (bytes_eq files_id (name_of o))) refl option)
 
 -- no default stands for an option with a value, nor for file words
 pub valued-free : (option : OptionName) → valued option ≡ true → list_all (leaves (name_of option)) top.rules ≡ true

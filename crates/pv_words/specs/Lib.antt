@@ -5,6 +5,7 @@ pub mod Part
 pub mod Stage
 pub mod Parts
 pub mod Meaning
+pub mod Asked
 pub mod Answered
 pub mod Command
 pub mod Reading

@@ -2,15 +2,15 @@
 //! and what.
 #![tactic(auto)]
 
+mod asked;
 mod checks;
 mod command;
 mod fault;
 mod option;
 mod options;
 mod reading;
-#[cfg(test)]
-mod tests;
 mod values;
 
+pub use asked::{Asked, asked_of};
 pub use fault::WordsFault;
 pub use options::{Options, options_of};

@@ -43,7 +43,7 @@ pub(crate) fn decimal_in(value: Option<&[u8]>) -> Result<Option<u64>, WordsFault
 }
 
 /// The number that one or more decimal digits spell, where it has 64 bits.
-fn decimal_value(text: &[u8]) -> Option<u64>
+pub(crate) fn decimal_value(text: &[u8]) -> Option<u64>
     ensures { result ≡ decimal_value text.now }
 {
     if is_digits(text) {

@@ -1,0 +1,6 @@
+use Rattle.std.proofs.Common.{◌≡◌}
+use Rattle.pv_generate.specs.Trees.{with_olds}
+use Rattle.pv_generate.proofs.tree.add_olds.Given as goal
+
+abbrev pub invariant-loop-n : goal.invariant-loop-n
+invariant-loop-n l = l.plan ≡ with_olds l.n

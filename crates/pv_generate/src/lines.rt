@@ -1,0 +1,94 @@
+//! The lines of a generated configuration.
+ghost use Rattle.std.specs.Prelude.{◌≡◌, ◌++◌, nat_lt, true, IfOk, OnOk};
+ghost use Rattle.std.specs.List.{list_all};
+ghost use Rattle.std.specs.Fmt.{decimal};
+ghost use Rattle.pv_generate.specs.Lines.{line_of, lines_of, own_line, shared_line};
+
+use crate::drawing::{first, next};
+use std::alloc::{AllocError, Global};
+
+/// The first lines of a seed, each ended by a line feed.
+pub(crate) fn lines_of(alloc: Global, seed: u64, count: u32) -> Result<Vec<u8>, AllocError>
+    ensures text { IfOk result (λ text. text.items ≡ lines_of seed count) }
+    ensures bytes { IfOk result (λ text. list_all (λ b. nat_lt b 256) text.items ≡ true) }
+{
+    let mut text = Vec::new(alloc);
+    let mut state = first(seed);
+    for i in 0..count {
+        state = next(state);
+        add_line(alloc, &mut text, state / 65_536, i)?;
+    }
+    are_bytes(&text);
+    Ok(text)
+}
+
+/// Tells that the items of a slice are bytes.
+fn are_bytes(bytes: &[u8])
+    ensures { list_all (λ b. nat_lt b 256) bytes.now ≡ true }
+{
+    let _count = bytes.len();
+}
+
+/// Adds the line that a number drawn for it gives.
+fn add_line(alloc: Global, text: &mut Vec<u8>, number: u64, i: u32) -> Result<(), AllocError>
+    ensures { OnOk result (text.new.items ≡ text.old.items ++ line_of number i) }
+{
+    let group = number % 8;
+    match number / 8 % 8 {
+        0 => add_own(alloc, text, b"d", group, b"/d", i, b" 0700 0 0\n"),
+        1 => add_own(alloc, text, b"f", group, b"/f", i, b" 0600 0 0 - text\n"),
+        2 => add_own(alloc, text, b"L", group, b"/l", i, b" - - - - /data\n"),
+        3 => add_own(alloc, text, b"f+", group, b"/e", i, b" - - - - more\n"),
+        4 => add_shared(alloc, text, b"z", group, b"/e? 0640\n"),
+        5 => add_shared(alloc, text, b"w", group, b"/e1* - - - - new\n"),
+        6 => add_shared(alloc, text, b"a+", group, b"/e* - - - - u:1:r\n"),
+        _ => add_shared(alloc, text, b"Z", group, b" ~0755\n"),
+    }
+}
+
+/// Adds a line over an object of its own number in a directory.
+fn add_own(
+    alloc: Global,
+    text: &mut Vec<u8>,
+    letters: &[u8],
+    group: u64,
+    name: &[u8],
+    i: u32,
+    rest: &[u8],
+) -> Result<(), AllocError>
+    ensures { OnOk result (text.new.items ≡ text.old.items ++ own_line letters.now group name.now i rest.now) }
+{
+    text.extend_from_slice(letters)?;
+    text.extend_from_slice(b" /data/g")?;
+    add_number(alloc, text, group)?;
+    text.extend_from_slice(name)?;
+    add_number(alloc, text, u64::from(i))?;
+    text.extend_from_slice(rest)?;
+    Ok(())
+}
+
+/// Adds a line over a directory, or over what a pattern names in it.
+fn add_shared(
+    alloc: Global,
+    text: &mut Vec<u8>,
+    letters: &[u8],
+    group: u64,
+    rest: &[u8],
+) -> Result<(), AllocError>
+    ensures { OnOk result (text.new.items ≡ text.old.items ++ shared_line letters.now group rest.now) }
+{
+    text.extend_from_slice(letters)?;
+    text.extend_from_slice(b" /data/g")?;
+    add_number(alloc, text, group)?;
+    text.extend_from_slice(rest)?;
+    Ok(())
+}
+
+/// Adds a number in decimal.
+fn add_number(alloc: Global, text: &mut Vec<u8>, number: u64) -> Result<(), AllocError>
+    ensures { OnOk result (text.new.items ≡ text.old.items ++ decimal number) }
+{
+    let number = number.to_string(alloc)?;
+    text.extend_from_slice(number.as_bytes())?;
+    Ok(())
+}
