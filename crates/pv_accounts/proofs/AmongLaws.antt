@@ -1,7 +1,6 @@
 -- Names of entries that are looked up in a set, line after line.
-use Rattle.std.proofs.Common.{◌≡◌, ℕ, Bool, true, false, ◌||◌, List, [], ◌∷◌, Option, Some, None, refl, sym, ap, ◌∙◌, cond}
+use Rattle.std.proofs.Common.{◌≡◌, ℕ, Bool, true, false, ◌||◌, List, Option, Some, None, refl, sym, ap, cond}
 use Rattle.std.specs.Option.{option_map, option_map_or}
-use Rattle.std.specs.List.{list_any}
 use Rattle.std.specs.Str.{bytes_eq}
 use Rattle.pv_accounts.specs.Entries.{entry_of}
 use Rattle.pv_accounts.specs.Files.{has_name, name_of}
@@ -34,7 +33,3 @@ line_after true true c = refl
 line_after true false c = refl
 line_after false true c = refl
 line_after false false c = refl
-
-pub or_false : (b : Bool) → (b || false) ≡ b
-or_false true = refl
-or_false false = refl

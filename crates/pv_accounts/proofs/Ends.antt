@@ -2,7 +2,7 @@
 use Rattle.std.proofs.Common.{◌≡◌, ℕ, Bool, true, false, not, ◌==◌, List, [], ◌∷◌, ◌++◌, Result, Ok, Err, IfOk, refl, ap, ◌∙◌, if◌then◌else◌}
 use Rattle.std.specs.List.{list_all}
 use Rattle.std.proofs.lemmas.List.Folds.{list_all-append}
-use Rattle.pv_acl.proofs.Booleans.{both}
+use Rattle.std.proofs.lemmas.Bool.{and_parts}
 use Rattle.pv_acl.proofs.Splitting.{split_none, split_at}
 use Rattle.pv_accounts.specs.Edits.{text_of, lacks_end, is_behind_new, is_end, with_entry, members_of, is_member, member_suffix, longer, with_member}
 use Rattle.pv_accounts.specs.Files.{lines_of}
@@ -14,9 +14,9 @@ abbrev pub HasLine : List (List ℕ) → Type 0
 HasLine lines = (l : List ℕ) × ((ls : List (List ℕ)) × (lines ≡ l ∷ ls))
 
 lines_text : (l : List ℕ) (ls : List (List ℕ)) → list_all lacks_end (l ∷ ls) ≡ true → lines_of (text_of (l ∷ ls)) ≡ l ∷ ls
-lines_text l [] h = split_none 10 l (both (lacks_end l) true h).0
+lines_text l [] h = split_none 10 l (and_parts (lacks_end l) true h).0
 lines_text l (m ∷ ms) h =
-    let parts = both (lacks_end l) (list_all lacks_end (m ∷ ms)) h in
+    let parts = and_parts (lacks_end l) (list_all lacks_end (m ∷ ms)) h in
     split_at 10 l (text_of (m ∷ ms)) parts.0 ∙ ap (λ (ls : List (List ℕ)). l ∷ ls) (lines_text m ms parts.1)
 
 pub lines_back : (lines : List (List ℕ)) → HasLine lines → list_all lacks_end lines ≡ true → lines_of (text_of lines) ≡ lines
@@ -30,13 +30,13 @@ lines_lack (b ∷ bs) = by_test (b == 10) refl (split_cons 10 bs) (lines_lack bs
     by_test : (end : Bool) → (b == 10) ≡ end → HasLine (lines_of bs) → list_all lacks_end (lines_of bs) ≡ true → list_all lacks_end (lines_of (b ∷ bs)) ≡ true
     by_test true e some rest = rw e rest
     by_test false e (l, (ls, is)) rest =
-        let parts = both (lacks_end l) (list_all lacks_end ls) (rw is at rest) in
+        let parts = and_parts (lacks_end l) (list_all lacks_end ls) (rw is at rest) in
         rw (e, is, e, parts.0) parts.1
 
 entry_lack : (entry : List ℕ) (lines : List (List ℕ)) → lacks_end entry ≡ true → list_all lacks_end lines ≡ true → list_all lacks_end (with_entry entry lines) ≡ true
 entry_lack entry [] e h = rw e refl
 entry_lack entry (l ∷ ls) e h =
-    let parts = both (lacks_end l) (list_all lacks_end ls) h in
+    let parts = and_parts (lacks_end l) (list_all lacks_end ls) h in
     by_test (is_behind_new (is_end ls) l) parts.0 parts.1 (entry_lack entry ls e parts.1)
   where
     by_test : (b : Bool) → lacks_end l ≡ true → list_all lacks_end ls ≡ true → list_all lacks_end (with_entry entry ls) ≡ true
@@ -66,7 +66,7 @@ longer_lack test user line h k = by_test (is_member user (members_of test line))
 member_lack : (test : List (List ℕ) → Bool) (group user : List ℕ) (lines : List (List ℕ)) → lacks_end user ≡ true → list_all lacks_end lines ≡ true → list_all lacks_end (with_member test group user lines) ≡ true
 member_lack test group user [] h k = refl
 member_lack test group user (l ∷ ls) h k =
-    let parts = both (lacks_end l) (list_all lacks_end ls) k in
+    let parts = and_parts (lacks_end l) (list_all lacks_end ls) k in
     by_test (is_entry_named test group l) parts.0 parts.1 (member_lack test group user ls h parts.1)
   where
     by_test : (b : Bool) → lacks_end l ≡ true → list_all lacks_end ls ≡ true → list_all lacks_end (with_member test group user ls) ≡ true

@@ -1,17 +1,17 @@
 -- A user who is among the members of a group stays so while others are added, and is not added again.
-use Rattle.std.proofs.Common.{◌≡◌, ℕ, Bool, true, false, not, ◌||◌, ◌==◌, List, [], ◌∷◌, ◌++◌, Option, Some, None, option_map, refl, sym, ap, subst, ◌∙◌, cond, arith, if◌then◌else◌}
-use Rattle.std.specs.List.{list_any, cons_option, filter_map, onto_first, slice_split}
-use Rattle.std.specs.Option.{option_map_or}
+use Rattle.std.proofs.Common.{◌≡◌, ℕ, Bool, true, false, ◌||◌, ◌==◌, List, [], ◌∷◌, ◌++◌, option_map, refl, sym, ap, ◌∙◌, cond, arith, if◌then◌else◌}
+use Rattle.std.specs.List.{list_any, cons_option, onto_first, slice_split}
 use Rattle.std.specs.Str.{bytes_eq}
 use Rattle.std.proofs.lemmas.List.Folds.{list_any-append}
 use Rattle.std.proofs.lemmas.Bool.Decides.{nat_tests}
 use Rattle.std.proofs.lemmas.List.Splits.{join_with_byte-slice_split}
 use Rattle.std.proofs.lemmas.Slice.Eq.{bytes_eq-Decides}
+use Rattle.std.proofs.lemmas.Bool.{or_left, or_right}
 use Rattle.pv_acl.specs.Spelling.{decimal_id}
 use Rattle.pv_acl.proofs.Splitting.{lacks, split_none}
 use Rattle.pv_accounts.specs.Edits.{is_member, longer, member_suffix, members_of, text_of, with_member}
-use Rattle.pv_accounts.specs.Entries.{entry_of, fields_of, is_group, is_gshadow}
-use Rattle.pv_accounts.specs.Files.{has_name, lines_of}
+use Rattle.pv_accounts.specs.Entries.{fields_of, is_group, is_gshadow}
+use Rattle.pv_accounts.specs.Files.{lines_of}
 use Rattle.pv_accounts.specs.InUse.{named_in}
 use Rattle.pv_accounts.specs.Kinds.{is_entry_named}
 use Rattle.pv_accounts.proofs.Ends.{member_lines}
@@ -64,14 +64,6 @@ split_more c (x ∷ xs) ys = by_test (x == c) (split_cons c xs) (split_more c xs
 abbrev grown : List ℕ → List ℕ → List ℕ
 grown user members = if is_member user members then members else members ++ member_suffix user members
 
-or_true : (b c : Bool) → b ≡ true → (b || c) ≡ true
-or_true true c h = refl
-or_true false c h = absurd (let no : false ≡ true = h in cc)
-
-true_or : (b c : Bool) → c ≡ true → (b || c) ≡ true
-true_or true c h = refl
-true_or false c h = h
-
 module _ (user : List ℕ) (plain : IsPlain user) where
   alone : (name : List ℕ) → IsPlain name → is_member name name ≡ true
   alone [] is = absurd (let no : false ≡ true = is.entry in cc)
@@ -91,7 +83,7 @@ module _ (user : List ℕ) (plain : IsPlain user) where
     where
       added : (ms : List ℕ) → is_member user (ms ++ member_suffix user ms) ≡ true
       added [] = alone user plain
-      added (b ∷ bs) = parted user b bs ∙ true_or (is_member user (b ∷ bs)) (bytes_eq user user || false) (ap (λ t. t || false) ((bytes_eq-Decides user user).1 refl))
+      added (b ∷ bs) = parted user b bs ∙ or_right (is_member user (b ∷ bs)) (bytes_eq user user || false) (ap (λ t. t || false) ((bytes_eq-Decides user user).1 refl))
 
       by_test : (b : Bool) → is_member user members ≡ b → (ms : List ℕ) → ms ≡ members → is_member user (if b then members else members ++ member_suffix user members) ≡ true
       by_test true e ms same = e
@@ -103,7 +95,7 @@ module _ (user : List ℕ) (plain : IsPlain user) where
     where
       added : (ms : List ℕ) → is_member other ms ≡ true → is_member other (ms ++ member_suffix user ms) ≡ true
       added [] k = absurd (let no : false ≡ true = k in cc)
-      added (b ∷ bs) k = parted other b bs ∙ or_true (is_member other (b ∷ bs)) (bytes_eq user other || false) k
+      added (b ∷ bs) k = parted other b bs ∙ or_left (is_member other (b ∷ bs)) (bytes_eq user other || false) k
 
       by_test : (b : Bool) (ms : List ℕ) → is_member other ms ≡ true → is_member other (if b then ms else ms ++ member_suffix user ms) ≡ true
       by_test true ms k = k

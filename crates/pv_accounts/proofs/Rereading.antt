@@ -1,28 +1,25 @@
 -- What edited account files read as: new entries are found, all others are found as before, and a member who is there is
 -- not added again.
-use Rattle.std.proofs.Common.{◌≡◌, ℕ, Bool, true, false, not, ◌&&◌, ◌||◌, ◌==◌, List, [], ◌∷◌, ◌++◌, find, Option, Some, None, is_some, option_and_then, option_map, refl, sym, ap, subst, ◌∙◌, cond, append_assoc, if◌then◌else◌}
-use Rattle.std.specs.List.{list_any, list_all, cons_option, filter_map, onto_first, slice_split}
-use Rattle.std.specs.Map.{lookup}
+use Rattle.std.proofs.Common.{◌≡◌, ℕ, Bool, true, false, ◌||◌, List, [], ◌∷◌, ◌++◌, find, Option, Some, None, is_some, option_map, refl, sym, ap, subst, ◌∙◌, cond, if◌then◌else◌}
+use Rattle.std.specs.List.{list_any, list_all, cons_option, filter_map}
 use Rattle.std.specs.Option.{option_map_or, option_or}
 use Rattle.std.specs.Str.{bytes_eq}
 use Rattle.std.proofs.lemmas.List.Elements.{filter_map-append}
 use Rattle.std.proofs.lemmas.List.Folds.{list_all-append, list_any-append}
-use Rattle.std.proofs.lemmas.List.Splits.{join_with_byte-slice_split}
 use Rattle.std.proofs.lemmas.Slice.Eq.{bytes_eq-Decides}
+use Rattle.std.proofs.lemmas.Bool.{and_parts}
 use Rattle.pv_acl.specs.NamedEntries.{is_id}
 use Rattle.pv_acl.specs.Numbers.{number_of}
 use Rattle.pv_acl.specs.Spelling.{decimal_id}
-use Rattle.pv_acl.proofs.Booleans.{both}
-use Rattle.pv_acl.proofs.Splitting.{lacks, split_at, split_none}
-use Rattle.pv_accounts.specs.Edits.{appended, is_behind_new, is_end, is_member, lacks_end, longer, member_suffix, members_of, text_of, with_entries, with_member}
-use Rattle.pv_accounts.specs.Entries.{entry_of, fields_of, is_entry_name, is_group, is_gshadow}
+use Rattle.pv_acl.proofs.Splitting.{lacks}
+use Rattle.pv_accounts.specs.Edits.{appended, is_behind_new, is_end, lacks_end, with_entries}
+use Rattle.pv_accounts.specs.Entries.{entry_of, is_entry_name}
 use Rattle.pv_accounts.specs.Files.{entries_of, has_name, id_in, lines_of, name_of}
 use Rattle.pv_accounts.specs.InUse.{AreApart, Ids, id_of, ids_of, named_in, with_line, with_lines}
 use Rattle.pv_accounts.specs.Kinds.{is_entry_named}
 use Rattle.pv_accounts.proofs.Counting.{apart_more}
 use Rattle.pv_accounts.proofs.Ends.{HasLine, lines_back, lines_lack}
 use Rattle.pv_accounts.proofs.Holding.{Fields}
-use Rattle.pv_accounts.proofs.Pieces.{split_cons}
 
 -- a name without colons, commas and line ends, which an entry may have
 pub record IsPlain (name : List ℕ) : Type 0 where
@@ -36,7 +33,7 @@ pub record IsPlain (name : List ℕ) : Type 0 where
 entries_lack : (entries lines : List (List ℕ)) → list_all lacks_end entries ≡ true → list_all lacks_end lines ≡ true → list_all lacks_end (with_entries entries lines) ≡ true
 entries_lack entries [] e h = rw (list_all-append lacks_end entries ([] ∷ []), e) refl
 entries_lack entries (l ∷ ls) e h =
-    let parts = both (lacks_end l) (list_all lacks_end ls) h in
+    let parts = and_parts (lacks_end l) (list_all lacks_end ls) h in
     by_test (is_behind_new (is_end ls) l) parts.0 parts.1 (entries_lack entries ls e parts.1)
   where
     by_test : (b : Bool) → lacks_end l ≡ true → list_all lacks_end ls ≡ true → list_all lacks_end (with_entries entries ls) ≡ true

@@ -19,6 +19,3 @@ pub use find::{Kind, find_line};
 pub use in_use::InUse;
 pub use names::FileNames;
 pub use views::{GroupView, PasswdView, ShadowView, group_view, passwd_view, shadow_view};
-
-#[cfg(test)]
-mod tests;

@@ -1,5 +1,5 @@
 -- What is read depends on presence, kind and payload at input paths alone.
-use Rattle.std.specs.Prelude.{◌≡◌, ℕ, Bool, true, false, ◌||◌, List, [], ◌∷◌, ◌++◌, Option, Some, None, refl}
+use Rattle.std.specs.Prelude.{◌≡◌, ℕ, Bool, true, false, ◌||◌, List, [], ◌∷◌, Option, Some, None, refl}
 use Rattle.std.proofs.Common.{sym, ap, ◌∙◌}
 use Rattle.std.proofs.lemmas.List.Folds.{list_any-append}
 use Rattle.std.specs.List.{AllByRecursion}
@@ -20,10 +20,12 @@ use Rattle.pv_steps.proofs.ContentLaws.{content-after_all}
 use Rattle.pv_steps.proofs.LeavingLaws.{content-outside}
 use Rattle.pv_text.specs.Facts.{Values}
 use Rattle.pv_text.specs.declared.tool.Tool.{Tool}
-use Rattle.pv_text.specs.declared.tool.Tool.TheVariants.{Tmpfiles}
+use Rattle.pv_text.specs.declared.tool.Tool.TheVariants.{Tmpfiles, Sysusers}
 use Rattle.pv_conf.specs.Configuration.{Reader, configured_by, content_at, followed, lines_in, reading_of_file, reading_of_files, reading_of_lines, together}
-use Rattle.pv_conf.specs.Inputs.{inputs, is_input}
-use Rattle.pv_conf.specs.Known.{configured, group_path, known_of, lookup_in, passwd_path, tmpfiles_reader}
+use Rattle.pv_conf.specs.Inputs.{is_request_input}
+use Rattle.pv_conf.specs.Known.{configured, known_of, lookup_in, tmpfiles_reader}
+use Rattle.pv_conf.specs.Requested.{requested, requests_reader}
+use Rattle.pv_layers.specs.Places.{is_input, group_path, passwd_path}
 
 -- the bytes of what has this kind and this payload
 abbrev bytes_if : Option (Kind × List ℕ) → List ℕ
@@ -98,3 +100,7 @@ pub configured-outside : (files : Files) (steps : List Step) (now : ℕ) (facts 
     → AllByRecursion (IsPlain is_input) words → configured (after_all files steps now) facts words ≡ configured files facts words
 configured-outside files steps now facts words along out plain =
     configured-same (after_all files steps now) files (content-outside is_input files steps now along out) facts words plain
+
+-- the requests of two trees are the same where the trees are the same in the folders of systemd-sysusers
+pub requested-same : (t u : Files) → SameContent is_request_input t u → (facts : Values) (words : List (List ℕ)) → AllByRecursion (IsPlain is_request_input) words → requested t facts words ≡ requested u facts words
+requested-same t u same facts words plain = configured_by-same t u (requests_reader facts) is_request_input Sysusers (λ path is. is) words same plain

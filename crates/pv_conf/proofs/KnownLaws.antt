@@ -1,10 +1,9 @@
 -- What each line of a configuration is that the definition reads.
-use Rattle.std.specs.Prelude.{◌≡◌, ◌≢◌, ℕ, ◌+◌, ◌≤◌, Bool, true, false, nat_le, List, [], ◌∷◌, ◌++◌, Option, Some, None, option_and_then, IfSome, Result, Ok, Err, find, if◌then◌else◌, refl}
+use Rattle.std.specs.Prelude.{◌≡◌, ◌≢◌, ℕ, ◌+◌, Bool, true, false, List, [], ◌∷◌, ◌++◌, Option, Some, None, option_and_then, IfSome, Result, Ok, Err, if◌then◌else◌, refl}
 use Rattle.std.specs.List.{AllByRecursion}
 use Rattle.std.specs.Result.{result_ok}
 use Rattle.std.proofs.Common.{arith, ap, sym, ◌∙◌}
 use Rattle.std.proofs.lemmas.Bool.Decides.{nat_tests}
-use Rattle.std.proofs.lemmas.Option.{option_and_then_some}
 use Rattle.pv_acl.specs.NamedEntries.{is_id}
 use Rattle.pv_acl.specs.Numbers.{number_of}
 use Rattle.pv_acl.specs.Spelling.{decimal_id}
@@ -27,8 +26,10 @@ use Rattle.pv_text.specs.Facts.{Values}
 use Rattle.pv_text.specs.Said.{said_at}
 use Rattle.pv_text.specs.declared.place.Place.{Place}
 use Rattle.pv_text.specs.declared.tool.Tool.TheVariants.{Tmpfiles}
-use Rattle.pv_conf.specs.Configuration.{Reader, configured_by, content_at, is_skipped, kept, lines_in, reading_by, reading_of, reading_of_file, reading_of_files, reading_of_lines}
-use Rattle.pv_conf.specs.Known.{Known, configured, group_path, known_of, lookup_in, moved_message, passwd_path, said_by, tmpfiles_reader}
+use Rattle.pv_conf.specs.Configuration.{configured_by, content_at, is_skipped, lines_in, reading_by, reading_of, reading_of_file, reading_of_files, reading_of_lines}
+use Rattle.pv_conf.specs.Known.{Known, configured, known_of, lookup_in, moved_message, said_by, tmpfiles_reader}
+use Rattle.std.specs.Option.{option_to_list}
+use Rattle.pv_layers.specs.Places.{group_path, passwd_path}
 
 -- ---- one line
 
@@ -107,7 +108,7 @@ module _ (known : Known) (small : AreSmall known.lookup) where
   reading_of-owned : (place : Place) (text : List ℕ) → AreOwned (reading_of (tmpfiles_reader known) place text).lines
   reading_of-owned place text = by_test (is_skipped text)
     where
-      by_read : (read : Result Line LineFault) → line_of known.facts known.lookup place text ≡ read → AreOwned (kept (result_ok read))
+      by_read : (read : Result Line LineFault) → line_of known.facts known.lookup place text ≡ read → AreOwned (option_to_list (result_ok read))
       by_read (Ok line) is = (line_of-owned known.facts known.lookup place text line small is, tt)
       by_read (Err f) is = tt
 

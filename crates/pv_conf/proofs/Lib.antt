@@ -4,3 +4,4 @@ pub mod KnownLaws
 pub mod InputLaws
 pub mod RequestedLaws
 pub mod WholeLaws
+pub mod AllowedLaws

@@ -1,22 +1,15 @@
 -- What is read of one part after another.
-use Rattle.std.proofs.Common.{◌≡◌, ℕ, zero, suc, ◌+◌, ◌<◌, Bool, Option, Some, None, arith, add_assoc, true, false, ◌||◌, List, [], ◌∷◌, ◌++◌, take, drop, get_or, length, add-one, append_assoc, append-nil, refl, sym, ap, ◌∙◌}
-use Rattle.std.specs.List.{AllByRecursion}
-use Rattle.std.proofs.Math.Seq.{drop-cons, take-append_seam, take-append-add}
+use Rattle.std.proofs.Common.{◌≡◌, ℕ, ◌+◌, ◌<◌, Bool, arith, add_assoc, false, ◌||◌, List, ◌∷◌, ◌++◌, take, drop, get_or, length, add-one, append_assoc, append-nil, refl, sym, ap, ◌∙◌}
+use Rattle.std.proofs.Math.Seq.{drop-cons}
+use Rattle.std.proofs.Math.Bool.{or-false, or_assoc}
 use Rattle.pv_text.specs.Said.{SaidPart}
 use Rattle.pv_path.specs.Paths.{Path}
 use Rattle.pv_steps.specs.Trees.{Files}
 use Rattle.pv_text.specs.declared.place.Place.{Place}
-use Rattle.pv_conf.specs.Configuration.{Reader, Reading, Configured, is_skipped, nothing, followed, lines_in, reading_of, reading_of_file, reading_of_files, reading_of_lines}
+use Rattle.pv_conf.specs.Configuration.{Reader, Reading, is_skipped, nothing, followed, lines_in, reading_of, reading_of_file, reading_of_files, reading_of_lines}
+use Rattle.pv_text.proofs.SaidLaws.{said_first, said_then, said_whole}
 use Rattle.pv_conf.specs.Adding.{Adds}
 use Rattle.pv_conf.specs.declared.configuration.Configuration.{Configuration}
-
-or_assoc : (a b c : Bool) → ((a || b) || c) ≡ (a || (b || c))
-or_assoc true b c = refl
-or_assoc false b c = refl
-
-or_none : (a : Bool) → (a || false) ≡ a
-or_none true = refl
-or_none false = refl
 
 followed_assoc : {L : Type 0} (a b c : Reading L) → followed (followed a b) c ≡ followed a (followed b c)
 followed_assoc a b c = λ i. record {
@@ -29,7 +22,7 @@ followed_assoc a b c = λ i. record {
 followed_nothing : {L : Type 0} (a : Reading L) → followed a nothing ≡ a
 followed_nothing a =
     let none : a.count + 0 ≡ a.count = omega arith in
-    λ i. record { lines = append-nil a.lines i; invalid = or_none a.invalid i; messages = append-nil a.messages i; count = none i }
+    λ i. record { lines = append-nil a.lines i; invalid = or-false a.invalid i; messages = append-nil a.messages i; count = none i }
 
 nothing_followed : {L : Type 0} (a : Reading L) → followed nothing a ≡ a
 nothing_followed a =
@@ -39,7 +32,7 @@ nothing_followed a =
 -- ---- what is added
 
 pub adds_nothing : {L : Type 0} (c : Configuration L) (said : List (List ℕ)) → Adds nothing c c said said
-adds_nothing c said = record { lines = sym (append-nil c.lines); invalid = sym (or_none c.invalid); missing = refl; count = omega arith; few = λ h. h; messages = sym (append-nil said) }
+adds_nothing c said = record { lines = sym (append-nil c.lines); invalid = sym (or-false c.invalid); missing = refl; count = omega arith; few = λ h. h; messages = sym (append-nil said) }
 
 adds_both : {L : Type 0} {a b : Reading L} {c d e : Configuration L} {said told all : List (List ℕ)} → Adds a c d said told → Adds b d e told all → Adds (followed a b) c e said all
 adds_both {a = a} {b = b} {c = c} {said = said} first second = record {
@@ -50,35 +43,6 @@ adds_both {a = a} {b = b} {c = c} {said = said} first second = record {
   few = λ h. second.few (first.few h);
   messages = second.messages ∙ ap (λ (x : List (List ℕ)). x ++ b.messages) first.messages ∙ append_assoc said a.messages b.messages;
 }
-
--- ---- what is said before an end
-
-front_of : (a b : List (List ℕ)) (n : ℕ) → (m : ℕ) × (take n a ≡ take m (a ++ b))
-front_of [] b zero = (0, refl)
-front_of [] b (suc n) = (0, refl)
-front_of (x ∷ a) b zero = (0, refl)
-front_of (x ∷ a) b (suc n) = let below = front_of a b n in (suc below.0, ap (λ (r : List (List ℕ)). x ∷ r) below.1)
-
--- what is said is a part of what more is to be said after it
-pub said_first : (a b old new : List (List ℕ)) → SaidPart a old new → SaidPart (a ++ b) old new
-said_first a b old new part = let front = front_of a b part.0 in (front.0, part.1 ∙ ap (λ (r : List (List ℕ)). old ++ r) front.1)
-
--- first all of some is said, and then a part of others
-pub said_then : (a b old mid new : List (List ℕ)) → mid ≡ old ++ a → SaidPart b mid new → SaidPart (a ++ b) old new
-said_then a b old mid new all part = (
-  length a + part.0,
-  part.1
-      ∙ ap (λ (r : List (List ℕ)). r ++ take part.0 b) all
-      ∙ append_assoc old a (take part.0 b)
-      ∙ ap (λ (r : List (List ℕ)). old ++ r) (sym (take-append-add a b part.0)),
-)
-
--- all is said
-pub said_all : (a old new : List (List ℕ)) → new ≡ old ++ a → SaidPart a old new
-said_all a old new all = (
-  length a,
-  all ∙ ap (λ (r : List (List ℕ)). old ++ r) (sym (take-append_seam a []) ∙ ap (take (length a)) (append-nil a)),
-)
 
 -- ---- reading that is underway
 
@@ -106,7 +70,7 @@ module _ {L : Type 0} {all rest : Reading L} {old new : Configuration L} {said t
 
   pub underway_said : SaidPart all.messages said told
   underway_said =
-      let first = said_first u.done.messages rest.messages said told (said_all u.done.messages said told u.adds.messages) in
+      let first = said_first u.done.messages rest.messages said told (said_whole u.done.messages said told u.adds.messages) in
       (first.0, first.1 ∙ ap (λ (r : Reading L). said ++ take first.0 r.messages) u.whole)
 
   pub underway_part : (one next : Reading L) (more : List (List ℕ)) → rest ≡ followed one next → SaidPart one.messages told more → SaidPart all.messages said more
@@ -135,4 +99,4 @@ next_file files reader paths i path below is =
 -- what is said of a line that is not skipped is a part of what it gives
 pub line_part : {L : Type 0} (reader : Reader L) (place : Place) (text : List ℕ) (said told : List (List ℕ)) → is_skipped text ≡ false → told ≡ said ++ reader.said_of place text
     → SaidPart (reading_of reader place text).messages said told
-line_part reader place text said told skipped all = rw skipped (said_all (reader.said_of place text) said told all)
+line_part reader place text said told skipped all = rw skipped (said_whole (reader.said_of place text) said told all)

@@ -1,6 +1,7 @@
 -- What a run reads as its configuration: the lines of all chosen files (tmpfiles.d(5), sysusers.d(5)).
 use Rattle.std.specs.Prelude.{ℕ, ◌+◌, Bool, true, false, not, ◌||◌, ◌==◌, List, [], ◌∷◌, ◌++◌, find, Option, Some, None, is_none, if◌then◌else◌}
 use Rattle.std.specs.List.{onto_first}
+use Rattle.std.specs.Option.{option_to_list}
 use Rattle.pv_layers.specs.Choices.{Choice, chosen}
 use Rattle.pv_path.specs.Paths.{Path}
 use Rattle.pv_path.specs.Printing.{printed_path}
@@ -72,14 +73,9 @@ followed a b = record {
   count = a.count + b.count;
 }
 
--- a line that was read, if one was
-abbrev pub kept : {L : Type 0} → Option L → List L
-kept (Some line) = line ∷ []
-kept None = []
-
 -- what a line gives that is not skipped
 abbrev pub reading_by : {L : Type 0} → Option L → List (List ℕ) → Reading L
-reading_by read said = record { lines = kept read; invalid = is_none read; messages = said; count = 1 }
+reading_by read said = record { lines = option_to_list read; invalid = is_none read; messages = said; count = 1 }
 
 -- what a line at a place gives
 abbrev pub reading_of : {L : Type 0} → Reader L → Place → List ℕ → Reading L

@@ -1,15 +1,15 @@
 -- What the lines of systemd-tmpfiles are read by: the facts of the image, and the users and groups of the tree's
 -- account files (tmpfiles.d(5), passwd(5), group(5)).
-use Rattle.std.specs.Prelude.{ℕ, Bool, List, [], ◌∷◌, codes, Option, Some, None, Result, Ok, Err, if◌then◌else◌}
+use Rattle.std.specs.Prelude.{ℕ, Bool, List, [], ◌∷◌, codes, Result, Ok, Err, if◌then◌else◌}
 use Rattle.std.specs.Result.{result_ok}
 use Rattle.pv_accounts.specs.Entries.{is_group, is_passwd}
 use Rattle.pv_accounts.specs.Files.{id_or_root}
+use Rattle.pv_layers.specs.Places.{group_path, passwd_path}
 use Rattle.pv_lines.specs.ArgumentField.{Lookup}
 use Rattle.pv_lines.specs.FaultNames.{name_of}
 use Rattle.pv_lines.specs.Lines.{line_of}
 use Rattle.pv_lines.specs.declared.fault.LineFault.{LineFault}
 use Rattle.pv_lines.specs.declared.line.Line.{Line}
-use Rattle.pv_path.specs.Paths.{Path}
 use Rattle.pv_steps.specs.Trees.{Files}
 use Rattle.pv_text.specs.Facts.{Values}
 use Rattle.pv_text.specs.Said.{said_at}
@@ -21,13 +21,6 @@ use Rattle.pv_conf.specs.Configuration.{Configured, Reader, configured_by, conte
 pub record Known : Type 0 where
   pub facts : Values
   pub lookup : Lookup
-
--- the files of users and groups
-abbrev pub passwd_path : Path
-passwd_path = codes "etc" ∷ codes "passwd" ∷ []
-
-abbrev pub group_path : Path
-group_path = codes "etc" ∷ codes "group" ∷ []
 
 -- users and groups by the texts of their files
 abbrev pub lookup_in : List ℕ → List ℕ → Lookup

@@ -8,8 +8,11 @@ ghost use Rattle.pv_steps.specs.Runs.{after_all, Along};
 ghost use Rattle.pv_steps.specs.Trees.{Files, IsTree};
 ghost use Rattle.pv_layers.specs.Inputs.{IsPlain, SameContent};
 ghost use Rattle.pv_text.specs.Facts.{Values};
-ghost use Rattle.pv_conf.specs.Inputs.{is_input};
+ghost use Rattle.pv_requests.specs.Allowed.{IsAllowed};
+ghost use Rattle.pv_layers.specs.Places.{is_input};
+ghost use Rattle.pv_conf.specs.Inputs.{is_request_input};
 ghost use Rattle.pv_conf.specs.Known.{configured};
+ghost use Rattle.pv_conf.specs.Requested.{requested};
 
 /// The configuration of systemd-tmpfiles is the same of trees with the same presence, kinds and payloads at input
 /// paths, where each word that begins with a slash spells such a path or none.
@@ -33,4 +36,16 @@ pub fn a_run_outside_leaves_the_configuration()
         → Along IsTree files steps now → AreOutside is_input files steps now
         → AllByRecursion (IsPlain is_input) words
         → configured (after_all files steps now) facts words ≡ configured files facts words }
+{}
+
+/// The requests of systemd-sysusers are the same of trees with the same presence, kinds and payloads in its folders of
+/// configuration files, where each word that begins with a slash spells a path there or none.
+pub fn requests_depend_on_their_folders()
+    ensures { (t u : Files) (facts : Values) (words : List (List ℕ)) → SameContent is_request_input t u
+        → AllByRecursion (IsPlain is_request_input) words → requested t facts words ≡ requested u facts words }
+{}
+
+/// Each request that is read has only names, IDs, paths and texts that are allowed.
+pub fn each_request_is_allowed()
+    ensures { (files : Files) (facts : Values) (words : List (List ℕ)) → AllByRecursion IsAllowed (requested files facts words).lines }
 {}

@@ -12,6 +12,7 @@ mod tmpfiles;
 pub use configuration::Configuration;
 pub use laws::{
     a_configuration_depends_on_input_paths, a_run_outside_leaves_the_configuration,
+    each_request_is_allowed, requests_depend_on_their_folders,
     steps_elsewhere_leave_the_configuration,
 };
 pub use reader::LineReader;

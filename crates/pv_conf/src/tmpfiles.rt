@@ -5,7 +5,8 @@ ghost use Rattle.pv_text.specs.Said.{SaidPart, said_at};
 ghost use Rattle.pv_lines.specs.FaultNames.{name_of};
 ghost use Rattle.pv_lines.specs.Lines.{IsLine};
 ghost use Rattle.pv_conf.specs.Configuration.{content_at};
-ghost use Rattle.pv_conf.specs.Known.{configured, group_path, moved_message, passwd_path};
+ghost use Rattle.pv_layers.specs.Places.{group_path, passwd_path};
+ghost use Rattle.pv_conf.specs.Known.{configured, moved_message};
 
 use crate::configuration::Configuration;
 use crate::reader::LineReader;

@@ -7,6 +7,3 @@ mod view;
 
 pub use edit::{add_group, add_gshadow_member, new_group};
 pub use view::{GshadowEntry, GshadowView, gshadow_view};
-
-#[cfg(test)]
-mod tests;

@@ -1,10 +1,10 @@
 -- A line that was read has only names, IDs and texts that are allowed.
 use Rattle.std.specs.Prelude.{◌≡◌, ℕ, Bool, true, false, not, ◌&&◌, ◌==◌, nat_le, List, [], ◌∷◌, Option, Some, None, option_map, option_and_then, Result, Ok, Err, IfOk, if◌then◌else◌}
 use Rattle.std.specs.List.{slice_split}
-use Rattle.std.proofs.Common.{refl, sym, ap, subst, ◌∙◌}
+use Rattle.std.proofs.Common.{refl, subst}
+use Rattle.std.proofs.lemmas.Bool.{and_parts, and_from}
 use Rattle.pv_acl.specs.NamedEntries.{is_id}
 use Rattle.pv_acl.specs.Numbers.{may_be_written, number_of, written_id}
-use Rattle.pv_acl.proofs.Booleans.{both}
 use Rattle.pv_path.specs.Parsing.{begins_with_slash, path_of}
 use Rattle.pv_path.specs.Paths.{Path, has_staging}
 use Rattle.pv_path.proofs.Spelled.{path_of-spelled, spelled_names}
@@ -13,11 +13,11 @@ use Rattle.pv_path.specs.declared.fault.PathFault.{PathFault}
 use Rattle.pv_text.specs.Facts.{Values}
 use Rattle.pv_text.specs.Fields.{Cut}
 use Rattle.pv_text.specs.declared.place.Place.{Place}
-use Rattle.pv_requests.specs.Allowed.{IsAllowed, is_allowed, is_allowed_group, is_allowed_path, is_allowed_primary, is_allowed_user, is_any_id}
+use Rattle.pv_requests.specs.Allowed.{IsAllowed, is_allowed_group, is_allowed_path, is_allowed_primary, is_allowed_user, is_any_id}
 use Rattle.pv_requests.specs.Faults.{Gives}
 use Rattle.pv_requests.specs.FieldTexts.{has_more, is_dash, text}
 use Rattle.pv_requests.specs.Names.{is_account_name}
-use Rattle.pv_requests.specs.Numbers.{group_id_in, is_account_place, number_or_dash, path_in, primary_in, range_in, user_id_by, user_id_in, with_primary}
+use Rattle.pv_requests.specs.Numbers.{group_id_in, is_account_place, number_or_dash, path_in, primary_in, range_in, user_id_by, user_id_in}
 use Rattle.pv_requests.specs.Requests.{are_account_texts, ended, group_with, member_with, range_with, request_by, request_in, two_needed, two_texts, type_of, user_texts, user_with}
 use Rattle.pv_requests.specs.declared.fault.RequestFault.{RequestFault}
 use Rattle.pv_requests.specs.declared.fault.RequestFault.TheVariants as fault
@@ -44,7 +44,7 @@ id_written : (text : List ℕ) → Holds is_id (written_id text)
 id_written text = by (number_of text)
   where
     tested : (n : ℕ) (b : Bool) → may_be_written n ≡ b → Holds is_id (if b then Some n else None)
-    tested n true e = (both (nat_le n 4294967294) (not (n == 65535)) e).0
+    tested n true e = (and_parts (nat_le n 4294967294) (not (n == 65535)) e).0
     tested n false e = tt
 
     by : (o : Option ℕ) → Holds is_id (option_and_then (λ n. if may_be_written n then Some n else None) o)
@@ -81,9 +81,6 @@ primary_allowed text = by (written_id text) refl (id_written text)
     by None e h = rw e (named (is_account_name text) refl)
     by (Some n) e h = rw e h
 
-and_true : (a b : Bool) → a ≡ true → b ≡ true → (a && b) ≡ true
-and_true a b h k = rw h k
-
 user_id_allowed : (text : List ℕ) → Holds is_allowed_user (user_id_in text)
 user_id_allowed text = by (begins_with_slash text)
   where
@@ -99,7 +96,7 @@ user_id_allowed text = by (begins_with_slash text)
     by_both : (o : Option (Option ℕ)) (p : Option Primary) → Holds is_any_id o → Holds is_allowed_primary p → Holds is_allowed_user (option_and_then (λ uid. option_map (λ group. user.Primary uid group) p) o)
     by_both None p h k = tt
     by_both (Some uid) None h k = tt
-    by_both (Some uid) (Some primary) h k = and_true (is_any_id uid) (is_allowed_primary primary) h k
+    by_both (Some uid) (Some primary) h k = and_from (is_any_id uid) (is_allowed_primary primary) h k
 
     by_pieces : (pieces : List (List ℕ)) → Holds is_allowed_user (user_id_by pieces)
     by_pieces [] = tt
@@ -151,7 +148,7 @@ user_with-allowed place locked more texts = by (is_account_name texts.name) refl
     by true e (Some id) h false k = tt
     by true e (Some id) h true k =
         ended_allowed more (request.User texts.name id locked texts.gecos texts.home texts.shell place)
-        (and_true (is_account_name texts.name) (is_allowed_user id && are_account_texts texts) e (and_true (is_allowed_user id) (are_account_texts texts) h k))
+        (and_from (is_account_name texts.name) (is_allowed_user id && are_account_texts texts) e (and_from (is_allowed_user id) (are_account_texts texts) h k))
 
 group_with-allowed : (place : Place) (more : Bool) (name id : List ℕ) → IsAllowedIn (group_with place more name id)
 group_with-allowed place more name text = by (is_account_name name) refl (group_id_in text) (group_id_allowed text)
@@ -160,7 +157,7 @@ group_with-allowed place more name text = by (is_account_name name) refl (group_
         → IsAllowedIn (if named then or_fault fault.BadId o >>= (λ id. ended more (request.Group name id place)) else Err fault.BadName)
     by false e o h = tt
     by true e None h = tt
-    by true e (Some id) h = ended_allowed more (request.Group name id place) (and_true (is_account_name name) (is_allowed_group id) e h)
+    by true e (Some id) h = ended_allowed more (request.Group name id place) (and_from (is_account_name name) (is_allowed_group id) e h)
 
 member_with-allowed : (place : Place) (more : Bool) (user group : List ℕ) → IsAllowedIn (member_with place more user group)
 member_with-allowed place more user group = by (is_account_name user && is_account_name group) refl

@@ -2,6 +2,7 @@
 use Rattle.std.specs.Prelude.{◌≡◌, ℕ, ◌<◌, ◌≤◌, ◌^◌, Bool, true, false, ◌&&◌, ◌==◌, List, [], ◌∷◌, length, Option, Some, None, option_map, option_and_then, Result, Ok, Err, IfOk, if◌then◌else◌}
 use Rattle.std.specs.List.{slice_split}
 use Rattle.std.proofs.Common.{refl, arith, subst}
+use Rattle.std.proofs.lemmas.Option.{same_Some}
 use Rattle.pv_acl.specs.Numbers.{written_id}
 use Rattle.pv_path.specs.Parsing.{begins_with_slash, path_of}
 use Rattle.pv_path.specs.Paths.{Path}
@@ -109,9 +110,6 @@ abbrev IsFewIn : Result Request RequestFault → Type 0
 IsFewIn (Ok line) = HasFewNames line
 IsFewIn (Err fault) = Unit {0}
 
-some_path : (p q : Path) → Some p ≡ Some q → p ≡ q
-some_path p q e = cc
-
 no_path : (q : Path) → ◌≡◌ {A = Option Path} None (Some q) → ⊥
 no_path q e = cc
 
@@ -122,13 +120,13 @@ then_few (Err fault) f all = tt
 user_few : (name : List ℕ) (id : UserId) (locked : Bool) (gecos home shell : Option (List ℕ)) (place : Place) → IsFewUser (Some id) → HasFewNames (request.User name id locked gecos home shell place)
 user_few name user.Auto locked gecos home shell place few q e = absurd (no_path q e)
 user_few name (user.Number n) locked gecos home shell place few q e = absurd (no_path q e)
-user_few name (user.Path p) locked gecos home shell place few q e = subst (λ (x : Path). length x < 2 ^ 32) (some_path p q e) few
+user_few name (user.Path p) locked gecos home shell place few q e = subst (λ (x : Path). length x < 2 ^ 32) (same_Some p q e) few
 user_few name (user.Primary uid primary) locked gecos home shell place few q e = absurd (no_path q e)
 
 group_few : (name : List ℕ) (id : GroupId) (place : Place) → IsFewGroup (Some id) → HasFewNames (request.Group name id place)
 group_few name group.Auto place few q e = absurd (no_path q e)
 group_few name (group.Number n) place few q e = absurd (no_path q e)
-group_few name (group.Path p) place few q e = subst (λ (x : Path). length x < 2 ^ 32) (some_path p q e) few
+group_few name (group.Path p) place few q e = subst (λ (x : Path). length x < 2 ^ 32) (same_Some p q e) few
 
 user_with-few : (place : Place) (locked more : Bool) (texts : UserTexts) → IsFewIn (user_with place locked more texts)
 user_with-few place locked more texts = by (is_account_name texts.name) (user_id_in texts.id) (user_id_in-few texts.id) (are_account_texts texts) more

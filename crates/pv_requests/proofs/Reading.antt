@@ -1,5 +1,5 @@
 -- The request of a line, by its fields.
-use Rattle.std.proofs.Common.{◌≡◌, ℕ, List, Ok, sym, ap, ◌∙◌, refl}
+use Rattle.std.proofs.Common.{◌≡◌, ℕ, List, Ok, sym, ap}
 use Rattle.pv_text.specs.Facts.{Values}
 use Rattle.pv_text.specs.Fields.{Cut, fields_of}
 use Rattle.pv_text.specs.declared.place.Place.{Place}

@@ -1,5 +1,5 @@
 -- The texts of the fields Type, Name, ID, GECOS, Home and Shell, counted from 0 (sysusers.d(5), "Configuration Format").
-use Rattle.std.specs.Prelude.{ℕ, Bool, List, codes, slice_get, Option, Some, None, is_some, option_map, unwrap_or, Result, Ok, Err, if◌then◌else◌}
+use Rattle.std.specs.Prelude.{ℕ, Bool, List, codes, slice_get, Option, Some, None, is_some, option_map, unwrap_or, Result, Ok, if◌then◌else◌}
 use Rattle.pv_path.specs.Names.{same_bytes}
 use Rattle.pv_path.specs.Results.{◌>>=◌, in_words}
 use Rattle.pv_text.specs.Escapes.{unescaped}

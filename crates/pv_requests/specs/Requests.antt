@@ -1,10 +1,10 @@
 -- The request that a line of sysusers.d(5) spells, or its first fault: a missing field, specifiers from the left, then
 -- names, IDs, ranges and texts.
-use Rattle.std.specs.Prelude.{ℕ, Bool, true, false, not, ◌&&◌, List, codes, map, Option, Some, None, Result, Ok, Err, if◌then◌else◌}
+use Rattle.std.specs.Prelude.{ℕ, Bool, true, false, ◌&&◌, List, codes, Result, Ok, Err, if◌then◌else◌}
 use Rattle.pv_path.specs.Names.{same_bytes}
 use Rattle.pv_path.specs.Results.{◌>>=◌, in_words, or_fault}
 use Rattle.pv_text.specs.Facts.{Values}
-use Rattle.pv_text.specs.Fields.{Cut, Span, fields_of}
+use Rattle.pv_text.specs.Fields.{Cut, fields_of}
 use Rattle.pv_text.specs.declared.place.Place.{Place}
 use Rattle.pv_requests.specs.FieldTexts.{given, has_more, is_dash, text, written}
 use Rattle.pv_requests.specs.Names.{is_account_name, is_comment, is_place}

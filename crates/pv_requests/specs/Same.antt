@@ -1,5 +1,6 @@
 -- Whether two requests ask for the same, wherever they stand (sysusers.d(5)).
-use Rattle.std.specs.Prelude.{ℕ, Bool, true, false, not, ◌&&◌, ◌==◌, List, Option, Some, None}
+use Rattle.std.specs.Prelude.{ℕ, Bool, true, false, ◌&&◌, ◌==◌, List, Option, Some, None}
+use Rattle.std.specs.Bool.{beq}
 use Rattle.pv_path.specs.Names.{same_bytes}
 use Rattle.pv_path.specs.Paths.{same_path}
 use Rattle.pv_requests.specs.declared.request.Primary.{Primary}
@@ -35,14 +36,9 @@ same_user_id (user.Path a) (user.Path b) = same_path a b
 same_user_id (user.Primary uid group) (user.Primary uid' group') = same_number uid uid' && same_primary group group'
 same_user_id _ _ = false
 
--- two flags
-abbrev pub same_flag : Bool → Bool → Bool
-same_flag true b = b
-same_flag false b = not b
-
 -- whether two u lines ask for the same
 abbrev pub same_user : Request → Request → Bool
 same_user (request.User name id locked gecos home shell place) (request.User name' id' locked' gecos' home' shell' place') =
-    same_bytes name name' && same_user_id id id' && same_flag locked locked'
+    same_bytes name name' && same_user_id id id' && beq locked locked'
     && same_text gecos gecos' && same_text home home' && same_text shell shell'
 same_user _ _ = false

@@ -17,6 +17,3 @@ pub use same::is_same_user;
 
 /// Requests in listing order.
 pub type RequestList = pv_path::Sequence<Request>;
-
-#[cfg(test)]
-mod tests;

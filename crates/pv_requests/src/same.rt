@@ -1,6 +1,6 @@
 //! Whether two requests ask for the same, wherever they stand.
 ghost use Rattle.std.specs.Prelude.{◌≡◌};
-ghost use Rattle.pv_requests.specs.Same.{same_flag, same_number, same_primary, same_text, same_user, same_user_id};
+ghost use Rattle.pv_requests.specs.Same.{same_number, same_primary, same_text, same_user, same_user_id};
 
 use crate::request::{Primary, Request, UserId};
 use pv_path::Bytes;
@@ -70,12 +70,6 @@ fn is_same_user_id(a: &UserId, b: &UserId) -> bool
     }
 }
 
-fn is_same_flag(a: bool, b: bool) -> bool
-    ensures { result ≡ same_flag a b }
-{
-    if a { b } else { !b }
-}
-
 /// Whether two u lines ask for the same, wherever they stand.
 pub fn is_same_user(a: &Request, b: &Request) -> bool
     ensures { result ≡ same_user a.now b.now }
@@ -102,7 +96,7 @@ pub fn is_same_user(a: &Request, b: &Request) -> bool
                 let comment = is_same_text(gecos, of_gecos);
                 let directory = is_same_text(home, of_home);
                 let program = is_same_text(shell, of_shell);
-                let flag = is_same_flag(*locked, *of_locked);
+                let flag = *locked == *of_locked;
                 let number = is_same_user_id(id, of_id);
                 name.is_same(other) && number && flag && comment && directory && program
             }

@@ -1,9 +1,10 @@
 -- Texts of account files that are made again stay as they are.
-use Rattle.std.proofs.Common.{◌≡◌, ℕ, ◌<◌, ◌^◌, Bool, true, false, not, ◌&&◌, ◌||◌, ◌==◌, List, [], ◌∷◌, ◌++◌, map, Option, Some, None, is_some, refl, sym, ap, subst, ◌∙◌, cond, if◌then◌else◌}
+use Rattle.std.proofs.Common.{◌≡◌, ℕ, ◌<◌, ◌^◌, Bool, true, false, ◌||◌, List, [], ◌∷◌, ◌++◌, map, is_some, refl, sym, ap, ◌∙◌, if◌then◌else◌}
 use Rattle.std.specs.List.{AllByRecursion, flat_map, list_all, list_any}
 use Rattle.std.specs.Str.{bytes_eq}
-use Rattle.std.proofs.lemmas.List.Folds.{list_all-append, list_any-append}
+use Rattle.std.proofs.lemmas.List.Folds.{list_any-append}
 use Rattle.std.proofs.lemmas.Slice.Eq.{bytes_eq-Decides}
+use Rattle.std.proofs.lemmas.Bool.{or_left, or_right}
 use Rattle.pv_accounts.specs.Edits.{appended, lacks_end}
 use Rattle.pv_accounts.specs.Entries.{is_group, is_gshadow, is_passwd, is_shadow}
 use Rattle.pv_accounts.specs.Files.{lines_of}
@@ -78,14 +79,6 @@ users_read made file new = alike (ids_of is_passwd (passwd_text made file)) (ids
 
 -- ---- /etc/shadow
 
-or_true : (b c : Bool) → b ≡ true → (b || c) ≡ true
-or_true true c h = refl
-or_true false c h = absurd (let no : false ≡ true = h in cc)
-
-true_or : (b c : Bool) → c ≡ true → (b || c) ≡ true
-true_or true c h = refl
-true_or false c h = h
-
 or_more : (a b c : Bool) → (b || c) ≡ true → ((a || b) || c) ≡ true
 or_more true b c h = refl
 or_more false b c h = h
@@ -107,7 +100,7 @@ module _ (day : ℕ) (small : day < 2 ^ 64) (file : List ℕ) where
   shown_first user plain rest = by (has_entry is_shadow file user.account.name) refl
     where
       by : (b : Bool) → has_entry is_shadow file user.account.name ≡ b → IsShown ((if b then [] else shadow_line day user ∷ []) ++ rest) user
-      by true e = true_or (list_any (is_entry_named is_shadow user.account.name) rest) (list_any (is_entry_named is_shadow user.account.name) (lines_of file))
+      by true e = or_right (list_any (is_entry_named is_shadow user.account.name) rest) (list_any (is_entry_named is_shadow user.account.name) (lines_of file))
           (sym (named_any is_shadow user.account.name (lines_of file)) ∙ e)
       by false e = ap (λ b. (b || list_any (is_entry_named is_shadow user.account.name) rest) || list_any (is_entry_named is_shadow user.account.name) (lines_of file)) (shadow_named day small user plain)
 
@@ -169,7 +162,7 @@ module _ (test : Fields → Bool) (file : List ℕ) where
       by : (b : Bool) → ((ns : List (List ℕ)) → list_any (bytes_eq name) ns ≡ true → list_any (bytes_eq name) (without_entry test file ns needs) ≡ true)
           → list_any (bytes_eq name) (if b then without_entry test file names needs else without_entry test file (names ++ need.name ∷ []) needs) ≡ true
       by true rest = rest names h
-      by false rest = rest (names ++ need.name ∷ []) (list_any-append (bytes_eq name) names (need.name ∷ []) ∙ or_true (list_any (bytes_eq name) names) (bytes_eq name need.name || false) h)
+      by false rest = rest (names ++ need.name ∷ []) (list_any-append (bytes_eq name) names (need.name ∷ []) ∙ or_left (list_any (bytes_eq name) names) (bytes_eq name need.name || false) h)
 
   known_later : (names more : List (List ℕ)) (name : List ℕ) → (list_any (bytes_eq name) names ≡ true → list_any (bytes_eq name) more ≡ true) → is_known test file names name ≡ true → is_known test file more name ≡ true
   known_later names more name stay h = by (has_entry test file name) h
@@ -186,10 +179,10 @@ module _ (test : Fields → Bool) (file : List ℕ) where
           → AllByRecursion (λ n. is_known test file (if b then without_entry test file names needs else without_entry test file (names ++ need.name ∷ []) needs) n.name ≡ true) (need ∷ needs)
       by true e rest = (known_later names (without_entry test file names needs) need.name (names_stay needs names need.name) e, rest names)
       by false e rest = (
-        true_or (has_entry test file need.name) (list_any (bytes_eq need.name) (without_entry test file (names ++ need.name ∷ []) needs))
+        or_right (has_entry test file need.name) (list_any (bytes_eq need.name) (without_entry test file (names ++ need.name ∷ []) needs))
             (names_stay needs (names ++ need.name ∷ []) need.name
             (list_any-append (bytes_eq need.name) names (need.name ∷ [])
-            ∙ true_or (list_any (bytes_eq need.name) names) (bytes_eq need.name need.name || false) (or_true (bytes_eq need.name need.name) false ((bytes_eq-Decides need.name need.name).1 refl)))),
+            ∙ or_right (list_any (bytes_eq need.name) names) (bytes_eq need.name need.name || false) (or_left (bytes_eq need.name need.name) false ((bytes_eq-Decides need.name need.name).1 refl)))),
         rest (names ++ need.name ∷ []),
       )
 
@@ -201,9 +194,9 @@ among_named (n ∷ names) plain name h = by (bytes_eq name n) refl h (among_name
     by : (b : Bool) → bytes_eq name n ≡ b → (b || list_any (bytes_eq name) names) ≡ true → (list_any (bytes_eq name) names ≡ true → list_any (is_entry_named is_gshadow name) (map new_group names) ≡ true)
         → (is_entry_named is_gshadow name (new_group n) || list_any (is_entry_named is_gshadow name) (map new_group names)) ≡ true
     by true e k rest =
-        or_true (is_entry_named is_gshadow name (new_group n)) (list_any (is_entry_named is_gshadow name) (map new_group names))
+        or_left (is_entry_named is_gshadow name (new_group n)) (list_any (is_entry_named is_gshadow name) (map new_group names))
         (ap (λ (m : List ℕ). is_entry_named is_gshadow m (new_group n)) ((bytes_eq-Decides name n).0 e) ∙ new_group_named n plain.0)
-    by false e k rest = true_or (is_entry_named is_gshadow name (new_group n)) (list_any (is_entry_named is_gshadow name) (map new_group names)) (rest k)
+    by false e k rest = or_right (is_entry_named is_gshadow name (new_group n)) (list_any (is_entry_named is_gshadow name) (map new_group names)) (rest k)
 
 names_end : (names : List (List ℕ)) → AllByRecursion IsPlain names → list_all lacks_end (map new_group names) ≡ true
 names_end [] plain = refl
@@ -226,9 +219,9 @@ module _ (needs : List Need) (fit : AllByRecursion IsFitNeed needs) (ms : List (
       by : (b : Bool) → has_entry is_gshadow file name ≡ b → (b || list_any (bytes_eq name) lacking) ≡ true
           → (list_any (is_entry_named is_gshadow name) (map new_group lacking) || list_any (is_entry_named is_gshadow name) (lines_of file)) ≡ true
       by true e k =
-          true_or (list_any (is_entry_named is_gshadow name) (map new_group lacking)) (list_any (is_entry_named is_gshadow name) (lines_of file)) (sym (named_any is_gshadow name (lines_of file)) ∙ e)
+          or_right (list_any (is_entry_named is_gshadow name) (map new_group lacking)) (list_any (is_entry_named is_gshadow name) (lines_of file)) (sym (named_any is_gshadow name (lines_of file)) ∙ e)
       by false e k =
-          or_true (list_any (is_entry_named is_gshadow name) (map new_group lacking)) (list_any (is_entry_named is_gshadow name) (lines_of file)) (among_named lacking lacking_plain name k)
+          or_left (list_any (is_entry_named is_gshadow name) (map new_group lacking)) (list_any (is_entry_named is_gshadow name) (lines_of file)) (among_named lacking lacking_plain name k)
 
   all_then : (some : List Need) → AllByRecursion (λ need. is_known is_gshadow file lacking need.name ≡ true) some → AllByRecursion (λ need. has_entry is_gshadow (gshadow_text needs ms file) need.name ≡ true) some
   all_then [] all = tt

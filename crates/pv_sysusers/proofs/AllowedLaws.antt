@@ -1,16 +1,15 @@
 -- What allowed lines ask for: names that stand for themselves in account files, IDs, and texts of one field.
-use Rattle.std.proofs.Common.{◌≡◌, ℕ, zero, suc, ◌+◌, Bool, true, false, not, ◌&&◌, ◌||◌, ◌==◌, nat_le, List, [], ◌∷◌, ◌++◌, codes, length, Option, Some, None, option_map, unwrap_or, refl, sym, ap, subst, ◌∙◌, arith, cond, if◌then◌else◌}
-use Rattle.std.specs.Prelude.{slice_get, option_and_then, is_some}
+use Rattle.std.proofs.Common.{◌≡◌, ℕ, zero, suc, ◌+◌, Bool, true, false, not, ◌&&◌, ◌==◌, nat_le, List, [], ◌∷◌, ◌++◌, length, Option, Some, None, option_map, unwrap_or, refl, sym, ap, ◌∙◌, arith, if◌then◌else◌}
+use Rattle.std.specs.Prelude.{is_some}
 use Rattle.std.specs.List.{AllByRecursion, flat_map, list_all}
 use Rattle.std.proofs.lemmas.Bool.Decides.{nat_tests}
+use Rattle.std.proofs.lemmas.Bool.{and_parts}
 use Rattle.pv_acl.specs.NamedEntries.{is_id}
-use Rattle.pv_acl.proofs.Booleans.{both}
 use Rattle.pv_acl.proofs.Splitting.{lacks}
 use Rattle.pv_accounts.proofs.Rereading.{IsPlain}
 use Rattle.pv_path.specs.Parsing.{begins_with_slash}
 use Rattle.pv_requests.specs.Allowed.{IsAllowed, are_allowed_texts, is_allowed_group, is_allowed_user, is_any_id}
 use Rattle.pv_requests.specs.Names.{is_account_name, is_comment, is_name_part, is_name_start, is_place, is_text_byte}
-use Rattle.pv_requests.specs.Numbers.{is_account_place}
 use Rattle.pv_requests.specs.declared.request.GroupId.{GroupId}
 use Rattle.pv_requests.specs.declared.request.GroupId.TheVariants as group
 use Rattle.pv_requests.specs.declared.request.Primary.TheVariants as primary
@@ -21,7 +20,7 @@ use Rattle.pv_requests.specs.declared.request.UserId.TheVariants as user
 use Rattle.pv_text.specs.declared.place.Place.{Place}
 use Rattle.pv_sysusers.specs.Allowed.{AreOwners, IsAllowedLine}
 use Rattle.pv_sysusers.specs.Lines.{Line, counting, earlier, lines_from, owners_at, with_counting}
-use Rattle.pv_sysusers.specs.Needs.{accounts_of, group_number, made_account, main_of, member_needs, need, needs_of, user_needs, user_number}
+use Rattle.pv_sysusers.specs.Needs.{accounts_of, group_number, made_account, main_of, member_needs, needs_of, user_needs, user_number}
 use Rattle.pv_sysusers.specs.Texts.{membership_of}
 use Rattle.pv_sysusers.specs.declared.needs.Account.{Account}
 use Rattle.pv_sysusers.specs.declared.needs.Main.{Main}
@@ -45,7 +44,7 @@ differs p c b none some = by (b == c) refl
 all_lack : (p : ℕ → Bool) (c : ℕ) → p c ≡ false → (bs : List ℕ) → list_all p bs ≡ true → lacks c bs ≡ true
 all_lack p c none [] h = refl
 all_lack p c none (b ∷ bs) h =
-    let parts = both (p b) (list_all p bs) h in
+    let parts = and_parts (p b) (list_all p bs) h in
     rw (differs p c b none parts.0) (all_lack p c none bs parts.1)
 
 first_lack : (p : ℕ → Bool) (c b : ℕ) (bs : List ℕ) → p c ≡ false → p b ≡ true → lacks c bs ≡ true → lacks c (b ∷ bs) ≡ true
@@ -55,8 +54,8 @@ first_lack p c b bs none here rest = rw (differs p c b none here) rest
 pub name_plain : (name : List ℕ) → is_account_name name ≡ true → IsPlain name
 name_plain [] h = absurd (let no : false ≡ true = h in cc)
 name_plain (b ∷ bs) h =
-    let whole = both (is_name_start b && list_all is_name_part bs) (nat_le (length bs) 30) h in
-    let parts = both (is_name_start b) (list_all is_name_part bs) whole.0 in
+    let whole = and_parts (is_name_start b && list_all is_name_part bs) (nat_le (length bs) 30) h in
+    let parts = and_parts (is_name_start b) (list_all is_name_part bs) whole.0 in
     record {
       colon = first_lack is_name_start 58 b bs refl parts.0 (all_lack is_name_part 58 refl bs parts.1);
       comma = first_lack is_name_start 44 b bs refl parts.0 (all_lack is_name_part 44 refl bs parts.1);
@@ -78,7 +77,7 @@ comment_field (Some text) h own is = text_field text h
 
 place_field : (text : Option (List ℕ)) → is_place text ≡ true → (own : List ℕ) → IsField own → IsField (unwrap_or text own)
 place_field None h own is = is
-place_field (Some text) h own is = text_field text (both (begins_with_slash text) (list_all is_text_byte text) h).1
+place_field (Some text) h own is = text_field text (and_parts (begins_with_slash text) (list_all is_text_byte text) h).1
 
 -- ---- what lines ask for
 
@@ -101,11 +100,11 @@ pub record IsFitAccount (account : Account) : Type 0 where
 
 owner_gid : (owners : Option PathId) → AreOwners owners → is_any_id (option_map (λ o. o.gid) owners) ≡ true
 owner_gid None h = refl
-owner_gid (Some o) h = (both (is_id o.uid) (is_id o.gid) h).1
+owner_gid (Some o) h = (and_parts (is_id o.uid) (is_id o.gid) h).1
 
 owner_uid : (owners : Option PathId) → AreOwners owners → is_any_id (option_map (λ o. o.uid) owners) ≡ true
 owner_uid None h = refl
-owner_uid (Some o) h = (both (is_id o.uid) (is_id o.gid) h).0
+owner_uid (Some o) h = (and_parts (is_id o.uid) (is_id o.gid) h).0
 
 user_fit : (name : List ℕ) (place : Place) (owners : Option PathId) (id : UserId) → IsPlain name → is_allowed_user id ≡ true → AreOwners owners → AllByRecursion IsFitNeed (user_needs name place owners id)
 user_fit name place owners user.Auto plain h own = (record { name = plain; number = refl }, tt)
@@ -113,7 +112,7 @@ user_fit name place owners (user.Number n) plain h own = (record { name = plain;
 user_fit name place owners (user.Path path) plain h own = (record { name = plain; number = owner_gid owners own }, tt)
 user_fit name place owners (user.Primary uid (primary.Gid n)) plain h own = tt
 user_fit name place owners (user.Primary uid (primary.Name group)) plain h own =
-    (record { name = name_plain group (both (is_any_id uid) (is_account_name group) h).1; number = refl }, tt)
+    (record { name = name_plain group (and_parts (is_any_id uid) (is_account_name group) h).1; number = refl }, tt)
 
 group_fit : (id : GroupId) (owners : Option PathId) → is_allowed_group id ≡ true → AreOwners owners → is_any_id (group_number owners id) ≡ true
 group_fit group.Auto owners h own = refl
@@ -127,13 +126,13 @@ member_fit false user group place a b = (record { name = b; number = refl }, tt)
 -- the groups that a line needs
 pub needs_fit : (made : List ℕ → Bool) (line : Line) → IsAllowedLine line → AllByRecursion IsFitNeed (needs_of made line)
 needs_fit made (request.User name id locked gecos home shell place, owners) is =
-    let parts = both (is_account_name name) (is_allowed_user id && are_allowed_texts gecos home shell) is.0 in
-    user_fit name place owners id (name_plain name parts.0) (both (is_allowed_user id) (are_allowed_texts gecos home shell) parts.1).0 is.1
+    let parts = and_parts (is_account_name name) (is_allowed_user id && are_allowed_texts gecos home shell) is.0 in
+    user_fit name place owners id (name_plain name parts.0) (and_parts (is_allowed_user id) (are_allowed_texts gecos home shell) parts.1).0 is.1
 needs_fit made (request.Group name id place, owners) is =
-    let parts = both (is_account_name name) (is_allowed_group id) is.0 in
+    let parts = and_parts (is_account_name name) (is_allowed_group id) is.0 in
     (record { name = name_plain name parts.0; number = group_fit id owners parts.1 is.1 }, tt)
 needs_fit made (request.Member user group place, owners) is =
-    let parts = both (is_account_name user) (is_account_name group) is.0 in
+    let parts = and_parts (is_account_name user) (is_account_name group) is.0 in
     member_fit (made user) user group place (name_plain user parts.0) (name_plain group parts.1)
 needs_fit made (request.Range first last place, owners) is = tt
 
@@ -141,14 +140,14 @@ user_number_fit : (id : UserId) (owners : Option PathId) → is_allowed_user id 
 user_number_fit user.Auto owners h own = refl
 user_number_fit (user.Number n) owners h own = h
 user_number_fit (user.Path path) owners h own = owner_uid owners own
-user_number_fit (user.Primary uid (primary.Gid n)) owners h own = (both (is_any_id uid) (is_id n) h).0
-user_number_fit (user.Primary uid (primary.Name name)) owners h own = (both (is_any_id uid) (is_account_name name) h).0
+user_number_fit (user.Primary uid (primary.Gid n)) owners h own = (and_parts (is_any_id uid) (is_id n) h).0
+user_number_fit (user.Primary uid (primary.Name name)) owners h own = (and_parts (is_any_id uid) (is_account_name name) h).0
 
 main_fit : (id : UserId) → is_allowed_user id ≡ true → is_main_id (main_of id) ≡ true
 main_fit user.Auto h = refl
 main_fit (user.Number n) h = refl
 main_fit (user.Path path) h = refl
-main_fit (user.Primary uid (primary.Gid n)) h = (both (is_any_id uid) (is_id n) h).1
+main_fit (user.Primary uid (primary.Gid n)) h = (and_parts (is_any_id uid) (is_id n) h).1
 main_fit (user.Primary uid (primary.Name name)) h = refl
 
 made_fit : (made : Bool) (user : List ℕ) (place : Place) → IsPlain user → AllByRecursion IsFitAccount (made_account made user place)
@@ -158,10 +157,10 @@ made_fit true user place plain = (record { name = plain; uid = refl; main = refl
 -- the users that a line needs
 pub accounts_fit : (made : List ℕ → Bool) (line : Line) → IsAllowedLine line → AllByRecursion IsFitAccount (accounts_of made line)
 accounts_fit made (request.User name id locked gecos home shell place, owners) is =
-    let parts = both (is_account_name name) (is_allowed_user id && are_allowed_texts gecos home shell) is.0 in
-    let id_texts = both (is_allowed_user id) (are_allowed_texts gecos home shell) parts.1 in
-    let texts = both (is_comment gecos && is_place home) (is_place shell) id_texts.1 in
-    let first_texts = both (is_comment gecos) (is_place home) texts.0 in (
+    let parts = and_parts (is_account_name name) (is_allowed_user id && are_allowed_texts gecos home shell) is.0 in
+    let id_texts = and_parts (is_allowed_user id) (are_allowed_texts gecos home shell) parts.1 in
+    let texts = and_parts (is_comment gecos && is_place home) (is_place shell) id_texts.1 in
+    let first_texts = and_parts (is_comment gecos) (is_place home) texts.0 in (
       record {
         name = name_plain name parts.0;
         uid = user_number_fit id owners id_texts.0 is.1;
@@ -174,7 +173,7 @@ accounts_fit made (request.User name id locked gecos home shell place, owners) i
     )
 accounts_fit made (request.Group name id place, owners) is = tt
 accounts_fit made (request.Member user group place, owners) is =
-    let parts = both (is_account_name user) (is_account_name group) is.0 in
+    let parts = and_parts (is_account_name user) (is_account_name group) is.0 in
     made_fit (made user) user place (name_plain user parts.0)
 accounts_fit made (request.Range first last place, owners) is = tt
 
@@ -182,7 +181,7 @@ accounts_fit made (request.Range first last place, owners) is = tt
 pub members_fit : (line : Line) → IsAllowedLine line → AllByRecursion (λ m. IsPlain m.1) (membership_of line)
 members_fit (request.User name id locked gecos home shell place, owners) is = tt
 members_fit (request.Group name id place, owners) is = tt
-members_fit (request.Member user group place, owners) is = (name_plain user (both (is_account_name user) (is_account_name group) is.0).0, tt)
+members_fit (request.Member user group place, owners) is = (name_plain user (and_parts (is_account_name user) (is_account_name group) is.0).0, tt)
 members_fit (request.Range first last place, owners) is = tt
 
 -- ---- lists

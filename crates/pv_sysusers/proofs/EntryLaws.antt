@@ -1,8 +1,7 @@
 -- The entries of new groups and users read as their names and IDs.
-use Rattle.std.proofs.Common.{◌≡◌, ℕ, ◌<◌, ◌^◌, Bool, true, false, not, ◌&&◌, ◌||◌, ◌==◌, List, [], ◌∷◌, ◌++◌, codes, map, Option, Some, None, is_some, option_map, unwrap_or, append_assoc, refl, sym, ap, subst, ◌∙◌, arith, cond, inl, inr, ◌⊎◌, if◌then◌else◌}
-use Rattle.std.specs.List.{AllByRecursion, cons_option, flat_map, list_all, list_any, slice_split}
+use Rattle.std.proofs.Common.{◌≡◌, ℕ, ◌<◌, ◌^◌, Bool, true, false, not, ◌==◌, List, [], ◌∷◌, ◌++◌, codes, map, Some, option_map, unwrap_or, append_assoc, refl, ap, ◌∙◌, arith, inl, inr, if◌then◌else◌}
+use Rattle.std.specs.List.{AllByRecursion, cons_option, list_all}
 use Rattle.std.specs.Fmt.{decimal}
-use Rattle.std.specs.Str.{bytes_eq}
 use Rattle.std.proofs.lemmas.Bool.Decides.{nat_tests}
 use Rattle.std.proofs.lemmas.List.Folds.{list_all-append}
 use Rattle.std.proofs.lemmas.Slice.Eq.{bytes_eq-Decides}
@@ -11,7 +10,7 @@ use Rattle.pv_acl.specs.Spelling.{decimal_id}
 use Rattle.pv_acl.proofs.Numerals.{number_of-decimal}
 use Rattle.pv_acl.proofs.Splitting.{lacks, lacks-decimal, split_at, split_none}
 use Rattle.pv_accounts.specs.Edits.{lacks_end}
-use Rattle.pv_accounts.specs.Entries.{fields_of, is_entry_name, is_group, is_gshadow, is_passwd, is_shadow}
+use Rattle.pv_accounts.specs.Entries.{fields_of, is_group, is_gshadow, is_passwd, is_shadow}
 use Rattle.pv_accounts.specs.Files.{id_in, name_of}
 use Rattle.pv_accounts.specs.InUse.{Ids, named_in}
 use Rattle.pv_accounts.specs.Kinds.{is_entry_named}

@@ -1,13 +1,13 @@
 -- A plan that is made again, where an earlier run was stopped among its files, gives the same texts.
-use Rattle.std.proofs.Common.{◌≡◌, ◌⊎◌, ℕ, ◌<◌, ◌^◌, Bool, true, false, not, ◌&&◌, ◌||◌, ◌==◌, List, [], ◌∷◌, ◌++◌, map, Option, Some, None, is_some, option_map, unwrap_or, Result, Ok, Err, append-nil, refl, sym, ap, subst, ◌∙◌, cond, inl, inr, if◌then◌else◌}
+use Rattle.std.proofs.Common.{◌≡◌, ◌⊎◌, ℕ, ◌<◌, ◌^◌, Bool, true, false, not, ◌&&◌, ◌||◌, ◌==◌, List, [], ◌∷◌, ◌++◌, map, Option, Some, None, is_some, option_map, unwrap_or, Result, Ok, Err, append-nil, refl, sym, ap, subst, ◌∙◌, inl, inr, if◌then◌else◌}
 use Rattle.std.specs.Prelude.{is_none}
-use Rattle.std.specs.List.{AllByRecursion, flat_map, list_any}
+use Rattle.std.specs.List.{AllByRecursion, flat_map}
 use Rattle.std.specs.Option.{option_or}
 use Rattle.pv_accounts.specs.Entries.{is_group, is_gshadow, is_passwd}
-use Rattle.pv_accounts.specs.InUse.{AreApart, Ids, id_of, ids_of, is_held, is_held_beside}
+use Rattle.pv_accounts.specs.InUse.{Ids, id_of, ids_of, is_held}
 use Rattle.pv_accounts.proofs.Alike.{AreAlike}
 use Rattle.pv_accounts.proofs.Members.{group_members}
-use Rattle.pv_accounts.proofs.Rereading.{AreIds, IsPlain, apart_file, id_append, ids_file}
+use Rattle.pv_accounts.proofs.Rereading.{IsPlain, apart_file, id_append, ids_file}
 use Rattle.pv_accounts.specs.Edits.{appended}
 use Rattle.pv_requests.specs.declared.request.Request.{Request}
 use Rattle.pv_requests.specs.declared.request.Request.TheVariants as request
@@ -15,14 +15,14 @@ use Rattle.pv_text.specs.declared.place.Place.{Place}
 use Rattle.pv_requests.specs.Allowed.{IsAllowed}
 use Rattle.pv_sysusers.specs.Allowed.{AreOwners, IsAllowedLine}
 use Rattle.pv_sysusers.specs.Finishing.{AreFinished, Finishes, IsEither, IsPartWritten, files_with}
-use Rattle.pv_sysusers.specs.Groups.{Choice, NewGroups, decided_groups, in_use_message, no_groups}
+use Rattle.pv_sysusers.specs.Groups.{NewGroups, decided_groups, in_use_message, no_groups}
 use Rattle.pv_sysusers.specs.Lines.{Line, counting, is_named, lines_from}
 use Rattle.pv_sysusers.specs.Needs.{accounts_of, fixed_for, is_made, made_account, member_needs, needs_of}
 use Rattle.pv_sysusers.specs.Plans.{AccountFiles, Numbers, accounts_by, needs_by, numbers_after, numbers_by, numbers_of, plan_of, planned, pool_by, texts_by, texts_of, texts_or, with_users}
 use Rattle.pv_sysusers.specs.Pools.{free_number, highest}
 use Rattle.pv_sysusers.specs.Settled.{ids_made}
 use Rattle.pv_sysusers.specs.Texts.{group_line, group_text, gshadow_text, has_entry, membership_of, passwd_text, shadow_text, with_memberships}
-use Rattle.pv_sysusers.specs.Users.{NewUsers, decided_users, gid_of, group_or_free, is_free_for, new_user, no_users, user_choice, user_chosen, user_first}
+use Rattle.pv_sysusers.specs.Users.{NewUsers, decided_users, gid_of, group_or_free, is_free_for, no_users, user_choice, user_chosen, user_first}
 use Rattle.pv_sysusers.specs.declared.needs.Account.{Account}
 use Rattle.pv_sysusers.specs.declared.needs.Main.{Main}
 use Rattle.pv_sysusers.specs.declared.needs.Main.TheVariants as main
@@ -34,7 +34,7 @@ use Rattle.pv_sysusers.proofs.AgainLaws.{groups_entered, groups_read, gshadow_ag
 use Rattle.pv_sysusers.proofs.AllowedLaws.{IsFitAccount, IsFitNeed, accounts_fit, all_append, all_flat, counting_all, lines_all, members_fit, needs_fit}
 use Rattle.pv_sysusers.proofs.NewLaws.{AreNewGroups, AreNewUsers, fixed_is, groups_new, ids_with, users_new}
 use Rattle.pv_sysusers.proofs.PlanLaws.{after_groups}
-use Rattle.pv_sysusers.proofs.SettledLaws.{AreMembers, AreThere, HasId, groups_there, no_new, none_new, users_there}
+use Rattle.pv_sysusers.proofs.SettledLaws.{HasId, groups_there, no_new, none_new, users_there}
 
 -- ---- users decided among groups that are alike
 

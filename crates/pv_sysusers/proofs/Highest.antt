@@ -4,6 +4,7 @@ use Rattle.std.specs.HashSet as set
 use Rattle.std.specs.List.{list_any}
 use Rattle.std.proofs.lemmas.Bool.Decides.{nat_tests}
 use Rattle.std.proofs.lemmas.List.{take_more}
+use Rattle.std.proofs.Math.Bool.{and-false}
 use Rattle.pv_accounts.specs.InUse.{Ids, is_held}
 use Rattle.pv_sysusers.specs.Deciding.{is_free_in, pooled_by}
 use Rattle.pv_sysusers.specs.Pools.{greater, highest, is_between, last_of}
@@ -97,11 +98,7 @@ between_low : (n first last : ℕ) → n < first → is_between n (first, last) 
 between_low n first last low = let e : nat_le first n ≡ false = grind (arith, nat_tests) in rw e refl
 
 between_high : (n first last : ℕ) → last < n → is_between n (first, last) ≡ false
-between_high n first last high = let e : nat_le n last ≡ false = grind (arith, nat_tests) in rw e (by (nat_le first n))
-  where
-    by : (b : Bool) → (b && false) ≡ false
-    by true = refl
-    by false = refl
+between_high n first last high = let e : nat_le n last ≡ false = grind (arith, nat_tests) in rw e (and-false (nat_le first n))
 
 above_range : (first last b : ℕ) → last < b → first ≤ last → highest (λ n. is_between n (first, last)) b ≡ Some last
 unfolding highest

@@ -1,7 +1,6 @@
 -- New groups and new users have names that were not there, IDs that they may have, and what their lines ask for.
-use Rattle.std.proofs.Common.{◌≡◌, ℕ, zero, suc, ◌+◌, ◌<◌, ◌≤◌, Bool, true, false, not, ◌&&◌, ◌||◌, ◌==◌, List, [], ◌∷◌, ◌++◌, Option, Some, None, is_some, unwrap_or, append_assoc, append-nil, refl, sym, ap, subst, ◌∙◌, arith, cond, if◌then◌else◌}
+use Rattle.std.proofs.Common.{◌≡◌, ℕ, ◌<◌, Bool, true, false, not, ◌&&◌, ◌||◌, ◌==◌, List, [], ◌∷◌, ◌++◌, Option, Some, None, is_some, unwrap_or, append_assoc, append-nil, refl, sym, ap, subst, ◌∙◌, arith, cond, if◌then◌else◌}
 use Rattle.std.specs.List.{AllByRecursion}
-use Rattle.std.specs.Map.{lookup}
 use Rattle.std.specs.Option.{option_or}
 use Rattle.std.specs.Str.{bytes_eq}
 use Rattle.std.proofs.lemmas.Bool.Decides.{nat_tests}
@@ -12,11 +11,11 @@ use Rattle.pv_accounts.proofs.Counting.{apart_more}
 use Rattle.pv_accounts.proofs.Rereading.{AreIds, IsPlain, id_append}
 use Rattle.pv_text.specs.declared.place.Place.{Place}
 use Rattle.pv_requests.specs.Allowed.{is_any_id}
-use Rattle.pv_sysusers.specs.Groups.{Choice, NewGroups, decided_groups, group_choice, group_chosen, in_use_message}
+use Rattle.pv_sysusers.specs.Groups.{Choice, decided_groups, group_choice, group_chosen, in_use_message}
 use Rattle.pv_sysusers.specs.Needs.{fixed_for, fixed_or}
-use Rattle.pv_sysusers.specs.Pools.{free_number, highest}
+use Rattle.pv_sysusers.specs.Pools.{free_number}
 use Rattle.pv_sysusers.specs.Settled.{ids_made}
-use Rattle.pv_sysusers.specs.Users.{NewUsers, decided_users, gid_of, group_or_free, is_free_for, new_user, user_choice, user_chosen}
+use Rattle.pv_sysusers.specs.Users.{decided_users, gid_of, group_or_free, is_free_for, user_choice, user_chosen}
 use Rattle.pv_sysusers.specs.declared.needs.Account.{Account}
 use Rattle.pv_sysusers.specs.declared.needs.Main.{Main}
 use Rattle.pv_sysusers.specs.declared.needs.Main.TheVariants as main

@@ -1,15 +1,12 @@
 -- Plans by their parts.
-use Rattle.std.proofs.Common.{◌≡◌, ℕ, zero, suc, ◌+◌, Bool, List, [], ◌∷◌, ◌++◌, take, add-one, Option, Some, None, Result, Ok, Err, append_assoc, append-nil, length, refl, sym, ap, ◌∙◌}
-use Rattle.std.proofs.Math.Seq.{take-length}
-use Rattle.pv_text.specs.Said.{SaidPart}
+use Rattle.std.proofs.Common.{◌≡◌, ℕ, Bool, List, ◌++◌, Option, Some, None, Result, Ok, Err, append_assoc, refl, sym, ap, ◌∙◌}
 use Rattle.pv_accounts.specs.Entries.{is_group, is_passwd}
 use Rattle.pv_accounts.specs.InUse.{Ids, ids_of}
 use Rattle.pv_text.specs.declared.place.Place.{Place}
 use Rattle.pv_sysusers.specs.Groups.{NewGroups, decided_groups}
 use Rattle.pv_sysusers.specs.Deciding.{Lacks, Told, ToldBy, fixed_by, groups_by, pooled_by, users_by}
 use Rattle.pv_sysusers.specs.Lines.{Line}
-use Rattle.std.specs.Prelude.{slice_get}
-use Rattle.pv_sysusers.specs.Needs.{fixed_for, kept}
+use Rattle.pv_sysusers.specs.Needs.{fixed_for}
 use Rattle.pv_sysusers.specs.Planning.{IsWanted, Misses, numbers_in}
 use Rattle.pv_sysusers.specs.Plans.{AccountFiles, Numbers, accounts_by, needs_by, numbers_after, numbers_by, numbers_of, plan_of, pool_by, texts_of, texts_or, with_users}
 use Rattle.pv_sysusers.specs.Users.{NewUsers, decided_users}
@@ -110,20 +107,3 @@ pub told_after : {A : Type 0} (r : Result A PlanFault) (heard told said a b : Li
 told_after (Ok x) heard told said a b first then_said = then_said ∙ ap (λ (ms : List (List ℕ)). ms ++ b) first ∙ append_assoc said a b
 told_after (Err Memory) heard told said a b first then_said = then_said
 told_after (Err (NoFreeId name)) heard told said a b first then_said = then_said ∙ ap (λ (ms : List (List ℕ)). ms ++ b) first ∙ append_assoc said a b
-
--- all of what is to be said is a part of it, and so is nothing
-pub part_all : (all old new : List (List ℕ)) → new ≡ old ++ all → SaidPart all old new
-part_all all old new e = (length all, e ∙ ap (λ (ms : List (List ℕ)). old ++ ms) (sym (take-length all)))
-
-pub part_none : (all old : List (List ℕ)) → SaidPart all old old
-part_none all old = (0, sym (append-nil old))
-
--- one message more
-pub take_kept : (xs : List (List ℕ)) (i : ℕ) → take (i + 1) xs ≡ take i xs ++ kept (slice_get xs i)
-take_kept xs i = rw add-one (by_place xs i)
-  where
-    by_place : (ys : List (List ℕ)) (n : ℕ) → take (suc n) ys ≡ take n ys ++ kept (slice_get ys n)
-    by_place [] zero = refl
-    by_place [] (suc n) = refl
-    by_place (y ∷ ys) zero = refl
-    by_place (y ∷ ys) (suc n) = ap (λ (ms : List (List ℕ)). y ∷ ms) (by_place ys n)

@@ -1,4 +1,5 @@
 -- The groups and the users that lines need, and the numbers that they fix (sysusers.d(5), "Type" and "ID").
+use Rattle.std.specs.Option.{option_to_list}
 use Rattle.std.specs.Prelude.{ℕ, Bool, false, not, ◌&&◌, List, [], ◌∷◌, ◌++◌, Option, Some, None, is_none, option_map, if◌then◌else◌}
 use Rattle.std.specs.List.{flat_map}
 use Rattle.std.specs.Str.{bytes_eq}
@@ -77,15 +78,10 @@ account_of (request.User name id locked gecos home shell place, owners) =
     Some (record { name = name; uid = user_number owners id; main = main_of id; locked = locked; gecos = gecos; home = home; shell = shell; place = place })
 account_of _ = None
 
--- what there is, if there is any
-abbrev pub kept : {A : Type 0} → Option A → List A
-kept (Some x) = x ∷ []
-kept None = []
-
 -- the users that a line needs
 abbrev pub accounts_of : (List ℕ → Bool) → Line → List Account
 accounts_of made (request.Member user group place, owners) = made_account (made user) user place
-accounts_of made line = kept (account_of line)
+accounts_of made line = option_to_list (account_of line)
 
 -- the number of a primary group that has no name
 abbrev pub main_number : Main → List ℕ
@@ -94,11 +90,11 @@ main_number _ = []
 
 -- the numbers that a u line fixes for a user and for a group without a name
 abbrev pub account_numbers : Account → List ℕ
-account_numbers account = kept account.uid ++ main_number account.main
+account_numbers account = option_to_list account.uid ++ main_number account.main
 
 -- the numbers that lines fix, which are not given to others
 abbrev pub fixed_numbers : List Need → List Account → List ℕ
-fixed_numbers needs accounts = flat_map (λ need. kept need.number) needs ++ flat_map account_numbers accounts
+fixed_numbers needs accounts = flat_map (λ need. option_to_list need.number) needs ++ flat_map account_numbers accounts
 
 -- the number that a line fixes, or else what another fixes
 abbrev pub fixed_or : Place → Option (ℕ × Place) → Option ℕ → Option (ℕ × Place)

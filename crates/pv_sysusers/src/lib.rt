@@ -19,7 +19,4 @@ pub use laws::{
     users_that_are_there_stay,
 };
 pub use path_ids::{PathId, PathIds};
-pub use planned::{Texts, duplicates, plan, say_all};
-
-#[cfg(test)]
-mod tests;
+pub use planned::{Texts, duplicates, plan};

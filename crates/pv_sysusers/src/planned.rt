@@ -5,7 +5,6 @@ ghost use Rattle.pv_text.specs.Said.{SaidPart};
 ghost use Rattle.pv_sysusers.specs.Deciding.{Lacks, Told};
 ghost use Rattle.pv_sysusers.specs.Texts.{gshadow_text, membership_of};
 ghost use Rattle.pv_sysusers.specs.Lines.{lines_from, said_duplicates};
-ghost use Rattle.pv_sysusers.specs.Needs.{kept};
 ghost use Rattle.pv_sysusers.specs.Plans.{plan_of, planned, texts_by};
 ghost use Rattle.pv_sysusers.specs.Planning.{AreNumbers, IsWanted, Misses, files_in, files_of, numbers_in};
 ghost use Rattle.pv_sysusers.specs.Shown.{IsIndexed, shown};
@@ -22,7 +21,7 @@ use crate::users::{NewUser, decided_users};
 use pv_accounts::{InUse, Kind};
 use pv_path::Bytes;
 use pv_requests::RequestList;
-use pv_text::Messages;
+use pv_text::{Messages, say_all};
 use std::alloc::{AllocError, Global};
 
 /// The new texts of the account files.
@@ -196,28 +195,6 @@ fn planned_texts(
 {
     let lines = counted(alloc, requests, taken, said)?;
     plan_of(alloc, files, &lines, day, said)
-}
-
-/// Says the message at a place of a list, where there is one.
-fn say_one(said: &Messages, i: usize, messages: &mut Messages) -> Result<(), AllocError>
-    ensures ok { OnOk result (messages.new ≡ messages.old ++ kept (slice_get said.now i)) }
-    ensures err { OnErr result (messages.new ≡ messages.old) }
-{
-    match said.line(i) {
-        Some(line) => messages.push(line),
-        None => Ok(()),
-    }
-}
-
-/// Says all messages of a list. Where memory runs out nothing or a front part of it is said.
-pub fn say_all(said: &Messages, messages: &mut Messages) -> Result<(), AllocError>
-    ensures ok { OnOk result (messages.new ≡ messages.old ++ said.now) }
-    ensures part { SaidPart said.now messages.old messages.new }
-{
-    for i in 0..said.len() {
-        say_one(said, i, messages)?;
-    }
-    Ok(())
 }
 
 /// What is said of lines that come again (sysusers.d(5)).

@@ -4,7 +4,8 @@ ghost use Rattle.std.specs.HashSet as set;
 ghost use Rattle.std.specs.List.{flat_map, list_any};
 ghost use Rattle.pv_sysusers.specs.Deciding.{is_free_in, pooled_by};
 ghost use Rattle.pv_sysusers.specs.Pools.{free_number, greater, highest, is_between, is_pooled, last_of, range_of, ranges_or_own};
-ghost use Rattle.pv_sysusers.specs.Needs.{account_numbers, fixed_numbers, kept, main_number};
+ghost use Rattle.std.specs.Option.{option_to_list};
+ghost use Rattle.pv_sysusers.specs.Needs.{account_numbers, fixed_numbers, main_number};
 ghost use Rattle.pv_sysusers.specs.Shown.{shown, shown_line};
 
 use crate::lines::Line;
@@ -56,7 +57,7 @@ fn ranges_or_own(mut ranges: Vec<(u32, u32)>) -> Result<Vec<(u32, u32)>, AllocEr
 
 /// Adds a number, where there is one.
 fn add_number(numbers: &mut Vec<u32>, number: Option<u32>) -> Result<(), AllocError>
-    ensures { OnOk result (numbers.new.items ≡ numbers.old.items ++ kept number) }
+    ensures { OnOk result (numbers.new.items ≡ numbers.old.items ++ option_to_list number) }
 {
     if let Some(n) = number {
         numbers.push(n)?;
@@ -66,7 +67,7 @@ fn add_number(numbers: &mut Vec<u32>, number: Option<u32>) -> Result<(), AllocEr
 
 /// Adds the numbers that lines fix for groups.
 fn add_need_numbers(numbers: &mut Vec<u32>, needs: &[Need]) -> Result<(), AllocError>
-    ensures { OnOk result (numbers.new.items ≡ numbers.old.items ++ flat_map (λ need. kept need.number) needs.now) }
+    ensures { OnOk result (numbers.new.items ≡ numbers.old.items ++ flat_map (λ need. option_to_list need.number) needs.now) }
 {
     for need in needs {
         add_number(numbers, need.number)?;
@@ -76,7 +77,7 @@ fn add_need_numbers(numbers: &mut Vec<u32>, needs: &[Need]) -> Result<(), AllocE
 
 /// The number of a primary group that has no name.
 fn main_number(main: &Main) -> Option<u32>
-    ensures { kept result ≡ main_number main.now }
+    ensures { option_to_list result ≡ main_number main.now }
 {
     match main {
         Main::Gid(n) => Some(*n),

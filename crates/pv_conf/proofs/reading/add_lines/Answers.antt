@@ -1,5 +1,5 @@
-use Rattle.std.proofs.Common.{◌≡◌, ◌+◌, refl, ◌∙◌}
-use Rattle.pv_conf.specs.Configuration.{Reader, lines_in, reader_of, reading_of, reading_of_lines}
+use Rattle.std.proofs.Common.{◌≡◌, ◌+◌, refl}
+use Rattle.pv_conf.specs.Configuration.{lines_in, reader_of, reading_of, reading_of_lines}
 use Rattle.pv_conf.proofs.ReadingLaws.{underway_start, underway_more, underway_part, underway_said, next_line}
 use Rattle.pv_conf.proofs.reading.add_lines.Goals as goal
 

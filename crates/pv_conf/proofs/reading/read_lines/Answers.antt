@@ -1,9 +1,9 @@
-use Rattle.std.proofs.Common.{◌≡◌, List, ◌++◌, ◌+◌, subst, sym, ap, ◌∙◌, arith}
+use Rattle.std.proofs.Common.{◌≡◌, List, ◌++◌, subst, ap, ◌∙◌}
 use Rattle.pv_layers.specs.Choices.{chosen}
 use Rattle.pv_text.specs.Said.{SaidPart}
 use Rattle.pv_path.specs.Paths.{Path}
-use Rattle.pv_conf.specs.Configuration.{configured_by, reader_of, reading_of_files}
-use Rattle.pv_conf.proofs.ReadingLaws.{said_first, said_then, said_all}
+use Rattle.pv_conf.specs.Configuration.{reader_of, reading_of_files}
+use Rattle.pv_text.proofs.SaidLaws.{said_first, said_then, said_whole}
 use Rattle.pv_conf.proofs.reading.read_lines.Goals as goal
 
 pub returns-in_err-chosen-clause-part : goal.returns-in_err-chosen-clause-part
@@ -30,4 +30,4 @@ returns-clause-part g c =
     = c.in_ok-add_files.ensures.added.messages
     ∙ ap (λ (paths : List Path). c.chosen_files.new.messages ++ (readings paths).messages) (c.as_slice-files.ensures ∙ c.in_ok-chosen.ensures.files) in
     said_then choice.messages (readings choice.files).messages c.args.messages.now c.chosen_files.new.messages c.add_files.new.messages c.in_ok-chosen.ensures.said
-    (said_all (readings choice.files).messages c.chosen_files.new.messages c.add_files.new.messages told)
+    (said_whole (readings choice.files).messages c.chosen_files.new.messages c.add_files.new.messages told)

@@ -1,4 +1,4 @@
-use Rattle.std.proofs.Common.{◌≡◌, ◌<◌, ◌^◌, ℕ, Bool, List, ◌++◌, sym, subst, ap, ◌∙◌}
+use Rattle.std.proofs.Common.{◌<◌, ◌^◌, ℕ, ◌++◌, subst, ap, ◌∙◌}
 use Rattle.pv_lines.specs.declared.line.Line.{Line}
 use Rattle.pv_text.specs.Said.{SaidPart}
 use Rattle.pv_conf.specs.Configuration.{Configured}
