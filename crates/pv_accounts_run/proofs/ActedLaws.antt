@@ -1,6 +1,7 @@
 -- Laws of calls that go over files one after the other, the first and then the others.
 use Rattle.std.specs.Prelude.{◌≡◌, false, ℕ, ◌+◌, ◌-◌, ◌*◌, ◌≤◌, ◌<◌, List, ◌∷◌, length, take, drop, fold, get_or, Some, Result, Ok}
 use Rattle.std.proofs.Common.{zero, suc, refl, sym, ap, subst, ◌∙◌, arith, inl, inr}
+use Rattle.std.proofs.lemmas.Option.{same_Some}
 use Rattle.pv_path.specs.Paths.{Path, is_prefix, staging_of, has_staging}
 use Rattle.pv_path.proofs.Printed.{first_and_rest}
 use Rattle.pv_path.proofs.PathLaws.{has_staging-staging_of}
@@ -127,16 +128,13 @@ module _ (edit : Edit) (is : IsEdit edit) where
     pub can_dress : CanWear u (staging_of edit.path) edit.dress
     can_dress = record { kind = File; there = ap kind_of there_staged; dress = is.dress }
 
-    some_of : (x y : Object) → Some x ≡ Some y → x ≡ y
-    some_of x y e = cc
-
     dressed : (old o : Object) → old ≡ plain → IsChanged (wear edit.dress) now old o → o ≡ edited now edit
     dressed old o e (inl h) = h.1 ∙ sym h.0 ∙ ap (wear edit.dress) e
     dressed old o e (inr h) = h.1 ∙ ap (λ x. changed now (wear edit.dress x)) e
 
     pub staged_gives : (v : Files) → ChangedAt (wear edit.dress) (staging_of edit.path) now u v → places v ≡ with_staged now (places t) edit
     staged_gives v h =
-        let old : h.old ≡ plain = some_of h.old plain (sym h.there ∙ there_staged) in
+        let old : h.old ≡ plain = same_Some h.old plain (sym h.there ∙ there_staged) in
         let same : h.object ≡ edited now edit = dressed h.old h.object old h.is in
         h.left ∙ (λ i. put_at (staging_of edit.path) (Some (same i)) (made i)) ∙ (λ j q. put_at-made now (staging_of edit.path) (places t) (stage_some edit is) plain (edited now edit) q j)
 

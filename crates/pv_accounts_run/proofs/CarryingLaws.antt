@@ -6,6 +6,7 @@ use Rattle.pv_path.specs.Paths.{Path, same_path, has_staging, staging_of}
 use Rattle.pv_path.proofs.PathLaws.{is_prefix-refl}
 use Rattle.pv_steps.specs.declared.node.Kind.TheVariants.{Directory, File}
 use Rattle.pv_steps.specs.declared.object.Object.{Object}
+use Rattle.pv_steps.specs.declared.step.Step.{Step}
 use Rattle.pv_steps.specs.Objects.{bare}
 use Rattle.pv_steps.specs.Trees.{Files, Places, places, kind_of, IsKind, IsKindIn, IsPresent, IsAbsentIn, IsTreeIn}
 use Rattle.pv_steps.specs.Content.{Removes}
@@ -21,13 +22,13 @@ use Rattle.pv_dress.proofs.EditLaws.{path_cases, put_at-else, bares-made, bares-
 use Rattle.pv_walk.specs.Staging.{is_under_any, most_new, new_object}
 use Rattle.pv_walk.specs.Preparing.{parent_file, with_parent}
 use Rattle.pv_walk.specs.Putting as putting
-use Rattle.pv_walk.specs.Putting.{IsPutStep, IsPutting, Putting}
+use Rattle.pv_walk.specs.Putting.{IsPutting, Putting}
 use Rattle.pv_walk.specs.Removal.{is_one_of}
 use Rattle.pv_walk.proofs.RemovalLaws.{apart}
 use Rattle.pv_walk.proofs.PuttingLaws.{made-none, none_below}
 use Rattle.pv_accounts_run.specs.declared.edit.Edit.{Edit}
 use Rattle.pv_accounts_run.specs.Edits.{AreEdits, IsBeside, IsEdit, IsFree, IsOfSome, IsStaged, Published, PublishesEdit, StagesEdit, edited, etc, most_edited, with_edit, with_published, with_staged}
-use Rattle.pv_accounts_run.specs.Carrying.{AccountWay, IsAccountStep, IsEditOf, account_paths, most_put, swept_names, with_directory}
+use Rattle.pv_accounts_run.specs.Carrying.{AccountWay, IsAccountStep, IsEditOf, PutsDirectory, account_paths, most_put, swept_names, with_directory}
 use Rattle.pv_accounts_run.proofs.MovingLaws.{not_parent, not_same}
 use Rattle.pv_accounts_run.proofs.StagingLaws.{HasRoom, bares_all_staged, bares_edits, published_first, stage_some, stage_up}
 
@@ -248,6 +249,17 @@ module _ (edits : List Edit) (t : Files) where
     ),
   )
 
+none_bare : (a b : Option Object) → option_map bare a ≡ option_map bare b → a ≡ None → b ≡ None
+none_bare a None e none = refl
+none_bare a (Some x) e none = let no : None ≡ Some (bare x) = ap (option_map bare) (sym none) ∙ e in cc
+
+-- where /etc was absent then, it was before
+pub step_after : (edits : List Edit) (t s : Files) → Same s t → (step : Step) → IsAccountStep edits s step → IsAccountStep edits t step
+step_after edits t s same step (IsAccountStep.sweeps h) = IsAccountStep.sweeps h
+step_after edits t s same step (IsAccountStep.puts h) = IsAccountStep.puts (none_bare (places s etc) (places t etc) (same etc refl) h.0, h.1)
+step_after edits t s same step (IsAccountStep.stages h) = IsAccountStep.stages h
+step_after edits t s same step (IsAccountStep.publishes h) = IsAccountStep.publishes h
+
 -- ---- sweeping
 
 plain_outside : (q : Path) → has_staging q ≡ false → is_under_any swept_names q ≡ false
@@ -273,31 +285,31 @@ most_some (c ∷ cs) h = refl
 -- ---- calls
 
 module _ {S : Type 0} (tree : Ghosts S) (edits : List Edit) {now : ℕ} (a : S) where
-  pub directory_acted : {A : Type 0} {m : ℕ} {b : S} {r : Result A TreeFault} → 1 ≤ length edits → Acted tree (Putting etc parent_file (tree.state a)) (IsPutStep etc parent_file) m now a b r
-      → Acted tree (AccountWay edits (tree.state a)) (IsAccountStep edits) m now a b r
-  directory_acted {m = m} some one = acted_weaken tree (Putting etc parent_file (tree.state a)) (AccountWay edits (tree.state a)) (IsPutStep etc parent_file) (IsAccountStep edits) m m
+  pub directory_acted : {A : Type 0} {m : ℕ} {b : S} {r : Result A TreeFault} → 1 ≤ length edits → Acted tree (Putting etc parent_file (tree.state a)) (PutsDirectory (tree.state a)) m now a b r
+      → Acted tree (AccountWay edits (tree.state a)) (IsAccountStep edits (tree.state a)) m now a b r
+  directory_acted {m = m} some one = acted_weaken tree (Putting etc parent_file (tree.state a)) (AccountWay edits (tree.state a)) (PutsDirectory (tree.state a)) (IsAccountStep edits (tree.state a)) m m
       (way_directory edits (tree.state a) some) (λ s g. IsAccountStep.puts g) (omega arith) one
 
   pub staged_acted : {A : Type 0} {m : ℕ} {b c : S} {r : Result A TreeFault} → 1 ≤ length edits → places (tree.state b) ≡ with_parent now (places (tree.state a)) etc
-      → Acted tree (Same (tree.state b)) (IsOfSome StagesEdit edits) m now b c r → Acted tree (AccountWay edits (tree.state a)) (IsAccountStep edits) m now b c r
-  staged_acted {m = m} {b = b} some is one = acted_weaken tree (Same (tree.state b)) (AccountWay edits (tree.state a)) (IsOfSome StagesEdit edits) (IsAccountStep edits) m m
+      → Acted tree (Same (tree.state b)) (IsOfSome StagesEdit edits) m now b c r → Acted tree (AccountWay edits (tree.state a)) (IsAccountStep edits (tree.state a)) m now b c r
+  staged_acted {m = m} {b = b} some is one = acted_weaken tree (Same (tree.state b)) (AccountWay edits (tree.state a)) (IsOfSome StagesEdit edits) (IsAccountStep edits (tree.state a)) m m
       (λ u h. way_staged edits (tree.state a) some now (tree.state b) u is h) (λ s g. IsAccountStep.stages g) (omega arith) one
 
   pub published_acted : {A : Type 0} {m : ℕ} (b : S) {c d : S} {r : Result A TreeFault} → 1 ≤ length edits → AreEdits edits → places (tree.state b) ≡ with_parent now (places (tree.state a)) etc
       → places (tree.state c) ≡ fold (with_staged now) (places (tree.state b)) edits → AllByRecursion (HasRoom (places (tree.state b))) edits
-      → Acted tree (Published now edits (tree.state c)) (IsOfSome PublishesEdit edits) m now c d r → Acted tree (AccountWay edits (tree.state a)) (IsAccountStep edits) m now c d r
-  published_acted {m = m} b {c = c} some are is staged has one = acted_weaken tree (Published now edits (tree.state c)) (AccountWay edits (tree.state a)) (IsOfSome PublishesEdit edits) (IsAccountStep edits) m m
+      → Acted tree (Published now edits (tree.state c)) (IsOfSome PublishesEdit edits) m now c d r → Acted tree (AccountWay edits (tree.state a)) (IsAccountStep edits (tree.state a)) m now c d r
+  published_acted {m = m} b {c = c} some are is staged has one = acted_weaken tree (Published now edits (tree.state c)) (AccountWay edits (tree.state a)) (IsOfSome PublishesEdit edits) (IsAccountStep edits (tree.state a)) m m
       (λ u h. way_published edits (tree.state a) some now (tree.state b) (tree.state c) u are is staged has h) (λ s g. IsAccountStep.publishes g) (omega arith) one
 
   pub swept_acted : {A : Type 0} {m : ℕ} {b : S} {r : Result A TreeFault} → Acted tree (Pruned (is_under_any swept_names) (tree.state a)) (Removes (is_under_any swept_names)) m now a b r
-      → Acted tree (AccountWay edits (tree.state a)) (IsAccountStep edits) m now a b r
-  swept_acted {m = m} one = acted_weaken tree (Pruned (is_under_any swept_names) (tree.state a)) (AccountWay edits (tree.state a)) (Removes (is_under_any swept_names)) (IsAccountStep edits) m m
+      → Acted tree (AccountWay edits (tree.state a)) (IsAccountStep edits (tree.state a)) m now a b r
+  swept_acted {m = m} one = acted_weaken tree (Pruned (is_under_any swept_names) (tree.state a)) (AccountWay edits (tree.state a)) (Removes (is_under_any swept_names)) (IsAccountStep edits (tree.state a)) m m
       (λ u h. inl (swept_same (tree.state a) u h)) (λ s g. IsAccountStep.sweeps g) (omega arith) one
 
-  pub put_after : {A : Type 0} {m : ℕ} {b c : S} {r : Result A TreeFault} → Same (tree.state b) (tree.state a) → Acted tree (AccountWay edits (tree.state b)) (IsAccountStep edits) m now b c r
-      → Acted tree (AccountWay edits (tree.state a)) (IsAccountStep edits) m now b c r
-  put_after {m = m} {b = b} same one = acted_weaken tree (AccountWay edits (tree.state b)) (AccountWay edits (tree.state a)) (IsAccountStep edits) (IsAccountStep edits) m m
-      (λ u h. way_after edits (tree.state a) (tree.state b) u same h) (λ s g. g) (omega arith) one
+  pub put_after : {A : Type 0} {m : ℕ} {b c : S} {r : Result A TreeFault} → Same (tree.state b) (tree.state a) → Acted tree (AccountWay edits (tree.state b)) (IsAccountStep edits (tree.state b)) m now b c r
+      → Acted tree (AccountWay edits (tree.state a)) (IsAccountStep edits (tree.state a)) m now b c r
+  put_after {m = m} {b = b} same one = acted_weaken tree (AccountWay edits (tree.state b)) (AccountWay edits (tree.state a)) (IsAccountStep edits (tree.state b)) (IsAccountStep edits (tree.state a)) m m
+      (λ u h. way_after edits (tree.state a) (tree.state b) u same h) (step_after edits (tree.state a) (tree.state b) same) (omega arith) one
 
 -- ---- what stands after sweeping
 

@@ -18,7 +18,8 @@ use Rattle.pv_walk.proofs.PreparingSweep.{unrefused_pass}
 use Rattle.pv_sysusers.specs.declared.planned.Texts.{Texts}
 use Rattle.pv_accounts_run.specs.declared.edit.Edit.{Edit}
 use Rattle.pv_accounts_run.specs.Edits.{AreEdits, IsBeside, IsEdit, etc}
-use Rattle.pv_accounts_run.specs.Carrying.{IsEditOf, account_paths, group_path, gshadow_path, passwd_path, shadow_path}
+use Rattle.pv_layers.specs.Places.{group_path, passwd_path}
+use Rattle.pv_accounts_run.specs.Carrying.{IsEditOf, account_paths, gshadow_path, shadow_path}
 use Rattle.pv_accounts_run.specs.Accounted.{IsUsable, dress_at, edit_at, edit_to, edits_by, edits_to, plain_dress, text_at, unusable_by, unusable_text, unusable_texts}
 use Rattle.std.specs.Prelude.{Result, Ok, Err}
 

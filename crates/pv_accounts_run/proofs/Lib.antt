@@ -6,5 +6,6 @@ pub mod ActedLaws
 pub mod EditingLaws
 pub mod RunningLaws
 pub mod SameLaws
+pub mod BesideLaws
 pub mod StopLaws
 pub mod MendedLaws

@@ -1,20 +1,19 @@
 -- A run that was stopped is finished by the next.
-use Rattle.std.specs.Prelude.{◌≡◌, ◌⊎◌, ◌≤◌, ◌<◌, ◌^◌, ◌/◌, ℕ, ◌+◌, ◌-◌, ◌==◌, nat_lt, min, Bool, true, false, not, ◌&&◌, ◌||◌, cond, List, [], ◌∷◌, ◌++◌, codes, length, map, take, drop, fold, Option, Some, None, is_some, option_map, option_and_then, unwrap_or, Result, Ok, Err, if◌then◌else◌}
+use Rattle.std.specs.Prelude.{◌≡◌, ◌⊎◌, ◌≤◌, ◌<◌, ◌^◌, ◌/◌, ℕ, ◌==◌, nat_lt, min, Bool, true, false, not, ◌&&◌, ◌||◌, cond, List, [], ◌∷◌, ◌++◌, codes, length, map, take, drop, fold, Option, Some, None, is_some, option_map, option_and_then, unwrap_or, Result, Ok, Err, if◌then◌else◌}
 use Rattle.std.proofs.Common.{zero, suc, refl, sym, ap, subst, ◌∙◌, arith, inl, inr}
-use Rattle.std.specs.List.{AllByRecursion, list_any}
+use Rattle.std.specs.List.{AllByRecursion}
 use Rattle.std.specs.Option.{option_map_or}
 use Rattle.std.proofs.Math.Nat.{div-le_self}
 use Rattle.std.proofs.Math.Seq.{drop-append_seam, drop-length}
 use Rattle.std.proofs.lemmas.Bool.Decides.{nat_tests}
 use Rattle.std.proofs.lemmas.List.{append-nil, take-append-drop, length-take}
+use Rattle.std.proofs.lemmas.Bool.{and_parts, not-true}
+use Rattle.std.proofs.lemmas.Option.{same_Some}
 use Rattle.pv_acl.specs.NamedEntries.{is_id}
-use Rattle.pv_acl.proofs.Booleans.{both}
 use Rattle.pv_path.specs.Paths.{Path, has_staging, same_path}
-use Rattle.pv_steps.specs.declared.node.Kind.{Kind}
-use Rattle.pv_steps.specs.declared.node.Kind.TheVariants.{Directory, File}
+use Rattle.pv_steps.specs.declared.node.Kind.TheVariants.{File}
 use Rattle.pv_steps.specs.declared.object.Object.{Object}
 use Rattle.pv_steps.specs.declared.step.Step.{Step}
-use Rattle.pv_steps.specs.declared.why.Why.{Why}
 use Rattle.pv_steps.specs.Objects.{bare}
 use Rattle.pv_steps.specs.Refusal.{owner_at, refusal, why_blocked}
 use Rattle.pv_steps.specs.Runs.{Ran, after_all}
@@ -24,7 +23,7 @@ use Rattle.pv_steps.proofs.RunLaws.{along_prefix}
 use Rattle.pv_steps.proofs.TreeLaws.{directory_above}
 use Rattle.pv_dress.specs.Edits.{all_taken}
 use Rattle.pv_steps.specs.Steps.{made}
-use Rattle.pv_dress.proofs.EditLaws.{bares-made, bares-put_else, path_cases}
+use Rattle.pv_dress.proofs.EditLaws.{path_cases}
 use Rattle.pv_path.specs.Names.{same_bytes}
 use Rattle.pv_walk.specs.Preparing.{parent_file, with_parent}
 use Rattle.pv_walk.specs.Staging.{new_object}
@@ -44,15 +43,17 @@ use Rattle.pv_sysusers.specs.declared.path_ids.PathId.{PathId}
 use Rattle.pv_sysusers.specs.declared.planned.Texts.{Texts}
 use Rattle.pv_sysusers.proofs.FinishLaws.{plan_finishes, plan_lacks, plan_own}
 use Rattle.pv_accounts_run.specs.declared.edit.Edit.{Edit}
-use Rattle.pv_accounts_run.specs.Edits.{edited, etc, with_edit}
-use Rattle.pv_accounts_run.specs.Carrying.{AccountWay, account_paths, group_path, gshadow_path, passwd_path, shadow_path, swept_names, with_directory}
+use Rattle.pv_accounts_run.specs.Edits.{etc, with_edit}
+use Rattle.pv_accounts_run.specs.Carrying.{AccountWay, account_paths, gshadow_path, shadow_path, swept_names, with_directory}
+use Rattle.pv_layers.specs.Places.{group_path, passwd_path}
 use Rattle.pv_accounts_run.specs.Accounted.{HasPlainPath, IsUsable, accounted, accounted_unless, carried_files, day_of, edit_at, edit_to, edits_at, edits_by, edits_to, edits_unless, files_at, ids_at, ids_of, lacking_at, lacking_in, lacking_unless, other_text, plan_at, text_at, unusable_by, unusable_text, unusable_texts}
 use Rattle.pv_accounts_run.specs.Mended.{EndAlike, IsMended}
+use Rattle.pv_accounts_run.proofs.BesideLaws.{AreElse, edits_left, first_all}
 use Rattle.pv_accounts_run.proofs.CarryingLaws.{directory_bares, no_directory, parent_bares, same_kind, same_some, with_some}
 use Rattle.pv_accounts_run.proofs.EditingLaws.{IsWell, all_usable, all_well}
-use Rattle.pv_accounts_run.proofs.RunningLaws.{some_unless, usable_accounted}
-use Rattle.pv_accounts_run.proofs.SameLaws.{all_ids, all_taken_bares, beside, blocked, files_same, no_owner, owner, owners_of, places_carried, plain_take, put_blocked, put_owner, refusal_by, same_accounted, seen, seen_or, some_put, there_put, uid_in, unusables_same}
-use Rattle.pv_accounts_run.proofs.StopLaws.{AreNew, HasCome, IsAs, IsBesideAll, after_all_edits, all_beside, bares_all, beside_all, come, kind_as, own_again, own_new, own_text_new, owner_as, text_new, there_text_new}
+use Rattle.pv_accounts_run.proofs.RunningLaws.{usable_accounted}
+use Rattle.pv_accounts_run.proofs.SameLaws.{all_ids, all_taken_bares, beside, blocked, files_same, no_owner, owner, owners_of, places_carried, plain_take, refusal_by, same_accounted, seen, seen_or, some_put, there_put, uid_in, unusables_same}
+use Rattle.pv_accounts_run.proofs.StopLaws.{AreNew, HasCome, IsAs, after_all_edits, all_beside, bares_all, beside_all, come, kind_as, own_again, own_new, own_text_new, owner_as, text_new, there_text_new}
 
 -- ---- the paths of the account files
 
@@ -103,13 +104,6 @@ ids_none t q e = by (is_some (refusal t q 0))
 
 -- ---- the paths of lines
 
-not_false : (b : Bool) → not b ≡ true → b ≡ false
-not_false true h = sym h
-not_false false h = refl
-
-some_path : (p q : Path) → Some p ≡ Some q → p ≡ q
-some_path p q e = cc
-
 no_path : {A : Type 0} (q : Path) → ◌≡◌ {A = Option Path} None (Some q) → A
 no_path q e = absurd (let no : ◌≡◌ {A = Option Path} None (Some q) = e in cc)
 
@@ -119,21 +113,21 @@ allowed_path (request.User name user.Auto locked gecos home shell place) is q e 
 allowed_path (request.User name (user.Number n) locked gecos home shell place) is q e = no_path q e
 allowed_path (request.User name (user.Primary uid primary) locked gecos home shell place) is q e = no_path q e
 allowed_path (request.User name (user.Path p) locked gecos home shell place) is q e =
-    let parts = both (is_account_name name) (is_allowed_user (user.Path p) && are_allowed_texts gecos home shell) is in
-    let path = both (is_allowed_user (user.Path p)) (are_allowed_texts gecos home shell) parts.1 in
-    subst (λ (x : Path). is_allowed_path x ≡ true) (some_path p q e) path.0
+    let parts = and_parts (is_account_name name) (is_allowed_user (user.Path p) && are_allowed_texts gecos home shell) is in
+    let path = and_parts (is_allowed_user (user.Path p)) (are_allowed_texts gecos home shell) parts.1 in
+    subst (λ (x : Path). is_allowed_path x ≡ true) (same_Some p q e) path.0
 allowed_path (request.Group name group.Auto place) is q e = no_path q e
 allowed_path (request.Group name (group.Number n) place) is q e = no_path q e
 allowed_path (request.Group name (group.Path p) place) is q e =
-    subst (λ (x : Path). is_allowed_path x ≡ true) (some_path p q e) (both (is_account_name name) (is_allowed_group (group.Path p)) is).1
+    subst (λ (x : Path). is_allowed_path x ≡ true) (same_Some p q e) (and_parts (is_account_name name) (is_allowed_group (group.Path p)) is).1
 allowed_path (request.Member member name place) is q e = no_path q e
 allowed_path (request.Range first last place) is q e = no_path q e
 
 not_place : (q : Path) → is_allowed_path q ≡ true → is_account_place q ≡ false
-not_place q h = not_false (is_account_place q) (both (not (is_account_place q)) (not (has_staging q)) h).0
+not_place q h = not-true (is_account_place q) (and_parts (not (is_account_place q)) (not (has_staging q)) h).0
 
 not_staged : (q : Path) → is_allowed_path q ≡ true → has_staging q ≡ false
-not_staged q h = not_false (has_staging q) (both (not (is_account_place q)) (not (has_staging q)) h).1
+not_staged q h = not-true (has_staging q) (and_parts (not (is_account_place q)) (not (has_staging q)) h).1
 
 not_directory : (q : Path) → is_account_place q ≡ false → same_path etc q ≡ false
 not_directory q place = by (path_cases etc q)
@@ -530,47 +524,34 @@ module _ (requests : List Request) (allowed : AllByRecursion IsAllowed requests)
 
 -- ---- /etc
 
--- edits that are not of /etc leave it as it is
-abbrev AreElse : List Edit → Type 0
-AreElse cs = AllByRecursion (λ c. same_path c.path etc ≡ false) cs
-
-etc_left : (cs : List Edit) → AreElse cs → (base : Places) → bares (fold (with_edit 0) base cs) etc ≡ bares base etc
-etc_left [] all base = refl
-etc_left (c ∷ cs) all base = etc_left cs all.1 (with_edit 0 base c) ∙ bares-made 0 c.path (edited 0 c) base etc ∙ bares-put_else c.path etc (Some (edited 0 c)) base all.0
-
-else_taken : (k : ℕ) (cs : List Edit) → AreElse cs → AreElse (take k cs)
-else_taken zero cs all = tt
-else_taken (suc k) [] all = tt
-else_taken (suc k) (c ∷ cs) all = (all.0, else_taken k cs all.1)
-
-else_append : (cs ds : List Edit) → AreElse cs → AreElse ds → AreElse (cs ++ ds)
+else_append : (cs ds : List Edit) → AreElse etc cs → AreElse etc ds → AreElse etc (cs ++ ds)
 else_append [] ds a b = b
 else_append (c ∷ cs) ds a b = (a.0, else_append cs ds a.1 b)
 
-else_edit : (t : Places) (path : Path) (mode : ℕ) (text : List ℕ) → same_path path etc ≡ false → AreElse (edit_at t path mode text)
+else_edit : (t : Places) (path : Path) (mode : ℕ) (text : List ℕ) → same_path path etc ≡ false → AreElse etc (edit_at t path mode text)
 else_edit t path mode text far = by (same_bytes text (unwrap_or (text_at t path) []))
   where
-    by : (b : Bool) → AreElse (cond {A = List Edit} b [] (edit_to t path mode text ∷ []))
+    by : (b : Bool) → AreElse etc (cond {A = List Edit} b [] (edit_to t path mode text ∷ []))
     by true = tt
     by false = (far, tt)
 
-else_own : (t : Places) (path : Path) (mode : ℕ) (text : Option (List ℕ)) → same_path path etc ≡ false → AreElse (option_map_or (edit_at t path mode) text [])
+else_own : (t : Places) (path : Path) (mode : ℕ) (text : Option (List ℕ)) → same_path path etc ≡ false → AreElse etc (option_map_or (edit_at t path mode) text [])
 else_own t path mode None far = tt
 else_own t path mode (Some text) far = else_edit t path mode text far
 
 etc_kept : (t : Places) (texts : Texts) (base : Places) (k : ℕ) → bares (fold (with_edit 0) base (take k (edits_to t texts))) etc ≡ bares base etc
-etc_kept t texts base k = etc_left (take k (edits_to t texts)) (else_taken k (edits_to t texts) all) base
+etc_kept t texts base k = edits_left etc (take k (edits_to t texts)) (first_all (λ c. same_path c.path etc ≡ false) k (edits_to t texts) all) base
   where
-    one : AreElse (edit_at t group_path 420 texts.group)
+    one : AreElse etc (edit_at t group_path 420 texts.group)
     one = else_edit t group_path 420 texts.group refl
 
-    two : AreElse (edit_at t group_path 420 texts.group ++ option_map_or (edit_at t gshadow_path 0) texts.gshadow [])
+    two : AreElse etc (edit_at t group_path 420 texts.group ++ option_map_or (edit_at t gshadow_path 0) texts.gshadow [])
     two = else_append (edit_at t group_path 420 texts.group) (option_map_or (edit_at t gshadow_path 0) texts.gshadow []) one (else_own t gshadow_path 0 texts.gshadow refl)
 
-    three : AreElse ((edit_at t group_path 420 texts.group ++ option_map_or (edit_at t gshadow_path 0) texts.gshadow []) ++ edit_at t shadow_path 0 texts.shadow)
+    three : AreElse etc ((edit_at t group_path 420 texts.group ++ option_map_or (edit_at t gshadow_path 0) texts.gshadow []) ++ edit_at t shadow_path 0 texts.shadow)
     three = else_append (edit_at t group_path 420 texts.group ++ option_map_or (edit_at t gshadow_path 0) texts.gshadow []) (edit_at t shadow_path 0 texts.shadow) two (else_edit t shadow_path 0 texts.shadow refl)
 
-    all : AreElse (edits_to t texts)
+    all : AreElse etc (edits_to t texts)
     all = else_append ((edit_at t group_path 420 texts.group ++ option_map_or (edit_at t gshadow_path 0) texts.gshadow []) ++ edit_at t shadow_path 0 texts.shadow) (edit_at t passwd_path 420 texts.passwd) three
         (else_edit t passwd_path 420 texts.passwd refl)
 

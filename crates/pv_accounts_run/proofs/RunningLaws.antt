@@ -5,6 +5,7 @@ use Rattle.std.specs.FinMap as fin
 use Rattle.pv_path.specs.Paths.{Path, same_path, is_prefix}
 use Rattle.pv_path.proofs.PathLaws.{path_cmp-refl, same_path-refl}
 use Rattle.std.specs.Ordering.{is_eq}
+use Rattle.std.proofs.lemmas.Bool.{or_right}
 use Rattle.pv_steps.specs.declared.object.Object.{Object}
 use Rattle.pv_steps.specs.declared.tree.TreeFault.{TreeFault}
 use Rattle.pv_steps.specs.declared.tree.TreeFault.TheVariants as step
@@ -34,14 +35,6 @@ use Rattle.pv_accounts_run.specs.Running.{in_steps, run_answer}
 
 among_first : (q : Path) (paths : List Path) → is_among q (q ∷ paths) ≡ true
 among_first q paths = ap (λ o. is_eq o || is_among q paths) (path_cmp-refl q)
-
-or_right : (a b : Bool) → b ≡ true → (a || b) ≡ true
-or_right true b h = refl
-or_right false b h = h
-
-or_left : (a b : Bool) → a ≡ true → (a || b) ≡ true
-or_left true b h = refl
-or_left false b h = absurd (let no : false ≡ true = h in cc)
 
 among_right : (q : Path) (xs ys : List Path) → is_among q ys ≡ true → is_among q (xs ++ ys) ≡ true
 among_right q [] ys h = h

@@ -28,7 +28,8 @@ use Rattle.pv_sysusers.specs.Planning.{files_in}
 use Rattle.pv_sysusers.specs.Plans.{planned}
 use Rattle.pv_accounts_run.specs.declared.edit.Edit.{Edit}
 use Rattle.pv_accounts_run.specs.Edits.{etc}
-use Rattle.pv_accounts_run.specs.Carrying.{carried_out, group_path, gshadow_path, passwd_path, shadow_path, swept_names, with_directory}
+use Rattle.pv_layers.specs.Places.{group_path, passwd_path}
+use Rattle.pv_accounts_run.specs.Carrying.{carried_out, gshadow_path, shadow_path, swept_names, with_directory}
 use Rattle.pv_accounts_run.specs.Accounted.{HasPlainPath, accounted, accounted_unless, accounts_messages, carried_files, day_of, dress_at, edit_at, edits_at, edits_by, edits_to, edits_unless, files_at, ids_at, ids_of, lacking_at, lacking_in, lacking_unless, plain_dress, plan_at, said_unless, text_at, unusable_by, unusable_text, unusable_texts}
 use Rattle.pv_accounts_run.proofs.CarryingLaws.{directory_bares, parent_bares, same_kind, with_some}
 use Rattle.pv_accounts_run.proofs.StagingLaws.{bares_edits}

@@ -2,6 +2,7 @@
 use Rattle.std.specs.Prelude.{◌≡◌, ◌≢◌, ℕ, Bool, true, false, cond, List, [], ◌∷◌, ◌++◌, take, drop, fold, Option, Some, None, is_some, option_map}
 use Rattle.std.proofs.Common.{zero, suc, refl, sym, ap, ◌∙◌, inl, inr}
 use Rattle.std.specs.List.{AllByRecursion}
+use Rattle.std.proofs.lemmas.Bool.{cases_Bool}
 use Rattle.pv_path.specs.Paths.{Path, same_path, is_prefix, parent_of, has_staging, staging_of}
 use Rattle.pv_path.proofs.PathLaws.{is_prefix-append, rest_under-None, parent_of-staging_of, has_staging-staging_of, same_path-refl}
 use Rattle.pv_steps.specs.declared.node.Kind.TheVariants.{Directory, File}
@@ -12,7 +13,7 @@ use Rattle.pv_steps.proofs.TreeLaws.{present_of_kind, kind_of-touched}
 use Rattle.pv_steps.specs.Steps.{moved_at, touched, put_at, Movable, Yields, absent, objects}
 use Rattle.pv_steps.specs.Same.{bares}
 use Rattle.pv_dress.proofs.EditLaws.{put_at-else, bares-made, bares-put_else, staging_outside}
-use Rattle.pv_walk.proofs.RemovalLaws.{apart, true_or_false}
+use Rattle.pv_walk.proofs.RemovalLaws.{apart}
 use Rattle.pv_walk.proofs.PublishLaws.{staging_nonempty, stage_outside, path_outside}
 use Rattle.pv_walk.proofs.PuttingLaws.{made-none}
 use Rattle.pv_accounts_run.specs.declared.edit.Edit.{Edit}
@@ -33,7 +34,7 @@ module _ (c : Edit) (is : IsEdit c) where
 
   -- the directory is neither the path nor the staging name, nor below them
   pub outside_parent : (p : Path) → p ≢ [] → parent_of p ≡ etc → is_prefix p etc ≡ false
-  outside_parent p some up = elim (true_or_false (is_prefix p etc)) [
+  outside_parent p some up = elim (cases_Bool (is_prefix p etc)) [
     | inl e ↦ absurd (apart (same_path etc etc) (same_path-refl etc) (ap (λ (q : Path). same_path q etc) (sym up) ∙ not_parent p etc some e))
     | inr e ↦ e
   ]

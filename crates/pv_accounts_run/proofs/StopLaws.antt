@@ -1,30 +1,26 @@
 -- Laws of a run among account files of which an earlier run has brought some to their paths: what it finds there.
-use Rattle.std.specs.Prelude.{◌≡◌, ◌⊎◌, ◌≤◌, ◌<◌, ◌^◌, ℕ, ◌+◌, ◌-◌, ◌==◌, nat_lt, Bool, true, false, not, ◌&&◌, ◌||◌, cond, List, [], ◌∷◌, ◌++◌, length, map, take, fold, Option, Some, None, is_some, option_map, option_and_then, unwrap_or, Result, Ok, Err, if◌then◌else◌}
-use Rattle.std.proofs.Common.{zero, suc, refl, sym, ap, subst, ◌∙◌, arith, inl, inr}
-use Rattle.std.specs.List.{AllByRecursion, list_any, range_with_len}
-use Rattle.std.specs.Option.{option_map_or, option_or}
-use Rattle.std.proofs.lemmas.Bool.Decides.{nat_tests}
+use Rattle.std.specs.Prelude.{◌≡◌, ◌⊎◌, ◌≤◌, ℕ, Bool, true, false, ◌||◌, cond, List, [], ◌∷◌, ◌++◌, length, take, fold, Option, Some, None, option_map, unwrap_or, if◌then◌else◌}
+use Rattle.std.proofs.Common.{zero, suc, refl, sym, ap, ◌∙◌, arith, inl, inr}
+use Rattle.std.specs.Option.{option_map_or}
 use Rattle.std.proofs.lemmas.List.Sums.{fold-append}
+use Rattle.std.proofs.lemmas.Bool.{or_parts}
 use Rattle.pv_path.specs.Names.{same_bytes}
 use Rattle.pv_path.specs.Paths.{Path, has_staging, same_path}
 use Rattle.pv_path.proofs.PathLaws.{same_bytes-decides, same_bytes-refl}
-use Rattle.pv_steps.specs.declared.node.Kind.{Kind}
 use Rattle.pv_steps.specs.declared.node.Kind.TheVariants.{File}
 use Rattle.pv_steps.specs.declared.object.Object.{Object}
-use Rattle.pv_steps.specs.declared.why.Why.{Why}
 use Rattle.pv_steps.specs.Objects.{bare}
-use Rattle.pv_steps.specs.Refusal.{refusal}
-use Rattle.pv_steps.specs.Same.{Same, bares}
-use Rattle.pv_steps.specs.Trees.{Files, Places, places, kind_of}
+use Rattle.pv_steps.specs.Same.{bares}
+use Rattle.pv_steps.specs.Trees.{Places, kind_of}
 use Rattle.pv_dress.specs.Nodes.{bare_of}
-use Rattle.pv_dress.proofs.EditLaws.{bares-made, path_cases}
-use Rattle.pv_walk.specs.Preparing.{with_parent}
+use Rattle.pv_dress.proofs.EditLaws.{bares-made}
 use Rattle.pv_walk.specs.Removal.{is_one_of}
 use Rattle.pv_sysusers.specs.declared.planned.Texts.{Texts}
 use Rattle.pv_accounts_run.specs.declared.edit.Edit.{Edit}
 use Rattle.pv_accounts_run.specs.Edits.{edited, etc, with_edit}
-use Rattle.pv_accounts_run.specs.Carrying.{account_paths, group_path, gshadow_path, passwd_path, shadow_path}
-use Rattle.pv_accounts_run.specs.Accounted.{dress_at, edit_at, edit_to, edits_to, plain_dress, text_at}
+use Rattle.pv_accounts_run.specs.Carrying.{account_paths, gshadow_path, shadow_path}
+use Rattle.pv_accounts_run.specs.Accounted.{edit_at, edit_to, edits_to, plain_dress, text_at}
+use Rattle.pv_layers.specs.Places.{group_path, passwd_path}
 use Rattle.pv_accounts_run.proofs.CarryingLaws.{same_kind}
 use Rattle.pv_accounts_run.proofs.SameLaws.{seen, seen_or, uid_in}
 
@@ -159,10 +155,6 @@ pub record HasCome (t u : Places) (texts : Texts) : Type 0 where
   pub shadow : IsAs t u shadow_path 0 (Some texts.shadow)
   pub passwd : (bares u passwd_path ≡ bares t passwd_path) ⊎ AreNew t u texts
   pub beside : (q : Path) → has_staging q ≡ false → same_path etc q ≡ false → is_one_of account_paths q ≡ false → bares u q ≡ bares t q
-
-or_parts : (a b : Bool) → (a || b) ≡ false → (a ≡ false) × (b ≡ false)
-or_parts true b h = absurd (let no : true ≡ false = h in cc)
-or_parts false b h = (refl, h)
 
 -- a path that is none of the account files
 pub record IsBesideAll (q : Path) : Type 0 where

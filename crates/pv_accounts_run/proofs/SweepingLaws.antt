@@ -3,6 +3,8 @@ use Rattle.std.specs.Prelude.{◌≡◌, ℕ, ◌+◌, ◌≤◌, Bool, true, fa
 use Rattle.std.proofs.Common.{refl, sym, ap, ◌∙◌, arith, inl, inr, ◌⊎◌}
 use Rattle.std.specs.List.{AllByRecursion}
 use Rattle.std.proofs.lemmas.List.Sums.{sum-map, sum_by-cons}
+use Rattle.std.proofs.Math.Bool.{or-true}
+use Rattle.std.proofs.lemmas.Bool.{cases_Bool}
 use Rattle.pv_path.specs.Paths.{Path, is_prefix, staging_of}
 use Rattle.pv_path.proofs.PathLaws.{is_prefix-refl}
 use Rattle.pv_steps.specs.Objects.{bare}
@@ -17,12 +19,12 @@ use Rattle.pv_steps.proofs.ActingLaws.{Moves, well, acted_none, acted_within}
 use Rattle.pv_dress.specs.Edits.{Pruned, cut, taken, all_taken, count_at}
 use Rattle.pv_walk.specs.Staging.{count_at_all, is_under_any, staging_names}
 use Rattle.pv_walk.proofs.Removing.{prune_then}
-use Rattle.pv_walk.proofs.RemovalLaws.{true_or_false}
 use Rattle.pv_walk.proofs.SweepLaws.{pruned-none, pruned_count}
 use Rattle.pv_walk.proofs.PreparingSweep.{swept_along}
 use Rattle.pv_walk.proofs.PuttingOverLaws.{count_absent}
 use Rattle.pv_accounts_run.specs.Edits.{etc}
-use Rattle.pv_accounts_run.specs.Carrying.{IsSweptPath, account_paths, group_path, gshadow_path, passwd_path, shadow_path, swept_names}
+use Rattle.pv_layers.specs.Places.{group_path, passwd_path}
+use Rattle.pv_accounts_run.specs.Carrying.{IsSweptPath, account_paths, gshadow_path, shadow_path, swept_names}
 
 -- where nothing stands nothing is taken
 taken_absent : (now : ℕ) (x : Path) (t : Places) → IsAbsentIn t x → taken now x t ≡ t
@@ -30,13 +32,9 @@ taken_absent now x t h = ap (λ b. cond b (touched now x (cut x t)) t) (ap is_so
 
 -- ---- among the staging names
 
-or_right : (a : Bool) → (a || true) ≡ true
-or_right true = refl
-or_right false = refl
-
 under_one : (ps rs : List Path) (p q : Path) → is_prefix p q ≡ true → is_under_any (ps ++ p ∷ rs) q ≡ true
 under_one [] rs p q e = ap (λ b. b || is_under_any rs q) e
-under_one (x ∷ ps) rs p q e = ap (λ b. is_prefix x q || b) (under_one ps rs p q e) ∙ or_right (is_prefix x q)
+under_one (x ∷ ps) rs p q e = ap (λ b. is_prefix x q || b) (under_one ps rs p q e) ∙ or-true (is_prefix x q)
 
 pub group_swept : IsSweptPath group_path
 group_swept = record { short = refl; some = λ e. cc; above = refl; along = refl; among = λ q e. under_one (staging_of etc ∷ []) (map staging_of (gshadow_path ∷ shadow_path ∷ passwd_path ∷ [])) (staging_of group_path) q e }
@@ -54,7 +52,7 @@ pub all_swept : AllByRecursion IsSweptPath account_paths
 all_swept = (group_swept, (gshadow_swept, (shadow_swept, (passwd_swept, tt))))
 
 pub etc_among : (q : Path) → is_under_any (staging_names etc) q ≡ true → is_under_any swept_names q ≡ true
-etc_among q e = elim (true_or_false (is_prefix (staging_of etc) q)) [
+etc_among q e = elim (cases_Bool (is_prefix (staging_of etc) q)) [
   | inl h ↦ under_one [] (map staging_of account_paths) (staging_of etc) q h
   | inr h ↦ absurd (let no : false ≡ true = sym (ap (λ b. b || false) h) ∙ e in cc)
 ]
@@ -63,7 +61,7 @@ etc_among q e = elim (true_or_false (is_prefix (staging_of etc) q)) [
 
 module _ (path : Path) (is : IsSweptPath path) where
   pub path_among : (q : Path) → is_under_any (staging_names path) q ≡ true → is_under_any swept_names q ≡ true
-  path_among q e = by (true_or_false (is_prefix (staging_of etc) q)) (true_or_false (is_prefix (staging_of path) q))
+  path_among q e = by (cases_Bool (is_prefix (staging_of etc) q)) (cases_Bool (is_prefix (staging_of path) q))
     where
       both : (is_prefix (staging_of etc) q || (is_prefix (staging_of path) q || false)) ≡ true
       both = sym (ap (λ (ps : List Path). is_under_any ps q) is.along) ∙ e
@@ -90,7 +88,7 @@ module _ (path : Path) (is : IsSweptPath path) where
 -- ---- all of them
 
 pub absent_stays : (inside : Path → Bool) (t u : Files) → Pruned inside t u → (q : Path) → IsAbsentIn (places t) q → IsAbsentIn (places u) q
-absent_stays inside t u p q none = by (true_or_false (inside q))
+absent_stays inside t u p q none = by (cases_Bool (inside q))
   where
     absent : (x y : Option Object) → option_map bare y ≡ option_map bare x → x ≡ None → y ≡ None
     absent x None same gone = refl

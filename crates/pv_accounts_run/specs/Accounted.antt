@@ -23,7 +23,8 @@ use Rattle.pv_sysusers.specs.Plans.{AccountFiles, Planned, planned}
 use Rattle.pv_table.specs.Saying.{left_text, place_text}
 use Rattle.pv_accounts_run.specs.declared.edit.Edit.{Edit}
 use Rattle.pv_accounts_run.specs.Edits.{etc}
-use Rattle.pv_accounts_run.specs.Carrying.{carried_out, group_path, gshadow_path, passwd_path, shadow_path}
+use Rattle.pv_layers.specs.Places.{group_path, passwd_path}
+use Rattle.pv_accounts_run.specs.Carrying.{carried_out, gshadow_path, shadow_path}
 
 -- ---- files that cannot be used
 

@@ -1,11 +1,12 @@
 -- What is done to the account files of a tree: what earlier runs have staged is taken away, /etc is put where it is
 -- absent, and files whose texts change are put at their paths (systemd-sysusers(8)).
 use Rattle.std.specs.Prelude.{◌≡◌, ◌≢◌, ◌⊎◌, ◌≤◌, ℕ, ◌+◌, ◌*◌, true, false, List, [], ◌∷◌, codes, length, map, take, fold, Some, None}
+use Rattle.pv_layers.specs.Places.{group_path, passwd_path}
 use Rattle.pv_path.specs.Paths.{Path, is_prefix, has_staging, staging_of}
 use Rattle.pv_steps.specs.declared.node.Kind.TheVariants.{File}
 use Rattle.pv_steps.specs.declared.step.Step.{Step}
 use Rattle.pv_steps.specs.Content.{Removes}
-use Rattle.pv_steps.specs.Trees.{Files, Places, places, kind_of}
+use Rattle.pv_steps.specs.Trees.{Files, Places, places, kind_of, IsAbsentIn}
 use Rattle.pv_steps.specs.Same.{Same, bares}
 use Rattle.pv_dress.specs.Edits.{all_taken}
 use Rattle.pv_walk.specs.Preparing.{parent_file, with_parent}
@@ -17,17 +18,11 @@ use Rattle.pv_accounts_run.specs.Edits.{IsEdit, IsOfSome, PublishesEdit, StagesE
 
 -- ---- the account files
 
-abbrev pub group_path : Path
-group_path = codes "etc" ∷ codes "group" ∷ []
-
 abbrev pub gshadow_path : Path
 gshadow_path = codes "etc" ∷ codes "gshadow" ∷ []
 
 abbrev pub shadow_path : Path
 shadow_path = codes "etc" ∷ codes "shadow" ∷ []
-
-abbrev pub passwd_path : Path
-passwd_path = codes "etc" ∷ codes "passwd" ∷ []
 
 -- the account files, in the order in which they are staged and published
 abbrev pub account_paths : List Path
@@ -79,9 +74,14 @@ AccountWay edits t u =
     ⊎ ((1 ≤ length edits)
     × ((k : ℕ) × ((q : Path) → has_staging q ≡ false → bares (places u) q ≡ bares (fold (with_edit 0) (with_parent 0 (places t) etc) (take k edits)) q)))
 
--- a step takes away what is staged, puts /etc, stages the new text of a file, or brings it to its path
-pub data IsAccountStep (edits : List Edit) (step : Step) : Type 0 where
-  sweeps : Removes (is_under_any swept_names) step → IsAccountStep edits step
-  puts : IsPutStep etc parent_file step → IsAccountStep edits step
-  stages : IsOfSome StagesEdit edits step → IsAccountStep edits step
-  publishes : IsOfSome PublishesEdit edits step → IsAccountStep edits step
+-- a step puts /etc, which was absent
+abbrev pub PutsDirectory : Files → Step → Type 0
+PutsDirectory t step = IsAbsentIn (places t) etc × IsPutStep etc parent_file step
+
+-- a step of a run that began with a tree takes away what is staged, puts /etc where it was absent, stages the new text of a
+-- file, or brings it to its path
+pub data IsAccountStep (edits : List Edit) (t : Files) (step : Step) : Type 0 where
+  sweeps : Removes (is_under_any swept_names) step → IsAccountStep edits t step
+  puts : PutsDirectory t step → IsAccountStep edits t step
+  stages : IsOfSome StagesEdit edits step → IsAccountStep edits t step
+  publishes : IsOfSome PublishesEdit edits step → IsAccountStep edits t step

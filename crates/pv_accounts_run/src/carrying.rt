@@ -6,10 +6,10 @@ ghost use Rattle.pv_steps.specs.declared.node.Kind.TheVariants.{Directory};
 ghost use Rattle.pv_steps.specs.Trees.{places, IsAbsentIn, IsKind, IsPresent};
 ghost use Rattle.pv_steps.specs.Acting.{Acted};
 ghost use Rattle.pv_walk.specs.Preparing.{parent_file, with_parent};
-ghost use Rattle.pv_walk.specs.Putting.{IsPutStep, Putting};
+ghost use Rattle.pv_walk.specs.Putting.{Putting};
 ghost use Rattle.pv_walk.specs.Staging.{count_at_all, most_new};
 ghost use Rattle.pv_accounts_run.specs.Edits.{AreEdits, IsFree, etc, most_edited, with_edit};
-ghost use Rattle.pv_accounts_run.specs.Carrying.{AccountWay, IsAccountStep, IsEditOf, carried_out, most_put, swept_names};
+ghost use Rattle.pv_accounts_run.specs.Carrying.{AccountWay, IsAccountStep, IsEditOf, PutsDirectory, carried_out, most_put, swept_names};
 
 use crate::edit::Edit;
 use crate::paths::directory;
@@ -32,7 +32,7 @@ pub(crate) fn carry_out<T: Tree>(
     requires files { AllByRecursion (IsEditOf (places (T.state tree.old))) edits.now }
     requires pass { IsPresent (T.state tree.old) etc → IsKind Directory (T.state tree.old) etc }
     ensures ok { OnOk result (places (T.state tree.new) ≡ carried_out now edits.now (places (T.state tree.old))) }
-    ensures acted { Acted T.Tree (AccountWay edits.now (T.state tree.old)) (IsAccountStep edits.now)
+    ensures acted { Acted T.Tree (AccountWay edits.now (T.state tree.old)) (IsAccountStep edits.now (T.state tree.old))
         (count_at_all (T.state tree.old) swept_names + most_put edits.now) now tree.old tree.new result }
 {
     sweep_all(alloc, tree, now)?;
@@ -51,7 +51,7 @@ fn put_all<T: Tree>(alloc: Global, tree: &mut T, edits: &[Edit], now: u64) -> Re
     requires above { IsAbsentIn (places (T.state tree.old)) (staging_of etc) }
     requires free { AllByRecursion (IsFree (places (T.state tree.old))) edits.now }
     ensures ok { OnOk result (places (T.state tree.new) ≡ fold (with_edit now) (with_parent now (places (T.state tree.old)) etc) edits.now) }
-    ensures acted { Acted T.Tree (AccountWay edits.now (T.state tree.old)) (IsAccountStep edits.now)
+    ensures acted { Acted T.Tree (AccountWay edits.now (T.state tree.old)) (IsAccountStep edits.now (T.state tree.old))
         (most_new + most_edited * length edits.now) now tree.old tree.new result }
 {
     // In a tree nothing stands below a file.
@@ -67,7 +67,7 @@ fn put_directory<T: Tree>(alloc: Global, tree: &mut T, now: u64) -> Result<(), T
     requires free { IsAbsentIn (places (T.state tree.old)) (staging_of etc) }
     ensures ok { OnOk result (places (T.state tree.new) ≡ with_parent now (places (T.state tree.old)) etc) }
     ensures directory { OnOk result (IsKind Directory (T.state tree.new) etc) }
-    ensures acted { Acted T.Tree (Putting etc parent_file (T.state tree.old)) (IsPutStep etc parent_file)
+    ensures acted { Acted T.Tree (Putting etc parent_file (T.state tree.old)) (PutsDirectory (T.state tree.old))
         most_new now tree.old tree.new result }
 {
     let path = directory(alloc)?;

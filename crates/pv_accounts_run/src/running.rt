@@ -22,8 +22,8 @@ use pv_doing::Carried;
 use pv_path::TreePath;
 use pv_requests::RequestList;
 use pv_steps::{Tree, TreeFault, is_present};
-use pv_sysusers::{PlanFault, duplicates, say_all};
-use pv_text::Messages;
+use pv_sysusers::{PlanFault, duplicates};
+use pv_text::{Messages, say_all};
 use std::alloc::{AllocError, Global};
 
 /// Makes the users and groups that lines ask for (systemd-sysusers(8), sysusers.d(5)): reads the account files, plans
@@ -56,7 +56,7 @@ pub fn accounts_run<T: Tree>(
     // What any run has said and done, whatever it answers.
     ensures part { SaidPart (accounts_messages requests.now now (places (T.state tree.old))) messages.old messages.new }
     ensures acted { let edits = edits_at requests.now now (places (T.state tree.old)) in
-        Acted T.Tree (AccountWay edits (T.state tree.old)) (IsAccountStep edits)
+        Acted T.Tree (AccountWay edits (T.state tree.old)) (IsAccountStep edits (T.state tree.old))
         (count_at_all (T.state tree.old) swept_names + most_put edits) now tree.old tree.new (in_steps result) }
 
     // The stop law.
@@ -98,7 +98,7 @@ fn run_usable<T: Tree>(
     ensures part { let plan = plan_at requests.now now (places (T.state tree.old)) in
         SaidPart plan.said messages.old messages.new }
     ensures acted { let edits = edits_by (places (T.state tree.old)) (plan_at requests.now now (places (T.state tree.old))).texts in
-        Acted T.Tree (AccountWay edits (T.state tree.old)) (IsAccountStep edits)
+        Acted T.Tree (AccountWay edits (T.state tree.old)) (IsAccountStep edits (T.state tree.old))
         (count_at_all (T.state tree.old) swept_names + most_put edits) now tree.old tree.new (in_steps result) }
 {
     match planned_edits(alloc, tree, requests, now, messages) {

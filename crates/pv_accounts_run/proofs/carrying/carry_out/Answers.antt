@@ -62,5 +62,5 @@ returns-in-len1-up-clause-acted g c =
     let u = g.T.Tree.state c.sweep_all.new.tree in
     let pruned = acted_end g.T.Tree (Pruned (is_under_any swept_names) t) (Removes (is_under_any swept_names)) c.in_ok-sweep_all.ensures.acted in
     acted_within g.T.Tree (count_at_all t swept_names + (most_new + most_edited * length edits)) (count_at_all t swept_names + most_put edits) (omega (arith, most_some edits c.in-len1-up.len_at_least))
-    (acted_then g.T.Tree moves (AccountWay edits t) (IsAccountStep edits) (swept_acted g.T.Tree edits c.args.tree.now c.in_ok-sweep_all.ensures.acted)
+    (acted_then g.T.Tree moves (AccountWay edits t) (IsAccountStep edits t) (swept_acted g.T.Tree edits c.args.tree.now c.in_ok-sweep_all.ensures.acted)
     (put_after g.T.Tree edits c.args.tree.now (swept_same t u pruned) c.put_all.ensures.acted))

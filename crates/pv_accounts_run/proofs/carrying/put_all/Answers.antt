@@ -3,12 +3,12 @@ use Rattle.std.specs.List.{AllByRecursion}
 use Rattle.pv_steps.specs.declared.node.Kind.TheVariants.{Directory}
 use Rattle.pv_steps.specs.Trees.{IsKindIn, Places, places}
 use Rattle.pv_steps.proofs.ActingLaws.{Moves, acted_passed, acted_then, acted_within}
-use Rattle.pv_walk.specs.Putting.{Putting, IsPutStep}
+use Rattle.pv_walk.specs.Putting.{Putting}
 use Rattle.pv_walk.specs.Preparing.{parent_file}
 use Rattle.pv_walk.specs.Staging.{most_new}
 use Rattle.pv_walk.proofs.Outcomes.{on_ok, acted-tree}
 use Rattle.pv_accounts_run.specs.Edits.{IsFree, IsStaged, etc, most_edited, most_staged, with_edit, with_published}
-use Rattle.pv_accounts_run.specs.Carrying.{AccountWay, IsAccountStep}
+use Rattle.pv_accounts_run.specs.Carrying.{AccountWay, IsAccountStep, PutsDirectory}
 use Rattle.pv_accounts_run.proofs.StagingLaws.{published_all}
 use Rattle.pv_accounts_run.proofs.CarryingLaws.{IsNoDirectory, are_staged, directory_acted, directory_kept, files_put, frees_put, no_directories, published_acted, rooms, staged_acted}
 use Rattle.pv_accounts_run.proofs.carrying.put_all.Goals as goal
@@ -32,7 +32,7 @@ returns-in_err-stage_all-clause-acted g c =
     let s = g.T.Tree.state c.args.tree.now in
     acted_passed g.T.Tree c.stage_all.result c.from_residual-in_err-stage_all.result c.in_err-stage_all.was c.from_residual-in_err-stage_all.ensures.1
     (acted_within g.T.Tree (most_new + most_staged * length edits) (most_new + most_edited * length edits) (omega arith)
-    (acted_then g.T.Tree moves (AccountWay edits s) (IsAccountStep edits) (directory_acted g.T.Tree edits c.args.tree.now c.requires.some c.in_ok-put_directory.ensures.acted)
+    (acted_then g.T.Tree moves (AccountWay edits s) (IsAccountStep edits s) (directory_acted g.T.Tree edits c.args.tree.now c.requires.some c.in_ok-put_directory.ensures.acted)
     (staged_acted g.T.Tree edits c.args.tree.now c.requires.some c.in_ok-put_directory.ensures.ok c.stage_all.ensures.acted)))
 
 pub publish_all-requires-clause-directory : goal.publish_all-requires-clause-directory
@@ -54,7 +54,7 @@ returns-clause-ok g c =
     let edits = c.args.edits.now in
     let s = places (g.T.Tree.state c.args.tree.now) in
     let u = places (g.T.Tree.state c.put_directory.new.tree) in
-    let tree = acted-tree g.T.Tree (Putting etc parent_file (g.T.Tree.state c.args.tree.now)) (IsPutStep etc parent_file) c.ranges.now.fits c.is_present-rooted.ensures.tree c.in_ok-put_directory.ensures.acted in
+    let tree = acted-tree g.T.Tree (Putting etc parent_file (g.T.Tree.state c.args.tree.now)) (PutsDirectory (g.T.Tree.state c.args.tree.now)) c.ranges.now.fits c.is_present-rooted.ensures.tree c.in_ok-put_directory.ensures.acted in
     let file = subst (λ (x : Places). AllByRecursion (IsNoDirectory x) edits) (sym c.in_ok-put_directory.ensures.ok) (files_put c.args.now s edits c.requires.edits (no_directories s edits c.requires.files)) in
     let free = subst (λ (x : Places). AllByRecursion (IsFree x) edits) (sym c.in_ok-put_directory.ensures.ok) (frees_put c.args.now s edits c.requires.edits c.requires.free) in
     let room = rooms u tree edits c.requires.edits free file in
@@ -68,12 +68,12 @@ returns-clause-acted g c =
     let t = g.T.Tree.state c.args.tree.now in
     let s = places t in
     let u = places (g.T.Tree.state c.put_directory.new.tree) in
-    let tree = acted-tree g.T.Tree (Putting etc parent_file t) (IsPutStep etc parent_file) c.ranges.now.fits c.is_present-rooted.ensures.tree c.in_ok-put_directory.ensures.acted in
+    let tree = acted-tree g.T.Tree (Putting etc parent_file t) (PutsDirectory t) c.ranges.now.fits c.is_present-rooted.ensures.tree c.in_ok-put_directory.ensures.acted in
     let file = subst (λ (x : Places). AllByRecursion (IsNoDirectory x) edits) (sym c.in_ok-put_directory.ensures.ok) (files_put c.args.now s edits c.requires.edits (no_directories s edits c.requires.files)) in
     let free = subst (λ (x : Places). AllByRecursion (IsFree x) edits) (sym c.in_ok-put_directory.ensures.ok) (frees_put c.args.now s edits c.requires.edits c.requires.free) in
     let room = rooms u tree edits c.requires.edits free file in
     acted_within g.T.Tree ((most_new + most_staged * length edits) + length edits) (most_new + most_edited * length edits) (omega arith)
-    (acted_then g.T.Tree moves (AccountWay edits t) (IsAccountStep edits)
-    (acted_then g.T.Tree moves (AccountWay edits t) (IsAccountStep edits) (directory_acted g.T.Tree edits c.args.tree.now c.requires.some c.in_ok-put_directory.ensures.acted)
+    (acted_then g.T.Tree moves (AccountWay edits t) (IsAccountStep edits t)
+    (acted_then g.T.Tree moves (AccountWay edits t) (IsAccountStep edits t) (directory_acted g.T.Tree edits c.args.tree.now c.requires.some c.in_ok-put_directory.ensures.acted)
     (staged_acted g.T.Tree edits c.args.tree.now c.requires.some c.in_ok-put_directory.ensures.ok c.in_ok-stage_all.ensures.acted))
     (published_acted g.T.Tree edits c.args.tree.now c.put_directory.new.tree c.requires.some c.requires.edits c.in_ok-put_directory.ensures.ok c.in_ok-stage_all.ensures.ok room c.publish_all.ensures.acted))

@@ -82,5 +82,5 @@ returns-clause-mended g c =
     let t = g.T.Tree.state c.args.tree.now in
     let plan = plan_at c.args.requests.now c.args.now (places t) in
     let none : unusable_texts (places t) ≡ [] = nil_of (unusable_texts (places t)) (subst (λ ys. length ys ≤ 0) c.in_ok-unusable.ensures (omega (arith, c.len.ensures, c.if-len-gt0.false))) in
-    run_mended c.args.requests.now c.args.now c.ranges.now.fits (edits_by (places t) plan.texts) (IsAccountStep (edits_by (places t) plan.texts)) t (g.T.Tree.steps c.args.tree.now)
+    run_mended c.args.requests.now c.args.now c.ranges.now.fits (edits_by (places t) plan.texts) (IsAccountStep (edits_by (places t) plan.texts) t) t (g.T.Tree.steps c.args.tree.now)
     (g.T.Tree.state c.run_usable.new.tree) (g.T.Tree.steps c.run_usable.new.tree) c.is_present-rooted.ensures.tree (sym (ap (λ xs. edits_unless xs (edits_by (places t) plan.texts)) none)) c.run_usable.ensures.acted.ran
