@@ -1,5 +1,5 @@
 -- Laws of phases carried out one after the other: nothing done, one phase more, one that was stopped, and all done.
-use Rattle.std.specs.Prelude.{◌≡◌, ℕ, ◌+◌, ◌<◌, ◌≤◌, ◌^◌, Bool, true, false, ◌||◌, List, [], ◌∷◌, ◌++◌, length, take, drop, get_or, Result, Ok, Err, IsErrAnd, IsErrOf}
+use Rattle.std.specs.Prelude.{◌≡◌, ℕ, ◌+◌, ◌<◌, ◌≤◌, ◌^◌, Bool, false, ◌||◌, List, [], ◌∷◌, ◌++◌, length, take, drop, get_or, Result, Ok, Err, IsErrAnd, IsErrOf}
 use Rattle.std.proofs.Common.{zero, suc, refl, sym, ap, subst, ◌∙◌, inl, inr, arith, append_assoc, append-nil}
 use Rattle.std.proofs.Math.Seq.{drop-length, take-nil}
 use Rattle.pv_clean.specs.Cleaning.{IsCleanStep}
@@ -26,29 +26,17 @@ use Rattle.pv_steps.specs.declared.tree.Tree.{Ghosts}
 use Rattle.pv_steps.specs.declared.tree.TreeFault.{TreeFault}
 use Rattle.pv_steps.specs.declared.tree.TreeFault.TheVariants.{Failed}
 use Rattle.pv_steps.specs.Trees.{Files, IsTree, places}
-use Rattle.pv_steps.proofs.ActingLaws.{Moves, acted_none}
+use Rattle.pv_steps.proofs.ActingLaws.{Moves}
 use Rattle.pv_steps.proofs.RunLaws.{ran_none}
 use Rattle.pv_table.specs.Active.{in_create_order}
 use Rattle.pv_table.specs.Cleaned.{is_aged}
 use Rattle.pv_table.specs.Created.{after_each, said_of_each, one_is_refused, taken_by_each, created, created_messages}
 use Rattle.pv_table.specs.Removed.{is_gone, is_purged}
 use Rattle.pv_text.specs.Said.{SaidPart}
+use Rattle.pv_text.proofs.SaidLaws.{back_of, front_of}
 use Rattle.pv_phases.specs.Phases.{HasSaidStopped, IsMendedBy, IsSaidAtWork, IsSaidStopped, is_step_of, left_by, most_steps_of, falls_short, on_way, phases_course, said_in}
 use Rattle.pv_phases.specs.declared.phase.Phase.{Phase}
 use Rattle.pv_phases.specs.declared.phase.Phase.TheVariants.{Remove, Clean, Create, Purge}
-
--- ---- front parts
-
--- of a front part, and of all and a front part of the rest
-pub front_of : (a b : List (List ℕ)) (n : ℕ) → (m : ℕ) × (take n a ≡ take m (a ++ b))
-front_of [] b zero = (0, refl)
-front_of [] b (suc n) = (0, refl)
-front_of (x ∷ a) b zero = (0, refl)
-front_of (x ∷ a) b (suc n) = let below = front_of a b n in (suc below.0, ap (λ (r : List (List ℕ)). x ∷ r) below.1)
-
-pub back_of : (a b : List (List ℕ)) (n : ℕ) → (m : ℕ) × (a ++ take n b ≡ take m (a ++ b))
-back_of [] b n = (n, refl)
-back_of (x ∷ a) b n = let below = back_of a b n in (suc below.0, ap (λ (r : List (List ℕ)). x ∷ r) below.1)
 
 -- ---- nothing done
 

@@ -1,6 +1,7 @@
 //! The phases of a run, one after the other.
 ghost use Rattle.std.specs.Prelude.{◌≡◌, ◌++◌, ◌∷◌, [], drop, length, IfOk, IsErrOf, OnOk};
 ghost use Rattle.std.specs.List.{AllByRecursion};
+ghost use Rattle.pv_create.specs.OnTheWay.{IsFramed};
 ghost use Rattle.pv_doing.specs.Courses.{Partway, IsStepOfSome, carried_of};
 ghost use Rattle.pv_lines.specs.Lines.{IsLine};
 ghost use Rattle.pv_steps.specs.declared.tree.TreeFault.TheVariants.{Failed};
@@ -81,6 +82,8 @@ pub fn run_phases<T: Tree>(
         (IsStepOfSome (phases_course table.now now) phases.now (T.state tree.old))
         (taken_by_each (phases_course table.now now).whole phases.now (T.state tree.old)) now tree.old tree.new result }
     ensures mended { IsMendedBy phases.now table.now now (T.state tree.old)
+        (drop (length (T.steps tree.old)) (T.steps tree.new)) }
+    ensures framed { IsFramed table.now now (T.state tree.old)
         (drop (length (T.steps tree.old)) (T.steps tree.new)) }
 {
     // Where nothing is asked for, too, it began with a tree.

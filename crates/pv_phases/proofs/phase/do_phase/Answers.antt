@@ -4,7 +4,7 @@ use Rattle.pv_steps.specs.Acting.{Acted}
 use Rattle.pv_steps.proofs.ActingLaws.{acted_ended, acted_passed}
 use Rattle.pv_phases.specs.Phases.{is_step_of, IsMendedBy, left_by, most_steps_of, on_way}
 use Rattle.pv_phases.specs.declared.phase.Phase.{Phase}
-use Rattle.pv_phases.specs.declared.phase.Phase.TheVariants.{Remove, Clean, Create, Purge}
+use Rattle.pv_phases.specs.declared.phase.Phase.TheVariants.{Remove, Clean, Purge}
 use Rattle.pv_phases.proofs.phase.do_phase.Goals as goal
 
 pub returns-in-Remove-clause-ok : goal.returns-in-Remove-clause-ok

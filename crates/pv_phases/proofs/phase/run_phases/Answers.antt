@@ -1,9 +1,11 @@
 use Rattle.std.proofs.Common.{◌≡◌, ◌≤◌, length, get_or, arith, refl}
 use Rattle.std.proofs.lemmas.List.{get_or_default}
+use Rattle.pv_doing.specs.Courses.{IsStepOfSome}
 use Rattle.pv_steps.proofs.ActingLaws.{Moves, acted_passed}
-use Rattle.pv_phases.specs.Phases.{falls_short}
+use Rattle.pv_phases.specs.Phases.{falls_short, phases_course}
 use Rattle.pv_phases.specs.declared.phase.Phase.{Phase}
 use Rattle.pv_phases.specs.declared.phase.Phase.TheVariants.{Remove}
+use Rattle.pv_phases.proofs.FrameLaws.{phases_framed}
 use Rattle.pv_phases.proofs.PhaseLaws.{failed_before, phases_start, phases_part, phases_acted, phases_stopped, phases_mended, phases_next, phases_whole, phases_said, phases_told, phases_ended, phases_done}
 use Rattle.pv_phases.proofs.phase.run_phases.Goals as goal
 
@@ -48,6 +50,17 @@ returns-in_err-one-clause-mended g c =
     phases_mended g.T.Tree moves c.args.table.now c.args.now c.args.phases.now c.args.tree.now c.args.messages.now i phase c.loop-phase-test.true is c.loop-phase.carried c.loop-phase.tree c.loop-phase.messages c.loop-phase.invariant
     c.do_phase.new.tree c.do_phase.ensures.mended
 
+pub returns-in_err-one-clause-framed : goal.returns-in_err-one-clause-framed
+returns-in_err-one-clause-framed g c =
+    let moves : Moves g.T.Tree = record { stays = g.met.T.Tree.reaches_self; goes_on = g.met.T.Tree.reaches_on; never_falls = g.met.T.Tree.never_falls } in
+    let i = c.loop-phase.phase-index in
+    let phase : Phase = get_or c.args.phases.now i Remove in
+    let is : phase ≡ get_or c.args.phases.now i phase = get_or_default c.args.phases.now i Remove phase c.loop-phase-test.true in
+    let t = g.T.Tree.state c.args.tree.now in
+    phases_framed c.args.table.now c.requires.lines c.args.now c.args.phases.now (IsStepOfSome (phases_course c.args.table.now c.args.now) c.args.phases.now t) t
+    (g.T.Tree.steps c.args.tree.now) (g.T.Tree.state c.do_phase.new.tree) (g.T.Tree.steps c.do_phase.new.tree) c.look-root.ensures.tree
+    (phases_acted g.T.Tree moves c.args.table.now c.args.now c.args.phases.now c.args.tree.now c.args.messages.now i phase c.loop-phase-test.true is c.loop-phase.carried c.loop-phase.tree c.loop-phase.messages c.loop-phase.invariant c.do_phase.ensures.acted).ran
+
 pub loop-phase-preserved : goal.loop-phase-preserved
 loop-phase-preserved g c =
     let moves : Moves g.T.Tree = record { stays = g.met.T.Tree.reaches_self; goes_on = g.met.T.Tree.reaches_on; never_falls = g.met.T.Tree.never_falls } in
@@ -91,3 +104,10 @@ returns-clause-acted g c =
 pub returns-clause-mended : goal.returns-clause-mended
 returns-clause-mended g c =
     c.loop-phase.invariant.mending.law
+
+pub returns-clause-framed : goal.returns-clause-framed
+returns-clause-framed g c =
+    let t = g.T.Tree.state c.args.tree.now in
+    phases_framed c.args.table.now c.requires.lines c.args.now c.args.phases.now (IsStepOfSome (phases_course c.args.table.now c.args.now) c.args.phases.now t) t
+    (g.T.Tree.steps c.args.tree.now) (g.T.Tree.state c.loop-phase.tree) (g.T.Tree.steps c.loop-phase.tree) c.look-root.ensures.tree
+    c.loop-phase.invariant.going.acted.ran
