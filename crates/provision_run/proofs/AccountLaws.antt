@@ -26,7 +26,7 @@ use Rattle.provision_run.specs.declared.ending.RunEnd.{RunEnd}
 use Rattle.provision_run.specs.declared.ending.RunEnd.TheVariants.{NoFreeId}
 use Rattle.provision_run.specs.Ending.{end_of, is_uncarried}
 use Rattle.provision_run.specs.Accounts.{account_messages, accounts_end, accounts_end_by, IsEnded, lacking_text, run_lacking, run_requests}
-use Rattle.provision_run.proofs.RunLaws.{said_first, said_then, said_whole}
+use Rattle.pv_text.proofs.SaidLaws.{said_first, said_then, said_whole}
 
 -- ---- answers
 
@@ -60,7 +60,7 @@ pub record Finished {S : Type 0} (tree : Ghosts S) (requests : List Request) (no
   pub lacking_said : IfLacking answer (new ≡ old ++ accounts_messages requests now (places (tree.state a)))
   pub lacking_idle : IfLacking answer (tree.steps b ≡ tree.steps a)
   pub part : SaidPart (accounts_messages requests now (places (tree.state a))) old new
-  pub acted : Acted tree (AccountWay (edits_at requests now (places (tree.state a))) (tree.state a)) (IsAccountStep (edits_at requests now (places (tree.state a))))
+  pub acted : Acted tree (AccountWay (edits_at requests now (places (tree.state a))) (tree.state a)) (IsAccountStep (edits_at requests now (places (tree.state a))) (tree.state a))
       (count_at_all (tree.state a) swept_names + most_put (edits_at requests now (places (tree.state a)))) now a b (in_steps answer)
 
 module _ (options : Options) (facts : Values) (moment : ℕ) (t : Files) where

@@ -17,8 +17,10 @@ use Rattle.provision_run.specs.declared.ending.RunEnd.TheVariants as end
 use Rattle.provision_run.specs.Tasks.{task_of}
 use Rattle.provision_run.specs.Words.{moment_of}
 use Rattle.provision_run.proofs.TaskLaws.{front_by}
+use Rattle.provision_run.specs.Framed.{IsFramedIn}
 use Rattle.provision_run.specs.Whole.{final, HasSaidBy, HasSaidStoppedBy, IsMendedAnewIn, IsMendedIn, IsSaid, read_messages, run_end, run_way, run_work}
-use Rattle.provision_run.specs.Answers.{IsAnswer, IsAnswered, IsRun, IsWhole, IsStopped, IsOwn, outcome_of, outcome, messages_text, stopped_text, most_bytes}
+use Rattle.provision_run.specs.Answers.{IsAnswer, IsAnswered, IsRun, IsWhole, IsStopped, IsOwn, outcome_of, outcome, stopped_text, most_bytes}
+use Rattle.provision_run.specs.Messages.{messages_text}
 
 -- an outcome of a run that was not stopped
 abbrev IsEnd : Outcome → Type 0
@@ -157,8 +159,9 @@ module _ (options : Options) (facts : Values) (moment : ℕ) (t u : Files) (h k 
       → out ≡ messages_text (said ++ stopped_text n ∷ []) ++ text_of facts u → IsImage out facts u
       → IsMendedIn (task_of options) options facts moment t (drop (length h) k)
       → IsMendedAnewIn (task_of options) options facts moment t (drop (length h) k)
+      → IsFramedIn (task_of options) options facts moment t (drop (length h) k)
       → IsStopped options facts moment t n out
-  stopped_run n out said limit count bound stopped text image mended anew = record {
+  stopped_run n out said limit count bound stopped text image mended anew framed = record {
     limit = limit;
     fewer = fewer;
     steps = ran.steps;
@@ -172,6 +175,7 @@ module _ (options : Options) (facts : Values) (moment : ℕ) (t u : Files) (h k 
     again = subst (IsImage out facts) ran.reached image;
     mended = subst (IsMendedIn (task_of options) options facts moment t) (ap (λ x. drop (length x) k) start ∙ all_told) mended;
     anew = subst (IsMendedAnewIn (task_of options) options facts moment t) (ap (λ x. drop (length x) k) start ∙ all_told) anew;
+    framed = subst (IsFramedIn (task_of options) options facts moment t) (ap (λ x. drop (length x) k) start ∙ all_told) framed;
   }
     where
       fewer : n < run_work options facts moment t
@@ -203,16 +207,17 @@ module _ (options : Options) (facts : Values) (moment : ℕ) (old new : Held) (Q
       → HasSaidStoppedBy (task_of options) options facts moment old.files [] said
       → IsMendedIn (task_of options) options facts moment old.files (drop (length old.steps) new.steps)
       → IsMendedAnewIn (task_of options) options facts moment old.files (drop (length old.steps) new.steps)
+      → IsFramedIn (task_of options) options facts moment old.files (drop (length old.steps) new.steps)
       → {E : Type 0} (r : Result Answer E) → IfOk r (λ a. a.outcome ≡ Stopped n) → IfOk r (λ _. length kept.steps ≡ n)
       → IfOk r (λ a. a.output.items ≡ messages_text (said ++ stopped_text n ∷ []) ++ text_of facts kept.files)
       → IfOk r (λ a. IsImage a.output.items facts kept.files)
       → IfOk r (λ a. IsAnswered options facts moment old.files a.outcome a.output.items)
-  stopped_answered n said limit bound part mended anew (Err f) found count text image = tt
-  stopped_answered n said limit bound part mended anew (Ok a) found count text image =
+  stopped_answered n said limit bound part mended anew framed (Err f) found count text image = tt
+  stopped_answered n said limit bound part mended anew framed (Ok a) found count text image =
       subst (λ x. IsAnswered options facts moment old.files x a.output.items) (sym found)
       (stopped_run options facts moment old.files new.files old.steps new.steps Q start ran n a.output.items said limit
       (ap (λ (x : Held). length x.steps) (sym same) ∙ count) bound part
-      (text ∙ ap (λ (x : Held). messages_text (said ++ stopped_text n ∷ []) ++ text_of facts x.files) same) (subst (λ (x : Held). IsImage a.output.items facts x.files) same image) mended anew)
+      (text ∙ ap (λ (x : Held). messages_text (said ++ stopped_text n ∷ []) ++ text_of facts x.files) same) (subst (λ (x : Held). IsImage a.output.items facts x.files) same image) mended anew framed)
 
 -- the same over a tree that is another by name alone
 pub over_same : (options : Options) (facts : Values) (moment : ℕ) (a b : Held) → a ≡ b → {E : Type 0} (r : Result Answer E)

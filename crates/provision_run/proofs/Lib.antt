@@ -1,8 +1,13 @@
+pub mod AccountInput
 pub mod AccountLaws
+pub mod AccountRereading
 pub mod AnswerLaws
 pub mod MessageLaws
 pub mod ReportLaws
 pub mod RereadingLaws
 pub mod RunLaws
+pub mod StopsLaws
 pub mod TaskLaws
 pub mod WrittenLaws
+pub mod GeneratedLaws
+mod FrameLaws

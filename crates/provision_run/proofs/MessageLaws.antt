@@ -4,14 +4,14 @@ use Rattle.std.specs.List.{flat_map, list_all}
 use Rattle.std.specs.Option.{option_map_or}
 use Rattle.std.proofs.lemmas.List.{flat_map_more, take_more}
 use Rattle.std.proofs.lemmas.Option.{slice_get-get_or}
-use Rattle.pv_path.proofs.PathLaws.{both_true}
+use Rattle.std.proofs.lemmas.Bool.{and_parts, and_from}
 use Rattle.pv_text.specs.Facts.{Values}
 use Rattle.pv_text.specs.Lines.{is_line, are_lines}
-use Rattle.pv_text.proofs.Characters.{all_append, both_yes, one_line-append}
+use Rattle.pv_text.proofs.Characters.{all_append, one_line-append}
 use Rattle.pv_steps.specs.Trees.{Files}
 use Rattle.pv_image.specs.Images.{IsImage, is_note}
 use Rattle.pv_image.specs.Spelling.{line, text_in}
-use Rattle.provision_run.specs.Answers.{message, messages_text, message_at}
+use Rattle.provision_run.specs.Messages.{message, messages_text, message_at}
 
 pub messages_more : (texts : List (List ℕ)) (i : ℕ) → i < length texts → messages_text (take i texts) ++ message_at texts i ≡ messages_text (take (i + 1) texts)
 messages_more texts i within =
@@ -27,9 +27,9 @@ note text = codes ": " ++ text
 notes_are : (said : List (List ℕ)) → are_lines said ≡ true → list_all (λ text. is_note text && is_line text) (map note said) ≡ true
 notes_are [] lines = refl
 notes_are (text ∷ said) lines =
-    let parts = both_true (is_line text) (are_lines said) lines in
-    both_yes (is_note (note text) && is_line (note text)) (list_all (λ t. is_note t && is_line t) (map note said))
-    (both_yes (is_note (note text)) (is_line (note text)) refl (one_line-append (codes ": ") text refl parts.0)) (notes_are said parts.1)
+    let parts = and_parts (is_line text) (are_lines said) lines in
+    and_from (is_note (note text) && is_line (note text)) (list_all (λ t. is_note t && is_line t) (map note said))
+    (and_from (is_note (note text)) (is_line (note text)) refl (one_line-append (codes ": ") text refl parts.0)) (notes_are said parts.1)
 
 notes_text : (said notes : List (List ℕ)) → messages_text said ++ flat_map line notes ≡ flat_map line (map note said ++ notes)
 notes_text [] notes = refl

@@ -1,17 +1,17 @@
 -- A run of one phase, none of whose lines may change what lines are read from, stopped after any of its steps, has left a tree
 -- of which the same lines are read, so that a whole run from there mends it.
-use Rattle.std.specs.Prelude.{◌^◌, ◌<◌, ◌≡◌, ℕ, Bool, true, false, List, [], ◌∷◌, length, take, drop}
-use Rattle.std.proofs.Common.{refl, sym, ap, subst, ◌∙◌, inl, inr}
+use Rattle.std.specs.Prelude.{◌^◌, ◌<◌, ◌≡◌, ℕ, true, false, List, [], ◌∷◌, length, take, drop}
+use Rattle.std.proofs.Common.{sym, ap, subst, ◌∙◌, inl, inr}
 use Rattle.std.proofs.Math.Seq.{drop-append_seam, drop-length, take-nil}
 use Rattle.std.specs.List.{AllByRecursion}
 use Rattle.pv_conf.specs.Configuration.{Configured}
-use Rattle.pv_conf.specs.Inputs.{is_input}
+use Rattle.pv_conf.specs.Known.{configured}
+use Rattle.pv_layers.specs.Places.{is_input}
 use Rattle.pv_conf.proofs.InputLaws.{configured-same}
 use Rattle.pv_create.specs.Ways.{lines_course}
 use Rattle.pv_create.proofs.LeavingInput.{all_take, input_after}
 use Rattle.pv_doing.specs.Courses.{Course, Partway, IsStepOfSome}
-use Rattle.pv_laws.proofs.Orders.{all_map}
-use Rattle.pv_layers.specs.Inputs.{SameContent}
+use Rattle.pv_table.proofs.ListedLaws.{all_map}
 use Rattle.pv_lines.specs.declared.line.Line.{Line}
 use Rattle.pv_lines.specs.Lines.{IsLine}
 use Rattle.pv_path.specs.Paths.{Path}
@@ -39,10 +39,9 @@ use Rattle.pv_words.specs.declared.options.Options.{Options}
 use Rattle.provision_run.specs.Rereading.{ArePlain, AsksFor, MayMend, IsReread, IsMendedAnew}
 use Rattle.provision_run.specs.Phased.{is_phases_step, phased, phases_way, run_lines}
 
--- the same lines are read of trees that are the same at input paths
-run_lines-same : (options : Options) (facts : Values) (t u : Files) → SameContent is_input t u → ArePlain options → run_lines options facts t ≡ run_lines options facts u
-run_lines-same options facts t u same plain =
-    ap (λ (c : Configured Line). active options.boot options.prefix options.exclude_prefix c.lines) (configured-same t u same facts options.words plain)
+-- where the same is read the same lines are active
+pub lines_reread : (options : Options) (facts : Values) (t u : Files) → configured u facts options.words ≡ configured t facts options.words → run_lines options facts u ≡ run_lines options facts t
+lines_reread options facts t u same = ap (λ (c : Configured Line). active options.boot options.prefix options.exclude_prefix c.lines) same
 
 -- what is the same as all done is on the way
 way_done : {A : Type 0} (c : Course A) (xs : List A) (t u : Files) → Same (after_each c.whole xs t) u → Partway c xs t u
@@ -84,19 +83,19 @@ module _ (options : Options) (facts : Values) (moment : ℕ) (t : Files) where
         let added : drop (length h) k ≡ run.steps = ap (drop (length h)) run.told ∙ drop-append_seam h run.steps in
         let course = phases_course (run_lines options facts t) moment in
         let left = after_all t (take n run.steps) moment in
-        subst (λ (steps : List Step). run_lines options facts (after_all t (take n steps) moment) ≡ run_lines options facts t) (sym added)
-        (run_lines-same options facts left t (λ q input.
+        subst (λ (steps : List Step). configured (after_all t (take n steps) moment) facts options.words ≡ configured t facts options.words) (sym added)
+        (configured-same left t (λ q input.
         input_kept (run_lines options facts t) are free moment t tree (take n run.steps)
         (along_prefix IsTree t run.steps moment n (along_trees (phases_way options facts moment t) t run.steps moment fits tree run.along))
         phase
         (subst (λ (phases : List Phase). Partway course phases t left) alone (along_prefix (phases_way options facts moment t) t run.steps moment n run.along))
         (subst (λ (phases : List Phase). AllByRecursion (IsStepOfSome course phases t) (take n run.steps)) alone (all_take (is_phases_step options facts moment t) n run.steps run.gives))
-        q input) plain)
+        q input) facts options.words plain)
 
-  -- a run that has done nothing reads the same lines
+  -- after a run that has done nothing the same is read
   pub nothing_reread : (h : List Step) → IsReread options facts moment t (drop (length h) h)
   nothing_reread h n phase alone plain free =
-      ap (λ (steps : List Step). run_lines options facts (after_all t steps moment)) (ap (take n) (drop-length h) ∙ take-nil n)
+      ap (λ (steps : List Step). configured (after_all t steps moment) facts options.words) (ap (take n) (drop-length h) ∙ take-nil n)
 
   -- what is mended by a run of the same lines is mended by one that reads them anew
   module _ (steps : List Step) (again : IsReread options facts moment t steps) (mended : IsMendedBy (phases_of options) (run_lines options facts t) moment t steps) (n later : ℕ) where
@@ -115,11 +114,11 @@ module _ (options : Options) (facts : Values) (moment : ℕ) (t : Files) where
     law phase alone = subst (λ (phases : List Phase). IsMendedBy phases (run_lines options facts t) moment t steps) alone mended
 
     mended_by : (phase : Phase) → AsksFor options phase → ArePlain options → MayMend phase options facts moment t later left → Same (phased options facts later left) (phased options facts moment t)
-    mended_by Remove alone plain free = ends Remove alone (again n Remove alone plain free) (law Remove alone n later)
-    mended_by Purge alone plain free = ends Purge alone (again n Purge alone plain free) (law Purge alone n later)
+    mended_by Remove alone plain free = ends Remove alone (lines_reread options facts t left (again n Remove alone plain free)) (law Remove alone n later)
+    mended_by Purge alone plain free = ends Purge alone (lines_reread options facts t left (again n Purge alone plain free)) (law Purge alone n later)
     mended_by Clean alone plain never = absurd never
     mended_by Create alone plain may =
-        let same : run_lines options facts left ≡ run_lines options facts t = again n Create alone plain (λ i. may.0 i reason.Input) in
+        let same : run_lines options facts left ≡ run_lines options facts t = lines_reread options facts t left (again n Create alone plain (λ i. may.0 i reason.Input)) in
         ends Create alone same (law Create alone n later may.0 may.1.0 (subst (λ (lines : List Line). IsQuiet lines later left) same may.1.1))
 
   pub mended_anew : (steps : List Step) → IsReread options facts moment t steps → IsMendedBy (phases_of options) (run_lines options facts t) moment t steps
@@ -127,11 +126,11 @@ module _ (options : Options) (facts : Values) (moment : ℕ) (t : Files) where
   mended_anew steps again mended n later = mended_by steps again mended n later
 
   -- so a run of the phases that are asked for, over the lines that it has read
-  pub run_anew : moment < 2 ^ 64 → (lines : List Line) → lines ≡ run_lines options facts t → (phases : List Phase) → phases ≡ phases_of options → AllByRecursion IsLine lines → IsTree t
-      → (h : List Step) (u : Files) (k : List Step) → Ran (Partway (phases_course lines moment) phases t) (IsStepOfSome (phases_course lines moment) phases t) moment t h u k → IsMendedBy phases lines moment t (drop (length h) k)
-      → IsMendedAnew options facts moment t (drop (length h) k)
-  run_anew fits lines e phases f are tree h u k run mended =
-      mended_anew (drop (length h) k)
-      (reread fits tree (subst (AllByRecursion IsLine) e are) h u k
-      (both (λ (ls : List Line) (ps : List Phase). Ran (Partway (phases_course ls moment) ps t) (IsStepOfSome (phases_course ls moment) ps t) moment t h u k) e f run))
-      (both (λ (ls : List Line) (ps : List Phase). IsMendedBy ps ls moment t (drop (length h) k)) e f mended)
+  module _ (fits : moment < 2 ^ 64) (lines : List Line) (e : lines ≡ run_lines options facts t) (phases : List Phase) (f : phases ≡ phases_of options) (are : AllByRecursion IsLine lines) (tree : IsTree t)
+      (h : List Step) (u : Files) (k : List Step) (run : Ran (Partway (phases_course lines moment) phases t) (IsStepOfSome (phases_course lines moment) phases t) moment t h u k) where
+    pub run_reread : IsReread options facts moment t (drop (length h) k)
+    run_reread = reread fits tree (subst (AllByRecursion IsLine) e are) h u k
+        (both (λ (ls : List Line) (ps : List Phase). Ran (Partway (phases_course ls moment) ps t) (IsStepOfSome (phases_course ls moment) ps t) moment t h u k) e f run)
+
+    pub run_anew : IsMendedBy phases lines moment t (drop (length h) k) → IsMendedAnew options facts moment t (drop (length h) k)
+    run_anew mended = mended_anew (drop (length h) k) run_reread (both (λ (ls : List Line) (ps : List Phase). IsMendedBy ps ls moment t (drop (length h) k)) e f mended)

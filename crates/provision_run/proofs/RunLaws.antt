@@ -1,39 +1,17 @@
--- Laws of a run over a tree: what is said when it ends early, the active lines, and a run that has done
--- nothing.
-use Rattle.std.specs.Prelude.{◌≡◌, ℕ, Bool, true, false, cond, Option, List, [], ◌∷◌, ◌++◌, filter, fold, length, take}
+-- Laws of a run over a tree: the active lines, and a run that has done nothing.
+use Rattle.std.specs.Prelude.{ℕ, Bool, true, false, cond, Option, List, [], ◌∷◌, ◌++◌, filter, fold}
 use Rattle.std.specs.List.{AllByRecursion, list_any}
-use Rattle.std.proofs.Common.{ap, sym, ◌∙◌, append_assoc}
-use Rattle.std.proofs.Math.Seq.{take-length}
 use Rattle.pv_doing.proofs.CourseLaws.{partway_start}
-use Rattle.pv_laws.proofs.Orders.{all_append, all_filter}
+use Rattle.pv_table.proofs.ListedLaws.{all_append, all_filter}
 use Rattle.pv_lines.specs.declared.line.Line.{Line}
 use Rattle.pv_path.specs.Paths.{Path}
 use Rattle.pv_steps.specs.Trees.{Files}
 use Rattle.pv_table.specs.Active.{active, make_same, stays, with_line}
 use Rattle.pv_phases.specs.Phases.{phases_course, phases_of}
-use Rattle.pv_phases.proofs.PhaseLaws.{back_of, front_of, phase_start}
+use Rattle.pv_phases.proofs.PhaseLaws.{phase_start}
 use Rattle.pv_text.specs.Facts.{Values}
-use Rattle.pv_text.specs.Said.{SaidPart}
 use Rattle.pv_words.specs.declared.options.Options.{Options}
 use Rattle.provision_run.specs.Phased.{phases_way, run_lines}
-
--- ---- what is said
-
--- a part of what is to be said first is a part of all
-pub said_first : (a b old new : List (List ℕ)) → SaidPart a old new → SaidPart (a ++ b) old new
-said_first a b old new part = let front = front_of a b part.0 in (front.0, part.1 ∙ ap (λ (r : List (List ℕ)). old ++ r) front.1)
-
--- so is all of it and a part of the rest
-pub said_then : (a b old mid new : List (List ℕ)) → mid ≡ old ++ a → SaidPart b mid new → SaidPart (a ++ b) old new
-said_then a b old mid new all part =
-    let back = back_of a b part.0 in (
-      back.0,
-      part.1 ∙ ap (λ (r : List (List ℕ)). r ++ take part.0 b) all ∙ append_assoc old a (take part.0 b) ∙ ap (λ (r : List (List ℕ)). old ++ r) back.1,
-    )
-
--- all of what is to be said is a part of it
-pub said_whole : (a old new : List (List ℕ)) → new ≡ old ++ a → SaidPart a old new
-said_whole a old new all = (length a, all ∙ ap (λ (r : List (List ℕ)). old ++ r) (sym (take-length a)))
 
 -- ---- the active lines
 

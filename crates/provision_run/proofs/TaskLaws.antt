@@ -5,6 +5,7 @@ use Rattle.std.proofs.Math.Seq.{drop-length}
 use Rattle.pv_accounts_run.specs.Accounted.{accounted}
 use Rattle.pv_accounts_run.specs.Carrying.{AccountWay, IsAccountStep}
 use Rattle.pv_accounts_run.specs.Mended as accounts
+use Rattle.pv_create.specs.OnTheWay.{IsFramed}
 use Rattle.pv_phases.specs.Phases.{HasSaidStopped, IsMendedBy, phases_of}
 use Rattle.pv_phases.proofs.PhaseLaws.{stopped_front}
 use Rattle.pv_steps.specs.Acting.{Acted, refused}
@@ -20,9 +21,10 @@ use Rattle.provision_run.specs.declared.ending.RunEnd.{RunEnd}
 use Rattle.provision_run.specs.declared.task.Task.{Task}
 use Rattle.provision_run.specs.declared.task.Task.TheVariants.{Phases, Report, Accounts}
 use Rattle.provision_run.specs.Accounts.{account_messages, accounts_end, accounts_work, requests_messages, run_edits, run_requests}
+use Rattle.provision_run.specs.Framed.{AreAccountsFramed, IsFramedIn}
 use Rattle.provision_run.specs.Phased.{is_phases_step, lines_messages, phase_messages, phased, phases_end, phases_way, phases_work, run_lines}
 use Rattle.provision_run.specs.Reported.{HasReported, HasReportedPart, report_end}
-use Rattle.provision_run.specs.Rereading.{IsMendedAnew}
+use Rattle.provision_run.specs.Rereading.{AreAccountsMendedAnew, AreRequestsReread, IsMendedAnew, IsReread}
 use Rattle.provision_run.specs.Whole.{end_by, final_by, HasSaidBy, HasSaidPartBy, HasSaidStoppedBy, IsMendedAnewIn, IsMendedIn, IsSaidBy, IsSaidStoppedBy, is_step_by, read_by, way_by, work_by}
 
 on_ok : {A E P Q : Type 0} (r : Result A E) → (P → Q) → OnOk r P → OnOk r Q
@@ -70,9 +72,13 @@ module _ (options : Options) (facts : Values) (moment : ℕ) (t : Files) where
   unfolding IsMendedIn
   phases_mended k is steps h = subst (λ (j : Task). IsMendedIn j options facts moment t steps) is h
 
-  pub phases_anew : (k : Task) → Phases ≡ k → (steps : List Step) → IsMendedAnew options facts moment t steps → IsMendedAnewIn k options facts moment t steps
+  pub phases_anew : (k : Task) → Phases ≡ k → (steps : List Step) → IsReread options facts moment t steps → IsMendedAnew options facts moment t steps → IsMendedAnewIn k options facts moment t steps
   unfolding IsMendedAnewIn
-  phases_anew k is steps h = subst (λ (j : Task). IsMendedAnewIn j options facts moment t steps) is h
+  phases_anew k is steps same h = subst (λ (j : Task). IsMendedAnewIn j options facts moment t steps) is (same, h)
+
+  pub phases_framed : (k : Task) → Phases ≡ k → (steps : List Step) → IsFramed (run_lines options facts t) moment t steps → IsFramedIn k options facts moment t steps
+  unfolding IsFramedIn
+  phases_framed k is steps h = subst (λ (j : Task). IsFramedIn j options facts moment t steps) is h
 
   -- ---- accounts
 
@@ -107,9 +113,13 @@ module _ (options : Options) (facts : Values) (moment : ℕ) (t : Files) where
   unfolding IsMendedIn
   accounts_mended k is steps h = subst (λ (j : Task). IsMendedIn j options facts moment t steps) is h
 
-  pub accounts_anew : (k : Task) → Accounts ≡ k → (steps : List Step) → IsMendedAnewIn k options facts moment t steps
+  pub accounts_anew : (k : Task) → Accounts ≡ k → (steps : List Step) → AreRequestsReread options facts moment t steps → AreAccountsMendedAnew options facts moment t steps → IsMendedAnewIn k options facts moment t steps
   unfolding IsMendedAnewIn
-  accounts_anew k is steps = subst (λ (j : Task). IsMendedAnewIn j options facts moment t steps) is tt
+  accounts_anew k is steps same h = subst (λ (j : Task). IsMendedAnewIn j options facts moment t steps) is (same, h)
+
+  pub accounts_framed : (k : Task) → Accounts ≡ k → (steps : List Step) → AreAccountsFramed moment t steps → IsFramedIn k options facts moment t steps
+  unfolding IsFramedIn
+  accounts_framed k is steps h = subst (λ (j : Task). IsFramedIn j options facts moment t steps) is h
 
   -- ---- reports
 
@@ -137,6 +147,10 @@ module _ (options : Options) (facts : Values) (moment : ℕ) (t : Files) where
   unfolding IsMendedAnewIn
   report_anew k is steps = subst (λ (j : Task). IsMendedAnewIn j options facts moment t steps) is tt
 
+  pub report_framed : (k : Task) → Report ≡ k → (told : List Step) → IsFramedIn k options facts moment t (drop (length told) told)
+  unfolding IsFramedIn
+  report_framed k is told = subst (λ (j : Task). IsFramedIn j options facts moment t (drop (length told) told)) is (drop-length told)
+
 module _ {S : Type 0} (tree : Ghosts S) (options : Options) (facts : Values) (moment : ℕ) (t : Files) where
   pub phases_acted : (k : Task) → Phases ≡ k → (a b : S) (r : Result RunEnd TreeFault)
       → Acted tree (phases_way options facts moment t) (is_phases_step options facts moment t) (phases_work options facts moment t) moment a b r
@@ -146,7 +160,7 @@ module _ {S : Type 0} (tree : Ghosts S) (options : Options) (facts : Values) (mo
       subst (λ (j : Task). Acted tree (way_by j options facts moment t) (is_step_by j options facts moment t) (work_by j options facts moment t) moment a b r) is h
 
   pub accounts_acted : (k : Task) → Accounts ≡ k → (a b : S) (r : Result RunEnd TreeFault)
-      → Acted tree (AccountWay (run_edits options facts moment t) t) (IsAccountStep (run_edits options facts moment t)) (accounts_work options facts moment t) moment a b r
+      → Acted tree (AccountWay (run_edits options facts moment t) t) (IsAccountStep (run_edits options facts moment t) t) (accounts_work options facts moment t) moment a b r
       → Acted tree (way_by k options facts moment t) (is_step_by k options facts moment t) (work_by k options facts moment t) moment a b r
   unfolding way_by is_step_by work_by
   accounts_acted k is a b r h =

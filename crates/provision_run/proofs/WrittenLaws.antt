@@ -1,11 +1,13 @@
 -- What a call has written, from its answer and what the sink took.
-use Rattle.std.specs.Prelude.{◌≡◌, ℕ, List, take, Option, Some, None, IfSome}
-use Rattle.std.proofs.Common.{subst}
+use Rattle.std.specs.Prelude.{◌≡◌, ℕ, true, false, List, [], take, Option, Some, None, IfSome}
+use Rattle.std.proofs.Common.{subst, sym, ap, ◌∙◌}
 use Rattle.std.specs.Io.KnownBytes.{Appends}
 use Rattle.pv_io.specs.Transfers.{AppendsFront}
+use Rattle.pv_words.specs.declared.asked.Asked.{Asked}
+use Rattle.pv_words.specs.declared.asked.Asked.TheVariants.{Generate}
 use Rattle.provision_run.specs.declared.outcome.Outcome.{Outcome}
 use Rattle.provision_run.specs.declared.outcome.Outcome.TheVariants.{Done, ConfigInvalid, NotCarriedOut, Usage, BadImage, NoFreeId, Memory, ReadFault, WriteFault, Stopped}
-use Rattle.provision_run.specs.Answers.{HasOutput, HasWritten}
+use Rattle.provision_run.specs.Answers.{HasOutput, HasWritten, HasWrittenGenerated, IsGeneratedBy, reads_input}
 
 -- the whole output was taken
 pub wholly_written : (words : List (List ℕ)) (clock : ℕ) (input : List ℕ) (found : Outcome) (out : List ℕ) (old new : Option (List ℕ))
@@ -27,3 +29,37 @@ pub front_written : (words : List (List ℕ)) (clock : ℕ) (left : Option (List
 front_written words clock None found out bytes old new is h front = tt
 front_written words clock (Some input) found out bytes old new is h front =
     (found, out, h, (front.0, subst (λ (b : List ℕ). Appends old new (take front.0 b)) is front.2))
+
+-- ---- of a run over a generated tree
+
+module _ (asked : Option Asked) (seed count : ℕ) (is : asked ≡ Some (Generate seed count)) where
+  by_definition : (found : Outcome) (out : List ℕ) → IsGeneratedBy asked found out → IsGeneratedBy (Some (Generate seed count)) found out
+  by_definition found out h = subst (λ (a : Option Asked). IsGeneratedBy a found out) is h
+
+  -- the three messages were taken
+  pub generated_wholly : (found : Outcome) (out bytes : List ℕ) (old new : Option (List ℕ)) → bytes ≡ out → IsGeneratedBy asked found out → Appends old new bytes
+      → HasWrittenGenerated seed count found old new
+  unfolding HasWrittenGenerated
+  generated_wholly found out bytes old new same h taken =
+      let told = by_definition found out h in
+      subst (λ (o : Outcome). HasWrittenGenerated seed count o old new) (sym told.0) (out, told.1, subst (λ (b : List ℕ). Appends old new b) same taken)
+
+  -- a front part of them was
+  pub generated_front : (found : Outcome) (out bytes : List ℕ) (old new : Option (List ℕ)) → bytes ≡ out → IsGeneratedBy asked found out → AppendsFront old new bytes
+      → HasWrittenGenerated seed count WriteFault old new
+  unfolding HasWrittenGenerated
+  generated_front found out bytes old new same h front =
+      (out, (by_definition found out h).1, (front.0, subst (λ (b : List ℕ). Appends old new (take front.0 b)) same front.2))
+
+  -- the source was not read
+  pub generated_unread : reads_input asked ≡ false
+  generated_unread = ap reads_input is
+
+  -- and is not blamed
+  pub generated_unblamed : reads_input asked ≡ true → ⊥
+  generated_unblamed read = let bad : false ≡ true = sym generated_unread ∙ read in cc
+
+-- nothing was written
+pub generated_nothing : (seed count : ℕ) (old new : Option (List ℕ)) → Appends old new [] → HasWrittenGenerated seed count Memory old new
+unfolding HasWrittenGenerated
+generated_nothing seed count old new none = none

@@ -1,7 +1,5 @@
 -- What the program writes for words and an input, and how it ends (systemd-tmpfiles(8)).
-use Rattle.std.specs.Prelude.{◌≡◌, ℕ, ◌<◌, ◌≤◌, List, [], ◌∷◌, ◌++◌, length, take, codes, Option, Some, None, IfSome}
-use Rattle.std.specs.List.{flat_map, slice_get}
-use Rattle.std.specs.Option.{option_map_or}
+use Rattle.std.specs.Prelude.{◌≡◌, ℕ, ◌<◌, ◌≤◌, Bool, true, false, List, [], ◌∷◌, ◌++◌, length, take, codes, Option, Some, None, IfSome}
 use Rattle.std.specs.Fmt.{decimal}
 use Rattle.std.specs.Io.KnownBytes.{Appends}
 use Rattle.pv_text.specs.Facts.{Values}
@@ -17,10 +15,15 @@ use Rattle.provision_run.specs.declared.outcome.Outcome.{Outcome}
 use Rattle.provision_run.specs.declared.outcome.Outcome.TheVariants.{Done, ConfigInvalid, NotCarriedOut, Usage, BadImage, NoFreeId, Memory, ReadFault, WriteFault, Stopped}
 use Rattle.provision_run.specs.declared.ending.RunEnd.{RunEnd}
 use Rattle.provision_run.specs.declared.ending.RunEnd.TheVariants as end
+use Rattle.provision_run.specs.Framed.{IsFramedIn}
 use Rattle.provision_run.specs.Tasks.{task_of}
 use Rattle.provision_run.specs.Words.{moment_of}
 use Rattle.provision_run.specs.Whole.{run_way, final, IsMendedAnewIn, IsMendedIn, IsSaid, IsSaidStoppedBy, read_messages, run_end, run_work}
-use Rattle.pv_words.specs.Meaning.{options_of}
+use Rattle.pv_words.specs.Asked.{asked_of}
+use Rattle.pv_words.specs.declared.asked.Asked.{Asked}
+use Rattle.pv_words.specs.declared.asked.Asked.TheVariants.{Run, Generate}
+use Rattle.provision_run.specs.Generated.{IsGenerated}
+use Rattle.provision_run.specs.Messages.{message, messages_text}
 
 -- the status with which the program ends
 abbrev pub status_of : Outcome → ℕ
@@ -36,18 +39,6 @@ status_of WriteFault = 76
 status_of (Stopped steps) = 75
 
 -- ---- texts
-
--- a message: a line that begins with a colon and a space, which a later run skips
-abbrev pub message : List ℕ → List ℕ
-message text = codes ": " ++ text ++ 10 ∷ []
-
--- the text of messages, one after the other
-abbrev pub messages_text : List (List ℕ) → List ℕ
-messages_text texts = flat_map message texts
-
--- the text of the message at a place, and nothing past the last
-abbrev pub message_at : List (List ℕ) → ℕ → List ℕ
-message_at texts i = option_map_or message (slice_get texts i) []
 
 -- what is said of a bad image, by the number of the line and the name of its fault
 abbrev pub at_line : ℕ → List ℕ → List ℕ
@@ -102,7 +93,7 @@ stopped_text n = codes "stopped after " ++ decimal n ++ codes " steps"
 -- what a run has written that was stopped after n steps, which are fewer than the most that it takes: what is said in
 -- reading, the first of what is said then (in the phases, of the one that was stopped what it says at work), that it was
 -- stopped, and the image of the tree after the n steps; this is an image again, and where it has one phase, or makes
--- accounts, the stop law of it holds, also where the lines are read anew of that tree
+-- accounts, the stop law of it holds, also where the lines are read anew of that tree; whatever it does, its frame holds
 pub record IsStopped (options : Options) (facts : Values) (moment : ℕ) (t : Files) (n : ℕ) (out : List ℕ) : Type 0 where
   pub limit : options.stop_after ≡ Some n
   pub fewer : n < run_work options facts moment t
@@ -116,6 +107,7 @@ pub record IsStopped (options : Options) (facts : Values) (moment : ℕ) (t : Fi
   pub again : IsImage out facts (after_all t steps moment)
   pub mended : IsMendedIn (task_of options) options facts moment t steps
   pub anew : IsMendedAnewIn (task_of options) options facts moment t steps
+  pub framed : IsFramedIn (task_of options) options facts moment t steps
 
 -- ---- answers
 
@@ -155,14 +147,26 @@ IsAnswer options clock input (BadImage f) out = IsRefused input f × (out ≡ me
 IsAnswer options clock input Usage out = ⊥
 IsAnswer options clock input found out = IsRun options clock input found out
 
--- words without a meaning have the one message
-abbrev pub HasOutputBy : Option Options → ℕ → List ℕ → Outcome → List ℕ → Type 0
+-- by what the words ask for: those without a meaning have the one message, and a run over a generated tree its three
+abbrev pub HasOutputBy : Option Asked → ℕ → List ℕ → Outcome → List ℕ → Type 0
 HasOutputBy None clock input found out = (found ≡ Usage) × (out ≡ message (codes "usage"))
-HasOutputBy (Some options) clock input found out = IsAnswer options clock input found out
+HasOutputBy (Some (Run options)) clock input found out = IsAnswer options clock input found out
+HasOutputBy (Some (Generate seed count)) clock input found out = (found ≡ Done) × IsGenerated seed count out
 
 -- the whole output that belongs to words, the clock, an input and an outcome
 abbrev pub HasOutput : List (List ℕ) → ℕ → List ℕ → Outcome → List ℕ → Type 0
-HasOutput words clock input found out = IsOwn found × HasOutputBy (options_of words) clock input found out
+HasOutput words clock input found out = IsOwn found × HasOutputBy (asked_of words) clock input found out
+
+-- whether the input is read: only a run of a tool is over an image
+abbrev pub reads_input : Option Asked → Bool
+reads_input None = false
+reads_input (Some (Run options)) = true
+reads_input (Some (Generate seed count)) = false
+
+-- the output of words that ask for a run over a generated tree, which belongs to no input; of others this says nothing
+abbrev pub IsGeneratedBy : Option Asked → Outcome → List ℕ → Type 0
+IsGeneratedBy (Some (Generate seed count)) found out = (found ≡ Done) × IsGenerated seed count out
+IsGeneratedBy asked found out = Unit {0}
 
 -- what a call wrote: the whole output, a front part of some output after a failed write, or nothing
 abbrev pub HasWritten : List (List ℕ) → ℕ → List ℕ → Outcome → Option (List ℕ) → Option (List ℕ) → Type 0
@@ -170,3 +174,11 @@ HasWritten words clock input WriteFault old new = (found : Outcome) × (out : Li
 HasWritten words clock input ReadFault old new = Appends old new []
 HasWritten words clock input Memory old new = Appends old new []
 HasWritten words clock input found old new = (out : List ℕ) × HasOutput words clock input found out × Appends old new out
+
+-- what a call wrote whose words ask for a run over a generated tree: the three messages, a front part of them after a failed
+-- write, or nothing; it has no other outcome
+unfoldable pub HasWrittenGenerated : ℕ → ℕ → Outcome → Option (List ℕ) → Option (List ℕ) → Type 0
+HasWrittenGenerated seed count Done old new = (out : List ℕ) × IsGenerated seed count out × Appends old new out
+HasWrittenGenerated seed count WriteFault old new = (out : List ℕ) × IsGenerated seed count out × ((k : ℕ) × Appends old new (take k out))
+HasWrittenGenerated seed count Memory old new = Appends old new []
+HasWrittenGenerated seed count found old new = ⊥

@@ -6,4 +6,8 @@ pub mod Reported
 pub mod Accounts
 pub mod Rereading
 pub mod Whole
+pub mod Messages
+pub mod Generated
 pub mod Answers
+pub mod Stops
+pub mod Framed

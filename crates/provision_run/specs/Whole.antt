@@ -17,7 +17,7 @@ use Rattle.provision_run.specs.declared.task.Task.TheVariants.{Phases, Report, A
 use Rattle.provision_run.specs.Accounts.{account_messages, accounts_end, accounts_work, requests_messages, run_edits, run_requests}
 use Rattle.provision_run.specs.Phased.{is_phases_step, lines_messages, phase_messages, phased, phases_end, phases_way, phases_work, run_lines}
 use Rattle.provision_run.specs.Reported.{IsReportOf, report_end}
-use Rattle.provision_run.specs.Rereading.{IsMendedAnew}
+use Rattle.provision_run.specs.Rereading.{AreAccountsMendedAnew, AreRequestsReread, IsMendedAnew, IsReread}
 use Rattle.provision_run.specs.Tasks.{task_of}
 
 -- ---- by the task
@@ -57,7 +57,7 @@ way_by Accounts options facts moment t u = AccountWay (run_edits options facts m
 unfoldable pub is_step_by : Task → Options → Values → ℕ → Files → Step → Type 0
 is_step_by Phases options facts moment t step = is_phases_step options facts moment t step
 is_step_by Report options facts moment t step = ⊥
-is_step_by Accounts options facts moment t step = IsAccountStep (run_edits options facts moment t) step
+is_step_by Accounts options facts moment t step = IsAccountStep (run_edits options facts moment t) t step
 
 -- the most steps that it takes
 unfoldable pub work_by : Task → Options → Values → ℕ → Files → ℕ
@@ -98,11 +98,12 @@ IsMendedIn Phases options facts moment t steps = IsMendedBy (phases_of options) 
 IsMendedIn Report options facts moment t steps = steps ≡ []
 IsMendedIn Accounts options facts moment t steps = accounts.IsMended (run_requests options facts t) moment t steps
 
--- of a run of one phase, where the second run reads its lines anew
+-- of a run of one phase, and of one that makes accounts: the same is read of the tree that it has left, and a second run,
+-- which reads its lines there, mends it
 unfoldable pub IsMendedAnewIn : Task → Options → Values → ℕ → Files → List Step → Type 0
-IsMendedAnewIn Phases options facts moment t steps = IsMendedAnew options facts moment t steps
+IsMendedAnewIn Phases options facts moment t steps = IsReread options facts moment t steps × IsMendedAnew options facts moment t steps
 IsMendedAnewIn Report options facts moment t steps = ⊤
-IsMendedAnewIn Accounts options facts moment t steps = ⊤
+IsMendedAnewIn Accounts options facts moment t steps = AreRequestsReread options facts moment t steps × AreAccountsMendedAnew options facts moment t steps
 
 -- ---- by the options
 

@@ -7,6 +7,8 @@ ghost use Rattle.pv_steps.specs.Acting.{Acted};
 ghost use Rattle.pv_accounts_run.specs.Accounted.{accounted};
 ghost use Rattle.pv_accounts_run.specs.Carrying.{AccountWay, IsAccountStep};
 ghost use Rattle.pv_accounts_run.specs.Mended.{IsMended};
+ghost use Rattle.provision_run.specs.Framed.{AreAccountsFramed};
+ghost use Rattle.provision_run.specs.Rereading.{AreAccountsMendedAnew, AreRequestsReread};
 ghost use Rattle.provision_run.specs.Accounts.{account_messages, accounts_end, accounts_work, IsEnded, lacking_text, requests_messages, run_edits, run_requests};
 
 use crate::ending::{RunEnd, end_of};
@@ -38,10 +40,16 @@ pub(crate) fn make_accounts<T: Tree>(
         (messages.old ++ requests_messages options.entry.now facts.now (T.state tree.old)) messages.new }
     ensures acted { Acted T.Tree
         (AccountWay (run_edits options.entry.now facts.now moment (T.state tree.old)) (T.state tree.old))
-        (IsAccountStep (run_edits options.entry.now facts.now moment (T.state tree.old)))
+        (IsAccountStep (run_edits options.entry.now facts.now moment (T.state tree.old)) (T.state tree.old))
         (accounts_work options.entry.now facts.now moment (T.state tree.old))
         moment tree.old tree.new result }
     ensures mended { IsMended (run_requests options.entry.now facts.now (T.state tree.old)) moment (T.state tree.old)
+        (drop (length (T.steps tree.old)) (T.steps tree.new)) }
+    ensures reread { AreRequestsReread options.entry.now facts.now moment (T.state tree.old)
+        (drop (length (T.steps tree.old)) (T.steps tree.new)) }
+    ensures anew { AreAccountsMendedAnew options.entry.now facts.now moment (T.state tree.old)
+        (drop (length (T.steps tree.old)) (T.steps tree.new)) }
+    ensures framed { AreAccountsFramed moment (T.state tree.old)
         (drop (length (T.steps tree.old)) (T.steps tree.new)) }
 {
     // Whatever the run answers, it began with a tree.

@@ -1,14 +1,17 @@
 //! What a run says, from the words and the bytes of its input.
-ghost use Rattle.std.specs.Prelude.{◌≡◌, ◌≢◌, ◌≤◌, ◌↔◌, ◌++◌, ◌∷◌, [], None, map, string_bytes, length, IfOk, IfSome, IsErrOf, OnOk, OnErr};
+ghost use Rattle.std.specs.Prelude.{◌≡◌, ◌≢◌, ◌≤◌, ◌↔◌, ◌++◌, ◌∷◌, [], None, Some, false, true, map, string_bytes, length, IfOk, IfSome, IsErrOf, OnOk, OnErr};
 ghost use Rattle.pv_image.specs.Images.{IsImage};
 ghost use Rattle.pv_image.specs.Spelling.{text_of};
 ghost use Rattle.pv_io.specs.Faults.{HasRisen};
-ghost use Rattle.pv_words.specs.Meaning.{options_of};
+ghost use Rattle.pv_words.specs.Asked.{asked_of};
 ghost use Rattle.provision_run.specs.Words.{moment_of};
-ghost use Rattle.provision_run.specs.Answers.{HasOutput, IsAnswer, IsAnswered, IsOwn, IsRefused, message, messages_text, bad_image_text, stopped_text, outcome_of, most_bytes};
+ghost use Rattle.provision_run.specs.Answers.{HasOutput, IsAnswer, IsAnswered, IsGeneratedBy, IsOwn, reads_input, IsRefused, bad_image_text, stopped_text, outcome_of, most_bytes};
+ghost use Rattle.provision_run.specs.Generated.{IsGenerated};
+ghost use Rattle.provision_run.specs.Messages.{message, messages_text};
 ghost use Rattle.provision_run.specs.declared.answer.NoAnswer.TheVariants.{Memory, ReadFault};
 
 use crate::ending::RunEnd;
+use crate::generated::run_generated;
 use crate::message::{add_message, bad_image, print_messages, say_stopped};
 use crate::outcome::Outcome;
 use crate::run::run_on_tree;
@@ -17,7 +20,7 @@ use pv_io::{ReadAllFault, Source, read_all};
 use pv_steps::TreeFault;
 use pv_text::{Facts, Messages};
 use pv_tree::{Fused, MemTree};
-use pv_words::{Options, WordsFault, options_of};
+use pv_words::{Asked, Options, WordsFault, asked_of};
 use std::alloc::{AllocError, AllocFailed, Global};
 
 /// How a run ends, with its whole output.
@@ -214,6 +217,17 @@ fn answer_source<S: Source>(
     }
 }
 
+/// The answer to words that ask for a run over a generated tree.
+fn answer_generated(alloc: Global, seed: u64, count: u32) -> Result<Answer, AllocError>
+    ensures { IfOk result (λ answer. (answer.outcome ≡ Outcome.Done) × IsGenerated seed count answer.output.items) }
+{
+    let output = run_generated(alloc, seed, count)?;
+    Ok(Answer {
+        outcome: Outcome::Done,
+        output,
+    })
+}
+
 /// The answer to words and what a source has left.
 pub fn respond<S: Source>(
     alloc: Global,
@@ -224,13 +238,19 @@ pub fn respond<S: Source>(
     ensures output { IfOk result (λ answer. IfSome (S.left source.old)
         (λ input. HasOutput (map string_bytes words.now) clock input answer.outcome answer.output.items)) }
     ensures own { IfOk result (λ answer. IsOwn answer.outcome) }
-    ensures usage { IfOk result (λ answer. (answer.outcome ≡ Outcome.Usage) ↔ (options_of (map string_bytes words.now) ≡ None)) }
-    ensures known { IsErrOf result NoAnswer.ReadFault → options_of (map string_bytes words.now) ≢ None }
+    ensures usage { IfOk result (λ answer. (answer.outcome ≡ Outcome.Usage) ↔ (asked_of (map string_bytes words.now) ≡ None)) }
+    ensures known { IsErrOf result NoAnswer.ReadFault → asked_of (map string_bytes words.now) ≢ None }
     ensures cause { IsErrOf result NoAnswer.ReadFault → HasRisen (S.faults source.old) (S.faults source.new) }
-    ensures unread { options_of (map string_bytes words.now) ≡ None → source.new ≡ source.old }
+    ensures unread { asked_of (map string_bytes words.now) ≡ None → source.new ≡ source.old }
+
+    // Only a run of a tool reads the source; one over a generated tree says the same whatever the source.
+    ensures unasked { reads_input (asked_of (map string_bytes words.now)) ≡ false → source.new ≡ source.old }
+    ensures asked { IsErrOf result NoAnswer.ReadFault → reads_input (asked_of (map string_bytes words.now)) ≡ true }
+    ensures generated { IfOk result (λ answer. IsGeneratedBy (asked_of (map string_bytes words.now)) answer.outcome answer.output.items) }
 {
-    match options_of(alloc, words) {
-        Ok(options) => answer_source(alloc, &options, clock, source),
+    match asked_of(alloc, words) {
+        Ok(Asked::Run(options)) => answer_source(alloc, &options, clock, source),
+        Ok(Asked::Generate { seed, count }) => Ok(answer_generated(alloc, seed, count)?),
         Err(WordsFault::Usage) => Ok(one_message(alloc, Outcome::Usage, b"usage")?),
         Err(WordsFault::Memory) => Err(NoAnswer::Memory),
     }

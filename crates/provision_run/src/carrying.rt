@@ -3,8 +3,9 @@ ghost use Rattle.std.specs.Prelude.{◌≡◌, ◌++◌, drop, length, OnOk, IfO
 ghost use Rattle.pv_text.specs.Said.{SaidPart};
 ghost use Rattle.pv_steps.specs.declared.tree.TreeFault.TheVariants.{Failed};
 ghost use Rattle.pv_steps.specs.Acting.{Acted};
+ghost use Rattle.pv_create.specs.OnTheWay.{IsFramed};
 ghost use Rattle.pv_phases.specs.Phases.{HasSaidStopped, IsMendedBy, phases_of};
-ghost use Rattle.provision_run.specs.Rereading.{IsMendedAnew};
+ghost use Rattle.provision_run.specs.Rereading.{IsMendedAnew, IsReread};
 ghost use Rattle.provision_run.specs.Phased.{is_phases_step, lines_messages, phase_messages, phased, phases_end, phases_way, phases_work, run_lines};
 
 use crate::ending::{RunEnd, end_of};
@@ -43,7 +44,11 @@ pub(crate) fn carry_out<T: Tree>(
         moment tree.old tree.new result }
     ensures mended { IsMendedBy (phases_of options.entry.now) (run_lines options.entry.now facts.now (T.state tree.old)) moment (T.state tree.old)
         (drop (length (T.steps tree.old)) (T.steps tree.new)) }
+    ensures reread { IsReread options.entry.now facts.now moment (T.state tree.old)
+        (drop (length (T.steps tree.old)) (T.steps tree.new)) }
     ensures anew { IsMendedAnew options.entry.now facts.now moment (T.state tree.old)
+        (drop (length (T.steps tree.old)) (T.steps tree.new)) }
+    ensures framed { IsFramed (run_lines options.entry.now facts.now (T.state tree.old)) moment (T.state tree.old)
         (drop (length (T.steps tree.old)) (T.steps tree.new)) }
 {
     // Whatever the run answers, it began with a tree.

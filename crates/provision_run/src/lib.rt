@@ -5,6 +5,8 @@ mod accounting;
 mod answer;
 mod carrying;
 mod ending;
+mod generated;
+mod laws;
 mod message;
 mod outcome;
 mod reading;
@@ -14,6 +16,7 @@ mod task;
 mod top;
 
 pub use ending::RunEnd;
+pub use laws::{outputs_of_stopped_runs_are_mended, trees_of_stopped_runs_are_mended};
 pub use outcome::{Outcome, status};
 pub use run::run_on_tree;
 pub use top::provision;

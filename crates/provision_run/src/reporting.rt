@@ -7,8 +7,7 @@ use pv_conf::read_configuration;
 use pv_doing::Carried;
 use pv_report::{report, say_report};
 use pv_steps::Tree;
-use pv_sysusers::say_all;
-use pv_text::{Facts, Messages};
+use pv_text::{Facts, Messages, say_all};
 use pv_words::Options;
 use std::alloc::{AllocError, Global};
 

@@ -3,6 +3,7 @@ ghost use Rattle.std.specs.Prelude.{◌≡◌, drop, length, OnOk, IfOk, IsErrOf
 ghost use Rattle.pv_steps.specs.declared.tree.TreeFault.TheVariants.{Failed};
 ghost use Rattle.pv_steps.specs.Acting.{Acted};
 ghost use Rattle.provision_run.specs.Tasks.{task_of};
+ghost use Rattle.provision_run.specs.Framed.{IsFramedIn};
 ghost use Rattle.provision_run.specs.Whole.{end_by, final, final_by, HasSaidBy, HasSaidPartBy, HasSaidStoppedBy, IsMendedAnewIn, IsMendedIn, is_run_step, is_step_by, run_end, run_way, run_work, way_by, work_by};
 
 use crate::accounting::make_accounts;
@@ -44,8 +45,12 @@ pub fn run_on_tree<T: Tree>(
     // The stop law of a run of one phase, and of one that makes accounts.
     ensures mended { IsMendedIn (task_of options.entry.now) options.entry.now facts.now moment (T.state tree.old)
         (drop (length (T.steps tree.old)) (T.steps tree.new)) }
-    // The stop law of a run of one phase where the second run reads its lines anew.
+    // The stop law where the second run reads its lines anew of the tree that was left.
     ensures anew { IsMendedAnewIn (task_of options.entry.now) options.entry.now facts.now moment (T.state tree.old)
+        (drop (length (T.steps tree.old)) (T.steps tree.new)) }
+
+    // What it has left as it was at each moment, whatever it answers.
+    ensures framed { IsFramedIn (task_of options.entry.now) options.entry.now facts.now moment (T.state tree.old)
         (drop (length (T.steps tree.old)) (T.steps tree.new)) }
 {
     do_task(
@@ -82,6 +87,8 @@ fn do_task<T: Tree>(
     ensures mended { IsMendedIn task options.entry.now facts.now moment (T.state tree.old)
         (drop (length (T.steps tree.old)) (T.steps tree.new)) }
     ensures anew { IsMendedAnewIn task options.entry.now facts.now moment (T.state tree.old)
+        (drop (length (T.steps tree.old)) (T.steps tree.new)) }
+    ensures framed { IsFramedIn task options.entry.now facts.now moment (T.state tree.old)
         (drop (length (T.steps tree.old)) (T.steps tree.new)) }
 {
     match task {

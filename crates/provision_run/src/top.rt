@@ -1,8 +1,9 @@
 //! The top call: words, clock, source and sink.
-ghost use Rattle.std.specs.Prelude.{◌≡◌, ◌⊎◌, None, map, string_bytes, IfSome};
+ghost use Rattle.std.specs.Prelude.{◌≡◌, ◌⊎◌, ℕ, None, Some, map, string_bytes, IfSome};
 ghost use Rattle.pv_io.specs.Faults.{HasRisen};
-ghost use Rattle.pv_words.specs.Meaning.{options_of};
-ghost use Rattle.provision_run.specs.Answers.{HasWritten};
+ghost use Rattle.pv_words.specs.Asked.{asked_of};
+ghost use Rattle.pv_words.specs.declared.asked.Asked.TheVariants.{Generate};
+ghost use Rattle.provision_run.specs.Answers.{HasWritten, HasWrittenGenerated};
 
 use crate::answer::{NoAnswer, respond};
 use crate::outcome::Outcome;
@@ -10,7 +11,8 @@ use pv_io::{Sink, Source, write_all_of};
 use std::alloc::Global;
 
 /// Runs the program: reads an image from the source, carries out what the words ask for at the moment of the
-/// clock, and writes the messages and the image of the tree to the sink (systemd-tmpfiles(8), systemd-sysusers(8)).
+/// clock, and writes the messages and the image of the tree to the sink (systemd-tmpfiles(8), systemd-sysusers(8)). For
+/// the words `generate SEED COUNT` it runs over a generated tree in place of the source's, and writes three messages.
 pub fn provision<S: Source, K: Sink>(
     alloc: Global,
     words: &[String],
@@ -23,10 +25,15 @@ pub fn provision<S: Source, K: Sink>(
         (λ input. HasWritten (map string_bytes words.now) clock_micros input result (K.written sink.old) (K.written sink.new)) }
 
     // Usage comes exactly for words without a meaning, and then the source is not read.
-    ensures usage { result ≡ Outcome.Usage → options_of (map string_bytes words.now) ≡ None }
-    ensures known { options_of (map string_bytes words.now) ≡ None →
+    ensures usage { result ≡ Outcome.Usage → asked_of (map string_bytes words.now) ≡ None }
+    ensures known { asked_of (map string_bytes words.now) ≡ None →
         (result ≡ Outcome.Usage) ⊎ ((result ≡ Outcome.WriteFault) ⊎ (result ≡ Outcome.Memory)) }
-    ensures unread { options_of (map string_bytes words.now) ≡ None → source.new ≡ source.old }
+    ensures unread { asked_of (map string_bytes words.now) ≡ None → source.new ≡ source.old }
+
+    // Words that ask for a run over a generated tree: its messages are written, whatever the source, which is not read.
+    ensures generated { (seed count : ℕ) → asked_of (map string_bytes words.now) ≡ Some (Generate seed count) →
+        HasWrittenGenerated seed count result (K.written sink.old) (K.written sink.new) }
+    ensures unasked { (seed count : ℕ) → asked_of (map string_bytes words.now) ≡ Some (Generate seed count) → source.new ≡ source.old }
 
     // The two ends are blamed only where their counts of faults rose.
     ensures read_fault { result ≡ Outcome.ReadFault → HasRisen (S.faults source.old) (S.faults source.new) }

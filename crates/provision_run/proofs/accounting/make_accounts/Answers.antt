@@ -1,12 +1,17 @@
-use Rattle.std.proofs.Common.{List, inl, refl, subst}
+use Rattle.std.proofs.Common.{List, drop, inl, length, refl, subst}
+use Rattle.pv_accounts_run.specs.Accounted.{edits_at}
 use Rattle.pv_accounts_run.specs.Carrying.{AccountWay, IsAccountStep}
 use Rattle.pv_accounts_run.proofs.MendedLaws.{none_mended, run_mended}
 use Rattle.pv_dress.proofs.EditLaws.{same-refl}
 use Rattle.pv_requests.specs.declared.request.Request.{Request}
+use Rattle.pv_steps.specs.Runs.{Ran}
+use Rattle.pv_steps.specs.Trees.{places}
 use Rattle.pv_steps.proofs.ActingLaws.{Moves, acted_none, no_memory}
 use Rattle.provision_run.specs.Accounts.{accounts_work, account_messages, requests_messages, run_edits, run_requests}
+use Rattle.provision_run.proofs.FrameLaws.{none_stays, requests_framed}
+use Rattle.provision_run.proofs.AccountRereading.{accounts_mended_anew, no_requests_reread, requests_reread}
 use Rattle.provision_run.proofs.AccountLaws.{Finished, ended_acted, ended_end, ended_ok, ended_part, ended_said, ended_stopped}
-use Rattle.provision_run.proofs.RunLaws.{said_first}
+use Rattle.pv_text.proofs.SaidLaws.{said_first}
 use Rattle.provision_run.proofs.accounting.make_accounts.Goals as goal
 
 pub returns-in_err-read-clause-part : goal.returns-in_err-read-clause-part
@@ -18,7 +23,7 @@ returns-in_err-read-clause-acted g c =
     let moves : Moves g.T.Tree = record { stays = g.met.T.Tree.reaches_self; goes_on = g.met.T.Tree.reaches_on; never_falls = g.met.T.Tree.never_falls } in
     let t = g.T.Tree.state c.args.tree.now in
     let edits = run_edits c.args.options.now c.args.facts.now c.args.moment t in
-    acted_none g.T.Tree moves (AccountWay edits t) (IsAccountStep edits) (accounts_work c.args.options.now c.args.facts.now c.args.moment t) c.args.moment c.args.tree.now
+    acted_none g.T.Tree moves (AccountWay edits t) (IsAccountStep edits t) (accounts_work c.args.options.now c.args.facts.now c.args.moment t) c.args.moment c.args.tree.now
     c.from_residual.result (no_memory c.from_residual.result c.from_residual.ensures.1) (inl (same-refl t))
 
 pub returns-in_err-read-clause-mended : goal.returns-in_err-read-clause-mended
@@ -165,3 +170,68 @@ returns-clause-mended g c =
     }) in
     run_mended (run_requests c.args.options.now c.args.facts.now (tree.state a)) c.args.moment c.ranges.moment.fits (run_edits c.args.options.now c.args.facts.now c.args.moment (tree.state a)) _ (tree.state a) (tree.steps a) (tree.state b) (tree.steps b)
     c.look-root.ensures.tree refl finished.acted.ran
+
+pub returns-in_err-read-clause-reread : goal.returns-in_err-read-clause-reread
+returns-in_err-read-clause-reread g c = no_requests_reread c.args.options.now c.args.facts.now c.args.moment (g.T.Tree.state c.args.tree.now) (g.T.Tree.steps c.args.tree.now)
+
+pub returns-in_err-read-clause-anew : goal.returns-in_err-read-clause-anew
+returns-in_err-read-clause-anew g c =
+    let t = g.T.Tree.state c.args.tree.now in
+    let told = g.T.Tree.steps c.args.tree.now in
+    accounts_mended_anew c.args.options.now c.args.facts.now c.args.moment t (drop (length told) told) (no_requests_reread c.args.options.now c.args.facts.now c.args.moment t told)
+    (none_mended (run_requests c.args.options.now c.args.facts.now t) c.args.moment c.ranges.moment.fits t told c.look-root.ensures.tree)
+
+pub returns-clause-reread : goal.returns-clause-reread
+returns-clause-reread g c =
+    let tree = g.T.Tree in
+    let a = c.args.tree.now in
+    let b = c.accounts_run-answer.new.tree in
+    let finished : Finished tree (run_requests c.args.options.now c.args.facts.now (tree.state a)) c.args.moment a b c.read_requests.new.messages c.accounts_run-answer.new.messages c.accounts_run-answer.result =
+    subst (λ (rs : List Request). Finished tree rs c.args.moment a b c.read_requests.new.messages c.accounts_run-answer.new.messages c.accounts_run-answer.result) c.in_ok-read.ensures.lines (record {
+      ok = c.accounts_run-answer.ensures.ok;
+      said = c.accounts_run-answer.ensures.said;
+      carried = c.accounts_run-answer.ensures.carried;
+      enough = c.accounts_run-answer.ensures.enough;
+      lacking = c.accounts_run-answer.ensures.lacking;
+      lacking_said = c.accounts_run-answer.ensures.lacking_said;
+      lacking_idle = c.accounts_run-answer.ensures.lacking_idle;
+      part = c.accounts_run-answer.ensures.part;
+      acted = c.accounts_run-answer.ensures.acted;
+    }) in
+    requests_reread c.args.options.now c.args.facts.now c.args.moment (tree.state a) c.ranges.moment.fits c.look-root.ensures.tree (tree.steps a) (tree.state b) (tree.steps b) finished.acted.ran
+
+pub returns-clause-anew : goal.returns-clause-anew
+returns-clause-anew g c =
+    let tree = g.T.Tree in
+    let a = c.args.tree.now in
+    let b = c.accounts_run-answer.new.tree in
+    let finished : Finished tree (run_requests c.args.options.now c.args.facts.now (tree.state a)) c.args.moment a b c.read_requests.new.messages c.accounts_run-answer.new.messages c.accounts_run-answer.result =
+    subst (λ (rs : List Request). Finished tree rs c.args.moment a b c.read_requests.new.messages c.accounts_run-answer.new.messages c.accounts_run-answer.result) c.in_ok-read.ensures.lines (record {
+      ok = c.accounts_run-answer.ensures.ok;
+      said = c.accounts_run-answer.ensures.said;
+      carried = c.accounts_run-answer.ensures.carried;
+      enough = c.accounts_run-answer.ensures.enough;
+      lacking = c.accounts_run-answer.ensures.lacking;
+      lacking_said = c.accounts_run-answer.ensures.lacking_said;
+      lacking_idle = c.accounts_run-answer.ensures.lacking_idle;
+      part = c.accounts_run-answer.ensures.part;
+      acted = c.accounts_run-answer.ensures.acted;
+    }) in
+    accounts_mended_anew c.args.options.now c.args.facts.now c.args.moment (tree.state a) (drop (length (tree.steps a)) (tree.steps b))
+    (requests_reread c.args.options.now c.args.facts.now c.args.moment (tree.state a) c.ranges.moment.fits c.look-root.ensures.tree (tree.steps a) (tree.state b) (tree.steps b) finished.acted.ran)
+    (run_mended (run_requests c.args.options.now c.args.facts.now (tree.state a)) c.args.moment c.ranges.moment.fits (run_edits c.args.options.now c.args.facts.now c.args.moment (tree.state a)) _ (tree.state a) (tree.steps a) (tree.state b) (tree.steps b)
+    c.look-root.ensures.tree refl finished.acted.ran)
+
+pub returns-in_err-read-clause-framed : goal.returns-in_err-read-clause-framed
+returns-in_err-read-clause-framed g c = λ n q plain off far. none_stays c.args.moment (g.T.Tree.state c.args.tree.now) (g.T.Tree.steps c.args.tree.now) n q
+
+pub returns-clause-framed : goal.returns-clause-framed
+returns-clause-framed g c =
+    let t = g.T.Tree.state c.args.tree.now in
+    let now = c.args.moment in
+    let requests = run_requests c.args.options.now c.args.facts.now t in
+    let h = g.T.Tree.steps c.args.tree.now in
+    let u = g.T.Tree.state c.accounts_run-answer.new.tree in
+    let k = g.T.Tree.steps c.accounts_run-answer.new.tree in
+    requests_framed requests now (IsAccountStep (edits_at requests now (places t)) t) t h u k c.look-root.ensures.tree
+    (subst (λ (rs : List Request). Ran (AccountWay (edits_at rs now (places t)) t) (IsAccountStep (edits_at rs now (places t)) t) now t h u k) c.in_ok-read.ensures.lines c.accounts_run-answer.ensures.acted.ran)

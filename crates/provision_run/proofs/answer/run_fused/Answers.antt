@@ -27,5 +27,5 @@ returns c =
     c.args.limit c.run_on_tree.new.messages c.requires.limit
     (subst (λ f. (length c.run_on_tree.new.tree.inner.steps - length c.new-fused.result.inner.steps) + refused {A = RunEnd} (Err f) ≤ run_work c.args.options.now c.args.image.facts c.args.moment c.new-fused.result.inner.files) c.in-Err-Failed.field-0-is c.in-Err-Failed.ensures.acted.bound)
     (subst (λ (old : List (List ℕ)). HasSaidStoppedBy (task_of c.args.options.now) c.args.options.now c.args.image.facts c.args.moment c.new-fused.result.inner.files old c.run_on_tree.new.messages) c.new-messages.ensures (c.in-Err-Failed.ensures.read (ap Err c.in-Err-Failed.field-0-is)))
-    c.in-Err-Failed.ensures.mended c.in-Err-Failed.ensures.anew
+    c.in-Err-Failed.ensures.mended c.in-Err-Failed.ensures.anew c.in-Err-Failed.ensures.framed
     c.stop.result c.stop.ensures.outcome (always c.stop.result (rw c.inner-in-Err-Failed.ensures (burnt_out _ _ _ _ (rw (c.new-fused.ensures, c.requires.fresh) at c.in-Err-Failed.ensures.acted.reaches.1) (rw c.new-fused.ensures at (c.in-Err-Failed.ensures.acted.cause (ap Err c.in-Err-Failed.field-0-is)))))) c.stop.ensures.text c.stop.ensures.again)

@@ -7,12 +7,15 @@ use Rattle.pv_steps.proofs.ActingLaws.{Moves, no_memory, acted_ended, acted_none
 use Rattle.pv_table.specs.Created.{after_each, said_of_each, one_is_refused, taken_by_each}
 use Rattle.pv_text.specs.Said.{SaidPart}
 use Rattle.pv_phases.specs.Phases.{HasSaidStopped, IsMendedBy, phases_course, phases_of}
+use Rattle.pv_create.specs.OnTheWay.{IsFramed}
 use Rattle.pv_phases.specs.declared.phase.Phase.{Phase}
 use Rattle.provision_run.specs.Ending.{end_of, is_uncarried}
 use Rattle.provision_run.specs.Phased.{run_lines, phases_way, is_phases_step, lines_messages, phase_messages, phases_work}
 use Rattle.pv_phases.proofs.PhaseLaws.{both, failed_before, none_mended}
-use Rattle.provision_run.proofs.RereadingLaws.{mended_anew, nothing_reread, run_anew}
-use Rattle.provision_run.proofs.RunLaws.{said_first, said_then, way_start}
+use Rattle.provision_run.proofs.FrameLaws.{none_stays}
+use Rattle.provision_run.proofs.RereadingLaws.{mended_anew, nothing_reread, run_anew, run_reread}
+use Rattle.provision_run.proofs.RunLaws.{way_start}
+use Rattle.pv_text.proofs.SaidLaws.{said_first, said_then}
 use Rattle.provision_run.proofs.carrying.carry_out.Goals as goal
 
 pub returns-in_err-read-clause-part : goal.returns-in_err-read-clause-part
@@ -153,3 +156,33 @@ pub returns-clause-anew : goal.returns-clause-anew
 returns-clause-anew g c =
     run_anew c.args.options.now c.args.facts.now c.args.moment (g.T.Tree.state c.args.tree.now) c.ranges.moment.fits c.in_ok-read.read.table c.in_ok-read.ensures.lines c.deref.result.now (c.deref.ensures.value ∙ c.in_ok-phases.ensures)
     c.in_ok-read.ensures.whole c.look-root.ensures.tree (g.T.Tree.steps c.args.tree.now) _ (g.T.Tree.steps c.run_phases.new.tree) c.run_phases.ensures.acted.ran c.run_phases.ensures.mended
+
+pub returns-in_err-read-clause-reread : goal.returns-in_err-read-clause-reread
+returns-in_err-read-clause-reread g c = nothing_reread c.args.options.now c.args.facts.now c.args.moment (g.T.Tree.state c.args.tree.now) (g.T.Tree.steps c.args.tree.now)
+
+pub returns-in_err-phases-clause-reread : goal.returns-in_err-phases-clause-reread
+returns-in_err-phases-clause-reread g c = nothing_reread c.args.options.now c.args.facts.now c.args.moment (g.T.Tree.state c.args.tree.now) (g.T.Tree.steps c.args.tree.now)
+
+pub returns-in_err-carried-clause-reread : goal.returns-in_err-carried-clause-reread
+returns-in_err-carried-clause-reread g c =
+    run_reread c.args.options.now c.args.facts.now c.args.moment (g.T.Tree.state c.args.tree.now) c.ranges.moment.fits c.in_ok-read.read.table c.in_ok-read.ensures.lines c.deref.result.now (c.deref.ensures.value ∙ c.in_ok-phases.ensures)
+    c.in_ok-read.ensures.whole c.look-root.ensures.tree (g.T.Tree.steps c.args.tree.now) _ (g.T.Tree.steps c.run_phases.new.tree) c.run_phases.ensures.acted.ran
+
+pub returns-clause-reread : goal.returns-clause-reread
+returns-clause-reread g c =
+    run_reread c.args.options.now c.args.facts.now c.args.moment (g.T.Tree.state c.args.tree.now) c.ranges.moment.fits c.in_ok-read.read.table c.in_ok-read.ensures.lines c.deref.result.now (c.deref.ensures.value ∙ c.in_ok-phases.ensures)
+    c.in_ok-read.ensures.whole c.look-root.ensures.tree (g.T.Tree.steps c.args.tree.now) _ (g.T.Tree.steps c.run_phases.new.tree) c.run_phases.ensures.acted.ran
+
+pub returns-in_err-read-clause-framed : goal.returns-in_err-read-clause-framed
+returns-in_err-read-clause-framed g c = λ n q plain free. none_stays c.args.moment (g.T.Tree.state c.args.tree.now) (g.T.Tree.steps c.args.tree.now) n q
+
+pub returns-in_err-phases-clause-framed : goal.returns-in_err-phases-clause-framed
+returns-in_err-phases-clause-framed g c = λ n q plain free. none_stays c.args.moment (g.T.Tree.state c.args.tree.now) (g.T.Tree.steps c.args.tree.now) n q
+
+pub returns-in_err-carried-clause-framed : goal.returns-in_err-carried-clause-framed
+returns-in_err-carried-clause-framed g c =
+    subst (λ (lines : List Line). IsFramed lines c.args.moment (g.T.Tree.state c.args.tree.now) (drop (length (g.T.Tree.steps c.args.tree.now)) (g.T.Tree.steps c.run_phases.new.tree))) c.in_ok-read.ensures.lines c.run_phases.ensures.framed
+
+pub returns-clause-framed : goal.returns-clause-framed
+returns-clause-framed g c =
+    subst (λ (lines : List Line). IsFramed lines c.args.moment (g.T.Tree.state c.args.tree.now) (drop (length (g.T.Tree.steps c.args.tree.now)) (g.T.Tree.steps c.run_phases.new.tree))) c.in_ok-read.ensures.lines c.run_phases.ensures.framed

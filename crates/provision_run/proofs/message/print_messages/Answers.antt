@@ -1,5 +1,5 @@
 use Rattle.std.proofs.Common.{◌<◌, ◌++◌, length, arith, ap, ◌∙◌}
-use Rattle.provision_run.specs.Answers.{message_at}
+use Rattle.provision_run.specs.Messages.{message_at}
 use Rattle.provision_run.proofs.MessageLaws.{messages_more}
 use Rattle.provision_run.proofs.message.print_messages.Goals as goal
 

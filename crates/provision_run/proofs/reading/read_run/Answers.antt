@@ -5,7 +5,8 @@ use Rattle.pv_lines.specs.declared.line.Line.{Line}
 use Rattle.pv_lines.specs.Lines.{IsLine}
 use Rattle.pv_conf.specs.Known.{configured}
 use Rattle.provision_run.specs.Phased.{listed_messages}
-use Rattle.provision_run.proofs.RunLaws.{active_all, said_first, said_then}
+use Rattle.pv_text.proofs.SaidLaws.{said_first, said_then}
+use Rattle.provision_run.proofs.RunLaws.{active_all}
 use Rattle.provision_run.proofs.reading.read_run.Goals as goal
 
 pub returns-in_err-read-clause-part : goal.returns-in_err-read-clause-part

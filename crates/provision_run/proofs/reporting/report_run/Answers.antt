@@ -2,7 +2,7 @@ use Rattle.std.proofs.Common.{◌≡◌, ◌++◌, ◌∙◌, ℕ, List, ap, inl
 use Rattle.pv_conf.specs.Known.{configured}
 use Rattle.pv_report.specs.Said.{report_messages}
 use Rattle.provision_run.proofs.ReportLaws.{few_lines, reported}
-use Rattle.provision_run.proofs.RunLaws.{said_then, said_whole}
+use Rattle.pv_text.proofs.SaidLaws.{said_then, said_whole}
 use Rattle.provision_run.proofs.reporting.report_run.Goals as goal
 
 pub report-requires-clause-few : goal.report-requires-clause-few

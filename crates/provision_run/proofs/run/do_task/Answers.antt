@@ -1,6 +1,6 @@
 use Rattle.std.proofs.Common.{drop, length, refl, sym}
 use Rattle.pv_steps.proofs.ActingLaws.{Moves, no_memory}
-use Rattle.provision_run.proofs.TaskLaws.{accounts_acted, accounts_anew, accounts_ended, accounts_left, accounts_mended, accounts_part, accounts_said, accounts_stopped, phases_acted, phases_anew, phases_ended, phases_left, phases_mended, phases_part, phases_said, phases_stopped, report_acted, report_anew, report_ended, report_left, report_mended, report_part, report_said}
+use Rattle.provision_run.proofs.TaskLaws.{accounts_acted, accounts_anew, accounts_ended, accounts_framed, accounts_left, accounts_mended, accounts_part, accounts_said, accounts_stopped, phases_acted, phases_anew, phases_ended, phases_framed, phases_left, phases_mended, phases_part, phases_said, phases_stopped, report_acted, report_anew, report_ended, report_framed, report_left, report_mended, report_part, report_said}
 use Rattle.provision_run.proofs.run.do_task.Goals as goal
 
 pub returns-in-Phases-clause-ok : goal.returns-in-Phases-clause-ok
@@ -33,7 +33,11 @@ returns-in-Phases-clause-mended g c =
 
 pub returns-in-Phases-clause-anew : goal.returns-in-Phases-clause-anew
 returns-in-Phases-clause-anew g c =
-    phases_anew c.args.options.now c.args.facts.now c.args.moment (g.T.Tree.state c.args.tree.now) c.args.task (sym c.in-Phases.is) (drop (length (g.T.Tree.steps c.args.tree.now)) (g.T.Tree.steps c.carry_out.new.tree)) c.carry_out.ensures.anew
+    phases_anew c.args.options.now c.args.facts.now c.args.moment (g.T.Tree.state c.args.tree.now) c.args.task (sym c.in-Phases.is) (drop (length (g.T.Tree.steps c.args.tree.now)) (g.T.Tree.steps c.carry_out.new.tree)) c.carry_out.ensures.reread c.carry_out.ensures.anew
+
+pub returns-in-Phases-clause-framed : goal.returns-in-Phases-clause-framed
+returns-in-Phases-clause-framed g c =
+    phases_framed c.args.options.now c.args.facts.now c.args.moment (g.T.Tree.state c.args.tree.now) c.args.task (sym c.in-Phases.is) (drop (length (g.T.Tree.steps c.args.tree.now)) (g.T.Tree.steps c.carry_out.new.tree)) c.carry_out.ensures.framed
 
 pub returns-in-Accounts-clause-ok : goal.returns-in-Accounts-clause-ok
 returns-in-Accounts-clause-ok g c =
@@ -65,7 +69,11 @@ returns-in-Accounts-clause-mended g c =
 
 pub returns-in-Accounts-clause-anew : goal.returns-in-Accounts-clause-anew
 returns-in-Accounts-clause-anew g c =
-    accounts_anew c.args.options.now c.args.facts.now c.args.moment (g.T.Tree.state c.args.tree.now) c.args.task (sym c.in-Accounts.is) (drop (length (g.T.Tree.steps c.args.tree.now)) (g.T.Tree.steps c.make_accounts.new.tree))
+    accounts_anew c.args.options.now c.args.facts.now c.args.moment (g.T.Tree.state c.args.tree.now) c.args.task (sym c.in-Accounts.is) (drop (length (g.T.Tree.steps c.args.tree.now)) (g.T.Tree.steps c.make_accounts.new.tree)) c.make_accounts.ensures.reread c.make_accounts.ensures.anew
+
+pub returns-in-Accounts-clause-framed : goal.returns-in-Accounts-clause-framed
+returns-in-Accounts-clause-framed g c =
+    accounts_framed c.args.options.now c.args.facts.now c.args.moment (g.T.Tree.state c.args.tree.now) c.args.task (sym c.in-Accounts.is) (drop (length (g.T.Tree.steps c.args.tree.now)) (g.T.Tree.steps c.make_accounts.new.tree)) c.make_accounts.ensures.framed
 
 pub returns-in_err-report_run-in-Report-clause-part : goal.returns-in_err-report_run-in-Report-clause-part
 returns-in_err-report_run-in-Report-clause-part g c =
@@ -83,6 +91,10 @@ returns-in_err-report_run-in-Report-clause-mended g c =
 pub returns-in_err-report_run-in-Report-clause-anew : goal.returns-in_err-report_run-in-Report-clause-anew
 returns-in_err-report_run-in-Report-clause-anew g c =
     report_anew c.args.options.now c.args.facts.now c.args.moment (g.T.Tree.state c.args.tree.now) c.args.task (sym c.in-Report.is) (drop (length (g.T.Tree.steps c.args.tree.now)) (g.T.Tree.steps c.args.tree.now))
+
+pub returns-in_err-report_run-in-Report-clause-framed : goal.returns-in_err-report_run-in-Report-clause-framed
+returns-in_err-report_run-in-Report-clause-framed g c =
+    report_framed c.args.options.now c.args.facts.now c.args.moment (g.T.Tree.state c.args.tree.now) c.args.task (sym c.in-Report.is) (g.T.Tree.steps c.args.tree.now)
 
 pub returns-in_ok-report_run-in-Report-clause-ok : goal.returns-in_ok-report_run-in-Report-clause-ok
 returns-in_ok-report_run-in-Report-clause-ok g c =
@@ -112,3 +124,7 @@ returns-in_ok-report_run-in-Report-clause-mended g c =
 pub returns-in_ok-report_run-in-Report-clause-anew : goal.returns-in_ok-report_run-in-Report-clause-anew
 returns-in_ok-report_run-in-Report-clause-anew g c =
     report_anew c.args.options.now c.args.facts.now c.args.moment (g.T.Tree.state c.args.tree.now) c.args.task (sym c.in-Report.is) (drop (length (g.T.Tree.steps c.args.tree.now)) (g.T.Tree.steps c.args.tree.now))
+
+pub returns-in_ok-report_run-in-Report-clause-framed : goal.returns-in_ok-report_run-in-Report-clause-framed
+returns-in_ok-report_run-in-Report-clause-framed g c =
+    report_framed c.args.options.now c.args.facts.now c.args.moment (g.T.Tree.state c.args.tree.now) c.args.task (sym c.in-Report.is) (g.T.Tree.steps c.args.tree.now)

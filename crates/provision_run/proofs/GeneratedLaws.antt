@@ -1,0 +1,56 @@
+-- Laws of a run over a generated tree: the lines that are read, and the three messages.
+use Rattle.std.proofs.Common.{◌≡◌, ◌↔◌, ◌∙◌, ℕ, List, [], ◌∷◌, ◌++◌, length, ap, sym, append_assoc, append-nil}
+use Rattle.std.specs.FinMap as fin
+use Rattle.pv_conf.specs.Known.{configured}
+use Rattle.pv_lines.specs.declared.line.Line.{Line}
+use Rattle.pv_report.specs.Reporting.{ListsOverlaps, ListsReasons}
+use Rattle.pv_report.specs.Said.{verdict}
+use Rattle.pv_report.specs.declared.listing.Report.{Report}
+use Rattle.pv_steps.specs.Trees.{Files}
+use Rattle.pv_table.specs.Repeatable.{IsRepeatable}
+use Rattle.pv_text.specs.Facts.{Values}
+use Rattle.pv_words.specs.declared.options.Options.{Options}
+use Rattle.provision_run.specs.Generated.{IsToldOf, create_alone, created, created_text, generated_moment, generated_text, lines_in, no_facts, overlaps_text}
+use Rattle.provision_run.specs.Messages.{message, messages_text}
+use Rattle.provision_run.specs.Tasks.{task_of}
+use Rattle.provision_run.specs.Whole.{HasSaidBy, final, read_messages}
+
+-- the lines that are read without facts and file words
+pub read_lines : (t : Files) (facts : Values) (words : List (List ℕ)) (lines : List Line) → lines ≡ (configured t facts words).lines → facts ≡ no_facts → words ≡ [] → lines ≡ lines_in t
+read_lines t facts words lines read known none =
+    read ∙ ap (λ (f : Values). (configured t f words).lines) known ∙ ap (λ (w : List (List ℕ)). (configured t no_facts w).lines) none
+
+-- the tree that is left
+pub left_by : (t u : Files) (options : Options) (facts : Values) → u ≡ final options facts generated_moment t → options ≡ create_alone → facts ≡ no_facts → u ≡ created t
+left_by t u options facts left is known =
+    left ∙ ap (λ (o : Options). final o facts generated_moment t) is ∙ ap (λ (f : Values). final create_alone f generated_moment t) known
+
+-- three messages, one after the other
+three_messages : (a b c one two three : List ℕ) → one ≡ [] ++ message a → two ≡ one ++ message b → three ≡ two ++ message c → three ≡ messages_text (a ∷ b ∷ c ∷ [])
+three_messages a b c one two three first second third =
+    third ∙ ap (λ (o : List ℕ). o ++ message c) (second ∙ ap (λ (o : List ℕ). o ++ message b) first)
+    ∙ append_assoc (message a) (message b) (message c)
+    ∙ ap (λ (o : List ℕ). message a ++ (message b ++ o)) (sym (append-nil (message c)))
+
+-- what they tell
+pub told : (lines : ℕ) (t u : Files) (before after count : ℕ) (messages : List (List ℕ)) (report : Report) (first second third one two three : List ℕ)
+    → before ≡ fin.len t → after ≡ fin.len u → u ≡ created t → count ≡ length messages
+    → HasSaidBy (task_of create_alone) create_alone no_facts generated_moment t [] messages
+    → ListsOverlaps (lines_in t) report.pairs → ListsReasons (lines_in t) report.unrepeatable → (report.unrepeatable ≡ []) ↔ IsRepeatable (lines_in t)
+    → first ≡ generated_text lines before → second ≡ created_text after count → third ≡ overlaps_text (length report.pairs) (verdict report.unrepeatable)
+    → one ≡ [] ++ message first → two ≡ one ++ message second → three ≡ two ++ message third
+    → IsToldOf lines t three
+told lines t u before after count messages report first second third one two three nodes left run many said overlaps reasons verdict_is a b c add_a add_b add_c = record {
+  said = said.0;
+  is_said = said.1.0;
+  report = report;
+  overlaps = overlaps;
+  reasons = reasons;
+  verdict_is = verdict_is;
+  text = three_messages first second third one two three add_a add_b add_c
+      ∙ ap (λ (x : List ℕ). messages_text (x ∷ second ∷ third ∷ [])) (a ∙ ap (generated_text lines) nodes)
+      ∙ ap (λ (x : List ℕ). messages_text (generated_text lines (fin.len t) ∷ x ∷ third ∷ []))
+      (b ∙ ap (λ (n : ℕ). created_text n count) (left ∙ ap (λ (f : Files). fin.len f) run)
+      ∙ ap (created_text (fin.len (created t))) (many ∙ ap (λ (x : List (List ℕ)). length x) said.1.1))
+      ∙ ap (λ (x : List ℕ). messages_text (generated_text lines (fin.len t) ∷ created_text (fin.len (created t)) (length (read_messages create_alone no_facts t ++ said.0)) ∷ x ∷ [])) c;
+}

@@ -1,0 +1,269 @@
+-- Runs that were stopped, one or more, each over what the last one left, are mended by a whole run.
+use Rattle.std.specs.Prelude.{◌≡◌, ℕ, List, [], ◌∷◌, length, take, Option}
+use Rattle.std.proofs.Common.{refl, sym, ap, subst, ◌∙◌}
+use Rattle.std.proofs.Math.Seq.{take-length}
+use Rattle.pv_accounts_run.specs.Accounted.{accounted, day_of}
+use Rattle.pv_accounts_run.specs.Mended.{EndAlike}
+use Rattle.pv_image.specs.Images.{IsImage}
+use Rattle.pv_image.proofs.ImageLaws.{one_image}
+use Rattle.pv_laws.proofs.Moments.{quiet_same}
+use Rattle.pv_table.proofs.ListedLaws.{all_map}
+use Rattle.pv_lines.specs.declared.line.Line.{Line}
+use Rattle.pv_phases.specs.declared.phase.Phase.{Phase}
+use Rattle.pv_phases.specs.declared.phase.Phase.TheVariants.{Remove, Clean, Create, Purge}
+use Rattle.pv_steps.specs.declared.step.Step.{Step}
+use Rattle.pv_steps.specs.Runs.{after_all}
+use Rattle.pv_steps.specs.Same.{Same}
+use Rattle.pv_steps.specs.Trees.{Files}
+use Rattle.pv_table.specs.declared.reason.Reason.TheVariants as reason
+use Rattle.pv_table.specs.Repeatable.{HasReason, IsRepeatable}
+use Rattle.pv_text.specs.Facts.{Values}
+use Rattle.pv_words.specs.declared.asked.Asked.{Asked}
+use Rattle.pv_words.specs.declared.options.Options.{Options}
+use Rattle.provision_run.specs.declared.ending.RunEnd.{RunEnd}
+use Rattle.provision_run.specs.declared.ending.RunEnd.TheVariants as end
+use Rattle.provision_run.specs.declared.outcome.Outcome.TheVariants.{Stopped}
+use Rattle.provision_run.specs.declared.task.Task.{Task}
+use Rattle.provision_run.specs.declared.task.Task.TheVariants.{Phases, Report, Accounts}
+use Rattle.provision_run.specs.Accounts.{run_requests}
+use Rattle.provision_run.specs.Answers.{HasOutputBy, IsAnswer, IsAnswered, IsRun, IsStopped, IsWhole, outcome_of}
+use Rattle.provision_run.specs.Phased.{phased, run_lines}
+use Rattle.provision_run.specs.Rereading.{AreAccountsMendedAnew, AreRequestsReread, ArePlain, ArePlainRequests, AsksFor, IsMendedAnew, IsReread, LeavesInput, MayMend}
+use Rattle.provision_run.specs.Stops.{AreImages, EndAlikeAfter, HasEndedOver, HasStopped, HasStoppedOver, HaveStopped, HaveStoppedOver, IsCalm, IsCalmOver, MayRepeat, unlimited}
+use Rattle.provision_run.specs.Tasks.{task_of}
+use Rattle.provision_run.specs.Whole.{final, final_by, IsMendedAnewIn}
+use Rattle.provision_run.specs.Words.{moment_of}
+use Rattle.provision_run.proofs.RereadingLaws.{lines_reread}
+
+-- none of some steps are taken
+none_done : (t : Files) (steps : List Step) (now : ℕ) → after_all t (take 0 steps) now ≡ t
+none_done t [] now = refl
+none_done t (step ∷ steps) now = refl
+
+-- ---- phases, over trees
+
+module _ (options : Options) (facts : Values) where
+  -- what lines may not change stays
+  input_of : (phase : Phase) (t : Files) → MayRepeat phase options facts t → LeavesInput options facts t
+  input_of Create t may = λ i. may i reason.Input
+  input_of Remove t may = may
+  input_of Purge t may = may
+  input_of Clean t may = absurd may
+
+  -- what is asked of the first tree holds where the same lines are read
+  may_as : (phase : Phase) (t u : Files) → run_lines options facts u ≡ run_lines options facts t → MayRepeat phase options facts t → MayRepeat phase options facts u
+  may_as Create t u same may = subst IsRepeatable (sym same) may
+  may_as Remove t u same may = subst (λ (lines : List Line). (i : ℕ) → HasReason lines i reason.Input → ⊥) (sym same) may
+  may_as Purge t u same may = subst (λ (lines : List Line). (i : ℕ) → HasReason lines i reason.Input → ⊥) (sym same) may
+  may_as Clean t u same may = absurd may
+
+  -- what the law for one stop asks
+  may_mend : (phase : Phase) → AsksFor options phase → (moment later : ℕ) (t u : Files) → MayRepeat phase options facts t → IsCalm options facts t → IsCalm options facts u
+      → MayMend phase options facts moment t later u
+  may_mend Create alone moment later t u may calm still = (
+    may,
+    (
+      quiet_same (run_lines options facts t) (calm alone).0 moment t t (λ q. refl) (calm alone).1,
+      quiet_same (run_lines options facts u) (still alone).0 later u u (λ q. refl) (still alone).1,
+    ),
+  )
+  may_mend Remove alone moment later t u may calm still = may
+  may_mend Purge alone moment later t u may calm still = may
+  may_mend Clean alone moment later t u may calm still = absurd may
+
+  module _ (phase : Phase) (alone : AsksFor options phase) (plain : ArePlain options) (is : task_of options ≡ Phases) where
+    module _ (moment : ℕ) (t v : Files) (may : MayRepeat phase options facts t) (stop : HasStopped options facts moment t v) where
+      told : IsReread options facts moment t stop.steps × IsMendedAnew options facts moment t stop.steps
+      unfolding IsMendedAnewIn
+      told = subst (λ (task : Task). IsMendedAnewIn task options facts moment t stop.steps) is stop.anew
+
+      lines_kept : run_lines options facts v ≡ run_lines options facts t
+      lines_kept =
+          ap (λ (w : Files). run_lines options facts w) stop.left
+          ∙ lines_reread options facts t (after_all t (take stop.count stop.steps) moment) (told.0 stop.count phase alone plain (input_of phase t may))
+
+      one_mended : IsCalm options facts t → IsCalm options facts v → (later : ℕ) → Same (phased options facts later v) (phased options facts moment t)
+      one_mended calm still later =
+          subst (λ (w : Files). Same (phased options facts later w) (phased options facts moment t)) (sym stop.left)
+          (told.1 stop.count later phase alone plain
+          (may_mend phase alone moment later t (after_all t (take stop.count stop.steps) moment) may calm (subst (IsCalm options facts) stop.left still)))
+
+      -- a run needs no moment
+      any_moment : IsCalm options facts t → (first : ℕ) → Same (phased options facts first t) (phased options facts moment t)
+      any_moment calm first =
+          let none = none_done t stop.steps moment in
+          subst (λ (w : Files). Same (phased options facts first w) (phased options facts moment t)) none
+          (told.1 0 first phase alone plain (may_mend phase alone moment first t (after_all t (take 0 stop.steps) moment) may calm (subst (IsCalm options facts) (sym none) calm)))
+
+    pub phases_mended : (moments : List ℕ) (moment first later : ℕ) (t u : Files) → MayRepeat phase options facts t → HaveStopped options facts (moment ∷ moments) t u → IsCalm options facts u
+        → Same (phased options facts later u) (phased options facts first t)
+    phases_mended [] moment first later t u may (calm, (v, (stop, is_v))) still =
+        subst (λ (w : Files). Same (phased options facts later w) (phased options facts first t)) (sym is_v) (λ q bare.
+        one_mended moment t v may stop calm (subst (IsCalm options facts) is_v still) later q bare ∙ sym (any_moment moment t v may stop calm first q bare))
+    phases_mended (next ∷ moments) moment first later t u may (calm, (v, (stop, more))) still = λ q bare.
+        phases_mended moments next next later v u (may_as phase t v (lines_kept moment t v may stop) may) more still q bare
+        ∙ one_mended moment t v may stop calm more.0 next q bare ∙ sym (any_moment moment t v may stop calm first q bare)
+
+-- ---- accounts, over trees
+
+module _ (options : Options) (facts : Values) (plain : ArePlainRequests options) (is : task_of options ≡ Accounts) where
+  -- what a run leaves that reads its lines of the tree
+  abbrev left_at : ℕ → Files → Files
+  left_at moment t = accounted (run_requests options facts t) moment t
+
+  module _ (moment : ℕ) (t v : Files) (stop : HasStopped options facts moment t v) where
+    ends_told : AreRequestsReread options facts moment t stop.steps × AreAccountsMendedAnew options facts moment t stop.steps
+    unfolding IsMendedAnewIn
+    ends_told = subst (λ (task : Task). IsMendedAnewIn task options facts moment t stop.steps) is stop.anew
+
+    one_alike : (later : ℕ) → EndAlike moment later (left_at moment t) (left_at later v)
+    one_alike later = subst (λ (w : Files). EndAlike moment later (left_at moment t) (left_at later w)) (sym stop.left) (ends_told.1 stop.count later plain)
+
+    none_alike : (first : ℕ) → EndAlike moment first (left_at moment t) (left_at first t)
+    none_alike first = subst (λ (w : Files). EndAlike moment first (left_at moment t) (left_at first w)) (none_done t stop.steps moment) (ends_told.1 0 first plain)
+
+  pub accounts_alike : (moments : List ℕ) (moment first later : ℕ) (t u : Files) → HaveStopped options facts (moment ∷ moments) t u
+      → EndAlikeAfter first (later ∷ moment ∷ moments) (left_at first t) (left_at later u)
+  accounts_alike [] moment first later t u (calm, (v, (stop, is_v))) =
+      let one = one_alike moment t v stop later in
+      let none = none_alike moment t v stop first in
+      subst (λ (w : Files). EndAlikeAfter first (later ∷ moment ∷ []) (left_at first t) (left_at later w)) (sym is_v) (record {
+        group = one.group ∙ sym none.group;
+        gshadow = one.gshadow ∙ sym none.gshadow;
+        passwd = one.passwd ∙ sym none.passwd;
+        same = λ days q bare. one.same (days.0 ∙ sym days.1.0) q bare ∙ sym (none.same (sym days.1.0) q bare);
+      })
+  accounts_alike (next ∷ moments) moment first later t u (calm, (v, (stop, more))) =
+      let rest = accounts_alike moments next next later v u more in
+      let one = one_alike moment t v stop next in
+      let none = none_alike moment t v stop first in
+      record {
+        group = rest.group ∙ one.group ∙ sym none.group;
+        gshadow = rest.gshadow ∙ one.gshadow ∙ sym none.gshadow;
+        passwd = rest.passwd ∙ one.passwd ∙ sym none.passwd;
+        same = λ days q bare.
+            let own : day_of next ≡ day_of first = days.1.1.0 in
+            rest.same (days.0 ∙ sym own, all_map (λ m. day_of m ≡ day_of first) (λ m. day_of m ≡ day_of next) (λ m e. e ∙ sym own) (next ∷ moments) days.1.1) q bare
+            ∙ one.same (own ∙ sym days.1.0) q bare ∙ sym (none.same (sym days.1.0) q bare);
+      }
+
+-- ---- over bytes
+
+-- neither the limit nor the moment of options counts
+mend_unlimited : (phase : Phase) (options : Options) (facts : Values) (moment : ℕ) (t : Files) (later : ℕ) (u : Files) → MayMend phase (unlimited options) facts moment t later u → MayMend phase options facts moment t later u
+mend_unlimited Create options facts moment t later u may = may
+mend_unlimited Remove options facts moment t later u may = may
+mend_unlimited Purge options facts moment t later u may = may
+mend_unlimited Clean options facts moment t later u may = may
+
+anew_unlimited : (task : Task) (options : Options) (facts : Values) (moment : ℕ) (t : Files) (steps : List Step) → IsMendedAnewIn task options facts moment t steps → IsMendedAnewIn task (unlimited options) facts moment t steps
+unfolding IsMendedAnewIn
+anew_unlimited Phases options facts moment t steps h =
+    (h.0, λ n later phase alone plain may. h.1 n later phase alone plain (mend_unlimited phase options facts moment t later (after_all t (take n steps) moment) may))
+anew_unlimited Report options facts moment t steps h = h
+anew_unlimited Accounts options facts moment t steps h = h
+
+final_unlimited : (task : Task) (options : Options) (facts : Values) (moment : ℕ) (t : Files) → final_by task options facts moment t ≡ final_by task (unlimited options) facts moment t
+unfolding final_by
+final_unlimited Phases options facts moment t = refl
+final_unlimited Report options facts moment t = refl
+final_unlimited Accounts options facts moment t = refl
+
+may_unlimited : (phase : Phase) (options : Options) (facts : Values) (t : Files) → MayRepeat phase options facts t → MayRepeat phase (unlimited options) facts t
+may_unlimited Create options facts t may = may
+may_unlimited Remove options facts t may = may
+may_unlimited Purge options facts t may = may
+may_unlimited Clean options facts t may = may
+
+module _ (options : Options) where
+  -- a run of a tree and its facts, whose image the input is
+  module _ (input : List ℕ) (facts : Values) (t : Files) (image : IsImage input facts t) (moment : ℕ) where
+    -- one that was stopped has left a tree of which its output is an image
+    module _ (out : List ℕ) (over : HasStoppedOver options moment input out) where
+      stopped_run : IsRun over.like.own over.clock input (Stopped over.count) out
+      stopped_run = subst (λ (o : Option Asked). HasOutputBy o over.clock input (Stopped over.count) out) over.like.meaning over.output.1
+
+      stopped_here : IsStopped over.like.own facts moment t over.count out
+      stopped_here =
+          let same = one_image input stopped_run.facts facts stopped_run.tree t stopped_run.image image in
+          subst (λ (m : ℕ). IsStopped over.like.own facts m t over.count out) (sym over.like.when)
+          (subst (λ (s : Files). IsStopped over.like.own facts (moment_of over.like.own over.clock) s over.count out) same.1
+          (subst (λ (f : Values). IsStopped over.like.own f (moment_of over.like.own over.clock) stopped_run.tree over.count out) same.0 stopped_run.answered))
+
+      has_stopped : (v : Files) × (IsImage out facts v × HasStopped (unlimited options) facts moment t v)
+      has_stopped = (
+        after_all t stopped_here.steps moment,
+        (
+          stopped_here.again,
+          record {
+            steps = stopped_here.steps;
+            anew = subst (λ (o : Options). IsMendedAnewIn (task_of o) o facts moment t stopped_here.steps) over.like.alike
+                (anew_unlimited (task_of over.like.own) over.like.own facts moment t stopped_here.steps stopped_here.anew);
+            count = length stopped_here.steps;
+            left = ap (λ (steps : List Step). after_all t steps moment) (sym (take-length stopped_here.steps));
+          },
+        ),
+      )
+
+    -- the output of one that was not stopped is an image of the tree that a whole run leaves
+    ended_image : (out : List ℕ) → HasEndedOver options moment input out → IsImage out facts (final (unlimited options) facts moment t)
+    ended_image out over = subst (λ (o : Options). IsImage out facts (final o facts moment t)) over.like.alike
+        (subst (λ (v : Files). IsImage out facts v) (final_unlimited (task_of over.like.own) over.like.own facts moment t) here.again)
+      where
+        run_of : (e : RunEnd) → IsAnswer over.like.own over.clock input (outcome_of e) out → IsRun over.like.own over.clock input (outcome_of e) out
+        run_of end.Done h = h
+        run_of end.ConfigInvalid h = h
+        run_of end.NotCarriedOut h = h
+        run_of (end.NoFreeId name) h = h
+
+        run : IsRun over.like.own over.clock input (outcome_of over.end) out
+        run = run_of over.end (subst (λ (o : Option Asked). HasOutputBy o over.clock input (outcome_of over.end) out) over.like.meaning over.output.1)
+
+        whole_of : (e : RunEnd) (f : Values) (s : Files) → IsAnswered over.like.own f (moment_of over.like.own over.clock) s (outcome_of e) out → IsWhole over.like.own f (moment_of over.like.own over.clock) s (outcome_of e) out
+        whole_of end.Done f s h = h
+        whole_of end.ConfigInvalid f s h = h
+        whole_of end.NotCarriedOut f s h = h
+        whole_of (end.NoFreeId name) f s h = h
+
+        here : IsWhole over.like.own facts moment t (outcome_of over.end) out
+        here =
+            let same = one_image input run.facts facts run.tree t run.image image in
+            subst (λ (m : ℕ). IsWhole over.like.own facts m t (outcome_of over.end) out) (sym over.like.when)
+            (subst (λ (s : Files). IsWhole over.like.own facts (moment_of over.like.own over.clock) s (outcome_of over.end) out) same.1
+            (subst (λ (f : Values). IsWhole over.like.own f (moment_of over.like.own over.clock) run.tree (outcome_of over.end) out) same.0 (whole_of over.end run.facts run.tree run.answered)))
+
+  have_stopped : (moments : List ℕ) (input last : List ℕ) (facts : Values) (t : Files) → IsImage input facts t → HaveStoppedOver options moments input last
+      → (u : Files) × (IsImage last facts u × HaveStopped (unlimited options) facts moments t u)
+  have_stopped [] input last facts t image is_input = (t, (subst (λ (bytes : List ℕ). IsImage bytes facts t) (sym is_input) image, refl))
+  have_stopped (moment ∷ moments) input last facts t image (calm, (out, (over, more))) =
+      let stop = has_stopped input facts t image moment out over in
+      let rest = have_stopped moments out last facts stop.0 stop.1.0 more in
+      (rest.0, (rest.1.0, (calm facts t image, (stop.0, (stop.1.1, rest.1.1)))))
+
+  module _ (moments : List ℕ) (moment first later : ℕ) (input last out again : List ℕ) (facts : Values) (t : Files) (image : IsImage input facts t)
+      (runs : HaveStoppedOver options (moment ∷ moments) input last) (whole : HasEndedOver options first input out) (second : HasEndedOver options later last again) where
+    abbrev chain : (u : Files) × (IsImage last facts u × HaveStopped (unlimited options) facts (moment ∷ moments) t u)
+    chain = have_stopped (moment ∷ moments) input last facts t image runs
+
+    both_images : (Holds : Files → Files → Type 0) → Holds (final (unlimited options) facts first t) (final (unlimited options) facts later chain.0) → AreImages Holds out again
+    both_images Holds holds = record {
+      facts = facts;
+      tree = final (unlimited options) facts first t;
+      other = final (unlimited options) facts later chain.0;
+      one = ended_image input facts t image first out whole;
+      two = ended_image last facts chain.0 chain.1.0 later again second;
+      holds = holds;
+    }
+
+    pub phases_over : (phase : Phase) → task_of options ≡ Phases → AsksFor options phase → ArePlain options → MayRepeat phase options facts t → IsCalmOver options last
+        → AreImages (λ one two. Same two one) out again
+    unfolding final_by
+    phases_over phase is alone plain may calm = both_images (λ one two. Same two one)
+        (subst (λ (task : Task). Same (final_by task (unlimited options) facts later chain.0) (final_by task (unlimited options) facts first t)) (sym is)
+        (phases_mended (unlimited options) facts phase alone plain is moments moment first later t chain.0 (may_unlimited phase options facts t may) chain.1.1 (calm facts chain.0 chain.1.0)))
+
+    pub accounts_over : task_of options ≡ Accounts → ArePlainRequests options → AreImages (EndAlikeAfter first (later ∷ moment ∷ moments)) out again
+    unfolding final_by
+    accounts_over is plain = both_images (EndAlikeAfter first (later ∷ moment ∷ moments))
+        (subst (λ (task : Task). EndAlikeAfter first (later ∷ moment ∷ moments) (final_by task (unlimited options) facts first t) (final_by task (unlimited options) facts later chain.0)) (sym is)
+        (accounts_alike (unlimited options) facts plain is moments moment first later t chain.0 chain.1.1))

@@ -1,0 +1,28 @@
+-- What a run leaves as it was at each moment, whatever it answers (systemd-tmpfiles(8), systemd-sysusers(8)).
+use Rattle.std.specs.Prelude.{◌≡◌, ℕ, false, List, [], take}
+use Rattle.pv_accounts_run.specs.Carrying.{account_paths}
+use Rattle.pv_accounts_run.specs.Edits.{etc}
+use Rattle.pv_create.specs.OnTheWay.{IsFramed}
+use Rattle.pv_dress.specs.Nodes.{bares_of}
+use Rattle.pv_path.specs.Paths.{Path, has_staging, same_path}
+use Rattle.pv_steps.specs.declared.step.Step.{Step}
+use Rattle.pv_steps.specs.Runs.{after_all}
+use Rattle.pv_steps.specs.Trees.{Files, places}
+use Rattle.pv_text.specs.Facts.{Values}
+use Rattle.pv_walk.specs.Removal.{is_one_of}
+use Rattle.pv_words.specs.declared.options.Options.{Options}
+use Rattle.provision_run.specs.declared.task.Task.{Task}
+use Rattle.provision_run.specs.declared.task.Task.TheVariants.{Phases, Report, Accounts}
+use Rattle.provision_run.specs.Phased.{run_lines}
+
+-- a run that makes accounts, stopped after any of these steps, has left each path as it was but /etc and the account files;
+-- stamps and staging names aside
+abbrev pub AreAccountsFramed : ℕ → Files → List Step → Type 0
+AreAccountsFramed moment t steps = (n : ℕ) (q : Path) → has_staging q ≡ false → same_path etc q ≡ false → is_one_of account_paths q ≡ false →
+    bares_of (places (after_all t (take n steps) moment)) q ≡ bares_of (places t) q
+
+-- by the task: a run of phases, whatever these are, has left each path that no active line governs; a report does no step
+unfoldable pub IsFramedIn : Task → Options → Values → ℕ → Files → List Step → Type 0
+IsFramedIn Phases options facts moment t steps = IsFramed (run_lines options facts t) moment t steps
+IsFramedIn Report options facts moment t steps = steps ≡ []
+IsFramedIn Accounts options facts moment t steps = AreAccountsFramed moment t steps

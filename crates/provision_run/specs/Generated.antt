@@ -1,0 +1,82 @@
+-- A run of systemd-tmpfiles(8) over a generated tree, of which three messages tell (this project's own).
+use Rattle.std.specs.Prelude.{◌≡◌, ◌↔◌, ℕ, true, false, List, [], ◌∷◌, ◌++◌, codes, length, None}
+use Rattle.std.specs.FinMap as fin
+use Rattle.std.specs.Fmt.{decimal}
+use Rattle.pv_conf.specs.Known.{configured}
+use Rattle.pv_generate.specs.Trees.{generated}
+use Rattle.pv_lines.specs.declared.line.Line.{Line}
+use Rattle.pv_report.specs.Reporting.{ListsOverlaps, ListsReasons}
+use Rattle.pv_report.specs.Said.{verdict}
+use Rattle.pv_report.specs.declared.listing.Report.{Report}
+use Rattle.pv_steps.specs.Trees.{Files}
+use Rattle.pv_table.specs.Repeatable.{IsRepeatable}
+use Rattle.pv_text.specs.Facts.{Values}
+use Rattle.pv_text.specs.declared.tool.Tool.TheVariants.{Tmpfiles}
+use Rattle.pv_words.specs.declared.options.Options.{Options}
+use Rattle.provision_run.specs.Messages.{messages_text}
+use Rattle.provision_run.specs.Whole.{final, IsSaid, read_messages}
+
+-- ---- the run
+
+-- `--create` alone
+abbrev pub create_alone : Options
+create_alone = record {
+  tool = Tmpfiles;
+  create = true;
+  remove = false;
+  clean = false;
+  report = false;
+  purge = false;
+  boot = false;
+  prefix = None;
+  exclude_prefix = None;
+  stop_after = None;
+  now = None;
+  words = [];
+}
+
+-- of a generated tree no facts are known
+abbrev pub no_facts : Values
+no_facts = fin.empty
+
+-- the moment of the run, in microseconds since 1970
+abbrev pub generated_moment : ℕ
+generated_moment = 1000000000000
+
+-- the tree that the run leaves
+abbrev pub created : Files → Files
+created t = final create_alone no_facts generated_moment t
+
+-- the lines of the configuration of a tree
+abbrev pub lines_in : Files → List Line
+lines_in t = (configured t no_facts []).lines
+
+-- ---- the messages
+
+abbrev pub generated_text : ℕ → ℕ → List ℕ
+generated_text lines nodes = codes "generated " ++ decimal lines ++ codes " lines " ++ decimal nodes ++ codes " nodes"
+
+abbrev pub created_text : ℕ → ℕ → List ℕ
+created_text nodes messages = codes "created " ++ decimal nodes ++ codes " nodes " ++ decimal messages ++ codes " messages"
+
+abbrev pub overlaps_text : ℕ → List ℕ → List ℕ
+overlaps_text pairs last = decimal pairs ++ codes " overlaps, " ++ last
+
+-- what is written of a tree with so many lines: its nodes; the nodes that the run leaves, and how many messages it has; how
+-- many pairs of lines overlap, and the verdict on the lines, which is `repeatable` exactly where no line has a reason
+pub record IsToldOf (lines : ℕ) (t : Files) (out : List ℕ) : Type 0 where
+  pub said : List (List ℕ)
+  pub is_said : IsSaid create_alone no_facts generated_moment t said
+  pub report : Report
+  pub overlaps : ListsOverlaps (lines_in t) report.pairs
+  pub reasons : ListsReasons (lines_in t) report.unrepeatable
+  pub verdict_is : (report.unrepeatable ≡ []) ↔ IsRepeatable (lines_in t)
+  pub text : out ≡ messages_text (
+      generated_text lines (fin.len t)
+      ∷ created_text (fin.len (created t)) (length (read_messages create_alone no_facts t ++ said))
+      ∷ overlaps_text (length report.pairs) (verdict report.unrepeatable)
+      ∷ [])
+
+-- what is written for a seed and a number of lines
+unfoldable pub IsGenerated : ℕ → ℕ → List ℕ → Type 0
+IsGenerated seed count out = IsToldOf count (generated seed count) out

@@ -1,0 +1,136 @@
+//! A run over a generated tree, of which three messages tell.
+ghost use Rattle.std.specs.Prelude.{◌≡◌, ◌↔◌, [], length, IfOk, OnOk};
+ghost use Rattle.std.specs.FinMap as fin;
+ghost use Rattle.pv_report.specs.Reporting.{ListsOverlaps, ListsReasons};
+ghost use Rattle.pv_report.specs.Said.{verdict};
+ghost use Rattle.pv_table.specs.Repeatable.{IsRepeatable};
+ghost use Rattle.provision_run.specs.Generated.{create_alone, created, created_text, generated_moment, generated_text, IsGenerated, IsToldOf, lines_in, no_facts, overlaps_text};
+ghost use Rattle.provision_run.specs.Tasks.{task_of};
+ghost use Rattle.provision_run.specs.Whole.{HasSaidBy};
+
+use crate::message::add_message;
+use crate::run::run_on_tree;
+use pv_conf::read_configuration;
+use pv_generate::{generated_tree, node_count};
+use pv_path::WordList;
+use pv_report::{Report, report, verdict};
+use pv_steps::TreeFault;
+use pv_text::{Facts, Messages, Tool};
+use pv_tree::MemTree;
+use pv_words::Options;
+use std::alloc::{AllocError, Global};
+
+/// The moment of a run over a generated tree, in microseconds since 1970.
+const MOMENT: u64 = 1_000_000_000_000;
+
+/// What is written of the run of `systemd-tmpfiles --create` over the tree of a seed and a number of lines.
+pub(crate) fn run_generated(alloc: Global, seed: u64, count: u32) -> Result<Vec<u8>, AllocError>
+    ensures { IfOk result (λ text. IsGenerated seed count text.items) }
+{
+    let tree = generated_tree(alloc, seed, count)?;
+    run_over_lines(alloc, tree, count)
+}
+
+/// What is written of the run over a tree with so many lines: how many nodes it has, how many nodes and messages there
+/// are then, how many pairs of lines overlap, and whether the lines may be carried out twice.
+fn run_over_lines(alloc: Global, tree: MemTree, lines: u32) -> Result<Vec<u8>, AllocError>
+    ensures { IfOk result (λ text. IsToldOf lines tree.files text.items) }
+{
+    let mut tree = tree;
+    let before = node_count(alloc, &tree)?;
+    let report = report_on(alloc, &tree)?;
+    let messages = create(alloc, &mut tree)?;
+    let after = node_count(alloc, &tree)?;
+    let mut output = Vec::new(alloc);
+    add_message(&mut output, &generated_text(alloc, lines, before)?)?;
+    add_message(&mut output, &created_text(alloc, after, messages.len())?)?;
+    add_message(&mut output, &overlaps_text(alloc, &report)?)?;
+    Ok(output)
+}
+
+/// The report on the lines of the configuration of a tree.
+fn report_on(alloc: Global, tree: &MemTree) -> Result<Report, AllocError>
+    ensures overlaps { IfOk result (λ report. ListsOverlaps (lines_in tree.now.files) report.pairs) }
+    ensures reasons { IfOk result (λ report. ListsReasons (lines_in tree.now.files) report.unrepeatable) }
+    ensures verdict { IfOk result (λ report. (report.unrepeatable ≡ []) ↔ IsRepeatable (lines_in tree.now.files)) }
+{
+    let facts = Facts::new(alloc);
+    let words = WordList::new(alloc);
+    let mut messages = Messages::new(alloc);
+    let read = read_configuration(alloc, tree, &words, &facts, &mut messages)?;
+    report(alloc, &read.lines)
+}
+
+/// The options of `systemd-tmpfiles --create`.
+fn create_alone(alloc: Global) -> Options
+    ensures { result ≡ create_alone }
+{
+    Options {
+        tool: Tool::Tmpfiles,
+        create: true,
+        remove: false,
+        clean: false,
+        report: false,
+        purge: false,
+        boot: false,
+        prefix: None,
+        exclude_prefix: None,
+        stop_after: None,
+        now: None,
+        words: WordList::new(alloc),
+    }
+}
+
+/// Creates in a tree what its configuration asks for, and gives the messages.
+fn create(alloc: Global, tree: &mut MemTree) -> Result<Messages, AllocError>
+    ensures tree { OnOk result (tree.new.files ≡ created tree.old.files) }
+    ensures said { IfOk result (HasSaidBy (task_of create_alone) create_alone no_facts generated_moment tree.old.files []) }
+{
+    let options = create_alone(alloc);
+    let facts = Facts::new(alloc);
+    let mut messages = Messages::new(alloc);
+    match run_on_tree(alloc, &options, &facts, MOMENT, tree, &mut messages) {
+        Ok(_end) => Ok(messages),
+        Err(TreeFault::Memory) => Err(AllocError),
+        Err(TreeFault::Failed) => unreachable!(),
+    }
+}
+
+/// `generated COUNT lines NODES nodes`.
+fn generated_text(alloc: Global, lines: u32, nodes: u64) -> Result<Vec<u8>, AllocError>
+    ensures { IfOk result (λ text. text.items ≡ generated_text lines nodes) }
+{
+    let lines = lines.to_string(alloc)?;
+    let nodes = nodes.to_string(alloc)?;
+    let mut text = Vec::from_slice(alloc, b"generated ")?;
+    text.extend_from_slice(lines.as_bytes())?;
+    text.extend_from_slice(b" lines ")?;
+    text.extend_from_slice(nodes.as_bytes())?;
+    text.extend_from_slice(b" nodes")?;
+    Ok(text)
+}
+
+/// `created NODES nodes MESSAGES messages`.
+fn created_text(alloc: Global, nodes: u64, messages: usize) -> Result<Vec<u8>, AllocError>
+    ensures { IfOk result (λ text. text.items ≡ created_text nodes messages) }
+{
+    let nodes = nodes.to_string(alloc)?;
+    let messages = messages.to_string(alloc)?;
+    let mut text = Vec::from_slice(alloc, b"created ")?;
+    text.extend_from_slice(nodes.as_bytes())?;
+    text.extend_from_slice(b" nodes ")?;
+    text.extend_from_slice(messages.as_bytes())?;
+    text.extend_from_slice(b" messages")?;
+    Ok(text)
+}
+
+/// `PAIRS overlaps, VERDICT`.
+fn overlaps_text(alloc: Global, report: &Report) -> Result<Vec<u8>, AllocError>
+    ensures { let pairs = length report.now.pairs in
+        IfOk result (λ text. text.items ≡ overlaps_text pairs (verdict report.now.unrepeatable)) }
+{
+    let pairs = report.pairs.len();
+    let mut text = format!(in alloc; "{pairs} overlaps, ")?.into_bytes();
+    text.extend_from_slice(verdict(report.unrepeatable.as_slice()))?;
+    Ok(text)
+}
