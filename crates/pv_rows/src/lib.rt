@@ -19,6 +19,8 @@ mod depth_tests;
 #[cfg(test)]
 mod end_tests;
 #[cfg(test)]
+mod generated_tests;
+#[cfg(test)]
 mod images;
 #[cfg(test)]
 mod line_tests;
