@@ -141,7 +141,7 @@ measure() {
     best=$(awk -v best="$best" -v user="$user" -v kernel="$kernel" 'BEGIN {
       now = user + kernel; print (best == "" || now < best) ? now : best }')
   done
-  grep -q '^end$' "$folder/out" || { echo "bench: no image came out for $1" >&2; exit 1; }
+  grep -q '^end$\|^: generated ' "$folder/out" || { echo "bench: no image came out for $1" >&2; exit 1; }
   mebibytes=$((memory / 1024))
 }
 
@@ -198,3 +198,7 @@ row old100k     old10k   full 'd /v - - - 0' 100000
 words=systemd-sysusers
 row users1000   -        accounts 1000 0
 row members1000 users1000 accounts 1000 1000
+words='generate 1 500'
+row drawn500    -        true
+words='generate 1 2000'
+row drawn2000   drawn500 true
