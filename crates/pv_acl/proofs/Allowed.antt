@@ -1,9 +1,10 @@
 -- Allowed entries make an allowed ACL of an allowed one.
-use Rattle.std.proofs.Common.{◌≡◌, Bool, true, false, ◌&&◌, List, [], ◌∷◌, Option, Some, None, refl, filter, fold, if◌then◌else◌}
+use Rattle.std.proofs.Common.{◌≡◌, ◌≤◌, ℕ, arith, Bool, true, false, ◌&&◌, List, [], ◌∷◌, Option, Some, None, refl, filter, fold, if◌then◌else◌}
 use Rattle.std.specs.List.{list_all}
 use Rattle.std.specs.Option.{option_map_or}
 use Rattle.std.proofs.lemmas.List.Folds.{list_all-append}
 use Rattle.std.proofs.lemmas.Bool.{and_parts}
+use Rattle.std.proofs.lemmas.Bool.Decides.{nat_tests}
 use Rattle.pv_acl.specs.declared.line.Entry.{Entry}
 use Rattle.pv_acl.specs.declared.line.Entry.TheVariants as entry
 use Rattle.pv_acl.specs.declared.line.AclLine.{AclLine}
@@ -109,3 +110,8 @@ is_acl-acl_after acl line how directory h k =
     by_kind : (b : Bool) → option_map_or is_part (default_after how (part_after how acl.access line.access) acl.default_part line.default_part) true ≡ true → option_map_or is_part acl.default_part true ≡ true → option_map_or is_part (if b then default_after how (part_after how acl.access line.access) acl.default_part line.default_part else acl.default_part) true ≡ true
     by_kind true changed same = changed
     by_kind false changed same = same
+
+-- ---- permissions
+
+pub perm_fits : (n : ℕ) → is_perm n ≡ true → n ≤ 7
+perm_fits n h = grind (arith, nat_tests)

@@ -9,3 +9,4 @@ pub mod Lines
 pub mod Splitting
 pub mod Rereading
 pub mod Spelt
+pub mod Equality

@@ -1,27 +1,19 @@
 -- A line that is read entry by entry.
-use Rattle.std.proofs.Common.{◌≡◌, ℕ, ◌+◌, ◌<◌, zero, suc, Bool, true, false, List, [], ◌∷◌, ◌++◌, length, get_or, drop, map, Result, Ok, Err, refl, sym, ap, ◌∙◌, append_assoc, Bor}
+use Rattle.std.proofs.Common.{◌≡◌, ℕ, ◌+◌, ◌<◌, Bool, true, false, List, [], ◌∷◌, ◌++◌, length, get_or, drop, map, Result, Ok, Err, refl, sym, ap, ◌∙◌, append_assoc, Bor}
 use Rattle.std.proofs.lemmas.List.{at_drop_more, length-map}
 use Rattle.pv_acl.specs.declared.line.Entry.{Entry}
-use Rattle.pv_acl.specs.declared.fault.AclFault.{AclFault}
-use Rattle.pv_acl.specs.declared.fault.AclFault.TheVariants as fault
+use Rattle.pv_acl.specs.declared.acl_fault.AclFault.{AclFault}
+use Rattle.pv_acl.specs.declared.acl_fault.AclFault.TheVariants as fault
 use Rattle.pv_acl.specs.declared.line.AclLine.{AclLine}
 use Rattle.pv_acl.specs.declared.parse.PartEntry.{PartEntry}
 use Rattle.pv_acl.specs.Entries.{with_front, with_back, added, joined, line_of, Gives}
+use Rattle.pv_path.proofs.Tests.{texts, get_or-texts}
 
 -- a line, or a fault, and then the entries of a line, or their fault
 abbrev pub then_line : Result AclLine AclFault → Result AclLine AclFault → Result AclLine AclFault
 then_line (Err f) rest = Err f
 then_line (Ok line) (Err f) = Err f
 then_line (Ok line) (Ok rest) = Ok (record { access = line.access ++ rest.access; default_part = line.default_part ++ rest.default_part })
-
--- the texts that slices show
-abbrev pub texts : List (Bor (List ℕ)) → List (List ℕ)
-texts = map (λ s. s.now)
-
-get_or-texts : (pieces : List (Bor (List ℕ))) (i : ℕ) (d : Bor (List ℕ)) → get_or (texts pieces) i d.now ≡ (get_or pieces i d).now
-get_or-texts [] i d = refl
-get_or-texts (p ∷ pieces) zero d = refl
-get_or-texts (p ∷ pieces) (suc i) d = get_or-texts pieces i d
 
 front_is_back : (line : AclLine) (b : Bool) (x : Entry) (rest : AclLine) → then_line (Ok line) (Ok (with_front (record { of_default = b; entry = x }) rest)) ≡ then_line (Ok (with_back line (record { of_default = b; entry = x }))) (Ok rest)
 front_is_back line true x rest =

@@ -23,7 +23,7 @@ use Rattle.pv_acl.specs.Texts.{perm_text, who_text, named_text, mask_texts}
 use Rattle.pv_acl.proofs.Numerals.{number_of-decimal}
 use Rattle.pv_acl.proofs.Splitting.{lacks, split_none, split_at, each_perm, perm_of-perm_text, no_comma-perm_text, no_colon-perm_text, lacks-decimal}
 
-id_fits : (id : ℕ) → is_id id ≡ true → id < 2 ^ 64
+pub id_fits : (id : ℕ) → is_id id ≡ true → id < 2 ^ 64
 id_fits id h = grind (arith, nat_tests)
 
 -- an ID in digits reads as itself

@@ -63,7 +63,7 @@ put_mask : (mask : Option ℕ) (part : Part) → part.mask ≡ None → fold put
 put_mask None part h = ap (λ (m : Option ℕ). record part { mask = m }) h
 put_mask (Some p) part h = refl
 
-after_add : (part : Part) (es : List Entry) → part_after Add part es ≡ fold put_entry part es
+pub after_add : (part : Part) (es : List Entry) → part_after Add part es ≡ fold put_entry part es
 after_add part [] = refl
 after_add part (e ∷ es) = refl
 
@@ -223,11 +223,11 @@ base_names (x ∷ xs) mask part = base_names xs mask (put_entry part (entry.Name
 pub base_stays : (part access : Part) → base_of (part_after Add part (access_entries access)) ≡ base_of part
 base_stays part access = ap base_of (after_add part (access_entries access)) ∙ base_names access.named access.mask part
 
-digit_allowed : (n : ℕ) → is_perm (n % 8) ≡ true
-digit_allowed n = let h : n % 8 ≤ 7 = omega arith in grind (arith, nat_tests)
+pub is_perm-digit : (n : ℕ) → is_perm (n % 8) ≡ true
+is_perm-digit n = let h : n % 8 ≤ 7 = omega arith in grind (arith, nat_tests)
 
-pub plain_allowed : (mode : ℕ) → is_acl (acl_of_mode mode) ≡ true
-plain_allowed mode = rw (digit_allowed (mode / 64), digit_allowed (mode / 8), digit_allowed mode) refl
+pub is_acl-of_mode : (mode : ℕ) → is_acl (acl_of_mode mode) ≡ true
+is_acl-of_mode mode = rw (is_perm-digit (mode / 64), is_perm-digit (mode / 8), is_perm-digit mode) refl
 
 -- the line that is read is that of the ACL whose text the field is
 line_is : (field : List ℕ) (line : AclLine) (acl : Acl) → Some line ≡ result_ok (acl_line_of decimal_id decimal_id field) → acl_text acl ≡ field → is_acl acl ≡ true → field ≢ codes "-" → line ≡ line_in acl

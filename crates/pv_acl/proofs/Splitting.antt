@@ -11,6 +11,7 @@ use Rattle.std.proofs.lemmas.Bool.{and_parts, not-true}
 use Rattle.pv_acl.specs.NamedEntries.{is_perm}
 use Rattle.pv_acl.specs.Texts.{perm_text}
 use Rattle.pv_acl.specs.Entries.{perm_of}
+use Rattle.pv_path.proofs.Tests.{same_number}
 
 -- whether a byte stands nowhere in a text
 abbrev pub lacks : ℕ → List ℕ → Bool
@@ -23,10 +24,7 @@ split_none c (x ∷ xs) h =
     slice_split-cons_no (λ b. b == c) x xs (not-true (x == c) parts.0) ∙ ap (onto_first x) (split_none c xs parts.1)
 
 pub split_at : (c : ℕ) (xs ys : List ℕ) → lacks c xs ≡ true → slice_split (λ b. b == c) (xs ++ c ∷ ys) ≡ xs ∷ slice_split (λ b. b == c) ys
-split_at c [] ys h = slice_split-cons_yes (λ b. b == c) c ys (same c)
-  where
-    same : (n : ℕ) → (n == n) ≡ true
-    same n = grind (arith, nat_tests)
+split_at c [] ys h = slice_split-cons_yes (λ b. b == c) c ys (same_number c)
 split_at c (x ∷ xs) ys h =
     let parts = and_parts (not (x == c)) (lacks c xs) h in
     slice_split-cons_no (λ b. b == c) x (xs ++ c ∷ ys) (not-true (x == c) parts.0) ∙ ap (onto_first x) (split_at c xs ys parts.1)

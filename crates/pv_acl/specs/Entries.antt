@@ -3,8 +3,8 @@ use Rattle.std.specs.Prelude.{◌≡◌, ℕ, ◌+◌, ◌*◌, Bool, true, fals
 use Rattle.std.specs.List.{list_all, slice_split}
 use Rattle.std.specs.Option.{option_or}
 use Rattle.std.specs.Str.{bytes_eq}
-use Rattle.pv_acl.specs.declared.fault.AclFault.{AclFault}
-use Rattle.pv_acl.specs.declared.fault.AclFault.TheVariants as fault
+use Rattle.pv_acl.specs.declared.acl_fault.AclFault.{AclFault}
+use Rattle.pv_acl.specs.declared.acl_fault.AclFault.TheVariants as fault
 use Rattle.pv_acl.specs.declared.line.Entry.{Entry}
 use Rattle.pv_acl.specs.declared.line.Entry.TheVariants as entry
 use Rattle.pv_acl.specs.declared.line.AclLine.{AclLine}

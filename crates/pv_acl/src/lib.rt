@@ -2,8 +2,8 @@
 //! of a configuration that change them, and their texts.
 #![tactic(auto)]
 
+mod acl_fault;
 mod apply;
-mod fault;
 mod line;
 mod list;
 mod names;
@@ -14,8 +14,8 @@ mod perm;
 mod print;
 mod read;
 
+pub use acl_fault::AclFault;
 pub use apply::apply_entries;
-pub use fault::AclFault;
 pub use line::{AclLine, Entry, EntryList, How};
 pub use list::NamedList;
 pub use names::Names;

@@ -41,7 +41,7 @@ impl NamedList {
         }
     }
 
-    /// Adds an entry that comes after all others. After want of memory the list is as before.
+    /// Adds an entry that comes after all others. After running out of memory the list is as before.
     pub fn push(&mut self, item: Named) -> Result<(), AllocError>
         requires { all_before self.old item ≡ true }
         ensures ok { OnOk result (self.new ≡ self.old ++ item ∷ []) }
@@ -51,7 +51,7 @@ impl NamedList {
         Ok(())
     }
 
-    /// Puts an entry at its place, over one for the same user or group. After want of memory the list
+    /// Puts an entry at its place, over one for the same user or group. After running out of memory the list
     /// is as before.
     pub fn put(&mut self, item: Named) -> Result<(), AllocError>
         ensures ok { OnOk result (self.new ≡ put_named item self.old) }

@@ -8,7 +8,7 @@ ghost use Rattle.pv_acl.specs.Entries.{named_place, nameless_place, is_place, pl
 ghost use Rattle.pv_acl.specs.declared.perm.Who.TheVariants as who;
 ghost use Rattle.pv_acl.specs.Entries.{entry_of, part_entry_of, text_entry_of, acl_line_of, added, Gives};
 
-use crate::fault::AclFault;
+use crate::acl_fault::AclFault;
 use crate::line::{AclLine, Entry, EntryList};
 use crate::names::Names;
 use crate::numbers::written_id;

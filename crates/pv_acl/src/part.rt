@@ -75,7 +75,7 @@ impl Part {
         512 * u16::from(special) + self.owner.times(64) + self.group.times(8) + self.other.times(1)
     }
 
-    /// Puts an entry over what stands at its place. After want of memory the part is as before.
+    /// Puts an entry over what stands at its place. After running out of memory the part is as before.
     pub fn put(&mut self, entry: Entry) -> Result<(), AllocError>
         ensures ok { OnOk result (self.new ≡ put_entry self.old entry) }
         ensures err { OnErr result (self.new ≡ self.old) }

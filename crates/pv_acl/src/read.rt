@@ -8,8 +8,8 @@ ghost use Rattle.pv_acl.specs.Entries.{acl_line_of};
 ghost use Rattle.pv_acl.specs.Spelling.{IsSpelt, decimal_id};
 ghost use Rattle.pv_acl.specs.Texts.{acl_text};
 
+use crate::acl_fault::AclFault;
 use crate::apply::apply_entries;
-use crate::fault::AclFault;
 use crate::line::{AclLine, How};
 use crate::names::Names;
 use crate::numbers::number;

@@ -1,6 +1,6 @@
 -- The pairs of a text one after another.
 use Rattle.std.proofs.Common.{◌≡◌, ℕ, zero, suc, ◌+◌, ◌-◌, ◌<◌, Bool, false, ◌==◌, List, [], ◌∷◌, length, drop, Ok, Err, refl, arith}
-use Rattle.pv_age.specs.declared.fault.AgeFault.{AgeFault}
+use Rattle.pv_age.specs.declared.age_fault.AgeFault.{AgeFault}
 use Rattle.pv_age.specs.Sums.{fitting, pair_length, pair_micros, sum_with}
 
 sum_with-skip : (skip total : ℕ) (text : List ℕ) → sum_with skip total text ≡ sum_with 0 total (drop skip text)

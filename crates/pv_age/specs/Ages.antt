@@ -1,7 +1,7 @@
 -- How an age is spelt (tmpfiles.d(5), Age).
 use Rattle.std.specs.Prelude.{ℕ, ◌+◌, Bool, true, false, ◌==◌, List, [], ◌∷◌, codes, take, drop, position, Option, Some, None, Result, Ok, if◌then◌else◌}
 use Rattle.pv_age.specs.declared.age.Age.{Age}
-use Rattle.pv_age.specs.declared.fault.AgeFault.{AgeFault}
+use Rattle.pv_age.specs.declared.age_fault.AgeFault.{AgeFault}
 use Rattle.pv_path.specs.Results.{◌>>=◌}
 use Rattle.pv_age.specs.Stamps.{stamps_of}
 use Rattle.pv_age.specs.Sums.{micros_of}

@@ -3,8 +3,8 @@
 use Rattle.std.specs.Prelude.{ℕ, Bool, ◌^◌, ◌==◌, List, [], ◌∷◌, codes, position, Option, Result, Ok, Err}
 use Rattle.std.specs.Option.{option_map}
 use Rattle.std.specs.Int.RustNames.{bit_and, bit_or}
-use Rattle.pv_age.specs.declared.fault.AgeFault.{AgeFault}
-use Rattle.pv_age.specs.declared.fault.AgeFault.TheVariants.{BadStampLetter}
+use Rattle.pv_age.specs.declared.age_fault.AgeFault.{AgeFault}
+use Rattle.pv_age.specs.declared.age_fault.AgeFault.TheVariants.{BadStampLetter}
 use Rattle.pv_path.specs.Results.{◌>>=◌, or_fault}
 use Rattle.pv_age.specs.declared.stamps.StampSet.{StampSet}
 

@@ -5,8 +5,8 @@ use Rattle.std.specs.List.{list_any, prefix_len}
 use Rattle.std.specs.Option.{option_map}
 use Rattle.std.specs.Str.{bytes_eq}
 use Rattle.std.specs.Str.Parse.{digits_value}
-use Rattle.pv_age.specs.declared.fault.AgeFault.{AgeFault}
-use Rattle.pv_age.specs.declared.fault.AgeFault.TheVariants.{BadNumber, BadUnit, Overflow}
+use Rattle.pv_age.specs.declared.age_fault.AgeFault.{AgeFault}
+use Rattle.pv_age.specs.declared.age_fault.AgeFault.TheVariants.{BadNumber, BadUnit, Overflow}
 use Rattle.pv_path.specs.Results.{◌>>=◌, or_fault}
 use Rattle.pv_age.specs.declared.unit.Unit.{Unit}
 use Rattle.pv_age.specs.declared.unit.Unit.TheVariants.{Microsecond, Millisecond, Second, Minute, Hour, Day, Week}

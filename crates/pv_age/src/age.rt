@@ -2,7 +2,7 @@
 ghost use Rattle.std.specs.Prelude.{◌≡◌, ◌<◌, ◌==◌, length, position, IfSome};
 ghost use Rattle.pv_age.specs.Ages.{age_of, age_with};
 
-use crate::fault::AgeFault;
+use crate::age_fault::AgeFault;
 use crate::stamps::{StampSet, stamps_of};
 use crate::sum::micros_of;
 

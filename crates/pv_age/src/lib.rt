@@ -2,7 +2,7 @@
 #![tactic(auto)]
 
 mod age;
-mod fault;
+mod age_fault;
 mod laws;
 mod old;
 mod stamps;
@@ -10,7 +10,7 @@ mod sum;
 mod unit;
 
 pub use age::{Age, parse_age};
-pub use fault::AgeFault;
+pub use age_fault::AgeFault;
 pub use laws::printed_numbers_with_units_read_back_as_their_sum;
 pub use old::is_old;
 pub use stamps::StampSet;

@@ -3,7 +3,7 @@ ghost use Rattle.std.specs.Prelude.{⊤, ◌≡◌, ◌==◌, [], ◌∷◌, cod
 ghost use Rattle.std.specs.Int.RustNames.{bit_and};
 ghost use Rattle.pv_age.specs.Stamps.{letter_bit, stamps_of, stamps_with};
 
-use crate::fault::AgeFault;
+use crate::age_fault::AgeFault;
 use bitflags::{Flag, Flags, bitflag_items};
 
 /// The stamps that an age looks at, one for each letter: access, birth, change and modify, of objects

@@ -6,7 +6,7 @@ ghost use Rattle.std.specs.Str.{all_ascii_digits};
 ghost use Rattle.std.specs.Str.Parse.{digits_value};
 ghost use Rattle.pv_age.specs.Sums.{fitting, micros_of, pair_length, pair_micros};
 
-use crate::fault::AgeFault;
+use crate::age_fault::AgeFault;
 use crate::unit::unit_micros;
 use std::str;
 

@@ -5,15 +5,15 @@
 //! calls; [`StdSource`] and [`StdSink`] stand over any reader and writer.
 #![tactic(auto)]
 
-mod fault;
 mod memory;
 mod plan;
 mod standard;
 mod transfer;
-mod whole;
+mod transfer_fault;
+mod whole_transfers;
 
-pub use fault::{Failed, ReadAllFault, WriteFault};
 pub use memory::{MemSink, MemSource};
 pub use standard::{StdSink, StdSource};
 pub use transfer::{Sink, Source};
-pub use whole::{MOST_BYTES, read_all, write_all_of};
+pub use transfer_fault::{Failed, ReadAllFault, WriteFault};
+pub use whole_transfers::{MOST_BYTES, read_all, write_all_of};

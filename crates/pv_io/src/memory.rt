@@ -5,9 +5,9 @@ ghost use Rattle.pv_io.specs.Calls.{call_after, CountsCall};
 ghost use Rattle.pv_io.specs.Faults.{HasRisen, fault_after};
 ghost use Rattle.pv_io.specs.Memory.{fresh};
 
-use crate::fault::Failed;
 use crate::plan::Plan;
 use crate::transfer::{Sink, Source};
+use crate::transfer_fault::Failed;
 use std::alloc::{AllocError, Global};
 use std::marker::Model;
 

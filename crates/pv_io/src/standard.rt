@@ -1,8 +1,8 @@
 //! The edge: a source and a sink over a reader and a writer of std.
 ghost use Rattle.std.specs.Prelude.{◌≡◌, None};
 
-use crate::fault::Failed;
 use crate::transfer::{Sink, Source};
+use crate::transfer_fault::Failed;
 use std::io::{Read, Write};
 
 /// A source over any reader, with a count of its faults.

@@ -4,7 +4,7 @@ ghost use Rattle.std.specs.Io.KnownBytes.{Appends, Consumes, IsAtEnd, Keeps};
 ghost use Rattle.pv_io.specs.Calls.{CountsCall};
 ghost use Rattle.pv_io.specs.Faults.{HasRisen};
 
-use crate::fault::Failed;
+use crate::transfer_fault::Failed;
 
 /// What gives bytes.
 ///

@@ -1,3 +1,6 @@
+pub mod Tests
+pub mod Maps
+pub mod Digits
 pub mod Relating
 pub mod Pieces
 pub mod PathLaws

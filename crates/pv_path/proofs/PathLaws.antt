@@ -2,19 +2,20 @@
 use Rattle.std.specs.Prelude.{◌≡◌, ◌≢◌, ℕ, ◌-◌, ◌≤◌, Bool, true, false, not, ◌&&◌, ◌||◌, nat_le, List, [], ◌∷◌, ◌++◌, length, take, drop, Option, Some, None, is_some, slice_get, refl, ◌⊎◌}
 use Rattle.std.specs.List.{list_all}
 use Rattle.std.specs.Bool.{Decides}
-use Rattle.std.specs.Ordering.{nat_cmp, ordering_reverse}
+use Rattle.std.specs.Ordering.{eq_by_cmp, is_eq, nat_cmp, ordering_reverse}
 use Rattle.std.specs.Cmp.{IsTotalOrder}
 use Rattle.std.specs.Cmp.Lexicographic.{slice_cmp, bytes_decides, nat_list_cmp_total}
 use Rattle.std.specs.FinMap.{slice_cmp-IsAntisymmetric, nat_cmp-IsAntisymmetric}
 use Rattle.std.specs.declared.cmp.Ordering.{Ordering}
 use Rattle.std.specs.declared.cmp.Ordering.TheVariants.{Less, Equal, Greater}
-use Rattle.std.proofs.Common.{sym, ◌∙◌, ap, inl, inr, suc, arith, append-nil, append_assoc, length-append}
+use Rattle.std.proofs.Common.{subst, sym, ◌∙◌, ap, inl, inr, suc, arith, append-nil, append_assoc, length-append}
 use Rattle.std.proofs.lemmas.Bool.Decides.{nat_tests}
 use Rattle.std.proofs.Math.Seq.{take-append_seam, drop-append_seam}
 use Rattle.std.proofs.lemmas.List.{take-append-drop, length-take}
 use Rattle.std.proofs.lemmas.List.Folds.{list_all-append, list_any-append}
 use Rattle.std.proofs.lemmas.Bool.{and_parts}
 use Rattle.std.proofs.Math.Bool.{or-true}
+use Rattle.pv_path.proofs.Tests.{equal_of, first_false, same_tests, true_not_false}
 use Rattle.pv_path.specs.Names.{name_cmp, same_bytes, is_name, is_name_byte, is_dots, is_staging, staging_name}
 use Rattle.pv_path.specs.Paths.{Path, has_names, path_cmp, path_total, path_exact, same_path, same_path-decides, rest_under, is_prefix, parent_of, last_name, has_staging, staging_of}
 
@@ -367,3 +368,48 @@ has_names-staging_of p n h e l =
 -- the staging name of a path without one is another path
 pub staging_of-differs : (p : Path) → p ≢ [] → has_staging p ≡ false → staging_of p ≢ p
 staging_of-differs p other none e = let has = has_staging-staging_of p other in let same = ap has_staging e in cc
+
+-- ---- different paths
+
+pub same_path-no : (p q : Path) → p ≢ q → same_path p q ≡ false
+same_path-no p q other = by_test (same_path p q) refl
+  where
+    by_test : (t : Bool) → same_path p q ≡ t → same_path p q ≡ false
+    by_test true e = absurd (other ((same_path-decides p q).0 e))
+    by_test false e = e
+
+-- a path that does not begin with another is not this other
+pub not_prefix_not_same : (p q : Path) → is_prefix p q ≡ false → same_path p q ≡ false
+not_prefix_not_same p q h = same_path-no p q (λ e. true_not_false (is_prefix p q) (ap (is_prefix p) (sym e) ∙ is_prefix-refl p) h)
+
+pub tied-same : (q p : Path) → eq_by_cmp path_cmp q p ≡ same_path p q
+tied-same q p =
+    same_tests (eq_by_cmp path_cmp q p) (same_path p q)
+    (λ e. (same_path-decides p q).1 (sym (path_cmp-exact q p (equal_of (path_cmp q p) e))))
+    (λ e. ap (λ v. is_eq (path_cmp q v)) ((same_path-decides p q).0 e) ∙ ap is_eq (path_cmp-refl q))
+
+pub tied-equal : (p q : Path) → eq_by_cmp path_cmp p q ≡ true → p ≡ q
+tied-equal p q e = path_cmp-exact p q (equal_of (path_cmp p q) e)
+
+-- a parent comes before its children
+pub parent_of-less : (p : Path) → p ≢ [] → path_cmp (parent_of p) p ≡ Less
+parent_of-less p other = by_order (path_cmp (parent_of p) p) refl
+  where
+    by_order : (r : Ordering) → path_cmp (parent_of p) p ≡ r → path_cmp (parent_of p) p ≡ Less
+    by_order Less e = e
+    by_order Equal e = absurd (parent_of-differs p other (path_cmp-exact (parent_of p) p e))
+    by_order Greater e = absurd (prefix_not_greater (parent_of p) p (parent_of-is_prefix p) e)
+
+pub is_prefix-take : (k : ℕ) (path : Path) → is_prefix (take k path) path ≡ true
+is_prefix-take k path = subst (λ (p : Path). is_prefix (take k path) p ≡ true) (take-append-drop k path) (is_prefix-append (take k path) (drop k path))
+
+pub is_prefix-nil : (path : Path) → path ≢ [] → is_prefix path [] ≡ false
+is_prefix-nil [] h = absurd (h refl)
+is_prefix-nil (n ∷ path) h = refl
+
+pub has_some_names : (path : Path) → path ≢ [] → 1 ≤ length path
+has_some_names [] h = absurd (h refl)
+has_some_names (n ∷ path) h = omega arith
+
+pub has_staging-take : (k : ℕ) (path : Path) → has_staging path ≡ false → has_staging (take k path) ≡ false
+has_staging-take k path plain = first_false (has_staging (take k path)) (has_staging (drop k path)) (sym (has_staging-append (take k path) (drop k path)) ∙ ap has_staging (take-append-drop k path) ∙ plain)

@@ -1,13 +1,14 @@
 -- How the pieces between the slashes make a path.
-use Rattle.std.proofs.Common.{◌≡◌, ℕ, ◌+◌, ◌<◌, Bool, true, false, ◌==◌, List, [], ◌∷◌, length, drop, get_or, Result, Ok, Err, refl, sym, ap, ◌∙◌, arith, append_assoc, zero, suc, map, Bor}
+use Rattle.std.proofs.Common.{◌≡◌, ℕ, ◌+◌, ◌<◌, Bool, true, false, ◌==◌, List, [], ◌∷◌, length, drop, get_or, Result, Ok, Err, refl, sym, ap, ◌∙◌, arith, append_assoc, zero, suc, Bor}
 use Rattle.std.specs.List.{list_all, slice_split, onto_first}
 use Rattle.std.proofs.lemmas.List.{at_drop_more, length-map}
 use Rattle.std.proofs.lemmas.Bool.{and_parts}
-use Rattle.pv_path.specs.declared.fault.PathFault.TheVariants as fault
-use Rattle.pv_path.specs.declared.fault.PathFault.{PathFault}
+use Rattle.pv_path.specs.declared.path_fault.PathFault.TheVariants as fault
+use Rattle.pv_path.specs.declared.path_fault.PathFault.{PathFault}
 use Rattle.pv_path.specs.Names.{is_name_byte}
 use Rattle.pv_path.specs.Paths.{Path}
 use Rattle.pv_path.specs.Parsing.{Gives, is_path_byte, joined, names_of, piece_of}
+use Rattle.pv_path.proofs.Tests.{texts, get_or-texts}
 
 pub joined-assoc : (a b c : Result Path PathFault) → joined (joined a b) c ≡ joined a (joined b c)
 joined-assoc (Ok a) (Ok b) (Ok c) = ap Ok (append_assoc a b c)
@@ -59,14 +60,6 @@ fault_stays fault.StagingName path read rest e = rw e
 fault_stays fault.Memory path read rest e = tt
 
 -- one step of the loop over slices, of which `texts` are the pieces
-abbrev pub texts : List (Bor (List ℕ)) → List (List ℕ)
-texts = map (λ s. s.now)
-
-pub get_or-texts : (pieces : List (Bor (List ℕ))) (i : ℕ) (d : Bor (List ℕ)) → get_or (texts pieces) i d.now ≡ (get_or pieces i d).now
-get_or-texts [] i d = refl
-get_or-texts (p ∷ pieces) zero d = refl
-get_or-texts (p ∷ pieces) (suc i) d = get_or-texts pieces i d
-
 pub texts_more : (path : Path) (pieces : List (Bor (List ℕ))) (i : ℕ) (d : Bor (List ℕ)) → i < length pieces → joined (Ok path) (names_of (drop i (texts pieces))) ≡ names_of (texts pieces)
     → joined (joined (Ok path) (piece_of (get_or pieces i d).now)) (names_of (drop (i + 1) (texts pieces))) ≡ names_of (texts pieces)
 texts_more path pieces i d h e =

@@ -11,8 +11,8 @@ use Rattle.std.proofs.lemmas.Bool.{and_parts}
 use Rattle.pv_path.specs.Names.{is_dots, is_name, is_name_byte, is_staging}
 use Rattle.pv_path.specs.Parsing.{begins_with_slash, is_path_byte, joined, names_of, path_of, piece_of}
 use Rattle.pv_path.specs.Paths.{Path, has_names, has_staging}
-use Rattle.pv_path.specs.declared.fault.PathFault.{PathFault}
-use Rattle.pv_path.specs.declared.fault.PathFault.TheVariants as fault
+use Rattle.pv_path.specs.declared.path_fault.PathFault.{PathFault}
+use Rattle.pv_path.specs.declared.path_fault.PathFault.TheVariants as fault
 use Rattle.pv_path.proofs.PathLaws.{is_name-from}
 use Rattle.pv_path.proofs.Pieces.{are_names-split}
 

@@ -5,8 +5,8 @@ use Rattle.std.specs.List.{list_all, slice_split}
 use Rattle.std.specs.Option.{option_map_or}
 use Rattle.pv_path.specs.Names.{is_dots, is_staging}
 use Rattle.pv_path.specs.Paths.{Path}
-use Rattle.pv_path.specs.declared.fault.PathFault.{PathFault}
-use Rattle.pv_path.specs.declared.fault.PathFault.TheVariants as fault
+use Rattle.pv_path.specs.declared.path_fault.PathFault.{PathFault}
+use Rattle.pv_path.specs.declared.path_fault.PathFault.TheVariants as fault
 
 -- what is wrong with one name of a text, the first fault first
 abbrev pub name_fault : List ℕ → Option PathFault

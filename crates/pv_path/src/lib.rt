@@ -1,18 +1,20 @@
 //! Names and paths of a tree, how they are read and printed, and the lists that hold them.
 #![tactic(auto)]
 
-mod fault;
+mod cutting;
 mod name;
 mod parse;
 mod path;
+mod path_fault;
 mod print;
 mod relate;
 mod sequence;
 
-pub use fault::PathFault;
+pub use cutting::pieces_of;
 pub use name::{Name, is_name, is_staging};
 pub use parse::parse_path;
 pub use path::TreePath;
+pub use path_fault::PathFault;
 pub use print::{add_plain, add_printed, add_printed_but, is_plain, print_bytes, print_path};
 pub use relate::{carry, child, has_staging, is_prefix, names_under, parent, staging};
 pub use sequence::Sequence;

@@ -1,13 +1,14 @@
 //! From a text to the path that it spells, or its first fault.
-ghost use Rattle.std.specs.Prelude.{◌≡◌, ◌==◌, true, map, IfOk, OnOk, IfErr};
+ghost use Rattle.std.specs.Prelude.{◌≡◌, ◌==◌, true, OnOk, IfErr};
 ghost use Rattle.std.specs.List.{list_all, slice_split};
 ghost use Rattle.pv_path.specs.Names.{is_name_byte};
 ghost use Rattle.pv_path.specs.Parsing.{Gives, is_path_byte, joined, names_of, path_of, piece_of};
 
-use crate::fault::PathFault;
+use crate::cutting::pieces_of;
 use crate::name::{Name, is_staging};
 use crate::path::TreePath;
-use std::alloc::{AllocError, Global};
+use crate::path_fault::PathFault;
+use std::alloc::Global;
 
 /// The longest name that a text may spell, in bytes.
 const MOST_NAME_BYTES: usize = 240;
@@ -44,18 +45,11 @@ fn parse_names(alloc: Global, text: &[u8]) -> Result<TreePath, PathFault>
     ensures { Gives result (names_of (slice_split (λ b. b == 47) text.now)) }
 {
     let mut path = TreePath::root(alloc);
-    let pieces = pieces_of(alloc, text)?;
+    let pieces = pieces_of(alloc, text, b'/')?;
     for piece in &pieces {
         add_piece(alloc, &mut path, piece)?;
     }
     Ok(path)
-}
-
-/// What stands between the slashes of a text.
-fn pieces_of(alloc: Global, text: &[u8]) -> Result<Vec<&[u8]>, AllocError>
-    ensures { IfOk result (λ v. map (λ s. s.now) v.items ≡ slice_split (λ b. b == 47) text.now) }
-{
-    text.split(|b| *b == b'/').collect(alloc)
 }
 
 /// Adds what stands between two slashes to a path.

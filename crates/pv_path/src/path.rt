@@ -87,7 +87,7 @@ impl TreePath {
         self.names.as_slice()
     }
 
-    /// Adds a name at the end. After want of memory the path is as before.
+    /// Adds a name at the end. After running out of memory the path is as before.
     pub fn push(&mut self, name: Name) -> Result<(), AllocError>
         ensures ok { OnOk result (self.new ≡ self.old ++ name ∷ []) }
         ensures err { OnErr result (self.new ≡ self.old) }

@@ -1,40 +1,22 @@
 -- The facts that are held in a `BTreeMap`, as the finite map that clauses see.
 use Rattle.std.proofs.Common.{◌≡◌, ℕ, true, cond, List, [], ◌∷◌, Some, IfSome, Option, refl, sym, ap, subst, ◌∙◌}
 use Rattle.std.proofs.lemmas.Bool.{and_from, and_parts}
-use Rattle.std.specs.Ordering.{nat_cmp, eq_by_cmp, is_eq, match_ordering}
+use Rattle.std.specs.Ordering.{nat_cmp, is_eq, match_ordering}
 use Rattle.std.specs.Cmp.{nat_cmp_total}
 use Rattle.std.specs.declared.cmp.Ordering.TheVariants.{Less, Equal, Greater}
 use Rattle.std.specs.Map.{lookup}
 use Rattle.std.specs.BTreeMap.{is_at, insert_entry}
-use Rattle.std.specs.FinMap.{find, put, from_entries, insert, get, get-from_entries, get-insert, same_map, nat_cmp-IsAntisymmetric}
-use Rattle.std.specs.FinMap.Entries.{find-put, by_order}
+use Rattle.std.specs.FinMap.{find, from_entries, insert, get, get-from_entries, nat_cmp-IsAntisymmetric}
+use Rattle.pv_path.proofs.Maps.{insert_map, lookup_get}
 use Rattle.pv_text.specs.Facts.{is_fact, are_facts, HasFactsAlone}
-
-lookup_find : (q : ℕ) (es : List (ℕ × List ℕ)) → lookup (is_at (nat_cmp q)) es ≡ find nat_cmp q es
-lookup_find q [] = refl
-lookup_find q (e ∷ es) = ap (cond (eq_by_cmp nat_cmp q e.0) (Some e.1)) (lookup_find q es)
 
 -- what the tree finds is what the map has
 pub lookup-get : (q : ℕ) (es : List (ℕ × List ℕ)) → lookup (is_at (nat_cmp q)) es ≡ get (from_entries {R = nat_cmp} es) q
-lookup-get q es = lookup_find q es ∙ sym (get-from_entries nat_cmp_total es q)
-
-insert_put : (k : ℕ) (v : List ℕ) (es : List (ℕ × List ℕ)) → insert_entry nat_cmp es k v ≡ put nat_cmp k v es
-insert_put k v [] = refl
-insert_put k v (e ∷ es) =
-    elim (nat_cmp k e.0) as (λ r. match_ordering r ((k, v) ∷ e ∷ es) ((e.0, v) ∷ es) (e ∷ insert_entry nat_cmp es k v) ≡ by_order r ((k, v) ∷ e ∷ es) ((e.0, v) ∷ es) (e ∷ put nat_cmp k v es)) [
-      | Less ↦ refl
-      | Equal ↦ refl
-      | Greater ↦ ap (λ rest. e ∷ rest) (insert_put k v es)
-    ]
+lookup-get q es = lookup_get nat_cmp nat_cmp_total q es
 
 -- an entry put into the tree is put into the map
 pub insert-map : (k : ℕ) (v : List ℕ) (es : List (ℕ × List ℕ)) → from_entries {R = nat_cmp} (insert_entry nat_cmp es k v) ≡ insert (from_entries es) k v
-insert-map k v es = same_map nat_cmp_total nat_cmp-IsAntisymmetric _ _ (λ q.
-    get-from_entries nat_cmp_total (insert_entry nat_cmp es k v) q
-    ∙ ap (find nat_cmp q) (insert_put k v es)
-    ∙ find-put nat_cmp nat_cmp_total q k v es
-    ∙ ap (cond (eq_by_cmp nat_cmp q k) (Some v)) (sym (get-from_entries nat_cmp_total es q))
-    ∙ sym (get-insert nat_cmp_total (from_entries es) k v q))
+insert-map k v es = insert_map nat_cmp nat_cmp_total nat_cmp-IsAntisymmetric k v es
 
 -- a fact more keeps facts alone
 pub insert_facts : (k : ℕ) (v : List ℕ) (es : List (ℕ × List ℕ)) → is_fact k v ≡ true → are_facts es ≡ true → are_facts (insert_entry nat_cmp es k v) ≡ true

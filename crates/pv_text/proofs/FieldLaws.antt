@@ -2,7 +2,7 @@
 use Rattle.std.proofs.Common.{◌≡◌, ℕ, zero, suc, ◌+◌, ◌-◌, ◌<◌, ◌≤◌, ◌++◌, append_assoc, Result, Ok, Err, le-ltb, lt-ltb, Bool, true, false, List, [], ◌∷◌, drop, length, get_or, nat_eq, refl, sym, ap, ◌∙◌, Option, None, if◌then◌else◌, ◌==◌, arith, ne_eqb, add-one}
 use Rattle.std.specs.List.{AllByRecursion}
 use Rattle.std.proofs.Math.Seq.{drop-cons}
-use Rattle.pv_text.specs.declared.fault.FieldFault.{FieldFault}
+use Rattle.pv_text.specs.declared.text_fault.FieldFault.{FieldFault}
 use Rattle.pv_text.specs.Fields.{closing, Span, next_place, field_at, argument_at, fields_from, with_front, IsChecked}
 
 -- the first quote of what is left of a text, of which a backslash may hide the first byte

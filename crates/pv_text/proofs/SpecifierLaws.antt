@@ -3,7 +3,7 @@ use Rattle.std.proofs.Common.{◌≡◌, ℕ, ◌≤◌, List, [], ◌∷◌, �
 use Rattle.std.proofs.lemmas.List.{take_rest}
 use Rattle.pv_text.specs.Facts.{Values}
 use Rattle.pv_text.specs.declared.tool.Tool.{Tool}
-use Rattle.pv_text.specs.declared.fault.ExpandFault.{ExpandFault}
+use Rattle.pv_text.specs.declared.text_fault.ExpandFault.{ExpandFault}
 use Rattle.pv_text.specs.Specifiers.{expanded, joined, meaning_of}
 use Rattle.pv_text.proofs.EscapeLaws.{after_first}
 

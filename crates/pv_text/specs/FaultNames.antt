@@ -1,9 +1,9 @@
 -- The names of faults, as messages print them, without places (this project's own).
 use Rattle.std.specs.Prelude.{ℕ, List, codes}
-use Rattle.pv_text.specs.declared.fault.ExpandFault.TheVariants as expansion
-use Rattle.pv_text.specs.declared.fault.ExpandFault.{ExpandFault}
-use Rattle.pv_text.specs.declared.fault.FieldFault.TheVariants as field
-use Rattle.pv_text.specs.declared.fault.FieldFault.{FieldFault}
+use Rattle.pv_text.specs.declared.text_fault.ExpandFault.TheVariants as expansion
+use Rattle.pv_text.specs.declared.text_fault.ExpandFault.{ExpandFault}
+use Rattle.pv_text.specs.declared.text_fault.FieldFault.TheVariants as field
+use Rattle.pv_text.specs.declared.text_fault.FieldFault.{FieldFault}
 
 -- of a line without fields
 abbrev pub field_name : FieldFault → List ℕ

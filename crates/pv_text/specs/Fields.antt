@@ -4,8 +4,8 @@ use Rattle.std.specs.Prelude.{ℕ, zero, suc, ◌+◌, ◌-◌, ◌≤◌, Bool,
 use Rattle.std.specs.Coded.{Coded, code_by, coded×, coded_list, coded_ℕ}
 use Rattle.std.specs.List.{prefix_len, suffix_len, position_or_len, position}
 use Rattle.pv_path.specs.Results.{◌>>=◌}
-use Rattle.pv_text.specs.declared.fault.FieldFault.{FieldFault}
-use Rattle.pv_text.specs.declared.fault.FieldFault.TheVariants.{BadByte, OpenQuote, GluedQuote, BadEscape, TooFew}
+use Rattle.pv_text.specs.declared.text_fault.FieldFault.{FieldFault}
+use Rattle.pv_text.specs.declared.text_fault.FieldFault.TheVariants.{BadByte, OpenQuote, GluedQuote, BadEscape, TooFew}
 use Rattle.pv_text.specs.Escapes.{bad_escape, HasGoodEscapes}
 
 -- a blank: space, tab or carriage return

@@ -6,8 +6,8 @@ use Rattle.std.specs.FinMap as map
 use Rattle.pv_text.specs.Facts.{Values}
 use Rattle.pv_text.specs.declared.tool.Tool.{Tool}
 use Rattle.pv_text.specs.declared.tool.Tool.TheVariants.{Tmpfiles, Sysusers}
-use Rattle.pv_text.specs.declared.fault.ExpandFault.{ExpandFault}
-use Rattle.pv_text.specs.declared.fault.ExpandFault.TheVariants.{UnknownSpecifier, MissingFact, Memory}
+use Rattle.pv_text.specs.declared.text_fault.ExpandFault.{ExpandFault}
+use Rattle.pv_text.specs.declared.text_fault.ExpandFault.TheVariants.{UnknownSpecifier, MissingFact, Memory}
 
 abbrev pub is_one_of : List ℕ → ℕ → Bool
 is_one_of letters letter = list_any (λ l. l == letter) letters

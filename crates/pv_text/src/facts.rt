@@ -43,7 +43,7 @@ impl Facts {
         }
     }
 
-    /// Gives a letter its value, which it must not have yet. After want of memory the facts are as
+    /// Gives a letter its value, which it must not have yet. After running out of memory the facts are as
     /// before.
     pub fn put(&mut self, letter: u8, value: &[u8]) -> Result<(), AllocError>
         requires fact { is_fact letter value.now ≡ true }

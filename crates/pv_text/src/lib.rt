@@ -4,23 +4,23 @@
 
 mod escapes;
 mod facts;
-mod fault;
-mod lent;
+mod lent_fields;
 mod messages;
 mod one_line;
 mod place;
-mod reading;
 mod spans;
 mod specifiers;
+mod splitting;
+mod text_fault;
 mod tool;
 
 pub use escapes::unescape;
 pub use facts::{FACT_LETTERS, Facts};
-pub use fault::{ExpandFault, FieldFault};
-pub use lent::Fields;
+pub use lent_fields::Fields;
 pub use messages::{Messages, say_all};
 pub use one_line::OneLine;
 pub use place::Place;
-pub use reading::{fields, is_blank};
 pub use specifiers::expand;
+pub use splitting::{fields, is_blank};
+pub use text_fault::{ExpandFault, FieldFault};
 pub use tool::Tool;

@@ -37,7 +37,7 @@ impl Messages {
         }
     }
 
-    /// Adds a line at the end. After want of memory the lines are as before.
+    /// Adds a line at the end. After running out of memory the lines are as before.
     pub fn push(&mut self, line: &[u8]) -> Result<(), AllocError>
         requires line { is_line line.now ≡ true }
         ensures ok { OnOk result (self.new ≡ self.old ++ line.now ∷ []) }
@@ -48,7 +48,7 @@ impl Messages {
         Ok(())
     }
 
-    /// Adds what is said of the line at a place, `FILE:N: TEXT`. After want of memory the lines are as
+    /// Adds what is said of the line at a place, `FILE:N: TEXT`. After running out of memory the lines are as
     /// before.
     pub fn push_at(&mut self, place: &Place, text: &[u8]) -> Result<(), AllocError>
         requires line { is_line text.now ≡ true }

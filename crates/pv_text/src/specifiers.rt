@@ -4,7 +4,7 @@ ghost use Rattle.std.specs.Option.{option_map};
 ghost use Rattle.pv_text.specs.Specifiers.{fixed_for_both, fixed_for_tmpfiles, from_facts, meaning_of, expanded, FailsSo};
 
 use crate::facts::Facts;
-use crate::fault::ExpandFault;
+use crate::text_fault::ExpandFault;
 use crate::tool::Tool;
 use std::alloc::Global;
 

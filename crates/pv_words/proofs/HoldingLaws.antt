@@ -18,6 +18,7 @@ use Rattle.pv_words.specs.Table.{option_named, same_option}
 use Rattle.pv_words.specs.declared.option.OptionName.{OptionName}
 use Rattle.pv_words.proofs.RowLaws.{grown, is-row, new_row, same-text, seen, seen-other, seen-own, without-none}
 use Rattle.pv_words.proofs.RuleLaws.{files_id, files-id, id-files, id-own, name_of, named-own, option_made, stands_for, used-is, uses, valued}
+use Rattle.pv_path.proofs.Tests.{none_of}
 
 abbrev pub option_row : OptionName → List ℕ → Row
 option_row option value = new_row (name_of option) AsWritten CommandLine (stands_for (valued option) value)
@@ -90,10 +91,6 @@ pub row-given : (rows : List Row) (parts : Parts) (o : OptionName) → Holds row
 row-given rows parts o holds =
     is-row (name_of o) rows ∙ ap is_some (holds.option o) ∙ is_some-map (option_row o) (value_of parts.given o)
 
-none-is : {A : Type 0} (o : Option A) → is_some o ≡ false → o ≡ None
-none-is None e = refl
-none-is (Some a) e = absurd (true≢false e)
-
 -- ---- one part more
 
 option-more : (rows : List Row) (parts : Parts) (o : OptionName) (value : List ℕ) → Holds rows parts → has_row (name_of o) rows ≡ false
@@ -105,7 +102,7 @@ option-more rows parts o value holds none = record {
 }
   where
     absent : value_of parts.given o ≡ None
-    absent = none-is (value_of parts.given o) (sym (row-given rows parts o holds) ∙ none)
+    absent = none_of (value_of parts.given o) (sym (row-given rows parts o holds) ∙ none)
 
     own : seen (name_of o) (with_values (name_of o) AsWritten CommandLine (stands_for (valued o) value) rows)
         ≡ option_map (option_row o) (option_or (value_of parts.given o) (cond (same_option o o) (Some value) None))

@@ -25,18 +25,19 @@ use Rattle.pv_words.specs.Reading.{Reads, fault_of as fault_for, files_in, has_s
 use Rattle.pv_words.specs.Stage as stage
 use Rattle.pv_words.specs.Table.{all_options, same_option}
 use Rattle.pv_words.specs.Values.{values_read}
-use Rattle.pv_words.specs.declared.fault.WordsFault.{WordsFault}
-use Rattle.pv_words.specs.declared.fault.WordsFault.TheVariants.{Usage, Memory}
+use Rattle.pv_words.specs.declared.words_fault.WordsFault.{WordsFault}
+use Rattle.pv_words.specs.declared.words_fault.WordsFault.TheVariants.{Usage, Memory}
 use Rattle.pv_words.specs.declared.option.OptionName.{OptionName}
 use Rattle.pv_words.specs.declared.options.Options.{Options}
 use Rattle.pv_words.specs.declared.options.Values.{Values}
 use Rattle.pv_words.proofs.FilesLaws.{all_or_none, files-or}
 use Rattle.pv_words.proofs.HoldingLaws.{Holds, Repeats, files_row, is_some-map, option_row}
 use Rattle.pv_words.proofs.ParsingLaws.{free_parts, parts-free, short-none, undashed}
-use Rattle.pv_words.proofs.RowLaws.{any-find, defaults-no_use, defaults-other, seen, source_of}
+use Rattle.pv_words.proofs.RowLaws.{defaults-no_use, defaults-other, seen, source_of}
 use Rattle.pv_words.proofs.RuleLaws.{app-simple, defaults-pass, each, files-free, files_id, name_of, stands_for, subs-none, top, top-table, valued, valued-free}
 use Rattle.pv_words.proofs.ToldLaws.{NoMeaning, Told, fails, passes, told}
 use Rattle.pv_words.proofs.TurnLaws.{at, rows_from, walk_from_fault}
+use Rattle.pv_path.proofs.Tests.{list_any-find}
 
 -- ---- what was found, by the rows
 
@@ -53,7 +54,7 @@ module _ (found : Found) (rows : List Row) (parts : Parts) (are : rows_of found 
       ap is_from_words (source-rows found (name_of o)) ∙ ap (λ (rs : List Row). is_from_words (source_of (seen (name_of o) rs))) are
       ∙ defaults-no_use top.rules rows (name_of o) ∙ ap (λ (r : Option Row). is_from_words (source_of r)) (holds.option o)
       ∙ go (value_of parts.given o) ∙ is_some-map (λ (g : Given). g.value) (find (λ (g : Given). same_option g.option o) parts.given)
-      ∙ sym (any-find (λ (g : Given). same_option g.option o) parts.given)
+      ∙ sym (list_any-find (λ (g : Given). same_option g.option o) parts.given)
     where
       go : (v : Option (List ℕ)) → is_from_words (source_of (option_map (option_row o) v)) ≡ is_some v
       go None = refl

@@ -1,7 +1,7 @@
 -- What `clap`'s rows have for an id.
 use Rattle.std.proofs.Common.{◌≡◌, ◌∙◌, ◌&&◌, ◌||◌, Bool, cond, true, false, not, refl, sym, ap, List, [], ◌∷◌, ◌++◌, Option, Some, None, is_some, suc, length, arith, true≢false}
 use Rattle.std.specs.Prelude.{option_and_then}
-use Rattle.std.specs.List.{find, fold, list_all, list_any}
+use Rattle.std.specs.List.{find, fold, list_all}
 use Rattle.std.specs.Option.{option_map_or, option_or}
 use Rattle.std.specs.Str.{bytes_eq}
 use Rattle.std.proofs.lemmas.List.Folds.{find-append}
@@ -12,18 +12,11 @@ use Rattle.clap.specs.declared.builder.value_parser.Reading.{Reading}
 use Rattle.clap.specs.declared.parser.matches.ValueSource.{ValueSource}
 use Rattle.clap.specs.declared.parser.matches.ValueSource.TheVariants.{DefaultValue}
 use Rattle.pv_words.specs.Reading.{is_from_words}
+use Rattle.pv_path.proofs.Tests.{list_any-find}
 
 -- the row of an id
 abbrev pub seen : Text → List Row → Option Row
 seen id rows = find (λ r. bytes_eq r.id id) rows
-
-pub any-find : {X : Type 0} (p : X → Bool) (xs : List X) → list_any p xs ≡ is_some (find p xs)
-any-find p [] = refl
-any-find p (x ∷ xs) = go (p x) (any-find p xs)
-  where
-    go : (b : Bool) → list_any p xs ≡ is_some (find p xs) → (b || list_any p xs) ≡ is_some (cond b (Some x) (find p xs))
-    go true e = refl
-    go false e = e
 
 pub same-text : (a b : Text) → bytes_eq a b ≡ true → a ≡ b
 same-text a b e = (bytes_eq-Decides a b).0 e
@@ -82,7 +75,7 @@ seen-own id how s values (r ∷ rows) same = go (bytes_eq r.id id) refl (seen-ow
     go false here more = rw here more
 
 pub is-row : (id : Text) (rows : List Row) → has_row id rows ≡ is_some (seen id rows)
-is-row id rows = any-find (λ (r : Row). bytes_eq r.id id) rows
+is-row id rows = list_any-find (λ (r : Row). bytes_eq r.id id) rows
 
 -- ---- defaults
 

@@ -17,8 +17,8 @@ use Rattle.pv_words.specs.Meaning.{is_allowed, meaning_for, options_with}
 use Rattle.pv_words.specs.Parts.{begins_with_dash, is_dash}
 use Rattle.pv_words.specs.Table.{row_of}
 use Rattle.pv_words.specs.Values.{values_read}
-use Rattle.pv_words.specs.declared.fault.WordsFault.{WordsFault}
-use Rattle.pv_words.specs.declared.fault.WordsFault.TheVariants.{Usage, Memory}
+use Rattle.pv_words.specs.declared.words_fault.WordsFault.{WordsFault}
+use Rattle.pv_words.specs.declared.words_fault.WordsFault.TheVariants.{Usage, Memory}
 use Rattle.pv_words.specs.declared.option.OptionName.{OptionName}
 use Rattle.pv_words.specs.declared.options.Options.{Options}
 

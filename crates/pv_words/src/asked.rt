@@ -3,9 +3,9 @@ ghost use Rattle.std.specs.Prelude.{◌≡◌, map, string_bytes};
 ghost use Rattle.pv_words.specs.Answered.{Answers};
 ghost use Rattle.pv_words.specs.Asked.{asked_of, count_value, generate_by, generate_of};
 
-use crate::fault::WordsFault;
 use crate::options::{Options, options_of};
 use crate::values::decimal_value;
+use crate::words_fault::WordsFault;
 use std::alloc::Global;
 
 /// What the words of a command ask for.

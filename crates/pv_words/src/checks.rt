@@ -6,8 +6,8 @@ ghost use Rattle.pv_words.specs.Meaning.{has_file, has_needed, may_stand};
 ghost use Rattle.pv_words.specs.Reading.{files_in, is_allowed_in, is_found};
 ghost use Rattle.pv_words.specs.Table.{all_options, needed_by, suffices_for};
 
+use crate::matches::{has_dash, has_file_words, is_given};
 use crate::option::{OptionName, all_options};
-use crate::reading::{has_dash, has_file_words, is_given};
 use clap::ArgMatches;
 use pv_text::Tool;
 

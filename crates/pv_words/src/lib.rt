@@ -5,12 +5,12 @@
 mod asked;
 mod checks;
 mod command;
-mod fault;
+mod matches;
 mod option;
 mod options;
-mod reading;
 mod values;
+mod words_fault;
 
 pub use asked::{Asked, asked_of};
-pub use fault::WordsFault;
 pub use options::{Options, options_of};
+pub use words_fault::WordsFault;

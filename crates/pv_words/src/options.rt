@@ -8,10 +8,10 @@ ghost use Rattle.pv_words.specs.Reading.{files_in, is_found, options_in, value_i
 ghost use Rattle.pv_words.specs.Values.{values_read};
 
 use crate::checks::is_allowed;
-use crate::fault::WordsFault;
+use crate::matches::{files_of, is_given, matches_of, value_of};
 use crate::option::{OptionName, tool_named};
-use crate::reading::{files_of, is_given, matches_of, value_of};
 use crate::values::{decimal_in, moment_in, path_in};
+use crate::words_fault::WordsFault;
 use clap::ArgMatches;
 use pv_path::{TreePath, WordList};
 use pv_text::Tool;

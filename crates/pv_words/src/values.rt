@@ -5,7 +5,7 @@ ghost use Rattle.std.specs.Str.{all_ascii_digits};
 ghost use Rattle.pv_words.specs.Answered.{Answers};
 ghost use Rattle.pv_words.specs.Values.{decimal_value, micros_of, moment_value, optional, path_value, timestamp_value};
 
-use crate::fault::WordsFault;
+use crate::words_fault::WordsFault;
 use jiff::Timestamp;
 use pv_path::{PathFault, TreePath, parse_path};
 use std::alloc::Global;

@@ -1,9 +1,10 @@
 use Rattle.std.proofs.Common.{ℕ, List, Result, Err, ap, ◌∙◌, map}
 use Rattle.std.proofs.lemmas.Result.{err_from_is_err_and}
-use Rattle.pv_acl.specs.declared.fault.AclFault.{AclFault}
+use Rattle.pv_acl.specs.declared.acl_fault.AclFault.{AclFault}
 use Rattle.pv_acl.specs.declared.parse.PartEntry.{PartEntry}
 use Rattle.pv_acl.specs.Entries.{text_entry_of, line_of}
-use Rattle.pv_acl.proofs.Lines.{texts, entries_kept, entries_fault}
+use Rattle.pv_acl.proofs.Lines.{entries_kept, entries_fault}
+use Rattle.pv_path.proofs.Tests.{texts}
 use Rattle.pv_acl.proofs.parse.parse_acl.Goals as goal
 
 pub returns-in_err-add_entry-clause-reads : goal.returns-in_err-add_entry-clause-reads

@@ -1,7 +1,8 @@
 use Rattle.std.proofs.Common.{◌≡◌, true, drop, map, Ok}
 use Rattle.pv_acl.specs.Applying.{is_line}
 use Rattle.pv_acl.specs.Entries.{text_entry_of, line_of}
-use Rattle.pv_acl.proofs.Lines.{then_line, texts}
+use Rattle.pv_acl.proofs.Lines.{then_line}
+use Rattle.pv_path.proofs.Tests.{texts}
 use Rattle.pv_acl.proofs.parse.parse_acl.Given as goal
 
 abbrev pub invariant-loop-text : goal.invariant-loop-text

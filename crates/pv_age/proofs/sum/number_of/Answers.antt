@@ -1,5 +1,6 @@
 -- Digits are UTF-8.
-use Rattle.pv_age.proofs.DigitLaws.{digits-utf8, ok-from_cases}
+use Rattle.pv_path.proofs.Digits.{digits-utf8}
+use Rattle.pv_path.proofs.Tests.{ok-from_cases}
 use Rattle.pv_age.proofs.sum.number_of.Goals as goal
 
 pub unwrap-requires : goal.unwrap-requires

@@ -1,6 +1,7 @@
 use Rattle.std.proofs.Common.{ap, ◌∙◌, Err}
 use Rattle.std.proofs.lemmas.Result.{err_from_is_err_and}
-use Rattle.pv_path.proofs.Pieces.{text_is_names, texts, texts_fault, texts_kept}
+use Rattle.pv_path.proofs.Pieces.{text_is_names, texts_fault, texts_kept}
+use Rattle.pv_path.proofs.Tests.{texts}
 use Rattle.pv_path.proofs.parse.parse_names.Goals as goal
 
 pub add_piece-requires : goal.add_piece-requires

@@ -1,6 +1,7 @@
 -- Digits are UTF-8.
 use Rattle.std.proofs.Common.{◌∙◌, sym}
-use Rattle.pv_words.proofs.ValueLaws.{digits-utf8, ok-from_cases}
+use Rattle.pv_path.proofs.Digits.{digits-utf8}
+use Rattle.pv_path.proofs.Tests.{ok-from_cases}
 use Rattle.pv_words.proofs.values.decimal_value.Goals as goal
 
 pub unwrap-requires : goal.unwrap-requires

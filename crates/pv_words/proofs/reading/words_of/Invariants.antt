@@ -1,6 +1,0 @@
--- The words so far are copies of the texts so far.
-use Rattle.std.proofs.Common.{◌≡◌, map, take}
-use Rattle.pv_words.proofs.reading.words_of.Given as goal
-
-abbrev pub invariant-loop-text : goal.invariant-loop-text
-invariant-loop-text l = l.words ≡ map (λ t. t.now) (take l.text-index l.texts)
