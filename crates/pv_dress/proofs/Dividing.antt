@@ -24,7 +24,8 @@ use Rattle.pv_dress.specs.Reasons.{is_base, is_adjusting, is_append, is_masked, 
 use Rattle.pv_dress.specs.Dividing.{base_line, parts_of, parts}
 use Rattle.pv_dress.proofs.Settling.{settled_twice}
 use Rattle.pv_dress.proofs.Repeating.{run-append}
-use Rattle.pv_dress.proofs.PartChanges.{plain-part_after}
+use Rattle.pv_dress.proofs.PartChanges.{plain-part_after, same_part}
+use Rattle.pv_acl.proofs.Spelt.{after_add}
 
 module _ {B : Type 0} (attribute : Part → B) (local : (e : Entry) (p q : Part) → attribute p ≡ attribute q → attribute (put_entry p e) ≡ attribute (put_entry q e)) where
   same_after : (es : List Entry) (p q : Part) → attribute p ≡ attribute q → attribute (fold put_entry p es) ≡ attribute (fold put_entry q es)
@@ -112,17 +113,10 @@ kept_mask : (how : How) (p q : Part) → p.mask ≡ q.mask → (kept how p).mask
 kept_mask Replace p q h = refl
 kept_mask Add p q h = h
 
-added : (p : Part) (es : List Entry) → part_after Add p es ≡ fold put_entry p es
-added p [] = refl
-added p (e ∷ es) = refl
-
-same_part : (a b : Part) → a.owner ≡ b.owner → a.group ≡ b.group → a.other ≡ b.other → a.named ≡ b.named → a.mask ≡ b.mask → a ≡ b
-same_part a b o g t n m = λ i. record { owner = o i; group = g i; other = t i; named = n i; mask = m i }
-
 twice_added : {B : Type 0} (attribute : Part → B) (es : List Entry) → ((p : Part) → attribute (part_after Add (part_after Add p es) es) ≡ attribute (part_after Add p es))
     → (p : Part) → attribute (fold put_entry (fold put_entry p es) es) ≡ attribute (fold put_entry p es)
 twice_added attribute es h p =
-    ap attribute (sym (added (fold put_entry p es) es)) ∙ ap (λ (x : Part). attribute (part_after Add x es)) (sym (added p es)) ∙ h p ∙ ap attribute (added p es)
+    ap attribute (sym (after_add (fold put_entry p es) es)) ∙ ap (λ (x : Part). attribute (part_after Add x es)) (sym (after_add p es)) ∙ h p ∙ ap attribute (after_add p es)
 
 fold_once : (how : How) (es : List Entry) (p : Part) → fold put_entry (kept how (fold put_entry p (filter is_base es))) es ≡ fold put_entry (kept how p) es
 fold_once how es p = same_part _ _
@@ -134,7 +128,7 @@ fold_once how es p = same_part _ _
 
 part_once : (how : How) (es : List Entry) (p : Part) → part_after how (part_after Add p (filter is_base es)) es ≡ part_after how p es
 part_once how [] p = refl
-part_once how (e ∷ es) p = ap (λ (x : Part). fold put_entry (kept how x) (e ∷ es)) (added p (filter is_base (e ∷ es))) ∙ fold_once how (e ∷ es) p
+part_once how (e ∷ es) p = ap (λ (x : Part). fold put_entry (kept how x) (e ∷ es)) (after_add p (filter is_base (e ∷ es))) ∙ fold_once how (e ∷ es) p
 
 -- a base attribute after the base entries alone
 first_base : {B : Type 0} (attribute : Part → B) → ((e : Entry) (p q : Part) → attribute p ≡ attribute q → attribute (put_entry p e) ≡ attribute (put_entry q e))
@@ -147,14 +141,14 @@ first_base attribute local named mask keeps how (e ∷ es) p =
 -- the base entries of a line alone give a part the base entries that all give it, and leave the rest
 pub base_first : (how : How) (es : List Entry) (p : Part)
     → part_after Add p (filter is_base es) ≡ record p { owner = (part_after how p es).owner; group = (part_after how p es).group; other = (part_after how p es).other }
-base_first how es p = added p (filter is_base es) ∙ same_part _ _
+base_first how es p = after_add p (filter is_base es) ∙ same_part _ _
     (first_base (λ (p : Part). p.owner) local_owner (λ x p. refl) (λ x p. refl) kept_owner how es p)
     (first_base (λ (p : Part). p.group) local_group (λ x p. refl) (λ x p. refl) kept_group how es p)
     (first_base (λ (p : Part). p.other) local_other (λ x p. refl) (λ x p. refl) kept_other how es p)
     (base_leaves (λ (p : Part). p.named) local_named (λ x p. refl) (λ x p. refl) (λ x p. refl) es p)
     (base_leaves (λ (p : Part). p.mask) local_mask (λ x p. refl) (λ x p. refl) (λ x p. refl) es p)
 
-default_kept : (directory : Bool) (access : Part) (d : Option Part) → (if directory then default_after Add access d [] else d) ≡ d
+pub default_kept : (directory : Bool) (access : Part) (d : Option Part) → (if directory then default_after Add access d [] else d) ≡ d
 default_kept true access d = refl
 default_kept false access d = refl
 

@@ -7,12 +7,12 @@ use Rattle.pv_steps.specs.Objects.{bare}
 use Rattle.pv_steps.specs.Trees.{Files, places}
 use Rattle.pv_dress.specs.declared.bare.Dress.{Dress}
 use Rattle.pv_dress.specs.Edits.{SameOutside}
-use Rattle.pv_dress.specs.Dressing.{wear_first, Dressing, IsChanged, ChangedAt}
+use Rattle.pv_dress.specs.Dressing.{dressed_first, Dressing, IsChanged, ChangedAt}
 use Rattle.pv_dress.proofs.EditLaws.{on_at-else, put_at-else}
 
 -- stamps aside, dressing changes nothing but the object at its path, while it works
 pub outside_dressing : (path : Path) (new : Dress) (t u : Files) → Dressing path new t u → SameOutside (same_path path) t u
-outside_dressing path new t u h = λ q e. h.1 q ∙ ap (option_map bare) (on_at-else path q (wear_first h.0 new) (places t) e)
+outside_dressing path new t u h = λ q e. h.1 q ∙ ap (option_map bare) (on_at-else path q (dressed_first h.0 new) (places t) e)
 
 -- and when it is done, stamps included
 pub else_changed : (change : Object → Object) (path : Path) (now : ℕ) (t u : Files) → ChangedAt change path now t u

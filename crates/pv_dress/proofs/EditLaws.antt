@@ -3,7 +3,7 @@ use Rattle.std.specs.Prelude.{◌≡◌, ◌≢◌, ℕ, Bool, true, false, cond
 use Rattle.std.proofs.Common.{refl, sym, ap, subst, ◌∙◌, inl, inr, ◌⊎◌}
 use Rattle.std.proofs.lemmas.List.{append-nil}
 use Rattle.pv_path.specs.Paths.{Path, same_path, is_prefix, rest_under, parent_of, has_staging, same_path-decides}
-use Rattle.pv_path.proofs.PathLaws.{same_path-refl, parent_of-differs, has_staging-extends}
+use Rattle.pv_path.proofs.PathLaws.{same_path-refl, parent_of-differs, has_staging-extends, same_path-no}
 use Rattle.pv_steps.specs.declared.object.Object.{Object}
 use Rattle.pv_steps.specs.Objects.{bare, changed, modified}
 use Rattle.pv_steps.specs.Trees.{Files, Places}
@@ -20,9 +20,6 @@ path_cases p q = by (same_path p q) refl
     by : (b : Bool) → same_path p q ≡ b → (p ≡ q) ⊎ (same_path p q ≡ false)
     by true e = inl ((same_path-decides p q).0 e)
     by false e = inr e
-
-pub same_path-no : (p q : Path) → p ≢ q → same_path p q ≡ false
-same_path-no p q differ = elim (path_cases p q) [ inl e ↦ absurd (differ e) | inr e ↦ e ]
 
 pub put_at-here : (p : Path) (o : Option Object) (t : Places) → put_at p o t p ≡ o
 put_at-here p o t = ap (λ b. cond b o (t p)) (same_path-refl p)

@@ -1,4 +1,4 @@
-pub mod WearLaws
+pub mod ChangingLaws
 pub mod Settling
 pub mod Cutting
 pub mod Placing

@@ -22,7 +22,7 @@ pub record IsPlain (f : Part → Part) : Type 0 where
   pub named : Puts (λ (p : Part). p.named) f
   pub mask : Settled (λ (p : Part). p.mask) f
 
-same_part : (a b : Part) → a.owner ≡ b.owner → a.group ≡ b.group → a.other ≡ b.other → a.named ≡ b.named → a.mask ≡ b.mask → a ≡ b
+pub same_part : (a b : Part) → a.owner ≡ b.owner → a.group ≡ b.group → a.other ≡ b.other → a.named ≡ b.named → a.mask ≡ b.mask → a ≡ b
 same_part a b o g t n m = λ i. record { owner = o i; group = g i; other = t i; named = n i; mask = m i }
 
 pub plain_twice : (f : Part → Part) → IsPlain f → (p : Part) → f (f p) ≡ f p

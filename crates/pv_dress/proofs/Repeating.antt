@@ -43,7 +43,7 @@ any-front p xs ys h = (or_parts (list_any p xs) (list_any p ys) (sym (list_any-a
 
 -- ---- what stays in the place of a new object
 
-same_kind-refl : (k : Kind) → same_kind k k ≡ true
+pub same_kind-refl : (k : Kind) → same_kind k k ≡ true
 same_kind-refl Directory = refl
 same_kind-refl File = refl
 same_kind-refl Link = refl

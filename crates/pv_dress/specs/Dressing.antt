@@ -14,9 +14,9 @@ use Rattle.pv_steps.specs.Steps.{on_at, put_at}
 use Rattle.pv_steps.specs.Same.{bares}
 use Rattle.pv_dress.specs.declared.bare.Dress.{Dress}
 
--- ---- what an object is to wear
+-- ---- the dress of an object
 
--- a dress that an object of a kind can wear
+-- a dress that an object of a kind can have
 pub record IsDress (kind : Kind) (new : Dress) : Type 0 where
   pub owner : IsId new.uid × IsId new.gid
   pub special : new.special ≤ 7
@@ -30,39 +30,39 @@ abbrev pub dress_mode : Dress → ℕ
 dress_mode new = mode_of new.special new.acl.access
 
 -- an object with the owners of a dress, stamps left as they are
-abbrev pub wear_owner : Dress → Object → Object
-wear_owner new o = record o { node = record o.node { uid = new.uid; gid = new.gid } }
+abbrev pub dressed_owner : Dress → Object → Object
+dressed_owner new o = record o { node = record o.node { uid = new.uid; gid = new.gid } }
 
 -- an object with the mode of a dress, stamps left as they are
-abbrev pub wear_mode : Dress → Object → Object
-wear_mode new o = record o { node = record o.node { special = new.special; acl = record o.node.acl { access = parts.with_mode (dress_mode new) o.node.acl.access } } }
+abbrev pub dressed_mode : Dress → Object → Object
+dressed_mode new o = record o { node = record o.node { special = new.special; acl = record o.node.acl { access = parts.with_mode (dress_mode new) o.node.acl.access } } }
 
 -- an object with the ACL of a dress, stamps left as they are
-abbrev pub wear_acl : Dress → Object → Object
-wear_acl new o = record o { node = record o.node { acl = new.acl } }
+abbrev pub dressed_acl : Dress → Object → Object
+dressed_acl new o = record o { node = record o.node { acl = new.acl } }
 
 -- an object with the extended attributes of a dress, stamps left as they are
-abbrev pub wear_attrs : Dress → Object → Object
-wear_attrs new o = record o { node = record o.node { attrs = new.attrs } }
+abbrev pub dressed_attrs : Dress → Object → Object
+dressed_attrs new o = record o { node = record o.node { attrs = new.attrs } }
 
 -- an object with the letters of a dress, stamps left as they are
-abbrev pub wear_letters : Dress → Object → Object
-wear_letters new o = record o { node = record o.node { letters = new.letters } }
+abbrev pub dressed_letters : Dress → Object → Object
+dressed_letters new o = record o { node = record o.node { letters = new.letters } }
 
 -- an object in its new dress, stamps left as they are
-abbrev pub wear : Dress → Object → Object
-wear new o = record o { node = record o.node { uid = new.uid; gid = new.gid; special = new.special; acl = new.acl; attrs = new.attrs; letters = new.letters } }
+abbrev pub dressed : Dress → Object → Object
+dressed new o = record o { node = record o.node { uid = new.uid; gid = new.gid; special = new.special; acl = new.acl; attrs = new.attrs; letters = new.letters } }
 
 -- the changes that a dress makes, in order
-abbrev pub wear_changes : Dress → List (Object → Object)
-wear_changes new = wear_owner new ∷ wear_mode new ∷ wear_acl new ∷ wear_attrs new ∷ wear_letters new ∷ []
+abbrev pub dressed_changes : Dress → List (Object → Object)
+dressed_changes new = dressed_owner new ∷ dressed_mode new ∷ dressed_acl new ∷ dressed_attrs new ∷ dressed_letters new ∷ []
 
 -- an object after the first of them
-abbrev pub wear_first : ℕ → Dress → Object → Object
-wear_first k new o = fold (λ x change. change x) o (take k (wear_changes new))
+abbrev pub dressed_first : ℕ → Dress → Object → Object
+dressed_first k new o = fold (λ x change. change x) o (take k (dressed_changes new))
 
 -- an object stands at a path, and the dress is one for its kind
-pub record CanWear (t : Files) (path : Path) (new : Dress) : Type 0 where
+pub record CanDress (t : Files) (path : Path) (new : Dress) : Type 0 where
   pub kind : Kind
   pub there : IsKind kind t path
   pub dress : IsDress kind new
@@ -73,9 +73,9 @@ IsKeptBy change path t = (o : Object) → places t path ≡ Some o → change o 
 
 -- ---- what dressing does
 
--- on the way, stamps aside: the object at the path wears the first of the changes, and nothing else has changed
+-- on the way, stamps aside: the object at the path has the first of the changes, and nothing else has changed
 abbrev pub Dressing : Path → Dress → Files → Files → Type 0
-Dressing path new t u = (k : ℕ) × ((q : Path) → bares (places u) q ≡ bares (on_at path (wear_first k new) (places t)) q)
+Dressing path new t u = (k : ℕ) × ((q : Path) → bares (places u) q ≡ bares (on_at path (dressed_first k new) (places t)) q)
 
 -- the object at a path lacks a part of a dress
 abbrev pub Lacks : {A : Type 0} → (Object → A) → A → Path → Files → Type 0
@@ -83,7 +83,7 @@ Lacks part new path t = (o : Object) → places t path ≡ Some o → part o ≢
 
 -- owner and mode alone do not give the object at a path the ACL of the dress
 abbrev pub NeedsAcl : Path → Dress → Files → Type 0
-NeedsAcl path new t = Lacks (λ o. (wear_first 2 new o).node.acl) new.acl path t
+NeedsAcl path new t = Lacks (λ o. (dressed_first 2 new o).node.acl) new.acl path t
 
 -- a step gives the object at the path what the dress has, the ACL only where owner and mode do not give it,
 -- extended attributes and letters only where it has others

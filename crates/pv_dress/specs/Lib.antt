@@ -1,6 +1,6 @@
 pub mod Edits
 pub mod Dressing
-pub mod Wearing
+pub mod Changing
 pub mod Nodes
 pub mod Masks
 pub mod Operations

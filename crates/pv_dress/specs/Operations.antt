@@ -32,7 +32,7 @@ stays test new old =
     (same_kind new.kind old.kind && (not test.exact || same_substance new old))
     || (test.spares_directories && is_directory old.kind)
 
--- what an object of a kind wears after its mode is set, masked or not
+-- what an object of a kind has after its mode is set, masked or not
 abbrev pub with_mode : Kind → ℕ → Bool → Dress → Dress
 with_mode kind mode false d = record d { special = special_of mode; acl = record d.acl { access = parts.with_mode mode d.acl.access } }
 with_mode kind mode true d = record d { special = masked_special kind mode; acl = record d.acl { access = with_masked mode d.acl.access } }

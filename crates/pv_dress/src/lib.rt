@@ -3,14 +3,14 @@
 #![tactic(auto)]
 
 mod bare;
+mod dressing;
 mod laws;
 mod mask;
 mod operation;
 mod run;
-mod same;
-mod wear;
 
 pub use bare::{Bare, Body, Dress};
+pub use dressing::dress;
 pub use laws::{
     a_first_renewal_absorbs_what_was_there, a_list_with_an_erasure_leaves_the_same,
     a_mask_takes_nothing_from_a_part_with_its_mode, a_mask_takes_nothing_from_its_own_mode,
@@ -20,4 +20,3 @@ pub use laws::{
 pub use mask::{masked_special, set_masked_base};
 pub use operation::{Change, Guard, Operation, Test};
 pub use run::{admits, run_operations, stays};
-pub use wear::dress;

@@ -5,18 +5,17 @@ use Rattle.std.specs.FinMap.Entries.{below_all, find, is_sorted}
 use Rattle.std.specs.Option.{option_or}
 use Rattle.std.specs.Prelude.{slice_get}
 use Rattle.std.specs.Ordering.{eq_by_cmp, is_eq, is_lt, ordering_reverse}
-use Rattle.std.specs.declared.cmp.Ordering.{Ordering}
-use Rattle.std.specs.declared.cmp.Ordering.TheVariants.{Less, Equal, Greater}
+use Rattle.std.specs.declared.cmp.Ordering.TheVariants.{Less}
 use Rattle.pv_path.specs.Paths.{Path, parent_of, path_cmp, path_exact, path_total}
-use Rattle.pv_path.proofs.PathLaws.{parent_of-differs, parent_of-is_prefix, path_cmp-exact, path_cmp-refl, prefix_not_greater}
+use Rattle.pv_path.proofs.PathLaws.{path_cmp-refl, parent_of-less}
 use Rattle.pv_steps.specs.declared.node.Kind.{Kind}
 use Rattle.pv_steps.specs.declared.node.Kind.TheVariants.{Directory}
 use Rattle.pv_steps.specs.declared.object.Object.{Object}
 use Rattle.pv_steps.specs.Objects.{IsObject, PayloadFits}
 use Rattle.pv_steps.specs.Trees.{Files, IsKind, IsTree, kind_of, places}
-use Rattle.pv_steps.proofs.NameLaws.{both_T, less_T}
 use Rattle.pv_tree.specs.Held.{root_alone}
 use Rattle.pv_generate.proofs.PlanLaws.{Planned, held}
+use Rattle.pv_path.proofs.Tests.{equal_of, less_of-T, each_T}
 
 -- of a wanted tree all up to a path is there, and the other entries are left
 pub record IsGrowing (wanted files : Files) (last : Path) (left : Planned) : Type 0 where
@@ -34,17 +33,9 @@ or_none (Some o) = refl
 find_less : (q p : Path) (es : Planned) → path_cmp q p ≡ Less → T (below_all path_cmp p es) → find path_cmp q es ≡ None
 find_less q p [] less h = refl
 find_less q p (e ∷ es) less h =
-    let parts = both_T (is_lt (path_cmp p e.0)) (below_all path_cmp p es) h in
-    let far : path_cmp q e.0 ≡ Less = path_total.trans q p e.0 less (less_T (path_cmp p e.0) parts.0) in
+    let parts = each_T (is_lt (path_cmp p e.0)) (below_all path_cmp p es) h in
+    let far : path_cmp q e.0 ≡ Less = path_total.trans q p e.0 less (less_of-T (path_cmp p e.0) parts.0) in
     rw far (find_less q p es less parts.1)
-
-parent_less : (p : Path) → p ≢ [] → path_cmp (parent_of p) p ≡ Less
-parent_less p other = by (path_cmp (parent_of p) p) refl
-  where
-    by : (r : Ordering) → path_cmp (parent_of p) p ≡ r → path_cmp (parent_of p) p ≡ Less
-    by Less e = e
-    by Equal e = absurd (parent_of-differs p other (path_cmp-exact (parent_of p) p e))
-    by Greater e = absurd (prefix_not_greater (parent_of p) p (parent_of-is_prefix p) e)
 
 not_root : (last p : Path) → path_cmp last p ≡ Less → p ≢ []
 not_root [] [] less = cc
@@ -55,23 +46,18 @@ not_root (n ∷ last) (m ∷ p) less = λ e. cc
 greater : (p q : Path) → path_cmp p q ≡ Less → eq_by_cmp path_cmp q p ≡ false
 greater p q less = ap is_eq (path_total.antisymm q p ∙ ap ordering_reverse less)
 
-pub equal_of : (r : Ordering) → is_eq r ≡ true → r ≡ Equal
-equal_of Less h = cc
-equal_of Equal h = refl
-equal_of Greater h = cc
-
 -- ---- the next entry
 
 module _ (wanted files : Files) (last p : Path) (o : Object) (left : Planned) (g : IsGrowing wanted files last ((p, o) ∷ left)) where
   -- it comes after the last path
   pub comes_after : path_cmp last p ≡ Less
-  comes_after = less_T (path_cmp last p) (both_T (is_lt (path_cmp last p)) (below_all path_cmp last left) g.next).0
+  comes_after = less_of-T (path_cmp last p) (each_T (is_lt (path_cmp last p)) (below_all path_cmp last left) g.next).0
 
   pub is_after : is_lt (path_cmp last p) ≡ true
   is_after = ap is_lt comes_after
 
   below_left : T (below_all path_cmp p left)
-  below_left = (both_T (below_all path_cmp p left) (is_sorted path_cmp left) g.sorted).0
+  below_left = (each_T (below_all path_cmp p left) (is_sorted path_cmp left) g.sorted).0
 
   wanted_there : places wanted p ≡ Some o
   wanted_there =
@@ -86,7 +72,7 @@ module _ (wanted files : Files) (last p : Path) (o : Object) (left : Planned) (g
   pub has_parent : IsTree wanted → IsKind Directory files (parent_of p)
   has_parent tree =
       let other : p ≢ [] = not_root last p comes_after in
-      let less : path_cmp (parent_of p) p ≡ Less = parent_less p other in
+      let less : path_cmp (parent_of p) p ≡ Less = parent_of-less p other in
       let none : find path_cmp (parent_of p) ((p, o) ∷ left) ≡ None = ap (λ r. cond (is_eq r) (Some o) (find path_cmp (parent_of p) left)) less ∙ find_less (parent_of p) p left less below_left in
       let same : places wanted (parent_of p) ≡ places files (parent_of p) = g.split (parent_of p) ∙ ap (option_or (places files (parent_of p))) none ∙ or_none (places files (parent_of p)) in
       sym (ap kind_of same) ∙ tree.parents p (ap is_some wanted_there) other
@@ -102,7 +88,7 @@ module _ (wanted files : Files) (last p : Path) (o : Object) (left : Planned) (g
   -- and then it is there too
   pub grown : IsGrowing wanted (fin.insert files p o) p left
   grown = record {
-    sorted = (both_T (below_all path_cmp p left) (is_sorted path_cmp left) g.sorted).1;
+    sorted = (each_T (below_all path_cmp p left) (is_sorted path_cmp left) g.sorted).1;
     next = below_left;
     past = λ q less. fin.get-insert path_total files p o q
         ∙ ap (λ b. cond b (Some o) (places files q)) (greater p q less)
@@ -122,7 +108,7 @@ module _ (p : Path) (o : Object) (left : Planned) (rise : T (is_sorted path_cmp 
   found q = fin.get-from_entries path_total ((p, o) ∷ left) q
 
   below_first : T (below_all path_cmp p left)
-  below_first = (both_T (below_all path_cmp p left) (is_sorted path_cmp left) rise).0
+  below_first = (each_T (below_all path_cmp p left) (is_sorted path_cmp left) rise).0
 
   root_kind : kind_of (find path_cmp [] ((p, o) ∷ left)) ≡ Some Directory
   root_kind = ap kind_of (sym (found [])) ∙ tree.root
@@ -175,7 +161,7 @@ module _ (p : Path) (o : Object) (left : Planned) (rise : T (is_sorted path_cmp 
   -- with which a tree begins to grow
   pub start : IsGrowing (held ((p, o) ∷ left)) (root_alone o.node) [] left
   start = record {
-    sorted = (both_T (below_all path_cmp p left) (is_sorted path_cmp left) rise).1;
+    sorted = (each_T (below_all path_cmp p left) (is_sorted path_cmp left) rise).1;
     next = subst (λ (r : Path). T (below_all path_cmp r left)) first_root below_first;
     past = λ q less. alone q ∙ ap (λ b. cond b (Some o) None) (greater [] q less);
     split = λ q. found q

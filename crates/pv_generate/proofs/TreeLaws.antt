@@ -23,7 +23,7 @@ use Rattle.pv_steps.proofs.ObjectLaws.{IsObject-fresh}
 use Rattle.pv_steps.proofs.TreeLaws.{IsTreeIn-put}
 use Rattle.pv_generate.specs.Trees.{conf_path, data_path, directory, etc_path, file, folder_path, folders, generated, group_path, numbered, old_path, with_groups, with_olds}
 use Rattle.pv_generate.specs.Lines.{lines_of}
-use Rattle.pv_generate.proofs.GrowLaws.{equal_of}
+use Rattle.pv_path.proofs.Tests.{equal_of}
 
 -- ---- one object put
 

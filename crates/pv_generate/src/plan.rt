@@ -51,7 +51,7 @@ impl Plan {
         Ok(())
     }
 
-    /// The tree as planned, with no step told.
+    /// The tree as planned, with no step recorded.
     pub(crate) fn grow(self, alloc: Global) -> Result<MemTree, AllocError>
         requires { IsTree self }
         ensures { IfOk result (λ tree. tree ≡ record { files = self; steps = [] }) }

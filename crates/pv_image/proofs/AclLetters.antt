@@ -1,10 +1,9 @@
 -- Which letters stand in the entries of an ACL.
-use Rattle.std.proofs.Common.{◌≡◌, ℕ, ◌<◌, ◌^◌, Bool, true, false, ◌&&◌, ◌==◌, List, [], ◌∷◌, ◌++◌, map, filter, codes, Option, Some, None, refl, arith}
+use Rattle.std.proofs.Common.{◌≡◌, ℕ, ◌<◌, ◌^◌, Bool, true, false, ◌&&◌, ◌==◌, List, [], ◌∷◌, ◌++◌, map, filter, codes, Option, Some, None, refl}
 use Rattle.std.specs.Prelude.{bit_and}
 use Rattle.std.specs.List.{list_all}
 use Rattle.std.specs.Fmt.{decimal}
 use Rattle.std.specs.Option.{option_map_or}
-use Rattle.std.proofs.lemmas.Bool.Decides.{nat_tests}
 use Rattle.std.proofs.lemmas.Bool.{and_parts, and_from}
 use Rattle.pv_acl.specs.declared.part.Acl.{Acl}
 use Rattle.pv_acl.specs.declared.part.Part.{Part}
@@ -15,9 +14,7 @@ use Rattle.pv_acl.specs.NamedEntries.{id_of, is_id, is_named, is_ordered, is_per
 use Rattle.pv_acl.specs.Parts.{is_acl, is_part}
 use Rattle.pv_acl.specs.Texts.{access_texts, default_texts, is_group, is_user, letter, mask_texts, named_text, part_texts, perm_text, who_text}
 use Rattle.pv_text.proofs.Characters.{all_append, all_weaker, digits_alone, is_digit}
-
-pub id_fits : (id : ℕ) → is_id id ≡ true → id < 2 ^ 64
-id_fits id e = grind (arith, nat_tests)
+use Rattle.pv_acl.proofs.Rereading.{id_fits}
 
 pub all_filter : {A : Type 0} (p q : A → Bool) (xs : List A) → list_all p xs ≡ true → list_all p (filter q xs) ≡ true
 all_filter p q [] e = refl

@@ -18,8 +18,8 @@ use Rattle.pv_text.specs.Lines.{lacks}
 use Rattle.pv_image.specs.Reading.{AreAttrs, IsAttr, IsByteText, Reads, texts}
 use Rattle.pv_text.proofs.Characters.{all_append, all_back, all_joined, hex_lacks, plain_lacks, printed_all}
 use Rattle.pv_image.proofs.Cutting.{are_apart, split_join}
-use Rattle.pv_image.proofs.Paths.{get_or-texts}
 use Rattle.pv_image.proofs.Printing.{printed_by-injective}
+use Rattle.pv_path.proofs.Tests.{get_or-texts, map-push}
 
 -- ---- what the hidden bytes are for
 
@@ -161,16 +161,12 @@ attrs_reads text other None none = by_list
     by_list [] is e = other e
     by_list (attr ∷ attrs) is e = none (attr ∷ attrs) is (ap (slice_split (λ b. b == 44)) e ∙ attrs_again attr attrs)
 
-map-append_one : {A B : Type 0} (f : A → B) (xs : List A) (x : A) → map f (xs ++ x ∷ []) ≡ map f xs ++ f x ∷ []
-map-append_one f [] x = refl
-map-append_one f (y ∷ xs) x = ap (λ ys. f y ∷ ys) (map-append_one f xs x)
-
 pub pieces_more : (pieces : List (Bor (List ℕ))) (i : ℕ) (d : Bor (List ℕ)) (attrs : List Attr) (attr : Attr) → i < length pieces → take i (texts pieces) ≡ map attr_text attrs → (get_or pieces i d).now ≡ attr_text attr
     → take (i + 1) (texts pieces) ≡ map attr_text (attrs ++ attr ∷ [])
 pieces_more pieces i d attrs attr h so_far is =
     let fits : i < length (texts pieces) = simp length-map h in
     let here : get_or (texts pieces) i d.now ≡ attr_text attr = get_or-texts pieces i d ∙ is in
-    take_more (texts pieces) i d.now fits ∙ rw (so_far, here) (sym (map-append_one attr_text attrs attr))
+    take_more (texts pieces) i d.now fits ∙ rw (so_far, here) (sym (map-push attr_text attrs attr))
 
 -- a piece that is no attribute is in no list
 pub pieces_none : (pieces : List (Bor (List ℕ))) (i : ℕ) (d : Bor (List ℕ)) → i < length pieces → ((attr : Attr) → IsAttr attr → (get_or pieces i d).now ≢ attr_text attr) → (xs : List Attr) → AreAttrs xs → texts pieces ≢ map attr_text xs

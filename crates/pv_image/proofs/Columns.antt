@@ -2,7 +2,6 @@
 use Rattle.std.proofs.Common.{◌≡◌, ◌≢◌, ℕ, ◌+◌, ◌*◌, ◌/◌, ◌%◌, ◌≤◌, true, ◌&&◌, ◌==◌, List, [], ◌∷◌, ◌++◌, Option, Some, None, refl, sym, ap, ◌∙◌, subst, arith, if◌then◌else◌}
 use Rattle.std.specs.List.{list_all}
 use Rattle.std.specs.Option.{option_map_or}
-use Rattle.std.proofs.lemmas.Bool.Decides.{nat_tests}
 use Rattle.std.proofs.lemmas.Bool.{and_parts}
 use Rattle.pv_acl.specs.declared.part.Acl.{Acl}
 use Rattle.pv_acl.specs.declared.part.Part.{Part}
@@ -21,6 +20,7 @@ use Rattle.pv_image.specs.declared.payload.Payload.{Payload}
 use Rattle.pv_image.specs.declared.version.Version.{Version}
 use Rattle.pv_image.specs.Spelling.{HasNames, IsEntry, IsExtras, IsPayload, columns, extra_texts, extras_of, kind_text, mode_text, payload_of, payload_text}
 use Rattle.pv_image.specs.Nodes.{IsAclOf, IsPlain, object_of, plain_texts}
+use Rattle.pv_acl.proofs.Allowed.{perm_fits}
 
 -- ---- the letter of a kind, and the digits of a mode
 
@@ -70,9 +70,6 @@ pub record BaseFits (part : Part) : Type 0 where
   pub group : part.group ≤ 7
   pub other : part.other ≤ 7
 
-perm_is : (p : ℕ) → is_perm p ≡ true → p ≤ 7
-perm_is p e = grind (arith, nat_tests)
-
 base_fits : (part : Part) → is_part part ≡ true → BaseFits part
 base_fits part e =
     let o = is_perm part.owner in
@@ -85,7 +82,7 @@ base_fits part e =
     let three = (and_parts (o && g && t) n four).0 in
     let two = and_parts (o && g) t three in
     let one = and_parts o g two.0 in
-    record { owner = perm_is part.owner one.0; group = perm_is part.group one.1; other = perm_is part.other two.1 }
+    record { owner = perm_fits part.owner one.0; group = perm_fits part.group one.1; other = perm_fits part.other two.1 }
 
 access_is : (acl : Acl) → is_acl acl ≡ true → is_part acl.access ≡ true
 access_is acl e = (and_parts (is_part acl.access) (option_map_or is_part acl.default_part true) e).0

@@ -69,7 +69,7 @@ encoded_some b [] e = cc
 encoded_some b (c ∷ []) e = cc
 encoded_some b (c ∷ d ∷ m) e = cc
 
-encoded_no_dash : (m : List ℕ) → encode_of standard m ≢ codes "-"
+pub encoded_no_dash : (m : List ℕ) → encode_of standard m ≢ codes "-"
 encoded_no_dash m e =
     let all : list_all (λ c. not (c == 45)) (encode_of standard m) ≡ true = encoded_all (λ c. not (c == 45)) refl refl refl m in
     let bad : list_all (λ c. not (c == 45)) (codes "-") ≡ true = rw e at all in

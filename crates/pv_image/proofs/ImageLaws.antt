@@ -1,28 +1,27 @@
 -- An image has no fault, and bytes are an image of one pair of facts and tree, or have one fault.
-use Rattle.std.proofs.Common.{◌≡◌, ◌≢◌, ℕ, suc, Bool, true, false, not, ◌&&◌, ◌==◌, List, [], ◌∷◌, ◌++◌, map, Option, Some, None, Result, Ok, Err, IfOk, IfErr, inl, inr, ◌⊎◌, is_some, cond, refl, sym, ap, ◌∙◌, subst, T, append_assoc, append-nil}
+use Rattle.std.proofs.Common.{◌≡◌, ◌≢◌, ℕ, suc, true, false, not, ◌&&◌, ◌==◌, List, [], ◌∷◌, ◌++◌, map, Option, Some, None, Result, Ok, Err, IfOk, IfErr, inl, inr, ◌⊎◌, is_some, cond, refl, sym, ap, ◌∙◌, subst, T, append_assoc, append-nil}
 use Rattle.std.specs.List.{AllByRecursion, cons_option, filter_map, flat_map, list_all}
 use Rattle.std.specs.Ordering.{eq_by_cmp, is_lt, nat_cmp}
 use Rattle.std.specs.Cmp.{IsTotalOrder, tied_itself}
 use Rattle.std.specs.FinMap as fin
 use Rattle.std.specs.FinMap.Entries.{below_all}
 use Rattle.std.specs.declared.cmp.Ordering.{Ordering}
-use Rattle.std.specs.declared.cmp.Ordering.TheVariants.{Less, Equal, Greater}
+use Rattle.std.specs.declared.cmp.Ordering.TheVariants.{Less, Greater}
 use Rattle.std.proofs.lemmas.List.Concat.{flat_map-append}
 use Rattle.std.proofs.lemmas.Bool.{and_parts, and_from}
 use Rattle.pv_path.specs.Paths.{Path, parent_of, path_cmp, path_total, same_path}
-use Rattle.pv_path.proofs.PathLaws.{parent_of-differs, parent_of-is_prefix, path_cmp-exact, prefix_not_greater}
+use Rattle.pv_path.proofs.PathLaws.{parent_of-less}
 use Rattle.pv_steps.specs.Objects.{is_directory}
 use Rattle.pv_steps.specs.declared.node.Kind.TheVariants.{Directory}
 use Rattle.pv_steps.specs.declared.object.Object.{Object}
 use Rattle.pv_steps.specs.Trees.{Files, IsTree, kind_of, places}
-use Rattle.pv_steps.proofs.NameLaws.{both_T, less_T}
 use Rattle.pv_text.specs.Facts.{Values}
 use Rattle.pv_image.specs.Spelling.{IsEntry, Shows, end_text, extras_of, fact_text, header_text, line, node_text, old_text_of, text_in, text_of}
 use Rattle.pv_text.specs.Lines.{is_line}
 use Rattle.pv_image.specs.Images.{HasFault, cut_off, misspelt, misplaced, later, HasImageFault, HaveText, IsCut, IsImage, Spells, Stage, Before, InFacts, InNodes, After, What, Note, Header, Fact, Node, End, follows, has_parent, is_byte_fact, is_note, is_root, judged}
 use Rattle.pv_image.specs.Progress.{Fails}
-use Rattle.pv_image.specs.declared.fault.ImageFault.{ImageFault}
-use Rattle.pv_image.specs.declared.fault.ImageFault.TheVariants as fault
+use Rattle.pv_image.specs.declared.image_fault.ImageFault.{ImageFault}
+use Rattle.pv_image.specs.declared.image_fault.ImageFault.TheVariants as fault
 use Rattle.pv_image.specs.declared.version.Version.{Version}
 use Rattle.pv_image.specs.declared.version.Version.TheVariants.{One, Two}
 use Rattle.pv_text.proofs.Characters.{all_append, all_back}
@@ -31,10 +30,7 @@ use Rattle.pv_image.proofs.Order.{any_dir, dir_at, turned}
 use Rattle.pv_image.proofs.Solid.{node_whole}
 use Rattle.pv_image.proofs.Stages.{one_cut, same_version-self}
 use Rattle.pv_image.proofs.OnceLine.{spells_once}
-
-held_both : (a b : Bool) → T a → T b → T (a && b)
-held_both true b p q = q
-held_both false b p q = p
+use Rattle.pv_path.proofs.Tests.{less_of-T, each_T, both_T}
 
 -- ---- one line on
 
@@ -70,56 +66,48 @@ first_cut text rest e = record { bytes_are = refl; whole = e }
 
 module _ {K X : Type 0} (R : K → K → Ordering) where
   below_back : (k : K) (done : List (K × X)) (e : K × X) (es : List (K × X)) → T (below_all R k (done ++ e ∷ es)) → R k e.0 ≡ Less
-  below_back k [] e es h = less_T (R k e.0) (both_T (is_lt (R k e.0)) (below_all R k es) h).0
-  below_back k (x ∷ done) e es h = below_back k done e es (both_T (is_lt (R k x.0)) (below_all R k (done ++ e ∷ es)) h).1
+  below_back k [] e es h = less_of-T (R k e.0) (each_T (is_lt (R k e.0)) (below_all R k es) h).0
+  below_back k (x ∷ done) e es h = below_back k done e es (each_T (is_lt (R k x.0)) (below_all R k (done ++ e ∷ es)) h).1
 
   -- the next entry follows those before it
   follows_sorted : (done : List (K × X)) (e : K × X) (es : List (K × X)) → T (fin.is_sorted R (done ++ e ∷ es)) → follows R done e.0 ≡ true
   follows_sorted [] e es h = refl
-  follows_sorted (x ∷ []) e es h = ap is_lt (below_back x.0 [] e es (both_T (below_all R x.0 (e ∷ es)) (fin.is_sorted R (e ∷ es)) h).0)
-  follows_sorted (x ∷ y ∷ done) e es h = follows_sorted (y ∷ done) e es (both_T (below_all R x.0 (y ∷ done ++ e ∷ es)) (fin.is_sorted R (y ∷ done ++ e ∷ es)) h).1
+  follows_sorted (x ∷ []) e es h = ap is_lt (below_back x.0 [] e es (each_T (below_all R x.0 (e ∷ es)) (fin.is_sorted R (e ∷ es)) h).0)
+  follows_sorted (x ∷ y ∷ done) e es h = follows_sorted (y ∷ done) e es (each_T (below_all R x.0 (y ∷ done ++ e ∷ es)) (fin.is_sorted R (y ∷ done ++ e ∷ es)) h).1
 
   below_front : (k : K) (done es : List (K × X)) → T (below_all R k (done ++ es)) → T (below_all R k done)
   below_front k [] es h = tt
-  below_front k (x ∷ done) es h = held_both (is_lt (R k x.0)) (below_all R k done) (both_T (is_lt (R k x.0)) (below_all R k (done ++ es)) h).0 (below_front k done es (both_T (is_lt (R k x.0)) (below_all R k (done ++ es)) h).1)
+  below_front k (x ∷ done) es h = both_T (is_lt (R k x.0)) (below_all R k done) (each_T (is_lt (R k x.0)) (below_all R k (done ++ es)) h).0 (below_front k done es (each_T (is_lt (R k x.0)) (below_all R k (done ++ es)) h).1)
 
   sorted_front : (done es : List (K × X)) → T (fin.is_sorted R (done ++ es)) → T (fin.is_sorted R done)
   sorted_front [] es h = tt
   sorted_front (x ∷ done) es h =
-      held_both (below_all R x.0 done) (fin.is_sorted R done) (below_front x.0 done es (both_T (below_all R x.0 (done ++ es)) (fin.is_sorted R (done ++ es)) h).0)
-      (sorted_front done es (both_T (below_all R x.0 (done ++ es)) (fin.is_sorted R (done ++ es)) h).1)
+      both_T (below_all R x.0 done) (fin.is_sorted R done) (below_front x.0 done es (each_T (below_all R x.0 (done ++ es)) (fin.is_sorted R (done ++ es)) h).0)
+      (sorted_front done es (each_T (below_all R x.0 (done ++ es)) (fin.is_sorted R (done ++ es)) h).1)
 
   module _ (o : IsTotalOrder R) where
     -- an entry is found at its key
     find_at : (done : List (K × X)) (e : K × X) (es : List (K × X)) → T (fin.is_sorted R (done ++ e ∷ es)) → fin.find R e.0 (done ++ e ∷ es) ≡ Some e.1
     find_at [] e es h = rw (tied_itself o e.0) refl
     find_at (x ∷ done) e es h =
-        let less : R x.0 e.0 ≡ Less = below_back x.0 done e es (both_T (below_all R x.0 (done ++ e ∷ es)) (fin.is_sorted R (done ++ e ∷ es)) h).0 in
+        let less : R x.0 e.0 ≡ Less = below_back x.0 done e es (each_T (below_all R x.0 (done ++ e ∷ es)) (fin.is_sorted R (done ++ e ∷ es)) h).0 in
         let greater : R e.0 x.0 ≡ Greater = turned o x.0 e.0 (ap is_lt less) in
-        rw greater (find_at done e es (both_T (below_all R x.0 (done ++ e ∷ es)) (fin.is_sorted R (done ++ e ∷ es)) h).1)
+        rw greater (find_at done e es (each_T (below_all R x.0 (done ++ e ∷ es)) (fin.is_sorted R (done ++ e ∷ es)) h).1)
 
     find_below : (q k : K) (es : List (K × X)) → R q k ≡ Less → T (below_all R k es) → fin.find R q es ≡ None
     find_below q k [] less h = refl
     find_below q k (x ∷ es) less h =
-        let next : R k x.0 ≡ Less = less_T (R k x.0) (both_T (is_lt (R k x.0)) (below_all R k es) h).0 in
+        let next : R k x.0 ≡ Less = less_of-T (R k x.0) (each_T (is_lt (R k x.0)) (below_all R k es) h).0 in
         let far : R q x.0 ≡ Less = o.trans q k x.0 less next in
-        rw far (find_below q k es less (both_T (is_lt (R k x.0)) (below_all R k es) h).1)
+        rw far (find_below q k es less (each_T (is_lt (R k x.0)) (below_all R k es) h).1)
 
     -- what is less than an entry is found before it
     find_front : (q : K) (done : List (K × X)) (e : K × X) (es : List (K × X)) → T (fin.is_sorted R (done ++ e ∷ es)) → R q e.0 ≡ Less → fin.find R q (done ++ e ∷ es) ≡ fin.find R q done
-    find_front q [] e es h less = rw less (find_below q e.0 es less (both_T (below_all R e.0 es) (fin.is_sorted R es) h).0)
+    find_front q [] e es h less = rw less (find_below q e.0 es less (each_T (below_all R e.0 es) (fin.is_sorted R es) h).0)
     find_front q (x ∷ done) e es h less =
-        ap (cond (eq_by_cmp R q x.0) (Some x.1)) (find_front q done e es (both_T (below_all R x.0 (done ++ e ∷ es)) (fin.is_sorted R (done ++ e ∷ es)) h).1 less)
+        ap (cond (eq_by_cmp R q x.0) (Some x.1)) (find_front q done e es (each_T (below_all R x.0 (done ++ e ∷ es)) (fin.is_sorted R (done ++ e ∷ es)) h).1 less)
 
 -- ---- trees
-
-parent_less : (p : Path) → p ≢ [] → path_cmp (parent_of p) p ≡ Less
-parent_less p other = by_order (path_cmp (parent_of p) p) refl
-  where
-    by_order : (r : Ordering) → path_cmp (parent_of p) p ≡ r → path_cmp (parent_of p) p ≡ Less
-    by_order Less e = e
-    by_order Equal e = absurd (parent_of-differs p other (path_cmp-exact (parent_of p) p e))
-    by_order Greater e = absurd (prefix_not_greater (parent_of p) p (parent_of-is_prefix p) e)
 
 module _ (files : Files) (is : IsTree files) where
   abbrev all : List (Path × Object)
@@ -144,7 +132,7 @@ module _ (files : Files) (is : IsTree files) where
   parent_before done e es whole other = by_place (places files (parent_of e.0)) refl (is.parents e.0 (ap is_some (there done e es whole)) other)
     where
       at_front : fin.find path_cmp (parent_of e.0) done ≡ places files (parent_of e.0)
-      at_front = sym (find_front path_cmp path_total (parent_of e.0) done e es (sorted_at done (e ∷ es) whole) (parent_less e.0 other)) ∙ sym (ap (fin.find path_cmp (parent_of e.0)) whole) ∙ sym (fin.get-entries files (parent_of e.0))
+      at_front = sym (find_front path_cmp path_total (parent_of e.0) done e es (sorted_at done (e ∷ es) whole) (parent_of-less e.0 other)) ∙ sym (ap (fin.find path_cmp (parent_of e.0)) whole) ∙ sym (fin.get-entries files (parent_of e.0))
 
       by_place : (o : Option Object) → places files (parent_of e.0) ≡ o → kind_of (places files (parent_of e.0)) ≡ Some Directory → has_parent done e.0 ≡ true
       by_place None q kind = absurd (let bad : None ≡ Some Directory = rw q at kind in cc)
@@ -166,14 +154,14 @@ module _ (files : Files) (is : IsTree files) where
           and_from (same_path e.0 []) (is_directory e.1.node.kind) (ap (λ (x : Path). same_path x []) q) (ap is_directory dir)
       by_path (n ∷ p) q =
           let less : path_cmp [] e.0 ≡ Less = ap (path_cmp []) q in
-          let none : fin.find path_cmp [] rest ≡ None = find_below path_cmp path_total [] e.0 rest less (both_T (below_all path_cmp e.0 rest) (fin.is_sorted path_cmp rest) (sorted_at [] (e ∷ rest) whole)).0 in
+          let none : fin.find path_cmp [] rest ≡ None = find_below path_cmp path_total [] e.0 rest less (each_T (below_all path_cmp e.0 rest) (fin.is_sorted path_cmp rest) (sorted_at [] (e ∷ rest) whole)).0 in
           let nothing : fin.find path_cmp [] (e ∷ rest) ≡ None = rw less none in
           absurd (let gone : places files [] ≡ None = fin.get-entries files [] ∙ ap (fin.find path_cmp []) whole ∙ nothing in let bad : None ≡ Some Directory = rw gone at is.root in cc)
 
   -- the entries after the first are not the root
   not_root : (x : Path × Object) (done : List (Path × Object)) (e : Path × Object) (es : List (Path × Object)) → all ≡ (x ∷ done) ++ e ∷ es → e.0 ≢ []
   not_root x done e es whole root =
-      let less : path_cmp x.0 e.0 ≡ Less = below_back path_cmp x.0 done e es (both_T (below_all path_cmp x.0 (done ++ e ∷ es)) (fin.is_sorted path_cmp (done ++ e ∷ es)) (sorted_at (x ∷ done) (e ∷ es) whole)).0 in
+      let less : path_cmp x.0 e.0 ≡ Less = below_back path_cmp x.0 done e es (each_T (below_all path_cmp x.0 (done ++ e ∷ es)) (fin.is_sorted path_cmp (done ++ e ∷ es)) (sorted_at (x ∷ done) (e ∷ es) whole)).0 in
       none_less x.0 (ap (path_cmp x.0) (sym root) ∙ less)
     where
       none_less : (p : Path) → path_cmp p [] ≡ Less → ⊥
@@ -501,7 +489,7 @@ old_read_again = again_in One
 
 -- ---- answers
 
--- a fault that was answered is want of memory, or the first one of the bytes
+-- a fault that was answered is running out of memory, or the first one of the bytes
 memory_or_first : (bytes : List ℕ) (f : ImageFault) → Fails 1 Before bytes f → (f ≡ fault.Memory) ⊎ HasImageFault bytes f
 memory_or_first bytes fault.TooLong h = inr h
 memory_or_first bytes (fault.BadHeader k) h = inr h
@@ -511,7 +499,7 @@ memory_or_first bytes (fault.NoParent k) h = inr h
 memory_or_first bytes (fault.Truncated k) h = inr h
 memory_or_first bytes fault.Memory h = inl refl
 
--- an image is refused for want of memory alone
+-- an image is refused for running out of memory alone
 pub refused_image : (bytes : List ℕ) (facts : Values) (files : Files) (f : ImageFault) → IsImage bytes facts files → Fails 1 Before bytes f → f ≡ fault.Memory
 refused_image bytes facts files f image h = by (memory_or_first bytes f h)
   where
@@ -519,7 +507,7 @@ refused_image bytes facts files f image h = by (memory_or_first bytes f h)
     by (inl is) = is
     by (inr first) = absurd (image_sound bytes facts files f image first)
 
--- bytes with a fault are answered with it, or for want of memory
+-- bytes with a fault are answered with it, or for running out of memory
 pub refused_fault : (bytes : List ℕ) (f g : ImageFault) → HasImageFault bytes f → Fails 1 Before bytes g → (g ≡ f) ⊎ (g ≡ fault.Memory)
 refused_fault bytes f g h failed = by (memory_or_first bytes g failed)
   where

@@ -18,6 +18,7 @@ use Rattle.pv_image.specs.Spelling.{letters_text}
 use Rattle.pv_image.specs.Reading.{IsLetters, Reads}
 use Rattle.pv_image.proofs.AclLetters.{all_filter}
 use Rattle.pv_image.proofs.Once.{all_to, all_to_is}
+use Rattle.pv_path.proofs.Tests.{same_number}
 
 -- ---- bits
 
@@ -77,9 +78,6 @@ one_times p = omega arith
 no_power : (p : ℕ) → 0 < p → (0 == p) ≡ false
 no_power p some = grind (arith, nat_tests)
 
-same_power : (p : ℕ) → (p == p) ≡ true
-same_power p = grind arith
-
 -- the first of the bits of a number, and one more
 one_more : (s k : ℕ) (wanted : Bool) → wanted ≡ (bit_and s (2 ^ k) == 2 ^ k) → (if wanted then bit_or (s % 2 ^ k) (2 ^ k) else s % 2 ^ k) ≡ s % 2 ^ suc k
 one_more s k wanted is = by_bit (bit_at s k) refl (bit_at-lt s k)
@@ -94,7 +92,7 @@ one_more s k wanted is = by_bit (bit_at s k) refl (bit_at-lt s k)
         rw no (sym (step ∙ ap (λ (x : ℕ). x * 2 ^ k + s % 2 ^ k) e ∙ ap (λ (x : ℕ). x + s % 2 ^ k) (no_times (2 ^ k)) ∙ none_more (s % 2 ^ k)))
     by_bit (suc zero) e lt =
         let all : bit_and s (2 ^ k) ≡ 2 ^ k = and_pow s k ∙ ap (λ (x : ℕ). x * 2 ^ k) e ∙ one_times (2 ^ k) in
-        let yes : wanted ≡ true = is ∙ ap (λ (x : ℕ). x == 2 ^ k) all ∙ same_power (2 ^ k) in
+        let yes : wanted ≡ true = is ∙ ap (λ (x : ℕ). x == 2 ^ k) all ∙ same_number (2 ^ k) in
         let apart : bit_and (s % 2 ^ k) (2 ^ k) ≡ 0 = and_pow (s % 2 ^ k) k ∙ ap (λ (x : ℕ). x * 2 ^ k) (bit_at_above (s % 2 ^ k) k k (mod-lt s (pow_pos k)) (omega arith)) ∙ no_times (2 ^ k) in
         let sum : s % 2 ^ suc k ≡ 2 ^ k + s % 2 ^ k = step ∙ ap (λ (x : ℕ). x * 2 ^ k + s % 2 ^ k) e ∙ ap (λ (x : ℕ). x + s % 2 ^ k) (one_times (2 ^ k)) in
         rw yes (or_disjoint (s % 2 ^ k) (2 ^ k) apart ∙ turned (s % 2 ^ k) (2 ^ k) ∙ sym sum)

@@ -1,5 +1,5 @@
 -- No text is the spelling of two values.
-use Rattle.std.proofs.Common.{◌≡◌, ◌≢◌, ℕ, zero, suc, ◌+◌, ◌-◌, ◌*◌, ◌/◌, ◌%◌, ◌<◌, Bool, true, false, not, ◌&&◌, ◌==◌, nat_lt, List, [], ◌∷◌, ◌++◌, length, get_or, replicate, refl, sym, ap, ◌∙◌, subst, arith, codes, if◌then◌else◌}
+use Rattle.std.proofs.Common.{◌≡◌, ℕ, zero, suc, ◌+◌, ◌-◌, ◌*◌, ◌/◌, ◌%◌, ◌<◌, Bool, true, false, not, ◌&&◌, ◌==◌, nat_lt, List, [], ◌∷◌, ◌++◌, length, get_or, replicate, refl, sym, ap, ◌∙◌, subst, arith, if◌then◌else◌}
 use Rattle.std.specs.List.{list_all}
 use Rattle.std.proofs.lemmas.Bool.{eqb-true, and_parts}
 use Rattle.std.proofs.lemmas.Bool.Decides.{nat_tests}
@@ -9,7 +9,7 @@ use Rattle.base64.specs.Rfc4648.{encode_symbols, padding_len}
 use Rattle.pv_text.specs.Lines.{lacks}
 use Rattle.pv_steps.specs.Attributes.{are_bytes}
 use Rattle.pv_image.specs.Spelling.{content_text}
-use Rattle.pv_image.proofs.Contents.{byte_below, encoded_all, symbols_all}
+use Rattle.pv_image.proofs.Contents.{byte_below, symbols_all, encoded_no_dash}
 
 -- ---- lists in parts
 
@@ -171,15 +171,8 @@ encoded_once m n f g e =
     (parted is_symbol (encode_symbols table m) (encode_symbols table n) (replicate (padding_len (length m)) 61) (replicate (padding_len (length n)) 61)
     (symbols_all is_symbol refl table refl m) (symbols_all is_symbol refl table refl n) (pads (padding_len (length m))) (pads (padding_len (length n))) e).0
 
-encoded_dash : (m : List ℕ) → encode_of standard m ≢ codes "-"
-encoded_dash m e =
-    let all : list_all (λ c. not (c == 45)) (encode_of standard m) ≡ true = encoded_all (λ c. not (c == 45)) refl refl refl m in
-    let bad : list_all (λ c. not (c == 45)) (codes "-") ≡ true = rw e at all in
-    let is : list_all (λ c. not (c == 45)) (codes "-") ≡ false = refl in
-    cc
-
 pub content_once : (m n : List ℕ) → are_bytes m ≡ true → are_bytes n ≡ true → content_text m ≡ content_text n → m ≡ n
 content_once [] [] f g e = refl
-content_once [] (b ∷ n) f g e = absurd (encoded_dash (b ∷ n) (sym e))
-content_once (a ∷ m) [] f g e = absurd (encoded_dash (a ∷ m) e)
+content_once [] (b ∷ n) f g e = absurd (encoded_no_dash (b ∷ n) (sym e))
+content_once (a ∷ m) [] f g e = absurd (encoded_no_dash (a ∷ m) e)
 content_once (a ∷ m) (b ∷ n) f g e = encoded_once (a ∷ m) (b ∷ n) f g e

@@ -17,7 +17,9 @@ use Rattle.pv_acl.specs.Texts.{access_texts, acl_text, default_texts, is_group, 
 use Rattle.pv_image.proofs.Cutting.{are_apart, split_join}
 use Rattle.pv_text.proofs.Characters.{all_append, all_weaker, decimal_lacks, digit_lacks}
 use Rattle.pv_image.proofs.Once.{fronts, parted}
-use Rattle.pv_image.proofs.AclLetters.{PassesEntries, all_filter, entries_pass, id_fits, part_names}
+use Rattle.pv_image.proofs.AclLetters.{PassesEntries, all_filter, entries_pass, part_names}
+use Rattle.pv_acl.proofs.Rereading.{id_fits}
+use Rattle.pv_acl.proofs.Allowed.{perm_fits}
 
 -- ---- permissions
 
@@ -37,11 +39,8 @@ perm_back (suc (suc (suc (suc (suc (suc zero)))))) h = refl
 perm_back (suc (suc (suc (suc (suc (suc (suc zero))))))) h = refl
 perm_back (suc (suc (suc (suc (suc (suc (suc (suc p)))))))) h = absurd (omega arith)
 
-perm_is : (p : ℕ) → is_perm p ≡ true → p ≤ 7
-perm_is p e = grind (arith, nat_tests)
-
 perm_once : (p q : ℕ) → is_perm p ≡ true → is_perm q ≡ true → perm_text p ≡ perm_text q → p ≡ q
-perm_once p q f g e = sym (perm_back p (perm_is p f)) ∙ ap bits e ∙ perm_back q (perm_is q g)
+perm_once p q f g e = sym (perm_back p (perm_fits p f)) ∙ ap bits e ∙ perm_back q (perm_fits q g)
 
 -- a text after a word says the permission
 after_word : (a b c p q : ℕ) → is_perm p ≡ true → is_perm q ≡ true → a ∷ b ∷ c ∷ perm_text p ≡ a ∷ b ∷ c ∷ perm_text q → p ≡ q

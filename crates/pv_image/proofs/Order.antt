@@ -10,7 +10,7 @@ use Rattle.std.specs.FinMap.Entries.{below_all}
 use Rattle.std.specs.declared.cmp.Ordering.{Ordering}
 use Rattle.std.specs.declared.cmp.Ordering.TheVariants.{Less, Equal, Greater}
 use Rattle.pv_path.specs.Paths.{Path, path_cmp, path_total, same_path, parent_of, same_path-decides}
-use Rattle.pv_path.proofs.PathLaws.{path_cmp-exact, path_cmp-refl}
+use Rattle.pv_path.proofs.PathLaws.{path_cmp-exact, path_cmp-refl, same_path-no}
 use Rattle.pv_steps.specs.declared.node.Kind.{Kind}
 use Rattle.pv_steps.specs.declared.node.Kind.TheVariants.{Directory, File, Link, Fifo, CharDevice, BlockDevice}
 use Rattle.pv_steps.specs.declared.node.Node.{Node}
@@ -20,16 +20,12 @@ use Rattle.std.proofs.lemmas.List.{nil_from_length}
 use Rattle.std.proofs.lemmas.Bool.{and_parts, and_from}
 use Rattle.std.proofs.Math.Bool.{or-false}
 use Rattle.pv_steps.specs.Trees.{Files, IsKind, kind_of, node_at, places}
-use Rattle.pv_steps.proofs.NameLaws.{both_T, less_T}
 use Rattle.pv_image.specs.Images.{follows, has_parent}
-
-pub less_is : (r : Ordering) → is_lt r ≡ true → r ≡ Less
-less_is Less e = refl
-less_is Equal e = cc
-less_is Greater e = cc
+use Rattle.pv_path.proofs.Tests.{less_of, less_of-T, each_T}
+use Rattle.pv_steps.proofs.ObjectLaws.{directory_is}
 
 pub turned : {K : Type 0} {R : K → K → Ordering} → IsTotalOrder R → (a k : K) → is_lt (R a k) ≡ true → R k a ≡ Greater
-turned {R = R} o a k e = o.antisymm k a ∙ ap ordering_reverse (less_is (R a k) e)
+turned {R = R} o a k e = o.antisymm k a ∙ ap ordering_reverse (less_of (R a k) e)
 
 module _ {K X : Type 0} (R : K → K → Ordering) where
   abbrev pub all_before : List (K × X) → K → Bool
@@ -40,10 +36,10 @@ module _ {K X : Type 0} (R : K → K → Ordering) where
   before_all o [] k h e = refl
   before_all o (x ∷ []) k h e = and_from (is_lt (R x.0 k)) true e refl
   before_all o (x ∷ y ∷ es) k h e =
-      let rest = before_all o (y ∷ es) k (both_T (below_all R x.0 (y ∷ es)) (fin.is_sorted R (y ∷ es)) h).1 e in
-      let below = (both_T (below_all R x.0 (y ∷ es)) (fin.is_sorted R (y ∷ es)) h).0 in
-      let one : R x.0 y.0 ≡ Less = less_T (R x.0 y.0) (both_T (is_lt (R x.0 y.0)) (below_all R x.0 es) below).0 in
-      let two : R y.0 k ≡ Less = less_is (R y.0 k) (and_parts (is_lt (R y.0 k)) (all_before es k) rest).0 in
+      let rest = before_all o (y ∷ es) k (each_T (below_all R x.0 (y ∷ es)) (fin.is_sorted R (y ∷ es)) h).1 e in
+      let below = (each_T (below_all R x.0 (y ∷ es)) (fin.is_sorted R (y ∷ es)) h).0 in
+      let one : R x.0 y.0 ≡ Less = less_of-T (R x.0 y.0) (each_T (is_lt (R x.0 y.0)) (below_all R x.0 es) below).0 in
+      let two : R y.0 k ≡ Less = less_of (R y.0 k) (and_parts (is_lt (R y.0 k)) (all_before es k) rest).0 in
       let three : R x.0 k ≡ Less = o.trans x.0 y.0 k one two in
       and_from (is_lt (R x.0 k)) (all_before (y ∷ es) k) (ap is_lt three) rest
 
@@ -81,27 +77,20 @@ dir_at (Some o) = is_directory o.node.kind
 abbrev pub is_dir_at : Path → Path × Object → Bool
 is_dir_at path e = same_path e.0 path && is_directory e.1.node.kind
 
-same_false : (p q : Path) → p ≢ q → same_path p q ≡ false
-same_false p q other = by_test (same_path p q) refl
-  where
-    by_test : (t : Bool) → same_path p q ≡ t → same_path p q ≡ false
-    by_test true e = absurd (other ((same_path-decides p q).0 e))
-    by_test false e = e
-
 none_below : (path : Path) (es : List (Path × Object)) → T (below_all path_cmp path es) → list_any (is_dir_at path) es ≡ false
 none_below path [] h = refl
 none_below path (e ∷ es) h =
-    let less : path_cmp path e.0 ≡ Less = less_T (path_cmp path e.0) (both_T (is_lt (path_cmp path e.0)) (below_all path_cmp path es) h).0 in
-    let other : same_path e.0 path ≡ false = same_false e.0 path (λ q. let tied : path_cmp path e.0 ≡ Equal = subst (λ (p : Path). path_cmp path p ≡ Equal) (sym q) (path_cmp-refl path) in cc) in
-    rw other (none_below path es (both_T (is_lt (path_cmp path e.0)) (below_all path_cmp path es) h).1)
+    let less : path_cmp path e.0 ≡ Less = less_of-T (path_cmp path e.0) (each_T (is_lt (path_cmp path e.0)) (below_all path_cmp path es) h).0 in
+    let other : same_path e.0 path ≡ false = same_path-no e.0 path (λ q. let tied : path_cmp path e.0 ≡ Equal = subst (λ (p : Path). path_cmp path p ≡ Equal) (sym q) (path_cmp-refl path) in cc) in
+    rw other (none_below path es (each_T (is_lt (path_cmp path e.0)) (below_all path_cmp path es) h).1)
 
 pub any_dir : (path : Path) (es : List (Path × Object)) → T (fin.is_sorted path_cmp es) → list_any (is_dir_at path) es ≡ dir_at (fin.find path_cmp path es)
 unfolding dir_at
 any_dir path [] h = refl
-any_dir path (e ∷ es) h = by_order_of (any_dir path es (both_T (below_all path_cmp e.0 es) (fin.is_sorted path_cmp es) h).1) (path_cmp path e.0) refl
+any_dir path (e ∷ es) h = by_order_of (any_dir path es (each_T (below_all path_cmp e.0 es) (fin.is_sorted path_cmp es) h).1) (path_cmp path e.0) refl
   where
     apart : (r : Ordering) → path_cmp path e.0 ≡ r → r ≢ Equal → same_path e.0 path ≡ false
-    apart r q other = same_false e.0 path (λ s. other (sym q ∙ subst (λ (p : Path). path_cmp path p ≡ Equal) (sym s) (path_cmp-refl path)))
+    apart r q other = same_path-no e.0 path (λ s. other (sym q ∙ subst (λ (p : Path). path_cmp path p ≡ Equal) (sym s) (path_cmp-refl path)))
 
     by_order_of : list_any (is_dir_at path) es ≡ dir_at (fin.find path_cmp path es) → (r : Ordering) → path_cmp path e.0 ≡ r → list_any (is_dir_at path) (e ∷ es) ≡ dir_at (fin.find path_cmp path (e ∷ es))
     by_order_of below Less q = let other = apart Less q (λ s. cc) in rw (q, other) below
@@ -109,7 +98,7 @@ any_dir path (e ∷ es) h = by_order_of (any_dir path es (both_T (below_all path
     by_order_of below Equal q =
         let same : path ≡ e.0 = path_cmp-exact path e.0 q in
         let is : same_path e.0 path ≡ true = (same_path-decides e.0 path).1 (sym same) in
-        let none : list_any (is_dir_at path) es ≡ false = none_below path es (subst (λ (p : Path). T (below_all path_cmp p es)) (sym same) (both_T (below_all path_cmp e.0 es) (fin.is_sorted path_cmp es) h).0) in
+        let none : list_any (is_dir_at path) es ≡ false = none_below path es (subst (λ (p : Path). T (below_all path_cmp p es)) (sym same) (each_T (below_all path_cmp e.0 es) (fin.is_sorted path_cmp es) h).0) in
         rw (q, is, none) (or-false (is_directory e.1.node.kind))
 
 at_node : Option Node → Bool
@@ -132,14 +121,6 @@ has_parent-some files path node e = parent_is files path ∙ ap at_node (sym e)
 pub has_parent-none : (files : Files) (path : Path) → None ≡ node_at files (parent_of path) → has_parent (fin.entries files) path ≡ false
 unfolding at_node
 has_parent-none files path e = parent_is files path ∙ ap at_node (sym e)
-
-directory_is : (kind : Kind) → is_directory kind ≡ true → kind ≡ Directory
-directory_is Directory e = refl
-directory_is File e = cc
-directory_is Link e = cc
-directory_is Fifo e = cc
-directory_is CharDevice e = cc
-directory_is BlockDevice e = cc
 
 -- what has a parent may be added below it
 pub has_parent-kind : (files : Files) (path : Path) → has_parent (fin.entries files) path ≡ true → IsKind Directory files (parent_of path)

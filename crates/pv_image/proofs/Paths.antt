@@ -8,22 +8,14 @@ use Rattle.pv_path.specs.Printing.{printed}
 use Rattle.pv_image.specs.Spelling.{IsName, HasNames}
 use Rattle.pv_image.specs.Reading.{texts}
 use Rattle.pv_text.proofs.Characters.{all_append}
-
-pub get_or-texts : {A : Type 0} (pieces : List (Bor A)) (i : ℕ) (d : Bor A) → get_or (texts pieces) i d.now ≡ (get_or pieces i d).now
-get_or-texts [] i d = refl
-get_or-texts (p ∷ pieces) zero d = refl
-get_or-texts (p ∷ pieces) (suc i) d = get_or-texts pieces i d
-
-map-append_one : {A B : Type 0} (f : A → B) (xs : List A) (x : A) → map f (xs ++ x ∷ []) ≡ map f xs ++ f x ∷ []
-map-append_one f [] x = refl
-map-append_one f (y ∷ xs) x = ap (λ ys. f y ∷ ys) (map-append_one f xs x)
+use Rattle.pv_path.proofs.Tests.{get_or-texts, map-push}
 
 pub names_more : (pieces : List (Bor (List ℕ))) (i : ℕ) (d : Bor (List ℕ)) (path : Path) (name : List ℕ) → i < length pieces → take i (texts pieces) ≡ map printed path → (get_or pieces i d).now ≡ printed name
     → take (i + 1) (texts pieces) ≡ map printed (path ++ name ∷ [])
 names_more pieces i d path name h so_far is =
     let fits : i < length (texts pieces) = simp length-map h in
     let here : get_or (texts pieces) i d.now ≡ printed name = get_or-texts pieces i d ∙ is in
-    take_more (texts pieces) i d.now fits ∙ rw (so_far, here) (sym (map-append_one printed path name))
+    take_more (texts pieces) i d.now fits ∙ rw (so_far, here) (sym (map-push printed path name))
 
 pub path_more : (path : Path) (name : List ℕ) → HasNames path → IsName name → HasNames (path ++ name ∷ [])
 path_more path name is one = all_append is_name path (name ∷ []) is (and_from (is_name name) true one refl)

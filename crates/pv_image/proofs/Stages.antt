@@ -18,12 +18,13 @@ use Rattle.pv_image.specs.Spelling.{IsEntry, Shows, end_text, extras_of, fact_te
 use Rattle.pv_text.specs.Lines.{is_line}
 use Rattle.pv_image.specs.Images.{HasFault, cut_off, misspelt, misplaced, later, IsByteFact, IsCut, IsImage, Spells, Stage, Before, InFacts, InNodes, After, What, Note, Header, Fact, Node, End, bad, follows, is_byte_fact, is_note, is_root, has_parent, judged, after_root, after_node, same_version}
 use Rattle.pv_image.specs.Progress.{Fails, FactsRead, HasNoFactNext, IsLast, IsLastPath, Leads, NotesRead, Refuses, TreeRead}
-use Rattle.pv_image.specs.declared.fault.ImageFault.{ImageFault}
-use Rattle.pv_image.specs.declared.fault.ImageFault.TheVariants as fault
+use Rattle.pv_image.specs.declared.image_fault.ImageFault.{ImageFault}
+use Rattle.pv_image.specs.declared.image_fault.ImageFault.TheVariants as fault
 use Rattle.pv_image.specs.declared.version.Version.{Version}
 use Rattle.pv_image.specs.declared.version.Version.TheVariants.{One, Two}
 use Rattle.pv_text.proofs.Characters.{all_append}
 use Rattle.pv_image.proofs.Order.{has_parent-from_kind}
+use Rattle.pv_path.proofs.Tests.{map-push}
 
 -- a version is the same as itself
 pub same_version-self : (version : Version) → same_version version version ≡ true
@@ -170,10 +171,6 @@ notes_more bytes rest text after read cut note = record {
       ∙ sym (append_assoc (flat_map line read.notes) (line text) after)
       ∙ ap (λ (t : List ℕ). t ++ after) (ap (λ (t : List ℕ). flat_map line read.notes ++ t) (sym (append-nil (line text))) ∙ sym (flat_map-append line read.notes (text ∷ [])));
 }
-
-map-push : {A B : Type 0} (f : A → B) (xs : List A) (x : A) → map f (xs ++ x ∷ []) ≡ map f xs ++ f x ∷ []
-map-push f [] x = refl
-map-push f (y ∷ xs) x = ap (λ ys. f y ∷ ys) (map-push f xs x)
 
 lines_more : {A : Type 0} (f : A → List ℕ) (xs : List A) (x : A) (bytes rest text after : List ℕ) → bytes ≡ flat_map line (map f xs) ++ rest → IsCut rest text after → text ≡ f x → bytes ≡ flat_map line (map f (xs ++ x ∷ [])) ++ after
 lines_more f xs x bytes rest text after read cut is =

@@ -3,9 +3,7 @@ use Rattle.std.specs.Prelude.{◌≡◌, ℕ, ◌+◌, ◌<◌, Bool, true, fals
 use Rattle.std.proofs.Common.{refl, sym, ap, subst, ◌∙◌, get_or, arith, append_assoc}
 use Rattle.std.specs.List.{flat_map, filter_map, cons_option, list_any, list_all}
 use Rattle.std.specs.Option.{option_map_or}
-use Rattle.std.specs.Ordering.{nat_cmp, is_lt, is_eq, eq_by_cmp}
-use Rattle.std.specs.declared.cmp.Ordering.{Ordering}
-use Rattle.std.specs.declared.cmp.Ordering.TheVariants.{Less, Equal, Greater}
+use Rattle.std.specs.Ordering.{nat_cmp, is_lt, eq_by_cmp}
 use Rattle.std.specs.Cmp.{nat_cmp_total, unsigned_tied}
 use Rattle.std.proofs.lemmas.Bool.{eqb-true, eq-eqb, and_parts, and_from}
 use Rattle.std.proofs.lemmas.List.{flat_map_more, take_more}
@@ -21,6 +19,7 @@ use Rattle.pv_text.proofs.Characters.{all_append}
 use Rattle.pv_image.specs.Spelling.{header_text, end_text, fact_text, node_text, line, text_of}
 use Rattle.pv_image.specs.declared.version.Version.TheVariants.{Two}
 use Rattle.pv_image.specs.Writing.{fact_fits, fact_line, fact_line_of, node_line}
+use Rattle.pv_path.proofs.Tests.{equal_of}
 
 -- one more letter
 pub letters_more : (facts : Values) (o : List ℕ) (i : ℕ) → i < 12
@@ -70,14 +69,8 @@ sorted_listed facts (l ∷ ls) h =
       | Some value ↦ and_from _ _ (below_listed facts l ls (and_parts _ _ h).0) rest
     ]
 
--- what is found among listed facts is what the facts have
-equal_tie : (r : Ordering) → is_eq r ≡ true → r ≡ Equal
-equal_tie Less h = let wrong : false ≡ true = h in cc
-equal_tie Equal h = refl
-equal_tie Greater h = let wrong : false ≡ true = h in cc
-
 tied_letters : (q l : ℕ) → eq_by_cmp nat_cmp q l ≡ true → q ≡ l
-tied_letters q l h = fin.nat_cmp-IsAntisymmetric q l (equal_tie (nat_cmp q l) h)
+tied_letters q l h = fin.nat_cmp-IsAntisymmetric q l (equal_of (nat_cmp q l) h)
 
 hidden : (b a : Bool) (o : Option (List ℕ)) → (b ≡ true → o ≡ None) → cond a o None ≡ cond (b || a) o None
 hidden false a o h = refl

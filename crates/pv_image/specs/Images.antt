@@ -13,8 +13,8 @@ use Rattle.pv_steps.specs.Objects.{is_directory}
 use Rattle.pv_steps.specs.Trees.{Files, IsTree, places}
 use Rattle.pv_steps.specs.Attributes.{are_bytes}
 use Rattle.pv_image.specs.Spelling.{IsEntry, Shows, extras_of, header_text, end_text, fact_text, node_text, line, text_in}
-use Rattle.pv_image.specs.declared.fault.ImageFault.{ImageFault}
-use Rattle.pv_image.specs.declared.fault.ImageFault.TheVariants as fault
+use Rattle.pv_image.specs.declared.image_fault.ImageFault.{ImageFault}
+use Rattle.pv_image.specs.declared.image_fault.ImageFault.TheVariants as fault
 use Rattle.pv_image.specs.declared.version.Version.{Version}
 use Rattle.pv_image.specs.declared.version.Version.TheVariants.{One, Two}
 

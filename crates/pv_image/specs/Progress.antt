@@ -10,9 +10,9 @@ use Rattle.pv_text.specs.Facts.{Values}
 use Rattle.pv_image.specs.Spelling.{Shows, extras_of, fact_text, line, node_text}
 use Rattle.pv_text.specs.Lines.{is_line}
 use Rattle.pv_image.specs.Images.{HasFault, IsByteFact, IsCut, Stage, What, follows, is_byte_fact, is_note, judged}
-use Rattle.pv_image.specs.declared.fault.ImageFault.{ImageFault}
+use Rattle.pv_image.specs.declared.image_fault.ImageFault.{ImageFault}
 use Rattle.pv_image.specs.declared.version.Version.{Version}
-use Rattle.pv_image.specs.declared.fault.ImageFault.TheVariants as fault
+use Rattle.pv_image.specs.declared.image_fault.ImageFault.TheVariants as fault
 
 -- a fault of what is left is a fault of the whole
 abbrev pub Leads : ℕ → Stage → List ℕ → ℕ → Stage → List ℕ → Type 0

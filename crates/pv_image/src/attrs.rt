@@ -6,9 +6,8 @@ ghost use Rattle.pv_image.specs.Spelling.{attr_text, attr_texts, attrs_text, is_
 ghost use Rattle.pv_image.specs.Reading.{AreAttrs, IsAttr, IsByteText, Reads, texts};
 
 use crate::payload::is_dash;
-use crate::pieces::pieces_of;
 use crate::printed::read_printed_but;
-use pv_path::Bytes;
+use pv_path::{Bytes, pieces_of};
 use pv_steps::{Attr, AttrList, is_attr};
 use std::alloc::{AllocError, Global};
 

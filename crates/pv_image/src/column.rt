@@ -5,8 +5,8 @@ ghost use Rattle.pv_steps.specs.Objects.{StampsFit, IsId};
 ghost use Rattle.pv_image.specs.Spelling.{kind_text, mode_text, stamp_texts, stamps_text};
 ghost use Rattle.pv_image.specs.Reading.{Reads, texts};
 
-use crate::pieces::pieces_of;
 use pv_acl::number;
+use pv_path::pieces_of;
 use pv_steps::{Kind, Stamps};
 use std::alloc::{AllocError, Global};
 

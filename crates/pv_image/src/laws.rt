@@ -3,7 +3,7 @@
 ghost use Rattle.std.specs.Prelude.{◌≡◌, ℕ, List};
 ghost use Rattle.pv_steps.specs.Trees.{Files};
 ghost use Rattle.pv_text.specs.Facts.{Values};
-ghost use Rattle.pv_image.specs.declared.fault.ImageFault.{ImageFault as Fault};
+ghost use Rattle.pv_image.specs.declared.image_fault.ImageFault.{ImageFault as Fault};
 ghost use Rattle.pv_image.specs.declared.version.Version.TheVariants.{One, Two};
 ghost use Rattle.pv_image.specs.Spelling.{old_text_of, text_of};
 ghost use Rattle.pv_image.specs.Images.{HasImageFault, HaveText, IsImage, Spells, What};

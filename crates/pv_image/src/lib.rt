@@ -4,14 +4,13 @@
 mod attrs;
 mod column;
 mod extras;
-mod fault;
+mod image_fault;
 mod laws;
 mod letters;
 mod line;
 mod name;
 mod node;
 mod payload;
-mod pieces;
 mod printed;
 mod reader;
 mod tree;
@@ -19,7 +18,7 @@ mod version;
 mod write;
 mod writer;
 
-pub use fault::ImageFault;
+pub use image_fault::ImageFault;
 pub use laws::{
     an_old_text_is_an_image, bytes_are_one_image, bytes_have_one_fault, image_has_no_fault,
     line_says_one_thing, text_is_an_image, text_is_read_again,

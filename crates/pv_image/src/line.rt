@@ -8,10 +8,9 @@ ghost use Rattle.pv_text.specs.Lines.{is_line};
 ghost use Rattle.pv_text.specs.Facts.{is_fact_letter, is_fact_value};
 ghost use Rattle.pv_image.specs.Reading.{IsFactValue, Reads, texts};
 
-use crate::pieces::pieces_of;
 use crate::printed::read_printed;
 use crate::version::Version;
-use pv_path::Bytes;
+use pv_path::{Bytes, pieces_of};
 use pv_text::FACT_LETTERS;
 use std::alloc::{AllocError, Global};
 

@@ -5,9 +5,8 @@ ghost use Rattle.pv_path.specs.Printing.{is_plain_but, printed, printed_path};
 ghost use Rattle.pv_image.specs.Spelling.{IsName, HasNames, path_texts};
 ghost use Rattle.pv_image.specs.Reading.{Reads, texts};
 
-use crate::pieces::pieces_of;
 use crate::printed::read_printed;
-use pv_path::{Name, TreePath, is_name, is_plain};
+use pv_path::{Name, TreePath, is_name, is_plain, pieces_of};
 use std::alloc::{AllocError, Global};
 
 /// Whether each byte of a text is printed as itself.

@@ -10,10 +10,9 @@ use crate::column::{read_id, read_kind, read_mode, read_stamps};
 use crate::extras::{Extras, read_extras};
 use crate::name::read_path;
 use crate::payload::{Payload, is_dash, read_payload};
-use crate::pieces::pieces_of;
 use crate::version::Version;
 use pv_acl::{Acl, read_acl};
-use pv_path::TreePath;
+use pv_path::{TreePath, pieces_of};
 use pv_steps::{Kind, Node, Object, Stamps, special_bits};
 use std::alloc::{AllocError, Global};
 

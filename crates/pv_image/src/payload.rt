@@ -9,11 +9,10 @@ ghost use Rattle.pv_image.specs.Spelling.{IsPayload, content_text, number_texts,
 ghost use Rattle.pv_image.specs.Reading.{AreNumbers, IsByteTarget, IsByteText, Reads, of_bytes, of_numbers, texts};
 
 use crate::column::read_up_to;
-use crate::pieces::pieces_of;
 use crate::printed::read_printed;
 use base64::DecodeAllocError;
 use base64::engine::general_purpose::STANDARD;
-use pv_path::Bytes;
+use pv_path::{Bytes, pieces_of};
 use pv_steps::Kind;
 use std::alloc::{AllocError, Global};
 

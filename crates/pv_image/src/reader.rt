@@ -4,14 +4,14 @@ ghost use Rattle.std.specs.Ordering.{nat_cmp};
 ghost use Rattle.std.specs.FinMap as fin;
 ghost use Rattle.pv_steps.specs.Trees.{Files, IsTree};
 ghost use Rattle.pv_text.specs.Facts.{Values};
-ghost use Rattle.pv_image.specs.declared.fault.ImageFault.{ImageFault as Fault};
+ghost use Rattle.pv_image.specs.declared.image_fault.ImageFault.{ImageFault as Fault};
 ghost use Rattle.pv_image.specs.declared.version.Version.{Version as VersionValue};
 ghost use Rattle.pv_image.specs.Spelling.{end_text, header_text, line};
 ghost use Rattle.pv_image.specs.Images.{HasFault, HasImageFault, IsByteFact, IsImage, judged};
 ghost use Rattle.pv_image.specs.Images.{Fact, Before, InFacts, InNodes, After};
 ghost use Rattle.pv_image.specs.Progress.{Fails, FactsRead, HasNoFactNext, IsLast, IsLastPath, Leads, NotesRead, Refuses, TreeRead, letter_after};
 
-use crate::fault::ImageFault;
+use crate::image_fault::ImageFault;
 use crate::line::{first_line, is_end, is_note, read_fact, read_version};
 use crate::node::read_node;
 use crate::tree::{add_node, root_tree};
@@ -248,8 +248,8 @@ fn read_whole(alloc: Global, bytes: &[u8]) -> Result<Image, ImageFault>
 }
 
 /// Reads an image of either version: the tree and the facts of which the bytes are the one text after some
-/// notes, or the first fault with the number of its line. Bytes that are an image are refused for want of memory alone.
-/// No step is told in the tree. `TooLong` is never answered.
+/// notes, or the first fault with the number of its line. Bytes that are an image are refused for running out of memory alone.
+/// No step is recorded in the tree. `TooLong` is never answered.
 pub fn read_image(alloc: Global, bytes: &[u8]) -> Result<Image, ImageFault>
     ensures image { IfOk result (λ image. IsImage bytes.now image.facts image.tree.files) }
     ensures steps { IfOk result (λ image. image.tree.steps ≡ []) }

@@ -7,7 +7,7 @@ ghost use Rattle.pv_image.specs.Images.{is_root, judged};
 ghost use Rattle.pv_image.specs.Images.{Node as NodeLine, InNodes};
 ghost use Rattle.pv_image.specs.Progress.{IsLastPath, Refuses};
 
-use crate::fault::ImageFault;
+use crate::image_fault::ImageFault;
 use pv_path::TreePath;
 use pv_steps::Object;
 use pv_tree::{BuildFault, TreeBuilder};

@@ -23,19 +23,19 @@ pub rises_later : (a b c : ℕ) → a ≤ b → HasRisen b c → HasRisen a c
 rises_later a b c h (inl r) = inl (omega arith)
 rises_later a b c h (inr r) = inr r
 
--- the steps told are never fewer
+-- the steps recorded are never fewer
 pub ran-length : (P : Files → Type 0) (Q : Step → Type 0) (now : ℕ) {t : Files} {h : List Step} {u : Files} {k : List Step} → Ran P Q now t h u k → length h ≤ length k
-ran-length P Q now {h = h} r = omega (arith, ap length r.told, length-append h r.steps)
+ran-length P Q now {h = h} r = omega (arith, ap length r.recorded, length-append h r.steps)
 
 -- an answer that refuses nothing is not Failed
 pub unfailed : {A : Type 0} (r : Result A TreeFault) → refused r ≡ 0 → IsErrOf r Failed → ⊥
 unfailed {A} r none failed = let one : refused r ≡ 1 = ap (λ (v : Result A TreeFault). refused v) failed in omega (arith, none, one)
 
--- an answer that tells want of memory refuses nothing
+-- an answer that tells running out of memory refuses nothing
 pub unrefused : {A : Type 0} (r : Result A TreeFault) → IsErrOf r Memory → refused r ≡ 0
 unrefused {A} r memory = ap (λ (v : Result A TreeFault). refused v) memory
 
--- nor does the answer that `?` makes of want of memory
+-- nor does the answer that `?` makes of running out of memory
 pub no_memory : {A : Type 0} (r : Result A TreeFault) → IsErrAnd r (λ e. e ≡ Memory) → refused r ≡ 0
 no_memory (Ok x) h = absurd h
 no_memory (Err Failed) h = cc
@@ -71,22 +71,22 @@ module _ {S : Type 0} (tree : Ghosts S) where
     where
       same : {v : Result (Unit {0}) TreeFault} → tree.state b ≡ tree.state a → tree.steps b ≡ tree.steps a → refused v ≤ 1
           → tree.reaches a b → (IsErrOf v Failed → HasRisen (tree.faults a) (tree.faults b)) → Acted tree P Q 1 now a b v
-      same kept untold one reaches cause = record {
-        ran = ran_none P Q now (tree.state a) (tree.steps a) (tree.state b) (tree.steps b) asks.start kept untold;
-        bound = let e : length (tree.steps b) ≡ length (tree.steps a) = ap length untold in omega (arith, e, one);
+      same kept unrecorded one reaches cause = record {
+        ran = ran_none P Q now (tree.state a) (tree.steps a) (tree.state b) (tree.steps b) asks.start kept unrecorded;
+        bound = let e : length (tree.steps b) ≡ length (tree.steps a) = ap length unrecorded in omega (arith, e, one);
         reaches = reaches;
         cause = cause;
       }
 
       by : (v : Result (Unit {0}) TreeFault) → Tried tree s now a b v → Acted tree P Q 1 now a b v
       by (Ok x) d = record {
-        ran = ran_one P Q now (tree.state a) (tree.steps a) s (tree.state b) (tree.steps b) asks.start (record { can = asks.can; fits = d.fits; busy = asks.busy }) (asks.there (tree.state b) d.state) asks.gives d.state d.told;
-        bound = let e : length (tree.steps b) ≡ length (tree.steps a ++ s ∷ []) = ap length d.told in omega (arith, e, length-append (tree.steps a) (s ∷ []));
+        ran = ran_one P Q now (tree.state a) (tree.steps a) s (tree.state b) (tree.steps b) asks.start (record { can = asks.can; fits = d.fits; busy = asks.busy }) (asks.there (tree.state b) d.state) asks.gives d.state d.recorded;
+        bound = let e : length (tree.steps b) ≡ length (tree.steps a ++ s ∷ []) = ap length d.recorded in omega (arith, e, length-append (tree.steps a) (s ∷ []));
         reaches = d.reaches;
         cause = d.cause;
       }
-      by (Err Failed) d = same d.kept d.untold (omega arith) d.reaches d.cause
-      by (Err Memory) d = same d.kept d.untold (omega arith) d.reaches d.cause
+      by (Err Failed) d = same d.kept d.unrecorded (omega arith) d.reaches d.cause
+      by (Err Memory) d = same d.kept d.unrecorded (omega arith) d.reaches d.cause
 
   -- one call after another that went well
   pub acted_then : {A B : Type 0} → Moves tree → (P : Files → Type 0) (Q : Step → Type 0) {m n now : ℕ} {a b c : S} {x : A} {r : Result B TreeFault}

@@ -12,17 +12,13 @@ use Rattle.pv_path.specs.Names.{name_cmp}
 use Rattle.pv_path.proofs.PathLaws.{name_cmp-exact}
 use Rattle.pv_steps.specs.declared.attr.Attr.{Attr}
 use Rattle.pv_steps.specs.Attributes.{comes_before, all_before, is_ordered, put_attr}
-
-less : (o : Ordering) → is_lt o ≡ true → o ≡ Less
-less Less h = refl
-less Equal h = let no : false ≡ true = h in cc
-less Greater h = let no : false ≡ true = h in cc
+use Rattle.pv_path.proofs.Tests.{less_of}
 
 pub before_trans : (a b c : List ℕ) → is_lt (name_cmp a b) ≡ true → is_lt (name_cmp b c) ≡ true → is_lt (name_cmp a c) ≡ true
-before_trans a b c h k = ap is_lt (nat_list_cmp_total.trans a b c (less (name_cmp a b) h) (less (name_cmp b c) k))
+before_trans a b c h k = ap is_lt (nat_list_cmp_total.trans a b c (less_of (name_cmp a b) h) (less_of (name_cmp b c) k))
 
 pub before_asym : (a b : List ℕ) → is_lt (name_cmp a b) ≡ true → is_lt (name_cmp b a) ≡ false
-before_asym a b h = ap is_lt (nat_list_cmp_total.antisymm b a ∙ ap ordering_reverse (less (name_cmp a b) h))
+before_asym a b h = ap is_lt (nat_list_cmp_total.antisymm b a ∙ ap ordering_reverse (less_of (name_cmp a b) h))
 
 back : (o p : Ordering) → p ≡ ordering_reverse o → is_lt o ≡ false → is_lt p ≡ false → o ≡ Equal
 back Less p e h k = let no : true ≡ false = h in cc

@@ -1,5 +1,5 @@
 -- Laws of the names in a directory: they rise strictly, they are those of the present children, and so presence decides them.
-use Rattle.std.specs.Prelude.{◌≡◌, ℕ, Bool, true, false, ◌&&◌, ◌||◌, T, List, [], ◌∷◌, ◌++◌, map, Option, Some, None, is_some, refl}
+use Rattle.std.specs.Prelude.{◌≡◌, ℕ, Bool, true, false, ◌||◌, T, List, [], ◌∷◌, ◌++◌, map, Option, Some, None, is_some, refl}
 use Rattle.std.proofs.Common.{sym, ap, ◌∙◌}
 use Rattle.std.specs.List.{AllByRecursion, filter_map, cons_option, list_any}
 use Rattle.std.specs.List.Sorted.{IsStrictlySortedBy}
@@ -14,9 +14,9 @@ use Rattle.std.proofs.lemmas.Map.Lookups.{btree_set_from_contains, exact_bytes}
 use Rattle.pv_path.specs.Paths.{Path, path_cmp, rest_under}
 use Rattle.pv_path.proofs.PathLaws.{name_cmp-refl, path_cmp-exact, rest_under-append, rest_under-Some}
 use Rattle.pv_path.specs.Names.{name_cmp}
-use Rattle.pv_steps.proofs.StepLaws.{tied}
 use Rattle.pv_steps.specs.declared.object.Object.{Object}
 use Rattle.pv_steps.specs.Trees.{Files, places, single, child_name, names_below}
+use Rattle.pv_path.proofs.Tests.{equal_of, less_of-T, each_T}
 
 -- ---- children
 
@@ -47,23 +47,14 @@ path_cmp-children (k ∷ path) n m = ap (λ o. ordering_then o (path_cmp (path +
 
 -- ---- the names rise
 
-pub both_T : (a b : Bool) → T (a && b) → (T a) × (T b)
-both_T true b h = (tt, h)
-both_T false b h = absurd h
-
-pub less_T : (o : Ordering) → T (is_lt o) → o ≡ Less
-less_T Less h = refl
-less_T Equal h = absurd h
-less_T Greater h = absurd h
-
 module _ (path : Path) where
   -- the names of children above a child are above its name
   names_above : (k : Path) (n : List ℕ) → child_name path k ≡ Some n → (es : List (Path × Object)) → T (below_all path_cmp k es)
       → AllByRecursion (λ m. name_cmp n m ≡ Less) (filter_map (child_name path) (map (λ e. e.0) es))
   names_above k n is [] h = tt
   names_above k n is (e ∷ es) h =
-      let parts = both_T (is_lt (path_cmp k e.0)) (below_all path_cmp k es) h in
-      by (names_above k n is es parts.1) (less_T (path_cmp k e.0) parts.0) (child_name path e.0) refl
+      let parts = each_T (is_lt (path_cmp k e.0)) (below_all path_cmp k es) h in
+      by (names_above k n is es parts.1) (less_of-T (path_cmp k e.0) parts.0) (child_name path e.0) refl
     where
       by : AllByRecursion (λ m. name_cmp n m ≡ Less) (filter_map (child_name path) (map (λ e. e.0) es)) → path_cmp k e.0 ≡ Less → (o : Option (List ℕ)) → child_name path e.0 ≡ o
           → AllByRecursion (λ m. name_cmp n m ≡ Less) (cons_option o (filter_map (child_name path) (map (λ e. e.0) es)))
@@ -75,7 +66,7 @@ module _ (path : Path) where
   unfolding IsStrictlySortedBy
   names_rise [] h = tt
   names_rise (e ∷ es) h =
-      let parts = both_T (below_all path_cmp e.0 es) (is_sorted path_cmp es) h in
+      let parts = each_T (below_all path_cmp e.0 es) (is_sorted path_cmp es) h in
       by parts.0 (names_rise es parts.1) (child_name path e.0) refl
     where
       by : T (below_all path_cmp e.0 es) → IsStrictlySortedBy name_cmp (filter_map (child_name path) (map (λ e. e.0) es)) → (o : Option (List ℕ)) → child_name path e.0 ≡ o
@@ -96,7 +87,7 @@ names_are path n (k ∷ ks) = by (names_are path n ks) (child_name path k) refl
     -- what is no child is not this child
     other : child_name path k ≡ None → (b : Bool) → eq_by_cmp path_cmp (path ++ n ∷ []) k ≡ b → b ≡ false
     other at true e =
-        let same : path ++ n ∷ [] ≡ k = path_cmp-exact (path ++ n ∷ []) k (tied (path_cmp (path ++ n ∷ []) k) e) in
+        let same : path ++ n ∷ [] ≡ k = path_cmp-exact (path ++ n ∷ []) k (equal_of (path_cmp (path ++ n ∷ []) k) e) in
         absurd (let no : None ≡ Some n = sym at ∙ ap (child_name path) (sym same) ∙ child_name-push path n in cc)
     other at false e = refl
 

@@ -1,40 +1,34 @@
 -- Laws of objects: each change that a step makes leaves an object whole.
-use Rattle.std.specs.Prelude.{◌≡◌, ℕ, ◌/◌, ◌%◌, ◌^◌, ◌<◌, ◌≤◌, true, List, [], None, nat_lt}
-use Rattle.std.proofs.Common.{refl, sym, subst, arith, inl, inr, ◌⊎◌, lit≤}
-use Rattle.std.proofs.lemmas.Bool.Decides.{nat_tests}
+use Rattle.std.specs.Prelude.{◌≡◌, ℕ, ◌/◌, ◌^◌, ◌<◌, ◌≤◌, true, List, [], Option, None, Some, nat_lt, option_map, is_some}
+use Rattle.std.proofs.Common.{refl, sym, ap, ◌∙◌, subst, arith, inl, inr, ◌⊎◌, lit≤}
 use Rattle.std.specs.List.{list_all}
 use Rattle.std.proofs.lemmas.Bool.{and_parts, and_from}
 use Rattle.pv_acl.specs.declared.part.Acl.{Acl}
 use Rattle.pv_acl.specs.declared.part.Part.{Part}
-use Rattle.pv_acl.specs.NamedEntries.{is_perm}
 use Rattle.pv_acl.specs.Parts as parts
-use Rattle.pv_acl.specs.Parts.{is_acl, is_part, special_of, part_of_mode, acl_of_mode}
+use Rattle.pv_acl.specs.Parts.{is_acl, is_part, special_of, acl_of_mode}
 use Rattle.pv_steps.specs.declared.attr.Attr.{Attr}
 use Rattle.pv_steps.specs.Attributes.{are_attrs}
 use Rattle.pv_steps.specs.declared.node.Kind.{Kind}
 use Rattle.pv_steps.specs.declared.node.Kind.TheVariants.{Directory, File, Link, Fifo, CharDevice, BlockDevice}
 use Rattle.pv_steps.specs.declared.object.Object.{Object}
-use Rattle.pv_steps.specs.Objects.{fresh, changed, modified, with_mode, with_owner, with_acl, with_attrs, with_letters, with_stamps, with_content, IsObject, IsId, AclFits, PayloadFits, NumbersFit, AttrsFit, LettersFit}
+use Rattle.pv_steps.specs.Trees.{kind_of}
+use Rattle.pv_steps.specs.Objects.{bare, is_directory, fresh, changed, modified, with_mode, with_owner, with_acl, with_attrs, with_letters, with_stamps, with_content, IsObject, IsId, AclFits, PayloadFits, NumbersFit, AttrsFit, LettersFit}
+use Rattle.pv_acl.proofs.Spelt.{is_perm-digit, is_acl-of_mode}
 
-small_special : (mode : ℕ) → mode ≤ 4095 → special_of mode ≤ 7
+pub small_special : (mode : ℕ) → mode ≤ 4095 → special_of mode ≤ 7
 small_special mode h = omega arith
-
-small : (n : ℕ) → is_perm (n % 8) ≡ true
-small n = let h : n % 8 ≤ 7 = omega arith in grind (arith, nat_tests)
 
 is_part-with_mode : (mode : ℕ) (part : Part) → is_part part ≡ true → is_part (parts.with_mode mode part) ≡ true
 is_part-with_mode mode part h =
     let abcdef = and_parts _ _ h in
     let abcde = and_parts _ _ abcdef.0 in
     let d = (and_parts _ _ abcde.0).1 in
-    and_from _ _ (and_from _ _ (and_from _ _ (and_from _ _ (and_from _ _ (small (mode / 64)) (small (mode / 8))) (small mode)) d) abcde.1) abcdef.1
+    and_from _ _ (and_from _ _ (and_from _ _ (and_from _ _ (and_from _ _ (is_perm-digit (mode / 64)) (is_perm-digit (mode / 8))) (is_perm-digit mode)) d) abcde.1) abcdef.1
 
 pub is_acl-with_mode : (mode : ℕ) (acl : Acl) → is_acl acl ≡ true → is_acl (record acl { access = parts.with_mode mode acl.access }) ≡ true
 is_acl-with_mode mode acl h =
     and_from _ _ (is_part-with_mode mode acl.access (and_parts _ _ h).0) (and_parts (is_part acl.access) _ h).1
-
-is_acl-of_mode : (mode : ℕ) → is_acl (acl_of_mode mode) ≡ true
-is_acl-of_mode mode = and_from _ _ (is_part-with_mode mode (part_of_mode 0) refl) refl
 
 module _ (now : ℕ) (fits : now < 2 ^ 64) where
   pub IsObject-changed : (o : Object) → IsObject o → IsObject (changed now o)
@@ -86,7 +80,7 @@ module _ (now : ℕ) (fits : now < 2 ^ 64) where
   letters_fit kind letters (inr e) h = subst (λ k. LettersFit k letters) (sym e) h
 
   pub IsObject-with_letters : (letters : ℕ) (o : Object) → ((o.node.kind ≡ File) ⊎ (o.node.kind ≡ Directory)) → letters < 2 ^ 15 → IsObject o → IsObject (with_letters letters now o)
-  IsObject-with_letters letters o carries small h = record { payload = h.payload; bytes = h.bytes; numbers = h.numbers; special = h.special; owner = h.owner; acl = h.acl; kind_acl = h.kind_acl; stamps = record { access = h.stamps.access; birth = h.stamps.birth; change = fits; modify = h.stamps.modify }; attrs = h.attrs; letters = letters_fit o.node.kind letters carries small }
+  IsObject-with_letters letters o carries is_perm-digit h = record { payload = h.payload; bytes = h.bytes; numbers = h.numbers; special = h.special; owner = h.owner; acl = h.acl; kind_acl = h.kind_acl; stamps = record { access = h.stamps.access; birth = h.stamps.birth; change = fits; modify = h.stamps.modify }; attrs = h.attrs; letters = letters_fit o.node.kind letters carries is_perm-digit }
 
   default_of : (kind : Kind) (special : ℕ) (acl : Acl) → (kind ≡ Link → ⊥) → AclFits kind special acl → (acl.default_part ≡ None) ⊎ (kind ≡ Directory)
   default_of Directory special acl real h = inr refl
@@ -97,7 +91,7 @@ module _ (now : ℕ) (fits : now < 2 ^ 64) where
   default_of BlockDevice special acl real h = inl h
 
   pub IsObject-with_mode : (mode : ℕ) (o : Object) → mode ≤ 4095 → (o.node.kind ≡ Link → ⊥) → IsObject o → IsObject (with_mode mode now o)
-  IsObject-with_mode mode o small real h = record { payload = h.payload; bytes = h.bytes; numbers = h.numbers; special = small_special mode small; owner = h.owner; acl = is_acl-with_mode mode o.node.acl h.acl; kind_acl = acl_fits o.node.kind (special_of mode) _ real (default_of o.node.kind o.node.special o.node.acl real h.kind_acl); stamps = record { access = h.stamps.access; birth = h.stamps.birth; change = fits; modify = h.stamps.modify }; attrs = h.attrs; letters = h.letters }
+  IsObject-with_mode mode o is_perm-digit real h = record { payload = h.payload; bytes = h.bytes; numbers = h.numbers; special = small_special mode is_perm-digit; owner = h.owner; acl = is_acl-with_mode mode o.node.acl h.acl; kind_acl = acl_fits o.node.kind (special_of mode) _ real (default_of o.node.kind o.node.special o.node.acl real h.kind_acl); stamps = record { access = h.stamps.access; birth = h.stamps.birth; change = fits; modify = h.stamps.modify }; attrs = h.attrs; letters = h.letters }
 
 no_numbers : (kind : Kind) → (kind ≡ CharDevice → ⊥) → (kind ≡ BlockDevice → ⊥) → NumbersFit kind 0 0
 no_numbers Directory c b = (refl, refl)
@@ -126,11 +120,11 @@ no_letters BlockDevice = refl
 -- a new object is whole where its kind takes the payload, the numbers and the mode
 pub IsObject-fresh : (kind : Kind) (mode : ℕ) (payload : List ℕ) (major minor now : ℕ) → now < 2 ^ 64 → mode ≤ 4095 → PayloadFits kind payload → list_all (λ b. nat_lt b 256) payload ≡ true
     → NumbersFit kind major minor → AclFits kind (special_of mode) (acl_of_mode mode) → IsObject (fresh kind mode payload major minor now)
-IsObject-fresh kind mode payload major minor now fits small p b n a = record {
+IsObject-fresh kind mode payload major minor now fits is_perm-digit p b n a = record {
   payload = p;
   bytes = b;
   numbers = n;
-  special = small_special mode small;
+  special = small_special mode is_perm-digit;
   owner = (lit≤ tt, lit≤ tt);
   acl = is_acl-of_mode mode;
   kind_acl = a;
@@ -138,3 +132,31 @@ IsObject-fresh kind mode payload major minor now fits small p b n a = record {
   attrs = no_attrs kind;
   letters = no_letters kind;
 }
+
+-- ---- objects that are the same but for stamps
+
+pub directory_is : (kind : Kind) → is_directory kind ≡ true → kind ≡ Directory
+directory_is Directory e = refl
+directory_is File e = cc
+directory_is Link e = cc
+directory_is Fifo e = cc
+directory_is CharDevice e = cc
+directory_is BlockDevice e = cc
+
+pub kind_of-bare : (o : Option Object) → kind_of (option_map bare o) ≡ kind_of o
+kind_of-bare None = refl
+kind_of-bare (Some x) = refl
+
+pub is_some-bare : (o : Option Object) → is_some (option_map bare o) ≡ is_some o
+is_some-bare None = refl
+is_some-bare (Some x) = refl
+
+pub none_from_bare : (o : Option Object) → option_map bare o ≡ None → o ≡ None
+none_from_bare None e = refl
+none_from_bare (Some x) e = absurd (let no : Some (bare x) ≡ None = e in cc)
+
+pub kind_of-same : (a b : Option Object) → option_map bare a ≡ option_map bare b → kind_of a ≡ kind_of b
+kind_of-same a b e = sym (kind_of-bare a) ∙ ap kind_of e ∙ kind_of-bare b
+
+pub is_some-same : (a b : Option Object) → option_map bare a ≡ option_map bare b → is_some a ≡ is_some b
+is_some-same a b e = sym (is_some-bare a) ∙ ap is_some e ∙ is_some-bare b

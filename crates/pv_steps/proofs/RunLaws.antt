@@ -54,12 +54,12 @@ all_weaken Q R f (x ∷ xs) h = (f x h.0, all_weaken Q R f xs h.1)
 module _ (P : Files → Type 0) (Q : Step → Type 0) (now : ℕ) where
   -- nothing was done
   pub ran_none : (t : Files) (h : List Step) (u : Files) (k : List Step) → P t → u ≡ t → k ≡ h → Ran P Q now t h u k
-  ran_none t h u k p same told = record { steps = []; told = told ∙ sym (append-nil h); reached = same; along = p; gives = tt }
+  ran_none t h u k p same told = record { steps = []; recorded = told ∙ sym (append-nil h); reached = same; along = p; gives = tt }
 
   -- one step was done
   pub ran_one : (t : Files) (h : List Step) (s : Step) (u : Files) (k : List Step) → P t → Legal t s now → P u → Q s → u ≡ after t s now → k ≡ h ++ s ∷ [] → Ran P Q now t h u k
   ran_one t h s u k p legal p' q is told =
-      record { steps = s ∷ []; told = told; reached = is; along = (p, (legal, subst P is p')); gives = (q, tt) }
+      record { steps = s ∷ []; recorded = told; reached = is; along = (p, (legal, subst P is p')); gives = (q, tt) }
 
   -- one run after another
   pub ran_then : {t : Files} {h : List Step} {u : Files} {k : List Step} {v : Files} {l : List Step} → Ran P Q now t h u k → Ran P Q now u k v l → Ran P Q now t h v l
@@ -67,7 +67,7 @@ module _ (P : Files → Type 0) (Q : Step → Type 0) (now : ℕ) where
       let there = subst (λ w. Along P w b.steps now) a.reached b.along in
       record {
         steps = a.steps ++ b.steps;
-        told = b.told ∙ ap (λ x. x ++ b.steps) a.told ∙ append_assoc h a.steps b.steps;
+        recorded = b.recorded ∙ ap (λ x. x ++ b.steps) a.recorded ∙ append_assoc h a.steps b.steps;
         reached = b.reached ∙ ap (λ w. after_all w b.steps now) a.reached ∙ sym (after_all-append t a.steps b.steps now);
         along = along_append P t a.steps b.steps now a.along there;
         gives = all_append Q a.steps b.steps a.gives b.gives;
@@ -88,7 +88,7 @@ pub ran_weaken : (P P' : Files → Type 0) (Q Q' : Step → Type 0) (now : ℕ) 
     → {t : Files} {h : List Step} {u : Files} {k : List Step} → Ran P Q now t h u k → Ran P' Q' now t h u k
 ran_weaken P P' Q Q' now f g {t} r = record {
   steps = r.steps;
-  told = r.told;
+  recorded = r.recorded;
   reached = r.reached;
   along = along_weaken P P' f t r.steps now r.along;
   gives = all_weaken Q Q' g r.steps r.gives;

@@ -8,10 +8,8 @@ use Rattle.std.proofs.lemmas.List.Folds.{list_any-append}
 use Rattle.std.proofs.lemmas.List.{append-nil}
 use Rattle.std.specs.FinMap as fin
 use Rattle.std.specs.FinMap.Entries.{find}
-use Rattle.std.specs.declared.cmp.Ordering.{Ordering}
-use Rattle.std.specs.declared.cmp.Ordering.TheVariants.{Equal}
 use Rattle.pv_path.specs.Paths.{Path, path_cmp, path_total, path_exact, same_path, rest_under, is_prefix, parent_of, same_path-decides}
-use Rattle.pv_path.proofs.PathLaws.{path_cmp-refl, path_cmp-exact, rest_under-Some, rest_under-append}
+use Rattle.pv_path.proofs.PathLaws.{path_cmp-refl, rest_under-Some, rest_under-append, tied-equal}
 use Rattle.pv_steps.specs.declared.object.Object.{Object}
 use Rattle.pv_steps.specs.declared.step.Step.{Step}
 use Rattle.pv_steps.specs.declared.step.Step.TheVariants.{MakeDir, MakeFile, MakeFifo, MakeDevice, MakeLink, Write, SetMode, SetOwner, SetAcl, SetAttrs, SetLetters, SetStamps, Rename, Unlink, RemoveDir}
@@ -26,12 +24,6 @@ same_files t u is = fin.same_map path_total path_exact t u is
 -- whether a path is among some paths
 abbrev pub is_among : Path → List Path → Bool
 is_among path paths = list_any (eq_by_cmp path_cmp path) paths
-
-pub tied : (o : Ordering) → is_eq o ≡ true → o ≡ Equal
-tied o e = elim o as (λ v. is_eq v ≡ true → v ≡ Equal) [ Equal ↦ λ _. refl | _ ↦ λ h. cc ] e
-
-tied_same : (p q : Path) → eq_by_cmp path_cmp p q ≡ true → p ≡ q
-tied_same p q e = path_cmp-exact p q (tied (path_cmp p q) e)
 
 same_tied : (p q : Path) → p ≡ q → eq_by_cmp path_cmp p q ≡ true
 same_tied p q e = subst (λ v. eq_by_cmp path_cmp p v ≡ true) e (ap is_eq (path_cmp-refl p))
@@ -48,7 +40,7 @@ pub find-entries_at : (paths : List Path) (t : Places) (q : Path) → find path_
 find-entries_at [] t q = refl
 find-entries_at (path ∷ paths) t q =
     let rest = find-entries_at paths t q in
-    let same = λ (h : eq_by_cmp path_cmp q path ≡ true). ap t (tied_same q path h) in
+    let same = λ (h : eq_by_cmp path_cmp q path ≡ true). ap t (tied-equal q path h) in
     elim (t path) as (λ o. t path ≡ o → find path_cmp q (cons_option (option_map (λ x. (path, x)) o) (entries_at paths t)) ≡ cond (is_among q (path ∷ paths)) (t q) None) [
       | None ↦ λ e. rest ∙ hidden (eq_by_cmp path_cmp q path) (is_among q paths) (t q) (λ h. same h ∙ e)
       | Some x ↦ λ e. ap (cond (eq_by_cmp path_cmp q path) (Some x)) rest ∙ shown (eq_by_cmp path_cmp q path) (is_among q paths) x (t q) (λ h. same h ∙ e)
@@ -84,14 +76,14 @@ same_among path q paths h =
     let is = same_tied q path (sym ((same_path-decides path q).0 h)) in
     ap (λ b. b || is_among q paths) is
 
-later_among : (path q : Path) (paths : List Path) → is_among q paths ≡ true → is_among q (path ∷ paths) ≡ true
+pub later_among : (path q : Path) (paths : List Path) → is_among q paths ≡ true → is_among q (path ∷ paths) ≡ true
 later_among path q paths h =
     elim (eq_by_cmp path_cmp q path) as (λ b. (b || is_among q paths) ≡ true) [ true ↦ refl | false ↦ h ]
 
-among_left : (q : Path) (xs ys : List Path) → is_among q xs ≡ true → is_among q (xs ++ ys) ≡ true
+pub among_left : (q : Path) (xs ys : List Path) → is_among q xs ≡ true → is_among q (xs ++ ys) ≡ true
 among_left q xs ys h = list_any-append (eq_by_cmp path_cmp q) xs ys ∙ ap (λ b. b || is_among q ys) h
 
-among_right : (q : Path) (xs ys : List Path) → is_among q ys ≡ true → is_among q (xs ++ ys) ≡ true
+pub among_right : (q : Path) (xs ys : List Path) → is_among q ys ≡ true → is_among q (xs ++ ys) ≡ true
 among_right q xs ys h =
     list_any-append (eq_by_cmp path_cmp q) xs ys ∙ elim (is_among q xs) as (λ b. (b || is_among q ys) ≡ true) [ true ↦ refl | false ↦ h ]
 
@@ -99,7 +91,7 @@ among_map : (f : Path → Path) (q : Path) (xs : List Path) → is_among q xs �
 among_map f q [] = λ h. let no : false ≡ true = h in cc
 among_map f q (x ∷ xs) =
     elim (eq_by_cmp path_cmp q x) as (λ b. eq_by_cmp path_cmp q x ≡ b → (b || is_among q xs) ≡ true → is_among (f q) (f x ∷ map f xs) ≡ true) [
-      | true ↦ λ e h. ap (λ b. b || is_among (f q) (map f xs)) (same_tied (f q) (f x) (ap f (tied_same q x e)))
+      | true ↦ λ e h. ap (λ b. b || is_among (f q) (map f xs)) (same_tied (f q) (f x) (ap f (tied-equal q x e)))
       | false ↦ λ e h. later_among (f x) (f q) (map f xs) (among_map f q xs h)
     ] refl
 

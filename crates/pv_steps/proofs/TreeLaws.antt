@@ -5,7 +5,7 @@ use Rattle.std.proofs.lemmas.List.{append-nil}
 use Rattle.std.proofs.lemmas.Option.{same_Some}
 use Rattle.std.proofs.lemmas.Bool.{false_from_ne_true}
 use Rattle.pv_path.specs.Paths.{Path, same_path, rest_under, is_prefix, parent_of, has_names, same_path-decides}
-use Rattle.pv_path.proofs.PathLaws.{parent_of-push, path_ends, rest_under-Some, rest_under-append, rest_under-None, is_some-rest_under, is_prefix-trans, parent_of-is_prefix, parent_of-differs, is_prefix-antisym, parent_parts, has_names-append, has_names-both}
+use Rattle.pv_path.proofs.PathLaws.{parent_of-push, path_ends, rest_under-Some, rest_under-append, rest_under-None, is_some-rest_under, is_prefix-trans, parent_of-is_prefix, parent_of-differs, is_prefix-antisym, parent_parts, has_names-append, has_names-both, is_prefix-nil}
 use Rattle.pv_acl.specs.declared.part.Acl.{Acl}
 use Rattle.pv_steps.specs.declared.node.Kind.{Kind}
 use Rattle.pv_steps.specs.declared.node.Kind.TheVariants.{Directory, File, Link, Fifo, CharDevice, BlockDevice}
@@ -17,6 +17,7 @@ use Rattle.pv_steps.proofs.ObjectLaws.{IsObject-changed, IsObject-modified, IsOb
 use Rattle.pv_steps.specs.Trees.{Files, Places, places, kind_of, IsPresentIn, IsAbsentIn, IsKindIn, IsEmptyIn, IsTreeIn, IsTree}
 use Rattle.pv_steps.specs.Steps.{Can, HasRoom, IsOther, Movable, Yields, absent, objects, directories, TakesAcl, StepFits, after, after_at, put_at, on_at, touched, made, gone, moved, moved_at, carried, device_kind}
 use Rattle.pv_steps.proofs.StepLaws.{at_after, is_some-on_at, is_some-touched}
+use Rattle.pv_path.proofs.Tests.{true_not_false}
 
 -- ---- presence and kinds
 
@@ -192,18 +193,11 @@ second_true : (a b : Bool) → (a && b) ≡ true → b ≡ true
 second_true true b h = h
 second_true false b h = let wrong : false ≡ true = h in cc
 
-no_prefix_nil : (path : Path) → path ≢ [] → is_prefix path [] ≡ false
-no_prefix_nil [] h = absurd (h refl)
-no_prefix_nil (n ∷ path) h = refl
-
-true_not_false : (b : Bool) → b ≡ true → b ≡ false → ⊥
-true_not_false b h e = cc
-
 -- what is no prefix of a path is no prefix of its parent
 no_prefix_above : (p q : Path) → is_prefix p q ≡ false → is_prefix p (parent_of q) ≡ false
 no_prefix_above p q h = false_from_ne_true (is_prefix p (parent_of q)) (λ e. true_not_false _ (is_prefix-trans p (parent_of q) q e (parent_of-is_prefix q)) h)
 
-no_rest_no_prefix : (p q : Path) → rest_under p q ≡ None → is_prefix p q ≡ false
+pub no_rest_no_prefix : (p q : Path) → rest_under p q ≡ None → is_prefix p q ≡ false
 no_rest_no_prefix p q e = sym (is_some-rest_under p q) ∙ ap is_some e
 
 module _ (now : ℕ) (from to : Path) (t : Places) (tree : IsTreeIn t) (fits : now < 2 ^ 64) (can : Movable t from to) where
@@ -246,7 +240,7 @@ module _ (now : ℕ) (from to : Path) (t : Places) (tree : IsTreeIn t) (fits : n
   present_carried (name ∷ rest) = refl
 
   moved_root : IsKindIn Directory (moved now from to t) []
-  moved_root = kind_else [] (rest_under-None to [] (no_prefix_nil to to_nonempty)) (no_prefix_nil from can.no_root) ∙ tree.root
+  moved_root = kind_else [] (rest_under-None to [] (is_prefix-nil to to_nonempty)) (is_prefix-nil from can.no_root) ∙ tree.root
 
   -- the parent of what was carried
   parent_carried : (q rest : Path) → q ≡ to ++ rest → is_some (carried now from t rest) ≡ true → IsKindIn Directory (moved now from to t) (parent_of q)

@@ -32,7 +32,7 @@ pub record Trying {S : Type 0} (tree : Ghosts S) (steps left : List Step) (now :
   pub done : List Step
   pub parts : done ++ left ≡ steps
   pub state : tree.state new ≡ after_all (tree.state old) done now
-  pub told : tree.steps new ≡ tree.steps old ++ done
+  pub recorded : tree.steps new ≡ tree.steps old ++ done
   pub fits : AllByRecursion StepFits done
   pub reaches : tree.reaches old new
   pub can : CanAll (tree.state new) left now
@@ -47,7 +47,7 @@ module _ {S : Type 0} (tree : Ghosts S) (moves : Moves tree) where
     done = [];
     parts = refl;
     state = refl;
-    told = sym (append-nil (tree.steps a));
+    recorded = sym (append-nil (tree.steps a));
     fits = tt;
     reaches = moves.stays a;
     can = can;
@@ -59,7 +59,7 @@ module _ {S : Type 0} (tree : Ghosts S) (moves : Moves tree) where
     done = t.done ++ s ∷ [];
     parts = append_assoc t.done (s ∷ []) left ∙ t.parts;
     state = last.state ∙ ap (λ u. after u s now) t.state ∙ sym (after_all-append (tree.state a) t.done (s ∷ []) now);
-    told = last.told ∙ ap (λ h. h ++ s ∷ []) t.told ∙ append_assoc (tree.steps a) t.done (s ∷ []);
+    recorded = last.recorded ∙ ap (λ h. h ++ s ∷ []) t.recorded ∙ append_assoc (tree.steps a) t.done (s ∷ []);
     fits = fits_more t.done s t.fits last.fits;
     reaches = moves.goes_on a b c t.reaches last.reaches;
     can = subst (λ u. CanAll u left now) (sym last.state) t.can.1;
@@ -72,7 +72,7 @@ module _ {S : Type 0} (tree : Ghosts S) (moves : Moves tree) where
     left = [];
     parts = t.parts;
     state = t.state;
-    told = t.told;
+    recorded = t.recorded;
     fits = t.fits;
     whole = refl;
     short = tt;
@@ -96,7 +96,7 @@ module _ {S : Type 0} (tree : Ghosts S) (moves : Moves tree) where
         left = s ∷ left;
         parts = t.parts;
         state = d.kept ∙ t.state;
-        told = d.untold ∙ t.told;
+        recorded = d.unrecorded ∙ t.recorded;
         fits = t.fits;
         whole = tt;
         short = λ none. cc;
@@ -153,13 +153,13 @@ module _ (P : Files → Type 0) (Q : Step → Type 0) (now : ℕ) where
         record {
           ran = record {
             steps = t.done;
-            told = t.told;
+            recorded = t.recorded;
             reached = t.state;
             along = ask_along (tree.state a) t.done t.left t.fits parted;
             gives = ask_gives (tree.state a) t.done t.left parted;
           };
           bound =
-              let told = ap length t.told ∙ length-append (tree.steps a) t.done in
+              let told = ap length t.recorded ∙ length-append (tree.steps a) t.done in
               let all = sym (ap length t.parts) ∙ length-append t.done t.left in
               let one = room r t.left t.short in
               omega (arith, told, all, one);

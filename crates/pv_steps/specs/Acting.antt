@@ -19,13 +19,13 @@ refused r = 0
 abbrev pub asked : {A : Type 0} → Result A TreeFault → List Step → List Step → ℕ
 asked r old new = (length new - length old) + refused r
 
--- one step was done and told, or nothing where the answer is a fault; `tree` is what trees of this type tell of themselves
+-- one step was done and recorded, or nothing where the answer is a fault; `tree` is what trees of this type tell of themselves
 pub record Tried {S : Type 0} (tree : Ghosts S) (step : Step) (now : ℕ) (old new : S) (r : Result (Unit {0}) TreeFault) : Type 0 where
   pub state : OnOk r (tree.state new ≡ after (tree.state old) step now)
-  pub told : OnOk r (tree.steps new ≡ tree.steps old ++ step ∷ [])
+  pub recorded : OnOk r (tree.steps new ≡ tree.steps old ++ step ∷ [])
   pub fits : OnOk r (StepFits step)
   pub kept : OnErr r (tree.state new ≡ tree.state old)
-  pub untold : OnErr r (tree.steps new ≡ tree.steps old)
+  pub unrecorded : OnErr r (tree.steps new ≡ tree.steps old)
   pub reaches : tree.reaches old new
   pub cause : IsErrOf r Failed → HasRisen (tree.faults old) (tree.faults new)
 

@@ -29,10 +29,10 @@ abbrev pub Along : (Files → Type 0) → Files → List Step → ℕ → Type 0
 Along P t [] now = P t
 Along P t (step ∷ steps) now = P t × (Legal t step now × Along P (after t step now) steps now)
 
--- from tree t with the steps h told to tree u with the steps k told: P holds at every moment, Q of each step
+-- from tree t with the steps h recorded to tree u with the steps k recorded: P holds at every moment, Q of each step
 pub record Ran (P : Files → Type 0) (Q : Step → Type 0) (now : ℕ) (t : Files) (h : List Step) (u : Files) (k : List Step) : Type 0 where
   pub steps : List Step
-  pub told : k ≡ h ++ steps
+  pub recorded : k ≡ h ++ steps
   pub reached : u ≡ after_all t steps now
   pub along : Along P t steps now
   pub gives : AllByRecursion Q steps

@@ -16,14 +16,14 @@ abbrev pub CanAll : Files → List Step → ℕ → Type 0
 CanAll t [] now = ⊤
 CanAll t (step ∷ steps) now = Can (places t) step × CanAll (after t step now) steps now
 
--- a front part of some steps was done and told, all of them exactly where the answer is Ok; `tree` is what trees of this
+-- a front part of some steps was done and recorded, all of them exactly where the answer is Ok; `tree` is what trees of this
 -- type tell of themselves
 pub record TriedAll {S : Type 0} (tree : Ghosts S) (steps : List Step) (now : ℕ) (old new : S) (r : Result (Unit {0}) TreeFault) : Type 0 where
   pub done : List Step
   pub left : List Step
   pub parts : done ++ left ≡ steps
   pub state : tree.state new ≡ after_all (tree.state old) done now
-  pub told : tree.steps new ≡ tree.steps old ++ done
+  pub recorded : tree.steps new ≡ tree.steps old ++ done
   pub fits : AllByRecursion StepFits done
   pub whole : OnOk r (left ≡ [])
   pub short : OnErr r (left ≢ [])

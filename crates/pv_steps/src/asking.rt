@@ -8,7 +8,7 @@ ghost use Rattle.pv_steps.specs.Trying.{CanAll, TriedAll};
 use crate::step::Step;
 use crate::tree::{Tree, TreeFault};
 
-/// Asks one step of a tree at the moment `now`, in microseconds since 1970: it is done and told, or the tree is as
+/// Asks one step of a tree at the moment `now`, in microseconds since 1970: it is done and recorded, or the tree is as
 /// before.
 pub fn try_step<T: Tree>(tree: &mut T, step: Step, now: u64) -> Result<(), TreeFault>
     requires { Can (places (T.state tree.old)) step }
@@ -18,7 +18,7 @@ pub fn try_step<T: Tree>(tree: &mut T, step: Step, now: u64) -> Result<(), TreeF
 }
 
 /// Asks the steps of a list of a tree, the last one first, all at the moment `now`, in microseconds since 1970. The
-/// first that is not done ends it: those asked before are done and told, and no other.
+/// first that is not done ends it: those asked before are done and recorded, and no other.
 pub fn try_all<T: Tree>(tree: &mut T, steps: Vec<Step>, now: u64) -> Result<(), TreeFault>
     requires { CanAll (T.state tree.old) (reverse steps.items) now }
     ensures { TriedAll T.Tree (reverse steps.items) now tree.old tree.new result }

@@ -94,7 +94,7 @@ impl AttrList {
         }
     }
 
-    /// Adds an attribute whose name comes after all others. After want of memory the list is as before.
+    /// Adds an attribute whose name comes after all others. After running out of memory the list is as before.
     pub fn push(&mut self, item: Attr) -> Result<(), AllocError>
         requires allowed { is_attr item.name item.value ≡ true }
         requires last { all_before self.old item ≡ true }
@@ -105,7 +105,7 @@ impl AttrList {
         Ok(())
     }
 
-    /// Puts an attribute at its place, over one of the same name. After want of memory the list is as before.
+    /// Puts an attribute at its place, over one of the same name. After running out of memory the list is as before.
     pub fn put(&mut self, item: Attr) -> Result<(), AllocError>
         requires { is_attr item.name item.value ≡ true }
         ensures ok { OnOk result (self.new ≡ put_attr item self.old) }

@@ -78,9 +78,9 @@ pub trait Tree {
     fn step(&mut self, step: &Step, now: u64) -> Result<(), TreeFault>
         requires { Can (places (state self.old)) step.now }
         ensures state { OnOk result (state self.new ≡ after (state self.old) step.now now) }
-        ensures told { OnOk result (steps self.new ≡ steps self.old ++ step.now ∷ []) }
+        ensures recorded { OnOk result (steps self.new ≡ steps self.old ++ step.now ∷ []) }
         ensures kept { OnErr result (state self.new ≡ state self.old) }
-        ensures untold { OnErr result (steps self.new ≡ steps self.old) }
+        ensures unrecorded { OnErr result (steps self.new ≡ steps self.old) }
 
         // What the types of the step's parts say.
         ensures fits { StepFits step.now }

@@ -13,7 +13,6 @@ use Rattle.std.proofs.lemmas.Bool.Decides.{Decides-eqb}
 use Rattle.std.proofs.lemmas.Map.Steps.{length-le_from_distinct_below}
 use Rattle.pv_path.specs.Paths.{Path, path_cmp}
 use Rattle.pv_path.proofs.PathLaws.{name_cmp-refl, name_cmp-exact}
-use Rattle.pv_steps.proofs.NameLaws.{both_T, less_T}
 use Rattle.pv_steps.specs.declared.object.Object.{Object}
 use Rattle.pv_steps.specs.Trees.{Files, places}
 use Rattle.pv_tree.specs.declared.slot.Slot.{Slot}
@@ -22,15 +21,12 @@ use Rattle.pv_tree.specs.Children.{IsSorted}
 use Rattle.pv_tree.specs.Edges.{Edges, led}
 use Rattle.pv_tree.specs.Slots.{child_in, object_in, number_in, places_in, below, entries_below, entries_in, files_of, IsForest}
 use Rattle.pv_tree.proofs.EdgeLaws.{Once, led-on, no_longer}
+use Rattle.pv_path.proofs.Tests.{equal_of, less_of-T, each_T, both_T}
 
 abbrev pub Entries : Type 0
 Entries = List (Path × Object)
 
 -- ---- the order of paths below a name
-
-both : (a b : Bool) → T a → T b → T (a && b)
-both true b p q = q
-both false b p q = p
 
 cmp_below : (n : List ℕ) (p q : Path) → path_cmp (n ∷ p) (n ∷ q) ≡ path_cmp p q
 cmp_below n p q = ap (λ o. ordering_then o (path_cmp p q)) (name_cmp-refl n)
@@ -48,18 +44,18 @@ sorted_same n (e ∷ es) = ap (λ b. b && is_sorted path_cmp (map (below n) es))
 
 below_less : (n m : List ℕ) (p : Path) (es : Entries) → name_cmp n m ≡ Less → T (below_all path_cmp (n ∷ p) (map (below m) es))
 below_less n m p [] e = tt
-below_less n m p (x ∷ es) e = both (is_lt (path_cmp (n ∷ p) (m ∷ x.0))) _ (subst (λ o. T (is_lt o)) (sym (cmp_less n m p x.0 e)) tt) (below_less n m p es e)
+below_less n m p (x ∷ es) e = both_T (is_lt (path_cmp (n ∷ p) (m ∷ x.0))) _ (subst (λ o. T (is_lt o)) (sym (cmp_less n m p x.0 e)) tt) (below_less n m p es e)
 
 below_append : (p : Path) (xs ys : Entries) → T (below_all path_cmp p xs) → T (below_all path_cmp p ys) → T (below_all path_cmp p (xs ++ ys))
 below_append p [] ys h k = k
-below_append p (x ∷ xs) ys h k = both _ _ (both_T _ _ h).0 (below_append p xs ys (both_T _ _ h).1 k)
+below_append p (x ∷ xs) ys h k = both_T _ _ (each_T _ _ h).0 (below_append p xs ys (each_T _ _ h).1 k)
 
 module _ (at : ℕ → Entries) where
   -- what lies below later names comes later
   below_children : (n : List ℕ) (p : Path) (cs : List (List ℕ × ℕ)) → T (below_all name_cmp n cs) → T (below_all path_cmp (n ∷ p) (entries_below at cs))
   below_children n p [] h = tt
   below_children n p (c ∷ cs) h =
-      below_append (n ∷ p) (map (below c.0) (at c.1)) (entries_below at cs) (below_less n c.0 p (at c.1) (less_T _ (both_T _ _ h).0)) (below_children n p cs (both_T _ _ h).1)
+      below_append (n ∷ p) (map (below c.0) (at c.1)) (entries_below at cs) (below_less n c.0 p (at c.1) (less_of-T _ (each_T _ _ h).0)) (below_children n p cs (each_T _ _ h).1)
 
   root_first : (cs : List (List ℕ × ℕ)) → T (below_all path_cmp [] (entries_below at cs))
   root_first [] = tt
@@ -72,12 +68,12 @@ module _ (at : ℕ → Entries) where
   join : (n : List ℕ) (es ys : Entries) → T (is_sorted path_cmp es) → T (is_sorted path_cmp ys) → ((p : Path) → T (below_all path_cmp (n ∷ p) ys)) → T (is_sorted path_cmp (map (below n) es ++ ys))
   join n [] ys h k after = k
   join n (e ∷ es) ys h k after =
-      both _ _ (below_append (n ∷ e.0) (map (below n) es) ys (subst T (sym (below_same n e.0 es)) (both_T _ _ h).0) (after e.0)) (join n es ys (both_T _ _ h).1 k after)
+      both_T _ _ (below_append (n ∷ e.0) (map (below n) es) ys (subst T (sym (below_same n e.0 es)) (each_T _ _ h).0) (after e.0)) (join n es ys (each_T _ _ h).1 k after)
 
   sorted_below : ((k : ℕ) → T (is_sorted path_cmp (at k))) → (cs : List (List ℕ × ℕ)) → IsSorted cs → T (is_sorted path_cmp (entries_below at cs))
   sorted_below each [] h = tt
   sorted_below each (c ∷ cs) h =
-      join c.0 (at c.1) (entries_below at cs) (each c.1) (sorted_below each cs (both_T _ _ h).1) (λ p. below_children c.0 p cs (both_T _ _ h).0)
+      join c.0 (at c.1) (entries_below at cs) (each c.1) (sorted_below each cs (each_T _ _ h).1) (λ p. below_children c.0 p cs (each_T _ _ h).0)
 
 module _ (slots : List Slot) where
   -- the entries are in the order of the paths
@@ -89,7 +85,7 @@ module _ (slots : List Slot) where
           → T (is_sorted path_cmp (option_map_or (λ s. ([], s.object) ∷ entries_below (entries_in depth slots) (fin.entries s.children)) o []))
       by None each = tt
       by (Some s) each =
-          both _ _ (root_first (entries_in depth slots) (fin.entries s.children))
+          both_T _ _ (root_first (entries_in depth slots) (fin.entries s.children))
           (sorted_below (entries_in depth slots) each (fin.entries s.children) (fin.entries_sorted s.children))
 
 -- ---- what is found among them
@@ -117,18 +113,13 @@ find_other n m p (x ∷ es) e = ap (λ b. cond b (Some x.1) (find path_cmp (n �
 not_below : (n m : List ℕ) (cs : List (List ℕ × ℕ)) → n ≡ m → T (below_all name_cmp m cs) → find name_cmp n cs ≡ None
 not_below n m [] e h = refl
 not_below n m (c ∷ cs) e h =
-    ap (λ o. cond (is_eq o) (Some c.1) (find name_cmp n cs)) (ap (λ v. name_cmp v c.0) e ∙ less_T (name_cmp m c.0) (both_T _ _ h).0) ∙ not_below n m cs e (both_T _ _ h).1
-
-equal_of : (o : Ordering) → is_eq o ≡ true → o ≡ Equal
-equal_of Less e = (let no : false ≡ true = e in cc)
-equal_of Equal e = refl
-equal_of Greater e = (let no : false ≡ true = e in cc)
+    ap (λ o. cond (is_eq o) (Some c.1) (find name_cmp n cs)) (ap (λ v. name_cmp v c.0) e ∙ less_of-T (name_cmp m c.0) (each_T _ _ h).0) ∙ not_below n m cs e (each_T _ _ h).1
 
 find_below : (at : ℕ → Entries) (n : List ℕ) (p : Path) (cs : List (List ℕ × ℕ)) → IsSorted cs
     → find path_cmp (n ∷ p) (entries_below at cs) ≡ option_and_then (λ k. find path_cmp p (at k)) (find name_cmp n cs)
 find_below at n p [] h = refl
 find_below at n p (c ∷ cs) h =
-    find_append (n ∷ p) (map (below c.0) (at c.1)) (entries_below at cs) ∙ by (eq_by_cmp name_cmp n c.0) refl (find_below at n p cs (both_T _ _ h).1)
+    find_append (n ∷ p) (map (below c.0) (at c.1)) (entries_below at cs) ∙ by (eq_by_cmp name_cmp n c.0) refl (find_below at n p cs (each_T _ _ h).1)
   where
     last : (o : Option Object) → option_or o None ≡ o
     last None = refl
@@ -138,7 +129,7 @@ find_below at n p (c ∷ cs) h =
         → option_or (find path_cmp (n ∷ p) (map (below c.0) (at c.1))) (find path_cmp (n ∷ p) (entries_below at cs)) ≡ option_and_then (λ k. find path_cmp p (at k)) (cond b (Some c.1) (find name_cmp n cs))
     by true e rest =
         let same : n ≡ c.0 = name_cmp-exact n c.0 (equal_of (name_cmp n c.0) e) in
-        ap (option_or (find path_cmp (n ∷ p) (map (below c.0) (at c.1)))) (rest ∙ ap (option_and_then (λ k. find path_cmp p (at k))) (not_below n c.0 cs same (both_T _ _ h).0))
+        ap (option_or (find path_cmp (n ∷ p) (map (below c.0) (at c.1)))) (rest ∙ ap (option_and_then (λ k. find path_cmp p (at k))) (not_below n c.0 cs same (each_T _ _ h).0))
         ∙ last (find path_cmp (n ∷ p) (map (below c.0) (at c.1)))
         ∙ ap (λ (v : List ℕ). find path_cmp (v ∷ p) (map (below c.0) (at c.1))) same ∙ find_same c.0 p (at c.1)
     by false e rest = ap (λ o. option_or o (find path_cmp (n ∷ p) (entries_below at cs))) (find_other n c.0 p (at c.1) e) ∙ rest

@@ -26,12 +26,9 @@ use Rattle.pv_tree.specs.Slots.{number_in, object_in, places_in, files_of, IsFor
 use Rattle.pv_tree.proofs.Files.{places_of}
 use Rattle.pv_tree.proofs.ForestLaws.{slice_get_take}
 use Rattle.pv_tree.proofs.SlotLaws.{slice_get_push, slice_get_before}
-use Rattle.pv_tree.proofs.State.{added_files, added_tree, directory_of, object_there}
-
-less_is : (o : Ordering) → is_lt o ≡ true → o ≡ Less
-less_is Less e = refl
-less_is Equal e = cc
-less_is Greater e = cc
+use Rattle.pv_tree.proofs.State.{added_files, added_tree, object_there}
+use Rattle.pv_path.proofs.Tests.{less_of}
+use Rattle.pv_steps.proofs.ObjectLaws.{directory_is}
 
 -- ---- names that two paths share
 
@@ -154,7 +151,7 @@ module _ (s : List Slot) (free : List ℕ) (last path : Path) (way : List ℕ) (
   -- a directory that is there is a beginning of the last path
   pub parent_before : IsKindIn Directory (places_in s) (parent_of path) → is_prefix (parent_of path) last ≡ true
   parent_before kind =
-      prefix_between (parent_of path) last path (parent_of-is_prefix path) (not_after (path_cmp last (parent_of path)) refl) (λ e. let is = less_is (path_cmp last path) less in cc)
+      prefix_between (parent_of path) last path (parent_of-is_prefix path) (not_after (path_cmp last (parent_of path)) refl) (λ e. let is = less_of (path_cmp last path) less in cc)
     where
       not_after : (o : Ordering) → path_cmp last (parent_of path) ≡ o → path_cmp (parent_of path) last ≢ Greater
       not_after Less e = absurd (let no : is_lt Less ≡ false = sym (ap is_lt e) ∙ growing.final (parent_of path) (present_of_kind (places_in s) (parent_of path) Directory kind) in cc)
@@ -176,7 +173,7 @@ module _ (s : List Slot) (free : List ℕ) (last path : Path) (way : List ℕ) (
       where
         by : (o : Option Object) → option_map (λ (x : Object). is_directory x.node.kind) o ≡ Some true → kind_of o ≡ Some Directory
         by None e = absurd (let no : None ≡ Some true = e in cc)
-        by (Some x) e = ap Some (directory_of x.node.kind (let yes : is_directory x.node.kind ≡ true = cc in yes))
+        by (Some x) e = ap Some (directory_is x.node.kind (let yes : is_directory x.node.kind ≡ true = cc in yes))
 
     pub parent_other : option_map (λ (o : Object). is_directory o.node.kind) (object_in s directory) ≡ Some false → IsKindIn Directory (places_in s) (parent_of path) → ⊥
     parent_other is kind = by (object_in s directory) is (sym directory_kind ∙ kind)
@@ -229,7 +226,7 @@ final_after s new last path o final less is p present = by (same_path path p) re
         let tied : r ≡ Equal = sym f ∙ ap (path_cmp path) (sym ((same_path-decides path p).0 e)) ∙ path_cmp-refl path in
         ap is_lt tied
     by false e Less f =
-        let below : path_cmp last p ≡ Less = path_total.trans last path p (less_is (path_cmp last path) less) f in
+        let below : path_cmp last p ≡ Less = path_total.trans last path p (less_of (path_cmp last path) less) f in
         absurd (let no : is_lt Less ≡ false = sym (ap is_lt below) ∙ final p (old e) in cc)
     by false e Equal f = refl
     by false e Greater f = refl

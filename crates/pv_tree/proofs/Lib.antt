@@ -1,4 +1,4 @@
-pub mod Halving
+pub mod BinarySearch
 pub mod Names
 pub mod EdgeLaws
 pub mod PlaceLaws

@@ -13,11 +13,11 @@ use Rattle.std.specs.List.{HoldsAt}
 use Rattle.std.specs.Option.{option_copied}
 use Rattle.std.proofs.lemmas.Option.{slice_get-map, slice_get-get_or, slice_get_past, slice_get_within}
 use Rattle.pv_path.proofs.PathLaws.{name_cmp-exact}
-use Rattle.pv_steps.proofs.NameLaws.{both_T, less_T}
 use Rattle.pv_tree.specs.Finding.{IsRising, IsFoundAt, IsGapAt}
-use Rattle.pv_tree.proofs.Halving.{rising_found, rising_none, stands, length_rising, missed}
+use Rattle.pv_tree.proofs.BinarySearch.{rising_found, rising_none, stands, length_rising, missed}
 use Rattle.pv_path.specs.Names.{name_cmp}
 use Rattle.pv_tree.specs.Children.{Children, IsSorted, orders_of, without}
+use Rattle.pv_path.proofs.Tests.{less_of-T, each_T}
 
 abbrev pub Entries : Type 0
 Entries = List (List ℕ × ℕ)
@@ -36,13 +36,13 @@ reversed p q o e = nat_list_cmp_total.antisymm q p ∙ ap ordering_reverse e
 all_after : (p name : List ℕ) → ((q : List ℕ) → name_cmp p q ≡ Less → name_cmp q name ≡ Greater) → (es : Entries) → T (below_all name_cmp p es) → orders_of name es ≡ replicate (length es) Greater
 all_after p name after [] h = refl
 all_after p name after (e ∷ es) h =
-    let head = after e.0 (less_T _ (both_T _ _ h).0) in
-    let rest = all_after p name after es (both_T _ _ h).1 in
+    let head = after e.0 (less_of-T _ (each_T _ _ h).0) in
+    let rest = all_after p name after es (each_T _ _ h).1 in
     rw (head, rest)
 
 pub rising : (name : List ℕ) (es : Entries) → IsSorted es → IsRising (orders_of name es)
 rising name [] h = record { less = 0; equal = 0; greater = 0; once = omega arith; is = refl }
-rising name (e ∷ es) h = by_order_of (name_cmp e.0 name) refl (rising name es (both_T _ _ h).1)
+rising name (e ∷ es) h = by_order_of (name_cmp e.0 name) refl (rising name es (each_T _ _ h).1)
   where
     after : (o : Ordering) → name_cmp e.0 name ≡ o → o ≢ Less → (q : List ℕ) → name_cmp e.0 q ≡ Less → name_cmp q name ≡ Greater
     after Less is other q l = absurd (other refl)
@@ -51,8 +51,8 @@ rising name (e ∷ es) h = by_order_of (name_cmp e.0 name) refl (rising name es 
 
     by_order_of : (o : Ordering) → name_cmp e.0 name ≡ o → IsRising (orders_of name es) → IsRising (name_cmp e.0 name ∷ orders_of name es)
     by_order_of Less is r = record { less = suc r.less; equal = r.equal; greater = r.greater; once = r.once; is = rw is (ap (λ v. Less ∷ v) r.is) }
-    by_order_of Equal is r = record { less = 0; equal = 1; greater = length es; once = omega arith; is = rw (is, all_after e.0 name (after Equal is (λ x. cc)) es (both_T _ _ h).0) }
-    by_order_of Greater is r = record { less = 0; equal = 0; greater = suc (length es); once = omega arith; is = rw (is, all_after e.0 name (after Greater is (λ x. cc)) es (both_T _ _ h).0) }
+    by_order_of Equal is r = record { less = 0; equal = 1; greater = length es; once = omega arith; is = rw (is, all_after e.0 name (after Equal is (λ x. cc)) es (each_T _ _ h).0) }
+    by_order_of Greater is r = record { less = 0; equal = 0; greater = suc (length es); once = omega arith; is = rw (is, all_after e.0 name (after Greater is (λ x. cc)) es (each_T _ _ h).0) }
 
 -- ---- the places that looking for a name gives
 

@@ -1,15 +1,16 @@
 -- What stands at each path after an object is changed, and after children come, go and move.
-use Rattle.std.proofs.Common.{◌≡◌, ◌≢◌, ℕ, Bool, true, false, cond, List, [], ◌∷◌, ◌++◌, Option, Some, None, is_some, option_map, refl, sym, ap, ◌∙◌}
+use Rattle.std.proofs.Common.{◌≡◌, ◌≢◌, ℕ, Bool, true, false, cond, List, [], ◌∷◌, ◌++◌, Option, Some, None, option_map, refl, sym, ap, ◌∙◌}
 use Rattle.std.specs.Option.{option_and_then}
 use Rattle.std.proofs.lemmas.List.{append-nil}
 use Rattle.pv_path.specs.Paths.{Path, is_prefix, rest_under, same_path, parent_of, same_path-decides}
-use Rattle.pv_path.proofs.PathLaws.{is_prefix-append, is_prefix-refl, is_prefix-trans, prefix_parts, rest_under-Some, is_some-rest_under, parent_of-push}
+use Rattle.pv_path.proofs.PathLaws.{is_prefix-append, is_prefix-refl, is_prefix-trans, prefix_parts, rest_under-Some, parent_of-push}
 use Rattle.pv_steps.specs.declared.object.Object.{Object}
 use Rattle.pv_steps.specs.Objects.{changed, modified}
 use Rattle.pv_steps.specs.Trees.{Places}
 use Rattle.pv_steps.specs.Steps.{put_at, on_at, touched, moved, moved_at, carried}
 use Rattle.pv_tree.specs.Edges.{Edges, Objects, led, IsSet, IsChanged, places_by}
 use Rattle.pv_tree.proofs.EdgeLaws.{Once, made_is, made_else, gone_under, gone_else, moved_under, moved_else, moved_none, no_longer, no_more, led-on}
+use Rattle.pv_steps.proofs.TreeLaws.{no_rest_no_prefix}
 
 -- ---- an object changed
 
@@ -91,9 +92,6 @@ module _ (g h : Edges) (a : Objects) (d : Path) (k : ℕ) (n : List ℕ) (change
 
 -- ---- a child moves
 
-no_rest : (p q : Path) → rest_under p q ≡ None → is_prefix p q ≡ false
-no_rest p q e = sym (is_some-rest_under p q) ∙ ap is_some e
-
 module _ (now : ℕ) (g e h : Edges) (a a1 a2 b : Objects) (d : Path) (k : ℕ) (n : List ℕ) (d' : Path) (k' : ℕ) (n' : List ℕ) (j : ℕ)
     (first : IsSet k n None g e) (second : IsSet k' n' (Some j) e h) (once : Once g) (at : led g 0 d ≡ Some k) (at' : led g 0 d' ≡ Some k')
     (child : g k n ≡ Some j) (outside : is_prefix (d ++ n ∷ []) (d' ++ n' ∷ []) ≡ false)
@@ -145,9 +143,9 @@ module _ (now : ℕ) (g e h : Edges) (a a1 a2 b : Objects) (d : Path) (k : ℕ) 
     where
       outer : rest_under (d' ++ n' ∷ []) q ≡ None → (t : Bool) → is_prefix (d ++ n ∷ []) q ≡ t
           → places_by h b q ≡ cond t None (touched now (d ++ n ∷ []) (touched now (d' ++ n' ∷ []) (places_by g a)) q)
-      outer other true x = ap (option_and_then b) (moved_none g e h d k n d' k' n' j first second once at at' child outside q (no_rest (d' ++ n' ∷ []) q other) x)
+      outer other true x = ap (option_and_then b) (moved_none g e h d k n d' k' n' j first second once at at' child outside q (no_rest_no_prefix (d' ++ n' ∷ []) q other) x)
       outer other false x =
-          ap (option_and_then b) (moved_else g e h d k n d' k' n' j first second once at at' child outside q (no_rest (d' ++ n' ∷ []) q other) x)
+          ap (option_and_then b) (moved_else g e h d k n d' k' n' j first second once at at' child outside q (no_rest_no_prefix (d' ++ n' ∷ []) q other) x)
           ∙ stayed q x (led g 0 q) refl ∙ ap (λ (t : Places). t q) both_touched
 
       by : (v : Option Path) → rest_under (d' ++ n' ∷ []) q ≡ v → places_by h b q ≡ moved_at now (d ++ n ∷ []) (d' ++ n' ∷ []) (places_by g a) q v

@@ -13,16 +13,15 @@ use Rattle.std.specs.FinMap as fin
 use Rattle.std.specs.FinMap.Entries.{below_all, is_sorted}
 use Rattle.pv_path.specs.Paths.{Path, path_cmp, path_total, has_names, parent_of, same_path, same_path-decides}
 use Rattle.pv_path.proofs.PathLaws.{path_cmp-refl, path_cmp-exact}
-use Rattle.pv_steps.specs.declared.node.Kind.{Kind}
-use Rattle.pv_steps.specs.declared.node.Kind.TheVariants.{Directory, File, Link, Fifo, CharDevice, BlockDevice}
+use Rattle.pv_steps.specs.declared.node.Kind.TheVariants.{Directory}
 use Rattle.pv_steps.specs.declared.object.Object.{Object}
 use Rattle.pv_steps.specs.declared.step.Step.{Step}
-use Rattle.pv_steps.specs.Objects.{IsObject, is_directory}
+use Rattle.pv_steps.specs.Objects.{IsObject}
 use Rattle.pv_steps.specs.Trees.{Files, Places, places, kind_of, IsTree, IsTreeIn, IsKind, IsKindIn, IsEmptyIn, names_below}
 use Rattle.pv_steps.specs.Steps.{Can, StepFits, after, after_at, put_at, IsOther}
 use Rattle.pv_steps.proofs.StepLaws.{same_files, places_after}
 use Rattle.pv_steps.proofs.TreeLaws.{tree_after, IsTreeIn-put, not_absent, present_of_kind, present_above, directory_above}
-use Rattle.pv_steps.proofs.NameLaws.{both_T, less_T, names_below-rise, names_below-are}
+use Rattle.pv_steps.proofs.NameLaws.{names_below-rise, names_below-are}
 use Rattle.pv_tree.specs.declared.slot.Slot.{Slot}
 use Rattle.pv_tree.specs.Changes.{IsRemovable}
 use Rattle.pv_path.specs.Names.{name_cmp}
@@ -33,6 +32,7 @@ use Rattle.pv_tree.specs.Slots.{child_in, object_in, number_in, slot_in, places_
 use Rattle.pv_tree.proofs.EdgeLaws.{led-on}
 use Rattle.pv_tree.proofs.Files.{places_of}
 use Rattle.pv_tree.proofs.ForestLaws.{object_within}
+use Rattle.pv_path.proofs.Tests.{less_of-T, each_T}
 
 pub files_from : (slots : List Slot) (t : Files) → IsForest slots → places_in slots ≡ places t → files_of slots ≡ t
 files_from slots t forest is = same_files (files_of slots) t (λ q. ap (λ (p : Places). p q) (places_of slots forest ∙ is))
@@ -89,12 +89,12 @@ sorted_keys : (es : List (List ℕ × ℕ)) → T (is_sorted name_cmp es) → Is
 unfolding IsStrictlySortedBy
 sorted_keys [] h = tt
 sorted_keys (e ∷ es) h =
-    let parts = both_T (below_all name_cmp e.0 es) (is_sorted name_cmp es) h in
+    let parts = each_T (below_all name_cmp e.0 es) (is_sorted name_cmp es) h in
     (above e.0 es parts.0, sorted_keys es parts.1)
   where
     above : (n : List ℕ) (es : List (List ℕ × ℕ)) → T (below_all name_cmp n es) → AllByRecursion (λ m. name_cmp n m ≡ Less) (map (λ e. e.0) es)
     above n [] h = tt
-    above n (x ∷ es) h = let parts = both_T (is_lt (name_cmp n x.0)) (below_all name_cmp n es) h in (less_T (name_cmp n x.0) parts.0, above n es parts.1)
+    above n (x ∷ es) h = let parts = each_T (is_lt (name_cmp n x.0)) (below_all name_cmp n es) h in (less_of-T (name_cmp n x.0) parts.0, above n es parts.1)
 
 module _ (slots : List Slot) (t : Files) (path : Path) (s : Slot) (forest : IsForest slots) (same : files_of slots ≡ t) (is : Some s ≡ slot_in slots path) where
   child_present : (n : List ℕ) → is_some (fin.get s.children n) ≡ is_some (places t (path ++ n ∷ []))
@@ -288,11 +288,3 @@ pub new_files : (s : Slot) (slots : List Slot) (o : Object) → s.children ≡ f
 new_files s slots o bare is one = ap files_of one ∙ root_files s bare ∙ ap (fin.insert fin.empty []) is
 
 -- ---- the directory of a path
-
-pub directory_of : (k : Kind) → is_directory k ≡ true → k ≡ Directory
-directory_of Directory h = refl
-directory_of File h = absurd (let no : false ≡ true = h in cc)
-directory_of Link h = absurd (let no : false ≡ true = h in cc)
-directory_of Fifo h = absurd (let no : false ≡ true = h in cc)
-directory_of CharDevice h = absurd (let no : false ≡ true = h in cc)
-directory_of BlockDevice h = absurd (let no : false ≡ true = h in cc)

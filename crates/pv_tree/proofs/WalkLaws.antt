@@ -11,7 +11,6 @@ use Rattle.std.proofs.lemmas.List.{nil_from_length}
 use Rattle.std.proofs.lemmas.Option.{slice_get-get_or}
 use Rattle.pv_path.specs.Paths.{Path}
 use Rattle.pv_path.proofs.PathLaws.{name_cmp-refl}
-use Rattle.pv_steps.proofs.NameLaws.{both_T, less_T}
 use Rattle.pv_steps.specs.declared.object.Object.{Object}
 use Rattle.pv_tree.specs.declared.slot.Slot.{Slot}
 use Rattle.pv_path.specs.Names.{name_cmp}
@@ -24,6 +23,7 @@ use Rattle.pv_tree.proofs.Files.{Entries, short}
 use Rattle.pv_tree.proofs.ForestLaws.{object_within}
 use Rattle.pv_tree.proofs.Names.{reversed}
 use Rattle.pv_tree.proofs.SlotLaws.{slice_get_push, slice_get_before, slice_get_last}
+use Rattle.pv_path.proofs.Tests.{less_of-T, each_T}
 
 -- ---- lists by their ends
 
@@ -55,7 +55,7 @@ child_entry (x ∷ es) zero n j h e =
     let same : x ≡ (n, j) = cc in
     ap (λ o. cond (is_eq o) (Some x.1) (find name_cmp n es)) (ap (λ (v : List ℕ × ℕ). name_cmp n v.0) same ∙ name_cmp-refl n) ∙ ap (λ (v : List ℕ × ℕ). Some v.1) same
 child_entry (x ∷ es) (suc k) n j h e =
-    let parts = both_T (below_all name_cmp x.0 es) (is_sorted name_cmp es) h in
+    let parts = each_T (below_all name_cmp x.0 es) (is_sorted name_cmp es) h in
     let less : name_cmp x.0 n ≡ Less = above es k parts.0 e in
     ap (λ o. cond (is_eq o) (Some x.1) (find name_cmp n es)) (reversed x.0 n Less less) ∙ child_entry es k n j parts.1 e
   where
@@ -63,8 +63,8 @@ child_entry (x ∷ es) (suc k) n j h e =
     above [] m t g = absurd (let no : None ≡ Some (n, j) = g in cc)
     above (y ∷ ys) zero t g =
         let same : y ≡ (n, j) = cc in
-        sym (ap (λ (v : List ℕ × ℕ). name_cmp x.0 v.0) same) ∙ less_T (name_cmp x.0 y.0) (both_T (is_lt (name_cmp x.0 y.0)) (below_all name_cmp x.0 ys) t).0
-    above (y ∷ ys) (suc m) t g = above ys m (both_T (is_lt (name_cmp x.0 y.0)) (below_all name_cmp x.0 ys) t).1 g
+        sym (ap (λ (v : List ℕ × ℕ). name_cmp x.0 v.0) same) ∙ less_of-T (name_cmp x.0 y.0) (each_T (is_lt (name_cmp x.0 y.0)) (below_all name_cmp x.0 ys) t).0
+    above (y ∷ ys) (suc m) t g = above ys m (each_T (is_lt (name_cmp x.0 y.0)) (below_all name_cmp x.0 ys) t).1 g
 
 module _ (slots : List Slot) where
   pub child_there : (i k : ℕ) (n : List ℕ) (j : ℕ) → slice_get (children_in slots i) k ≡ Some (n, j) → child_in slots i n ≡ Some j

@@ -1,4 +1,4 @@
-//! One step done on the slots, and told.
+//! One step done on the slots, and recorded.
 ghost use Rattle.std.specs.Prelude.{◌≡◌, ℕ, List, ◌∷◌, [], ◌++◌, OnOk, OnErr, IsErrOf, nat_lt, true};
 ghost use Rattle.std.specs.List.{list_all};
 ghost use Rattle.pv_path.specs.Paths.{has_names};
@@ -15,7 +15,7 @@ use pv_steps::{Kind, Step, TreeFault};
 use std::alloc::{AllocError, Global};
 
 /// Does a step on the slots, and tells it at the end of the list of steps. The step is copied first. After
-/// want of memory, which is the only fault, both are as before.
+/// running out of memory, which is the only fault, both are as before.
 pub(crate) fn do_told(
     alloc: Global,
     slots: &mut Vec<Slot>,
@@ -31,9 +31,9 @@ pub(crate) fn do_told(
     ensures forest { IsForest slots.new.items }
     ensures free { AreFree slots.new.items free.new.items }
     ensures ok { OnOk result (places_in slots.new.items ≡ after_at (places_in slots.old.items) step.now now) }
-    ensures told { OnOk result (steps.new.items ≡ steps.old.items ++ step.now ∷ []) }
+    ensures recorded { OnOk result (steps.new.items ≡ steps.old.items ++ step.now ∷ []) }
     ensures err { OnErr result (slots.new.items ≡ slots.old.items) }
-    ensures untold { OnErr result (steps.new.items ≡ steps.old.items) }
+    ensures unrecorded { OnErr result (steps.new.items ≡ steps.old.items) }
     ensures fault { IsErrOf result Failed → ⊥ }
 {
     steps.push(step.copy()?)?;
@@ -46,7 +46,7 @@ pub(crate) fn do_told(
     }
 }
 
-/// Does a step on the slots. After want of memory they are as before.
+/// Does a step on the slots. After running out of memory they are as before.
 fn do_step(
     alloc: Global,
     slots: &mut Vec<Slot>,

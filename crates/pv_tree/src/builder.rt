@@ -198,7 +198,7 @@ impl TreeBuilder {
         )
     }
 
-    /// The tree as it is, with no step told. It takes no memory.
+    /// The tree as it is, with no step recorded. It takes no memory.
     pub fn finish(self) -> MemTree
         ensures value { result ≡ record { files = self.files; steps = [] } }
         ensures tree { IsTree self.files }

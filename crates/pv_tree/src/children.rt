@@ -6,7 +6,7 @@ ghost use Rattle.pv_tree.specs.Finding.{IsFoundAt, IsGapAt};
 ghost use Rattle.pv_path.specs.Names.{name_cmp};
 ghost use Rattle.pv_tree.specs.Children.{IsSorted, orders_of, without};
 
-use crate::probe::{Probe, find, place_of};
+use crate::binary_search::{Probe, find, place_of};
 use pv_path::{Name, NameList};
 use std::alloc::{AllocError, Global};
 use std::cmp::Ordering;
@@ -155,7 +155,7 @@ impl Children {
         number_of(&self.entries, name)
     }
 
-    /// Puts a child at a name, and gives back the number of the one that it replaces. After want of memory
+    /// Puts a child at a name, and gives back the number of the one that it replaces. After running out of memory
     /// the children are as before.
     pub(crate) fn put(&mut self, name: Name, number: usize) -> Result<Option<usize>, AllocError>
         ensures ok { OnOk result (self.new ≡ fin.insert self.old name number) }

@@ -60,7 +60,7 @@ pub(crate) fn plain(alloc: Global, kind: Kind, mode: u16, now: u64) -> Object
 }
 
 /// Puts an object at an absent path into its directory, which has this number, and gives the number of the
-/// object. After want of memory the slots are as before.
+/// object. After running out of memory the slots are as before.
 pub(crate) fn put_below(
     alloc: Global,
     slots: &mut Vec<Slot>,
@@ -111,7 +111,7 @@ pub(crate) fn put(
     Ok(directory)
 }
 
-/// Puts a new object at an absent path in a directory, and notes it there. After want of memory the slots
+/// Puts a new object at an absent path in a directory, and notes it there. After running out of memory the slots
 /// are as before.
 pub(crate) fn make(
     alloc: Global,
@@ -134,7 +134,7 @@ pub(crate) fn make(
     Ok(())
 }
 
-/// Does a step that changes the object at a path, where there is one. After want of memory the slots are
+/// Does a step that changes the object at a path, where there is one. After running out of memory the slots are
 /// as before.
 pub(crate) fn change_at(
     slots: &mut Vec<Slot>,
@@ -189,7 +189,7 @@ pub(crate) fn unmake(
     Ok(())
 }
 
-/// Moves what stands at and below a path to another. After want of memory the slots are as before.
+/// Moves what stands at and below a path to another. After running out of memory the slots are as before.
 pub(crate) fn rename(
     slots: &mut Vec<Slot>,
     free: &mut Vec<usize>,

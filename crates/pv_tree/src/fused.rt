@@ -93,9 +93,9 @@ impl<T: Tree> Tree for Fused<T> {
     fn step(&mut self, step: &Step, now: u64) -> Result<(), TreeFault>
         requires { Can (places (T.state self.old.inner)) step.now }
         ensures state { OnOk result (T.state self.new.inner ≡ after (T.state self.old.inner) step.now now) }
-        ensures told { OnOk result (T.steps self.new.inner ≡ T.steps self.old.inner ++ step.now ∷ []) }
+        ensures recorded { OnOk result (T.steps self.new.inner ≡ T.steps self.old.inner ++ step.now ∷ []) }
         ensures kept { OnErr result (T.state self.new.inner ≡ T.state self.old.inner) }
-        ensures untold { OnErr result (T.steps self.new.inner ≡ T.steps self.old.inner) }
+        ensures unrecorded { OnErr result (T.steps self.new.inner ≡ T.steps self.old.inner) }
         ensures fits { StepFits step.now }
         ensures reaches { T.reaches self.old.inner self.new.inner
             × Burnt self.old.left self.old.refused (length (T.steps self.old.inner))

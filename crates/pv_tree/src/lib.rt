@@ -2,19 +2,19 @@
 #![tactic(auto)]
 
 mod apply;
+mod binary_search;
 mod builder;
 mod children;
 mod edits;
 mod fused;
 mod mem_tree;
-mod probe;
 mod slot;
 mod slots;
 mod walk;
 
+pub use binary_search::{Probe, find};
 pub use builder::{BuildFault, TreeBuilder};
 pub use fused::Fused;
 pub use mem_tree::MemTree;
-pub use probe::{Probe, find};
 pub use pv_steps::{Kind, Node, Object, Stamps, Step, Tree, TreeFault, Why};
 pub use walk::{Place, Walk};

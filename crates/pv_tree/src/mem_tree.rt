@@ -45,7 +45,7 @@ impl Model for MemTree {
 }
 
 impl MemTree {
-    /// The tree of a root alone, with no step told.
+    /// The tree of a root alone, with no step recorded.
     pub fn new(alloc: Global, root: Node) -> Result<MemTree, AllocError>
         requires kind { root.kind ≡ Directory }
         requires object { IsObject (record { node = root; payload = [] }) }
@@ -55,7 +55,7 @@ impl MemTree {
         Ok(MemTree::of(alloc, slots, Vec::new(alloc)))
     }
 
-    /// The tree of slots, with no step told. It takes no memory.
+    /// The tree of slots, with no step recorded. It takes no memory.
     pub(crate) fn of(alloc: Global, slots: Vec<Slot>, free: Vec<usize>) -> MemTree
         requires { IsTreeOf slots.items free.items }
         ensures { result ≡ record { files = files_of slots.items; steps = [] } }
@@ -154,12 +154,12 @@ impl Tree for MemTree {
     fn step(&mut self, step: &Step, now: u64) -> Result<(), TreeFault>
         requires { Can (places self.old.files) step.now }
         ensures state { OnOk result (self.new.files ≡ after self.old.files step.now now) }
-        ensures told { OnOk result (self.new.steps ≡ self.old.steps ++ step.now ∷ []) }
+        ensures recorded { OnOk result (self.new.steps ≡ self.old.steps ++ step.now ∷ []) }
         ensures kept { OnErr result (self.new.files ≡ self.old.files) }
-        ensures untold { OnErr result (self.new.steps ≡ self.old.steps) }
+        ensures unrecorded { OnErr result (self.new.steps ≡ self.old.steps) }
         ensures fits { StepFits step.now }
 
-        // It has no faults: want of memory alone can stop it.
+        // It has no faults: running out of memory alone can stop it.
         ensures cause { IsErrOf result Failed → ⊥ }
     {
         parts_fit(step);

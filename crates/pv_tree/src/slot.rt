@@ -60,7 +60,7 @@ fn set_stamps(object: &mut Object, access: u64, modify: u64, now: u64)
     stamps.change = now;
 }
 
-/// Does a step that changes one object. After want of memory the object is as before.
+/// Does a step that changes one object. After running out of memory the object is as before.
 pub(crate) fn change(object: &mut Object, step: &Step, now: u64) -> Result<(), AllocError>
     ensures ok { OnOk result (object.new ≡ change_of step.now now object.old) }
     ensures err { OnErr result (object.new ≡ object.old) }

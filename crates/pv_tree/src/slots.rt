@@ -89,7 +89,7 @@ pub(crate) fn own_name(path: &TreePath) -> &Name
     }
 }
 
-/// Puts a child into a slot, and gives back the number of the one that it replaces. After want of memory
+/// Puts a child into a slot, and gives back the number of the one that it replaces. After running out of memory
 /// the slots are as before.
 pub(crate) fn put_child(
     slots: &mut Vec<Slot>,
@@ -144,7 +144,7 @@ pub(crate) fn renew(slots: &mut Vec<Slot>, number: usize, now: u64)
     note_name(&mut slot.object, now);
 }
 
-/// Does a step that changes the object with a number. After want of memory the slots are as before.
+/// Does a step that changes the object with a number. After running out of memory the slots are as before.
 pub(crate) fn change_slot(
     slots: &mut Vec<Slot>,
     number: usize,

@@ -78,7 +78,7 @@ impl<'a> Walk<'a> {
         }
     }
 
-    /// Goes on to the next path. After want of memory the walk is at its end.
+    /// Goes on to the next path. After running out of memory the walk is at its end.
     pub fn advance(&mut self) -> Result<(), AllocError>
         ensures ok { OnOk result (self.new ≡ drop 1 self.old) }
         ensures err { OnErr result (self.new ≡ []) }

@@ -8,7 +8,7 @@ use Rattle.pv_acl.specs.Parts.{mode_of}
 use Rattle.pv_dress.specs.declared.bare.Bare.{Bare}
 use Rattle.pv_dress.specs.declared.bare.Body.{Body}
 use Rattle.pv_dress.specs.declared.bare.Dress.{Dress}
-use Rattle.pv_dress.specs.Dressing.{IsDress, dress_mode, CanWear, ChangedAt, IsChanged, GivesDress, wear}
+use Rattle.pv_dress.specs.Dressing.{IsDress, dress_mode, CanDress, ChangedAt, IsChanged, GivesDress, dressed}
 use Rattle.pv_dress.specs.Edits.{SameOutside}
 use Rattle.pv_dress.specs.Nodes.{bare_of}
 use Rattle.pv_dress.proofs.EditLaws.{path_cases, made-here, put_at-here, put_at-else, bares-touched}
@@ -22,13 +22,14 @@ use Rattle.pv_steps.specs.Objects.{bare, changed, modified, AclFits}
 use Rattle.pv_steps.specs.Same.{bares}
 use Rattle.pv_steps.specs.Steps.{HasRoom, made, touched}
 use Rattle.pv_steps.specs.Trees.{Files, Places, places, kind_of, IsKindIn, IsAbsentIn}
-use Rattle.pv_walk.specs.declared.listing.Piece.TheVariants.{Make, Wear}
+use Rattle.pv_walk.specs.declared.listing.Piece.TheVariants.{Make, Give}
 use Rattle.pv_walk.specs.declared.new_file.NewFile.{NewFile}
 use Rattle.pv_walk.specs.Copying.{object_of, standing, with_subtree, GivesBare}
 use Rattle.pv_walk.specs.Making.{held_object}
 use Rattle.pv_walk.specs.Pieces.{what_of, file_of, plain, IsWhole, after_piece, HasPlace}
 use Rattle.pv_walk.specs.Staging.{GivesNew, new_mode, new_payload}
-use Rattle.pv_walk.proofs.RemovalLaws.{apart, no_same}
+use Rattle.pv_walk.proofs.RemovalLaws.{no_same}
+use Rattle.pv_path.proofs.Tests.{true_not_false}
 
 -- these objects stand at and below a path, all stamps now, and else the tree is the old one; the directory of the path has
 -- changed once something stands there
@@ -126,10 +127,10 @@ module _ (now : ℕ) (stage : Path) (nonempty : stage ≢ []) (t : Files) (paren
 
   module _ (s : Path → Option Bare) (u : Files) (b : IsBuilt now stage s t u) (rest : Path) where
     here_outside : (q : Path) → is_prefix stage q ≡ false → same_path (stage ++ rest) q ≡ false
-    here_outside q h = no_same (stage ++ rest) q (λ e. apart (is_prefix stage q) (ap (is_prefix stage) (sym e) ∙ is_prefix-append stage rest) h)
+    here_outside q h = no_same (stage ++ rest) q (λ e. true_not_false (is_prefix stage q) (ap (is_prefix stage) (sym e) ∙ is_prefix-append stage rest) h)
 
     here_else : (r : Path) → same_path rest r ≡ false → same_path (stage ++ rest) (stage ++ r) ≡ false
-    here_else r d = no_same (stage ++ rest) (stage ++ r) (λ e. apart (same_path rest r) (ap (same_path rest) (sym (rest_same stage rest r e)) ∙ same_path-refl rest) d)
+    here_else r d = no_same (stage ++ rest) (stage ++ r) (λ e. true_not_false (same_path rest r) (ap (same_path rest) (sym (rest_same stage rest r e)) ∙ same_path-refl rest) d)
 
     -- ---- an object is made there
 
@@ -197,38 +198,38 @@ module _ (now : ℕ) (stage : Path) (nonempty : stage ≢ []) (t : Files) (paren
             ∙ ap (λ (x : Places). touched now stage x q) e.1
         made_outside (inr w) q h =
             let apart_q : same_path (parent_of (stage ++ rest)) q ≡ false =
-            no_same (parent_of (stage ++ rest)) q (λ e. apart (is_prefix stage q) (ap (is_prefix stage) (sym e ∙ above_here w) ∙ is_prefix-append stage w.above) h) in
+            no_same (parent_of (stage ++ rest)) q (λ e. true_not_false (is_prefix stage q) (ap (is_prefix stage) (sym e ∙ above_here w) ∙ is_prefix-append stage w.above) h) in
             at_else q (here_outside q h) ∙ ap (λ c. cond c (option_map (modified now) (places u q)) (places u q)) apart_q ∙ w.outside q h
 
         pub made_built : IsBuilt now stage (after_piece (Make rest file) s) t v
         made_built = record { inside = λ r. made_inside r (path_cases rest r); outside = inr (made_top place_for, made_outside place_for) }
 
-    -- ---- an object gets what it is to wear
+    -- ---- an object gets its dress
 
     module _ (o : Bare) (there : s rest ≡ Some (plain o)) where
       pub stands_here : places u (stage ++ rest) ≡ Some (object_of now (plain o))
       stands_here = b.inside rest ∙ ap (option_map (object_of now)) there
 
-      pub can_wear_here : (dress : Dress) → IsWhole o → dress ≡ o.dress → CanWear u (stage ++ rest) dress
+      pub can_wear_here : (dress : Dress) → IsWhole o → dress ≡ o.dress → CanDress u (stage ++ rest) dress
       can_wear_here dress whole same = record {
         kind = o.body.kind;
         there = ap kind_of stands_here ∙ ap (λ (x : Body). Some x.kind) whole.body;
         dress = subst (IsDress o.body.kind) (sym same) whole.dress;
       }
 
-      module _ (dress : Dress) (v : Files) (h : ChangedAt (wear dress) (stage ++ rest) now u v) where
+      module _ (dress : Dress) (v : Files) (h : ChangedAt (dressed dress) (stage ++ rest) now u v) where
         old_is : h.old ≡ object_of now (plain o)
         old_is = let both : Some h.old ≡ Some (object_of now (plain o)) = sym h.there ∙ stands_here in cc
 
-        object_is : IsChanged (wear dress) now h.old h.object → h.object ≡ object_of now (record (plain o) { dress = dress })
-        object_is (inl e) = e.1 ∙ sym e.0 ∙ ap (wear dress) old_is
-        object_is (inr e) = e.1 ∙ ap (λ x. changed now (wear dress x)) old_is
+        object_is : IsChanged (dressed dress) now h.old h.object → h.object ≡ object_of now (record (plain o) { dress = dress })
+        object_is (inl e) = e.1 ∙ sym e.0 ∙ ap (dressed dress) old_is
+        object_is (inr e) = e.1 ∙ ap (λ x. changed now (dressed dress x)) old_is
 
         abbrev next : Path → Option Bare
-        next = after_piece (Wear rest dress) s
+        next = after_piece (Give rest dress) s
 
-        worn_inside : (r : Path) → (rest ≡ r) ⊎ (same_path rest r ≡ false) → places v (stage ++ r) ≡ option_map (object_of now) (after_piece (Wear rest dress) s r)
-        worn_inside r (inl e) = subst (λ (p : Path). places v (stage ++ p) ≡ option_map (object_of now) (after_piece (Wear rest dress) s p)) e
+        worn_inside : (r : Path) → (rest ≡ r) ⊎ (same_path rest r ≡ false) → places v (stage ++ r) ≡ option_map (object_of now) (after_piece (Give rest dress) s r)
+        worn_inside r (inl e) = subst (λ (p : Path). places v (stage ++ p) ≡ option_map (object_of now) (after_piece (Give rest dress) s p)) e
             (ap (λ (x : Places). x (stage ++ rest)) h.left ∙ put_at-here (stage ++ rest) (Some h.object) (places u) ∙ ap Some (object_is h.is)
             ∙ sym (ap (λ v. option_map (object_of now) (option_map (λ (b : Bare). record b { dress = dress }) v)) there)
             ∙ ap (λ c. option_map (object_of now) (cond c (option_map (λ (b : Bare). record b { dress = dress }) (s rest)) (s rest))) (sym (same_path-refl rest)))
@@ -241,11 +242,11 @@ module _ (now : ℕ) (stage : Path) (nonempty : stage ≢ []) (t : Files) (paren
         worn_some true (Some x) e = refl
         worn_some false (Some x) e = refl
 
-        pub worn_built : IsBuilt now stage (after_piece (Wear rest dress) s) t v
+        pub worn_built : IsBuilt now stage (after_piece (Give rest dress) s) t v
         worn_built = record { inside = λ r. worn_inside r (path_cases rest r); outside = by b.outside }
           where
             by : (((r : Path) → s r ≡ None) × (places u ≡ places t)) ⊎ ((is_some (s []) ≡ true) × ((q : Path) → is_prefix stage q ≡ false → places u q ≡ touched now stage (places t) q))
-                → (((r : Path) → after_piece (Wear rest dress) s r ≡ None) × (places v ≡ places t)) ⊎ ((is_some (after_piece (Wear rest dress) s []) ≡ true) × ((q : Path) → is_prefix stage q ≡ false → places v q ≡ touched now stage (places t) q))
+                → (((r : Path) → after_piece (Give rest dress) s r ≡ None) × (places v ≡ places t)) ⊎ ((is_some (after_piece (Give rest dress) s []) ≡ true) × ((q : Path) → is_prefix stage q ≡ false → places v q ≡ touched now stage (places t) q))
             by (inl e) = absurd (let no : None ≡ Some (plain o) = sym (e.0 rest) ∙ there in cc)
             by (inr e) = inr (
               worn_some (same_path rest []) (s []) e.0,

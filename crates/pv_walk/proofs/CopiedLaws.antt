@@ -1,5 +1,5 @@
 -- Laws of what is copied: the objects of a tree as those of a copy.
-use Rattle.std.specs.Prelude.{◌⊎◌, ◌≡◌, ℕ, ◌≤◌, Bool, true, false, cond, ◌||◌, List, [], ◌∷◌, ◌++◌, Option, Some, None, IfSome, is_some, option_map, unwrap_or, map, filter_map}
+use Rattle.std.specs.Prelude.{◌⊎◌, ◌≡◌, ℕ, ◌≤◌, Bool, true, false, cond, List, [], ◌∷◌, ◌++◌, Option, Some, None, IfSome, is_some, option_map, unwrap_or, map, filter_map}
 use Rattle.std.proofs.Common.{refl, sym, ap, subst, ◌∙◌, lit≤, append_assoc, inl, inr}
 use Rattle.std.proofs.lemmas.List.{append-nil}
 use Rattle.std.proofs.lemmas.Map.Keys.{IsDistinct-from_sorted}
@@ -16,7 +16,7 @@ use Rattle.pv_steps.specs.Objects.{PayloadFits, NumbersFit, IsObject, IsId, with
 use Rattle.pv_steps.specs.Trees.{Files, places, kind_of, names_below, node_at, payload_at, IsPresentIn, IsTree}
 use Rattle.pv_steps.proofs.ObjectLaws.{IsObject-with_owner, IsObject-with_mode}
 use Rattle.pv_steps.proofs.NameLaws.{names_below-rise, names_below-are}
-use Rattle.pv_steps.proofs.StepLaws.{is_among}
+use Rattle.pv_steps.proofs.StepLaws.{is_among, later_among}
 use Rattle.pv_steps.proofs.TreeLaws.{present_above, directory_above}
 use Rattle.pv_dress.specs.declared.bare.Bare.{Bare}
 use Rattle.pv_dress.specs.declared.bare.Body.{Body}
@@ -24,13 +24,14 @@ use Rattle.pv_dress.specs.Dressing.{IsDress}
 use Rattle.pv_dress.specs.Nodes.{bare_of, bares_of, is_link}
 use Rattle.pv_dress.specs.Operations as operations
 use Rattle.pv_dress.proofs.EditLaws.{path_cases}
-use Rattle.pv_dress.proofs.WearLaws.{mode_bound}
+use Rattle.pv_dress.proofs.ChangingLaws.{mode_bound}
 use Rattle.pv_walk.specs.declared.copying.TopNode.{TopNode}
 use Rattle.pv_walk.specs.Copying.{IsTopNode, moded, topped, copy_from}
 use Rattle.pv_walk.specs.Pieces.{what_of, plain, IsWhole, names_at}
 use Rattle.pv_walk.specs.Staging.{HasTarget}
 use Rattle.pv_walk.proofs.PlanLaws.{kind_in, IsSubtree}
-use Rattle.pv_walk.proofs.PreparedLaws.{among_first, among_later, among_others}
+use Rattle.pv_walk.proofs.PreparedLaws.{among_first, among_others}
+use Rattle.pv_path.proofs.Tests.{first_false}
 
 -- ---- payloads
 
@@ -98,7 +99,7 @@ whole_object o is =
 
 -- ---- and with what the top gets
 
-id_is : (id : Option ℕ) (old : ℕ) → IfSome id IsId → IsId old → IsId (unwrap_or id old)
+pub id_is : (id : Option ℕ) (old : ℕ) → IfSome id IsId → IsId old → IsId (unwrap_or id old)
 id_is None old h g = g
 id_is (Some x) old h g = h
 
@@ -164,7 +165,7 @@ among_copied source path rest (k ∷ paths) h = by (among_copied source path res
         subst (λ (v : Option Path). is_among (path ++ rest) (map (λ r. path ++ r) (cons_option v (filter_map (rest_under source) paths))) ≡ true) (sym is)
         (among_first (path ++ rest) (map (λ r. path ++ r) (filter_map (rest_under source) paths)))
     by more None e (inr other) g = more (among_others (source ++ rest) k paths other g)
-    by more (Some r) e (inr other) g = among_later (path ++ r) (path ++ rest) (map (λ r. path ++ r) (filter_map (rest_under source) paths)) (more (among_others (source ++ rest) k paths other g))
+    by more (Some r) e (inr other) g = later_among (path ++ r) (path ++ rest) (map (λ r. path ++ r) (filter_map (rest_under source) paths)) (more (among_others (source ++ rest) k paths other g))
 
 module _ (top : TopNode) (fits : IsTopNode top) (source : Path) (t : Files) (tree : IsTree t) where
   abbrev subtree : Path → Option Bare
@@ -191,15 +192,11 @@ module _ (top : TopNode) (fits : IsTopNode top) (source : Path) (t : Files) (tre
   kind_copied [] h = kind_top (places t source) ∙ ap (λ (p : Path). kind_of (places t p)) (sym (append-nil source))
   kind_copied (n ∷ q) h = ap (λ c. option_map (λ (b : Bare). b.body.kind) (cond c None (bares_of (places t) (source ++ n ∷ q)))) h ∙ kind_bare (places t (source ++ n ∷ q))
 
-  or_false : (a b : Bool) → (a || b) ≡ false → a ≡ false
-  or_false true b h = h
-  or_false false b h = refl
-
   deeper : (r : Path) (n : List ℕ) (x : Path) → is_some (copy_from (topped top) source (bares_of (places t)) (r ++ n ∷ x)) ≡ true → IsPresentIn (places t) ((source ++ r) ++ n ∷ x)
   deeper r n x h = ap (λ (p : Path). is_some (places t p)) (append_assoc source r (n ∷ x)) ∙ copied_stands (topped top) source t (r ++ n ∷ x) h
 
   above_visible : (r : Path) (n : List ℕ) (x : Path) → is_some (copy_from (topped top) source (bares_of (places t)) (r ++ n ∷ x)) ≡ true → has_staging r ≡ false
-  above_visible r n x h = or_false (has_staging r) (has_staging (n ∷ x)) (sym (has_staging-append r (n ∷ x)) ∙ visible (r ++ n ∷ x) h)
+  above_visible r n x h = first_false (has_staging r) (has_staging (n ∷ x)) (sym (has_staging-append r (n ∷ x)) ∙ visible (r ++ n ∷ x) h)
 
   object_fits : (q : Path) (b : Bare) → copy_from (topped top) source (bares_of (places t)) q ≡ Some b → IsWhole b
   object_fits [] b e = by (places t source) refl e

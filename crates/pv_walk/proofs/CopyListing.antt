@@ -11,7 +11,7 @@ use Rattle.pv_path.specs.Paths.{Path, same_path, rest_under}
 use Rattle.pv_path.proofs.PathLaws.{rest_under-append, rest_under-Some, same_path-refl}
 use Rattle.pv_steps.specs.Trees.{Files, places}
 use Rattle.pv_walk.specs.declared.listing.Piece.{Piece}
-use Rattle.pv_walk.specs.declared.listing.Piece.TheVariants.{Make, Wear}
+use Rattle.pv_walk.specs.declared.listing.Piece.TheVariants.{Make, Give}
 use Rattle.pv_walk.specs.declared.listing.Task.{Task}
 use Rattle.pv_walk.specs.declared.listing.Task.TheVariants.{Open, Close}
 use Rattle.pv_walk.specs.Copying.{copied_count}
@@ -23,8 +23,9 @@ use Rattle.pv_walk.proofs.BuildingLaws.{rest_same}
 use Rattle.pv_dress.specs.Nodes.{bare_of}
 use Rattle.pv_walk.specs.Making.{held_object}
 use Rattle.pv_walk.proofs.ListingLaws.{cond-one, cond-zero}
-use Rattle.pv_walk.proofs.RemovalLaws.{apart, no_same}
+use Rattle.pv_walk.proofs.RemovalLaws.{no_same}
 use Rattle.pv_walk.proofs.PlanLaws.{Subtree, IsSubtree, each_below, around, pieces_below, below_fills}
+use Rattle.pv_path.proofs.Tests.{true_not_false}
 
 -- ---- costs
 
@@ -39,12 +40,12 @@ cost-push xs x is = let all = ap cost_of is in let parts = cost-append xs (x ∷
 abbrev pub made_places : List Piece → List Path
 made_places [] = []
 made_places (Make rest file ∷ pieces) = rest ∷ made_places pieces
-made_places (Wear rest dress ∷ pieces) = made_places pieces
+made_places (Give rest dress ∷ pieces) = made_places pieces
 
 pub made_places-append : (xs ys : List Piece) → made_places (xs ++ ys) ≡ made_places xs ++ made_places ys
 made_places-append [] ys = refl
 made_places-append (Make rest file ∷ xs) ys = ap (λ ps. rest ∷ ps) (made_places-append xs ys)
-made_places-append (Wear rest dress ∷ xs) ys = made_places-append xs ys
+made_places-append (Give rest dress ∷ xs) ys = made_places-append xs ys
 
 -- seven steps at most for each object that is made
 abbrev pub IsPriced : List Piece → Type 0
@@ -87,7 +88,7 @@ made_once subtree (Make rest file ∷ pieces) h q = by (made_once subtree pieces
         let after = ap (λ c. one_if (is_some (cond c (Some (bare_of (held_object file.what 0))) (built pieces (λ q. None) q)))) d in
         let none = cond-zero (same_path rest q) d in
         omega (arith, before, after, none)
-made_once subtree (Wear rest dress ∷ pieces) h q =
+made_once subtree (Give rest dress ∷ pieces) h q =
     let before = made_once subtree pieces h.0 q in
     let after = ap one_if (still (same_path rest q) (built pieces (λ q. None) q)) in
     omega (arith, before, after)
@@ -116,7 +117,7 @@ rests_of source q (k ∷ ks) = by (rests_of source q ks) (rest_under source k) r
 
         one : ((r ≡ q) × (same_path r q ≡ true)) ⊎ (same_path r q ≡ false) → one_if (same_path r q) ≡ one_if (same_path k (source ++ q))
         one (inl s) = ap one_if (s.1 ∙ sym (ap (λ p. same_path p (source ++ q)) (is ∙ ap (λ p. source ++ p) s.0) ∙ same_path-refl (source ++ q)))
-        one (inr d) = ap one_if (d ∙ sym (no_same k (source ++ q) (λ s. absurd (apart (same_path r q) (ap (λ p. same_path p q) (rest_same source r q (sym is ∙ s)) ∙ same_path-refl q) d))))
+        one (inr d) = ap one_if (d ∙ sym (no_same k (source ++ q) (λ s. absurd (true_not_false (same_path r q) (ap (λ p. same_path p q) (rest_same source r q (sym is ∙ s)) ∙ same_path-refl q) d))))
 
 -- how many names the paths of a list have
 abbrev pub all_names : List Path → ℕ
@@ -243,7 +244,7 @@ module _ (subtree : Subtree) (names : Path → List (List ℕ)) where
               let depth = some_depth r (ap is_some e) in
               ap (λ d. pieces_below subtree names d r) depth
               ∙ ap (around r (each_below (pieces_below subtree names (deep - length r - 1)) r (names r))) e
-              ∙ ap (λ ps. Wear r b.dress ∷ (ps ++ Make r (file_of b) ∷ [])) (sym (opened_backs (deep - length r - 1) r depth (names r)))
+              ∙ ap (λ ps. Give r b.dress ∷ (ps ++ Make r (file_of b) ∷ [])) (sym (opened_backs (deep - length r - 1) r depth (names r)))
 
       pub next_heft : (task : Task) → task_heft task ≡ 1 + hefts (tasks_left subtree names task)
       next_heft (Close piece) = refl

@@ -25,7 +25,7 @@ use Rattle.pv_steps.specs.Trees.{Files, Places, places, IsKindIn, IsAbsentIn, Is
 use Rattle.pv_steps.proofs.ActingLaws.{Moves, well, acted_then, acted_weaken, acted_within, acted_end}
 use Rattle.pv_steps.proofs.StepLaws.{is_some-touched}
 use Rattle.pv_walk.specs.declared.listing.Piece.{Piece}
-use Rattle.pv_walk.specs.declared.listing.Piece.TheVariants.{Make, Wear}
+use Rattle.pv_walk.specs.declared.listing.Piece.TheVariants.{Make, Give}
 use Rattle.pv_walk.specs.declared.new_file.NewFile.{NewFile}
 use Rattle.pv_walk.specs.Copying.{copied_count, object_of, standing, with_subtree, CopyingOver, GivesPart, IsStagingOf, IsCopyStep, Subtree}
 use Rattle.pv_walk.specs.Listing.{times}
@@ -40,7 +40,8 @@ use Rattle.pv_walk.proofs.ListingLaws.{cond-one, cond-zero}
 use Rattle.pv_walk.proofs.PlanLaws.{built-append, doable-last}
 use Rattle.pv_walk.proofs.PublishLaws.{staged_outside}
 use Rattle.pv_walk.proofs.PuttingLaws.{none_under}
-use Rattle.pv_walk.proofs.RemovalLaws.{apart, no_same}
+use Rattle.pv_walk.proofs.RemovalLaws.{no_same}
+use Rattle.pv_path.proofs.Tests.{true_not_false}
 
 -- some pieces of a list are done, and these are left
 pub record Doing (now : ℕ) (stage : Path) (t : Files) (all left : List Piece) (u : Files) : Type 0 where
@@ -60,7 +61,7 @@ module _ (now : ℕ) (stage : Path) (nonempty : stage ≢ []) (t : Files) (paren
   -- nor does it while a piece is done
   pub doing_way : (left : List Piece) (u : Files) → Doing now stage t all left u → (rest : Path) (w : Files) → SameOutside (is_prefix (stage ++ rest)) u w → SameOutside (is_prefix stage) t w
   doing_way left u e rest w h q out = h q (elim (cases_Bool (is_prefix (stage ++ rest) q)) [
-    | inl p ↦ absurd (apart (is_prefix stage q) (is_prefix-trans stage (stage ++ rest) q (is_prefix-append stage rest) p) out)
+    | inl p ↦ absurd (true_not_false (is_prefix stage q) (is_prefix-trans stage (stage ++ rest) q (is_prefix-append stage rest) p) out)
     | inr d ↦ d
   ]) ∙ doing_outside left u e q out
 
@@ -69,14 +70,14 @@ module _ (now : ℕ) (stage : Path) (nonempty : stage ≢ []) (t : Files) (paren
     can_by : (p : Piece) (s : Path → Option Bare) → IsBuilt now stage s t u → IsDoable (made_of all) s p → CanDo stage p u
     can_by (Make rest file) s b (o, (there, (whole, (same, (none, place))))) =
         (not_empty now stage nonempty t parent rest, (room now stage nonempty t parent s u b rest none place, subst IsNewFile (sym same) whole.new))
-    can_by (Wear rest dress) s b (o, (there, (whole, (same, here)))) = can_wear_here now stage nonempty t parent s u b rest o here dress whole same
+    can_by (Give rest dress) s b (o, (there, (whole, (same, here)))) = can_wear_here now stage nonempty t parent s u b rest o here dress whole same
 
     pub doing_can : (p : Piece) → Doing now stage t all (left ++ p ∷ []) u → CanDo stage p u
     doing_can p e = can_by p e.objects e.stands (doable-last (made_of all) e.objects left p e.doable).0
 
     stands_by : (p : Piece) (s : Path → Option Bare) (v : Files) → IsBuilt now stage s t u → IsDoable (made_of all) s p → IsDone now stage p u v → IsBuilt now stage (after_piece p s) t v
     stands_by (Make rest file) s v b (o, (there, (whole, (same, (none, place))))) h = made_built now stage nonempty t parent s u b rest none place file v h
-    stands_by (Wear rest dress) s v b (o, (there, (whole, (same, here)))) h = worn_built now stage nonempty t parent s u b rest o here dress v h
+    stands_by (Give rest dress) s v b (o, (there, (whole, (same, here)))) h = worn_built now stage nonempty t parent s u b rest o here dress v h
 
     pub doing_next : (p : Piece) (v : Files) → Doing now stage t all (left ++ p ∷ []) u → IsDone now stage p u v → Doing now stage t all left v
     doing_next p v e h =
@@ -86,7 +87,7 @@ module _ (now : ℕ) (stage : Path) (nonempty : stage ≢ []) (t : Files) (paren
     gives_by : (p : Piece) (s : Path → Option Bare) (step : Step) → IsDoable (made_of all) s p → GivesPiece stage p u step → GivesPart stage (made_of all) step
     gives_by (Make rest file) s step (o, (there, (whole, (same, e)))) h =
         record { rest = rest; object = o; is = there; gives = made_gives o whole (stage ++ rest) step (subst (λ (f : NewFile). GivesNew (stage ++ rest) f step) same h) }
-    gives_by (Wear rest dress) s step (o, (there, (whole, (same, here)))) h =
+    gives_by (Give rest dress) s step (o, (there, (whole, (same, here)))) h =
         record { rest = rest; object = o; is = there; gives = dress_gives_bare o (stage ++ rest) u step (subst (λ (d : Dress). GivesDress (stage ++ rest) d u step) same h) }
 
     pub doing_gives : (p : Piece) → Doing now stage t all (left ++ p ∷ []) u → (step : Step) → GivesPiece stage p u step → GivesPart stage (made_of all) step
@@ -226,7 +227,7 @@ module _ (now : ℕ) (path : Path) (nonempty : path ≢ []) (s : Path → Option
       ]
         where
           stage_apart : (q : Path) → is_prefix path q ≡ true → is_prefix (staging_of path) q ≡ true → ⊥
-          stage_apart q h e = let there = rest_under-Some (staging_of path) q (rest_of e).0 (rest_of e).1 in apart (is_prefix path (staging_of path ++ (rest_of e).0)) (ap (is_prefix path) (sym there) ∙ h) (staged_outside path nonempty (rest_of e).0)
+          stage_apart q h e = let there = rest_under-Some (staging_of path) q (rest_of e).0 (rest_of e).1 in true_not_false (is_prefix path (staging_of path ++ (rest_of e).0)) (ap (is_prefix path) (sym there) ∙ h) (staged_outside path nonempty (rest_of e).0)
             where
               rest_of : is_prefix (staging_of path) q ≡ true → (r : Path) × (rest_under (staging_of path) q ≡ Some r)
               rest_of = prefix_rest (staging_of path) q
@@ -259,14 +260,14 @@ module _ (now : ℕ) (path : Path) (nonempty : path ≢ []) (s : Path → Option
       ]))
   copy_published u is before w (inr e) = inr (λ q plain. e q ∙ ap (λ (x : Places). bares x q) (ap (moved now (staging_of path) path) is ∙ copy_moved) ∙ bares_with path s (places t) now 0 q)
 
--- a piece that gives an object what it is to wear
-pub worn_acted : {S A : Type 0} (tree : Ghosts S) (stage rest : Path) (new : Dress) (piece : Piece) (p : Path) {now : ℕ} {a b : S} {r : Result A TreeFault} → piece ≡ Wear rest new → p ≡ stage ++ rest
+-- a piece that gives an object what it is to dressed
+pub worn_acted : {S A : Type 0} (tree : Ghosts S) (stage rest : Path) (new : Dress) (piece : Piece) (p : Path) {now : ℕ} {a b : S} {r : Result A TreeFault} → piece ≡ Give rest new → p ≡ stage ++ rest
     → Acted tree (Dressing p new (tree.state a)) (GivesDress p new (tree.state a)) 5 now a b r
     → Acted tree (SameOutside (is_prefix (stage ++ place_of piece)) (tree.state a)) (GivesPiece stage piece (tree.state a)) (piece_cost piece) now a b r
 worn_acted {A = A} tree stage rest new piece p {now = now} {a = a} {b = b} {r = r} is at acted =
     subst (λ (v : Piece). Acted {A = A} tree (SameOutside (is_prefix (stage ++ place_of v)) (tree.state a)) (GivesPiece stage v (tree.state a)) (piece_cost v) now a b r) (sym is)
     (acted_weaken tree (Dressing (stage ++ rest) new (tree.state a)) (SameOutside (is_prefix (stage ++ rest)) (tree.state a)) (GivesDress (stage ++ rest) new (tree.state a)) (GivesDress (stage ++ rest) new (tree.state a)) 5 5
-    (λ u h q out. outside_dressing (stage ++ rest) new (tree.state a) u h q (no_same (stage ++ rest) q (λ e. apart (is_prefix (stage ++ rest) q) (ap (is_prefix (stage ++ rest)) (sym e) ∙ is_prefix-refl (stage ++ rest)) out)))
+    (λ u h q out. outside_dressing (stage ++ rest) new (tree.state a) u h q (no_same (stage ++ rest) q (λ e. true_not_false (is_prefix (stage ++ rest) q) (ap (is_prefix (stage ++ rest)) (sym e) ∙ is_prefix-refl (stage ++ rest)) out)))
     (λ step g. g) (omega arith)
     (subst (λ (v : Path). Acted {A = A} tree (Dressing v new (tree.state a)) (GivesDress v new (tree.state a)) 5 now a b r) at acted))
 

@@ -2,13 +2,12 @@
 use Rattle.std.specs.Prelude.{◌≡◌, ℕ, ◌+◌, ◌≤◌, Bool, true, false, cond, ◌&&◌, ◌||◌, T, List, [], ◌∷◌, ◌++◌, map, length, filter, filter_map, Option, Some, None, is_some}
 use Rattle.std.proofs.Common.{refl, sym, ap, subst, ◌∙◌, arith, inl, inr, ◌⊎◌, length-append}
 use Rattle.std.specs.List.{list_any, cons_option}
-use Rattle.std.specs.Ordering.{eq_by_cmp, is_eq, is_lt}
-use Rattle.std.specs.declared.cmp.Ordering.{Ordering}
+use Rattle.std.specs.Ordering.{eq_by_cmp, is_lt}
 use Rattle.std.specs.declared.cmp.Ordering.TheVariants.{Equal}
 use Rattle.std.specs.FinMap as fin
 use Rattle.std.specs.FinMap.Entries.{below_all, is_sorted}
 use Rattle.pv_path.specs.Paths.{Path, path_cmp, same_path, same_path-decides}
-use Rattle.pv_path.proofs.PathLaws.{same_path-refl, path_cmp-refl, path_cmp-exact}
+use Rattle.pv_path.proofs.PathLaws.{same_path-refl, path_cmp-refl, tied-same}
 use Rattle.pv_steps.proofs.NameLaws.{child_name-Some, child_name-push}
 use Rattle.pv_steps.specs.declared.object.Object.{Object}
 use Rattle.pv_steps.specs.Trees.{Files, places, child_name}
@@ -84,20 +83,6 @@ none_below x [] h = refl
 none_below x (e ∷ es) h =
     let parts = both_T (is_lt (path_cmp x e.0)) (below_all path_cmp x es) h in
     ap (λ s. cond s 1 0 + times x (map (λ e. e.0) es)) (less_apart x e.0 parts.0) ∙ omega (arith, none_below x es parts.1)
-
-tied : (o : Ordering) → is_eq o ≡ true → o ≡ Equal
-tied o e = elim o as (λ v. is_eq v ≡ true → v ≡ Equal) [ Equal ↦ λ _. refl | _ ↦ λ h. cc ] e
-
-pub tied-same : (q p : Path) → eq_by_cmp path_cmp q p ≡ same_path p q
-tied-same q p =
-    elim (same_path p q) as (λ s. same_path p q ≡ s → eq_by_cmp path_cmp q p ≡ s) [
-      | true ↦ λ e. ap (λ v. is_eq (path_cmp q v)) (one-same p q e) ∙ ap is_eq (path_cmp-refl q)
-      | false ↦ λ e.
-          elim (eq_by_cmp path_cmp q p) as (λ b. eq_by_cmp path_cmp q p ≡ b → b ≡ false) [
-            | true ↦ λ t. absurd (let no : same_path p q ≡ true = (same_path-decides p q).1 (sym (path_cmp-exact q p (tied (path_cmp q p) t))) in cc)
-            | false ↦ λ t. refl
-          ] refl
-    ] refl
 
 times_sorted : (q : Path) (es : List (Path × Object)) → T (is_sorted path_cmp es) → times q (map (λ e. e.0) es) ≡ cond (list_any (eq_by_cmp path_cmp q) (map (λ e. e.0) es)) 1 0
 times_sorted q [] h = refl

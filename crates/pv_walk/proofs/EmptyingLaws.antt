@@ -14,8 +14,9 @@ use Rattle.pv_dress.specs.Edits.{cut, cut_below, taken, emptied}
 use Rattle.pv_walk.specs.Removal.{is_below}
 use Rattle.pv_walk.specs.Listing.{times, is_child, children_of, stands_below, IsListing}
 use Rattle.pv_walk.proofs.CountLaws.{times-self, times-children, same_or_not, is_child-push}
-use Rattle.pv_walk.proofs.RemovalLaws.{cond-true, apart, no_same, none_of, below_nonempty, is_below-append, child_above, is_below-parent_of, IsKept, all_gone, all_gone-gone, all_gone-same, all_gone-touched}
+use Rattle.pv_walk.proofs.RemovalLaws.{cond-true, no_same, below_nonempty, is_below-append, child_above, is_below-parent_of, IsKept, all_gone, all_gone-gone, all_gone-same, all_gone-touched}
 use Rattle.pv_walk.proofs.ListingLaws.{cond-one, cond-zero, child_counts}
+use Rattle.pv_path.proofs.Tests.{true_not_false, none_of}
 
 module _ (now : ℕ) (files : Files) (path : Path) where
   emptied-none : names_below files path ≡ [] → emptied now path files ≡ places files
@@ -46,7 +47,7 @@ module _ (now : ℕ) (files : Files) (path : Path) where
     nothing_below e q h = elim (cases_Bool (is_some (places files q))) [
       | inl s ↦
           let child = child_above (places files) tree path q h s in
-          absurd (apart (is_some (places files (path ++ child.0 ∷ []))) child.1 (no_child e (path ++ child.0 ∷ []) (is_child-push path child.0)))
+          absurd (true_not_false (is_some (places files (path ++ child.0 ∷ []))) child.1 (no_child e (path ++ child.0 ∷ []) (is_child-push path child.0)))
       | inr d ↦ none_of (places files q) d
     ]
 
@@ -85,7 +86,7 @@ module _ (now : ℕ) (files : Files) (path : Path) where
       none_listed e (p ∷ ps) is =
           let some : 1 ≤ times p listed = subst (λ ls. 1 ≤ times p ls) (sym is) (omega (arith, times-self p ps)) in
           let parts = and_parts (is_below path p) (is_some (places files p)) (cond-true (stands_below files path p) (omega (arith, l.once p))) in
-          absurd (apart (is_some (places files p)) parts.1 (ap is_some (nothing_below e p parts.0)))
+          absurd (true_not_false (is_some (places files p)) parts.1 (ap is_some (nothing_below e p parts.0)))
 
       -- no listed path lies directly in what is not the path and does not stand below it
       no_parent : (q : Path) → same_path path q ≡ false → stands_below files path q ≡ false → (r : Path) → 1 ≤ times r listed → same_path (parent_of r) q ≡ false
@@ -94,7 +95,7 @@ module _ (now : ℕ) (files : Files) (path : Path) where
           let apart_of : same_path path (parent_of r) ≡ false = ap (same_path path) e ∙ d in
           let below : is_below path q ≡ true = subst (λ s. is_below path s ≡ true) e (is_below-parent_of path r parts.0 apart_of) in
           let present : is_some (places files q) ≡ true = subst (IsPresent files) e (present_of_kind (places files) (parent_of r) Directory (tree.parents r parts.1 (below_nonempty path r parts.0))) in
-          apart (stands_below files path q) (and_from (is_below path q) (is_some (places files q)) below present) h)
+          true_not_false (stands_below files path q) (and_from (is_below path q) (is_some (places files q)) below present) h)
 
       some_listed : (n : List ℕ) (ns : List (List ℕ)) → names_below files path ≡ n ∷ ns → (q : Path) → all_gone now listed (places files) q ≡ on_at path (modified now) (cut_below path (places files)) q
       some_listed n ns e q = elim (cases_Bool (stands_below files path q)) [
@@ -171,7 +172,7 @@ module _ (now : ℕ) (files : Files) (path : Path) where
       where
         other : same_path path q ≡ false
         other = elim (same_or_not path q) [
-          | inl s ↦ absurd (apart (is_prefix path q) (subst (λ r. is_prefix path r ≡ true) s.0 (is_prefix-refl path)) h)
+          | inl s ↦ absurd (true_not_false (is_prefix path q) (subst (λ r. is_prefix path r ≡ true) s.0 (is_prefix-refl path)) h)
           | inr d ↦ d
         ]
 

@@ -12,7 +12,8 @@ use Rattle.pv_walk.specs.Removal.{is_below, count_below}
 use Rattle.pv_walk.specs.Listing.{stands_below, ParentsFirst, IsListing}
 use Rattle.pv_walk.specs.Listing.{times, is_child, children_of}
 use Rattle.pv_walk.proofs.CountLaws.{times-append, times-push, times-filter, times-keys, times-children, length-times, same_or_not, is_child-push}
-use Rattle.pv_walk.proofs.RemovalLaws.{zero_or_more, not_below_itself, below_parts, cond-true, apart, below_nonempty, is_below-child, is_below-below, parent_of-child, is_below-parent_of}
+use Rattle.pv_walk.proofs.RemovalLaws.{zero_or_more, not_below_itself, below_parts, cond-true, below_nonempty, is_below-child, is_below-below, parent_of-child, is_below-parent_of}
+use Rattle.pv_path.proofs.Tests.{true_not_false}
 
 -- what has been listed, and the work that is left: the children of what was listed
 pub record Listing (files : Files) (path : Path) (listed work : List Path) : Type 0 where
@@ -80,7 +81,7 @@ module _ (files : Files) (path : Path) where
       λ q c. elim (zero_or_more (times q listed + times q (work ++ p ∷ []))) [
         | inl z ↦ z
         | inr m ↦ elim (l.parents q m) [
-          | inl e ↦ absurd (apart (is_below path path) (subst (λ s. is_below path s ≡ true) (sym (parent_of-child p q (a_child p q c)) ∙ e) below) (not_below_itself path))
+          | inl e ↦ absurd (true_not_false (is_below path path) (subst (λ s. is_below path s ≡ true) (sym (parent_of-child p q (a_child p q c)) ∙ e) below) (not_below_itself path))
           | inr g ↦ let here : 1 ≤ times p listed = subst (λ s. 1 ≤ times s listed) (parent_of-child p q (a_child p q c)) g in absurd (omega arith)
         ]
       ] in

@@ -1,5 +1,5 @@
 -- What follows from the answer of one step, and of a call that goes by steps.
-use Rattle.std.specs.Prelude.{◌≡◌, ℕ, ◌<◌, ◌^◌, true, Option, Some, None, is_some, option_map, Result, Ok, Err, OnOk}
+use Rattle.std.specs.Prelude.{◌≡◌, ℕ, ◌<◌, ◌^◌, true, Option, Some, None, is_some, option_map, Result}
 use Rattle.std.proofs.Common.{refl, sym, ap, subst, ◌∙◌}
 use Rattle.pv_path.specs.Paths.{Path}
 use Rattle.pv_steps.specs.declared.step.Step.{Step}
@@ -12,7 +12,8 @@ use Rattle.pv_steps.specs.Steps.{gone}
 use Rattle.pv_steps.specs.Acting.{Acted}
 use Rattle.pv_steps.proofs.RunLaws.{along_trees, along_end}
 use Rattle.pv_steps.specs.Same.{Differ}
-use Rattle.pv_walk.proofs.RemovalLaws.{apart, gone-here}
+use Rattle.pv_walk.proofs.RemovalLaws.{gone-here}
+use Rattle.pv_path.proofs.Tests.{true_not_false}
 
 -- a call that goes by steps from a tree ends in a tree
 pub acted-tree : {S A : Type 0} (tree : Ghosts S) (P : Files → Type 0) (Q : Step → Type 0) {most now : ℕ} {a b : S} {r : Result A TreeFault}
@@ -22,13 +23,8 @@ acted-tree tree P Q {now = now} {a = a} fits is acted =
 
 -- where an object is gone, more than stamps has changed
 pub gone_differs : (t v : Files) (path : Path) (now : ℕ) → IsPresent t path → places v ≡ gone now path (places t) → Differ t v
-gone_differs t v path now present is = (path, λ e. apart (is_some (option_map bare (places v path))) (sym (ap is_some e) ∙ still (places t path) present) (ap (λ o. is_some (option_map bare o)) (ap (λ (x : Places). x path) is ∙ gone-here now path (places t))))
+gone_differs t v path now present is = (path, λ e. true_not_false (is_some (option_map bare (places v path))) (sym (ap is_some e) ∙ still (places t path) present) (ap (λ o. is_some (option_map bare o)) (ap (λ (x : Places). x path) is ∙ gone-here now path (places t))))
   where
     still : (o : Option Object) → is_some o ≡ true → is_some (option_map bare o) ≡ true
     still None h = h
     still (Some x) h = refl
-
--- what follows from what an answer Ok says
-pub on_ok : {A E : Type 0} (r : Result A E) {X Y : Type 0} → (X → Y) → OnOk r X → OnOk r Y
-on_ok (Ok x) f h = f h
-on_ok (Err e) f h = h

@@ -6,8 +6,6 @@ use Rattle.std.specs.List.{list_any, AllByRecursion, IsDistinct}
 use Rattle.std.proofs.lemmas.Map.Keys.{IsDistinct-head, IsDistinct-tail}
 use Rattle.std.specs.Ordering.{eq_by_cmp, is_eq, nat_cmp}
 use Rattle.std.specs.Cmp.Lexicographic.{slice_cmp}
-use Rattle.std.specs.declared.cmp.Ordering.{Ordering}
-use Rattle.std.specs.declared.cmp.Ordering.TheVariants.{Less, Equal, Greater}
 use Rattle.std.proofs.lemmas.Bool.{or_right, cases_Bool}
 use Rattle.pv_dress.specs.declared.bare.Bare.{Bare}
 use Rattle.pv_dress.proofs.EditLaws.{path_cases}
@@ -17,9 +15,9 @@ use Rattle.pv_path.proofs.PathLaws.{same_bytes-refl, same_bytes-decides, same_pa
 use Rattle.pv_steps.specs.declared.node.Kind.{Kind}
 use Rattle.pv_steps.specs.declared.node.Kind.TheVariants.{Directory}
 use Rattle.pv_walk.specs.declared.listing.Piece.{Piece}
-use Rattle.pv_walk.specs.declared.listing.Piece.TheVariants.{Make, Wear}
+use Rattle.pv_walk.specs.declared.listing.Piece.TheVariants.{Make, Give}
 use Rattle.pv_walk.specs.Pieces.{file_of, plain, after_piece, built, HasPlace, IsWhole, IsDoable, AreDoable}
-use Rattle.pv_walk.proofs.RemovalLaws.{apart}
+use Rattle.pv_path.proofs.Tests.{equal_of, true_not_false}
 
 abbrev pub Subtree : Type 0
 Subtree = Path → Option Bare
@@ -78,16 +76,11 @@ itself : (n : List ℕ) → eq_by_cmp (slice_cmp nat_cmp) n n ≡ true
 itself n = ap is_eq (name_cmp-refl n)
 
 other_name : (n m : List ℕ) (ns : List (List ℕ)) → AllByRecursion (λ y. eq_by_cmp (slice_cmp nat_cmp) n y ≡ false) ns → is_in m ns ≡ true → n ≡ m → ⊥
-other_name n m ns h among e = apart (is_in n ns) (ap (λ x. is_in x ns) e ∙ among) (none_any (eq_by_cmp (slice_cmp nat_cmp) n) ns h)
+other_name n m ns h among e = true_not_false (is_in n ns) (ap (λ x. is_in x ns) e ∙ among) (none_any (eq_by_cmp (slice_cmp nat_cmp) n) ns h)
 
 -- names that the order finds equal are the same
 tied : (n m : List ℕ) → eq_by_cmp (slice_cmp nat_cmp) n m ≡ true → n ≡ m
-tied n m h = name_cmp-exact n m (equal (slice_cmp nat_cmp n m) h)
-  where
-    equal : (o : Ordering) → is_eq o ≡ true → o ≡ Equal
-    equal Less e = cc
-    equal Equal e = refl
-    equal Greater e = cc
+tied n m h = name_cmp-exact n m (equal_of (slice_cmp nat_cmp n m) h)
 
 not_bytes : (n m : List ℕ) → (n ≡ m → ⊥) → same_bytes n m ≡ false
 not_bytes n m d = elim (cases_Bool (same_bytes n m)) [ inl e ↦ absurd (d ((same_bytes-decides n m).0 e)) | inr e ↦ e ]
@@ -110,7 +103,7 @@ pub not_under_child : (r : Path) (ns : List (List ℕ)) (q : Path) → is_prefix
 not_under_child r [] q h = refl
 not_under_child r (n ∷ ns) q h =
     let here : is_prefix (r ++ n ∷ []) q ≡ false = elim (cases_Bool (is_prefix (r ++ n ∷ []) q)) [
-      | inl e ↦ absurd (apart (is_prefix r q) (is_prefix-trans r (r ++ n ∷ []) q (is_prefix-append r (n ∷ [])) e) h)
+      | inl e ↦ absurd (true_not_false (is_prefix r q) (is_prefix-trans r (r ++ n ∷ []) q (is_prefix-append r (n ∷ [])) e) h)
       | inr e ↦ e
     ] in
     ap (λ b. b || is_under_child r ns q) here ∙ not_under_child r ns q h
@@ -133,7 +126,7 @@ under_child r (m ∷ ns) n x h =
   where
     behind : same_bytes n m ≡ false → is_in n ns ≡ true
     behind d = elim (cases_Bool (eq_by_cmp (slice_cmp nat_cmp) n m)) [
-      | inl e ↦ absurd (apart (same_bytes n m) ((same_bytes-decides n m).1 (tied n m e)) d)
+      | inl e ↦ absurd (true_not_false (same_bytes n m) ((same_bytes-decides n m).1 (tied n m e)) d)
       | inr e ↦ sym (ap (λ b. b || is_in n ns) e) ∙ h
     ]
 
@@ -169,7 +162,7 @@ module _ (subtree : Subtree) (r : Path) (f : Path → List Piece)
 
 abbrev pub around : Path → List Piece → Option Bare → List Piece
 around r inner None = []
-around r inner (Some b) = Wear r b.dress ∷ (inner ++ Make r (file_of b) ∷ [])
+around r inner (Some b) = Give r b.dress ∷ (inner ++ Make r (file_of b) ∷ [])
 
 -- those of what stands at and below a place, as far down as a number of names
 abbrev pub pieces_below : Subtree → (Path → List (List ℕ)) → ℕ → Path → List Piece
@@ -253,7 +246,7 @@ module _ (subtree : Subtree) (names : Path → List (List ℕ)) (is : IsSubtree 
         ]
 
     abbrev pieces : List Piece
-    pieces = Wear r b.dress ∷ (inner ++ Make r (file_of b) ∷ [])
+    pieces = Give r b.dress ∷ (inner ++ Make r (file_of b) ∷ [])
 
     module _ (ns : List (List ℕ)) (covers : (n : List ℕ) (x : Path) → is_some (subtree (r ++ n ∷ x)) ≡ true → is_in n ns ≡ true) (fills : Fills subtree first inner (is_under_child r ns)) where
       built_first : built (inner ++ Make r (file_of b) ∷ []) s ≡ (λ q. cond (is_under_child r ns q) (subtree q) (first q))
@@ -276,10 +269,10 @@ module _ (subtree : Subtree) (names : Path → List (List ℕ)) (is : IsSubtree 
           at : (n : List ℕ) (x : Path) → q ≡ r ++ n ∷ x → (is_some (subtree q) ≡ true) ⊎ (is_some (subtree q) ≡ false) → cond (is_under_child r ns q) (subtree q) (first q) ≡ subtree q
           at n x e (inl some) =
               ap (λ c. cond c (subtree q) (first q)) (ap (is_under_child r ns) e ∙ under_child r ns n x (covers n x (subst (λ (p : Path). is_some (subtree p) ≡ true) e some)))
-          at n x e (inr none) = none_else (is_under_child r ns q) (ap first e ∙ first_empty n x) (no_some (subtree q) (λ some. apart (is_some (subtree q)) some none))
+          at n x e (inr none) = none_else (is_under_child r ns q) (ap first e ∙ first_empty n x) (no_some (subtree q) (λ some. true_not_false (is_some (subtree q)) some none))
 
           by : ((x : Path) × (q ≡ r ++ x)) → cond (is_under_child r ns q) (subtree q) (first q) ≡ subtree q
-          by ([], e) = absurd (apart (same_path r q) (ap (same_path r) (e ∙ append-nil r) ∙ same_path-refl r) d)
+          by ([], e) = absurd (true_not_false (same_path r q) (ap (same_path r) (e ∙ append-nil r) ∙ same_path-refl r) d)
           by (n ∷ x, e) = at n x e (cases_Bool (is_some (subtree q)))
 
       at_all : (q : Path) → (r ≡ q) ⊎ (same_path r q ≡ false) → built pieces s q ≡ cond (is_prefix r q) (subtree q) (s q)

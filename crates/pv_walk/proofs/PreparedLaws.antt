@@ -1,21 +1,20 @@
 -- Laws of a prepared path: the prefixes of a path, what is taken away along it, and which parents are put.
-use Rattle.std.specs.Prelude.{◌≡◌, ◌≢◌, ℕ, ◌+◌, Bool, true, false, cond, ◌&&◌, ◌||◌, List, [], ◌∷◌, ◌++◌, map, length, take, fold, Option, Some, None, is_some, option_map}
+use Rattle.std.specs.Prelude.{◌≡◌, ◌≢◌, ℕ, ◌+◌, Bool, true, false, cond, ◌&&◌, ◌||◌, List, [], ◌∷◌, map, length, take, fold, Option, Some, None, is_some, option_map}
 use Rattle.std.proofs.Common.{zero, suc, refl, sym, ap, subst, ◌∙◌, arith, inl, inr, ◌⊎◌}
 use Rattle.std.specs.List.{list_any, range_with_len, AllByRecursion}
-use Rattle.std.specs.Ordering.{eq_by_cmp, is_eq}
+use Rattle.std.specs.Ordering.{is_eq}
 use Rattle.pv_path.specs.Names.{same_bytes}
-use Rattle.pv_path.specs.Paths.{Path, path_cmp, same_path, is_prefix, parent_of, has_staging, staging_of}
-use Rattle.pv_path.proofs.PathLaws.{same_bytes-decides, path_cmp-refl, is_prefix-refl, is_prefix-parent_of, is_prefix-trans, parent_of-is_prefix, length-prefix, length-parent_of, has_staging-staging_of}
+use Rattle.pv_path.specs.Paths.{Path, same_path, is_prefix, parent_of, has_staging, staging_of}
+use Rattle.pv_path.proofs.PathLaws.{same_bytes-decides, path_cmp-refl, is_prefix-refl, is_prefix-parent_of, is_prefix-trans, parent_of-is_prefix, length-prefix, length-parent_of, has_staging-staging_of, tied-same}
 use Rattle.pv_steps.specs.declared.object.Object.{Object}
 use Rattle.pv_steps.specs.Steps.{touched, made, put_at}
 use Rattle.pv_steps.specs.Trees.{Places}
-use Rattle.pv_steps.proofs.StepLaws.{is_among, is_some-touched}
+use Rattle.pv_steps.proofs.StepLaws.{is_among, is_some-touched, later_among}
 use Rattle.pv_dress.specs.Edits.{cut, taken, all_taken}
 use Rattle.pv_dress.specs.Nodes.{bare_of, bares_of}
 use Rattle.pv_dress.proofs.EditLaws.{path_cases, bares-touched, staging_outside}
 use Rattle.pv_dress.proofs.OperationLaws.{bares_of-same}
 use Rattle.pv_walk.specs.Preparing.{parents_of, parent_file, with_parent, prepared}
-use Rattle.pv_walk.proofs.CountLaws.{tied-same}
 use Rattle.pv_walk.specs.Staging.{prefixes, staging_names, is_under_any, new_object}
 
 -- ---- lists of paths
@@ -23,24 +22,13 @@ use Rattle.pv_walk.specs.Staging.{prefixes, staging_names, is_under_any, new_obj
 pub among_first : (q : Path) (paths : List Path) → is_among q (q ∷ paths) ≡ true
 among_first q paths = ap (λ o. is_eq o || is_among q paths) (path_cmp-refl q)
 
-pub among_later : (path q : Path) (paths : List Path) → is_among q paths ≡ true → is_among q (path ∷ paths) ≡ true
-among_later path q paths h = elim (eq_by_cmp path_cmp q path) as (λ b. (b || is_among q paths) ≡ true) [ true ↦ refl | false ↦ h ]
-
 -- one of some paths that is not the first of them
 pub among_others : (q path : Path) (paths : List Path) → same_path path q ≡ false → is_among q (path ∷ paths) ≡ true → is_among q paths ≡ true
 among_others q path paths other h = sym (ap (λ b. b || is_among q paths) (tied-same q path ∙ other)) ∙ h
 
-pub among_right : (q : Path) (xs ys : List Path) → is_among q ys ≡ true → is_among q (xs ++ ys) ≡ true
-among_right q [] ys h = h
-among_right q (x ∷ xs) ys h = among_later x q (xs ++ ys) (among_right q xs ys h)
-
 either : (a b c : Bool) → (a || b) ≡ true → (b ≡ true → c ≡ true) → (a || c) ≡ true
 either true b c h f = refl
 either false b c h f = f h
-
-pub among_left : (q : Path) (xs ys : List Path) → is_among q xs ≡ true → is_among q (xs ++ ys) ≡ true
-among_left q [] ys h = absurd (let no : false ≡ true = h in cc)
-among_left q (x ∷ xs) ys h = either (eq_by_cmp path_cmp q x) (is_among q xs) (is_among q (xs ++ ys)) h (among_left q xs ys)
 
 -- ---- the prefixes of a path
 
@@ -125,7 +113,7 @@ pub stands_among : (q : Path) (paths : List Path) → stands_in q paths ≡ true
 stands_among q [] h = absurd (let no : false ≡ true = h in cc)
 stands_among q (p ∷ paths) h = elim (path_cases p q) [
   | inl e ↦ subst (λ (x : Path). is_among q (x ∷ paths) ≡ true) (sym e) (among_first q paths)
-  | inr d ↦ among_later p q paths (stands_among q paths (sym (ap (λ b. b || stands_in q paths) d) ∙ h))
+  | inr d ↦ later_among p q paths (stands_among q paths (sym (ap (λ b. b || stands_in q paths) d) ∙ h))
 ]
 
 -- ---- the parents of a path
@@ -225,7 +213,7 @@ module _ (now : ℕ) where
       more (inr k) = inr k
 
       by : (is_among q ps ≡ true) ⊎ (is_some (with_parent now t p q) ≡ true) → (is_among q (p ∷ ps) ≡ true) ⊎ (is_some (t q) ≡ true)
-      by (inl e) = inl (among_later p q ps e)
+      by (inl e) = inl (later_among p q ps e)
       by (inr k) = more (with_parent_present t p q k)
 
   -- what stands at a prepared path is a parent, or was there

@@ -1,5 +1,5 @@
 -- Laws of putting absent parents, from the root on: what stands above a path is a directory then, and the path itself is as it was.
-use Rattle.std.specs.Prelude.{◌≡◌, ◌≢◌, ◌⊎◌, ℕ, ◌+◌, ◌-◌, ◌*◌, ◌≤◌, ◌<◌, Bool, true, false, cond, ◌||◌, List, [], ◌∷◌, ◌++◌, length, take, drop, fold, filter, get_or, nat_le, Option, Some, None, is_some, is_none, option_map, Result, Ok}
+use Rattle.std.specs.Prelude.{◌≡◌, ◌≢◌, ◌⊎◌, ℕ, ◌+◌, ◌-◌, ◌*◌, ◌≤◌, ◌<◌, Bool, true, false, cond, List, [], ◌∷◌, ◌++◌, length, take, drop, fold, filter, get_or, nat_le, Option, Some, None, is_some, is_none, option_map, Result, Ok}
 use Rattle.std.specs.List.{AllByRecursion}
 use Rattle.std.proofs.Common.{zero, suc, refl, sym, ap, subst, ◌∙◌, arith, inl, inr}
 use Rattle.std.proofs.lemmas.List.{take-append-drop, length-append, length-take, take_more, take_all}
@@ -8,8 +8,8 @@ use Rattle.std.proofs.lemmas.List.Folds.{list_all-append}
 use Rattle.std.proofs.lemmas.List.FromFn.{get_or-map-range_with_len, length-map-range_with_len}
 use Rattle.std.proofs.lemmas.List.Filters.{length-filter_more}
 use Rattle.std.proofs.lemmas.Bool.{and_parts}
-use Rattle.pv_path.specs.Paths.{Path, same_path, is_prefix, parent_of, has_staging, staging_of}
-use Rattle.pv_path.proofs.PathLaws.{is_prefix-append, length-parent_of, has_staging-append, has_staging-staging_of, length-prefix}
+use Rattle.pv_path.specs.Paths.{Path, same_path, parent_of, has_staging, staging_of}
+use Rattle.pv_path.proofs.PathLaws.{length-parent_of, has_staging-staging_of, length-prefix, is_prefix-take, has_some_names, has_staging-take}
 use Rattle.pv_steps.specs.declared.node.Kind.TheVariants.{Directory}
 use Rattle.pv_steps.specs.declared.object.Object.{Object}
 use Rattle.pv_steps.specs.Objects.{bare, modified}
@@ -30,29 +30,15 @@ use Rattle.pv_walk.specs.Putting as putting
 use Rattle.pv_walk.specs.Putting.{IsPutting, put, Putting, IsPutStep}
 use Rattle.pv_walk.specs.Preparing.{parent_file, parents_of, with_parent, IsAbove, CanPass, IsSwept, IsPreparing, parent, Preparing, parent_count, IsPrepareStep, puts}
 use Rattle.pv_walk.proofs.PuttingLaws.{made-none}
+use Rattle.pv_steps.proofs.ObjectLaws.{none_from_bare}
 
 -- ---- the places above a path
-
-pub prefix_take : (k : ℕ) (path : Path) → is_prefix (take k path) path ≡ true
-prefix_take k path = subst (λ (p : Path). is_prefix (take k path) p ≡ true) (take-append-drop k path) (is_prefix-append (take k path) (drop k path))
 
 pub nonempty_take : (k : ℕ) (path : Path) → 1 ≤ k → k ≤ length path → take k path ≢ []
 nonempty_take k path some le e = (let l = ap length e in omega (arith, length-take k path))
 
 pub above_take : (k : ℕ) (path : Path) → k < length path → IsAbove (take k path) path
-above_take k path lt = (prefix_take k path, λ e. (let l = ap length e in omega (arith, length-take k path)))
-
-some_names : (path : Path) → path ≢ [] → 1 ≤ length path
-some_names [] some = absurd (some refl)
-some_names (n ∷ path) some = omega arith
-
--- what lies above a path has no staging name where the path has none, and short names where it has short ones
-pub plain_take : (k : ℕ) (path : Path) → has_staging path ≡ false → has_staging (take k path) ≡ false
-plain_take k path plain = by (has_staging (take k path)) (has_staging (drop k path)) (sym (has_staging-append (take k path) (drop k path)) ∙ ap has_staging (take-append-drop k path) ∙ plain)
-  where
-    by : (a b : Bool) → (a || b) ≡ false → a ≡ false
-    by true b e = e
-    by false b e = refl
+above_take k path lt = (is_prefix-take k path, λ e. (let l = ap length e in omega (arith, length-take k path)))
 
 pub short_take : (k : ℕ) (path : Path) → can_stage path ≡ true → can_stage (take k path) ≡ true
 short_take k path short =
@@ -140,7 +126,7 @@ module _ (now : ℕ) (path p : Path) (plain : has_staging path ≡ false) (nonem
         ∙ put_at-else p path (Some (new_object parent_file now)) (places u) (no_same p path over.1)
       where
         higher : parent_of p ≡ path → ⊥
-        higher e = (let l = ap length e in omega (arith, length-parent_of p, length-prefix p path over.0, some_names p nonempty))
+        higher e = (let l = ap length e in omega (arith, length-parent_of p, length-prefix p path over.0, has_some_names p nonempty))
 
 -- the first places above a path have been put: the last of them is a directory, and what is to come is as it was
 pub record Parented (now : ℕ) (path : Path) (t : Files) (i : ℕ) (u : Files) : Type 0 where
@@ -180,7 +166,7 @@ module _ (now : ℕ) (path : Path) (plain : has_staging path ≡ false) (t : Fil
         is ∙ ap (λ b. cond b (places u) (made now (take (i + 1) path) (new_object parent_file now) (places u))) (ap is_some e) in
         let some : take (i + 1) path ≢ [] = nonempty_take (i + 1) path (omega arith) (omega arith) in
         let over : IsAbove (take (i + 1) path) path = above_take (i + 1) path lt in
-        let unstaged : has_staging (take (i + 1) path) ≡ false = plain_take (i + 1) path plain in
+        let unstaged : has_staging (take (i + 1) path) ≡ false = has_staging-take (i + 1) path plain in
         record {
           here = here_then;
           directory = new_directory now path (take (i + 1) path) plain some over unstaged u v e new;
@@ -230,14 +216,10 @@ parented_end path items i same le = take_all i (parents_of path) (omega (arith, 
 
 -- ---- on the way
 
-pub absent_of : (o : Option Object) → option_map bare o ≡ None → o ≡ None
-absent_of None e = refl
-absent_of (Some x) e = absurd (let no : Some (bare x) ≡ None = e in cc)
-
 -- a call that asked for no step did none, so anything may be said of each
 acted_still : {S A : Type 0} (tree : Ghosts S) (P : Files → Type 0) (Q R : Step → Type 0) (n : ℕ) {now : ℕ} {a b : S} {r : Result A TreeFault} → n ≡ 0 → Acted tree P Q n now a b r → Acted tree P R n now a b r
 acted_still tree P Q R n {now = now} {a = a} {b = b} {r = r} none acted = record {
-  ran = record { steps = acted.ran.steps; told = acted.ran.told; reached = acted.ran.reached; along = acted.ran.along; gives = by acted.ran.steps few };
+  ran = record { steps = acted.ran.steps; recorded = acted.ran.recorded; reached = acted.ran.reached; along = acted.ran.along; gives = by acted.ran.steps few };
   bound = acted.bound;
   reaches = acted.reaches;
   cause = acted.cause;
@@ -246,7 +228,7 @@ acted_still tree P Q R n {now = now} {a = a} {b = b} {r = r} none acted = record
     few : length acted.ran.steps ≡ 0
     few = (
         let bound : (length (tree.steps b) - length (tree.steps a)) + refused r ≤ n = acted.bound in
-        let told : length (tree.steps b) ≡ length (tree.steps a) + length acted.ran.steps = ap length acted.ran.told ∙ length-append (tree.steps a) acted.ran.steps in
+        let told : length (tree.steps b) ≡ length (tree.steps a) + length acted.ran.steps = ap length acted.ran.recorded ∙ length-append (tree.steps a) acted.ran.steps in
         omega (arith, bound, told, none))
 
     by : (steps : List Step) → length steps ≡ 0 → AllByRecursion R steps
@@ -261,8 +243,8 @@ module _ (path p : Path) (over : IsAbove p path) where
 
   -- a parent that is put on the way was absent at the start
   absent_before : (a b : Option Object) → IsPreparing path p (option_map bare a) (option_map bare b) → b ≡ None → a ≡ None
-  absent_before a b (IsPreparing.kept e) none = absent_of a (sym e ∙ ap (option_map bare) none)
-  absent_before a b (parent high old is) none = absent_of a old
+  absent_before a b (IsPreparing.kept e) none = none_from_bare a (sym e ∙ ap (option_map bare) none)
+  absent_before a b (parent high old is) none = none_from_bare a old
 
   pub parent_acted : {S A B : Type 0} (tree : Ghosts S) → Moves tree → has_staging p ≡ false → {m n now : ℕ} {a b c : S} {x : A} {r : Result B TreeFault} → (places (tree.state b) p ≡ None) ⊎ (n ≡ 0)
       → Acted tree (Preparing path (tree.state a)) (IsPrepareStep path (tree.state a)) m now a b (Ok x)

@@ -7,7 +7,7 @@ use Rattle.std.proofs.lemmas.List.{length-take}
 use Rattle.std.specs.List.{list_any, range_with_len}
 use Rattle.std.specs.Option.{option_or}
 use Rattle.pv_path.specs.Paths.{Path, same_path, is_prefix, parent_of, has_staging, staging_of}
-use Rattle.pv_path.proofs.PathLaws.{is_prefix-refl, prefix_parts, length-prefix, length-parent_of, parent_of-staging_of, prefix_whole, has_staging-extends, has_staging-staging_of}
+use Rattle.pv_path.proofs.PathLaws.{is_prefix-refl, prefix_parts, length-prefix, length-parent_of, parent_of-staging_of, prefix_whole, has_staging-extends, has_staging-staging_of, has_staging-take}
 use Rattle.pv_steps.specs.declared.node.Kind.{Kind}
 use Rattle.pv_steps.specs.declared.node.Kind.TheVariants.{Directory, File, Link, Fifo, CharDevice, BlockDevice}
 use Rattle.pv_steps.specs.declared.object.Object.{Object}
@@ -26,10 +26,12 @@ use Rattle.pv_dress.specs.Edits.{Pruned, cut, taken, all_taken}
 use Rattle.pv_dress.proofs.EditLaws.{staging_outside}
 use Rattle.pv_steps.specs.Content.{Removes}
 use Rattle.pv_walk.specs.Staging.{staging_names, is_under_any}
-use Rattle.pv_walk.proofs.RemovalLaws.{zero_or_more, no_same, none_of}
+use Rattle.pv_walk.proofs.RemovalLaws.{zero_or_more, no_same}
 use Rattle.pv_walk.proofs.SweepLaws.{length-staging_names, staging_name-at}
 use Rattle.pv_walk.specs.Preparing.{IsAbove, CanPass, IsSwept, IsPreparing, kept, Preparing, parent_count, IsPrepareStep, sweeps, puts}
-use Rattle.pv_walk.proofs.PreparingLaws.{nonempty_take, plain_take, absent_of}
+use Rattle.pv_walk.proofs.PreparingLaws.{nonempty_take}
+use Rattle.pv_path.proofs.Tests.{none_of}
+use Rattle.pv_steps.proofs.ObjectLaws.{kind_of-same, is_some-same, none_from_bare}
 
 -- ---- subtrees taken away
 
@@ -125,26 +127,12 @@ IsPlainSame t u = (q : Path) → has_staging q ≡ false → bares (places u) q 
 pub pruned_same : (path : Path) (t u : Files) → Pruned (is_under_any (staging_names path)) t u → IsPlainSame t u
 pruned_same path t u p = λ q plain. p.outside q (plain_outside path q plain)
 
-same_kind : (a b : Option Object) → option_map bare a ≡ option_map bare b → kind_of a ≡ kind_of b
-same_kind a b e = sym (bare_kind a) ∙ ap kind_of e ∙ bare_kind b
-  where
-    bare_kind : (o : Option Object) → kind_of (option_map bare o) ≡ kind_of o
-    bare_kind None = refl
-    bare_kind (Some x) = refl
-
 same_none : (a b : Option Object) → option_map bare a ≡ option_map bare b → is_none a ≡ is_none b
 same_none a b e = sym (bare_none a) ∙ ap is_none e ∙ bare_none b
   where
     bare_none : (o : Option Object) → is_none (option_map bare o) ≡ is_none o
     bare_none None = refl
     bare_none (Some x) = refl
-
-same_some : (a b : Option Object) → option_map bare a ≡ option_map bare b → is_some a ≡ is_some b
-same_some a b e = sym (bare_some a) ∙ ap is_some e ∙ bare_some b
-  where
-    bare_some : (o : Option Object) → is_some (option_map bare o) ≡ is_some o
-    bare_some None = refl
-    bare_some (Some x) = refl
 
 -- ---- as many parents are absent
 
@@ -162,7 +150,7 @@ pub same_parent_count : (path : Path) → has_staging path ≡ false → (t u : 
 same_parent_count path plain t u same =
     counts_along (λ place. is_none (places u place)) (λ place. is_none (places t place)) (parent_of path)
     (λ j. same_none (places u (take j (parent_of path))) (places t (take j (parent_of path)))
-    (same (take j (parent_of path)) (plain_take j (parent_of path) (plain_take (length path - 1) path plain))))
+    (same (take j (parent_of path)) (has_staging-take j (parent_of path) (has_staging-take (length path - 1) path plain))))
     1 (length (parent_of path))
 
 -- ---- a path that is not refused
@@ -228,8 +216,8 @@ above_plain path place plain high = by (has_staging place) refl
 pub same_pass : (path : Path) → has_staging path ≡ false → (t u : Files) → IsPlainSame t u → CanPass path t → CanPass path u
 same_pass path plain t u same pass = λ place high there.
     let unstaged : has_staging place ≡ false = above_plain path place plain high.0 in
-    same_kind (places u place) (places t place) (same place unstaged)
-    ∙ pass place high (sym (same_some (places u place) (places t place) (same place unstaged)) ∙ there)
+    kind_of-same (places u place) (places t place) (same place unstaged)
+    ∙ pass place high (sym (is_some-same (places u place) (places t place) (same place unstaged)) ∙ there)
 
 -- ---- on the way
 
@@ -258,4 +246,4 @@ module _ {S : Type 0} (tree : Ghosts S) (path : Path) where
     where
       step_from_start : (step : Step) → IsPrepareStep path (tree.state b) step → IsPrepareStep path (tree.state a) step
       step_from_start step (sweeps removes) = sweeps removes
-      step_from_start step (puts place above none put) = puts place above (absent_of (places (tree.state a) place) (sym (swept_same before place (above_plain path place plain above.0)) ∙ ap (option_map bare) none)) put
+      step_from_start step (puts place above none put) = puts place above (none_from_bare (places (tree.state a) place) (sym (swept_same before place (above_plain path place plain above.0)) ∙ ap (option_map bare) none)) put

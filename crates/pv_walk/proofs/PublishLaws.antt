@@ -13,8 +13,9 @@ use Rattle.pv_steps.specs.Trees.{Files, Places, places, kind_of, IsPresentIn, Is
 use Rattle.pv_steps.specs.Steps.{touched, moved, moved_at, carried, Movable, Yields, absent, directories}
 use Rattle.pv_steps.specs.Same.{Differ}
 use Rattle.pv_dress.specs.Edits.{cut, taken, emptied}
-use Rattle.pv_walk.proofs.RemovalLaws.{IsKept, modified_kept, kept-kind, apart, no_same, is_below-append, not_below_itself}
+use Rattle.pv_walk.proofs.RemovalLaws.{IsKept, modified_kept, kept-kind, no_same, is_below-append, not_below_itself}
 use Rattle.pv_walk.proofs.EmptyingLaws.{emptied-below, emptied-kept, emptied-outside, present-taken}
+use Rattle.pv_path.proofs.Tests.{true_not_false}
 
 -- ---- a path and its staging name
 
@@ -46,8 +47,8 @@ module _ (path : Path) (nonempty : path ≢ []) where
   -- nor what lies below the staging name
   pub staged_outside : (rest : Path) → is_prefix path (staging_of path ++ rest) ≡ false
   staged_outside rest = false_from_ne_true (is_prefix path (staging_of path ++ rest)) (λ e. elim (prefixes_compare path (staging_of path) (staging_of path ++ rest) e (is_prefix-append (staging_of path) rest)) [
-    | inl h ↦ apart (is_prefix path (staging_of path)) h stage_outside
-    | inr h ↦ apart (is_prefix (staging_of path) path) h path_outside
+    | inl h ↦ true_not_false (is_prefix path (staging_of path)) h stage_outside
+    | inr h ↦ true_not_false (is_prefix (staging_of path) path) h path_outside
   ])
 
   -- and it is not the directory that both lie in
@@ -172,7 +173,7 @@ module _ (now : ℕ) (path : Path) (nonempty : path ≢ []) (t : Places) where
 pub moved_differs : (now : ℕ) (path : Path) → path ≢ [] → (t v : Files) → IsPresent t (staging_of path) → places v ≡ moved now (staging_of path) path (places t) → Differ t v
 moved_differs now path nonempty t v present is = (
   staging_of path,
-  λ e. apart (is_some (option_map bare (places v (staging_of path)))) (sym (ap is_some e) ∙ still (places t (staging_of path)) present)
+  λ e. true_not_false (is_some (option_map bare (places v (staging_of path)))) (sym (ap is_some e) ∙ still (places t (staging_of path)) present)
       (ap (λ o. is_some (option_map bare o)) (ap (λ (x : Places). x (staging_of path)) is ∙ moved_away now path nonempty (places t))),
 )
   where

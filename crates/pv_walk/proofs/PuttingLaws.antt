@@ -2,7 +2,7 @@
 use Rattle.std.specs.Prelude.{◌≡◌, ◌≢◌, ℕ, Bool, true, false, cond, List, [], ◌∷◌, ◌++◌, length, Option, Some, None, is_some, option_map}
 use Rattle.std.proofs.Common.{refl, sym, ap, ◌∙◌, arith, append-nil, length-append}
 use Rattle.pv_path.specs.Paths.{Path, same_path, is_prefix, rest_under, parent_of, has_staging, staging_of}
-use Rattle.pv_path.proofs.PathLaws.{is_prefix-refl, is_some-rest_under, rest_under-Some, prefix_parts, parent_of-staging_of, has_staging-staging_of}
+use Rattle.pv_path.proofs.PathLaws.{is_some-rest_under, rest_under-Some, prefix_parts, parent_of-staging_of, has_staging-staging_of, not_prefix_not_same}
 use Rattle.pv_steps.specs.declared.object.Object.{Object}
 use Rattle.pv_steps.specs.Objects.{changed, modified}
 use Rattle.pv_steps.specs.Trees.{Files, Places, places, IsTreeIn, IsAbsentIn, IsPresent}
@@ -12,8 +12,9 @@ use Rattle.pv_steps.specs.Same.{bares}
 use Rattle.pv_dress.proofs.EditLaws.{put_at-else, on_at-twice, made-here, bares-made, bares-put_else, staging_outside}
 use Rattle.pv_walk.specs.declared.new_file.NewFile.{NewFile}
 use Rattle.pv_walk.specs.Staging.{new_object}
-use Rattle.pv_walk.proofs.RemovalLaws.{apart, no_same}
+use Rattle.pv_walk.proofs.RemovalLaws.{no_same}
 use Rattle.pv_walk.proofs.PublishLaws.{staging_nonempty, stage_outside}
+use Rattle.pv_path.proofs.Tests.{true_not_false}
 
 -- ---- where nothing stands
 
@@ -37,13 +38,9 @@ made-none now path o t q d h =
     ap (λ v. cond (same_path (parent_of path) q) (option_map (modified now) v) v) (put_at-else path q (Some o) t d ∙ h)
     ∙ elim (same_path (parent_of path) q) as (λ b. ◌≡◌ {A = Option Object} (cond {A = Option Object} b None None) None) [ true ↦ refl | false ↦ refl ]
 
--- what begins with another path is another path
-pub no_prefix_no_same : (path q : Path) → is_prefix path q ≡ false → same_path path q ≡ false
-no_prefix_no_same path q h = no_same path q (λ e. apart (is_prefix path q) (ap (is_prefix path) (sym e) ∙ is_prefix-refl path) h)
-
 -- ---- the stamps of a directory that is touched more than once
 
-on_at-of : (p : Path) (f : Object → Object) (x y : Places) (q : Path) → x q ≡ y q → on_at p f x q ≡ on_at p f y q
+pub on_at-of : (p : Path) (f : Object → Object) (x y : Places) (q : Path) → x q ≡ y q → on_at p f x q ≡ on_at p f y q
 on_at-of p f x y q e = ap (λ v. cond (same_path p q) (option_map f v) v) e
 
 touched_twice : (now : ℕ) (p : Path) (x : Places) → on_at p (modified now) (on_at p (modified now) x) ≡ on_at p (modified now) x
@@ -61,7 +58,7 @@ module _ (now : ℕ) (path : Path) (nonempty : path ≢ []) (t : Places) (tree :
   -- nothing has come to stand below the path, or below the staging name
   staged_below : (q : Path) → is_prefix path q ≡ true → IsAbsentIn staged q
   staged_below q e =
-      made-none now stage o t q (no_same stage q (λ s. apart (is_prefix path q) e (ap (is_prefix path) (sym s) ∙ stage_outside path nonempty)))
+      made-none now stage o t q (no_same stage q (λ s. true_not_false (is_prefix path q) e (ap (is_prefix path) (sym s) ∙ stage_outside path nonempty)))
       (none_under t tree path q none e)
 
   longer : (p : Path) (n : List ℕ) (rest : Path) → same_path p (p ++ n ∷ rest) ≡ false
@@ -83,10 +80,10 @@ module _ (now : ℕ) (path : Path) (nonempty : path ≢ []) (t : Places) (tree :
       ap (λ (p : Path). on_at p (modified now) (on_at (parent_of path) (modified now) (on_at p (modified now) (put_at stage (Some o) t))) q) (parent_of-staging_of path)
       ∙ ap (λ (x : Places). x q) (ap (on_at (parent_of path) (modified now)) (touched_twice now (parent_of path) (put_at stage (Some o) t)) ∙ touched_twice now (parent_of path) (put_at stage (Some o) t))
       ∙ on_at-of (parent_of path) (modified now) (put_at stage (Some o) t) (put_at path (Some o) t) q
-      (put_at-else stage q (Some o) t (no_prefix_no_same stage q s) ∙ sym (put_at-else path q (Some o) t (no_prefix_no_same path q h)))
+      (put_at-else stage q (Some o) t (not_prefix_not_same stage q s) ∙ sym (put_at-else path q (Some o) t (not_prefix_not_same path q h)))
 
   beside_path : (q : Path) → is_prefix path q ≡ false → (b : Bool) → is_prefix stage q ≡ b → cond b None (touched now stage (touched now path staged) q) ≡ made now path o t q
-  beside_path q h true s = sym (made-none now path o t q (no_prefix_no_same path q h) (none_under t tree stage q free s))
+  beside_path q h true s = sym (made-none now path o t q (not_prefix_not_same path q h) (none_under t tree stage q free s))
   beside_path q h false s = touched_once q h s
 
   pub moved-made : moved now stage path staged ≡ made now path o t
@@ -111,4 +108,4 @@ module _ (now : ℕ) (path : Path) (nonempty : path ≢ []) (file : NewFile) (t 
   outside_stage q plain =
       ap (λ (x : Places). bares x q) is ∙ bares-made now (staging_of path) (new_object file now) (places t) q
       ∙ bares-put_else (staging_of path) q (Some (new_object file now)) (places t)
-      (no_prefix_no_same (staging_of path) q (staging_outside (staging_of path) (has_staging-staging_of path nonempty) q plain))
+      (not_prefix_not_same (staging_of path) q (staging_outside (staging_of path) (has_staging-staging_of path nonempty) q plain))

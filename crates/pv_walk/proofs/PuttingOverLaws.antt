@@ -9,7 +9,7 @@ use Rattle.pv_path.proofs.PathLaws.{is_prefix-refl, is_prefix-trans, parent_of-i
 use Rattle.pv_steps.specs.declared.object.Object.{Object}
 use Rattle.pv_steps.specs.Objects.{bare, modified}
 use Rattle.pv_steps.specs.Trees.{Files, Places, places, kind_of, IsTreeIn, IsTree, IsAbsentIn, IsPresentIn}
-use Rattle.pv_steps.specs.Steps.{put_at, on_at, made, moved}
+use Rattle.pv_steps.specs.Steps.{put_at, made, moved}
 use Rattle.pv_steps.specs.Same.{bares}
 use Rattle.pv_steps.specs.declared.tree.Tree.{Ghosts}
 use Rattle.pv_steps.specs.declared.tree.TreeFault.{TreeFault}
@@ -22,10 +22,11 @@ use Rattle.pv_walk.specs.Staging.{new_object, GivesNew, IsPublishing}
 use Rattle.pv_walk.specs.Removal.{Publishing}
 use Rattle.pv_walk.specs.Putting.{IsPutting, Putting, IsMakingWay, PuttingOver, IsPutStep, put_over}
 use Rattle.pv_walk.specs.Listing.{times}
-use Rattle.pv_walk.proofs.RemovalLaws.{apart, no_same}
+use Rattle.pv_walk.proofs.RemovalLaws.{no_same}
 use Rattle.pv_walk.proofs.CountLaws.{times-filter, times-keys, length-times}
 use Rattle.pv_walk.proofs.PublishLaws.{IsCleared, moved_same, stage_outside}
-use Rattle.pv_walk.proofs.PuttingLaws.{moved-made, none_under, outside_stage}
+use Rattle.pv_walk.proofs.PuttingLaws.{moved-made, none_under, outside_stage, on_at-of}
+use Rattle.pv_path.proofs.Tests.{true_not_false}
 
 -- ---- a tree without what stands at a path
 
@@ -67,14 +68,11 @@ module _ (path : Path) (nonempty : path ≢ []) (t : Places) where
     where
       above : (q : Path) → is_prefix path q ≡ false → is_prefix path (parent_of q) ≡ false
       above q h = elim (cases_Bool (is_prefix path (parent_of q))) [
-        | inl e ↦ absurd (apart (is_prefix path q) (is_prefix-trans path (parent_of q) q e (parent_of-is_prefix q)) h)
+        | inl e ↦ absurd (true_not_false (is_prefix path q) (is_prefix-trans path (parent_of q) q e (parent_of-is_prefix q)) h)
         | inr e ↦ e
       ]
 
 -- ---- what comes of the Rename
-
-on_at-of : (p : Path) (f : Object → Object) (x y : Places) (q : Path) → x q ≡ y q → on_at p f x q ≡ on_at p f y q
-on_at-of p f x y q e = ap (λ v. cond (same_path p q) (option_map f v) v) e
 
 put_at-of : (p : Path) (o : Option Object) (x y : Places) (q : Path) → x q ≡ y q → put_at p o x q ≡ put_at p o y q
 put_at-of p o x y q e = ap (λ v. cond (same_path p q) o v) e
@@ -114,7 +112,7 @@ module _ (now : ℕ) (path : Path) (nonempty : path ≢ []) (file : NewFile) (t 
           ap (λ (x : Places). is_some (x q)) is
           ∙ some_same (modified now) (same_path (parent_of (staging_of path)) q) (put_at (staging_of path) (Some (new_object file now)) (places t) q)
           ∙ ap is_some (put_at-else (staging_of path) q (Some (new_object file now)) (places t)
-          (no_same (staging_of path) q (λ s. apart (is_prefix path q) e (ap (is_prefix path) (sym s) ∙ stage_outside path nonempty))))
+          (no_same (staging_of path) q (λ s. true_not_false (is_prefix path q) e (ap (is_prefix path) (sym s) ∙ stage_outside path nonempty))))
 
       same : (q : Path) → cond (is_prefix path q) (times q (fin.keys u)) 0 ≤ cond (is_prefix path q) (times q (fin.keys t)) 0
       same q = elim (cases_Bool (is_prefix path q)) [

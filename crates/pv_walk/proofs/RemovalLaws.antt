@@ -13,6 +13,7 @@ use Rattle.pv_steps.specs.Steps.{put_at, gone}
 use Rattle.pv_walk.specs.Removal.{is_below}
 use Rattle.pv_walk.specs.Listing.{times, is_child}
 use Rattle.pv_walk.proofs.CountLaws.{times-self, same_or_not, child_parts}
+use Rattle.pv_path.proofs.Tests.{true_not_false}
 
 -- ---- numbers and tests
 
@@ -24,9 +25,6 @@ pub cond-true : (b : Bool) → 1 ≤ cond b 1 0 → b ≡ true
 cond-true true h = refl
 cond-true false h = absurd (omega arith)
 
-pub apart : (b : Bool) → b ≡ true → b ≡ false → ⊥
-apart b h e = cc
-
 -- what does not hold where something that follows from it does not
 pub unless : (a b : Bool) → (a ≡ true → b ≡ true) → b ≡ false → a ≡ false
 unless true b f h = sym (f refl) ∙ h
@@ -34,10 +32,6 @@ unless false b f h = refl
 
 pub no_same : (p q : Path) → (p ≡ q → ⊥) → same_path p q ≡ false
 no_same p q h = elim (same_path p q) as (λ b. same_path p q ≡ b → b ≡ false) [ true ↦ λ e. absurd (h ((same_path-decides p q).0 e)) | false ↦ λ e. refl ] refl
-
-pub none_of : (o : Option Object) → is_some o ≡ false → o ≡ None
-none_of None h = refl
-none_of (Some x) h = cc
 
 -- ---- what lies below a path
 
@@ -101,7 +95,7 @@ child_above t tree path q h present =
 pub is_below-parent_of : (path q : Path) → is_below path q ≡ true → same_path path (parent_of q) ≡ false → is_below path (parent_of q) ≡ true
 is_below-parent_of path q h other =
     let parts = and_parts (is_prefix path q) (not (same_path path q)) h in
-    and_from (is_prefix path (parent_of q)) _ (is_prefix-parent_of path q parts.0 (λ e. apart (same_path path q) ((same_path-decides path q).1 e) (not-true (same_path path q) parts.1))) (ap not other)
+    and_from (is_prefix path (parent_of q)) _ (is_prefix-parent_of path q parts.0 (λ e. true_not_false (same_path path q) ((same_path-decides path q).1 e) (not-true (same_path path q) parts.1))) (ap not other)
 
 -- ---- one object gone
 
@@ -204,7 +198,7 @@ module _ (now : ℕ) (t : Places) (q : Path) where
         | false ↦ λ is.
             gone-other now p (all_gone now ps t) q first.0 is
             ∙ elim (same_or_not p r) [
-              | inl s ↦ absurd (apart (same_path (parent_of p) q) ((same_path-decides (parent_of p) q).1 (ap parent_of s.0 ∙ e)) is)
+              | inl s ↦ absurd (true_not_false (same_path (parent_of p) q) ((same_path-decides (parent_of p) q).1 (ap parent_of s.0 ∙ e)) is)
               | inr d ↦ let rest : 1 ≤ 0 + times r ps = subst (λ c. 1 ≤ cond c 1 0 + times r ps) d g in all_gone-touched ps first.1 r (omega arith) e
             ]
       ] refl

@@ -6,8 +6,8 @@ use Rattle.std.proofs.lemmas.Bool.Decides.{nat_tests}
 use Rattle.std.proofs.lemmas.List.Folds.{list_all-append}
 use Rattle.std.proofs.lemmas.Bool.{and_parts}
 use Rattle.std.proofs.lemmas.Option.{same_Some}
-use Rattle.pv_path.specs.Paths.{Path, same_path, is_prefix, last_name, parent_of, staging_of}
-use Rattle.pv_path.proofs.PathLaws.{path_parts, is_prefix-refl, parent_of-staging_of}
+use Rattle.pv_path.specs.Paths.{Path, is_prefix, last_name, parent_of, staging_of}
+use Rattle.pv_path.proofs.PathLaws.{path_parts, parent_of-staging_of, not_prefix_not_same}
 use Rattle.pv_acl.specs.Parts.{is_acl, acl_of_mode, special_of, mode_of, part_of_mode}
 use Rattle.pv_steps.specs.declared.node.Kind.TheVariants.{Directory, File}
 use Rattle.pv_steps.specs.declared.object.Object.{Object}
@@ -15,7 +15,7 @@ use Rattle.pv_steps.specs.declared.step.Step.{Step}
 use Rattle.pv_steps.specs.declared.step.Step.TheVariants.{Write}
 use Rattle.pv_steps.specs.declared.tree.TreeFault.{TreeFault}
 use Rattle.pv_steps.specs.Objects.{bare, fresh, changed, with_content, AclFits}
-use Rattle.pv_steps.proofs.ObjectLaws.{IsObject-fresh, no_attrs, no_letters}
+use Rattle.pv_steps.proofs.ObjectLaws.{IsObject-fresh, no_attrs, no_letters, small_special}
 use Rattle.pv_steps.specs.Trees.{Files, Places, places, kind_of, IsKindIn, IsAbsentIn}
 use Rattle.pv_steps.specs.Steps.{Can, HasRoom, after, after_at, put_at, on_at, made}
 use Rattle.pv_steps.proofs.StepLaws.{at_after}
@@ -25,9 +25,9 @@ use Rattle.pv_steps.specs.declared.tree.Tree.{Ghosts}
 use Rattle.pv_steps.specs.Acting.{Acted}
 use Rattle.pv_steps.proofs.ActingLaws.{Moves, Asks, acted_then, acted_weaken, acted_end}
 use Rattle.pv_dress.specs.Edits.{SameOutside}
-use Rattle.pv_dress.specs.Dressing.{IsDress, CanWear, dress_mode, wear, wear_first, Dressing, GivesDress, IsChanged, ChangedAt}
+use Rattle.pv_dress.specs.Dressing.{IsDress, CanDress, dress_mode, dressed, dressed_first, Dressing, GivesDress, IsChanged, ChangedAt}
 use Rattle.pv_dress.proofs.DressLaws.{outside_dressing}
-use Rattle.pv_dress.proofs.EditLaws.{path_cases, on_at-here, on_at-else, made-here, put_at-made, on_at-made, bares-made, bares-put_else}
+use Rattle.pv_dress.proofs.EditLaws.{on_at-here, on_at-else, made-here, put_at-made, on_at-made, bares-made, bares-put_else}
 use Rattle.pv_walk.specs.declared.new_file.NewFile.{NewFile}
 use Rattle.pv_walk.specs.declared.new_file.NewKind.{NewKind}
 use Rattle.pv_walk.specs.declared.new_file.NewKind.TheVariants as new
@@ -69,14 +69,6 @@ held_content (new.Link target) now content e = cc
 held_content new.Fifo now content e = cc
 held_content (new.Device block major minor) now content e = cc
 
--- ---- one path and those below it
-
-not_same : (path q : Path) → is_prefix path q ≡ false → same_path path q ≡ false
-not_same path q h = elim (path_cases path q) [
-  | inl e ↦ let both : true ≡ false = sym (is_prefix-refl path) ∙ ap (is_prefix path) e ∙ h in cc
-  | inr e ↦ e
-]
-
 -- ---- the step that makes the object
 
 gives_make : (path : Path) (file : NewFile) (what : NewKind) → file.what ≡ what → GivesNew path file (make_step path what)
@@ -108,7 +100,7 @@ module _ (path : Path) (nonempty : path ≢ []) (now : ℕ) (t : Files) (room : 
   make_busy (new.Device block major minor) = made_differs (new.Device block major minor)
 
   outside_made : (o : Object) (u : Files) → places u ≡ made now path o (places t) → SameOutside (is_prefix path) t u
-  outside_made o u is = λ q e. ap (λ p. bares p q) is ∙ bares-made now path o (places t) q ∙ bares-put_else path q (Some o) (places t) (not_same path q e)
+  outside_made o u is = λ q e. ap (λ p. bares p q) is ∙ bares-made now path o (places t) q ∙ bares-put_else path q (Some o) (places t) (not_prefix_not_same path q e)
 
   can_make : (what : NewKind) → HasTarget what → Can (places t) (make_step path what)
   can_make new.Directory target = room
@@ -159,7 +151,7 @@ module _ (path : Path) (nonempty : path ≢ []) (now : ℕ) (t : Files) (room : 
 
       written_outside : (v : Files) → v ≡ after u (Write path content) now → SameOutside (is_prefix path) t v
       written_outside v wrote = λ q e.
-          ap (λ p. bares p q) (ap places wrote ∙ at_after u (Write path content) now) ∙ ap (option_map bare) (on_at-else path q (with_content content now) (places u) (not_same path q e))
+          ap (λ p. bares p q) (ap places wrote ∙ at_after u (Write path content) now) ∙ ap (option_map bare) (on_at-else path q (with_content content now) (places u) (not_prefix_not_same path q e))
           ∙ outside_made first u (after_make file.what u is) q e
 
       -- after the step that makes the object
@@ -184,9 +176,6 @@ new_mode_bound (new.Device block major minor) mode h = h
 pub mode_again : (mode : ℕ) → mode_of (special_of mode) (part_of_mode mode) ≡ mode
 mode_again mode = omega arith
 
-special_small : (mode : ℕ) → mode ≤ 4095 → special_of mode ≤ 7
-special_small mode h = omega arith
-
 is_acl-of_mode : (mode : ℕ) → mode ≤ 4095 → is_acl (acl_of_mode mode) ≡ true
 is_acl-of_mode mode small = (IsObject-fresh Directory mode [] 0 0 0 (lit≤ tt) small refl refl (refl, refl) tt).acl
 
@@ -208,21 +197,21 @@ module _ (path : Path) (nonempty : path ≢ []) (now : ℕ) (t : Files) (file : 
   is_dress : IsDress (new_kind file.what) (new_dress file)
   is_dress = record {
     owner = is_new.owner;
-    special = special_small (new_mode file.what file.mode) (new_mode_bound file.what file.mode is_new.mode);
+    special = small_special (new_mode file.what file.mode) (new_mode_bound file.what file.mode is_new.mode);
     acl = is_acl-of_mode (new_mode file.what file.mode) (new_mode_bound file.what file.mode is_new.mode);
     fits = fits_new file.what file.mode;
     attrs = no_attrs (new_kind file.what);
     letters = no_letters (new_kind file.what);
   }
 
-  pub can_wear : CanWear u path (new_dress file)
+  pub can_wear : CanDress u path (new_dress file)
   can_wear = record { kind = new_kind file.what; there = ap kind_of there_held; dress = is_dress }
 
   mode_is : dress_mode (new_dress file) ≡ new_mode file.what file.mode
   mode_is = mode_again (new_mode file.what file.mode)
 
   -- the mode alone gives the ACL of the dress
-  acl_given : (wear_first 2 (new_dress file) plain).node.acl ≡ (new_dress file).acl
+  acl_given : (dressed_first 2 (new_dress file) plain).node.acl ≡ (new_dress file).acl
   acl_given = ap acl_of_mode mode_is
 
   pub gives_dress : (s : Step) → GivesDress path (new_dress file) u s → GivesNew path file s
@@ -233,20 +222,20 @@ module _ (path : Path) (nonempty : path ≢ []) (now : ℕ) (t : Files) (file : 
   gives_dress s (inr (inr (inr (inr e)))) = absurd (e.1 plain there_held refl)
 
   pub outside_dressed : SameOutside (is_prefix path) t u → (v : Files) → Dressing path (new_dress file) u v → SameOutside (is_prefix path) t v
-  outside_dressed before v h = λ q e. outside_dressing path (new_dress file) u v h q (not_same path q e) ∙ before q e
+  outside_dressed before v h = λ q e. outside_dressing path (new_dress file) u v h q (not_prefix_not_same path q e) ∙ before q e
 
-  dressed : (old o : Object) → old ≡ plain → IsChanged (wear (new_dress file)) now old o → o ≡ new_object file now
-  dressed old o e (inl h) = h.1 ∙ sym h.0 ∙ ap (wear (new_dress file)) e
-  dressed old o e (inr h) = h.1 ∙ ap (λ x. changed now (wear (new_dress file) x)) e
+  dressed_is : (old o : Object) → old ≡ plain → IsChanged (dressed (new_dress file)) now old o → o ≡ new_object file now
+  dressed_is old o e (inl h) = h.1 ∙ sym h.0 ∙ ap (dressed (new_dress file)) e
+  dressed_is old o e (inr h) = h.1 ∙ ap (λ x. changed now (dressed (new_dress file) x)) e
 
-  pub dress_gives : (v : Files) → ChangedAt (wear (new_dress file)) path now u v → places v ≡ made now path (new_object file now) (places t)
+  pub dress_gives : (v : Files) → ChangedAt (dressed (new_dress file)) path now u v → places v ≡ made now path (new_object file now) (places t)
   dress_gives v h =
       let old : Some h.old ≡ Some plain = sym h.there ∙ there_held in
       let there : h.old ≡ plain = same_Some h.old plain old in
-      let same : h.object ≡ new_object file now = dressed h.old h.object there h.is in
+      let same : h.object ≡ new_object file now = dressed_is h.old h.object there h.is in
       h.left ∙ (λ i. put_at path (Some (same i)) (is i)) ∙ (λ j q. put_at-made now path (places t) nonempty plain (new_object file now) q j)
 
-  pub dress_gives_on : (r : Result (Unit {0}) TreeFault) (v : Files) → OnOk r (ChangedAt (wear (new_dress file)) path now u v) → OnOk r (places v ≡ made now path (new_object file now) (places t))
+  pub dress_gives_on : (r : Result (Unit {0}) TreeFault) (v : Files) → OnOk r (ChangedAt (dressed (new_dress file)) path now u v) → OnOk r (places v ≡ made now path (new_object file now) (places t))
   dress_gives_on (Ok x) v h = dress_gives v h
   dress_gives_on (Err e) v h = tt
 

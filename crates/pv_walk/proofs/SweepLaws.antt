@@ -23,14 +23,9 @@ use Rattle.pv_walk.specs.Listing.{times, stands_below}
 use Rattle.pv_walk.proofs.CountLaws.{times-filter, times-keys, length-times, same_or_not}
 use Rattle.pv_walk.proofs.RemovalLaws.{unless}
 use Rattle.pv_walk.proofs.ListingLaws.{times-below, cond-zero}
+use Rattle.pv_steps.proofs.ObjectLaws.{is_some-same}
 
 -- ---- pruning composes
-
-bare_present : (a b : Option Object) → option_map bare a ≡ option_map bare b → is_some a ≡ is_some b
-bare_present None None e = refl
-bare_present None (Some y) e = cc
-bare_present (Some x) None e = cc
-bare_present (Some x) (Some y) e = refl
 
 module _ (inside : Path → Bool) (t u : Files) (p : Pruned inside t u) where
   -- what is still there was there
@@ -38,9 +33,9 @@ module _ (inside : Path → Bool) (t u : Files) (p : Pruned inside t u) where
   pruned_present q h = elim (cases_Bool (inside q)) [
     | inl e ↦ elim (p.within q e) [
       | inl gone ↦ absurd (let no : false ≡ true = sym (ap is_some gone) ∙ h in cc)
-      | inr same ↦ sym (bare_present (places u q) (places t q) same) ∙ h
+      | inr same ↦ sym (is_some-same (places u q) (places t q) same) ∙ h
     ]
-    | inr e ↦ sym (bare_present (places u q) (places t q) (p.outside q e)) ∙ h
+    | inr e ↦ sym (is_some-same (places u q) (places t q) (p.outside q e)) ∙ h
   ]
 
   -- and what is pruned again, within the same, is pruned

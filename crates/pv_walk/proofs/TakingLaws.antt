@@ -19,10 +19,11 @@ use Rattle.pv_dress.specs.Edits.{Pruned}
 use Rattle.pv_walk.specs.Removal.{is_below, is_one_of, loses_child, removal_at, without, MayHaveGone}
 use Rattle.pv_walk.specs.Listing.{times, children_of, stands_below, IsListing, AreRemovable}
 use Rattle.pv_walk.proofs.CountLaws.{times-self, same_or_not, is_child-push}
-use Rattle.pv_walk.proofs.RemovalLaws.{zero_or_more, cond-true, apart, no_same, none_of, unless, below_nonempty, all_gone, all_gone-none, all_gone-gone, all_gone-kept, all_gone-same, all_gone-touched, kept-kind, kept-present, kept-bare, IsKept}
+use Rattle.pv_walk.proofs.RemovalLaws.{zero_or_more, cond-true, no_same, unless, below_nonempty, all_gone, all_gone-none, all_gone-gone, all_gone-kept, all_gone-same, all_gone-touched, kept-kind, kept-present, kept-bare, IsKept}
 use Rattle.pv_walk.proofs.ListingLaws.{cond-one, cond-le, child_counts}
 use Rattle.pv_walk.proofs.Removing.{after_removal, removal_asks}
 use Rattle.pv_walk.proofs.SweepLaws.{pruned-none}
+use Rattle.pv_path.proofs.Tests.{true_not_false, none_of}
 
 -- ---- paths in a list
 
@@ -185,7 +186,7 @@ module _ (now : ℕ) (files : Files) (paths : List Path) (ok : AreRemovable file
           all_gone-touched now (places files) q paths (one_of-none paths q g) (q ++ child.0 ∷ []) (one_of-some paths (q ++ child.0 ∷ []) child.1) (parent_of-push q child.0)
       by false false g l =
           all_gone-same now (places files) q paths (one_of-none paths q g)
-          (λ r some. no_same (parent_of r) q (λ over. apart (loses_child (is_one_of paths) files q) (lost_child q r some over) l))
+          (λ r some. no_same (parent_of r) q (λ over. true_not_false (loses_child (is_one_of paths) files q) (lost_child q r some over) l))
 
   pub taken_without : all_gone now paths (places files) ≡ without (is_one_of paths) (modified now) files
   taken_without = λ i q. all_gone-without q i

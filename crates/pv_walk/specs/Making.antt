@@ -37,7 +37,7 @@ made_mode kind = 0o600
 abbrev pub held_object : NewKind → ℕ → Object
 held_object what now = fresh (new_kind what) (made_mode what) (new_payload what) (new_major what) (new_minor what) now
 
--- what it is to wear
+-- what it is to dressed
 abbrev pub new_dress : NewFile → Dress
 new_dress file = record {
   uid = file.uid;

@@ -1,9 +1,9 @@
--- The pieces of work of which a copy is made: each object is made with what it holds, and gets what it is to wear once all
+-- The pieces of work of which a copy is made: each object is made with what it holds, and gets its dress once all
 -- below it is there (mkdir(2), mknod(2), symlink(2), chown(2), chmod(2)).
 use Rattle.std.specs.Prelude.{◌≡◌, ◌≢◌, ◌⊎◌, ℕ, ◌+◌, true, false, List, [], ◌∷◌, ◌++◌, map, Option, Some, None, is_some, option_map, if◌then◌else◌}
 use Rattle.pv_dress.specs.declared.bare.Bare.{Bare}
 use Rattle.pv_dress.specs.declared.bare.Body.{Body}
-use Rattle.pv_dress.specs.Dressing.{IsDress, dress_mode, CanWear, ChangedAt, GivesDress, wear}
+use Rattle.pv_dress.specs.Dressing.{IsDress, dress_mode, CanDress, ChangedAt, GivesDress, dressed}
 use Rattle.pv_dress.specs.Nodes.{bare_of}
 use Rattle.pv_path.specs.Paths.{Path, same_path, parent_of}
 use Rattle.pv_steps.specs.declared.node.Kind.{Kind}
@@ -15,7 +15,7 @@ use Rattle.pv_walk.specs.declared.new_file.NewFile.{NewFile}
 use Rattle.pv_walk.specs.declared.new_file.NewKind.{NewKind}
 use Rattle.pv_walk.specs.declared.new_file.NewKind.TheVariants as new
 use Rattle.pv_walk.specs.declared.listing.Piece.{Piece}
-use Rattle.pv_walk.specs.declared.listing.Piece.TheVariants.{Make, Wear}
+use Rattle.pv_walk.specs.declared.listing.Piece.TheVariants.{Make, Give}
 use Rattle.pv_walk.specs.declared.listing.Task.{Task}
 use Rattle.pv_walk.specs.declared.listing.Task.TheVariants.{Open, Close}
 use Rattle.pv_walk.specs.Copying.{Subtree}
@@ -53,27 +53,27 @@ pub record IsWhole (b : Bare) : Type 0 where
 -- what a piece needs of a tree, below a path
 abbrev pub CanDo : Path → Piece → Files → Type 0
 CanDo stage (Make rest file) t = (stage ++ rest ≢ []) × (HasRoom (places t) (stage ++ rest) × IsNewFile file)
-CanDo stage (Wear rest dress) t = CanWear t (stage ++ rest) dress
+CanDo stage (Give rest dress) t = CanDress t (stage ++ rest) dress
 
 -- what it leaves
 abbrev pub IsDone : ℕ → Path → Piece → Files → Files → Type 0
 IsDone now stage (Make rest file) t u = places u ≡ made now (stage ++ rest) (held_object file.what now) (places t)
-IsDone now stage (Wear rest dress) t u = ChangedAt (wear dress) (stage ++ rest) now t u
+IsDone now stage (Give rest dress) t u = ChangedAt (dressed dress) (stage ++ rest) now t u
 
 -- where it works
 abbrev pub place_of : Piece → Path
 place_of (Make rest file) = rest
-place_of (Wear rest dress) = rest
+place_of (Give rest dress) = rest
 
 -- a step of it
 abbrev pub GivesPiece : Path → Piece → Files → Step → Type 0
 GivesPiece stage (Make rest file) t step = GivesNew (stage ++ rest) file step
-GivesPiece stage (Wear rest dress) t step = GivesDress (stage ++ rest) dress t step
+GivesPiece stage (Give rest dress) t step = GivesDress (stage ++ rest) dress t step
 
 -- at most how many steps it takes
 abbrev pub piece_cost : Piece → ℕ
 piece_cost (Make rest file) = 2
-piece_cost (Wear rest dress) = 5
+piece_cost (Give rest dress) = 5
 
 -- ---- lists of pieces, the last one first
 
@@ -85,7 +85,7 @@ cost_of (piece ∷ pieces) = cost_of pieces + piece_cost piece
 -- the objects that stand after a piece, where these stood before it
 abbrev pub after_piece : Piece → Subtree → Subtree
 after_piece (Make rest file) s q = if same_path rest q then Some (bare_of (held_object file.what 0)) else s q
-after_piece (Wear rest dress) s q = if same_path rest q then option_map (λ (b : Bare). record b { dress = dress }) (s q) else s q
+after_piece (Give rest dress) s q = if same_path rest q then option_map (λ (b : Bare). record b { dress = dress }) (s q) else s q
 
 -- the objects that stand after all of them
 abbrev pub built : List Piece → Subtree → Subtree
@@ -99,7 +99,7 @@ HasPlace s rest = (rest ≡ []) ⊎ ((is_some (s []) ≡ true) × (option_map (�
 -- a piece of a subtree that can be done where these objects stand
 abbrev pub IsDoable : Subtree → Subtree → Piece → Type 0
 IsDoable subtree s (Make rest file) = (b : Bare) × ((subtree rest ≡ Some b) × (IsWhole b × ((file ≡ file_of b) × ((s rest ≡ None) × HasPlace s rest))))
-IsDoable subtree s (Wear rest dress) = (b : Bare) × ((subtree rest ≡ Some b) × (IsWhole b × ((dress ≡ b.dress) × (s rest ≡ Some (plain b)))))
+IsDoable subtree s (Give rest dress) = (b : Bare) × ((subtree rest ≡ Some b) × (IsWhole b × ((dress ≡ b.dress) × (s rest ≡ Some (plain b)))))
 
 -- so each of them
 abbrev pub AreDoable : Subtree → Subtree → List Piece → Type 0
@@ -123,7 +123,7 @@ names_at source t rest = names_below t (source ++ rest)
 -- the last piece of an object, and what comes before it: the first one, and the children
 abbrev pub last_piece : Path → Option Bare → List Piece
 last_piece rest None = []
-last_piece rest (Some b) = Wear rest b.dress ∷ []
+last_piece rest (Some b) = Give rest b.dress ∷ []
 
 abbrev pub tasks_before : Path → List (List ℕ) → Option Bare → List Task
 tasks_before rest names None = []

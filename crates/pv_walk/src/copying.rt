@@ -122,7 +122,7 @@ fn put_piece<T: Tree>(
 {
     match piece {
         Piece::Make(rest, file) => put_held(tree, &stage.followed_by(rest.names())?, file, now),
-        Piece::Wear(rest, new) => dress(tree, &stage.followed_by(rest.names())?, new, now),
+        Piece::Give(rest, new) => dress(tree, &stage.followed_by(rest.names())?, new, now),
     }
 }
 

@@ -5,7 +5,7 @@ ghost use Rattle.pv_steps.specs.Trees.{places, node_at, payload_at, IsTree};
 ghost use Rattle.pv_walk.specs.Copying.{copy_from, copied_count, topped, IsTopNode};
 ghost use Rattle.pv_walk.specs.Pieces.{IsPlan, made_of, cost_of, file_of, what_of, names_at, pieces_now, tasks_left};
 ghost use Rattle.pv_walk.specs.Staging.{most_staged};
-ghost use Rattle.pv_walk.specs.declared.listing.Piece.TheVariants.{Make, Wear};
+ghost use Rattle.pv_walk.specs.declared.listing.Piece.TheVariants.{Make, Give};
 ghost use Rattle.pv_walk.specs.declared.listing.Task.TheVariants.{Open, Close};
 
 use crate::copying::TopNode;
@@ -20,8 +20,8 @@ use std::alloc::{AllocError, Global};
 pub(crate) enum Piece {
     /// The object is made, with what it holds.
     Make(TreePath, NewFile),
-    /// It gets what it is to wear.
-    Wear(TreePath, Dress),
+    /// It gets its dress.
+    Give(TreePath, Dress),
 }
 
 /// What is still to be listed.
@@ -34,7 +34,7 @@ enum Task {
 }
 
 /// The pieces of work of a copy, the last one first: each object is made before its children, which come in byte order,
-/// each with all below it; then it gets what it is to wear.
+/// each with all below it; then it gets its dress.
 pub(crate) fn pieces_of<T: Tree>(
     alloc: Global,
     tree: &T,
@@ -121,13 +121,13 @@ fn add_object(
     ensures left { OnOk result (work.new.items
         ≡ work.old.items ++ Close (Make rest.now (file_of object)) ∷ []) }
     ensures listed { OnOk result (pieces.new.items
-        ≡ pieces.old.items ++ Wear rest.now object.dress ∷ []) }
+        ≡ pieces.old.items ++ Give rest.now object.dress ∷ []) }
 {
     let first = rest.copy()?;
     let last = rest.copy()?;
     let file = file_of(object.body, &object.dress);
     work.push(Task::Close(Piece::Make(first, file)))?;
-    pieces.push(Piece::Wear(last, object.dress))?;
+    pieces.push(Piece::Give(last, object.dress))?;
     Ok(())
 }
 

@@ -92,7 +92,7 @@ pub fn new_bare(alloc: Global, new: &NewFile) -> Result<Bare, AllocError>
     })
 }
 
-/// What a new object is to wear: no more than its mode gives, no extended attributes and no letters.
+/// The dress of a new object: no more than its mode gives, no extended attributes and no letters.
 pub(crate) fn dress_of(alloc: Global, new: &NewFile) -> Dress
     ensures { result ≡ new_dress new.now }
 {

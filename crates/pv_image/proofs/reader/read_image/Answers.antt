@@ -2,8 +2,8 @@ use Rattle.std.proofs.lemmas.Result.{IfErr-at_err, IfErr-weaker}
 use Rattle.std.proofs.Common.{refl, ◌≡◌, ◌≢◌}
 use Rattle.pv_image.specs.Images.{Before, HasImageFault}
 use Rattle.pv_image.specs.Progress.{Fails}
-use Rattle.pv_image.specs.declared.fault.ImageFault.{ImageFault}
-use Rattle.pv_image.specs.declared.fault.ImageFault.TheVariants as fault
+use Rattle.pv_image.specs.declared.image_fault.ImageFault.{ImageFault}
+use Rattle.pv_image.specs.declared.image_fault.ImageFault.TheVariants as fault
 use Rattle.pv_image.proofs.ImageLaws.{answered_fault, refused_image}
 use Rattle.pv_image.proofs.Stages.{has_fails, never_long}
 use Rattle.pv_image.proofs.reader.read_image.Goals as goal

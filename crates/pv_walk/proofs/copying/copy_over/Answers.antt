@@ -11,9 +11,9 @@ use Rattle.pv_walk.specs.Copying.{copy_from, copied_count, topped}
 use Rattle.pv_walk.specs.Staging.{most_new}
 use Rattle.pv_walk.proofs.CopiedLaws.{top_present}
 use Rattle.pv_walk.proofs.CopyingLaws.{copy_moved, copy_staged, copy_staging, copy_acted, copied_some}
-use Rattle.pv_walk.proofs.Outcomes.{on_ok}
 use Rattle.pv_walk.proofs.PublishLaws.{staging_nonempty}
 use Rattle.pv_walk.proofs.copying.copy_over.Goals as goal
+use Rattle.pv_path.proofs.Tests.{on_ok}
 
 pub publish-requires-clause-staged : goal.publish-requires-clause-staged
 publish-requires-clause-staged g c =

@@ -10,10 +10,10 @@ use Rattle.pv_walk.specs.Pieces.{made_of}
 use Rattle.pv_walk.specs.Staging.{most_staged}
 use Rattle.pv_walk.proofs.CopiedLaws.{top_present}
 use Rattle.pv_walk.proofs.CopyingLaws.{staged_acted}
-use Rattle.pv_walk.proofs.Outcomes.{on_ok}
 use Rattle.pv_walk.proofs.PuttingLaws.{none_under}
 use Rattle.pv_walk.proofs.StageLaws.{short_last}
 use Rattle.pv_walk.proofs.copying.stage_copy.Goals as goal
+use Rattle.pv_path.proofs.Tests.{on_ok}
 
 pub staging-requires-clause-short : goal.staging-requires-clause-short
 staging-requires-clause-short g c = λ n e. short_last c.args.path.now n c.requires.short e

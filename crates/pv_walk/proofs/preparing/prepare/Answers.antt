@@ -4,8 +4,8 @@ use Rattle.pv_steps.proofs.ActingLaws.{Moves, acted_within, acted_passed}
 use Rattle.pv_walk.specs.Staging.{staging_names, count_at_all, most_new}
 use Rattle.pv_walk.specs.Preparing.{parent_count}
 use Rattle.pv_walk.proofs.PreparingSweep.{swept_here, swept_along, swept_same, swept_acted, prepared_acted, same_pass, same_parent_count}
-use Rattle.pv_walk.proofs.Outcomes.{on_ok}
 use Rattle.pv_walk.proofs.preparing.prepare.Goals as goal
+use Rattle.pv_path.proofs.Tests.{on_ok}
 
 pub sweep-requires : goal.sweep-requires
 sweep-requires g c = c.requires.short

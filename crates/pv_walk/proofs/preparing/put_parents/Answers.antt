@@ -10,8 +10,9 @@ use Rattle.pv_steps.proofs.ActingLaws.{Moves, well, no_memory, acted_within, act
 use Rattle.pv_walk.specs.Staging.{can_stage, most_new}
 use Rattle.pv_walk.specs.Putting.{Putting, IsPutStep}
 use Rattle.pv_walk.specs.Preparing.{with_parent, parent_file, parent_count, IsAbove, Preparing, IsPrepareStep}
-use Rattle.pv_walk.proofs.PreparingLaws.{short_take, plain_take, prefix_take, nonempty_take, above_take, next_parent, parented_next, parented_end, room_next, absent_parents, absent_parents-le, parent_acted, Parented}
+use Rattle.pv_walk.proofs.PreparingLaws.{short_take, nonempty_take, above_take, next_parent, parented_next, parented_end, room_next, absent_parents, absent_parents-le, parent_acted, Parented}
 use Rattle.pv_walk.proofs.preparing.put_parents.Goals as goal
+use Rattle.pv_path.proofs.PathLaws.{is_prefix-take, has_staging-take}
 
 pub put_parent-requires-clause-short : goal.put_parent-requires-clause-short
 put_parent-requires-clause-short g c =
@@ -21,7 +22,7 @@ put_parent-requires-clause-short g c =
 pub put_parent-requires-clause-unstaged : goal.put_parent-requires-clause-unstaged
 put_parent-requires-clause-unstaged g c =
     let next = next_parent c.args.path.now c.loop-name.place c.push.new.self (take c.saturating_sub.result c.names-names.result.now) c.loop-name.name-index c.in_ok-copy.field-0 c.name-item.result c.loop-name.invariant.items c.loop-name.invariant.place c.in_ok-copy.ensures c.name-item.is c.loop-name-test.true c.in_ok-push.ensures.ok in
-    ap has_staging next.1 ∙ plain_take (c.loop-name.name-index + 1) c.args.path.now c.requires.unstaged
+    ap has_staging next.1 ∙ has_staging-take (c.loop-name.name-index + 1) c.args.path.now c.requires.unstaged
 
 pub put_parent-requires-clause-free : goal.put_parent-requires-clause-free
 put_parent-requires-clause-free g c =
@@ -30,7 +31,7 @@ put_parent-requires-clause-free g c =
     let next = next_parent path c.loop-name.place c.push.new.self (take c.saturating_sub.result c.names-names.result.now) i c.in_ok-copy.field-0 c.name-item.result c.loop-name.invariant.items c.loop-name.invariant.place c.in_ok-copy.ensures c.name-item.is c.loop-name-test.true c.in_ok-push.ensures.ok in
     let lt : i + 1 < length path = next.0 in
     subst (λ (p : Path). IsAbsentIn (places (g.T.Tree.state c.loop-name.tree)) (staging_of p)) (sym next.1)
-    (c.loop-name.invariant.parented.swept (take (i + 1) path) (nonempty_take (i + 1) path (omega arith) (omega arith)) (prefix_take (i + 1) path))
+    (c.loop-name.invariant.parented.swept (take (i + 1) path) (nonempty_take (i + 1) path (omega arith) (omega arith)) (is_prefix-take (i + 1) path))
 
 pub returns-clause-ok : goal.returns-clause-ok
 returns-clause-ok g c =
@@ -49,7 +50,7 @@ parent_more tree moves path p i lt is plain {now = now} {a = a} {b = b} before s
     let room = room_next now path plain t i lt (tree.state b) before in
     let here : ◌≡◌ {A = ℕ} (cond (is_some (places (tree.state b) p)) 0 8) (cond (is_some (places (tree.state b) (take (i + 1) path))) 0 8) = ap (λ (q : Path). cond {A = ℕ} (is_some (places (tree.state b) q)) 0 8) is in
     acted_within tree (most_new * absent_parents path t i + (if is_some (places (tree.state b) p) then 0 else most_new)) (most_new * absent_parents path t (i + 1)) (omega (arith, room, here))
-    (parent_acted path p (subst (λ (q : Path). IsAbove q path) (sym is) (above_take (i + 1) path lt)) tree moves (ap has_staging is ∙ plain_take (i + 1) path plain) (no_steps (places (tree.state b) p)) so_far last)
+    (parent_acted path p (subst (λ (q : Path). IsAbove q path) (sym is) (above_take (i + 1) path lt)) tree moves (ap has_staging is ∙ has_staging-take (i + 1) path plain) (no_steps (places (tree.state b) p)) so_far last)
   where
     -- where something stands no step is done
     no_steps : (o : Option Object) → (o ≡ None) ⊎ ((if is_some o then 0 else most_new) ≡ 0)

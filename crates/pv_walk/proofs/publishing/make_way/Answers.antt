@@ -6,9 +6,9 @@ use Rattle.pv_steps.specs.Steps.{Yields, moved}
 use Rattle.pv_dress.specs.Edits.{taken, emptied, count_at}
 use Rattle.pv_walk.proofs.PublishLaws.{IsCleared, cleared-emptied, cleared-taken, moved_same, stage_same, yields_emptied, yields_taken}
 use Rattle.pv_walk.proofs.SweepLaws.{count_below-le}
-use Rattle.pv_walk.proofs.Outcomes.{on_ok}
 use Rattle.pv_walk.proofs.Removing.{widened}
 use Rattle.pv_walk.proofs.publishing.make_way.Goals as goal
+use Rattle.pv_path.proofs.Tests.{on_ok}
 
 module _ (now : ℕ) (path stage : Path) (is : stage ≡ staging_of path) (nonempty : path ≢ []) (t u : Files) where
   cleared_staged : IsCleared now path (places t) (places u) → IsPresent t stage → IsPresent u stage

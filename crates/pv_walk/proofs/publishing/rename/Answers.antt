@@ -8,8 +8,8 @@ use Rattle.pv_steps.proofs.ActingLaws.{acted_tried}
 use Rattle.pv_walk.specs.Staging.{IsPublishing}
 use Rattle.pv_walk.specs.Removal.{MayHaveMoved}
 use Rattle.pv_walk.proofs.PublishLaws.{moved_differs}
-use Rattle.pv_walk.proofs.Outcomes.{on_ok}
 use Rattle.pv_walk.proofs.publishing.rename.Goals as goal
+use Rattle.pv_path.proofs.Tests.{on_ok}
 
 pub returns-clause-moved : goal.returns-clause-moved
 returns-clause-moved g c =

@@ -5,9 +5,9 @@ use Rattle.pv_steps.proofs.ActingLaws.{acted_weaken}
 use Rattle.pv_dress.specs.Edits.{count_at}
 use Rattle.pv_walk.specs.Putting.{Putting, PuttingOver, IsPutStep}
 use Rattle.pv_walk.specs.Staging.{new_object, most_new}
-use Rattle.pv_walk.proofs.Outcomes.{on_ok}
 use Rattle.pv_walk.proofs.PuttingOverLaws.{cut_absent, count_absent, over_putting}
 use Rattle.pv_walk.proofs.put.put_new.Goals as goal
+use Rattle.pv_path.proofs.Tests.{on_ok}
 
 pub returns-clause-ok : goal.returns-clause-ok
 returns-clause-ok g c =

@@ -4,8 +4,8 @@ use Rattle.pv_dress.specs.Edits.{count_at}
 use Rattle.pv_walk.specs.Staging.{most_staged, most_new}
 use Rattle.pv_walk.proofs.PuttingLaws.{is_staged}
 use Rattle.pv_walk.proofs.PuttingOverLaws.{over_moved, count_over, over_staged, over_acted}
-use Rattle.pv_walk.proofs.Outcomes.{on_ok}
 use Rattle.pv_walk.proofs.put.put_over.Goals as goal
+use Rattle.pv_path.proofs.Tests.{on_ok}
 
 pub publish-requires-clause-staged : goal.publish-requires-clause-staged
 publish-requires-clause-staged g c = is_staged c.args.now c.args.path.now c.requires.not_root c.args.new.now (g.T.Tree.state c.args.tree.now) (g.T.Tree.state c.stage_file.new.tree) c.in_ok-stage_file.ensures.ok

@@ -6,9 +6,9 @@ use Rattle.pv_steps.specs.Steps.{Can}
 use Rattle.pv_steps.specs.Content.{Removes}
 use Rattle.pv_steps.proofs.ActingLaws.{acted_tried}
 use Rattle.pv_walk.specs.Removal.{removal_at, MayHaveGone}
-use Rattle.pv_walk.proofs.Outcomes.{on_ok}
 use Rattle.pv_walk.proofs.Removing.{after_removal, removal_asks}
 use Rattle.pv_walk.proofs.remove.remove.Goals as goal
+use Rattle.pv_path.proofs.Tests.{on_ok}
 
 pub try_step-requires : goal.try_step-requires
 try_step-requires g c =

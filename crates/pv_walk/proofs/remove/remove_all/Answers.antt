@@ -12,10 +12,10 @@ use Rattle.pv_steps.proofs.ActingLaws.{Moves, acted_none, no_memory}
 use Rattle.pv_steps.proofs.TryingLaws.{acted_all, ask_can, tried_whole}
 use Rattle.pv_dress.specs.Edits.{Pruned}
 use Rattle.pv_walk.specs.Removal.{is_one_of, removal_at}
-use Rattle.pv_walk.proofs.Outcomes.{on_ok}
 use Rattle.pv_walk.proofs.SweepLaws.{pruned-none}
 use Rattle.pv_walk.proofs.TakingLaws.{all_without, removals_ask, steps_of}
 use Rattle.pv_walk.proofs.remove.remove_all.Goals as goal
+use Rattle.pv_path.proofs.Tests.{on_ok}
 
 pub try_all-requires : goal.try_all-requires
 try_all-requires g c =

@@ -8,8 +8,8 @@ use Rattle.pv_walk.proofs.ListingLaws.{listing_count}
 use Rattle.pv_walk.proofs.EmptyingLaws.{all_gone-emptied}
 use Rattle.pv_walk.proofs.SweepLaws.{pruned-wider}
 use Rattle.pv_walk.proofs.TakingLaws.{taken_without, listed_removable, listed_below}
-use Rattle.pv_walk.proofs.Outcomes.{on_ok}
 use Rattle.pv_walk.proofs.remove.remove_below.Goals as goal
+use Rattle.pv_path.proofs.Tests.{on_ok}
 
 pub remove_all-requires : goal.remove_all-requires
 remove_all-requires g c = listed_removable (g.T.Tree.state c.args.tree.now) c.args.path.now c.in_ok-paths.paths.items c.in_ok-paths.ensures.all

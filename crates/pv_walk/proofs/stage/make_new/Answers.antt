@@ -1,20 +1,20 @@
 use Rattle.std.proofs.Common.{OnOk, sym, subst, arith}
 use Rattle.pv_steps.proofs.ActingLaws.{Moves, acted_within, acted_passed}
-use Rattle.pv_dress.specs.Dressing.{CanWear, ChangedAt, wear}
+use Rattle.pv_dress.specs.Dressing.{CanDress, ChangedAt, dressed}
 use Rattle.pv_walk.specs.Staging.{most_staged}
 use Rattle.pv_walk.proofs.StageLaws.{can_wear, dress_acted, dress_gives_on}
 use Rattle.pv_walk.proofs.stage.make_new.Goals as goal
 
 pub dress-requires : goal.dress-requires
 dress-requires g c =
-    subst (CanWear (g.T.Tree.state c.put_held.new.tree) c.args.path.now) (sym c.dress_of.ensures)
+    subst (CanDress (g.T.Tree.state c.put_held.new.tree) c.args.path.now) (sym c.dress_of.ensures)
     (can_wear c.args.path.now c.requires.not_root c.args.now (g.T.Tree.state c.args.tree.now) c.args.new.now c.requires.new (g.T.Tree.state c.put_held.new.tree) c.in_ok-put_held.ensures.ok)
 
 pub returns-clause-ok : goal.returns-clause-ok
 returns-clause-ok g c =
     dress_gives_on c.args.path.now c.requires.not_root c.args.now (g.T.Tree.state c.args.tree.now) c.args.new.now c.requires.new (g.T.Tree.state c.put_held.new.tree) c.in_ok-put_held.ensures.ok
     c.dress.result (g.T.Tree.state c.dress.new.tree)
-    (subst (λ d. OnOk c.dress.result (ChangedAt (wear d) c.args.path.now c.args.now (g.T.Tree.state c.put_held.new.tree) (g.T.Tree.state c.dress.new.tree))) c.dress_of.ensures c.dress.ensures.ok)
+    (subst (λ d. OnOk c.dress.result (ChangedAt (dressed d) c.args.path.now c.args.now (g.T.Tree.state c.put_held.new.tree) (g.T.Tree.state c.dress.new.tree))) c.dress_of.ensures c.dress.ensures.ok)
 
 pub returns-in_err-put_held-clause-acted : goal.returns-in_err-put_held-clause-acted
 returns-in_err-put_held-clause-acted g c =

@@ -9,9 +9,9 @@ use Rattle.pv_walk.specs.Removal.{count_below}
 use Rattle.pv_walk.proofs.RemovalLaws.{not_below_itself, is_below-append, kept-present}
 use Rattle.pv_walk.proofs.EmptyingLaws.{emptied-below, emptied-kept, gone-emptied}
 use Rattle.pv_walk.proofs.SweepLaws.{count_below-le, count_below-lt}
-use Rattle.pv_walk.proofs.Outcomes.{on_ok}
 use Rattle.pv_walk.proofs.Removing.{widened, remove_then}
 use Rattle.pv_walk.proofs.sweeping.take_away.Goals as goal
+use Rattle.pv_path.proofs.Tests.{on_ok}
 
 still_there : (now : ℕ) (t u : Files) (path : Path) → IsTree t → places u ≡ emptied now path t → is_some (places t path) ≡ true → IsPresent u path
 still_there now t u path tree is present =

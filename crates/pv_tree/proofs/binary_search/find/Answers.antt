@@ -3,8 +3,8 @@ use Rattle.std.specs.Result.{result_ok}
 use Rattle.std.specs.Ordering.{is_eq}
 use Rattle.std.specs.declared.cmp.Ordering.{Ordering}
 use Rattle.pv_tree.specs.Finding.{IsFoundAt, IsGapAt}
-use Rattle.pv_tree.proofs.Halving.{position_found, position_none}
-use Rattle.pv_tree.proofs.probe.find.Goals as goal
+use Rattle.pv_tree.proofs.BinarySearch.{position_found, position_none}
+use Rattle.pv_tree.proofs.binary_search.find.Goals as goal
 
 as_position : (orders : List Ordering) (r : Result ℕ ℕ) → MatchResult r (IsFoundAt orders) (IsGapAt orders) → result_ok r ≡ position is_eq orders
 as_position orders (Ok i) h = sym (position_found orders i h)

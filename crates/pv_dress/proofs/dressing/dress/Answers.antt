@@ -1,7 +1,7 @@
 use Rattle.std.proofs.Common.{arith}
 use Rattle.pv_steps.proofs.ActingLaws.{Moves, acted_within, acted_passed}
-use Rattle.pv_dress.proofs.WearLaws.{attrs_dresses, letters_dresses, four_changed, dressed_on}
-use Rattle.pv_dress.proofs.wear.dress.Goals as goal
+use Rattle.pv_dress.proofs.ChangingLaws.{attrs_dresses, letters_dresses, four_changed, dressed_on}
+use Rattle.pv_dress.proofs.dressing.dress.Goals as goal
 
 pub returns-in_err-give_attrs-clause-acted : goal.returns-in_err-give_attrs-clause-acted
 returns-in_err-give_attrs-clause-acted g c =

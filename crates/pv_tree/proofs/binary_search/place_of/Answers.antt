@@ -1,7 +1,7 @@
 use Rattle.std.proofs.Common.{◌≡◌, ◌+◌, ◌-◌, ◌/◌, Some, slice_get, arith, ap, sym, ◌∙◌}
 use Rattle.std.specs.declared.cmp.Ordering.TheVariants.{Less, Equal, Greater}
-use Rattle.pv_tree.proofs.Halving.{stands, halved, found, missed}
-use Rattle.pv_tree.proofs.probe.place_of.Goals as goal
+use Rattle.pv_tree.proofs.BinarySearch.{stands, halved, found, missed}
+use Rattle.pv_tree.proofs.binary_search.place_of.Goals as goal
 
 pub loop-low-preserved-in-Less : goal.loop-low-preserved-in-Less
 loop-low-preserved-in-Less g c =

@@ -1,4 +1,4 @@
-//! Looking for a place in a list in order by halving.
+//! Looking for a place in a list in order by binary search.
 ghost use Rattle.std.specs.Prelude.{◌≡◌, ℕ, ◌+◌, ◌^◌, ◌<◌, ◌≤◌, List, length, Some, position, slice_get, MatchResult};
 ghost use Rattle.std.specs.Ordering.{is_eq};
 ghost use Rattle.std.specs.declared.cmp.Ordering.{Ordering as Order};

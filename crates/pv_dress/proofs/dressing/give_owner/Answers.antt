@@ -1,10 +1,10 @@
 use Rattle.std.proofs.Common.{◌≡◌, true}
 use Rattle.pv_steps.specs.declared.step.Step.TheVariants.{SetOwner}
 use Rattle.pv_steps.proofs.ActingLaws.{acted_tried}
-use Rattle.pv_dress.specs.Dressing.{wear_owner}
-use Rattle.pv_dress.specs.Wearing.{Changing}
-use Rattle.pv_dress.proofs.WearLaws.{owner_none, owner_asks, owner_ok}
-use Rattle.pv_dress.proofs.wear.give_owner.Goals as goal
+use Rattle.pv_dress.specs.Dressing.{dressed_owner}
+use Rattle.pv_dress.specs.Changing.{Changing}
+use Rattle.pv_dress.proofs.ChangingLaws.{owner_none, owner_asks, owner_ok}
+use Rattle.pv_dress.proofs.dressing.give_owner.Goals as goal
 
 pub returns-then-has_owner-clause-ok : goal.returns-then-has_owner-clause-ok
 returns-then-has_owner-clause-ok g c =
@@ -15,7 +15,7 @@ returns-clause-acted g c =
     let path = c.args.path.now in
     let new = c.args.new.now in
     let t = g.T.Tree.state c.args.tree.now in
-    acted_tried g.T.Tree (Changing path (wear_owner new) t) (λ step. step ≡ SetOwner path new.uid new.gid) (SetOwner path new.uid new.gid) c.args.now
+    acted_tried g.T.Tree (Changing path (dressed_owner new) t) (λ step. step ≡ SetOwner path new.uid new.gid) (SetOwner path new.uid new.gid) c.args.now
     c.args.tree.now c.try_step.new.tree c.try_step.result (rw c.in_ok-copy.ensures at c.try_step.ensures)
     (owner_asks path new t c.requires c.node_of.result.now c.node_of.ensures.node c.args.now (λ h. let yes : c.has_owner.result ≡ true = c.has_owner.ensures.1 h in cc))
 

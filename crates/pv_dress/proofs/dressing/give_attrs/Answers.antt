@@ -2,15 +2,15 @@ use Rattle.std.proofs.Common.{◌≡◌, true, refl}
 use Rattle.pv_steps.specs.declared.node.Node.{Node}
 use Rattle.pv_steps.specs.declared.step.Step.TheVariants.{SetAttrs}
 use Rattle.pv_steps.proofs.ActingLaws.{acted_tried}
-use Rattle.pv_dress.specs.Dressing.{wear_attrs}
-use Rattle.pv_dress.specs.Wearing.{Changing, GivesAttrs}
-use Rattle.pv_dress.proofs.WearLaws.{part_none, part_asks, part_ok, can_attrs, wears_attrs, attrs_worn}
-use Rattle.pv_dress.proofs.wear.give_attrs.Goals as goal
+use Rattle.pv_dress.specs.Dressing.{dressed_attrs}
+use Rattle.pv_dress.specs.Changing.{Changing, GivesAttrs}
+use Rattle.pv_dress.proofs.ChangingLaws.{part_none, part_asks, part_ok, can_attrs, dresses_attrs, attrs_worn}
+use Rattle.pv_dress.proofs.dressing.give_attrs.Goals as goal
 
 pub returns-then-is_same-clause-ok : goal.returns-then-is_same-clause-ok
 returns-then-is_same-clause-ok g c =
     part_none c.args.path.now c.args.new.now (g.T.Tree.state c.args.tree.now) c.requires c.node_of.result.now c.node_of.ensures.node
-    (λ (n : Node). n.attrs) c.args.new.now.attrs (wear_attrs c.args.new.now) (λ o. refl) (wears_attrs c.args.new.now) (attrs_worn c.args.new.now) (SetAttrs c.args.path.now c.args.new.now.attrs) (λ now. refl) (λ now d. d) c.args.now (c.is_same.ensures.0 c.if-is_same.true)
+    (λ (n : Node). n.attrs) c.args.new.now.attrs (dressed_attrs c.args.new.now) (λ o. refl) (dresses_attrs c.args.new.now) (attrs_worn c.args.new.now) (SetAttrs c.args.path.now c.args.new.now.attrs) (λ now. refl) (λ now d. d) c.args.now (c.is_same.ensures.0 c.if-is_same.true)
 
 pub try_step-requires : goal.try_step-requires
 try_step-requires g c =
@@ -22,10 +22,10 @@ returns-clause-acted g c =
     let path = c.args.path.now in
     let new = c.args.new.now in
     let t = g.T.Tree.state c.args.tree.now in
-    acted_tried g.T.Tree (Changing path (wear_attrs new) t) (GivesAttrs path new t) (SetAttrs path new.attrs) c.args.now
+    acted_tried g.T.Tree (Changing path (dressed_attrs new) t) (GivesAttrs path new t) (SetAttrs path new.attrs) c.args.now
     c.args.tree.now c.try_step.new.tree c.try_step.result (rw (c.in_ok-copy.ensures, c.in_ok-copy-2.ensures) at c.try_step.ensures)
     (part_asks c.args.path.now c.args.new.now (g.T.Tree.state c.args.tree.now) c.requires c.node_of.result.now c.node_of.ensures.node
-    (λ (n : Node). n.attrs) c.args.new.now.attrs (wear_attrs c.args.new.now) (λ o. refl) (wears_attrs c.args.new.now) (attrs_worn c.args.new.now) (SetAttrs c.args.path.now c.args.new.now.attrs) (λ now. refl) (λ now d. d) c.args.now
+    (λ (n : Node). n.attrs) c.args.new.now.attrs (dressed_attrs c.args.new.now) (λ o. refl) (dresses_attrs c.args.new.now) (attrs_worn c.args.new.now) (SetAttrs c.args.path.now c.args.new.now.attrs) (λ now. refl) (λ now d. d) c.args.now
     (λ h. let yes : c.is_same.result ≡ true = c.is_same.ensures.1 h in cc)
     (can_attrs c.args.path.now c.args.new.now (g.T.Tree.state c.args.tree.now) c.requires c.node_of.result.now c.node_of.ensures.node c.node_of.ensures.tree
     (λ h. let yes : c.is_same.result ≡ true = c.is_same.ensures.1 h in cc)))
@@ -33,6 +33,6 @@ returns-clause-acted g c =
 pub returns-clause-ok : goal.returns-clause-ok
 returns-clause-ok g c =
     part_ok c.args.path.now c.args.new.now (g.T.Tree.state c.args.tree.now) c.requires c.node_of.result.now c.node_of.ensures.node
-    (λ (n : Node). n.attrs) c.args.new.now.attrs (wear_attrs c.args.new.now) (λ o. refl) (wears_attrs c.args.new.now) (attrs_worn c.args.new.now) (SetAttrs c.args.path.now c.args.new.now.attrs) (λ now. refl) (λ now d. d) c.args.now
+    (λ (n : Node). n.attrs) c.args.new.now.attrs (dressed_attrs c.args.new.now) (λ o. refl) (dresses_attrs c.args.new.now) (attrs_worn c.args.new.now) (SetAttrs c.args.path.now c.args.new.now.attrs) (λ now. refl) (λ now d. d) c.args.now
     (λ h. let yes : c.is_same.result ≡ true = c.is_same.ensures.1 h in cc)
     c.try_step.result (g.T.Tree.state c.try_step.new.tree) (rw (c.in_ok-copy.ensures, c.in_ok-copy-2.ensures) at c.try_step.ensures.state)

@@ -1,7 +1,6 @@
 -- Laws of the changes that a dress makes.
 use Rattle.std.specs.Prelude.{◌≡◌, ◌≢◌, ℕ, ◌/◌, ◌%◌, ◌≤◌, true, false, cond, ◌&&◌, Option, Some, None, is_some, option_map, Result, Ok, Err, OnOk, [], ◌⊎◌}
 use Rattle.std.proofs.Common.{refl, sym, ap, subst, ◌∙◌, inl, inr, arith}
-use Rattle.std.proofs.lemmas.Bool.Decides.{nat_tests}
 use Rattle.std.proofs.lemmas.Bool.{and_parts}
 use Rattle.std.proofs.lemmas.Option.{same_Some}
 use Rattle.pv_path.specs.Paths.{Path, same_path}
@@ -28,8 +27,9 @@ use Rattle.pv_steps.proofs.StepLaws.{at_after}
 use Rattle.pv_steps.specs.Same.{bares, Differ}
 use Rattle.pv_dress.specs.declared.bare.Dress.{Dress}
 use Rattle.pv_dress.proofs.EditLaws.{put_at-here, put_at-same, put_at-twice, on_at-here, on_at-put, on_at-twice, bares-on_at, bares-on_both, bares-stamped}
-use Rattle.pv_dress.specs.Dressing.{IsDress, CanWear, dress_mode, wear, wear_owner, wear_mode, wear_acl, wear_attrs, wear_letters, Lacks, Dressing, GivesDress, IsChanged, IsKeptBy, ChangedAt}
-use Rattle.pv_dress.specs.Wearing.{HasOwner, HasMode, Changing, Gives, GivesAcl, GivesAttrs, GivesLetters, wear_access}
+use Rattle.pv_dress.specs.Dressing.{IsDress, CanDress, dress_mode, dressed, dressed_owner, dressed_mode, dressed_acl, dressed_attrs, dressed_letters, Lacks, Dressing, GivesDress, IsChanged, IsKeptBy, ChangedAt}
+use Rattle.pv_dress.specs.Changing.{HasOwner, HasMode, Changing, Gives, GivesAcl, GivesAttrs, GivesLetters, dressed_access}
+use Rattle.pv_acl.proofs.Allowed.{perm_fits}
 
 -- ---- objects
 
@@ -130,9 +130,6 @@ module _ (path : Path) (f c : Object → Object) (past : (o : Object) → bare (
 
 -- ---- the three changes
 
-le_seven : (n : ℕ) → is_perm n ≡ true → n ≤ 7
-le_seven n h = grind (arith, nat_tests)
-
 record Digits (m special : ℕ) (part : Part) : Type 0 where
   owner : m / 64 % 8 ≡ part.owner
   group : m / 8 % 8 ≡ part.group
@@ -144,15 +141,15 @@ digits : (special : ℕ) (part : Part) → is_part part ≡ true → Digits (mod
 digits special part h =
     let bases = (and_parts _ _ (and_parts _ _ (and_parts _ _ h).0).0).0 in
     let first = (and_parts (is_perm part.owner && is_perm part.group) (is_perm part.other) bases) in
-    let o = le_seven part.owner (and_parts (is_perm part.owner) (is_perm part.group) first.0).0 in
-    let g = le_seven part.group (and_parts (is_perm part.owner) (is_perm part.group) first.0).1 in
-    let a = le_seven part.other first.1 in
+    let o = perm_fits part.owner (and_parts (is_perm part.owner) (is_perm part.group) first.0).0 in
+    let g = perm_fits part.group (and_parts (is_perm part.owner) (is_perm part.group) first.0).1 in
+    let a = perm_fits part.other first.1 in
     record { owner = omega arith; group = omega arith; other = omega arith; bits = omega arith; bound = λ s. omega arith }
 
-pub wears_owner : (new : Dress) (o : Object) → HasOwner new o.node → wear_owner new o ≡ o
-wears_owner new o h = λ i. record o { node = record o.node { uid = sym h.uid i; gid = sym h.gid i } }
+pub dresses_owner : (new : Dress) (o : Object) → HasOwner new o.node → dressed_owner new o ≡ o
+dresses_owner new o h = λ i. record o { node = record o.node { uid = sym h.uid i; gid = sym h.gid i } }
 
-pub owner_worn : (new : Dress) (o : Object) → wear_owner new o ≡ o → HasOwner new o.node
+pub owner_worn : (new : Dress) (o : Object) → dressed_owner new o ≡ o → HasOwner new o.node
 owner_worn new o e = record { uid = sym (ap (λ x. x.node.uid) e); gid = sym (ap (λ x. x.node.gid) e) }
 
 module _ (kind : Kind) (new : Dress) (fits : IsDress kind new) where
@@ -162,8 +159,8 @@ module _ (kind : Kind) (new : Dress) (fits : IsDress kind new) where
   pub mode_bound : dress_mode new ≤ 4095
   mode_bound = mode_digits.bound fits.special
 
-  pub wears_mode : (o : Object) → HasMode new o.node → wear_mode new o ≡ o
-  wears_mode o h = λ i. record o {
+  pub dresses_mode : (o : Object) → HasMode new o.node → dressed_mode new o ≡ o
+  dresses_mode o h = λ i. record o {
     node = record o.node {
       special = sym h.special i;
       acl = record o.node.acl {
@@ -176,7 +173,7 @@ module _ (kind : Kind) (new : Dress) (fits : IsDress kind new) where
     };
   }
 
-  pub mode_worn : (o : Object) → wear_mode new o ≡ o → HasMode new o.node
+  pub mode_worn : (o : Object) → dressed_mode new o ≡ o → HasMode new o.node
   mode_worn o e = record {
     special = sym (ap (λ x. x.node.special) e);
     base = record {
@@ -187,48 +184,48 @@ module _ (kind : Kind) (new : Dress) (fits : IsDress kind new) where
   }
 
   -- the step gives the special bits of the dress
-  pub mode_leaves : (path : Path) (now : ℕ) (t : Places) → on_at path (with_mode (dress_mode new) now) t ≡ on_at path (λ x. changed now (wear_mode new x)) t
+  pub mode_leaves : (path : Path) (now : ℕ) (t : Places) → on_at path (with_mode (dress_mode new) now) t ≡ on_at path (λ x. changed now (dressed_mode new x)) t
   mode_leaves path now t = ap (λ s. on_at path (λ o. changed now (record o { node = record o.node { special = s; acl = record o.node.acl { access = parts.with_mode (dress_mode new) o.node.acl.access } } })) t) mode_digits.bits
 
-  -- what wears the whole dress wears the first two changes
-  pub firm_mode : (o : Object) → wear_acl new (wear_mode new (wear_owner new o)) ≡ o → wear_mode new (wear_owner new o) ≡ o
+  -- what has the whole dress has the first two changes
+  pub firm_mode : (o : Object) → dressed_acl new (dressed_mode new (dressed_owner new o)) ≡ o → dressed_mode new (dressed_owner new o) ≡ o
   firm_mode o e =
       let acl : o.node.acl ≡ new.acl = sym (ap (λ x. x.node.acl) e) in
-      wears_mode (wear_owner new o) (record {
+      dresses_mode (dressed_owner new o) (record {
         special = sym (ap (λ x. x.node.special) e);
         base = record { owner = ap (λ a. a.access.owner) acl; group = ap (λ a. a.access.group) acl; other = ap (λ a. a.access.other) acl };
-      }) ∙ wears_owner new o (record { uid = sym (ap (λ x. x.node.uid) e); gid = sym (ap (λ x. x.node.gid) e) })
+      }) ∙ dresses_owner new o (record { uid = sym (ap (λ x. x.node.uid) e); gid = sym (ap (λ x. x.node.gid) e) })
 
-pub wears_acl : (new : Dress) (o : Object) → o.node.acl ≡ new.acl → wear_acl new o ≡ o
-wears_acl new o e = λ i. record o { node = record o.node { acl = sym e i } }
+pub dresses_acl : (new : Dress) (o : Object) → o.node.acl ≡ new.acl → dressed_acl new o ≡ o
+dresses_acl new o e = λ i. record o { node = record o.node { acl = sym e i } }
 
-pub acl_worn : (new : Dress) (o : Object) → wear_acl new o ≡ o → o.node.acl ≡ new.acl
+pub acl_worn : (new : Dress) (o : Object) → dressed_acl new o ≡ o → o.node.acl ≡ new.acl
 acl_worn new o e = sym (ap (λ x. x.node.acl) e)
 
-pub firm_owner : (new : Dress) (o : Object) → wear_mode new (wear_owner new o) ≡ o → wear_owner new o ≡ o
-firm_owner new o e = wears_owner new o (record { uid = sym (ap (λ x. x.node.uid) e); gid = sym (ap (λ x. x.node.gid) e) })
+pub firm_owner : (new : Dress) (o : Object) → dressed_mode new (dressed_owner new o) ≡ o → dressed_owner new o ≡ o
+firm_owner new o e = dresses_owner new o (record { uid = sym (ap (λ x. x.node.uid) e); gid = sym (ap (λ x. x.node.gid) e) })
 
-pub wears_attrs : (new : Dress) (o : Object) → o.node.attrs ≡ new.attrs → wear_attrs new o ≡ o
-wears_attrs new o e = λ i. record o { node = record o.node { attrs = sym e i } }
+pub dresses_attrs : (new : Dress) (o : Object) → o.node.attrs ≡ new.attrs → dressed_attrs new o ≡ o
+dresses_attrs new o e = λ i. record o { node = record o.node { attrs = sym e i } }
 
-pub attrs_worn : (new : Dress) (o : Object) → wear_attrs new o ≡ o → o.node.attrs ≡ new.attrs
+pub attrs_worn : (new : Dress) (o : Object) → dressed_attrs new o ≡ o → o.node.attrs ≡ new.attrs
 attrs_worn new o e = sym (ap (λ x. x.node.attrs) e)
 
-pub wears_letters : (new : Dress) (o : Object) → o.node.letters ≡ new.letters → wear_letters new o ≡ o
-wears_letters new o e = λ i. record o { node = record o.node { letters = sym e i } }
+pub dresses_letters : (new : Dress) (o : Object) → o.node.letters ≡ new.letters → dressed_letters new o ≡ o
+dresses_letters new o e = λ i. record o { node = record o.node { letters = sym e i } }
 
-pub letters_worn : (new : Dress) (o : Object) → wear_letters new o ≡ o → o.node.letters ≡ new.letters
+pub letters_worn : (new : Dress) (o : Object) → dressed_letters new o ≡ o → o.node.letters ≡ new.letters
 letters_worn new o e = sym (ap (λ x. x.node.letters) e)
 
--- what wears owner, mode and ACL, and more, wears these
-wears_access : (new : Dress) (o x : Object) → wear_access new x ≡ x → x ≡ o → wear_access new o ≡ o
-wears_access new o x e same = subst (λ y. wear_access new y ≡ y) same e
+-- what has owner, mode and ACL, and more, has these
+dresses_access : (new : Dress) (o x : Object) → dressed_access new x ≡ x → x ≡ o → dressed_access new o ≡ o
+dresses_access new o x e same = subst (λ y. dressed_access new y ≡ y) same e
 
-firm_access : (new : Dress) (o : Object) → wear_attrs new (wear_access new o) ≡ o → wear_access new o ≡ o
-firm_access new o e = wears_access new o (wear_attrs new (wear_access new o)) refl e
+firm_access : (new : Dress) (o : Object) → dressed_attrs new (dressed_access new o) ≡ o → dressed_access new o ≡ o
+firm_access new o e = dresses_access new o (dressed_attrs new (dressed_access new o)) refl e
 
-firm_attrs : (new : Dress) (o : Object) → wear_letters new (wear_attrs new (wear_access new o)) ≡ o → wear_attrs new (wear_access new o) ≡ o
-firm_attrs new o e = subst (λ y. wear_attrs new (wear_access new y) ≡ y) e refl
+firm_attrs : (new : Dress) (o : Object) → dressed_letters new (dressed_attrs new (dressed_access new o)) ≡ o → dressed_attrs new (dressed_access new o) ≡ o
+firm_attrs new o e = subst (λ y. dressed_attrs new (dressed_access new y) ≡ y) e refl
 
 -- ---- links, which have one mode and one ACL
 
@@ -242,7 +239,7 @@ link_acl new o n h = h.1 ∙ sym n.1
 
 -- ---- the object that stands at a path, and the node that is seen there
 
-module _ (path : Path) (new : Dress) (t : Files) (can : CanWear t path new) (node : Node) (seen : Some node ≡ node_at t path) where
+module _ (path : Path) (new : Dress) (t : Files) (can : CanDress t path new) (node : Node) (seen : Some node ≡ node_at t path) where
   standing : (o : Object) × ((places t path ≡ Some o) × (node ≡ o.node))
   standing = by (places t path) refl
     where
@@ -265,30 +262,30 @@ module _ (path : Path) (new : Dress) (t : Files) (can : CanWear t path new) (nod
   has_owner : HasOwner new node → HasOwner new object.node
   has_owner h = subst (HasOwner new) standing.1.1 h
 
-  no_owner : (HasOwner new node → ⊥) → wear_owner new object ≢ object
+  no_owner : (HasOwner new node → ⊥) → dressed_owner new object ≢ object
   no_owner other e = other (subst (HasOwner new) (sym standing.1.1) (owner_worn new object e))
 
   -- ---- owners
 
-  pub owner_none : (now : ℕ) → HasOwner new node → ChangedAt (wear_owner new) path now t t
-  owner_none now h = changed_none path (wear_owner new) now t object there (wears_owner new object (has_owner h)) t refl
+  pub owner_none : (now : ℕ) → HasOwner new node → ChangedAt (dressed_owner new) path now t t
+  owner_none now h = changed_none path (dressed_owner new) now t object there (dresses_owner new object (has_owner h)) t refl
 
   module _ (now : ℕ) (other : HasOwner new node → ⊥) where
-    pub owner_asks : Asks (Changing path (wear_owner new) t) (λ step. step ≡ SetOwner path new.uid new.gid) t (SetOwner path new.uid new.gid) now
+    pub owner_asks : Asks (Changing path (dressed_owner new) t) (λ step. step ≡ SetOwner path new.uid new.gid) t (SetOwner path new.uid new.gid) now
     owner_asks =
-        change_asks path (wear_owner new) now t object there (SetOwner path new.uid new.gid) refl
+        change_asks path (dressed_owner new) now t object there (SetOwner path new.uid new.gid) refl
         (λ step. step ≡ SetOwner path new.uid new.gid) (λ o. refl) (no_owner other) (present, can.dress.owner) (λ d. d) refl
 
-    pub owner_ok : (r : Result (Unit {0}) TreeFault) (u : Files) → OnOk r (u ≡ after t (SetOwner path new.uid new.gid) now) → OnOk r (ChangedAt (wear_owner new) path now t u)
-    owner_ok r u done = changed_on path (wear_owner new) now t object there (SetOwner path new.uid new.gid) refl (no_owner other) r u done
+    pub owner_ok : (r : Result (Unit {0}) TreeFault) (u : Files) → OnOk r (u ≡ after t (SetOwner path new.uid new.gid) now) → OnOk r (ChangedAt (dressed_owner new) path now t u)
+    owner_ok r u done = changed_on path (dressed_owner new) now t object there (SetOwner path new.uid new.gid) refl (no_owner other) r u done
 
   -- ---- modes
 
-  no_mode : (HasMode new node → ⊥) → wear_mode new object ≢ object
+  no_mode : (HasMode new node → ⊥) → dressed_mode new object ≢ object
   no_mode other e = other (subst (HasMode new) (sym standing.1.1) (mode_worn can.kind new can.dress object e))
 
-  pub mode_none : (now : ℕ) → HasMode new node → ChangedAt (wear_mode new) path now t t
-  mode_none now h = changed_none path (wear_mode new) now t object there (wears_mode can.kind new can.dress object (subst (HasMode new) standing.1.1 h)) t refl
+  pub mode_none : (now : ℕ) → HasMode new node → ChangedAt (dressed_mode new) path now t t
+  mode_none now h = changed_none path (dressed_mode new) now t object there (dresses_mode can.kind new can.dress object (subst (HasMode new) standing.1.1 h)) t refl
 
   -- what is not the mode or the ACL of the dress stands at no link
   module _ (tree : IsTree t) where
@@ -322,31 +319,31 @@ module _ (path : Path) (new : Dress) (t : Files) (can : CanWear t path new) (nod
         ((present, real), (takes_acl can.kind can.there (λ e. real (can.there ∙ ap Some e)) can.dress.fits, can.dress.acl))
 
     module _ (now : ℕ) (other : HasMode new node → ⊥) (mode : ℕ) (is : mode ≡ dress_mode new) where
-      pub mode_asks : Asks (Changing path (wear_mode new) t) (λ step. step ≡ SetMode path (dress_mode new)) t (SetMode path mode) now
+      pub mode_asks : Asks (Changing path (dressed_mode new) t) (λ step. step ≡ SetMode path (dress_mode new)) t (SetMode path mode) now
       mode_asks =
-          subst (λ m. Asks (Changing path (wear_mode new) t) (λ step. step ≡ SetMode path (dress_mode new)) t (SetMode path m) now) (sym is)
-          (change_asks path (wear_mode new) now t object there (SetMode path (dress_mode new)) (mode_leaves can.kind new can.dress path now (places t))
+          subst (λ m. Asks (Changing path (dressed_mode new) t) (λ step. step ≡ SetMode path (dress_mode new)) t (SetMode path m) now) (sym is)
+          (change_asks path (dressed_mode new) now t object there (SetMode path (dress_mode new)) (mode_leaves can.kind new can.dress path now (places t))
           (λ step. step ≡ SetMode path (dress_mode new)) (λ o. refl) (no_mode other) (can_mode other) (λ d. d) refl)
 
-      pub mode_ok : (r : Result (Unit {0}) TreeFault) (u : Files) → OnOk r (u ≡ after t (SetMode path mode) now) → OnOk r (ChangedAt (wear_mode new) path now t u)
+      pub mode_ok : (r : Result (Unit {0}) TreeFault) (u : Files) → OnOk r (u ≡ after t (SetMode path mode) now) → OnOk r (ChangedAt (dressed_mode new) path now t u)
       mode_ok r u done =
-          changed_on path (wear_mode new) now t object there (SetMode path (dress_mode new)) (mode_leaves can.kind new can.dress path now (places t)) (no_mode other) r u
+          changed_on path (dressed_mode new) now t object there (SetMode path (dress_mode new)) (mode_leaves can.kind new can.dress path now (places t)) (no_mode other) r u
           (subst (λ m. OnOk r (u ≡ after t (SetMode path m) now)) is done)
 
     module _ (now : ℕ) (other : node.acl ≢ new.acl) where
-      no_acl : wear_acl new object ≢ object
+      no_acl : dressed_acl new object ≢ object
       no_acl e = other (ap (λ v. v.acl) standing.1.1 ∙ acl_worn new object e)
 
       other_acl : (o : Object) → places t path ≡ Some o → o.node.acl ≢ new.acl
       other_acl o e h = let same : object ≡ o = same_Some object o (sym there ∙ e) in other (ap (λ v. v.acl) standing.1.1 ∙ ap (λ v. v.node.acl) same ∙ h)
 
-      pub acl_asks : Asks (Changing path (wear_acl new) t) (GivesAcl path new t) t (SetAcl path new.acl) now
+      pub acl_asks : Asks (Changing path (dressed_acl new) t) (GivesAcl path new t) t (SetAcl path new.acl) now
       acl_asks =
-          change_asks path (wear_acl new) now t object there (SetAcl path new.acl) refl
+          change_asks path (dressed_acl new) now t object there (SetAcl path new.acl) refl
           (GivesAcl path new t) (λ o. refl) no_acl (can_acl other) (λ d. d) (record { is = refl; other = other_acl })
 
-      pub acl_ok : (r : Result (Unit {0}) TreeFault) (u : Files) → OnOk r (u ≡ after t (SetAcl path new.acl) now) → OnOk r (ChangedAt (wear_acl new) path now t u)
-      acl_ok r u done = changed_on path (wear_acl new) now t object there (SetAcl path new.acl) refl no_acl r u done
+      pub acl_ok : (r : Result (Unit {0}) TreeFault) (u : Files) → OnOk r (u ≡ after t (SetAcl path new.acl) now) → OnOk r (ChangedAt (dressed_acl new) path now t u)
+      acl_ok r u done = changed_on path (dressed_acl new) now t object there (SetAcl path new.acl) refl no_acl r u done
 
   -- ---- extended attributes, and letters
 
@@ -409,8 +406,11 @@ module _ (path : Path) (new : Dress) (t : Files) (can : CanWear t path new) (nod
       pub part_ok : (r : Result (Unit {0}) TreeFault) (u : Files) → OnOk r (u ≡ after t step now) → OnOk r (ChangedAt change path now t u)
       part_ok r u done = changed_on path change now t object there step (leaves now) no_part r u done
 
-  pub acl_none : (now : ℕ) → node.acl ≡ new.acl → ChangedAt (wear_acl new) path now t t
-  acl_none now h = changed_none path (wear_acl new) now t object there (wears_acl new object (sym (ap (λ v. v.acl) standing.1.1) ∙ h)) t refl
+  pub acl_none : (now : ℕ) → node.acl ≡ new.acl → ChangedAt (dressed_acl new) path now t t
+  acl_none now h = changed_none path (dressed_acl new) now t object there (dresses_acl new object (sym (ap (λ v. v.acl) standing.1.1) ∙ h)) t refl
+
+  pub acl_kept : IsKeptBy (dressed_acl new) path t → node.acl ≡ new.acl
+  acl_kept kept = ap (λ v. v.acl) standing.1.1 ∙ acl_worn new object (kept object there)
 
 -- ---- parts that a change leaves as they are
 
@@ -434,19 +434,19 @@ module _ (path : Path) (now : ℕ) (t u : Files) {A : Type 0} (part : Object →
 
 module _ (path : Path) (new : Dress) (now : ℕ) (t : Files) where
   abbrev first_two : Object → Object
-  first_two = λ o. wear_mode new (wear_owner new o)
+  first_two = λ o. dressed_mode new (dressed_owner new o)
 
-  dressing_owner : (v : Files) → Changing path (wear_owner new) t v → Dressing path new t v
+  dressing_owner : (v : Files) → Changing path (dressed_owner new) t v → Dressing path new t v
   dressing_owner v (inl e) = (0, λ q. e q ∙ sym (bares-stamped path (λ o. o) (λ o. refl) (places t) q))
   dressing_owner v (inr e) = (1, e)
 
-  dressing_mode : (u v : Files) → ChangedAt (wear_owner new) path now t u → Changing path (wear_mode new) u v → Dressing path new t v
-  dressing_mode u v first (inl e) = (1, λ q. e q ∙ bares_changed path (wear_owner new) now t u first q)
-  dressing_mode u v first (inr e) = (2, more_changed path (wear_owner new) (wear_mode new) (λ o. refl) t u v (bares_changed path (wear_owner new) now t u first) e)
+  dressing_mode : (u v : Files) → ChangedAt (dressed_owner new) path now t u → Changing path (dressed_mode new) u v → Dressing path new t v
+  dressing_mode u v first (inl e) = (1, λ q. e q ∙ bares_changed path (dressed_owner new) now t u first q)
+  dressing_mode u v first (inr e) = (2, more_changed path (dressed_owner new) (dressed_mode new) (λ o. refl) t u v (bares_changed path (dressed_owner new) now t u first) e)
 
-  dressing_acl : (u v : Files) → ChangedAt first_two path now t u → Changing path (wear_acl new) u v → Dressing path new t v
+  dressing_acl : (u v : Files) → ChangedAt first_two path now t u → Changing path (dressed_acl new) u v → Dressing path new t v
   dressing_acl u v first (inl e) = (2, λ q. e q ∙ bares_changed path first_two now t u first q)
-  dressing_acl u v first (inr e) = (3, more_changed path first_two (wear_acl new) (λ o. refl) t u v (bares_changed path first_two now t u first) e)
+  dressing_acl u v first (inr e) = (3, more_changed path first_two (dressed_acl new) (λ o. refl) t u v (bares_changed path first_two now t u first) e)
 
   same_acl : (a b : Object) → IsChanged first_two now a b → b.node.acl ≡ (first_two a).node.acl
   same_acl a b (inl h) = ap (λ o. o.node.acl) (h.1 ∙ sym h.0)
@@ -460,42 +460,42 @@ module _ (path : Path) (new : Dress) (now : ℕ) (t : Files) where
         gives.other first.object (after_change path first_two now t u first) (same_acl first.old first.object first.is ∙ ap (λ x. (first_two x).node.acl) same ∙ h),
   )))
 
-  pub two_changed : (u v : Files) → ChangedAt (wear_owner new) path now t u → ChangedAt (wear_mode new) path now u v → ChangedAt first_two path now t v
-  two_changed u v a b = changed_then now (wear_owner new) (wear_mode new) (λ o. refl) (firm_owner new) path t u v a b
+  pub two_changed : (u v : Files) → ChangedAt (dressed_owner new) path now t u → ChangedAt (dressed_mode new) path now u v → ChangedAt first_two path now t v
+  two_changed u v a b = changed_then now (dressed_owner new) (dressed_mode new) (λ o. refl) (firm_owner new) path t u v a b
 
-  pub all_changed : (kind : Kind) → IsDress kind new → (u v w : Files) → ChangedAt (wear_owner new) path now t u → ChangedAt (wear_mode new) path now u v → ChangedAt (wear_acl new) path now v w → ChangedAt (wear_access new) path now t w
-  all_changed kind fits u v w a b c = changed_then now first_two (wear_acl new) (λ o. refl) (firm_mode kind new fits) path t v w (two_changed u v a b) c
+  pub all_changed : (kind : Kind) → IsDress kind new → (u v w : Files) → ChangedAt (dressed_owner new) path now t u → ChangedAt (dressed_mode new) path now u v → ChangedAt (dressed_acl new) path now v w → ChangedAt (dressed_access new) path now t w
+  all_changed kind fits u v w a b c = changed_then now first_two (dressed_acl new) (λ o. refl) (firm_mode kind new fits) path t v w (two_changed u v a b) c
 
-  pub all_changed_on : (r : Result (Unit {0}) TreeFault) → (kind : Kind) → IsDress kind new → (u v w : Files) → ChangedAt (wear_owner new) path now t u → ChangedAt (wear_mode new) path now u v
-      → OnOk r (ChangedAt (wear_acl new) path now v w) → OnOk r (ChangedAt (wear_access new) path now t w)
+  pub all_changed_on : (r : Result (Unit {0}) TreeFault) → (kind : Kind) → IsDress kind new → (u v w : Files) → ChangedAt (dressed_owner new) path now t u → ChangedAt (dressed_mode new) path now u v
+      → OnOk r (ChangedAt (dressed_acl new) path now v w) → OnOk r (ChangedAt (dressed_access new) path now t w)
   all_changed_on (Ok x) kind fits u v w a b c = all_changed kind fits u v w a b c
   all_changed_on (Err e) kind fits u v w a b c = tt
 
   -- ---- extended attributes and letters after these
 
   abbrev first_four : Object → Object
-  first_four = λ o. wear_attrs new (wear_access new o)
+  first_four = λ o. dressed_attrs new (dressed_access new o)
 
-  dressing_attrs : (u v : Files) → ChangedAt (wear_access new) path now t u → Changing path (wear_attrs new) u v → Dressing path new t v
-  dressing_attrs u v first (inl e) = (3, λ q. e q ∙ bares_changed path (wear_access new) now t u first q)
-  dressing_attrs u v first (inr e) = (4, more_changed path (wear_access new) (wear_attrs new) (λ o. refl) t u v (bares_changed path (wear_access new) now t u first) e)
+  dressing_attrs : (u v : Files) → ChangedAt (dressed_access new) path now t u → Changing path (dressed_attrs new) u v → Dressing path new t v
+  dressing_attrs u v first (inl e) = (3, λ q. e q ∙ bares_changed path (dressed_access new) now t u first q)
+  dressing_attrs u v first (inr e) = (4, more_changed path (dressed_access new) (dressed_attrs new) (λ o. refl) t u v (bares_changed path (dressed_access new) now t u first) e)
 
-  dressing_letters : (u v : Files) → ChangedAt first_four path now t u → Changing path (wear_letters new) u v → Dressing path new t v
+  dressing_letters : (u v : Files) → ChangedAt first_four path now t u → Changing path (dressed_letters new) u v → Dressing path new t v
   dressing_letters u v first (inl e) = (4, λ q. e q ∙ bares_changed path first_four now t u first q)
-  dressing_letters u v first (inr e) = (5, more_changed path first_four (wear_letters new) (λ o. refl) t u v (bares_changed path first_four now t u first) e)
+  dressing_letters u v first (inr e) = (5, more_changed path first_four (dressed_letters new) (λ o. refl) t u v (bares_changed path first_four now t u first) e)
 
-  gives_attrs : (u : Files) → ChangedAt (wear_access new) path now t u → (s : Step) → GivesAttrs path new u s → GivesDress path new t s
-  gives_attrs u first s gives = inr (inr (inr (inl (gives.is, lacks_before path now t u (λ o. o.node.attrs) (wear_access new) (λ o. refl) (λ o. refl) first new.attrs gives.other))))
+  gives_attrs : (u : Files) → ChangedAt (dressed_access new) path now t u → (s : Step) → GivesAttrs path new u s → GivesDress path new t s
+  gives_attrs u first s gives = inr (inr (inr (inl (gives.is, lacks_before path now t u (λ o. o.node.attrs) (dressed_access new) (λ o. refl) (λ o. refl) first new.attrs gives.other))))
 
   gives_letters : (u : Files) → ChangedAt first_four path now t u → (s : Step) → GivesLetters path new u s → GivesDress path new t s
   gives_letters u first s gives = inr (inr (inr (inr (gives.is, lacks_before path now t u (λ o. o.node.letters) first_four (λ o. refl) (λ o. refl) first new.letters gives.other))))
 
-  pub four_changed : (u v : Files) → ChangedAt (wear_access new) path now t u → ChangedAt (wear_attrs new) path now u v → ChangedAt first_four path now t v
-  four_changed u v a b = changed_then now (wear_access new) (wear_attrs new) (λ o. refl) (firm_access new) path t u v a b
+  pub four_changed : (u v : Files) → ChangedAt (dressed_access new) path now t u → ChangedAt (dressed_attrs new) path now u v → ChangedAt first_four path now t v
+  four_changed u v a b = changed_then now (dressed_access new) (dressed_attrs new) (λ o. refl) (firm_access new) path t u v a b
 
-  pub dressed_on : (r : Result (Unit {0}) TreeFault) → (u v w : Files) → ChangedAt (wear_access new) path now t u → ChangedAt (wear_attrs new) path now u v
-      → OnOk r (ChangedAt (wear_letters new) path now v w) → OnOk r (ChangedAt (wear new) path now t w)
-  dressed_on (Ok x) u v w a b c = changed_then now first_four (wear_letters new) (λ o. refl) (firm_attrs new) path t v w (four_changed u v a b) c
+  pub dressed_on : (r : Result (Unit {0}) TreeFault) → (u v w : Files) → ChangedAt (dressed_access new) path now t u → ChangedAt (dressed_attrs new) path now u v
+      → OnOk r (ChangedAt (dressed_letters new) path now v w) → OnOk r (ChangedAt (dressed new) path now t w)
+  dressed_on (Ok x) u v w a b c = changed_then now first_four (dressed_letters new) (λ o. refl) (firm_attrs new) path t v w (four_changed u v a b) c
   dressed_on (Err e) u v w a b c = tt
 
 -- ---- calls that make the changes
@@ -508,38 +508,38 @@ module _ {S : Type 0} (tree : Ghosts S) (moves : Moves tree) (path : Path) (new 
   abbrev step_of : Step → Type 0
   step_of = GivesDress path new (tree.state a)
 
-  pub owner_dresses : {A : Type 0} {r : Result A TreeFault} → Acted tree (Changing path (wear_owner new) (tree.state a)) (λ step. step ≡ SetOwner path new.uid new.gid) 1 now a b r
+  pub owner_dresses : {A : Type 0} {r : Result A TreeFault} → Acted tree (Changing path (dressed_owner new) (tree.state a)) (λ step. step ≡ SetOwner path new.uid new.gid) 1 now a b r
       → Acted tree on_way step_of 1 now a b r
   owner_dresses acted =
-      acted_weaken tree (Changing path (wear_owner new) (tree.state a)) on_way (λ step. step ≡ SetOwner path new.uid new.gid) step_of 1 1
+      acted_weaken tree (Changing path (dressed_owner new) (tree.state a)) on_way (λ step. step ≡ SetOwner path new.uid new.gid) step_of 1 1
       (dressing_owner path new now (tree.state a)) (λ s e. inl e) (omega arith) acted
 
   module _ {A B : Type 0} {x : A} {r : Result B TreeFault} (c : S) where
-    pub mode_dresses : Acted tree (Changing path (wear_owner new) (tree.state a)) (λ step. step ≡ SetOwner path new.uid new.gid) 1 now a b (Ok x)
-        → ChangedAt (wear_owner new) path now (tree.state a) (tree.state b)
-        → Acted tree (Changing path (wear_mode new) (tree.state b)) (λ step. step ≡ SetMode path (dress_mode new)) 1 now b c r → Acted tree on_way step_of 2 now a c r
+    pub mode_dresses : Acted tree (Changing path (dressed_owner new) (tree.state a)) (λ step. step ≡ SetOwner path new.uid new.gid) 1 now a b (Ok x)
+        → ChangedAt (dressed_owner new) path now (tree.state a) (tree.state b)
+        → Acted tree (Changing path (dressed_mode new) (tree.state b)) (λ step. step ≡ SetMode path (dress_mode new)) 1 now b c r → Acted tree on_way step_of 2 now a c r
     mode_dresses before first after =
         acted_then tree moves on_way step_of (owner_dresses before)
-        (acted_weaken tree (Changing path (wear_mode new) (tree.state b)) on_way (λ step. step ≡ SetMode path (dress_mode new)) step_of 1 1
+        (acted_weaken tree (Changing path (dressed_mode new) (tree.state b)) on_way (λ step. step ≡ SetMode path (dress_mode new)) step_of 1 1
         (λ w. dressing_mode path new now (tree.state a) (tree.state b) w first) (λ s e. inr (inl e)) (omega arith) after)
 
     pub acl_dresses : Acted tree on_way step_of 2 now a b (Ok x) → ChangedAt (first_two path new now (tree.state a)) path now (tree.state a) (tree.state b)
-        → Acted tree (Changing path (wear_acl new) (tree.state b)) (GivesAcl path new (tree.state b)) 1 now b c r → Acted tree on_way step_of 3 now a c r
+        → Acted tree (Changing path (dressed_acl new) (tree.state b)) (GivesAcl path new (tree.state b)) 1 now b c r → Acted tree on_way step_of 3 now a c r
     acl_dresses before first after =
         acted_then tree moves on_way step_of before
-        (acted_weaken tree (Changing path (wear_acl new) (tree.state b)) on_way (GivesAcl path new (tree.state b)) step_of 1 1
+        (acted_weaken tree (Changing path (dressed_acl new) (tree.state b)) on_way (GivesAcl path new (tree.state b)) step_of 1 1
         (λ w. dressing_acl path new now (tree.state a) (tree.state b) w first) (gives_acl path new now (tree.state a) (tree.state b) first) (omega arith) after)
 
-    pub attrs_dresses : Acted tree on_way step_of 3 now a b (Ok x) → ChangedAt (wear_access new) path now (tree.state a) (tree.state b)
-        → Acted tree (Changing path (wear_attrs new) (tree.state b)) (GivesAttrs path new (tree.state b)) 1 now b c r → Acted tree on_way step_of 4 now a c r
+    pub attrs_dresses : Acted tree on_way step_of 3 now a b (Ok x) → ChangedAt (dressed_access new) path now (tree.state a) (tree.state b)
+        → Acted tree (Changing path (dressed_attrs new) (tree.state b)) (GivesAttrs path new (tree.state b)) 1 now b c r → Acted tree on_way step_of 4 now a c r
     attrs_dresses before first after =
         acted_then tree moves on_way step_of before
-        (acted_weaken tree (Changing path (wear_attrs new) (tree.state b)) on_way (GivesAttrs path new (tree.state b)) step_of 1 1
+        (acted_weaken tree (Changing path (dressed_attrs new) (tree.state b)) on_way (GivesAttrs path new (tree.state b)) step_of 1 1
         (λ w. dressing_attrs path new now (tree.state a) (tree.state b) w first) (gives_attrs path new now (tree.state a) (tree.state b) first) (omega arith) after)
 
     pub letters_dresses : Acted tree on_way step_of 4 now a b (Ok x) → ChangedAt (first_four path new now (tree.state a)) path now (tree.state a) (tree.state b)
-        → Acted tree (Changing path (wear_letters new) (tree.state b)) (GivesLetters path new (tree.state b)) 1 now b c r → Acted tree on_way step_of 5 now a c r
+        → Acted tree (Changing path (dressed_letters new) (tree.state b)) (GivesLetters path new (tree.state b)) 1 now b c r → Acted tree on_way step_of 5 now a c r
     letters_dresses before first after =
         acted_then tree moves on_way step_of before
-        (acted_weaken tree (Changing path (wear_letters new) (tree.state b)) on_way (GivesLetters path new (tree.state b)) step_of 1 1
+        (acted_weaken tree (Changing path (dressed_letters new) (tree.state b)) on_way (GivesLetters path new (tree.state b)) step_of 1 1
         (λ w. dressing_letters path new now (tree.state a) (tree.state b) w first) (gives_letters path new now (tree.state a) (tree.state b) first) (omega arith) after)

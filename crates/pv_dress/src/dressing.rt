@@ -3,12 +3,12 @@ ghost use Rattle.std.specs.Prelude.{◌≡◌, ◌↔◌, ◌≤◌, IsTrue, OnO
 ghost use Rattle.pv_steps.specs.declared.step.Step.TheVariants.{SetOwner, SetMode};
 ghost use Rattle.pv_steps.specs.Trees.{IsPresent, IsTree, node_at};
 ghost use Rattle.pv_steps.specs.Acting.{asked, Acted};
-ghost use Rattle.pv_dress.specs.Dressing.{CanWear, Dressing, GivesDress, ChangedAt, IsKeptBy};
-ghost use Rattle.pv_dress.specs.Dressing.{dress_mode, wear, wear_owner, wear_mode, wear_acl, wear_attrs, wear_letters};
-ghost use Rattle.pv_dress.specs.Wearing.{HasOwner, HasMode, Changing, GivesAcl, GivesAttrs, GivesLetters, wear_access};
+ghost use Rattle.pv_dress.specs.Dressing.{CanDress, Dressing, GivesDress, ChangedAt, IsKeptBy};
+ghost use Rattle.pv_dress.specs.Dressing.{dress_mode, dressed, dressed_owner, dressed_mode, dressed_acl, dressed_attrs, dressed_letters};
+ghost use Rattle.pv_dress.specs.Changing.{SameBase, HasOwner, HasMode, Changing, GivesAcl, GivesAttrs, GivesLetters, dressed_access};
 
 use crate::bare::Dress;
-use crate::same::{is_same_acl, is_same_base};
+use pv_acl::Part;
 use pv_path::TreePath;
 use pv_steps::{Node, Step, Tree, TreeFault, try_step};
 
@@ -16,22 +16,22 @@ use pv_steps::{Node, Step, Tree, TreeFault, try_step};
 /// where that changes something (chown(2), chmod(2), setfacl(1), setxattr(2), chattr(1)); nothing is asked of the
 /// tree where the object has all of it. A link, which has always mode 0777, gets owners alone.
 pub fn dress<T: Tree>(tree: &mut T, path: &TreePath, new: &Dress, now: u64) -> Result<(), TreeFault>
-    requires { CanWear (T.state tree.old) path.now new.now }
+    requires { CanDress (T.state tree.old) path.now new.now }
     ensures acted { Acted T.Tree (Dressing path.now new.now (T.state tree.old))
         (GivesDress path.now new.now (T.state tree.old)) 5 now tree.old tree.new result }
     ensures ok { OnOk result
-        (ChangedAt (wear new.now) path.now now (T.state tree.old) (T.state tree.new)) }
+        (ChangedAt (dressed new.now) path.now now (T.state tree.old) (T.state tree.new)) }
 
     // Owner, mode and ACL are three of them.
-    ensures few { IsKeptBy (wear_attrs new.now) path.now (T.state tree.old)
-        → IsKeptBy (wear_letters new.now) path.now (T.state tree.old)
+    ensures few { IsKeptBy (dressed_attrs new.now) path.now (T.state tree.old)
+        → IsKeptBy (dressed_letters new.now) path.now (T.state tree.old)
         → asked result (T.steps tree.old) (T.steps tree.new) ≤ 3 }
 
     // Extended attributes and letters are two of them.
-    ensures two { IsKeptBy (wear_access new.now) path.now (T.state tree.old)
+    ensures two { IsKeptBy (dressed_access new.now) path.now (T.state tree.old)
         → asked result (T.steps tree.old) (T.steps tree.new) ≤ 2 }
 
-    ensures idle { IsKeptBy (wear new.now) path.now (T.state tree.old)
+    ensures idle { IsKeptBy (dressed new.now) path.now (T.state tree.old)
         → asked result (T.steps tree.old) (T.steps tree.new) ≡ 0 }
 {
     give_access(tree, path, new, now)?;
@@ -46,12 +46,12 @@ fn give_access<T: Tree>(
     new: &Dress,
     now: u64,
 ) -> Result<(), TreeFault>
-    requires { CanWear (T.state tree.old) path.now new.now }
+    requires { CanDress (T.state tree.old) path.now new.now }
     ensures acted { Acted T.Tree (Dressing path.now new.now (T.state tree.old))
         (GivesDress path.now new.now (T.state tree.old)) 3 now tree.old tree.new result }
     ensures ok { OnOk result
-        (ChangedAt (wear_access new.now) path.now now (T.state tree.old) (T.state tree.new)) }
-    ensures idle { IsKeptBy (wear_access new.now) path.now (T.state tree.old)
+        (ChangedAt (dressed_access new.now) path.now now (T.state tree.old) (T.state tree.new)) }
+    ensures idle { IsKeptBy (dressed_access new.now) path.now (T.state tree.old)
         → asked result (T.steps tree.old) (T.steps tree.new) ≡ 0 }
 {
     give_owner(tree, path, new, now)?;
@@ -66,12 +66,12 @@ fn give_owner<T: Tree>(
     new: &Dress,
     now: u64,
 ) -> Result<(), TreeFault>
-    requires { CanWear (T.state tree.old) path.now new.now }
-    ensures acted { Acted T.Tree (Changing path.now (wear_owner new.now) (T.state tree.old))
+    requires { CanDress (T.state tree.old) path.now new.now }
+    ensures acted { Acted T.Tree (Changing path.now (dressed_owner new.now) (T.state tree.old))
         (λ step. step ≡ SetOwner path.now new.now.uid new.now.gid) 1 now tree.old tree.new result }
     ensures ok { OnOk result
-        (ChangedAt (wear_owner new.now) path.now now (T.state tree.old) (T.state tree.new)) }
-    ensures idle { IsKeptBy (wear_owner new.now) path.now (T.state tree.old)
+        (ChangedAt (dressed_owner new.now) path.now now (T.state tree.old) (T.state tree.new)) }
+    ensures idle { IsKeptBy (dressed_owner new.now) path.now (T.state tree.old)
         → asked result (T.steps tree.old) (T.steps tree.new) ≡ 0 }
 {
     if has_owner(node_of(tree, path), new) {
@@ -87,12 +87,12 @@ fn give_owner<T: Tree>(
 
 /// Gives the object at a path the mode of a dress, where it has another.
 fn give_mode<T: Tree>(tree: &mut T, path: &TreePath, new: &Dress, now: u64) -> Result<(), TreeFault>
-    requires { CanWear (T.state tree.old) path.now new.now }
-    ensures acted { Acted T.Tree (Changing path.now (wear_mode new.now) (T.state tree.old))
+    requires { CanDress (T.state tree.old) path.now new.now }
+    ensures acted { Acted T.Tree (Changing path.now (dressed_mode new.now) (T.state tree.old))
         (λ step. step ≡ SetMode path.now (dress_mode new.now)) 1 now tree.old tree.new result }
     ensures ok { OnOk result
-        (ChangedAt (wear_mode new.now) path.now now (T.state tree.old) (T.state tree.new)) }
-    ensures idle { IsKeptBy (wear_mode new.now) path.now (T.state tree.old)
+        (ChangedAt (dressed_mode new.now) path.now now (T.state tree.old) (T.state tree.new)) }
+    ensures idle { IsKeptBy (dressed_mode new.now) path.now (T.state tree.old)
         → asked result (T.steps tree.old) (T.steps tree.new) ≡ 0 }
 {
     if has_mode(node_of(tree, path), new) {
@@ -107,15 +107,15 @@ fn give_mode<T: Tree>(tree: &mut T, path: &TreePath, new: &Dress, now: u64) -> R
 
 /// Gives the object at a path the ACL of a dress, where it has another.
 fn give_acl<T: Tree>(tree: &mut T, path: &TreePath, new: &Dress, now: u64) -> Result<(), TreeFault>
-    requires { CanWear (T.state tree.old) path.now new.now }
-    ensures acted { Acted T.Tree (Changing path.now (wear_acl new.now) (T.state tree.old))
+    requires { CanDress (T.state tree.old) path.now new.now }
+    ensures acted { Acted T.Tree (Changing path.now (dressed_acl new.now) (T.state tree.old))
         (GivesAcl path.now new.now (T.state tree.old)) 1 now tree.old tree.new result }
     ensures ok { OnOk result
-        (ChangedAt (wear_acl new.now) path.now now (T.state tree.old) (T.state tree.new)) }
-    ensures idle { IsKeptBy (wear_acl new.now) path.now (T.state tree.old)
+        (ChangedAt (dressed_acl new.now) path.now now (T.state tree.old) (T.state tree.new)) }
+    ensures idle { IsKeptBy (dressed_acl new.now) path.now (T.state tree.old)
         → asked result (T.steps tree.old) (T.steps tree.new) ≡ 0 }
 {
-    if is_same_acl(&node_of(tree, path).acl, &new.acl) {
+    if node_of(tree, path).acl == new.acl {
         return Ok(());
     }
     let step = Step::SetAcl {
@@ -132,12 +132,12 @@ fn give_attrs<T: Tree>(
     new: &Dress,
     now: u64,
 ) -> Result<(), TreeFault>
-    requires { CanWear (T.state tree.old) path.now new.now }
-    ensures acted { Acted T.Tree (Changing path.now (wear_attrs new.now) (T.state tree.old))
+    requires { CanDress (T.state tree.old) path.now new.now }
+    ensures acted { Acted T.Tree (Changing path.now (dressed_attrs new.now) (T.state tree.old))
         (GivesAttrs path.now new.now (T.state tree.old)) 1 now tree.old tree.new result }
     ensures ok { OnOk result
-        (ChangedAt (wear_attrs new.now) path.now now (T.state tree.old) (T.state tree.new)) }
-    ensures idle { IsKeptBy (wear_attrs new.now) path.now (T.state tree.old)
+        (ChangedAt (dressed_attrs new.now) path.now now (T.state tree.old) (T.state tree.new)) }
+    ensures idle { IsKeptBy (dressed_attrs new.now) path.now (T.state tree.old)
         → asked result (T.steps tree.old) (T.steps tree.new) ≡ 0 }
 {
     if node_of(tree, path).attrs.is_same(&new.attrs) {
@@ -157,12 +157,12 @@ fn give_letters<T: Tree>(
     new: &Dress,
     now: u64,
 ) -> Result<(), TreeFault>
-    requires { CanWear (T.state tree.old) path.now new.now }
-    ensures acted { Acted T.Tree (Changing path.now (wear_letters new.now) (T.state tree.old))
+    requires { CanDress (T.state tree.old) path.now new.now }
+    ensures acted { Acted T.Tree (Changing path.now (dressed_letters new.now) (T.state tree.old))
         (GivesLetters path.now new.now (T.state tree.old)) 1 now tree.old tree.new result }
     ensures ok { OnOk result
-        (ChangedAt (wear_letters new.now) path.now now (T.state tree.old) (T.state tree.new)) }
-    ensures idle { IsKeptBy (wear_letters new.now) path.now (T.state tree.old)
+        (ChangedAt (dressed_letters new.now) path.now now (T.state tree.old) (T.state tree.new)) }
+    ensures idle { IsKeptBy (dressed_letters new.now) path.now (T.state tree.old)
         → asked result (T.steps tree.old) (T.steps tree.new) ≡ 0 }
 {
     if node_of(tree, path).letters.is_same(new.letters) {
@@ -197,4 +197,11 @@ fn has_mode(node: &Node, new: &Dress) -> bool
     ensures { IsTrue result ↔ HasMode new.now node.now }
 {
     node.special == new.special && is_same_base(&node.acl.access, &new.acl.access)
+}
+
+/// Whether the base entries of two parts are the same.
+fn is_same_base(a: &Part, b: &Part) -> bool
+    ensures { IsTrue result ↔ SameBase a.now b.now }
+{
+    a.owner == b.owner && a.group == b.group && a.other == b.other
 }

@@ -1,6 +1,6 @@
 //! Why bytes are no image.
 ghost use Rattle.std.specs.Prelude.{◌≡◌};
-ghost use Rattle.pv_image.specs.declared.fault.ImageFault.TheVariants.{Memory};
+ghost use Rattle.pv_image.specs.declared.image_fault.ImageFault.TheVariants.{Memory};
 
 use std::alloc::{AllocError, AllocFailed};
 use thiserror::Error;

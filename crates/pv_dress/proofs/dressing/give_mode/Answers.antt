@@ -1,10 +1,10 @@
 use Rattle.std.proofs.Common.{◌≡◌, true}
 use Rattle.pv_steps.specs.declared.step.Step.TheVariants.{SetMode}
 use Rattle.pv_steps.proofs.ActingLaws.{acted_tried}
-use Rattle.pv_dress.specs.Dressing.{dress_mode, wear_mode}
-use Rattle.pv_dress.specs.Wearing.{Changing}
-use Rattle.pv_dress.proofs.WearLaws.{mode_none, mode_asks, mode_ok}
-use Rattle.pv_dress.proofs.wear.give_mode.Goals as goal
+use Rattle.pv_dress.specs.Dressing.{dress_mode, dressed_mode}
+use Rattle.pv_dress.specs.Changing.{Changing}
+use Rattle.pv_dress.proofs.ChangingLaws.{mode_none, mode_asks, mode_ok}
+use Rattle.pv_dress.proofs.dressing.give_mode.Goals as goal
 
 pub returns-then-has_mode-clause-ok : goal.returns-then-has_mode-clause-ok
 returns-then-has_mode-clause-ok g c =
@@ -19,7 +19,7 @@ returns-clause-acted g c =
     let path = c.args.path.now in
     let new = c.args.new.now in
     let t = g.T.Tree.state c.args.tree.now in
-    acted_tried g.T.Tree (Changing path (wear_mode new) t) (λ step. step ≡ SetMode path (dress_mode new)) (SetMode path c.mode.result) c.args.now
+    acted_tried g.T.Tree (Changing path (dressed_mode new) t) (λ step. step ≡ SetMode path (dress_mode new)) (SetMode path c.mode.result) c.args.now
     c.args.tree.now c.try_step.new.tree c.try_step.result (rw c.in_ok-copy.ensures at c.try_step.ensures)
     (mode_asks c.args.path.now c.args.new.now (g.T.Tree.state c.args.tree.now) c.requires c.node_of.result.now c.node_of.ensures.node c.node_of.ensures.tree c.args.now (λ h. let yes : c.has_mode.result ≡ true = c.has_mode.ensures.1 h in cc) c.mode.result c.mode.ensures.value)
 

@@ -1,7 +1,7 @@
 use Rattle.std.proofs.Common.{arith}
 use Rattle.pv_steps.proofs.ActingLaws.{Moves, acted_within, acted_passed}
-use Rattle.pv_dress.proofs.WearLaws.{owner_dresses, mode_dresses, acl_dresses, two_changed, all_changed_on}
-use Rattle.pv_dress.proofs.wear.give_access.Goals as goal
+use Rattle.pv_dress.proofs.ChangingLaws.{owner_dresses, mode_dresses, acl_dresses, two_changed, all_changed_on}
+use Rattle.pv_dress.proofs.dressing.give_access.Goals as goal
 
 pub returns-in_err-give_owner-clause-acted : goal.returns-in_err-give_owner-clause-acted
 returns-in_err-give_owner-clause-acted g c =

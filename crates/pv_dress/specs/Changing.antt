@@ -52,5 +52,5 @@ abbrev pub GivesLetters : Path → Dress → Files → Step → Type 0
 GivesLetters path new t step = Gives (λ o. o.node.letters) new.letters (SetLetters path new.letters) path t step
 
 -- an object with the owner, the mode and the ACL of a dress, stamps left as they are
-abbrev pub wear_access : Dress → Object → Object
-wear_access new o = record o { node = record o.node { uid = new.uid; gid = new.gid; special = new.special; acl = new.acl } }
+abbrev pub dressed_access : Dress → Object → Object
+dressed_access new o = record o { node = record o.node { uid = new.uid; gid = new.gid; special = new.special; acl = new.acl } }

@@ -1,7 +1,7 @@
 use Rattle.std.proofs.Common.{◌-◌, ◌≡◌, ℕ, ◌+◌, ◌^◌, ◌<◌, ◌≤◌}
 use Rattle.pv_tree.specs.Finding.{IsRising}
-use Rattle.pv_tree.proofs.Halving.{IsEnough}
-use Rattle.pv_tree.proofs.probe.place_of.Given as goal
+use Rattle.pv_tree.proofs.BinarySearch.{IsEnough}
+use Rattle.pv_tree.proofs.binary_search.place_of.Given as goal
 
 abbrev pub invariant-loop-low : goal.invariant-loop-low
 invariant-loop-low g l = record {
