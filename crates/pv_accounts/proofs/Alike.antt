@@ -4,6 +4,7 @@ use Rattle.std.specs.List.{list_any}
 use Rattle.std.specs.Str.{bytes_eq}
 use Rattle.std.proofs.lemmas.Slice.Eq.{bytes_eq-Decides}
 use Rattle.pv_accounts.specs.InUse.{AreApart, Ids, id_of, is_held, is_held_beside}
+use Rattle.pv_path.proofs.Tests.{same_tests}
 
 -- the same IDs of names, and the same holders
 pub record AreAlike (a b : Ids) : Type 0 where
@@ -62,11 +63,6 @@ any_alike : (p : List ℕ × ℕ → Bool) (a b : Ids) → AreApart a → ((name
 any_alike p a b apart same h =
     let f : Found p a = found_any p a apart h in
     any_found p b f.name f.id (sym (same f.name) ∙ f.is) f.passes
-
-same_tests : (r s : Bool) → (r ≡ true → s ≡ true) → (s ≡ true → r ≡ true) → r ≡ s
-same_tests true s h k = sym (h refl)
-same_tests false true h k = k refl
-same_tests false false h k = refl
 
 any_same : (p : List ℕ × ℕ → Bool) (a b : Ids) → AreApart a → AreApart b → ((name : List ℕ) → id_of a name ≡ id_of b name) → list_any p a ≡ list_any p b
 any_same p a b apart beside same = same_tests (list_any p a) (list_any p b) (any_alike p a b apart same) (any_alike p b a beside (λ name. sym (same name)))

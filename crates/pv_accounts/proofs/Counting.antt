@@ -6,6 +6,7 @@ use Rattle.std.proofs.lemmas.Bool.Decides.{nat_tests}
 use Rattle.std.proofs.lemmas.List.{map-append}
 use Rattle.std.proofs.lemmas.Slice.Eq.{bytes_eq-Decides}
 use Rattle.pv_accounts.specs.InUse.{AreApart, AreCounts, Ids, count_of, id_of, is_held, is_held_beside, is_own}
+use Rattle.std.proofs.lemmas.Bool.{eqb-true}
 
 -- the names and IDs that entries of a map show
 abbrev pub names_of : List (Bor (List ℕ) × ℕ) → Ids
@@ -27,9 +28,6 @@ some_more n = grind (arith, nat_tests)
 
 one_more : (n : ℕ) → nat_lt 1 (1 + n) ≡ nat_lt 0 n
 one_more n = grind (arith, nat_tests)
-
-is_equal : (n m : ℕ) → (n == m) ≡ true → n ≡ m
-is_equal n m h = grind (arith, nat_tests)
 
 equal_is : (n m : ℕ) → n ≡ m → (n == m) ≡ true
 equal_is n m h = grind (arith, nat_tests)
@@ -105,7 +103,7 @@ beside_yes ids id but apart own = beside_own ids id but apart (by (id_of ids but
     by None e = let bad : false ≡ true = rw e at own in cc
     by (Some n) e =
         let test : (n == id) ≡ true = rw e at own in
-        e ∙ ap (λ (m : ℕ). Some m) (is_equal n id test)
+        e ∙ ap (λ (m : ℕ). Some m) (eqb-true n id test)
 
 -- a name that has another ID, or none
 pub beside_no : (ids : Ids) (id : ℕ) (but : List ℕ) → AreApart ids → is_own ids id but ≡ false → nat_lt 0 (count_of ids id) ≡ is_held_beside ids id but
@@ -178,5 +176,5 @@ pub counted_more : (old new : List (ℕ × ℕ)) (ids : Ids) (name : List ℕ) (
 counted_more old new ids name id n counts is up = λ q. rw (up q, count_more ids name id q) (by_test q (id == q) refl (counts q))
   where
     by_test : (q : ℕ) (b : Bool) → (id == q) ≡ b → unwrap_or (lookup (nat_eq q) old) 0 ≡ count_of ids q → unwrap_or (cond b (Some n) (lookup (nat_eq q) old)) 0 ≡ count_of ids q + cond b 1 0
-    by_test q true e here = is ∙ ap (λ (m : ℕ). count_of ids m + 1) (is_equal id q e)
+    by_test q true e here = is ∙ ap (λ (m : ℕ). count_of ids m + 1) (eqb-true id q e)
     by_test q false e here = here ∙ omega arith

@@ -10,6 +10,7 @@ use Rattle.std.proofs.lemmas.Slice.Eq.{bytes_eq-Decides}
 use Rattle.pv_accounts.specs.Entries.{entry_of}
 use Rattle.pv_accounts.specs.Files.{lines_of, entries_of, name_of, has_name, counting, holds_beside, holder_of}
 use Rattle.pv_accounts.specs.Kinds.{is_entry_named, only_if, is_first_at, chosen_at}
+use Rattle.pv_path.proofs.Tests.{same_tests, option_or-none}
 
 -- an entry as a list of its fields
 abbrev pub Fields : Type 0
@@ -49,12 +50,7 @@ place_is t (suc n) (x ∷ xs) l ls e h = by_test (place_is t n xs l ls e h) (t x
     by_test rest true = none_is_next n
     by_test rest false = next_is (position_or_len t xs) n ∙ rest
 
-same_tests : (r s : Bool) → (r ≡ true → s ≡ true) → (s ≡ true → r ≡ true) → r ≡ s
-same_tests true s h k = sym (h refl)
-same_tests false true h k = k refl
-same_tests false false h k = refl
-
-same_names : (a b : List ℕ) → bytes_eq a b ≡ bytes_eq b a
+pub same_names : (a b : List ℕ) → bytes_eq a b ≡ bytes_eq b a
 same_names a b =
     same_tests (bytes_eq a b) (bytes_eq b a) (λ h. (bytes_eq-Decides b a).1 (sym ((bytes_eq-Decides a b).0 h)))
     (λ h. (bytes_eq-Decides a b).1 (sym ((bytes_eq-Decides b a).0 h)))
@@ -149,13 +145,9 @@ left_end test lines place id but e = rw e refl
 pub next_rest : (place : ℕ) (lines : List (List ℕ)) (l : List ℕ) (ls : List (List ℕ)) → drop place lines ≡ l ∷ ls → drop (place + 1) lines ≡ ls
 next_rest place lines l ls e = (next_line place lines l ls e).1
 
-or_none : {A : Type 0} (r : Option A) → option_or r None ≡ r
-or_none None = refl
-or_none (Some x) = refl
-
 -- the last line
 pub last_step : (test : Fields → Bool) (lines : List (List ℕ)) (place id : ℕ) (but l : List ℕ) (r : Option (List ℕ)) → drop place lines ≡ l ∷ [] → r ≡ option_map name_of (chosen_at test lines place id but l)
     → option_map name_of (left_at test lines place id but) ≡ r
 last_step test lines place id but l r e is =
     names_step test lines place id but l [] r e is ∙ ap (λ (o : Option Fields). option_or r (option_map name_of o)) (left_end test lines (place + 1) id but (next_rest place lines l [] e))
-    ∙ or_none r
+    ∙ option_or-none r

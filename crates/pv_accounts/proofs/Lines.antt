@@ -1,5 +1,5 @@
 -- Lists of lines with one more or one longer, and their texts.
-use Rattle.std.proofs.Common.{◌≡◌, ℕ, ◌+◌, ◌<◌, ◌≤◌, zero, suc, Bool, true, false, ◌==◌, List, [], ◌∷◌, ◌++◌, length, take, drop, get_or, map, refl, sym, ap, ◌∙◌, arith, append_assoc, append-nil, Bor, add-one, if◌then◌else◌}
+use Rattle.std.proofs.Common.{◌≡◌, ℕ, ◌+◌, ◌<◌, ◌≤◌, zero, suc, Bool, true, false, ◌==◌, List, [], ◌∷◌, ◌++◌, length, take, drop, get_or, refl, sym, ap, ◌∙◌, arith, append_assoc, append-nil, Bor, add-one, if◌then◌else◌}
 use Rattle.std.specs.List.{flat_map, position_or_len}
 use Rattle.std.proofs.lemmas.Bool.Decides.{nat_tests}
 use Rattle.std.proofs.lemmas.Grind.{flat_map-append}
@@ -9,15 +9,7 @@ use Rattle.pv_accounts.specs.Edits.{appended, text_of, is_behind_new, is_end, wi
 use Rattle.pv_accounts.specs.Files.{lines_of}
 use Rattle.pv_accounts.specs.Kinds.{is_entry_named}
 use Rattle.std.proofs.lemmas.List.Splits.{join_with_byte-slice_split}
-
--- the texts that slices show
-abbrev pub texts : List (Bor (List ℕ)) → List (List ℕ)
-texts = map (λ line. line.now)
-
-pub get_or-texts : (lines : List (Bor (List ℕ))) (i : ℕ) (d : Bor (List ℕ)) → get_or (texts lines) i d.now ≡ (get_or lines i d).now
-get_or-texts [] i d = refl
-get_or-texts (l ∷ lines) zero d = refl
-get_or-texts (l ∷ lines) (suc i) d = get_or-texts lines i d
+use Rattle.pv_path.proofs.Tests.{texts, get_or-texts}
 
 long_is : (lines : List (Bor (List ℕ))) → length (texts lines) ≡ length lines
 long_is lines = simp length-map

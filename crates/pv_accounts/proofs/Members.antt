@@ -1,9 +1,8 @@
 -- A user who is among the members of a group stays so while others are added, and is not added again.
-use Rattle.std.proofs.Common.{◌≡◌, ℕ, Bool, true, false, ◌||◌, ◌==◌, List, [], ◌∷◌, ◌++◌, option_map, refl, sym, ap, ◌∙◌, cond, arith, if◌then◌else◌}
+use Rattle.std.proofs.Common.{◌≡◌, ℕ, Bool, true, false, ◌||◌, ◌==◌, List, [], ◌∷◌, ◌++◌, option_map, refl, sym, ap, ◌∙◌, cond, if◌then◌else◌}
 use Rattle.std.specs.List.{list_any, cons_option, onto_first, slice_split}
 use Rattle.std.specs.Str.{bytes_eq}
 use Rattle.std.proofs.lemmas.List.Folds.{list_any-append}
-use Rattle.std.proofs.lemmas.Bool.Decides.{nat_tests}
 use Rattle.std.proofs.lemmas.List.Splits.{join_with_byte-slice_split}
 use Rattle.std.proofs.lemmas.Slice.Eq.{bytes_eq-Decides}
 use Rattle.std.proofs.lemmas.Bool.{or_left, or_right}
@@ -18,6 +17,7 @@ use Rattle.pv_accounts.proofs.Ends.{member_lines}
 use Rattle.pv_accounts.proofs.Holding.{Fields}
 use Rattle.pv_accounts.proofs.Pieces.{split_cons}
 use Rattle.pv_accounts.proofs.Rereading.{IsPlain, pairs}
+use Rattle.pv_path.proofs.Tests.{same_number}
 
 -- ---- pieces of a text that goes on
 
@@ -46,10 +46,7 @@ split_after c (x ∷ xs) s h = by_test (x == c) (split_cons c xs) (split_after c
 
 -- pieces of a text with a further one
 split_more : (c : ℕ) (xs ys : List ℕ) → slice_split (λ b. b == c) (xs ++ c ∷ ys) ≡ slice_split (λ b. b == c) xs ++ slice_split (λ b. b == c) ys
-split_more c [] ys = ap (λ b. cond b ([] ∷ slice_split (λ b. b == c) ys) (onto_first c (slice_split (λ b. b == c) ys))) (same c)
-  where
-    same : (n : ℕ) → (n == n) ≡ true
-    same n = grind (arith, nat_tests)
+split_more c [] ys = ap (λ b. cond b ([] ∷ slice_split (λ b. b == c) ys) (onto_first c (slice_split (λ b. b == c) ys))) (same_number c)
 split_more c (x ∷ xs) ys = by_test (x == c) (split_cons c xs) (split_more c xs ys)
   where
     by_test : (b : Bool) → ((z : List ℕ) × ((zs : List (List ℕ)) × (slice_split (λ b. b == c) xs ≡ z ∷ zs))) → slice_split (λ b. b == c) (xs ++ c ∷ ys) ≡ slice_split (λ b. b == c) xs ++ slice_split (λ b. b == c) ys

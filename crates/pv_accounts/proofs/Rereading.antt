@@ -20,6 +20,7 @@ use Rattle.pv_accounts.specs.Kinds.{is_entry_named}
 use Rattle.pv_accounts.proofs.Counting.{apart_more}
 use Rattle.pv_accounts.proofs.Ends.{HasLine, lines_back, lines_lack}
 use Rattle.pv_accounts.proofs.Holding.{Fields}
+use Rattle.pv_path.proofs.Tests.{none_of, option_or-none}
 
 -- a name without colons, commas and line ends, which an entry may have
 pub record IsPlain (name : List ℕ) : Type 0 where
@@ -96,11 +97,7 @@ named_any test name (l ∷ ls) = by_line (entry_of test l) (named_any test name 
 
 -- ---- names with their IDs
 
-or_none : {A : Type 0} (o : Option A) → option_or o None ≡ o
-or_none None = refl
-or_none (Some x) = refl
-
-or_assoc : {A : Type 0} (a b c : Option A) → option_or (option_or a b) c ≡ option_or a (option_or b c)
+pub or_assoc : {A : Type 0} (a b c : Option A) → option_or (option_or a b) c ≡ option_or a (option_or b c)
 or_assoc None b c = refl
 or_assoc (Some x) b c = refl
 
@@ -109,7 +106,7 @@ or_some None b c h = absurd (let no : false ≡ true = h in cc)
 or_some (Some x) b c h = refl
 
 or_turned : {A : Type 0} (a b : Option A) → (is_some a ≡ true → b ≡ None) → option_or a b ≡ option_or b a
-or_turned None b h = sym (or_none b)
+or_turned None b h = sym (option_or-none b)
 or_turned {A} (Some x) b h = subst (λ (o : Option A). option_or (Some x) o ≡ option_or o (Some x)) (sym (h refl)) refl
 
 pub id_append : (a b : Ids) (name : List ℕ) → id_of (a ++ b) name ≡ option_or (id_of a name) (id_of b name)
@@ -125,7 +122,7 @@ abbrev pub pairs : (Fields → Bool) → List (List ℕ) → Ids
 pairs test lines = filter_map (named_in test) lines
 
 id_lines : (test : Fields → Bool) (lines : List (List ℕ)) (ids : Ids) (name : List ℕ) → id_of (with_lines test ids lines) name ≡ option_or (id_of ids name) (id_of (pairs test lines) name)
-id_lines test [] ids name = sym (or_none (id_of ids name))
+id_lines test [] ids name = sym (option_or-none (id_of ids name))
 id_lines test (l ∷ ls) ids name = id_lines test ls (with_line test ids l) name ∙ by (named_in test l) refl
   where
     joined : (t : Bool) (n : ℕ) → option_or (cond t (Some n) None) (id_of (pairs test ls) name) ≡ cond t (Some n) (id_of (pairs test ls) name)
@@ -153,10 +150,6 @@ id_lines test (l ∷ ls) ids name = id_lines test ls (with_line test ids l) name
 -- the ID of a name in a file, looked for in the lines
 pub id_file : (test : Fields → Bool) (file name : List ℕ) → id_of (ids_of test file) name ≡ id_of (pairs test (lines_of file)) name
 id_file test file name = id_lines test (lines_of file) [] name
-
-none_of : {A : Type 0} (o : Option A) → is_some o ≡ false → o ≡ None
-none_of None h = refl
-none_of (Some x) h = absurd (let no : true ≡ false = h in cc)
 
 apart_lines : (test : Fields → Bool) (lines : List (List ℕ)) (ids : Ids) → AreApart ids → AreApart (with_lines test ids lines)
 apart_lines test [] ids apart = apart
@@ -232,7 +225,7 @@ id_entries : (test : Fields → Bool) → named_in test [] ≡ None → (entries
     → id_of (pairs test (with_entries entries lines)) name ≡ option_or (id_of (pairs test lines) name) (id_of (pairs test entries) name)
 id_entries test none entries [] name apart =
     ap (λ (ids : Ids). id_of ids name) (filter_map-append (named_in test) entries ([] ∷ []) ∙ ap (λ o. pairs test entries ++ cons_option o []) none)
-    ∙ id_append (pairs test entries) [] name ∙ or_none (id_of (pairs test entries) name)
+    ∙ id_append (pairs test entries) [] name ∙ option_or-none (id_of (pairs test entries) name)
 id_entries test none entries (l ∷ ls) name apart = by_test (is_behind_new (is_end ls) l) (id_entries test none entries ls name)
   where
     by_test : (b : Bool)
@@ -263,7 +256,7 @@ id_entries test none entries (l ∷ ls) name apart = by_test (is_behind_new (is_
 pub id_appended : (test : Fields → Bool) → named_in test [] ≡ None → (entries : List (List ℕ)) (file : List ℕ) → list_all lacks_end entries ≡ true → (name : List ℕ)
     → (is_some (id_of (pairs test entries) name) ≡ true → id_of (ids_of test file) name ≡ None)
     → id_of (ids_of test (appended entries file)) name ≡ id_of (ids_of test file ++ pairs test entries) name
-id_appended test none [] file h name apart = sym (id_append (ids_of test file) [] name ∙ or_none (id_of (ids_of test file) name))
+id_appended test none [] file h name apart = sym (id_append (ids_of test file) [] name ∙ option_or-none (id_of (ids_of test file) name))
 id_appended test none (e ∷ es) file h name apart =
     id_file test (appended (e ∷ es) file) name
     ∙ ap (λ ls. id_of (pairs test ls) name) (appended_lines e es file h)

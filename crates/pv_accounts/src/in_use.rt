@@ -32,7 +32,7 @@ impl<'a> Model for InUse<'a> {
         × AreCounts u.counts.entries (map (λ e. (e.0.now, e.1)) u.ids.entries) };
 }
 
-/// The number after one. A number past 64 bits counts as want of memory.
+/// The number after one. A number past 64 bits counts as running out of memory.
 fn next_count(count: usize) -> Result<usize, AllocError>
     ensures { IfOk result (λ next. next ≡ count + 1) }
 {

@@ -8,8 +8,8 @@ use Rattle.pv_path.specs.Results.{◌>>=◌, in_words}
 use Rattle.pv_path.specs.Printing.{printed_path}
 use Rattle.pv_requests.specs.Allowed.{IsAllowed}
 use Rattle.pv_requests.specs.Requests.{request_in, request_of}
-use Rattle.pv_requests.specs.declared.fault.RequestFault.{RequestFault}
-use Rattle.pv_requests.specs.declared.fault.RequestFault.TheVariants as fault
+use Rattle.pv_requests.specs.declared.request_fault.RequestFault.{RequestFault}
+use Rattle.pv_requests.specs.declared.request_fault.RequestFault.TheVariants as fault
 use Rattle.pv_requests.specs.declared.request.Request.{Request}
 use Rattle.pv_requests.proofs.AllowedRequests.{given-allowed}
 use Rattle.pv_steps.specs.Trees.{Files}
@@ -20,7 +20,7 @@ use Rattle.pv_text.specs.declared.tool.Tool.{Tool}
 use Rattle.pv_text.specs.declared.tool.Tool.TheVariants.{Sysusers}
 use Rattle.pv_conf.specs.Configuration.{Reader, configured_by, content_at, is_skipped, lines_in, reading_by, reading_of, reading_of_file, reading_of_files, reading_of_lines}
 use Rattle.pv_conf.specs.Requested.{requested, requests_reader}
-use Rattle.pv_conf.proofs.WholeLaws.{all_append}
+use Rattle.pv_path.proofs.Tests.{all_append}
 
 module _ {L : Type 0} (P : L → Type 0) (reader : Reader L) (holds : (place : Place) (line : List ℕ) → IfSome (reader.line_read place line) P) where
   kept_all : (o : Option L) (said : List (List ℕ)) → IfSome o P → AllByRecursion P (reading_by o said).lines

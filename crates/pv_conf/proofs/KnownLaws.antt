@@ -15,8 +15,8 @@ use Rattle.pv_lines.specs.ArgumentField.{Lookup}
 use Rattle.pv_lines.specs.FaultNames.{name_of}
 use Rattle.pv_lines.specs.Lines.{line_of}
 use Rattle.pv_lines.specs.Faults.{Gives}
-use Rattle.pv_lines.specs.declared.fault.LineFault.{LineFault}
-use Rattle.pv_lines.specs.declared.fault.LineFault.TheVariants as fault
+use Rattle.pv_lines.specs.declared.line_fault.LineFault.{LineFault}
+use Rattle.pv_lines.specs.declared.line_fault.LineFault.TheVariants as fault
 use Rattle.pv_lines.specs.declared.line.Line.{Line}
 use Rattle.pv_path.specs.Paths.{Path}
 use Rattle.pv_path.specs.Printing.{printed_path}
@@ -33,7 +33,7 @@ use Rattle.pv_layers.specs.Places.{group_path, passwd_path}
 
 -- ---- one line
 
--- a fault that is not want of memory is that of the line
+-- a fault that is not running out of memory is that of the line
 fault_given : (f : LineFault) (read : Result Line LineFault) → Gives (Err f) read → f ≢ fault.Memory → read ≡ Err f
 fault_given fault.Memory read given known = absurd (known refl)
 fault_given f read given known = given

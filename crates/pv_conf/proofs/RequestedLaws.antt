@@ -4,15 +4,15 @@ use Rattle.std.specs.Result.{result_ok}
 use Rattle.std.proofs.Common.{append-nil, ap, sym, ◌∙◌}
 use Rattle.pv_requests.specs.Faults.{Gives, name_of}
 use Rattle.pv_requests.specs.Requests.{request_of}
-use Rattle.pv_requests.specs.declared.fault.RequestFault.{RequestFault}
-use Rattle.pv_requests.specs.declared.fault.RequestFault.TheVariants as fault
+use Rattle.pv_requests.specs.declared.request_fault.RequestFault.{RequestFault}
+use Rattle.pv_requests.specs.declared.request_fault.RequestFault.TheVariants as fault
 use Rattle.pv_requests.specs.declared.request.Request.{Request}
 use Rattle.pv_text.specs.Facts.{Values}
 use Rattle.pv_text.specs.Said.{said_at}
 use Rattle.pv_text.specs.declared.place.Place.{Place}
 use Rattle.pv_conf.specs.Requested.{said_of_request}
 
--- a fault that is not want of memory is that of the line
+-- a fault that is not running out of memory is that of the line
 fault_given : (f : RequestFault) (read : Result Request RequestFault) → Gives (Err f) read → f ≢ fault.Memory → read ≡ Err f
 fault_given fault.Memory read given known = absurd (known refl)
 fault_given f read given known = given

@@ -1,5 +1,5 @@
 -- What holds of each line in two parts holds of each in each part.
-use Rattle.std.specs.Prelude.{List, [], ◌∷◌, ◌++◌}
+use Rattle.std.specs.Prelude.{List, [], ◌∷◌}
 use Rattle.std.specs.List.{AllByRecursion}
 
 pub all_first : {X : Type 0} (P Q : X → Type 0) (xs : List X) → AllByRecursion (λ x. P x × Q x) xs → AllByRecursion P xs
@@ -9,8 +9,3 @@ all_first P Q (x ∷ xs) all = (all.0.0, all_first P Q xs all.1)
 pub all_second : {X : Type 0} (P Q : X → Type 0) (xs : List X) → AllByRecursion (λ x. P x × Q x) xs → AllByRecursion Q xs
 all_second P Q [] all = tt
 all_second P Q (x ∷ xs) all = (all.0.1, all_second P Q xs all.1)
-
--- what holds of each of some lines and of each of others holds of each of both
-pub all_append : {X : Type 0} (P : X → Type 0) (xs ys : List X) → AllByRecursion P xs → AllByRecursion P ys → AllByRecursion P (xs ++ ys)
-all_append P [] ys first second = second
-all_append P (x ∷ xs) ys first second = (first.0, all_append P xs ys first.1 second)

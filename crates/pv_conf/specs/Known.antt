@@ -8,7 +8,7 @@ use Rattle.pv_layers.specs.Places.{group_path, passwd_path}
 use Rattle.pv_lines.specs.ArgumentField.{Lookup}
 use Rattle.pv_lines.specs.FaultNames.{name_of}
 use Rattle.pv_lines.specs.Lines.{line_of}
-use Rattle.pv_lines.specs.declared.fault.LineFault.{LineFault}
+use Rattle.pv_lines.specs.declared.line_fault.LineFault.{LineFault}
 use Rattle.pv_lines.specs.declared.line.Line.{Line}
 use Rattle.pv_steps.specs.Trees.{Files}
 use Rattle.pv_text.specs.Facts.{Values}

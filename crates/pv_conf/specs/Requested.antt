@@ -3,7 +3,7 @@ use Rattle.std.specs.Prelude.{ℕ, List, [], ◌∷◌, Result, Ok, Err}
 use Rattle.std.specs.Result.{result_ok}
 use Rattle.pv_requests.specs.Faults.{name_of}
 use Rattle.pv_requests.specs.Requests.{request_of}
-use Rattle.pv_requests.specs.declared.fault.RequestFault.{RequestFault}
+use Rattle.pv_requests.specs.declared.request_fault.RequestFault.{RequestFault}
 use Rattle.pv_requests.specs.declared.request.Request.{Request}
 use Rattle.pv_steps.specs.Trees.{Files}
 use Rattle.pv_text.specs.Facts.{Values}

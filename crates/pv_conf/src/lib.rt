@@ -3,19 +3,19 @@
 
 mod configuration;
 mod cutting;
+mod file_lines;
 mod laws;
-mod reader;
-mod reading;
+mod line_reader;
 mod sysusers;
 mod tmpfiles;
 
 pub use configuration::Configuration;
+pub use file_lines::read_lines;
 pub use laws::{
     a_configuration_depends_on_input_paths, a_run_outside_leaves_the_configuration,
     each_request_is_allowed, requests_depend_on_their_folders,
     steps_elsewhere_leave_the_configuration,
 };
-pub use reader::LineReader;
-pub use reading::read_lines;
+pub use line_reader::LineReader;
 pub use sysusers::read_requests;
 pub use tmpfiles::read_configuration;

@@ -8,8 +8,8 @@ ghost use Rattle.pv_requests.specs.Paths.{HasFewNames};
 ghost use Rattle.pv_conf.specs.Requested.{requested};
 
 use crate::configuration::Configuration;
-use crate::reader::LineReader;
-use crate::reading::read_lines;
+use crate::file_lines::read_lines;
+use crate::line_reader::LineReader;
 use pv_path::WordList;
 use pv_requests::{Request, RequestFault, name_of, read_request};
 use pv_steps::Tree;
@@ -55,7 +55,7 @@ impl<'a> LineReader for SysusersReader<'a> {
     }
 }
 
-/// Says why a line is refused; want of memory is no reason.
+/// Says why a line is refused; running out of memory is no reason.
 fn say_refused(
     place: &Place,
     fault: RequestFault,
@@ -73,7 +73,7 @@ fn say_refused(
 
 /// The requests of systemd-sysusers in a tree: the lines of the files that the words name, or without words of those
 /// that its folders hold, read by the facts. What is said of files and words comes before what is said of lines. More
-/// than 4294967295 lines, skipped and refused ones included, count as want of memory.
+/// than 4294967295 lines, skipped and refused ones included, count as running out of memory.
 pub fn read_requests<T: Tree>(
     alloc: Global,
     tree: &T,

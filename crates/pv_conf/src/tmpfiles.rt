@@ -9,8 +9,8 @@ ghost use Rattle.pv_layers.specs.Places.{group_path, passwd_path};
 ghost use Rattle.pv_conf.specs.Known.{configured, moved_message};
 
 use crate::configuration::Configuration;
-use crate::reader::LineReader;
-use crate::reading::{content_at, read_lines};
+use crate::file_lines::{content_at, read_lines};
+use crate::line_reader::LineReader;
 use pv_accounts::{FileNames, group_view, passwd_view};
 use pv_lines::{Line, LineFault, name_of, read_line};
 use pv_path::{TreePath, WordList, child};
@@ -71,7 +71,7 @@ fn say_moved(place: &Place, moved: bool, messages: &mut Messages) -> Result<(), 
     messages.push_at(place, b"/var/run/ read as /run/")
 }
 
-/// Says why a line is refused; want of memory is no reason.
+/// Says why a line is refused; running out of memory is no reason.
 fn say_refused(place: &Place, fault: LineFault, messages: &mut Messages) -> Result<(), AllocError>
     ensures known { OnOk result (fault ≢ LineFault.Memory) }
     ensures ok { OnOk result (messages.new ≡ messages.old ++ said_at place.now (name_of fault) ∷ []) }
@@ -100,7 +100,7 @@ fn account_names<T: Tree>(alloc: Global, tree: &T) -> Result<FileNames<'_>, Allo
 /// The configuration of systemd-tmpfiles in a tree: the lines of the files that the words name, or without words of
 /// those that its folders hold, read by the facts and by the users and groups of the tree's account files. What is
 /// said of files and words comes before what is said of lines. More than 4294967295 lines, skipped and refused ones
-/// included, count as want of memory.
+/// included, count as running out of memory.
 pub fn read_configuration<T: Tree>(
     alloc: Global,
     tree: &T,

@@ -6,8 +6,8 @@ use Rattle.std.proofs.Math.Nat.{add-mul, one-mul, le-mul_of_pos_right, mul_comm,
 use Rattle.std.proofs.lemmas.Bool.Decides.{nat_tests}
 use Rattle.pv_glob.specs.declared.element.Element.{Element}
 use Rattle.pv_glob.specs.declared.element.Element.TheVariants.{Byte}
-use Rattle.pv_glob.specs.declared.reading.Pair.{Pair}
-use Rattle.pv_glob.specs.declared.reading.Reading.{Reading}
+use Rattle.pv_glob.specs.declared.brace_reading.Pair.{Pair}
+use Rattle.pv_glob.specs.declared.brace_reading.Reading.{Reading}
 use Rattle.pv_glob.specs.Elements.{element_at, element_length, elements_of}
 use Rattle.pv_glob.specs.Braces.{Rest, expansions_of, joined, with_close, with_comma, with_element, with_open, with_place, rests_of, whole, within}
 use Rattle.pv_glob.specs.Reading.{completed, meaning}

@@ -10,8 +10,8 @@ use Rattle.pv_path.specs.Paths.{Path, has_names, has_staging}
 use Rattle.pv_path.proofs.PathLaws.{is_name-parts}
 use Rattle.pv_glob.specs.declared.element.Element.{Element}
 use Rattle.pv_glob.specs.declared.element.Element.TheVariants.{Byte}
-use Rattle.pv_glob.specs.declared.fault.PatternFault.{PatternFault}
-use Rattle.pv_glob.specs.declared.fault.PatternFault.TheVariants as fault
+use Rattle.pv_glob.specs.declared.pattern_fault.PatternFault.{PatternFault}
+use Rattle.pv_glob.specs.declared.pattern_fault.PatternFault.TheVariants as fault
 use Rattle.pv_glob.specs.Escaping.{is_special, escaped_byte, escaped, escaped_path}
 use Rattle.pv_glob.specs.Matching.{literal_of}
 use Rattle.pv_glob.specs.Elements.{element_at, elements_of, has_fault_at}

@@ -12,6 +12,7 @@ use Rattle.pv_path.proofs.PathLaws.{prefix_whole}
 use Rattle.pv_glob.specs.declared.element.Element.{Element}
 use Rattle.pv_glob.specs.declared.element.Element.TheVariants.{Byte}
 use Rattle.pv_glob.specs.Matching.{are_expansions, component_matches, literal_of, matches, name_matches, some_matches}
+use Rattle.pv_path.proofs.Tests.{same_number}
 
 -- no matched path has a staging name
 pub matches-no_staging : (components : List (List Element)) (path : Path) → matches components path ≡ true → has_staging path ≡ false
@@ -29,7 +30,7 @@ matched_prefix components p q a b prefix =
     prefix_whole p q prefix (let l : length q ≤ length p = omega arith in l)
 
 -- the test of two numbers, turned
-eqb-swap : (a b : ℕ) → (a == b) ≡ (b == a)
+pub eqb-swap : (a b : ℕ) → (a == b) ≡ (b == a)
 eqb-swap a b = nat_eq_equiv.symm a b
 
 -- written bytes match themselves alone
@@ -72,9 +73,6 @@ some_matches-found (plain ∷ plains) n path all e =
         let m : length plain ≡ n = grind (arith, nat_tests) in
         (sym l ∙ m, matches-no_staging plain path is)
     by_first false is long below = below (ap (λ (t : Bool). t || some_matches plains path) (sym is) ∙ e)
-
-same_number : (n : ℕ) → (n == n) ≡ true
-same_number n = grind (arith, nat_tests)
 
 -- all paths that a pattern matches have as many names, and none has a staging name
 pub some_matches-even : (plains : List (List (List Element))) (path : Path) → are_expansions plains ≡ true → some_matches plains path ≡ true → (length path ≡ length (get_or plains 0 [])) × (has_staging path ≡ false)

@@ -9,13 +9,14 @@ use Rattle.std.proofs.Math.Nat.{div-lt_iff_lt-mul, div-mul-le_self, mul-le-mul_r
 use Rattle.std.proofs.lemmas.Bool.Decides.{nat_tests}
 use Rattle.std.proofs.lemmas.Bool.{and_parts}
 use Rattle.pv_glob.specs.declared.element.Element.{Element}
-use Rattle.pv_glob.specs.declared.fault.PatternFault.{PatternFault}
-use Rattle.pv_glob.specs.declared.fault.PatternFault.TheVariants as fault
+use Rattle.pv_glob.specs.declared.pattern_fault.PatternFault.{PatternFault}
+use Rattle.pv_glob.specs.declared.pattern_fault.PatternFault.TheVariants as fault
 use Rattle.pv_glob.specs.Elements.{elements_of, has_fault_at}
 use Rattle.pv_glob.specs.Braces.{expansions_of, joined, within}
 use Rattle.pv_glob.specs.Matching.{are_expansions}
 use Rattle.pv_glob.specs.Parsing.{Gives, component_fault, component_of, first_fault, is_expanded, name_fault, pattern_with, plains_of, words_of}
 use Rattle.pv_glob.proofs.BraceLaws.{joined-empty_first, joined-empty_second, joined-joined, length-joined}
+use Rattle.pv_path.proofs.Tests.{same_number}
 
 -- each of these has this many components
 abbrev are_long : ℕ → List (List (List Element)) → Bool
@@ -39,9 +40,6 @@ long_joined n (plain ∷ plains) words e =
     let u = and_parts (length plain == n) (are_long n plains) e in
     long_append (n + 1) (map (λ word. plain ++ word) (map (λ word. word ∷ []) words)) (joined plains (map (λ word. word ∷ []) words)) (long_followed n plain words u.0) (long_joined n plains words u.1)
 
-is_same : (n : ℕ) → (n == n) ≡ true
-is_same n = grind (arith, nat_tests)
-
 -- all are as long as the first
 long_first : (n : ℕ) (plain : List (List Element)) (plains : List (List (List Element))) → are_long n (plain ∷ plains) ≡ true → are_expansions (plain ∷ plains) ≡ true
 long_first n plain plains e =
@@ -53,7 +51,7 @@ pub followed_even : (plains : List (List (List Element))) (words : List (List El
 followed_even [] words more e some is = absurd (let no_way : false ≡ true = e in cc)
 followed_even (plain ∷ plains) [] more e some is = absurd (omega arith)
 followed_even (plain ∷ plains) (word ∷ words) more e some is =
-    let all : are_long (length plain) (plain ∷ plains) ≡ true = rw (is_same (length plain)) e in
+    let all : are_long (length plain) (plain ∷ plains) ≡ true = rw (same_number (length plain)) e in
     rw is (long_first (length plain + 1) (plain ++ word ∷ []) _ (long_joined (length plain) (plain ∷ plains) (word ∷ words) all))
 
 -- ---- the faults of a component

@@ -7,8 +7,8 @@ use Rattle.pv_glob.specs.declared.element.ByteRange.{ByteRange}
 use Rattle.pv_glob.specs.declared.element.ByteSet.{ByteSet}
 use Rattle.pv_glob.specs.declared.element.Element.{Element}
 use Rattle.pv_glob.specs.declared.element.Element.TheVariants.{Byte, Any, Many, OneOf}
-use Rattle.pv_glob.specs.declared.fault.PatternFault.{PatternFault}
-use Rattle.pv_glob.specs.declared.fault.PatternFault.TheVariants as fault
+use Rattle.pv_glob.specs.declared.pattern_fault.PatternFault.{PatternFault}
+use Rattle.pv_glob.specs.declared.pattern_fault.PatternFault.TheVariants as fault
 
 -- the rests of a text at which its parts begin, where `part_length` says how many bytes the part at a rest has; the first `skip` bytes belong to a part before
 abbrev pub places : (List ℕ → ℕ) → ℕ → List ℕ → List (List ℕ)

@@ -6,8 +6,8 @@ use Rattle.std.specs.Result.{result_map_both}
 use Rattle.pv_path.specs.Names.{is_dots, is_staging}
 use Rattle.pv_path.specs.Parsing.{begins_with_slash}
 use Rattle.pv_glob.specs.declared.element.Element.{Element}
-use Rattle.pv_glob.specs.declared.fault.PatternFault.{PatternFault}
-use Rattle.pv_glob.specs.declared.fault.PatternFault.TheVariants as fault
+use Rattle.pv_glob.specs.declared.pattern_fault.PatternFault.{PatternFault}
+use Rattle.pv_glob.specs.declared.pattern_fault.PatternFault.TheVariants as fault
 use Rattle.pv_glob.specs.Elements.{elements_of, has_fault_at}
 use Rattle.pv_glob.specs.Braces.{expansions_of, joined}
 

@@ -1,8 +1,8 @@
 -- What a component stands for of which a part has been read.
 use Rattle.std.specs.Prelude.{ℕ, List, [], ◌∷◌, ◌++◌, reverse, Option, Some, None}
 use Rattle.pv_glob.specs.declared.element.Element.{Element}
-use Rattle.pv_glob.specs.declared.reading.Pair.{Pair}
-use Rattle.pv_glob.specs.declared.reading.Reading.{Reading}
+use Rattle.pv_glob.specs.declared.brace_reading.Pair.{Pair}
+use Rattle.pv_glob.specs.declared.brace_reading.Reading.{Reading}
 use Rattle.pv_glob.specs.Braces.{Rest, joined, rests_of}
 
 -- the words so far followed by what is left, where of the open pairs the innermost stands first

@@ -4,10 +4,10 @@ ghost use Rattle.pv_glob.specs.Elements.{elements_of};
 ghost use Rattle.pv_glob.specs.Braces.{expansions_of, rests_of, whole, with_close, with_comma, with_element, with_open, within};
 ghost use Rattle.pv_glob.specs.Reading.{continued, meaning};
 
+use crate::brace_reading::{Pair, Reading};
 use crate::bracket::behind;
 use crate::component::{element_at, element_length};
 use crate::element::Element;
-use crate::reading::{Pair, Reading};
 use crate::words::{Words, empty_word, joined, lengthened, together};
 use std::alloc::{AllocError, Global};
 

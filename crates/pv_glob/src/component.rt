@@ -1,7 +1,7 @@
 //! Elements of a component: what stands at a place, and which faults it has.
 ghost use Rattle.std.specs.Prelude.{◌≡◌, [], ◌∷◌, ◌<◌, find, length, IfOk};
 ghost use Rattle.std.specs.List.{list_any};
-ghost use Rattle.pv_glob.specs.declared.fault.PatternFault.TheVariants.{UnclosedBracket, BadRange, BadClass, Brace};
+ghost use Rattle.pv_glob.specs.declared.pattern_fault.PatternFault.TheVariants.{UnclosedBracket, BadRange, BadClass, Brace};
 ghost use Rattle.pv_glob.specs.Elements.{element_at, element_length, elements_of, has_fault_at, set_of};
 ghost use Rattle.pv_glob.specs.Parsing.{name_fault};
 
@@ -9,7 +9,7 @@ use crate::bracket::{
     behind, body_of, byte_at, has_bad_class, has_bad_range, has_sign, ranges_of, sign_length,
 };
 use crate::element::{ByteSet, Element};
-use crate::fault::PatternFault;
+use crate::pattern_fault::PatternFault;
 use pv_path::is_staging;
 use std::alloc::{AllocError, Global};
 

@@ -4,8 +4,8 @@ ghost use Rattle.pv_glob.specs.Parsing.{Gives, component_of, components_of, firs
 
 use crate::braces::expansions_within;
 use crate::component::{early_fault, has_fault, name_fault};
-use crate::fault::PatternFault;
 use crate::pattern::Pattern;
+use crate::pattern_fault::PatternFault;
 use crate::plain::Plain;
 use crate::words::Words;
 use std::alloc::{AllocError, Global};

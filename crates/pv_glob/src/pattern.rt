@@ -67,14 +67,6 @@ impl Pattern {
     }
 }
 
-impl Clone for Pattern {
-    ghost is_clone = { λ pattern copy. copy ≡ pattern };
-
-    fn clone(&self) -> Result<Pattern, AllocError> {
-        self.copy()
-    }
-}
-
 /// Adds a plain pattern followed by each of these components.
 fn add_followed(
     plains: &mut Sequence<Plain>,

@@ -49,7 +49,7 @@ impl Plain {
         Ok(plain)
     }
 
-    /// Adds a component at the end. After want of memory the pattern is as before.
+    /// Adds a component at the end. After running out of memory the pattern is as before.
     pub fn push(&mut self, component: Component) -> Result<(), AllocError>
         ensures ok { OnOk result (self.new ≡ self.old ++ component ∷ []) }
         ensures err { OnErr result (self.new ≡ self.old) }

@@ -11,15 +11,15 @@ use Rattle.pv_age.specs.declared.age.Age.{Age}
 use Rattle.pv_path.specs.Parsing.{path_of}
 use Rattle.pv_path.specs.Paths.{Path}
 use Rattle.pv_path.specs.Results.{◌>>=◌, or_fault}
-use Rattle.pv_path.specs.declared.fault.PathFault.{PathFault}
-use Rattle.pv_path.specs.declared.fault.PathFault.TheVariants as path_fault
+use Rattle.pv_path.specs.declared.path_fault.PathFault.{PathFault}
+use Rattle.pv_path.specs.declared.path_fault.PathFault.TheVariants as path_fault
 use Rattle.pv_glob.specs.Parsing.{pattern_of}
 use Rattle.pv_glob.specs.declared.element.Element.{Element}
-use Rattle.pv_glob.specs.declared.fault.PatternFault.{PatternFault}
+use Rattle.pv_glob.specs.declared.pattern_fault.PatternFault.{PatternFault}
 use Rattle.pv_steps.specs.Objects.{IsTarget}
 use Rattle.pv_text.specs.Facts.{Values}
 use Rattle.pv_text.specs.declared.place.Place.{Place}
-use Rattle.pv_lines.specs.declared.fault.LineFault.TheVariants as fault
+use Rattle.pv_lines.specs.declared.line_fault.LineFault.TheVariants as fault
 use Rattle.pv_lines.specs.declared.line.Argument.{Argument}
 use Rattle.pv_lines.specs.declared.line.LineId.{LineId}
 use Rattle.pv_lines.specs.declared.line.LineMode.{LineMode}

@@ -11,8 +11,8 @@ use Rattle.pv_path.specs.Results.{◌>>=◌, or_fault}
 use Rattle.pv_steps.specs.Objects.{IsId}
 use Rattle.pv_text.specs.Facts.{Values}
 use Rattle.pv_text.specs.declared.place.Place.{Place}
-use Rattle.pv_lines.specs.declared.fault.LineFault.{LineFault}
-use Rattle.pv_lines.specs.declared.fault.LineFault.TheVariants as fault
+use Rattle.pv_lines.specs.declared.line_fault.LineFault.{LineFault}
+use Rattle.pv_lines.specs.declared.line_fault.LineFault.TheVariants as fault
 use Rattle.pv_lines.specs.declared.line.Line.{Line}
 use Rattle.pv_lines.specs.declared.line.LineId.{LineId}
 use Rattle.pv_lines.specs.declared.types.Row.{Row}

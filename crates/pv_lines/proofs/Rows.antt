@@ -5,7 +5,7 @@ use Rattle.std.proofs.Common.{arith, subst, ◌∙◌}
 use Rattle.std.proofs.lemmas.Bool.Decides.{nat_tests}
 use Rattle.std.proofs.lemmas.Bool.{and_parts}
 use Rattle.pv_path.specs.Results.{◌>>=◌, or_fault}
-use Rattle.pv_lines.specs.declared.fault.LineFault.TheVariants.{UnknownType, BadModifier}
+use Rattle.pv_lines.specs.declared.line_fault.LineFault.TheVariants.{UnknownType, BadModifier}
 use Rattle.pv_lines.specs.declared.type_field.Typed.{Typed}
 use Rattle.pv_lines.specs.declared.types.Row.{Row}
 use Rattle.pv_lines.specs.TypeField.{has_mark, plus, replace, encoded, purge, stand_once, takes, typed_of, with_marks}

@@ -12,8 +12,8 @@ use Rattle.pv_path.specs.Parsing.{begins_with_slash}
 use Rattle.pv_glob.specs.Braces.{joined}
 use Rattle.pv_glob.specs.Parsing.{component_fault, components_of, first_fault, name_fault, pattern_of, plains_of, words_of}
 use Rattle.pv_glob.specs.declared.element.Element.{Element}
-use Rattle.pv_glob.specs.declared.fault.PatternFault.{PatternFault}
-use Rattle.pv_glob.specs.declared.fault.PatternFault.TheVariants as fault
+use Rattle.pv_glob.specs.declared.pattern_fault.PatternFault.{PatternFault}
+use Rattle.pv_glob.specs.declared.pattern_fault.PatternFault.TheVariants as fault
 
 -- plains of so many components
 abbrev have : ℕ → List (List (List Element)) → Bool

@@ -5,9 +5,9 @@ use Rattle.pv_path.specs.Results.{◌>>=◌, in_words}
 use Rattle.pv_text.specs.Escapes.{unescaped}
 use Rattle.pv_text.specs.Facts.{Values}
 use Rattle.pv_text.specs.Fields.{Span, Cut, fields_of, text_at}
-use Rattle.pv_text.specs.declared.fault.FieldFault.{FieldFault}
+use Rattle.pv_text.specs.declared.text_fault.FieldFault.{FieldFault}
 use Rattle.pv_text.specs.declared.place.Place.{Place}
-use Rattle.pv_lines.specs.declared.fault.LineFault.TheVariants as fault
+use Rattle.pv_lines.specs.declared.line_fault.LineFault.TheVariants as fault
 use Rattle.pv_lines.specs.ArgumentField.{Lookup}
 use Rattle.pv_lines.specs.Lines.{line_of, line_with}
 

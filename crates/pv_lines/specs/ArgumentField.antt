@@ -9,14 +9,14 @@ use Rattle.pv_acl.specs.Entries.{acl_line_of}
 use Rattle.pv_acl.specs.Numbers.{number_of}
 use Rattle.pv_path.specs.Parsing.{path_of}
 use Rattle.pv_path.specs.Results.{◌>>=◌, in_words, or_fault}
-use Rattle.pv_path.specs.declared.fault.PathFault.TheVariants as path_fault
+use Rattle.pv_path.specs.declared.path_fault.PathFault.TheVariants as path_fault
 use Rattle.pv_steps.specs.Attributes.{is_attr, put_attr}
 use Rattle.pv_steps.specs.declared.attr.Attr.{Attr}
 use Rattle.pv_steps.specs.Letters.{letter_bit}
 use Rattle.pv_text.specs.Facts.{Values}
 use Rattle.pv_text.specs.Fields.{is_quote}
-use Rattle.pv_lines.specs.declared.fault.LineFault.{LineFault}
-use Rattle.pv_lines.specs.declared.fault.LineFault.TheVariants as fault
+use Rattle.pv_lines.specs.declared.line_fault.LineFault.{LineFault}
+use Rattle.pv_lines.specs.declared.line_fault.LineFault.TheVariants as fault
 use Rattle.pv_lines.specs.declared.line.Argument.{Argument}
 use Rattle.pv_lines.specs.declared.line.Argument.TheVariants as argument
 use Rattle.pv_steps.specs.declared.letters.LetterHow.{LetterHow}

@@ -1,15 +1,15 @@
 -- The names of faults, as messages print them: that of the innermost fault, without places.
 use Rattle.std.specs.Prelude.{ℕ, List, codes}
-use Rattle.pv_acl.specs.declared.fault.AclFault.TheVariants as acl
-use Rattle.pv_acl.specs.declared.fault.AclFault.{AclFault}
-use Rattle.pv_age.specs.declared.fault.AgeFault.TheVariants as age
-use Rattle.pv_age.specs.declared.fault.AgeFault.{AgeFault}
-use Rattle.pv_glob.specs.declared.fault.PatternFault.TheVariants as pattern
-use Rattle.pv_glob.specs.declared.fault.PatternFault.{PatternFault}
-use Rattle.pv_lines.specs.declared.fault.LineFault.TheVariants as line
-use Rattle.pv_lines.specs.declared.fault.LineFault.{LineFault}
-use Rattle.pv_path.specs.declared.fault.PathFault.TheVariants as path
-use Rattle.pv_path.specs.declared.fault.PathFault.{PathFault}
+use Rattle.pv_acl.specs.declared.acl_fault.AclFault.TheVariants as acl
+use Rattle.pv_acl.specs.declared.acl_fault.AclFault.{AclFault}
+use Rattle.pv_age.specs.declared.age_fault.AgeFault.TheVariants as age
+use Rattle.pv_age.specs.declared.age_fault.AgeFault.{AgeFault}
+use Rattle.pv_glob.specs.declared.pattern_fault.PatternFault.TheVariants as pattern
+use Rattle.pv_glob.specs.declared.pattern_fault.PatternFault.{PatternFault}
+use Rattle.pv_lines.specs.declared.line_fault.LineFault.TheVariants as line
+use Rattle.pv_lines.specs.declared.line_fault.LineFault.{LineFault}
+use Rattle.pv_path.specs.declared.path_fault.PathFault.TheVariants as path
+use Rattle.pv_path.specs.declared.path_fault.PathFault.{PathFault}
 use Rattle.pv_text.specs.FaultNames.{expansion_name, field_name}
 
 -- of a path

@@ -1,17 +1,17 @@
 -- Faults of lines that wrap those of a part, and what a reader answers.
 use Rattle.std.specs.Prelude.{◌≡◌, Result, Ok, Err}
-use Rattle.pv_acl.specs.declared.fault.AclFault.{AclFault}
-use Rattle.pv_acl.specs.declared.fault.AclFault.TheVariants as acl
-use Rattle.pv_glob.specs.declared.fault.PatternFault.{PatternFault}
-use Rattle.pv_glob.specs.declared.fault.PatternFault.TheVariants as pattern
-use Rattle.pv_path.specs.declared.fault.PathFault.{PathFault}
-use Rattle.pv_path.specs.declared.fault.PathFault.TheVariants as path
-use Rattle.pv_text.specs.declared.fault.ExpandFault.{ExpandFault}
-use Rattle.pv_text.specs.declared.fault.ExpandFault.TheVariants as expand
-use Rattle.pv_lines.specs.declared.fault.LineFault.{LineFault}
-use Rattle.pv_lines.specs.declared.fault.LineFault.TheVariants as fault
+use Rattle.pv_acl.specs.declared.acl_fault.AclFault.{AclFault}
+use Rattle.pv_acl.specs.declared.acl_fault.AclFault.TheVariants as acl
+use Rattle.pv_glob.specs.declared.pattern_fault.PatternFault.{PatternFault}
+use Rattle.pv_glob.specs.declared.pattern_fault.PatternFault.TheVariants as pattern
+use Rattle.pv_path.specs.declared.path_fault.PathFault.{PathFault}
+use Rattle.pv_path.specs.declared.path_fault.PathFault.TheVariants as path
+use Rattle.pv_text.specs.declared.text_fault.ExpandFault.{ExpandFault}
+use Rattle.pv_text.specs.declared.text_fault.ExpandFault.TheVariants as expand
+use Rattle.pv_lines.specs.declared.line_fault.LineFault.{LineFault}
+use Rattle.pv_lines.specs.declared.line_fault.LineFault.TheVariants as fault
 
--- a fault of a part, told as that of the line; want of memory is always told as itself
+-- a fault of a part, told as that of the line; running out of memory is always told as itself
 abbrev pub of_expansion : ExpandFault → LineFault
 of_expansion expand.Memory = fault.Memory
 of_expansion f = fault.Expand f

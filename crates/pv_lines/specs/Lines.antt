@@ -11,8 +11,8 @@ use Rattle.pv_text.specs.Escapes.{unescaped}
 use Rattle.pv_text.specs.Facts.{Values}
 use Rattle.pv_text.specs.Fields.{fields_of, text_at}
 use Rattle.pv_text.specs.declared.place.Place.{Place}
-use Rattle.pv_lines.specs.declared.fault.LineFault.{LineFault}
-use Rattle.pv_lines.specs.declared.fault.LineFault.TheVariants as fault
+use Rattle.pv_lines.specs.declared.line_fault.LineFault.{LineFault}
+use Rattle.pv_lines.specs.declared.line_fault.LineFault.TheVariants as fault
 use Rattle.pv_lines.specs.declared.line.Argument.{Argument}
 use Rattle.pv_lines.specs.declared.line.Argument.TheVariants as argument
 use Rattle.pv_lines.specs.declared.line.Line.{Line}

@@ -7,8 +7,8 @@ use Rattle.pv_acl.specs.Entries.{id_or_name}
 use Rattle.pv_age.specs.Ages.{age_of}
 use Rattle.pv_age.specs.declared.age.Age.{Age}
 use Rattle.pv_path.specs.Results.{◌>>=◌, in_words, or_fault}
-use Rattle.pv_lines.specs.declared.fault.LineFault.{LineFault}
-use Rattle.pv_lines.specs.declared.fault.LineFault.TheVariants as fault
+use Rattle.pv_lines.specs.declared.line_fault.LineFault.{LineFault}
+use Rattle.pv_lines.specs.declared.line_fault.LineFault.TheVariants as fault
 use Rattle.pv_lines.specs.declared.line.LineId.{LineId}
 use Rattle.pv_lines.specs.declared.line.LineMode.{LineMode}
 use Rattle.pv_lines.specs.declared.types.Row.{Row}

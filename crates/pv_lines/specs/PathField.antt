@@ -10,8 +10,8 @@ use Rattle.pv_text.specs.Facts.{Values}
 use Rattle.pv_text.specs.Specifiers.{expanded}
 use Rattle.pv_text.specs.declared.tool.Tool.TheVariants.{Tmpfiles}
 use Rattle.pv_lines.specs.Faults.{of_expansion, of_path, of_pattern}
-use Rattle.pv_lines.specs.declared.fault.LineFault.{LineFault}
-use Rattle.pv_lines.specs.declared.fault.LineFault.TheVariants as fault
+use Rattle.pv_lines.specs.declared.line_fault.LineFault.{LineFault}
+use Rattle.pv_lines.specs.declared.line_fault.LineFault.TheVariants as fault
 use Rattle.pv_lines.specs.declared.line.LinePath.{LinePath}
 use Rattle.pv_lines.specs.declared.line.LinePath.TheVariants.{Literal, Glob}
 use Rattle.pv_lines.specs.declared.types.Row.{Row}

@@ -2,8 +2,8 @@
 use Rattle.std.specs.Prelude.{ℕ, Bool, true, not, ◌&&◌, ◌||◌, ◌==◌, List, [], ◌∷◌, Result, Ok, Err, if◌then◌else◌}
 use Rattle.std.specs.List.{list_any, list_all}
 use Rattle.pv_path.specs.Results.{◌>>=◌, or_fault}
-use Rattle.pv_lines.specs.declared.fault.LineFault.{LineFault}
-use Rattle.pv_lines.specs.declared.fault.LineFault.TheVariants.{UnknownType, BadModifier}
+use Rattle.pv_lines.specs.declared.line_fault.LineFault.{LineFault}
+use Rattle.pv_lines.specs.declared.line_fault.LineFault.TheVariants.{UnknownType, BadModifier}
 use Rattle.pv_lines.specs.declared.type_field.Typed.{Typed}
 use Rattle.pv_lines.specs.declared.types.Row.{Row}
 use Rattle.pv_lines.specs.Types.{type_of}

@@ -7,8 +7,8 @@ ghost use Rattle.pv_lines.specs.Lines.{IsArgument};
 ghost use Rattle.pv_lines.specs.Faults.{Gives};
 
 use crate::attributes::{attrs_of, letters_of};
-use crate::fault::LineFault;
 use crate::line::{Argument, LinePath};
+use crate::line_fault::LineFault;
 use crate::path_field::expansion;
 use crate::types::Wanted;
 use base64::DecodeAllocError;

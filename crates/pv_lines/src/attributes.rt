@@ -7,8 +7,8 @@ ghost use Rattle.pv_lines.specs.Lines.{IsArgument};
 ghost use Rattle.pv_lines.specs.Words.{words_of};
 ghost use Rattle.pv_lines.specs.Faults.{Gives};
 
-use crate::fault::LineFault;
 use crate::line::Argument;
+use crate::line_fault::LineFault;
 use crate::types::Wanted;
 use pv_path::Bytes;
 use pv_steps::{Attr, AttrList, LetterHow, LetterSet, is_attr};

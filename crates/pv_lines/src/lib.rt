@@ -3,18 +3,18 @@
 
 mod argument_field;
 mod attributes;
-mod fault;
+mod fault_name;
 mod line;
+mod line_fault;
 mod mode_field;
-mod name;
 mod path_field;
 mod read;
 mod type_field;
 mod types;
 
-pub use fault::LineFault;
+pub use fault_name::name_of;
 pub use line::{Argument, Line, LineId, LineMode, LinePath};
-pub use name::name_of;
+pub use line_fault::LineFault;
 pub use read::read_line;
 
 /// Lines in some order.

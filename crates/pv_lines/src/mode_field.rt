@@ -5,12 +5,12 @@ ghost use Rattle.std.specs.List.{list_all};
 ghost use Rattle.std.specs.Option.{option_map};
 ghost use Rattle.std.specs.Str.Parse.{digits_value};
 ghost use Rattle.pv_acl.specs.Entries.{id_or_name};
-ghost use Rattle.pv_lines.specs.declared.fault.LineFault.TheVariants.{UnknownGroup, UnknownUser};
+ghost use Rattle.pv_lines.specs.declared.line_fault.LineFault.TheVariants.{UnknownGroup, UnknownUser};
 ghost use Rattle.pv_lines.specs.ModeField.{is_mode_text, line_age_of, mode_after, mode_of, owner_of, without_colon};
 ghost use Rattle.pv_lines.specs.Lines.{AreIds};
 
-use crate::fault::LineFault;
 use crate::line::{LineId, LineMode};
+use crate::line_fault::LineFault;
 use crate::types::Row;
 use pv_acl::{Names, written_id};
 use pv_age::{Age, parse_age};

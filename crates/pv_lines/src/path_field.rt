@@ -3,8 +3,8 @@ ghost use Rattle.std.specs.Prelude.{◌≡◌};
 ghost use Rattle.pv_lines.specs.Faults.{Gives};
 ghost use Rattle.pv_lines.specs.PathField.{allowed, current, expansion, is_moved, is_root, path_named, named_of};
 
-use crate::fault::LineFault;
 use crate::line::LinePath;
+use crate::line_fault::LineFault;
 use crate::type_field::Typed;
 use crate::types::Row;
 use pv_glob::{matches, parse_pattern};

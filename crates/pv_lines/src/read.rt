@@ -7,8 +7,8 @@ ghost use Rattle.pv_lines.specs.Faults.{Gives};
 ghost use Rattle.pv_lines.specs.Lines.{IsLine, given, line_of, line_with, text};
 
 use crate::argument_field::argument_of;
-use crate::fault::LineFault;
 use crate::line::Line;
+use crate::line_fault::LineFault;
 use crate::mode_field::{age_of, group_of, mode_of, user_of};
 use crate::path_field::named_of;
 use crate::type_field::typed_of;

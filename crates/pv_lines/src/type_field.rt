@@ -3,7 +3,7 @@ ghost use Rattle.std.specs.Prelude.{◌≡◌};
 ghost use Rattle.std.specs.List.{list_all};
 ghost use Rattle.pv_lines.specs.TypeField.{has_mark, stand_once, takes, typed_of, with_marks};
 
-use crate::fault::LineFault;
+use crate::line_fault::LineFault;
 use crate::types::{Row, type_of};
 
 /// A type with its modifiers.

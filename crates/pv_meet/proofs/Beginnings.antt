@@ -4,11 +4,11 @@ use Rattle.std.specs.List.{list_all}
 use Rattle.std.specs.Cmp.Lexicographic.{pointwise}
 use Rattle.std.proofs.lemmas.Bool.Decides.{nat_tests}
 use Rattle.pv_path.specs.Names.{is_name_byte, is_dots, is_staging}
-use Rattle.std.specs.Cmp.{nat_eq_equiv}
 use Rattle.std.proofs.Math.Bool.{and-true}
 use Rattle.pv_meet.specs.declared.beginning.Beginning.{Beginning}
 use Rattle.pv_meet.specs.declared.beginning.Beginning.TheVariants.{Nothing, Dot, TwoDots, DotHash, DotHashT, DotHashTf, Other}
 use Rattle.pv_meet.specs.Pairs.{could_be_name, beginning_after, may_follow, may_end}
+use Rattle.pv_glob.proofs.MatchingLaws.{eqb-swap}
 
 -- whether a word goes on from a beginning so that it may be a name
 abbrev pub goes_on : Beginning → List ℕ → Bool
@@ -34,11 +34,7 @@ fine DotHashTf [] = true
 fine DotHashTf (b ∷ word) = not (b == 45)
 fine Other word = true
 
--- the test of two numbers, turned
-eqb-swap : (a b : ℕ) → (a == b) ≡ (b == a)
-eqb-swap a b = nat_eq_equiv.symm a b
-
-and_assoc : (a b c : Bool) → (a && (b && c)) ≡ ((a && b) && c)
+pub and_assoc : (a b c : Bool) → (a && (b && c)) ≡ ((a && b) && c)
 and_assoc true b c = refl
 and_assoc false b c = refl
 

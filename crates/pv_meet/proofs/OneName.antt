@@ -1,6 +1,6 @@
 -- A component of written bytes matches them alone, so its name is the only one that it shares.
 use Rattle.std.proofs.Common.{◌≡◌, ℕ, Bool, true, false, not, ◌&&◌, ◌||◌, ◌==◌, List, [], ◌∷◌, ◌++◌, map, Option, Some, None, option_map, if◌then◌else◌, refl, sym, ap, ◌∙◌, subst, arith}
-use Rattle.std.specs.Prelude.{IfOk, IfSome, IsNone, Result, Ok, Err}
+use Rattle.std.specs.Prelude.{IfOk, IfSome, IsNone, Result}
 use Rattle.std.specs.Ordering.{is_gt}
 use Rattle.std.proofs.lemmas.Bool.Decides.{nat_tests}
 use Rattle.std.proofs.lemmas.Bool.{and_parts}
@@ -15,12 +15,10 @@ use Rattle.pv_meet.specs.Words.{IsFirst, rank, word_cmp}
 use Rattle.pv_meet.specs.Written.{name_by, written}
 use Rattle.pv_meet.proofs.Reaches.{shares_facts}
 use Rattle.pv_meet.proofs.Shortlex.{same_is_first}
+use Rattle.pv_path.proofs.Tests.{same_number, if_ok}
 
 abbrev Never : Type 0
 Never = ◌≡◌ {A = Bool} false true
-
-same_number : (n : ℕ) → (n == n) ≡ true
-same_number n = grind (arith, nat_tests)
 
 -- written bytes match themselves alone
 pub written_alone : (elements : List Element) (name other : List ℕ) (first : Bool) → written elements ≡ Some name → name_matches elements first other ≡ true → name ≡ other
@@ -61,10 +59,6 @@ pub one_is : (plain root : List (List Element)) (component copy : List Element) 
 one_is plain root component copy name other none pushed same given clear =
     ap (λ (x : List (List Element)). matches x (other ∷ [])) (pushed ∙ ap (λ (x : List (List Element)). x ++ copy ∷ []) none ∙ ap (λ (x : List Element). x ∷ []) same)
     ∙ ap (λ (x : List ℕ). matches (component ∷ []) (x ∷ [])) given ∙ one_matches component name clear
-
-if_ok : {A E : Type 0} (P Q : A → Type 0) (r : Result A E) → ((x : A) → P x → Q x) → IfOk r P → IfOk r Q
-if_ok P Q (Ok x) f p = f x p
-if_ok P Q (Err e) f p = tt
 
 -- ---- the only name that may be shared
 

@@ -13,7 +13,7 @@ use Rattle.pv_meet.specs.declared.beginning.Beginning.TheVariants.{Nothing, Dot,
 use Rattle.pv_meet.specs.declared.spot.Spot.{Spot}
 use Rattle.pv_meet.specs.Machines.{reads}
 use Rattle.pv_meet.specs.Pairs.{is_many, element_at, takes, behind, past_stars, takers, beginning_after, beginning_of, code_of, could_be_name, ends_at, is_nothing, is_shared, may_end, may_follow, number_of, pair_machine, spot_at, spots_after, target}
-use Rattle.pv_meet.proofs.Beginnings.{goes_on, goes_on-nothing}
+use Rattle.pv_meet.proofs.Beginnings.{goes_on, goes_on-nothing, and_assoc}
 use Rattle.pv_meet.proofs.Components.{none_left, taken, taken_at, takers-inside}
 
 -- ---- numbers of places
@@ -108,10 +108,6 @@ parted true true false false ma mb = refl
 parted true true true true true mb = refl
 parted true true true true false mb = refl
 parted true true true false ma mb = refl
-
-and_assoc : (a b c : Bool) → (a && (b && c)) ≡ ((a && b) && c)
-and_assoc true b c = refl
-and_assoc false b c = refl
 
 begun_on : (s : Beginning) (b : ℕ) → is_nothing (beginning_after s b) ≡ false
 begun_on Nothing b = by (b == 46)

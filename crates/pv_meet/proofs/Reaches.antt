@@ -16,6 +16,7 @@ use Rattle.pv_glob.specs.Matching.{component_matches, matches}
 use Rattle.pv_meet.specs.Meeting.{has_room, in_reach, is_met, met_at, shares}
 use Rattle.pv_meet.specs.Words.{IsFirst, shared_cmp, word_cmp}
 use Rattle.pv_meet.proofs.Shortlex.{then_first}
+use Rattle.pv_path.proofs.Tests.{first_false, second_false}
 
 abbrev Never : Type 0
 Never = ◌≡◌ {A = Bool} false true
@@ -34,16 +35,8 @@ module _ {X : Type 0} (p : X → Bool) (d : X) where
 
   none_at : (xs : List X) → list_any p xs ≡ false → (k : ℕ) → k < length xs → p (get_or xs k d) ≡ false
   none_at [] e k l = absurd (omega arith)
-  none_at (x ∷ xs) e zero l = left_false (p x) (list_any p xs) e
-    where
-      left_false : (a b : Bool) → (a || b) ≡ false → a ≡ false
-      left_false true b e = e
-      left_false false b e = refl
-  none_at (x ∷ xs) e (suc k) l = none_at xs (right_false (p x) (list_any p xs) e) k (omega arith)
-    where
-      right_false : (a b : Bool) → (a || b) ≡ false → b ≡ false
-      right_false true b e = absurd (let differ : Never = sym e in cc)
-      right_false false b e = e
+  none_at (x ∷ xs) e zero l = first_false (p x) (list_any p xs) e
+  none_at (x ∷ xs) e (suc k) l = none_at xs (second_false (p x) (list_any p xs) e) k (omega arith)
 
   none_from : (xs : List X) → ((k : ℕ) → k < length xs → p (get_or xs k d) ≡ false) → list_any p xs ≡ false
   none_from [] at = refl

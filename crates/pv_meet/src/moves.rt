@@ -32,7 +32,7 @@ pub trait Moves {
         requires { at < (machine self.now).places }
         ensures { result ≡ (machine self.now).is_end at };
 
-    /// The moves that go from a place. It spends one question, after want of memory too.
+    /// The moves that go from a place. It spends one question, after running out of memory too.
     fn moves(&mut self, alloc: Global, at: u32) -> Result<MoveList, AllocError>
         requires place { at < (machine self.old).places }
         requires question { 0 < questions self.old }

@@ -21,6 +21,7 @@ use Rattle.pv_overlap.specs.Answers.{Answers, ComesBefore, IsAnswered, IsTold, S
 use Rattle.pv_overlap.specs.Heads.{related}
 use Rattle.pv_overlap.specs.Walk.{Found, Grown, HasAnswer, IsFound, IsOrderOf, IsSound, Walked, found_at, head_at, key_cmp}
 use Rattle.pv_overlap.proofs.Related.{first_begins, kept_open, open_next}
+use Rattle.pv_path.proofs.Tests.{equal_of}
 
 -- ---- keys
 
@@ -41,11 +42,6 @@ key_exact x y e =
     let p = nat_tied x.0 y.0 w.0 in
     let q = nat_tied x.1 y.1 w.1 in
     ap (λ a. (a, x.1)) p ∙ ap (λ b. (y.0, b)) q
-
-tied : (o : Ordering) → is_eq o ≡ true → o ≡ Equal
-tied Less e = cc
-tied Equal e = refl
-tied Greater e = cc
 
 -- ---- one answer
 
@@ -87,7 +83,7 @@ module _ (answers : Answers) (heads : ℕ) where
   -- an answer was put in
   module _ (old new : Found) (i j : ℕ) (path : Path) (put : (q : ℕ × ℕ) → get key_cmp new q ≡ cond (is_at (key_cmp (i, j)) q) (Some path) (get key_cmp old q)) where
     at_key : (k l : ℕ) → is_at (key_cmp (i, j)) (k, l) ≡ true → (i ≡ k) × (j ≡ l)
-    at_key k l e = let s = key_exact (i, j) (k, l) (tied (key_cmp (i, j) (k, l)) e) in (ap (λ (p : ℕ × ℕ). p.0) s, ap (λ (p : ℕ × ℕ). p.1) s)
+    at_key k l e = let s = key_exact (i, j) (k, l) (equal_of (key_cmp (i, j) (k, l)) e) in (ap (λ (p : ℕ × ℕ). p.0) s, ap (λ (p : ℕ × ℕ). p.1) s)
 
     at_put : (k l : ℕ) (t : Bool) → is_at (key_cmp (i, j)) (k, l) ≡ t → found_at new k l ≡ cond t (Some path) (found_at old k l)
     at_put k l t e = put (k, l) ∙ ap (λ (b : Bool). cond b (Some path) (get key_cmp old (k, l))) e

@@ -7,7 +7,7 @@ use Rattle.pv_acl.specs.Numbers.{written_id}
 use Rattle.pv_path.specs.Parsing.{begins_with_slash, path_of}
 use Rattle.pv_path.specs.Paths.{Path}
 use Rattle.pv_path.specs.Results.{◌>>=◌, or_fault}
-use Rattle.pv_path.specs.declared.fault.PathFault.{PathFault}
+use Rattle.pv_path.specs.declared.path_fault.PathFault.{PathFault}
 use Rattle.pv_path.proofs.Spelled.{path_of-spelled}
 use Rattle.pv_text.specs.Facts.{Values}
 use Rattle.pv_text.specs.Fields.{Cut}
@@ -18,8 +18,8 @@ use Rattle.pv_requests.specs.Names.{is_account_name}
 use Rattle.pv_requests.specs.Numbers.{group_id_in, is_account_place, number_or_dash, path_in, primary_in, range_in, user_id_by, user_id_in, with_primary}
 use Rattle.pv_requests.specs.Paths.{HasFewNames}
 use Rattle.pv_requests.specs.Requests.{are_account_texts, ended, group_with, member_with, range_with, request_by, request_in, two_needed, two_texts, type_of, user_texts, user_with}
-use Rattle.pv_requests.specs.declared.fault.RequestFault.{RequestFault}
-use Rattle.pv_requests.specs.declared.fault.RequestFault.TheVariants as fault
+use Rattle.pv_requests.specs.declared.request_fault.RequestFault.{RequestFault}
+use Rattle.pv_requests.specs.declared.request_fault.RequestFault.TheVariants as fault
 use Rattle.pv_requests.specs.declared.read.LineType.{LineType}
 use Rattle.pv_requests.specs.declared.read.LineType.TheVariants as line
 use Rattle.pv_requests.specs.declared.read.UserTexts.{UserTexts}

@@ -1,12 +1,12 @@
 -- Faults of lines of sysusers.d(5): those that wrap the faults of a part, what a reader answers, and their names.
 use Rattle.std.specs.Prelude.{◌≡◌, ℕ, List, codes, Result, Ok, Err}
-use Rattle.pv_text.specs.declared.fault.ExpandFault.{ExpandFault}
-use Rattle.pv_text.specs.declared.fault.ExpandFault.TheVariants as expand
+use Rattle.pv_text.specs.declared.text_fault.ExpandFault.{ExpandFault}
+use Rattle.pv_text.specs.declared.text_fault.ExpandFault.TheVariants as expand
 use Rattle.pv_text.specs.FaultNames.{expansion_name, field_name}
-use Rattle.pv_requests.specs.declared.fault.RequestFault.{RequestFault}
-use Rattle.pv_requests.specs.declared.fault.RequestFault.TheVariants as fault
+use Rattle.pv_requests.specs.declared.request_fault.RequestFault.{RequestFault}
+use Rattle.pv_requests.specs.declared.request_fault.RequestFault.TheVariants as fault
 
--- a fault of a specifier, told as that of the line; want of memory is always told as itself
+-- a fault of a specifier, told as that of the line; running out of memory is always told as itself
 abbrev pub of_expansion : ExpandFault → RequestFault
 of_expansion expand.Memory = fault.Memory
 of_expansion f = fault.Expand f

@@ -8,7 +8,7 @@ use Rattle.pv_text.specs.Fields.{Cut, text_at}
 use Rattle.pv_text.specs.Specifiers.{expanded}
 use Rattle.pv_text.specs.declared.tool.Tool.TheVariants.{Sysusers}
 use Rattle.pv_requests.specs.Faults.{of_expansion}
-use Rattle.pv_requests.specs.declared.fault.RequestFault.{RequestFault}
+use Rattle.pv_requests.specs.declared.request_fault.RequestFault.{RequestFault}
 
 -- whether a text is a dash, which stands for what is omitted
 abbrev pub is_dash : List ℕ → Bool

@@ -5,7 +5,7 @@ use Rattle.pv_acl.specs.Numbers.{written_id}
 use Rattle.pv_path.specs.Names.{same_bytes}
 use Rattle.pv_path.specs.Parsing.{begins_with_slash, path_of}
 use Rattle.pv_path.specs.Paths.{Path}
-use Rattle.pv_path.specs.declared.fault.PathFault.{PathFault}
+use Rattle.pv_path.specs.declared.path_fault.PathFault.{PathFault}
 use Rattle.pv_requests.specs.declared.request.GroupId.{GroupId}
 use Rattle.pv_requests.specs.declared.request.GroupId.TheVariants as group
 use Rattle.pv_requests.specs.declared.request.Primary.{Primary}

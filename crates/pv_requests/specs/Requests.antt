@@ -9,8 +9,8 @@ use Rattle.pv_text.specs.declared.place.Place.{Place}
 use Rattle.pv_requests.specs.FieldTexts.{given, has_more, is_dash, text, written}
 use Rattle.pv_requests.specs.Names.{is_account_name, is_comment, is_place}
 use Rattle.pv_requests.specs.Numbers.{group_id_in, range_in, user_id_in}
-use Rattle.pv_requests.specs.declared.fault.RequestFault.{RequestFault}
-use Rattle.pv_requests.specs.declared.fault.RequestFault.TheVariants as fault
+use Rattle.pv_requests.specs.declared.request_fault.RequestFault.{RequestFault}
+use Rattle.pv_requests.specs.declared.request_fault.RequestFault.TheVariants as fault
 use Rattle.pv_requests.specs.declared.read.LineType.{LineType}
 use Rattle.pv_requests.specs.declared.read.LineType.TheVariants as line
 use Rattle.pv_requests.specs.declared.read.UserTexts.{UserTexts}

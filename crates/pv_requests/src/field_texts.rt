@@ -4,7 +4,7 @@ ghost use Rattle.pv_text.specs.Escapes.{HasGoodEscapes};
 ghost use Rattle.pv_requests.specs.Faults.{Gives};
 ghost use Rattle.pv_requests.specs.FieldTexts.{given, has_more, is_dash, raw_text, text, written};
 
-use crate::fault::RequestFault;
+use crate::request_fault::RequestFault;
 use pv_path::Bytes;
 use pv_text::{Facts, Fields, Tool, expand, unescape};
 use std::alloc::{AllocError, Global};

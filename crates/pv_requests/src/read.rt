@@ -6,11 +6,11 @@ ghost use Rattle.pv_requests.specs.FieldTexts.{has_more};
 ghost use Rattle.pv_requests.specs.Paths.{HasFewNames};
 ghost use Rattle.pv_requests.specs.Requests.{are_account_texts, ended, group_with, member_with, range_with, request_by, request_in, request_of, type_of, two_needed, two_texts, user_texts, user_with};
 
-use crate::fault::RequestFault;
 use crate::field_texts::{GECOS, HOME, SHELL, given, has_more, is_dash, text, written};
 use crate::names::{is_account_name, is_comment, is_place};
 use crate::numbers::{group_id_in, range_in, user_id_in};
 use crate::request::Request;
+use crate::request_fault::RequestFault;
 use pv_path::Bytes;
 use pv_text::{Facts, Fields, Place, fields};
 use std::alloc::Global;

@@ -1,9 +1,8 @@
 -- What allowed lines ask for: names that stand for themselves in account files, IDs, and texts of one field.
-use Rattle.std.proofs.Common.{◌≡◌, ℕ, zero, suc, ◌+◌, Bool, true, false, not, ◌&&◌, ◌==◌, nat_le, List, [], ◌∷◌, ◌++◌, length, Option, Some, None, option_map, unwrap_or, refl, sym, ap, ◌∙◌, arith, if◌then◌else◌}
+use Rattle.std.proofs.Common.{◌≡◌, ℕ, zero, suc, ◌+◌, Bool, true, false, not, ◌&&◌, ◌==◌, nat_le, List, [], ◌∷◌, ◌++◌, length, Option, Some, None, option_map, unwrap_or, refl, sym, ap, ◌∙◌, if◌then◌else◌}
 use Rattle.std.specs.Prelude.{is_some}
 use Rattle.std.specs.List.{AllByRecursion, flat_map, list_all}
-use Rattle.std.proofs.lemmas.Bool.Decides.{nat_tests}
-use Rattle.std.proofs.lemmas.Bool.{and_parts}
+use Rattle.std.proofs.lemmas.Bool.{and_parts, eqb-true}
 use Rattle.pv_acl.specs.NamedEntries.{is_id}
 use Rattle.pv_acl.proofs.Splitting.{lacks}
 use Rattle.pv_accounts.proofs.Rereading.{IsPlain}
@@ -27,11 +26,9 @@ use Rattle.pv_sysusers.specs.declared.needs.Main.{Main}
 use Rattle.pv_sysusers.specs.declared.needs.Main.TheVariants as main
 use Rattle.pv_sysusers.specs.declared.needs.Need.{Need}
 use Rattle.pv_sysusers.specs.declared.path_ids.PathId.{PathId}
+use Rattle.pv_path.proofs.Tests.{all_append}
 
 -- ---- bytes
-
-is_equal : (n m : ℕ) → (n == m) ≡ true → n ≡ m
-is_equal n m h = grind (arith, nat_tests)
 
 -- what passes a test is none that does not
 differs : (p : ℕ → Bool) (c b : ℕ) → p c ≡ false → p b ≡ true → not (b == c) ≡ true
@@ -39,7 +36,7 @@ differs p c b none some = by (b == c) refl
   where
     by : (t : Bool) → (b == c) ≡ t → not t ≡ true
     by false e = refl
-    by true e = absurd (let no : true ≡ false = sym some ∙ ap p (is_equal b c e) ∙ none in cc)
+    by true e = absurd (let no : true ≡ false = sym some ∙ ap p (eqb-true b c e) ∙ none in cc)
 
 all_lack : (p : ℕ → Bool) (c : ℕ) → p c ≡ false → (bs : List ℕ) → list_all p bs ≡ true → lacks c bs ≡ true
 all_lack p c none [] h = refl
@@ -185,10 +182,6 @@ members_fit (request.Member user group place, owners) is = (name_plain user (and
 members_fit (request.Range first last place, owners) is = tt
 
 -- ---- lists
-
-pub all_append : {X : Type 0} (P : X → Type 0) (xs ys : List X) → AllByRecursion P xs → AllByRecursion P ys → AllByRecursion P (xs ++ ys)
-all_append P [] ys a b = b
-all_append P (x ∷ xs) ys a b = (a.0, all_append P xs ys a.1 b)
 
 pub all_flat : {X Y : Type 0} (Q : X → Type 0) (P : Y → Type 0) (f : X → List Y) → ((x : X) → Q x → AllByRecursion P (f x)) → (xs : List X) → AllByRecursion Q xs → AllByRecursion P (flat_map f xs)
 all_flat Q P f each [] all = tt

@@ -2,7 +2,6 @@
 use Rattle.std.proofs.Common.{◌≡◌, ℕ, ◌<◌, ◌^◌, Bool, true, false, not, ◌==◌, List, [], ◌∷◌, ◌++◌, codes, map, Some, option_map, unwrap_or, append_assoc, refl, ap, ◌∙◌, arith, inl, inr, if◌then◌else◌}
 use Rattle.std.specs.List.{AllByRecursion, cons_option, list_all}
 use Rattle.std.specs.Fmt.{decimal}
-use Rattle.std.proofs.lemmas.Bool.Decides.{nat_tests}
 use Rattle.std.proofs.lemmas.List.Folds.{list_all-append}
 use Rattle.std.proofs.lemmas.Slice.Eq.{bytes_eq-Decides}
 use Rattle.pv_acl.specs.NamedEntries.{is_id}
@@ -21,14 +20,12 @@ use Rattle.pv_sysusers.specs.Texts.{group_line, own_shell, passwd_line, passwd_s
 use Rattle.pv_sysusers.specs.declared.users.NewUser.{NewUser}
 use Rattle.pv_sysusers.proofs.AllowedLaws.{IsField}
 use Rattle.pv_sysusers.proofs.NewLaws.{IsFitGroup, IsFitUser}
+use Rattle.pv_acl.proofs.Rereading.{id_fits}
 
 -- ---- IDs
 
-id_below : (n : ℕ) → is_id n ≡ true → n < 2 ^ 64
-id_below n h = grind (arith, nat_tests)
-
 id_read : (n : ℕ) → is_id n ≡ true → decimal_id (decimal n) ≡ Some n
-id_read n h = rw (number_of-decimal n (decimal n) (id_below n h) refl, h) refl
+id_read n h = rw (number_of-decimal n (decimal n) (id_fits n h) refl, h) refl
 
 colon_free : (n : ℕ) → n < 2 ^ 64 → lacks 58 (decimal n) ≡ true
 colon_free n h = lacks-decimal 58 n (inl (omega arith)) h
@@ -58,7 +55,7 @@ group_fields name n plain id =
     ap fields_of (group_parts name n)
     ∙ field_first name (120 ∷ 58 ∷ (decimal n ++ 58 ∷ [])) plain.colon
     ∙ ap (λ (fs : List (List ℕ)). name ∷ fs) (field_first (120 ∷ []) (decimal n ++ 58 ∷ []) refl)
-    ∙ ap (λ (fs : List (List ℕ)). name ∷ (120 ∷ []) ∷ fs) (field_first (decimal n) [] (colon_free n (id_below n id)))
+    ∙ ap (λ (fs : List (List ℕ)). name ∷ (120 ∷ []) ∷ fs) (field_first (decimal n) [] (colon_free n (id_fits n id)))
 
 group_named : (group : List ℕ × ℕ) → IsFitGroup group → named_in is_group (group_line group) ≡ Some group
 group_named group fit =
@@ -71,7 +68,7 @@ group_end : (group : List ℕ × ℕ) → IsFitGroup group → lacks_end (group_
 group_end group fit =
     ap lacks_end (group_parts group.0 group.1)
     ∙ lacks_both 10 group.0 (58 ∷ 120 ∷ 58 ∷ (decimal group.1 ++ 58 ∷ [])) fit.name.ending
-    (lacks_both 10 (decimal group.1) (58 ∷ []) (end_free group.1 (id_below group.1 fit.gid)) refl)
+    (lacks_both 10 (decimal group.1) (58 ∷ []) (end_free group.1 (id_fits group.1 fit.gid)) refl)
 
 pub group_pairs : (made : Ids) → AllByRecursion IsFitGroup made → pairs is_group (map group_line made) ≡ made
 group_pairs [] fit = refl
@@ -143,9 +140,9 @@ module _ (user : NewUser) (fit : IsFitUser user) where
       ∙ ap (λ (fs : List (List ℕ)). user.account.name ∷ fs)
       (field_first (120 ∷ []) (decimal user.uid ++ 58 ∷ (decimal user.gid ++ 58 ∷ last_fields user)) refl
       ∙ ap (λ (fs : List (List ℕ)). (120 ∷ []) ∷ fs)
-      (field_first (decimal user.uid) (decimal user.gid ++ 58 ∷ last_fields user) (colon_free user.uid (id_below user.uid fit.uid))
+      (field_first (decimal user.uid) (decimal user.gid ++ 58 ∷ last_fields user) (colon_free user.uid (id_fits user.uid fit.uid))
       ∙ ap (λ (fs : List (List ℕ)). decimal user.uid ∷ fs)
-      (field_first (decimal user.gid) (last_fields user) (colon_free user.gid (id_below user.gid fit.gid))
+      (field_first (decimal user.gid) (last_fields user) (colon_free user.gid (id_fits user.gid fit.gid))
       ∙ ap (λ (fs : List (List ℕ)). decimal user.gid ∷ fs) last_is)))
 
   user_named : named_in is_passwd (passwd_line user) ≡ Some (user.account.name, user.uid)
@@ -161,8 +158,8 @@ module _ (user : NewUser) (fit : IsFitUser user) where
   user_end =
       ap lacks_end (passwd_parts user)
       ∙ lacks_both 10 user.account.name (58 ∷ 120 ∷ 58 ∷ (decimal user.uid ++ 58 ∷ (decimal user.gid ++ 58 ∷ last_fields user))) fit.account.name.ending
-      (lacks_both 10 (decimal user.uid) (58 ∷ (decimal user.gid ++ 58 ∷ last_fields user)) (end_free user.uid (id_below user.uid fit.uid))
-      (lacks_both 10 (decimal user.gid) (58 ∷ last_fields user) (end_free user.gid (id_below user.gid fit.gid))
+      (lacks_both 10 (decimal user.uid) (58 ∷ (decimal user.gid ++ 58 ∷ last_fields user)) (end_free user.uid (id_fits user.uid fit.uid))
+      (lacks_both 10 (decimal user.gid) (58 ∷ last_fields user) (end_free user.gid (id_fits user.gid fit.gid))
       (lacks_both 10 (unwrap_or user.account.gecos []) (58 ∷ (unwrap_or user.account.home (codes "/") ++ 58 ∷ unwrap_or user.account.shell (own_shell user.uid))) gecos_is.ending
       (lacks_both 10 (unwrap_or user.account.home (codes "/")) (58 ∷ unwrap_or user.account.shell (own_shell user.uid)) home_is.ending shell_is.ending))))
 

@@ -31,10 +31,11 @@ use Rattle.pv_sysusers.specs.declared.path_ids.PathId.{PathId}
 use Rattle.pv_sysusers.specs.declared.planned.Texts.{Texts}
 use Rattle.pv_sysusers.specs.declared.users.NewUser.{NewUser}
 use Rattle.pv_sysusers.proofs.AgainLaws.{groups_entered, groups_read, gshadow_again, members_again, shadow_again, users_read}
-use Rattle.pv_sysusers.proofs.AllowedLaws.{IsFitAccount, IsFitNeed, accounts_fit, all_append, all_flat, counting_all, lines_all, members_fit, needs_fit}
+use Rattle.pv_sysusers.proofs.AllowedLaws.{IsFitAccount, IsFitNeed, accounts_fit, all_flat, counting_all, lines_all, members_fit, needs_fit}
 use Rattle.pv_sysusers.proofs.NewLaws.{AreNewGroups, AreNewUsers, fixed_is, groups_new, ids_with, users_new}
 use Rattle.pv_sysusers.proofs.PlanLaws.{after_groups}
 use Rattle.pv_sysusers.proofs.SettledLaws.{HasId, groups_there, no_new, none_new, users_there}
+use Rattle.pv_path.proofs.Tests.{all_append}
 
 -- ---- users decided among groups that are alike
 

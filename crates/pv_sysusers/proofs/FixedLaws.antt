@@ -7,14 +7,8 @@ use Rattle.std.proofs.lemmas.Slice.Eq.{bytes_eq-Decides}
 use Rattle.pv_text.specs.declared.place.Place.{Place}
 use Rattle.pv_sysusers.specs.Needs.{fixed_for}
 use Rattle.pv_sysusers.specs.declared.needs.Need.{Need}
-
-or_assoc : {A : Type 0} (a b c : Option A) → option_or (option_or a b) c ≡ option_or a (option_or b c)
-or_assoc None b c = refl
-or_assoc (Some x) b c = refl
-
-or_none : {A : Type 0} (a : Option A) → a ≡ option_or a None
-or_none None = refl
-or_none (Some x) = refl
+use Rattle.pv_accounts.proofs.Rereading.{or_assoc}
+use Rattle.pv_path.proofs.Tests.{option_or-none}
 
 -- the first line and the others
 fixed_first : (need : Need) (needs : List Need) (name : List ℕ) → fixed_for (need ∷ needs) name ≡ option_or (fixed_for (need ∷ []) name) (fixed_for needs name)
@@ -47,8 +41,8 @@ pub fixes_nothing : (need : Need) (before : List ℕ → Option (ℕ × Place)) 
 fixes_nothing need before none name = rw none (by_test (bytes_eq need.name name))
   where
     by_test : (b : Bool) → before name ≡ option_or (before name) (cond b None None)
-    by_test true = or_none (before name)
-    by_test false = or_none (before name)
+    by_test true = sym (option_or-none (before name))
+    by_test false = sym (option_or-none (before name))
 
 -- a line whose name is fixed already
 pub fixes_again : (need : Need) (before : List ℕ → Option (ℕ × Place)) → is_some (before need.name) ≡ true → (name : List ℕ) → before name ≡ option_or (before name) (fixed_for (need ∷ []) name)
@@ -62,7 +56,7 @@ fixes_again need before there name = by_test (bytes_eq need.name name) refl
     by_test true e =
         let same : need.name ≡ name = (bytes_eq-Decides need.name name).0 e in
         some_or (before name) (fixed_for (need ∷ []) name) (ap (λ (n : List ℕ). is_some (before n)) (sym same) ∙ there)
-    by_test false e = rw e (or_none (before name))
+    by_test false e = rw e (sym (option_or-none (before name)))
 
 -- a line that is the first to fix a number
 pub fixes_first : (need : Need) (n : ℕ) (before after : List ℕ → Option (ℕ × Place)) → need.number ≡ Some n → is_some (before need.name) ≡ false
@@ -77,4 +71,4 @@ fixes_first need n before after number new step name = step name ∙ by_test (by
     by_test true e =
         let same : need.name ≡ name = (bytes_eq-Decides need.name name).0 e in
         rw (e, number) (none_or (before name) (Some (n, need.place)) (ap (λ (m : List ℕ). is_some (before m)) (sym same) ∙ new))
-    by_test false e = rw e (or_none (before name))
+    by_test false e = rw e (sym (option_or-none (before name)))

@@ -11,6 +11,7 @@ use Rattle.pv_requests.specs.declared.request.Request.{Request}
 use Rattle.pv_sysusers.specs.Lines.{Line, first_user, is_user, lines_from, owners_at, user_of}
 use Rattle.pv_sysusers.specs.Shown.{shown, shown_line}
 use Rattle.pv_sysusers.specs.declared.path_ids.PathId.{PathId}
+use Rattle.pv_path.proofs.Tests.{option_or-none}
 
 -- the first request that is left, with its owners
 pub lines_next : (taken : List (Option PathId)) (requests : List Request) (i : ℕ) (request : Request) → i < length requests → request ≡ get_or requests i request
@@ -39,13 +40,9 @@ user_end (l ∷ lines) line name = by_test (is_user name l.0) (user_end lines li
     by_test true rest = refl
     by_test false rest = rest
 
-or_none : {A : Type 0} (a : Option A) → a ≡ option_or a None
-or_none None = refl
-or_none (Some x) = refl
-
 -- a line that is no u line
 pub index_same : (lines : List Line) (line : Line) (name : List ℕ) → user_of line.0 ≡ None → first_user lines name ≡ first_user (lines ++ line ∷ []) name
-index_same lines line name none = or_none (first_user lines name) ∙ sym (user_end lines line name ∙ rw none refl)
+index_same lines line name none = sym (option_or-none (first_user lines name)) ∙ sym (user_end lines line name ∙ rw none refl)
 
 -- a u line of a user that has none
 pub index_more : (lines : List Line) (line : Line) (user name : List ℕ) → user_of line.0 ≡ Some user → first_user lines user ≡ None
@@ -57,4 +54,4 @@ index_more lines line user name is none = by_test (bytes_eq user name) refl ∙ 
         let same : user ≡ name = (bytes_eq-Decides user name).0 e in
         let gone : first_user lines name ≡ None = ap (first_user lines) (sym same) ∙ none in
         rw (is, e, gone) refl
-    by_test false e = rw (is, e) (or_none (first_user lines name))
+    by_test false e = rw (is, e) (sym (option_or-none (first_user lines name)))

@@ -5,19 +5,9 @@ use Rattle.std.specs.Str.{bytes_eq}
 use Rattle.std.proofs.Math.Seq.{drop-cons}
 use Rattle.std.proofs.lemmas.List.{map-append}
 use Rattle.std.proofs.lemmas.List.Folds.{list_any-append}
-use Rattle.std.proofs.lemmas.Slice.Eq.{bytes_eq-Decides}
 use Rattle.pv_sysusers.specs.Texts.{has_entry, is_known, without_entry}
 use Rattle.pv_sysusers.specs.declared.needs.Need.{Need}
-
-same_tests : (r s : Bool) → (r ≡ true → s ≡ true) → (s ≡ true → r ≡ true) → r ≡ s
-same_tests true s h k = sym (h refl)
-same_tests false true h k = k refl
-same_tests false false h k = refl
-
-turned : (a b : List ℕ) → bytes_eq a b ≡ bytes_eq b a
-turned a b =
-    same_tests (bytes_eq a b) (bytes_eq b a) (λ h. (bytes_eq-Decides b a).1 (sym ((bytes_eq-Decides a b).0 h)))
-    (λ h. (bytes_eq-Decides a b).1 (sym ((bytes_eq-Decides b a).0 h)))
+use Rattle.pv_accounts.proofs.Holding.{same_names}
 
 -- no name is among none
 pub known_none : (test : List (List ℕ) → Bool) (file other : List ℕ) → has_entry test file other ≡ is_known test file [] other
@@ -31,7 +21,7 @@ known_none test file other = by (has_entry test file other)
 pub known_more : (test : List (List ℕ) → Bool) (file : List ℕ) (names : List (List ℕ)) (name other : List ℕ) (new old : Bool) → new ≡ (bytes_eq name other || old) → old ≡ is_known test file names other
     → new ≡ is_known test file (names ++ name ∷ []) other
 known_more test file names name other new old e is =
-    e ∙ (λ i. turned name other i || is i)
+    e ∙ (λ i. same_names name other i || is i)
     ∙ by (bytes_eq other name) (has_entry test file other) (list_any (bytes_eq other) names)
     ∙ sym (ap (λ b. has_entry test file other || b) (list_any-append (bytes_eq other) names (name ∷ [])))
   where

@@ -10,8 +10,8 @@ use Rattle.pv_sysusers.specs.Needs.{fixed_for}
 use Rattle.pv_sysusers.specs.Planning.{IsWanted, Misses, numbers_in}
 use Rattle.pv_sysusers.specs.Plans.{AccountFiles, Numbers, accounts_by, needs_by, numbers_after, numbers_by, numbers_of, plan_of, pool_by, texts_of, texts_or, with_users}
 use Rattle.pv_sysusers.specs.Users.{NewUsers, decided_users}
-use Rattle.pv_sysusers.specs.declared.fault.PlanFault.{PlanFault}
-use Rattle.pv_sysusers.specs.declared.fault.PlanFault.TheVariants.{NoFreeId, Memory}
+use Rattle.pv_sysusers.specs.declared.plan_fault.PlanFault.{PlanFault}
+use Rattle.pv_sysusers.specs.declared.plan_fault.PlanFault.TheVariants.{NoFreeId, Memory}
 use Rattle.pv_sysusers.specs.declared.needs.Account.{Account}
 use Rattle.pv_sysusers.specs.declared.needs.Need.{Need}
 use Rattle.pv_sysusers.specs.declared.fixed.Fixed.{Fixed}

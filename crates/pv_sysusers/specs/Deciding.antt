@@ -9,8 +9,8 @@ use Rattle.pv_accounts.specs.InUse.{Ids, is_held}
 use Rattle.pv_text.specs.declared.place.Place.{Place}
 use Rattle.pv_sysusers.specs.Groups.{NewGroups, decided_groups}
 use Rattle.pv_sysusers.specs.Pools.{is_between}
-use Rattle.pv_sysusers.specs.declared.fault.PlanFault.{PlanFault}
-use Rattle.pv_sysusers.specs.declared.fault.PlanFault.TheVariants.{NoFreeId, Memory}
+use Rattle.pv_sysusers.specs.declared.plan_fault.PlanFault.{PlanFault}
+use Rattle.pv_sysusers.specs.declared.plan_fault.PlanFault.TheVariants.{NoFreeId, Memory}
 use Rattle.pv_sysusers.specs.declared.fixed.Fixed.{Fixed}
 use Rattle.pv_sysusers.specs.declared.groups.Groups.{Groups}
 use Rattle.pv_sysusers.specs.Users.{NewUsers, decided_users}

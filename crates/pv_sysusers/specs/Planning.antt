@@ -5,8 +5,8 @@ use Rattle.pv_sysusers.specs.Deciding.{pooled_by}
 use Rattle.pv_sysusers.specs.Lines.{Line}
 use Rattle.pv_sysusers.specs.Needs.{fixed_for}
 use Rattle.pv_sysusers.specs.Plans.{AccountFiles, Numbers, accounts_by, needs_by, numbers_by, pool_by}
-use Rattle.pv_sysusers.specs.declared.fault.PlanFault.{PlanFault}
-use Rattle.pv_sysusers.specs.declared.fault.PlanFault.TheVariants.{NoFreeId, Memory}
+use Rattle.pv_sysusers.specs.declared.plan_fault.PlanFault.{PlanFault}
+use Rattle.pv_sysusers.specs.declared.plan_fault.PlanFault.TheVariants.{NoFreeId, Memory}
 use Rattle.pv_sysusers.specs.declared.planned.AccountFiles.{AccountFiles as Slices}
 use Rattle.pv_sysusers.specs.declared.planned.Texts.{Texts}
 use Rattle.pv_sysusers.specs.declared.planned.Numbers.{Numbers as NewNumbers}

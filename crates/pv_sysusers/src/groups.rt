@@ -3,9 +3,9 @@ ghost use Rattle.std.specs.Prelude.{◌≡◌, [], ◌∷◌, ◌++◌, Some, If
 ghost use Rattle.pv_sysusers.specs.Deciding.{IsMade, Lacks, Told, fixed_by, groups_by, pooled_by};
 ghost use Rattle.pv_sysusers.specs.Groups.{group_choice, in_use_message};
 
-use crate::fault::PlanFault;
 use crate::fixed::Fixed;
 use crate::needs::Need;
+use crate::plan_fault::PlanFault;
 use crate::pool::Pool;
 use pv_accounts::InUse;
 use pv_path::{Bytes, add_printed};

@@ -9,12 +9,12 @@ ghost use Rattle.pv_sysusers.specs.Plans.{plan_of, planned, texts_by};
 ghost use Rattle.pv_sysusers.specs.Planning.{AreNumbers, IsWanted, Misses, files_in, files_of, numbers_in};
 ghost use Rattle.pv_sysusers.specs.Shown.{IsIndexed, shown};
 
-use crate::fault::PlanFault;
 use crate::fixed::fixed_in;
 use crate::groups::decided_groups;
 use crate::lines::{Line, Lines, counted};
 use crate::needs::{Account, Need, all_accounts, all_needs};
 use crate::path_ids::PathIds;
+use crate::plan_fault::PlanFault;
 use crate::pool::Pool;
 use crate::texts::{group_text, gshadow_text, passwd_text, shadow_text};
 use crate::users::{NewUser, decided_users};

@@ -3,9 +3,9 @@ ghost use Rattle.std.specs.Prelude.{◌≡◌, [], ◌∷◌, ◌++◌, IfOk, If
 ghost use Rattle.pv_sysusers.specs.Deciding.{AreMade, Lacks, Told, pooled_by, users_by};
 ghost use Rattle.pv_sysusers.specs.Users.{gid_of, group_or_free, is_free_for, user_choice};
 
-use crate::fault::PlanFault;
 use crate::groups::say_in_use;
 use crate::needs::{Account, Main};
+use crate::plan_fault::PlanFault;
 use crate::pool::Pool;
 use pv_accounts::InUse;
 use pv_text::Messages;

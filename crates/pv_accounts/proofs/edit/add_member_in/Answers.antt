@@ -5,7 +5,8 @@ use Rattle.std.specs.List.{position_or_len}
 use Rattle.pv_accounts.specs.Kinds.{is_entry_named, test_of}
 use Rattle.pv_accounts.specs.Files.{lines_of}
 use Rattle.pv_accounts.proofs.Ends.{member_lines, if_ok_lines}
-use Rattle.pv_accounts.proofs.Lines.{texts, lines_longer, lines_same}
+use Rattle.pv_accounts.proofs.Lines.{lines_longer, lines_same}
+use Rattle.pv_path.proofs.Tests.{texts}
 use Rattle.pv_accounts.proofs.edit.add_member_in.Goals as goal
 
 pub returns-then-at-lines : goal.returns-then-at-lines

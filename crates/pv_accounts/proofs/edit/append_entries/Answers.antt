@@ -2,7 +2,8 @@ use Rattle.std.proofs.Common.{◌≡◌, [], ap, ◌∙◌}
 use Rattle.std.proofs.lemmas.List.{take_rest}
 use Rattle.pv_accounts.specs.Edits.{with_entries}
 use Rattle.pv_accounts.specs.Files.{lines_of}
-use Rattle.pv_accounts.proofs.Lines.{texts, lines_before, lines_after, appended_some}
+use Rattle.pv_accounts.proofs.Lines.{lines_before, lines_after, appended_some}
+use Rattle.pv_path.proofs.Tests.{texts}
 use Rattle.pv_accounts.proofs.edit.append_entries.Goals as goal
 
 pub returns-then-at-lines : goal.returns-then-at-lines

@@ -2,7 +2,7 @@ use Rattle.std.proofs.Common.{◌≡◌, ◌+◌, length}
 use Rattle.std.specs.List.{AllByRecursion}
 use Rattle.pv_conf.specs.Configuration.{lines_in, reader_of, reading_of_lines}
 use Rattle.pv_conf.proofs.ReadingLaws.{Underway}
-use Rattle.pv_conf.proofs.reading.add_lines.Given as goal
+use Rattle.pv_conf.proofs.file_lines.add_lines.Given as goal
 
 abbrev pub invariant-loop-rest : goal.invariant-loop-rest
 invariant-loop-rest g l =

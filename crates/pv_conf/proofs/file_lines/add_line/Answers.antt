@@ -1,7 +1,7 @@
 use Rattle.std.proofs.Common.{sym, ◌∙◌}
 use Rattle.pv_conf.specs.Configuration.{reader_of}
 use Rattle.pv_conf.proofs.ReadingLaws.{line_part}
-use Rattle.pv_conf.proofs.reading.add_line.Goals as goal
+use Rattle.pv_conf.proofs.file_lines.add_line.Goals as goal
 
 pub returns-in_err-push-in-Some-clause-part : goal.returns-in_err-push-in-Some-clause-part
 returns-in_err-push-in-Some-clause-part g c =

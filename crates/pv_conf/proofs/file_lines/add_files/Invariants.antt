@@ -2,7 +2,7 @@ use Rattle.std.proofs.Common.{drop}
 use Rattle.std.specs.List.{AllByRecursion}
 use Rattle.pv_conf.specs.Configuration.{reader_of, reading_of_files}
 use Rattle.pv_conf.proofs.ReadingLaws.{Underway}
-use Rattle.pv_conf.proofs.reading.add_files.Given as goal
+use Rattle.pv_conf.proofs.file_lines.add_files.Given as goal
 
 abbrev pub invariant-loop-path : goal.invariant-loop-path
 invariant-loop-path g l =

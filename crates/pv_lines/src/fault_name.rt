@@ -2,7 +2,7 @@
 ghost use Rattle.std.specs.Prelude.{◌≡◌};
 ghost use Rattle.pv_lines.specs.FaultNames.{acl_name, age_name, name_of, path_name, pattern_name};
 
-use crate::fault::LineFault;
+use crate::line_fault::LineFault;
 use pv_acl::AclFault;
 use pv_age::AgeFault;
 use pv_glob::PatternFault;

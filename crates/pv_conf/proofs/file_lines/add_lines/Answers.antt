@@ -1,7 +1,7 @@
 use Rattle.std.proofs.Common.{◌≡◌, ◌+◌, refl}
 use Rattle.pv_conf.specs.Configuration.{lines_in, reader_of, reading_of, reading_of_lines}
 use Rattle.pv_conf.proofs.ReadingLaws.{underway_start, underway_more, underway_part, underway_said, next_line}
-use Rattle.pv_conf.proofs.reading.add_lines.Goals as goal
+use Rattle.pv_conf.proofs.file_lines.add_lines.Goals as goal
 
 pub loop-rest-init : goal.loop-rest-init
 loop-rest-init g c = (refl, underway_start _ _ _, c.requires)

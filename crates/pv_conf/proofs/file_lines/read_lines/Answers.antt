@@ -4,7 +4,7 @@ use Rattle.pv_text.specs.Said.{SaidPart}
 use Rattle.pv_path.specs.Paths.{Path}
 use Rattle.pv_conf.specs.Configuration.{reader_of, reading_of_files}
 use Rattle.pv_text.proofs.SaidLaws.{said_first, said_then, said_whole}
-use Rattle.pv_conf.proofs.reading.read_lines.Goals as goal
+use Rattle.pv_conf.proofs.file_lines.read_lines.Goals as goal
 
 pub returns-in_err-chosen-clause-part : goal.returns-in_err-chosen-clause-part
 returns-in_err-chosen-clause-part g c =

@@ -1,7 +1,7 @@
 use Rattle.std.proofs.Common.{◌+◌, drop}
 use Rattle.pv_conf.specs.Configuration.{reader_of, reading_of_file, reading_of_files}
 use Rattle.pv_conf.proofs.ReadingLaws.{underway_start, underway_more, underway_part, underway_said, next_file}
-use Rattle.pv_conf.proofs.reading.add_files.Goals as goal
+use Rattle.pv_conf.proofs.file_lines.add_files.Goals as goal
 
 pub loop-path-init : goal.loop-path-init
 loop-path-init g c = (underway_start _ _ _, c.requires)

@@ -1,6 +1,6 @@
 //! Why there is no plan.
 ghost use Rattle.std.specs.Prelude.{◌≡◌};
-ghost use Rattle.pv_sysusers.specs.declared.fault.PlanFault.TheVariants.{Memory};
+ghost use Rattle.pv_sysusers.specs.declared.plan_fault.PlanFault.TheVariants.{Memory};
 
 use pv_path::Bytes;
 use std::alloc::{AllocError, AllocFailed};

@@ -1,7 +1,7 @@
 use Rattle.std.proofs.Common.{rules}
 use Rattle.pv_glob.specs.Braces.{rests_of}
 use Rattle.pv_glob.proofs.BraceLaws.{beyond_means, close_means, some_made, some_together}
-use Rattle.pv_glob.proofs.reading.Reading.close.Goals as goal
+use Rattle.pv_glob.proofs.brace_reading.Reading.close.Goals as goal
 
 pub returns-then-len-most-clause-beyond : goal.returns-then-len-most-clause-beyond
 returns-then-len-most-clause-beyond c = λ places. beyond_means c.args.most c.args.self.opened.items c.pop.new.self.items c.in-Some.pair c.args.self.words c.in_ok-done.done places (search rules) (search rules) (search rules)

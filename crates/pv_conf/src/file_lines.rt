@@ -8,7 +8,7 @@ ghost use Rattle.pv_conf.specs.Adding.{Adds, Reads};
 
 use crate::configuration::Configuration;
 use crate::cutting::{first_line, is_skipped};
-use crate::reader::LineReader;
+use crate::line_reader::LineReader;
 use pv_layers::chosen_files;
 use pv_path::{Sequence, TreePath, WordList};
 use pv_steps::{Kind, Tree};
@@ -47,7 +47,7 @@ fn add_line<R: LineReader>(
     }
 }
 
-/// The number after one. A number past 32 bits counts as want of memory.
+/// The number after one. A number past 32 bits counts as running out of memory.
 fn next_number(number: u32) -> Result<u32, AllocError>
     ensures next { IfOk result (λ next. next ≡ number + 1) }
     ensures few { IfOk result (λ next. next < 2 ^ 32) }
@@ -147,7 +147,7 @@ fn add_files<T: Tree, R: LineReader>(
 
 /// The configuration of a tool in a tree: the lines of the files that the words name, or without words of those that
 /// the folders of the tool hold. What is said of files and words comes before what is said of lines. More than
-/// 4294967295 lines count as want of memory.
+/// 4294967295 lines count as running out of memory.
 pub fn read_lines<T: Tree, R: LineReader>(
     alloc: Global,
     tree: &T,
