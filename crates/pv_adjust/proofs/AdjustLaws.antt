@@ -24,10 +24,10 @@ use Rattle.pv_dress.specs.declared.bare.Bare.{Bare}
 use Rattle.pv_dress.specs.declared.bare.Dress.{Dress}
 use Rattle.pv_dress.specs.declared.operation.Operation.{Operation}
 use Rattle.pv_dress.specs.Dividing.{parts}
-use Rattle.pv_dress.specs.Dressing.{IsDress, CanWear, wear, wear_attrs, wear_first, wear_letters, Dressing, GivesDress, IsChanged, IsKeptBy, ChangedAt, Lacks}
+use Rattle.pv_dress.specs.Dressing.{IsDress, CanDress, dressed, dressed_attrs, dressed_first, dressed_letters, Dressing, GivesDress, IsChanged, IsKeptBy, ChangedAt, Lacks}
 use Rattle.pv_dress.specs.Nodes.{bare_of, bares_of, is_file}
 use Rattle.pv_dress.specs.Operations.{run}
-use Rattle.pv_dress.specs.Wearing.{Changing, wear_access}
+use Rattle.pv_dress.specs.Changing.{Changing, dressed_access}
 use Rattle.pv_dress.proofs.EditLaws.{path_cases, on_at-put, put_at-else, put_at-here, put_at-same, put_at-twice}
 use Rattle.pv_dress.proofs.OperationLaws.{bares_of-same}
 use Rattle.pv_table.specs.Created.{change_work, most_changed}
@@ -38,7 +38,8 @@ use Rattle.pv_adjust.specs.Adjusting.{Adjusting, GivesBytes, GivesSet, GivesWant
 use Rattle.pv_adjust.proofs.Making.{with_payload}
 use Rattle.pv_adjust.proofs.SetLaws.{Front, IsSet, Kept, worn, set_of, front_none}
 use Rattle.pv_adjust.proofs.Unwritten.{unwritten}
-use Rattle.pv_adjust.proofs.Becoming.{bare_cases, bytes_cases, bare_restamped, restamped-same, restamped-changed, restamped-modified, restamped_then, becomes}
+use Rattle.pv_adjust.proofs.Becoming.{becomes}
+use Rattle.pv_table.proofs.Restamping.{bare_cases, bytes_cases, bare_restamped, restamped-same, restamped-changed, restamped-modified, restamped_then}
 
 -- ---- one object
 
@@ -47,14 +48,14 @@ pub own_dress : (o : Object) → IsObject o → IsDress o.node.kind (bare_of o).
 own_dress o whole = record { owner = whole.owner; special = whole.special; acl = whole.acl; fits = whole.kind_acl; attrs = whole.attrs; letters = whole.letters }
 
 -- what a dress has given, without stamps
-bare_worn : (k : ℕ) (d : Dress) (o : Object) → bare_of (wear_first k d o) ≡ worn k d (bare_of o)
+bare_worn : (k : ℕ) (d : Dress) (o : Object) → bare_of (dressed_first k d o) ≡ worn k d (bare_of o)
 bare_worn zero d o = refl
 bare_worn (suc zero) d o = refl
 bare_worn (suc (suc zero)) d o = refl
 bare_worn (suc (suc (suc zero))) d o = refl
 bare_worn (suc (suc (suc (suc zero)))) d o = refl
 bare_worn (suc (suc (suc (suc (suc k))))) d o =
-    subst (λ (xs : List (Object → Object)). bare_of (fold (λ x change. change x) (wear_first 5 d o) xs) ≡ record (bare_of o) { dress = d }) (sym (take-nil k)) refl
+    subst (λ (xs : List (Object → Object)). bare_of (fold (λ x change. change x) (dressed_first 5 d o) xs) ≡ record (bare_of o) { dress = d }) (sym (take-nil k)) refl
 
 -- a part that bytes leave as they are
 part_written : {A : Type 0} (part : Object → A) → ((p : List ℕ) (now : ℕ) (x : Object) → part (with_content p now x) ≡ part x) → (now : ℕ) (bytes : Option (List ℕ)) (o : Object) → part (written now bytes o) ≡ part o
@@ -129,7 +130,7 @@ module _ (path : Path) (sets : List Operation) (are : AreSets sets) (t : Files) 
     there_now : places u path ≡ Some second
     there_now = puts path ∙ put_at-here path (Some second) (places t)
 
-    pub can_wear : CanWear u path wanted.dress
+    pub can_wear : CanDress u path wanted.dress
     can_wear = record {
       kind = o.node.kind;
       there = ap kind_of there_now ∙ ap Some second_kind;
@@ -139,12 +140,12 @@ module _ (path : Path) (sets : List Operation) (are : AreSets sets) (t : Files) 
     -- ---- the tree when all is set
 
     -- what the dress makes of the object with its new bytes
-    worn_new : bare_of (wear wanted.dress second) ≡ new
+    worn_new : bare_of (dressed wanted.dress second) ≡ new
     worn_new = (λ i. record { body = (bare_second i).body; dress = wanted_dress i })
 
-    dressed : (x : Object) → IsChanged (wear wanted.dress) now second x → x ≡ restamped now new second
-    dressed x (inl h) = h.1 ∙ sym (restamped-same now new second (sym worn_new ∙ ap bare_of h.0))
-    dressed x (inr h) =
+    dressed_is : (x : Object) → IsChanged (dressed wanted.dress) now second x → x ≡ restamped now new second
+    dressed_is x (inl h) = h.1 ∙ sym (restamped-same now new second (sym worn_new ∙ ap bare_of h.0))
+    dressed_is x (inr h) =
         let differs : same_bare new (bare_of second) ≡ false = elim (bare_cases new (bare_of second)) [
           | inl e ↦ absurd (h.0 (ap (λ (b : Bare). as_bare b second) (worn_new ∙ e)))
           | inr e ↦ e
@@ -152,23 +153,23 @@ module _ (path : Path) (sets : List Operation) (are : AreSets sets) (t : Files) 
         h.1 ∙ ap (λ (b : Bare). changed now (as_bare b second)) worn_new
         ∙ sym (restamped-changed now new second differs (ap (λ (b : Bare). b.body.payload) (sym bare_second)))
 
-    becomes_new : (x : Object) → IsChanged (wear wanted.dress) now second x → x ≡ become now sets o
+    becomes_new : (x : Object) → IsChanged (dressed wanted.dress) now second x → x ≡ become now sets o
     becomes_new x h =
-        dressed x h ∙ ap (restamped now new) second_is
+        dressed_is x h ∙ ap (restamped now new) second_is
         ∙ restamped_then now first new o (λ e. ap (λ (b : Bare). record (bare_of o) { body = b.body }) e) refl
         ∙ sym (becomes now sets are o new set.is)
 
-    pub adjusted_ok : (v : Files) → ChangedAt (wear wanted.dress) path now u v → places v ≡ on_at path (become now sets) (places t)
+    pub adjusted_ok : (v : Files) → ChangedAt (dressed wanted.dress) path now u v → places v ≡ on_at path (become now sets) (places t)
     adjusted_ok v h =
         let same : h.old ≡ second = same_Some h.old second (sym h.there ∙ there_now) in
-        let change : IsChanged (wear wanted.dress) now second h.object = subst (λ x. IsChanged (wear wanted.dress) now x h.object) same h.is in
+        let change : IsChanged (dressed wanted.dress) now second h.object = subst (λ x. IsChanged (dressed wanted.dress) now x h.object) same h.is in
         λ j q.
         (ap (λ (p : Places). p q) h.left ∙ ap (λ (v : Option Object). cond (same_path path q) (Some h.object) v) (puts q)
         ∙ put_at-twice path (Some second) (Some h.object) (places t) q
         ∙ ap (λ x. put_at path (Some x) (places t) q) (becomes_new h.object change)
         ∙ sym (on_at-put path (become now sets) o (places t) there q)) j
 
-    pub adjusted_on : (r : Result (Unit {0}) TreeFault) (v : Files) → OnOk r (ChangedAt (wear wanted.dress) path now u v) → OnOk r (places v ≡ on_at path (become now sets) (places t))
+    pub adjusted_on : (r : Result (Unit {0}) TreeFault) (v : Files) → OnOk r (ChangedAt (dressed wanted.dress) path now u v) → OnOk r (places v ≡ on_at path (become now sets) (places t))
     adjusted_on (Ok x) v h = adjusted_ok v h
     adjusted_on (Err e) v h = tt
 
@@ -206,11 +207,11 @@ module _ (path : Path) (sets : List Operation) (are : AreSets sets) (t : Files) 
     pub dressing : (v : Files) → Dressing path wanted.dress u v → Adjusting path sets t v
     dressing v h =
         let k = h.0 in
-        let x = wear_first k wanted.dress second in
+        let x = dressed_first k wanted.dress second in
         let bare_x : bare_of x ≡ worn k new.dress first = bare_worn k wanted.dress second ∙ (λ i. worn k (wanted_dress i) (bare_second i)) in
         adjusting_as v x (subst (λ b. Front (parts sets) (bare_of o) b) (sym bare_x) (set.front k))
         (λ q. h.1 q ∙ ap (option_map bare)
-        (on_at-put path (wear_first k wanted.dress) second (places u) (there_now u wrote) q
+        (on_at-put path (dressed_first k wanted.dress) second (places u) (there_now u wrote) q
         ∙ ap (λ (v : Option Object). cond (same_path path q) (Some x) v) (puts u wrote q) ∙ put_at-twice path (Some second) (Some x) (places t) q))
 
     -- ---- each step
@@ -222,7 +223,7 @@ module _ (path : Path) (sets : List Operation) (are : AreSets sets) (t : Files) 
     gives_dress : (s : Step) → GivesDress path wanted.dress u s → GivesDress path wanted.dress t s
     gives_dress s (inl e) = inl e
     gives_dress s (inr (inl e)) = inr (inl e)
-    gives_dress s (inr (inr (inl e))) = inr (inr (inl (e.0, lacks (λ x. (wear_first 2 wanted.dress x).node.acl) wanted.dress.acl (part_written (λ x. (wear_first 2 wanted.dress x).node.acl) (λ p now x. refl) now wanted.bytes o) e.1)))
+    gives_dress s (inr (inr (inl e))) = inr (inr (inl (e.0, lacks (λ x. (dressed_first 2 wanted.dress x).node.acl) wanted.dress.acl (part_written (λ x. (dressed_first 2 wanted.dress x).node.acl) (λ p now x. refl) now wanted.bytes o) e.1)))
     gives_dress s (inr (inr (inr (inl e)))) = inr (inr (inr (inl (e.0, lacks (λ x. x.node.attrs) wanted.dress.attrs (part_written (λ x. x.node.attrs) (λ p now x. refl) now wanted.bytes o) e.1))))
     gives_dress s (inr (inr (inr (inr e)))) = inr (inr (inr (inr (e.0, lacks (λ x. x.node.letters) wanted.dress.letters (part_written (λ x. x.node.letters) (λ p now x. refl) now wanted.bytes o) e.1))))
 
@@ -271,35 +272,35 @@ module _ (path : Path) (sets : List Operation) (are : AreSets sets) (t : Files) 
     bare_dress : (bare_of second).dress ≡ (bare_of o).dress
     bare_dress = ap (λ (b : Bare). b.dress) bare_second
 
-    wears_all : new ≡ bare_of o → wear wanted.dress second ≡ second
-    wears_all e = ap (λ (d : Dress). wear d second) (wanted_dress ∙ ap (λ (b : Bare). b.dress) e ∙ sym bare_dress)
+    dresses_all : new ≡ bare_of o → dressed wanted.dress second ≡ second
+    dresses_all e = ap (λ (d : Dress). dressed d second) (wanted_dress ∙ ap (λ (b : Bare). b.dress) e ∙ sym bare_dress)
 
-    wears_others : new.dress.attrs ≡ (bare_of o).dress.attrs → wear_attrs wanted.dress second ≡ second
-    wears_others e = ap (λ v. record second { node = record second.node { attrs = v } }) (ap (λ (d : Dress). d.attrs) wanted_dress ∙ e ∙ sym (ap (λ (d : Dress). d.attrs) bare_dress))
+    dresses_others : new.dress.attrs ≡ (bare_of o).dress.attrs → dressed_attrs wanted.dress second ≡ second
+    dresses_others e = ap (λ v. record second { node = record second.node { attrs = v } }) (ap (λ (d : Dress). d.attrs) wanted_dress ∙ e ∙ sym (ap (λ (d : Dress). d.attrs) bare_dress))
 
-    wears_letters : new.dress.letters ≡ (bare_of o).dress.letters → wear_letters wanted.dress second ≡ second
-    wears_letters e = ap (λ v. record second { node = record second.node { letters = v } }) (ap (λ (d : Dress). d.letters) wanted_dress ∙ e ∙ sym (ap (λ (d : Dress). d.letters) bare_dress))
+    dresses_letters : new.dress.letters ≡ (bare_of o).dress.letters → dressed_letters wanted.dress second ≡ second
+    dresses_letters e = ap (λ v. record second { node = record second.node { letters = v } }) (ap (λ (d : Dress). d.letters) wanted_dress ∙ e ∙ sym (ap (λ (d : Dress). d.letters) bare_dress))
 
-    wears_access : new ≡ record (bare_of o) { dress = record (bare_of o).dress { attrs = new.dress.attrs; letters = new.dress.letters } } → wear_access wanted.dress second ≡ second
-    wears_access e =
-        ap (λ (d : Dress). wear_access d second) wanted_dress ∙ ap (λ (b : Bare). wear_access b.dress second) e ∙ ap (λ (d : Dress). wear_access d second) (sym bare_dress)
+    dresses_access : new ≡ record (bare_of o) { dress = record (bare_of o).dress { attrs = new.dress.attrs; letters = new.dress.letters } } → dressed_access wanted.dress second ≡ second
+    dresses_access e =
+        ap (λ (d : Dress). dressed_access d second) wanted_dress ∙ ap (λ (b : Bare). dressed_access b.dress second) e ∙ ap (λ (d : Dress). dressed_access d second) (sym bare_dress)
 
     module _ (r : Result (Unit {0}) TreeFault) (n : ℕ) (wrote_few : n ≤ 1) (wrote_none : IsKeptBy (holding wanted.bytes) path t → n ≡ 0) (h k : List Step)
-        (few : IsKeptBy (wear_attrs wanted.dress) path u → IsKeptBy (wear_letters wanted.dress) path u → asked r h k ≤ 3)
-        (two : IsKeptBy (wear_access wanted.dress) path u → asked r h k ≤ 2)
-        (idle : IsKeptBy (wear wanted.dress) path u → asked r h k ≡ 0) where
+        (few : IsKeptBy (dressed_attrs wanted.dress) path u → IsKeptBy (dressed_letters wanted.dress) path u → asked r h k ≤ 3)
+        (two : IsKeptBy (dressed_access wanted.dress) path u → asked r h k ≤ 2)
+        (idle : IsKeptBy (dressed wanted.dress) path u → asked r h k ≡ 0) where
       at_most : Kept (bare_of o) new → n + asked r h k ≤ 4
-      at_most (Kept.stays a l) = let most = few (kept_then (wear_attrs wanted.dress) (wears_others a)) (kept_then (wear_letters wanted.dress) (wears_letters l)) in omega (arith, most, wrote_few)
+      at_most (Kept.stays a l) = let most = few (kept_then (dressed_attrs wanted.dress) (dresses_others a)) (kept_then (dressed_letters wanted.dress) (dresses_letters l)) in omega (arith, most, wrote_few)
       at_most (Kept.only e) =
           let none = wrote_none (bytes_kept (ap (λ (b : Bare). b.body.payload) e)) in
-          let most = two (kept_then (wear_access wanted.dress) (wears_access e)) in
+          let most = two (kept_then (dressed_access wanted.dress) (dresses_access e)) in
           omega (arith, most, none)
 
       pub few_steps : n + asked r h k ≤ change_work sets (places t path)
       few_steps = subst (λ m. n + asked r h k ≤ m) (sym work_is) (elim (bare_cases new (bare_of o)) [
         | inl e ↦
             let none = wrote_none (bytes_kept (ap (λ (b : Bare). b.body.payload) e)) in
-            let idle = idle (kept_then (wear wanted.dress) (wears_all e)) in
+            let idle = idle (kept_then (dressed wanted.dress) (dresses_all e)) in
             omega (arith, none, idle)
         | inr e ↦ subst (λ s. n + asked r h k ≤ (if s then 0 else most_changed)) (sym e) (at_most set.kept)
       ])
@@ -332,9 +333,9 @@ module _ {S : Type 0} (tree : Ghosts S) (moves : Moves tree) (path : Path) (sets
   module _ (c : S) (wrote : places (tree.state b) ≡ on_at path (written now wanted.bytes) (places t)) (x : Unit {0}) (first : Acted tree (Changing path (holding wanted.bytes) t) (GivesWanted path wanted.bytes t) 1 now a b (Ok x))
       (idle : IsKeptBy (holding wanted.bytes) path t → asked {A = Unit {0}} (Ok x) (tree.steps a) (tree.steps b) ≡ 0) where
     pub all_acted : (r : Result (Unit {0}) TreeFault) → Acted tree (Dressing path wanted.dress (tree.state b)) (GivesDress path wanted.dress (tree.state b)) 5 now b c r
-        → (IsKeptBy (wear_attrs wanted.dress) path (tree.state b) → IsKeptBy (wear_letters wanted.dress) path (tree.state b) → asked r (tree.steps b) (tree.steps c) ≤ 3)
-        → (IsKeptBy (wear_access wanted.dress) path (tree.state b) → asked r (tree.steps b) (tree.steps c) ≤ 2)
-        → (IsKeptBy (wear wanted.dress) path (tree.state b) → asked r (tree.steps b) (tree.steps c) ≡ 0)
+        → (IsKeptBy (dressed_attrs wanted.dress) path (tree.state b) → IsKeptBy (dressed_letters wanted.dress) path (tree.state b) → asked r (tree.steps b) (tree.steps c) ≤ 3)
+        → (IsKeptBy (dressed_access wanted.dress) path (tree.state b) → asked r (tree.steps b) (tree.steps c) ≤ 2)
+        → (IsKeptBy (dressed wanted.dress) path (tree.state b) → asked r (tree.steps b) (tree.steps c) ≡ 0)
         → Acted tree (Adjusting path sets t) (GivesSet path sets t) (change_work sets (places t path)) now a c r
     all_acted r last few two none =
         let before = bytes_acted (Ok x) first idle in

@@ -30,7 +30,7 @@ use Rattle.pv_table.specs.Repeatable.{sets_of}
 
 -- ---- the parts of a list
 
-owner_ids : (field : Option LineId) → AreIds field → IfSome (id_to_set field) IsId
+pub owner_ids : (field : Option LineId) → AreIds field → IfSome (id_to_set field) IsId
 owner_ids None h = tt
 owner_ids (Some owner) h = by owner.new_only
   where
@@ -61,7 +61,7 @@ sets_mode (Some mode) (Some guard) h real = by mode.new_only
     by true = tt
     by false = (real guard refl, h)
 
-sets_contents : (line : Line) (kind : Kind) → AtMostOne SetsBytes (contents_to_set line kind)
+pub sets_contents : (line : Line) (kind : Kind) → AtMostOne SetsBytes (contents_to_set line kind)
 sets_contents line kind = by (line.plus && is_file kind)
   where
     by : (s : Bool) → AtMostOne SetsBytes (if s then Adjust (Only File) (Write (bytes_of line.argument)) ∷ [] else [])

@@ -1,6 +1,6 @@
 -- Laws of single operations that are set: what each makes of an object without its stamps, and that the object stays one
 -- that its kind can be.
-use Rattle.std.specs.Prelude.{◌≡◌, ℕ, ◌-◌, ◌++◌, ◌/◌, ◌%◌, ◌<◌, ◌≤◌, ◌^◌, Bool, true, false, ◌&&◌, ◌∷◌, List, [], bit_and, Option, Some, None, unwrap_or, IfSome, if◌then◌else◌}
+use Rattle.std.specs.Prelude.{◌≡◌, ℕ, ◌-◌, ◌++◌, ◌/◌, ◌%◌, ◌<◌, ◌≤◌, ◌^◌, Bool, true, false, ◌&&◌, ◌∷◌, List, [], bit_and, Some, unwrap_or, if◌then◌else◌}
 use Rattle.std.specs.List.{list_all}
 use Rattle.std.proofs.Common.{refl, sym, ap, ◌∙◌, arith}
 use Rattle.std.proofs.lemmas.Bool.Decides.{nat_tests}
@@ -23,7 +23,7 @@ use Rattle.pv_steps.specs.declared.letters.LetterHow.TheVariants as how
 use Rattle.pv_steps.specs.declared.node.Kind.{Kind}
 use Rattle.pv_steps.specs.declared.node.Kind.TheVariants.{Directory, File, Link, Fifo, CharDevice, BlockDevice}
 use Rattle.pv_steps.specs.Objects.{IsId, AclFits, AttrsFit, LettersFit, is_directory}
-use Rattle.pv_steps.proofs.ObjectLaws.{is_acl-with_mode}
+use Rattle.pv_steps.proofs.ObjectLaws.{is_acl-with_mode, small_special}
 use Rattle.pv_steps.proofs.AttrPutting.{are_attrs-put_attr}
 use Rattle.pv_dress.specs.declared.bare.Bare.{Bare}
 use Rattle.pv_dress.specs.declared.operation.Change.TheVariants.{Write, Append, Owner, Mode}
@@ -36,6 +36,7 @@ use Rattle.pv_dress.specs.Masks.{granted, with_masked, masked_special}
 use Rattle.pv_dress.specs.Nodes.{carries_letters, is_file, is_link}
 use Rattle.pv_dress.specs.Operations.{admits, changed, run}
 use Rattle.pv_adjust.specs.Sets.{AtMostOne, SetsBytes, SetsOwners, SetsMode}
+use Rattle.pv_walk.proofs.CopiedLaws.{id_is}
 
 -- an object with other bytes
 abbrev pub with_payload : List ℕ → Bare → Bare
@@ -76,10 +77,6 @@ pub record OwnersMade (xs : List Operation) (b : Bare) : Type 0 where
   pub ids : IsId b.dress.uid × IsId b.dress.gid → IsId uid × IsId gid
   pub plain : parts xs ≡ xs
 
-given_or : (id : Option ℕ) (old : ℕ) → IfSome id IsId → IsId old → IsId (unwrap_or id old)
-given_or None old h k = k
-given_or (Some id) old h k = h
-
 pub owners_made : (xs : List Operation) → AtMostOne SetsOwners xs → (b : Bare) → OwnersMade xs b
 owners_made [] h b = record { uid = b.dress.uid; gid = b.dress.gid; is = refl; ids = λ k. k; plain = refl }
 owners_made (Adjust guard (Owner uid gid) ∷ []) h b = by (admits guard b.body.kind) refl
@@ -89,7 +86,7 @@ owners_made (Adjust guard (Owner uid gid) ∷ []) h b = by (admits guard b.body.
       uid = unwrap_or uid b.dress.uid;
       gid = unwrap_or gid b.dress.gid;
       is = ap (λ s. Some (if s then changed b.body.kind (Owner uid gid) b else b)) e;
-      ids = λ k. (given_or uid b.dress.uid h.0 k.0, given_or gid b.dress.gid h.1 k.1);
+      ids = λ k. (id_is uid b.dress.uid h.0 k.0, id_is gid b.dress.gid h.1 k.1);
       plain = refl;
     }
     by false e = record {
@@ -120,9 +117,6 @@ other_mode Link special other acl access real h = absurd (real refl)
 other_mode Fifo special other acl access real h = h
 other_mode CharDevice special other acl access real h = h
 other_mode BlockDevice special other acl access real h = h
-
-small_special : (mode : ℕ) → mode ≤ 4095 → special_of mode ≤ 7
-small_special mode h = omega arith
 
 small_masked : (kind : Kind) (mode : ℕ) → mode ≤ 4095 → masked_special kind mode ≤ 7
 small_masked kind mode h = by (is_directory kind)

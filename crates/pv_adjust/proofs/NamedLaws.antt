@@ -12,7 +12,7 @@ use Rattle.pv_doing.specs.Courses.{Course, carried_of, each_of, CarriesOut}
 use Rattle.pv_doing.specs.declared.carried.Carried.{Carried}
 use Rattle.pv_doing.specs.declared.carried.Carried.TheVariants.{Whole}
 use Rattle.pv_doing.proofs.CarryingLaws.{carried_none, Underway, underway_start, underway_failed, underway_next, underway_end}
-use Rattle.pv_doing.proofs.CourseLaws.{next_left, none_left, partway_start}
+use Rattle.pv_doing.proofs.CourseLaws.{none_left, partway_start}
 use Rattle.pv_glob.specs.declared.element.Element.{Element}
 use Rattle.pv_glob.specs.Matching.{component_matches, matches, some_matches}
 use Rattle.pv_lines.specs.declared.line.Line.{Line}
@@ -38,6 +38,7 @@ use Rattle.pv_table.specs.Turns.{Refused, refused_at}
 use Rattle.pv_adjust.specs.Named.{touching_course}
 use Rattle.pv_adjust.specs.Reached.{IsPartSet}
 use Rattle.pv_adjust.proofs.ReachedLaws.{is_some-touched, places-touch, times-take}
+use Rattle.pv_path.proofs.Tests.{next_item}
 
 -- ---- presence
 
@@ -152,13 +153,13 @@ module _ {S : Type 0} (tree : Ghosts S) (moves : Moves tree) (now : ℕ) (line :
         → CarriesOut tree (each_of course) (turns line t) now a d old new r
     line_failed d new q r was passed one =
         subst (λ (all : List Path). CarriesOut tree (each_of course) all now a d old new r) all_turns
-        (underway_failed tree moves course (course_start now line touching) items now a old (drop i items) (drop (i + 1) items) at (next_left items i at lt is) carried b mid on.under d new q r was passed one)
+        (underway_failed tree moves course (course_start now line touching) items now a old (drop i items) (drop (i + 1) items) at (next_item items i at lt is) carried b mid on.under d new q r was passed one)
 
     -- and when it is done
     pub line_next : (d : S) (new : List (List ℕ)) (one ended : Carried) → CarriesOut tree course at now b d mid new (Ok one)
         → ((p q : Bool) → carried ≡ carried_of p → one ≡ carried_of q → ended ≡ carried_of (p || q)) → OnLine tree now line touching items (drop (i + 1) items) ended a d old new
     line_next d new one ended done both_ended = record {
-      under = underway_next tree moves course (course_start now line touching) items now a old (drop i items) (drop (i + 1) items) at (next_left items i at lt is) carried b mid on.under d new one ended done both_ended;
+      under = underway_next tree moves course (course_start now line touching) items now a old (drop i items) (drop (i + 1) items) at (next_item items i at lt is) carried b mid on.under d new one ended done both_ended;
       standing = λ q. ap (λ f. is_some (places f q)) done.ok ∙ turn_keeps now line touching deed at (tree.state b) q ∙ on.standing q;
     }
 

@@ -3,9 +3,8 @@ use Rattle.std.specs.Prelude.{◌≡◌, ◌⊎◌, ℕ, ◌+◌, ◌≤◌, ◌
 use Rattle.std.specs.FinMap as fin
 use Rattle.std.proofs.Common.{refl, sym, ap, subst, ◌∙◌, inl, inr, arith, zero, suc}
 use Rattle.std.proofs.lemmas.List.{take_all, take_more}
-use Rattle.std.specs.Prelude.{sum_by, IsPermutation}
+use Rattle.std.specs.Prelude.{IsPermutation}
 use Rattle.std.proofs.lemmas.Grind.{fold-append}
-use Rattle.std.proofs.lemmas.List.Sums.{sum_by-cons}
 use Rattle.std.proofs.lemmas.List.Sorted.{sum_by-IsPermutation}
 use Rattle.pv_path.specs.Paths.{Path, same_path, is_prefix, has_staging}
 use Rattle.pv_path.proofs.PathLaws.{same_path-refl}
@@ -32,6 +31,7 @@ use Rattle.pv_table.specs.Created.{change_work, touch_work}
 use Rattle.pv_table.specs.Effects.{become, is_touched, touch}
 use Rattle.pv_adjust.specs.Adjusting.{Adjusting, GivesBytes, GivesSet}
 use Rattle.pv_adjust.specs.Reached.{AdjustingReached, AreReachedBelow, GivesReached, IsPartSet, IsReached}
+use Rattle.pv_find.proofs.WholeLaws.{times-sum}
 
 -- ---- what is left at each path
 
@@ -100,10 +100,6 @@ sum-push w (z ∷ xs) x =
     let one = sum-cons w z (xs ++ x ∷ []) in
     let two = sum-cons w z xs in
     omega (arith, rest, one, two)
-
-times-sum : (q : Path) (xs : List Path) → times q xs ≡ sum_by (λ p. cond (same_path p q) 1 0) xs
-times-sum q [] = refl
-times-sum q (x ∷ xs) = let one = sum_by-cons (λ p. cond (same_path p q) 1 0) x xs in let rest = times-sum q xs in omega (arith, one, rest)
 
 -- another order counts the same
 times-permuted : (xs ys : List Path) → IsPermutation xs ys → (q : Path) → times q ys ≡ times q xs

@@ -9,7 +9,7 @@ use Rattle.pv_acl.specs.declared.part.Part.{Part}
 use Rattle.pv_acl.specs.declared.line.AclLine.{AclLine}
 use Rattle.pv_acl.specs.declared.line.How.{How}
 use Rattle.pv_acl.specs.declared.line.How.TheVariants.{Add}
-use Rattle.pv_acl.specs.Applying.{default_after, part_after, is_line}
+use Rattle.pv_acl.specs.Applying.{part_after, is_line}
 use Rattle.pv_acl.specs.Parts as parts
 use Rattle.pv_acl.proofs.Allowed.{is_acl-acl_after}
 use Rattle.pv_steps.specs.declared.attr.Attr.{Attr}
@@ -27,14 +27,14 @@ use Rattle.pv_dress.specs.declared.operation.Guard.{Guard}
 use Rattle.pv_dress.specs.declared.operation.Operation.{Operation}
 use Rattle.pv_dress.specs.declared.operation.Operation.TheVariants.{Adjust}
 use Rattle.pv_dress.specs.Dividing.{base_line, parts_of, parts}
-use Rattle.pv_dress.specs.Dressing.{IsDress, dress_mode, wear}
+use Rattle.pv_dress.specs.Dressing.{IsDress, dress_mode, dressed}
 use Rattle.pv_dress.specs.Nodes.{carries_letters, is_link}
 use Rattle.pv_dress.specs.Operations.{admits, changed, run}
 use Rattle.pv_dress.specs.Reasons.{is_base}
-use Rattle.pv_dress.proofs.Dividing.{base_first, run-parts}
+use Rattle.pv_dress.proofs.Dividing.{base_first, run-parts, default_kept}
 use Rattle.pv_dress.proofs.OperationLaws.{run-append}
 use Rattle.pv_dress.proofs.PartChanges.{base-part_after}
-use Rattle.pv_dress.proofs.WearLaws.{wears_mode}
+use Rattle.pv_dress.proofs.ChangingLaws.{dresses_mode}
 use Rattle.pv_adjust.specs.Sets.{AreSets, AtMostOne, SetsOther}
 use Rattle.pv_adjust.proofs.Making.{with_payload, BytesMade, OwnersMade, ModeMade, bytes_made, owners_made, mode_made, fits_entries, fits_attrs, fits_letters}
 
@@ -53,7 +53,7 @@ worn (suc (suc (suc (suc (suc k))))) d b = record b { dress = d }
 mode_itself : (kind : Kind) (d : Dress) → IsDress kind d → parts.with_mode (dress_mode d) d.acl.access ≡ d.acl.access
 mode_itself kind d fits =
     ap (λ (x : Object). x.node.acl.access)
-    (wears_mode kind d fits (wear d (fresh kind 0 [] 0 0 0)) (record { special = refl; base = record { owner = refl; group = refl; other = refl } }))
+    (dresses_mode kind d fits (dressed d (fresh kind 0 [] 0 0 0)) (record { special = refl; base = record { owner = refl; group = refl; other = refl } }))
 
 -- and the same of any part
 mode_others : (kind : Kind) (d : Dress) → IsDress kind d → (p : Part)
@@ -184,10 +184,6 @@ module _ (bytes owners mode : List Operation) (b : Bare) (fits : IsDress b.body.
   }
 
 -- ---- entries of an ACL
-
-default_kept : (directory : Bool) (access : Part) (d : Option Part) → (if directory then default_after Add access d [] else d) ≡ d
-default_kept true access d = refl
-default_kept false access d = refl
 
 module _ (guard : Guard) (line : AclLine) (how : How) (b : Bare) (fits : IsDress b.body.kind b.dress) (real : admits guard Link ≡ false) (is : is_line line ≡ true) (e : admits guard b.body.kind ≡ true) where
   abbrev sets : List Operation

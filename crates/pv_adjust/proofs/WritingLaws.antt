@@ -16,7 +16,7 @@ use Rattle.pv_steps.specs.Trees.{Files, Places, places, kind_of, payload_at, IsK
 use Rattle.pv_steps.proofs.ActingLaws.{Asks}
 use Rattle.pv_steps.proofs.StepLaws.{at_after}
 use Rattle.pv_dress.specs.Dressing.{IsKeptBy, Lacks}
-use Rattle.pv_dress.specs.Wearing.{Changing}
+use Rattle.pv_dress.specs.Changing.{Changing}
 use Rattle.pv_dress.proofs.EditLaws.{path_cases, bares-on_at, on_at-else, on_at-here}
 use Rattle.pv_adjust.specs.Adjusting.{GivesBytes, holding, written}
 

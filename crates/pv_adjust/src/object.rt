@@ -6,7 +6,7 @@ ghost use Rattle.pv_steps.specs.Acting.{asked, Acted};
 ghost use Rattle.pv_steps.specs.Steps.{on_at};
 ghost use Rattle.pv_steps.specs.Trees.{places, IsKind, IsPresent};
 ghost use Rattle.pv_dress.specs.Dressing.{IsKeptBy};
-ghost use Rattle.pv_dress.specs.Wearing.{Changing};
+ghost use Rattle.pv_dress.specs.Changing.{Changing};
 ghost use Rattle.pv_table.specs.Created.{change_work};
 ghost use Rattle.pv_table.specs.Effects.{become};
 ghost use Rattle.pv_adjust.specs.Sets.{AreSets};

@@ -19,13 +19,14 @@ use Rattle.pv_steps.proofs.TreeLaws.{present_above}
 use Rattle.pv_dress.specs.Edits.{Pruned}
 use Rattle.pv_walk.specs.Removal.{is_one_of}
 use Rattle.pv_find.specs.Whole.{goes_whole}
-use Rattle.pv_find.proofs.FindingLaws.{true_both, one_of-tied, same_tied, keys_passing, one_above, root_no_child, none_there, any_more}
+use Rattle.pv_find.proofs.FindingLaws.{one_of-tied, same_tied, keys_passing, one_above, root_no_child, none_there, any_more}
 use Rattle.pv_find.proofs.WholeLaws.{goes_parts, goes_from, goes_whole-same, all_at-each, push_length}
 use Rattle.pv_table.specs.declared.scope.Scope.{Scope}
 use Rattle.pv_table.specs.Cleaned.{is_aged, is_old_by, may_go}
 use Rattle.pv_table.specs.Reaching.{names}
 use Rattle.pv_table.specs.Removed.{all_at}
 use Rattle.pv_table.specs.Scopes.{scope}
+use Rattle.pv_path.proofs.Tests.{same_tests}
 
 -- what was pruned goes and is gone, or is there as it was, stamps aside
 pub took : (goes : Path → Bool) (t u : Files) (q : Path) → Pruned goes t u → ((goes q ≡ true) × IsAbsentIn (places u) q) ⊎ (bares (places u) q ≡ bares (places t) q)
@@ -135,7 +136,7 @@ module _ (lines : List Line) (now : ℕ) (files : Files) where
 
   -- what may go whole is aged
   pub goes_aged : (q : Path) → goes_whole (may_go lines now files) files q ≡ is_aged lines now files q
-  goes_aged q = true_both (goes_whole (may_go lines now files) files q) (is_aged lines now files q)
+  goes_aged q = same_tests (goes_whole (may_go lines now files) files q) (is_aged lines now files q)
       (λ h. let parts = goes_parts (may_go lines now files) files q h in and_from (is_some (places files q)) (all_at (may_go lines now files) files q) parts.0 parts.2)
       (λ h.
       let parts = and_parts (is_some (places files q)) (all_at (may_go lines now files) files q) h in

@@ -25,7 +25,7 @@ use Rattle.pv_dress.specs.Edits.{Pruned}
 use Rattle.pv_walk.specs.Listing.{times, is_child, IsListing, ParentsFirst}
 use Rattle.pv_walk.specs.Removal.{is_below, is_one_of, loses_child, removal, removal_at}
 use Rattle.pv_walk.proofs.CountLaws.{is_child-push, length-times, same_or_not, taken_out, times-append, times-filter, times-keys, times-self}
-use Rattle.pv_walk.proofs.RemovalLaws.{apart, cond-true, is_below-child, kept-bare, kept-kind, kept-present, modified_kept, no_same, none_of, not_first, zero_or_more, gone-here, gone-none, gone-other, gone-parent, IsKept}
+use Rattle.pv_walk.proofs.RemovalLaws.{cond-true, is_below-child, kept-bare, kept-kind, kept-present, modified_kept, no_same, not_first, zero_or_more, gone-here, gone-none, gone-other, gone-parent, IsKept}
 use Rattle.pv_walk.proofs.ListingLaws.{cond-le}
 use Rattle.pv_walk.proofs.Removing.{after_removal, removal_asks}
 use Rattle.pv_find.specs.Whole.{goes_whole}
@@ -34,6 +34,7 @@ use Rattle.pv_find.proofs.WholeLaws.{all_at-each, goes_parts}
 use Rattle.pv_table.specs.Removed.{files_without}
 use Rattle.pv_remove.proofs.StopLaws.{places-without}
 use Rattle.pv_clean.specs.Cleaning.{clean_step, giving_back, is_task, most_steps, stays_and_loses, ArePlanned, GoAfter, IsCleanStep}
+use Rattle.pv_path.proofs.Tests.{true_not_false, none_of}
 
 -- ---- one path
 
@@ -257,7 +258,7 @@ module _ (goes : Path → Bool) (t : Files) (now : ℕ) (whole : (q : Path) → 
     ]
 
     first_nonempty : goes p ≡ true → p ≢ []
-    first_nonempty h root = apart (goes []) (ap goes (sym root) ∙ h) (no_root goes t whole)
+    first_nonempty h root = true_not_false (goes []) (ap goes (sym root) ∙ h) (no_root goes t whole)
 
     first_asks : Asks (Pruned goes t) (IsCleanStep goes t) u (clean_step goes t p) now
     first_asks =
@@ -341,7 +342,7 @@ module _ (goes : Path → Bool) (t : Files) (now : ℕ) (steps : List Step) (pla
 
   -- what goes is not the root
   going_below : (r : Path) → goes r ≡ true → r ≢ []
-  going_below r h root = apart (goes []) (ap goes (sym root) ∙ h) (no_root goes t whole)
+  going_below r h root = true_not_false (goes []) (ap goes (sym root) ∙ h) (no_root goes t whole)
 
   -- a directory that stays and loses a child
   at_loser : (q : Path) → goes q ≡ false → is_some (places t q) ≡ true → 1 ≤ times q plan.paths → worked goes t now plan.paths (places t) q ≡ option_map (changed now) (places t q)
@@ -391,7 +392,7 @@ module _ (goes : Path → Bool) (t : Files) (now : ℕ) (steps : List Step) (pla
       by true true l a b c = worked-gone goes t now (places t) q plan.paths b (let e = counted true true l a b c in omega (arith, e))
       by true false true a b c = at_loser q b a (let e = counted true false true a b c in omega (arith, e))
       by true false false a b c = worked-same goes t now (places t) q plan.paths (counted true false false a b c) (λ r some h. no_same (parent_of r) q (λ over.
-          apart (loses_child goes t q) (child_lost goes t q r (going_below r h) over (planned_there r some).0 h).1 c))
+          true_not_false (loses_child goes t q) (child_lost goes t q r (going_below r h) over (planned_there r some).0 h).1 c))
 
   -- the tree after the clean phase
   pub planned_end : (u : Files) → u ≡ after_all t (reverse steps) now → u ≡ files_without goes (changed now) t

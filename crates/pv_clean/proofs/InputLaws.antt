@@ -19,7 +19,6 @@ use Rattle.pv_steps.proofs.ContentLaws.{removal_inside}
 use Rattle.pv_steps.specs.Runs.{after_all, Ran}
 use Rattle.pv_steps.specs.Trees.{IsTree, Files, places}
 use Rattle.pv_dress.specs.Edits.{Pruned}
-use Rattle.pv_walk.proofs.RemovalLaws.{apart}
 use Rattle.pv_find.proofs.WholeLaws.{all_at-each}
 use Rattle.pv_table.specs.declared.reason.Reason.TheVariants as reason
 use Rattle.pv_table.specs.declared.scope.Scope.{Scope}
@@ -34,6 +33,7 @@ use Rattle.pv_table.proofs.PlaceLaws.{first_place-none, missing}
 use Rattle.pv_clean.specs.Cleaning.{IsCleanStep}
 use Rattle.pv_remove.proofs.InputLaws.{MayChange, governs_below, kept_content, kept_on_run, none_passes}
 use Rattle.pv_remove.proofs.RunLaws.{any_weaken}
+use Rattle.pv_path.proofs.Tests.{true_not_false}
 
 -- ---- where no line gives an age
 
@@ -97,9 +97,9 @@ module _ (lines : List Line) (now : ℕ) (t : Files) where
   -- what is aged is governed by a line that gives an age to what it lies below
   pub aged_governed : (q : Path) → is_aged lines now t q ≡ true → list_any (λ line. governs line q) lines ≡ true
   aged_governed q h = true_from_ne_false (list_any (λ line. governs line q) lines) (λ away.
-      apart (may_go lines now t q) (aged_goes q h) (ageless q (λ k within.
+      true_not_false (may_go lines now t q) (aged_goes q h) (ageless q (λ k within.
       false_from_ne_true (list_any (gives_age (take k q)) lines) (λ some.
-      apart (list_any (λ line. governs line q) lines) (any_weaken (gives_age (take k q)) (λ line. governs line q) (λ line e.
+      true_not_false (list_any (λ line. governs line q) lines) (any_weaken (gives_age (take k q)) (λ line. governs line q) (λ line e.
       let two = and_parts (names line (take k q)) (is_some line.age) e in
       (aging_may line q k within two.0 two.1).governs) lines some) away))))
 
@@ -113,7 +113,7 @@ module _ (lines : List Line) (free : (i : ℕ) → HasReason lines i reason.Inpu
   none_aged q input = by (is_aged lines now t q) refl
     where
       by : (b : Bool) → is_aged lines now t q ≡ b → b ≡ false
-      by true h = absurd (apart (may_go lines now t q) (aged_goes lines now t q h) (none_may_go q input (tree.names q (and_parts (is_some (places t q)) (all_at (may_go lines now t) t q) h).0)))
+      by true h = absurd (true_not_false (may_go lines now t q) (aged_goes lines now t q h) (none_may_go q input (tree.names q (and_parts (is_some (places t q)) (all_at (may_go lines now t) t q) h).0)))
       by false h = refl
 
   -- at each moment on the way

@@ -1,8 +1,7 @@
 -- Laws of what is done one after the other: what holds when some is done, when one thing is cut short, and when all is
 -- done.
-use Rattle.std.specs.Prelude.{◌≡◌, ℕ, ◌+◌, ◌<◌, ◌≤◌, Bool, true, false, ◌||◌, List, [], ◌∷◌, ◌++◌, length, drop, get_or, Result, Ok}
-use Rattle.std.proofs.Common.{zero, suc, refl, sym, ap, subst, ◌∙◌, inl, inr, arith, append-nil}
-use Rattle.std.proofs.Math.Seq.{drop-cons}
+use Rattle.std.specs.Prelude.{◌≡◌, ℕ, ◌+◌, ◌≤◌, Bool, true, false, ◌||◌, List, [], ◌∷◌, ◌++◌, length, drop, Result, Ok}
+use Rattle.std.proofs.Common.{zero, refl, sym, ap, subst, ◌∙◌, inl, inr, arith, append-nil}
 use Rattle.std.proofs.lemmas.List.{append_assoc, drop_all}
 use Rattle.std.proofs.Math.Bool.{or-false}
 use Rattle.pv_steps.specs.declared.step.Step.{Step}
@@ -17,12 +16,6 @@ use Rattle.pv_table.specs.Created.{after_each, said_of_each, one_is_refused, tak
 use Rattle.pv_doing.specs.Courses.{Course, Partway, IsStepOfSome}
 
 -- ---- what is left of a list
-
--- what is left begins with the next, and in the end nothing is left
-pub next_left : {A : Type 0} (all : List A) (i : ℕ) (x : A) → i < length all → x ≡ get_or all i x → drop i all ≡ x ∷ drop (i + 1) all
-next_left all i x within is =
-    let next : suc i ≡ i + 1 = omega arith in
-    drop-cons all i x within ∙ (λ j. sym is j ∷ drop (next j) all)
 
 pub none_left : {A : Type 0} (all : List A) (i : ℕ) → length all ≤ i → drop i all ≡ []
 none_left all i h = drop_all i all h

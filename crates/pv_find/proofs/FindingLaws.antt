@@ -7,8 +7,7 @@ use Rattle.std.specs.List.Sorted.{IsStrictlySortedBy}
 use Rattle.std.specs.Option.{option_map_or}
 use Rattle.std.specs.Cmp.Lexicographic.{pointwise, lists_equiv, nat_list_eq_equiv}
 use Rattle.std.specs.Ordering.{eq_by_cmp, is_eq, is_lt}
-use Rattle.std.specs.declared.cmp.Ordering.{Ordering}
-use Rattle.std.specs.declared.cmp.Ordering.TheVariants.{Less, Equal, Greater}
+use Rattle.std.specs.declared.cmp.Ordering.TheVariants.{Less}
 use Rattle.std.specs.FinMap as fin
 use Rattle.std.specs.FinMap.Entries.{below_all, is_sorted}
 use Rattle.std.proofs.lemmas.List.Folds.{list_any-append, list_any_more}
@@ -19,7 +18,7 @@ use Rattle.std.proofs.lemmas.Map.Views.{any-filter_same, list_any-from_Contains,
 use Rattle.std.proofs.Math.Bool.{and_comm, and-false, and-true, or-false}
 use Rattle.pv_path.specs.Names.{is_staging}
 use Rattle.pv_path.specs.Paths.{Path, path_cmp, path_total, same_path, same_path-decides, is_prefix, has_staging, parent_of}
-use Rattle.pv_path.proofs.PathLaws.{path_cmp-refl, path_cmp-exact, name_cmp-refl, name_cmp-exact, is_prefix-refl, path_ends, parent_of-push, has_staging-append}
+use Rattle.pv_path.proofs.PathLaws.{path_cmp-refl, path_cmp-exact, name_cmp-refl, name_cmp-exact, is_prefix-refl, path_ends, parent_of-push, has_staging-append, tied-same}
 use Rattle.pv_glob.specs.declared.element.Element.{Element}
 use Rattle.pv_glob.specs.Matching.{matches, some_matches, component_matches}
 use Rattle.pv_glob.proofs.MatchingLaws.{literal_alone}
@@ -35,61 +34,37 @@ use Rattle.pv_walk.specs.Listing.{stands_below, IsListing}
 use Rattle.pv_walk.proofs.RemovalLaws.{cond-true}
 use Rattle.pv_walk.proofs.TakingLaws.{one_of-some, one_of-counted}
 use Rattle.pv_find.specs.Finding.{extends}
+use Rattle.pv_path.proofs.Tests.{equal_of, less_of-T, same_tests, each_T}
 
 -- ---- paths of a tree are in order
-
-less : (o : Ordering) → T (is_lt o) → o ≡ Less
-less Less h = refl
-less Equal h = absurd h
-less Greater h = absurd h
-
-both_T : (a b : Bool) → T (a && b) → (T a) × (T b)
-both_T true b h = (tt, h)
-both_T false b h = absurd h
 
 above_all : (k : Path) (es : List (Path × Object)) → T (below_all path_cmp k es) → AllByRecursion (λ q. path_cmp k q ≡ Less) (map (λ e. e.0) es)
 above_all k [] h = tt
 above_all k (e ∷ es) h =
-    let parts = both_T (is_lt (path_cmp k e.0)) (below_all path_cmp k es) h in
-    (less (path_cmp k e.0) parts.0, above_all k es parts.1)
+    let parts = each_T (is_lt (path_cmp k e.0)) (below_all path_cmp k es) h in
+    (less_of-T (path_cmp k e.0) parts.0, above_all k es parts.1)
 
 keys_rise : (es : List (Path × Object)) → T (is_sorted path_cmp es) → IsStrictlySortedBy path_cmp (map (λ e. e.0) es)
 unfolding IsStrictlySortedBy
 keys_rise [] h = tt
 keys_rise (e ∷ es) h =
-    let parts = both_T (below_all path_cmp e.0 es) (is_sorted path_cmp es) h in
+    let parts = each_T (below_all path_cmp e.0 es) (is_sorted path_cmp es) h in
     (above_all e.0 es parts.0, keys_rise es parts.1)
 
 -- ---- members
-
-pub tied : (o : Ordering) → is_eq o ≡ true → o ≡ Equal
-tied Less h = cc
-tied Equal h = refl
-tied Greater h = cc
-
-pub true_both : (a b : Bool) → (a ≡ true → b ≡ true) → (b ≡ true → a ≡ true) → a ≡ b
-true_both true b f g = sym (f refl)
-true_both false true f g = g refl
-true_both false false f g = refl
-
-tied-same : (q p : Path) → eq_by_cmp path_cmp q p ≡ same_path p q
-tied-same q p =
-    true_both (eq_by_cmp path_cmp q p) (same_path p q)
-    (λ e. (same_path-decides p q).1 (sym (path_cmp-exact q p (tied (path_cmp q p) e))))
-    (λ e. ap (λ v. is_eq (path_cmp q v)) ((same_path-decides p q).0 e) ∙ ap is_eq (path_cmp-refl q))
 
 pub one_of-tied : (paths : List Path) (q : Path) → list_any (eq_by_cmp path_cmp q) paths ≡ is_one_of paths q
 one_of-tied paths q = ap (λ (f : Path → Bool). list_any f paths) (λ i p. tied-same q p i)
 
 pub same_tied : (p q : Path) → same_path p q ≡ eq_by_cmp path_cmp p q
 same_tied p q =
-    true_both (same_path p q) (eq_by_cmp path_cmp p q)
+    same_tests (same_path p q) (eq_by_cmp path_cmp p q)
     (λ e. ap (λ v. is_eq (path_cmp p v)) (sym ((same_path-decides p q).0 e)) ∙ ap is_eq (path_cmp-refl p))
-    (λ e. (same_path-decides p q).1 (path_cmp-exact p q (tied (path_cmp p q) e)))
+    (λ e. (same_path-decides p q).1 (path_cmp-exact p q (equal_of (path_cmp p q) e)))
 
 -- a path that stands twice is left once
 pub one_of-dedup : (q : Path) (paths : List Path) → is_one_of (dedup same_path paths) q ≡ is_one_of paths q
-one_of-dedup q paths = true_both (is_one_of (dedup same_path paths) q) (is_one_of paths q) forth back
+one_of-dedup q paths = same_tests (is_one_of (dedup same_path paths) q) (is_one_of paths q) forth back
   where
     equal : (x y : Path) → same_path x y ≡ true → x ≡ y
     equal x y e = (same_path-decides x y).0 e
@@ -98,7 +73,7 @@ one_of-dedup q paths = true_both (is_one_of (dedup same_path paths) q) (is_one_o
     alike xs = ap (λ (f : Path → Bool). list_any f xs) (λ i p. swapped p i)
       where
         swapped : (p : Path) → same_path p q ≡ same_path q p
-        swapped p = true_both (same_path p q) (same_path q p) (λ e. (same_path-decides q p).1 (sym (equal p q e))) (λ e. (same_path-decides p q).1 (sym (equal q p e)))
+        swapped p = same_tests (same_path p q) (same_path q p) (λ e. (same_path-decides q p).1 (sym (equal p q e))) (λ e. (same_path-decides p q).1 (sym (equal q p e)))
 
     forth : is_one_of (dedup same_path paths) q ≡ true → is_one_of paths q ≡ true
     forth h = alike paths ∙ list_any-from_Contains (lists_equiv nat_list_eq_equiv) q paths (Contains-from_dedup same_path paths q (Contains-from_any equal q (dedup same_path paths) (sym (alike (dedup same_path paths)) ∙ h)))
@@ -115,7 +90,7 @@ in_order_is files f paths rises members =
     (λ q.
     one_of-tied paths q ∙ members q ∙ and_comm (is_some (places files q)) (f q)
     ∙ ap (λ b. f q && b) (fin.contains_key-keys files q)
-    ∙ sym (any-filter_same (eq_by_cmp path_cmp q) f (f q) (λ k e. ap f (sym (path_cmp-exact q k (tied (path_cmp q k) e)))) (fin.keys files)))
+    ∙ sym (any-filter_same (eq_by_cmp path_cmp q) f (f q) (λ k e. ap f (sym (path_cmp-exact q k (equal_of (path_cmp q k) e)))) (fin.keys files)))
     path_cmp-exact
 
 -- one path alone is all that is the same
@@ -237,14 +212,14 @@ one_component_more files tree plain component paths next before after q = elim (
 -- ---- the children of one path
 
 one_child : (path q : Path) (n : List ℕ) → same_path (path ++ n ∷ []) q ≡ option_map_or (λ m. eq_by_cmp name_cmp m n) (child_name path q) false
-one_child path q n = true_both (same_path (path ++ n ∷ []) q) (option_map_or (λ m. eq_by_cmp name_cmp m n) (child_name path q) false)
+one_child path q n = same_tests (same_path (path ++ n ∷ []) q) (option_map_or (λ m. eq_by_cmp name_cmp m n) (child_name path q) false)
     (λ e. ap (λ (r : Path). option_map_or (λ m. eq_by_cmp name_cmp m n) (child_name path r) false) (sym ((same_path-decides (path ++ n ∷ []) q).0 e))
     ∙ ap (λ o. option_map_or (λ m. eq_by_cmp name_cmp m n) o false) (child_name-push path n) ∙ ap is_eq (name_cmp-refl n))
     (λ e. by (child_name path q) refl e)
   where
     by : (o : Option (List ℕ)) → child_name path q ≡ o → option_map_or (λ m. eq_by_cmp name_cmp m n) o false ≡ true → same_path (path ++ n ∷ []) q ≡ true
     by None is e = cc
-    by (Some m) is e = (same_path-decides (path ++ n ∷ []) q).1 (ap (λ (k : List ℕ). path ++ k ∷ []) (sym (name_cmp-exact m n (tied (name_cmp m n) e))) ∙ sym (child_name-Some path q m is))
+    by (Some m) is e = (same_path-decides (path ++ n ∷ []) q).1 (ap (λ (k : List ℕ). path ++ k ∷ []) (sym (name_cmp-exact m n (equal_of (name_cmp m n) e))) ∙ sym (child_name-Some path q m is))
 
 children_are : (path q : Path) (names : List (List ℕ)) → is_one_of (map (λ n. path ++ n ∷ []) names) q ≡ option_map_or (λ m. list_any (eq_by_cmp name_cmp m) names) (child_name path q) false
 children_are path q [] = by (child_name path q)
@@ -269,7 +244,7 @@ children_pass files f path q = children_are path q (filter f (names_below files 
         → option_map_or (λ m. list_any (eq_by_cmp name_cmp m) (filter f (names_below files path))) o false ≡ (is_some (places files q) && option_map_or f o false)
     by None is = sym (and-false (is_some (places files q)))
     by (Some m) is =
-        any-filter_same (eq_by_cmp name_cmp m) f (f m) (λ k e. ap f (sym (name_cmp-exact m k (tied (name_cmp m k) e)))) (names_below files path)
+        any-filter_same (eq_by_cmp name_cmp m) f (f m) (λ k e. ap f (sym (name_cmp-exact m k (equal_of (name_cmp m k) e)))) (names_below files path)
         ∙ ap (λ b. f m && b) (names_below-are files path m ∙ ap (λ (r : Path). is_some (places files r)) (sym (child_name-Some path q m is)))
         ∙ and_comm (f m) (is_some (places files q))
 
@@ -281,7 +256,7 @@ children_match files plain path q = children_pass files (λ n. matches plain (n 
 -- one child by its name, which is the only one that the pattern matches
 pub child_matches : (files : Files) (plain : List (List Element)) (path q : Path) (name : List ℕ) → ((n : List ℕ) → matches plain (n ∷ []) ≡ true → n ≡ name) → matches plain (name ∷ []) ≡ true
     → is_one_of (cond (is_some (places files (path ++ name ∷ []))) ((path ++ name ∷ []) ∷ []) []) q ≡ extends files plain path q
-child_matches files plain path q name only fits = true_both _ _ forth back
+child_matches files plain path q name only fits = same_tests _ _ forth back
   where
     in_cond : (b : Bool) → is_one_of (cond b ((path ++ name ∷ []) ∷ []) []) q ≡ true → (b ≡ true) × (path ++ name ∷ [] ≡ q)
     in_cond true h = (refl, (same_path-decides (path ++ name ∷ []) q).0 (sym (or-false (same_path (path ++ name ∷ []) q)) ∙ h))
@@ -398,7 +373,7 @@ standing_is files path q = by (is_some (places files path)) refl (same_path path
 
 -- a listing has what stands below
 pub listed_are : (files : Files) (path : Path) (listed : List Path) → IsListing files path listed → (q : Path) → is_one_of listed q ≡ stands_below files path q
-listed_are files path listed l q = true_both (is_one_of listed q) (stands_below files path q)
+listed_are files path listed l q = same_tests (is_one_of listed q) (stands_below files path q)
     (λ h. cond-true (stands_below files path q) (let some = one_of-some listed q h in omega (arith, some, l.once q)))
     (λ h. one_of-counted listed q (let one : cond {A = ℕ} (stands_below files path q) 1 0 ≡ 1 = ap (λ b. cond b 1 0) h in omega (arith, one, l.once q)))
 
@@ -424,6 +399,6 @@ at_and_below_are files path listed paths l is q =
 pub keys_passing : (files : Files) (f : Path → Bool) (q : Path) → is_one_of (filter f (fin.keys files)) q ≡ (is_some (places files q) && f q)
 keys_passing files f q =
     sym (one_of-tied (filter f (fin.keys files)) q)
-    ∙ any-filter_same (eq_by_cmp path_cmp q) f (f q) (λ k e. ap f (sym (path_cmp-exact q k (tied (path_cmp q k) e)))) (fin.keys files)
+    ∙ any-filter_same (eq_by_cmp path_cmp q) f (f q) (λ k e. ap f (sym (path_cmp-exact q k (equal_of (path_cmp q k) e)))) (fin.keys files)
     ∙ ap (λ b. f q && b) (sym (fin.contains_key-keys files q))
     ∙ and_comm (f q) (is_some (places files q))

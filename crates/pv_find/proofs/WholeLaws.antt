@@ -15,7 +15,7 @@ use Rattle.std.specs.FinMap as fin
 use Rattle.std.proofs.lemmas.Bool.{and_parts, and_from}
 use Rattle.std.proofs.Math.Bool.{or-false, or-true}
 use Rattle.pv_path.specs.Paths.{Path, path_cmp, path_total, same_path, same_path-decides, is_prefix}
-use Rattle.pv_path.proofs.PathLaws.{same_path-refl, path_cmp-refl, path_cmp-exact, name_cmp-refl, name_cmp-exact, is_prefix-append, is_prefix-trans, is_prefix-refl, prefix_parts, prefix_not_greater}
+use Rattle.pv_path.proofs.PathLaws.{same_path-refl, path_cmp-refl, name_cmp-refl, name_cmp-exact, is_prefix-append, is_prefix-trans, is_prefix-refl, prefix_parts, prefix_not_greater, tied-equal}
 use Rattle.pv_steps.specs.Trees.{Files, places, names_below, IsTree, IsPresent}
 use Rattle.pv_path.specs.Names.{name_cmp}
 use Rattle.pv_steps.proofs.NameLaws.{names_below-are}
@@ -27,7 +27,8 @@ use Rattle.pv_walk.proofs.RemovalLaws.{cond-true}
 use Rattle.pv_walk.proofs.TakingLaws.{one_of-none}
 use Rattle.pv_find.specs.Whole.{goes_whole}
 use Rattle.pv_table.specs.Removed.{all_at}
-use Rattle.pv_find.proofs.FindingLaws.{one_of-tied, same_tied, true_both, tied}
+use Rattle.pv_find.proofs.FindingLaws.{one_of-tied, same_tied}
+use Rattle.pv_path.proofs.Tests.{equal_of, same_tests}
 
 -- ---- members of lists
 
@@ -56,14 +57,11 @@ members_pass e same g (y ∷ ys) each =
 path_same : (q : Path) → eq_by_cmp path_cmp q q ≡ true
 path_same q = ap is_eq (path_cmp-refl q)
 
-path_exact_by : (p q : Path) → eq_by_cmp path_cmp p q ≡ true → p ≡ q
-path_exact_by p q e = path_cmp-exact p q (tied (path_cmp p q) e)
-
 name_same : (n : List ℕ) → eq_by_cmp name_cmp n n ≡ true
 name_same n = ap is_eq (name_cmp-refl n)
 
 name_exact_by : (n m : List ℕ) → eq_by_cmp name_cmp n m ≡ true → n ≡ m
-name_exact_by n m e = name_cmp-exact n m (tied (name_cmp n m) e)
+name_exact_by n m e = name_cmp-exact n m (equal_of (name_cmp n m) e)
 
 -- a path is a key where something stands there
 key_there : (files : Files) (q : Path) → is_some (places files q) ≡ true → list_any (eq_by_cmp path_cmp q) (fin.keys files) ≡ true
@@ -84,7 +82,7 @@ if_then false b f = refl
 
 pub all_at-each : (test : Path → Bool) (files : Files) (path : Path) → all_at test files path ≡ true → (q : Path) → is_some (places files q) ≡ true → is_prefix path q ≡ true → test q ≡ true
 all_at-each test files path all q there under =
-    unless (is_prefix path q) (test q) (member_passes (eq_by_cmp path_cmp) path_exact_by (λ r. not (is_prefix path r) || test r) q (fin.keys files) all (key_there files q there)) under
+    unless (is_prefix path q) (test q) (member_passes (eq_by_cmp path_cmp) tied-equal (λ r. not (is_prefix path r) || test r) q (fin.keys files) all (key_there files q there)) under
 
 pub each-all_at : (test : Path → Bool) (files : Files) (path : Path) → ((q : Path) → is_some (places files q) ≡ true → is_prefix path q ≡ true → test q ≡ true) → all_at test files path ≡ true
 each-all_at test files path each =
@@ -105,7 +103,7 @@ goes_from test files path there below_root all =
 pub goes_whole-same : (f g : Path → Bool) (files : Files) → ((q : Path) → is_some (places files q) ≡ true → f q ≡ g q) → (path : Path) → goes_whole f files path ≡ goes_whole g files path
 goes_whole-same f g files same path =
     ap (λ b. (is_some (places files path) && not (length path == 0)) && b)
-    (true_both (all_at f files path) (all_at g files path)
+    (same_tests (all_at f files path) (all_at g files path)
     (λ h. each-all_at g files path (λ q there under. sym (same q there) ∙ all_at-each f files path h q there under))
     (λ h. each-all_at f files path (λ q there under. same q there ∙ all_at-each g files path h q there under)))
 
@@ -121,7 +119,7 @@ pub goes_by_children : (test : Path → Bool) (files : Files) → IsTree files �
     → goes_whole test files path ≡ (not (length path == 0) && list_all (λ n. goes_whole test files (path ++ n ∷ [])) (names_below files path))
 goes_by_children test files tree path there passes =
     ap (λ b. (b && not (length path == 0)) && all_at test files path) there
-    ∙ ap (λ b. not (length path == 0) && b) (true_both (all_at test files path) (list_all (λ n. goes_whole test files (path ++ n ∷ [])) (names_below files path)) forth back)
+    ∙ ap (λ b. not (length path == 0) && b) (same_tests (all_at test files path) (list_all (λ n. goes_whole test files (path ++ n ∷ [])) (names_below files path)) forth back)
   where
     child_there : (n : List ℕ) → list_any (eq_by_cmp name_cmp n) (names_below files path) ≡ true → is_some (places files (path ++ n ∷ [])) ≡ true
     child_there n h = sym (names_below-are files path n) ∙ h
@@ -226,7 +224,7 @@ module _ (paths : List Path) (files : Files) (tree : IsTree files) (rises : IsSt
     ]
 
     child_decided : (n : List ℕ) → is_one_of whole (p ++ n ∷ []) ≡ goes_whole (is_one_of paths) files (p ++ n ∷ [])
-    child_decided n = true_both (is_one_of whole (p ++ n ∷ [])) (goes_whole (is_one_of paths) files (p ++ n ∷ []))
+    child_decided n = same_tests (is_one_of whole (p ++ n ∷ [])) (goes_whole (is_one_of paths) files (p ++ n ∷ []))
         (λ h. (and_parts (is_one_of d.back (p ++ n ∷ [])) (goes_whole (is_one_of paths) files (p ++ n ∷ [])) (sym (d.decided (p ++ n ∷ [])) ∙ h)).1)
         (λ h. d.decided (p ++ n ∷ []) ∙ and_from (is_one_of d.back (p ++ n ∷ [])) (goes_whole (is_one_of paths) files (p ++ n ∷ [])) (child_behind n (goes_in paths files (p ++ n ∷ []) h)) h)
 
@@ -250,13 +248,13 @@ module _ (paths : List Path) (files : Files) (tree : IsTree files) (rises : IsSt
         by q false e = or-false (is_one_of d.back q && goes_whole (is_one_of paths) files q)
 
 pub deciding_end : (paths : List Path) (files : Files) (whole : List Path) → Deciding paths files [] whole → (q : Path) → is_one_of whole q ≡ goes_whole (is_one_of paths) files q
-deciding_end paths files whole d q = d.decided q ∙ true_both (is_one_of d.back q && goes_whole (is_one_of paths) files q) (goes_whole (is_one_of paths) files q)
+deciding_end paths files whole d q = d.decided q ∙ same_tests (is_one_of d.back q && goes_whole (is_one_of paths) files q) (goes_whole (is_one_of paths) files q)
     (λ h. (and_parts (is_one_of d.back q) (goes_whole (is_one_of paths) files q) h).1)
     (λ h. and_from (is_one_of d.back q) (goes_whole (is_one_of paths) files q) (ap (λ (xs : List Path). is_one_of xs q) d.all ∙ goes_in paths files q h) h)
 
 -- ---- the deepest last
 
-times-sum : (q : Path) (ps : List Path) → times q ps ≡ sum_by (λ p. cond (same_path p q) 1 0) ps
+pub times-sum : (q : Path) (ps : List Path) → times q ps ≡ sum_by (λ p. cond (same_path p q) 1 0) ps
 times-sum q [] = refl
 times-sum q (p ∷ ps) = ap (λ n. cond (same_path p q) 1 0 + n) (times-sum q ps) ∙ sym (sum_by-cons (λ r. cond (same_path r q) 1 0) p ps)
 

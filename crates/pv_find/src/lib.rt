@@ -5,10 +5,10 @@ mod below;
 mod matching;
 mod named;
 mod order;
-mod whole;
+mod whole_subtrees;
 
 pub use below::at_and_below;
 pub use matching::matching_paths;
 pub use named::{named_paths, standing_at};
 pub use order::in_order;
-pub use whole::{deepest_last, is_among, whole_of};
+pub use whole_subtrees::{deepest_last, is_among, whole_of};

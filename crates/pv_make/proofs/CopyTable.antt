@@ -23,7 +23,8 @@ use Rattle.pv_table.specs.declared.deed.Deed.TheVariants.{Create, Copy, Touch, I
 use Rattle.pv_table.specs.Asking.{asks, deeds, id_for_new, id_to_set, mode_to_set, owners_and_mode, source_of, without_links}
 use Rattle.pv_adjust.specs.Sets.{AreSets}
 use Rattle.pv_make.specs.Copies.{IsCopying}
-use Rattle.pv_make.proofs.TableLaws.{found, named, id_to_set_fits, mode_set_by, root_named}
+use Rattle.pv_make.proofs.TableLaws.{found, named, mode_set_by, root_named}
+use Rattle.pv_adjust.proofs.AskedSets.{owner_ids}
 
 -- what is copied, as the table says
 abbrev copying_of : Line → Copying
@@ -111,7 +112,7 @@ line_copying line copying is asked = by line.path refl is.fits.path
       uid = new_id_fits line.user is.fits.user;
       gid = new_id_fits line.group is.fits.group;
       sets = AreSets.several [] (Adjust Every (Owner (id_to_set line.user) (id_to_set line.group)) ∷ []) (mode_to_set line.mode (without_links Every))
-          refl tt (id_to_set_fits line.user is.fits.user, id_to_set_fits line.group is.fits.group) (mode_set_by NoLink refl line.mode is.fits.mode);
+          refl tt (owner_ids line.user is.fits.user, owner_ids line.group is.fits.group) (mode_set_by NoLink refl line.mode is.fits.mode);
     }
 
     by : (p : LinePath) → line.path ≡ p → IsLinePath is.row p → IsCopyingLine line copying

@@ -41,6 +41,7 @@ use Rattle.pv_walk.proofs.PreparingSweep.{unrefused_pass}
 use Rattle.pv_make.specs.OnWay.{turn_at, puts_parents, sets_at, IsMidway, OnWay, IsStepOf}
 use Rattle.pv_make.specs.Settling.{settling_turn, SettlingBy, Settling, IsSettleStepBy, IsSettleStep}
 use Rattle.pv_make.proofs.SettleLaws.{put_new_object, put_places}
+use Rattle.pv_path.proofs.Tests.{option_or-none}
 
 -- ---- objects without stamps
 
@@ -52,10 +53,6 @@ bare_same a b e = sym (again a) ∙ ap (option_map bare_of) e ∙ again b
     again (Some x) = refl
 
 -- ---- refusals
-
-or_none : {A : Type 0} (o : Option A) → option_or o None ≡ o
-or_none None = refl
-or_none (Some x) = refl
 
 module _ (now : ℕ) (line : Line) (path : Path) (making : Making) (asked : asks line ≡ Create making) (t : Files) where
   abbrev owner : ℕ
@@ -70,7 +67,7 @@ module _ (now : ℕ) (line : Line) (path : Path) (making : Making) (asked : asks
   pub refused_is : refused_at line path (places t) ≡ option_map (λ place. Refused.named path place.0 place.1) (refusal (places t) path (unwrap_or (id_for_new line.user) 0))
   refused_is =
       ap refused_by asked
-      ∙ ap (λ o. option_map (λ place. Refused.named path place.0 place.1) (refusal (places t) path (unwrap_or o 0))) (or_none (id_for_new line.user))
+      ∙ ap (λ o. option_map (λ place. Refused.named path place.0 place.1) (refusal (places t) path (unwrap_or o 0))) (option_or-none (id_for_new line.user))
 
   pub refused_none : refusal (places t) path (unwrap_or (id_for_new line.user) 0) ≡ None → refused_at line path (places t) ≡ None
   refused_none e = refused_is ∙ ap (option_map (λ place. Refused.named path place.0 place.1)) e

@@ -13,7 +13,7 @@ use Rattle.pv_dress.specs.Edits.{cut, count_at}
 use Rattle.pv_dress.specs.Nodes.{bare_of, same_kind, same_substance}
 use Rattle.pv_dress.specs.Operations.{stays}
 use Rattle.pv_path.specs.Paths.{Path, same_path, is_prefix, rest_under, parent_of}
-use Rattle.pv_path.proofs.PathLaws.{is_some-rest_under, rest_under-Some, rest_under-self, same_path-refl}
+use Rattle.pv_path.proofs.PathLaws.{is_some-rest_under, rest_under-Some, rest_under-self, same_path-refl, not_prefix_not_same}
 use Rattle.pv_steps.specs.declared.node.Kind.TheVariants.{Directory}
 use Rattle.pv_steps.specs.declared.object.Object.{Object}
 use Rattle.pv_steps.specs.declared.tree.Tree.{Ghosts}
@@ -33,7 +33,6 @@ use Rattle.pv_walk.specs.Copying.{Subtree, with_subtree}
 use Rattle.pv_walk.specs.declared.new_file.NewFile.{NewFile}
 use Rattle.pv_walk.specs.Putting.{PuttingOver, IsPutStep, put_over}
 use Rattle.pv_walk.specs.Staging.{can_stage, new_kind, new_object, most_new}
-use Rattle.pv_walk.proofs.PuttingLaws.{no_prefix_no_same}
 use Rattle.pv_walk.proofs.RemovalLaws.{no_same}
 use Rattle.pv_make.specs.Settling.{IsMaking, settling_turn, SettlingBy, Settling, IsSettleStepBy, IsSettleStep}
 use Rattle.pv_table.proofs.EffectLaws.{place-put, put_is, single_keyed}
@@ -58,7 +57,7 @@ module _ (now : ℕ) (path : Path) (file : NewFile) (t : Places) where
       below d e = put_at-else path q (Some (new_object file now)) (cut path t) d ∙ ap (λ b. cond b None (t q)) e
 
       beside : is_prefix path q ≡ false → put_at path (Some (new_object file now)) (cut path t) q ≡ t q
-      beside e = put_at-else path q (Some (new_object file now)) (cut path t) (no_prefix_no_same path q e) ∙ ap (λ b. cond b None (t q)) e
+      beside e = put_at-else path q (Some (new_object file now)) (cut path t) (not_prefix_not_same path q e) ∙ ap (λ b. cond b None (t q)) e
 
       longer : (name : List ℕ) (rest : Path) → q ≡ path ++ name ∷ rest → same_path path q ≡ false
       longer name rest e = no_same path q (λ s. shorter (s ∙ e))

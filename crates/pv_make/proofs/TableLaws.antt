@@ -6,7 +6,7 @@ use Rattle.std.proofs.Common.{refl, sym, ap, subst, ◌∙◌, arith}
 use Rattle.std.proofs.lemmas.Bool.Decides.{nat_tests}
 use Rattle.pv_dress.specs.declared.operation.Guard.{Guard}
 use Rattle.pv_dress.specs.declared.operation.Guard.TheVariants.{Only}
-use Rattle.pv_dress.specs.declared.operation.Change.TheVariants.{Mode, Owner, Write}
+use Rattle.pv_dress.specs.declared.operation.Change.TheVariants.{Mode, Owner}
 use Rattle.pv_dress.specs.declared.operation.Operation.TheVariants.{Adjust}
 use Rattle.pv_dress.specs.declared.operation.Test.{Test}
 use Rattle.pv_dress.specs.Nodes.{is_file, is_link}
@@ -33,8 +33,9 @@ use Rattle.pv_table.specs.declared.deed.Deed.TheVariants.{Create, Copy, Touch, I
 use Rattle.pv_table.specs.declared.deed.Making.{Making}
 use Rattle.pv_table.specs.Asking.{asks, bytes_of, contents_to_set, deeds, device, id_for_new, id_to_set, link_to, mode_for_new, mode_to_set, owners_and_mode, renewal, without_links}
 use Rattle.pv_table.specs.Asking.{making as makes}
-use Rattle.pv_adjust.specs.Sets.{AreSets, AtMostOne, SetsBytes, SetsMode}
+use Rattle.pv_adjust.specs.Sets.{AreSets, AtMostOne, SetsMode}
 use Rattle.pv_make.specs.Settling.{IsMaking}
+use Rattle.pv_adjust.proofs.AskedSets.{owner_ids, sets_contents}
 
 -- ---- rows
 
@@ -211,21 +212,6 @@ id_fits : (field : Option LineId) → AreIds field → IsId (unwrap_or (id_for_n
 id_fits None h = omega arith
 id_fits (Some owner) h = h
 
-contents_fit : (line : Line) (kind : Kind) → AtMostOne SetsBytes (contents_to_set line kind)
-contents_fit line kind = by (line.plus && is_file kind)
-  where
-    by : (b : Bool) → AtMostOne SetsBytes (if b then Adjust (Only File) (Write (bytes_of line.argument)) ∷ [] else [])
-    by true = tt
-    by false = tt
-
-pub id_to_set_fits : (field : Option LineId) → AreIds field → IfSome (id_to_set field) IsId
-id_to_set_fits None h = tt
-id_to_set_fits (Some owner) h = by owner.new_only
-  where
-    by : (b : Bool) → IfSome (if b then None else Some owner.id) IsId
-    by true = tt
-    by false = h
-
 pub mode_set_by : (guard : Guard) → admits guard Link ≡ false → (field : Option LineMode) → IfSome field (λ mode. mode.value ≤ 0o7777) → AtMostOne SetsMode (mode_to_set field (Some guard))
 mode_set_by guard unlinked None h = tt
 mode_set_by guard unlinked (Some mode) h = by mode.new_only
@@ -248,7 +234,7 @@ sets_fit : (line : Line) (kind : Kind) → AreIds line.user → AreIds line.grou
     → AreSets (contents_to_set line kind ++ owners_and_mode (Only kind) line)
 sets_fit line kind user group mode =
     AreSets.several (contents_to_set line kind) (Adjust (Only kind) (Owner (id_to_set line.user) (id_to_set line.group)) ∷ []) (mode_to_set line.mode (without_links (Only kind)))
-    refl (contents_fit line kind) (id_to_set_fits line.user user, id_to_set_fits line.group group) (mode_set_fits kind line.mode mode)
+    refl (sets_contents line kind) (owner_ids line.user user, owner_ids line.group group) (mode_set_fits kind line.mode mode)
 
 renewal_plain : (line : Line) (kind : Kind) → line.plus ≡ false → option_map_or (λ (test : Test). test.exact) (renewal line kind) false ≡ false
 renewal_plain line kind plain = by line.replace (line.plus) plain

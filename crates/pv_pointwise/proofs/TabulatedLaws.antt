@@ -3,28 +3,13 @@ use Rattle.std.proofs.Common.{◌≡◌, ◌∙◌, Bool, true, false, ◌||◌,
 use Rattle.std.specs.FinMap as fin
 use Rattle.std.specs.FinMap.Entries as entries
 use Rattle.std.specs.List.{filter_map, cons_option}
-use Rattle.std.specs.Ordering.{eq_by_cmp, is_eq}
-use Rattle.std.specs.declared.cmp.Ordering.{Ordering}
-use Rattle.std.specs.declared.cmp.Ordering.TheVariants.{Less, Equal, Greater}
+use Rattle.std.specs.Ordering.{eq_by_cmp}
 use Rattle.std.proofs.lemmas.List.Folds.{list_any-append}
 use Rattle.pv_dress.specs.declared.bare.Bare.{Bare}
 use Rattle.pv_path.specs.Paths.{Path, path_cmp, path_total, path_exact}
 use Rattle.pv_steps.proofs.StepLaws.{is_among}
 use Rattle.pv_table.specs.Pointwise.{Bares, tabulated}
-
-tied : (o : Ordering) → is_eq o ≡ true → o ≡ Equal
-tied Less h = cc
-tied Equal h = refl
-tied Greater h = cc
-
-hidden : (b a : Bool) (o : Option Bare) → (b ≡ true → o ≡ None) → cond a o None ≡ cond (b || a) o None
-hidden false a o h = refl
-hidden true false o h = sym (h refl)
-hidden true true o h = refl
-
-shown : (b a : Bool) (x : Bare) (o : Option Bare) → (b ≡ true → o ≡ Some x) → cond b (Some x) (cond a o None) ≡ cond (b || a) o None
-shown false a x o h = refl
-shown true a x o h = sym (h refl)
+use Rattle.pv_path.proofs.Tests.{equal_of, hidden, shown}
 
 turned : (a b : Bool) → (a || (b || false)) ≡ (b || a)
 turned true true = refl
@@ -34,7 +19,7 @@ turned false false = refl
 
 module _ (f : Path → Option Bare) where
   same : (q path : Path) → eq_by_cmp path_cmp q path ≡ true → f q ≡ f path
-  same q path h = ap f (path_exact q path (tied (path_cmp q path) h))
+  same q path h = ap f (path_exact q path (equal_of (path_cmp q path) h))
 
   -- what a function has at some paths alone
   abbrev pub within : List Path → Path → Option Bare

@@ -1,5 +1,5 @@
 -- Laws of what lines cover: it is what is taken at the paths that they name.
-use Rattle.std.specs.Prelude.{◌≡◌, ℕ, ◌+◌, ◌^◌, ◌<◌, ◌≤◌, Bool, true, false, ◌&&◌, ◌||◌, nat_le, List, [], ◌∷◌, ◌++◌, length, take, filter, cond, Some, is_some, is_none, Result, Ok, Err, IfOk}
+use Rattle.std.specs.Prelude.{◌≡◌, ℕ, ◌+◌, ◌^◌, ◌<◌, ◌≤◌, Bool, true, false, ◌&&◌, ◌||◌, nat_le, List, [], ◌∷◌, ◌++◌, length, take, filter, cond, Some, is_some, is_none}
 use Rattle.std.proofs.Common.{refl, sym, ap, subst, ◌∙◌, arith, zero, suc, length-append, get_or}
 use Rattle.std.specs.List.{AllByRecursion, list_all, list_any, range_with_len}
 use Rattle.std.specs.FinMap as fin
@@ -25,19 +25,15 @@ use Rattle.pv_steps.specs.Trees.{Files, places, kind_of, IsTree}
 use Rattle.pv_steps.proofs.TreeLaws.{present_above, directory_above}
 use Rattle.pv_walk.specs.Removal.{is_below, is_one_of}
 use Rattle.pv_walk.proofs.RemovalLaws.{below_parts, is_below-append}
-use Rattle.pv_find.proofs.FindingLaws.{true_both, one_of-tied, any_more}
+use Rattle.pv_find.proofs.FindingLaws.{one_of-tied, any_more}
 use Rattle.pv_table.specs.declared.taking.Taking.{Taking}
 use Rattle.pv_table.specs.declared.taking.Taking.TheVariants as taking
 use Rattle.pv_table.specs.Reaching.{names, names_in, taking_of}
 use Rattle.pv_table.specs.Removed.{covers, is_directory_at, is_named, refused_place}
 use Rattle.pv_remove.specs.Covering.{takes}
+use Rattle.pv_path.proofs.Tests.{same_tests}
 
 -- ---- answers
-
--- what follows of what an answer gives
-pub if_ok : {A E : Type 0} (P Q : A → Type 0) (r : Result A E) → ((x : A) → P x → Q x) → IfOk r P → IfOk r Q
-if_ok P Q (Ok x) f h = f x h
-if_ok P Q (Err e) f h = h
 
 -- ---- lists
 
@@ -159,7 +155,7 @@ module _ (files : Files) (tree : IsTree files) (line : Line) (q : Path) where
   covers_named = by (taking_of line) refl
     where
       itself : list_any (λ p. is_none (refused_place line (places files) p) && takes taking.Itself files p q) (filter (names line) (fin.keys files)) ≡ (is_some (places files q) && is_named line (places files) q)
-      itself = true_both _ _
+      itself = same_tests _ _
           (λ h.
           let found = any_in (names line) (λ p. is_none (refused_place line (places files) p) && takes taking.Itself files p q) (fin.keys files) h in
           let parts = and_parts (is_none (refused_place line (places files) found.0)) (is_some (places files q) && same_path found.0 q) found.3 in
@@ -173,7 +169,7 @@ module _ (files : Files) (tree : IsTree files) (line : Line) (q : Path) where
           (and_from (is_none (refused_place line (places files) q)) (is_some (places files q) && same_path q q) two.1 (and_from (is_some (places files q)) (same_path q q) parts.0 (same_path-refl q))))
 
       whole : list_any (λ p. is_none (refused_place line (places files) p) && takes taking.Whole files p q) (filter (names line) (fin.keys files)) ≡ (is_some (places files q) && list_any (λ k. is_named line (places files) (take k q)) (range_with_len 0 (length q + 1)))
-      whole = true_both _ _
+      whole = same_tests _ _
           (λ h.
           let found = any_in (names line) (λ p. is_none (refused_place line (places files) p) && takes taking.Whole files p q) (fin.keys files) h in
           let parts = and_parts (is_none (refused_place line (places files) found.0)) (is_some (places files q) && is_prefix found.0 q) found.3 in
@@ -195,7 +191,7 @@ module _ (files : Files) (tree : IsTree files) (line : Line) (q : Path) where
           (and_from (is_none (refused_place line (places files) (take found.0 q))) (is_some (places files q) && is_prefix (take found.0 q) q) two.1 (and_from (is_some (places files q)) (is_prefix (take found.0 q) q) parts.0 under)))
 
       contents : list_any (λ p. is_none (refused_place line (places files) p) && takes taking.Contents files p q) (filter (names line) (fin.keys files)) ≡ (is_some (places files q) && list_any (λ k. is_named line (places files) (take k q) && is_directory_at (places files) (take k q)) (range_with_len 0 (length q)))
-      contents = true_both _ _
+      contents = same_tests _ _
           (λ h.
           let found = any_in (names line) (λ p. is_none (refused_place line (places files) p) && takes taking.Contents files p q) (fin.keys files) h in
           let parts = and_parts (is_none (refused_place line (places files) found.0)) (is_some (places files q) && is_below found.0 q) found.3 in

@@ -23,7 +23,7 @@ use Rattle.pv_steps.specs.Objects.{bare}
 use Rattle.pv_steps.specs.Runs.{after_all, Ran}
 use Rattle.pv_steps.specs.Trees.{IsTree, Files, Places, places}
 use Rattle.pv_dress.specs.Edits.{Pruned}
-use Rattle.pv_walk.proofs.RemovalLaws.{apart, zero_or_more}
+use Rattle.pv_walk.proofs.RemovalLaws.{zero_or_more}
 use Rattle.pv_find.proofs.WholeLaws.{goes_parts, all_at-each}
 use Rattle.pv_table.specs.declared.reason.Reason.TheVariants as reason
 use Rattle.pv_table.specs.declared.taking.Taking.{Taking}
@@ -35,6 +35,7 @@ use Rattle.pv_table.specs.Repeatable.{HasReason, IsAt, changes_content, is_writi
 use Rattle.pv_layers.specs.Places.{is_input}
 use Rattle.pv_remove.proofs.CoverLaws.{at_place, from_range, in_range}
 use Rattle.pv_remove.proofs.StopLaws.{told_prefix}
+use Rattle.pv_path.proofs.Tests.{true_not_false}
 
 -- ---- what does not go is read as before
 
@@ -105,14 +106,14 @@ module _ (line : Line) where
       where
         by : (p : LinePath) → line.path ≡ p → IsLinePath is.row p → is_creating line ≡ true
         by (Literal path) e fits = ap (λ (p : LinePath). is_creating (record line { path = p })) e
-        by (Glob pattern) e fits = absurd (apart is.row.creates makes fits.0)
+        by (Glob pattern) e fits = absurd (true_not_false is.row.creates makes fits.0)
 
     makes_named : is.row.creates ≡ true → names line (path_in line.path) ≡ true
     makes_named makes = by line.path refl is.fits.path
       where
         by : (p : LinePath) → line.path ≡ p → IsLinePath is.row p → names line (path_in line.path) ≡ true
         by (Literal path) e fits = ap (λ (p : LinePath). names_in p (path_in p)) e ∙ same_path-refl path
-        by (Glob pattern) e fits = absurd (apart is.row.creates makes fits.0)
+        by (Glob pattern) e fits = absurd (true_not_false is.row.creates makes fits.0)
 
     -- of the lines that take away, D makes something too
     emptying_makes : taking_of line ≡ taking.Contents → is.row.creates ≡ true
@@ -157,7 +158,7 @@ module _ (line : Line) where
         by taking.Itself e h = itself e (rw e at h)
         by taking.Whole e h = whole e (rw e at h)
         by taking.Contents e h = contents e (rw e at h)
-        by taking.Nothing e h = absurd (let none : covers line t q ≡ false = rw e refl in apart (covers line t q) h none)
+        by taking.Nothing e h = absurd (let none : covers line t q ≡ false = rw e refl in true_not_false (covers line t q) h none)
 
     -- ---- what is purged
 
@@ -186,7 +187,7 @@ module _ (lines : List Line) (are : AllByRecursion IsLine lines) (free : (i : �
       by : (b : Bool) → is_gone lines t q ≡ b → b ≡ false
       by true h =
           let parts = goes_parts (λ r. list_any (λ line. covers line (places t) r) lines) t q h in
-          absurd (apart (list_any (λ line. covers line (places t) q) lines)
+          absurd (true_not_false (list_any (λ line. covers line (places t) q) lines)
           (all_at-each (λ r. list_any (λ line. covers line (places t) r) lines) t q parts.2 q parts.0 (is_prefix-refl q))
           (none_passes lines free q input (tree.names q parts.0) (λ line. covers line (places t) q) (λ line i at. covering_may line (is_at line i at) (places t) q)))
       by false h = refl
@@ -195,7 +196,7 @@ module _ (lines : List Line) (are : AllByRecursion IsLine lines) (free : (i : �
   purged_none q input = by (is_purged lines t q) refl
     where
       by : (b : Bool) → is_purged lines t q ≡ b → b ≡ false
-      by true h = absurd (apart (list_any (λ line. purges line (places t) q) lines)
+      by true h = absurd (true_not_false (list_any (λ line. purges line (places t) q) lines)
           (and_parts (is_some (places t q) && not (length q == 0)) (list_any (λ line. purges line (places t) q) lines) h).1
           (none_passes lines free q input (tree.names q (and_parts (is_some (places t q)) (not (length q == 0))
           (and_parts (is_some (places t q) && not (length q == 0)) (list_any (λ line. purges line (places t) q) lines) h).0).0)

@@ -15,12 +15,12 @@ use Rattle.pv_steps.specs.Runs.{Ran}
 use Rattle.pv_dress.specs.Edits.{Pruned}
 use Rattle.pv_walk.specs.Removal.{is_one_of}
 use Rattle.pv_find.specs.Whole.{goes_whole}
-use Rattle.pv_find.proofs.FindingLaws.{true_both}
 use Rattle.pv_find.proofs.WholeLaws.{goes_parts, goes_from, goes_whole-same, all_at-each, each-all_at}
 use Rattle.pv_table.specs.Reaching.{path_in}
 use Rattle.pv_table.specs.Removed.{all_at, covers, is_gone, is_purged, purged, purges, refused_place, removed}
 use Rattle.pv_remove.specs.Ended.{IsMended}
 use Rattle.pv_remove.proofs.StopLaws.{purge_mends, removal_mends, run_mends}
+use Rattle.pv_path.proofs.Tests.{same_tests}
 
 -- what stands below what is not the root is not the root
 below_no_root : (p q : Path) → is_prefix p q ≡ true → not (length p == 0) ≡ true → not (length q == 0) ≡ true
@@ -39,7 +39,7 @@ goes_below test t p q h under there =
 
 -- what goes whole with others that go whole
 pub goes_again : (test : Path → Bool) (t : Files) (q : Path) → goes_whole (goes_whole test t) t q ≡ goes_whole test t q
-goes_again test t q = true_both (goes_whole (goes_whole test t) t q) (goes_whole test t q)
+goes_again test t q = same_tests (goes_whole (goes_whole test t) t q) (goes_whole test t q)
     (λ h.
     let parts = goes_parts (goes_whole test t) t q h in
     all_at-each (goes_whole test t) t q parts.2 q parts.0 (is_prefix-refl q))
@@ -106,7 +106,7 @@ purges_whole lines t q = by (is_some (places t q)) refl
   where
     by : (b : Bool) → is_some (places t q) ≡ b
         → ((b && not (length q == 0)) && all_at (λ r. list_any (λ line. purges line (places t) r) lines) t q) ≡ ((b && not (length q == 0)) && list_any (λ line. purges line (places t) q) lines)
-    by true there = ap (λ c. (true && not (length q == 0)) && c) (true_both _ _
+    by true there = ap (λ c. (true && not (length q == 0)) && c) (same_tests _ _
         (λ h. all_at-each (λ r. list_any (λ line. purges line (places t) r) lines) t q h q there (is_prefix-refl q))
         (λ h. each-all_at (λ r. list_any (λ line. purges line (places t) r) lines) t q (λ r at under. any_weaken (λ line. purges line (places t) q) (λ line. purges line (places t) r) (λ line e. purges-below line (places t) q r under e) lines h)))
     by false there = refl

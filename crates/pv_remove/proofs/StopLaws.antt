@@ -1,13 +1,13 @@
 -- Laws of phases that take away and were cut short: what is still there is judged as before.
-use Rattle.std.specs.Prelude.{◌≡◌, ℕ, ◌-◌, ◌+◌, ◌^◌, ◌<◌, Bool, true, false, cond, not, ◌&&◌, ◌==◌, List, [], ◌∷◌, length, take, drop, Option, Some, None, is_some, is_none, option_map}
-use Rattle.std.proofs.Common.{refl, sym, ap, subst, ◌∙◌, inl, inr, zero, suc}
+use Rattle.std.specs.Prelude.{◌≡◌, ℕ, ◌-◌, ◌+◌, ◌^◌, ◌<◌, Bool, true, false, cond, not, ◌&&◌, ◌==◌, List, length, take, drop, Option, Some, None, is_some, is_none, option_map}
+use Rattle.std.proofs.Common.{refl, sym, ap, subst, ◌∙◌, inl, inr}
 use Rattle.std.specs.List.{list_any, range_with_len}
 use Rattle.std.proofs.Math.Seq.{drop-append_seam}
 use Rattle.std.specs.FinMap as fin
 use Rattle.std.specs.Option.{option_map_or}
 use Rattle.pv_lines.specs.declared.line.Line.{Line}
 use Rattle.pv_path.specs.Paths.{Path, is_prefix}
-use Rattle.pv_path.proofs.PathLaws.{is_prefix-refl, prefix_parts, same_bytes-refl}
+use Rattle.pv_path.proofs.PathLaws.{is_prefix-refl, prefix_parts, is_prefix-take}
 use Rattle.pv_steps.specs.declared.object.Object.{Object}
 use Rattle.pv_steps.specs.declared.step.Step.{Step}
 use Rattle.pv_steps.specs.declared.why.Why.{Why}
@@ -21,13 +21,14 @@ use Rattle.pv_steps.proofs.StepLaws.{places-tabulate, among_keys}
 use Rattle.pv_steps.proofs.TreeLaws.{present_above}
 use Rattle.pv_dress.specs.Edits.{Pruned}
 use Rattle.pv_walk.specs.Removal.{loses_child, without}
-use Rattle.pv_find.proofs.FindingLaws.{true_both}
 use Rattle.pv_find.proofs.WholeLaws.{goes_parts, goes_from, all_at-each, each-all_at}
 use Rattle.pv_table.specs.declared.taking.Taking.{Taking}
 use Rattle.pv_table.specs.declared.taking.Taking.TheVariants as taking
 use Rattle.pv_table.specs.Reaching.{names, path_in, taking_of}
 use Rattle.pv_table.specs.Removed.{all_at, covers, is_directory_at, is_gone, is_named, files_without, is_purged, owner_given, purges, purged, refused_place, removed}
 use Rattle.pv_remove.specs.Ended.{IsMended}
+use Rattle.pv_path.proofs.Tests.{same_tests}
+use Rattle.pv_table.proofs.QuietLaws.{kind_bare, present_bare}
 
 -- ---- what a tree without some paths has
 
@@ -55,26 +56,13 @@ bares-without goes change keeps t q = ap (option_map bare) (places-without goes 
 
 -- ---- judging a path depends on what stands along it
 
-kind-bare : (o : Option Object) → kind_of o ≡ kind_of (option_map bare o)
-kind-bare None = refl
-kind-bare (Some o) = refl
-
 owner-bare : (o : Option Object) (d : ℕ) → option_map_or (λ x. x.node.uid) o d ≡ option_map_or (λ x. x.node.uid) (option_map bare o) d
 owner-bare None d = refl
 owner-bare (Some o) d = refl
 
-some-bare : (o : Option Object) → is_some o ≡ is_some (option_map bare o)
-some-bare None = refl
-some-bare (Some o) = refl
-
-is_prefix-take : (k : ℕ) (q : Path) → is_prefix (take k q) q ≡ true
-is_prefix-take zero q = refl
-is_prefix-take (suc k) [] = refl
-is_prefix-take (suc k) (n ∷ q) = ap (λ b. b && is_prefix (take k q) q) (same_bytes-refl n) ∙ is_prefix-take k q
-
 module _ (t u : Places) (path : Path) (same : (k : ℕ) → bares u (take k path) ≡ bares t (take k path)) where
   kind_at-same : (k : ℕ) → kind_of (u (take k path)) ≡ kind_of (t (take k path))
-  kind_at-same k = kind-bare (u (take k path)) ∙ ap kind_of (same k) ∙ sym (kind-bare (t (take k path)))
+  kind_at-same k = kind_bare (u (take k path)) ∙ ap kind_of (same k) ∙ sym (kind_bare (t (take k path)))
 
   owner_at-same : (last k : ℕ) → owner_at u path last k ≡ owner_at t path last k
   owner_at-same last k =
@@ -103,7 +91,7 @@ module _ (inside : Path → Bool) (t u : Files) (pruned : Pruned inside t u) whe
       by false e = pruned.outside q e
 
   was_there : (q : Path) → is_some (places u q) ≡ true → is_some (places t q) ≡ true
-  was_there q there = some-bare (places t q) ∙ ap is_some (sym (still_same q there)) ∙ sym (some-bare (places u q)) ∙ there
+  was_there q there = present_bare (places t q) ∙ ap is_some (sym (still_same q there)) ∙ sym (present_bare (places u q)) ∙ there
 
   module _ (tree : IsTree u) where
     prefix_there : (p q : Path) → is_prefix p q ≡ true → is_some (places u q) ≡ true → is_some (places u p) ≡ true
@@ -120,7 +108,7 @@ module _ (inside : Path → Bool) (t u : Files) (pruned : Pruned inside t u) whe
     named-same line q there = ap (λ (r : Option (ℕ × Why)). names line q && is_none r) (refused-same line q there)
 
     directory-same : (q : Path) → is_some (places u q) ≡ true → is_directory_at (places u) q ≡ is_directory_at (places t) q
-    directory-same q there = ap (λ k. option_map_or is_directory k false) (kind-bare (places u q) ∙ ap kind_of (still_same q there) ∙ sym (kind-bare (places t q)))
+    directory-same q there = ap (λ k. option_map_or is_directory k false) (kind_bare (places u q) ∙ ap kind_of (still_same q there) ∙ sym (kind_bare (places t q)))
 
     named_first-same : (line : Line) (q : Path) → is_some (places u q) ≡ true → (k : ℕ) → is_named line (places u) (take k q) ≡ is_named line (places t) (take k q)
     named_first-same line q there k = named-same line (take k q) (prefix_there (take k q) q (is_prefix-take k q) there)
@@ -179,7 +167,7 @@ same_end goes_t goes_u now later t u pruned alike there q plain =
 
 -- what is still there goes as it would have gone
 gone-same : (lines : List Line) (t u : Files) → Pruned (is_gone lines t) t u → IsTree u → (q : Path) → is_some (places u q) ≡ true → is_gone lines u q ≡ is_gone lines t q
-gone-same lines t u pruned tree q there = true_both (is_gone lines u q) (is_gone lines t q) forth back
+gone-same lines t u pruned tree q there = same_tests (is_gone lines u q) (is_gone lines t q) forth back
   where
     forth : is_gone lines u q ≡ true → is_gone lines t q ≡ true
     forth h =
@@ -194,7 +182,7 @@ gone-same lines t u pruned tree q there = true_both (is_gone lines u q) (is_gone
             let parts = goes_parts (λ p. list_any (λ line. covers line (places t) p) lines) t r h in
             all_at-each (λ p. list_any (λ line. covers line (places t) p) lines) t r parts.2 r at (is_prefix-refl r)
         by r at under false e false h all = absurd (
-            let same : is_some (places t r) ≡ is_some (places u r) = some-bare (places t r) ∙ ap is_some (sym (pruned.outside r h)) ∙ sym (some-bare (places u r)) in cc)
+            let same : is_some (places t r) ≡ is_some (places u r) = present_bare (places t r) ∙ ap is_some (sym (pruned.outside r h)) ∙ sym (present_bare (places u r)) in cc)
 
     back : is_gone lines t q ≡ true → is_gone lines u q ≡ true
     back h =
@@ -224,11 +212,11 @@ purge_mends lines now later t u tree pruned =
 -- what holds at each moment of a run holds after each number of the steps that it told
 pub told_prefix : (P : Files → Type 0) (Q : Step → Type 0) (now : ℕ) (t : Files) (h : List Step) (u : Files) (k : List Step) → Ran P Q now t h u k → (n : ℕ) → P (after_all t (take n (drop (length h) k)) now)
 told_prefix P Q now t h u k run n =
-    subst (λ (steps : List Step). P (after_all t (take n steps) now)) (sym (ap (drop (length h)) run.told ∙ drop-append_seam h run.steps)) (along_prefix P t run.steps now n run.along)
+    subst (λ (steps : List Step). P (after_all t (take n steps) now)) (sym (ap (drop (length h)) run.recorded ∙ drop-append_seam h run.steps)) (along_prefix P t run.steps now n run.along)
 
 pub run_mends : (whole : ℕ → Files → Files) (goes : Path → Bool) → (Q : Step → Type 0) (now : ℕ) (t : Files) (h : List Step) (u : Files) (k : List Step) → now < 2 ^ 64 → IsTree t
     → ((later : ℕ) (v : Files) → IsTree v → Pruned goes t v → Same (whole later v) (whole now t)) → Ran (Pruned goes t) Q now t h u k → IsMended whole now t (drop (length h) k)
-run_mends whole goes Q now t h u k fits tree mends run = subst (IsMended whole now t) (sym (ap (drop (length h)) run.told ∙ drop-append_seam h run.steps)) (λ n later.
+run_mends whole goes Q now t h u k fits tree mends run = subst (IsMended whole now t) (sym (ap (drop (length h)) run.recorded ∙ drop-append_seam h run.steps)) (λ n later.
     mends later (after_all t (take n run.steps) now)
     (along_prefix IsTree t run.steps now n (along_trees (Pruned goes t) t run.steps now fits tree run.along))
     (along_prefix (Pruned goes t) t run.steps now n run.along))

@@ -1,6 +1,6 @@
 -- Laws of paths taken away whole: what that leaves, and how many steps it takes.
 use Rattle.std.specs.Prelude.{◌≡◌, ℕ, ◌≤◌, Bool, true, false, cond, List, length, filter, Result, Ok, Err, IsErrAnd}
-use Rattle.std.proofs.Common.{refl, sym, ap, subst, ◌∙◌, arith, inr}
+use Rattle.std.proofs.Common.{refl, sym, ap, subst, ◌∙◌, arith}
 use Rattle.std.proofs.lemmas.List.{append-nil}
 use Rattle.std.specs.List.Sorted.{IsStrictlySortedBy, IsNonDecreasingBy}
 use Rattle.std.specs.FinMap as fin
@@ -21,16 +21,13 @@ use Rattle.pv_walk.specs.Removal.{is_one_of, without}
 use Rattle.pv_walk.proofs.CountLaws.{length-times, times-filter, times-keys}
 use Rattle.pv_walk.proofs.TakingLaws.{one_of-some, one_of-counted}
 use Rattle.pv_find.specs.Whole.{count_of, goes_whole}
-use Rattle.pv_find.proofs.FindingLaws.{true_both}
 use Rattle.pv_find.proofs.WholeLaws.{goes_parts, times-rising, whole_removable}
 use Rattle.pv_table.specs.Removed.{files_without}
 use Rattle.pv_text.specs.Said.{SaidPart}
 use Rattle.pv_remove.specs.Ended.{TakesAway}
 use Rattle.pv_remove.proofs.StopLaws.{places-without}
-
--- nothing is gone yet
-pub pruned_start : (goes : Path → Bool) (t : Files) → Pruned goes t t
-pruned_start goes t = record { outside = λ q h. refl; within = λ q h. inr refl }
+use Rattle.pv_path.proofs.Tests.{same_tests}
+use Rattle.pv_walk.proofs.SweepLaws.{pruned-none}
 
 -- ---- a phase that takes away
 
@@ -45,7 +42,7 @@ takes_nothing tree moves goes texts unfinished now a before (Err Memory) h = rec
   carried = tt;
   part = (0, sym (append-nil before));
   silent = λ failed. refl;
-  acted = acted_none tree moves (Pruned goes (tree.state a)) (Removes goes) (count_of goes (tree.state a)) now a (Err Memory) refl (pruned_start goes (tree.state a));
+  acted = acted_none tree moves (Pruned goes (tree.state a)) (Removes goes) (count_of goes (tree.state a)) now a (Err Memory) refl (pruned-none goes (tree.state a));
 }
 
 -- a fault in taking away is passed on, and nothing is said
@@ -91,7 +88,7 @@ module _ (t : Files) (keys ordered : List Path) (moved : (q : Path) → times q 
   same_paths = λ i q. one q i
     where
       one : (q : Path) → is_one_of ordered q ≡ is_one_of keys q
-      one q = true_both (is_one_of ordered q) (is_one_of keys q)
+      one q = same_tests (is_one_of ordered q) (is_one_of keys q)
           (λ h. one_of-counted keys q (let some = one_of-some ordered q h in omega (arith, some, moved q)))
           (λ h. one_of-counted ordered q (let some = one_of-some keys q h in omega (arith, some, moved q)))
 

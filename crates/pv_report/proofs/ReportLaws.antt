@@ -1,6 +1,6 @@
 -- The verdict, and that there is one list of reasons.
 use Rattle.std.proofs.Common.{◌≡◌, ℕ, zero, suc, ◌-◌, ◌<◌, inl, inr, List, [], ◌∷◌, ◌++◌, Some, nat_lt, length, filter, All, AllPairs, Contains, refl, sym, ap, ◌∙◌, subst, arith}
-use Rattle.std.specs.Prelude.{◌↔◌, OnOk, Result, Ok, Err, slice_get}
+use Rattle.std.specs.Prelude.{◌↔◌, slice_get}
 use Rattle.std.specs.List.{AllByRecursion}
 use Rattle.std.proofs.lemmas.List.{get_or_push, length_push}
 use Rattle.std.proofs.lemmas.List.Elements.{All-from_recursion}
@@ -35,10 +35,6 @@ last_pushed : (old : List (List ℕ)) (text : List ℕ) → slice_get (old ++ te
 last_pushed old text =
     let long = length_push old text in
     slice_get-get_or (old ++ text ∷ []) (length (old ++ text ∷ []) - 1) [] (omega (arith, long)) ∙ ap Some (get_or_push old text [] (length (old ++ text ∷ []) - 1) (omega (arith, long)))
-
-pub on_ok : {T E : Type 0} {P Q : Type 0} (r : Result T E) → (P → Q) → OnOk r P → OnOk r Q
-on_ok (Ok x) f p = f p
-on_ok (Err fault) f p = tt
 
 -- the last message of a report is the verdict on its lines
 pub verdict_said : (lines : List Line) (list : List Unrepeatable) (old new : List (List ℕ)) → new ≡ old ++ verdict list ∷ [] → ListsReasons lines list → SaysRepeatable new ↔ IsRepeatable lines

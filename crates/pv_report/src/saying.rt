@@ -130,7 +130,7 @@ fn say_reasons(
 
 /// Says what a report on lines lists: each two lines that share a path, each line with each of its reasons, and whether
 /// there is none. The last message on a report of these lines is `repeatable` exactly where no line has a reason. After
-/// want of memory some of these messages may have been said.
+/// running out of memory some of these messages may have been said.
 pub fn say_report(
     alloc: Global,
     lines: &LineList,

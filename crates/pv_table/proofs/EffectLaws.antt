@@ -8,11 +8,11 @@ use Rattle.pv_path.specs.Paths.{Path, rest_under}
 use Rattle.pv_path.proofs.PathLaws.{rest_under-Some}
 use Rattle.pv_steps.specs.Steps.{on_at}
 use Rattle.pv_steps.specs.Trees.{Files, Places, places}
-use Rattle.pv_steps.proofs.StepLaws.{same_files, is_among, places-tabulate, among_keys, is_some-on_at, is_some-touched}
+use Rattle.pv_steps.proofs.StepLaws.{same_files, is_among, places-tabulate, among_keys, is_some-on_at, is_some-touched, among_right, among_left, later_among}
 use Rattle.pv_walk.specs.Copying.{Subtree, object_of, standing, with_subtree}
 use Rattle.pv_walk.specs.Preparing.{parents_of, prepared}
 use Rattle.pv_walk.proofs.CopiedLaws.{among_copied, copied_stands}
-use Rattle.pv_walk.proofs.PreparedLaws.{among_first, among_later, among_left, among_right, prepared_present}
+use Rattle.pv_walk.proofs.PreparedLaws.{among_first, prepared_present}
 use Rattle.pv_table.specs.declared.deed.Copying.{Copying}
 use Rattle.pv_table.specs.declared.deed.Deed.{Deed}
 use Rattle.pv_table.specs.declared.deed.Deed.TheVariants.{Create, Copy}
@@ -43,7 +43,7 @@ module _ (now : ℕ) (path : Path) (t : Files) where
 pub copy_keyed : (copying : Copying) (path : Path) (u : Files) (rest : Path) → is_some (copy_of copying (view_of u) rest) ≡ true → is_among (path ++ rest) (put_paths (Copy copying) path u ++ fin.keys u) ≡ true
 copy_keyed copying path u rest h =
     among_left (path ++ rest) (put_paths (Copy copying) path u) (fin.keys u) (
-    among_later path (path ++ rest) (map (λ r. path ++ r) (filter_map (rest_under copying.source) (fin.keys u))) (
+    later_among path (path ++ rest) (map (λ r. path ++ r) (filter_map (rest_under copying.source) (fin.keys u))) (
     among_copied copying.source path rest (fin.keys u) (among_keys u (copying.source ++ rest) ∙ copied_stands (topped_by copying) copying.source u rest h)))
 
 pub single_keyed : (making : Making) (path : Path) (u : Files) (b : Bare) (rest : Path) → is_some (single b rest) ≡ true → is_among (path ++ rest) (put_paths (Create making) path u ++ fin.keys u) ≡ true

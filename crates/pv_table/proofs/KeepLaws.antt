@@ -12,7 +12,8 @@ use Rattle.pv_path.specs.Paths.{Path, same_path, same_path-decides}
 use Rattle.pv_table.specs.Active.{active, are_distinct, make_same, stays, with_line}
 use Rattle.pv_table.specs.Building.{IsIndexOf, first_place, makes}
 use Rattle.pv_table.specs.Reaching.{is_creating, path_in}
-use Rattle.pv_table.proofs.PlaceLaws.{first_place-none, first_place-push, found, list_any-find, missing, option_or-none}
+use Rattle.pv_table.proofs.PlaceLaws.{first_place-none, first_place-push, found, missing, option_or-none}
+use Rattle.pv_path.proofs.Tests.{list_any-find}
 
 -- ---- the line that makes the same
 
@@ -101,7 +102,7 @@ any_more : {A : Type 0} (test : A → Bool) (xs : List A) (x : A) → list_any t
 any_more test [] x none other = rw other refl
 any_more test (y ∷ xs) x none other = let u = or_parts (test y) (list_any test xs) none in rw u.0 (any_more test xs x u.1 other)
 
-apart-push : (kept : List Line) (line : Line) → are_distinct kept ≡ true → list_any (λ first. make_same first line) kept ≡ false → are_distinct (kept ++ line ∷ []) ≡ true
+pub apart-push : (kept : List Line) (line : Line) → are_distinct kept ≡ true → list_any (λ first. make_same first line) kept ≡ false → are_distinct (kept ++ line ∷ []) ≡ true
 apart-push [] line distinct none = refl
 apart-push (first ∷ kept) line distinct none =
     let u = or_parts (make_same first line) (list_any (λ first. make_same first line) kept) none in

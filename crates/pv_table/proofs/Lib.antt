@@ -3,7 +3,7 @@ mod TurnRows
 pub mod PlaceLaws
 mod RankLaws
 mod FirstLaws
-mod KeepLaws
+pub mod KeepLaws
 mod BuildLaws
 pub mod OrderLaws
 pub mod AskingLaws
@@ -11,3 +11,4 @@ pub mod QuietLaws
 pub mod SayingLaws
 pub mod EffectLaws
 pub mod ListedLaws
+pub mod Restamping

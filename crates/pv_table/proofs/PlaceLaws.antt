@@ -1,10 +1,11 @@
 -- The place of the first item that passes a test.
-use Rattle.std.proofs.Common.{◌≡◌, ◌∙◌, sym, ap, refl, arith, suc, zero, add-one, append_assoc, drop, drop-cons, get_or}
-use Rattle.std.specs.Prelude.{ℕ, ◌+◌, ◌<◌, Bool, true, false, cond, ◌||◌, List, [], ◌∷◌, ◌++◌, length, map, filter, find, Option, Some, None, is_some, option_map, slice_get}
+use Rattle.std.proofs.Common.{◌≡◌, ◌∙◌, sym, ap, refl, arith, suc, zero, append_assoc, drop, get_or}
+use Rattle.std.specs.Prelude.{ℕ, ◌+◌, ◌<◌, Bool, true, false, cond, ◌||◌, List, [], ◌∷◌, ◌++◌, length, map, filter, find, Option, Some, None, option_map, slice_get}
 use Rattle.std.specs.List.{list_any, enumerate_from}
 use Rattle.std.specs.Option.{option_or}
 use Rattle.std.proofs.lemmas.Bool.{or_parts}
 use Rattle.pv_table.specs.Building.{first_place}
+use Rattle.pv_path.proofs.Tests.{next_item}
 
 -- ---- tests
 
@@ -13,15 +14,6 @@ option_or-none None = refl
 option_or-none (Some n) = refl
 
 -- ---- the first item that passes
-
--- some item passes exactly where a first one is found
-pub list_any-find : {A : Type 0} (test : A → Bool) (xs : List A) → list_any test xs ≡ is_some (find test xs)
-list_any-find test [] = refl
-list_any-find {A} test (x ∷ xs) = by_test (test x) (list_any-find test xs)
-  where
-    by_test : (b : Bool) → list_any test xs ≡ is_some (find test xs) → (b || list_any test xs) ≡ is_some (cond b (Some x) (find test xs))
-    by_test true e = refl
-    by_test false e = e
 
 pub first_place-none : {A : Type 0} (test : A → Bool) (xs : List A) → list_any test xs ≡ false → first_place test xs ≡ None
 first_place-none test [] none = refl
@@ -68,11 +60,6 @@ first_place-push test (y ∷ xs) x = elim (test y) as (λ b. cond b (Some 0) (op
     spread (Some i) b = refl
 
 -- ---- item by item
-
--- what is left from a place on begins with the item at that place
-pub next_item : {A : Type 0} (xs : List A) (i : ℕ) (x : A) → i < length xs → x ≡ get_or xs i x → drop i xs ≡ x ∷ drop (i + 1) xs
-next_item {A} xs i x within there =
-    drop-cons xs i x within ∙ ap (λ (y : A). y ∷ drop (suc i) xs) (sym there) ∙ ap (λ (n : ℕ). x ∷ drop n xs) (sym (add-one i))
 
 -- the places of the items from one on that pass a test
 abbrev pub places_from : {A : Type 0} → (A → Bool) → ℕ → List A → List ℕ

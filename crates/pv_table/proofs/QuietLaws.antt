@@ -38,17 +38,12 @@ use Rattle.pv_table.specs.Effects.{adjusted, as_bare, become, carried_out, is_to
 use Rattle.pv_table.specs.Reaching.{names, path_in}
 use Rattle.pv_table.specs.Saying.{found, refused_text, texts, turn_texts}
 use Rattle.pv_table.specs.Turns.{Refused, Turn, View, copied, decide, has_something, named_refusal, owner_made, refused_at, source_refusal, view_of}
+use Rattle.pv_steps.proofs.ObjectLaws.{is_some-same}
 
 -- ---- places that differ in stamps alone
 
 abbrev pub Alike : Places → Places → Type 0
 Alike t u = (q : Path) → bares t q ≡ bares u q
-
-both_absent : (o u : Option Object) → option_map bare o ≡ option_map bare u → is_some o ≡ is_some u
-both_absent None None e = refl
-both_absent None (Some x) e = cc
-both_absent (Some x) None e = cc
-both_absent (Some x) (Some y) e = refl
 
 map_alike : (f g : Object → Object) → ((x y : Object) → bare x ≡ bare y → bare (f x) ≡ bare (g y)) → (o u : Option Object) → option_map bare o ≡ option_map bare u → option_map bare (option_map f o) ≡ option_map bare (option_map g u)
 map_alike f g alike None None e = refl
@@ -80,7 +75,7 @@ made_alike now later path x y same t u alike =
 -- ---- preparing a path
 
 with_parent_alike : (now later : ℕ) (t u : Places) (place : Path) → Alike t u → Alike (with_parent now t place) (with_parent later u place)
-with_parent_alike now later t u place alike = by_test (is_some (t place)) (is_some (u place)) (both_absent (t place) (u place) (alike place))
+with_parent_alike now later t u place alike = by_test (is_some (t place)) (is_some (u place)) (is_some-same (t place) (u place) (alike place))
   where
     by_test : (b c : Bool) → b ≡ c → Alike (cond b t (made now place (new_object parent_file now) t)) (cond c u (made later place (new_object parent_file later) u))
     by_test true true e = alike
@@ -100,7 +95,7 @@ cut_alike path t u alike q = by_test (is_prefix path q)
     by_test false = alike q
 
 taken_alike : (now later : ℕ) (path : Path) (t u : Places) → Alike t u → Alike (taken now path t) (taken later path u)
-taken_alike now later path t u alike = by_test (is_some (t path)) (is_some (u path)) (both_absent (t path) (u path) (alike path))
+taken_alike now later path t u alike = by_test (is_some (t path)) (is_some (u path)) (is_some-same (t path) (u path) (alike path))
   where
     by_test : (b c : Bool) → b ≡ c → Alike (cond b (touched now path (cut path t)) t) (cond c (touched later path (cut path u)) u)
     by_test true true e = touched_alike now later path (cut path t) (cut path u) (cut_alike path t u alike)
@@ -289,7 +284,7 @@ prepared_turn_alike now later deed path t u alike =
 
 -- ---- refusals
 
-kind_bare : (o : Option Object) → kind_of o ≡ kind_of (option_map bare o)
+pub kind_bare : (o : Option Object) → kind_of o ≡ kind_of (option_map bare o)
 kind_bare None = refl
 kind_bare (Some x) = refl
 
@@ -301,7 +296,7 @@ owner_bare : (o : Option Object) → option_map (λ (x : Object). x.node.uid) o 
 owner_bare None = refl
 owner_bare (Some x) = refl
 
-present_bare : (o : Option Object) → is_some o ≡ is_some (option_map bare o)
+pub present_bare : (o : Option Object) → is_some o ≡ is_some (option_map bare o)
 present_bare None = refl
 present_bare (Some x) = refl
 

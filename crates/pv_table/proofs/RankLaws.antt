@@ -19,8 +19,8 @@ use Rattle.pv_lines.specs.declared.line.Line.{Line}
 use Rattle.pv_table.specs.Active.{Listed, are_distinct, make_same, placed}
 use Rattle.pv_table.specs.Reaching.{is_creating, path_in}
 use Rattle.pv_table.specs.Building.{first_place}
-use Rattle.pv_table.proofs.PlaceLaws.{next_item}
 use Rattle.pv_table.specs.Ranking.{Rank, first_under, makes_under, rank_cmp, rank_of, with_rank}
+use Rattle.pv_path.proofs.Tests.{next_item}
 
 -- ---- the first place
 

@@ -2,6 +2,7 @@
 //! a run of them leaves.
 #![tactic(auto)]
 
+mod age_scope;
 mod asking;
 mod building;
 mod deed;
@@ -12,11 +13,11 @@ mod reach;
 mod reason;
 mod same;
 mod scope;
-mod scoping;
 mod staying;
 mod table;
 mod taking;
 
+pub use age_scope::scope_of;
 pub use asking::asks;
 pub use building::build;
 pub use deed::{Copying, Deed, Making, OperationList, Touching};
@@ -29,7 +30,6 @@ pub use order::{create_order, remove_order};
 pub use reach::{is_creating, names, names_first, path_of, sparing_of, taking_of};
 pub use reason::Reason;
 pub use scope::Scope;
-pub use scoping::scope_of;
 pub use table::Table;
 pub use taking::{Sparing, Taking};
 

@@ -10,7 +10,7 @@ use pv_steps::{Kind, Why};
 use pv_text::{Messages, Place};
 use std::alloc::{AllocError, Global};
 
-/// Says of a line that an object of another kind stands at a path and is left. After want of memory the messages are as
+/// Says of a line that an object of another kind stands at a path and is left. After running out of memory the messages are as
 /// before.
 pub fn say_left(
     alloc: Global,
@@ -27,7 +27,7 @@ pub fn say_left(
 }
 
 /// Says of a line that it is refused at a place of a path that it names, counted by the names that lead to it. After
-/// want of memory the messages are as before.
+/// running out of memory the messages are as before.
 pub fn say_refused(
     alloc: Global,
     place: &Place,

@@ -1,12 +1,11 @@
 //! Which lines pass the filters of a run.
 ghost use Rattle.std.specs.Prelude.{◌≡◌, ◌==◌, not, filter, map, length, IfOk};
-ghost use Rattle.std.specs.List.{slice_split};
 ghost use Rattle.std.specs.Option.{option_copied};
 ghost use Rattle.pv_path.specs.Paths.{is_prefix};
 ghost use Rattle.pv_table.specs.Active.{is_within, stays};
 
 use pv_lines::Line;
-use pv_path::TreePath;
+use pv_path::{TreePath, pieces_of};
 use std::alloc::{AllocError, Global};
 
 /// Whether a line passes: lines for the boot pass at boot alone, and of all lines those whose path begins with the
@@ -38,15 +37,8 @@ pub(crate) fn stays(
 fn is_within(alloc: Global, path: &TreePath, line: &Line) -> Result<bool, AllocError>
     ensures { IfOk result (λ answer. answer ≡ is_within path.now line.now) }
 {
-    let pieces = pieces_of(alloc, line.path_text.as_slice())?;
+    let pieces = pieces_of(alloc, line.path_text.as_slice(), b'/')?;
     Ok(begins(path, &pieces))
-}
-
-/// What stands between the slashes of a text.
-fn pieces_of(alloc: Global, text: &[u8]) -> Result<Vec<&[u8]>, AllocError>
-    ensures { IfOk result (λ v. map (λ s. s.now) v.items ≡ slice_split (λ b. b == 47) text.now) }
-{
-    text.split(|b| *b == b'/').collect(alloc)
 }
 
 /// Whether pieces begin with the names of a path; empty ones do not count.

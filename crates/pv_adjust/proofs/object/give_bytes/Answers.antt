@@ -6,7 +6,7 @@ use Rattle.pv_steps.specs.Acting.{Acted}
 use Rattle.pv_steps.specs.Trees.{IsKind}
 use Rattle.pv_steps.proofs.ActingLaws.{acted_tried}
 use Rattle.pv_dress.specs.Dressing.{IsKeptBy}
-use Rattle.pv_dress.specs.Wearing.{Changing}
+use Rattle.pv_dress.specs.Changing.{Changing}
 use Rattle.pv_adjust.specs.Adjusting.{GivesBytes, GivesWanted, holding}
 use Rattle.pv_adjust.proofs.WritingLaws.{held_already, asks_bytes, wrote_ok, not_kept}
 use Rattle.pv_adjust.proofs.object.give_bytes.Goals as goal

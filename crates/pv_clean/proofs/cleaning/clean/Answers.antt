@@ -7,13 +7,13 @@ use Rattle.pv_steps.proofs.ActingLaws.{acted_within}
 use Rattle.pv_steps.proofs.TryingLaws.{acted_all, ask_can, tried_whole}
 use Rattle.pv_dress.specs.Edits.{Pruned}
 use Rattle.pv_walk.specs.Removal.{is_one_of}
-use Rattle.pv_walk.proofs.Outcomes.{on_ok}
 use Rattle.pv_table.specs.Cleaned.{is_aged}
 use Rattle.pv_table.specs.Removed.{files_without}
 use Rattle.pv_clean.specs.Cleaning.{most_steps, IsCleanStep}
 use Rattle.pv_clean.proofs.CleanLaws.{aged_together}
 use Rattle.pv_clean.proofs.CleanSteps.{planned_ask, planned_end, planned_most}
 use Rattle.pv_clean.proofs.cleaning.clean.Goals as goal
+use Rattle.pv_path.proofs.Tests.{on_ok}
 
 pub try_all-requires : goal.try_all-requires
 try_all-requires g c =

@@ -6,10 +6,10 @@ use Rattle.pv_table.specs.Turns.{view_of, copy_of}
 use Rattle.pv_walk.specs.declared.copying.TopNode.{TopNode}
 use Rattle.pv_walk.specs.Copying.{IsTopNode, copy_from, topped, with_subtree, Subtree}
 use Rattle.pv_table.proofs.EffectLaws.{copy_keyed, put_is}
-use Rattle.pv_walk.proofs.Outcomes.{on_ok}
 use Rattle.pv_make.proofs.SettleLaws.{stageable}
 use Rattle.pv_make.proofs.CopySettleLaws.{top_fits, copy_same, directory_is, put_acted}
 use Rattle.pv_make.proofs.copy_settling.put_copy.Goals as goal
+use Rattle.pv_path.proofs.Tests.{on_ok}
 
 pub copy_over-requires-clause-short : goal.copy_over-requires-clause-short
 copy_over-requires-clause-short g c = stageable c.args.path.now c.requires.path.short

@@ -13,10 +13,10 @@ use Rattle.pv_table.specs.Saying.{turn_texts}
 use Rattle.pv_table.specs.Turns.{Turn}
 use Rattle.pv_text.specs.Said.{said_at}
 use Rattle.pv_table.proofs.EffectLaws.{become_is}
-use Rattle.pv_walk.proofs.Outcomes.{on_ok}
 use Rattle.pv_make.specs.declared.choosing.Choice.TheVariants as choice
 use Rattle.pv_make.proofs.CopySettleLaws.{settle_none, settled_by, chosen_turn}
 use Rattle.pv_make.proofs.copy_settling.settle_copy.Goals as goal
+use Rattle.pv_path.proofs.Tests.{on_ok}
 
 pub returns-in_err-choose_copy-clause-acted : goal.returns-in_err-choose_copy-clause-acted
 returns-in_err-choose_copy-clause-acted g c =

@@ -10,9 +10,9 @@ use Rattle.pv_table.specs.Created.{change_work}
 use Rattle.pv_table.specs.Effects.{become, turned}
 use Rattle.pv_table.specs.Turns.{Turn}
 use Rattle.pv_table.proofs.EffectLaws.{become_is}
-use Rattle.pv_walk.proofs.Outcomes.{on_ok}
 use Rattle.pv_make.proofs.SettleLaws.{stageable, put_nonroot, put_tree, put_acted, become_present, settled_by}
 use Rattle.pv_make.proofs.settling.settle.Goals as goal
+use Rattle.pv_path.proofs.Tests.{on_ok}
 
 pub put_over-requires-clause-not_root : goal.put_over-requires-clause-not_root
 put_over-requires-clause-not_root g c =

@@ -7,8 +7,8 @@ use Rattle.pv_walk.specs.Listing.{IsListing}
 use Rattle.pv_find.proofs.FindingLaws.{keys_passing, listed_are}
 use Rattle.pv_table.specs.declared.taking.Taking.{Taking}
 use Rattle.pv_remove.specs.Covering.{takes}
-use Rattle.pv_remove.proofs.CoverLaws.{if_ok}
 use Rattle.pv_remove.proofs.covering.taken_paths.Goals as goal
+use Rattle.pv_path.proofs.Tests.{if_ok}
 
 pub returns-in-Itself : goal.returns-in-Itself
 returns-in-Itself g c =

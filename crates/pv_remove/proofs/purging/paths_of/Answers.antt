@@ -5,9 +5,9 @@ use Rattle.pv_steps.specs.Trees.{places}
 use Rattle.pv_walk.specs.Removal.{is_one_of}
 use Rattle.pv_find.proofs.FindingLaws.{keys_passing}
 use Rattle.pv_table.specs.Removed.{purges}
-use Rattle.pv_remove.proofs.CoverLaws.{if_ok}
 use Rattle.pv_remove.proofs.RunLaws.{purges_is}
 use Rattle.pv_remove.proofs.purging.paths_of.Goals as goal
+use Rattle.pv_path.proofs.Tests.{if_ok}
 
 pub returns : goal.returns
 returns g c =

@@ -5,10 +5,10 @@ use Rattle.pv_steps.specs.Content.{Removes}
 use Rattle.pv_steps.proofs.ActingLaws.{acted_within}
 use Rattle.pv_dress.specs.Edits.{Pruned}
 use Rattle.pv_walk.specs.Removal.{is_one_of}
-use Rattle.pv_walk.proofs.Outcomes.{on_ok}
 use Rattle.pv_find.specs.Whole.{count_of}
 use Rattle.pv_remove.proofs.TakeLaws.{as_many, left_without, removable, same_paths}
 use Rattle.pv_remove.proofs.taking_away.take_away.Goals as goal
+use Rattle.pv_path.proofs.Tests.{on_ok}
 
 pub remove_all-requires : goal.remove_all-requires
 remove_all-requires g c =

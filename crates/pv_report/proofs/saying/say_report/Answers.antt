@@ -1,7 +1,8 @@
 use Rattle.std.proofs.Common.{◌∙◌, ◌++◌, ◌∷◌, [], ℕ, List, ap}
 use Rattle.pv_report.specs.Said.{verdict}
-use Rattle.pv_report.proofs.ReportLaws.{on_ok, verdict_said}
+use Rattle.pv_report.proofs.ReportLaws.{verdict_said}
 use Rattle.pv_report.proofs.saying.say_report.Goals as goal
+use Rattle.pv_path.proofs.Tests.{on_ok}
 
 pub returns-clause-verdict : goal.returns-clause-verdict
 returns-clause-verdict c =

@@ -3,7 +3,7 @@ use Rattle.std.specs.List.{list_all}
 use Rattle.std.proofs.lemmas.List.{take_all}
 use Rattle.pv_walk.specs.Removal.{is_one_of}
 use Rattle.pv_find.proofs.FindingLaws.{no_names}
-use Rattle.pv_find.proofs.whole.has_children_in.Goals as goal
+use Rattle.pv_find.proofs.whole_subtrees.has_children_in.Goals as goal
 
 pub returns-then-not-is_directory-clause-all : goal.returns-then-not-is_directory-clause-all
 returns-then-not-is_directory-clause-all g c =

@@ -3,7 +3,7 @@ use Rattle.std.proofs.lemmas.List.{nil_from_length}
 use Rattle.pv_path.specs.Paths.{Path}
 use Rattle.pv_find.specs.Whole.{goes_whole}
 use Rattle.pv_find.proofs.WholeLaws.{deciding_start, deciding_next, deciding_end}
-use Rattle.pv_find.proofs.whole.whole_of.Goals as goal
+use Rattle.pv_find.proofs.whole_subtrees.whole_of.Goals as goal
 
 pub loop-path-init : goal.loop-path-init
 loop-path-init g c = deciding_start c.in_order-left.result.items (g.T.Tree.state c.args.tree.now) c.new-whole.result.keys c.new-whole.ensures.empty

@@ -1,6 +1,6 @@
 use Rattle.std.proofs.Common.{◌≡◌, sym, ◌∙◌, true, false}
 use Rattle.pv_find.proofs.WholeLaws.{inserted}
-use Rattle.pv_find.proofs.whole.add_whole.Goals as goal
+use Rattle.pv_find.proofs.whole_subtrees.add_whole.Goals as goal
 
 pub returns-in_ok-insert-clause-added : goal.returns-in_ok-insert-clause-added
 returns-in_ok-insert-clause-added g c = λ q.

@@ -4,7 +4,7 @@ use Rattle.pv_path.specs.Paths.{Path}
 use Rattle.pv_walk.specs.Listing.{times}
 use Rattle.pv_walk.proofs.CountLaws.{times-push}
 use Rattle.pv_find.proofs.WholeLaws.{emptied, times-moved}
-use Rattle.pv_find.proofs.whole.deepest_last.Goals as goal
+use Rattle.pv_find.proofs.whole_subtrees.deepest_last.Goals as goal
 
 pub loop-path-preserved : goal.loop-path-preserved
 loop-path-preserved c = λ q.
