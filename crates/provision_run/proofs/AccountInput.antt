@@ -24,13 +24,14 @@ use Rattle.pv_walk.specs.Preparing.{parent_file}
 use Rattle.pv_walk.specs.Putting.{IsPutStep}
 use Rattle.pv_walk.specs.Removal.{is_one_of}
 use Rattle.pv_walk.specs.Staging.{GivesNew, is_under_any}
-use Rattle.pv_walk.proofs.RemovalLaws.{apart, no_same}
+use Rattle.pv_walk.proofs.RemovalLaws.{no_same}
 use Rattle.pv_create.proofs.BesideLaws.{new_outside, place_outside, published_outside, stage_outside}
 use Rattle.pv_accounts_run.specs.declared.edit.Edit.{Edit}
 use Rattle.pv_accounts_run.specs.Edits.{IsOfSome, PublishesEdit, StagesEdit, etc, new_file}
 use Rattle.pv_accounts_run.specs.Carrying.{AccountWay, IsAccountStep, IsEditOf, account_paths, swept_names}
 use Rattle.pv_accounts_run.proofs.BesideLaws.{way_beside}
 use Rattle.pv_accounts_run.proofs.SameLaws.{seen}
+use Rattle.pv_path.proofs.Tests.{true_not_false}
 
 -- ---- folders
 
@@ -79,7 +80,7 @@ apart_of f (x ∷ ps) all p is = by (same_path x p) refl is (apart_of f ps all.1
 none_of : (f q : Path) → is_prefix f q ≡ true → (ps : List Path) → AllByRecursion (IsApart f) ps → is_one_of ps q ≡ false
 none_of f q under [] all = refl
 none_of f q under (p ∷ ps) all =
-    ap (λ b. b || is_one_of ps q) (no_same p q (λ e. apart (is_prefix f p) (ap (is_prefix f) e ∙ under) all.0.0))
+    ap (λ b. b || is_one_of ps q) (no_same p q (λ e. true_not_false (is_prefix f p) (ap (is_prefix f) e ∙ under) all.0.0))
     ∙ none_of f q under ps all.1
 
 -- ---- steps
@@ -125,7 +126,7 @@ module _ (f q : Path) (folder : IsFolder f) (under : is_prefix f q ≡ true) (st
         let off = apart_of f account_paths folder.beside edit.path of.listed in
         subst (λ (s : Step). alters s q ≡ false) (sym e)
         (published_outside f q folder.plain under staged edit.path of.is.root off.0
-        (place_outside f q folder.plain under staged edit.path off.0 (λ high. apart (is_prefix edit.path f) high off.1)) (Rename (staging_of edit.path) edit.path) (refl, refl))
+        (place_outside f q folder.plain under staged edit.path off.0 (λ high. true_not_false (is_prefix edit.path f) high off.1)) (Rename (staging_of edit.path) edit.path) (refl, refl))
 
     some_outside : (of : Edit → Step → Type 0) → ((edit : Edit) → IsEditOf (places t) edit → of edit step → alters step q ≡ false) → (cs : List Edit) → AllByRecursion (IsEditOf (places t)) cs → IsOfSome of cs step → alters step q ≡ false
     some_outside of each [] are h = absurd h
@@ -139,7 +140,7 @@ module _ (f q : Path) (folder : IsFolder f) (under : is_prefix f q ≡ true) (st
         high : is_prefix etc f ≡ true → ⊥
         high above =
             let parts = prefix_parts etc f above in
-            apart (is_some (places t etc)) (present_above (places t) tree etc parts.0 (subst (λ (p : Path). is_some (places t p) ≡ true) parts.1 there)) (ap is_some none)
+            true_not_false (is_some (places t etc)) (present_above (places t) tree etc parts.0 (subst (λ (p : Path). is_some (places t p) ≡ true) parts.1 there)) (ap is_some none)
 
         by : IsPutStep etc parent_file step → alters step q ≡ false
         by (inl gives) = new_outside f q folder.plain under staged etc (λ e. cc) folder.above parent_file step gives
@@ -169,7 +170,7 @@ none_within v is f q under none = at (places v q) refl
     at None e = refl
     at (Some x) e =
         let parts = prefix_parts f q under in
-        absurd (apart (is_some (places v f)) (present_above (places v) is f parts.0 (subst (λ (p : Path). is_some (places v p) ≡ true) parts.1 (ap is_some e))) (no_content (places v f) none))
+        absurd (true_not_false (is_some (places v f)) (present_above (places v) is f parts.0 (subst (λ (p : Path). is_some (places v p) ≡ true) parts.1 (ap is_some e))) (no_content (places v f) none))
 
 module _ (now : ℕ) (t : Files) (tree : IsTree t) (edits : List Edit) (are : AllByRecursion (IsEditOf (places t)) edits) where
   -- at each moment on the way that was reached by steps of the run
@@ -183,7 +184,7 @@ module _ (now : ℕ) (t : Files) (tree : IsTree t) (edits : List Edit) (are : Al
       plain_kept : (p : Path) → has_staging p ≡ false → is_prefix found.0 p ≡ true → content_of (places (after_all t steps now) p) ≡ content_of (places t p)
       plain_kept p plain under = same_content (places (after_all t steps now) p) (places t p)
           (way_beside edits t (after_all t steps now) are way p plain
-          (no_same etc p (λ e. apart (is_prefix found.0 etc) (ap (is_prefix found.0) e ∙ under) found.1.0.above))
+          (no_same etc p (λ e. true_not_false (is_prefix found.0 etc) (ap (is_prefix found.0) e ∙ under) found.1.0.above))
           (none_of found.0 p under account_paths found.1.0.beside))
 
       below : has_staging q ≡ true → (o : Option Object) → places t found.0 ≡ o → content_of (places (after_all t steps now) q) ≡ content_of (places t q)

@@ -5,8 +5,8 @@ use Rattle.std.proofs.Common.{refl, sym, ap, subst, ◌∙◌, append-nil, appen
 use Rattle.pv_accounts_run.specs.Accounted.{accounted, accounted_unless, accounts_messages, carried_files, edits_at, is_unusable, lacking_at, unusable_texts}
 use Rattle.pv_accounts_run.specs.Carrying.{AccountWay, IsAccountStep, most_put, swept_names}
 use Rattle.pv_accounts_run.specs.Running.{IfLacking, Lacks, in_steps}
-use Rattle.pv_accounts_run.specs.declared.fault.AccountsFault.{AccountsFault}
-use Rattle.pv_accounts_run.specs.declared.fault.AccountsFault.TheVariants as fault
+use Rattle.pv_accounts_run.specs.declared.accounts_fault.AccountsFault.{AccountsFault}
+use Rattle.pv_accounts_run.specs.declared.accounts_fault.AccountsFault.TheVariants as fault
 use Rattle.pv_conf.specs.Requested.{requested}
 use Rattle.pv_doing.specs.Courses.{carried_of}
 use Rattle.pv_doing.specs.declared.carried.Carried.{Carried}
@@ -113,7 +113,7 @@ module _ {S : Type 0} (tree : Ghosts S) (options : Options) (facts : Values) (mo
     ended_ok (Ok c) r f e = on_any r f.ok
     ended_ok (Err (fault.NoFreeId name)) r f e =
         let ran = f.acted.ran in
-        let told : tree.steps b ≡ tree.steps a ++ ran.steps = ran.told in
+        let told : tree.steps b ≡ tree.steps a ++ ran.steps = ran.recorded in
         let count : length (tree.steps b) ≡ length (tree.steps a ++ ran.steps) = ap length told in
         let idle : length (tree.steps b) ≡ length (tree.steps a) = ap length f.lacking_idle in
         let none : ran.steps ≡ [] = none_of ran.steps (omega (arith, count, idle, length-append (tree.steps a) ran.steps)) in

@@ -11,7 +11,6 @@ use Rattle.pv_conf.specs.Configuration.{Configured}
 use Rattle.pv_conf.specs.Requested.{requested}
 use Rattle.pv_conf.proofs.AllowedLaws.{requested_allowed}
 use Rattle.pv_conf.proofs.InputLaws.{requested-same}
-use Rattle.pv_create.proofs.LeavingInput.{all_take}
 use Rattle.pv_requests.specs.declared.request.Request.{Request}
 use Rattle.pv_steps.specs.declared.step.Step.{Step}
 use Rattle.pv_steps.specs.Runs.{after_all, Ran}
@@ -22,12 +21,13 @@ use Rattle.pv_words.specs.declared.options.Options.{Options}
 use Rattle.provision_run.specs.Accounts.{run_edits, run_requests}
 use Rattle.provision_run.specs.Rereading.{AreAccountsMendedAnew, AreRequestsReread}
 use Rattle.provision_run.proofs.AccountInput.{requests_after}
+use Rattle.pv_path.proofs.Tests.{all_take}
 
 module _ (options : Options) (facts : Values) (moment : ℕ) (t : Files) where
   pub requests_reread : moment < 2 ^ 64 → IsTree t → (h : List Step) (u : Files) (k : List Step)
       → Ran (AccountWay (run_edits options facts moment t) t) (IsAccountStep (run_edits options facts moment t) t) moment t h u k → AreRequestsReread options facts moment t (drop (length h) k)
   requests_reread fits tree h u k run n plain =
-      let added : drop (length h) k ≡ run.steps = ap (drop (length h)) run.told ∙ drop-append_seam h run.steps in
+      let added : drop (length h) k ≡ run.steps = ap (drop (length h)) run.recorded ∙ drop-append_seam h run.steps in
       let edits = run_edits options facts moment t in
       subst (λ (steps : List Step). requested (after_all t (take n steps) moment) facts options.words ≡ requested t facts options.words) (sym added)
       (requested-same (after_all t (take n run.steps) moment) t

@@ -18,7 +18,8 @@ use Rattle.provision_run.specs.Tasks.{task_of}
 use Rattle.provision_run.specs.Words.{moment_of}
 use Rattle.provision_run.proofs.TaskLaws.{front_by}
 use Rattle.provision_run.specs.Framed.{IsFramedIn}
-use Rattle.provision_run.specs.Whole.{final, HasSaidBy, HasSaidStoppedBy, IsMendedAnewIn, IsMendedIn, IsSaid, read_messages, run_end, run_way, run_work}
+use Rattle.provision_run.specs.Swept.{IsSweptIn}
+use Rattle.provision_run.specs.Whole.{final, HasSaidBy, HasSaidStoppedBy, IsMendedAnewIn, IsMendedIn, is_run_step, IsSaid, read_messages, run_end, run_way, run_work}
 use Rattle.provision_run.specs.Answers.{IsAnswer, IsAnswered, IsRun, IsWhole, IsStopped, IsOwn, outcome_of, outcome, stopped_text, most_bytes}
 use Rattle.provision_run.specs.Messages.{messages_text}
 
@@ -133,15 +134,15 @@ own_not_written found h e = subst IsOwn e h
 
 -- ---- what a run over any tree says of itself is what belongs to its output
 
-module _ (options : Options) (facts : Values) (moment : ℕ) (t u : Files) (h k : List Step) (Q : Step → Type 0) (start : h ≡ []) (ran : Ran (run_way options facts moment t) Q moment t h u k) where
+module _ (options : Options) (facts : Values) (moment : ℕ) (t u : Files) (h k : List Step) (start : h ≡ []) (ran : Ran (run_way options facts moment t) (is_run_step options facts moment t) moment t h u k) where
   -- the steps that it added are all that are told
   all_told : k ≡ ran.steps
-  all_told = ran.told ∙ ap (λ x. x ++ ran.steps) start
+  all_told = ran.recorded ∙ ap (λ x. x ++ ran.steps) start
 
   pub whole_run : (found : Outcome) (out : List ℕ) (said : List (List ℕ)) → IsSaid options facts moment t said → found ≡ outcome options facts moment t → u ≡ final options facts moment t
-      → out ≡ messages_text (read_messages options facts t ++ said) ++ text_of facts u → IsImage out facts u → IfSome options.stop_after (λ n. length k ≤ n)
+      → IsSweptIn (task_of options) options facts moment t u → out ≡ messages_text (read_messages options facts t ++ said) ++ text_of facts u → IsImage out facts u → IfSome options.stop_after (λ n. length k ≤ n)
       → IsWhole options facts moment t found out
-  whole_run found out said is_said is end text image few = record {
+  whole_run found out said is_said is end staged text image few = record {
     end = is;
     said = said;
     is_said = is_said;
@@ -149,8 +150,10 @@ module _ (options : Options) (facts : Values) (moment : ℕ) (t u : Files) (h k 
     again = subst (IsImage out facts) end image;
     steps = ran.steps;
     way = ran.along;
+    asked = ran.gives;
     reached = sym end ∙ ran.reached;
     within = subst (λ x. IfSome options.stop_after (λ n. length x ≤ n)) all_told few;
+    staged = subst (IsSweptIn (task_of options) options facts moment t) end staged;
   }
 
   pub stopped_run : (n : ℕ) (out : List ℕ) (said : List (List ℕ)) → options.stop_after ≡ Some n → length k ≡ n
@@ -167,6 +170,7 @@ module _ (options : Options) (facts : Values) (moment : ℕ) (t u : Files) (h k 
     steps = ran.steps;
     count = ap length (sym all_told) ∙ count;
     way = ran.along;
+    asked = ran.gives;
     said = stopped.0;
     front = front_by (task_of options) options facts moment t stopped.0 stopped.1.1;
     at_work = stopped.1.1;
@@ -185,19 +189,19 @@ module _ (options : Options) (facts : Values) (moment : ℕ) (t u : Files) (h k 
 
 -- ---- a run over a tree in memory
 
-module _ (options : Options) (facts : Values) (moment : ℕ) (old new : Held) (Q : Step → Type 0) (start : old.steps ≡ [])
-    (ran : Ran (run_way options facts moment old.files) Q moment old.files old.steps new.files new.steps) (kept : Held) (same : kept ≡ new) where
+module _ (options : Options) (facts : Values) (moment : ℕ) (old new : Held) (start : old.steps ≡ [])
+    (ran : Ran (run_way options facts moment old.files) (is_run_step options facts moment old.files) moment old.files old.steps new.files new.steps) (kept : Held) (same : kept ≡ new) where
   pub whole_answered : (e : RunEnd) → e ≡ run_end options facts moment old.files → new.files ≡ final options facts moment old.files
-      → (said : List (List ℕ)) → HasSaidBy (task_of options) options facts moment old.files [] said
+      → IsSweptIn (task_of options) options facts moment old.files new.files → (said : List (List ℕ)) → HasSaidBy (task_of options) options facts moment old.files [] said
       → {E : Type 0} (r : Result Answer E) → IfOk r (λ a. a.outcome ≡ outcome_of e) → IfOk r (λ a. a.output.items ≡ messages_text said ++ text_of facts kept.files)
       → IfOk r (λ a. IsImage a.output.items facts kept.files)
       → IfOk r (λ _. IfSome options.stop_after (λ n. length kept.steps ≤ n))
       → IfOk r (λ a. IsAnswered options facts moment old.files a.outcome a.output.items)
-  whole_answered e is end said all (Err f) found text image few = tt
-  whole_answered e is end said all (Ok a) found text image few =
+  whole_answered e is end staged said all (Err f) found text image few = tt
+  whole_answered e is end staged said all (Ok a) found text image few =
       answered_whole options facts moment old.files e a.outcome a.output.items found
-      (whole_run options facts moment old.files new.files old.steps new.steps Q start ran a.outcome a.output.items all.0 all.1.0
-      (found ∙ ap outcome_of is) end
+      (whole_run options facts moment old.files new.files old.steps new.steps start ran a.outcome a.output.items all.0 all.1.0
+      (found ∙ ap outcome_of is) end staged
       (text ∙ ap (λ x. messages_text x ++ text_of facts kept.files) all.1.1 ∙ ap (λ (x : Held). messages_text (read_messages options facts old.files ++ all.0) ++ text_of facts x.files) same)
       (subst (λ (x : Held). IsImage a.output.items facts x.files) same image)
       (subst (λ (x : Held). IfSome options.stop_after (λ n. length x.steps ≤ n)) same few))
@@ -215,7 +219,7 @@ module _ (options : Options) (facts : Values) (moment : ℕ) (old new : Held) (Q
   stopped_answered n said limit bound part mended anew framed (Err f) found count text image = tt
   stopped_answered n said limit bound part mended anew framed (Ok a) found count text image =
       subst (λ x. IsAnswered options facts moment old.files x a.output.items) (sym found)
-      (stopped_run options facts moment old.files new.files old.steps new.steps Q start ran n a.output.items said limit
+      (stopped_run options facts moment old.files new.files old.steps new.steps start ran n a.output.items said limit
       (ap (λ (x : Held). length x.steps) (sym same) ∙ count) bound part
       (text ∙ ap (λ (x : Held). messages_text (said ++ stopped_text n ∷ []) ++ text_of facts x.files) same) (subst (λ (x : Held). IsImage a.output.items facts x.files) same image) mended anew framed)
 

@@ -9,7 +9,7 @@ use Rattle.pv_conf.specs.Known.{configured}
 use Rattle.pv_layers.specs.Places.{is_input}
 use Rattle.pv_conf.proofs.InputLaws.{configured-same}
 use Rattle.pv_create.specs.Ways.{lines_course}
-use Rattle.pv_create.proofs.LeavingInput.{all_take, input_after}
+use Rattle.pv_create.proofs.LeavingInput.{input_after}
 use Rattle.pv_doing.specs.Courses.{Course, Partway, IsStepOfSome}
 use Rattle.pv_table.proofs.ListedLaws.{all_map}
 use Rattle.pv_lines.specs.declared.line.Line.{Line}
@@ -38,6 +38,7 @@ use Rattle.pv_text.specs.Facts.{Values}
 use Rattle.pv_words.specs.declared.options.Options.{Options}
 use Rattle.provision_run.specs.Rereading.{ArePlain, AsksFor, MayMend, IsReread, IsMendedAnew}
 use Rattle.provision_run.specs.Phased.{is_phases_step, phased, phases_way, run_lines}
+use Rattle.pv_path.proofs.Tests.{all_take}
 
 -- where the same is read the same lines are active
 pub lines_reread : (options : Options) (facts : Values) (t u : Files) → configured u facts options.words ≡ configured t facts options.words → run_lines options facts u ≡ run_lines options facts t
@@ -80,7 +81,7 @@ module _ (options : Options) (facts : Values) (moment : ℕ) (t : Files) where
   module _ (fits : moment < 2 ^ 64) (tree : IsTree t) (are : AllByRecursion IsLine (run_lines options facts t)) where
     pub reread : (h : List Step) (u : Files) (k : List Step) → Ran (phases_way options facts moment t) (is_phases_step options facts moment t) moment t h u k → IsReread options facts moment t (drop (length h) k)
     reread h u k run n phase alone plain free =
-        let added : drop (length h) k ≡ run.steps = ap (drop (length h)) run.told ∙ drop-append_seam h run.steps in
+        let added : drop (length h) k ≡ run.steps = ap (drop (length h)) run.recorded ∙ drop-append_seam h run.steps in
         let course = phases_course (run_lines options facts t) moment in
         let left = after_all t (take n run.steps) moment in
         subst (λ (steps : List Step). configured (after_all t (take n steps) moment) facts options.words ≡ configured t facts options.words) (sym added)

@@ -1,12 +1,14 @@
 -- Laws of runs by their task: what a task's own words say holds by the task.
-use Rattle.std.specs.Prelude.{◌≡◌, ℕ, List, ◌++◌, length, take, drop, Result, Ok, Err, OnOk, IfOk}
+use Rattle.std.specs.Prelude.{◌≡◌, ℕ, List, ◌++◌, length, take, drop, Result, OnOk, IfOk}
 use Rattle.std.proofs.Common.{refl, subst, inr}
 use Rattle.std.proofs.Math.Seq.{drop-length}
 use Rattle.pv_accounts_run.specs.Accounted.{accounted}
 use Rattle.pv_accounts_run.specs.Carrying.{AccountWay, IsAccountStep}
 use Rattle.pv_accounts_run.specs.Mended as accounts
+use Rattle.pv_accounts_run.specs.Swept as swept
 use Rattle.pv_create.specs.OnTheWay.{IsFramed}
 use Rattle.pv_phases.specs.Phases.{HasSaidStopped, IsMendedBy, phases_of}
+use Rattle.pv_phases.specs.Swept.{IsSweptBy}
 use Rattle.pv_phases.proofs.PhaseLaws.{stopped_front}
 use Rattle.pv_steps.specs.Acting.{Acted, refused}
 use Rattle.pv_steps.specs.declared.step.Step.{Step}
@@ -25,11 +27,9 @@ use Rattle.provision_run.specs.Framed.{AreAccountsFramed, IsFramedIn}
 use Rattle.provision_run.specs.Phased.{is_phases_step, lines_messages, phase_messages, phased, phases_end, phases_way, phases_work, run_lines}
 use Rattle.provision_run.specs.Reported.{HasReported, HasReportedPart, report_end}
 use Rattle.provision_run.specs.Rereading.{AreAccountsMendedAnew, AreRequestsReread, IsMendedAnew, IsReread}
+use Rattle.provision_run.specs.Swept.{IsSweptIn}
 use Rattle.provision_run.specs.Whole.{end_by, final_by, HasSaidBy, HasSaidPartBy, HasSaidStoppedBy, IsMendedAnewIn, IsMendedIn, IsSaidBy, IsSaidStoppedBy, is_step_by, read_by, way_by, work_by}
-
-on_ok : {A E P Q : Type 0} (r : Result A E) → (P → Q) → OnOk r P → OnOk r Q
-on_ok (Ok x) f p = f p
-on_ok (Err e) f p = tt
+use Rattle.pv_path.proofs.Tests.{on_ok}
 
 -- what may be said where a step was refused is a front part of what is said in all
 pub front_by : (asked : Task) (options : Options) (facts : Values) (moment : ℕ) (t : Files) (said : List (List ℕ)) → IsSaidStoppedBy asked options facts moment t said
@@ -52,11 +52,15 @@ module _ (options : Options) (facts : Values) (moment : ℕ) (t : Files) where
   unfolding IsSaidBy read_by
   phases_said k is r old new h =
       subst (λ (j : Task). OnOk r (HasSaidBy j options facts moment t old new)) is
-      (on_ok {Q = HasSaidBy Phases options facts moment t old new} r (λ e. (phase_messages options facts moment t, (refl, e))) h)
+      (on_ok r {Y = HasSaidBy Phases options facts moment t old new} (λ e. (phase_messages options facts moment t, (refl, e))) h)
 
   pub phases_ended : (k : Task) → Phases ≡ k → (r : Result RunEnd TreeFault) → IfOk r (λ end. end ≡ phases_end options facts moment t) → IfOk r (λ end. end ≡ end_by k options facts moment t)
   unfolding end_by
   phases_ended k is r h = subst (λ (j : Task). IfOk r (λ end. end ≡ end_by j options facts moment t)) is h
+
+  pub phases_staged : (k : Task) → Phases ≡ k → (r : Result RunEnd TreeFault) (u : Files) → OnOk r (IsSweptBy (phases_of options) (run_lines options facts t) moment t u) → OnOk r (IsSweptIn k options facts moment t u)
+  unfolding IsSweptIn
+  phases_staged k is r u h = subst (λ (j : Task). OnOk r (IsSweptIn j options facts moment t u)) is h
 
   pub phases_part : (k : Task) → Phases ≡ k → (old new : List (List ℕ)) → SaidPart (lines_messages options facts t ++ phase_messages options facts moment t) old new → HasSaidPartBy k options facts moment t old new
   unfolding IsSaidBy read_by
@@ -91,11 +95,15 @@ module _ (options : Options) (facts : Values) (moment : ℕ) (t : Files) where
   unfolding IsSaidBy read_by
   accounts_said k is r old new h =
       subst (λ (j : Task). OnOk r (HasSaidBy j options facts moment t old new)) is
-      (on_ok {Q = HasSaidBy Accounts options facts moment t old new} r (λ e. (account_messages options facts moment t, (refl, e))) h)
+      (on_ok r {Y = HasSaidBy Accounts options facts moment t old new} (λ e. (account_messages options facts moment t, (refl, e))) h)
 
   pub accounts_ended : (k : Task) → Accounts ≡ k → (r : Result RunEnd TreeFault) → IfOk r (λ end. end ≡ accounts_end options facts moment t) → IfOk r (λ end. end ≡ end_by k options facts moment t)
   unfolding end_by
   accounts_ended k is r h = subst (λ (j : Task). IfOk r (λ end. end ≡ end_by j options facts moment t)) is h
+
+  pub accounts_staged : (k : Task) → Accounts ≡ k → (r : Result RunEnd TreeFault) (u : Files) → OnOk r (swept.LeavesNoStagingName (run_requests options facts t) moment t u) → OnOk r (IsSweptIn k options facts moment t u)
+  unfolding IsSweptIn
+  accounts_staged k is r u h = subst (λ (j : Task). OnOk r (IsSweptIn j options facts moment t u)) is h
 
   pub accounts_part : (k : Task) → Accounts ≡ k → (old new : List (List ℕ)) → SaidPart (requests_messages options facts t ++ account_messages options facts moment t) old new
       → HasSaidPartBy k options facts moment t old new
@@ -134,6 +142,10 @@ module _ (options : Options) (facts : Values) (moment : ℕ) (t : Files) where
   pub report_ended : (k : Task) → Report ≡ k → (end : RunEnd) → end ≡ report_end options facts t → end ≡ end_by k options facts moment t
   unfolding end_by
   report_ended k is end h = subst (λ (j : Task). end ≡ end_by j options facts moment t) is h
+
+  pub report_staged : (k : Task) → Report ≡ k → (u : Files) → IsSweptIn k options facts moment t u
+  unfolding IsSweptIn
+  report_staged k is u = subst (λ (j : Task). IsSweptIn j options facts moment t u) is tt
 
   pub report_part : (k : Task) → Report ≡ k → (old new : List (List ℕ)) → HasReportedPart options facts t old new → HasSaidPartBy k options facts moment t old new
   unfolding IsSaidBy read_by

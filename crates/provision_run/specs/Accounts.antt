@@ -5,8 +5,8 @@ use Rattle.std.specs.Option.{option_map_or}
 use Rattle.pv_accounts_run.specs.declared.edit.Edit.{Edit}
 use Rattle.pv_accounts_run.specs.Accounted.{accounts_messages, edits_at, is_unusable, lacking_at}
 use Rattle.pv_accounts_run.specs.Carrying.{most_put, swept_names}
-use Rattle.pv_accounts_run.specs.declared.fault.AccountsFault.{AccountsFault}
-use Rattle.pv_accounts_run.specs.declared.fault.AccountsFault.TheVariants as fault
+use Rattle.pv_accounts_run.specs.declared.accounts_fault.AccountsFault.{AccountsFault}
+use Rattle.pv_accounts_run.specs.declared.accounts_fault.AccountsFault.TheVariants as fault
 use Rattle.pv_conf.specs.Requested.{requested}
 use Rattle.pv_doing.specs.declared.carried.Carried.{Carried}
 use Rattle.pv_steps.specs.declared.tree.TreeFault.{TreeFault}

@@ -2,13 +2,14 @@
 use Rattle.std.specs.Prelude.{◌≡◌, ℕ, ◌<◌, ◌≤◌, Bool, true, false, List, [], ◌∷◌, ◌++◌, length, take, codes, Option, Some, None, IfSome}
 use Rattle.std.specs.Fmt.{decimal}
 use Rattle.std.specs.Io.KnownBytes.{Appends}
+use Rattle.std.specs.List.{AllByRecursion}
 use Rattle.pv_text.specs.Facts.{Values}
 use Rattle.pv_steps.specs.declared.step.Step.{Step}
 use Rattle.pv_steps.specs.Trees.{Files}
 use Rattle.pv_steps.specs.Runs.{Along, after_all}
 use Rattle.pv_words.specs.declared.options.Options.{Options}
-use Rattle.pv_image.specs.declared.fault.ImageFault.{ImageFault}
-use Rattle.pv_image.specs.declared.fault.ImageFault.TheVariants as fault
+use Rattle.pv_image.specs.declared.image_fault.ImageFault.{ImageFault}
+use Rattle.pv_image.specs.declared.image_fault.ImageFault.TheVariants as fault
 use Rattle.pv_image.specs.Images.{IsImage, HasImageFault}
 use Rattle.pv_image.specs.Spelling.{text_of}
 use Rattle.provision_run.specs.declared.outcome.Outcome.{Outcome}
@@ -16,9 +17,10 @@ use Rattle.provision_run.specs.declared.outcome.Outcome.TheVariants.{Done, Confi
 use Rattle.provision_run.specs.declared.ending.RunEnd.{RunEnd}
 use Rattle.provision_run.specs.declared.ending.RunEnd.TheVariants as end
 use Rattle.provision_run.specs.Framed.{IsFramedIn}
+use Rattle.provision_run.specs.Swept.{IsSweptIn}
 use Rattle.provision_run.specs.Tasks.{task_of}
 use Rattle.provision_run.specs.Words.{moment_of}
-use Rattle.provision_run.specs.Whole.{run_way, final, IsMendedAnewIn, IsMendedIn, IsSaid, IsSaidStoppedBy, read_messages, run_end, run_work}
+use Rattle.provision_run.specs.Whole.{run_way, final, IsMendedAnewIn, IsMendedIn, is_run_step, IsSaid, IsSaidStoppedBy, read_messages, run_end, run_work}
 use Rattle.pv_words.specs.Asked.{asked_of}
 use Rattle.pv_words.specs.declared.asked.Asked.{Asked}
 use Rattle.pv_words.specs.declared.asked.Asked.TheVariants.{Run, Generate}
@@ -71,8 +73,9 @@ outcome options facts moment t = outcome_of (run_end options facts moment t)
 abbrev pub output : Options → Values → ℕ → Files → List (List ℕ) → List ℕ
 output options facts moment t said = messages_text (read_messages options facts t ++ said) ++ text_of facts (final options facts moment t)
 
--- a run that was not stopped: how it ended and what it has written, which is an image again; legal steps lead to the
--- tree that it leaves, no more than the limit where one was given
+-- a run that was not stopped: how it ended and what it has written, which is an image again; legal steps, each one that
+-- the lines ask for, lead to the tree that it leaves, no more than the limit where one was given, and nothing is left there
+-- at the staging names of what it made
 pub record IsWhole (options : Options) (facts : Values) (moment : ℕ) (t : Files) (found : Outcome) (out : List ℕ) : Type 0 where
   pub end : found ≡ outcome options facts moment t
   pub said : List (List ℕ)
@@ -81,8 +84,10 @@ pub record IsWhole (options : Options) (facts : Values) (moment : ℕ) (t : File
   pub again : IsImage out facts (final options facts moment t)
   pub steps : List Step
   pub way : Along (run_way options facts moment t) t steps moment
+  pub asked : AllByRecursion (is_run_step options facts moment t) steps
   pub reached : final options facts moment t ≡ after_all t steps moment
   pub within : IfSome options.stop_after (λ n. length steps ≤ n)
+  pub staged : IsSweptIn (task_of options) options facts moment t (final options facts moment t)
 
 -- ---- stopped runs
 
@@ -92,14 +97,16 @@ stopped_text n = codes "stopped after " ++ decimal n ++ codes " steps"
 
 -- what a run has written that was stopped after n steps, which are fewer than the most that it takes: what is said in
 -- reading, the first of what is said then (in the phases, of the one that was stopped what it says at work), that it was
--- stopped, and the image of the tree after the n steps; this is an image again, and where it has one phase, or makes
--- accounts, the stop law of it holds, also where the lines are read anew of that tree; whatever it does, its frame holds
+-- stopped, and the image of the tree after the n steps, each one that the lines ask for; this is an image again, and where
+-- it has one phase, or makes accounts, the stop law of it holds, also where the lines are read anew of that tree; whatever
+-- it does, its frame holds
 pub record IsStopped (options : Options) (facts : Values) (moment : ℕ) (t : Files) (n : ℕ) (out : List ℕ) : Type 0 where
   pub limit : options.stop_after ≡ Some n
   pub fewer : n < run_work options facts moment t
   pub steps : List Step
   pub count : length steps ≡ n
   pub way : Along (run_way options facts moment t) t steps moment
+  pub asked : AllByRecursion (is_run_step options facts moment t) steps
   pub said : List (List ℕ)
   pub front : (whole : List (List ℕ)) × (IsSaid options facts moment t whole × ((k : ℕ) × (said ≡ take k whole)))
   pub at_work : IsSaidStoppedBy (task_of options) options facts moment t said
@@ -134,7 +141,7 @@ pub record IsRun (options : Options) (clock : ℕ) (input : List ℕ) (found : O
   pub fits : length input ≤ most_bytes
   pub answered : IsAnswered options facts (moment_of options clock) tree found out
 
--- an outcome that has an output of its own, unlike want of memory and the failures of the two ends
+-- an outcome that has an output of its own, unlike running out of memory and the failures of the two ends
 abbrev pub IsOwn : Outcome → Type 0
 IsOwn Memory = ⊥
 IsOwn ReadFault = ⊥

@@ -11,3 +11,4 @@ pub mod Generated
 pub mod Answers
 pub mod Stops
 pub mod Framed
+pub mod Swept

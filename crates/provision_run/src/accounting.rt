@@ -7,6 +7,7 @@ ghost use Rattle.pv_steps.specs.Acting.{Acted};
 ghost use Rattle.pv_accounts_run.specs.Accounted.{accounted};
 ghost use Rattle.pv_accounts_run.specs.Carrying.{AccountWay, IsAccountStep};
 ghost use Rattle.pv_accounts_run.specs.Mended.{IsMended};
+ghost use Rattle.pv_accounts_run.specs.Swept.{LeavesNoStagingName};
 ghost use Rattle.provision_run.specs.Framed.{AreAccountsFramed};
 ghost use Rattle.provision_run.specs.Rereading.{AreAccountsMendedAnew, AreRequestsReread};
 ghost use Rattle.provision_run.specs.Accounts.{account_messages, accounts_end, accounts_work, IsEnded, lacking_text, requests_messages, run_edits, run_requests};
@@ -33,6 +34,8 @@ pub(crate) fn make_accounts<T: Tree>(
     ensures said { OnOk result (messages.new
         ≡ messages.old ++ requests_messages options.entry.now facts.now (T.state tree.old) ++ account_messages options.entry.now facts.now moment (T.state tree.old)) }
     ensures end { IfOk result (λ end. end ≡ accounts_end options.entry.now facts.now moment (T.state tree.old)) }
+    ensures staged { OnOk result (LeavesNoStagingName (run_requests options.entry.now facts.now (T.state tree.old)) moment
+        (T.state tree.old) (T.state tree.new)) }
     ensures part { SaidPart
         (requests_messages options.entry.now facts.now (T.state tree.old) ++ account_messages options.entry.now facts.now moment (T.state tree.old))
         messages.old messages.new }

@@ -5,11 +5,12 @@ ghost use Rattle.pv_steps.specs.declared.tree.TreeFault.TheVariants.{Failed};
 ghost use Rattle.pv_steps.specs.Acting.{Acted};
 ghost use Rattle.pv_create.specs.OnTheWay.{IsFramed};
 ghost use Rattle.pv_phases.specs.Phases.{HasSaidStopped, IsMendedBy, phases_of};
+ghost use Rattle.pv_phases.specs.Swept.{IsSweptBy};
 ghost use Rattle.provision_run.specs.Rereading.{IsMendedAnew, IsReread};
 ghost use Rattle.provision_run.specs.Phased.{is_phases_step, lines_messages, phase_messages, phased, phases_end, phases_way, phases_work, run_lines};
 
 use crate::ending::{RunEnd, end_of};
-use crate::reading::read_run;
+use crate::run_input::read_run;
 use pv_path::TreePath;
 use pv_phases::{phases_of, run_phases};
 use pv_steps::{Tree, TreeFault};
@@ -31,6 +32,8 @@ pub(crate) fn carry_out<T: Tree>(
     ensures said { OnOk result (messages.new
         ≡ messages.old ++ lines_messages options.entry.now facts.now (T.state tree.old) ++ phase_messages options.entry.now facts.now moment (T.state tree.old)) }
     ensures end { IfOk result (λ end. end ≡ phases_end options.entry.now facts.now moment (T.state tree.old)) }
+    ensures staged { OnOk result (IsSweptBy (phases_of options.entry.now) (run_lines options.entry.now facts.now (T.state tree.old)) moment
+        (T.state tree.old) (T.state tree.new)) }
     ensures part { SaidPart
         (lines_messages options.entry.now facts.now (T.state tree.old) ++ phase_messages options.entry.now facts.now moment (T.state tree.old))
         messages.old messages.new }

@@ -9,9 +9,9 @@ mod generated;
 mod laws;
 mod message;
 mod outcome;
-mod reading;
 mod reporting;
 mod run;
+mod run_input;
 mod task;
 mod top;
 

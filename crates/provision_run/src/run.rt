@@ -4,6 +4,7 @@ ghost use Rattle.pv_steps.specs.declared.tree.TreeFault.TheVariants.{Failed};
 ghost use Rattle.pv_steps.specs.Acting.{Acted};
 ghost use Rattle.provision_run.specs.Tasks.{task_of};
 ghost use Rattle.provision_run.specs.Framed.{IsFramedIn};
+ghost use Rattle.provision_run.specs.Swept.{IsSweptIn};
 ghost use Rattle.provision_run.specs.Whole.{end_by, final, final_by, HasSaidBy, HasSaidPartBy, HasSaidStoppedBy, IsMendedAnewIn, IsMendedIn, is_run_step, is_step_by, run_end, run_way, run_work, way_by, work_by};
 
 use crate::accounting::make_accounts;
@@ -31,6 +32,8 @@ pub fn run_on_tree<T: Tree>(
     ensures ok { OnOk result (T.state tree.new ≡ final options.entry.now facts.now moment (T.state tree.old)) }
     ensures said { OnOk result (HasSaidBy (task_of options.entry.now) options.entry.now facts.now moment (T.state tree.old) messages.old messages.new) }
     ensures end { IfOk result (λ end. end ≡ run_end options.entry.now facts.now moment (T.state tree.old)) }
+    // Nothing is left at the staging names of what it made, whatever earlier runs have left there.
+    ensures staged { OnOk result (IsSweptIn (task_of options.entry.now) options.entry.now facts.now moment (T.state tree.old) (T.state tree.new)) }
 
     // What any run has said and done, whatever it answers.
     ensures part { HasSaidPartBy (task_of options.entry.now) options.entry.now facts.now moment (T.state tree.old) messages.old messages.new }
@@ -77,6 +80,7 @@ fn do_task<T: Tree>(
     ensures ok { OnOk result (T.state tree.new ≡ final_by task options.entry.now facts.now moment (T.state tree.old)) }
     ensures said { OnOk result (HasSaidBy task options.entry.now facts.now moment (T.state tree.old) messages.old messages.new) }
     ensures end { IfOk result (λ end. end ≡ end_by task options.entry.now facts.now moment (T.state tree.old)) }
+    ensures staged { OnOk result (IsSweptIn task options.entry.now facts.now moment (T.state tree.old) (T.state tree.new)) }
     ensures part { HasSaidPartBy task options.entry.now facts.now moment (T.state tree.old) messages.old messages.new }
     ensures stopped { IsErrOf result Failed → HasSaidStoppedBy task options.entry.now facts.now moment (T.state tree.old) messages.old messages.new }
     ensures acted { Acted T.Tree

@@ -4,7 +4,7 @@ use Rattle.std.proofs.Common.{zero, suc, refl, sym, ap, subst, ◌∙◌, arith,
 use Rattle.std.proofs.lemmas.Option.{same_Some}
 use Rattle.pv_path.specs.Paths.{Path, is_prefix, staging_of, has_staging}
 use Rattle.pv_path.proofs.Printed.{first_and_rest}
-use Rattle.pv_path.proofs.PathLaws.{has_staging-staging_of}
+use Rattle.pv_path.proofs.PathLaws.{has_staging-staging_of, not_prefix_not_same}
 use Rattle.pv_steps.specs.declared.node.Kind.TheVariants.{File}
 use Rattle.pv_steps.specs.declared.object.Object.{Object}
 use Rattle.pv_steps.specs.declared.step.Step.{Step}
@@ -18,7 +18,7 @@ use Rattle.pv_steps.specs.Same.{Same}
 use Rattle.pv_steps.specs.Acting.{Acted}
 use Rattle.pv_steps.proofs.ActingLaws.{Moves, acted_then, acted_weaken, acted_within, acted_end}
 use Rattle.pv_dress.specs.Edits.{SameOutside}
-use Rattle.pv_dress.specs.Dressing.{CanWear, ChangedAt, Dressing, GivesDress, IsChanged, wear}
+use Rattle.pv_dress.specs.Dressing.{CanDress, ChangedAt, Dressing, GivesDress, IsChanged, dressed}
 use Rattle.pv_dress.proofs.DressLaws.{outside_dressing}
 use Rattle.pv_dress.proofs.EditLaws.{made-here, put_at-made, same-trans, staging_outside}
 use Rattle.pv_walk.specs.Removal.{MayHaveMoved}
@@ -26,7 +26,6 @@ use Rattle.pv_walk.specs.Making.{held_object}
 use Rattle.pv_walk.specs.Staging.{GivesNew}
 use Rattle.pv_accounts_run.specs.declared.edit.Edit.{Edit}
 use Rattle.pv_accounts_run.specs.Edits.{IsEdit, IsOfSome, Published, PublishesEdit, StagesEdit, edited, most_staged, new_file, with_published, with_staged}
-use Rattle.pv_accounts_run.proofs.MovingLaws.{not_same}
 use Rattle.pv_accounts_run.proofs.StagingLaws.{stage_some}
 
 -- ---- lists
@@ -125,17 +124,17 @@ module _ (edit : Edit) (is : IsEdit edit) where
     there_staged : places u (staging_of edit.path) ≡ Some plain
     there_staged = ap (λ (x : Places). x (staging_of edit.path)) made ∙ made-here now (staging_of edit.path) (places t) (stage_some edit is) plain
 
-    pub can_dress : CanWear u (staging_of edit.path) edit.dress
+    pub can_dress : CanDress u (staging_of edit.path) edit.dress
     can_dress = record { kind = File; there = ap kind_of there_staged; dress = is.dress }
 
-    dressed : (old o : Object) → old ≡ plain → IsChanged (wear edit.dress) now old o → o ≡ edited now edit
-    dressed old o e (inl h) = h.1 ∙ sym h.0 ∙ ap (wear edit.dress) e
-    dressed old o e (inr h) = h.1 ∙ ap (λ x. changed now (wear edit.dress x)) e
+    dressed_is : (old o : Object) → old ≡ plain → IsChanged (dressed edit.dress) now old o → o ≡ edited now edit
+    dressed_is old o e (inl h) = h.1 ∙ sym h.0 ∙ ap (dressed edit.dress) e
+    dressed_is old o e (inr h) = h.1 ∙ ap (λ x. changed now (dressed edit.dress x)) e
 
-    pub staged_gives : (v : Files) → ChangedAt (wear edit.dress) (staging_of edit.path) now u v → places v ≡ with_staged now (places t) edit
+    pub staged_gives : (v : Files) → ChangedAt (dressed edit.dress) (staging_of edit.path) now u v → places v ≡ with_staged now (places t) edit
     staged_gives v h =
         let old : h.old ≡ plain = same_Some h.old plain (sym h.there ∙ there_staged) in
-        let same : h.object ≡ edited now edit = dressed h.old h.object old h.is in
+        let same : h.object ≡ edited now edit = dressed_is h.old h.object old h.is in
         h.left ∙ (λ i. put_at (staging_of edit.path) (Some (same i)) (made i)) ∙ (λ j q. put_at-made now (staging_of edit.path) (places t) (stage_some edit is) plain (edited now edit) q j)
 
 module _ {S : Type 0} (tree : Ghosts S) (edit : Edit) (is : IsEdit edit) {now : ℕ} {a b : S} where
@@ -156,5 +155,5 @@ module _ {S : Type 0} (tree : Ghosts S) (edit : Edit) (is : IsEdit edit) {now : 
       (acted_then tree moves (Same (tree.state a)) (StagesEdit edit) before
       (acted_weaken tree (Dressing (staging_of edit.path) edit.dress (tree.state b)) (Same (tree.state a)) (GivesDress (staging_of edit.path) edit.dress (tree.state b)) (StagesEdit edit) 5 5
       (λ u h. same-trans (tree.state a) (tree.state b) u same
-      (λ q plain. sym (outside_dressing (staging_of edit.path) edit.dress (tree.state b) u h q (not_same (staging_of edit.path) q (stage_inside edit is q plain)))))
+      (λ q plain. sym (outside_dressing (staging_of edit.path) edit.dress (tree.state b) u h q (not_prefix_not_same (staging_of edit.path) q (stage_inside edit is q plain)))))
       (gives_dress edit is (tree.state b)) (omega arith) more))

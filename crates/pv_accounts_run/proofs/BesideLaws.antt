@@ -9,13 +9,14 @@ use Rattle.pv_steps.specs.Trees.{Files, IsTree, Places, places}
 use Rattle.pv_dress.proofs.EditLaws.{bares-made, bares-put_else}
 use Rattle.pv_walk.specs.Preparing.{with_parent}
 use Rattle.pv_walk.specs.Removal.{is_one_of}
-use Rattle.pv_walk.proofs.RemovalLaws.{apart, no_same}
+use Rattle.pv_walk.proofs.RemovalLaws.{no_same}
 use Rattle.pv_accounts_run.specs.declared.edit.Edit.{Edit}
 use Rattle.pv_accounts_run.specs.Edits.{edited, etc, with_edit}
 use Rattle.pv_accounts_run.specs.Carrying.{AccountWay, IsEditOf, account_paths}
 use Rattle.pv_accounts_run.specs.Accounted.{edits_at, edits_by, edits_unless, plan_at, unusable_texts}
 use Rattle.pv_accounts_run.proofs.CarryingLaws.{directory_bares}
 use Rattle.pv_accounts_run.proofs.EditingLaws.{all_usable, of_by}
+use Rattle.pv_path.proofs.Tests.{true_not_false}
 
 -- what holds of each edit holds of each of the first
 pub first_all : (P : Edit → Type 0) (k : ℕ) (cs : List Edit) → AllByRecursion P cs → AllByRecursion P (take k cs)
@@ -44,7 +45,7 @@ edits_of_run requests now t tree = by (unusable_texts (places t)) refl
 else_of : (t : Places) (q : Path) → is_one_of account_paths q ≡ false → (cs : List Edit) → AllByRecursion (IsEditOf t) cs → AreElse q cs
 else_of t q far [] of = tt
 else_of t q far (c ∷ cs) of = (
-  no_same c.path q (λ e. apart (is_one_of account_paths c.path) of.0.listed (ap (is_one_of account_paths) e ∙ far)),
+  no_same c.path q (λ e. true_not_false (is_one_of account_paths c.path) of.0.listed (ap (is_one_of account_paths) e ∙ far)),
   else_of t q far cs of.1,
 )
 

@@ -3,7 +3,7 @@ use Rattle.std.specs.Prelude.{◌≡◌, ◌≢◌, ℕ, ◌+◌, ◌*◌, ◌�
 use Rattle.std.proofs.Common.{zero, suc, refl, sym, ap, subst, ◌∙◌, arith, inl, inr, ◌⊎◌}
 use Rattle.std.specs.List.{AllByRecursion}
 use Rattle.pv_path.specs.Paths.{Path, same_path, has_staging, staging_of}
-use Rattle.pv_path.proofs.PathLaws.{is_prefix-refl}
+use Rattle.pv_path.proofs.PathLaws.{is_prefix-refl, not_prefix_not_same}
 use Rattle.pv_steps.specs.declared.node.Kind.TheVariants.{Directory, File}
 use Rattle.pv_steps.specs.declared.object.Object.{Object}
 use Rattle.pv_steps.specs.declared.step.Step.{Step}
@@ -24,29 +24,16 @@ use Rattle.pv_walk.specs.Preparing.{parent_file, with_parent}
 use Rattle.pv_walk.specs.Putting as putting
 use Rattle.pv_walk.specs.Putting.{IsPutting, Putting}
 use Rattle.pv_walk.specs.Removal.{is_one_of}
-use Rattle.pv_walk.proofs.RemovalLaws.{apart}
 use Rattle.pv_walk.proofs.PuttingLaws.{made-none, none_below}
 use Rattle.pv_accounts_run.specs.declared.edit.Edit.{Edit}
 use Rattle.pv_accounts_run.specs.Edits.{AreEdits, IsBeside, IsEdit, IsFree, IsOfSome, IsStaged, Published, PublishesEdit, StagesEdit, edited, etc, most_edited, with_edit, with_published, with_staged}
 use Rattle.pv_accounts_run.specs.Carrying.{AccountWay, IsAccountStep, IsEditOf, PutsDirectory, account_paths, most_put, swept_names, with_directory}
-use Rattle.pv_accounts_run.proofs.MovingLaws.{not_parent, not_same}
+use Rattle.pv_accounts_run.proofs.MovingLaws.{not_parent}
 use Rattle.pv_accounts_run.proofs.StagingLaws.{HasRoom, bares_all_staged, bares_edits, published_first, stage_some, stage_up}
+use Rattle.pv_path.proofs.Tests.{true_not_false}
+use Rattle.pv_steps.proofs.ObjectLaws.{kind_of-same, is_some-same}
 
 -- ---- kinds
-
-pub same_kind : (a b : Option Object) → option_map bare a ≡ option_map bare b → kind_of a ≡ kind_of b
-same_kind a b e = sym (bare_kind a) ∙ ap kind_of e ∙ bare_kind b
-  where
-    bare_kind : (o : Option Object) → kind_of (option_map bare o) ≡ kind_of o
-    bare_kind None = refl
-    bare_kind (Some x) = refl
-
-pub same_some : (a b : Option Object) → option_map bare a ≡ option_map bare b → is_some a ≡ is_some b
-same_some a b e = sym (bare_some a) ∙ ap is_some e ∙ bare_some b
-  where
-    bare_some : (o : Option Object) → is_some (option_map bare o) ≡ is_some o
-    bare_some None = refl
-    bare_some (Some x) = refl
 
 pub no_directory : (o : Option Object) → (kind_of o ≡ None) ⊎ (kind_of o ≡ Some File) → kind_of o ≢ Some Directory
 no_directory o (inl e) d = let no : None ≡ Some Directory = sym e ∙ d in cc
@@ -83,7 +70,7 @@ module _ (now : ℕ) (t : Places) where
 pub parent_bares : (now later : ℕ) (t u : Places) → ((q : Path) → has_staging q ≡ false → bares t q ≡ bares u q)
     → (q : Path) → has_staging q ≡ false → bares (with_parent now t etc) q ≡ bares (with_parent later u etc) q
 parent_bares now later t u same q plain =
-    ap (λ b. bares (cond b t (put now t)) q) (same_some (t etc) (u etc) (same etc refl)) ∙ by (is_some (u etc))
+    ap (λ b. bares (cond b t (put now t)) q) (is_some-same (t etc) (u etc) (same etc refl)) ∙ by (is_some (u etc))
   where
     one : (b : Bool) (x y : Option Object) → option_map bare x ≡ option_map bare y
         → option_map bare (cond b (Some (new_object parent_file now)) x) ≡ option_map bare (cond b (Some (new_object parent_file later)) y)
@@ -110,7 +97,7 @@ module _ (c : Edit) (is : IsEdit c) where
   free_put now t free = directory_none now t (staging_of c.path) stage_no_etc free
 
   file_put : (now : ℕ) (t : Places) → kind_of (t c.path) ≢ Some Directory → kind_of (with_parent now t etc c.path) ≢ Some Directory
-  file_put now t file e = file (sym (same_kind (with_parent now t etc c.path) (t c.path) (directory_bares now t c.path path_no_etc)) ∙ e)
+  file_put now t file e = file (sym (kind_of-same (with_parent now t etc c.path) (t c.path) (directory_bares now t c.path path_no_etc)) ∙ e)
 
   -- ---- room
 
@@ -157,7 +144,7 @@ module _ (now : ℕ) where
   kept_staged c (d ∷ cs) beside t is =
       kept_staged c cs beside.1 (with_staged now t d)
       (kind_of-touched now (staging_of d.path) (put_at (staging_of d.path) (Some (edited now d)) t) (staging_of c.path)
-      ∙ ap kind_of (put_at-else (staging_of d.path) (staging_of c.path) (Some (edited now d)) t (not_same (staging_of d.path) (staging_of c.path) beside.0.stages_back)) ∙ is)
+      ∙ ap kind_of (put_at-else (staging_of d.path) (staging_of c.path) (Some (edited now d)) t (not_prefix_not_same (staging_of d.path) (staging_of c.path) beside.0.stages_back)) ∙ is)
 
   all_staged : (cs : List Edit) → AreEdits cs → (t : Places) → AllByRecursion (IsStagedIn (fold (with_staged now) t cs)) cs
   all_staged [] are t = tt
@@ -173,7 +160,7 @@ module _ (now : ℕ) where
   files_kept : (all cs : List Edit) → AreEdits all → AreEdits cs → (t : Places) → AllByRecursion (IsNoDirectory t) cs → AllByRecursion (IsNoDirectory (fold (with_staged now) t all)) cs
   files_kept all [] are of t file = tt
   files_kept all (c ∷ cs) are of t file = (
-    λ e. file.0 (sym (same_kind (fold (with_staged now) t all c.path) (t c.path) (bares_all_staged now all are t c.path of.0.plain)) ∙ e),
+    λ e. file.0 (sym (kind_of-same (fold (with_staged now) t all c.path) (t c.path) (bares_all_staged now all are t c.path of.0.plain)) ∙ e),
     files_kept all cs are of.1.1 t file.1,
   )
 
@@ -181,7 +168,7 @@ module _ (now : ℕ) where
   are_staged cs are t file = both_staged (fold (with_staged now) t cs) cs (all_staged cs are t) (files_kept cs cs are are t file)
 
   pub directory_kept : (cs : List Edit) → AreEdits cs → (t : Places) → kind_of (t etc) ≡ Some Directory → kind_of (fold (with_staged now) t cs etc) ≡ Some Directory
-  directory_kept cs are t e = same_kind (fold (with_staged now) t cs etc) (t etc) (bares_all_staged now cs are t etc refl) ∙ e
+  directory_kept cs are t e = kind_of-same (fold (with_staged now) t cs etc) (t etc) (bares_all_staged now cs are t etc refl) ∙ e
 
 -- ---- on the way
 
@@ -213,7 +200,7 @@ module _ (edits : List Edit) (t : Files) where
           one : (q : Path) → IsPutting etc parent_file q (bares (places t) q) (bares (places u) q) → (etc ≡ q) ⊎ (same_path etc q ≡ false) → bares (places u) q ≡ bares (with_parent 0 (places t) etc) q
           one q h (inl same) = subst (λ (p : Path). bares (places u) p ≡ bares (with_parent 0 (places t) etc) p) same (new ∙ sym (parent etc))
           one q (putting.kept h) (inr d) = h ∙ sym (parent q ∙ bares-put_else etc q (Some (new_object parent_file 0)) (places t) d)
-          one q (putting.put here old new) (inr d) = absurd (apart (same_path etc q) (ap (same_path etc) here) d)
+          one q (putting.put here old new) (inr d) = absurd (true_not_false (same_path etc q) (ap (same_path etc) here) d)
 
   -- while files are staged
   pub way_staged : 1 ≤ length edits → (now : ℕ) (b u : Files) → places b ≡ with_parent now (places t) etc → Same b u → AccountWay edits t u
@@ -329,11 +316,11 @@ files_swept t u same [] of = tt
 files_swept t u same (c ∷ cs) of = (record { is = of.0.is; listed = of.0.listed; file = moved of.0.file }, files_swept t u same cs of.1)
   where
     kinds : kind_of (places u c.path) ≡ kind_of (places t c.path)
-    kinds = same_kind (places u c.path) (places t c.path) (same c.path of.0.is.plain)
+    kinds = kind_of-same (places u c.path) (places t c.path) (same c.path of.0.is.plain)
 
     moved : (kind_of (places t c.path) ≡ None) ⊎ (kind_of (places t c.path) ≡ Some File) → (kind_of (places u c.path) ≡ None) ⊎ (kind_of (places u c.path) ≡ Some File)
     moved (inl e) = inl (kinds ∙ e)
     moved (inr e) = inr (kinds ∙ e)
 
 pub pass_swept : (t u : Files) → Same u t → (IsPresent t etc → IsKind Directory t etc) → IsPresent u etc → IsKind Directory u etc
-pass_swept t u same pass there = same_kind (places u etc) (places t etc) (same etc refl) ∙ pass (sym (same_some (places u etc) (places t etc) (same etc refl)) ∙ there)
+pass_swept t u same pass there = kind_of-same (places u etc) (places t etc) (same etc refl) ∙ pass (sym (is_some-same (places u etc) (places t etc) (same etc refl)) ∙ there)

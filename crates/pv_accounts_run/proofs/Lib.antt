@@ -9,3 +9,4 @@ pub mod SameLaws
 pub mod BesideLaws
 pub mod StopLaws
 pub mod MendedLaws
+pub mod SweptLaws

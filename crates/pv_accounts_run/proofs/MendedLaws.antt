@@ -49,11 +49,13 @@ use Rattle.pv_layers.specs.Places.{group_path, passwd_path}
 use Rattle.pv_accounts_run.specs.Accounted.{HasPlainPath, IsUsable, accounted, accounted_unless, carried_files, day_of, edit_at, edit_to, edits_at, edits_by, edits_to, edits_unless, files_at, ids_at, ids_of, lacking_at, lacking_in, lacking_unless, other_text, plan_at, text_at, unusable_by, unusable_text, unusable_texts}
 use Rattle.pv_accounts_run.specs.Mended.{EndAlike, IsMended}
 use Rattle.pv_accounts_run.proofs.BesideLaws.{AreElse, edits_left, first_all}
-use Rattle.pv_accounts_run.proofs.CarryingLaws.{directory_bares, no_directory, parent_bares, same_kind, same_some, with_some}
+use Rattle.pv_accounts_run.proofs.CarryingLaws.{directory_bares, no_directory, parent_bares, with_some}
 use Rattle.pv_accounts_run.proofs.EditingLaws.{IsWell, all_usable, all_well}
 use Rattle.pv_accounts_run.proofs.RunningLaws.{usable_accounted}
-use Rattle.pv_accounts_run.proofs.SameLaws.{all_ids, all_taken_bares, beside, blocked, files_same, no_owner, owner, owners_of, places_carried, plain_take, refusal_by, same_accounted, seen, seen_or, some_put, there_put, uid_in, unusables_same}
+use Rattle.pv_accounts_run.proofs.SameLaws.{all_ids, all_taken_bares, beside, blocked, files_same, no_owner, owner, owners_of, places_carried, refusal_by, same_accounted, seen, seen_or, some_put, there_put, uid_in, unusables_same}
 use Rattle.pv_accounts_run.proofs.StopLaws.{AreNew, HasCome, IsAs, after_all_edits, all_beside, bares_all, beside_all, come, kind_as, own_again, own_new, own_text_new, owner_as, text_new, there_text_new}
+use Rattle.pv_path.proofs.PathLaws.{has_staging-take}
+use Rattle.pv_steps.proofs.ObjectLaws.{kind_of-same, is_some-same, none_from_bare}
 
 -- ---- the paths of the account files
 
@@ -90,10 +92,6 @@ none_below t tree usable p one n rest = by (t (p ++ n ∷ rest)) refl
     by : (o : Option Object) → t (p ++ n ∷ rest) ≡ o → t (p ++ n ∷ rest) ≡ None
     by None e = e
     by (Some x) e = absurd (no_directory (t p) (account_in (IsUsable t) usable.0 usable.1.0 usable.1.1.0 usable.1.1.1.0 p one) (directory_above t tree p n rest (ap is_some e)))
-
-none_bare : (o : Option Object) → option_map bare o ≡ None → o ≡ None
-none_bare None e = refl
-none_bare (Some x) e = absurd (let no : Some (bare x) ≡ None = e in cc)
 
 ids_none : (t : Places) (q : Path) → t q ≡ None → ids_at t q ≡ None
 ids_none t q e = by (is_some (refusal t q 0))
@@ -215,12 +213,12 @@ module _ (t u : Places) (texts : Texts) (has : HasCome t u texts) (tree : IsTree
     where
       by : (etc ≡ q) ⊎ (same_path etc q ≡ false) → why_blocked (kind_of (u q)) ≡ why_blocked (kind_of (t q))
       by (inl e) = subst (λ (p : Path). why_blocked (kind_of (u p)) ≡ why_blocked (kind_of (t p))) e etc_blocked
-      by (inr d) = ap why_blocked (same_kind (u q) (t q) (has.beside q plain d far))
+      by (inr d) = ap why_blocked (kind_of-same (u q) (t q) (has.beside q plain d far))
 
   owners : (path : Path) → has_staging path ≡ false → (k : ℕ) → owner_at u path 0 k ≡ owner_at t path 0 k
   owners path plain k =
       subst (λ (n : ℕ). option_map_or (λ (x : Object). x.node.uid) (u (take k path)) n ≡ option_map_or (λ (x : Object). x.node.uid) (t (take k path)) n)
-      (sym (no_owner (k == length path))) (uid_all (take k path) (plain_take k path plain))
+      (sym (no_owner (k == length path))) (uid_all (take k path) (has_staging-take k path plain))
 
   below_two : (k : ℕ) → nat_lt k 2 ≡ true → k < 2
   below_two k h = grind (arith, nat_tests)
@@ -291,7 +289,7 @@ module _ (t u : Places) (texts : Texts) (has : HasCome t u texts) (tree : IsTree
     ids_apart far = λ i. if is_some (refused i) then None else seen owners_of (λ o. refl) (u q) (t q) same_there i
       where
         on_way : (k : ℕ) → nat_lt k (length q) ≡ true → why_blocked (kind_of (u (take k q))) ≡ why_blocked (kind_of (t (take k q)))
-        on_way k below = blocked_all (take k q) (plain_take k q plain) (by (is_one_of account_paths (take k q)) refl)
+        on_way k below = blocked_all (take k q) (has_staging-take k q plain) (by (is_one_of account_paths (take k q)) refl)
           where
             by : (b : Bool) → is_one_of account_paths (take k q) ≡ b → b ≡ false
             by false e = refl
@@ -317,7 +315,7 @@ module _ (t u : Places) (texts : Texts) (has : HasCome t u texts) (tree : IsTree
         by false e = ids_apart e
         by true e =
             let none : t q ≡ None = none_there e in
-            let gone : u q ≡ None = none_bare (u q) (same_there ∙ ap (option_map bare) none) in
+            let gone : u q ≡ None = none_from_bare (u q) (same_there ∙ ap (option_map bare) none) in
             ids_none u q gone ∙ sym (ids_none t q none)
 
   line_same : (line : Request) → IsAllowed line → HasPlainPath line → ids_of u line ≡ ids_of t line
@@ -515,7 +513,7 @@ module _ (requests : List Request) (allowed : AllByRecursion IsAllowed requests)
 
       stands : is_some (all_taken later swept_names (places u) etc) ≡ true
       stands =
-          same_some (all_taken later swept_names (places u) etc) (with_parent 0 (places t) etc etc) (swept ∙ there)
+          is_some-same (all_taken later swept_names (places u) etc) (with_parent 0 (places t) etc etc) (swept ∙ there)
           ∙ some_put (places t)
 
       again : (cs : List Edit) → bares (with_directory later cs (all_taken later swept_names (places u))) etc ≡ bares (places u) etc
@@ -650,7 +648,7 @@ way_mended requests allowed plain now later small t u tree way = by (unusable_te
                 uid_put there = seen_or (λ o. o.node.uid) 0 (λ o. refl) (places u etc) (with_parent 0 (places t) etc etc) there ∙ put_uid (places t)
 
                 blocked_put : bares (places u) etc ≡ bares (with_parent 0 (places t) etc) etc → why_blocked (kind_of (places u etc)) ≡ why_blocked (kind_of (places t etc))
-                blocked_put there = ap why_blocked (same_kind (places u etc) (with_parent 0 (places t) etc etc) there) ∙ put_way (places t)
+                blocked_put there = ap why_blocked (kind_of-same (places u etc) (with_parent 0 (places t) etc etc) there) ∙ put_way (places t)
 
     by : (xs : List (List ℕ)) → unusable_texts (places t) ≡ xs → (r : Result Texts (List ℕ)) → (plan_at requests now (places t)).texts ≡ r → EndAlike now later (accounted requests now t) (accounted requests later u)
     by (x ∷ xs) e r d =
@@ -669,7 +667,7 @@ pub run_mended : (requests : List Request) (now : ℕ) → now < 2 ^ 64 → (edi
 run_mended requests now small edits Q t h u k tree are run n later allowed =
     way_mended requests allowed (plain_lines requests allowed) now later small t (after_all t (take n (drop (length h) k)) now) tree
     (subst (λ (es : List Edit). AccountWay es t (after_all t (take n (drop (length h) k)) now)) are
-    (subst (λ (steps : List Step). AccountWay edits t (after_all t (take n steps) now)) (sym (ap (drop (length h)) run.told ∙ drop-append_seam h run.steps)) (along_prefix (AccountWay edits t) t run.steps now n run.along)))
+    (subst (λ (steps : List Step). AccountWay edits t (after_all t (take n steps) now)) (sym (ap (drop (length h)) run.recorded ∙ drop-append_seam h run.steps)) (along_prefix (AccountWay edits t) t run.steps now n run.along)))
 
 -- and so is one that has done nothing
 pub none_mended : (requests : List Request) (now : ℕ) → now < 2 ^ 64 → (t : Files) (h : List Step) → IsTree t → IsMended requests now t (drop (length h) h)

@@ -2,13 +2,14 @@
 use Rattle.std.specs.Prelude.{◌≡◌, ◌≢◌, ℕ, ◌-◌, ◌≤◌, Bool, true, false, cond, List, [], ◌∷◌, ◌++◌, length, Option, Some, None, is_some, option_map}
 use Rattle.std.proofs.Common.{refl, sym, ap, ◌∙◌, arith, append-nil, length-append, inl, inr}
 use Rattle.pv_path.specs.Paths.{Path, same_path, is_prefix, rest_under, parent_of}
-use Rattle.pv_path.proofs.PathLaws.{is_prefix-refl, is_prefix-append, is_some-rest_under, rest_under-Some, prefix_parts, length-prefix, length-parent_of}
+use Rattle.pv_path.proofs.PathLaws.{is_prefix-refl, is_prefix-append, is_some-rest_under, rest_under-Some, prefix_parts, length-prefix, length-parent_of, not_prefix_not_same}
 use Rattle.pv_steps.specs.declared.object.Object.{Object}
 use Rattle.pv_steps.specs.Objects.{changed, modified}
 use Rattle.pv_steps.specs.Trees.{Places}
 use Rattle.pv_steps.specs.Steps.{put_at, on_at, touched, made, moved, moved_at, carried}
 use Rattle.pv_dress.proofs.EditLaws.{path_cases, put_at-else, on_at-else, moved_away, made-here}
-use Rattle.pv_walk.proofs.RemovalLaws.{apart, no_same}
+use Rattle.pv_walk.proofs.RemovalLaws.{no_same}
+use Rattle.pv_path.proofs.Tests.{true_not_false}
 
 -- ---- other paths
 
@@ -22,13 +23,9 @@ not_parent p q some under = no_same (parent_of p) q (λ e.
     by [] some le is = some refl
     by (n ∷ p) some le is = omega (arith, le, is)
 
--- what is not at or below a path is not that path
-pub not_same : (p q : Path) → is_prefix p q ≡ false → same_path p q ≡ false
-not_same p q h = no_same p q (λ e. apart (is_prefix p q) (ap (is_prefix p) (sym e) ∙ is_prefix-refl p) h)
-
 -- nor is it what that path lies at or below
 pub not_back : (p q r : Path) → is_prefix q p ≡ false → is_prefix q r ≡ true → same_path p r ≡ false
-not_back p q r h under = no_same p r (λ e. apart (is_prefix q p) (ap (is_prefix q) e ∙ under) h)
+not_back p q r h under = no_same p r (λ e. true_not_false (is_prefix q p) (ap (is_prefix q) e ∙ under) h)
 
 -- making something leaves all but its path and its directory
 pub made_else : (now : ℕ) (p : Path) (o : Object) (t : Places) (q : Path) → same_path p q ≡ false → same_path (parent_of p) q ≡ false → made now p o t q ≡ t q
@@ -69,14 +66,14 @@ module _ (now : ℕ) (from to : Path) (some_from : from ≢ []) (some_to : to �
   empty_from : (q : Path) → is_prefix to q ≡ false → is_prefix from q ≡ true → made now to o t q ≡ None
   empty_from q out under =
       let parts = prefix_parts from q under in
-      made_else now to o t q (not_same to q out) (ap (λ (p : Path). same_path p q) (sym together) ∙ not_parent from q some_from under)
+      made_else now to o t q (not_prefix_not_same to q out) (ap (λ (p : Path). same_path p q) (sym together) ∙ not_parent from q some_from under)
       ∙ ap t parts.1 ∙ free parts.0
 
   beside : (q : Path) → is_prefix to q ≡ false → is_prefix from q ≡ false → touched now from (touched now to staged) q ≡ made now to o t q
   beside q out away =
       ap (λ (p : Path). on_at p (modified now) (on_at (parent_of to) (modified now) (on_at p (modified now) (put_at from (Some o) t))) q) together
       ∙ once_again now (same_path (parent_of to) q) (put_at from (Some o) t q)
-      ∙ ap (once now (same_path (parent_of to) q)) (put_at-else from q (Some o) t (not_same from q away) ∙ sym (put_at-else to q (Some o) t (not_same to q out)))
+      ∙ ap (once now (same_path (parent_of to) q)) (put_at-else from q (Some o) t (not_prefix_not_same from q away) ∙ sym (put_at-else to q (Some o) t (not_prefix_not_same to q out)))
 
   pub moved_here : moved now from to (made now from o t) ≡ made now to o t
   moved_here = λ i q. at q i
@@ -124,7 +121,7 @@ module _ (now : ℕ) (from to d : Path) (some_from : from ≢ []) (some_to : to 
       own : same_path d q ≡ true → same_path (parent_of d) q ≡ false
       own e = elim (path_cases d q) [
         | inl s ↦ not_parent d q some_d (ap (is_prefix d) (sym s) ∙ is_prefix-refl d)
-        | inr n ↦ absurd (apart (same_path d q) e n)
+        | inr n ↦ absurd (true_not_false (same_path d q) e n)
       ]
 
   pub moved_beside : moved now from to (made now d o t) ≡ made now d o (moved now from to t)

@@ -1,10 +1,9 @@
 -- Laws of a run: the tree that it leaves as a map, and what its answer says.
-use Rattle.std.specs.Prelude.{◌≡◌, ◌⊎◌, ℕ, ◌≤◌, Bool, true, false, cond, ◌||◌, List, [], ◌∷◌, ◌++◌, length, map, fold, Option, Some, None, is_some, Result, Ok, Err, OnOk, IsErrAnd}
+use Rattle.std.specs.Prelude.{◌≡◌, ◌⊎◌, ℕ, ◌≤◌, Bool, true, false, cond, List, [], ◌∷◌, ◌++◌, length, map, fold, Option, Some, None, is_some, Result, Ok, Err, OnOk, IsErrAnd}
 use Rattle.std.proofs.Common.{refl, sym, ap, subst, ◌∙◌, arith, inl, inr}
 use Rattle.std.specs.FinMap as fin
 use Rattle.pv_path.specs.Paths.{Path, same_path, is_prefix}
-use Rattle.pv_path.proofs.PathLaws.{path_cmp-refl, same_path-refl}
-use Rattle.std.specs.Ordering.{is_eq}
+use Rattle.pv_path.proofs.PathLaws.{same_path-refl}
 use Rattle.std.proofs.lemmas.Bool.{or_right}
 use Rattle.pv_steps.specs.declared.object.Object.{Object}
 use Rattle.pv_steps.specs.declared.tree.TreeFault.{TreeFault}
@@ -18,8 +17,8 @@ use Rattle.pv_walk.specs.Preparing.{parent_file}
 use Rattle.pv_walk.specs.Staging.{new_object}
 use Rattle.pv_doing.specs.declared.carried.Carried.{Carried}
 use Rattle.pv_accounts_run.specs.declared.edit.Edit.{Edit}
-use Rattle.pv_accounts_run.specs.declared.fault.AccountsFault.{AccountsFault}
-use Rattle.pv_accounts_run.specs.declared.fault.AccountsFault.TheVariants.{NoFreeId, Failed, Memory}
+use Rattle.pv_accounts_run.specs.declared.accounts_fault.AccountsFault.{AccountsFault}
+use Rattle.pv_accounts_run.specs.declared.accounts_fault.AccountsFault.TheVariants.{NoFreeId, Failed, Memory}
 use Rattle.pv_accounts_run.specs.Edits.{edited, etc, with_edit}
 use Rattle.pv_accounts_run.specs.Carrying.{carried_out, swept_names, with_directory}
 use Rattle.pv_requests.specs.declared.request.Request.{Request}
@@ -30,15 +29,9 @@ use Rattle.pv_steps.specs.declared.tree.Tree.{Ghosts}
 use Rattle.pv_steps.specs.Acting.{Acted, refused}
 use Rattle.pv_accounts_run.specs.Accounted.{accounted, accounted_unless, carried_files, edits_at, edits_by, edits_unless, lacking_at, lacking_in, lacking_unless, plan_at, said_unless, unusable_texts}
 use Rattle.pv_accounts_run.specs.Running.{in_steps, run_answer}
+use Rattle.pv_walk.proofs.PreparedLaws.{among_first}
 
 -- ---- which paths a run leaves present
-
-among_first : (q : Path) (paths : List Path) → is_among q (q ∷ paths) ≡ true
-among_first q paths = ap (λ o. is_eq o || is_among q paths) (path_cmp-refl q)
-
-among_right : (q : Path) (xs ys : List Path) → is_among q ys ≡ true → is_among q (xs ++ ys) ≡ true
-among_right q [] ys h = h
-among_right q (x ∷ xs) ys h = or_right _ (is_among q (xs ++ ys)) (among_right q xs ys h)
 
 module _ (now : ℕ) (q : Path) where
   present_made : (p : Path) (o : Object) (t : Places) → is_some (made now p o t q) ≡ true → (p ≡ q) ⊎ (is_some (t q) ≡ true)
@@ -140,7 +133,7 @@ pub nil_of : (xs : List (List ℕ)) → length xs ≤ 0 → xs ≡ []
 nil_of [] h = refl
 nil_of (x ∷ xs) h = absurd (omega (arith, h))
 
--- an answer that tells want of memory refuses nothing
+-- an answer that tells running out of memory refuses nothing
 pub no_step : (r : Result Carried AccountsFault) → IsErrAnd r (λ e. e ≡ Memory) → refused (in_steps r) ≡ 0
 no_step (Ok x) h = absurd h
 no_step (Err (NoFreeId name)) h = refl

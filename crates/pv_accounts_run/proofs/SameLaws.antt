@@ -1,10 +1,10 @@
 -- Laws of runs over trees that differ in stamps and staging names alone: they plan the same, and leave the same.
-use Rattle.std.specs.Prelude.{◌≡◌, ◌⊎◌, ◌≤◌, ℕ, ◌+◌, ◌-◌, ◌==◌, nat_lt, Bool, true, false, not, ◌&&◌, ◌||◌, cond, List, [], ◌∷◌, ◌++◌, length, map, take, Option, Some, None, is_some, option_map, option_and_then, unwrap_or, Result, Ok, Err, if◌then◌else◌}
-use Rattle.std.proofs.Common.{zero, suc, refl, sym, ap, subst, ◌∙◌, arith, inl, inr}
+use Rattle.std.specs.Prelude.{◌≡◌, ◌⊎◌, ◌≤◌, ℕ, ◌+◌, ◌-◌, ◌==◌, nat_lt, Bool, true, false, not, ◌&&◌, cond, List, [], ◌∷◌, ◌++◌, length, map, take, Option, Some, None, is_some, option_map, option_and_then, unwrap_or, Result, Ok, Err, if◌then◌else◌}
+use Rattle.std.proofs.Common.{refl, sym, ap, subst, ◌∙◌, arith, inl, inr}
 use Rattle.std.specs.FinMap as fin
 use Rattle.std.specs.List.{AllByRecursion, range_with_len}
 use Rattle.std.specs.Option.{option_map_or, option_or}
-use Rattle.pv_path.specs.Names.{is_staging, same_bytes}
+use Rattle.pv_path.specs.Names.{same_bytes}
 use Rattle.pv_path.specs.Paths.{Path, has_staging, same_path}
 use Rattle.pv_steps.specs.declared.object.Object.{Object}
 use Rattle.pv_steps.specs.declared.why.Why.{Why}
@@ -31,9 +31,11 @@ use Rattle.pv_accounts_run.specs.Edits.{etc}
 use Rattle.pv_layers.specs.Places.{group_path, passwd_path}
 use Rattle.pv_accounts_run.specs.Carrying.{carried_out, gshadow_path, shadow_path, swept_names, with_directory}
 use Rattle.pv_accounts_run.specs.Accounted.{HasPlainPath, accounted, accounted_unless, accounts_messages, carried_files, day_of, dress_at, edit_at, edits_at, edits_by, edits_to, edits_unless, files_at, ids_at, ids_of, lacking_at, lacking_in, lacking_unless, plain_dress, plan_at, said_unless, text_at, unusable_by, unusable_text, unusable_texts}
-use Rattle.pv_accounts_run.proofs.CarryingLaws.{directory_bares, parent_bares, same_kind, with_some}
+use Rattle.pv_accounts_run.proofs.CarryingLaws.{directory_bares, parent_bares, with_some}
 use Rattle.pv_accounts_run.proofs.StagingLaws.{bares_edits}
 use Rattle.pv_accounts_run.proofs.RunningLaws.{present_run}
+use Rattle.pv_path.proofs.PathLaws.{has_staging-take}
+use Rattle.pv_steps.proofs.ObjectLaws.{kind_of-same}
 
 -- ---- what does not depend on stamps
 
@@ -51,15 +53,6 @@ seen_or f none kept a b e = sym (bare_seen a) ∙ ap (λ (o : Option Object). op
     bare_seen : (o : Option Object) → option_map_or f (option_map bare o) none ≡ option_map_or f o none
     bare_seen None = refl
     bare_seen (Some x) = kept x
-
-pub plain_take : (k : ℕ) (p : Path) → has_staging p ≡ false → has_staging (take k p) ≡ false
-plain_take zero p h = refl
-plain_take (suc k) [] h = refl
-plain_take (suc k) (n ∷ p) h = by (is_staging n) h (plain_take k p)
-  where
-    by : (b : Bool) → (b || has_staging p) ≡ false → (has_staging p ≡ false → has_staging (take k p) ≡ false) → (b || has_staging (take k p)) ≡ false
-    by true h rest = absurd (let no : true ≡ false = h in cc)
-    by false h rest = rest h
 
 abbrev pub owners_of : Object → PathId
 owners_of o = record { uid = o.node.uid; gid = o.node.gid }
@@ -109,20 +102,20 @@ module _ (t u : Places) (same : (q : Path) → has_staging q ≡ false → same_
     where
       by : (etc ≡ p) ⊎ (same_path etc p ≡ false) → why_blocked (kind_of (u p)) ≡ why_blocked (kind_of (t p))
       by (inl e) = subst (λ (q : Path). why_blocked (kind_of (u q)) ≡ why_blocked (kind_of (t q))) e blocked
-      by (inr d) = ap why_blocked (same_kind (u p) (t p) (same p plain d))
+      by (inr d) = ap why_blocked (kind_of-same (u p) (t p) (same p plain d))
 
   module _ (path : Path) (plain : has_staging path ≡ false) (apart : same_path etc path ≡ false) where
     owner_same : (k : ℕ) → owner_at u path 0 k ≡ owner_at t path 0 k
-    owner_same k = owner_there (take k path) (plain_take k path plain) (if k == length path then 0 else 0) (no_owner (k == length path))
+    owner_same k = owner_there (take k path) (has_staging-take k path plain) (if k == length path then 0 else 0) (no_owner (k == length path))
 
     blocked_same : (k : ℕ) → why_blocked (kind_of (u (take k path))) ≡ why_blocked (kind_of (t (take k path)))
-    blocked_same k = blocked_there (take k path) (plain_take k path plain)
+    blocked_same k = blocked_there (take k path) (has_staging-take k path plain)
 
     refusal_same : refusal u path 0 ≡ refusal t path 0
     refusal_same = refusal_by t u path owner_same (λ k below. blocked_same k)
 
     kind_same : kind_of (u path) ≡ kind_of (t path)
-    kind_same = same_kind (u path) (t path) (same path plain apart)
+    kind_same = kind_of-same (u path) (t path) (same path plain apart)
 
     owners_same : option_map owners_of (u path) ≡ option_map owners_of (t path)
     owners_same = seen owners_of (λ o. refl) (u path) (t path) (same path plain apart)
@@ -225,7 +218,7 @@ module _ (t u : Files) (same : Same u t) where
   owner = seen_or (λ o. o.node.uid) 0 (λ o. refl) (places u etc) (places t etc) (same etc refl)
 
   pub blocked : why_blocked (kind_of (places u etc)) ≡ why_blocked (kind_of (places t etc))
-  blocked = ap why_blocked (same_kind (places u etc) (places t etc) (same etc refl))
+  blocked = ap why_blocked (kind_of-same (places u etc) (places t etc) (same etc refl))
 
   module _ (requests : List Request) (now later : ℕ) (plain : AllByRecursion HasPlainPath requests) (day : day_of later ≡ day_of now) where
     step : accounted requests later u
@@ -293,10 +286,10 @@ module _ (t u : Files) (put : (q : Path) → has_staging q ≡ false → bares (
     where
       by : (o : Option Object) → places t etc ≡ o → why_blocked (kind_of (places u etc)) ≡ why_blocked (kind_of (places t etc))
       by None is =
-          ap why_blocked (same_kind (places u etc) (Some (new_etc (places t))) (put etc refl ∙ ap (option_map bare) (there_put (places t) is)))
+          ap why_blocked (kind_of-same (places u etc) (Some (new_etc (places t))) (put etc refl ∙ ap (option_map bare) (there_put (places t) is)))
           ∙ sym (ap (λ (o : Option Object). why_blocked (kind_of o)) is)
       by (Some x) is =
-          ap why_blocked (same_kind (places u etc) (places t etc)
+          ap why_blocked (kind_of-same (places u etc) (places t etc)
           (put etc refl ∙ ap (λ (o : Option Object). bares (cond (is_some o) (places t) (made 0 etc (new_etc (places t)) (places t))) etc) is))
 
   module _ (now later : ℕ) where

@@ -4,7 +4,7 @@ use Rattle.std.proofs.Common.{zero, suc, refl, sym, ap, ◌∙◌, inl, inr}
 use Rattle.std.specs.List.{AllByRecursion}
 use Rattle.std.proofs.lemmas.Bool.{cases_Bool}
 use Rattle.pv_path.specs.Paths.{Path, same_path, is_prefix, parent_of, has_staging, staging_of}
-use Rattle.pv_path.proofs.PathLaws.{is_prefix-append, rest_under-None, parent_of-staging_of, has_staging-staging_of, same_path-refl}
+use Rattle.pv_path.proofs.PathLaws.{is_prefix-append, rest_under-None, parent_of-staging_of, has_staging-staging_of, same_path-refl, not_prefix_not_same}
 use Rattle.pv_steps.specs.declared.node.Kind.TheVariants.{Directory, File}
 use Rattle.pv_steps.specs.declared.object.Object.{Object}
 use Rattle.pv_steps.specs.Objects.{bare}
@@ -13,12 +13,12 @@ use Rattle.pv_steps.proofs.TreeLaws.{present_of_kind, kind_of-touched}
 use Rattle.pv_steps.specs.Steps.{moved_at, touched, put_at, Movable, Yields, absent, objects}
 use Rattle.pv_steps.specs.Same.{bares}
 use Rattle.pv_dress.proofs.EditLaws.{put_at-else, bares-made, bares-put_else, staging_outside}
-use Rattle.pv_walk.proofs.RemovalLaws.{apart}
 use Rattle.pv_walk.proofs.PublishLaws.{staging_nonempty, stage_outside, path_outside}
 use Rattle.pv_walk.proofs.PuttingLaws.{made-none}
 use Rattle.pv_accounts_run.specs.declared.edit.Edit.{Edit}
 use Rattle.pv_accounts_run.specs.Edits.{AreEdits, IsBeside, IsEdit, IsFree, IsStaged, edited, etc, with_edit, with_published, with_staged}
-use Rattle.pv_accounts_run.proofs.MovingLaws.{made_else, moved_beside, moved_here, not_back, not_parent, not_same}
+use Rattle.pv_accounts_run.proofs.MovingLaws.{made_else, moved_beside, moved_here, not_back, not_parent}
+use Rattle.pv_path.proofs.Tests.{true_not_false}
 
 -- what an edit needs of a tree: nothing stands at or below its staging name, and nothing below its path
 pub record HasRoom (t : Places) (edit : Edit) : Type 0 where
@@ -35,7 +35,7 @@ module _ (c : Edit) (is : IsEdit c) where
   -- the directory is neither the path nor the staging name, nor below them
   pub outside_parent : (p : Path) → p ≢ [] → parent_of p ≡ etc → is_prefix p etc ≡ false
   outside_parent p some up = elim (cases_Bool (is_prefix p etc)) [
-    | inl e ↦ absurd (apart (same_path etc etc) (same_path-refl etc) (ap (λ (q : Path). same_path q etc) (sym up) ∙ not_parent p etc some e))
+    | inl e ↦ absurd (true_not_false (same_path etc etc) (same_path-refl etc) (ap (λ (q : Path). same_path q etc) (sym up) ∙ not_parent p etc some e))
     | inr e ↦ e
   ]
 
@@ -47,14 +47,14 @@ module _ (c : Edit) (is : IsEdit c) where
   pub bares_staged : (now : ℕ) (t : Places) (q : Path) → has_staging q ≡ false → bares (with_staged now t c) q ≡ bares t q
   bares_staged now t q plain =
       bares-made now (staging_of c.path) (edited now c) t q
-      ∙ bares-put_else (staging_of c.path) q (Some (edited now c)) t (not_same (staging_of c.path) q (stage_plain q plain))
+      ∙ bares-put_else (staging_of c.path) q (Some (edited now c)) t (not_prefix_not_same (staging_of c.path) q (stage_plain q plain))
 
   -- ---- kinds
 
   pub staged_directory : (now : ℕ) (t : Places) → kind_of (with_staged now t c etc) ≡ kind_of (t etc)
   staged_directory now t =
       kind_of-touched now (staging_of c.path) (put_at (staging_of c.path) (Some (edited now c)) t) etc
-      ∙ ap kind_of (put_at-else (staging_of c.path) etc (Some (edited now c)) t (not_same (staging_of c.path) etc (outside_parent (staging_of c.path) stage_some stage_up)))
+      ∙ ap kind_of (put_at-else (staging_of c.path) etc (Some (edited now c)) t (not_prefix_not_same (staging_of c.path) etc (outside_parent (staging_of c.path) stage_some stage_up)))
 
   pub published_kind : (now : ℕ) (t : Places) (q : Path) → is_prefix c.path q ≡ false → is_prefix (staging_of c.path) q ≡ false → kind_of (with_published now t c q) ≡ kind_of (t q)
   published_kind now t q out away =
@@ -99,7 +99,7 @@ module _ (now : ℕ) (c d : Edit) (is_c : IsEdit c) (is_d : IsEdit d) (beside : 
   }
 
   pub free_after : IsFree t d → IsFree (with_staged now t c) d
-  free_after free = made-none now (staging_of c.path) (edited now c) t (staging_of d.path) (not_same (staging_of c.path) (staging_of d.path) beside.stages) free
+  free_after free = made-none now (staging_of c.path) (edited now c) t (staging_of d.path) (not_prefix_not_same (staging_of c.path) (staging_of d.path) beside.stages) free
 
   pub staged_after : IsStaged t d → IsStaged (with_published now t c) d
   staged_after s = record {

@@ -21,8 +21,8 @@ use Rattle.pv_accounts_run.specs.Edits.{edited, etc, with_edit}
 use Rattle.pv_accounts_run.specs.Carrying.{account_paths, gshadow_path, shadow_path}
 use Rattle.pv_accounts_run.specs.Accounted.{edit_at, edit_to, edits_to, plain_dress, text_at}
 use Rattle.pv_layers.specs.Places.{group_path, passwd_path}
-use Rattle.pv_accounts_run.proofs.CarryingLaws.{same_kind}
 use Rattle.pv_accounts_run.proofs.SameLaws.{seen, seen_or, uid_in}
+use Rattle.pv_steps.proofs.ObjectLaws.{kind_of-same}
 
 -- ---- what edits leave at a path, stamps aside
 
@@ -302,7 +302,7 @@ module _ (t u : Places) (path : Path) (mode : ℕ) where
       by false k = uid_seen (Some (edited 0 (edit_to t path mode text))) k ∙ new_uid text
 
   kind_seen : (a : Option Object) → bares u path ≡ option_map bare a → kind_of (u path) ≡ kind_of a
-  kind_seen a e = same_kind (u path) a e
+  kind_seen a e = kind_of-same (u path) a e
 
   -- its kind stays, or it is a file
   pub kind_as : (text : Option (List ℕ)) → IsAs t u path mode text → (kind_of (u path) ≡ kind_of (t path)) ⊎ (kind_of (u path) ≡ Some File)

@@ -53,7 +53,7 @@ with_published now t edit = moved now (staging_of edit.path) edit.path t
 
 -- ---- what staging and publishing need
 
--- a file in the directory of the account files, with what a file can wear
+-- a file in the directory of the account files, with a dress that a file can have
 pub record IsEdit (edit : Edit) : Type 0 where
   pub parent : parent_of edit.path ≡ etc
   pub root : edit.path ≢ []

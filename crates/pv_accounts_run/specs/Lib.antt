@@ -3,3 +3,4 @@ pub mod Carrying
 pub mod Accounted
 pub mod Running
 pub mod Mended
+pub mod Swept

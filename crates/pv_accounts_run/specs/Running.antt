@@ -4,8 +4,8 @@ use Rattle.pv_steps.specs.declared.tree.TreeFault.{TreeFault}
 use Rattle.pv_steps.specs.declared.tree.TreeFault.TheVariants as step
 use Rattle.pv_doing.specs.declared.carried.Carried.{Carried}
 use Rattle.pv_doing.specs.declared.carried.Carried.TheVariants.{Whole}
-use Rattle.pv_accounts_run.specs.declared.fault.AccountsFault.{AccountsFault}
-use Rattle.pv_accounts_run.specs.declared.fault.AccountsFault.TheVariants.{NoFreeId, Failed, Memory}
+use Rattle.pv_accounts_run.specs.declared.accounts_fault.AccountsFault.{AccountsFault}
+use Rattle.pv_accounts_run.specs.declared.accounts_fault.AccountsFault.TheVariants.{NoFreeId, Failed, Memory}
 
 -- the answer of what was done in steps, as that of a run
 abbrev pub run_answer : {A : Type 0} → Result A TreeFault → Result Carried AccountsFault

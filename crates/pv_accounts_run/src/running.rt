@@ -13,9 +13,10 @@ ghost use Rattle.pv_accounts_run.specs.Accounted.{accounted, accounts_messages, 
 ghost use Rattle.pv_accounts_run.specs.Carrying.{AccountWay, IsAccountStep, most_put, swept_names};
 ghost use Rattle.pv_accounts_run.specs.Mended.{IsMended};
 ghost use Rattle.pv_accounts_run.specs.Running.{IfLacking, Lacks, in_steps, run_answer};
+ghost use Rattle.pv_accounts_run.specs.Swept.{LeavesNoStagingName};
 
+use crate::accounts_fault::AccountsFault;
 use crate::carrying::carry_out;
-use crate::fault::AccountsFault;
 use crate::judging::unusable_texts;
 use crate::planning::planned_edits;
 use pv_doing::Carried;
@@ -44,6 +45,7 @@ pub fn accounts_run<T: Tree>(
     ensures said { OnOk result (messages.new ≡ messages.old ++ accounts_messages requests.now now (places (T.state tree.old))) }
     ensures carried { IfOk result (λ c. c ≡ carried_of (is_unusable (places (T.state tree.old)))) }
     ensures enough { OnOk result (lacking_at requests.now now (places (T.state tree.old)) ≡ None) }
+    ensures staged { OnOk result (LeavesNoStagingName requests.now now (T.state tree.old) (T.state tree.new)) }
 
     // Where no number is left for a name, what is said, and that nothing is done.
     ensures lacking { IfErr result (Lacks (lacking_at requests.now now (places (T.state tree.old)))) }

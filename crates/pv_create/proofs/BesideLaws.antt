@@ -4,7 +4,7 @@ use Rattle.std.specs.Prelude.{◌≡◌, ◌≢◌, ◌⊎◌, ℕ, zero, suc, �
 use Rattle.std.proofs.Common.{refl, sym, ap, subst, ◌∙◌, inl, inr, arith, append-nil}
 use Rattle.std.specs.List.{list_any, range_with_len}
 use Rattle.pv_path.specs.Paths.{Path, same_path, is_prefix, has_staging, parent_of, staging_of, same_path-decides}
-use Rattle.pv_path.proofs.PathLaws.{is_prefix-append, is_prefix-trans, is_prefix-parent_of, parent_of-is_prefix, parent_of-staging_of, prefixes_compare, has_staging-extends, has_staging-staging_of}
+use Rattle.pv_path.proofs.PathLaws.{is_prefix-append, is_prefix-trans, is_prefix-parent_of, parent_of-is_prefix, parent_of-staging_of, prefixes_compare, has_staging-extends, has_staging-staging_of, is_prefix-take}
 use Rattle.pv_steps.specs.declared.step.Step.{Step}
 use Rattle.pv_steps.specs.declared.step.Step.TheVariants.{MakeDir, MakeFile, MakeFifo, MakeDevice, MakeLink, Write, SetMode, SetOwner, SetAcl, SetAttrs, SetLetters, Rename, Unlink, RemoveDir}
 use Rattle.pv_steps.specs.Content.{alters}
@@ -13,8 +13,8 @@ use Rattle.pv_dress.specs.declared.bare.Bare.{Bare}
 use Rattle.pv_walk.specs.declared.new_file.NewFile.{NewFile}
 use Rattle.pv_walk.specs.Copying.{GivesBare}
 use Rattle.pv_walk.specs.Staging.{staging_names, is_under_any, GivesNew, IsPublishing}
-use Rattle.pv_walk.proofs.PreparingLaws.{nonempty_take, prefix_take}
-use Rattle.pv_walk.proofs.RemovalLaws.{apart}
+use Rattle.pv_walk.proofs.PreparingLaws.{nonempty_take}
+use Rattle.pv_path.proofs.Tests.{true_not_false}
 
 -- a folder without a staging name, and a path at or below it that has one
 module _ (f q : Path) (plain : has_staging f ≡ false) (under : is_prefix f q ≡ true) (staged : has_staging q ≡ true) where
@@ -23,7 +23,7 @@ module _ (f q : Path) (plain : has_staging f ≡ false) (under : is_prefix f q �
   other_plain p h = by (same_path p q) refl
     where
       by : (b : Bool) → same_path p q ≡ b → b ≡ false
-      by true e = absurd (apart (has_staging q) staged (ap has_staging (sym ((same_path-decides p q).0 e)) ∙ h))
+      by true e = absurd (true_not_false (has_staging q) staged (ap has_staging (sym ((same_path-decides p q).0 e)) ∙ h))
       by false e = refl
 
   -- a place that lies neither above the folder nor in it
@@ -32,7 +32,7 @@ module _ (f q : Path) (plain : has_staging f ≡ false) (under : is_prefix f q �
     where
       inside : (is_prefix place f ≡ true) ⊎ (is_prefix f place ≡ true) → ⊥
       inside (inl above) = high above
-      inside (inr below) = apart (is_prefix f place) below out
+      inside (inr below) = true_not_false (is_prefix f place) below out
 
       by : (b : Bool) → is_prefix place q ≡ b → b ≡ false
       by true e = absurd (inside (prefixes_compare place f q e under))
@@ -44,11 +44,11 @@ module _ (f q : Path) (plain : has_staging f ≡ false) (under : is_prefix f q �
     stage_outside = by (is_prefix (staging_of place) q) refl
       where
         differ : f ≢ staging_of place
-        differ e = apart (has_staging f) (ap has_staging e ∙ has_staging-staging_of place some) plain
+        differ e = true_not_false (has_staging f) (ap has_staging e ∙ has_staging-staging_of place some) plain
 
         inside : (is_prefix (staging_of place) f ≡ true) ⊎ (is_prefix f (staging_of place) ≡ true) → ⊥
-        inside (inl high) = apart (has_staging f) (has_staging-extends (staging_of place) f high (has_staging-staging_of place some)) plain
-        inside (inr low) = apart (is_prefix f place)
+        inside (inl high) = true_not_false (has_staging f) (has_staging-extends (staging_of place) f high (has_staging-staging_of place some)) plain
+        inside (inr low) = true_not_false (is_prefix f place)
             (is_prefix-trans f (parent_of place) place (subst (λ (p : Path). is_prefix f p ≡ true) (parent_of-staging_of place) (is_prefix-parent_of f (staging_of place) low differ)) (parent_of-is_prefix place))
             out
 
@@ -60,7 +60,7 @@ module _ (f q : Path) (plain : has_staging f ≡ false) (under : is_prefix f q �
     at_stage rest = by (same_path (staging_of place ++ rest) q) refl
       where
         by : (b : Bool) → same_path (staging_of place ++ rest) q ≡ b → b ≡ false
-        by true e = absurd (apart (is_prefix (staging_of place) q)
+        by true e = absurd (true_not_false (is_prefix (staging_of place) q)
             (subst (λ (r : Path). is_prefix (staging_of place) r ≡ true) ((same_path-decides (staging_of place ++ rest) q).0 e) (is_prefix-append (staging_of place) rest)) stage_outside)
         by false e = refl
 
@@ -113,14 +113,14 @@ module _ (f q : Path) (plain : has_staging f ≡ false) (under : is_prefix f q �
     out_above place high = by (is_prefix f place) refl
       where
         by : (b : Bool) → is_prefix f place ≡ b → b ≡ false
-        by true e = absurd (apart (is_prefix f path) (is_prefix-trans f place path e high) out)
+        by true e = absurd (true_not_false (is_prefix f path) (is_prefix-trans f place path e high) out)
         by false e = refl
 
     none_swept : (k n : ℕ) → 1 ≤ k → k + n ≤ length path + 1 → list_any (λ p. is_prefix p q) (map staging_of (map (λ j. take j path) (range_with_len k n))) ≡ false
     none_swept k zero some le = refl
     none_swept k (suc n) some le =
         ap (λ b. b || list_any (λ p. is_prefix p q) (map staging_of (map (λ j. take j path) (range_with_len (k + 1) n))))
-        (stage_outside (take k path) (nonempty_take k path some (omega arith)) (out_above (take k path) (prefix_take k path)))
+        (stage_outside (take k path) (nonempty_take k path some (omega arith)) (out_above (take k path) (is_prefix-take k path)))
         ∙ none_swept (k + 1) n (omega arith) (omega arith)
 
     pub swept_outside : is_under_any (staging_names path) q ≡ false

@@ -4,7 +4,7 @@ use Rattle.std.specs.Prelude.{◌≡◌, ◌≢◌, ◌⊎◌, ℕ, ◌+◌, ◌
 use Rattle.std.proofs.Common.{zero, suc, refl, sym, ap, subst, ◌∙◌, arith, inl, inr}
 use Rattle.std.proofs.Math.Bool.{or-true}
 use Rattle.std.proofs.Math.Seq.{take-append_seam, take-length}
-use Rattle.std.proofs.lemmas.Bool.{or_cases, and_parts}
+use Rattle.std.proofs.lemmas.Bool.{and_parts}
 use Rattle.std.specs.FinMap as fin
 use Rattle.std.specs.List.{list_any, list_all}
 use Rattle.pv_acl.specs.declared.line.AclLine.{AclLine}
@@ -41,7 +41,7 @@ use Rattle.pv_walk.specs.Copying.{Subtree}
 use Rattle.pv_walk.specs.Listing.{times}
 use Rattle.pv_walk.specs.Staging.{new_object, new_kind}
 use Rattle.pv_walk.proofs.CountLaws.{times-filter, times-keys, same_or_not}
-use Rattle.pv_walk.proofs.RemovalLaws.{apart, zero_or_more}
+use Rattle.pv_walk.proofs.RemovalLaws.{zero_or_more}
 use Rattle.pv_table.specs.declared.deed.Deed.{Deed}
 use Rattle.pv_table.specs.declared.deed.Deed.TheVariants.{Create, Copy, Touch, Idle}
 use Rattle.pv_table.specs.declared.deed.Making.{Making}
@@ -65,8 +65,9 @@ use Rattle.pv_laws.proofs.Lines.{IsPlain, line_point, turns_made, turns_touch, a
 use Rattle.pv_laws.proofs.Making.{is_dir, IsShaped, does_stay, turn_by, IsPlainDirectory, first_on_some, below_after, asked_here, asked_above, asked_else, ready_here}
 use Rattle.pv_laws.proofs.Repeated.{first_makes}
 use Rattle.pv_laws.proofs.Sets.{impossible, is_adjustment, IsAsked, IsMaking, line_is_making, asked, sets_adjust, deep_repeatable}
-use Rattle.pv_laws.proofs.Touching.{turn_open, first_turn, touch_point, any_range}
+use Rattle.pv_laws.proofs.Touching.{turn_open, first_turn, touch_point, any_range, kept_any}
 use Rattle.pv_create.specs.Ways.{WayOf, LineWay}
+use Rattle.pv_path.proofs.Tests.{true_not_false}
 
 -- ---- operations, whole and in front parts
 
@@ -261,16 +262,6 @@ front_on xs false more old mid new keeps e front = (front.0, front.1 ∙ ap (run
 front_on xs true false old mid new keeps e front = (length (parts xs), front.1 ∙ none_done front.0 mid ∙ e ∙ sym (whole_front xs old))
 front_on xs true true old mid new keeps e front = (length (parts xs), front.1 ∙ ap (run (take front.0 (parts xs))) e ∙ keeps refl refl front.0 old ∙ sym (whole_front xs old))
 
--- one of the paths that are kept, with which a test holds
-kept_one : (test keep : Path → Bool) (paths : List Path) → list_any test (filter keep paths) ≡ true → (p : Path) × (keep p ≡ true) × (test p ≡ true)
-kept_one test keep [] h = impossible h
-kept_one test keep (p ∷ paths) h = by (keep p) refl (kept_one test keep paths) h
-  where
-    by : (b : Bool) → keep p ≡ b → (list_any test (filter keep paths) ≡ true → (x : Path) × (keep x ≡ true) × (test x ≡ true)) → list_any test (cond b (p ∷ filter keep paths) (filter keep paths)) ≡ true
-        → (x : Path) × (keep x ≡ true) × (test x ≡ true)
-    by false e later g = later g
-    by true e later g = elim (or_cases (test p) (list_any test (filter keep paths)) g) [ inl here ↦ (p, e, here) | inr there ↦ later there ]
-
 module _ (now : ℕ) (line : Line) (touching : Touching) (e : asks line ≡ Touch touching) where
   adjust : list_all is_adjustment touching.sets ≡ true
   adjust = subst (λ d. list_all is_adjustment (sets_of d) ≡ true) e (sets_adjust line (asks line) (asked line))
@@ -326,7 +317,7 @@ module _ (now : ℕ) (line : Line) (touching : Touching) (e : asks line ≡ Touc
   once_shallow shallow q (p ∷ paths) few = (
     (λ here there. absurd (
         let n = ap (λ c. cond c 1 0 + times q paths) (sym (own_path shallow p q) ∙ here) in
-        apart (is_reached paths q) there (never_reached shallow q paths (omega (arith, few, n))))),
+        true_not_false (is_reached paths q) there (never_reached shallow q paths (omega (arith, few, n))))),
     once_shallow shallow q paths (omega (arith, few)),
   )
 
@@ -355,7 +346,7 @@ module _ (now : ℕ) (line : Line) (touching : Touching) (e : asks line ≡ Touc
     reached_touches h = elim (path_cases p.0 q) [ inl same ↦ own (sym (ap (names line) same) ∙ p.1) | inr other ↦ below other ]
       where
         p : (x : Path) × (names line x ≡ true) × (is_touched touching x q ≡ true)
-        p = kept_one (λ x. is_touched touching x q) (names line) (fin.keys t) h
+        p = kept_any (λ x. is_touched touching x q) (names line) (fin.keys t) h
 
         own : names line q ≡ true → touches line touching q ≡ true
         own is = ap (λ b. b || (touching.deep && names_above line q && not (has_staging q))) is
@@ -378,7 +369,7 @@ module _ (now : ℕ) (line : Line) (touching : Touching) (e : asks line ≡ Touc
 
             shorter : length p.0 < 0 + length q
             shorter = elim (zero_or_more (length q - length p.0)) [
-              | inl z ↦ absurd (apart (same_path p.0 q) ((same_path-decides p.0 q).1 (prefix_whole p.0 q deep.1 (omega (arith, z)))) other)
+              | inl z ↦ absurd (true_not_false (same_path p.0 q) ((same_path-decides p.0 q).1 (prefix_whole p.0 q deep.1 (omega (arith, z)))) other)
               | inr m ↦ omega (arith, m)
             ]
 
@@ -477,7 +468,7 @@ module _ (now : ℕ) (line : Line) (making : Making) (e : asks line ≡ Create m
 
   module _ (q : Path) (plain : has_staging q ≡ false) (below : is_prefix path q ≡ true) (other : same_path path q ≡ false) where
     differ : path ≢ q
-    differ s = apart (same_path path q) ((same_path-decides path q).1 s) other
+    differ s = true_not_false (same_path path q) ((same_path-decides path q).1 s) other
 
     not_above : (b : Bool) → is_prefix q path ≡ b → is_prefix q path ≡ false
     not_above true above = absurd (differ (is_prefix-antisym path q below above))
@@ -494,7 +485,7 @@ module _ (now : ℕ) (line : Line) (making : Making) (e : asks line ≡ Create m
       where
         by : (b : Option Bare) → bares_of (places t) q ≡ b → b ≡ None
         by None f = refl
-        by (Some x) f = absurd (apart (is_dir (bares_of (places t) path)) (shape.above path q plain below differ (ap is_some f)) h)
+        by (Some x) f = absurd (true_not_false (is_dir (bares_of (places t) path)) (shape.above path q plain below differ (ap is_some f)) h)
 
     plain_directory : (x : Bare) → bares_of (places t) path ≡ Some x → is_directory x.body.kind ≡ true → IsPlainDirectory making made x
     plain_directory x f h = let numbers = shape.plain path x is.unstaged f h in (h, numbers.0, numbers.1)

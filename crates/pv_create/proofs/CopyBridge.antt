@@ -184,7 +184,7 @@ module _ (table : List Line) (are : AllByRecursion IsLine table) where
   mended Q now t h u k fits tree run =
       subst (λ (steps : List Step). (n later : ℕ) → IsQuiet table now t → IsQuiet table later (after_all t (take n steps) now) → IsRepeatable table → are_distinct table ≡ true
       → Same (created table later (after_all t (take n steps) now)) (created table now t))
-      (sym (ap (drop (length h)) run.told ∙ drop-append_seam h run.steps)) (λ n later quiet again repeatable distinct.
+      (sym (ap (drop (length h)) run.recorded ∙ drop-append_seam h run.steps)) (λ n later quiet again repeatable distinct.
       mends now later t (after_all t (take n run.steps) now) tree
       (along_prefix IsTree t run.steps now n (along_trees (Partway (lines_course now) (in_create_order table) t) t run.steps now fits tree run.along))
       quiet again repeatable distinct
@@ -195,7 +195,7 @@ module _ (table : List Line) (are : AllByRecursion IsLine table) where
       → (n : ℕ) → IsRepeatable table → IsQuiet table now t → StoppedRuns table (now ∷ []) t (after_all t (take n (drop (length h) k)) now)
   one_stopped Q now t h u k fits tree run =
       subst (λ (steps : List Step). (n : ℕ) → IsRepeatable table → IsQuiet table now t → StoppedRuns table (now ∷ []) t (after_all t (take n steps) now))
-      (sym (ap (drop (length h)) run.told ∙ drop-append_seam h run.steps)) (λ n repeatable quiet. (
+      (sym (ap (drop (length h)) run.recorded ∙ drop-append_seam h run.steps)) (λ n repeatable quiet. (
         quiet,
         (
           after_all t (take n run.steps) now,
@@ -222,7 +222,7 @@ module _ (table : List Line) (are : AllByRecursion IsLine table) where
   pub between : (Q : Step → Type 0) (now : ℕ) (t : Files) (h : List Step) (u : Files) (k : List Step) → IsTree t → Ran (Partway (lines_course now) (in_create_order table) t) Q now t h u k
       → IsStoppedBetween table now t (drop (length h) k)
   between Q now t h u k tree run =
-      subst (λ (steps : List Step). IsStoppedBetween table now t steps) (sym (ap (drop (length h)) run.told ∙ drop-append_seam h run.steps)) (λ n s repeatable quiet agree.
+      subst (λ (steps : List Step). IsStoppedBetween table now t steps) (sym (ap (drop (length h)) run.recorded ∙ drop-append_seam h run.steps)) (λ n s repeatable quiet agree.
       copies_on_the_way table now s t (after_all t (take n run.steps) now) tree quiet agree are repeatable
       (run_way now (in_create_order table) t (after_all t (take n run.steps) now) (all_safe table are repeatable) (tree_shaped (places t) tree) quiet
       (along_prefix (Partway (lines_course now) (in_create_order table) t) t run.steps now n run.along)))

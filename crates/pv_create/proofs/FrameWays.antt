@@ -21,7 +21,6 @@ use Rattle.pv_lines.specs.declared.line.Line.{Line}
 use Rattle.pv_lines.specs.Lines.{IsLine}
 use Rattle.pv_walk.specs.Copying.{Subtree}
 use Rattle.pv_walk.specs.Staging.{new_object}
-use Rattle.pv_walk.proofs.RemovalLaws.{apart}
 use Rattle.pv_table.specs.declared.deed.Copying.{Copying}
 use Rattle.pv_table.specs.declared.deed.Deed.{Deed}
 use Rattle.pv_table.specs.declared.deed.Deed.TheVariants.{Create, Copy, Touch, Idle}
@@ -49,6 +48,7 @@ use Rattle.pv_laws.proofs.Shapes.{tree_shaped}
 use Rattle.pv_create.specs.OnTheWay.{IsFramed}
 use Rattle.pv_create.specs.Ways.{WayOf, LineWay, lines_course}
 use Rattle.pv_create.proofs.BridgeLaws.{none_done}
+use Rattle.pv_path.proofs.Tests.{true_not_false}
 
 -- a line that makes an object, and replaces none, puts it where nothing stands
 put_on_none : (making : Making) → making.renew ≡ None → (b : Option Bare) (subtree : Subtree) → making_turn making b ≡ Turn.Put subtree → b ≡ None
@@ -96,7 +96,7 @@ module _ (now : ℕ) (line : Line) (is : IsLine line) (t : Files) (shape : IsSha
     midway_stays new (IsMidway.set k f) =
         f ∙ ap (λ (x : Deed). run (take k (parts (sets_at x (turn_at now line path t) path q))) (bares_of (places t) q)) e
         ∙ ap (λ xs. run (take k (parts xs)) (bares_of (places t) q)) (sets_none d other (turn_at now line path t) differ) ∙ none_done k (bares_of (places t) q)
-    midway_stays new (IsMidway.parent puts above none f) = absurd (apart (is_prefix q path) above.0 high)
+    midway_stays new (IsMidway.parent puts above none f) = absurd (true_not_false (is_prefix q path) above.0 high)
     midway_stays new (IsMidway.gone subtree put below none) = none ∙ sym (low subtree put below)
 
     way_stays : (u : Files) → OnWay now line path t u → bares_of (places u) q ≡ bares_of (places t) q
@@ -128,7 +128,7 @@ module _ (now : ℕ) (line : Line) (is : IsLine line) (t : Files) (shape : IsSha
         by : (o : Option Bare) → bares_of (places t) q ≡ o → o ≡ None
         by None f = refl
         by (Some x) f = impossible (sym (ap is_some none) ∙ dir_there (bares_of (places t) path) (
-            shape.above path q plain below (λ same. apart (same_path path q) ((same_path-decides path q).1 same) made_differ) (ap is_some f)))
+            shape.above path q plain below (λ same. true_not_false (same_path path q) ((same_path-decides path q).1 same) made_differ) (ap is_some f)))
 
     -- what is put at the path of the line has nothing below it that was there
     pub made_low : (subtree : Subtree) → turn_at now line path t ≡ Turn.Put subtree → is_prefix path q ≡ true → bares_of (places t) q ≡ None
@@ -144,7 +144,7 @@ module _ (now : ℕ) (line : Line) (is : IsLine line) (t : Files) (shape : IsSha
   copy_stays : (copying : Copying) → asks line ≡ Copy copying → (u : Files) → OnWay now line path t u → bares_of (places u) q ≡ bares_of (places t) q
   copy_stays copying e = way_stays (Copy copying) e (λ touching f. (let no : Copy copying ≡ Touch touching = f in cc)) (turns_copy line copying t e)
       (not_at line is copying e q free) (not_above line is copying e q free)
-      (λ subtree put below. absurd (apart (is_prefix path q) below (not_below line is copying e q free)))
+      (λ subtree put below. absurd (true_not_false (is_prefix path q) below (not_below line is copying e q free)))
 
 -- ---- a line at all paths that it names
 
@@ -155,7 +155,7 @@ module _ (now : ℕ) (line : Line) (is : IsLine line) (q : Path) (plain : has_st
     where
       by : IsPartSet (is_touched touching p q) touching.sets (bares_of (places t) q) (bares_of (places u) q) → bares_of (places u) q ≡ bares_of (places t) q
       by (IsPartSet.kept same) = same
-      by (IsPartSet.set k reached part) = absurd (apart (is_touched touching p q) reached (turn_away line is q (ungoverned line q away) touching e p named.0))
+      by (IsPartSet.set k reached part) = absurd (true_not_false (is_touched touching p q) reached (turn_away line is q (ungoverned line q away) touching e p named.0))
   touched_stays (p ∷ paths) named t u shape (inr later) =
       let one = touch_kept now line is (line_is_plain line is (ap copied e)) touching e p named.0 t shape in
       touched_stays paths named.1 (turn_after now line p t) u one.shape later ∙ one.frame q plain away
@@ -193,6 +193,6 @@ module _ (table : List Line) (are : AllByRecursion IsLine table) where
   pub framed : (Q : Step → Type 0) (now : ℕ) (t : Files) (h : List Step) (u : Files) (k : List Step) → IsTree t → Ran (Partway (lines_course now) (in_create_order table) t) Q now t h u k
       → IsFramed table now t (drop (length h) k)
   framed Q now t h u k tree run =
-      subst (λ (steps : List Step). IsFramed table now t steps) (sym (ap (drop (length h)) run.told ∙ drop-append_seam h run.steps)) (λ n q plain free.
+      subst (λ (steps : List Step). IsFramed table now t steps) (sym (ap (drop (length h)) run.recorded ∙ drop-append_seam h run.steps)) (λ n q plain free.
       run_stays now t (after_all t (take n run.steps) now) (tree_shaped (places t) tree) q plain free
       (along_prefix (Partway (lines_course now) (in_create_order table) t) t run.steps now n run.along))

@@ -37,7 +37,6 @@ use Rattle.pv_lines.specs.declared.line.Line.{Line}
 use Rattle.pv_lines.specs.declared.line.LineMode.{LineMode}
 use Rattle.pv_lines.specs.declared.line.LinePath.{LinePath}
 use Rattle.pv_lines.specs.Lines.{IsLine}
-use Rattle.pv_walk.proofs.RemovalLaws.{apart}
 use Rattle.pv_table.specs.declared.deed.Copying.{Copying}
 use Rattle.pv_table.specs.declared.deed.Deed.{Deed}
 use Rattle.pv_table.specs.declared.deed.Deed.TheVariants.{Create, Copy, Touch, Idle}
@@ -65,6 +64,7 @@ use Rattle.pv_laws.proofs.Shapes.{tree_shaped}
 use Rattle.pv_laws.proofs.Touching.{touch_point, turn_open}
 use Rattle.pv_create.specs.Ways.{WayOf, LineWay, lines_course}
 use Rattle.pv_create.proofs.FrameWays.{line_stays}
+use Rattle.pv_path.proofs.Tests.{true_not_false}
 
 -- ---- what reading can see of an object without stamps
 
@@ -199,7 +199,7 @@ argument_keeps plus (argument.Letters how letters) = refl
 argument_keeps plus argument.Ignored = refl
 
 no_letter : (line : Line) → is_writing line ≡ false → (119 == line.letter) ≡ true → ⊥
-no_letter line dry e = let same : line.letter ≡ 119 = grind (arith, nat_tests) in apart (is_writing line) (ap (λ n. n == 119) same) dry
+no_letter line dry e = let same : line.letter ≡ 119 = grind (arith, nat_tests) in true_not_false (is_writing line) (ap (λ n. n == 119) same) dry
 
 writes_nothing : (line : Line) → is_writing line ≡ false → WritesNothing (asks line)
 writes_nothing line dry = find_lettered WritesNothing line deeds (
@@ -317,8 +317,8 @@ module _ (now : ℕ) (line : Line) (is : IsLine line) where
     still_whole t = by (asks line) refl
       where
         by : (d : Deed) → asks line ≡ d → held (bares_of (places ((by_line now).after line t)) q) ≡ held (bares_of (places t) q)
-        by (Create making) e = absurd (apart (changes_content line) (made_changes making e) still)
-        by (Copy copying) e = absurd (apart (changes_content line) (copy_changes copying e) still)
+        by (Create making) e = absurd (true_not_false (changes_content line) (made_changes making e) still)
+        by (Copy copying) e = absurd (true_not_false (changes_content line) (copy_changes copying e) still)
         by (Touch touching) e =
             subst (λ paths. held (bares_of (places (after_each (by_turn now line) paths t)) q) ≡ held (bares_of (places t) q)) (sym (turns_touch line touching t e))
             (turns_held touching e (harmless touching e) q plain (filter (names line) (fin.keys t)) t)
@@ -328,8 +328,8 @@ module _ (now : ℕ) (line : Line) (is : IsLine line) where
     still_way t u = by (asks line) refl
       where
         by : (d : Deed) → asks line ≡ d → WayOf d now line t u → held (bares_of (places u) q) ≡ held (bares_of (places t) q)
-        by (Create making) e way = absurd (apart (changes_content line) (made_changes making e) still)
-        by (Copy copying) e way = absurd (apart (changes_content line) (copy_changes copying e) still)
+        by (Create making) e way = absurd (true_not_false (changes_content line) (made_changes making e) still)
+        by (Copy copying) e way = absurd (true_not_false (changes_content line) (copy_changes copying e) still)
         by (Touch touching) e way =
             way_held touching e (harmless touching e) q plain (filter (names line) (fin.keys t)) t u
             (subst (λ (paths : List Path). Partway (touching_course now line touching) paths t u) (turns_touch line touching t e) way)
@@ -403,7 +403,7 @@ module _ (lines : List Line) (are : AllByRecursion IsLine lines) (free : (i : �
       → (n : ℕ) (q : Path) → is_input q ≡ true → has_staging q ≡ false → content_of (places (after_all t (take n (drop (length h) k)) now) q) ≡ content_of (places t q)
   input_on_run Q now t h u k fits tree run =
       subst (λ (steps : List Step). (n : ℕ) (q : Path) → is_input q ≡ true → has_staging q ≡ false → content_of (places (after_all t (take n steps) now) q) ≡ content_of (places t q))
-      (sym (ap (drop (length h)) run.told ∙ drop-append_seam h run.steps)) (λ n.
+      (sym (ap (drop (length h)) run.recorded ∙ drop-append_seam h run.steps)) (λ n.
       input_on_way now t (after_all t (take n run.steps) now) tree
       (along_prefix IsTree t run.steps now n (along_trees (Partway (lines_course now) (in_create_order lines) t) t run.steps now fits tree run.along))
       (along_prefix (Partway (lines_course now) (in_create_order lines) t) t run.steps now n run.along))

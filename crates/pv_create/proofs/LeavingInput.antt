@@ -2,7 +2,7 @@
 -- staging names included: where a folder from which lines are read is there, no step of the run brings, takes away or
 -- rewrites anything below it under a staging name; where it is absent it stays so, and all below it.
 use Rattle.std.specs.Prelude.{◌≡◌, ◌≢◌, ◌⊎◌, ◌^◌, ◌<◌, ℕ, Bool, true, false, not, ◌&&◌, ◌||◌, List, [], ◌∷◌, length, take, drop, filter, Option, Some, None, is_some, option_map}
-use Rattle.std.proofs.Common.{refl, sym, ap, subst, ◌∙◌, inl, inr, zero, suc}
+use Rattle.std.proofs.Common.{refl, sym, ap, subst, ◌∙◌, inl, inr}
 use Rattle.std.proofs.Math.Seq.{drop-append_seam}
 use Rattle.std.specs.FinMap as fin
 use Rattle.std.specs.List.{list_any, list_all, AllByRecursion}
@@ -28,7 +28,6 @@ use Rattle.pv_walk.specs.Preparing.{IsPrepareStep, parent_file}
 use Rattle.pv_walk.specs.Preparing as preparing
 use Rattle.pv_walk.specs.Putting.{IsPutStep}
 use Rattle.pv_walk.specs.Staging.{staging_names, is_under_any}
-use Rattle.pv_walk.proofs.RemovalLaws.{apart}
 use Rattle.pv_table.specs.declared.deed.Copying.{Copying}
 use Rattle.pv_table.specs.declared.deed.Deed.{Deed}
 use Rattle.pv_table.specs.declared.deed.Deed.TheVariants.{Create, Copy, Touch, Idle}
@@ -60,6 +59,7 @@ use Rattle.pv_create.proofs.BesideLaws.{bare_outside, new_outside, other_plain, 
 use Rattle.pv_create.proofs.FrameWays.{made_high, made_low}
 use Rattle.pv_create.proofs.InputLaws.{IsAway, all_away, copy_changes, held, input_on_way, made_changes, whole_held}
 use Rattle.pv_create.proofs.StepLaws.{names_plain}
+use Rattle.pv_path.proofs.Tests.{true_not_false, all_take}
 
 -- what is there, by what reading can see of it
 held_some : (o : Option Bare) → is_some (held o) ≡ is_some o
@@ -107,9 +107,9 @@ module _ (f q : Path) (plain : has_staging f ≡ false) (under : is_prefix f q �
           gone = ap (λ (o : Option Object). is_some (option_map bare_of o)) none
 
           by : (b : Bool) → same_path place f ≡ b → ⊥
-          by true e = apart (is_some (bares_of (places t) f)) there (subst (λ (p : Path). is_some (bares_of (places t) p) ≡ false) ((same_path-decides place f).0 e) gone)
-          by false e = apart (is_some (bares_of (places t) place))
-              (dir_there (bares_of (places t) place) (shape.above place f plain high (λ same. apart (same_path place f) ((same_path-decides place f).1 same) e) there)) gone
+          by true e = true_not_false (is_some (bares_of (places t) f)) there (subst (λ (p : Path). is_some (bares_of (places t) p) ≡ false) ((same_path-decides place f).0 e) gone)
+          by false e = true_not_false (is_some (bares_of (places t) place))
+              (dir_there (bares_of (places t) place) (shape.above place f plain high (λ same. true_not_false (same_path place f) ((same_path-decides place f).1 same) e) there)) gone
 
       prepares_outside : is_prefix f path ≡ false → IsPrepareStep path t step → alters step q ≡ false
       prepares_outside out (preparing.sweeps removes) = removal_inside (is_under_any (staging_names path)) step q removes (swept_outside f q plain under staged path out)
@@ -136,7 +136,7 @@ module _ (f q : Path) (plain : has_staging f ≡ false) (under : is_prefix f q �
           out = made_high now line is t shape f plain away making e
 
           high : (subtree : Subtree) → turn_at now line path t ≡ Turn.Put subtree → is_prefix path f ≡ true → ⊥
-          high subtree put above = apart (is_some (bares_of (places t) f)) there (ap is_some (made_low now line is t shape f plain away making e subtree put above))
+          high subtree put above = true_not_false (is_some (bares_of (places t) f)) there (ap is_some (made_low now line is t shape f plain away making e subtree put above))
 
           by : IsStepOf now line path t step → alters step q ≡ false
           by (IsStepOf.prepares some given) = prepares_outside out given
@@ -153,7 +153,7 @@ module _ (f q : Path) (plain : has_staging f ≡ false) (under : is_prefix f q �
           out = not_above line is copying e f (ungoverned line f away)
 
           high : is_prefix path f ≡ true → ⊥
-          high above = apart (is_prefix path f) above (not_below line is copying e f (ungoverned line f away))
+          high above = true_not_false (is_prefix path f) above (not_below line is copying e f (ungoverned line f away))
 
           by : IsStepOf now line path t step → alters step q ≡ false
           by (IsStepOf.prepares some given) = prepares_outside out given
@@ -204,12 +204,6 @@ above_of test q (p ∷ paths) all any = by (is_prefix p q) refl any (above_of te
 abbrev is_folder : Path → Bool
 is_folder f = is_input f && (has_names f && not (has_staging f))
 
--- what holds of each holds of some first ones
-pub all_take : {A : Type 0} (P : A → Type 0) (n : ℕ) (xs : List A) → AllByRecursion P xs → AllByRecursion P (take n xs)
-all_take P zero xs all = tt
-all_take P (suc n) [] all = tt
-all_take P (suc n) (x ∷ xs) all = (all.0, all_take P n xs all.1)
-
 module _ (lines : List Line) (are : AllByRecursion IsLine lines) (free : (i : ℕ) → HasReason lines i reason.Input → ⊥) (now : ℕ) (t : Files) (tree : IsTree t) where
   -- at each moment on the way that was reached by steps of the lines
   pub input_after : (steps : List Step) → IsTree (after_all t steps now) → Partway (lines_course now) (in_create_order lines) t (after_all t steps now) → AllByRecursion (IsStepOfSome (lines_course now) (in_create_order lines) t) steps
@@ -231,7 +225,7 @@ module _ (lines : List Line) (are : AllByRecursion IsLine lines) (free : (i : �
           at None e = refl
           at (Some x) e =
               let parts = prefix_parts f q under in
-              absurd (apart (is_some (places v f)) (present_above (places v) is f parts.0 (subst (λ (p : Path). is_some (places v p) ≡ true) parts.1 (ap is_some e))) (no_content (places v f) none))
+              absurd (true_not_false (is_some (places v f)) (present_above (places v) is f parts.0 (subst (λ (p : Path). is_some (places v p) ≡ true) parts.1 (ap is_some e))) (no_content (places v f) none))
 
       below : has_staging q ≡ true → (f : Path) → is_folder f ≡ true → is_prefix f q ≡ true → content_of (places (after_all t steps now) q) ≡ content_of (places t q)
       below staged f folder under = at (places t f) refl
@@ -265,7 +259,7 @@ module _ (lines : List Line) (are : AllByRecursion IsLine lines) (free : (i : �
       → (n : ℕ) (q : Path) → is_input q ≡ true → content_of (places (after_all t (take n (drop (length h) k)) now) q) ≡ content_of (places t q)
   all_input_on_run fits h u k run =
       subst (λ (steps : List Step). (n : ℕ) (q : Path) → is_input q ≡ true → content_of (places (after_all t (take n steps) now) q) ≡ content_of (places t q))
-      (sym (ap (drop (length h)) run.told ∙ drop-append_seam h run.steps)) (λ n.
+      (sym (ap (drop (length h)) run.recorded ∙ drop-append_seam h run.steps)) (λ n.
       input_after (take n run.steps)
       (along_prefix IsTree t run.steps now n (along_trees (Partway (lines_course now) (in_create_order lines) t) t run.steps now fits tree run.along))
       (along_prefix (Partway (lines_course now) (in_create_order lines) t) t run.steps now n run.along)

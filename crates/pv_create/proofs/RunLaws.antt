@@ -1,12 +1,16 @@
 -- Laws of lines carried out in the order of the create phase.
-use Rattle.std.specs.Prelude.{◌≡◌, ℕ, ◌+◌, ◌<◌, true, List, [], ◌∷◌, ◌++◌, length, drop, get_or, Some, is_some, slice_get}
+use Rattle.std.specs.Prelude.{◌≡◌, ℕ, ◌+◌, ◌<◌, true, List, [], ◌∷◌, ◌++◌, length, drop, get_or, Some, is_some, slice_get, Result, OnOk}
 use Rattle.std.specs.List.{AllByRecursion, enumerate_from}
-use Rattle.std.proofs.Common.{zero, suc, refl, ap, subst, ◌∙◌, arith}
+use Rattle.std.proofs.Common.{zero, suc, refl, sym, ap, subst, ◌∙◌, arith}
+use Rattle.pv_laws.specs.Swept.{LeavesNoStagingName}
+use Rattle.pv_laws.proofs.Staged.{run_leaves_none}
+use Rattle.pv_lines.specs.Lines.{IsLine}
 use Rattle.pv_table.proofs.ListedLaws.{left_of, order_at, same_length, there_of}
 use Rattle.pv_lines.specs.declared.line.Line.{Line}
 use Rattle.pv_steps.specs.Trees.{Files}
 use Rattle.pv_table.specs.Active.{ordered, create_order, in_create_order}
-use Rattle.pv_table.specs.Created.{by_line, by_line_that_counts, said_of_each, taken_by_each}
+use Rattle.pv_table.specs.Created.{by_line, by_line_that_counts, created, said_of_each, taken_by_each}
+use Rattle.pv_path.proofs.Tests.{on_ok}
 
 -- ---- a refusal that does not count changes nothing else
 
@@ -39,3 +43,9 @@ module _ (lines : List Line) (i place : ℕ) (within : i < length (create_order 
   is_left line at =
       let next : suc i ≡ i + 1 = omega arith in
       left_of lines (ordered (enumerate_from 0 lines)) (order_at lines) i place line within is at ∙ ap (λ n. line ∷ drop n (in_create_order lines)) next
+
+-- ---- what a whole run leaves
+
+-- it leaves nothing at the staging names of what it made
+pub none_staged : (lines : List Line) → AllByRecursion IsLine lines → (now : ℕ) (t : Files) → {A E : Type 0} (r : Result A E) (u : Files) → OnOk r (u ≡ created lines now t) → OnOk r (LeavesNoStagingName lines now t u)
+none_staged lines are now t r u = on_ok r {X = u ≡ created lines now t} {Y = LeavesNoStagingName lines now t u} (λ left. subst (LeavesNoStagingName lines now t) (sym left) (run_leaves_none lines are now t))

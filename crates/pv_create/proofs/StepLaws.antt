@@ -411,7 +411,7 @@ module _ (table : List Line) (are : AllByRecursion IsLine table) where
   pub given : (P : Files → Type 0) (now : ℕ) (t : Files) (h : List Step) (u : Files) (k : List Step) → IsTree t → Ran P (IsStepOfSome (lines_course now) (in_create_order table) t) now t h u k
       → GiveWhatLinesLeave table now t (drop (length h) k)
   given P now t h u k tree run =
-      subst (λ (steps : List Step). GiveWhatLinesLeave table now t steps) (sym (ap (drop (length h)) run.told ∙ drop-append_seam h run.steps)) (λ s repeatable quiet agree.
+      subst (λ (steps : List Step). GiveWhatLinesLeave table now t steps) (sym (ap (drop (length h)) run.recorded ∙ drop-append_seam h run.steps)) (λ s repeatable quiet agree.
       all_map (IsStepOfSome (lines_course now) (in_create_order table) t) (IsGiven table s) (λ step g. (
       let left = lines_left now (in_create_order table) (all_safe table are repeatable) t (tree_shaped (places t) tree) quiet step g in
       record {

@@ -2,6 +2,7 @@
 ghost use Rattle.std.specs.Prelude.{◌≡◌, ◌++◌, true, Some, is_some, slice_get, drop, length, IfOk, OnOk};
 ghost use Rattle.std.specs.List.{AllByRecursion};
 ghost use Rattle.pv_doing.specs.Courses.{Partway, IsStepOfSome, carried_of, each_of, CarriesOut};
+ghost use Rattle.pv_laws.specs.Swept.{LeavesNoStagingName};
 ghost use Rattle.pv_lines.specs.Lines.{IsLine};
 ghost use Rattle.pv_steps.specs.Acting.{Acted};
 ghost use Rattle.pv_text.specs.Said.{SaidPart};
@@ -36,6 +37,8 @@ pub fn create_run<T: Tree>(
     ensures said { OnOk result (messages.new
         ≡ messages.old ++ created_messages table.now now (T.state tree.old)) }
     ensures carried { IfOk result (λ c. c ≡ carried_of (some_refusal_counts table.now now (T.state tree.old))) }
+    // Nothing is left at the staging names of what it made or copied, whatever earlier runs have left there.
+    ensures staged { OnOk result (LeavesNoStagingName table.now now (T.state tree.old) (T.state tree.new)) }
 
     // What any run has said and done, whatever it answers.
     ensures part { SaidPart (created_messages table.now now (T.state tree.old)) messages.old messages.new }

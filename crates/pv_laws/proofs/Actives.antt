@@ -1,46 +1,32 @@
 -- The active lines of a configuration: no two make one object, each is one of the lines, and they have no reason where the
 -- lines have none.
-use Rattle.std.specs.Prelude.{◌≡◌, ℕ, ◌<◌, Bool, true, false, not, cond, List, [], ◌∷◌, ◌++◌, filter, fold, Option, Some, None}
+use Rattle.std.specs.Prelude.{◌≡◌, ℕ, ◌<◌, Bool, true, false, cond, List, [], ◌∷◌, ◌++◌, filter, fold, Option, Some, None}
 use Rattle.std.proofs.Common.{zero, suc, refl, sym, ap, subst, arith, append_assoc}
 use Rattle.std.specs.List.{list_any, AllByRecursion}
-use Rattle.std.proofs.lemmas.Bool.{or_from, not-true, or_parts, and_parts, and_from}
 use Rattle.pv_path.specs.Paths.{Path}
 use Rattle.pv_lines.specs.declared.line.Line.{Line}
 use Rattle.pv_table.specs.declared.reason.Reason.{Reason}
 use Rattle.pv_table.specs.Active.{stays, make_same, with_line, active, are_distinct}
 use Rattle.pv_table.specs.Repeatable.{IsAt, HasReason, below as made_below, IsRepeatable}
 use Rattle.pv_table.proofs.ListedLaws.{all_append, all_filter}
+use Rattle.pv_table.proofs.KeepLaws.{apart-push}
 
 -- ---- no two make one object
-
-distinct_push : (lines : List Line) (line : Line) → are_distinct lines ≡ true → list_any (λ first. make_same first line) lines ≡ false → are_distinct (lines ++ line ∷ []) ≡ true
-distinct_push [] line h none = refl
-distinct_push (first ∷ lines) line h none =
-    let two = and_parts (not (list_any (make_same first) lines)) (are_distinct lines) h in
-    let free = or_parts (make_same first line) (list_any (λ l. make_same l line) lines) none in
-    and_from (not (list_any (make_same first) (lines ++ line ∷ []))) (are_distinct (lines ++ line ∷ [])) (ap not (pushed lines (not-true (list_any (make_same first) lines) two.0) free.0)) (distinct_push lines line two.1 free.1)
-  where
-    pushed : (ls : List Line) → list_any (make_same first) ls ≡ false → make_same first line ≡ false → list_any (make_same first) (ls ++ line ∷ []) ≡ false
-    pushed [] g k = or_from (make_same first line) false k refl
-    pushed (l ∷ ls) g k = let both_none = or_parts (make_same first l) (list_any (make_same first) ls) g in or_from (make_same first l) (list_any (make_same first) (ls ++ line ∷ [])) both_none.0 (pushed ls both_none.1 k)
 
 with_distinct : (lines : List Line) (line : Line) → are_distinct lines ≡ true → are_distinct (with_line lines line) ≡ true
 with_distinct lines line h = by (list_any (λ first. make_same first line) lines) refl
   where
     by : (b : Bool) → list_any (λ first. make_same first line) lines ≡ b → are_distinct (cond b lines (lines ++ line ∷ [])) ≡ true
     by true e = h
-    by false e = distinct_push lines line h e
+    by false e = apart-push lines line h e
 
 fold_distinct : (lines kept : List Line) → are_distinct kept ≡ true → are_distinct (fold with_line kept lines) ≡ true
 fold_distinct [] kept h = h
 fold_distinct (line ∷ lines) kept h = fold_distinct lines (with_line kept line) (with_distinct kept line h)
 
-pub active_distinct : (boot : Bool) (prefix exclude : Option Path) (lines : List Line) → are_distinct (active boot prefix exclude lines) ≡ true
-active_distinct boot prefix exclude lines = fold_distinct (filter (stays boot prefix exclude) lines) [] refl
-
 -- ---- each is one of the lines
 
-fold_all : (P : Line → Type 0) (lines kept : List Line) → AllByRecursion P kept → AllByRecursion P lines → AllByRecursion P (fold with_line kept lines)
+pub fold_all : (P : Line → Type 0) (lines kept : List Line) → AllByRecursion P kept → AllByRecursion P lines → AllByRecursion P (fold with_line kept lines)
 fold_all P [] kept h g = h
 fold_all P (line ∷ lines) kept h g = fold_all P lines (with_line kept line) (by (list_any (λ first. make_same first line) kept)) g.1
   where

@@ -12,7 +12,6 @@ use Rattle.pv_dress.proofs.OperationLaws.{bares_of-same}
 use Rattle.pv_lines.specs.declared.line.Line.{Line}
 use Rattle.pv_lines.specs.declared.line.LinePath.{LinePath}
 use Rattle.pv_lines.specs.Lines.{IsLine}
-use Rattle.pv_walk.proofs.RemovalLaws.{apart}
 use Rattle.pv_table.specs.declared.deed.Copying.{Copying}
 use Rattle.pv_table.specs.declared.deed.Deed.{Deed}
 use Rattle.pv_table.specs.declared.deed.Deed.TheVariants.{Create, Copy, Touch, Idle}
@@ -33,6 +32,7 @@ use Rattle.pv_laws.proofs.Prepared.{bare_some, filled}
 use Rattle.pv_table.proofs.ListedLaws.{all_in_order}
 use Rattle.pv_laws.proofs.Sets.{is_adjustment, asked, sets_adjust}
 use Rattle.pv_laws.proofs.Shapes.{tree_shaped}
+use Rattle.pv_path.proofs.Tests.{true_not_false}
 
 -- a path that a line that copies does not govern lies neither at its path, nor above it, nor below it
 module _ (line : Line) (is : IsLine line) (copying : Copying) (e : asks line ≡ Copy copying) (q : Path) (free : IsFree line q) where
@@ -99,9 +99,9 @@ module _ (now : ℕ) (line : Line) (is : IsLine line) (t : Files) (shape : IsSha
 
       copy_frame : (copying : Copying) → asks line ≡ Copy copying → IsCopyMidway (path_in line.path) copying (turn_of line copying now t) q (bares_of (places t) q) (bares_of (places u) q) → bares_of (places u) q ≡ bares_of (places t) q
       copy_frame copying e (kept f) = f
-      copy_frame copying e (parent high differ none f) = absurd (apart (is_prefix q (path_in line.path)) high (not_above line is copying e q free))
-      copy_frame copying e (some_set k same turn f) = absurd (apart (same_path (path_in line.path) q) ((same_path-decides (path_in line.path) q).1 (sym same)) (not_at line is copying e q free))
-      copy_frame copying e (gone subtree low turn f) = absurd (apart (is_prefix (path_in line.path) q) low (not_below line is copying e q free))
+      copy_frame copying e (parent high differ none f) = absurd (true_not_false (is_prefix q (path_in line.path)) high (not_above line is copying e q free))
+      copy_frame copying e (some_set k same turn f) = absurd (true_not_false (same_path (path_in line.path) q) ((same_path-decides (path_in line.path) q).1 (sym same)) (not_at line is copying e q free))
+      copy_frame copying e (gone subtree low turn f) = absurd (true_not_false (is_prefix (path_in line.path) q) low (not_below line is copying e q free))
 
       by : OnWayOf line now t u → bares_of (places u) q ≡ bares_of (places t) q
       by (copy_before copying e before) = copy_frame copying e (before.1 q plain)

@@ -15,7 +15,7 @@ use Rattle.pv_steps.specs.declared.why.Why.{Why}
 use Rattle.pv_steps.specs.Objects.{is_directory}
 use Rattle.pv_steps.specs.Refusal.{refusal}
 use Rattle.pv_steps.specs.Trees.{Files, places, kind_of, IsTree}
-use Rattle.pv_steps.proofs.StepLaws.{is_among}
+use Rattle.pv_steps.proofs.StepLaws.{is_among, among_right, among_left, later_among}
 use Rattle.pv_dress.specs.declared.bare.Bare.{Bare}
 use Rattle.pv_dress.specs.Nodes.{bare_of, bares_of}
 use Rattle.pv_dress.specs.Operations.{run}
@@ -23,7 +23,6 @@ use Rattle.pv_lines.specs.declared.line.Line.{Line}
 use Rattle.pv_lines.specs.declared.line.LinePath.{LinePath}
 use Rattle.pv_lines.specs.Lines.{IsLine}
 use Rattle.pv_walk.proofs.PreparingSweep.{unrefused_pass}
-use Rattle.pv_walk.proofs.RemovalLaws.{apart}
 use Rattle.pv_walk.specs.Preparing.{parents_of}
 use Rattle.pv_table.specs.declared.deed.Copying.{Copying}
 use Rattle.pv_table.specs.declared.deed.Deed.{Deed}
@@ -46,12 +45,13 @@ use Rattle.pv_laws.proofs.CopyShapes.{IsCopyTurn, puts, becomes, leaves, copy_tu
 use Rattle.pv_laws.proofs.Lines.{path_named, line_is_plain, line_point, copy_literal, copy_path, copy_source}
 use Rattle.pv_laws.proofs.Making.{is_dir, IsShaped, dir_there}
 use Rattle.pv_table.proofs.ListedLaws.{all_ordered, all_listed, all_in_order, all_at}
-use Rattle.pv_laws.proofs.Points.{get-tabulated, point_asked, listed, all_front, quiet_front}
+use Rattle.pv_laws.proofs.Points.{get-tabulated, point_asked, listed, quiet_front}
 use Rattle.pv_laws.proofs.Prepared.{bare_some}
-use Rattle.pv_walk.proofs.PreparedLaws.{has_some, in_parents, among_first, among_later, among_left, among_right, stands_among}
+use Rattle.pv_walk.proofs.PreparedLaws.{has_some, in_parents, among_first, stands_among}
 use Rattle.pv_laws.proofs.Sets.{impossible, is_adjustment, asked, sets_adjust}
 use Rattle.pv_laws.proofs.Shapes.{shape_same, tree_shaped}
 use Rattle.pv_laws.proofs.Touching.{turn_open, first_turn}
+use Rattle.pv_path.proofs.Tests.{true_not_false, all_take}
 
 -- a line that was read; if it copies, its source does not lie above its path, nor at it
 pub record IsSafe (line : Line) : Type 0 where
@@ -197,7 +197,7 @@ module _ (line : Line) (safe : IsSafe line) (s : Bares) (shape : IsShaped (fin.g
     parent_there high other = by q refl
       where
         some_name : (name : List ℕ) (p : Path) → q ≡ name ∷ p → is_among q (point_paths line s ++ fin.keys s) ≡ true
-        some_name name p f = shown (among_later path q ((parents_of path ++ copies_of) ++ fin.keys s) (
+        some_name name p f = shown (later_among path q ((parents_of path ++ copies_of) ++ fin.keys s) (
             subst (λ (ps : List Path). is_among q ps ≡ true) (sym (append_assoc (parents_of path) copies_of (fin.keys s))) (
             among_left q (parents_of path) (copies_of ++ fin.keys s) (stands_among q (parents_of path) (in_parents q path other ∙ ap (λ b. b && has_some q) high ∙ ap has_some f)))))
 
@@ -210,7 +210,7 @@ module _ (line : Line) (safe : IsSafe line) (s : Bares) (shape : IsShaped (fin.g
       where
         by : (c : Bool) → is_some (cond c None (fin.get s (copying.source ++ name ∷ rest))) ≡ true → is_among q (point_paths line s ++ fin.keys s) ≡ true
         by true g = impossible g
-        by false g = shown (among_later path q ((parents_of path ++ copies_of) ++ fin.keys s) (
+        by false g = shown (later_among path q ((parents_of path ++ copies_of) ++ fin.keys s) (
             among_left q (parents_of path ++ copies_of) (fin.keys s) (among_right q (parents_of path) copies_of (
             subst (λ (p : Path). is_among p copies_of ≡ true) (sym f) (among_copied copying.source path (name ∷ rest) (fin.keys s) (sym (fin.contains_key-keys s (copying.source ++ name ∷ rest)) ∙ g))))))
 
@@ -234,7 +234,7 @@ module _ (line : Line) (safe : IsSafe line) (s : Bares) (shape : IsShaped (fin.g
         by : (a : Bool) → is_prefix q path ≡ a → (c : Bool) → same_path q path ≡ c
             → is_some (cond (is_prefix q path && not (same_path q path)) (Some (unwrap_or (fin.get s q) parent_bare)) (option_map_or (λ rest. after_turn (decide (Copy copying) (view s) path) rest (fin.get s q)) (rest_under path q) (fin.get s q))) ≡ true
             → is_among q (point_paths line s ++ fin.keys s) ≡ true
-        by true g false k m = parent_there g (λ same. apart (same_path q path) ((same_path-decides q path).1 same) k)
+        by true g false k m = parent_there g (λ same. true_not_false (same_path q path) ((same_path-decides q path).1 same) k)
         by true g true k m = first_there (sym ((same_path-decides q path).0 k))
         by false g c k m = inside (rest_under path q) refl (sym (ap (λ a. is_some (cond (a && not (same_path q path)) (Some (unwrap_or (fin.get s q) parent_bare)) (option_map_or (λ rest. after_turn (decide (Copy copying) (view s) path) rest (fin.get s q)) (rest_under path q) (fin.get s q)))) g) ∙ m)
 
@@ -273,7 +273,7 @@ points_after now (line ∷ lines) s t are shape quiet agree =
 module _ (lines : List Line) (safe : AllByRecursion IsSafe (in_create_order lines)) (now : ℕ) (s : Bares) (t : Files) (tree : IsTree t) (quiet : IsQuiet lines now t) (agree : Agree s t) where
   -- after the first lines
   pub state_after : (k : ℕ) → Agree (state lines k s) (after_each (by_line now) (take k (in_create_order lines)) t)
-  state_after k = points_after now (take k (in_create_order lines)) s t (all_front IsSafe k (in_create_order lines) safe) (tree_shaped (places t) tree) (quiet_front now k (in_create_order lines) t quiet) agree
+  state_after k = points_after now (take k (in_create_order lines)) s t (all_take IsSafe k (in_create_order lines) safe) (tree_shaped (places t) tree) (quiet_front now k (in_create_order lines) t quiet) agree
 
   -- and after all
   pub state_whole : Agree (state lines (length (in_create_order lines)) s) (created lines now t)

@@ -17,7 +17,6 @@ use Rattle.pv_lines.specs.declared.line.Line.{Line}
 use Rattle.pv_lines.specs.declared.line.LinePath.{LinePath}
 use Rattle.pv_lines.specs.declared.line.LinePath.TheVariants.{Literal, Glob}
 use Rattle.pv_lines.specs.Lines.{IsLine}
-use Rattle.pv_walk.proofs.RemovalLaws.{apart}
 use Rattle.pv_table.specs.declared.deed.Copying.{Copying}
 use Rattle.pv_table.specs.declared.deed.Deed.{Deed}
 use Rattle.pv_table.specs.declared.deed.Deed.TheVariants.{Create, Copy, Touch, Idle}
@@ -45,7 +44,8 @@ use Rattle.pv_laws.proofs.Repeated as repeated
 use Rattle.pv_laws.proofs.Repeated.{IsAskedAt, asked_at, touch_adjusts}
 use Rattle.pv_laws.proofs.Sets.{impossible, is_adjustment, asked, sets_adjust}
 use Rattle.pv_laws.proofs.Shapes.{tree_shaped}
-use Rattle.pv_laws.proofs.Touching.{turn_open, first_turn, same_tests}
+use Rattle.pv_laws.proofs.Touching.{turn_open, first_turn}
+use Rattle.pv_path.proofs.Tests.{same_tests, true_not_false}
 
 -- the line names its own path alone
 own_name : (line : Line) → is_creating line ≡ true → (q : Path) → names line q ≡ same_path (path_in line.path) q
@@ -169,7 +169,7 @@ module _ (line : Line) (safe : IsSafe line) (now later : ℕ) (v w : Files) (sha
       no_touch = creating_adjusts_none line safe.is (creating_row line safe.is creates)
 
       not_under : (b : Bool) → is_prefix p q ≡ b → is_prefix p q ≡ false
-      not_under true f = absurd (apart (same_path p q) ((same_path-decides p q).1 (is_prefix-antisym p q f above)) other)
+      not_under true f = absurd (true_not_false (same_path p q) ((same_path-decides p q).1 (is_prefix-antisym p q f above)) other)
       not_under false f = f
 
       asked_point : copied (asks line) ≡ None → (c : Bool) → ((b : Option Bare) → run (operations line q) b ≡ filled c b) → IsParentAlike
@@ -183,9 +183,9 @@ module _ (line : Line) (safe : IsSafe line) (now later : ℕ) (v w : Files) (sha
       plain_line none = at (asked_at line q)
         where
           at : IsAskedAt line q → IsParentAlike
-          at (repeated.object making e s f) = absurd (apart (same_path p q) ((same_path-decides p q).1 s) other)
+          at (repeated.object making e s f) = absurd (true_not_false (same_path p q) ((same_path-decides p q).1 s) other)
           at (repeated.parent making e s f) = asked_point none true (λ b. ap (λ xs. run xs b) f)
-          at (repeated.below making e g d f) = absurd (apart (is_prefix p q) (and_parts (is_prefix p q) (clears_below making) g).0 (not_under (is_prefix p q) refl))
+          at (repeated.below making e g d f) = absurd (true_not_false (is_prefix p q) (and_parts (is_prefix p q) (clears_below making) g).0 (not_under (is_prefix p q) refl))
           at (repeated.set touching e t f) = impossible (sym no_touch ∙ touch_adjusts q line touching e)
           at (repeated.nothing f) = asked_point none false (λ b. ap (λ xs. run xs b) f)
 

@@ -7,16 +7,15 @@ use Rattle.std.specs.Option.{option_map_or}
 use Rattle.std.proofs.lemmas.Bool.{not-true, or_from}
 use Rattle.pv_path.specs.Names.{is_staging}
 use Rattle.pv_path.specs.Paths.{Path, same_path, is_prefix, rest_under, has_staging, same_path-decides}
-use Rattle.pv_path.proofs.PathLaws.{is_prefix-append, is_prefix-trans, is_prefix-antisym, rest_under-self, rest_under-append, is_some-rest_under, has_staging-append}
+use Rattle.pv_path.proofs.PathLaws.{is_prefix-append, is_prefix-trans, is_prefix-antisym, rest_under-self, rest_under-append, is_some-rest_under, has_staging-append, same_path-no}
 use Rattle.pv_steps.specs.declared.node.Kind.{Kind}
 use Rattle.pv_steps.specs.Objects.{is_directory}
 use Rattle.pv_steps.specs.Trees.{Files, places, child_name}
 use Rattle.pv_steps.proofs.NameLaws.{child_name-Some}
-use Rattle.pv_steps.proofs.StepLaws.{is_among, among_keys}
+use Rattle.pv_steps.proofs.StepLaws.{is_among, among_keys, later_among}
 use Rattle.pv_dress.specs.declared.bare.Bare.{Bare}
 use Rattle.pv_dress.specs.Nodes.{bares_of, same_kind}
-use Rattle.pv_dress.proofs.EditLaws.{path_cases, same_path-no}
-use Rattle.pv_walk.proofs.RemovalLaws.{apart}
+use Rattle.pv_dress.proofs.EditLaws.{path_cases}
 use Rattle.pv_table.specs.declared.deed.Copying.{Copying}
 use Rattle.pv_table.specs.declared.deed.Deed.TheVariants.{Copy}
 use Rattle.pv_table.specs.Effects.{turned, prepare, carried_out}
@@ -25,10 +24,10 @@ use Rattle.pv_table.specs.Turns.{Turn, View, view_of, topped_by, copy_of, is_vis
 use Rattle.pv_laws.specs.Moments.{Agree}
 use Rattle.pv_laws.proofs.Making.{IsShaped, IsDone, left_done, put_done, become_done, ready_here, ready_else}
 use Rattle.pv_table.proofs.EffectLaws.{copy_keyed}
-use Rattle.pv_walk.proofs.PreparedLaws.{among_first, among_later, among_others}
+use Rattle.pv_walk.proofs.PreparedLaws.{among_first, among_others}
 use Rattle.pv_laws.proofs.Prepared.{filled, bare_some}
 use Rattle.pv_laws.proofs.Sets.{impossible, is_adjustment}
-use Rattle.pv_laws.proofs.Touching.{same_tests}
+use Rattle.pv_path.proofs.Tests.{same_tests, true_not_false}
 
 -- ---- what is done at the path
 
@@ -50,7 +49,7 @@ module _ (now : ℕ) (copying : Copying) (path : Path) (u : Files) where
 
 among_all : (f : Path → Bool) (xs : List Path) → ((q : Path) → is_among q xs ≡ true → f q ≡ true) → list_all f xs ≡ true
 among_all f [] each = refl
-among_all f (x ∷ xs) each = ap (λ b. b && list_all f xs) (each x (among_first x xs)) ∙ among_all f xs (λ q h. each q (among_later x q xs h))
+among_all f (x ∷ xs) each = ap (λ b. b && list_all f xs) (each x (among_first x xs)) ∙ among_all f xs (λ q h. each q (later_among x q xs h))
 
 all_among : (f : Path → Bool) (xs : List Path) → list_all f xs ≡ true → (q : Path) → is_among q xs ≡ true → f q ≡ true
 all_among f [] all q h = impossible h
@@ -140,7 +139,7 @@ module _ (now : ℕ) (copying : Copying) (adjust : list_all is_adjustment copyin
   source_ready = elim (path_cases copying.source path) [
     | inl same ↦ subst (λ (p : Path). bares_of (places ready) p ≡ bares_of (places t) p) (sym same) (ready_here now path unstaged t shape)
     | inr d ↦
-        ready_else now path unstaged t shape copying.source plain_source (λ same. apart (same_path copying.source path) ((same_path-decides copying.source path).1 same) d)
+        ready_else now path unstaged t shape copying.source plain_source (λ same. true_not_false (same_path copying.source path) ((same_path-decides copying.source path).1 same) d)
         ∙ ap (filled (is_prefix copying.source path)) present ∙ by (is_prefix copying.source path) ∙ sym present
   ]
     where
@@ -170,7 +169,7 @@ module _ (now : ℕ) (copying : Copying) (adjust : list_all is_adjustment copyin
   below_ready q rest plain e = elim (path_cases path q) [
     | inl same ↦ subst (λ (p : Path). bares_of (places ready) p ≡ bares_of (places t) p) same (ready_here now path unstaged t shape)
     | inr d ↦
-        ready_else now path unstaged t shape q plain (λ same. apart (same_path path q) ((same_path-decides path q).1 (sym same)) d)
+        ready_else now path unstaged t shape q plain (λ same. true_not_false (same_path path q) ((same_path-decides path q).1 (sym same)) d)
         ∙ ap (λ c. filled c (bares_of (places t) q)) (by d (is_prefix q path) refl)
   ]
     where
@@ -178,7 +177,7 @@ module _ (now : ℕ) (copying : Copying) (adjust : list_all is_adjustment copyin
       under = sym (is_some-rest_under path q) ∙ ap is_some e
 
       by : same_path path q ≡ false → (c : Bool) → is_prefix q path ≡ c → is_prefix q path ≡ false
-      by d true f = absurd (apart (same_path path q) ((same_path-decides path q).1 (is_prefix-antisym path q under f)) d)
+      by d true f = absurd (true_not_false (same_path path q) ((same_path-decides path q).1 (is_prefix-antisym path q under f)) d)
       by d false f = f
 
   childless_before : is_childless (view_of ready) path ≡ is_childless (view_of t) path
@@ -197,11 +196,11 @@ module _ (now : ℕ) (copying : Copying) (adjust : list_all is_adjustment copyin
     source_there : (rest : Path) → has_staging rest ≡ false → bares_of (places ready) (copying.source ++ rest) ≡ bares_of (places t) (copying.source ++ rest)
     source_there rest plain =
         ready_else now path unstaged t shape (copying.source ++ rest) (has_staging-append copying.source rest ∙ ap (λ c. c || has_staging rest) plain_source ∙ plain)
-        (λ e. apart (is_prefix copying.source path) (ap (is_prefix copying.source) (sym e) ∙ is_prefix-append copying.source rest) away)
+        (λ e. true_not_false (is_prefix copying.source path) (ap (is_prefix copying.source) (sym e) ∙ is_prefix-append copying.source rest) away)
         ∙ ap (λ c. filled c (bares_of (places t) (copying.source ++ rest))) (by (is_prefix (copying.source ++ rest) path) refl)
       where
         by : (c : Bool) → is_prefix (copying.source ++ rest) path ≡ c → is_prefix (copying.source ++ rest) path ≡ false
-        by true e = absurd (apart (is_prefix copying.source path) (is_prefix-trans copying.source (copying.source ++ rest) path (is_prefix-append copying.source rest) e) away)
+        by true e = absurd (true_not_false (is_prefix copying.source path) (is_prefix-trans copying.source (copying.source ++ rest) path (is_prefix-append copying.source rest) e) away)
         by false e = e
 
     pub copy_there : (rest : Path) → copy_of copying (view_of ready) rest ≡ copy_of copying (view_of t) rest
@@ -278,7 +277,7 @@ module _ (now : ℕ) (copying : Copying) (adjust : list_all is_adjustment copyin
           by true f true g = refl
           by true f false g = refl
           by false f false g = refl
-          by false f true g = absurd (apart (same_path q path) ((same_path-decides q path).1 (is_prefix-antisym q path g (sym (is_some-rest_under path q) ∙ ap is_some e))) f)
+          by false f true g = absurd (true_not_false (same_path q path) ((same_path-decides q path).1 (is_prefix-antisym q path g (sym (is_some-rest_under path q) ∙ ap is_some e))) f)
 
       pub copied_point : (q : Path) → has_staging q ≡ false → left q ≡ at_made (Copy copying) path s q
       copied_point q plain = by (rest_under path q) refl

@@ -33,8 +33,9 @@ use Rattle.pv_laws.proofs.CopyMends as mends
 use Rattle.pv_laws.proofs.Lines.{copy_path, copy_source}
 use Rattle.pv_laws.proofs.Making.{IsShaped}
 use Rattle.pv_laws.proofs.Sets.{impossible, is_adjustment, asked, sets_adjust, adjusted_some}
-use Rattle.pv_laws.proofs.Touching.{turn_open, first_turn, same_tests}
+use Rattle.pv_laws.proofs.Touching.{turn_open, first_turn}
 use Rattle.pv_laws.proofs.Ways.{all_take}
+use Rattle.pv_path.proofs.Tests.{same_tests}
 
 -- what stands at a path and below it, without staging names, by what comes after the path
 abbrev pub inside : Path → Files → Path → Option Bare

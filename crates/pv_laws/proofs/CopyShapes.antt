@@ -18,7 +18,6 @@ use Rattle.pv_dress.specs.Operations.{with_mode, run}
 use Rattle.pv_lines.specs.declared.line.LineMode.{LineMode}
 use Rattle.pv_dress.proofs.EditLaws.{path_cases}
 use Rattle.pv_walk.specs.Preparing.{IsAbove}
-use Rattle.pv_walk.proofs.RemovalLaws.{apart}
 use Rattle.pv_table.specs.declared.deed.Copying.{Copying}
 use Rattle.pv_table.specs.declared.deed.Deed.TheVariants.{Copy}
 use Rattle.pv_table.specs.Asking.{mode_for_new}
@@ -30,6 +29,7 @@ use Rattle.pv_laws.proofs.Making.{is_dir, IsShaped, ready_here, ready_else}
 use Rattle.pv_laws.proofs.Prepared.{filled}
 use Rattle.pv_laws.proofs.Sets.{impossible, is_adjustment, adjusted_none}
 use Rattle.pv_laws.proofs.Shapes.{adjusted_like, plain_prefix}
+use Rattle.pv_path.proofs.Tests.{true_not_false}
 
 -- a copied object is what its source is
 pub topped_body : (copying : Copying) (b : Bare) → (topped_by copying b).body ≡ b.body
@@ -98,7 +98,7 @@ module _ (now : ℕ) (copying : Copying) (adjust : list_all is_adjustment copyin
   ready_is : (q : Path) → has_staging q ≡ false → (ready q ≡ old q) ⊎ (IsAbove q path × (ready q ≡ filled true (old q)))
   ready_is q plain = elim (path_cases q path) [
     | inl same ↦ inl (subst (λ (p : Path). ready p ≡ old p) (sym same) (ready_here now path unstaged t shape))
-    | inr d ↦ by (λ same. apart (same_path q path) ((same_path-decides q path).1 same) d) (is_prefix q path) refl
+    | inr d ↦ by (λ same. true_not_false (same_path q path) ((same_path-decides q path).1 same) d) (is_prefix q path) refl
   ]
     where
       by : q ≢ path → (c : Bool) → is_prefix q path ≡ c → (ready q ≡ old q) ⊎ (IsAbove q path × (ready q ≡ filled true (old q)))
@@ -238,11 +238,11 @@ module _ (now : ℕ) (copying : Copying) (adjust : list_all is_adjustment copyin
 
           high : (is_prefix p path ≡ true) ⊎ (is_prefix path p ≡ true) → is_prefix p path ≡ true
           high (inl g) = g
-          high (inr g) = absurd (apart (is_prefix path p) g lower)
+          high (inr g) = absurd (true_not_false (is_prefix path p) g lower)
 
           apart_path : p ≢ path
           apart_path same = (let here : Some [] ≡ None = sym (rest_under-self path) ∙ ap (rest_under path) (sym same) ∙ f in cc)
-      by None e (Some front) f = absurd (apart (is_prefix path q) (is_prefix-trans path p q (sym (is_some-rest_under path p) ∙ ap is_some f) above) (sym (is_some-rest_under path q) ∙ ap is_some e))
+      by None e (Some front) f = absurd (true_not_false (is_prefix path q) (is_prefix-trans path p q (sym (is_some-rest_under path p) ∙ ap is_some f) above) (sym (is_some-rest_under path q) ∙ ap is_some e))
       by None e None f = at (is_prefix q path) refl (sym (ap is_some (at_outside q plain e)) ∙ there)
         where
           apart_path : p ≢ path

@@ -18,7 +18,6 @@ use Rattle.pv_dress.proofs.EditLaws.{path_cases}
 use Rattle.pv_dress.proofs.OperationLaws.{bares_of-same}
 use Rattle.pv_lines.specs.declared.line.Line.{Line}
 use Rattle.pv_lines.specs.Lines.{IsLine}
-use Rattle.pv_walk.proofs.RemovalLaws.{apart}
 use Rattle.pv_table.specs.declared.deed.Copying.{Copying}
 use Rattle.pv_table.specs.declared.deed.Deed.{Deed}
 use Rattle.pv_table.specs.declared.deed.Deed.TheVariants.{Copy}
@@ -45,6 +44,7 @@ use Rattle.pv_laws.proofs.Sets.{impossible, is_adjustment, adjusted_none, asked,
 use Rattle.pv_laws.proofs.Shapes.{tree_shaped}
 use Rattle.pv_laws.proofs.Touching.{turn_open, first_turn}
 use Rattle.pv_laws.proofs.Ways.{SetsOwnerOnce, sets_once, all_take, parts_adjust, IsAmid, absent, gap, amid_between, at_start, at_end, set_between, midway_between}
+use Rattle.pv_path.proofs.Tests.{true_not_false}
 
 -- ---- one line at work
 
@@ -106,7 +106,7 @@ module _ (now : ℕ) (line : Line) (safe : IsSafe line) (t : Files) (shape : IsS
         by : same_path path q ≡ false → (o : Option Bare) → old ≡ o → o ≡ None
         by d None f = refl
         by d (Some x) f = impossible (sym (ap is_some none) ∙ dir_there (bares_of (places t) path) (
-            shape.above path q plain low (λ same. apart (same_path path q) ((same_path-decides path q).1 same) d) (ap is_some f)))
+            shape.above path q plain low (λ same. true_not_false (same_path path q) ((same_path-decides path q).1 same) d) (ap is_some f)))
 
   module _ (s : Bares) (agree : Agree s t) (u : Files) where
     abbrev here : Option Bare

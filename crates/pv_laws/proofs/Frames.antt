@@ -16,7 +16,7 @@ use Rattle.pv_dress.specs.Operations.{run}
 use Rattle.pv_lines.specs.declared.line.Line.{Line}
 use Rattle.pv_lines.specs.declared.line.LinePath.{LinePath}
 use Rattle.pv_lines.specs.Lines.{IsLine}
-use Rattle.pv_walk.proofs.RemovalLaws.{apart, zero_or_more}
+use Rattle.pv_walk.proofs.RemovalLaws.{zero_or_more}
 use Rattle.pv_table.specs.declared.deed.Deed.{Deed}
 use Rattle.pv_table.specs.declared.deed.Deed.TheVariants.{Create, Copy, Touch, Idle}
 use Rattle.pv_table.specs.declared.deed.Making.{Making}
@@ -36,6 +36,7 @@ use Rattle.pv_laws.proofs.Repeated.{IsAskedAt, object, parent, below, set, nothi
 use Rattle.pv_laws.proofs.Sets.{impossible, is_adjustment, IsMaking, line_is_making, adjusted_none}
 use Rattle.pv_laws.proofs.Shapes.{IsLike, adjusted_like, made_shaped, shape_same, shaped_like}
 use Rattle.pv_laws.proofs.Touching.{any_range, turn_open, touch_point, adjusts}
+use Rattle.pv_path.proofs.Tests.{true_not_false}
 
 -- ---- what a line does not govern it asks nothing of
 
@@ -62,7 +63,7 @@ named_above line p q named above other = any_range (λ k. names line (take k q))
     shorter = at (zero_or_more (length q - length p))
       where
         at : (length q - length p ≡ 0) ⊎ (1 ≤ length q - length p) → length p < 0 + length q
-        at (inl z) = absurd (apart (same_path p q) ((same_path-decides p q).1 (prefix_whole p q above (omega (arith, z)))) other)
+        at (inl z) = absurd (true_not_false (same_path p q) ((same_path-decides p q).1 (prefix_whole p q above (omega (arith, z)))) other)
         at (inr m) = omega (arith, m)
 
 -- whether a line reaches below what it names, by what it asks for
@@ -82,14 +83,14 @@ module _ (line : Line) (is : IsLine line) (q : Path) (free : IsFree line q) wher
 
   pub not_reached : (p : Path) (d : Deed) → asks line ≡ d → is_deep d ≡ true → names line p ≡ true → is_prefix p q ≡ true → same_path p q ≡ false → ⊥
   not_reached p d e deep named above other =
-      apart (reaches_below line && names_above line q) (ap (λ b. b && names_above line q) (deep_reaches line d e deep) ∙ named_above line p q named above other) free.unreached
+      true_not_false (reaches_below line && names_above line q) (ap (λ b. b && names_above line q) (deep_reaches line d e deep) ∙ named_above line p q named above other) free.unreached
 
   not_touched : (touching : Touching) → asks line ≡ Touch touching → touches line touching q ≡ true → ⊥
   not_touched touching e t = by (names line q) refl touching.deep refl (names_above line q) refl t
     where
       by : (a : Bool) → names line q ≡ a → (d : Bool) → touching.deep ≡ d → (n : Bool) → names_above line q ≡ n → (a || (d && n && not (has_staging q))) ≡ true → ⊥
-      by true f d g n k t = apart (names line q) f free.unnamed
-      by false f true g true k t = apart (reaches_below line && names_above line q) (ap (λ b. b && names_above line q) (deep_reaches line (Touch touching) e g) ∙ k) free.unreached
+      by true f d g n k t = true_not_false (names line q) f free.unnamed
+      by false f true g true k t = true_not_false (reaches_below line && names_above line q) (ap (λ b. b && names_above line q) (deep_reaches line (Touch touching) e g) ∙ k) free.unreached
       by false f true g false k t = absurd (let no : false ≡ true = t in cc)
       by false f false g n k t = absurd (let no : false ≡ true = t in cc)
 
@@ -107,8 +108,8 @@ module _ (line : Line) (is : IsLine line) (q : Path) (free : IsFree line q) wher
   asks_nothing = by (asked_at line q)
     where
       by : IsAskedAt line q → operations line q ≡ []
-      by (object making e s f) = absurd (apart (names line q) (names_literal making e q ∙ (same_path-decides (path_in line.path) q).1 s) free.unnamed)
-      by (parent making e s f) = absurd (apart (is_creating line && is_prefix q (path_in line.path)) (ap (λ b. b && is_prefix q (path_in line.path)) (creates making e) ∙ s) free.no_parent)
+      by (object making e s f) = absurd (true_not_false (names line q) (names_literal making e q ∙ (same_path-decides (path_in line.path) q).1 s) free.unnamed)
+      by (parent making e s f) = absurd (true_not_false (is_creating line && is_prefix q (path_in line.path)) (ap (λ b. b && is_prefix q (path_in line.path)) (creates making e) ∙ s) free.no_parent)
       by (below making e g d f) =
           let two = and_parts (is_prefix (path_in line.path) q) (clears_below making) g in
           absurd (not_reached (path_in line.path) (Create making) e (renewing making e two.1) (own_named making e) two.0 d)
@@ -120,7 +121,7 @@ module _ (line : Line) (is : IsLine line) (q : Path) (free : IsFree line q) wher
   turn_away touching e p named = by (same_path p q) refl touching.deep refl (is_prefix p q) refl
     where
       by : (a : Bool) → same_path p q ≡ a → (d : Bool) → touching.deep ≡ d → (b : Bool) → is_prefix p q ≡ b → (a || (d && b && not (has_staging q))) ≡ false
-      by true f d g b k = absurd (apart (names line q) (sym (ap (names line) ((same_path-decides p q).0 f)) ∙ named) free.unnamed)
+      by true f d g b k = absurd (true_not_false (names line q) (sym (ap (names line) ((same_path-decides p q).0 f)) ∙ named) free.unnamed)
       by false f true g true k = absurd (not_reached p (Touch touching) e g named k f)
       by false f true g false k = refl
       by false f false g b k = refl
@@ -220,7 +221,7 @@ midway_frame line is q plain away old new (IsMidway.piece k e) = e ∙ ap (λ xs
     by zero = refl
     by (suc n) = refl
 midway_frame line is q plain away old new (IsMidway.gap b s renewal none) = absurd (
-    apart (names line q) (names_literal line is q free renewal.making renewal.makes q ∙ (same_path-decides (path_in line.path) q).1 renewal.at) free.unnamed)
+    true_not_false (names line q) (names_literal line is q free renewal.making renewal.makes q ∙ (same_path-decides (path_in line.path) q).1 renewal.at) free.unnamed)
   where
     free : IsFree line q
     free = ungoverned line q away

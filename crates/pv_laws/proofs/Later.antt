@@ -12,7 +12,6 @@ use Rattle.pv_dress.specs.Operations.{run}
 use Rattle.pv_dress.proofs.Dividing.{run-parts}
 use Rattle.pv_dress.proofs.OperationLaws.{bares_of-same, run-append}
 use Rattle.pv_lines.specs.declared.line.Line.{Line}
-use Rattle.pv_walk.proofs.RemovalLaws.{apart}
 use Rattle.pv_table.specs.declared.deed.Deed.{Deed}
 use Rattle.pv_table.specs.declared.deed.Deed.TheVariants.{Create, Copy, Touch, Idle}
 use Rattle.pv_table.specs.Active.{is_touching}
@@ -31,6 +30,7 @@ use Rattle.pv_laws.proofs.Repeated.{adjuster_adjusts, create_adjusts_not, copy_a
 use Rattle.pv_laws.proofs.Sets.{impossible, is_adjustment}
 use Rattle.pv_laws.proofs.Stops.{take_front, take_after}
 use Rattle.pv_laws.proofs.Ways.{parts_adjust}
+use Rattle.pv_path.proofs.Tests.{true_not_false}
 
 -- a line that may be carried out after one that copies to a path: it adjusts, or it makes or copies an object neither above
 -- the path, nor at it, nor below it
@@ -54,7 +54,7 @@ module _ (p : Path) (line : Line) (q : Path) (under : is_prefix p q ≡ true) wh
     where
       by : (operations line q ≡ []) ⊎ IsClearing p line → operations line q ≡ []
       by (inl e) = e
-      by (inr clearing) = absurd (apart (is_prefix (path_in line.path) p) clearing.above low)
+      by (inr clearing) = absurd (true_not_false (is_prefix (path_in line.path) p) clearing.above low)
 
   -- it adjusts what stands there, or asks for nothing
   pub after_adjusts : IsAfter p line → list_all is_adjustment (operations line q) ≡ true
@@ -68,7 +68,7 @@ module _ (p : Path) (line : Line) (q : Path) (under : is_prefix p q ≡ true) wh
       where
         by : (bares_of (places ((by_line now).after line t)) q ≡ bares_of (places t) q) ⊎ IsClearing p line → bares_of (places ((by_line now).after line t)) q ≡ run (operations line q) (bares_of (places t) q)
         by (inl e) = e ∙ sym (ap (λ xs. run xs (bares_of (places t) q)) (asks_none is low))
-        by (inr clearing) = absurd (apart (is_prefix (path_in line.path) p) clearing.above low)
+        by (inr clearing) = absurd (true_not_false (is_prefix (path_in line.path) p) clearing.above low)
 
     -- on its way the first of its operations are done there
     after_way : IsAfter p line → (u : Files) → OnWayOf line now t u → (k : ℕ) × (bares_of (places u) q ≡ run (take k (parts (operations line q))) (bares_of (places t) q))
@@ -76,7 +76,7 @@ module _ (p : Path) (line : Line) (q : Path) (under : is_prefix p q ≡ true) wh
       where
         by : (bares_of (places u) q ≡ bares_of (places t) q) ⊎ IsClearing p line → (k : ℕ) × (bares_of (places u) q ≡ run (take k (parts (operations line q))) (bares_of (places t) q))
         by (inl e) = (0, e)
-        by (inr clearing) = absurd (apart (is_prefix (path_in line.path) p) clearing.above low)
+        by (inr clearing) = absurd (true_not_false (is_prefix (path_in line.path) p) clearing.above low)
     after_way (adjusts h) u (copy_before copying e before) = impossible (sym (copy_adjusts_not q line copying e) ∙ h)
     after_way (adjusts h) u (copy_done copying e whole) = impossible (sym (copy_adjusts_not q line copying e) ∙ h)
     after_way (adjusts h) u (other none way) = by (way q plain)

@@ -9,7 +9,7 @@ use Rattle.std.specs.Option.{option_map_or}
 use Rattle.std.specs.Str.{bytes_eq}
 use Rattle.std.proofs.lemmas.Bool.{and_from}
 use Rattle.pv_path.specs.Paths.{has_names, Path, same_path, is_prefix, rest_under, parent_of, has_staging, same_path-decides}
-use Rattle.pv_path.proofs.PathLaws.{same_path-refl, is_prefix-antisym, rest_under-self, rest_under-None, rest_under-Some, prefix_rest}
+use Rattle.pv_path.proofs.PathLaws.{same_path-refl, is_prefix-antisym, rest_under-self, rest_under-None, rest_under-Some, prefix_rest, same_path-no}
 use Rattle.pv_steps.specs.declared.node.Kind.{Kind}
 use Rattle.pv_steps.specs.declared.node.Kind.TheVariants.{Directory, File, Link, Fifo, CharDevice, BlockDevice}
 use Rattle.pv_steps.specs.declared.object.Object.{Object}
@@ -22,12 +22,11 @@ use Rattle.pv_dress.specs.declared.operation.Operation.TheVariants.{Make, Renew,
 use Rattle.pv_dress.specs.declared.operation.Test.{Test}
 use Rattle.pv_dress.specs.Nodes.{bare_of, bares_of, is_link, same_kind, same_substance}
 use Rattle.pv_dress.specs.Operations.{stays, done, run}
-use Rattle.pv_dress.proofs.EditLaws.{path_cases, same_path-no, on_at-here, on_at-else}
+use Rattle.pv_dress.proofs.EditLaws.{path_cases, on_at-here, on_at-else}
 use Rattle.pv_walk.specs.Copying.{Subtree, object_of, with_subtree}
 use Rattle.pv_walk.specs.declared.new_file.NewKind.{NewKind}
 use Rattle.pv_walk.specs.declared.new_file.NewKind.TheVariants as new
 use Rattle.pv_walk.specs.Staging.{new_object, new_kind, new_major, new_minor}
-use Rattle.pv_walk.proofs.RemovalLaws.{apart}
 use Rattle.pv_table.specs.declared.deed.Deed.{Deed}
 use Rattle.pv_table.specs.declared.deed.Deed.TheVariants.{Create}
 use Rattle.pv_table.specs.declared.deed.Making.{Making}
@@ -39,6 +38,7 @@ use Rattle.pv_laws.proofs.Comparing.{become-bare}
 use Rattle.pv_table.proofs.EffectLaws.{place-become, place-prepare, place-put, single_keyed}
 use Rattle.pv_laws.proofs.Prepared.{filled, prepared-here, prepared-else}
 use Rattle.pv_laws.proofs.Sets.{impossible, is_adjustment, IsMaking, adjusted_none, only_adjusts, left_alone}
+use Rattle.pv_path.proofs.Tests.{true_not_false}
 
 -- ---- what the laws need of a tree, stamps aside
 
@@ -340,7 +340,7 @@ module _ (now : ℕ) (making : Making) (is : IsMaking making) (path : Path) (uns
 
   left_above : (q : Path) → has_staging q ≡ false → same_path path q ≡ false → is_prefix q path ≡ true → left q ≡ run (made_at making path q) (bares_of (places t) q)
   left_above q plain d above =
-      let other : q ≢ path = λ e. apart (same_path path q) ((same_path-decides path q).1 (sym e)) d in
+      let other : q ≢ path = λ e. true_not_false (same_path path q) ((same_path-decides path q).1 (sym e)) d in
       is_done.outside q (rest_under-None path q (by (is_prefix path q) refl other))
       ∙ ready_else now path unstaged t shape q plain other
       ∙ ap (λ b. filled b (bares_of (places t) q)) above
@@ -354,14 +354,14 @@ module _ (now : ℕ) (making : Making) (is : IsMaking making) (path : Path) (uns
   left_below q plain d above below = by (rest_under path q) refl
     where
       other : q ≢ path
-      other e = apart (same_path path q) ((same_path-decides path q).1 (sym e)) d
+      other e = true_not_false (same_path path q) ((same_path-decides path q).1 (sym e)) d
 
       none : is_dir (bares_of (places t) path) ≡ false → bares_of (places t) q ≡ None
       none h = at (bares_of (places t) q) refl
         where
           at : (b : Option Bare) → bares_of (places t) q ≡ b → b ≡ None
           at None e = refl
-          at (Some x) e = absurd (apart (is_dir (bares_of (places t) path)) (shape.above path q plain below (λ f. other (sym f)) (ap is_some e)) h)
+          at (Some x) e = absurd (true_not_false (is_dir (bares_of (places t) path)) (shape.above path q plain below (λ f. other (sym f)) (ap is_some e)) h)
 
       asks_there : made_at making path q ≡ cond (clears_below making) (Erase ∷ []) []
       asks_there = asked_else making path q d above ∙ ap (λ b. cond (b && clears_below making) (Erase ∷ []) []) below
@@ -379,7 +379,7 @@ module _ (now : ℕ) (making : Making) (is : IsMaking making) (path : Path) (uns
   left_else : (q : Path) → has_staging q ≡ false → same_path path q ≡ false → is_prefix q path ≡ false → is_prefix path q ≡ false → left q ≡ run (made_at making path q) (bares_of (places t) q)
   left_else q plain d above below =
       is_done.outside q (rest_under-None path q below)
-      ∙ ready_else now path unstaged t shape q plain (λ e. apart (same_path path q) ((same_path-decides path q).1 (sym e)) d)
+      ∙ ready_else now path unstaged t shape q plain (λ e. true_not_false (same_path path q) ((same_path-decides path q).1 (sym e)) d)
       ∙ ap (λ b. filled b (bares_of (places t) q)) above
       ∙ sym (ap (λ xs. run xs (bares_of (places t) q)) (asked_else making path q d above ∙ ap (λ b. cond (b && clears_below making) (Erase ∷ []) []) below))
 

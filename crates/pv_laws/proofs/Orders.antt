@@ -6,11 +6,10 @@ use Rattle.std.proofs.lemmas.Bool.{not-true, and_parts}
 use Rattle.pv_path.specs.Paths.{Path, same_path, is_prefix, same_path-decides}
 use Rattle.pv_path.proofs.PathLaws.{is_prefix-trans, is_prefix-antisym}
 use Rattle.pv_lines.specs.declared.line.Line.{Line}
-use Rattle.pv_walk.proofs.RemovalLaws.{apart}
 use Rattle.pv_table.specs.Active.{make_same, are_distinct, Listed, placed}
 use Rattle.pv_table.specs.Reaching.{path_in, is_creating}
 use Rattle.pv_table.proofs.ListedLaws.{all_map, all_placed}
-use Rattle.pv_laws.proofs.Sets.{impossible}
+use Rattle.pv_path.proofs.Tests.{true_not_false, first_false, second_false}
 
 -- ---- what lies above comes first
 
@@ -45,7 +44,7 @@ placed_ordered (first ∷ xs) x h other = by (is_prefix (path_of x) (path_of fir
     before : is_prefix (path_of x) (path_of first) ≡ true → AllByRecursion (ComesAfter x) (first ∷ xs)
     before below = (
       not_above below first (λ e. other.0 (is_prefix-antisym (path_of first) (path_of x) e below)),
-      all_map (ComesAfter first) (ComesAfter x) (λ y after. not_above below y (λ e. apart (is_prefix (path_of y) (path_of first)) (is_prefix-trans (path_of y) (path_of x) (path_of first) e below) after)) xs h.0,
+      all_map (ComesAfter first) (ComesAfter x) (λ y after. not_above below y (λ e. true_not_false (is_prefix (path_of y) (path_of first)) (is_prefix-trans (path_of y) (path_of x) (path_of first) e below) after)) xs h.0,
     )
 
     by : (a : Bool) → is_prefix (path_of x) (path_of first) ≡ a → (s : Bool) → same_path (path_of x) (path_of first) ≡ s → Pairwise ComesAfter (placed xs x)
@@ -69,21 +68,13 @@ others line creates n m [] h = tt
 others line creates n m (l ∷ lines) h = by (is_creating l) refl (list_any (make_same line) lines) (others line creates n (m + 1) lines) h
   where
     differ : is_creating l ≡ true → make_same line l ≡ false → path_in line.path ≢ path_in l.path
-    differ c g e = apart (same_path (path_in line.path) (path_in l.path)) ((same_path-decides (path_in line.path) (path_in l.path)).1 e) (
+    differ c g e = true_not_false (same_path (path_in line.path) (path_in l.path)) ((same_path-decides (path_in line.path) (path_in l.path)).1 e) (
         sym (ap (λ b. b && is_creating l && same_path (path_in line.path) (path_in l.path)) creates ∙ ap (λ b. b && same_path (path_in line.path) (path_in l.path)) c) ∙ g)
-
-    first_no : (a b : Bool) → (a || b) ≡ false → a ≡ false
-    first_no true b g = impossible (sym g)
-    first_no false b g = refl
-
-    rest_no : (a b : Bool) → (a || b) ≡ false → b ≡ false
-    rest_no true b g = impossible (sym g)
-    rest_no false b g = g
 
     by : (c : Bool) → is_creating l ≡ c → (any : Bool) → (list_any (make_same line) lines ≡ false → AllByRecursion (Differ (n, line)) (filter (λ (k : Listed). is_creating k.1) (enumerate_from (m + 1) lines))) → (make_same line l || list_any (make_same line) lines) ≡ false
         → AllByRecursion (Differ (n, line)) (cond c ((m, l) ∷ filter (λ (k : Listed). is_creating k.1) (enumerate_from (m + 1) lines)) (filter (λ (k : Listed). is_creating k.1) (enumerate_from (m + 1) lines)))
-    by true e any rest g = (differ e (first_no (make_same line l) (list_any (make_same line) lines) g), rest (rest_no (make_same line l) (list_any (make_same line) lines) g))
-    by false e any rest g = rest (rest_no (make_same line l) (list_any (make_same line) lines) g)
+    by true e any rest g = (differ e (first_false (make_same line l) (list_any (make_same line) lines) g), rest (second_false (make_same line l) (list_any (make_same line) lines) g))
+    by false e any rest g = rest (second_false (make_same line l) (list_any (make_same line) lines) g)
 
 distinct_listed : (n : ℕ) (lines : List Line) → are_distinct lines ≡ true → Pairwise Differ (filter (λ (l : Listed). is_creating l.1) (enumerate_from n lines))
 distinct_listed n [] h = tt

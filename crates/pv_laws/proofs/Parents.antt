@@ -4,7 +4,7 @@ use Rattle.std.proofs.Common.{suc, refl, sym, ap, subst, ◌∙◌, inl, inr}
 use Rattle.std.specs.List.{list_all, enumerate_from, AllByRecursion}
 use Rattle.std.proofs.lemmas.Bool.{or_parts}
 use Rattle.pv_path.specs.Paths.{has_names, Path, same_path, is_prefix, has_staging}
-use Rattle.pv_path.proofs.PathLaws.{is_prefix-refl, rest_under-None}
+use Rattle.pv_path.proofs.PathLaws.{is_prefix-refl, rest_under-None, same_path-no}
 use Rattle.pv_steps.specs.Trees.{Files, places, IsTree}
 use Rattle.pv_dress.specs.declared.bare.Bare.{Bare}
 use Rattle.pv_dress.specs.declared.operation.Operation.{Operation}
@@ -13,11 +13,9 @@ use Rattle.pv_dress.specs.Dividing.{parts}
 use Rattle.pv_dress.specs.Nodes.{bares_of}
 use Rattle.pv_dress.specs.Operations.{run}
 use Rattle.pv_dress.proofs.Dividing.{run-parts}
-use Rattle.pv_dress.proofs.EditLaws.{same_path-no}
 use Rattle.pv_dress.proofs.OperationLaws.{bares_of-same, run-append}
 use Rattle.pv_lines.specs.declared.line.Line.{Line}
 use Rattle.pv_lines.specs.Lines.{IsLine}
-use Rattle.pv_walk.proofs.RemovalLaws.{apart}
 use Rattle.pv_table.specs.declared.deed.Copying.{Copying}
 use Rattle.pv_table.specs.declared.deed.Deed.{Deed}
 use Rattle.pv_table.specs.declared.deed.Deed.TheVariants.{Create, Copy, Touch, Idle}
@@ -49,6 +47,7 @@ use Rattle.pv_laws.proofs.Stops.{midway_piece, later_piece, piece_mends}
 use Rattle.pv_laws.proofs.Swapped.{copies_some, swapped, bare_directory, directory_asks, IsSwap, swap, all_swapped, swapped_distinct, swapped_repeatable, in_order_swapped}
 use Rattle.pv_laws.proofs.Swapped as swaps
 use Rattle.pv_laws.proofs.Touching.{turn_open, first_turn}
+use Rattle.pv_path.proofs.Tests.{true_not_false}
 
 -- a path lies neither at nor below the path of a line that copies what is there
 abbrev pub IsOutside : Files → Path → Line → Type 0
@@ -78,7 +77,7 @@ module _ (t : Files) (q : Path) (plain : has_staging q ≡ false) (now : ℕ) (l
       )
 
   other_path : (copying : Copying) → asks line ≡ Copy copying → is_some (bares_of (places t) copying.source) ≡ true → same_path (path_in line.path) q ≡ false
-  other_path copying e there = same_path-no (path_in line.path) q (λ e'. apart (is_prefix (path_in line.path) q) (ap (is_prefix (path_in line.path)) (sym e') ∙ is_prefix-refl (path_in line.path)) (outside copying e there))
+  other_path copying e there = same_path-no (path_in line.path) q (λ e'. true_not_false (is_prefix (path_in line.path) q) (ap (is_prefix (path_in line.path)) (sym e') ∙ is_prefix-refl (path_in line.path)) (outside copying e there))
 
   -- what is asked of the path in its place
   asked_there : (copying : Copying) → asks line ≡ Copy copying → is_some (bares_of (places t) copying.source) ≡ true → swapped t line ≡ bare_directory line → operations (swapped t line) q ≡ cond (is_prefix q (path_in line.path)) (Make parent_bare ∷ []) []
@@ -126,8 +125,8 @@ module _ (t : Files) (q : Path) (plain : has_staging q ≡ false) (now : ℕ) (l
       at is (parent high differ none f) = IsMidway.piece 1 (
           f ∙ ap (λ c. run (Make parent_bare ∷ []) c) (sym none)
           ∙ sym (ap (λ xs. run (take 1 (parts xs)) (bares_of (places v) q)) (asked_there copying e there is ∙ ap (λ b. cond b (Make parent_bare ∷ []) []) high)))
-      at is (some_set k same turn f) = absurd (apart (is_prefix (path_in line.path) q) (ap (is_prefix (path_in line.path)) same ∙ is_prefix-refl (path_in line.path)) (outside copying e there))
-      at is (gone subtree low turn f) = absurd (apart (is_prefix (path_in line.path) q) low (outside copying e there))
+      at is (some_set k same turn f) = absurd (true_not_false (is_prefix (path_in line.path) q) (ap (is_prefix (path_in line.path)) same ∙ is_prefix-refl (path_in line.path)) (outside copying e there))
+      at is (gone subtree low turn f) = absurd (true_not_false (is_prefix (path_in line.path) q) low (outside copying e there))
 
       by : IsSwap t line (swapped t line) → IsMidway (swapped t line) q (bares_of (places v) q) (bares_of (places u) q)
       by (swaps.same is f) = impossible (sym (sym (ap (copies_some t) e) ∙ f) ∙ there)

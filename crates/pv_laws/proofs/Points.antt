@@ -4,23 +4,20 @@ use Rattle.std.proofs.Common.{zero, suc, refl, sym, ap, subst, ◌∙◌, inl, i
 use Rattle.std.proofs.lemmas.List.{append-nil}
 use Rattle.std.specs.FinMap as fin
 use Rattle.std.specs.FinMap.Entries as entries
-use Rattle.std.specs.List.{list_all, filter_map, cons_option, AllByRecursion}
+use Rattle.std.specs.List.{list_all, filter_map, cons_option}
 use Rattle.std.specs.Option.{option_map_or}
-use Rattle.std.specs.Ordering.{eq_by_cmp, is_eq}
-use Rattle.std.specs.declared.cmp.Ordering.{Ordering}
-use Rattle.std.specs.declared.cmp.Ordering.TheVariants.{Equal}
+use Rattle.std.specs.Ordering.{eq_by_cmp}
 use Rattle.std.proofs.lemmas.Bool.{or_parts}
 use Rattle.pv_path.specs.Paths.{Path, path_cmp, path_total, same_path, is_prefix, rest_under, has_staging, same_path-decides}
-use Rattle.pv_path.proofs.PathLaws.{path_cmp-exact, rest_under-self, rest_under-Some, is_some-rest_under}
+use Rattle.pv_path.proofs.PathLaws.{path_cmp-exact, rest_under-self, rest_under-Some, is_some-rest_under, same_path-no}
 use Rattle.pv_steps.specs.Trees.{Files}
-use Rattle.pv_steps.proofs.StepLaws.{is_among}
+use Rattle.pv_steps.proofs.StepLaws.{is_among, among_right, among_left, later_among}
 use Rattle.pv_dress.specs.declared.bare.Bare.{Bare}
 use Rattle.pv_dress.specs.declared.operation.Operation.{Operation}
 use Rattle.pv_dress.specs.declared.operation.Operation.TheVariants.{Make, Erase}
 use Rattle.pv_dress.specs.Operations.{done, run}
-use Rattle.pv_dress.proofs.EditLaws.{path_cases, same_path-no}
+use Rattle.pv_dress.proofs.EditLaws.{path_cases}
 use Rattle.pv_lines.specs.declared.line.Line.{Line}
-use Rattle.pv_walk.proofs.RemovalLaws.{apart}
 use Rattle.pv_walk.specs.Preparing.{parents_of}
 use Rattle.pv_table.specs.declared.deed.Deed.{Deed}
 use Rattle.pv_table.specs.declared.deed.Deed.TheVariants.{Create, Copy, Touch, Idle}
@@ -35,24 +32,12 @@ use Rattle.pv_table.specs.Repeatable.{sets_of}
 use Rattle.pv_table.specs.Turns.{copied, making_turn}
 use Rattle.pv_laws.proofs.Lines.{IsPlain, asked_made, asked_touch, asked_idle}
 use Rattle.pv_laws.proofs.Making.{is_dir, IsShaped, dir_there, asked_here, asked_above, asked_else, object_after, below_after}
-use Rattle.pv_walk.proofs.PreparedLaws.{has_some, in_parents, among_first, among_later, among_left, among_right, stands_among}
+use Rattle.pv_walk.proofs.PreparedLaws.{has_some, in_parents, among_first, stands_among}
 use Rattle.pv_laws.proofs.Repeated.{IsAskedAt, object, parent, below, set, nothing, asked_at}
 use Rattle.pv_laws.proofs.Sets.{impossible, is_adjustment, IsMaking, line_is_making, adjusted_none, asked, sets_adjust}
+use Rattle.pv_path.proofs.Tests.{equal_of, true_not_false, hidden, shown}
 
 -- ---- maps from functions
-
-tied : (o : Ordering) → is_eq o ≡ true → o ≡ Equal
-tied Equal e = refl
-tied o e = impossible e
-
-hidden : (b a : Bool) (o : Option Bare) → (b ≡ true → o ≡ None) → cond a o None ≡ cond (b || a) o None
-hidden false a o h = refl
-hidden true true o h = refl
-hidden true false o h = sym (h refl)
-
-shown : (b a : Bool) (x : Bare) (o : Option Bare) → (b ≡ true → o ≡ Some x) → cond b (Some x) (cond a o None) ≡ cond (b || a) o None
-shown false a x o h = refl
-shown true a x o h = sym (h refl)
 
 -- what a function has at some paths
 abbrev bares_at : List Path → (Path → Option Bare) → List (Path × Bare)
@@ -63,7 +48,7 @@ find-bares_at [] f q = refl
 find-bares_at (path ∷ paths) f q = by (f path) refl (find-bares_at paths f q)
   where
     same : eq_by_cmp path_cmp q path ≡ true → f q ≡ f path
-    same h = ap f (path_cmp-exact q path (tied (path_cmp q path) h))
+    same h = ap f (path_cmp-exact q path (equal_of (path_cmp q path) h))
 
     by : (o : Option Bare) → f path ≡ o → entries.find path_cmp q (bares_at paths f) ≡ cond (is_among q paths) (f q) None
         → entries.find path_cmp q (cons_option (option_map (λ (b : Bare). (path, b)) o) (bares_at paths f)) ≡ cond (is_among q (path ∷ paths)) (f q) None
@@ -144,11 +129,11 @@ module _ (line : Line) (is : IsPlain line) (s : Bares) (shape : IsShaped (fin.ge
           where
             at : (b : Option Bare) → fin.get s q ≡ b → b ≡ None
             at None f = refl
-            at (Some x) f = absurd (apart (is_dir (fin.get s path)) (shape.above path q plain under (λ same. apart (same_path path q) ((same_path-decides path q).1 same) d) (ap is_some f)) no_dir)
+            at (Some x) f = absurd (true_not_false (is_dir (fin.get s path)) (shape.above path q plain under (λ same. true_not_false (same_path path q) ((same_path-decides path q).1 same) d) (ap is_some f)) no_dir)
 
         by : (r : Option Path) → rest_under path q ≡ r → given false r ≡ run (cond (is_prefix path q && clears_below making) (Erase ∷ []) []) (fin.get s q)
         by None f = sym (ap (λ b. run (cond (b && clears_below making) (Erase ∷ []) []) (fin.get s q)) (higher f))
-        by (Some []) f = absurd (apart (same_path path q) ((same_path-decides path q).1 (sym (rest_under-Some path q [] f ∙ append-nil path))) d)
+        by (Some []) f = absurd (true_not_false (same_path path q) ((same_path-decides path q).1 (sym (rest_under-Some path q [] f ∙ append-nil path))) d)
         by (Some (name ∷ rest)) f =
             below_after making is_making (fin.get s path) (fin.get s q) (λ x g h. (let numbers = shape.plain path x is.unstaged g h in (h, numbers.0, numbers.1))) (absent (lower (name ∷ rest) f)) name rest
             ∙ sym (ap (λ b. run (cond (b && clears_below making) (Erase ∷ []) []) (fin.get s q)) (lower (name ∷ rest) f))
@@ -160,7 +145,7 @@ module _ (line : Line) (is : IsPlain line) (s : Bares) (shape : IsShaped (fin.ge
     ]
       where
         by : same_path path q ≡ false → (b : Bool) → is_prefix q path ≡ b → given (is_prefix q path && not (same_path q path)) (rest_under path q) ≡ run (made_at making path q) (fin.get s q)
-        by d true high = made_above d (same_path-no q path (λ same. apart (same_path path q) ((same_path-decides path q).1 (sym same)) d)) high
+        by d true high = made_above d (same_path-no q path (λ same. true_not_false (same_path path q) ((same_path-decides path q).1 (sym same)) d)) high
         by d false high = made_else d high
 
   -- what the definition gives at a path is what the operations asked there make of what stood there
@@ -198,10 +183,10 @@ module _ (line : Line) (is : IsPlain line) (s : Bares) (shape : IsShaped (fin.ge
       new none (object making e same f) = among_made making e (subst (λ (p : Path). is_among p (path_in line.path ∷ (parents_of (path_in line.path) ++ fin.keys s)) ≡ true) same (among_first (path_in line.path) (parents_of (path_in line.path) ++ fin.keys s)))
       new none (parent making e high f) = elim (path_cases q (path_in line.path)) [
         | inl same ↦ among_made making e (subst (λ (p : Path). is_among p (path_in line.path ∷ (parents_of (path_in line.path) ++ fin.keys s)) ≡ true) (sym same) (among_first (path_in line.path) (parents_of (path_in line.path) ++ fin.keys s)))
-        | inr d ↦ among_made making e (among_later (path_in line.path) q (parents_of (path_in line.path) ++ fin.keys s) (among_left q (parents_of (path_in line.path)) (fin.keys s) (stands_among q (parents_of (path_in line.path)) (
-            in_parents q (path_in line.path) (λ same. apart (same_path q (path_in line.path)) ((same_path-decides q (path_in line.path)).1 same) d)
+        | inr d ↦ among_made making e (later_among (path_in line.path) q (parents_of (path_in line.path) ++ fin.keys s) (among_left q (parents_of (path_in line.path)) (fin.keys s) (stands_among q (parents_of (path_in line.path)) (
+            in_parents q (path_in line.path) (λ same. true_not_false (same_path q (path_in line.path)) ((same_path-decides q (path_in line.path)).1 same) d)
             ∙ ap (λ b. b && has_some q) high
-            ∙ root (λ at_root. apart (is_some (fin.get s q)) (ap (λ (p : Path). is_some (fin.get s p)) at_root ∙ dir_there (fin.get s []) shape.root) (ap is_some none))))))
+            ∙ root (λ at_root. true_not_false (is_some (fin.get s q)) (ap (λ (p : Path). is_some (fin.get s p)) at_root ∙ dir_there (fin.get s []) shape.root) (ap is_some none))))))
       ]
       new none (below making e g d f) = impossible (sym (ap (λ xs. is_some (run xs (fin.get s q))) f) ∙ h)
       new none (set touching e t f) = impossible (
@@ -213,11 +198,6 @@ module _ (line : Line) (is : IsPlain line) (s : Bares) (shape : IsShaped (fin.ge
       by (Some x) e = keyed (ap is_some e)
 
 -- ---- the first of several lines
-
-pub all_front : {A : Type 0} (P : A → Type 0) (k : ℕ) (xs : List A) → AllByRecursion P xs → AllByRecursion P (take k xs)
-all_front P zero xs h = tt
-all_front P (suc k) [] h = tt
-all_front P (suc k) (x ∷ xs) h = (h.0, all_front P k xs h.1)
 
 pub quiet_front : (now k : ℕ) (lines : List Line) (t : Files) → one_is_refused (by_line now) lines t ≡ false → one_is_refused (by_line now) (take k lines) t ≡ false
 quiet_front now zero lines t quiet = refl

@@ -15,7 +15,6 @@ use Rattle.pv_dress.specs.Nodes.{bare_of, bares_of, same_kind, same_substance}
 use Rattle.pv_dress.specs.Operations.{run}
 use Rattle.pv_dress.proofs.OperationLaws.{bares_of-same}
 use Rattle.pv_lines.specs.declared.line.Line.{Line}
-use Rattle.pv_walk.proofs.RemovalLaws.{apart}
 use Rattle.pv_walk.specs.Staging.{new_object, new_kind}
 use Rattle.pv_table.specs.declared.deed.Copying.{Copying}
 use Rattle.pv_table.specs.declared.deed.Deed.{Deed}
@@ -44,8 +43,9 @@ use Rattle.pv_laws.proofs.Sets.{impossible, is_adjustment, IsMaking, line_is_mak
 use Rattle.pv_laws.proofs.Shapes.{adjusted_like}
 use Rattle.pv_laws.proofs.Touching.{turn_open, first_turn}
 use Rattle.pv_steps.specs.declared.node.Kind.{Kind}
-use Rattle.pv_laws.proofs.Comparing.{same_kind_is}
+use Rattle.pv_table.proofs.Restamping.{same_kind-true}
 use Rattle.pv_laws.proofs.Orders.{Pairwise}
+use Rattle.pv_path.proofs.Tests.{true_not_false}
 
 -- ---- copies outside of a path
 
@@ -98,9 +98,9 @@ stuck_step now line safe makes t shape quiet p plain outside stuck = by (asks li
     parent_kept (Some x) h = refl
 
     asks_no_more : IsAskedAt line p → run (operations line p) (bares_of (places t) p) ≡ bares_of (places t) p
-    asks_no_more (repeated.object making e s f) = absurd (apart (is_prefix (path_in line.path) p) (ap (is_prefix (path_in line.path)) (sym s) ∙ is_prefix-refl (path_in line.path)) outside)
+    asks_no_more (repeated.object making e s f) = absurd (true_not_false (is_prefix (path_in line.path) p) (ap (is_prefix (path_in line.path)) (sym s) ∙ is_prefix-refl (path_in line.path)) outside)
     asks_no_more (repeated.parent making e s f) = ap (λ xs. run xs (bares_of (places t) p)) f ∙ parent_kept (bares_of (places t) p) stuck
-    asks_no_more (repeated.below making e g d f) = absurd (apart (is_prefix (path_in line.path) p) (and_parts (is_prefix (path_in line.path) p) (clears_below making) g).0 outside)
+    asks_no_more (repeated.below making e g d f) = absurd (true_not_false (is_prefix (path_in line.path) p) (and_parts (is_prefix (path_in line.path) p) (clears_below making) g).0 outside)
     asks_no_more (repeated.set touching e g f) = impossible (sym makes ∙ touch_adjusts touching e)
     asks_no_more (repeated.nothing f) = ap (λ xs. run xs (bares_of (places t) p)) f
 
@@ -124,7 +124,7 @@ module _ (making : Making) (is : IsMaking making) (clears : clears_below making 
       by true b h = impossible h
 
   same_no_dir : (own kind : Kind) → is_directory own ≡ false → same_kind own kind ≡ true → is_directory kind ≡ false
-  same_no_dir own kind h s = sym (ap is_directory (same_kind_is own kind s)) ∙ h
+  same_no_dir own kind h s = sym (ap is_directory (same_kind-true own kind s)) ∙ h
 
   abbrev own : Bare
   own = bare_of (new_object making.new 0)
@@ -177,24 +177,24 @@ module _ (p : Path) (line : Line) (beside : IsBeside p line) (q : Path) (under :
   not_lower = by (is_prefix q (path_in line.path)) refl
     where
       by : (b : Bool) → is_prefix q (path_in line.path) ≡ b → is_prefix q (path_in line.path) ≡ false
-      by true e = absurd (apart (is_prefix p (path_in line.path)) (is_prefix-trans p q (path_in line.path) under e) beside.low)
+      by true e = absurd (true_not_false (is_prefix p (path_in line.path)) (is_prefix-trans p q (path_in line.path) under e) beside.low)
       by false e = e
 
   pub not_there : path_in line.path ≢ q
-  not_there e = apart (is_prefix p (path_in line.path)) (ap (is_prefix p) e ∙ under) beside.low
+  not_there e = true_not_false (is_prefix p (path_in line.path)) (ap (is_prefix p) e ∙ under) beside.low
 
   pub higher : is_prefix (path_in line.path) q ≡ true → is_prefix (path_in line.path) p ≡ true
   higher e = by (prefixes_compare p (path_in line.path) q under e)
     where
       by : (is_prefix p (path_in line.path) ≡ true) ⊎ (is_prefix (path_in line.path) p ≡ true) → is_prefix (path_in line.path) p ≡ true
-      by (inl f) = absurd (apart (is_prefix p (path_in line.path)) f beside.low)
+      by (inl f) = absurd (true_not_false (is_prefix p (path_in line.path)) f beside.low)
       by (inr f) = f
 
   pub copy_outside : (copying : Copying) → asks line ≡ Copy copying → is_prefix (path_in line.path) q ≡ false
   copy_outside copying e = by (is_prefix (path_in line.path) q) refl
     where
       by : (b : Bool) → is_prefix (path_in line.path) q ≡ b → is_prefix (path_in line.path) q ≡ false
-      by true f = absurd (apart (is_prefix (path_in line.path) p) (higher f) (beside.copies copying e))
+      by true f = absurd (true_not_false (is_prefix (path_in line.path) p) (higher f) (beside.copies copying e))
       by false f = f
 
   touch_makes : (touching : Touching) → asks line ≡ Touch touching → is_touching line ≡ true
@@ -205,7 +205,7 @@ module _ (p : Path) (line : Line) (beside : IsBeside p line) (q : Path) (under :
     where
       by : IsAskedAt line q → (operations line q ≡ []) ⊎ IsClearing p line
       by (repeated.object making e s f) = absurd (not_there s)
-      by (repeated.parent making e s f) = absurd (apart (is_prefix q (path_in line.path)) s not_lower)
+      by (repeated.parent making e s f) = absurd (true_not_false (is_prefix q (path_in line.path)) s not_lower)
       by (repeated.below making e g d f) =
           let two = and_parts (is_prefix (path_in line.path) q) (clears_below making) g in
           inr (record { making = making; makes = e; clears = two.1; above = higher two.0 })
@@ -238,9 +238,9 @@ module _ (now : ℕ) (p : Path) (line : Line) (safe : IsSafe line) (beside : IsB
     where
       by : IsCopyMidway (path_in line.path) copying (turn_of line copying now t) q (bares_of (places t) q) (bares_of (places u) q) → bares_of (places u) q ≡ bares_of (places t) q
       by (kept f) = f
-      by (parent high differ none f) = absurd (apart (is_prefix q (path_in line.path)) high (not_lower p line beside q under))
+      by (parent high differ none f) = absurd (true_not_false (is_prefix q (path_in line.path)) high (not_lower p line beside q under))
       by (some_set k same turn f) = absurd (not_there p line beside q under (sym same))
-      by (gone subtree low turn f) = absurd (apart (is_prefix (path_in line.path) q) low (copy_outside p line beside q under copying e))
+      by (gone subtree low turn f) = absurd (true_not_false (is_prefix (path_in line.path) q) low (copy_outside p line beside q under copying e))
   beside_way u (copy_done copying e whole) = by beside_after
     where
       by : (bares_of (places ((by_line now).after line t)) q ≡ bares_of (places t) q) ⊎ IsClearing p line → (bares_of (places u) q ≡ bares_of (places t) q) ⊎ IsClearing p line
@@ -285,7 +285,7 @@ module _ (now : ℕ) where
     never_clears : (line : Line) (lines : List Line) → IsSafe line → IsBeside p line → AllByRecursion IsSafe lines → AllByRecursion (IsBeside p) lines → AllByRecursion (Before line) lines → (t : Files) → IsShaped (bares_of (places t))
         → one_is_refused (by_line now) (line ∷ lines) t ≡ false → Passes (after_each (by_line now) (line ∷ lines) t) → IsClearing p line → ⊥
     never_clears line lines safe beside safe_all beside_all before t shape quiet passes clearing =
-        apart (is_dir (bares_of (places (after_each (by_line now) (line ∷ lines) t)) (path_in line.path))) (passes (path_in line.path) clearing.above other stuck.there) stuck.no_dir
+        true_not_false (is_dir (bares_of (places (after_each (by_line now) (line ∷ lines) t)) (path_in line.path))) (passes (path_in line.path) clearing.above other stuck.there) stuck.no_dir
       where
         two : ((by_line now).is_refused line t ≡ false) × (one_is_refused (by_line now) lines ((by_line now).after line t) ≡ false)
         two = or_parts ((by_line now).is_refused line t) (one_is_refused (by_line now) lines ((by_line now).after line t)) quiet
@@ -304,7 +304,7 @@ module _ (now : ℕ) where
         stuck = stuck_all (path_in line.path) plain.unstaged lines safe_all (all_make lines beside_all) before ((by_line now).after line t) (line_pointed now line safe t shape two.0).shape two.1 begun
 
         other : path_in line.path ≢ p
-        other e = apart (is_prefix p (path_in line.path)) (ap (is_prefix p) e ∙ is_prefix-refl p) beside.low
+        other e = true_not_false (is_prefix p (path_in line.path)) (ap (is_prefix p) e ∙ is_prefix-refl p) beside.low
 
     -- what lies at and below the path stays
     pub region_after : (lines : List Line) → AllByRecursion IsSafe lines → AllByRecursion (IsBeside p) lines → Pairwise Before lines → (t : Files) → IsShaped (bares_of (places t)) → one_is_refused (by_line now) lines t ≡ false → Passes (after_each (by_line now) lines t)

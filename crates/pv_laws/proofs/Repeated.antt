@@ -20,7 +20,7 @@ use Rattle.pv_lines.specs.declared.line.Line.{Line}
 use Rattle.pv_lines.specs.declared.line.LinePath.{LinePath}
 use Rattle.pv_lines.specs.declared.line.LinePath.TheVariants.{Literal, Glob}
 use Rattle.pv_lines.specs.Lines.{IsLine, IsLinePath}
-use Rattle.pv_walk.proofs.RemovalLaws.{apart, zero_or_more}
+use Rattle.pv_walk.proofs.RemovalLaws.{zero_or_more}
 use Rattle.pv_table.specs.declared.deed.Copying.{Copying}
 use Rattle.pv_table.specs.declared.deed.Deed.{Deed}
 use Rattle.pv_table.specs.declared.deed.Deed.TheVariants.{Create, Copy, Touch, Idle}
@@ -38,6 +38,7 @@ use Rattle.pv_laws.proofs.Making.{first_make, first_renew, asked_here, asked_abo
 use Rattle.pv_laws.proofs.Orders.{Pairwise, path_of, ComesAfter, makers_ordered}
 use Rattle.pv_table.proofs.ListedLaws.{all_tests, all_map, all_makers, all_ordered, makers_create, all_listed, all_at}
 use Rattle.pv_laws.proofs.Sets.{impossible, is_adjustment, IsMaking, line_is_making, only_adjusts, asked, sets_adjust, sets_unmixed, sets_masked, adjustments_renew_none, adjustments_timely}
+use Rattle.pv_path.proofs.Tests.{true_not_false}
 
 -- ---- the operations of one line
 
@@ -207,7 +208,7 @@ module _ (q : Path) where
       two = or_parts (list_any is_erasure (operations line.1 q)) (list_any is_erasure (listed_asked lines)) (sym (list_any-append is_erasure (operations line.1 q) (listed_asked lines)) ∙ h)
 
       later : is_prefix q (path_of line) ≡ true → list_any is_renewal (listed_asked lines) ≡ false
-      later high = all_renew_none lines (all_map (ComesAfter line) (λ l. path_of l ≢ q) (λ l after e. apart (is_prefix (path_of l) (path_of line)) (ap (λ (p : Path). is_prefix p (path_of line)) e ∙ high) after) lines order.0) adjusts.1
+      later high = all_renew_none lines (all_map (ComesAfter line) (λ l. path_of l ≢ q) (λ l after e. true_not_false (is_prefix (path_of l) (path_of line)) (ap (λ (p : Path). is_prefix p (path_of line)) e ∙ high) after) lines order.0) adjusts.1
 
       by : IsAskedAt line.1 q → (list_any is_erasure (listed_asked lines) ≡ false → BeginsWithMake (listed_asked lines)) → BeginsWithMake (listed_asked (line ∷ lines))
       by (object making e s f) rest = make (first_of making) (making.sets ++ listed_asked lines) (ap (λ xs. xs ++ listed_asked lines) f) (first_makes making (line_is_making line.1 making e)).0 (
@@ -318,7 +319,7 @@ module _ (lines : List Line) (are : AllByRecursion IsLine lines) (distinct : are
       reached_second = asked_reaches gives_base b.0.1 b.1.is q b.2
 
       both_in_one : a.0.1 ≡ b.0.1 → ⊥
-      both_in_one e = apart (has_mixed_mask (sets_of (asks a.0.1)))
+      both_in_one e = true_not_false (has_mixed_mask (sets_of (asks a.0.1)))
           (ap (λ t. t && list_any (is_adjusting gives_base) (sets_of (asks a.0.1))) (asked_sets is_masked a.0.1 q a.2) ∙ ap (λ (l : Line). list_any (is_adjusting gives_base) (sets_of (asks l))) e ∙ base)
           (sets_unmixed a.0.1 (asks a.0.1) (asked a.0.1))
 

@@ -36,6 +36,7 @@ use Rattle.pv_table.specs.declared.deed.Touching.{Touching}
 use Rattle.pv_table.specs.Asking.{id_for_new, id_to_set, mode_for_new, renewal, without_links, mode_to_set, owners_and_mode, bytes_of, link_to, device, contents_to_set, making, copying, touching, writing, set_by, deeds, asks}
 use Rattle.pv_table.specs.Reaching.{is_deep}
 use Rattle.pv_table.specs.Repeatable.{sets_of, has_masked_mode}
+use Rattle.pv_dress.proofs.Repeating.{same_kind-refl}
 
 -- ---- the table of what lines ask for, in six cases
 
@@ -301,14 +302,6 @@ own_contents line what mode uid gid file = by what line.plus file
     by (new.Device true major minor) true h = refl
     by (new.Device false major minor) true h = refl
 
-same_kind_refl : (kind : Kind) → same_kind kind kind ≡ true
-same_kind_refl Directory = refl
-same_kind_refl File = refl
-same_kind_refl Link = refl
-same_kind_refl Fifo = refl
-same_kind_refl CharDevice = refl
-same_kind_refl BlockDevice = refl
-
 pub own_owner : (field : Option LineId) (d : ℕ) → unwrap_or (id_to_set field) (unwrap_or (id_for_new field) d) ≡ unwrap_or (id_for_new field) d
 own_owner None d = refl
 own_owner (Some owner) d = elim owner.new_only as (λ b. unwrap_or (cond b None (Some owner.id)) owner.id ≡ owner.id) [ true ↦ refl | false ↦ refl ]
@@ -386,7 +379,7 @@ own_owners : (what : NewKind) (mode : ℕ) (user group : Option LineId) (xs : Li
     → run (Adjust (Only (new_kind what)) (Owner (id_to_set user) (id_to_set group)) ∷ xs) (Some (own_object what mode (unwrap_or (id_for_new user) 0) (unwrap_or (id_for_new group) 0)))
     ≡ run xs (Some (own_object what mode (unwrap_or (id_for_new user) 0) (unwrap_or (id_for_new group) 0)))
 own_owners what mode user group xs =
-    ap (λ (t : Bool). run xs (Some (cond t (changed (new_kind what) (Owner (id_to_set user) (id_to_set group)) own) own))) (same_kind_refl (new_kind what))
+    ap (λ (t : Bool). run xs (Some (cond t (changed (new_kind what) (Owner (id_to_set user) (id_to_set group)) own) own))) (same_kind-refl (new_kind what))
     ∙ (λ i. run xs (Some (record own { dress = record own.dress { uid = own_owner user 0 i; gid = own_owner group 0 i } })))
   where
     own : Bare

@@ -7,8 +7,6 @@ use Rattle.std.proofs.lemmas.List.Folds.{list_any-append, list_all-append}
 use Rattle.std.proofs.lemmas.Bool.{false_from_ne_true, or_left, and_parts}
 use Rattle.pv_path.specs.Paths.{has_names, Path, is_prefix}
 use Rattle.pv_path.proofs.PathLaws.{same_path-refl}
-use Rattle.pv_steps.specs.declared.node.Kind.{Kind}
-use Rattle.pv_steps.specs.declared.node.Kind.TheVariants.{Directory, File, Link, Fifo, CharDevice, BlockDevice}
 use Rattle.pv_dress.specs.declared.bare.Bare.{Bare}
 use Rattle.pv_dress.specs.declared.bare.Body.{Body}
 use Rattle.pv_dress.specs.declared.operation.Change.{Change}
@@ -26,7 +24,7 @@ use Rattle.pv_lines.specs.declared.line.Line.{Line}
 use Rattle.pv_lines.specs.declared.line.LineMode.{LineMode}
 use Rattle.pv_lines.specs.declared.line.LinePath.{LinePath}
 use Rattle.pv_lines.specs.Lines.{IsLine}
-use Rattle.pv_walk.proofs.RemovalLaws.{apart, zero_or_more}
+use Rattle.pv_walk.proofs.RemovalLaws.{zero_or_more}
 use Rattle.pv_table.specs.declared.deed.Copying.{Copying}
 use Rattle.pv_table.specs.declared.deed.Deed.{Deed}
 use Rattle.pv_table.specs.declared.deed.Deed.TheVariants.{Copy, Idle}
@@ -45,6 +43,8 @@ use Rattle.pv_laws.proofs.Sets.{is_adjustment, IsAsked, asked, sets_adjust, sets
 use Rattle.pv_laws.proofs.Sets as sets
 use Rattle.pv_laws.proofs.Splits.{IsKnown, line_of}
 use Rattle.pv_laws.proofs.Tops.{copied_by, top_again}
+use Rattle.pv_path.proofs.Tests.{true_not_false}
+use Rattle.pv_dress.proofs.Repeating.{same_kind-refl}
 
 -- ---- what a line that copies sets
 
@@ -77,16 +77,8 @@ sets_in_parts line copying e = subst (λ (c : Copying). parts c.sets ≡ c.sets)
 pub own_again : (line : Line) (copying : Copying) (b : Bare) → asks line ≡ Copy copying → run copying.sets (Some (topped_by copying b)) ≡ Some (topped_by copying b)
 own_again line copying b e = subst (λ (c : Copying). run c.sets (Some (topped_by c b)) ≡ Some (topped_by c b)) (sym (is_copied_by line copying e)) (top_again line b)
 
-own_kind : (k : Kind) → same_kind k k ≡ true
-own_kind Directory = refl
-own_kind File = refl
-own_kind Link = refl
-own_kind Fifo = refl
-own_kind CharDevice = refl
-own_kind BlockDevice = refl
-
 pub top_kind : (copying : Copying) (b : Bare) → same_kind b.body.kind (topped_by copying b).body.kind ≡ true
-top_kind copying b = ap (λ (body : Body). same_kind b.body.kind body.kind) (topped_body copying b) ∙ own_kind b.body.kind
+top_kind copying b = ap (λ (body : Body). same_kind b.body.kind body.kind) (topped_body copying b) ∙ same_kind-refl b.body.kind
 
 -- ---- adjustments of lines of which none has a reason
 
@@ -118,7 +110,7 @@ module _ (lines : List Line) (are : AllByRecursion IsLine lines) (distinct : are
         masked = sets_masked a.one.1 (asks a.one.1) (asked a.one.1) a.sets_it
 
         both_in_one : a.one.1 ≡ b.one.1 → ⊥
-        both_in_one e = apart (has_mixed_mask (sets_of (asks a.one.1)))
+        both_in_one e = true_not_false (has_mixed_mask (sets_of (asks a.one.1)))
             (ap (λ t. t && list_any (is_adjusting gives_base) (sets_of (asks a.one.1))) a.sets_it ∙ ap (λ (l : Line). list_any (is_adjusting gives_base) (sets_of (asks l))) e ∙ b.sets_it)
             (sets_unmixed a.one.1 (asks a.one.1) (asked a.one.1))
 

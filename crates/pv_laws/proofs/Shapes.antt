@@ -22,13 +22,13 @@ use Rattle.pv_dress.specs.Operations.{admits, changed, done, run}
 use Rattle.pv_dress.proofs.EditLaws.{path_cases}
 use Rattle.pv_dress.proofs.NodeChanges.{keeps-changed}
 use Rattle.pv_walk.specs.Staging.{new_object, new_kind}
-use Rattle.pv_walk.proofs.RemovalLaws.{apart}
 use Rattle.pv_table.specs.declared.deed.Making.{Making}
 use Rattle.pv_table.specs.Asked.{first_of, clears_below, made_at}
 use Rattle.pv_table.specs.Pointwise.{parent_bare}
 use Rattle.pv_laws.proofs.Making.{is_dir, IsShaped, does_stay, first_on_none, first_on_some, new_numbers, directory_stays, asked_here, asked_above, asked_else}
 use Rattle.pv_laws.proofs.Prepared.{bare_some}
 use Rattle.pv_laws.proofs.Sets.{impossible, is_adjustment, IsMaking, only_adjusts}
+use Rattle.pv_path.proofs.Tests.{true_not_false}
 
 -- ---- adjustments keep the kind and the numbers
 
@@ -61,7 +61,7 @@ pub plain_prefix : (p q : Path) → is_prefix p q ≡ true → has_staging q ≡
 plain_prefix p q above plain = by (has_staging p) refl
   where
     by : (b : Bool) → has_staging p ≡ b → has_staging p ≡ false
-    by true e = absurd (apart (has_staging q) (has_staging-extends p q above e) plain)
+    by true e = absurd (true_not_false (has_staging q) (has_staging-extends p q above e) plain)
     by false e = e
 
 -- ---- what a making leaves
@@ -148,7 +148,7 @@ module _ (making : Making) (is : IsMaking making) (path : Path) (unstaged : has_
           ∙ ap is_directory like.2.kind ∙ found.2)
 
       by : same_path path p ≡ false → (b : Bool) → is_prefix p path ≡ b → is_dir (made p) ≡ true
-      by d true high = dir_above p high (λ e. apart (same_path path p) ((same_path-decides path p).1 (sym e)) d)
+      by d true high = dir_above p high (λ e. true_not_false (same_path path p) ((same_path-decides path p).1 (sym e)) d)
       by d false high = ap is_dir (else_made p d high ∙ ap (λ b. run (cond b (Erase ∷ []) []) (a p)) (not_cleared (is_prefix path p) refl)) ∙ dir
         where
           not_cleared : (b : Bool) → is_prefix path p ≡ b → (is_prefix path p && clears_below making) ≡ false
@@ -162,7 +162,7 @@ module _ (making : Making) (is : IsMaking making) (path : Path) (unstaged : has_
   ]
     where
       by : same_path path q ≡ false → (b : Bool) → is_prefix q path ≡ b → is_dir (made p) ≡ true
-      by d true high = dir_above p (is_prefix-trans p q path above high) (λ s. (let back : is_prefix path q ≡ true = ap (λ (r : Path). is_prefix r q) (sym s) ∙ above in apart (same_path path q) ((same_path-decides path q).1 (is_prefix-antisym path q back high)) d))
+      by d true high = dir_above p (is_prefix-trans p q path above high) (λ s. (let back : is_prefix path q ≡ true = ap (λ (r : Path). is_prefix r q) (sym s) ∙ above in true_not_false (same_path path q) ((same_path-decides path q).1 (is_prefix-antisym path q back high)) d))
       by d false high =
           let left = still_there q d high there in
           dir_stays p q above left.0 (plain_prefix p q above plain) (shape.above p q plain above other left.1)
@@ -189,7 +189,7 @@ module _ (making : Making) (is : IsMaking making) (path : Path) (unstaged : has_
       parent_numbers (Some y) s h = shape.plain q x plain (s ∙ h) dir
 
       by : same_path path q ≡ false → (b : Bool) → is_prefix q path ≡ b → (x.body.major ≡ 0) × (x.body.minor ≡ 0)
-      by d true high = parent_numbers (a q) refl (sym (above_made q high (λ s. apart (same_path path q) ((same_path-decides path q).1 (sym s)) d)) ∙ e)
+      by d true high = parent_numbers (a q) refl (sym (above_made q high (λ s. true_not_false (same_path path q) ((same_path-decides path q).1 (sym s)) d)) ∙ e)
       by d false high =
           let left = still_there q d high (ap is_some e) in
           shape.plain q x plain (sym (ap (λ b. run (cond b (Erase ∷ []) []) (a q)) left.0) ∙ sym (else_made q d high) ∙ e) dir
@@ -197,7 +197,7 @@ module _ (making : Making) (is : IsMaking making) (path : Path) (unstaged : has_
   root_made : is_dir (made []) ≡ true
   root_made = elim (path_cases path []) [
     | inl e ↦ at e
-    | inr d ↦ dir_above [] refl (λ e. apart (same_path path []) ((same_path-decides path []).1 (sym e)) d)
+    | inr d ↦ dir_above [] refl (λ e. true_not_false (same_path path []) ((same_path-decides path []).1 (sym e)) d)
   ]
     where
       like_dir : (z : Bare) → path ≡ [] → IsHere z → is_directory z.body.kind ≡ true

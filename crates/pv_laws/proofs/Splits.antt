@@ -8,7 +8,6 @@ use Rattle.pv_path.proofs.PathLaws.{is_prefix-refl}
 use Rattle.pv_lines.specs.declared.line.Line.{Line}
 use Rattle.pv_lines.specs.declared.line.LinePath.{LinePath}
 use Rattle.pv_lines.specs.Lines.{IsLine}
-use Rattle.pv_walk.proofs.RemovalLaws.{apart}
 use Rattle.pv_table.specs.declared.deed.Copying.{Copying}
 use Rattle.pv_table.specs.declared.deed.Deed.TheVariants.{Copy}
 use Rattle.pv_table.specs.declared.reason.Reason.TheVariants as reason
@@ -25,6 +24,7 @@ use Rattle.pv_laws.proofs.Regions.{IsBeside, Before}
 use Rattle.pv_laws.proofs.Repeated.{copy_adjusts_not}
 use Rattle.pv_laws.proofs.Sets.{impossible}
 use Rattle.pv_laws.proofs.Stops.{GoesBefore, before_one, all_in_place}
+use Rattle.pv_path.proofs.Tests.{true_not_false}
 
 -- ---- lists
 
@@ -160,7 +160,7 @@ module _ (lines : List Line) (are : AllByRecursion IsLine lines) (distinct : are
         record {
           low = two.1;
           makes = two.0;
-          copies = λ other f. none_above l known other f (λ same. apart (is_prefix p (path_in l.1.path)) (ap (is_prefix p) same ∙ is_prefix-refl p) two.1);
+          copies = λ other f. none_above l known other f (λ same. true_not_false (is_prefix p (path_in l.1.path)) (ap (is_prefix p) same ∙ is_prefix-refl p) two.1);
         })) before known_before (all_unlist (λ line. GoesBefore line copier.1) before (before_one GoesBefore (map line_of before) (map line_of after) copier.1 in_place)))
 
     pub all_in_turn : Pairwise Before (map line_of before)
@@ -191,7 +191,7 @@ module _ (lines : List Line) (are : AllByRecursion IsLine lines) (distinct : are
         one l known goes false f =
             let above : is_prefix (path_in l.1.path) p ≡ false = (goes f).1 in
             beside (record {
-              low = none_below l known (creates l known f) (λ same. apart (is_prefix (path_in l.1.path) p) (ap (λ (r : Path). is_prefix r p) (sym same) ∙ is_prefix-refl p) above);
+              low = none_below l known (creates l known f) (λ same. true_not_false (is_prefix (path_in l.1.path) p) (ap (λ (r : Path). is_prefix r p) (sym same) ∙ is_prefix-refl p) above);
               copies = λ other g. above;
               makes = f;
             }) above

@@ -1,5 +1,5 @@
 -- A run leaves nothing at the staging names along the path of a line that is carried out.
-use Rattle.std.specs.Prelude.{◌≡◌, ◌≢◌, ℕ, Bool, true, false, cond, ◌&&◌, List, [], ◌∷◌, filter, Option, Some, None, option_map, ◌⊎◌, ◌++◌, is_some, ◌||◌}
+use Rattle.std.specs.Prelude.{◌≡◌, ◌≢◌, ℕ, Bool, true, false, cond, ◌&&◌, List, [], ◌∷◌, filter, Option, Some, None, option_map, ◌++◌, is_some, ◌||◌}
 use Rattle.std.proofs.Common.{refl, sym, ap, subst, ◌∙◌, inl, inr}
 use Rattle.std.proofs.lemmas.List.{append-nil}
 use Rattle.std.specs.FinMap as fin
@@ -11,25 +11,27 @@ use Rattle.pv_dress.specs.declared.bare.Bare.{Bare}
 use Rattle.pv_dress.specs.Nodes.{bare_of, bares_of, same_kind}
 use Rattle.pv_dress.specs.Operations.{run}
 use Rattle.pv_lines.specs.declared.line.Line.{Line}
-use Rattle.pv_walk.proofs.RemovalLaws.{apart}
 use Rattle.pv_walk.specs.Staging.{prefixes, staging_names, new_kind}
 use Rattle.pv_table.specs.declared.deed.Deed.{Deed}
 use Rattle.pv_table.specs.declared.deed.Deed.TheVariants.{Create, Copy, Touch, Idle}
 use Rattle.pv_table.specs.declared.deed.Making.{Making}
 use Rattle.pv_table.specs.declared.deed.Touching.{Touching}
+use Rattle.pv_table.specs.Active.{in_create_order}
 use Rattle.pv_table.specs.Asking.{asks}
-use Rattle.pv_table.specs.Created.{after_each, one_is_refused, by_turn, by_line}
+use Rattle.pv_table.specs.Created.{after_each, one_is_refused, by_turn, by_line, created}
 use Rattle.pv_table.specs.Effects.{carried_out, is_touched, prepare, turn_after, turned, turns}
 use Rattle.pv_table.specs.Pointwise.{after_turn}
 use Rattle.pv_table.specs.Reaching.{names, path_in}
 use Rattle.pv_table.specs.Repeatable.{sets_of}
 use Rattle.pv_table.specs.Turns.{Refused, making_turn, copied, refused_at, View, view_of, copying_turn, has_something, decide, Turn}
 use Rattle.pv_laws.specs.CarryingOut.{IsCarriedOut}
+use Rattle.pv_laws.specs.Swept.{LeavesNoStagingName, PutsObject}
 use Rattle.pv_laws.proofs.Frames.{turn_refused}
 use Rattle.pv_laws.proofs.Lines.{turns_made, turns_touch, turns_idle, line_is_plain, copy_path}
 use Rattle.pv_laws.proofs.Making.{IsDone, making_done, does_stay, turn_by}
 use Rattle.pv_walk.proofs.PreparedLaws.{bare_none, has_some, in_prefixes, in_parents, all_taken-none, all_taken-stage}
 use Rattle.pv_table.proofs.EffectLaws.{place-prepare}
+use Rattle.pv_table.proofs.ListedLaws.{all_in_order}
 use Rattle.pv_laws.proofs.Prepared.{prepared-at, swept, filled}
 use Rattle.pv_laws.proofs.Sets.{is_adjustment, IsMaking, line_is_making, adjusted_none, asked, sets_adjust}
 use Rattle.pv_laws.proofs.Touching.{turn_open, first_turn, touch_point}
@@ -38,6 +40,7 @@ use Rattle.pv_laws.proofs.Copies.{copying_done, decide_some}
 use Rattle.pv_laws.proofs.CopyShapes.{IsCopyTurn, puts, becomes, leaves, copy_turns}
 use Rattle.pv_lines.specs.Lines.{IsLine}
 use Rattle.pv_table.specs.declared.deed.Copying.{Copying}
+use Rattle.pv_path.proofs.Tests.{true_not_false}
 
 -- ---- paths with a staging name
 
@@ -46,11 +49,11 @@ staged_no_prefix : (path q : Path) → has_staging path ≡ false → has_stagin
 staged_no_prefix path q plain staged = by (is_prefix q path) refl
   where
     by : (b : Bool) → is_prefix q path ≡ b → is_prefix q path ≡ false
-    by true e = absurd (apart (has_staging path) (has_staging-extends q path e staged) plain)
+    by true e = absurd (true_not_false (has_staging path) (has_staging-extends q path e staged) plain)
     by false e = e
 
 staged_differs : (path q : Path) → has_staging path ≡ false → has_staging q ≡ true → q ≢ path
-staged_differs path q plain staged e = apart (has_staging path) (ap has_staging (sym e) ∙ staged) plain
+staged_differs path q plain staged e = true_not_false (has_staging path) (ap has_staging (sym e) ∙ staged) plain
 
 -- preparing puts nothing there
 ready_staged : (now : ℕ) (path : Path) → has_staging path ≡ false → (t : Files) (q : Path) → has_staging q ≡ true → swept now path (places t) q ≡ None → bares_of (places (prepare now path t)) q ≡ None
@@ -235,10 +238,6 @@ module _ (now : ℕ) (line : Line) (is : IsLine line) (t : Files) (quiet : (by_l
       (copied_stage now copying (subst (λ d. list_all is_adjustment (sets_of d) ≡ true) e (sets_adjust line (asks line) (asked line))) (path_in line.path) (copy_path line is copying e).0 t
       (sym (ap (has_something (places t)) e) ∙ there) place high some))
 
--- a line puts an object at its path, made or copied
-abbrev pub PutsObject : Line → Type 0
-PutsObject line = ((making : Making) × (asks line ≡ Create making)) ⊎ ((copying : Copying) × (asks line ≡ Copy copying))
-
 pub lines_stage : (now : ℕ) (line : Line) → PutsObject line → (place : Path) → is_prefix place (path_in line.path) ≡ true → place ≢ []
     → (lines : List Line) (t : Files) → AllByRecursion IsLine lines → IsCarriedOut line lines now t → IsAbsentIn (places (after_each (by_line now) lines t)) (staging_of place)
 lines_stage now line which place high some [] t are h = absurd h
@@ -252,3 +251,7 @@ lines_stage now line which place high some (first ∷ lines) t are (inl h) =
     by (inl made) = made_line_stage now first are.0 t h.1 place high_there some made.0 (ap asks h.0 ∙ made.1)
     by (inr copied_so) = copied_line_stage now first are.0 t h.1 place high_there some copied_so.0 (ap asks h.0 ∙ copied_so.1) h.2
 lines_stage now line which place high some (first ∷ lines) t are (inr h) = lines_stage now line which place high some lines ((by_line now).after first t) are.1 h
+
+-- so a whole run of lines leaves none
+pub run_leaves_none : (lines : List Line) → AllByRecursion IsLine lines → (now : ℕ) (t : Files) → LeavesNoStagingName lines now t (created lines now t)
+run_leaves_none lines are now t line place is carried high some = lines_stage now line is place high some (in_create_order lines) t (all_in_order IsLine lines are) carried

@@ -22,7 +22,6 @@ use Rattle.pv_dress.proofs.Dividing.{run-parts}
 use Rattle.pv_dress.proofs.OperationLaws.{absorbed, bares_of-same, bares-same, erased-alike, from_the_gap, run-append}
 use Rattle.pv_lines.specs.declared.line.Line.{Line}
 use Rattle.pv_lines.specs.Lines.{IsLine}
-use Rattle.pv_walk.proofs.RemovalLaws.{apart}
 use Rattle.pv_walk.specs.Staging.{new_object}
 use Rattle.pv_table.specs.declared.deed.Deed.TheVariants.{Create, Touch}
 use Rattle.pv_table.specs.declared.deed.Making.{Making}
@@ -41,6 +40,7 @@ use Rattle.pv_table.proofs.ListedLaws.{all_append, all_in_order, all_map, all_te
 use Rattle.pv_laws.proofs.Repeated.{IsAskedAt, object, parent, below, set, nothing, asked_at, operations_repeatable, makers_adjust_none}
 use Rattle.pv_laws.proofs.Sets.{impossible, IsMaking, line_is_making}
 use Rattle.pv_laws.proofs.Shapes.{tree_shaped, tree_shaped}
+use Rattle.pv_path.proofs.Tests.{true_not_false}
 
 -- ---- pieces of one list after another
 
@@ -166,8 +166,8 @@ module _ (lines : List Line) (are : AllByRecursion IsLine lines) (distinct : are
         touch_adjusts touching e = rw e
 
         by : IsAskedAt first q → operations first q ≡ []
-        by (object m e s f) = absurd (apart (is_prefix (path_in line.path) (path_in first.path)) (ap (is_prefix (path_in line.path)) (s ∙ sym at) ∙ is_prefix-refl (path_in line.path)) two.1)
-        by (parent m e s f) = absurd (apart (is_prefix (path_in line.path) (path_in first.path)) (ap (λ (p : Path). is_prefix p (path_in first.path)) at ∙ s) two.1)
+        by (object m e s f) = absurd (true_not_false (is_prefix (path_in line.path) (path_in first.path)) (ap (is_prefix (path_in line.path)) (s ∙ sym at) ∙ is_prefix-refl (path_in line.path)) two.1)
+        by (parent m e s f) = absurd (true_not_false (is_prefix (path_in line.path) (path_in first.path)) (ap (λ (p : Path). is_prefix p (path_in first.path)) at ∙ s) two.1)
         by (below m e g d f) = impossible (sym none ∙ ap (λ xs. list_any is_erasure (parts xs)) f)
         by (set touching e t f) = impossible (sym two.0 ∙ touch_adjusts touching e)
         by (nothing f) = f

@@ -7,7 +7,7 @@ use Rattle.std.specs.FinMap as fin
 use Rattle.std.specs.List.{list_any, list_all, range_with_len}
 use Rattle.std.proofs.lemmas.Bool.{or_parts, or_right, or_cases, and_parts}
 use Rattle.pv_path.specs.Paths.{Path, same_path, is_prefix, has_staging, same_path-decides}
-use Rattle.pv_path.proofs.PathLaws.{same_path-refl, prefix_parts, prefix_whole}
+use Rattle.pv_path.proofs.PathLaws.{same_path-refl, prefix_parts, prefix_whole, is_prefix-take}
 use Rattle.pv_steps.specs.declared.object.Object.{Object}
 use Rattle.pv_steps.specs.Trees.{Files, places}
 use Rattle.pv_steps.proofs.StepLaws.{places-tabulate, among_keys}
@@ -19,8 +19,7 @@ use Rattle.pv_dress.proofs.OperationLaws.{run-twice}
 use Rattle.pv_lines.specs.declared.line.Line.{Line}
 use Rattle.pv_walk.specs.Listing.{times}
 use Rattle.pv_walk.proofs.CountLaws.{times-filter, times-keys, same_or_not}
-use Rattle.pv_walk.proofs.PreparingLaws.{prefix_take}
-use Rattle.pv_walk.proofs.RemovalLaws.{apart, zero_or_more}
+use Rattle.pv_walk.proofs.RemovalLaws.{zero_or_more}
 use Rattle.pv_table.specs.declared.deed.Deed.{Deed}
 use Rattle.pv_table.specs.declared.deed.Deed.TheVariants.{Touch}
 use Rattle.pv_table.specs.declared.deed.Touching.{Touching}
@@ -35,6 +34,7 @@ use Rattle.pv_laws.proofs.Comparing.{become-bare}
 use Rattle.pv_laws.proofs.Making.{IsShaped, dir_there}
 use Rattle.pv_laws.proofs.Prepared.{bare_some}
 use Rattle.pv_laws.proofs.Sets.{impossible, is_adjustment, adjusted_none, asked, sets_adjust, deep_repeatable}
+use Rattle.pv_path.proofs.Tests.{same_tests, true_not_false, none_of}
 
 -- ---- a turn that is not refused
 
@@ -42,16 +42,12 @@ use Rattle.pv_laws.proofs.Sets.{impossible, is_adjustment, adjusted_none, asked,
 pub turn_open : (now : ℕ) (line : Line) (path : Path) (t : Files) → refused_at line path (places t) ≡ None → turn_after now line path t ≡ carried_out now (asks line) path t
 turn_open now line path t e = rw e
 
-none_there : {A : Type 0} (o : Option A) → is_some o ≡ false → o ≡ None
-none_there None e = refl
-none_there (Some x) e = impossible (sym e)
-
 -- the first of several turns, and those after it
 pub first_turn : (now : ℕ) (line : Line) (path : Path) (paths : List Path) (t : Files) → one_is_refused (by_turn now line) (path ∷ paths) t ≡ false
     → (refused_at line path (places t) ≡ None) × (one_is_refused (by_turn now line) paths (turn_after now line path t) ≡ false)
 first_turn now line path paths t quiet =
     let two = or_parts (is_some (refused_at line path (places t))) (one_is_refused (by_turn now line) paths (turn_after now line path t)) quiet in
-    (none_there (refused_at line path (places t)) two.0, two.1)
+    (none_of (refused_at line path (places t)) two.0, two.1)
 
 -- ---- one turn
 
@@ -174,7 +170,7 @@ any_kept f g q (x ∷ xs) le kept h = elim (same_or_not x q) [
     by true e = ap (λ b. f x || b) e ∙ elim (f x) as (λ b. (b || true) ≡ true) [ true ↦ refl | false ↦ refl ]
     by false e = e
 
-kept_any : (f g : Path → Bool) (xs : List Path) → list_any f (filter g xs) ≡ true → (p : Path) × (g p ≡ true) × (f p ≡ true)
+pub kept_any : (f g : Path → Bool) (xs : List Path) → list_any f (filter g xs) ≡ true → (p : Path) × (g p ≡ true) × (f p ≡ true)
 kept_any f g [] h = impossible h
 kept_any f g (x ∷ xs) h = by (g x) refl (kept_any f g xs) h
   where
@@ -185,11 +181,6 @@ kept_any f g (x ∷ xs) h = by (g x) refl (kept_any f g xs) h
         at : (c : Bool) → f x ≡ c → (c || list_any f (filter g xs)) ≡ true → (p : Path) × (g p ≡ true) × (f p ≡ true)
         at true k j = (x, e, k)
         at false k j = later j
-
-pub same_tests : (a b : Bool) → (a ≡ true → b ≡ true) → (b ≡ true → a ≡ true) → a ≡ b
-same_tests true b f g = sym (f refl)
-same_tests false true f g = g refl
-same_tests false false f g = refl
 
 -- ---- a line at all paths that it names
 
@@ -246,7 +237,7 @@ module _ (now : ℕ) (line : Line) (touching : Touching) (e : asks line ≡ Touc
               shorter = at (zero_or_more (length q - length found.0))
                 where
                   at : (length q - length found.0 ≡ 0) ⊎ (1 ≤ length q - length found.0) → length found.0 < 0 + length q
-                  at (inl z) = absurd (apart (same_path found.0 q) ((same_path-decides found.0 q).1 (prefix_whole found.0 q above (omega (arith, z)))) d)
+                  at (inl z) = absurd (true_not_false (same_path found.0 q) ((same_path-decides found.0 q).1 (prefix_whole found.0 q above (omega (arith, z)))) d)
                   at (inr m) = omega (arith, m)
 
       from_touches : touches line touching q ≡ true → list_any (λ p. is_touched touching p q) named ≡ true
@@ -254,14 +245,14 @@ module _ (now : ℕ) (line : Line) (touching : Touching) (e : asks line ≡ Touc
         where
           by : (names line q ≡ true) ⊎ ((touching.deep && names_above line q && not (has_staging q)) ≡ true) → list_any (λ p. is_touched touching p q) named ≡ true
           by (inl own) = any_kept (λ p. is_touched touching p q) (names line) q (fin.keys t) (listed q there) own (ap (λ b. b || (touching.deep && is_prefix q q && not (has_staging q))) (same_path-refl q))
-          by (inr below) = any_kept (λ p. is_touched touching p q) (names line) (take found.0 q) (fin.keys t) (listed (take found.0 q) present) found.3 (reaches_below (take found.0 q) (prefix_take found.0 q))
+          by (inr below) = any_kept (λ p. is_touched touching p q) (names line) (take found.0 q) (fin.keys t) (listed (take found.0 q) present) found.3 (reaches_below (take found.0 q) (is_prefix-take found.0 q))
             where
               found : (k : ℕ) × (0 ≤ k) × (k < 0 + length q) × (names line (take k q) ≡ true)
               found = in_range (λ k. names line (take k q)) 0 (length q) (and_parts touching.deep (names_above line q) (and_parts (touching.deep && names_above line q) (not (has_staging q)) below).0).1
 
               present : is_some (bares_of (places t) (take found.0 q)) ≡ true
               present = dir_there (bares_of (places t) (take found.0 q)) (
-                  shape.above (take found.0 q) q plain (prefix_take found.0 q) (λ same. (let l = ap length same in let short = found.2 in omega (arith, l, short, length-take found.0 q))) there)
+                  shape.above (take found.0 q) q plain (is_prefix-take found.0 q) (λ same. (let l = ap length same in let short = found.2 in omega (arith, l, short, length-take found.0 q))) there)
 
       any_touches : list_any (λ p. is_touched touching p q) named ≡ touches line touching q
       any_touches = same_tests (list_any (λ p. is_touched touching p q) named) (touches line touching q) to_touches from_touches

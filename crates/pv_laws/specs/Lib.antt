@@ -3,3 +3,4 @@ pub mod Stopping
 pub mod CarryingOut
 pub mod Between
 pub mod Copying
+pub mod Swept

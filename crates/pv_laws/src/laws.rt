@@ -1,9 +1,9 @@
 //! Laws of what lines leave. Each function does nothing; its contract is the law.
-ghost use Rattle.std.specs.Prelude.{◌≡◌, ◌≢◌, ℕ, Bool, List, [], ◌∷◌, take, length, Option, Some, true, false};
+ghost use Rattle.std.specs.Prelude.{◌≡◌, ℕ, Bool, List, [], ◌∷◌, take, length, Option, Some, true, false};
 ghost use Rattle.std.specs.FinMap as fin;
 ghost use Rattle.std.specs.List.{list_any, AllByRecursion};
-ghost use Rattle.pv_path.specs.Paths.{Path, has_names, is_prefix, has_staging, staging_of};
-ghost use Rattle.pv_steps.specs.Trees.{Files, places, IsTree, IsAbsentIn};
+ghost use Rattle.pv_path.specs.Paths.{Path, has_names, is_prefix, has_staging};
+ghost use Rattle.pv_steps.specs.Trees.{Files, places, IsTree};
 ghost use Rattle.pv_steps.specs.Same.{Same};
 ghost use Rattle.pv_dress.specs.declared.bare.Bare.{Bare as BareValue};
 ghost use Rattle.pv_dress.specs.Nodes.{bares_of};
@@ -11,22 +11,20 @@ ghost use Rattle.pv_dress.specs.Operations.{run};
 ghost use Rattle.pv_dress.specs.Reasons as reasons;
 ghost use Rattle.pv_lines.specs.declared.line.Line.{Line as LineValue};
 ghost use Rattle.pv_lines.specs.Lines.{IsLine};
-ghost use Rattle.pv_table.specs.declared.deed.Deed.TheVariants.{Create, Copy};
-ghost use Rattle.pv_table.specs.declared.deed.Copying.{Copying as CopyingValue};
-ghost use Rattle.pv_table.specs.declared.deed.Making.{Making as MakingValue};
 ghost use Rattle.pv_table.specs.Active.{active, are_distinct, in_create_order};
 ghost use Rattle.pv_table.specs.Asked.{operations, operations_of};
 ghost use Rattle.pv_table.specs.Asking.{asks};
 ghost use Rattle.pv_table.specs.Created.{after_each, by_line, created, created_messages, one_is_refused, IsQuiet};
 ghost use Rattle.pv_table.specs.Pointwise.{Bares, state};
-ghost use Rattle.pv_table.specs.Reaching.{governs, path_in};
+ghost use Rattle.pv_table.specs.Reaching.{governs};
 ghost use Rattle.pv_table.specs.Repeatable.{IsAt, IsRepeatable};
 ghost use Rattle.pv_table.specs.Turns.{copied};
 ghost use Rattle.pv_laws.specs.Between.{IsOnTheWay};
-ghost use Rattle.pv_laws.specs.CarryingOut.{AreApart, IsCarriedOut};
+ghost use Rattle.pv_laws.specs.CarryingOut.{AreApart};
 ghost use Rattle.pv_laws.specs.Copying.{PartwayOf, StoppedRuns};
 ghost use Rattle.pv_laws.specs.Moments.{SameBares, Agree};
 ghost use Rattle.pv_laws.specs.Stopping.{CopiesNothing, IsPiece, Partway};
+ghost use Rattle.pv_laws.specs.Swept.{LeavesNoStagingName};
 
 /// What a line that is refused at no turn leaves at a path depends on what stood at this path alone: it is what the
 /// operations that the line asks for there make of it; stamps and staging names aside.
@@ -140,14 +138,8 @@ pub fn what_no_line_governs_stays()
 /// A whole run leaves nothing at the staging names along the path of a line that makes or copies an object and was
 /// refused at no turn, where what it copies was there, whatever earlier runs have left there.
 pub fn a_run_leaves_no_staging_name()
-    ensures made { (lines : List LineValue) (line : LineValue) (making : MakingValue) (now : ℕ) (t : Files)
-        (place : Path) → AllByRecursion IsLine lines → IsCarriedOut line (in_create_order lines) now t
-        → asks line ≡ Create making → is_prefix place (path_in line.path) ≡ true → place ≢ []
-        → IsAbsentIn (places (created lines now t)) (staging_of place) }
-    ensures copied { (lines : List LineValue) (line : LineValue) (copying : CopyingValue) (now : ℕ) (t : Files)
-        (place : Path) → AllByRecursion IsLine lines → IsCarriedOut line (in_create_order lines) now t
-        → asks line ≡ Copy copying → is_prefix place (path_in line.path) ≡ true → place ≢ []
-        → IsAbsentIn (places (created lines now t)) (staging_of place) }
+    ensures { (lines : List LineValue) (now : ℕ) (t : Files) → AllByRecursion IsLine lines
+        → LeavesNoStagingName lines now t (created lines now t) }
 {}
 
 /// The definition of what lines leave at each path by itself gives what they leave, after each number of lines, where

@@ -34,10 +34,10 @@ use Rattle.pv_table.specs.Active.{in_create_order}
 use Rattle.pv_table.specs.Cleaned.{is_aged, may_go}
 use Rattle.pv_table.specs.Reaching.{governs}
 use Rattle.pv_table.specs.Removed.{covers, files_without, is_gone, is_purged, purges}
-use Rattle.pv_walk.proofs.RemovalLaws.{apart}
 use Rattle.pv_phases.specs.Phases.{left_by, on_way, phases_course}
 use Rattle.pv_phases.specs.declared.phase.Phase.{Phase}
 use Rattle.pv_phases.specs.declared.phase.Phase.TheVariants.{Remove, Clean, Create, Purge}
+use Rattle.pv_path.proofs.Tests.{true_not_false}
 
 -- ---- a tree from which paths are gone
 
@@ -68,7 +68,7 @@ module _ (test : Path → Bool) (change : Object → Object) (keeps : (o : Objec
     above = λ p q plain under other there.
         let stays = kept_there goes change keeps t q there in
         let was : is_some (bares_of (places t) q) ≡ true = sym (ap is_some (kept_bare goes change keeps t q stays)) ∙ there in
-        let over : goes p ≡ false = false_from_ne_true (goes p) (λ h. apart (goes q) (goes_below test t p q h under (sym (bare_some (places t q)) ∙ was)) stays) in
+        let over : goes p ≡ false = false_from_ne_true (goes p) (λ h. true_not_false (goes q) (goes_below test t p q h under (sym (bare_some (places t q)) ∙ was)) stays) in
         ap is_dir (kept_bare goes change keeps t p over) ∙ shape.above p q plain under other was;
     plain = λ q x unstaged e dir. shape.plain q x unstaged (sym (kept_bare goes change keeps t q (kept_there goes change keeps t q (ap is_some e))) ∙ e) dir;
     named = λ q unstaged there. shape.named q unstaged (sym (ap is_some (kept_bare goes change keeps t q (kept_there goes change keeps t q there))) ∙ there);
@@ -91,13 +91,13 @@ module _ (lines : List Line) (are : AllByRecursion IsLine lines) (now : ℕ) whe
   module _ (q : Path) (plain : has_staging q ≡ false) (free : list_any (λ line. governs line q) lines ≡ false) where
     -- what no line governs does not go
     not_gone : (t : Files) → is_gone lines t q ≡ false
-    not_gone t = false_from_ne_true (is_gone lines t q) (λ h. apart (list_any (λ line. governs line q) lines) (removed_governed lines t q are h) free)
+    not_gone t = false_from_ne_true (is_gone lines t q) (λ h. true_not_false (list_any (λ line. governs line q) lines) (removed_governed lines t q are h) free)
 
     not_aged : (t : Files) → is_aged lines now t q ≡ false
-    not_aged t = false_from_ne_true (is_aged lines now t q) (λ h. apart (list_any (λ line. governs line q) lines) (aged_governed lines now t q h) free)
+    not_aged t = false_from_ne_true (is_aged lines now t q) (λ h. true_not_false (list_any (λ line. governs line q) lines) (aged_governed lines now t q h) free)
 
     not_purged : (t : Files) → is_purged lines t q ≡ false
-    not_purged t = false_from_ne_true (is_purged lines t q) (λ h. apart (list_any (λ line. governs line q) lines) (purged_governed lines t q are h) free)
+    not_purged t = false_from_ne_true (is_purged lines t q) (λ h. true_not_false (list_any (λ line. governs line q) lines) (purged_governed lines t q are h) free)
 
     -- on its way
     way_stays : (phase : Phase) (t u : Files) → IsShaped (bares_of (places t)) → on_way lines now phase t u → bares_of (places u) q ≡ bares_of (places t) q

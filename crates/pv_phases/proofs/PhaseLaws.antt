@@ -9,7 +9,7 @@ use Rattle.pv_create.proofs.LineLaws.{line_start}
 use Rattle.pv_doing.specs.Courses.{Partway, IsStepOfSome, carried_of}
 use Rattle.pv_doing.specs.declared.carried.Carried.{Carried}
 use Rattle.pv_doing.specs.declared.carried.Carried.TheVariants.{Whole}
-use Rattle.pv_doing.proofs.CourseLaws.{Going, going_start, going_next, next_left, none_left, one_within, one_part, partway_start, end_whole, end_said, end_part, end_refused, end_acted}
+use Rattle.pv_doing.proofs.CourseLaws.{Going, going_start, going_next, none_left, one_within, one_part, partway_start, end_whole, end_said, end_part, end_refused, end_acted}
 use Rattle.pv_create.specs.Mended.{IsMended}
 use Rattle.pv_dress.proofs.OperationLaws.{bares-same}
 use Rattle.pv_laws.proofs.Moments.{created_same}
@@ -18,7 +18,6 @@ use Rattle.pv_steps.specs.Same.{Same}
 use Rattle.pv_dress.specs.Edits.{Pruned}
 use Rattle.pv_lines.specs.declared.line.Line.{Line}
 use Rattle.pv_remove.proofs.RunLaws.{removal_mended, purge_mended}
-use Rattle.pv_remove.proofs.TakeLaws.{pruned_start}
 use Rattle.pv_steps.specs.Acting.{refused, Acted}
 use Rattle.pv_steps.specs.Content.{Removes}
 use Rattle.pv_steps.specs.declared.step.Step.{Step}
@@ -37,14 +36,16 @@ use Rattle.pv_text.proofs.SaidLaws.{back_of, front_of}
 use Rattle.pv_phases.specs.Phases.{HasSaidStopped, IsMendedBy, IsSaidAtWork, IsSaidStopped, is_step_of, left_by, most_steps_of, falls_short, on_way, phases_course, said_in}
 use Rattle.pv_phases.specs.declared.phase.Phase.{Phase}
 use Rattle.pv_phases.specs.declared.phase.Phase.TheVariants.{Remove, Clean, Create, Purge}
+use Rattle.pv_path.proofs.Tests.{next_item}
+use Rattle.pv_walk.proofs.SweepLaws.{pruned-none}
 
 -- ---- nothing done
 
 pub phase_start : (lines : List Line) (now : ℕ) (phase : Phase) (t : Files) → on_way lines now phase t t
-phase_start lines now Remove t = pruned_start (is_gone lines t) t
-phase_start lines now Clean t = pruned_start (is_aged lines now t) t
+phase_start lines now Remove t = pruned-none (is_gone lines t) t
+phase_start lines now Clean t = pruned-none (is_aged lines now t) t
 phase_start lines now Create t = partway_start (lines_course now) (line_start now) (in_create_order lines) t
-phase_start lines now Purge t = pruned_start (is_purged lines t) t
+phase_start lines now Purge t = pruned-none (is_purged lines t) t
 
 -- a create run that has done nothing is mended
 nothing_mended : (lines : List Line) (now : ℕ) (t : Files) (h : List Step) → IsMended lines now t (drop (length h) h)
@@ -65,14 +66,14 @@ module _ (lines : List Line) (now : ℕ) (t : Files) (h : List Step) (fits : now
   one_none : (phase : Phase) → IsMendedBy (phase ∷ []) lines now t (drop (length h) h)
   one_none Remove =
       removal_mended lines (Removes (is_gone lines t)) now t h t h fits tree
-      (ran_none (Pruned (is_gone lines t) t) (Removes (is_gone lines t)) now t h t h (pruned_start (is_gone lines t) t) refl refl)
+      (ran_none (Pruned (is_gone lines t) t) (Removes (is_gone lines t)) now t h t h (pruned-none (is_gone lines t) t) refl refl)
   one_none Clean =
       takes_only (is_aged lines now t) t (IsCleanStep (is_aged lines now t) t) now h t h
-      (ran_none (Pruned (is_aged lines now t) t) (IsCleanStep (is_aged lines now t) t) now t h t h (pruned_start (is_aged lines now t) t) refl refl)
+      (ran_none (Pruned (is_aged lines now t) t) (IsCleanStep (is_aged lines now t) t) now t h t h (pruned-none (is_aged lines now t) t) refl refl)
   one_none Create = nothing_mended lines now t h
   one_none Purge =
       purge_mended lines (Removes (is_purged lines t)) now t h t h fits tree
-      (ran_none (Pruned (is_purged lines t) t) (Removes (is_purged lines t)) now t h t h (pruned_start (is_purged lines t) t) refl refl)
+      (ran_none (Pruned (is_purged lines t) t) (Removes (is_purged lines t)) now t h t h (pruned-none (is_purged lines t) t) refl refl)
 
   pub none_mended : (phases : List Phase) → IsMendedBy phases lines now t (drop (length h) h)
   none_mended [] = tt
@@ -140,7 +141,7 @@ module _ {S : Type 0} (tree : Ghosts S) (moves : Moves tree) (lines : List Line)
     rest = drop (i + 1) all
 
     next : drop i all ≡ phase ∷ rest
-    next = next_left all i phase within is
+    next = next_item all i phase within is
 
     going : Going (phases_course lines now) tree all (phase ∷ rest) now run.refused a b old new
     going = subst (λ ps. Going (phases_course lines now) tree all ps now run.refused a b old new) next run.going

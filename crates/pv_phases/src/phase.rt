@@ -9,6 +9,7 @@ ghost use Rattle.pv_steps.specs.Acting.{Acted};
 ghost use Rattle.pv_table.specs.Created.{after_each, said_of_each, one_is_refused, taken_by_each};
 ghost use Rattle.pv_text.specs.Said.{SaidPart};
 ghost use Rattle.pv_phases.specs.Phases.{asked, falls_short, HasSaidStopped, is_step_of, IsMendedBy, left_by, most_steps_of, on_way, phases_course, phases_of, said_in};
+ghost use Rattle.pv_phases.specs.Swept.{IsSweptBy};
 
 use pv_clean::clean_run;
 use pv_create::create_run;
@@ -74,6 +75,7 @@ pub fn run_phases<T: Tree>(
         ≡ messages.old ++ said_of_each (phases_course table.now now).whole phases.now (T.state tree.old)) }
     ensures carried { IfOk result (λ c. c
         ≡ carried_of (one_is_refused (phases_course table.now now).whole phases.now (T.state tree.old))) }
+    ensures staged { OnOk result (IsSweptBy phases.now table.now now (T.state tree.old) (T.state tree.new)) }
     ensures part { SaidPart (said_of_each (phases_course table.now now).whole phases.now (T.state tree.old))
         messages.old messages.new }
     ensures stopped { IsErrOf result Failed

@@ -2,6 +2,7 @@ use Rattle.std.proofs.Common.{List, drop, inl, length, refl, subst}
 use Rattle.pv_accounts_run.specs.Accounted.{edits_at}
 use Rattle.pv_accounts_run.specs.Carrying.{AccountWay, IsAccountStep}
 use Rattle.pv_accounts_run.proofs.MendedLaws.{none_mended, run_mended}
+use Rattle.pv_accounts_run.proofs.SweptLaws.{accounts_leave_none}
 use Rattle.pv_dress.proofs.EditLaws.{same-refl}
 use Rattle.pv_requests.specs.declared.request.Request.{Request}
 use Rattle.pv_steps.specs.Runs.{Ran}
@@ -50,6 +51,27 @@ returns-clause-ok g c =
     }) in
     ended_ok tree c.args.options.now c.args.facts.now c.args.moment a b c.args.messages.now c.read_requests.new.messages c.accounts_run-answer.new.messages c.ended.new.messages c.in_ok-read.read.missing c.in_ok-read.read.invalid
     c.in_ok-read.ensures.said c.accounts_run-answer.result c.ended.result finished c.ended.ensures
+
+pub returns-clause-staged : goal.returns-clause-staged
+returns-clause-staged g c =
+    let tree = g.T.Tree in
+    let a = c.args.tree.now in
+    let b = c.accounts_run-answer.new.tree in
+    let finished : Finished tree (run_requests c.args.options.now c.args.facts.now (tree.state a)) c.args.moment a b c.read_requests.new.messages c.accounts_run-answer.new.messages c.accounts_run-answer.result =
+    subst (λ (rs : List Request). Finished tree rs c.args.moment a b c.read_requests.new.messages c.accounts_run-answer.new.messages c.accounts_run-answer.result) c.in_ok-read.ensures.lines (record {
+      ok = c.accounts_run-answer.ensures.ok;
+      said = c.accounts_run-answer.ensures.said;
+      carried = c.accounts_run-answer.ensures.carried;
+      enough = c.accounts_run-answer.ensures.enough;
+      lacking = c.accounts_run-answer.ensures.lacking;
+      lacking_said = c.accounts_run-answer.ensures.lacking_said;
+      lacking_idle = c.accounts_run-answer.ensures.lacking_idle;
+      part = c.accounts_run-answer.ensures.part;
+      acted = c.accounts_run-answer.ensures.acted;
+    }) in
+    accounts_leave_none (run_requests c.args.options.now c.args.facts.now (tree.state a)) c.args.moment (tree.state a) c.look-root.ensures.tree c.ended.result (tree.state b)
+    (ended_ok tree c.args.options.now c.args.facts.now c.args.moment a b c.args.messages.now c.read_requests.new.messages c.accounts_run-answer.new.messages c.ended.new.messages c.in_ok-read.read.missing c.in_ok-read.read.invalid
+    c.in_ok-read.ensures.said c.accounts_run-answer.result c.ended.result finished c.ended.ensures)
 
 pub returns-clause-said : goal.returns-clause-said
 returns-clause-said g c =

@@ -7,6 +7,7 @@ use Rattle.pv_steps.proofs.ActingLaws.{Moves, no_memory, acted_ended, acted_none
 use Rattle.pv_table.specs.Created.{after_each, said_of_each, one_is_refused, taken_by_each}
 use Rattle.pv_text.specs.Said.{SaidPart}
 use Rattle.pv_phases.specs.Phases.{HasSaidStopped, IsMendedBy, phases_course, phases_of}
+use Rattle.pv_phases.specs.Swept.{IsSweptBy}
 use Rattle.pv_create.specs.OnTheWay.{IsFramed}
 use Rattle.pv_phases.specs.declared.phase.Phase.{Phase}
 use Rattle.provision_run.specs.Ending.{end_of, is_uncarried}
@@ -112,6 +113,12 @@ returns-clause-ok g c =
     let t = g.T.Tree.state c.args.tree.now in
     let now = c.args.moment in
     both (λ (lines : List Line) (phases : List Phase). g.T.Tree.state c.run_phases.new.tree ≡ after_each (phases_course lines now).whole phases t) c.in_ok-read.ensures.lines (c.deref.ensures.value ∙ c.in_ok-phases.ensures) c.in_ok-carried.ensures.ok
+
+pub returns-clause-staged : goal.returns-clause-staged
+returns-clause-staged g c =
+    let t = g.T.Tree.state c.args.tree.now in
+    let now = c.args.moment in
+    both (λ (lines : List Line) (phases : List Phase). IsSweptBy phases lines now t (g.T.Tree.state c.run_phases.new.tree)) c.in_ok-read.ensures.lines (c.deref.ensures.value ∙ c.in_ok-phases.ensures) c.in_ok-carried.ensures.staged
 
 pub returns-clause-said : goal.returns-clause-said
 returns-clause-said g c =

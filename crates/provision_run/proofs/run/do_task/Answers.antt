@@ -1,6 +1,6 @@
 use Rattle.std.proofs.Common.{drop, length, refl, sym}
 use Rattle.pv_steps.proofs.ActingLaws.{Moves, no_memory}
-use Rattle.provision_run.proofs.TaskLaws.{accounts_acted, accounts_anew, accounts_ended, accounts_framed, accounts_left, accounts_mended, accounts_part, accounts_said, accounts_stopped, phases_acted, phases_anew, phases_ended, phases_framed, phases_left, phases_mended, phases_part, phases_said, phases_stopped, report_acted, report_anew, report_ended, report_framed, report_left, report_mended, report_part, report_said}
+use Rattle.provision_run.proofs.TaskLaws.{accounts_acted, accounts_anew, accounts_ended, accounts_framed, accounts_left, accounts_mended, accounts_part, accounts_said, accounts_staged, accounts_stopped, phases_acted, phases_anew, phases_ended, phases_framed, phases_left, phases_mended, phases_part, phases_said, phases_staged, phases_stopped, report_acted, report_anew, report_ended, report_framed, report_left, report_mended, report_part, report_said, report_staged}
 use Rattle.provision_run.proofs.run.do_task.Goals as goal
 
 pub returns-in-Phases-clause-ok : goal.returns-in-Phases-clause-ok
@@ -14,6 +14,10 @@ returns-in-Phases-clause-said g c =
 pub returns-in-Phases-clause-end : goal.returns-in-Phases-clause-end
 returns-in-Phases-clause-end g c =
     phases_ended c.args.options.now c.args.facts.now c.args.moment (g.T.Tree.state c.args.tree.now) c.args.task (sym c.in-Phases.is) c.carry_out.result c.carry_out.ensures.end
+
+pub returns-in-Phases-clause-staged : goal.returns-in-Phases-clause-staged
+returns-in-Phases-clause-staged g c =
+    phases_staged c.args.options.now c.args.facts.now c.args.moment (g.T.Tree.state c.args.tree.now) c.args.task (sym c.in-Phases.is) c.carry_out.result (g.T.Tree.state c.carry_out.new.tree) c.carry_out.ensures.staged
 
 pub returns-in-Phases-clause-part : goal.returns-in-Phases-clause-part
 returns-in-Phases-clause-part g c =
@@ -50,6 +54,10 @@ returns-in-Accounts-clause-said g c =
 pub returns-in-Accounts-clause-end : goal.returns-in-Accounts-clause-end
 returns-in-Accounts-clause-end g c =
     accounts_ended c.args.options.now c.args.facts.now c.args.moment (g.T.Tree.state c.args.tree.now) c.args.task (sym c.in-Accounts.is) c.make_accounts.result c.make_accounts.ensures.end
+
+pub returns-in-Accounts-clause-staged : goal.returns-in-Accounts-clause-staged
+returns-in-Accounts-clause-staged g c =
+    accounts_staged c.args.options.now c.args.facts.now c.args.moment (g.T.Tree.state c.args.tree.now) c.args.task (sym c.in-Accounts.is) c.make_accounts.result (g.T.Tree.state c.make_accounts.new.tree) c.make_accounts.ensures.staged
 
 pub returns-in-Accounts-clause-part : goal.returns-in-Accounts-clause-part
 returns-in-Accounts-clause-part g c =
@@ -107,6 +115,10 @@ returns-in_ok-report_run-in-Report-clause-said g c =
 pub returns-in_ok-report_run-in-Report-clause-end : goal.returns-in_ok-report_run-in-Report-clause-end
 returns-in_ok-report_run-in-Report-clause-end g c =
     report_ended c.args.options.now c.args.facts.now c.args.moment (g.T.Tree.state c.args.tree.now) c.args.task (sym c.in-Report.is) c.in_ok-report_run-in-Report.field-0 c.in_ok-report_run-in-Report.ensures.end
+
+pub returns-in_ok-report_run-in-Report-clause-staged : goal.returns-in_ok-report_run-in-Report-clause-staged
+returns-in_ok-report_run-in-Report-clause-staged g c =
+    report_staged c.args.options.now c.args.facts.now c.args.moment (g.T.Tree.state c.args.tree.now) c.args.task (sym c.in-Report.is) (g.T.Tree.state c.args.tree.now)
 
 pub returns-in_ok-report_run-in-Report-clause-part : goal.returns-in_ok-report_run-in-Report-clause-part
 returns-in_ok-report_run-in-Report-clause-part g c =

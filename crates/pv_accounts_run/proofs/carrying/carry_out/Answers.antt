@@ -5,11 +5,11 @@ use Rattle.pv_steps.proofs.ActingLaws.{Moves, acted_end, acted_passed, acted_the
 use Rattle.pv_dress.specs.Edits.{Pruned, all_taken}
 use Rattle.pv_walk.specs.Preparing.{with_parent}
 use Rattle.pv_walk.specs.Staging.{count_at_all, is_under_any, most_new}
-use Rattle.pv_walk.proofs.Outcomes.{on_ok}
 use Rattle.pv_accounts_run.specs.Edits.{etc, most_edited, with_edit}
 use Rattle.pv_accounts_run.specs.Carrying.{AccountWay, IsAccountStep, most_put, swept_names}
 use Rattle.pv_accounts_run.proofs.CarryingLaws.{files_swept, frees_swept, most_some, pass_swept, put_after, swept_acted, swept_same, with_some}
 use Rattle.pv_accounts_run.proofs.carrying.carry_out.Goals as goal
+use Rattle.pv_path.proofs.Tests.{on_ok}
 
 pub returns-in_err-sweep_all-clause-acted : goal.returns-in_err-sweep_all-clause-acted
 returns-in_err-sweep_all-clause-acted g c =

@@ -6,12 +6,13 @@ use Rattle.pv_steps.proofs.ActingLaws.{Moves, acted_passed, acted_then, acted_wi
 use Rattle.pv_walk.specs.Putting.{Putting}
 use Rattle.pv_walk.specs.Preparing.{parent_file}
 use Rattle.pv_walk.specs.Staging.{most_new}
-use Rattle.pv_walk.proofs.Outcomes.{on_ok, acted-tree}
+use Rattle.pv_walk.proofs.Outcomes.{acted-tree}
 use Rattle.pv_accounts_run.specs.Edits.{IsFree, IsStaged, etc, most_edited, most_staged, with_edit, with_published}
 use Rattle.pv_accounts_run.specs.Carrying.{AccountWay, IsAccountStep, PutsDirectory}
 use Rattle.pv_accounts_run.proofs.StagingLaws.{published_all}
 use Rattle.pv_accounts_run.proofs.CarryingLaws.{IsNoDirectory, are_staged, directory_acted, directory_kept, files_put, frees_put, no_directories, published_acted, rooms, staged_acted}
 use Rattle.pv_accounts_run.proofs.carrying.put_all.Goals as goal
+use Rattle.pv_path.proofs.Tests.{on_ok}
 
 pub returns-in_err-put_directory-clause-acted : goal.returns-in_err-put_directory-clause-acted
 returns-in_err-put_directory-clause-acted g c =

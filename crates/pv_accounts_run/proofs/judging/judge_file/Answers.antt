@@ -1,9 +1,9 @@
 use Rattle.std.proofs.Common.{◌++◌, ◌∙◌, ap}
 use Rattle.pv_path.specs.Paths.{Path}
 use Rattle.pv_steps.specs.Trees.{places}
-use Rattle.pv_walk.proofs.Outcomes.{on_ok}
 use Rattle.pv_accounts_run.specs.Accounted.{unusable_text}
 use Rattle.pv_accounts_run.proofs.judging.judge_file.Goals as goal
+use Rattle.pv_path.proofs.Tests.{on_ok}
 
 pub returns : goal.returns
 returns g c =

@@ -2,7 +2,7 @@ use Rattle.std.proofs.Common.{◌≡◌, ◌++◌, ◌/◌, ℕ, List, Option, s
 use Rattle.std.specs.Prelude.{IsErrAnd}
 use Rattle.pv_steps.specs.Trees.{places}
 use Rattle.pv_text.specs.Said.{SaidPart}
-use Rattle.pv_sysusers.specs.declared.fault.PlanFault.{PlanFault}
+use Rattle.pv_sysusers.specs.declared.plan_fault.PlanFault.{PlanFault}
 use Rattle.pv_sysusers.specs.declared.path_ids.PathId.{PathId}
 use Rattle.pv_sysusers.specs.declared.planned.Texts.{Texts}
 use Rattle.pv_sysusers.specs.Deciding.{Told, ToldBy}

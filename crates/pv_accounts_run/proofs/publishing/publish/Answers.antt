@@ -8,12 +8,12 @@ use Rattle.pv_steps.proofs.StepLaws.{at_after}
 use Rattle.pv_steps.proofs.TreeLaws.{present_of_kind}
 use Rattle.pv_steps.proofs.ActingLaws.{acted_tried}
 use Rattle.pv_walk.specs.Removal.{MayHaveMoved}
-use Rattle.pv_walk.proofs.Outcomes.{on_ok}
 use Rattle.pv_walk.proofs.PublishLaws.{moved_differs}
 use Rattle.pv_walk.proofs.SweepLaws.{short_name}
 use Rattle.pv_accounts_run.specs.Edits.{PublishesEdit}
 use Rattle.pv_accounts_run.proofs.StagingLaws.{can_publish}
 use Rattle.pv_accounts_run.proofs.publishing.publish.Goals as goal
+use Rattle.pv_path.proofs.Tests.{on_ok}
 
 pub staging-requires-clause-short : goal.staging-requires-clause-short
 staging-requires-clause-short g c = short_name c.args.edit.now.path c.requires.edit.short

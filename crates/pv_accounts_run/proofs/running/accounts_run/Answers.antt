@@ -10,6 +10,7 @@ use Rattle.pv_accounts_run.specs.Carrying.{IsAccountStep}
 use Rattle.pv_accounts_run.specs.Running.{Lacks}
 use Rattle.pv_accounts_run.proofs.MendedLaws.{none_mended, run_mended}
 use Rattle.pv_accounts_run.proofs.RunningLaws.{nil_of, ok_accounted, some_accounted, some_lacking, some_said}
+use Rattle.pv_accounts_run.proofs.SweptLaws.{accounts_leave_none}
 use Rattle.pv_accounts_run.proofs.running.accounts_run.Goals as goal
 
 pub returns-in_err-say_unusable-clause-part : goal.returns-in_err-say_unusable-clause-part
@@ -47,11 +48,24 @@ returns-then-len-gt0-clause-part g c =
     let e = some_said c.args.requests.now (unusable_texts s) (plan_at c.args.requests.now c.args.now s).said some in
     subst (λ ys. SaidPart ys c.args.messages.now c.say_unusable.new.messages) (ap (λ ys. said_duplicates [] (lines_from [] 0 c.args.requests.now) ++ ys) c.in_ok-unusable.ensures ∙ sym e) c.say_unusable.ensures.part
 
+pub returns-then-len-gt0-clause-staged : goal.returns-then-len-gt0-clause-staged
+returns-then-len-gt0-clause-staged g c =
+    let t = g.T.Tree.state c.args.tree.now in
+    let some : 1 ≤ length (unusable_texts (places t)) = subst (λ ys. 1 ≤ length ys) c.in_ok-unusable.ensures (omega (arith, c.len.ensures, c.if-len-gt0.true)) in
+    λ usable enough. absurd (omega (arith, some, ap length usable))
+
 pub returns-clause-ok : goal.returns-clause-ok
 returns-clause-ok g c =
     let t = g.T.Tree.state c.args.tree.now in
     let none : unusable_texts (places t) ≡ [] = nil_of (unusable_texts (places t)) (subst (λ ys. length ys ≤ 0) c.in_ok-unusable.ensures (omega (arith, c.len.ensures, c.if-len-gt0.false))) in
     ok_accounted c.args.requests.now c.args.now t none c.run_usable.result (g.T.Tree.state c.run_usable.new.tree) c.run_usable.ensures.enough c.run_usable.ensures.ok
+
+pub returns-clause-staged : goal.returns-clause-staged
+returns-clause-staged g c =
+    let t = g.T.Tree.state c.args.tree.now in
+    let none : unusable_texts (places t) ≡ [] = nil_of (unusable_texts (places t)) (subst (λ ys. length ys ≤ 0) c.in_ok-unusable.ensures (omega (arith, c.len.ensures, c.if-len-gt0.false))) in
+    accounts_leave_none c.args.requests.now c.args.now t c.is_present-rooted.ensures.tree c.run_usable.result (g.T.Tree.state c.run_usable.new.tree)
+    (ok_accounted c.args.requests.now c.args.now t none c.run_usable.result (g.T.Tree.state c.run_usable.new.tree) c.run_usable.ensures.enough c.run_usable.ensures.ok)
 
 pub returns-clause-carried : goal.returns-clause-carried
 returns-clause-carried g c =

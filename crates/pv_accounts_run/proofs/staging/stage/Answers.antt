@@ -5,18 +5,18 @@ use Rattle.pv_steps.specs.Trees.{IsKindIn, places}
 use Rattle.pv_steps.specs.Steps.{HasRoom, made}
 use Rattle.pv_steps.specs.Acting.{Acted}
 use Rattle.pv_steps.proofs.ActingLaws.{Moves, acted_passed, acted_within}
-use Rattle.pv_dress.specs.Dressing.{CanWear, ChangedAt, Dressing, GivesDress, wear}
+use Rattle.pv_dress.specs.Dressing.{CanDress, ChangedAt, Dressing, GivesDress, dressed}
 use Rattle.pv_dress.specs.Edits.{SameOutside}
 use Rattle.pv_walk.specs.declared.new_file.NewFile.{NewFile}
 use Rattle.pv_walk.specs.Making.{held_object}
 use Rattle.pv_walk.specs.Staging.{GivesNew}
-use Rattle.pv_walk.proofs.Outcomes.{on_ok}
 use Rattle.pv_walk.proofs.StageLaws.{staged_room}
 use Rattle.pv_walk.proofs.SweepLaws.{short_name}
 use Rattle.pv_accounts_run.specs.Edits.{most_staged, new_file}
 use Rattle.pv_accounts_run.proofs.ActedLaws.{can_dress, dressed_acted, made_acted, staged_gives}
 use Rattle.pv_accounts_run.proofs.StagingLaws.{stage_some}
 use Rattle.pv_accounts_run.proofs.staging.stage.Goals as goal
+use Rattle.pv_path.proofs.Tests.{on_ok}
 
 pub staging-requires-clause-short : goal.staging-requires-clause-short
 staging-requires-clause-short g c = short_name c.args.edit.now.path c.requires.edit.short
@@ -48,7 +48,7 @@ dress-requires g c =
     c.in_ok-put_held.ensures.ok ∙ ap (λ (n : NewFile). made c.args.now c.in_ok-stage.stage (held_object n.what c.args.now) (places t)) c.in_ok-new.ensures
     ∙ ap (λ (p : Path). made c.args.now p (held_object (new_file edit).what c.args.now) (places t)) c.in_ok-stage.ensures
     in
-    subst (λ (p : Path). CanWear (g.T.Tree.state c.put_held.new.tree) p edit.dress) (sym c.in_ok-stage.ensures)
+    subst (λ (p : Path). CanDress (g.T.Tree.state c.put_held.new.tree) p edit.dress) (sym c.in_ok-stage.ensures)
     (can_dress edit c.requires.edit c.args.now t (g.T.Tree.state c.put_held.new.tree) is)
 
 pub returns-clause-ok : goal.returns-clause-ok
@@ -61,7 +61,7 @@ returns-clause-ok g c =
     ∙ ap (λ (p : Path). made c.args.now p (held_object (new_file edit).what c.args.now) (places t)) c.in_ok-stage.ensures
     in
     on_ok c.dress.result (λ h. staged_gives edit c.requires.edit c.args.now t u is (g.T.Tree.state c.dress.new.tree) h)
-    (subst (λ (p : Path). OnOk c.dress.result (ChangedAt (wear edit.dress) p c.args.now u (g.T.Tree.state c.dress.new.tree))) c.in_ok-stage.ensures c.dress.ensures.ok)
+    (subst (λ (p : Path). OnOk c.dress.result (ChangedAt (dressed edit.dress) p c.args.now u (g.T.Tree.state c.dress.new.tree))) c.in_ok-stage.ensures c.dress.ensures.ok)
 
 pub returns-clause-acted : goal.returns-clause-acted
 returns-clause-acted g c =

@@ -7,13 +7,13 @@ use Rattle.pv_steps.specs.Content.{Removes}
 use Rattle.pv_steps.proofs.ActingLaws.{Moves, acted_none, acted_within, acted_passed, acted_end, no_memory}
 use Rattle.pv_dress.specs.Edits.{Pruned, all_taken}
 use Rattle.pv_walk.specs.Staging.{can_stage, count_at_all, is_under_any, staging_names}
-use Rattle.pv_walk.proofs.Outcomes.{on_ok}
 use Rattle.pv_walk.proofs.SweepLaws.{pruned-none}
 use Rattle.pv_walk.proofs.PreparingSweep.{swept_along}
 use Rattle.pv_accounts_run.specs.Edits.{etc}
 use Rattle.pv_accounts_run.specs.Carrying.{IsSweptPath, account_paths, swept_names}
 use Rattle.pv_accounts_run.proofs.SweepingLaws.{all_swept, count_all, count_fewer, etc_among, swept_then, swept_within}
 use Rattle.pv_accounts_run.proofs.sweeping.sweep_all.Goals as goal
+use Rattle.pv_path.proofs.Tests.{on_ok}
 
 pub sweep-requires : goal.sweep-requires
 sweep-requires g c = subst (λ (p : Path). can_stage p ≡ true) (sym c.in_ok-etc.ensures) refl

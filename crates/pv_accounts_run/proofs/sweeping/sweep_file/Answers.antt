@@ -3,10 +3,10 @@ use Rattle.pv_steps.proofs.ActingLaws.{Moves, acted_within}
 use Rattle.pv_path.specs.Paths.{staging_of}
 use Rattle.pv_dress.specs.Edits.{count_at}
 use Rattle.pv_walk.specs.Staging.{count_at_all, is_under_any, staging_names}
-use Rattle.pv_walk.proofs.Outcomes.{on_ok}
 use Rattle.pv_walk.proofs.PreparingSweep.{swept_along}
 use Rattle.pv_accounts_run.proofs.SweepingLaws.{count_one, path_among, swept_within}
 use Rattle.pv_accounts_run.proofs.sweeping.sweep_file.Goals as goal
+use Rattle.pv_path.proofs.Tests.{on_ok}
 
 pub returns-clause-acted : goal.returns-clause-acted
 returns-clause-acted g c =

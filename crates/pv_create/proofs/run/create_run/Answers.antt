@@ -6,7 +6,7 @@ use Rattle.pv_table.specs.Active.{in_create_order}
 use Rattle.pv_create.specs.Ways.{lines_course}
 use Rattle.pv_create.proofs.CopyBridge.{mended, mended_again, stopped, between}
 use Rattle.pv_create.proofs.FrameWays.{framed}
-use Rattle.pv_create.proofs.RunLaws.{counting_says, counting_takes}
+use Rattle.pv_create.proofs.RunLaws.{counting_says, counting_takes, none_staged}
 use Rattle.pv_create.proofs.StepLaws.{given}
 use Rattle.pv_create.proofs.run.create_run.Goals as goal
 
@@ -22,6 +22,12 @@ returns-clause-said g c =
 
 pub returns-clause-carried : goal.returns-clause-carried
 returns-clause-carried g c = c.run_in_order.ensures.carried
+
+pub returns-clause-staged : goal.returns-clause-staged
+returns-clause-staged g c =
+    let now = c.args.now in
+    let t = g.T.Tree.state c.args.tree.now in
+    none_staged c.args.table.now c.requires.lines now t c.run_in_order.result (g.T.Tree.state c.run_in_order.new.tree) c.run_in_order.ensures.ok
 
 pub returns-clause-part : goal.returns-clause-part
 returns-clause-part g c =

@@ -1,12 +1,14 @@
-use Rattle.std.proofs.Common.{◌≡◌, ◌≤◌, length, get_or, arith, refl}
+use Rattle.std.proofs.Common.{◌≡◌, ◌≤◌, length, get_or, arith, refl, subst, sym}
 use Rattle.std.proofs.lemmas.List.{get_or_default}
 use Rattle.pv_doing.specs.Courses.{IsStepOfSome}
 use Rattle.pv_steps.proofs.ActingLaws.{Moves, acted_passed}
 use Rattle.pv_phases.specs.Phases.{falls_short, phases_course}
+use Rattle.pv_phases.specs.Swept.{IsSweptBy}
 use Rattle.pv_phases.specs.declared.phase.Phase.{Phase}
 use Rattle.pv_phases.specs.declared.phase.Phase.TheVariants.{Remove}
 use Rattle.pv_phases.proofs.FrameLaws.{phases_framed}
 use Rattle.pv_phases.proofs.PhaseLaws.{failed_before, phases_start, phases_part, phases_acted, phases_stopped, phases_mended, phases_next, phases_whole, phases_said, phases_told, phases_ended, phases_done}
+use Rattle.pv_phases.proofs.SweptLaws.{phases_swept}
 use Rattle.pv_phases.proofs.phase.run_phases.Goals as goal
 
 pub loop-phase-init : goal.loop-phase-init
@@ -88,6 +90,15 @@ returns-clause-carried g c =
     let moves : Moves g.T.Tree = record { stays = g.met.T.Tree.reaches_self; goes_on = g.met.T.Tree.reaches_on; never_falls = g.met.T.Tree.never_falls } in
     let past : length c.args.phases.now ≤ c.loop-phase.phase-index = omega (arith, c.loop-phase-test.false) in
     phases_ended g.T.Tree moves c.args.table.now c.args.now c.args.phases.now c.args.tree.now c.args.messages.now c.loop-phase.phase-index past c.loop-phase.carried c.loop-phase.tree c.loop-phase.messages c.loop-phase.invariant
+
+pub returns-clause-staged : goal.returns-clause-staged
+returns-clause-staged g c =
+    let moves : Moves g.T.Tree = record { stays = g.met.T.Tree.reaches_self; goes_on = g.met.T.Tree.reaches_on; never_falls = g.met.T.Tree.never_falls } in
+    let past : length c.args.phases.now ≤ c.loop-phase.phase-index = omega (arith, c.loop-phase-test.false) in
+    let t = g.T.Tree.state c.args.tree.now in
+    subst (IsSweptBy c.args.phases.now c.args.table.now c.args.now t)
+    (sym (phases_whole g.T.Tree moves c.args.table.now c.args.now c.args.phases.now c.args.tree.now c.args.messages.now c.loop-phase.phase-index past c.loop-phase.carried c.loop-phase.tree c.loop-phase.messages c.loop-phase.invariant))
+    (phases_swept c.args.table.now c.requires.lines c.args.now c.args.phases.now t)
 
 pub returns-clause-part : goal.returns-clause-part
 returns-clause-part g c =

@@ -1,6 +1,6 @@
 //! Why a run gave up.
 ghost use Rattle.std.specs.Prelude.{◌≡◌};
-ghost use Rattle.pv_accounts_run.specs.declared.fault.AccountsFault.TheVariants.{Memory};
+ghost use Rattle.pv_accounts_run.specs.declared.accounts_fault.AccountsFault.TheVariants.{Memory};
 
 use pv_path::Bytes;
 use std::alloc::{AllocError, AllocFailed};

@@ -6,8 +6,8 @@ use Rattle.pv_lines.specs.Lines.{IsLine}
 use Rattle.pv_conf.specs.Known.{configured}
 use Rattle.provision_run.specs.Phased.{listed_messages}
 use Rattle.pv_text.proofs.SaidLaws.{said_first, said_then}
-use Rattle.provision_run.proofs.RunLaws.{active_all}
-use Rattle.provision_run.proofs.reading.read_run.Goals as goal
+use Rattle.provision_run.proofs.run_input.read_run.Goals as goal
+use Rattle.pv_laws.proofs.Actives.{all_active}
 
 pub returns-in_err-read-clause-part : goal.returns-in_err-read-clause-part
 returns-in_err-read-clause-part g c =
@@ -23,7 +23,7 @@ returns-in_err-table-clause-part g c =
 pub returns-clause-whole : goal.returns-clause-whole
 returns-clause-whole g c =
     subst (AllByRecursion IsLine) (sym c.in_ok-table.ensures.table)
-    (active_all IsLine c.args.options.now.boot c.args.options.now.prefix c.args.options.now.exclude_prefix c.in_ok-read.read.lines c.in_ok-read.ensures.whole)
+    (all_active IsLine c.args.options.now.boot c.args.options.now.prefix c.args.options.now.exclude_prefix c.in_ok-read.read.lines c.in_ok-read.ensures.whole)
 
 pub returns-clause-part : goal.returns-clause-part
 returns-clause-part g c =
