@@ -47,7 +47,7 @@ fn place_in(names: &[u8], sought: u8, left: u32) -> Option<usize>
 }
 
 #[test]
-fn finds_names_by_halving(rt: HostRuntime) {
+fn finds_names_by_binary_search(rt: HostRuntime) {
     assert_eq!(rt; place_in(b"abc", b'b', 2), Some(1));
     assert_eq!(rt; place_in(b"abc", b'd', 2), None);
     assert_eq!(rt; place_in(b"", b'a', 0), None);

@@ -1,5 +1,5 @@
 use Rattle.std.proofs.Common.{refl, arith}
-use Rattle.pv_tree_rows.proofs.tree_tests.finds_names_by_halving.Goals as goal
+use Rattle.pv_tree_rows.proofs.tree_tests.finds_names_by_binary_search.Goals as goal
 
 pub place_in-requires-clause-rising : goal.place_in-requires-clause-rising
 place_in-requires-clause-rising g c = record { less = 1; equal = 1; greater = 1; once = omega arith; is = refl }
