@@ -1,5 +1,5 @@
 -- Counting the calls of a loop.
-use Rattle.std.proofs.Common.{◌≤◌, ◌+◌, ℕ, Option, None, Some, arith}
+use Rattle.std.proofs.Common.{◌<◌, ◌≤◌, ◌+◌, ℕ, Option, None, Some, arith}
 use Rattle.pv_io.specs.Calls.{CountsAtMost, CountsCall}
 
 pub CountsAtMost-none : (a : Option ℕ) → CountsAtMost 0 a a
@@ -17,3 +17,7 @@ pub CountsAtMost-more : (k l : ℕ) (a b : Option ℕ) → k ≤ l → CountsAtM
 CountsAtMost-more k l None b le p = tt
 CountsAtMost-more k l (Some n) None le p = absurd p
 CountsAtMost-more k l (Some n) (Some m) le p = omega arith
+
+-- a count that was below a bound is within it after one call more
+pub CountsAtMost-within : (k l : ℕ) (a b c : Option ℕ) → k < l → CountsAtMost k a b → CountsCall b c → CountsAtMost l a c
+CountsAtMost-within k l a b c less p q = CountsAtMost-more (k + 1) l a c (omega arith) (CountsAtMost-call k a b c p q)

@@ -1,5 +1,5 @@
 //! Whole transfers: all bytes of a source, all bytes into a sink.
-ghost use Rattle.std.specs.Prelude.{◌≡◌, ◌<◌, ◌≤◌, ◌+◌, ◌++◌, ◌⊎◌, ℕ, List, length, IfOk, IfSome, OnOk, OnErr, IsErrOf};
+ghost use Rattle.std.specs.Prelude.{◌≡◌, ◌<◌, ◌≤◌, ◌+◌, ◌++◌, ◌⊎◌, ℕ, List, length, nat_lt, IfOk, IfSome, OnOk, OnErr, IsErrOf};
 ghost use Rattle.std.specs.Io.KnownBytes.{Appends, Consumes, IsAtEnd};
 ghost use Rattle.pv_io.specs.Calls.{CountsAtMost, CountsCall};
 ghost use Rattle.pv_io.specs.Faults.{HasRisen};
@@ -41,11 +41,18 @@ pub fn read_all<S: Source>(alloc: Global, source: &mut S) -> Result<Vec<u8>, Rea
         if count == 0 {
             return Ok(content);
         }
-        if content.len() > MOST_BYTES {
+        if is_too_long(&content) {
             return Err(ReadAllFault::TooLong);
         }
     }
     unreachable!()
+}
+
+/// Whether a content has more bytes than it may have.
+fn is_too_long(content: &[u8]) -> bool
+    ensures { result ≡ nat_lt MOST_BYTES (length content.now) }
+{
+    content.len() > MOST_BYTES
 }
 
 /// Reads once, puts what came at the end of the content, and answers how many bytes came.
