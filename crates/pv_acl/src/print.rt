@@ -1,5 +1,5 @@
 //! The one text of an ACL.
-ghost use Rattle.std.specs.Prelude.{◌≡◌, Some, map, filter, fold, string_bytes, OnOk, IfOk, if◌then◌else◌};
+ghost use Rattle.std.specs.Prelude.{◌≡◌, ◌++◌, Some, map, filter, fold, string_bytes, OnOk, IfOk, if◌then◌else◌};
 ghost use Rattle.pv_acl.specs.Texts.{perm_text, who_text, named_text, default_text, is_of};
 ghost use Rattle.pv_acl.specs.Texts.{access_texts, default_texts, default_mask_texts, acl_text, or_dash, with_entry};
 
@@ -85,7 +85,7 @@ fn add_access(alloc: Global, text: &mut String, part: &Part) -> Result<(), Alloc
 {
     add_named(alloc, text, part.named.as_slice())?;
     if let Some(mask) = &part.mask {
-        add(text, format!(in alloc; "m::{mask}")?.as_str())?;
+        add_tagged(alloc, text, "m::", mask)?;
     }
     Ok(())
 }
@@ -105,16 +105,12 @@ fn add_part(alloc: Global, text: &mut String, part: &Part) -> Result<(), AllocEr
     ensures { let texts = default_texts (Some part.now) in
         OnOk result (string_bytes text.new ≡ fold with_entry (string_bytes text.old) texts) }
 {
-    let owner = &part.owner;
-    let group = &part.group;
-    let other = &part.other;
-    add(text, format!(in alloc; "d:u::{owner}")?.as_str())?;
+    add_tagged(alloc, text, "d:u::", &part.owner)?;
     add_chosen(alloc, text, &part.named, true)?;
-    add(text, format!(in alloc; "d:g::{group}")?.as_str())?;
+    add_tagged(alloc, text, "d:g::", &part.group)?;
     add_chosen(alloc, text, &part.named, false)?;
     add_default_mask(alloc, text, &part.mask)?;
-    add(text, format!(in alloc; "d:o::{other}")?.as_str())?;
-    Ok(())
+    add_tagged(alloc, text, "d:o::", &part.other)
 }
 
 /// Adds the mask of a default part, where it is explicit.
@@ -123,7 +119,7 @@ fn add_default_mask(alloc: Global, text: &mut String, mask: &Option<Perm>) -> Re
         OnOk result (string_bytes text.new ≡ fold with_entry (string_bytes text.old) texts) }
 {
     match mask {
-        Some(mask) => add(text, format!(in alloc; "d:m::{mask}")?.as_str()),
+        Some(mask) => add_tagged(alloc, text, "d:m::", mask),
         None => Ok(()),
     }
 }
@@ -174,6 +170,14 @@ fn add_named(alloc: Global, text: &mut String, named: &[Named]) -> Result<(), Al
         add(text, format!(in alloc; "{x}")?.as_str())?;
     }
     Ok(())
+}
+
+/// Adds an entry of a tag and a permission.
+fn add_tagged(alloc: Global, text: &mut String, tag: &str, perm: &Perm) -> Result<(), AllocError>
+    ensures { let entry = tag.now ++ perm_text perm.now in
+        OnOk result (string_bytes text.new ≡ with_entry (string_bytes text.old) entry) }
+{
+    add(text, format!(in alloc; "{tag}{perm}")?.as_str())
 }
 
 /// Adds an entry, after a comma where it is not the first.

@@ -1,10 +1,11 @@
 //! From the one text of an ACL and a mode back to the ACL.
-ghost use Rattle.std.specs.Prelude.{◌≡◌, ◌≤◌, true, ℕ, List, Option, IfOk, IfSome, IfNone};
+ghost use Rattle.std.specs.Prelude.{◌≡◌, ◌≤◌, false, true, ℕ, List, Option, IfOk, IfSome, IfNone};
 ghost use Rattle.pv_acl.specs.declared.part.Acl.{Acl};
 ghost use Rattle.std.specs.Result.{result_ok};
 ghost use Rattle.std.specs.Str.{bytes_eq};
-ghost use Rattle.pv_acl.specs.Applying.{is_line};
+ghost use Rattle.pv_acl.specs.Applying.{acl_after, is_line};
 ghost use Rattle.pv_acl.specs.Entries.{acl_line_of};
+ghost use Rattle.pv_acl.specs.Parts.{is_acl};
 ghost use Rattle.pv_acl.specs.Spelling.{IsSpelt, decimal_id};
 ghost use Rattle.pv_acl.specs.Texts.{acl_text};
 
@@ -30,15 +31,32 @@ pub fn read_acl(
     ensures found { IfOk result (λ read. IfSome read (λ acl. IsSpelt field.now mode directory acl)) }
     ensures none { IfOk result (λ read. IfNone read ((acl : Acl) → IsSpelt field.now mode directory acl → ⊥)) }
 {
-    let plain = Acl::of_mode(alloc, mode);
     if field == b"-".as_slice() {
-        return Ok(Some(plain));
+        return Ok(Some(Acl::of_mode(alloc, mode)));
     }
-    let line = match line_in(alloc, field)? {
-        Some(line) => line,
-        None => return Ok(None),
-    };
-    let acl = apply_entries(alloc, &plain, &line, How::Add, directory)?;
+    match line_in(alloc, field)? {
+        Some(line) => acl_by(alloc, field, &Acl::of_mode(alloc, mode), &line, directory),
+        None => Ok(None),
+    }
+}
+
+/// What a line makes of an ACL, where the field is its one text.
+fn acl_by(
+    alloc: Global,
+    field: &[u8],
+    plain: &Acl,
+    line: &AclLine,
+    directory: bool,
+) -> Result<Option<Acl>, AllocError>
+    ensures made { let made = acl_after plain.now line.now How.Add directory in
+        IfOk result (λ read. IfSome read (λ acl. acl ≡ made)) }
+    ensures text { IfOk result (λ read. IfSome read (λ acl. bytes_eq (acl_text acl) field.now ≡ true)) }
+    ensures allowed { is_acl plain.now ≡ true → is_line line.now ≡ true →
+        IfOk result (λ read. IfSome read (λ acl. is_acl acl ≡ true)) }
+    ensures none { let made = acl_after plain.now line.now How.Add directory in
+        IfOk result (λ read. IfNone read (bytes_eq (acl_text made) field.now ≡ false)) }
+{
+    let acl = apply_entries(alloc, plain, line, How::Add, directory)?;
     if is_text_of(alloc, field, &acl)? {
         Ok(Some(acl))
     } else {
