@@ -1,9 +1,26 @@
-use Rattle.std.proofs.Common.{◌≡◌, ℕ, List, Option, ◌+◌, ◌-◌, ◌∷◌, [], Some, None, replicate, length, arith, subst, sym, ap, ◌∙◌, refl}
+use Rattle.std.proofs.Common.{◌≡◌, ◌≤◌, ℕ, false, List, Option, ◌+◌, ◌-◌, ◌∷◌, [], Some, None, replicate, length, arith, rules, subst, sym, ap, ◌∙◌, refl}
+use Rattle.std.proofs.lemmas.List.{nil_from_length}
 use Rattle.pv_meet.specs.Machines.{Machine, reads}
 use Rattle.pv_meet.specs.Search.{IsSearched, FirstEnd, Found, unfound}
 use Rattle.pv_meet.specs.Words.{IsFirst, word_cmp}
-use Rattle.pv_meet.proofs.Levels.{starts, first_read, unfound-start}
+use Rattle.pv_meet.proofs.Levels.{starts, none_read, first_read, unfound-start}
 use Rattle.pv_meet.proofs.search.least_word.Goals as goal
+
+-- the questions that are left are enough for the places without a word and those of the level
+spent_so_far : (all unfound level left places : ℕ) → (all + unfound) + level ≤ left + places → all ≤ left + places
+spent_so_far all unfound level left places h = omega arith
+
+enough_left : (all unfound level left places asked : ℕ) → (all + unfound) + level ≤ left + places → places ≤ all → asked ≡ level → asked ≤ left
+enough_left all unfound level left places asked h some same = omega arith
+
+spent_after : (all unfound level left places asked after : ℕ) → (all + unfound) + level ≤ left + places → asked ≡ level → left ≤ after + asked → all + unfound ≤ after + places
+spent_after all unfound level left places asked after h same spent = omega arith
+
+all_within : (all unfound n : ℕ) → all + unfound ≤ n → all ≤ n
+all_within all unfound n h = omega arith
+
+with_next : (all unfound fewer next n : ℕ) → all + unfound ≤ n → fewer + next ≡ unfound → (all + fewer) + next ≤ n
+with_next all unfound fewer next n h count = omega arith
 
 pub loop-alloc-init : goal.loop-alloc-init
 loop-alloc-init g c =
@@ -28,3 +45,43 @@ returns-in-Some-clause-first g c =
     let is_first = subst (λ (x : Option (List ℕ)). FirstEnd machine c.loop-alloc.found.items c.loop-alloc.level.items x) c.in-Some.is at_level in
     subst (λ (m : Machine). IsFirst word_cmp (reads m 0) c.in_ok-spelled.field-0) c.loop-alloc.invariant.same
     (first_read machine c.loop-alloc.found.items c.loop-alloc.level.items c.loop-alloc.invariant.searched c.in-Some.word is_first c.in_ok-spelled.field-0 c.in_ok-spelled.ensures)
+
+pub next_level-requires-clause-searched : goal.next_level-requires-clause-searched
+next_level-requires-clause-searched g c =
+    subst (λ (x : List ℕ). IsSearched (g.M.Moves.machine c.loop-alloc.machine) c.loop-alloc.found.items x) (sym c.as_slice-in-loop-alloc.ensures.value) c.loop-alloc.invariant.searched
+
+pub next_level-requires-clause-questions : goal.next_level-requires-clause-questions
+next_level-requires-clause-questions g c =
+    enough_left (g.M.Moves.questions c.args.machine.now) (unfound c.loop-alloc.found.items) (length c.loop-alloc.level.items) (g.M.Moves.questions c.loop-alloc.machine) c.args.places (length c.as_slice-in-loop-alloc.result.now)
+    c.loop-alloc.invariant.spent c.requires.questions (ap length c.as_slice-in-loop-alloc.ensures.value)
+
+pub returns-in_err-level-2-clause-spent : goal.returns-in_err-level-2-clause-spent
+returns-in_err-level-2-clause-spent g c =
+    all_within (g.M.Moves.questions c.args.machine.now) (unfound c.loop-alloc.found.items) _
+    (spent_after (g.M.Moves.questions c.args.machine.now) (unfound c.loop-alloc.found.items) (length c.loop-alloc.level.items) (g.M.Moves.questions c.loop-alloc.machine) c.args.places
+    (length c.as_slice-in-loop-alloc.result.now) (g.M.Moves.questions c.next_level.new.machine) c.loop-alloc.invariant.spent (ap length c.as_slice-in-loop-alloc.ensures.value) c.in_err-level-2.ensures.spent)
+
+pub returns-in-Some-clause-spent : goal.returns-in-Some-clause-spent
+returns-in-Some-clause-spent g c =
+    spent_so_far (g.M.Moves.questions c.args.machine.now) (unfound c.loop-alloc.found.items) (length c.loop-alloc.level.items) (g.M.Moves.questions c.loop-alloc.machine) c.args.places c.loop-alloc.invariant.spent
+
+pub loop-alloc-preserved : goal.loop-alloc-preserved
+loop-alloc-preserved g c =
+    let next = c.in_ok-level-2.ensures in
+    record {
+      searched = subst (λ (m : Machine). IsSearched m c.next_level.new.found.items c.in_ok-level-2.level.items) (sym next.same) next.searched;
+      same = next.same ∙ c.loop-alloc.invariant.same;
+      spent = with_next (g.M.Moves.questions c.args.machine.now) (unfound c.loop-alloc.found.items) (unfound c.next_level.new.found.items) (length c.in_ok-level-2.level.items) _
+          (spent_after (g.M.Moves.questions c.args.machine.now) (unfound c.loop-alloc.found.items) (length c.loop-alloc.level.items) (g.M.Moves.questions c.loop-alloc.machine) c.args.places
+          (length c.as_slice-in-loop-alloc.result.now) (g.M.Moves.questions c.next_level.new.machine) c.loop-alloc.invariant.spent (ap length c.as_slice-in-loop-alloc.ensures.value) next.spent) next.count;
+    }
+
+pub returns-clause-none : goal.returns-clause-none
+returns-clause-none g c _ word =
+    let none : c.loop-alloc.level.items ≡ [] = nil_from_length c.loop-alloc.level.items (search rules) in
+    subst (λ (m : Machine). reads m 0 word ≡ false) c.loop-alloc.invariant.same
+    (none_read (g.M.Moves.machine c.loop-alloc.machine) c.loop-alloc.found.items c.loop-alloc.level.items c.loop-alloc.invariant.searched none word)
+
+pub returns-clause-spent : goal.returns-clause-spent
+returns-clause-spent g c =
+    spent_so_far (g.M.Moves.questions c.args.machine.now) (unfound c.loop-alloc.found.items) (length c.loop-alloc.level.items) (g.M.Moves.questions c.loop-alloc.machine) c.args.places c.loop-alloc.invariant.spent

@@ -1,0 +1,36 @@
+-- The moves of one more element of the left component.
+use Rattle.std.proofs.Common.{◌≡◌, ◌<◌, ◌+◌, ◌++◌, ◌∷◌, [], ℕ, List, length, get_or, take, refl, subst, ◌∙◌, append-nil}
+use Rattle.std.specs.List.{flat_map}
+use Rattle.std.specs.Option.{option_to_list}
+use Rattle.std.proofs.lemmas.List.{take_more, take_all}
+use Rattle.std.proofs.lemmas.List.Concat.{flat_map-append}
+use Rattle.pv_meet.specs.Machines.{targets}
+use Rattle.pv_meet.specs.Pairs.{target, takers}
+use Rattle.pv_meet.proofs.pair.moves_from.Goals as goal
+
+one_more : (f : ℕ → List ℕ) (xs : List ℕ) (i d : ℕ) (old new : List ℕ) → i < length xs → old ≡ flat_map f (take i xs) → new ≡ old ++ f (get_or xs i d) → new ≡ flat_map f (take (i + 1) xs)
+one_more f xs i d old new below before more =
+    let last : flat_map f (get_or xs i d ∷ []) ≡ f (get_or xs i d) = append-nil (f (get_or xs i d)) in
+    rw (take_more xs i d below, flat_map-append, last, more, before) refl
+
+pub loop-i-preserved : goal.loop-i-preserved
+loop-i-preserved c =
+    let spot = c.args.spot in
+    let each = λ (byte i : ℕ) (js : List ℕ). flat_map (λ j. option_to_list (target c.args.a.now c.args.b.now spot.begun i j byte)) js in
+    let rights = c.as_slice.ensures.value ∙ c.in_ok-rights.ensures.value in
+    let items = c.deref-i-items.result.now in
+    let old = c.loop-i.moves in
+    let new = c.add_moves.new.moves in
+    record {
+      told = λ byte.
+          one_more (λ i. each byte i (takers c.args.b.now spot.right)) items c.loop-i.i-index 0 (targets old byte) (targets new byte) c.loop-i-test.true (c.loop-i.invariant.told byte)
+          (subst (λ (js : List ℕ). targets new byte ≡ targets old byte ++ each byte (get_or items c.loop-i.i-index 0) js) rights (c.in_ok-add_moves.ensures.moves byte));
+      inside = c.in_ok-add_moves.ensures.inside c.loop-i.invariant.inside;
+    }
+
+pub returns-clause-moves : goal.returns-clause-moves
+returns-clause-moves c byte =
+    let spot = c.args.spot in
+    let items = c.deref-i-items.result.now in
+    let lefts = take_all c.loop-i.i-index items c.loop-i-test.false ∙ (c.deref-i-items.ensures.value ∙ c.in_ok-lefts.ensures.value) in
+    subst (λ (xs : List ℕ). targets c.loop-i.moves byte ≡ flat_map (λ i. flat_map (λ j. option_to_list (target c.args.a.now c.args.b.now spot.begun i j byte)) (takers c.args.b.now spot.right)) xs) lefts (c.loop-i.invariant.told byte)
