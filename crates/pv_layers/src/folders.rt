@@ -1,11 +1,11 @@
 //! The folders of configuration files, and the names in them that count.
-ghost use Rattle.std.specs.Prelude.{◌≡◌, ℕ, true, List, IfOk, OnOk};
-ghost use Rattle.std.specs.List.{fold, flat_map};
+ghost use Rattle.std.specs.Prelude.{◌≡◌, ℕ, true, List, [], ◌∷◌, ◌++◌, filter, map, IfOk, OnOk};
+ghost use Rattle.std.specs.List.{AllPass, fold, flat_map};
 ghost use Rattle.pv_path.specs.Names.{is_name};
 ghost use Rattle.pv_layers.specs.Places.{inputs};
 ghost use Rattle.pv_layers.specs.Folders.{last_folder, folders, is_conf, conf_names_in, with_name, conf_names};
 
-use pv_path::{Name, PathList, TreePath, child};
+use pv_path::{Name, PathList, TreePath};
 use pv_steps::{Kind, Tree, kind_at};
 use pv_text::Tool;
 use std::alloc::{AllocError, Global};
@@ -22,19 +22,36 @@ fn last_folder(tool: Tool) -> &'static [u8]
     }
 }
 
+/// The path of some names.
+fn path_of(alloc: Global, names: &[&[u8]]) -> Result<TreePath, AllocError>
+    requires { AllPass (λ name. is_name name.now) names.now }
+    ensures { IfOk result (λ path. path ≡ map (λ name. name.now) names.now) }
+{
+    let mut path = TreePath::root(alloc);
+    for name in names {
+        path.push(Name::of(alloc, name)?)?;
+    }
+    Ok(path)
+}
+
+/// Adds the path of some names to a list.
+fn add_path(alloc: Global, list: &mut PathList, names: &[&[u8]]) -> Result<(), AllocError>
+    requires { AllPass (λ name. is_name name.now) names.now }
+    ensures { OnOk result (list.new ≡ list.old ++ map (λ name. name.now) names.now ∷ []) }
+{
+    list.push(path_of(alloc, names)?)
+}
+
 /// The folders of a tool, the one that counts most first.
 pub(crate) fn folders(alloc: Global, tool: Tool) -> Result<PathList, AllocError>
     ensures { IfOk result (λ list. list ≡ folders tool) }
 {
     let last = last_folder(tool);
-    let root = TreePath::root(alloc);
-    let usr = child(alloc, &root, b"usr")?;
-    let local = child(alloc, &usr, b"local")?;
     let mut list = PathList::new(alloc);
-    list.push(child(alloc, &child(alloc, &root, b"etc")?, last)?)?;
-    list.push(child(alloc, &child(alloc, &root, b"run")?, last)?)?;
-    list.push(child(alloc, &child(alloc, &local, b"lib")?, last)?)?;
-    list.push(child(alloc, &child(alloc, &usr, b"lib")?, last)?)?;
+    add_path(alloc, &mut list, &[b"etc", last])?;
+    add_path(alloc, &mut list, &[b"run", last])?;
+    add_path(alloc, &mut list, &[b"usr", b"local", b"lib", last])?;
+    add_path(alloc, &mut list, &[b"usr", b"lib", last])?;
     Ok(list)
 }
 
@@ -44,9 +61,8 @@ pub fn inputs(alloc: Global) -> Result<PathList, AllocError>
     ensures { IfOk result (λ list. list ≡ inputs) }
 {
     let mut list = folders(alloc, Tool::Tmpfiles)?;
-    let etc = child(alloc, &TreePath::root(alloc), b"etc")?;
-    list.push(child(alloc, &etc, b"passwd")?)?;
-    list.push(child(alloc, &etc, b"group")?)?;
+    add_path(alloc, &mut list, &[b"etc", b"passwd"])?;
+    add_path(alloc, &mut list, &[b"etc", b"group"])?;
     Ok(list)
 }
 
@@ -55,6 +71,18 @@ fn is_conf(name: &[u8]) -> bool
     ensures { result ≡ is_conf name.now }
 {
     name.ends_with(b".conf") && !name.starts_with(b".")
+}
+
+/// Adds those of some names that are names of configuration files.
+fn add_conf(found: &[Name], names: &mut BTreeSet<Name>) -> Result<(), AllocError>
+    ensures { OnOk result (names.new.keys ≡ fold with_name names.old.keys (filter is_conf found.now)) }
+{
+    for name in found {
+        if is_conf(name.bytes()) {
+            let _new = names.insert(name.copy()?)?;
+        }
+    }
+    Ok(())
 }
 
 /// Adds the names of the configuration files in a folder.
@@ -67,15 +95,9 @@ fn add_names<T: Tree>(
     ensures { OnOk result (names.new.keys ≡ fold with_name names.old.keys (conf_names_in (T.state tree.now) folder.now)) }
 {
     match kind_at(tree, folder) {
-        Some(Kind::Directory) => {}
-        _ => return Ok(()),
+        Some(Kind::Directory) => add_conf(tree.list(alloc, folder)?.as_slice(), names),
+        _ => Ok(()),
     }
-    for name in tree.list(alloc, folder)?.as_slice() {
-        if is_conf(name.bytes()) {
-            let _new = names.insert(name.copy()?)?;
-        }
-    }
-    Ok(())
 }
 
 /// The names of the configuration files in some folders, in byte order, each once.
