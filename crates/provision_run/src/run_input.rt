@@ -16,7 +16,7 @@ use pv_words::Options;
 use std::alloc::{AllocError, Global};
 
 /// What a run reads.
-#[derive(Debug, Drop)]
+#[derive(Drop)]
 pub(crate) struct RunTable {
     /// The active lines.
     pub table: Table,

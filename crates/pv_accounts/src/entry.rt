@@ -1,5 +1,5 @@
 //! Which lines are entries, and their fields (passwd(5), group(5), shadow(5), gshadow(5)).
-ghost use Rattle.std.specs.Prelude.{◌≡◌, ◌≤◌, ◌∷◌, [], false, MatchOption, IfSome};
+ghost use Rattle.std.specs.Prelude.{◌≡◌, ◌≤◌, ℕ, List, ◌∷◌, [], false, MatchOption, IfSome};
 ghost use Rattle.std.specs.Option.{option_map};
 ghost use Rattle.pv_acl.specs.Spelling.{decimal_id};
 ghost use Rattle.pv_accounts.specs.Entries.{is_entry_name, is_decimal_id, fields_of, entry_of};
@@ -10,7 +10,7 @@ use crate::cutting::{cut, uncut};
 use pv_acl::number;
 
 /// An entry of /etc/passwd (passwd(5)), each field a slice of the file.
-#[derive(Clone, Copy, Debug)]
+#[derive(Clone, Copy)]
 pub struct PasswdEntry<'a> {
     /// The login name.
     pub name: &'a [u8],
@@ -29,7 +29,7 @@ pub struct PasswdEntry<'a> {
 }
 
 /// An entry of /etc/group (group(5)), each field a slice of the file.
-#[derive(Clone, Copy, Debug)]
+#[derive(Clone, Copy)]
 pub struct GroupEntry<'a> {
     /// The name of the group.
     pub name: &'a [u8],
@@ -42,7 +42,7 @@ pub struct GroupEntry<'a> {
 }
 
 /// An entry of /etc/shadow (shadow(5)), each field a slice of the file.
-#[derive(Clone, Copy, Debug)]
+#[derive(Clone, Copy)]
 pub struct ShadowEntry<'a> {
     /// The login name.
     pub name: &'a [u8],
@@ -119,18 +119,40 @@ pub(crate) fn shadow_entry(line: &[u8]) -> Option<ShadowEntry<'_>>
     }
 }
 
+/// The first three fields of a line, and what stands behind them, where something does.
+fn three_fields(line: &[u8]) -> Option<(&[u8], &[u8], &[u8], &[u8])>
+    ensures { MatchOption result ((is_passwd (fields_of line.now) ≡ false) × (is_shadow (fields_of line.now) ≡ false))
+        (λ f. fields_of line.now ≡ f.0.now ∷ f.1.now ∷ f.2.now ∷ fields_of f.3.now) }
+{
+    let (name, rest) = cut(line, b':')?;
+    let (password, rest) = cut(rest, b':')?;
+    let (third, rest) = cut(rest, b':')?;
+    Some((name, password, third, rest))
+}
+
+/// The fields of a line that has four: an entry of /etc/group or /etc/gshadow, or the end of a longer one, behind three
+/// fields of /etc/passwd or five of /etc/shadow.
+fn four_fields(line: &[u8]) -> Option<(&[u8], &[u8], &[u8], &[u8])>
+    ensures { MatchOption result
+        ((is_group (fields_of line.now) ≡ false) × (is_gshadow (fields_of line.now) ≡ false)
+        × ((a b c : List ℕ) → is_passwd (a ∷ b ∷ c ∷ fields_of line.now) ≡ false)
+        × ((a b c d e : List ℕ) → is_shadow (a ∷ b ∷ c ∷ d ∷ e ∷ fields_of line.now) ≡ false))
+        (λ f. fields_of line.now ≡ f.0.now ∷ f.1.now ∷ f.2.now ∷ f.3.now ∷ []) }
+{
+    let (first, rest) = cut(line, b':')?;
+    let (second, rest) = cut(rest, b':')?;
+    let (third, rest) = cut(rest, b':')?;
+    let fourth = uncut(rest, b':')?;
+    Some((first, second, third, fourth))
+}
+
 /// The fields of a line that has seven.
 fn seven_fields(line: &[u8]) -> Option<PasswdEntry<'_>>
     ensures { MatchOption result (is_passwd (fields_of line.now) ≡ false)
         (λ entry. fields_of line.now ≡ passwd_fields entry) }
 {
-    let (name, rest) = cut(line, b':')?;
-    let (password, rest) = cut(rest, b':')?;
-    let (uid, rest) = cut(rest, b':')?;
-    let (gid, rest) = cut(rest, b':')?;
-    let (gecos, rest) = cut(rest, b':')?;
-    let (home, rest) = cut(rest, b':')?;
-    let shell = uncut(rest, b':')?;
+    let (name, password, uid, rest) = three_fields(line)?;
+    let (gid, gecos, home, shell) = four_fields(rest)?;
     Some(PasswdEntry {
         name,
         password,
@@ -142,32 +164,15 @@ fn seven_fields(line: &[u8]) -> Option<PasswdEntry<'_>>
     })
 }
 
-/// The fields of a line that has four.
-fn four_fields(line: &[u8]) -> Option<(&[u8], &[u8], &[u8], &[u8])>
-    ensures { MatchOption result ((is_group (fields_of line.now) ≡ false) × (is_gshadow (fields_of line.now) ≡ false))
-        (λ f. fields_of line.now ≡ f.0.now ∷ f.1.now ∷ f.2.now ∷ f.3.now ∷ []) }
-{
-    let (name, rest) = cut(line, b':')?;
-    let (password, rest) = cut(rest, b':')?;
-    let (third, rest) = cut(rest, b':')?;
-    let fourth = uncut(rest, b':')?;
-    Some((name, password, third, fourth))
-}
-
 /// The fields of a line that has nine.
 fn nine_fields(line: &[u8]) -> Option<ShadowEntry<'_>>
     ensures { MatchOption result (is_shadow (fields_of line.now) ≡ false)
         (λ entry. fields_of line.now ≡ shadow_fields entry) }
 {
-    let (name, rest) = cut(line, b':')?;
-    let (password, rest) = cut(rest, b':')?;
-    let (changed, rest) = cut(rest, b':')?;
+    let (name, password, changed, rest) = three_fields(line)?;
     let (least, rest) = cut(rest, b':')?;
     let (most, rest) = cut(rest, b':')?;
-    let (warn, rest) = cut(rest, b':')?;
-    let (inactive, rest) = cut(rest, b':')?;
-    let (expire, rest) = cut(rest, b':')?;
-    let reserved = uncut(rest, b':')?;
+    let (warn, inactive, expire, reserved) = four_fields(rest)?;
     Some(ShadowEntry {
         name,
         password,

@@ -11,7 +11,7 @@ use std::alloc::{AllocError, Global};
 use std::collections::HashSet;
 
 /// The names of entries, each looked up without a pass over all.
-#[derive(Debug, Drop)]
+#[derive(Drop)]
 pub struct EntryNames<'a> {
     names: HashSet<&'a [u8]>,
 }

@@ -11,7 +11,7 @@ use crate::cutting::cut;
 use crate::entry::{decimal_id, group_entry, gshadow_parts, passwd_entry, shadow_entry};
 
 /// Which account file it is.
-#[derive(Clone, Copy, Debug)]
+#[derive(Clone, Copy)]
 pub enum Kind {
     /// /etc/passwd, with an entry for each user.
     Passwd,

@@ -12,7 +12,7 @@ use std::marker::Model;
 
 /// Names with their IDs, each looked up without a pass over all. Clauses see the list of names with IDs, in the
 /// order in which they came.
-#[derive(Debug, Drop)]
+#[derive(Drop)]
 pub struct InUse<'a> {
     /// The ID of each name.
     ids: IndexMap<&'a [u8], u32>,

@@ -7,7 +7,7 @@ use crate::views::{GroupView, PasswdView};
 use pv_acl::Names;
 
 /// The lookup of users and groups in two account files, where `root` is 0 whatever they have.
-#[derive(Debug, Drop)]
+#[derive(Drop)]
 pub struct FileNames<'a> {
     /// Where users are looked up.
     pub passwd: PasswdView<'a>,

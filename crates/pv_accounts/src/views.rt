@@ -10,7 +10,7 @@ use crate::find::{Kind, find_holder, find_id, find_line};
 use std::marker::Model;
 
 /// The entries of /etc/passwd (passwd(5)). Clauses see the bytes of the file.
-#[derive(Debug, Drop)]
+#[derive(Drop)]
 pub struct PasswdView<'a> {
     file: &'a [u8],
 }
@@ -56,7 +56,7 @@ impl<'a> PasswdView<'a> {
 }
 
 /// The entries of /etc/group (group(5)). Clauses see the bytes of the file.
-#[derive(Debug, Drop)]
+#[derive(Drop)]
 pub struct GroupView<'a> {
     file: &'a [u8],
 }
@@ -102,7 +102,7 @@ impl<'a> GroupView<'a> {
 }
 
 /// The entries of /etc/shadow (shadow(5)). Clauses see the bytes of the file.
-#[derive(Debug, Drop)]
+#[derive(Drop)]
 pub struct ShadowView<'a> {
     file: &'a [u8],
 }

@@ -7,7 +7,7 @@ use pv_steps::{AttrList, LetterHow, LetterSet};
 use pv_text::Place;
 
 /// A line of a configuration (tmpfiles.d(5)).
-#[derive(Debug, Drop)]
+#[derive(Drop)]
 pub struct Line {
     /// The letter of its type; F is kept as f with `plus`.
     pub letter: u8,
@@ -44,7 +44,7 @@ pub struct Line {
 }
 
 /// What a line names.
-#[derive(Debug, Drop)]
+#[derive(Drop)]
 pub enum LinePath {
     /// One path.
     Literal(TreePath),
@@ -53,7 +53,7 @@ pub enum LinePath {
 }
 
 /// A mode as a line gives it.
-#[derive(Clone, Copy, Debug, PartialEq, Eq)]
+#[derive(Clone, Copy, PartialEq, Eq)]
 pub struct LineMode {
     /// At most 07777.
     pub value: u16,
@@ -64,7 +64,7 @@ pub struct LineMode {
 }
 
 /// An owner or an owning group as a line gives it.
-#[derive(Clone, Copy, Debug, PartialEq, Eq)]
+#[derive(Clone, Copy, PartialEq, Eq)]
 pub struct LineId {
     /// At most 4294967294.
     pub id: u32,
@@ -73,7 +73,7 @@ pub struct LineId {
 }
 
 /// What a line takes besides, by its type.
-#[derive(Debug, Drop)]
+#[derive(Drop)]
 pub enum Argument {
     /// The bytes of a new file, or of each where the line has `+`.
     FileBytes(Option<Bytes>),

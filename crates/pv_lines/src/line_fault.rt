@@ -12,10 +12,10 @@ use std::alloc::{AllocError, AllocFailed};
 use thiserror::Error;
 
 /// Why a text is no line. Fields are judged from the left. A fault of running out of memory is always `Memory` itself.
-#[derive(Clone, Copy, Debug, PartialEq, Eq, Error)]
+#[derive(Clone, Copy, Debug, Error)]
 pub enum LineFault {
     /// It has no fields.
-    #[error("{0}")]
+    #[error(transparent)]
     Field(FieldFault),
     /// No type begins so.
     #[error("UnknownType")]
@@ -24,13 +24,13 @@ pub enum LineFault {
     #[error("BadModifier")]
     BadModifier,
     /// A specifier of the path or of the argument has no value.
-    #[error("{0}")]
+    #[error(transparent)]
     Expand(ExpandFault),
     /// The path, or that of a source or a target, is none.
-    #[error("{0}")]
+    #[error(transparent)]
     Path(PathFault),
     /// The pattern is none.
-    #[error("{0}")]
+    #[error(transparent)]
     Pattern(PatternFault),
     /// The root, where the type or the modifier `$` does not allow it.
     #[error("RootPath")]
@@ -45,7 +45,7 @@ pub enum LineFault {
     #[error("UnknownGroup")]
     UnknownGroup,
     /// The age is none.
-    #[error("{0}")]
+    #[error(transparent)]
     Age(AgeFault),
     /// The type needs an argument.
     #[error("ArgumentNeeded")]
@@ -63,7 +63,7 @@ pub enum LineFault {
     #[error("BadLetter")]
     BadLetter,
     /// The argument does not give ACL entries.
-    #[error("{0}")]
+    #[error(transparent)]
     Acl(AclFault),
     /// Memory ran out.
     #[error("Memory")]

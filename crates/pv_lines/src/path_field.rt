@@ -13,7 +13,7 @@ use pv_text::{Facts, Tool, expand};
 use std::alloc::Global;
 
 /// What a line names, with the text that names it.
-#[derive(Debug, Drop)]
+#[derive(Drop)]
 pub(crate) struct Named {
     pub path: LinePath,
     /// The text, after specifiers and the rewriting of `/var/run/`.

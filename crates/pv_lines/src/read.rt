@@ -1,21 +1,38 @@
 //! From the bytes of a line to the line, or to its first fault.
-ghost use Rattle.std.specs.Prelude.{◌≡◌, map, IfOk, slice_get};
+ghost use Rattle.std.specs.Prelude.{◌≡◌, map, Ok, Err, IfOk, IfErr, slice_get};
 ghost use Rattle.std.specs.Option.{option_map};
 ghost use Rattle.pv_text.specs.Escapes.{unescaped};
+ghost use Rattle.pv_text.specs.Facts.{Values};
 ghost use Rattle.pv_text.specs.Fields.{text_at};
+ghost use Rattle.pv_text.specs.declared.place.Place.{Place};
 ghost use Rattle.pv_lines.specs.Faults.{Gives};
-ghost use Rattle.pv_lines.specs.Lines.{IsLine, given, line_of, line_with, text};
+ghost use Rattle.pv_lines.specs.Lines.{AreIds, IsLine, given, line_of, line_with, text};
+ghost use Rattle.pv_lines.specs.ModeField.{line_age_of, mode_of, owner_of};
+ghost use Rattle.pv_lines.specs.PathField.{named_of};
+ghost use Rattle.pv_lines.specs.TypeField.{typed_of};
+ghost use Rattle.pv_lines.specs.declared.line_fault.LineFault.TheVariants.{UnknownGroup, UnknownUser};
+ghost use Rattle.pv_lines.specs.declared.path_field.Named.{Named};
 
 use crate::argument_field::argument_of;
-use crate::line::Line;
+use crate::line::{Line, LineId, LineMode};
 use crate::line_fault::LineFault;
 use crate::mode_field::{age_of, group_of, mode_of, user_of};
 use crate::path_field::named_of;
-use crate::type_field::typed_of;
+use crate::type_field::{Typed, typed_of};
 use pv_acl::Names;
+use pv_age::Age;
 use pv_path::Bytes;
 use pv_text::{Facts, Fields, Place, fields, unescape};
 use std::alloc::{AllocError, Global};
+
+/// The fields between the path and the argument of a line.
+#[derive(Clone, Copy)]
+struct Settings {
+    mode: Option<LineMode>,
+    user: Option<LineId>,
+    group: Option<LineId>,
+    age: Option<Age>,
+}
 
 /// The fields of a line, with their escapes undone.
 fn texts_of(alloc: Global, fields: &Fields<'_>) -> Result<Vec<Bytes>, AllocError>
@@ -48,6 +65,28 @@ fn given(texts: &[Bytes], i: usize) -> Option<&[u8]>
     }
 }
 
+/// What the fields Mode, User, Group and Age give, or their first fault, which is that of the line where the fields
+/// before them have none.
+fn settings_of<N: Names>(names: &N, typed: Typed, texts: &[Bytes]) -> Result<Settings, LineFault>
+    ensures read { IfOk result (λ settings.
+        (mode_of (given texts.now 2) ≡ Ok settings.mode)
+        × (owner_of UnknownUser (N.uid_named names.now) (given texts.now 3) ≡ Ok settings.user)
+        × (owner_of UnknownGroup (N.gid_named names.now) (given texts.now 4) ≡ Ok settings.group)
+        × (line_age_of typed.row (given texts.now 5) ≡ Ok settings.age)) }
+    ensures small { IfOk result (λ settings. AreIds settings.user × AreIds settings.group) }
+    ensures fault { (facts : Values) (place : Place) (named : Named) → typed_of (text texts.now 0) ≡ Ok typed → named_of facts typed (text texts.now 1) ≡ Ok named
+        → IfErr result (λ fault. Gives (Err fault) (line_with facts
+        (record { uid_named = N.uid_named names.now; gid_named = N.gid_named names.now })
+        place texts.now)) }
+{
+    Ok(Settings {
+        mode: mode_of(given(texts, 2))?,
+        user: user_of(names, given(texts, 3))?,
+        group: group_of(names, given(texts, 4))?,
+        age: age_of(typed.row, given(texts, 5))?,
+    })
+}
+
 /// The line of these texts, or its first fault.
 fn line_with<N: Names>(
     alloc: Global,
@@ -63,10 +102,7 @@ fn line_with<N: Names>(
 {
     let typed = typed_of(text(texts, 0))?;
     let named = named_of(alloc, text(texts, 1), facts, typed)?;
-    let mode = mode_of(given(texts, 2))?;
-    let user = user_of(names, given(texts, 3))?;
-    let group = group_of(names, given(texts, 4))?;
-    let age = age_of(typed.row, given(texts, 5))?;
+    let settings = settings_of(names, typed, texts)?;
     let argument = argument_of(
         alloc,
         given(texts, 6),
@@ -87,10 +123,10 @@ fn line_with<N: Names>(
         path: named.path,
         path_text: named.text,
         moved: named.moved,
-        mode,
-        user,
-        group,
-        age,
+        mode: settings.mode,
+        user: settings.user,
+        group: settings.group,
+        age: settings.age,
         argument,
         place,
     })

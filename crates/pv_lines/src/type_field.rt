@@ -7,7 +7,7 @@ use crate::line_fault::LineFault;
 use crate::types::{Row, type_of};
 
 /// A type with its modifiers.
-#[derive(Clone, Copy, Debug)]
+#[derive(Clone, Copy)]
 pub(crate) struct Typed {
     pub row: Row,
     pub plus: bool,

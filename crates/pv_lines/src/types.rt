@@ -3,7 +3,7 @@ ghost use Rattle.std.specs.Prelude.{◌≡◌, true};
 ghost use Rattle.pv_lines.specs.Types.{creating, matching, type_of, wanting, with_age, with_encoded, with_plus, with_root};
 
 /// How the argument of a type is read.
-#[derive(Clone, Copy, Debug, PartialEq, Eq)]
+#[derive(Clone, Copy, PartialEq, Eq)]
 pub(crate) enum Wanted {
     /// The bytes of a file, which may be omitted.
     Content,
@@ -26,7 +26,7 @@ pub(crate) enum Wanted {
 }
 
 /// What a type takes. All take the modifiers `!` and `-`.
-#[derive(Clone, Copy, Debug)]
+#[derive(Clone, Copy)]
 pub(crate) struct Row {
     /// The letter as which it is kept.
     pub letter: u8,

@@ -1,22 +1,24 @@
 //! From the bytes of a line to the request, or to its first fault.
-ghost use Rattle.std.specs.Prelude.{◌≡◌, true, IfOk};
+ghost use Rattle.std.specs.Prelude.{◌≡◌, true, Bool, Ok, Err, IfOk, IfErr};
+ghost use Rattle.pv_text.specs.declared.place.Place.{Place};
 ghost use Rattle.pv_requests.specs.Allowed.{IsAllowed};
 ghost use Rattle.pv_requests.specs.Faults.{Gives};
 ghost use Rattle.pv_requests.specs.FieldTexts.{has_more};
 ghost use Rattle.pv_requests.specs.Paths.{HasFewNames};
-ghost use Rattle.pv_requests.specs.Requests.{are_account_texts, ended, group_with, member_with, range_with, request_by, request_in, request_of, type_of, two_needed, two_texts, user_texts, user_with};
+ghost use Rattle.pv_requests.specs.Requests.{are_account_texts, group_with, member_with, range_with, request_by, request_in, request_of, type_of, two_needed, two_texts, user_texts, user_with};
+ghost use Rattle.pv_requests.specs.declared.request.Request.TheVariants.{Group, User};
 
 use crate::field_texts::{GECOS, HOME, SHELL, given, has_more, is_dash, text, written};
 use crate::names::{is_account_name, is_comment, is_place};
 use crate::numbers::{group_id_in, range_in, user_id_in};
-use crate::request::Request;
+use crate::request::{GroupId, Request, UserId};
 use crate::request_fault::RequestFault;
 use pv_path::Bytes;
 use pv_text::{Facts, Fields, Place, fields};
 use std::alloc::Global;
 
 /// The type of a line (sysusers.d(5), "Type").
-#[derive(Clone, Copy, Debug)]
+#[derive(Clone, Copy)]
 pub enum LineType {
     /// `u`, or `u!` where the account is locked.
     User(bool),
@@ -29,7 +31,7 @@ pub enum LineType {
 }
 
 /// The texts of a u line.
-#[derive(Debug, Drop)]
+#[derive(Drop)]
 pub struct UserTexts {
     name: Bytes,
     id: Bytes,
@@ -49,17 +51,6 @@ fn type_of(text: &[u8]) -> Result<LineType, RequestFault>
         b"m" => Ok(LineType::Member),
         b"r" => Ok(LineType::Range),
         _ => Err(RequestFault::BadType),
-    }
-}
-
-/// A request, where there is no text after the shell.
-fn ended(more: bool, request: Request) -> Result<Request, RequestFault>
-    ensures { result ≡ ended more request }
-{
-    if more {
-        Err(RequestFault::BadField)
-    } else {
-        Ok(request)
     }
 }
 
@@ -83,6 +74,38 @@ fn are_account_texts(texts: &UserTexts) -> bool
     is_comment(&texts.gecos) && is_place(&texts.home) && is_place(&texts.shell)
 }
 
+/// The user of these texts, whose number comes from there.
+fn user_request(place: Place, locked: bool, id: UserId, texts: UserTexts) -> Request
+    ensures { result ≡ User texts.name id locked texts.gecos texts.home texts.shell place }
+{
+    Request::User {
+        name: texts.name,
+        id,
+        locked,
+        gecos: texts.gecos,
+        home: texts.home,
+        shell: texts.shell,
+        place,
+    }
+}
+
+/// Where the number of the user comes from for whom a u line of these texts asks.
+fn asked_user_id(alloc: Global, more: bool, texts: &UserTexts) -> Result<UserId, RequestFault>
+    ensures value { (place : Place) (locked : Bool) → IfOk result (λ id.
+        user_with place locked more texts.now ≡ Ok (User texts.now.name id locked texts.now.gecos texts.now.home texts.now.shell place)) }
+    ensures fault { (place : Place) (locked : Bool) → IfErr result (λ fault. Gives (Err fault) (user_with place locked more texts.now)) }
+{
+    if !is_account_name(texts.name.as_slice()) {
+        return Err(RequestFault::BadName);
+    }
+    let id = user_id_in(alloc, texts.id.as_slice())?.ok_or(RequestFault::BadId)?;
+    if are_account_texts(texts) && !more {
+        Ok(id)
+    } else {
+        Err(RequestFault::BadField)
+    }
+}
+
 /// A u line of these texts.
 fn user_with(
     alloc: Global,
@@ -93,30 +116,29 @@ fn user_with(
 ) -> Result<Request, RequestFault>
     ensures { Gives result (user_with place locked more texts) }
 {
-    if !is_account_name(texts.name.as_slice()) {
+    let id = asked_user_id(alloc, more, &texts)?;
+    Ok(user_request(place, locked, id, texts))
+}
+
+/// Where the number of the group comes from for which a g line of this name and ID asks.
+fn asked_group_id(
+    alloc: Global,
+    more: bool,
+    name: &Bytes,
+    id: &Bytes,
+) -> Result<GroupId, RequestFault>
+    ensures value { (place : Place) → IfOk result (λ asked. group_with place more name.now id.now ≡ Ok (Group name.now asked place)) }
+    ensures fault { (place : Place) → IfErr result (λ fault. Gives (Err fault) (group_with place more name.now id.now)) }
+{
+    if !is_account_name(name.as_slice()) {
         return Err(RequestFault::BadName);
     }
-    let id = user_id_in(alloc, texts.id.as_slice())?.ok_or(RequestFault::BadId)?;
-    if !are_account_texts(&texts) {
-        return Err(RequestFault::BadField);
+    let asked = group_id_in(alloc, id.as_slice())?.ok_or(RequestFault::BadId)?;
+    if more {
+        Err(RequestFault::BadField)
+    } else {
+        Ok(asked)
     }
-    let UserTexts {
-        name,
-        gecos,
-        home,
-        shell,
-        ..
-    } = texts;
-    let request = Request::User {
-        name,
-        id,
-        locked,
-        gecos,
-        home,
-        shell,
-        place,
-    };
-    ended(more, request)
 }
 
 /// A g line of this name and ID.
@@ -129,11 +151,8 @@ fn group_with(
 ) -> Result<Request, RequestFault>
     ensures { Gives result (group_with place more name id) }
 {
-    if !is_account_name(name.as_slice()) {
-        return Err(RequestFault::BadName);
-    }
-    let id = group_id_in(alloc, id.as_slice())?.ok_or(RequestFault::BadId)?;
-    ended(more, Request::Group { name, id, place })
+    let id = asked_group_id(alloc, more, &name, &id)?;
+    Ok(Request::Group { name, id, place })
 }
 
 /// An m line of this user and group.
@@ -141,22 +160,33 @@ fn member_with(place: Place, more: bool, user: Bytes, group: Bytes) -> Result<Re
     ensures { result ≡ member_with place more user group }
 {
     let named = is_account_name(group.as_slice());
-    if is_account_name(user.as_slice()) && named {
-        ended(more, Request::Member { user, group, place })
-    } else {
+    if !is_account_name(user.as_slice()) || !named {
         Err(RequestFault::BadName)
+    } else if more {
+        Err(RequestFault::BadField)
+    } else {
+        Ok(Request::Member { user, group, place })
     }
 }
 
 /// An r line of this name and range.
-fn range_with(place: Place, more: bool, name: Bytes, range: Bytes) -> Result<Request, RequestFault>
-    ensures { result ≡ range_with place more name range }
+fn range_with(
+    place: Place,
+    more: bool,
+    name: &Bytes,
+    range: &Bytes,
+) -> Result<Request, RequestFault>
+    ensures { result ≡ range_with place more name.now range.now }
 {
     if !is_dash(name.as_slice()) {
         return Err(RequestFault::BadName);
     }
     let (first, last) = range_in(range.as_slice()).ok_or(RequestFault::BadRange)?;
-    ended(more, Request::Range { first, last, place })
+    if more {
+        Err(RequestFault::BadField)
+    } else {
+        Ok(Request::Range { first, last, place })
+    }
 }
 
 /// A u line.
@@ -200,6 +230,45 @@ fn two_needed(
     two_texts(alloc, facts, fields)
 }
 
+/// A g line.
+fn group_of(
+    alloc: Global,
+    facts: &Facts,
+    place: Place,
+    fields: &Fields<'_>,
+) -> Result<Request, RequestFault>
+    ensures { Gives result (request_by facts.now place fields.now LineType.Group) }
+{
+    let (name, id) = two_texts(alloc, facts, fields)?;
+    group_with(alloc, place, has_more(fields), name, id)
+}
+
+/// An m line.
+fn member_of(
+    alloc: Global,
+    facts: &Facts,
+    place: Place,
+    fields: &Fields<'_>,
+) -> Result<Request, RequestFault>
+    ensures { Gives result (request_by facts.now place fields.now LineType.Member) }
+{
+    let (user, group) = two_needed(alloc, facts, fields)?;
+    member_with(place, has_more(fields), user, group)
+}
+
+/// An r line.
+fn range_of(
+    alloc: Global,
+    facts: &Facts,
+    place: Place,
+    fields: &Fields<'_>,
+) -> Result<Request, RequestFault>
+    ensures { Gives result (request_by facts.now place fields.now LineType.Range) }
+{
+    let (name, range) = two_needed(alloc, facts, fields)?;
+    range_with(place, has_more(fields), &name, &range)
+}
+
 /// A line of a type.
 fn request_by(
     alloc: Global,
@@ -212,18 +281,9 @@ fn request_by(
 {
     match typed {
         LineType::User(locked) => user_of(alloc, facts, place, fields, locked),
-        LineType::Group => {
-            let (name, id) = two_texts(alloc, facts, fields)?;
-            group_with(alloc, place, has_more(fields), name, id)
-        }
-        LineType::Member => {
-            let (user, group) = two_needed(alloc, facts, fields)?;
-            member_with(place, has_more(fields), user, group)
-        }
-        LineType::Range => {
-            let (name, range) = two_needed(alloc, facts, fields)?;
-            range_with(place, has_more(fields), name, range)
-        }
+        LineType::Group => group_of(alloc, facts, place, fields),
+        LineType::Member => member_of(alloc, facts, place, fields),
+        LineType::Range => range_of(alloc, facts, place, fields),
     }
 }
 

@@ -3,7 +3,7 @@ use pv_path::{Bytes, TreePath};
 use pv_text::Place;
 
 /// A line of a configuration (sysusers.d(5), "Type").
-#[derive(Debug, Drop)]
+#[derive(Drop)]
 pub enum Request {
     /// `u`, or `u!` where the account is locked: a user, and a group of the same name unless the ID names a primary
     /// group.
@@ -53,7 +53,7 @@ pub enum Request {
 }
 
 /// Where the number of a user comes from (sysusers.d(5), "ID").
-#[derive(Debug, Drop)]
+#[derive(Drop)]
 pub enum UserId {
     /// `-`: from the numbers that are free.
     Auto,
@@ -66,7 +66,7 @@ pub enum UserId {
 }
 
 /// The primary group of a user (sysusers.d(5), "ID").
-#[derive(Debug, Drop)]
+#[derive(Drop)]
 pub enum Primary {
     /// The group of this number.
     Gid(u32),
@@ -75,7 +75,7 @@ pub enum Primary {
 }
 
 /// Where the number of a group comes from (sysusers.d(5), "ID").
-#[derive(Debug, Drop)]
+#[derive(Drop)]
 pub enum GroupId {
     /// `-`: from the numbers that are free.
     Auto,

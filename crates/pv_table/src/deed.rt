@@ -12,7 +12,7 @@ use pv_walk::{NewFile, TopNode};
 pub type OperationList = Sequence<Operation>;
 
 /// What a line asks for in the create phase (tmpfiles.d(5), "Type").
-#[derive(Debug, Drop)]
+#[derive(Drop)]
 pub enum Deed {
     /// An object is made at the line's path, or what stands there is adjusted.
     Create(Making),
@@ -37,7 +37,7 @@ pub struct Making {
 }
 
 /// A copy that is to stand at a path.
-#[derive(Debug, Drop)]
+#[derive(Drop)]
 pub struct Copying {
     /// The path that is copied.
     pub source: TreePath,

@@ -12,7 +12,7 @@ use std::marker::Model;
 
 /// The active lines of a configuration, as they are listed; of the lines that make what stands at one path there is one
 /// alone (tmpfiles.d(5)). Clauses see the list.
-#[derive(Debug, Drop)]
+#[derive(Drop)]
 pub struct Table {
     lines: Vec<Line>,
     places: IndexMap<TreePath, usize>,
