@@ -4,7 +4,7 @@ ghost use Rattle.std.specs.Str.{bytes_eq};
 ghost use Rattle.pv_age.specs.Sums.{is_called, micros_in, names_of, unit_micros, unit_named};
 
 /// A unit of an age.
-#[derive(Clone, Copy, Debug)]
+#[derive(Clone, Copy)]
 pub(crate) enum Unit {
     Microsecond,
     Millisecond,

@@ -102,6 +102,18 @@ bares_changed path change now t u h q =
 after_change : (path : Path) (change : Object → Object) (now : ℕ) (t u : Files) → (h : ChangedAt change path now t u) → places u path ≡ Some h.object
 after_change path change now t u h = ap (λ p. p path) h.left ∙ put_at-here path (Some h.object) (places t)
 
+-- after a change that keeps the kind, an object can be dressed as before
+pub can_after : (path : Path) (new : Dress) (change : Object → Object) (now : ℕ) (t u : Files) → ((o : Object) → (change o).node.kind ≡ o.node.kind) → CanDress t path new → ChangedAt change path now t u → CanDress u path new
+can_after path new change now t u stays can h = record {
+  kind = can.kind;
+  there = ap kind_of (after_change path change now t u h) ∙ ap Some (same_kind h.object h.is) ∙ sym (ap kind_of h.there) ∙ can.there;
+  dress = can.dress;
+}
+  where
+    same_kind : (o : Object) → IsChanged change now h.old o → o.node.kind ≡ h.old.node.kind
+    same_kind o (inl e) = ap (λ (x : Object). x.node.kind) e.1
+    same_kind o (inr e) = ap (λ (x : Object). x.node.kind) e.1 ∙ stays h.old
+
 module _ (now : ℕ) (c d : Object → Object) (past : (o : Object) → d (changed now o) ≡ changed now (d o)) (firm : (o : Object) → d (c o) ≡ o → c o ≡ o) where
   changed_twice : (a b e : Object) → IsChanged c now a b → IsChanged d now b e → IsChanged (λ x. d (c x)) now a e
   changed_twice a b e (inl f) (inl g) = inl (ap d (f.0 ∙ sym f.1) ∙ g.0 ∙ f.1, g.1 ∙ f.1)

@@ -9,7 +9,7 @@ use std::alloc::{AllocError, Global};
 
 /// What an object is and holds: its kind, the bytes of a file or the target of a link, and the numbers of a
 /// device.
-#[derive(Clone, Debug, Drop)]
+#[derive(Debug, Drop)]
 pub struct Body {
     /// The kind of the object.
     pub kind: Kind,
@@ -23,7 +23,7 @@ pub struct Body {
 
 /// What an object is to have: owner, owning group, special bits, the ACL whose base entries are the rest of the
 /// mode, extended attributes, and letters.
-#[derive(Clone, Debug, Drop)]
+#[derive(Debug, Drop)]
 pub struct Dress {
     /// The owner's user ID.
     pub uid: u32,
@@ -40,7 +40,7 @@ pub struct Dress {
 }
 
 /// An object without its stamps.
-#[derive(Clone, Debug, Drop)]
+#[derive(Debug, Drop)]
 pub struct Bare {
     /// What it is and holds.
     pub body: Body,
@@ -53,7 +53,10 @@ impl Body {
     pub fn copy(&self) -> Result<Body, AllocError>
         ensures { IfOk result (λ body. body ≡ self.now) }
     {
-        self.clone()
+        Ok(Body {
+            payload: self.payload.copy()?,
+            ..*self
+        })
     }
 }
 
@@ -62,7 +65,11 @@ impl Dress {
     pub fn copy(&self) -> Result<Dress, AllocError>
         ensures { IfOk result (λ dress. dress ≡ self.now) }
     {
-        self.clone()
+        Ok(Dress {
+            acl: self.acl.copy()?,
+            attrs: self.attrs.copy()?,
+            ..*self
+        })
     }
 }
 

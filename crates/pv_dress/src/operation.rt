@@ -16,7 +16,7 @@ pub enum Guard {
 }
 
 /// A change of a present object.
-#[derive(Debug, Drop)]
+#[derive(Drop)]
 pub enum Change {
     /// The bytes of a file become these.
     Write(Bytes),
@@ -44,7 +44,7 @@ pub struct Test {
 }
 
 /// What a line of configuration asks of the object at one path.
-#[derive(Debug, Drop)]
+#[derive(Drop)]
 pub enum Operation {
     /// An absent object becomes this one; a present one stays.
     Make(Bare),

@@ -173,13 +173,11 @@ impl LetterSet {
 fn letters_in(alloc: Global, set: LetterSet, letters: &[u8]) -> Result<Vec<u8>, AllocError>
     ensures { IfOk result (λ chosen. chosen.items ≡ filter (has_letter set) letters.now) }
 {
-    let mut chosen = Vec::new(alloc);
-    for letter in letters {
-        if set.has(*letter) {
-            chosen.push(*letter)?;
-        }
-    }
-    Ok(chosen)
+    letters
+        .iter()
+        .copied()
+        .filter(|letter| set.has(*letter))
+        .collect(alloc)
 }
 
 /// The flag of a letter.

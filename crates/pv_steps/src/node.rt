@@ -9,7 +9,7 @@ use pv_acl::Acl;
 use std::alloc::AllocError;
 
 /// What an object of a tree is (inode(7)).
-#[derive(Clone, Copy, Debug, PartialEq, Eq, Hash)]
+#[derive(Clone, Copy, Debug, PartialEq, Eq)]
 pub enum Kind {
     /// A directory.
     Directory,
@@ -42,7 +42,7 @@ pub fn special_bits(mode: u16) -> u8
 }
 
 /// The four stamps of an object, in microseconds since 1970 (inode(7)).
-#[derive(Clone, Copy, Debug, PartialEq, Eq, Hash)]
+#[derive(Clone, Copy)]
 pub struct Stamps {
     pub access: u64,
     pub birth: u64,
@@ -51,7 +51,7 @@ pub struct Stamps {
 }
 
 /// What a tree keeps of an object beside its payload (inode(7)).
-#[derive(Clone, Debug, Drop)]
+#[derive(Drop)]
 pub struct Node {
     pub kind: Kind,
     /// Set-user-ID 4, set-group-ID 2, sticky 1.
@@ -75,6 +75,10 @@ impl Node {
     pub fn copy(&self) -> Result<Node, AllocError>
         ensures { IfOk result (λ node. node ≡ self.now) }
     {
-        self.clone()
+        Ok(Node {
+            acl: self.acl.copy()?,
+            attrs: self.attrs.copy()?,
+            ..*self
+        })
     }
 }

@@ -6,7 +6,7 @@ use pv_path::Bytes;
 use std::alloc::AllocError;
 
 /// An object of a tree: its node, and the bytes of a file or the target of a link, else no bytes.
-#[derive(Clone, Debug, Drop)]
+#[derive(Drop)]
 pub struct Object {
     pub node: Node,
     pub payload: Bytes,

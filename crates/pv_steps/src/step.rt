@@ -8,7 +8,7 @@ use pv_path::{Bytes, TreePath};
 use std::alloc::AllocError;
 
 /// One atomic change of a tree. The definitions `Can` and `after` say when it may be done and what it leaves.
-#[derive(Clone, Debug, Drop)]
+#[derive(Clone, Drop)]
 pub enum Step {
     /// An empty directory with mode 0700 that root owns comes to stand at an absent path (mkdir(2)).
     MakeDir {

@@ -36,7 +36,7 @@ pub(crate) fn do_told(
     ensures unrecorded { OnErr result (steps.new.items ≡ steps.old.items) }
     ensures fault { IsErrOf result Failed → ⊥ }
 {
-    steps.push(step.copy()?)?;
+    tell(steps, step)?;
     match do_step(alloc, slots, free, step, now) {
         Ok(()) => Ok(()),
         Err(fault) => {
@@ -44,6 +44,15 @@ pub(crate) fn do_told(
             Err(fault.into())
         }
     }
+}
+
+/// Tells a step at the end of the list of steps. After running out of memory the list is as before.
+fn tell(steps: &mut Vec<Step>, step: &Step) -> Result<(), AllocError>
+    ensures ok { OnOk result (steps.new.items ≡ steps.old.items ++ step.now ∷ []) }
+    ensures err { OnErr result (steps.new.items ≡ steps.old.items) }
+{
+    steps.push(step.copy()?)?;
+    Ok(())
 }
 
 /// Does a step on the slots. After running out of memory they are as before.

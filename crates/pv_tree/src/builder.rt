@@ -1,5 +1,5 @@
 //! A tree in the making: objects are added in the order of their paths.
-ghost use Rattle.std.specs.Prelude.{◌≡◌, ◌≢◌, ℕ, ◌+◌, ◌<◌, ◌≤◌, List, [], length, take, true, false, Some, Err, IfOk, OnOk, OnErr};
+ghost use Rattle.std.specs.Prelude.{◌≡◌, ◌≢◌, ℕ, ◌+◌, ◌<◌, ◌≤◌, List, [], length, take, vec_len, vec_capacity, true, false, Some, Err, IfOk, OnOk, OnErr};
 ghost use Rattle.std.specs.Ordering.{is_lt};
 ghost use Rattle.std.specs.FinMap as fin;
 ghost use Rattle.pv_path.specs.Paths.{has_names, is_prefix, parent_of, path_cmp};
@@ -88,6 +88,36 @@ fn depth_after(last: &TreePath, path: &TreePath) -> Result<usize, BuildFault>
     Ok(shared)
 }
 
+/// How many names of the last path are those of the directory of a path after it, with room for one number more on the
+/// way. After a fault the way is as before.
+fn directory_depth(
+    slots: &Vec<Slot>,
+    last: &TreePath,
+    way: &mut Vec<usize>,
+    path: &TreePath,
+) -> Result<usize, BuildFault>
+    requires { (free : List ℕ) × IsGrowing slots.now.items free last.now way.old.items }
+    ensures depth { IfOk result (λ depth. take depth last.now ≡ parent_of path.now) }
+    ensures parent { IfOk result (λ depth. depth + 1 ≡ length path.now) }
+    ensures within { IfOk result (λ depth. depth ≤ length last.now) }
+    ensures after { OnOk result (is_lt (path_cmp last.now path.now) ≡ true) }
+    ensures there { OnOk result (IsKindIn Directory (places_in slots.now.items) (parent_of path.now)) }
+    ensures order { result ≡ Err BuildFault.OutOfOrder → is_lt (path_cmp last.now path.now) ≡ false }
+    ensures late { result ≡ Err BuildFault.NoParent → is_lt (path_cmp last.now path.now) ≡ true }
+    ensures orphan { result ≡ Err BuildFault.NoParent →
+        IsKindIn Directory (places_in slots.now.items) (parent_of path.now) → ⊥ }
+    ensures way { way.new.items ≡ way.old.items }
+    ensures room { OnOk result (vec_len way.new < vec_capacity way.new) }
+{
+    let depth = depth_after(last, path)?;
+    let directory = way[depth];
+    if !is_directory_in(slots, directory) {
+        return Err(BuildFault::NoParent);
+    }
+    way.reserve(1)?;
+    Ok(depth)
+}
+
 /// Adds an object after the last one, whose path and the numbers on the way to it are given. After a fault
 /// all is as before.
 fn add_after(
@@ -114,12 +144,8 @@ fn add_after(
     ensures orphan { result ≡ Err BuildFault.NoParent →
         IsKindIn Directory (places_in slots.old.items) (parent_of path) → ⊥ }
 {
-    let depth = depth_after(last, &path)?;
+    let depth = directory_depth(slots, last, way, &path)?;
     let directory = way[depth];
-    if !is_directory_in(slots, directory) {
-        return Err(BuildFault::NoParent);
-    }
-    way.reserve(1)?;
     let number = put_below(alloc, slots, free, directory, &path, object)?;
     way.truncate(depth + 1);
     push_within(way, number);

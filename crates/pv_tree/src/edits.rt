@@ -1,12 +1,13 @@
 //! The edits of the tree: an object changes, comes, goes, or moves with all that lies below it.
-ghost use Rattle.std.specs.Prelude.{◌≡◌, ◌≢◌, ℕ, ◌<◌, List, [], ◌∷◌, ◌++◌, vec_len, vec_capacity, Some, IfOk, OnOk, OnErr};
+ghost use Rattle.std.specs.Prelude.{◌≡◌, ◌≢◌, ℕ, ◌<◌, List, [], ◌∷◌, ◌++◌, length, vec_len, vec_capacity, Some, IfOk, OnOk, OnErr};
 ghost use Rattle.std.specs.Option.{option_to_list};
 ghost use Rattle.pv_path.specs.Paths.{Path, parent_of};
 ghost use Rattle.pv_steps.specs.Objects.{fresh};
 ghost use Rattle.pv_steps.specs.Trees.{IsPresentIn, IsTreeIn};
 ghost use Rattle.pv_steps.specs.Steps.{HasRoom, Movable, put_at, on_at, made, gone, moved};
 ghost use Rattle.pv_tree.specs.Changes.{IsRemovable, change_of};
-ghost use Rattle.pv_tree.specs.Slots.{IsForest, AreFree, number_in, places_in};
+ghost use Rattle.pv_tree.specs.Edges.{IsSet};
+ghost use Rattle.pv_tree.specs.Slots.{IsForest, AreFree, child_in, next_number, number_in, object_in, places_in};
 
 use crate::slot::Slot;
 use crate::slots::{
@@ -14,7 +15,7 @@ use crate::slots::{
     put_child, remove_child, renew, touch,
 };
 use pv_acl::Acl;
-use pv_path::{Bytes, TreePath};
+use pv_path::{Bytes, Name, TreePath};
 use pv_steps::{AttrList, Kind, LetterSet, Node, Object, Stamps, Step, special_bits};
 use std::alloc::{AllocError, Global};
 
@@ -81,10 +82,31 @@ pub(crate) fn put_below(
         ((q : Path) → q ≢ path.now → number_in slots.new.items q ≡ number_in slots.old.items q) }
     ensures err { OnErr result (slots.new.items ≡ slots.old.items) }
 {
+    let number = name_next(slots, free, directory, own_name(path))?;
+    place(alloc, slots, free, object);
+    Ok(number)
+}
+
+/// Names the next new slot in a directory, with room for it, and gives its number. After running out of memory the
+/// slots are as before.
+fn name_next(
+    slots: &mut Vec<Slot>,
+    free: &Vec<usize>,
+    directory: usize,
+    name: &Name,
+) -> Result<usize, AllocError>
+    requires { directory < length slots.old.items }
+    ensures number { IfOk result (λ i. i ≡ next_number slots.old.items free.now.items) }
+    ensures edges { IfOk result (λ i.
+        IsSet directory name.now (Some i) (child_in slots.old.items) (child_in slots.new.items)) }
+    ensures objects { object_in slots.new.items ≡ object_in slots.old.items }
+    ensures length { length slots.new.items ≡ length slots.old.items }
+    ensures room { OnOk result (vec_len slots.new < vec_capacity slots.new) }
+    ensures err { OnErr result (slots.new.items ≡ slots.old.items) }
+{
     slots.reserve(1)?;
     let number = next_number(slots, free);
-    put_child(slots, directory, own_name(path).copy()?, number)?;
-    place(alloc, slots, free, object);
+    put_child(slots, directory, name.copy()?, number)?;
     Ok(number)
 }
 

@@ -16,7 +16,7 @@ use pv_steps::{Kind, Node, Tree, is_directory, special_bits};
 use std::alloc::{AllocError, Global};
 
 /// A piece of work for one object of a copy, at a place below the top.
-#[derive(Debug, Drop)]
+#[derive(Drop)]
 pub(crate) enum Piece {
     /// The object is made, with what it holds.
     Make(TreePath, NewFile),
@@ -25,7 +25,7 @@ pub(crate) enum Piece {
 }
 
 /// What is still to be listed.
-#[derive(Debug, Drop)]
+#[derive(Drop)]
 enum Task {
     /// The object at a place below the top, with all below it.
     Open(TreePath),
@@ -123,11 +123,24 @@ fn add_object(
     ensures listed { OnOk result (pieces.new.items
         ≡ pieces.old.items ++ Give rest.now object.dress ∷ []) }
 {
-    let first = rest.copy()?;
-    let last = rest.copy()?;
     let file = file_of(object.body, &object.dress);
-    work.push(Task::Close(Piece::Make(first, file)))?;
-    pieces.push(Piece::Give(last, object.dress))?;
+    leave_file(rest, file, work)?;
+    list_dress(rest, object.dress, pieces)
+}
+
+/// Adds the making of an object to what is left.
+fn leave_file(rest: &TreePath, file: NewFile, work: &mut Vec<Task>) -> Result<(), AllocError>
+    ensures { OnOk result (work.new.items ≡ work.old.items ++ Close (Make rest.now file) ∷ []) }
+{
+    work.push(Task::Close(Piece::Make(rest.copy()?, file)))?;
+    Ok(())
+}
+
+/// Adds the giving of a dress to the pieces that are listed.
+fn list_dress(rest: &TreePath, dress: Dress, pieces: &mut Vec<Piece>) -> Result<(), AllocError>
+    ensures { OnOk result (pieces.new.items ≡ pieces.old.items ++ Give rest.now dress ∷ []) }
+{
+    pieces.push(Piece::Give(rest.copy()?, dress))?;
     Ok(())
 }
 

@@ -1,7 +1,19 @@
-use Rattle.std.proofs.Common.{arith}
+use Rattle.std.proofs.Common.{refl, arith}
 use Rattle.pv_steps.proofs.ActingLaws.{Moves, acted_within, acted_passed}
-use Rattle.pv_dress.proofs.ChangingLaws.{attrs_dresses, letters_dresses, four_changed, dressed_on}
+use Rattle.pv_dress.specs.Dressing.{dressed_attrs}
+use Rattle.pv_dress.specs.Changing.{dressed_access}
+use Rattle.pv_dress.proofs.ChangingLaws.{can_after, attrs_dresses, letters_dresses, four_changed, dressed_on}
 use Rattle.pv_dress.proofs.dressing.dress.Goals as goal
+
+pub give_attrs-requires : goal.give_attrs-requires
+give_attrs-requires g c =
+    can_after c.args.path.now c.args.new.now (dressed_access c.args.new.now) c.args.now (g.T.Tree.state c.args.tree.now) (g.T.Tree.state c.give_access.new.tree) (λ o. refl) c.requires c.in_ok-give_access.ensures.ok
+
+pub give_letters-requires : goal.give_letters-requires
+give_letters-requires g c =
+    can_after c.args.path.now c.args.new.now (dressed_attrs c.args.new.now) c.args.now (g.T.Tree.state c.give_access.new.tree) (g.T.Tree.state c.give_attrs.new.tree) (λ o. refl)
+    (can_after c.args.path.now c.args.new.now (dressed_access c.args.new.now) c.args.now (g.T.Tree.state c.args.tree.now) (g.T.Tree.state c.give_access.new.tree) (λ o. refl) c.requires c.in_ok-give_access.ensures.ok)
+    c.in_ok-give_attrs.ensures.ok
 
 pub returns-in_err-give_attrs-clause-acted : goal.returns-in_err-give_attrs-clause-acted
 returns-in_err-give_attrs-clause-acted g c =

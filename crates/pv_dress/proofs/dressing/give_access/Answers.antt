@@ -1,7 +1,18 @@
-use Rattle.std.proofs.Common.{arith}
+use Rattle.std.proofs.Common.{refl, arith}
 use Rattle.pv_steps.proofs.ActingLaws.{Moves, acted_within, acted_passed}
-use Rattle.pv_dress.proofs.ChangingLaws.{owner_dresses, mode_dresses, acl_dresses, two_changed, all_changed_on}
+use Rattle.pv_dress.specs.Dressing.{dressed_owner, dressed_mode}
+use Rattle.pv_dress.proofs.ChangingLaws.{can_after, owner_dresses, mode_dresses, acl_dresses, two_changed, all_changed_on}
 use Rattle.pv_dress.proofs.dressing.give_access.Goals as goal
+
+pub give_mode-requires : goal.give_mode-requires
+give_mode-requires g c =
+    can_after c.args.path.now c.args.new.now (dressed_owner c.args.new.now) c.args.now (g.T.Tree.state c.args.tree.now) (g.T.Tree.state c.give_owner.new.tree) (λ o. refl) c.requires c.in_ok-give_owner.ensures.ok
+
+pub give_acl-requires : goal.give_acl-requires
+give_acl-requires g c =
+    can_after c.args.path.now c.args.new.now (dressed_mode c.args.new.now) c.args.now (g.T.Tree.state c.give_owner.new.tree) (g.T.Tree.state c.give_mode.new.tree) (λ o. refl)
+    (can_after c.args.path.now c.args.new.now (dressed_owner c.args.new.now) c.args.now (g.T.Tree.state c.args.tree.now) (g.T.Tree.state c.give_owner.new.tree) (λ o. refl) c.requires c.in_ok-give_owner.ensures.ok)
+    c.in_ok-give_mode.ensures.ok
 
 pub returns-in_err-give_owner-clause-acted : goal.returns-in_err-give_owner-clause-acted
 returns-in_err-give_owner-clause-acted g c =

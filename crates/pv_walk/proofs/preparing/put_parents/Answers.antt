@@ -16,19 +16,19 @@ use Rattle.pv_path.proofs.PathLaws.{is_prefix-take, has_staging-take}
 
 pub put_parent-requires-clause-short : goal.put_parent-requires-clause-short
 put_parent-requires-clause-short g c =
-    let next = next_parent c.args.path.now c.loop-name.place c.push.new.self (take c.saturating_sub.result c.names-names.result.now) c.loop-name.name-index c.in_ok-copy.field-0 c.name-item.result c.loop-name.invariant.items c.loop-name.invariant.place c.in_ok-copy.ensures c.name-item.is c.loop-name-test.true c.in_ok-push.ensures.ok in
+    let next = next_parent c.args.path.now c.loop-name.place c.go_down.new.place (take c.saturating_sub.result c.names-names.result.now) c.loop-name.name-index c.name-item.result c.name-item.result c.loop-name.invariant.items c.loop-name.invariant.place refl c.name-item.is c.loop-name-test.true c.in_ok-go_down.ensures in
     ap can_stage next.1 ∙ short_take (c.loop-name.name-index + 1) c.args.path.now c.requires.short
 
 pub put_parent-requires-clause-unstaged : goal.put_parent-requires-clause-unstaged
 put_parent-requires-clause-unstaged g c =
-    let next = next_parent c.args.path.now c.loop-name.place c.push.new.self (take c.saturating_sub.result c.names-names.result.now) c.loop-name.name-index c.in_ok-copy.field-0 c.name-item.result c.loop-name.invariant.items c.loop-name.invariant.place c.in_ok-copy.ensures c.name-item.is c.loop-name-test.true c.in_ok-push.ensures.ok in
+    let next = next_parent c.args.path.now c.loop-name.place c.go_down.new.place (take c.saturating_sub.result c.names-names.result.now) c.loop-name.name-index c.name-item.result c.name-item.result c.loop-name.invariant.items c.loop-name.invariant.place refl c.name-item.is c.loop-name-test.true c.in_ok-go_down.ensures in
     ap has_staging next.1 ∙ has_staging-take (c.loop-name.name-index + 1) c.args.path.now c.requires.unstaged
 
 pub put_parent-requires-clause-free : goal.put_parent-requires-clause-free
 put_parent-requires-clause-free g c =
     let i = c.loop-name.name-index in
     let path = c.args.path.now in
-    let next = next_parent path c.loop-name.place c.push.new.self (take c.saturating_sub.result c.names-names.result.now) i c.in_ok-copy.field-0 c.name-item.result c.loop-name.invariant.items c.loop-name.invariant.place c.in_ok-copy.ensures c.name-item.is c.loop-name-test.true c.in_ok-push.ensures.ok in
+    let next = next_parent path c.loop-name.place c.go_down.new.place (take c.saturating_sub.result c.names-names.result.now) i c.name-item.result c.name-item.result c.loop-name.invariant.items c.loop-name.invariant.place refl c.name-item.is c.loop-name-test.true c.in_ok-go_down.ensures in
     let lt : i + 1 < length path = next.0 in
     subst (λ (p : Path). IsAbsentIn (places (g.T.Tree.state c.loop-name.tree)) (staging_of p)) (sym next.1)
     (c.loop-name.invariant.parented.swept (take (i + 1) path) (nonempty_take (i + 1) path (omega arith) (omega arith)) (is_prefix-take (i + 1) path))
@@ -57,20 +57,12 @@ parent_more tree moves path p i lt is plain {now = now} {a = a} {b = b} before s
     no_steps None = inl refl
     no_steps (Some x) = inr refl
 
-pub returns-in_err-copy-clause-acted : goal.returns-in_err-copy-clause-acted
-returns-in_err-copy-clause-acted g c =
+pub returns-in_err-go_down-clause-acted : goal.returns-in_err-go_down-clause-acted
+returns-in_err-go_down-clause-acted g c =
     let t = g.T.Tree.state c.args.tree.now in
     let path = c.args.path.now in
     let i = c.loop-name.name-index in
     acted_ended g.T.Tree c.from_residual.result (no_memory c.from_residual.result c.from_residual.ensures.1)
-    (acted_within g.T.Tree (most_new * absent_parents path t i) (most_new * parent_count path t) (omega (arith, absent_parents-le path t i)) c.loop-name.invariant.acted)
-
-pub returns-in_err-push-clause-acted : goal.returns-in_err-push-clause-acted
-returns-in_err-push-clause-acted g c =
-    let t = g.T.Tree.state c.args.tree.now in
-    let path = c.args.path.now in
-    let i = c.loop-name.name-index in
-    acted_ended g.T.Tree c.from_residual-in_err-push.result (no_memory c.from_residual-in_err-push.result c.from_residual-in_err-push.ensures.1)
     (acted_within g.T.Tree (most_new * absent_parents path t i) (most_new * parent_count path t) (omega (arith, absent_parents-le path t i)) c.loop-name.invariant.acted)
 
 pub returns-in_err-put_parent-clause-acted : goal.returns-in_err-put_parent-clause-acted
@@ -79,10 +71,10 @@ returns-in_err-put_parent-clause-acted g c =
     let t = g.T.Tree.state c.args.tree.now in
     let i = c.loop-name.name-index in
     let path = c.args.path.now in
-    let next = next_parent path c.loop-name.place c.push.new.self (take c.saturating_sub.result c.names-names.result.now) i c.in_ok-copy.field-0 c.name-item.result c.loop-name.invariant.items c.loop-name.invariant.place c.in_ok-copy.ensures c.name-item.is c.loop-name-test.true c.in_ok-push.ensures.ok in
+    let next = next_parent path c.loop-name.place c.go_down.new.place (take c.saturating_sub.result c.names-names.result.now) i c.name-item.result c.name-item.result c.loop-name.invariant.items c.loop-name.invariant.place refl c.name-item.is c.loop-name-test.true c.in_ok-go_down.ensures in
     acted_passed g.T.Tree c.put_parent.result c.from_residual-in_err-put_parent.result c.in_err-put_parent.was c.from_residual-in_err-put_parent.ensures.1
     (acted_within g.T.Tree (most_new * absent_parents path t (i + 1)) (most_new * parent_count path t) (omega (arith, absent_parents-le path t (i + 1)))
-    (parent_more g.T.Tree moves path c.push.new.self i next.0 next.1 c.requires.unstaged c.loop-name.invariant.parented c.loop-name.invariant.acted c.put_parent.ensures.acted))
+    (parent_more g.T.Tree moves path c.go_down.new.place i next.0 next.1 c.requires.unstaged c.loop-name.invariant.parented c.loop-name.invariant.acted c.put_parent.ensures.acted))
 
 pub loop-name-preserved : goal.loop-name-preserved
 loop-name-preserved g c =
@@ -91,14 +83,14 @@ loop-name-preserved g c =
     let u = g.T.Tree.state c.loop-name.tree in
     let i = c.loop-name.name-index in
     let path = c.args.path.now in
-    let next = next_parent path c.loop-name.place c.push.new.self (take c.saturating_sub.result c.names-names.result.now) i c.in_ok-copy.field-0 c.name-item.result c.loop-name.invariant.items c.loop-name.invariant.place c.in_ok-copy.ensures c.name-item.is c.loop-name-test.true c.in_ok-push.ensures.ok in
+    let next = next_parent path c.loop-name.place c.go_down.new.place (take c.saturating_sub.result c.names-names.result.now) i c.name-item.result c.name-item.result c.loop-name.invariant.items c.loop-name.invariant.place refl c.name-item.is c.loop-name-test.true c.in_ok-go_down.ensures in
     record {
       items = c.loop-name.invariant.items;
       place = next.1;
       parented =
           parented_next c.args.now path c.requires.unstaged t i next.0 u c.loop-name.invariant.parented (g.T.Tree.state c.put_parent.new.tree)
           (c.in_ok-put_parent.ensures.ok ∙ ap (with_parent c.args.now (places u)) next.1);
-      acted = parent_more g.T.Tree moves path c.push.new.self i next.0 next.1 c.requires.unstaged c.loop-name.invariant.parented c.loop-name.invariant.acted c.in_ok-put_parent.ensures.acted;
+      acted = parent_more g.T.Tree moves path c.go_down.new.place i next.0 next.1 c.requires.unstaged c.loop-name.invariant.parented c.loop-name.invariant.acted c.in_ok-put_parent.ensures.acted;
     }
 
 pub returns-clause-acted : goal.returns-clause-acted
