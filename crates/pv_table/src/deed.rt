@@ -12,7 +12,7 @@ use pv_walk::{NewFile, TopNode};
 pub type OperationList = Sequence<Operation>;
 
 /// What a line asks for in the create phase (tmpfiles.d(5), "Type").
-#[derive(Debug, Drop)]
+#[derive(Drop)]
 pub enum Deed {
     /// An object is made at the line's path, or what stands there is adjusted.
     Create(Making),
@@ -25,7 +25,7 @@ pub enum Deed {
 }
 
 /// An object that is to stand at a path.
-#[derive(Debug, Drop)]
+#[derive(Drop)]
 pub struct Making {
     /// The object, where it is new.
     pub new: NewFile,
@@ -37,7 +37,7 @@ pub struct Making {
 }
 
 /// A copy that is to stand at a path.
-#[derive(Debug, Drop)]
+#[derive(Drop)]
 pub struct Copying {
     /// The path that is copied.
     pub source: TreePath,
@@ -68,7 +68,7 @@ impl Copying {
 }
 
 /// What is to be set of objects that are there.
-#[derive(Debug, Drop)]
+#[derive(Drop)]
 pub struct Touching {
     /// Whether all that stands below is meant as well.
     pub deep: bool,
