@@ -25,7 +25,7 @@ pub enum Deed {
 }
 
 /// An object that is to stand at a path.
-#[derive(Debug, Drop)]
+#[derive(Drop)]
 pub struct Making {
     /// The object, where it is new.
     pub new: NewFile,
@@ -68,7 +68,7 @@ impl Copying {
 }
 
 /// What is to be set of objects that are there.
-#[derive(Debug, Drop)]
+#[derive(Drop)]
 pub struct Touching {
     /// Whether all that stands below is meant as well.
     pub deep: bool,

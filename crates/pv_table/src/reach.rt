@@ -25,7 +25,7 @@ pub fn taking_of(line: &Line) -> Taking
 pub(crate) fn is_taking(line: &Line) -> bool
     ensures { result ≡ is_taking line.now }
 {
-    taking_of(line) != Taking::Nothing
+    !matches!(taking_of(line), Taking::Nothing)
 }
 
 /// What a line spares in the clean phase at a path that it names (tmpfiles.d(5), x and X).

@@ -1,7 +1,7 @@
 //! Why a configuration is not repeatable.
 
 /// Why carrying out lines twice may leave something else than carrying them out once.
-#[derive(Clone, Copy, Debug, PartialEq, Eq)]
+#[derive(Clone, Copy, Debug)]
 pub enum Reason {
     /// The line appends bytes.
     Append,

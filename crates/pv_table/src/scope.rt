@@ -2,7 +2,7 @@
 use pv_age::Age;
 
 /// The age for what stands in a directory (tmpfiles.d(5), "Age").
-#[derive(Clone, Copy, Debug, PartialEq, Eq)]
+#[derive(Clone, Copy)]
 pub struct Scope {
     /// The age.
     pub age: Age,

@@ -1,7 +1,7 @@
 //! What a line takes away in the remove phase, and what it keeps in the clean phase.
 
 /// What removal takes away at a path that a line names (tmpfiles.d(5), r, R and D).
-#[derive(Clone, Copy, Debug, PartialEq, Eq)]
+#[derive(Clone, Copy)]
 pub enum Taking {
     /// The object itself, unless it is a directory in which something stays.
     Itself,
@@ -14,7 +14,7 @@ pub enum Taking {
 }
 
 /// What cleaning spares at a path that a line names (tmpfiles.d(5), x and X).
-#[derive(Clone, Copy, Debug, PartialEq, Eq)]
+#[derive(Clone, Copy, PartialEq, Eq)]
 pub enum Sparing {
     /// The object and all that stands below it.
     Whole,
