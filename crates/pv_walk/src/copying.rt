@@ -19,7 +19,7 @@ use pv_steps::{Tree, TreeFault};
 use std::alloc::Global;
 
 /// What the top of a copy gets in the place of what is copied.
-#[derive(Clone, Copy, Debug, PartialEq, Eq)]
+#[derive(Clone, Copy)]
 pub struct TopNode {
     /// The mode, at most 07777, where one is given; not used for a link.
     pub mode: Option<u16>,

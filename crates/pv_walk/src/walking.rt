@@ -11,7 +11,7 @@ use pv_steps::{Kind, Tree, Why};
 use std::alloc::{AllocError, Global};
 
 /// What a walk along a path found. A place is counted by the names that lead to it.
-#[derive(Clone, Copy, Debug, PartialEq, Eq)]
+#[derive(Clone, Copy, PartialEq, Eq)]
 pub enum Walked {
     /// Each place is present.
     Present,
@@ -22,7 +22,7 @@ pub enum Walked {
 }
 
 /// What a walk looks at of an object.
-#[derive(Clone, Copy, Debug, PartialEq, Eq)]
+#[derive(Clone, Copy)]
 struct Seen {
     kind: Kind,
     owner: u32,

@@ -1,8 +1,9 @@
-use Rattle.std.proofs.Common.{◌≡◌, ◌⊎◌, ℕ, ◌+◌, ◌*◌, ◌<◌, false, cond, Option, Some, None, is_some, Result, refl, inl, inr, sym, ap, subst, ◌∙◌, take, length, fold, arith}
+use Rattle.std.proofs.Common.{◌≡◌, ◌≢◌, ◌⊎◌, [], ℕ, ◌+◌, ◌*◌, ◌<◌, false, cond, Option, Some, None, is_some, Result, refl, inl, inr, sym, ap, subst, ◌∙◌, take, length, fold, arith}
 use Rattle.std.specs.Prelude.{if◌then◌else◌}
-use Rattle.pv_path.specs.Paths.{Path, has_staging, staging_of}
+use Rattle.pv_path.specs.Paths.{Path, has_staging, parent_of, staging_of}
+use Rattle.pv_steps.specs.declared.node.Kind.TheVariants.{Directory}
 use Rattle.pv_steps.specs.declared.object.Object.{Object}
-use Rattle.pv_steps.specs.Trees.{places, IsAbsentIn}
+use Rattle.pv_steps.specs.Trees.{places, IsAbsentIn, IsKind}
 use Rattle.pv_steps.specs.declared.tree.Tree.{Ghosts}
 use Rattle.pv_steps.specs.declared.tree.TreeFault.{TreeFault}
 use Rattle.pv_steps.specs.Acting.{Acted}
@@ -12,7 +13,21 @@ use Rattle.pv_walk.specs.Putting.{Putting, IsPutStep}
 use Rattle.pv_walk.specs.Preparing.{with_parent, parent_file, parent_count, IsAbove, Preparing, IsPrepareStep}
 use Rattle.pv_walk.proofs.PreparingLaws.{short_take, nonempty_take, above_take, next_parent, parented_next, parented_end, room_next, absent_parents, absent_parents-le, parent_acted, Parented}
 use Rattle.pv_walk.proofs.preparing.put_parents.Goals as goal
-use Rattle.pv_path.proofs.PathLaws.{is_prefix-take, has_staging-take}
+use Rattle.pv_path.proofs.PathLaws.{is_prefix-take, has_staging-take, parent_of-push}
+
+pub put_parent-requires-clause-not_root : goal.put_parent-requires-clause-not_root
+put_parent-requires-clause-not_root g c =
+    let i = c.loop-name.name-index in
+    let path = c.args.path.now in
+    let next = next_parent c.args.path.now c.loop-name.place c.go_down.new.place (take c.saturating_sub.result c.names-names.result.now) c.loop-name.name-index c.name-item.result c.name-item.result c.loop-name.invariant.items c.loop-name.invariant.place refl c.name-item.is c.loop-name-test.true c.in_ok-go_down.ensures in
+    let lt : i + 1 < length path = next.0 in
+    subst (λ (p : Path). p ≢ []) (sym next.1) (nonempty_take (i + 1) path (omega arith) (omega arith))
+
+pub put_parent-requires-clause-parent : goal.put_parent-requires-clause-parent
+put_parent-requires-clause-parent g c =
+    subst (λ (p : Path). IsKind Directory (g.T.Tree.state c.loop-name.tree) p)
+    (sym (ap parent_of c.in_ok-go_down.ensures ∙ parent_of-push c.loop-name.place c.name-item.result ∙ c.loop-name.invariant.place))
+    c.loop-name.invariant.parented.directory
 
 pub put_parent-requires-clause-short : goal.put_parent-requires-clause-short
 put_parent-requires-clause-short g c =
@@ -32,6 +47,12 @@ put_parent-requires-clause-free g c =
     let lt : i + 1 < length path = next.0 in
     subst (λ (p : Path). IsAbsentIn (places (g.T.Tree.state c.loop-name.tree)) (staging_of p)) (sym next.1)
     (c.loop-name.invariant.parented.swept (take (i + 1) path) (nonempty_take (i + 1) path (omega arith) (omega arith)) (is_prefix-take (i + 1) path))
+
+pub returns-clause-here : goal.returns-clause-here
+returns-clause-here g c = c.loop-name.invariant.parented.at
+
+pub returns-clause-swept : goal.returns-clause-swept
+returns-clause-swept g c = c.loop-name.invariant.parented.swept
 
 pub returns-clause-ok : goal.returns-clause-ok
 returns-clause-ok g c =
