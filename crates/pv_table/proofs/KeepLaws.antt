@@ -56,7 +56,7 @@ pub with_line-dropped : (kept : List Line) (line first : Line) → find (λ firs
 with_line-dropped kept line first some = let like : list_any (λ first. make_same first line) kept ≡ true = list_any-find (λ first. make_same first line) kept ∙ ap is_some some in rw like refl
 
 -- the index with a line more that makes what none of them makes
-index-push : (kept : List Line) (look more : Path → Option ℕ) (line : Line) → IsIndexOf kept look → find (λ first. make_same first line) kept ≡ None
+pub index-push : (kept : List Line) (look more : Path → Option ℕ) (line : Line) → IsIndexOf kept look → find (λ first. make_same first line) kept ≡ None
     → ((q : Path) → more q ≡ cond (makes q line) (Some (length kept)) (look q)) → IsIndexOf (kept ++ line ∷ []) more
 index-push kept look more line index none step = λ q. step q ∙ by_test q (is_creating line) refl (same_path (path_in line.path) q) refl ∙ sym (first_place-push (makes q) kept line)
   where
@@ -80,21 +80,12 @@ index-push kept look more line index none step = λ q. step q ∙ by_test q (is_
     by_test q true e false s = rw (e, s) (as_before q)
     by_test q false e t s = rw e (as_before q)
 
--- where the line is over a path, and the index holds that at the end
-pub index-literal : (kept : List Line) (look more : Path → Option ℕ) (line : Line) (path : Path) → IsIndexOf kept look → find (λ first. make_same first line) kept ≡ None → line.path ≡ Literal path
-    → ((q : Path) → more q ≡ cond (same_path path q) (Some (length kept)) (look q)) → IsIndexOf (kept ++ line ∷ []) more
-index-literal kept look more line path index none is step = index-push kept look more line index none (λ q. step q ∙ ap (λ (b : Bool). cond b (Some (length kept)) (look q)) (sym (made q)))
-  where
-    made : (q : Path) → makes q line ≡ same_path path q
-    made q = rw is refl
+-- what a line over a path makes, and one over a pattern
+pub makes-literal : (line : Line) (path q : Path) → line.path ≡ Literal path → makes q line ≡ same_path path q
+makes-literal line path q is = rw is refl
 
--- where the line is over a pattern
-pub index-glob : (kept : List Line) (look : Path → Option ℕ) (line : Line) (pattern : Pattern) → IsIndexOf kept look → find (λ first. make_same first line) kept ≡ None → line.path ≡ Glob pattern
-    → IsIndexOf (kept ++ line ∷ []) look
-index-glob kept look line pattern index none is = index-push kept look look line index none (λ q. ap (λ (b : Bool). cond b (Some (length kept)) (look q)) (sym (not_made q)))
-  where
-    not_made : (q : Path) → makes q line ≡ false
-    not_made q = rw is refl
+pub makes-glob : (line : Line) (pattern : Pattern) (q : Path) → line.path ≡ Glob pattern → makes q line ≡ false
+makes-glob line pattern q is = rw is refl
 
 -- ---- no two lines make what stands at one path
 

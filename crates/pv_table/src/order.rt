@@ -4,9 +4,10 @@ ghost use Rattle.std.specs.List.{enumerate_from};
 ghost use Rattle.std.specs.Option.{option_or};
 ghost use Rattle.indexmap.specs.IndexMap.{get};
 ghost use Rattle.pv_path.specs.Paths.{Path, is_prefix, same_path};
-ghost use Rattle.pv_table.specs.Active.{create_order, is_touching, remove_order};
+ghost use Rattle.pv_table.specs.Active.{create_order, is_touching, placed, remove_order};
 ghost use Rattle.pv_table.specs.Building.{first_place, makes};
 ghost use Rattle.pv_table.specs.Ranking.{first_known, with_rank};
+ghost use Rattle.pv_table.specs.Reaching.{is_creating};
 
 use crate::IndexList;
 use crate::asking::is_touching;
@@ -23,11 +24,18 @@ use std::collections::BTreeMap;
 pub fn create_order(alloc: Global, table: &Table) -> Result<IndexList, AllocError>
     ensures { IfOk result (λ order. order ≡ create_order table.now) }
 {
-    let firsts = firsts_under(alloc, table)?;
-    let ranks = ranks_of(alloc, table.lines(), &firsts)?;
-    let mut order = places_of(alloc, &ranks)?;
+    let mut order = making_order(alloc, table)?;
     add_touching(&mut order, table.lines())?;
     Ok(order)
+}
+
+/// The places of the lines that make something, what lies above before what lies below.
+fn making_order(alloc: Global, table: &Table) -> Result<IndexList, AllocError>
+    ensures { IfOk result (λ order. order ≡ map (λ line. line.0) (fold placed [] (filter (λ line. is_creating line.1) (enumerate_from 0 table.now)))) }
+{
+    let firsts = firsts_under(alloc, table)?;
+    let ranks = ranks_of(alloc, table.lines(), &firsts)?;
+    places_of(alloc, &ranks)
 }
 
 /// The places of the lines that take something away in the remove phase, as they are listed (tmpfiles.d(5), r, R and D).

@@ -1,6 +1,8 @@
 //! The active lines of a configuration.
-ghost use Rattle.std.specs.Prelude.{◌≡◌, ◌++◌, [], ◌∷◌, true, length, find, None, IfOk, slice_get};
+ghost use Rattle.std.specs.Prelude.{◌≡◌, ◌++◌, [], ◌∷◌, true, cond, length, find, None, Some, IfOk, OnOk, slice_get};
 ghost use Rattle.std.specs.Option.{option_copied};
+ghost use Rattle.indexmap.specs.IndexMap.{get};
+ghost use Rattle.pv_path.specs.Paths.{Path, same_path};
 ghost use Rattle.pv_table.specs.Active.{are_distinct, make_same};
 ghost use Rattle.pv_table.specs.Building.{first_place, makes};
 
@@ -53,9 +55,7 @@ impl Table {
             mut lines,
             mut places,
         } = self;
-        if let LinePath::Literal(path) = &line.path {
-            places.insert(path.copy()?, lines.len())?;
-        }
+        note_place(&mut places, &line, lines.len())?;
         lines.push(line)?;
         Ok(Table { lines, places })
     }
@@ -107,5 +107,22 @@ impl Table {
             LinePath::Literal(path) => self.making(path),
             LinePath::Glob(_) => None,
         }
+    }
+}
+
+/// Notes the place of a line at the path of what it makes, if it makes something.
+fn note_place(
+    places: &mut IndexMap<TreePath, usize>,
+    line: &Line,
+    place: usize,
+) -> Result<(), AllocError>
+    ensures { OnOk result ((q : Path) → get same_path places.new q ≡ cond (makes q line.now) (Some place) (get same_path places.old q)) }
+{
+    match &line.path {
+        LinePath::Literal(path) => {
+            places.insert(path.copy()?, place)?;
+            Ok(())
+        }
+        LinePath::Glob(_) => Ok(()),
     }
 }
