@@ -24,7 +24,7 @@ use pv_words::{Asked, Options, WordsFault, asked_of};
 use std::alloc::{AllocError, AllocFailed, Global};
 
 /// How a run ends, with its whole output.
-#[derive(Debug, Drop)]
+#[derive(Drop)]
 pub struct Answer {
     /// How it ends.
     pub outcome: Outcome,
@@ -33,7 +33,7 @@ pub struct Answer {
 }
 
 /// Why a run has no output.
-#[derive(Clone, Copy, Debug, PartialEq, Eq)]
+#[derive(Clone, Copy, PartialEq, Eq)]
 pub enum NoAnswer {
     /// The source failed.
     ReadFault,

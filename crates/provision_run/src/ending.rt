@@ -6,7 +6,7 @@ use pv_doing::Carried;
 use pv_path::Bytes;
 
 /// How a run over a tree ended that was not stopped.
-#[derive(Debug, Drop)]
+#[derive(Drop)]
 pub enum RunEnd {
     /// All that was asked for was done.
     Done,

@@ -6,7 +6,7 @@ use pv_image::ImageFault;
 use pv_path::Bytes;
 
 /// How a run ended.
-#[derive(Debug, Drop)]
+#[derive(Drop)]
 pub enum Outcome {
     /// All that was asked for was done.
     Done,

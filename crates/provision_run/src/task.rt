@@ -6,7 +6,7 @@ use pv_text::Tool;
 use pv_words::Options;
 
 /// What a run is asked for.
-#[derive(Clone, Copy, Debug)]
+#[derive(Clone, Copy)]
 pub(crate) enum Task {
     /// Lines are carried out in phases (systemd-tmpfiles(8)).
     Phases,

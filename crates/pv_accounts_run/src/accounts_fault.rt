@@ -6,7 +6,7 @@ use pv_path::Bytes;
 use std::alloc::{AllocError, AllocFailed};
 
 /// Why a run gave up.
-#[derive(Debug, Drop)]
+#[derive(Drop)]
 pub enum AccountsFault {
     /// No number is left for the user or the group of this name; nothing was done.
     NoFreeId(Bytes),

@@ -3,7 +3,7 @@ use pv_dress::Dress;
 use pv_path::{Bytes, TreePath};
 
 /// The new text of an account file, with all that the file is to have.
-#[derive(Debug, Drop)]
+#[derive(Drop)]
 pub struct Edit {
     /// Where the file stands.
     pub path: TreePath,

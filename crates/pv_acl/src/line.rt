@@ -6,7 +6,7 @@ use pv_path::Sequence;
 use std::alloc::AllocError;
 
 /// What one entry of a line sets: a base entry, a named entry or the mask.
-#[derive(Clone, Copy, Debug, PartialEq, Eq)]
+#[derive(Clone, Copy, PartialEq, Eq)]
 pub enum Entry {
     /// The permissions of the owner.
     Owner(Perm),
@@ -24,7 +24,7 @@ pub enum Entry {
 pub type EntryList = Sequence<Entry>;
 
 /// The entries of a line of configuration: those for the access part and those for the default part.
-#[derive(Clone, Debug, Drop)]
+#[derive(Clone, Drop)]
 pub struct AclLine {
     pub access: EntryList,
     pub default_part: EntryList,
@@ -40,7 +40,7 @@ impl AclLine {
 }
 
 /// How the named entries and the mask of a line meet those of a part: in their place, or over them.
-#[derive(Clone, Copy, Debug, PartialEq, Eq)]
+#[derive(Clone, Copy, PartialEq, Eq)]
 pub enum How {
     /// In their place: none of the old named entries and no old mask stays.
     Replace,

@@ -14,7 +14,7 @@ use std::marker::Model;
 
 /// The named entries of a part in order: users by ID, then groups by ID, each once. Clauses see the
 /// list.
-#[derive(Clone, Debug, Drop)]
+#[derive(Clone, Drop)]
 pub struct NamedList {
     items: Vec<Named>,
 }

@@ -11,7 +11,7 @@ use std::alloc::{AllocError, Global};
 
 /// One part of an ACL: the base entries of the owner, the owning group and all others, the named
 /// entries, and the mask where an entry gives one (acl(5)).
-#[derive(Clone, Debug, Drop, PartialEq, Eq)]
+#[derive(Clone, Drop, PartialEq, Eq)]
 pub struct Part {
     pub owner: Perm,
     pub group: Perm,
@@ -21,7 +21,7 @@ pub struct Part {
 }
 
 /// An ACL: the access part, and for directories the part that new objects in it begin with.
-#[derive(Clone, Debug, Drop, PartialEq, Eq)]
+#[derive(Clone, Drop, PartialEq, Eq)]
 pub struct Acl {
     pub access: Part,
     pub default_part: Option<Part>,

@@ -7,7 +7,7 @@ use std::marker::Model;
 
 /// Permissions to read (4), write (2) and execute (1), as a number of at most 7. Clauses see the
 /// number.
-#[derive(Clone, Copy, Debug, PartialEq, Eq)]
+#[derive(Clone, Copy, PartialEq, Eq)]
 pub struct Perm {
     pub bits: u8,
 }
@@ -54,7 +54,7 @@ impl Perm {
 }
 
 /// Whom a named entry speaks of: a user or a group, by its ID.
-#[derive(Clone, Copy, Debug, PartialEq, Eq, PartialOrd, Ord)]
+#[derive(Clone, Copy, PartialEq, Eq, PartialOrd, Ord)]
 pub enum Who {
     User(u32),
     Group(u32),
@@ -71,7 +71,7 @@ impl Who {
 }
 
 /// The permissions of a named user or group.
-#[derive(Clone, Copy, Debug, PartialEq, Eq)]
+#[derive(Clone, Copy, PartialEq, Eq)]
 pub struct Named {
     pub who: Who,
     pub perm: Perm,

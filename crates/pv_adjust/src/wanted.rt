@@ -13,7 +13,7 @@ use pv_steps::{Kind, Node, Tree};
 use std::alloc::{AllocError, Global};
 
 /// What an object is to have.
-#[derive(Debug, Drop)]
+#[derive(Drop)]
 pub(crate) struct Wanted {
     /// The bytes of a file, where bytes are among what is set.
     pub bytes: Option<Bytes>,

@@ -10,7 +10,7 @@ use crate::sum::micros_of;
 const DEFAULT_LETTERS: &[u8] = b"abcmABM";
 
 /// An age by which objects are cleaned up (tmpfiles.d(5), Age).
-#[derive(Clone, Copy, Debug, PartialEq, Eq)]
+#[derive(Clone, Copy, PartialEq, Eq)]
 pub struct Age {
     /// The age in microseconds. By the age 0 every object is old.
     pub micros: u64,

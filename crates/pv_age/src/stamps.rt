@@ -8,7 +8,7 @@ use bitflags::{Flag, Flags, bitflag_items};
 
 /// The stamps that an age looks at, one for each letter: access, birth, change and modify, of objects
 /// that are no directories by the lower case letter, and of directories by the upper case letter.
-#[derive(Clone, Copy, PartialEq, Eq, Debug)]
+#[derive(Clone, Copy, PartialEq, Eq)]
 pub struct StampSet(u8);
 
 bitflag_items! {

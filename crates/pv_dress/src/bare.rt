@@ -9,7 +9,7 @@ use std::alloc::{AllocError, Global};
 
 /// What an object is and holds: its kind, the bytes of a file or the target of a link, and the numbers of a
 /// device.
-#[derive(Debug, Drop)]
+#[derive(Drop)]
 pub struct Body {
     /// The kind of the object.
     pub kind: Kind,
@@ -23,7 +23,7 @@ pub struct Body {
 
 /// What an object is to have: owner, owning group, special bits, the ACL whose base entries are the rest of the
 /// mode, extended attributes, and letters.
-#[derive(Debug, Drop)]
+#[derive(Drop)]
 pub struct Dress {
     /// The owner's user ID.
     pub uid: u32,
@@ -40,7 +40,7 @@ pub struct Dress {
 }
 
 /// An object without its stamps.
-#[derive(Debug, Drop)]
+#[derive(Drop)]
 pub struct Bare {
     /// What it is and holds.
     pub body: Body,

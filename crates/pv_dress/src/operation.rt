@@ -5,7 +5,7 @@ use pv_path::Bytes;
 use pv_steps::{AttrList, Kind, LetterHow, LetterSet};
 
 /// Which objects a change is for.
-#[derive(Clone, Copy, Debug, PartialEq, Eq)]
+#[derive(Clone, Copy, PartialEq, Eq)]
 pub enum Guard {
     /// Any object.
     Every,
@@ -35,7 +35,7 @@ pub enum Change {
 }
 
 /// Which present objects stay where a new one is wanted: those of its kind.
-#[derive(Clone, Copy, Debug, PartialEq, Eq)]
+#[derive(Clone, Copy, PartialEq, Eq)]
 pub struct Test {
     /// Links stay only with the new target, devices only with the new numbers.
     pub exact: bool,

@@ -5,7 +5,7 @@ use pv_path::Sequence;
 use std::alloc::AllocError;
 
 /// The bytes from `low` to `high`, both included, by value.
-#[derive(Clone, Copy, Debug, PartialEq, Eq)]
+#[derive(Clone, Copy, PartialEq, Eq)]
 pub struct ByteRange {
     /// The least byte.
     pub low: u8,
@@ -14,7 +14,7 @@ pub struct ByteRange {
 }
 
 /// The bytes in some range of a list, or those in none of them.
-#[derive(Clone, Debug, Drop)]
+#[derive(Clone, Drop)]
 pub struct ByteSet {
     /// Whether the bytes are those in no range: the bracket begins with `!` or `^`.
     pub negated: bool,
@@ -23,7 +23,7 @@ pub struct ByteSet {
 }
 
 /// What a pattern is made of between its slashes (glob(7)).
-#[derive(Clone, Debug, Drop)]
+#[derive(Clone, Drop)]
 pub enum Element {
     /// This byte.
     Byte(u8),

@@ -12,7 +12,7 @@ use std::marker::Model;
 
 /// A pattern of paths. Clauses see the list of its expansions, the patterns without braces that come
 /// of choosing one alternative for each pair of braces.
-#[derive(Debug, Drop)]
+#[derive(Drop)]
 pub struct Pattern {
     plains: Sequence<Plain>,
 }

@@ -12,7 +12,7 @@ use std::marker::Model;
 
 /// A pattern without braces: its components, one for each name of a path that it matches.
 /// Clauses see the list of components.
-#[derive(Debug, Drop)]
+#[derive(Drop)]
 pub struct Plain {
     components: Sequence<Component>,
 }

@@ -13,7 +13,7 @@ use pv_steps::{AttrList, Kind, LetterSet};
 use std::alloc::{AllocError, Global};
 
 /// The extended attributes and the letters of an object.
-#[derive(Debug, Drop)]
+#[derive(Drop)]
 pub struct Extras {
     /// The extended attributes (xattr(7)).
     pub attrs: AttrList,

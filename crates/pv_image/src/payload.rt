@@ -17,7 +17,7 @@ use pv_steps::Kind;
 use std::alloc::{AllocError, Global};
 
 /// The bytes of a file or the target of a link, and the numbers of a device.
-#[derive(Debug, Drop)]
+#[derive(Drop)]
 pub struct Payload {
     /// The bytes of a file or the target of a link; else none.
     pub bytes: Bytes,

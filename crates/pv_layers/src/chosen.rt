@@ -14,7 +14,7 @@ use pv_text::{Messages, Tool};
 use std::alloc::{AllocError, Global};
 
 /// The files that a run reads as its configuration.
-#[derive(Debug, Drop)]
+#[derive(Drop)]
 pub struct Chosen {
     /// In the order in which they are read.
     pub files: PathList,

@@ -8,7 +8,7 @@ use pv_steps::{Kind, Tree};
 use std::alloc::{AllocError, Global};
 
 /// What a path or a name stands for as a configuration file.
-#[derive(Debug, Drop)]
+#[derive(Drop)]
 pub(crate) enum Found {
     /// No object is there.
     Missing,

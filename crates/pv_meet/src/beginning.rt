@@ -4,7 +4,7 @@ ghost use Rattle.pv_path.specs.Names.{is_name_byte};
 ghost use Rattle.pv_meet.specs.Pairs.{beginning_after, beginning_of, code_of, is_nothing, may_end, may_follow};
 
 /// How a word began.
-#[derive(Clone, Copy, Debug, PartialEq, Eq)]
+#[derive(Clone, Copy, PartialEq, Eq)]
 pub enum Beginning {
     /// No byte came yet.
     Nothing,

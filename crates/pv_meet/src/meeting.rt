@@ -16,7 +16,7 @@ use pv_path::{Bytes, Name, TreePath};
 use std::alloc::{AllocError, Global};
 
 /// The paths that a pattern matches, and with `below` what lies below them too.
-#[derive(Debug, Drop)]
+#[derive(Drop)]
 pub struct Reach {
     /// What the paths match.
     pub pattern: Pattern,

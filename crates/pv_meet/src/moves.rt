@@ -6,7 +6,7 @@ use pv_path::Sequence;
 use std::alloc::{AllocError, Global};
 
 /// A move of a machine: any byte from `low` to `high`, both included and by value, leads to a place.
-#[derive(Clone, Copy, Debug, PartialEq, Eq)]
+#[derive(Clone, Copy, PartialEq, Eq)]
 pub struct Move {
     /// The least byte.
     pub low: u8,

@@ -151,7 +151,7 @@ fn moves_from(
 /// The machine whose words are the names of any length that two components of patterns both match (glob(7)):
 /// not empty, without slash and NUL, neither `.` nor `..`, and no staging name. It answers as many questions as it
 /// has places.
-#[derive(Debug, Drop)]
+#[derive(Drop)]
 pub struct PairMachine {
     first: Component,
     second: Component,

@@ -5,7 +5,7 @@ ghost use Rattle.pv_meet.specs.Pairs.{number_of, spot_at};
 use crate::beginning::Beginning;
 
 /// A place of the machine: one in each component, and how the word began.
-#[derive(Clone, Copy, Debug)]
+#[derive(Clone, Copy)]
 pub struct Spot {
     /// The place in the left component.
     pub left: usize,

@@ -8,7 +8,7 @@ use std::cmp::Ordering;
 use std::marker::Model;
 
 /// A word. Clauses see the places of its bytes in the order of bytes.
-#[derive(Debug, Drop)]
+#[derive(Drop)]
 pub(crate) struct Word {
     ranks: Vec<u16>,
 }

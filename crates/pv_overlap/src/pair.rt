@@ -2,7 +2,7 @@
 use pv_path::{Sequence, TreePath};
 
 /// Two heads, by their numbers counted from 0, the lesser one first, and a path for them.
-#[derive(Debug, Drop)]
+#[derive(Drop)]
 pub struct Pair {
     /// The number of the first.
     pub first: u32,

@@ -45,7 +45,7 @@ pub fn is_staging(name: &[u8]) -> bool
 
 /// A name of a directory entry: 1 to 255 bytes without a slash and NUL, and neither `.` nor `..`.
 /// One of up to 16 bytes takes no memory of its own. Clauses see its bytes.
-#[derive(Debug, Drop)]
+#[derive(Drop)]
 pub struct Name {
     bytes: SmallVec<u8, 16>,
 }

@@ -17,7 +17,7 @@ use std::hash::{Hash, Hasher};
 use std::marker::Model;
 
 /// A path of a tree: its names from the root, which is the empty list. Clauses see the list of names.
-#[derive(Clone, Debug, Drop)]
+#[derive(Clone, Drop)]
 pub struct TreePath {
     names: Vec<Name>,
 }

@@ -23,7 +23,7 @@ use pv_words::Options;
 use std::alloc::{AllocError, Global};
 
 /// A phase of a run (systemd-tmpfiles(8)).
-#[derive(Clone, Copy, Debug)]
+#[derive(Clone, Copy)]
 pub enum Phase {
     /// What lines r, R and D name is taken away.
     Remove,

@@ -15,7 +15,7 @@ use std::collections::BTreeMap;
 use std::marker::Model;
 
 /// What stands at each path, without stamps. Clauses see the finite map.
-#[derive(Debug, Drop)]
+#[derive(Drop)]
 pub struct Standing {
     objects: BTreeMap<TreePath, Bare>,
 }

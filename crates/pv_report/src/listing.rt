@@ -4,7 +4,7 @@ use pv_path::Sequence;
 use pv_table::Reason;
 
 /// A line, by its number counted from 0, and a reason that it has.
-#[derive(Debug, Drop)]
+#[derive(Drop)]
 pub struct Unrepeatable {
     /// The number of the line.
     pub line: u32,
@@ -16,7 +16,7 @@ pub struct Unrepeatable {
 pub type ReasonList = Sequence<Unrepeatable>;
 
 /// Which lines share a path, and which have a reason against repeating.
-#[derive(Debug, Drop)]
+#[derive(Drop)]
 pub struct Report {
     /// Each two lines that share a path, with the first such path, in the order of their numbers.
     pub pairs: PairList,

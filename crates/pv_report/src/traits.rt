@@ -13,7 +13,7 @@ use pv_table::{Deed, Sparing, Taking, asks, is_creating, sparing_of, taking_of};
 use std::alloc::{AllocError, Global};
 
 /// What is asked of a line besides where it stands.
-#[derive(Clone, Copy, Debug)]
+#[derive(Clone, Copy)]
 pub(crate) struct Traits {
     /// It appends bytes.
     pub(crate) appends: bool,

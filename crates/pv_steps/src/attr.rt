@@ -10,7 +10,7 @@ use std::alloc::{AllocError, Global};
 use std::marker::Model;
 
 /// An extended attribute (xattr(7)).
-#[derive(Clone, Debug, Drop, PartialEq, Eq)]
+#[derive(Clone, Drop, PartialEq, Eq)]
 pub struct Attr {
     /// Its name: a namespace, a period, and what stands behind it.
     pub name: Bytes,
@@ -67,7 +67,7 @@ fn has_period(bytes: &[u8]) -> bool
 
 /// Extended attributes of one object in byte order of their names, each name once, each name and each value as
 /// allowed (xattr(7)). Clauses see the list.
-#[derive(Clone, Debug, Drop)]
+#[derive(Clone, Drop)]
 pub struct AttrList {
     items: Vec<Attr>,
 }

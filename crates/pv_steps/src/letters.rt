@@ -9,7 +9,7 @@ use std::alloc::{AllocError, Global};
 use std::marker::Model;
 
 /// One bit for each letter, in byte order of the letters.
-#[derive(Clone, Copy, PartialEq, Eq, Debug)]
+#[derive(Clone, Copy, PartialEq, Eq)]
 struct Letters(u16);
 
 bitflag_items! {
@@ -56,7 +56,7 @@ impl Flags for Letters {
 
 /// A set of the letters `aAcCdDeijPsStTu`, which files and directories carry (chattr(1)). Clauses see a number
 /// below 2^15, in which a letter's bit is that of its place in byte order.
-#[derive(Clone, Copy, Debug)]
+#[derive(Clone, Copy)]
 pub struct LetterSet {
     flags: Letters,
 }
@@ -74,7 +74,7 @@ impl Model for LetterSet {
 }
 
 /// How letters change a set (chattr(1): `+`, `-` and `=`).
-#[derive(Clone, Copy, Debug, PartialEq, Eq)]
+#[derive(Clone, Copy, PartialEq, Eq)]
 pub enum LetterHow {
     /// They are added to it.
     Add,

@@ -1,6 +1,6 @@
 //! Why a walk along a path is refused.
 /// Why a walk along a path is refused at a place.
-#[derive(Clone, Copy, Debug, PartialEq, Eq)]
+#[derive(Clone, Copy, PartialEq, Eq)]
 pub enum Why {
     /// A place above the last is a symbolic link.
     Link,

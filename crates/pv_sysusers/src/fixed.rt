@@ -10,7 +10,7 @@ use std::alloc::{AllocError, Global};
 use std::collections::HashMap;
 
 /// For each group the number that the first line fixes for it, and where that line stands.
-#[derive(Debug, Drop)]
+#[derive(Drop)]
 pub struct Fixed<'a> {
     numbers: HashMap<&'a [u8], (u32, &'a Place)>,
 }

@@ -13,7 +13,7 @@ use pv_text::{Messages, Place};
 use std::alloc::{AllocError, Global};
 
 /// The groups with those that are new.
-#[derive(Debug, Drop)]
+#[derive(Drop)]
 pub struct Groups<'a> {
     /// All groups with their numbers.
     pub all: InUse<'a>,

@@ -15,7 +15,7 @@ use std::collections::HashMap;
 pub(crate) type Line<'a> = (&'a Request, Option<PathId>);
 
 /// The lines that count, with the first u line of each user.
-#[derive(Debug, Drop)]
+#[derive(Drop)]
 pub struct Lines<'a> {
     /// The lines, in order.
     pub kept: Vec<Line<'a>>,

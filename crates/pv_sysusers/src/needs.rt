@@ -15,7 +15,7 @@ use pv_text::Place;
 use std::alloc::{AllocError, Global};
 
 /// A group that a line needs.
-#[derive(Debug, Drop)]
+#[derive(Drop)]
 pub struct Need {
     /// The name of the group.
     pub name: Bytes,
@@ -26,7 +26,7 @@ pub struct Need {
 }
 
 /// The primary group of a user.
-#[derive(Debug, Drop)]
+#[derive(Drop)]
 pub enum Main {
     /// The group of the user's name.
     Own,
@@ -37,7 +37,7 @@ pub enum Main {
 }
 
 /// A user that a line needs.
-#[derive(Debug, Drop)]
+#[derive(Drop)]
 pub struct Account {
     /// The name of the user.
     pub name: Bytes,

@@ -12,7 +12,7 @@ use pv_text::Messages;
 use std::alloc::{AllocError, Global};
 
 /// A new user with his numbers.
-#[derive(Debug, Drop)]
+#[derive(Drop)]
 pub struct NewUser {
     /// What lines ask for him.
     pub account: Account,

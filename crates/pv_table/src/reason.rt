@@ -1,7 +1,7 @@
 //! Why a configuration is not repeatable.
 
 /// Why carrying out lines twice may leave something else than carrying them out once.
-#[derive(Clone, Copy, Debug)]
+#[derive(Clone, Copy)]
 pub enum Reason {
     /// The line appends bytes.
     Append,

@@ -16,7 +16,7 @@ pub const FACT_LETTERS: [u8; 12] = *b"ABHMWablmovw";
 
 /// What an image says about the system: values for the specifiers whose answer it can't know.
 /// Clauses see the finite map from letters to values.
-#[derive(Debug, Drop)]
+#[derive(Drop)]
 pub struct Facts {
     values: BTreeMap<u8, Bytes>,
     alloc: Global,

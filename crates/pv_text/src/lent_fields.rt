@@ -10,7 +10,7 @@ use std::marker::Model;
 
 /// The fields of a line, lent from it: Type, Path, Mode, User, Group, Age and Argument, as far as
 /// they are there. Clauses see the line and the spans of its fields.
-#[derive(Debug, Drop)]
+#[derive(Drop)]
 pub struct Fields<'a> {
     line: &'a [u8],
     spans: Spans,

@@ -12,7 +12,7 @@ use std::marker::Model;
 
 /// The lines that a run says, in their order, each without the `: ` before it and the line feed
 /// after it. No line feed stands in a line, so that each is read again as one. Clauses see the list of lines.
-#[derive(Debug, Drop)]
+#[derive(Drop)]
 pub struct Messages {
     lines: Vec<Bytes>,
     alloc: Global,

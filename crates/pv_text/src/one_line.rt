@@ -8,7 +8,7 @@ use std::alloc::{AllocError, Global};
 use std::marker::Model;
 
 /// A text in which no line feed stands, so that what is said of it is one line. Clauses see its bytes.
-#[derive(Debug, Drop)]
+#[derive(Drop)]
 pub struct OneLine {
     bytes: Bytes,
 }

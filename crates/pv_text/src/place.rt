@@ -5,7 +5,7 @@ use crate::one_line::OneLine;
 use std::alloc::AllocError;
 
 /// Where a line of a configuration stands.
-#[derive(Debug, Drop)]
+#[derive(Drop)]
 pub struct Place {
     /// The printed path of the file.
     pub file: OneLine,

@@ -4,7 +4,7 @@ ghost use Rattle.std.specs.Prelude.{◌≡◌, ℕ, ◌<◌, ◌≤◌, List, []
 use std::marker::Model;
 
 /// The places of up to seven fields: of the first byte, and after the last. Clauses see the list.
-#[derive(Debug, Drop)]
+#[derive(Drop)]
 pub(crate) struct Spans {
     places: [(usize, usize); 7],
     count: usize,

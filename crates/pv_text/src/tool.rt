@@ -1,6 +1,6 @@
 //! The two tools.
 /// Which of the two tools reads a configuration.
-#[derive(Clone, Copy, Debug, PartialEq, Eq)]
+#[derive(Clone, Copy, PartialEq, Eq)]
 pub enum Tool {
     /// `systemd-tmpfiles`
     Tmpfiles,

@@ -11,7 +11,7 @@ use pv_steps::{AttrList, Kind, LetterSet, special_bits};
 use std::alloc::{AllocError, Global};
 
 /// A new object with its mode and owners.
-#[derive(Debug, Drop)]
+#[derive(Drop)]
 pub struct NewFile {
     /// What it is, with what it holds.
     pub what: NewKind,
@@ -24,7 +24,7 @@ pub struct NewFile {
 }
 
 /// What a new object is, with what it holds.
-#[derive(Debug, Drop)]
+#[derive(Drop)]
 pub enum NewKind {
     /// An empty directory.
     Directory,

@@ -9,7 +9,7 @@ use crate::words_fault::WordsFault;
 use std::alloc::Global;
 
 /// What the words of a command ask for.
-#[derive(Debug, Drop)]
+#[derive(Drop)]
 pub enum Asked {
     /// A run over the tree of the input.
     Run(Options),

@@ -7,7 +7,7 @@ use pv_text::Tool;
 use std::marker::Model;
 
 /// An option of the table.
-#[derive(Clone, Copy, Debug)]
+#[derive(Clone, Copy)]
 pub(crate) enum OptionName {
     Create,
     Remove,
@@ -22,7 +22,7 @@ pub(crate) enum OptionName {
 }
 
 /// How the value of an option is read.
-#[derive(Clone, Copy, Debug)]
+#[derive(Clone, Copy)]
 pub(crate) enum Reader {
     /// The option is a flag, which has no value.
     Flag,

@@ -18,7 +18,7 @@ use pv_text::Tool;
 use std::alloc::Global;
 
 /// What the words of a command ask for.
-#[derive(Debug, Drop)]
+#[derive(Drop)]
 pub struct Options {
     /// The tool, which the first word names.
     pub tool: Tool,
