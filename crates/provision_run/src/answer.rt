@@ -33,7 +33,7 @@ pub struct Answer {
 }
 
 /// Why a run has no output.
-#[derive(Clone, Copy, PartialEq, Eq)]
+#[derive(Clone, Copy)]
 pub enum NoAnswer {
     /// The source failed.
     ReadFault,

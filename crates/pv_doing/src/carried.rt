@@ -3,7 +3,7 @@ ghost use Rattle.std.specs.Prelude.{◌≡◌, Bool, ◌||◌};
 ghost use Rattle.pv_doing.specs.Courses.{carried_of};
 
 /// Whether all could be carried out.
-#[derive(Clone, Copy, PartialEq, Eq)]
+#[derive(Clone, Copy)]
 pub enum Carried {
     /// All was carried out, or left what stood there.
     Whole,

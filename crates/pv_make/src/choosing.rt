@@ -16,7 +16,7 @@ use pv_table::Making;
 use pv_walk::NewFile;
 
 /// What is to be done at a path where an object is to stand.
-#[derive(Clone, Copy, PartialEq, Eq)]
+#[derive(Clone, Copy)]
 pub(crate) enum Choice {
     /// The new object is put there.
     Put,

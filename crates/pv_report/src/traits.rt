@@ -152,6 +152,6 @@ pub(crate) fn reaches_below(alloc: Global, line: &Line) -> Result<bool, AllocErr
     ensures { IfOk result (λ below. below ≡ reaches_below line.now) }
 {
     let deed = asks(alloc, line)?;
-    let spares = sparing_of(line) == Some(Sparing::Whole);
+    let spares = matches!(sparing_of(line), Some(Sparing::Whole));
     Ok(is_deep(&deed) || takes_below(taking_of(line)) || spares || line.age.is_some() || line.purge)
 }

@@ -14,7 +14,7 @@ pub enum Taking {
 }
 
 /// What cleaning spares at a path that a line names (tmpfiles.d(5), x and X).
-#[derive(Clone, Copy, PartialEq, Eq)]
+#[derive(Clone, Copy)]
 pub enum Sparing {
     /// The object and all that stands below it.
     Whole,
