@@ -2,7 +2,7 @@
 use pv_path::Sequence;
 
 /// The owner and the owning group of an object.
-#[derive(Clone, Copy, Debug, PartialEq, Eq)]
+#[derive(Clone, Copy, PartialEq, Eq)]
 pub struct PathId {
     /// The owner.
     pub uid: u32,

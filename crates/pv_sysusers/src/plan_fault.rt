@@ -6,7 +6,7 @@ use pv_path::Bytes;
 use std::alloc::{AllocError, AllocFailed};
 
 /// Why there is no plan.
-#[derive(Debug, Drop)]
+#[derive(Drop)]
 pub enum PlanFault {
     /// No number is left for the user or the group of this name.
     NoFreeId(Bytes),

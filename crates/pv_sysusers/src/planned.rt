@@ -25,7 +25,7 @@ use pv_text::{Messages, say_all};
 use std::alloc::{AllocError, Global};
 
 /// The new texts of the account files.
-#[derive(Debug, Drop)]
+#[derive(Drop)]
 pub struct Texts {
     /// That of /etc/passwd.
     pub passwd: Bytes,
@@ -38,7 +38,7 @@ pub struct Texts {
 }
 
 /// The account files; /etc/gshadow may be absent.
-#[derive(Clone, Copy, Debug)]
+#[derive(Clone, Copy)]
 pub struct AccountFiles<'a> {
     pub passwd: &'a [u8],
     pub group: &'a [u8],
@@ -47,7 +47,7 @@ pub struct AccountFiles<'a> {
 }
 
 /// What lines ask for.
-#[derive(Debug, Drop)]
+#[derive(Drop)]
 pub struct Wanted {
     /// The groups that they need.
     pub needs: Vec<Need>,
@@ -58,7 +58,7 @@ pub struct Wanted {
 }
 
 /// The new groups and users with their numbers.
-#[derive(Debug, Drop)]
+#[derive(Drop)]
 pub struct Numbers {
     /// The groups.
     pub groups: Vec<(Bytes, u32)>,

@@ -16,7 +16,7 @@ use std::alloc::{AllocError, Global};
 use std::collections::HashSet;
 
 /// The numbers that may be given: those in ranges, but for 0, 65535 and those that lines fix.
-#[derive(Debug, Drop)]
+#[derive(Drop)]
 pub struct Pool {
     /// The ranges, each by its first and its last number.
     pub ranges: Vec<(u32, u32)>,
