@@ -9,7 +9,7 @@ use pv_accounts::{Kind, find_line, gshadow_parts};
 use std::marker::Model;
 
 /// An entry of /etc/gshadow (gshadow(5)), each field a slice of the file.
-#[derive(Clone, Copy, Debug)]
+#[derive(Clone, Copy)]
 pub struct GshadowEntry<'a> {
     /// The name of the group.
     pub name: &'a [u8],
@@ -22,7 +22,7 @@ pub struct GshadowEntry<'a> {
 }
 
 /// The entries of /etc/gshadow (gshadow(5)). Clauses see the bytes of the file.
-#[derive(Debug, Drop)]
+#[derive(Drop)]
 pub struct GshadowView<'a> {
     file: &'a [u8],
 }
