@@ -2,7 +2,7 @@
 use pv_path::Sequence;
 
 /// What a run reads as its configuration.
-#[derive(Debug, Drop)]
+#[derive(Drop)]
 pub struct Configuration<L> {
     /// The lines that were read, in listing order.
     pub lines: Sequence<L>,

@@ -17,7 +17,7 @@ use pv_text::{Facts, Messages, Place, Tool};
 use std::alloc::{AllocError, Global};
 
 /// The reader of lines of systemd-sysusers (sysusers.d(5)).
-#[derive(Debug, Drop)]
+#[derive(Drop)]
 pub(crate) struct SysusersReader<'a> {
     /// The facts of the image.
     pub facts: &'a Facts,

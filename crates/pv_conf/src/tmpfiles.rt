@@ -19,7 +19,7 @@ use pv_text::{Facts, Messages, Place, Tool};
 use std::alloc::{AllocError, Global};
 
 /// The reader of lines of systemd-tmpfiles (tmpfiles.d(5)).
-#[derive(Debug, Drop)]
+#[derive(Drop)]
 pub(crate) struct TmpfilesReader<'a> {
     /// The facts of the image.
     pub facts: &'a Facts,
