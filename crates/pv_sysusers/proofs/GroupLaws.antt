@@ -4,7 +4,10 @@ use Rattle.std.proofs.Math.Seq.{drop-cons}
 use Rattle.pv_accounts.specs.InUse.{Ids, id_of}
 use Rattle.pv_text.specs.declared.place.Place.{Place}
 use Rattle.pv_sysusers.specs.Groups.{NewGroups, decided_groups, group_choice}
+use Rattle.pv_sysusers.specs.Deciding.{Lacks, ToldBy}
 use Rattle.pv_sysusers.specs.declared.needs.Need.{Need}
+use Rattle.pv_sysusers.specs.declared.plan_fault.PlanFault.{PlanFault}
+use Rattle.pv_sysusers.specs.declared.plan_fault.PlanFault.TheVariants.{Memory, NoFreeId}
 
 -- what was decided and what is left to be decided make the whole
 pub record Underway (whole left : NewGroups) (old now new : Ids) (said heard : List (List ℕ)) : Type 0 where
@@ -58,3 +61,14 @@ module _ (pooled : ℕ → Bool) (users : Ids) (fixed : List ℕ → Option (ℕ
       next groups needs i need below is ∙ rw (new, ← number) refl in
       let after = rw e at way in
       (sym after.lacking, saying ∙ after.told)
+
+  -- a fault of a group for which no number is left, or of memory
+  pub step_fault : (whole : NewGroups) (old groups made : Ids) (said told told' : List (List ℕ)) (needs : List Need) (i : ℕ) (need : Need) (fault : PlanFault) → i < length needs → need ≡ get_or needs i need
+      → is_some (id_of groups need.name) ≡ false → ToldBy fault (None ≡ (group_choice pooled users groups need.name (fixed need.name)).number) → Lacks (Some need.name) fault
+      → ToldBy fault (told' ≡ told ++ (group_choice pooled users groups need.name (fixed need.name)).said)
+      → Underway whole (decided_groups pooled users fixed groups (drop i needs)) old groups made said told
+      → Lacks whole.lacking fault × ToldBy fault (told' ≡ said ++ whole.said)
+  step_fault whole old groups made said told told' needs i need Memory below is new number lacks saying way = (tt, tt)
+  step_fault whole old groups made said told told' needs i need (NoFreeId name) below is new number lacks saying way =
+      let both = step_lacking whole old groups made said told told' needs i need below is new number saying way in
+      (both.0 ∙ lacks, both.1)

@@ -3,7 +3,10 @@ use Rattle.std.proofs.Common.{◌≡◌, ℕ, ◌+◌, ◌<◌, Bool, true, fals
 use Rattle.std.proofs.Math.Seq.{drop-cons}
 use Rattle.pv_accounts.specs.InUse.{Ids, id_of}
 use Rattle.pv_sysusers.specs.Users.{NewUsers, decided_users, new_user, user_choice}
+use Rattle.pv_sysusers.specs.Deciding.{Lacks, ToldBy}
 use Rattle.pv_sysusers.specs.declared.needs.Account.{Account}
+use Rattle.pv_sysusers.specs.declared.plan_fault.PlanFault.{PlanFault}
+use Rattle.pv_sysusers.specs.declared.plan_fault.PlanFault.TheVariants.{Memory, NoFreeId}
 use Rattle.pv_sysusers.specs.declared.users.NewUser.{NewUser}
 
 -- what was decided and what is left to be decided make the whole
@@ -56,3 +59,14 @@ module _ (pooled : ℕ → Bool) (groups : Ids) where
       next users accounts i account below is ∙ rw (new, ← number) refl in
       let after = rw e at way in
       (sym after.lacking, saying ∙ after.told)
+
+  -- a fault of a user for whom no number is left, or of memory
+  pub step_fault : (whole : NewUsers) (users : Ids) (made : List NewUser) (said told told' : List (List ℕ)) (accounts : List Account) (i : ℕ) (account : Account) (fault : PlanFault) → i < length accounts → account ≡ get_or accounts i account
+      → is_some (id_of users account.name) ≡ false → ToldBy fault (None ≡ (user_choice pooled users groups account).number) → Lacks (Some account.name) fault
+      → ToldBy fault (told' ≡ told ++ (user_choice pooled users groups account).said)
+      → Underway whole (decided_users pooled groups users (drop i accounts)) made said told
+      → Lacks whole.lacking fault × ToldBy fault (told' ≡ said ++ whole.said)
+  step_fault whole users made said told told' accounts i account Memory below is new number lacks saying way = (tt, tt)
+  step_fault whole users made said told told' accounts i account (NoFreeId name) below is new number lacks saying way =
+      let both = step_lacking whole users made said told told' accounts i account below is new number saying way in
+      (both.0 ∙ lacks, both.1)

@@ -1,5 +1,5 @@
 //! The numbers that lines fix for groups.
-ghost use Rattle.std.specs.Prelude.{◌≡◌, ℕ, List, [], ◌∷◌, is_some, IfOk};
+ghost use Rattle.std.specs.Prelude.{◌≡◌, ℕ, List, [], ◌∷◌, is_some, IfOk, OnOk};
 ghost use Rattle.std.specs.Option.{option_map, option_or};
 ghost use Rattle.pv_sysusers.specs.Deciding.{fixed_by};
 ghost use Rattle.pv_sysusers.specs.Needs.{fixed_for};
@@ -33,19 +33,19 @@ impl<'a> Fixed<'a> {
         }
     }
 
-    /// The same with what a line fixes, where no earlier one does.
-    fn with(mut self, need: &'a Need) -> Result<Self, AllocError>
-        ensures { IfOk result (λ fixed. (name : List ℕ) → fixed_by fixed name ≡ option_or (fixed_by self.entry name) (fixed_for (need.entry.now ∷ []) name)) }
+    /// Adds what a line fixes, where no earlier one does.
+    fn add(&mut self, need: &'a Need) -> Result<(), AllocError>
+        ensures { OnOk result ((name : List ℕ) → fixed_by self.new name ≡ option_or (fixed_by self.old name) (fixed_for (need.entry.now ∷ []) name)) }
     {
         let Some(n) = need.number else {
-            return Ok(self);
+            return Ok(());
         };
         let name = need.name.as_slice();
         if self.has(name) {
-            return Ok(self);
+            return Ok(());
         }
         self.numbers.insert(name, (n, &need.place))?;
-        Ok(self)
+        Ok(())
     }
 }
 
@@ -57,7 +57,7 @@ pub(crate) fn fixed_in(alloc: Global, needs: &[Need]) -> Result<Fixed<'_>, Alloc
         numbers: HashMap::new(alloc),
     };
     for need in needs {
-        fixed = fixed.with(need)?;
+        fixed.add(need)?;
     }
     Ok(fixed)
 }

@@ -1,6 +1,7 @@
 //! The numbers of new groups.
-ghost use Rattle.std.specs.Prelude.{◌≡◌, [], ◌∷◌, ◌++◌, Some, IfOk, IfErr, OnOk};
-ghost use Rattle.pv_sysusers.specs.Deciding.{IsMade, Lacks, Told, fixed_by, groups_by, pooled_by};
+ghost use Rattle.std.specs.Prelude.{◌≡◌, [], ◌∷◌, ◌++◌, None, Some, IfOk, IfErr, OnOk};
+ghost use Rattle.pv_accounts.specs.InUse.{id_of};
+ghost use Rattle.pv_sysusers.specs.Deciding.{IsMade, Lacks, Told, ToldBy, fixed_by, groups_by, pooled_by};
 ghost use Rattle.pv_sysusers.specs.Groups.{group_choice, in_use_message};
 
 use crate::fixed::Fixed;
@@ -84,6 +85,52 @@ fn group_number(
     }
 }
 
+/// Adds a new group to those that are made.
+fn add_made(made: &mut Vec<(Bytes, u32)>, name: &Bytes, n: u32) -> Result<(), AllocError>
+    ensures { OnOk result (made.new.items ≡ made.old.items ++ (name.now, n) ∷ []) }
+{
+    made.push((name.copy()?, n))?;
+    Ok(())
+}
+
+impl<'a> Groups<'a> {
+    /// The groups with one more, which is new.
+    fn with(self, name: &'a Bytes, n: u32) -> Result<Self, AllocError>
+        requires { id_of self.all name.now ≡ None }
+        ensures all { IfOk result (λ groups. groups.all ≡ self.entry.all ++ (name.entry.now, n) ∷ []) }
+        ensures made { IfOk result (λ groups. groups.made.items ≡ self.entry.made.items ++ (name.entry.now, n) ∷ []) }
+    {
+        let Groups { all, mut made } = self;
+        let all = all.with(name.as_slice(), n)?;
+        add_made(&mut made, name, n)?;
+        Ok(Groups { all, made })
+    }
+}
+
+/// The number that a needed group gets, or the fault that there is none.
+fn needed_number(
+    alloc: Global,
+    pool: &Pool,
+    users: &InUse<'_>,
+    groups: &InUse<'_>,
+    fixed: &Fixed<'_>,
+    name: &Bytes,
+    said: &mut Messages,
+) -> Result<u32, PlanFault>
+    ensures number { let choice = group_choice (pooled_by pool.now) users.now groups.now name.now (fixed_by fixed.now name.now) in
+        IfOk result (λ n. Some n ≡ choice.number) }
+    ensures none { let choice = group_choice (pooled_by pool.now) users.now groups.now name.now (fixed_by fixed.now name.now) in
+        IfErr result (λ fault. ToldBy fault (None ≡ choice.number)) }
+    ensures lacking { IfErr result (Lacks (Some name.now)) }
+    ensures said { let choice = group_choice (pooled_by pool.now) users.now groups.now name.now (fixed_by fixed.now name.now) in
+        Told result (said.new ≡ said.old ++ choice.said) }
+{
+    match group_number(alloc, pool, users, groups, fixed, name.as_slice(), said)? {
+        Some(n) => Ok(n),
+        None => Err(PlanFault::NoFreeId(name.copy()?)),
+    }
+}
+
 /// The groups that lines need, decided in order: one that is there keeps its number.
 pub(crate) fn decided_groups<'a>(
     alloc: Global,
@@ -101,20 +148,16 @@ pub(crate) fn decided_groups<'a>(
     ensures said { let decided = groups_by pool.now users.now fixed.now groups.entry needs.entry.now in
         Told result (said.new ≡ said.old ++ decided.said) }
 {
-    let mut all = groups;
-    let mut made = Vec::new(alloc);
+    let mut groups = Groups {
+        all: groups,
+        made: Vec::new(alloc),
+    };
     for need in needs {
-        let name = need.name.as_slice();
-        if all.id_of(name).is_some() {
+        if groups.all.id_of(need.name.as_slice()).is_some() {
             continue;
         }
-        match group_number(alloc, pool, users, &all, fixed, name, said)? {
-            Some(n) => {
-                all = all.with(name, n)?;
-                made.push((need.name.copy()?, n))?;
-            }
-            None => return Err(PlanFault::NoFreeId(need.name.copy()?)),
-        }
+        let n = needed_number(alloc, pool, users, &groups.all, fixed, &need.name, said)?;
+        groups = groups.with(&need.name, n)?;
     }
-    Ok(Groups { all, made })
+    Ok(groups)
 }

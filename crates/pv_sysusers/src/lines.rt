@@ -89,52 +89,47 @@ impl<'a> Lines<'a> {
         self.users.get(name).copied()
     }
 
-    /// The lines with one more that is no u line.
-    fn with_other(mut self, line: Line<'a>) -> Result<Self, AllocError>
-        requires index { IsIndexed self }
+    /// Adds a line that is no u line.
+    fn add_other(&mut self, line: Line<'a>) -> Result<(), AllocError>
+        requires index { IsIndexed self.old }
         requires other { user_of (shown_line line).0 ≡ None }
-        ensures kept { IfOk result (λ lines. shown lines.kept.items ≡ shown self.entry.kept.items ++ shown_line line.entry ∷ []) }
-        ensures index { IfOk result IsIndexed }
+        ensures kept { OnOk result (shown self.new.kept.items ≡ shown self.old.kept.items ++ shown_line line.entry ∷ []) }
+        ensures index { OnOk result (IsIndexed self.new) }
     {
         self.kept.push(line)?;
-        Ok(self)
+        Ok(())
     }
 
-    /// The lines with one more that is the first u line of a user.
-    fn with_user(mut self, name: &'a [u8], line: Line<'a>) -> Result<Self, AllocError>
-        requires index { IsIndexed self }
+    /// Adds a line that is the first u line of a user.
+    fn add_user(&mut self, name: &'a [u8], line: Line<'a>) -> Result<(), AllocError>
+        requires index { IsIndexed self.old }
         requires user { user_of (shown_line line).0 ≡ Some name.now }
-        requires new { first_user (shown self.kept.items) name.now ≡ None }
-        ensures kept { IfOk result (λ lines. shown lines.kept.items ≡ shown self.entry.kept.items ++ shown_line line.entry ∷ []) }
-        ensures index { IfOk result IsIndexed }
+        requires new { first_user (shown self.old.kept.items) name.now ≡ None }
+        ensures kept { OnOk result (shown self.new.kept.items ≡ shown self.old.kept.items ++ shown_line line.entry ∷ []) }
+        ensures index { OnOk result (IsIndexed self.new) }
     {
         self.users.insert(name, line.0)?;
         self.kept.push(line)?;
-        Ok(self)
+        Ok(())
     }
 
-    /// The lines with one more, where it counts; says where it does not and differs from the one that does.
-    fn with_counting(
-        self,
-        alloc: Global,
-        line: Line<'a>,
-        said: &mut Messages,
-    ) -> Result<Self, AllocError>
-        requires { IsIndexed self }
-        ensures kept { IfOk result (λ lines. shown lines.kept.items ≡ with_counting (shown self.entry.kept.items) (shown_line line.entry)) }
-        ensures index { IfOk result IsIndexed }
-        ensures said { OnOk result (said.new ≡ said.old ++ said_again (shown self.entry.kept.items) (shown_line line.entry)) }
+    /// Adds a line, where it counts; says where it does not and differs from the one that does.
+    fn add(&mut self, alloc: Global, line: Line<'a>, said: &mut Messages) -> Result<(), AllocError>
+        requires { IsIndexed self.old }
+        ensures kept { OnOk result (shown self.new.kept.items ≡ with_counting (shown self.old.kept.items) (shown_line line.entry)) }
+        ensures index { OnOk result (IsIndexed self.new) }
+        ensures said { OnOk result (said.new ≡ said.old ++ said_again (shown self.old.kept.items) (shown_line line.entry)) }
     {
         let Some(name) = user_of(line.0) else {
-            return self.with_other(line);
+            return self.add_other(line);
         };
         let Some(first) = self.first_user(name) else {
-            return self.with_user(name, line);
+            return self.add_user(name, line);
         };
         if !is_same_user(first, line.0) {
             say_duplicate(alloc, line.0, name, said)?;
         }
-        Ok(self)
+        Ok(())
     }
 }
 
@@ -151,7 +146,7 @@ pub(crate) fn counted<'a>(
 {
     let mut lines = Lines::new(alloc);
     for (i, request) in requests.as_slice().iter().enumerate() {
-        lines = lines.with_counting(alloc, (request, owners_at(taken, i)), said)?;
+        lines.add(alloc, (request, owners_at(taken, i)), said)?;
     }
     Ok(lines)
 }

@@ -75,17 +75,68 @@ impl Account {
     pub(crate) fn copy(&self) -> Result<Account, AllocError>
         ensures { IfOk result (λ account. account ≡ self.now) }
     {
-        Ok(Account {
-            name: self.name.copy()?,
-            uid: self.uid,
-            main: self.main.copy()?,
-            locked: self.locked,
-            gecos: copied(&self.gecos)?,
-            home: copied(&self.home)?,
-            shell: copied(&self.shell)?,
-            place: self.place.copy()?,
-        })
+        account_with(
+            &self.name,
+            self.uid,
+            self.main.copy()?,
+            self.locked,
+            &self.gecos,
+            &self.home,
+            &self.shell,
+            &self.place,
+        )
     }
+}
+
+/// Three texts that may be omitted, once more.
+fn copied_texts(
+    gecos: &Option<Bytes>,
+    home: &Option<Bytes>,
+    shell: &Option<Bytes>,
+) -> Result<(Option<Bytes>, Option<Bytes>, Option<Bytes>), AllocError>
+    ensures { IfOk result (λ texts. texts ≡ (gecos.now, home.now, shell.now)) }
+{
+    let gecos = copied(gecos)?;
+    let home = copied(home)?;
+    let shell = copied(shell)?;
+    Ok((gecos, home, shell))
+}
+
+/// The user of these, whose texts and place are copied.
+fn account_with(
+    name: &Bytes,
+    uid: Option<u32>,
+    main: Main,
+    locked: bool,
+    gecos: &Option<Bytes>,
+    home: &Option<Bytes>,
+    shell: &Option<Bytes>,
+    place: &Place,
+) -> Result<Account, AllocError>
+    ensures { IfOk result (λ account. account ≡ record {
+      name = name.now;
+      uid = uid;
+      main = main;
+      locked = locked;
+      gecos = gecos.now;
+      home = home.now;
+      shell = shell.now;
+      place = place.now;
+    }) }
+{
+    let name = name.copy()?;
+    let place = place.copy()?;
+    let (gecos, home, shell) = copied_texts(gecos, home, shell)?;
+    Ok(Account {
+        name,
+        uid,
+        main,
+        locked,
+        gecos,
+        home,
+        shell,
+        place,
+    })
 }
 
 /// Whether an m line has its user made: he has no entry, and no u line names him.
@@ -277,16 +328,7 @@ fn add_made_user(
     if !made {
         return Ok(());
     }
-    let account = Account {
-        name: name.copy()?,
-        uid: None,
-        main: Main::Own,
-        locked: false,
-        gecos: None,
-        home: None,
-        shell: None,
-        place: place.copy()?,
-    };
+    let account = account_with(name, None, Main::Own, false, &None, &None, &None, place)?;
     accounts.push(account)?;
     Ok(())
 }
@@ -308,16 +350,17 @@ fn account_of(line: Line<'_>) -> Result<Option<Account>, AllocError>
     else {
         return Ok(None);
     };
-    Ok(Some(Account {
-        name: name.copy()?,
-        uid: user_number(owners, id),
-        main: main_of(id)?,
-        locked: *locked,
-        gecos: copied(gecos)?,
-        home: copied(home)?,
-        shell: copied(shell)?,
-        place: place.copy()?,
-    }))
+    let account = account_with(
+        name,
+        user_number(owners, id),
+        main_of(id)?,
+        *locked,
+        gecos,
+        home,
+        shell,
+        place,
+    )?;
+    Ok(Some(account))
 }
 
 /// Adds the users that a line needs.

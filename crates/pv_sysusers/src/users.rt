@@ -1,7 +1,8 @@
 //! The numbers of new users.
-ghost use Rattle.std.specs.Prelude.{◌≡◌, [], ◌∷◌, ◌++◌, IfOk, IfErr, OnOk};
-ghost use Rattle.pv_sysusers.specs.Deciding.{AreMade, Lacks, Told, pooled_by, users_by};
-ghost use Rattle.pv_sysusers.specs.Users.{gid_of, group_or_free, is_free_for, user_choice};
+ghost use Rattle.std.specs.Prelude.{◌≡◌, [], ◌∷◌, ◌++◌, None, Some, IfOk, IfErr, OnOk};
+ghost use Rattle.pv_accounts.specs.InUse.{id_of};
+ghost use Rattle.pv_sysusers.specs.Deciding.{AreMade, Lacks, Told, ToldBy, pooled_by, users_by};
+ghost use Rattle.pv_sysusers.specs.Users.{gid_of, group_or_free, is_free_for, new_user, user_choice};
 
 use crate::groups::say_in_use;
 use crate::needs::{Account, Main};
@@ -76,6 +77,67 @@ fn gid_of(groups: &InUse<'_>, name: &[u8], main: &Main) -> u32
     }
 }
 
+/// Adds a new user to those that are made.
+fn add_made(
+    made: &mut Vec<NewUser>,
+    groups: &InUse<'_>,
+    account: &Account,
+    uid: u32,
+) -> Result<(), AllocError>
+    ensures { OnOk result (made.new.items ≡ made.old.items ++ new_user groups.now account.now uid ∷ []) }
+{
+    let gid = gid_of(groups, account.name.as_slice(), &account.main);
+    let account = account.copy()?;
+    made.push(NewUser { account, uid, gid })?;
+    Ok(())
+}
+
+/// The users with those that are new.
+#[derive(Drop)]
+struct Users<'a> {
+    /// All users with their numbers.
+    all: InUse<'a>,
+    /// The new ones.
+    made: Vec<NewUser>,
+}
+
+impl<'a> Users<'a> {
+    /// The users with one more, who is new.
+    fn with(self, groups: &InUse<'_>, account: &'a Account, uid: u32) -> Result<Self, AllocError>
+        requires { id_of self.all account.now.name ≡ None }
+        ensures all { IfOk result (λ users. users.all ≡ self.entry.all ++ (account.entry.now.name, uid) ∷ []) }
+        ensures made { IfOk result (λ users. users.made.items ≡ self.entry.made.items ++ new_user groups.now account.entry.now uid ∷ []) }
+    {
+        let Users { all, mut made } = self;
+        let all = all.with(account.name.as_slice(), uid)?;
+        add_made(&mut made, groups, account, uid)?;
+        Ok(Users { all, made })
+    }
+}
+
+/// The number that a needed user gets, or the fault that there is none.
+fn needed_number(
+    alloc: Global,
+    pool: &Pool,
+    users: &InUse<'_>,
+    groups: &InUse<'_>,
+    account: &Account,
+    said: &mut Messages,
+) -> Result<u32, PlanFault>
+    ensures number { let choice = user_choice (pooled_by pool.now) users.now groups.now account.now in
+        IfOk result (λ n. Some n ≡ choice.number) }
+    ensures none { let choice = user_choice (pooled_by pool.now) users.now groups.now account.now in
+        IfErr result (λ fault. ToldBy fault (None ≡ choice.number)) }
+    ensures lacking { IfErr result (Lacks (Some account.now.name)) }
+    ensures said { let choice = user_choice (pooled_by pool.now) users.now groups.now account.now in
+        Told result (said.new ≡ said.old ++ choice.said) }
+{
+    match user_number(alloc, pool, users, groups, account, said)? {
+        Some(n) => Ok(n),
+        None => Err(PlanFault::NoFreeId(account.name.copy()?)),
+    }
+}
+
 /// The users that lines need, decided in order: one that is there stays as he is.
 pub(crate) fn decided_users<'a>(
     alloc: Global,
@@ -92,25 +154,16 @@ pub(crate) fn decided_users<'a>(
     ensures said { let decided = users_by pool.now groups.now users.entry accounts.entry.now in
         Told result (said.new ≡ said.old ++ decided.said) }
 {
-    let mut all = users;
-    let mut made = Vec::new(alloc);
+    let mut users = Users {
+        all: users,
+        made: Vec::new(alloc),
+    };
     for account in accounts {
-        let name = account.name.as_slice();
-        if all.id_of(name).is_some() {
+        if users.all.id_of(account.name.as_slice()).is_some() {
             continue;
         }
-        match user_number(alloc, pool, &all, groups, account, said)? {
-            Some(uid) => {
-                all = all.with(name, uid)?;
-                let gid = gid_of(groups, name, &account.main);
-                made.push(NewUser {
-                    account: account.copy()?,
-                    uid,
-                    gid,
-                })?;
-            }
-            None => return Err(PlanFault::NoFreeId(account.name.copy()?)),
-        }
+        let uid = needed_number(alloc, pool, &users.all, groups, account, said)?;
+        users = users.with(groups, account, uid)?;
     }
-    Ok(made)
+    Ok(users.made)
 }

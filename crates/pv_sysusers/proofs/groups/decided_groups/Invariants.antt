@@ -5,5 +5,5 @@ use Rattle.pv_sysusers.proofs.groups.decided_groups.Given as goal
 
 abbrev pub invariant-loop-need : goal.invariant-loop-need
 invariant-loop-need l =
-    Underway (groups_by l.pool l.users l.fixed l.fn.groups l.needs) (groups_by l.pool l.users l.fixed l.all (drop l.need-index l.needs))
-    l.fn.groups l.all l.made.items l.fn.said l.said
+    Underway (groups_by l.pool l.users l.fixed l.fn.groups l.needs) (groups_by l.pool l.users l.fixed l.groups.all (drop l.need-index l.needs))
+    l.fn.groups l.groups.all l.groups.made.items l.fn.said l.said

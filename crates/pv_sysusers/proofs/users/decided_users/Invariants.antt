@@ -5,4 +5,4 @@ use Rattle.pv_sysusers.proofs.users.decided_users.Given as goal
 
 abbrev pub invariant-loop-account : goal.invariant-loop-account
 invariant-loop-account l =
-    Underway (users_by l.pool l.groups l.fn.users l.accounts) (users_by l.pool l.groups l.all (drop l.account-index l.accounts)) l.made.items l.fn.said l.said
+    Underway (users_by l.pool l.groups l.fn.users l.accounts) (users_by l.pool l.groups l.users.all (drop l.account-index l.accounts)) l.users.made.items l.fn.said l.said
