@@ -1,5 +1,5 @@
 //! The columns of a node that are spelled by letters and digits.
-ghost use Rattle.std.specs.Prelude.{◌≡◌, ◌≤◌, ◌<◌, ◌^◌, IfOk};
+ghost use Rattle.std.specs.Prelude.{◌≡◌, ◌+◌, ◌≤◌, ◌<◌, ◌^◌, [], ◌∷◌, IfOk};
 ghost use Rattle.std.specs.Fmt.{decimal};
 ghost use Rattle.pv_steps.specs.Objects.{StampsFit, IsId};
 ghost use Rattle.pv_image.specs.Spelling.{kind_text, mode_text, stamp_texts, stamps_text};
@@ -25,22 +25,31 @@ pub(crate) fn read_kind(text: &[u8]) -> Option<Kind>
     }
 }
 
+/// The number that an octal digit spells.
+fn read_octal(byte: u8) -> Option<u16>
+    ensures { Reads (λ digit. 48 + digit) (λ digit. digit < 8) byte result }
+{
+    match byte {
+        b'0'..=b'7' => Some(u16::from(byte - b'0')),
+        _ => None,
+    }
+}
+
+/// The mode that four octal digits spell.
+fn mode_of(first: u8, second: u8, third: u8, last: u8) -> Option<u16>
+    ensures { Reads mode_text (λ mode. mode ≤ 4095) (first ∷ second ∷ third ∷ last ∷ []) result }
+{
+    let high = read_octal(first)? * 8 + read_octal(second)?;
+    let low = read_octal(third)? * 8 + read_octal(last)?;
+    Some(high * 64 + low)
+}
+
 /// The mode that a text spells in four octal digits.
 pub(crate) fn read_mode(text: &[u8]) -> Option<u16>
     ensures { Reads mode_text (λ mode. mode ≤ 4095) text.now result }
 {
     match text {
-        [
-            a @ b'0'..=b'7',
-            b @ b'0'..=b'7',
-            c @ b'0'..=b'7',
-            d @ b'0'..=b'7',
-        ] => Some(
-            u16::from(*a - b'0') * 512
-                + u16::from(*b - b'0') * 64
-                + u16::from(*c - b'0') * 8
-                + u16::from(*d - b'0'),
-        ),
+        [first, second, third, last] => mode_of(*first, *second, *third, *last),
         _ => None,
     }
 }
@@ -70,16 +79,24 @@ pub(crate) fn read_id(text: &[u8]) -> Option<u32>
 }
 
 /// The stamps that four texts spell.
+fn stamps_with(access: &[u8], birth: &[u8], change: &[u8], modify: &[u8]) -> Option<Stamps>
+    ensures { let texts = access.now ∷ birth.now ∷ change.now ∷ modify.now ∷ [] in
+        Reads stamp_texts StampsFit texts result }
+{
+    Some(Stamps {
+        access: read_number(access)?,
+        birth: read_number(birth)?,
+        change: read_number(change)?,
+        modify: read_number(modify)?,
+    })
+}
+
+/// The stamps that texts spell, one each.
 fn stamps_of(pieces: &[&[u8]]) -> Option<Stamps>
     ensures { Reads stamp_texts StampsFit (texts pieces.now) result }
 {
     match pieces {
-        [access, birth, change, modify] => Some(Stamps {
-            access: read_number(access)?,
-            birth: read_number(birth)?,
-            change: read_number(change)?,
-            modify: read_number(modify)?,
-        }),
+        [access, birth, change, modify] => stamps_with(access, birth, change, modify),
         _ => None,
     }
 }

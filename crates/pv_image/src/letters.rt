@@ -1,5 +1,5 @@
 //! The column of letters (chattr(1)).
-ghost use Rattle.std.specs.Prelude.{◌≡◌, ℕ, ◌<◌, ◌^◌, bit_or, IfOk, if◌then◌else◌};
+ghost use Rattle.std.specs.Prelude.{◌≡◌, ◌↔◌, ℕ, ◌<◌, ◌^◌, bit_or, IsTrue, IfOk, if◌then◌else◌};
 ghost use Rattle.std.specs.Option.{option_map_or};
 ghost use Rattle.pv_steps.specs.Letters.{letter_bit, letters_of};
 ghost use Rattle.pv_image.specs.Spelling.{letters_text};
@@ -30,6 +30,14 @@ fn letters_in(text: &[u8]) -> LetterSet
     set
 }
 
+/// Whether a text is the letters of a set.
+fn are_letters(alloc: Global, set: LetterSet, text: &[u8]) -> Result<bool, AllocError>
+    ensures { IfOk result (λ same. IsTrue same ↔ (letters_of set ≡ text.now)) }
+{
+    let letters = set.letters(alloc)?;
+    Ok(letters.as_slice() == text)
+}
+
 /// The set of letters that a text spells.
 pub(crate) fn read_letters(alloc: Global, text: &[u8]) -> Result<Option<LetterSet>, AllocError>
     ensures { IfOk result (Reads letters_text IsLetters text.now) }
@@ -37,10 +45,12 @@ pub(crate) fn read_letters(alloc: Global, text: &[u8]) -> Result<Option<LetterSe
     if is_dash(text) {
         return Ok(Some(LetterSet::new()));
     }
+    if text.is_empty() {
+        return Ok(None);
+    }
     let set = letters_in(text);
     let _range = set.bits();
-    let letters = set.letters(alloc)?;
-    if text.is_empty() || letters.as_slice() != text {
+    if !are_letters(alloc, set, text)? {
         return Ok(None);
     }
     Ok(Some(set))

@@ -1,5 +1,5 @@
 -- The tree in memory: what its reads tell, and what a step makes of it.
-use Rattle.std.proofs.Common.{◌≡◌, ◌≢◌, ℕ, ◌^◌, ◌<◌, Bool, true, false, cond, T, List, [], ◌∷◌, ◌++◌, map, Option, Some, None, option_map, is_some, Result, Ok, Err, OnOk, OnErr, IfOk, refl, sym, ap, subst, ◌∙◌, arith, suc, get_or, slice_get, nat_lt}
+use Rattle.std.proofs.Common.{◌≡◌, ◌≢◌, ◌⊎◌, inl, inr, ℕ, ◌^◌, ◌<◌, Bool, true, false, cond, T, List, [], ◌∷◌, ◌++◌, map, Option, Some, None, option_map, is_some, Result, Ok, Err, OnOk, OnErr, IfOk, refl, sym, ap, subst, ◌∙◌, arith, suc, get_or, slice_get, nat_lt}
 use Rattle.std.specs.List.{list_all, AllByRecursion}
 use Rattle.std.specs.List.Sorted.{IsStrictlySortedBy}
 use Rattle.std.specs.Option.{option_and_then}
@@ -11,19 +11,22 @@ use Rattle.std.proofs.lemmas.Map.Lookups.{btree_set_from_contains, exact_bytes}
 use Rattle.std.specs.Cmp.Lexicographic.{nat_list_cmp_total}
 use Rattle.std.specs.FinMap as fin
 use Rattle.std.specs.FinMap.Entries.{below_all, is_sorted}
+use Rattle.pv_acl.specs.declared.part.Acl.{Acl}
+use Rattle.pv_steps.specs.declared.attr.Attr.{Attr}
 use Rattle.pv_path.specs.Paths.{Path, path_cmp, path_total, has_names, parent_of, same_path, same_path-decides}
 use Rattle.pv_path.proofs.PathLaws.{path_cmp-refl, path_cmp-exact}
 use Rattle.pv_steps.specs.declared.node.Kind.TheVariants.{Directory}
 use Rattle.pv_steps.specs.declared.object.Object.{Object}
 use Rattle.pv_steps.specs.declared.step.Step.{Step}
+use Rattle.pv_steps.specs.declared.step.Step.TheVariants.{Write, SetMode, SetOwner, SetAcl, SetAttrs, SetLetters, SetStamps, Unlink, RemoveDir}
 use Rattle.pv_steps.specs.Objects.{IsObject}
 use Rattle.pv_steps.specs.Trees.{Files, Places, places, kind_of, IsTree, IsTreeIn, IsKind, IsKindIn, IsEmptyIn, names_below}
-use Rattle.pv_steps.specs.Steps.{Can, StepFits, after, after_at, put_at, IsOther}
+use Rattle.pv_steps.specs.Steps.{Can, StepFits, after, after_at, on_at, gone, put_at, IsOther}
 use Rattle.pv_steps.proofs.StepLaws.{same_files, places_after}
 use Rattle.pv_steps.proofs.TreeLaws.{tree_after, IsTreeIn-put, not_absent, present_of_kind, present_above, directory_above}
 use Rattle.pv_steps.proofs.NameLaws.{names_below-rise, names_below-are}
 use Rattle.pv_tree.specs.declared.slot.Slot.{Slot}
-use Rattle.pv_tree.specs.Changes.{IsRemovable}
+use Rattle.pv_tree.specs.Changes.{IsRemovable, change_of}
 use Rattle.pv_path.specs.Names.{name_cmp}
 use Rattle.pv_tree.specs.Children.{Children}
 use Rattle.pv_tree.specs.Edges.{led}
@@ -39,7 +42,7 @@ files_from slots t forest is = same_files (files_of slots) t (λ q. ap (λ (p : 
 
 -- ---- what may be removed
 
-pub removable_object : (t : Places) (path : Path) → IsTreeIn t → IsOther Directory t path → IsRemovable t path
+removable_object : (t : Places) (path : Path) → IsTreeIn t → IsOther Directory t path → IsRemovable t path
 removable_object t path tree can =
     let below_root : path ≢ [] = λ e. can.1 (ap (λ (p : Path). kind_of (t p)) e ∙ tree.root) in
     record {
@@ -52,7 +55,7 @@ removable_object t path tree can =
     none None h = refl
     none (Some x) h = absurd (h refl)
 
-pub removable_directory : (t : Places) (path : Path) → IsTreeIn t → IsKindIn Directory t path → IsEmptyIn t path → path ≢ [] → IsRemovable t path
+removable_directory : (t : Places) (path : Path) → IsTreeIn t → IsKindIn Directory t path → IsEmptyIn t path → path ≢ [] → IsRemovable t path
 removable_directory t path tree dir empty below_root = record {
   no_root = below_root;
   parent = present_of_kind t (parent_of path) Directory (tree.parents path (present_of_kind t path Directory dir) below_root);
@@ -67,6 +70,31 @@ removable_directory t path tree dir empty below_root = record {
     onto : (p : Path) (n : List ℕ) (r : Path) → p ++ n ∷ r ≡ (p ++ n ∷ []) ++ r
     onto [] n r = refl
     onto (m ∷ p) n r = ap (λ (s : Path). m ∷ s) (onto p n r)
+
+-- the condition of a step that removes the object at a path, and what is left after it
+pub removable : (t : Places) (step : Step) (path : Path) → IsTreeIn t → (step ≡ Unlink path) ⊎ (step ≡ RemoveDir path) → Can t step → IsRemovable t path
+removable t step path tree (inl e) can = removable_object t path tree (subst (Can t) e can)
+removable t step path tree (inr e) can = let parts : Can t (RemoveDir path) = subst (Can t) e can in removable_directory t path tree parts.0 parts.1.0 parts.1.1
+
+pub removed_at : (t : Places) (step : Step) (path : Path) (now : ℕ) → (step ≡ Unlink path) ⊎ (step ≡ RemoveDir path) → gone now path t ≡ after_at t step now
+removed_at t step path now (inl e) = subst (λ (s : Step). gone now path t ≡ after_at t s now) (sym e) refl
+removed_at t step path now (inr e) = subst (λ (s : Step). gone now path t ≡ after_at t s now) (sym e) refl
+
+changed_as : (t : Places) (step s : Step) (path : Path) (now : ℕ) → step ≡ s → on_at path (change_of s now) t ≡ after_at t s now → on_at path (change_of step now) t ≡ after_at t step now
+changed_as t step s path now e is = subst (λ (v : Step). on_at path (change_of v now) t ≡ after_at t v now) (sym e) is
+
+-- what a step leaves that changes the object at a path
+pub changed_at : (t : Places) (step : Step) (path : Path) (now : ℕ)
+    → ((content : List ℕ) × (step ≡ Write path content)) ⊎ (((mode : ℕ) × (step ≡ SetMode path mode)) ⊎ (((uid : ℕ) × (gid : ℕ) × (step ≡ SetOwner path uid gid)) ⊎ (((acl : Acl) × (step ≡ SetAcl path acl))
+    ⊎ (((attrs : List Attr) × (step ≡ SetAttrs path attrs)) ⊎ (((letters : ℕ) × (step ≡ SetLetters path letters)) ⊎ ((access : ℕ) × (modify : ℕ) × (step ≡ SetStamps path access modify)))))))
+    → on_at path (change_of step now) t ≡ after_at t step now
+changed_at t step path now (inl e) = changed_as t step (Write path e.0) path now e.1 refl
+changed_at t step path now (inr (inl e)) = changed_as t step (SetMode path e.0) path now e.1 refl
+changed_at t step path now (inr (inr (inl e))) = changed_as t step (SetOwner path e.0 e.1) path now e.2 refl
+changed_at t step path now (inr (inr (inr (inl e)))) = changed_as t step (SetAcl path e.0) path now e.1 refl
+changed_at t step path now (inr (inr (inr (inr (inl e))))) = changed_as t step (SetAttrs path e.0) path now e.1 refl
+changed_at t step path now (inr (inr (inr (inr (inr (inl e)))))) = changed_as t step (SetLetters path e.0) path now e.1 refl
+changed_at t step path now (inr (inr (inr (inr (inr (inr e)))))) = changed_as t step (SetStamps path e.0 e.1) path now e.2 refl
 
 -- ---- reads
 

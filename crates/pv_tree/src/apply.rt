@@ -99,16 +99,15 @@ fn do_step(
             let object = fresh(alloc, Kind::Link, 0o777, target.copy()?, 0, 0, now);
             make(alloc, slots, free, path, object, now)
         }
-        Step::Write { path, .. } => change_at(slots, path, step, now),
-        Step::SetMode { path, .. } => change_at(slots, path, step, now),
-        Step::SetOwner { path, .. } => change_at(slots, path, step, now),
-        Step::SetAcl { path, .. } => change_at(slots, path, step, now),
-        Step::SetAttrs { path, .. } => change_at(slots, path, step, now),
-        Step::SetLetters { path, .. } => change_at(slots, path, step, now),
-        Step::SetStamps { path, .. } => change_at(slots, path, step, now),
+        Step::Write { path, .. }
+        | Step::SetMode { path, .. }
+        | Step::SetOwner { path, .. }
+        | Step::SetAcl { path, .. }
+        | Step::SetAttrs { path, .. }
+        | Step::SetLetters { path, .. }
+        | Step::SetStamps { path, .. } => change_at(slots, path, step, now),
         Step::Rename { from, to } => rename(slots, free, from, to, now),
-        Step::Unlink { path } => unmake(slots, free, path, now),
-        Step::RemoveDir { path } => unmake(slots, free, path, now),
+        Step::Unlink { path } | Step::RemoveDir { path } => unmake(slots, free, path, now),
     }
 }
 

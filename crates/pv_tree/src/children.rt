@@ -79,6 +79,18 @@ fn place(entries: &VecDeque<(Name, usize)>, name: &Name) -> Result<usize, usize>
     place_of(&mut probe, entries.len())
 }
 
+/// Puts a number at a place, and gives back the one that stood there.
+fn replace_at(entries: &mut VecDeque<(Name, usize)>, i: usize, number: usize) -> usize
+    requires { i < length entries.old.items }
+    ensures put { (name : List ℕ) → IsFoundAt (orders_of name entries.old.items) i →
+        entries.new.items ≡ fin.put name_cmp name number entries.old.items }
+    ensures old { (name : List ℕ) → IsFoundAt (orders_of name entries.old.items) i →
+        Some result ≡ fin.find name_cmp name entries.old.items }
+{
+    let entry = &mut entries[i];
+    replace(&mut entry.1, number)
+}
+
 /// Puts a number at a name, and gives back the one that stood there.
 fn put_in(
     entries: &mut VecDeque<(Name, usize)>,
@@ -91,10 +103,7 @@ fn put_in(
     ensures err { OnErr result (entries.new.items ≡ entries.old.items) }
 {
     match place(entries, &name) {
-        Ok(i) => {
-            let entry = &mut entries[i];
-            Ok(Some(replace(&mut entry.1, number)))
-        }
+        Ok(i) => Ok(Some(replace_at(entries, i, number))),
         Err(i) => {
             entries.insert(i, (name, number))?;
             Ok(None)

@@ -1,10 +1,12 @@
 //! One numbered slot of the tree, and what is changed in it.
 ghost use Rattle.std.specs.Prelude.{◌≡◌, ℕ, OnOk, OnErr};
-ghost use Rattle.pv_steps.specs.Objects.{modified, changed, with_mode, with_owner, with_stamps};
+ghost use Rattle.pv_steps.specs.Objects.{modified, changed, with_acl, with_attrs, with_content, with_letters, with_mode, with_owner, with_stamps};
 ghost use Rattle.pv_tree.specs.Changes.{change_of};
 
 use crate::children::Children;
-use pv_steps::{Object, Step, special_bits};
+use pv_acl::Acl;
+use pv_path::Bytes;
+use pv_steps::{AttrList, LetterSet, Object, Step, special_bits};
 use std::alloc::AllocError;
 
 /// An object with the numbers of its children by name, of which only a directory has any.
@@ -60,33 +62,59 @@ fn set_stamps(object: &mut Object, access: u64, modify: u64, now: u64)
     stamps.change = now;
 }
 
+/// Sets the content. After running out of memory the object is as before.
+fn set_content(object: &mut Object, content: &Bytes, now: u64) -> Result<(), AllocError>
+    ensures ok { OnOk result (object.new ≡ with_content content.now now object.old) }
+    ensures err { OnErr result (object.new ≡ object.old) }
+{
+    object.payload = content.copy()?;
+    note_content(object, now);
+    Ok(())
+}
+
+/// Sets the ACL. After running out of memory the object is as before.
+fn set_acl(object: &mut Object, acl: &Acl, now: u64) -> Result<(), AllocError>
+    ensures ok { OnOk result (object.new ≡ with_acl acl.now now object.old) }
+    ensures err { OnErr result (object.new ≡ object.old) }
+{
+    let node = &mut object.node;
+    node.acl = acl.copy()?;
+    node.stamps.change = now;
+    Ok(())
+}
+
+/// Sets the extended attributes. After running out of memory the object is as before.
+fn set_attrs(object: &mut Object, attrs: &AttrList, now: u64) -> Result<(), AllocError>
+    ensures ok { OnOk result (object.new ≡ with_attrs attrs.now now object.old) }
+    ensures err { OnErr result (object.new ≡ object.old) }
+{
+    let node = &mut object.node;
+    node.attrs = attrs.copy()?;
+    node.stamps.change = now;
+    Ok(())
+}
+
+/// Sets the letters.
+fn set_letters(object: &mut Object, letters: LetterSet, now: u64)
+    ensures { object.new ≡ with_letters letters now object.old }
+{
+    let node = &mut object.node;
+    node.letters = letters;
+    node.stamps.change = now;
+}
+
 /// Does a step that changes one object. After running out of memory the object is as before.
 pub(crate) fn change(object: &mut Object, step: &Step, now: u64) -> Result<(), AllocError>
     ensures ok { OnOk result (object.new ≡ change_of step.now now object.old) }
     ensures err { OnErr result (object.new ≡ object.old) }
 {
     match step {
-        Step::Write { content, .. } => {
-            object.payload = content.copy()?;
-            note_content(object, now);
-        }
+        Step::Write { content, .. } => set_content(object, content, now)?,
         Step::SetMode { mode, .. } => set_mode(object, *mode, now),
         Step::SetOwner { uid, gid, .. } => set_owner(object, *uid, *gid, now),
-        Step::SetAcl { acl, .. } => {
-            let node = &mut object.node;
-            node.acl = acl.copy()?;
-            node.stamps.change = now;
-        }
-        Step::SetAttrs { attrs, .. } => {
-            let node = &mut object.node;
-            node.attrs = attrs.copy()?;
-            node.stamps.change = now;
-        }
-        Step::SetLetters { letters, .. } => {
-            let node = &mut object.node;
-            node.letters = *letters;
-            node.stamps.change = now;
-        }
+        Step::SetAcl { acl, .. } => set_acl(object, acl, now)?,
+        Step::SetAttrs { attrs, .. } => set_attrs(object, attrs, now)?,
+        Step::SetLetters { letters, .. } => set_letters(object, *letters, now),
         Step::SetStamps { access, modify, .. } => set_stamps(object, *access, *modify, now),
         _ => {}
     }

@@ -1,5 +1,5 @@
 //! A walk over all objects of a tree, in the order of their paths.
-ghost use Rattle.std.specs.Prelude.{◌≡◌, ℕ, ◌+◌, ◌<◌, ◌^◌, List, [], ◌∷◌, length, drop, true, false, Some, None, IfOk, IfSome, OnOk, OnErr, slice_get};
+ghost use Rattle.std.specs.Prelude.{◌≡◌, ℕ, ◌+◌, ◌<◌, ◌^◌, List, [], ◌∷◌, ◌++◌, length, drop, true, false, Some, None, IfOk, IfSome, OnOk, OnErr, slice_get};
 ghost use Rattle.std.specs.Option.{option_copied, option_map};
 ghost use Rattle.pv_tree.specs.Slots.{IsForest, entries_in};
 ghost use Rattle.pv_tree.specs.Walks.{IsWay, children_in, left_in};
@@ -104,6 +104,25 @@ fn child_at(slots: &Vec<Slot>, number: usize, i: usize) -> Option<&(Name, usize)
     }
 }
 
+/// Opens a child of the deepest slot, in which the walk then goes on with the one after it.
+fn open_child(
+    names: &mut Vec<Name>,
+    opened: &mut Vec<(usize, usize)>,
+    number: usize,
+    next: usize,
+    child: &(Name, usize),
+) -> Result<(), AllocError>
+    requires { next + 1 < 2 ^ 64 }
+    ensures names { OnOk result (names.new.items ≡ names.old.items ++ child.now.0 ∷ []) }
+    ensures opened { OnOk result
+        (opened.new.items ≡ (opened.old.items ++ (number, next + 1) ∷ []) ++ (child.now.1, 0) ∷ []) }
+{
+    opened.push((number, next + 1))?;
+    opened.push((child.1, 0))?;
+    names.push(child.0.copy()?)?;
+    Ok(())
+}
+
 /// Opens the next child of the deepest slot that has one left, and closes those that have none.
 fn go_on(
     slots: &Vec<Slot>,
@@ -118,10 +137,7 @@ fn go_on(
 {
     while let Some((number, next)) = opened.pop() {
         if let Some(child) = child_at(slots, number, next) {
-            opened.push((number, next + 1))?;
-            opened.push((child.1, 0))?;
-            names.push(child.0.copy()?)?;
-            return Ok(());
+            return open_child(names, opened, number, next, child);
         }
         let _closed = names.pop();
     }

@@ -1,15 +1,24 @@
-use Rattle.std.proofs.Common.{◌≡◌, ◌≢◌, ◌==◌, true, false, not, Bool, List, [], ℕ, length, sym, ◌∙◌, subst, refl}
-use Rattle.std.specs.Cmp.Lexicographic.{bytes_decides}
-use Rattle.pv_image.proofs.LetterTexts.{set_reads}
+use Rattle.std.proofs.Common.{◌≡◌, ◌≢◌, ◌==◌, true, false, List, [], ℕ, length, codes, sym, ap, ◌∙◌}
+use Rattle.std.proofs.lemmas.Bool.{eqb-true}
+use Rattle.std.proofs.lemmas.List.{nil_from_length}
+use Rattle.pv_steps.specs.Letters.{letters_of}
+use Rattle.pv_image.proofs.LetterTexts.{set_none, set_reads}
 use Rattle.pv_image.proofs.letters.read_letters.Goals as goal
 
-is_yes : (b : Bool) → false ≡ not b → b ≡ true
-is_yes true e = refl
-is_yes false e = cc
+pub returns-then-is_empty : goal.returns-then-is_empty
+returns-then-is_empty c =
+    let other : c.args.text.now ≢ codes "-" = λ e. let bad : true ≡ false = sym (c.is_dash.ensures.1 e) ∙ c.if-is_dash.false in cc in
+    set_none c.args.text.now other (λ s small is some. some (nil_from_length c.args.text.now (eqb-true (length c.args.text.now) 0 (sym c.is_empty.ensures ∙ c.if-is_empty.true))))
+
+pub returns-then-not-branch : goal.returns-then-not-branch
+returns-then-not-branch c =
+    let other : c.args.text.now ≢ codes "-" = λ e. let bad : true ≡ false = sym (c.is_dash.ensures.1 e) ∙ c.if-is_dash.false in cc in
+    set_none c.args.text.now other
+    (λ s small is some.
+    let bad : true ≡ false = sym (c.in_ok-are_letters.ensures.1 (ap letters_of (c.letters_in-set.ensures s small is) ∙ is)) ∙ c.if-not-branch.true in
+    cc)
 
 pub returns : goal.returns
 returns c =
-    let text = c.args.text.now in
-    let some : text ≢ [] = λ e. let bad : false ≡ true = subst (λ (t : List ℕ). false ≡ (length t == 0)) e c.if-is_empty.ensures in cc in
-    let same : c.as_slice.result.now ≡ text = (bytes_decides c.as_slice.result.now text).0 (is_yes _ c.if-ne.ensures) in
-    set_reads text c.letters_in-set.result c.bits-range.ensures.range some (sym c.in_ok-letters.ensures ∙ sym c.as_slice.ensures ∙ same)
+    let some : c.args.text.now ≢ [] = λ e. let bad : false ≡ true = sym c.if-is_empty.false ∙ c.is_empty.ensures ∙ ap (λ (t : List ℕ). length t == 0) e in cc in
+    set_reads c.args.text.now c.letters_in-set.result c.bits-range.ensures.range some (c.in_ok-are_letters.ensures.0 c.if-not-branch.false)

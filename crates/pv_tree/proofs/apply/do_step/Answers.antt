@@ -1,23 +1,46 @@
 use Rattle.std.proofs.Common.{◌≡◌, List, ℕ, [], refl, sym, ap, subst, ◌∙◌}
 use Rattle.pv_steps.specs.declared.node.Kind.{Kind}
+use Rattle.pv_steps.specs.declared.node.Kind.TheVariants.{Directory, File, Fifo}
 use Rattle.pv_steps.specs.declared.object.Object.{Object}
 use Rattle.pv_steps.specs.declared.step.Step.{Step}
 use Rattle.pv_steps.specs.Objects.{fresh}
-use Rattle.pv_steps.specs.Steps.{Can, after_at, on_at, made, gone, device_kind}
-use Rattle.pv_tree.specs.Changes.{change_of}
+use Rattle.pv_steps.specs.Steps.{Can, after_at, made, moved, device_kind}
 use Rattle.pv_tree.specs.Slots.{places_in}
-use Rattle.pv_tree.proofs.State.{removable_object, removable_directory, done}
+use Rattle.pv_tree.proofs.State.{removable, removed_at, changed_at, done}
 use Rattle.pv_tree.proofs.apply.do_step.Goals as goal
 
-pub unmake-requires-clause-removable : goal.unmake-requires-clause-removable
-unmake-requires-clause-removable c =
-    removable_object (places_in c.args.slots.now.items) c.in-Unlink.path c.requires.tree (subst (λ (s : Step). Can (places_in c.args.slots.now.items) s) c.in-Unlink.is c.requires.can)
+pub make-requires-clause-room : goal.make-requires-clause-room
+make-requires-clause-room c = subst (λ (s : Step). Can (places_in c.args.slots.now.items) s) c.in-MakeDir.is c.requires.can
 
-pub unmake-requires-in-RemoveDir-clause-removable :
-    goal.unmake-requires-in-RemoveDir-clause-removable
-unmake-requires-in-RemoveDir-clause-removable c =
-    let can = subst (λ (s : Step). Can (places_in c.args.slots.now.items) s) c.in-RemoveDir.is c.requires.can in
-    removable_directory (places_in c.args.slots.now.items) c.in-RemoveDir.path c.requires.tree can.0 can.1.0 can.1.1
+pub returns-in-MakeDir-clause-ok : goal.returns-in-MakeDir-clause-ok
+returns-in-MakeDir-clause-ok c =
+    done c.make.result _ _ _
+    (ap (λ (o : Object). made c.args.now c.in-MakeDir.path o (places_in c.args.slots.now.items)) c.plain-object.ensures
+    ∙ subst (λ (s : Step). made c.args.now c.in-MakeDir.path (fresh Directory 0o700 [] 0 0 c.args.now) (places_in c.args.slots.now.items) ≡ after_at (places_in c.args.slots.now.items) s c.args.now) (sym c.in-MakeDir.is) refl)
+    c.make.ensures.ok
+
+pub make-requires-in-MakeFile-clause-room : goal.make-requires-in-MakeFile-clause-room
+make-requires-in-MakeFile-clause-room c = subst (λ (s : Step). Can (places_in c.args.slots.now.items) s) c.in-MakeFile.is c.requires.can
+
+pub returns-in-MakeFile-clause-ok : goal.returns-in-MakeFile-clause-ok
+returns-in-MakeFile-clause-ok c =
+    done c.make-in-MakeFile.result _ _ _
+    (ap (λ (o : Object). made c.args.now c.in-MakeFile.path o (places_in c.args.slots.now.items)) c.plain-object-in-MakeFile.ensures
+    ∙ subst (λ (s : Step). made c.args.now c.in-MakeFile.path (fresh File 0o600 [] 0 0 c.args.now) (places_in c.args.slots.now.items) ≡ after_at (places_in c.args.slots.now.items) s c.args.now) (sym c.in-MakeFile.is) refl)
+    c.make-in-MakeFile.ensures.ok
+
+pub make-requires-in-MakeFifo-clause-room : goal.make-requires-in-MakeFifo-clause-room
+make-requires-in-MakeFifo-clause-room c = subst (λ (s : Step). Can (places_in c.args.slots.now.items) s) c.in-MakeFifo.is c.requires.can
+
+pub returns-in-MakeFifo-clause-ok : goal.returns-in-MakeFifo-clause-ok
+returns-in-MakeFifo-clause-ok c =
+    done c.make-in-MakeFifo.result _ _ _
+    (ap (λ (o : Object). made c.args.now c.in-MakeFifo.path o (places_in c.args.slots.now.items)) c.plain-object-in-MakeFifo.ensures
+    ∙ subst (λ (s : Step). made c.args.now c.in-MakeFifo.path (fresh Fifo 0o600 [] 0 0 c.args.now) (places_in c.args.slots.now.items) ≡ after_at (places_in c.args.slots.now.items) s c.args.now) (sym c.in-MakeFifo.is) refl)
+    c.make-in-MakeFifo.ensures.ok
+
+pub make-requires-in-MakeDevice-clause-room : goal.make-requires-in-MakeDevice-clause-room
+make-requires-in-MakeDevice-clause-room c = subst (λ (s : Step). Can (places_in c.args.slots.now.items) s) c.in-MakeDevice.is c.requires.can
 
 pub returns-in-MakeDevice-clause-ok : goal.returns-in-MakeDevice-clause-ok
 returns-in-MakeDevice-clause-ok c =
@@ -29,56 +52,25 @@ returns-in-MakeDevice-clause-ok c =
     ∙ subst (λ (s : Step). made c.args.now c.in-MakeDevice.path (fresh (device_kind c.in-MakeDevice.block) 0o600 [] c.in-MakeDevice.major c.in-MakeDevice.minor c.args.now) (places_in c.args.slots.now.items) ≡ after_at (places_in c.args.slots.now.items) s c.args.now) (sym c.in-MakeDevice.is) refl)
     c.make-in-MakeDevice.ensures.ok
 
+pub make-requires-in-MakeLink-clause-room : goal.make-requires-in-MakeLink-clause-room
+make-requires-in-MakeLink-clause-room c = (subst (λ (s : Step). Can (places_in c.args.slots.now.items) s) c.in-MakeLink.is c.requires.can).0
+
+pub rename-requires-clause-movable : goal.rename-requires-clause-movable
+rename-requires-clause-movable c = subst (λ (s : Step). Can (places_in c.args.slots.now.items) s) c.in-Rename.is c.requires.can
+
+pub unmake-requires-clause-removable : goal.unmake-requires-clause-removable
+unmake-requires-clause-removable c = removable (places_in c.args.slots.now.items) c.args.step.now c.in-Unlink.path c.requires.tree c.in-Unlink.is c.requires.can
+
 pub returns-in-Write-clause-ok : goal.returns-in-Write-clause-ok
 returns-in-Write-clause-ok c =
-    done c.change_at.result _ _ _
-    (subst (λ (s : Step). on_at c.in-Write.path (change_of s c.args.now) (places_in c.args.slots.now.items) ≡ after_at (places_in c.args.slots.now.items) s c.args.now) (sym c.in-Write.is) refl)
-    c.change_at.ensures.ok
+    done c.change_at.result _ _ _ (changed_at (places_in c.args.slots.now.items) c.args.step.now c.in-Write.path c.args.now c.in-Write.is) c.change_at.ensures.ok
 
-pub returns-in-SetMode-clause-ok : goal.returns-in-SetMode-clause-ok
-returns-in-SetMode-clause-ok c =
-    done c.change_at-in-SetMode.result _ _ _
-    (subst (λ (s : Step). on_at c.in-SetMode.path (change_of s c.args.now) (places_in c.args.slots.now.items) ≡ after_at (places_in c.args.slots.now.items) s c.args.now) (sym c.in-SetMode.is) refl)
-    c.change_at-in-SetMode.ensures.ok
-
-pub returns-in-SetOwner-clause-ok : goal.returns-in-SetOwner-clause-ok
-returns-in-SetOwner-clause-ok c =
-    done c.change_at-in-SetOwner.result _ _ _
-    (subst (λ (s : Step). on_at c.in-SetOwner.path (change_of s c.args.now) (places_in c.args.slots.now.items) ≡ after_at (places_in c.args.slots.now.items) s c.args.now) (sym c.in-SetOwner.is) refl)
-    c.change_at-in-SetOwner.ensures.ok
-
-pub returns-in-SetAcl-clause-ok : goal.returns-in-SetAcl-clause-ok
-returns-in-SetAcl-clause-ok c =
-    done c.change_at-in-SetAcl.result _ _ _
-    (subst (λ (s : Step). on_at c.in-SetAcl.path (change_of s c.args.now) (places_in c.args.slots.now.items) ≡ after_at (places_in c.args.slots.now.items) s c.args.now) (sym c.in-SetAcl.is) refl)
-    c.change_at-in-SetAcl.ensures.ok
-
-pub returns-in-SetAttrs-clause-ok : goal.returns-in-SetAttrs-clause-ok
-returns-in-SetAttrs-clause-ok c =
-    done c.change_at-in-SetAttrs.result _ _ _
-    (subst (λ (s : Step). on_at c.in-SetAttrs.path (change_of s c.args.now) (places_in c.args.slots.now.items) ≡ after_at (places_in c.args.slots.now.items) s c.args.now) (sym c.in-SetAttrs.is) refl)
-    c.change_at-in-SetAttrs.ensures.ok
-
-pub returns-in-SetLetters-clause-ok : goal.returns-in-SetLetters-clause-ok
-returns-in-SetLetters-clause-ok c =
-    done c.change_at-in-SetLetters.result _ _ _
-    (subst (λ (s : Step). on_at c.in-SetLetters.path (change_of s c.args.now) (places_in c.args.slots.now.items) ≡ after_at (places_in c.args.slots.now.items) s c.args.now) (sym c.in-SetLetters.is) refl)
-    c.change_at-in-SetLetters.ensures.ok
-
-pub returns-in-SetStamps-clause-ok : goal.returns-in-SetStamps-clause-ok
-returns-in-SetStamps-clause-ok c =
-    done c.change_at-in-SetStamps.result _ _ _
-    (subst (λ (s : Step). on_at c.in-SetStamps.path (change_of s c.args.now) (places_in c.args.slots.now.items) ≡ after_at (places_in c.args.slots.now.items) s c.args.now) (sym c.in-SetStamps.is) refl)
-    c.change_at-in-SetStamps.ensures.ok
+pub returns-in-Rename-clause-ok : goal.returns-in-Rename-clause-ok
+returns-in-Rename-clause-ok c =
+    done c.rename.result _ _ _
+    (subst (λ (s : Step). moved c.args.now c.in-Rename.from c.in-Rename.to (places_in c.args.slots.now.items) ≡ after_at (places_in c.args.slots.now.items) s c.args.now) (sym c.in-Rename.is) refl)
+    c.rename.ensures.ok
 
 pub returns-in-Unlink-clause-ok : goal.returns-in-Unlink-clause-ok
 returns-in-Unlink-clause-ok c =
-    done c.unmake.result _ _ _
-    (subst (λ (s : Step). gone c.args.now c.in-Unlink.path (places_in c.args.slots.now.items) ≡ after_at (places_in c.args.slots.now.items) s c.args.now) (sym c.in-Unlink.is) refl)
-    c.unmake.ensures.ok
-
-pub returns-in-RemoveDir-clause-ok : goal.returns-in-RemoveDir-clause-ok
-returns-in-RemoveDir-clause-ok c =
-    done c.unmake-in-RemoveDir.result _ _ _
-    (subst (λ (s : Step). gone c.args.now c.in-RemoveDir.path (places_in c.args.slots.now.items) ≡ after_at (places_in c.args.slots.now.items) s c.args.now) (sym c.in-RemoveDir.is) refl)
-    c.unmake-in-RemoveDir.ensures.ok
+    done c.unmake.result _ _ _ (removed_at (places_in c.args.slots.now.items) c.args.step.now c.in-Unlink.path c.args.now c.in-Unlink.is) c.unmake.ensures.ok

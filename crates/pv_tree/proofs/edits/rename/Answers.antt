@@ -1,4 +1,5 @@
-use Rattle.std.proofs.Common.{◌≡◌, Some, List, ℕ, subst, sym, ◌∙◌, arith}
+use Rattle.std.proofs.Common.{◌≡◌, Some, List, ℕ, subst, sym, ◌∙◌}
+use Rattle.pv_path.specs.Paths.{parent_of}
 use Rattle.pv_steps.specs.Steps.{moved}
 use Rattle.pv_tree.specs.Edges.{IsSet}
 use Rattle.pv_tree.specs.Slots.{child_in, number_in, places_in}
@@ -13,12 +14,35 @@ unreachable-requires c =
     present_child c.args.slots.now.items c.location-source.result.0 c.location-source.result.1.now c.args.from.now c.requires.forest c.location-source.ensures.number c.location-source.ensures.name
     c.requires.movable.present (sym c.in_default.ensures)
 
+pub put_child-requires : goal.put_child-requires
+put_child-requires c = c.requires.forest.within (parent_of c.args.to.now) c.location-target.result.0 c.location-target.ensures.number
+
+pub remove_child-requires : goal.remove_child-requires
+remove_child-requires c =
+    rw c.put_child.ensures.length (c.requires.forest.within (parent_of c.args.from.now) c.location-source.result.0 c.location-source.ensures.number)
+
+pub touch-requires : goal.touch-requires
+touch-requires c =
+    rw (c.remove_child.ensures.length, c.put_child.ensures.length) (c.requires.forest.within (parent_of c.args.to.now) c.location-target.result.0 c.location-target.ensures.number)
+
+pub touch-requires-2 : goal.touch-requires-2
+touch-requires-2 c =
+    rw (c.touch.ensures.length, c.remove_child.ensures.length, c.put_child.ensures.length) (c.requires.forest.within (parent_of c.args.from.now) c.location-source.result.0 c.location-source.ensures.number)
+
 pub renew-requires : goal.renew-requires
 renew-requires c =
     let at : number_in c.args.slots.now.items c.args.from.now ≡ Some c.in-Some.number =
     number_of_child c.args.slots.now.items c.location-source.result.0 c.location-source.result.1.now c.args.from.now c.location-source.ensures.number c.location-source.ensures.name ∙ sym c.in-Some.ensures in
-    let small = c.requires.forest.within c.args.from.now c.in-Some.number at in
-    omega (arith, small, c.put_child.ensures.length, c.remove_child.ensures.length, c.touch.ensures.length, c.touch-2.ensures.length)
+    rw (c.touch-2.ensures.length, c.touch.ensures.length, c.remove_child.ensures.length, c.put_child.ensures.length) (c.requires.forest.within c.args.from.now c.in-Some.number at)
+
+pub returns-in_err-copy-clause-free : goal.returns-in_err-copy-clause-free
+returns-in_err-copy-clause-free c = rw c.reserve.ensures.items c.requires.free
+
+pub returns-in_err-replaced-clause-forest : goal.returns-in_err-replaced-clause-forest
+returns-in_err-replaced-clause-forest c = rw c.in_err-replaced.ensures.err c.requires.forest
+
+pub returns-in_err-replaced-clause-free : goal.returns-in_err-replaced-clause-free
+returns-in_err-replaced-clause-free c = rw (c.in_err-replaced.ensures.err, c.reserve.ensures.items) c.requires.free
 
 edges : (c : goal.After-release) → IsSet c.location-target.result.0 c.location-target.result.1.now (Some c.in-Some.number) (child_in c.args.slots.now.items) (child_in c.put_child.new.slots.items)
 edges c = subst (λ (n : List ℕ). IsSet c.location-target.result.0 n (Some c.in-Some.number) (child_in c.args.slots.now.items) (child_in c.put_child.new.slots.items)) c.in_ok-copy.ensures c.in_ok-replaced.ensures.edges
