@@ -1,5 +1,5 @@
 //! What goes before the last name of a path: staging names swept, absent parents put.
-ghost use Rattle.std.specs.Prelude.{◌≡◌, ◌≢◌, ◌≤◌, ◌+◌, ◌*◌, [], ◌∷◌, ◌++◌, true, false, is_some, OnOk, if◌then◌else◌};
+ghost use Rattle.std.specs.Prelude.{◌≡◌, ◌≢◌, ◌≤◌, ◌+◌, ◌*◌, [], true, false, is_some, OnOk, if◌then◌else◌};
 ghost use Rattle.pv_path.specs.Paths.{parent_of, has_staging, staging_of};
 ghost use Rattle.pv_steps.specs.declared.node.Kind.TheVariants.{Directory};
 ghost use Rattle.pv_steps.specs.Trees.{places, IsKind, IsAbsentIn};
@@ -11,9 +11,10 @@ ghost use Rattle.pv_walk.specs.Preparing.{prepared, with_parent, with_parents, p
 use crate::new_file::{NewFile, NewKind};
 use crate::put::put_new;
 use crate::sweeping::sweep;
-use pv_path::{Name, TreePath};
+use crate::walking::go_down;
+use pv_path::TreePath;
 use pv_steps::{Tree, TreeFault, is_present};
-use std::alloc::{AllocError, Global};
+use std::alloc::Global;
 
 /// Makes ready for what is to come to a path: takes away what an earlier run has staged along the path, and puts
 /// a directory 0755 of root at each absent place above it. Each name of the path has at most 250 bytes.
@@ -72,13 +73,6 @@ fn put_parents<T: Tree>(
         put_parent(alloc, tree, &place, now)?;
     }
     Ok(())
-}
-
-/// Goes one name further down.
-fn go_down(place: &mut TreePath, name: &Name) -> Result<(), AllocError>
-    ensures { OnOk result (place.new ≡ place.old ++ name.now ∷ []) }
-{
-    place.push(name.copy()?)
 }
 
 /// Puts a directory that root owns at a place where nothing stands.

@@ -8,6 +8,7 @@ ghost use Rattle.pv_steps.specs.Acting.{Acted};
 ghost use Rattle.pv_walk.specs.Staging.{staging_names, is_under_any, count_at_all, can_stage};
 
 use crate::remove::{remove, remove_below};
+use crate::walking::go_down;
 use pv_path::{TreePath, staging};
 use pv_steps::{Tree, TreeFault, is_present};
 use std::alloc::Global;
@@ -71,7 +72,7 @@ pub fn sweep<T: Tree>(
 {
     let mut place = TreePath::root(alloc);
     for name in path.names() {
-        place.push(name.copy()?)?;
+        go_down(&mut place, name)?;
         sweep_place(alloc, tree, &place, now)?;
     }
     Ok(())

@@ -1,12 +1,12 @@
 //! Walks along a path from the root.
-ghost use Rattle.std.specs.Prelude.{◌≡◌, ◌<◌, ◌≤◌, ◌^◌, length, IfOk};
+ghost use Rattle.std.specs.Prelude.{◌≡◌, ◌<◌, ◌≤◌, ◌^◌, [], ◌∷◌, ◌++◌, length, IfOk, OnOk};
 ghost use Rattle.std.specs.Option.{option_or};
 ghost use Rattle.pv_steps.specs.Trees.{places, IsTree};
 ghost use Rattle.pv_steps.specs.Refusal.{refusal, why_blocked};
 ghost use Rattle.pv_walk.specs.Walking.{walked, unrefused, first_blocked};
 ghost use Rattle.pv_walk.specs.Seeing.{seen_of, seen_kind, seen_owner, why_owner, if_absent};
 
-use pv_path::TreePath;
+use pv_path::{Name, TreePath};
 use pv_steps::{Kind, Tree, Why};
 use std::alloc::{AllocError, Global};
 
@@ -53,7 +53,7 @@ pub fn walk<T: Tree>(
         }
         absent = or_absent(absent, place, k as u32);
         above = owner;
-        at.push(name.copy()?)?;
+        go_down(&mut at, name)?;
     }
     let place = seen_at(tree, &at);
     let last = path.len() as u32;
@@ -98,9 +98,16 @@ pub fn blocked<T: Tree>(
         if let Some(why) = why_passed(seen_at(tree, &at)) {
             return Ok(Some((k as u32, why)));
         }
-        at.push(name.copy()?)?;
+        go_down(&mut at, name)?;
     }
     Ok(None)
+}
+
+/// Goes one name further down.
+pub(crate) fn go_down(place: &mut TreePath, name: &Name) -> Result<(), AllocError>
+    ensures { OnOk result (place.new ≡ place.old ++ name.now ∷ []) }
+{
+    place.push(name.copy()?)
 }
 
 /// What stands at a path.

@@ -1,11 +1,16 @@
-use Rattle.std.proofs.Common.{◌≡◌, ◌≢◌, ℕ, sym, ap, subst, ◌∙◌, refl, [], is_some}
-use Rattle.pv_path.specs.Paths.{Path, staging_of}
+use Rattle.std.proofs.Common.{◌≡◌, ◌≢◌, ℕ, sym, ap, subst, ◌∙◌, refl, [], is_some, Result}
+use Rattle.pv_path.specs.Paths.{Path, is_prefix, staging_of}
 use Rattle.pv_steps.specs.declared.node.Kind.TheVariants.{Directory}
 use Rattle.pv_steps.specs.Trees.{Files, Places, places, IsTree, IsPresent, IsKind}
 use Rattle.pv_steps.specs.Steps.{Yields, moved}
-use Rattle.pv_dress.specs.Edits.{taken, emptied, count_at}
+use Rattle.pv_steps.specs.declared.tree.Tree.{Ghosts}
+use Rattle.pv_steps.specs.declared.tree.TreeFault.{TreeFault}
+use Rattle.pv_steps.specs.Content.{Removes}
+use Rattle.pv_steps.specs.Acting.{Acted, refused}
+use Rattle.pv_steps.proofs.ActingLaws.{Moves, well, acted_none}
+use Rattle.pv_dress.specs.Edits.{Pruned, taken, emptied, count_at}
 use Rattle.pv_walk.proofs.PublishLaws.{IsCleared, cleared-emptied, cleared-taken, moved_same, stage_same, yields_emptied, yields_taken}
-use Rattle.pv_walk.proofs.SweepLaws.{count_below-le}
+use Rattle.pv_walk.proofs.SweepLaws.{count_below-le, pruned-none}
 use Rattle.pv_walk.proofs.Removing.{widened}
 use Rattle.pv_walk.proofs.publishing.make_way.Goals as goal
 use Rattle.pv_path.proofs.Tests.{on_ok}
@@ -74,3 +79,36 @@ pub returns-in-true-true-clause-acted : goal.returns-in-true-true-clause-acted
 returns-in-true-true-clause-acted g c =
     let t = g.T.Tree.state c.args.tree.now in
     widened g.T.Tree c.args.path.now (count_at t c.args.path.now) (count_below-le t c.args.path.now) c.remove_below.ensures.acted
+
+pub take_away-requires : goal.take_away-requires
+take_away-requires g c = c.requires.not_root
+
+pub returns-in_default-clause-acted : goal.returns-in_default-clause-acted
+returns-in_default-clause-acted g c = c.take_away.ensures.acted
+
+untouched : {S A : Type 0} (tree : Ghosts S) → Moves tree → (path : Path) (now : ℕ) (a : S) (r : Result A TreeFault) → refused r ≡ 0
+    → Acted tree (Pruned (is_prefix path) (tree.state a)) (Removes (is_prefix path)) (count_at (tree.state a) path) now a a r
+untouched tree moves path now a r none =
+    acted_none tree moves (Pruned (is_prefix path) (tree.state a)) (Removes (is_prefix path)) (count_at (tree.state a) path) now a r none (pruned-none (is_prefix path) (tree.state a))
+
+pub returns-then-not-is_present-clause-acted : goal.returns-then-not-is_present-clause-acted
+returns-then-not-is_present-clause-acted g c =
+    let moves : Moves g.T.Tree = record { stays = g.met.T.Tree.reaches_self; goes_on = g.met.T.Tree.reaches_on; never_falls = g.met.T.Tree.never_falls } in
+    untouched g.T.Tree moves c.args.path.now c.args.now c.args.tree.now well refl
+
+pub returns-in-false-false-clause-acted : goal.returns-in-false-false-clause-acted
+returns-in-false-false-clause-acted g c =
+    let moves : Moves g.T.Tree = record { stays = g.met.T.Tree.reaches_self; goes_on = g.met.T.Tree.reaches_on; never_falls = g.met.T.Tree.never_falls } in
+    untouched g.T.Tree moves c.args.path.now c.args.now c.args.tree.now well refl
+
+pub returns-then-not-is_present-clause-same : goal.returns-then-not-is_present-clause-same
+returns-then-not-is_present-clause-same g c = refl
+
+pub returns-then-not-is_present-clause-staged : goal.returns-then-not-is_present-clause-staged
+returns-then-not-is_present-clause-staged g c = c.requires.staged
+
+pub returns-in-false-false-clause-same : goal.returns-in-false-false-clause-same
+returns-in-false-false-clause-same g c = refl
+
+pub returns-in-false-false-clause-staged : goal.returns-in-false-false-clause-staged
+returns-in-false-false-clause-staged g c = c.requires.staged

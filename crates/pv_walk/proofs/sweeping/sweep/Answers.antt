@@ -14,25 +14,25 @@ use Rattle.pv_walk.proofs.Removing.{prune_then}
 use Rattle.pv_walk.proofs.sweeping.sweep.Goals as goal
 
 -- the place is one name longer
-next_place : (path place next items : Path) (i : ℕ) (copied name : List ℕ) → items ≡ path → place ≡ take i path → copied ≡ name → name ≡ get_or items i name → i < length items → next ≡ place ++ copied ∷ [] → next ≡ take (i + 1) path
-next_place path place next items i copied name same at copy item lt is =
+next_place : (path place next items : Path) (i : ℕ) (name : List ℕ) → items ≡ path → place ≡ take i path → name ≡ get_or items i name → i < length items → next ≡ place ++ name ∷ [] → next ≡ take (i + 1) path
+next_place path place next items i name same at item lt is =
     is
-    ∙ ap (λ (p : Path). p ++ copied ∷ []) at
-    ∙ ap (λ (n : List ℕ). take i path ++ n ∷ []) (copy ∙ item ∙ ap (λ (xs : Path). get_or xs i name) same)
+    ∙ ap (λ (p : Path). p ++ name ∷ []) at
+    ∙ ap (λ (n : List ℕ). take i path ++ n ∷ []) (item ∙ ap (λ (xs : Path). get_or xs i name) same)
     ∙ sym (take_more path i name (subst (λ (xs : Path). i < length xs) same lt))
 
 within : (path items : Path) (i : ℕ) → items ≡ path → i < length items → i < length path
 within path items i same lt = subst (λ (xs : Path). i < length xs) same lt
 
-short_at : (path place next items : Path) (i : ℕ) (copied name : List ℕ) → items ≡ path → place ≡ take i path → copied ≡ name → name ≡ get_or items i name → i < length items → next ≡ place ++ copied ∷ [] → can_stage path ≡ true
+short_at : (path place next items : Path) (i : ℕ) (name : List ℕ) → items ≡ path → place ≡ take i path → name ≡ get_or items i name → i < length items → next ≡ place ++ name ∷ [] → can_stage path ≡ true
     → (last : List ℕ) → last_name next ≡ Some last → length last ≤ 250
-short_at path place next items i copied name same at copy item lt is short last e =
-    let whole : next ≡ take i path ++ name ∷ [] = is ∙ ap (λ (p : Path). p ++ copied ∷ []) at ∙ ap (λ (n : List ℕ). take i path ++ n ∷ []) copy in
+short_at path place next items i name same at item lt is short last e =
+    let whole : next ≡ take i path ++ name ∷ [] = is ∙ ap (λ (p : Path). p ++ name ∷ []) at in
     short_last path short i name (within path items i same lt) (item ∙ ap (λ (xs : Path). get_or xs i name) same) last (sym (ap last_name whole) ∙ e)
 
 pub sweep_place-requires-clause-short : goal.sweep_place-requires-clause-short
 sweep_place-requires-clause-short g c last e =
-    short_at c.args.path.now c.loop-name.place c.push.new.self c.names-name-items.result.now c.loop-name.name-index c.in_ok-copy.field-0 c.name-item.result c.names-name-items.ensures.value c.loop-name.invariant.place c.in_ok-copy.ensures c.name-item.is c.loop-name-test.true c.in_ok-push.ensures.ok c.requires last e
+    short_at c.args.path.now c.loop-name.place c.go_down.new.place c.names-name-items.result.now c.loop-name.name-index c.name-item.result c.names-name-items.ensures.value c.loop-name.invariant.place c.name-item.is c.loop-name-test.true c.in_ok-go_down.ensures c.requires last e
 
 -- it counts no more objects than stood there in the beginning
 counted : {S A : Type 0} (tree : Ghosts S) (path next : Path) (i : ℕ) {m now : ℕ} {a b : S} {r : Result A TreeFault} → next ≡ take (i + 1) path → i < length path
@@ -54,18 +54,11 @@ swept_more tree moves path next i {a = a} {b = b} is lt before last =
     (counted tree path next i is lt before)
     (prune_then tree moves (is_under_any (staging_names path)) before (is_prefix (staging_of next)) (λ q e. under_any path i lt q (subst (λ (p : Path). is_prefix (staging_of p) q ≡ true) is e)) last)
 
-pub returns-in_err-copy-clause-acted : goal.returns-in_err-copy-clause-acted
-returns-in_err-copy-clause-acted g c =
+pub returns-in_err-go_down-clause-acted : goal.returns-in_err-go_down-clause-acted
+returns-in_err-go_down-clause-acted g c =
     let path = c.args.path.now in
     let t = g.T.Tree.state c.args.tree.now in
     acted_ended g.T.Tree c.from_residual.result (no_memory c.from_residual.result c.from_residual.ensures.1)
-    (acted_within g.T.Tree (count_at_all t (take c.loop-name.name-index (staging_names path))) (count_at_all t (staging_names path)) (count-le path t c.loop-name.name-index) c.loop-name.invariant.acted)
-
-pub returns-in_err-push-clause-acted : goal.returns-in_err-push-clause-acted
-returns-in_err-push-clause-acted g c =
-    let path = c.args.path.now in
-    let t = g.T.Tree.state c.args.tree.now in
-    acted_ended g.T.Tree c.from_residual-in_err-push.result (no_memory c.from_residual-in_err-push.result c.from_residual-in_err-push.ensures.1)
     (acted_within g.T.Tree (count_at_all t (take c.loop-name.name-index (staging_names path))) (count_at_all t (staging_names path)) (count-le path t c.loop-name.name-index) c.loop-name.invariant.acted)
 
 pub returns-in_err-sweep_place-clause-acted : goal.returns-in_err-sweep_place-clause-acted
@@ -74,11 +67,11 @@ returns-in_err-sweep_place-clause-acted g c =
     let path = c.args.path.now in
     let t = g.T.Tree.state c.args.tree.now in
     let i = c.loop-name.name-index in
-    let next = next_place path c.loop-name.place c.push.new.self c.names-name-items.result.now i c.in_ok-copy.field-0 c.name-item.result c.names-name-items.ensures.value c.loop-name.invariant.place c.in_ok-copy.ensures c.name-item.is c.loop-name-test.true c.in_ok-push.ensures.ok in
+    let next = next_place path c.loop-name.place c.go_down.new.place c.names-name-items.result.now i c.name-item.result c.names-name-items.ensures.value c.loop-name.invariant.place c.name-item.is c.loop-name-test.true c.in_ok-go_down.ensures in
     let lt = within path c.names-name-items.result.now i c.names-name-items.ensures.value c.loop-name-test.true in
     acted_passed g.T.Tree c.sweep_place.result c.from_residual-in_err-sweep_place.result c.in_err-sweep_place.was c.from_residual-in_err-sweep_place.ensures.1
     (acted_within g.T.Tree (count_at_all t (take (i + 1) (staging_names path))) (count_at_all t (staging_names path)) (count-le path t (i + 1))
-    (swept_more g.T.Tree moves path c.push.new.self i next lt c.loop-name.invariant.acted c.sweep_place.ensures.acted))
+    (swept_more g.T.Tree moves path c.go_down.new.place i next lt c.loop-name.invariant.acted c.sweep_place.ensures.acted))
 
 pub loop-name-preserved : goal.loop-name-preserved
 loop-name-preserved g c =
@@ -86,7 +79,7 @@ loop-name-preserved g c =
     let path = c.args.path.now in
     let t = g.T.Tree.state c.args.tree.now in
     let i = c.loop-name.name-index in
-    let next = next_place path c.loop-name.place c.push.new.self c.names-name-items.result.now i c.in_ok-copy.field-0 c.name-item.result c.names-name-items.ensures.value c.loop-name.invariant.place c.in_ok-copy.ensures c.name-item.is c.loop-name-test.true c.in_ok-push.ensures.ok in
+    let next = next_place path c.loop-name.place c.go_down.new.place c.names-name-items.result.now i c.name-item.result c.names-name-items.ensures.value c.loop-name.invariant.place c.name-item.is c.loop-name-test.true c.in_ok-go_down.ensures in
     let lt = within path c.names-name-items.result.now i c.names-name-items.ensures.value c.loop-name-test.true in
     record {
       place = next;
@@ -95,7 +88,7 @@ loop-name-preserved g c =
           ∙ ap (λ (p : Path). taken c.args.now (staging_of p) (places (g.T.Tree.state c.loop-name.tree))) next
           ∙ ap (taken c.args.now (staging_of (take (i + 1) path))) c.loop-name.invariant.here
           ∙ sym (all_taken-more path c.args.now i (places t) lt);
-      acted = swept_more g.T.Tree moves path c.push.new.self i next lt c.loop-name.invariant.acted c.in_ok-sweep_place.ensures.acted;
+      acted = swept_more g.T.Tree moves path c.go_down.new.place i next lt c.loop-name.invariant.acted c.in_ok-sweep_place.ensures.acted;
     }
 
 -- at the end all staging names are swept

@@ -9,3 +9,15 @@ no_root (n ∷ place) h e = let none = ap length e in omega (arith, length-stagi
 
 pub take_away-requires : goal.take_away-requires
 take_away-requires g c e = no_root c.args.place.now c.requires.not_root (sym c.in_ok-stage.ensures ∙ e)
+
+pub staging-requires-clause-short : goal.staging-requires-clause-short
+staging-requires-clause-short g c = c.requires.short
+
+pub staging-requires-clause-not_root : goal.staging-requires-clause-not_root
+staging-requires-clause-not_root g c = c.requires.not_root
+
+pub returns-clause-taken : goal.returns-clause-taken
+returns-clause-taken g c = rw c.in_ok-stage.ensures at c.take_away.ensures.taken
+
+pub returns-clause-acted : goal.returns-clause-acted
+returns-clause-acted g c = rw c.in_ok-stage.ensures at c.take_away.ensures.acted

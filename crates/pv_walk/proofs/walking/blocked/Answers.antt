@@ -31,7 +31,7 @@ loop-k-preserved g c =
     let item : c.name-item.result ≡ get_or path k c.name-item.result = c.name-item.is ∙ ap (λ v. get_or v k c.name-item.result) c.loop-k.invariant.names in
     record {
       names = c.loop-k.invariant.names;
-      at = c.in_ok-push.ensures.ok ∙ (λ i. c.loop-k.invariant.at i ++ (c.in_ok-copy.ensures ∙ item) i ∷ []) ∙ sym (take_more path k c.name-item.result below);
+      at = c.in_ok-go_down.ensures ∙ (λ i. c.loop-k.invariant.at i ++ item i ∷ []) ∙ sym (take_more path k c.name-item.result below);
       rest =
           c.loop-k.invariant.rest ∙ ap (blocked_from t path) (range_step k (length path) below)
           ∙ blocked_next t path k (range_with_len (k + 1) (length path - (k + 1))) c.loop-k.at c.loop-k.invariant.at c.seen_at.result c.why_passed.result c.seen_at.ensures.seen c.why_passed.ensures c.in_default.is;

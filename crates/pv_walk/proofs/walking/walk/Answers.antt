@@ -36,7 +36,7 @@ loop-k-preserved g c =
     let item : c.name-item.result ≡ get_or path k c.name-item.result = c.name-item.is ∙ ap (λ v. get_or v k c.name-item.result) c.loop-k.invariant.names in
     record {
       names = c.loop-k.invariant.names;
-      at = c.in_ok-push.ensures.ok ∙ (λ i. c.loop-k.invariant.at i ++ (c.in_ok-copy.ensures ∙ item) i ∷ []) ∙ sym (take_more path k c.name-item.result below);
+      at = c.in_ok-go_down.ensures ∙ (λ i. c.loop-k.invariant.at i ++ item i ∷ []) ∙ sym (take_more path k c.name-item.result below);
       above = c.owner_of-owner.ensures ∙ ap (λ v. seen_owner v 0) seen ∙ owner_before t path last k below ∙ sym (owner_above-next t path last k);
       rest =
           c.loop-k.invariant.rest ∙ ap (walked_from t path last c.loop-k.absent) (range_next k (length path) within)
