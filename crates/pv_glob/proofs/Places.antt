@@ -1,8 +1,8 @@
 -- The parts of a text one after another, and how far a bracket goes.
-use Rattle.std.proofs.Common.{◌≡◌, ℕ, zero, suc, ◌+◌, ◌-◌, ◌<◌, ◌≤◌, Bool, false, ◌==◌, List, [], ◌∷◌, ◌++◌, map, length, drop, get_or, Option, Some, None, refl, sym, ap, ◌∙◌, arith, append_assoc}
+use Rattle.std.proofs.Common.{◌≡◌, ℕ, zero, suc, ◌+◌, ◌-◌, ◌<◌, ◌≤◌, Bool, true, false, ◌==◌, List, [], ◌∷◌, ◌++◌, map, length, drop, get_or, Option, Some, None, refl, sym, ap, ◌∙◌, arith, append_assoc}
 use Rattle.std.specs.List.{list_any, flat_map}
 use Rattle.std.specs.Option.{option_map}
-use Rattle.std.proofs.lemmas.List.{length-drop}
+use Rattle.std.proofs.lemmas.List.{append-nil, length-drop}
 use Rattle.std.proofs.lemmas.Bool.Decides.{nat_tests}
 use Rattle.pv_glob.specs.Elements.{places, length_to_end, token_length, body_length}
 
@@ -23,6 +23,16 @@ places_step part_length (b ∷ text) l n = by_length (part_length (b ∷ text)) 
 pub places_end : (part_length : List ℕ → ℕ) (text : List ℕ) → length text < 1 → places part_length 0 text ≡ []
 places_end part_length [] l = refl
 places_end part_length (b ∷ text) l = absurd (omega arith)
+
+-- something is left, and behind a part there is less
+pub some_left : (rest : List ℕ) (none_left : Bool) → none_left ≡ (length rest == 0) → none_left ≡ false → 0 < length rest
+some_left rest none_left is some = grind (arith, nat_tests)
+
+pub all_read : (rest : List ℕ) (none_left : Bool) → none_left ≡ (length rest == 0) → none_left ≡ true → length rest < 1
+all_read rest none_left is none = grind (arith, nat_tests)
+
+pub less_left : (rest next : List ℕ) (k : ℕ) → 0 < length rest → 0 < k → next ≡ drop k rest → length next < length rest
+less_left rest next k some positive behind = rw behind (omega (arith, length-drop k rest))
 
 -- ---- how far a bracket goes
 
@@ -68,6 +78,28 @@ searching_step text (b ∷ rest) next n k s l other is some fits behind = record
   counts = let c = s.counts in rw behind (omega (arith, length-drop k (b ∷ rest)));
 }
 
+pub searching_end : (text rest : List ℕ) (n : ℕ) → Searching text rest n → length rest < 1 → None ≡ body_length text
+searching_end text [] n s none = s.finds
+searching_end text (b ∷ rest) n s none = absurd (omega arith)
+
+pub searching_found : (text rest : List ℕ) (n : ℕ) → Searching text rest n → 0 < length rest → get_or rest 0 0 ≡ 93 → Some n ≡ body_length text
+searching_found text [] n s some is = absurd (omega arith)
+searching_found text (b ∷ rest) n s some is =
+    let test : (b == 93) ≡ true = grind (arith, nat_tests) in
+    let one : length_to_end 0 (b ∷ rest) ≡ Some 0 = rw test refl in
+    let same : Some n ≡ option_map (λ m. m + n) (Some 0) = ap Some (omega arith) in
+    same ∙ sym (ap (option_map (λ m. m + n)) one) ∙ s.finds
+
+pub searching_within : (text rest : List ℕ) (n : ℕ) → Searching text rest n → 0 < length rest → n < length text
+searching_within text rest n s some = let counts = s.counts in omega arith
+
+pub searching_open : (text rest : List ℕ) (n : ℕ) → Searching text rest n → 0 < length rest → (get_or rest 0 0 ≡ 93 → ⊥) → token_length rest ≡ None → None ≡ body_length text
+searching_open text [] n s some other is = absurd (omega arith)
+searching_open text (b ∷ rest) n s some other is =
+    let test : (b == 93) ≡ false = grind (arith, nat_tests) in
+    let one : length_to_end 0 (b ∷ rest) ≡ None = rw (test, is) refl in
+    sym (ap (option_map (λ m. m + n)) one) ∙ s.finds
+
 -- ---- one turn of a loop over the parts of a text
 
 module _ (part_length : List ℕ → ℕ) where
@@ -90,3 +122,10 @@ module _ (part_length : List ℕ → ℕ) where
   map_step given made more whole text next k some positive is behind added e =
       let first = places_step part_length text some (let p : 0 < part_length text = omega arith in p) in
       rw (added, behind, is) (append_assoc made (given text ∷ []) (map given (places part_length 0 (drop (part_length text) text))) ∙ sym (ap (λ (ps : List (List ℕ)). made ++ map given ps) first) ∙ e)
+
+  -- behind the last part all is told
+  pub any_end : (test : List ℕ → Bool) (rest : List ℕ) (whole : Bool) → length rest < 1 → list_any test (places part_length 0 rest) ≡ whole → false ≡ whole
+  any_end test rest whole none e = sym (ap (list_any test) (places_end part_length rest none)) ∙ e
+
+  pub flat_end : {A : Type 0} (given : List ℕ → List A) (made whole : List A) (rest : List ℕ) → length rest < 1 → made ++ flat_map given (places part_length 0 rest) ≡ whole → made ≡ whole
+  flat_end given made whole rest none e = sym (append-nil made) ∙ sym (ap (λ (ps : List (List ℕ)). made ++ flat_map given ps) (places_end part_length rest none)) ∙ e

@@ -1,9 +1,18 @@
-use Rattle.std.proofs.Common.{◌∙◌, sym, rules}
+use Rattle.std.proofs.Common.{◌∙◌, sym}
 use Rattle.pv_glob.specs.Elements.{is_bad_range, item_length}
-use Rattle.pv_glob.proofs.Places.{any_step}
+use Rattle.pv_glob.proofs.Places.{any_step, any_end, some_left, all_read, less_left}
 use Rattle.pv_glob.proofs.bracket.has_bad_range.Goals as goal
 
 pub loop-rest-preserved : goal.loop-rest-preserved
 loop-rest-preserved c =
-    any_step item_length is_bad_range c.loop-rest.rest.now c.behind-rest.result.now c.item_length.result (search rules) c.item_length.ensures.positive c.item_length.ensures.value c.behind-rest.ensures
+    any_step item_length is_bad_range c.loop-rest.rest.now c.behind-rest.result.now c.item_length.result (some_left c.loop-rest.rest.now c.is_empty.result c.is_empty.ensures c.loop-rest-test.true) c.item_length.ensures.positive c.item_length.ensures.value c.behind-rest.ensures
     (sym c.is_bad_range.ensures ∙ c.if-is_bad_range.false) ∙ c.loop-rest.invariant
+
+pub item_length-requires : goal.item_length-requires
+item_length-requires c = some_left c.loop-rest.rest.now c.is_empty.result c.is_empty.ensures c.loop-rest-test.true
+
+pub loop-rest-smaller : goal.loop-rest-smaller
+loop-rest-smaller c = less_left c.loop-rest.rest.now c.behind-rest.result.now c.item_length.result (some_left c.loop-rest.rest.now c.is_empty.result c.is_empty.ensures c.loop-rest-test.true) c.item_length.ensures.positive c.behind-rest.ensures
+
+pub returns : goal.returns
+returns c = any_end item_length is_bad_range c.loop-rest.rest.now _ (all_read c.loop-rest.rest.now c.is_empty.result c.is_empty.ensures c.loop-rest-test.false) c.loop-rest.invariant
