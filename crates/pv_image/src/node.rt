@@ -1,8 +1,10 @@
 //! Nodes, read from their lines.
-ghost use Rattle.std.specs.Prelude.{◌≡◌, ◌≤◌, ℕ, List, ◌∷◌, ◌++◌, [], IfOk};
+ghost use Rattle.std.specs.Prelude.{◌≡◌, ◌≤◌, ℕ, List, ◌∷◌, ◌++◌, [], Some, IfOk, option_map};
+ghost use Rattle.pv_path.specs.Paths.{Path};
+ghost use Rattle.pv_path.specs.Printing.{printed_path};
 ghost use Rattle.pv_acl.specs.Texts.{acl_text};
 ghost use Rattle.pv_steps.specs.Objects.{StampsFit};
-ghost use Rattle.pv_image.specs.Spelling.{IsEntry, columns, node_text, stamps_text};
+ghost use Rattle.pv_image.specs.Spelling.{HasNames, IsEntry, columns, node_text, stamps_text};
 ghost use Rattle.pv_image.specs.Nodes.{IsAclOf, IsPlain, object_of, plain_texts};
 ghost use Rattle.pv_image.specs.Reading.{Reads, texts};
 
@@ -119,6 +121,34 @@ fn object_of(plain: Plain, acl: Acl, extras: Extras, payload: Payload) -> Object
     }
 }
 
+/// The object of plain columns and of what the other texts spell, beside the path.
+fn object_with(
+    alloc: Global,
+    version: Version,
+    plain: Plain,
+    acl: &[u8],
+    extras: &[&[u8]],
+    payload: &[u8],
+) -> Result<Option<Object>, AllocError>
+    requires { plain.mode ≤ 4095 }
+    ensures { (kind mode uid gid stamps path : List ℕ) (names : Path) →
+        Reads plain_texts IsPlain (kind ∷ mode ∷ uid ∷ gid ∷ stamps ∷ []) (Some plain) →
+        Reads printed_path HasNames path (Some names) →
+        let spelled = kind ∷ path ∷ mode ∷ uid ∷ gid ∷ stamps ∷ acl.now ∷ texts extras.now ++ payload.now ∷ [] in
+        IfOk result (λ object. Reads (columns version) (IsEntry version) spelled (option_map (λ o. (names, o)) object)) }
+{
+    let Some(acl) = read_acl_of(alloc, plain.kind, plain.mode, acl)? else {
+        return Ok(None);
+    };
+    let Some(extras) = read_extras(alloc, version, plain.kind, extras)? else {
+        return Ok(None);
+    };
+    let Some(payload) = read_payload(alloc, plain.kind, payload)? else {
+        return Ok(None);
+    };
+    Ok(Some(object_of(plain, acl, extras, payload)))
+}
+
 /// The path and the object that texts spell, of which some are the columns that a version has more.
 fn entry_with(
     alloc: Global,
@@ -143,16 +173,10 @@ fn entry_with(
     let Some(path) = read_path(alloc, path)? else {
         return Ok(None);
     };
-    let Some(acl) = read_acl_of(alloc, plain.kind, plain.mode, acl)? else {
+    let Some(object) = object_with(alloc, version, plain, acl, extras, payload)? else {
         return Ok(None);
     };
-    let Some(extras) = read_extras(alloc, version, plain.kind, extras)? else {
-        return Ok(None);
-    };
-    let Some(payload) = read_payload(alloc, plain.kind, payload)? else {
-        return Ok(None);
-    };
-    Ok(Some((path, object_of(plain, acl, extras, payload))))
+    Ok(Some((path, object)))
 }
 
 /// The path and the object that the columns of a version spell.

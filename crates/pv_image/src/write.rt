@@ -5,7 +5,7 @@ ghost use Rattle.std.specs.List.{flat_map};
 ghost use Rattle.base64.specs.GeneralPurpose.{encode_of};
 ghost use Rattle.base64.specs.Engines.{standard};
 ghost use Rattle.pv_acl.specs.Parts.{mode_of};
-ghost use Rattle.pv_acl.specs.Texts.{acl_text};
+ghost use Rattle.pv_acl.specs.Texts.{acl_text, or_dash};
 ghost use Rattle.pv_path.specs.Printing.{printed, printed_path};
 ghost use Rattle.pv_image.specs.declared.version.Version.TheVariants.{Two};
 ghost use Rattle.pv_steps.specs.Attributes.{are_bytes};
@@ -40,6 +40,16 @@ fn add_column(output: &mut Vec<u8>, text: &[u8]) -> Result<(), AllocError>
     output.push(b' ')?;
     output.extend_from_slice(text)?;
     Ok(())
+}
+
+/// Adds a space and a text, or a dash for none.
+fn add_or_dash(output: &mut Vec<u8>, text: &[u8]) -> Result<(), AllocError>
+    ensures { OnOk result (output.new.items ≡ output.old.items ++ 32 ∷ or_dash text.now) }
+{
+    match text {
+        [] => add_column(output, b"-"),
+        text => add_column(output, text),
+    }
 }
 
 /// Adds a space and printed bytes.
@@ -239,10 +249,7 @@ fn add_letters(alloc: Global, output: &mut Vec<u8>, letters: LetterSet) -> Resul
         return add_column(output, b"-");
     }
     let text = letters.letters(alloc)?;
-    match text.as_slice() {
-        [] => add_column(output, b"-"),
-        text => add_column(output, text),
-    }
+    add_or_dash(output, text.as_slice())
 }
 
 /// Adds the columns of the mode, the owner and the owning group.

@@ -3,13 +3,17 @@ use Rattle.std.proofs.lemmas.Result.{err_from_is_err_and}
 use Rattle.std.specs.FinMap as fin
 use Rattle.pv_image.specs.Images.{After, End, InNodes, Node, cut_off}
 use Rattle.pv_image.specs.Progress.{IsLastPath}
-use Rattle.pv_image.proofs.Stages.{bad_node, cut_length, fails_later, leads_on, nodes_on, path_more, refuses_fails, tree_more}
+use Rattle.pv_image.proofs.Stages.{bad_node, cut_length, fails_later, leads_on, nodes_on, path_more, refuses_fails, tree_end, tree_more}
 use Rattle.pv_image.proofs.reader.read_nodes.Goals as goal
 
 pub returns-then-is_end-clause-leads : goal.returns-then-is_end-clause-leads
 returns-then-is_end-clause-leads c =
     leads_on c.args.left.number (InNodes c.args.version (fin.entries c.args.tree.now.files)) c.args.left.bytes.now c.loop-text.number (InNodes c.args.version (fin.entries c.loop-text.tree.files)) After
     c.in-Some.text.now c.loop-text.rest.now c.in-Some.after.now End c.loop-text.invariant.leads c.in-Some.ensures.some (c.is_end.ensures.0 c.if-is_end.true) refl
+
+pub returns-then-is_end-clause-text : goal.returns-then-is_end-clause-text
+returns-then-is_end-clause-text c = λ bytes so_far.
+    tree_end c.args.version bytes c.loop-text.tree.files c.loop-text.rest.now c.in-Some.text.now c.in-Some.after.now (c.loop-text.invariant.text bytes so_far) c.in-Some.ensures.some (c.is_end.ensures.0 c.if-is_end.true)
 
 pub returns-in_default-2-clause-err : goal.returns-in_default-2-clause-err
 returns-in_default-2-clause-err c =
