@@ -3,7 +3,7 @@ use pv_path::{Name, TreePath};
 use pv_steps::{Kind, Node};
 
 /// An object at its path.
-#[derive(Debug, Drop)]
+#[derive(Drop)]
 pub(crate) struct Thing {
     pub(crate) path: TreePath,
     pub(crate) node: Node,
