@@ -7,18 +7,25 @@ use pv_dress::Bare;
 use pv_lines::{Argument, Line, LinePath};
 use pv_path::{Name, TreePath, is_prefix};
 use pv_pointwise::{Standing, after_line};
+use pv_steps::Node;
 use pv_table::{Table, create_order, names};
 use std::alloc::{AllocError, Global};
 use std::process::Abort;
 use std::test::Fail;
+
+/// A node of the kind and the owner of an object.
+fn node_of(alloc: Global, bare: &Bare) -> Node {
+    let mut node = plain_node(alloc, bare.body.kind, 0);
+    node.uid = bare.dress.uid;
+    node
+}
 
 /// The kinds and owners of what stands.
 fn things_in(alloc: Global, standing: &Standing) -> Result<Vec<Thing>, AllocError> {
     let mut things = Vec::new(alloc);
     for path in standing.paths(alloc)? {
         if let Some(bare) = standing.get(&path) {
-            let mut node = plain_node(alloc, bare.body.kind, 0);
-            node.uid = bare.dress.uid;
+            let node = node_of(alloc, bare);
             things.push(Thing { path, node })?;
         }
     }
@@ -78,6 +85,18 @@ fn put_copy(to: &mut Standing, from: &Standing, path: &TreePath) -> Result<(), A
     }
 }
 
+/// Whether a line makes nothing: it lacks what it copies, or its path is refused.
+fn makes_nothing(
+    alloc: Global,
+    line: &Line,
+    path: &TreePath,
+    standing: &Standing,
+) -> Result<bool, AllocError> {
+    let things = things_in(alloc, standing)?;
+    let nothing = line.letter == b'C' && source(line, standing).is_none();
+    Ok(nothing || is_refused(&things, path.names(), owner_made(line, standing)))
+}
+
 /// What a line that makes something leaves.
 fn made(
     alloc: Global,
@@ -85,9 +104,7 @@ fn made(
     path: &TreePath,
     standing: Standing,
 ) -> Result<Standing, AllocError> {
-    let nothing = line.letter == b'C' && source(line, &standing).is_none();
-    let things = things_in(alloc, &standing)?;
-    if nothing || is_refused(&things, path.names(), owner_made(line, &standing)) {
+    if makes_nothing(alloc, line, path, &standing)? {
         return Ok(standing);
     }
     after_line(alloc, line, &swept(alloc, &standing, path)?)
@@ -96,13 +113,26 @@ fn made(
 /// What a line that adjusts leaves: what lies at and below a path where it is refused stays as it was.
 fn adjusted(alloc: Global, line: &Line, standing: &Standing) -> Result<Standing, AllocError> {
     let mut left = after_line(alloc, line, standing)?;
-    let things = things_in(alloc, standing)?;
-    for path in standing.paths(alloc)? {
-        if names(line, &path) && is_refused(&things, path.names(), 0) {
-            restore(alloc, &mut left, standing, &path)?;
-        }
+    for path in refused_paths(alloc, line, standing)? {
+        restore(alloc, &mut left, standing, &path)?;
     }
     Ok(left)
+}
+
+/// The paths that a line names and where it is refused.
+fn refused_paths(
+    alloc: Global,
+    line: &Line,
+    standing: &Standing,
+) -> Result<Vec<TreePath>, AllocError> {
+    let things = things_in(alloc, standing)?;
+    let mut refused = Vec::new(alloc);
+    for thing in &things {
+        if names(line, &thing.path) && is_refused(&things, thing.path.names(), 0) {
+            refused.push(thing.path.copy()?)?;
+        }
+    }
+    Ok(refused)
 }
 
 fn restore(
@@ -125,13 +155,18 @@ fn created(alloc: Global, table: &Table, start: Standing) -> Result<Standing, Al
     let mut standing = start;
     for place in order.as_slice() {
         if let Some(line) = table.line(*place) {
-            standing = match &line.path {
-                LinePath::Literal(path) => made(alloc, line, path, standing)?,
-                LinePath::Glob(_) => adjusted(alloc, line, &standing)?,
-            };
+            standing = after(alloc, line, standing)?;
         }
     }
     Ok(standing)
+}
+
+/// What a line leaves.
+fn after(alloc: Global, line: &Line, standing: Standing) -> Result<Standing, AllocError> {
+    match &line.path {
+        LinePath::Literal(path) => made(alloc, line, path, standing),
+        LinePath::Glob(_) => adjusted(alloc, line, &standing),
+    }
 }
 
 /// The text of what all lines leave.
@@ -148,33 +183,36 @@ const HOME: &str =
 /// The same without the object.
 const EMPTY: &str = "d / 0755 0 0 - -\nd /home 0755 0 0 - -\nd /home/u 0755 1000 0 - -\n";
 
+/// Lines, what stands before, and what stands after.
+const ROWS: &[(&str, &str, &str)] = &[
+    ("f /home/u/x 0600", HOME, HOME),
+    ("z /home/u/x 0600", HOME, HOME),
+    ("f /home/u/x 0600", EMPTY, EMPTY),
+    (
+        "f /home/u/x 0600 1000 1000",
+        EMPTY,
+        "d / 0755 0 0 - -\nd /home 0755 0 0 - -\nd /home/u 0755 1000 0 - -\nf /home/u/x 0600 1000 1000 - -\n",
+    ),
+    (
+        "Z /home 0700",
+        HOME,
+        "d / 0755 0 0 - -\nd /home 0700 0 0 - -\nd /home/u 0700 1000 0 - -\nf /home/u/x 0700 0 0 - -\n",
+    ),
+    (
+        "d /run/app 0750",
+        "d / 0755 0 0 - -\nd /.#tf-run 0700 0 0 - -\n",
+        "d / 0755 0 0 - -\nd /run 0755 0 0 - -\nd /run/app 0750 0 0 - -\n",
+    ),
+    (
+        "d /l/x;d /f/x",
+        "d / 0755 0 0 - -\nf /f 0644 0 0 - -\nl /l 0777 0 0 - /t\n",
+        "d / 0755 0 0 - -\nf /f 0644 0 0 - -\nl /l 0777 0 0 - /t\n",
+    ),
+];
+
 #[test]
 fn refused_lines_do_nothing(rt: HostRuntime) -> Result<(), Fail> {
-    for (lines, before, after) in [
-        ("f /home/u/x 0600", HOME, HOME),
-        ("z /home/u/x 0600", HOME, HOME),
-        ("f /home/u/x 0600", EMPTY, EMPTY),
-        (
-            "f /home/u/x 0600 1000 1000",
-            EMPTY,
-            "d / 0755 0 0 - -\nd /home 0755 0 0 - -\nd /home/u 0755 1000 0 - -\nf /home/u/x 0600 1000 1000 - -\n",
-        ),
-        (
-            "Z /home 0700",
-            HOME,
-            "d / 0755 0 0 - -\nd /home 0700 0 0 - -\nd /home/u 0700 1000 0 - -\nf /home/u/x 0700 0 0 - -\n",
-        ),
-        (
-            "d /run/app 0750",
-            "d / 0755 0 0 - -\nd /.#tf-run 0700 0 0 - -\n",
-            "d / 0755 0 0 - -\nd /run 0755 0 0 - -\nd /run/app 0750 0 0 - -\n",
-        ),
-        (
-            "d /l/x;d /f/x",
-            "d / 0755 0 0 - -\nf /f 0644 0 0 - -\nl /l 0777 0 0 - /t\n",
-            "d / 0755 0 0 - -\nf /f 0644 0 0 - -\nl /l 0777 0 0 - /t\n",
-        ),
-    ] {
+    for &(lines, before, after) in ROWS {
         let seen = left(&rt, rt.alloc(), lines, before)?;
         assert!(rt; seen.as_bytes() == after.as_bytes(), "{lines}: {seen}");
     }

@@ -21,7 +21,7 @@ const LINES: &str = "d /data/g6/d0 0700 0 0\n\
     f+ /data/g7/e11 - - - - more\n";
 
 /// Paths of the tree of the seed 1 and 11 lines, with the kind and the bytes of what stands there.
-const NODES: [(&str, Kind, &str); 9] = [
+const NODES: &[(&str, Kind, &str)] = &[
     ("/", Kind::Directory, ""),
     ("/etc", Kind::Directory, ""),
     ("/etc/tmpfiles.d", Kind::Directory, ""),
@@ -33,15 +33,28 @@ const NODES: [(&str, Kind, &str); 9] = [
     ("/data/g2/e10", Kind::File, "old"),
 ];
 
+/// Whether an object of this kind with these bytes stands at a path.
+fn stands_at(
+    alloc: Global,
+    tree: &MemTree,
+    text: &str,
+    kind: Kind,
+    bytes: &str,
+) -> Result<bool, Fail> {
+    let path = parse_path(alloc, text.as_bytes())?;
+    let found = tree.node_at(&path).map(|node| node.kind);
+    Ok(found == Some(kind) && tree.payload_at(&path) == Some(bytes.as_bytes()))
+}
+
 #[test]
 fn puts_each_node(rt: HostRuntime) -> Result<(), Fail> {
     let tree = generated_tree(rt.alloc(), 1, 11)?;
-    assert_eq!(rt; node_count(rt.alloc(), &tree)?, 24);
-    for (text, kind, bytes) in NODES {
-        let path = parse_path(rt.alloc(), text.as_bytes())?;
-        let found = tree.node_at(&path).map(|node| node.kind);
-        assert_eq!(rt; found, Some(kind), "at {text}");
-        assert_eq!(rt; tree.payload_at(&path), Some(bytes.as_bytes()), "at {text}");
+    assert!(rt; node_count(rt.alloc(), &tree)? == 24);
+    for &(text, kind, bytes) in NODES {
+        assert!(rt;
+            stands_at(rt.alloc(), &tree, text, kind, bytes)?,
+            "at {text}"
+        );
     }
     Ok(())
 }
@@ -55,8 +68,13 @@ fn configuration_in<'a>(alloc: Global, tree: &'a MemTree) -> Result<&'a [u8], Fa
 #[test]
 fn writes_one_configuration(rt: HostRuntime) -> Result<(), Fail> {
     let tree = generated_tree(rt.alloc(), 1, 12)?;
-    assert_eq!(rt; configuration_in(rt.alloc(), &tree)?, LINES.as_bytes());
-    let three = generated_tree(rt.alloc(), 1, 3)?;
-    assert_eq!(rt; node_count(rt.alloc(), &three)?, 16);
+    assert!(rt; configuration_in(rt.alloc(), &tree)? == LINES.as_bytes());
+    Ok(())
+}
+
+#[test]
+fn puts_fewer_nodes(rt: HostRuntime) -> Result<(), Fail> {
+    let tree = generated_tree(rt.alloc(), 1, 3)?;
+    assert!(rt; node_count(rt.alloc(), &tree)? == 16);
     Ok(())
 }

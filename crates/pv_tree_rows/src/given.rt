@@ -1,5 +1,5 @@
 //! What rows of several crates are given: objects, their kinds, attributes and letters.
-ghost use Rattle.std.specs.Prelude.{◌≡◌};
+ghost use Rattle.std.specs.Prelude.{◌≡◌, IfOk};
 ghost use Rattle.pv_steps.specs.Objects.{fresh};
 
 use pv_acl::Acl;
@@ -63,15 +63,22 @@ pub(crate) fn kind_of(letter: &str) -> Kind {
     }
 }
 
+/// The attribute of a name and a value.
+pub(crate) fn attr_of(alloc: Global, name: &[u8], value: &[u8]) -> Result<Attr, AllocError>
+    ensures { IfOk result (λ attr. attr ≡ record { name = name.now; value = value.now }) }
+{
+    Ok(Attr {
+        name: Bytes::copy_of(alloc, name)?,
+        value: Bytes::copy_of(alloc, value)?,
+    })
+}
+
 /// The list of some attributes, put in turn, of which those that are not allowed are left out.
 pub(crate) fn attrs_of(alloc: Global, rows: &[(&[u8], &[u8])]) -> Result<AttrList, AllocError> {
     let mut attrs = AttrList::new(alloc);
     for (name, value) in rows {
         if is_attr(*name, *value) {
-            attrs.put(Attr {
-                name: Bytes::copy_of(alloc, *name)?,
-                value: Bytes::copy_of(alloc, *value)?,
-            })?;
+            attrs.put(attr_of(alloc, *name, *value)?)?;
         }
     }
     Ok(attrs)

@@ -15,7 +15,7 @@ fn fault_of(alloc: Global, bytes: &[u8]) -> Option<ImageFault> {
 }
 
 /// Whole texts of both versions and their faults.
-const FAULTS: [(&[u8], ImageFault); 22] = [
+const FAULTS: &[(&[u8], ImageFault)] = &[
     (b"", ImageFault::Truncated(1)),
     (b"tree-image 9\n", ImageFault::BadHeader(1)),
     (b"tree-image 2 \n", ImageFault::BadHeader(1)),
@@ -79,18 +79,21 @@ const FAULTS: [(&[u8], ImageFault); 22] = [
     (b"tree-image 2\nfact m \n", ImageFault::BadLine(2)),
 ];
 
-/// The faults of whole texts, line by line; messages name a fault by its name alone.
+/// The faults of whole texts, line by line.
 #[test]
-fn faults_of_texts(rt: HostRuntime) -> Result<(), Fail> {
-    for (bytes, want) in FAULTS {
+fn faults_of_texts(rt: HostRuntime) {
+    for &(bytes, want) in FAULTS {
         assert!(rt; fault_of(rt.alloc(), bytes) == Some(want), "{bytes:?}");
     }
-    for (fault, name) in [
-        (ImageFault::OutOfOrder(7), "OutOfOrder"),
-        (ImageFault::TooLong, "TooLong"),
-    ] {
-        assert_eq!(rt; fault.to_string(rt.alloc())?.as_str(), name);
-    }
+}
+
+/// Messages name a fault by its name alone.
+#[test]
+fn names_of_faults(rt: HostRuntime) -> Result<(), Fail> {
+    let line = ImageFault::OutOfOrder(7).to_string(rt.alloc())?;
+    assert!(rt; line.as_str() == "OutOfOrder");
+    let long = ImageFault::TooLong.to_string(rt.alloc())?;
+    assert!(rt; long.as_str() == "TooLong");
     Ok(())
 }
 
@@ -112,7 +115,7 @@ const NEW_ROOT: &[u8] = b"tree-image 2\nd / 0755 0 0 0,0,0,0 - - - -\n";
 const BAD: Option<ImageFault> = Some(ImageFault::BadLine(3));
 
 /// What stands after the root in version 1, and the fault that it has, if any.
-const LINES: [(&[u8], Option<ImageFault>); 31] = [
+const LINES: &[(&[u8], Option<ImageFault>)] = &[
     (b"", None),
     (
         b"d /b 0755 0 0 0,0,0,0 - -\nd /a 0755 0 0 0,0,0,0 - -\n",
@@ -162,7 +165,7 @@ const LINES: [(&[u8], Option<ImageFault>); 31] = [
 ];
 
 /// What stands after the root in version 2, and the fault that it has, if any.
-const NEW_LINES: [(&[u8], Option<ImageFault>); 26] = [
+const NEW_LINES: &[(&[u8], Option<ImageFault>)] = &[
     (
         b"d /b 0755 0 0 0,0,0,0 - - - -\nd /a 0755 0 0 0,0,0,0 - - - -\n",
         Some(ImageFault::OutOfOrder(4)),
@@ -209,14 +212,20 @@ fn fault_after(
     Ok(fault_of(alloc, &with_lines(alloc, front, lines)?))
 }
 
-/// Lines after the root are taken, or have their fault, by the version.
+/// Lines after the root are taken, or have their fault, in version 1.
 #[test]
 fn lines_after_the_root(rt: HostRuntime) -> Result<(), Fail> {
-    for (lines, want) in LINES {
+    for &(lines, want) in LINES {
         let fault = fault_after(rt.alloc(), ROOT, lines)?;
         assert!(rt; fault == want, "{lines:?}");
     }
-    for (lines, want) in NEW_LINES {
+    Ok(())
+}
+
+/// The same in version 2.
+#[test]
+fn new_lines_after_the_root(rt: HostRuntime) -> Result<(), Fail> {
+    for &(lines, want) in NEW_LINES {
         let fault = fault_after(rt.alloc(), NEW_ROOT, lines)?;
         assert!(rt; fault == want, "{lines:?}");
     }
@@ -293,58 +302,75 @@ fn written(alloc: Global, text: &[u8]) -> Result<Vec<u8>, Fail> {
     Ok(write_image(alloc, &image.tree, &image.facts)?)
 }
 
+/// The image with notes before it.
+fn noted(alloc: Global) -> Result<Vec<u8>, AllocError> {
+    let mut noted = Vec::from_slice(alloc, b": a note\n: \n")?;
+    noted.extend_from_slice(TEXT)?;
+    Ok(noted)
+}
+
+/// Images of version 1, and the same of version 2.
+const VERSIONS: &[(&[u8], &[u8])] = &[
+    (
+        b"tree-image 1\nd / 0755 0 0 0,0,0,0 - -\nend\n",
+        b"tree-image 2\nd / 0755 0 0 0,0,0,0 - - - -\nend\n",
+    ),
+    (
+        b": x\ntree-image 1\nfact m 1\nd / 0755 0 0 0,0,0,0 - -\nf /a 0644 1 2 1,2,3,4 m::r-- aGk=\nend\n",
+        b"tree-image 2\nfact m 1\nd / 0755 0 0 0,0,0,0 - - - -\nf /a 0644 1 2 1,2,3,4 m::r-- - - aGk=\nend\n",
+    ),
+];
+
 /// An image is written back byte for byte without its notes, and one of version 1 as version 2 of the same tree.
 #[test]
 fn written_images(rt: HostRuntime) -> Result<(), Fail> {
-    let alloc = rt.alloc();
-    for (old, new) in [
-        (
-            b"tree-image 1\nd / 0755 0 0 0,0,0,0 - -\nend\n".as_slice(),
-            b"tree-image 2\nd / 0755 0 0 0,0,0,0 - - - -\nend\n".as_slice(),
-        ),
-        (
-            b": x\ntree-image 1\nfact m 1\nd / 0755 0 0 0,0,0,0 - -\nf /a 0644 1 2 1,2,3,4 m::r-- aGk=\nend\n",
-            b"tree-image 2\nfact m 1\nd / 0755 0 0 0,0,0,0 - - - -\nf /a 0644 1 2 1,2,3,4 m::r-- - - aGk=\nend\n",
-        ),
-    ] {
-        let text = written(alloc, old)?;
+    for &(old, new) in VERSIONS {
+        let text = written(rt.alloc(), old)?;
         assert!(rt; text.as_slice() == new, "{old:?}");
     }
-    let mut noted = Vec::from_slice(alloc, b": a note\n: \n")?;
-    noted.extend_from_slice(TEXT)?;
-    let text = written(alloc, &noted)?;
-    assert_eq!(rt; text.as_slice(), TEXT);
+    let text = written(rt.alloc(), &noted(rt.alloc())?)?;
+    assert!(rt; text.as_slice() == TEXT);
     Ok(())
 }
 
-/// The first object after the root of an image with one line more, as it is printed.
-fn printed(alloc: Global, line: &[u8]) -> Result<Vec<u8>, Fail> {
-    let image = image_of(alloc, &with_lines(alloc, NEW_ROOT, line)?)?;
-    let mut walk = image.tree.walk(alloc)?;
+/// The first object after the root of a tree, as it is printed.
+fn first_printed(alloc: Global, tree: &MemTree) -> Result<Vec<u8>, Fail> {
+    let mut walk = tree.walk(alloc)?;
     walk.advance()?;
-    let place = walk.place().ok_or("a node")?;
-    Ok(print_node(alloc, place.node, place.payload)?)
+    match walk.place() {
+        Some(place) => Ok(print_node(alloc, place.node, place.payload)?),
+        None => Ok(Vec::new(alloc)),
+    }
 }
+
+/// The same of an image with one line after its root.
+fn printed(alloc: Global, line: &[u8]) -> Result<Vec<u8>, Fail> {
+    let text = with_lines(alloc, NEW_ROOT, line)?;
+    let image = image_of(alloc, &text)?;
+    first_printed(alloc, &image.tree)
+}
+
+/// Lines of objects, and how the objects are printed.
+const PRINTED: &[(&[u8], &[u8])] = &[
+    (
+        b"f /f 0640 0 0 1,2,3,4 u:1000:rw- - - -\n",
+        b"f 0640 0 0 u:1000:rw- - - -",
+    ),
+    (
+        b"f /f 4755 1 2 0,0,0,0 - user.a=x\\x2c ai aGk=\n",
+        b"f 4755 1 2 - user.a=x\\x2c ai aGk=",
+    ),
+    (
+        b"c /f 0600 0 0 0,0,0,0 - - - 5:1\n",
+        b"c 0600 0 0 - - - 5:1",
+    ),
+];
 
 /// An object is printed without its path and its stamps.
 #[test]
 fn printed_nodes(rt: HostRuntime) -> Result<(), Fail> {
-    let alloc = rt.alloc();
-    for (line, want) in [
-        (
-            b"f /f 0640 0 0 1,2,3,4 u:1000:rw- - - -\n".as_slice(),
-            b"f 0640 0 0 u:1000:rw- - - -".as_slice(),
-        ),
-        (
-            b"f /f 4755 1 2 0,0,0,0 - user.a=x\\x2c ai aGk=\n",
-            b"f 4755 1 2 - user.a=x\\x2c ai aGk=",
-        ),
-        (
-            b"c /f 0600 0 0 0,0,0,0 - - - 5:1\n",
-            b"c 0600 0 0 - - - 5:1",
-        ),
-    ] {
-        let seen = printed(alloc, line)?;
+    for &(line, want) in PRINTED {
+        let seen = printed(rt.alloc(), line)?;
         assert!(rt; seen.as_slice() == want, "{line:?}");
     }
     Ok(())
@@ -376,24 +402,26 @@ fn expands(alloc: Global, text: &[u8], facts: &Facts, tool: Tool, want: &[u8]) -
     }
 }
 
+/// Texts with specifiers, and what they stand for.
+const SPECIFIERS: &[(&[u8], &[u8])] = &[
+    (b"%a,%b,%H", b"%t,boot,host"),
+    (b"%l,%m,%v", b"short,0123,6.12"),
+    (b"%A,%B,%M", b"image,build,metal"),
+    (b"%o,%w,%W", b"system,42,variant"),
+    (
+        b"%a%b%H%l%m%v%A%B%M%o%w%W",
+        b"%tboothostshort01236.12imagebuildmetalsystem42variant",
+    ),
+];
+
 /// A specifier stands for the fact of the image as it is written there, for both tools.
 #[test]
 fn facts_for_specifiers(rt: HostRuntime) -> Result<(), Fail> {
     let image = image_of(rt.alloc(), FACTS)?;
-    for tool in [Tool::Tmpfiles, Tool::Sysusers] {
-        for (text, want) in [
-            (b"%a,%b,%H".as_slice(), b"%t,boot,host".as_slice()),
-            (b"%l,%m,%v", b"short,0123,6.12"),
-            (b"%A,%B,%M", b"image,build,metal"),
-            (b"%o,%w,%W", b"system,42,variant"),
-            (
-                b"%a%b%H%l%m%v%A%B%M%o%w%W",
-                b"%tboothostshort01236.12imagebuildmetalsystem42variant",
-            ),
-        ] {
-            let is_read = expands(rt.alloc(), text, &image.facts, tool, want);
-            assert!(rt; is_read, "{text:?}");
-        }
+    for &(text, want) in SPECIFIERS {
+        let first = expands(rt.alloc(), text, &image.facts, Tool::Tmpfiles, want);
+        let second = expands(rt.alloc(), text, &image.facts, Tool::Sysusers, want);
+        assert!(rt; first && second, "{text:?}");
     }
     Ok(())
 }

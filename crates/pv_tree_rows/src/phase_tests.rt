@@ -5,27 +5,41 @@ use crate::things::{Thing, at, is_refused};
 use pv_age::is_old;
 use pv_lines::Line;
 use pv_path::{Name, TreePath, is_prefix, parent, parse_path, print_path};
-use pv_steps::{Kind, Stamps};
+use pv_steps::{Kind, Node, Stamps};
 use pv_table::{names, names_first, scope_of};
 use std::alloc::{AllocError, Global};
 use std::process::Abort;
 use std::test::Fail;
+
+/// The stamps of the texts of the modification stamp and of all others.
+fn stamps_of(modify: &str, other: &str) -> Result<Stamps, Fail> {
+    let modify = modify.parse::<u64>()?;
+    let stamp = other.parse::<u64>()?;
+    Ok(Stamps {
+        access: stamp,
+        birth: stamp,
+        change: stamp,
+        modify,
+    })
+}
+
+/// The object of a kind, an owner and stamps.
+fn node_of(alloc: Global, kind: &str, uid: u32, stamps: Stamps) -> Node {
+    let mut node = plain_node(alloc, kind_of(kind), 0o755);
+    node.uid = uid;
+    node.stamps = stamps;
+    node
+}
 
 /// The object of a text, `KIND PATH UID STAMP STAMP`: the modification stamp and then all others.
 fn thing_of(rt: &impl Abort, alloc: Global, text: &str) -> Result<Thing, Fail> {
     let fields: Vec<&str> = text.split(' ').collect(alloc)?;
     match fields.as_slice() {
         [kind, path, uid, modify, other] => {
-            let stamp = other.parse::<u64>()?;
-            let mut node = plain_node(alloc, kind_of(kind), 0o755);
-            node.uid = uid.parse::<u32>()?;
-            node.stamps = Stamps {
-                access: stamp,
-                birth: stamp,
-                change: stamp,
-                modify: modify.parse::<u64>()?,
-            };
+            let uid = uid.parse::<u32>()?;
+            let stamps = stamps_of(modify, other)?;
             let path = parse_path(alloc, path.as_bytes())?;
+            let node = node_of(alloc, kind, uid, stamps);
             Ok(Thing { path, node })
         }
         _ => panic!(rt; "an object: {text}"),
@@ -143,11 +157,17 @@ fn cleaned(
 fn text_of(alloc: Global, paths: &[TreePath]) -> Result<Vec<u8>, AllocError> {
     let mut text = Vec::new(alloc);
     for path in paths {
-        let printed = print_path(alloc, path)?;
-        text.extend_from_slice(&printed)?;
-        text.push(b' ')?;
+        add_path(alloc, &mut text, path)?;
     }
     Ok(text)
+}
+
+/// Adds a path and a space.
+fn add_path(alloc: Global, text: &mut Vec<u8>, path: &TreePath) -> Result<(), AllocError> {
+    let printed = print_path(alloc, path)?;
+    text.extend_from_slice(&printed)?;
+    text.push(b' ')?;
+    Ok(())
 }
 
 const NOW: u64 = 1_000_000_000_000;
@@ -209,33 +229,39 @@ fn removed_text(
     Ok(text_of(alloc, &going)?)
 }
 
+/// Lines, objects, and what goes in the phase clean.
+const CLEANED: &[(&str, &str, &str)] = &[
+    ("d /t 1777 0 0 10d", OLD, "/t/c/x /t/c /t/a "),
+    ("d /t 1777 0 0 ~10d", OLD, "/t/c/x "),
+    ("d /t 1777 0 0 0", OLD, "/t/e/y /t/e /t/c/x /t/c /t/b /t/a "),
+    ("d /t 1777 0 0 -", OLD, ""),
+    (SPARING, SPARED, "/tmp/z /tmp/y/o "),
+];
+
 #[test]
 fn old_objects_go(rt: HostRuntime) -> Result<(), Fail> {
-    for (lines, objects, wanted) in [
-        ("d /t 1777 0 0 10d", OLD, "/t/c/x /t/c /t/a "),
-        ("d /t 1777 0 0 ~10d", OLD, "/t/c/x "),
-        ("d /t 1777 0 0 0", OLD, "/t/e/y /t/e /t/c/x /t/c /t/b /t/a "),
-        ("d /t 1777 0 0 -", OLD, ""),
-        (SPARING, SPARED, "/tmp/z /tmp/y/o "),
-    ] {
+    for &(lines, objects, wanted) in CLEANED {
         let seen = cleaned_text(&rt, rt.alloc(), lines, objects)?;
         assert!(rt; seen.as_slice() == wanted.as_bytes(), "{lines}: {seen:?}");
     }
     Ok(())
 }
 
+/// Lines, objects, and what goes in the phase remove.
+const REMOVED: &[(&str, &str, &str)] = &[
+    (SPARING, SPARED, "/tmp/k/o /tmp/k "),
+    ("r /q", FULL, ""),
+    ("r /q;r /q/*", FULL, "/q/f /q "),
+    ("D /q", FULL, "/q/f "),
+    ("D /q/f", FULL, ""),
+    ("R /*", FULL, "/q/f /q /h/f /h "),
+    ("r /h/f;r /q/f", FULL, "/q/f "),
+    ("R /h/*", FULL, ""),
+];
+
 #[test]
 fn named_objects_go(rt: HostRuntime) -> Result<(), Fail> {
-    for (lines, objects, wanted) in [
-        (SPARING, SPARED, "/tmp/k/o /tmp/k "),
-        ("r /q", FULL, ""),
-        ("r /q;r /q/*", FULL, "/q/f /q "),
-        ("D /q", FULL, "/q/f "),
-        ("D /q/f", FULL, ""),
-        ("R /*", FULL, "/q/f /q /h/f /h "),
-        ("r /h/f;r /q/f", FULL, "/q/f "),
-        ("R /h/*", FULL, ""),
-    ] {
+    for &(lines, objects, wanted) in REMOVED {
         let seen = removed_text(&rt, rt.alloc(), lines, objects)?;
         assert!(rt; seen.as_slice() == wanted.as_bytes(), "{lines}: {seen:?}");
     }

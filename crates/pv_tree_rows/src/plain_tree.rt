@@ -7,7 +7,7 @@ ghost use Rattle.pv_steps.specs.Objects.{fresh};
 use crate::given::plain_object;
 use crate::shown::add_object;
 use pv_path::{Bytes, TreePath, carry, is_prefix, parent};
-use pv_steps::{Kind, Object, Step, special_bits};
+use pv_steps::{Kind, Node, Object, Step, special_bits};
 use pv_tree::MemTree;
 use std::alloc::Global;
 use std::process::Abort;
@@ -108,20 +108,27 @@ fn change(rt: &impl Abort, object: &mut Object, step: &Step, now: u64) {
             object.payload = content.copy().expect(rt, "memory");
             object.node.stamps.modify = now;
         }
-        Step::SetMode { mode, .. } => {
-            object.node.special = special_bits(*mode);
-            object.node.acl.access.set_base(*mode);
-        }
-        Step::SetOwner { uid, gid, .. } => {
-            object.node.uid = *uid;
-            object.node.gid = *gid;
-        }
         Step::SetAcl { acl, .. } => object.node.acl = acl.copy().expect(rt, "memory"),
         Step::SetAttrs { attrs, .. } => object.node.attrs = attrs.copy().expect(rt, "memory"),
-        Step::SetLetters { letters, .. } => object.node.letters = *letters,
+        _ => set(&mut object.node, step),
+    }
+}
+
+/// Sets the numbers of a node as a step says.
+fn set(node: &mut Node, step: &Step) {
+    match step {
+        Step::SetMode { mode, .. } => {
+            node.special = special_bits(*mode);
+            node.acl.access.set_base(*mode);
+        }
+        Step::SetOwner { uid, gid, .. } => {
+            node.uid = *uid;
+            node.gid = *gid;
+        }
+        Step::SetLetters { letters, .. } => node.letters = *letters,
         Step::SetStamps { access, modify, .. } => {
-            object.node.stamps.access = *access;
-            object.node.stamps.modify = *modify;
+            node.stamps.access = *access;
+            node.stamps.modify = *modify;
         }
         _ => {}
     }
@@ -150,13 +157,15 @@ fn take(
     path: &TreePath,
     now: u64,
 ) {
-    match entries.iter().position(|e| e.0 == *path) {
-        Some(at) => {
-            let _taken = entries.remove(at);
-        }
-        None => panic!(rt; "absent"),
-    }
+    take_out(rt, entries, path);
     touch(rt, alloc, entries, path, now);
+}
+
+/// Takes the entry of a path out.
+fn take_out(rt: &impl Abort, entries: &mut Vec<(TreePath, Object)>, path: &TreePath) {
+    let place = entries.iter().position(|e| e.0 == *path);
+    let at = place.expect(rt, "an object");
+    let _taken = entries.remove(at);
 }
 
 /// Where a path lies after a rename, or nothing where what stands there is replaced.

@@ -7,7 +7,7 @@ use std::process::Abort;
 use std::test::Fail;
 
 /// Lines, the objects before, and those that all lines leave.
-const ROWS: [(&str, &str, &str); 10] = [
+const ROWS: &[(&str, &str, &str)] = &[
     // A directory where a file is wanted stays, and a new file.
     (
         "f /a - - - - text;f /b - - - - text",
@@ -71,7 +71,7 @@ const ROWS: [(&str, &str, &str); 10] = [
 ];
 
 /// A number of lines that are carried out from a root alone, and what they leave.
-const COUNTS: [(usize, &str); 5] = [
+const COUNTS: &[(usize, &str)] = &[
     (0, "d / 0755 0 0 - -\n"),
     (1, "d / 0755 0 0 - -\nd /a 0700 0 0 - -\n"),
     (
@@ -103,11 +103,16 @@ fn left(
 
 #[test]
 fn lines_leave_what_they_ask_for(rt: HostRuntime) -> Result<(), Fail> {
-    for (lines, before, after) in ROWS {
+    for &(lines, before, after) in ROWS {
         let seen = left(&rt, rt.alloc(), lines, usize::MAX, before)?;
         assert!(rt; seen.as_bytes() == after.as_bytes(), "{lines}: {seen}");
     }
-    for (count, after) in COUNTS {
+    Ok(())
+}
+
+#[test]
+fn first_lines_leave_what_they_ask_for(rt: HostRuntime) -> Result<(), Fail> {
+    for &(count, after) in COUNTS {
         let lines = "z /a/f 0600;f /a/f;d /a 0700";
         let seen = left(&rt, rt.alloc(), lines, count, "d / 0755 0 0 - -\n")?;
         assert!(rt; seen.as_bytes() == after.as_bytes(), "{count}: {seen}");

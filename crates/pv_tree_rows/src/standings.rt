@@ -4,26 +4,38 @@ use pv_acl::{print_acl, read_acl};
 use pv_dress::Bare;
 use pv_path::{TreePath, child, is_name, print_path};
 use pv_pointwise::Standing;
+use pv_steps::Node;
 use std::alloc::{AllocError, Global};
 use std::process::Abort;
 use std::test::Fail;
 
-/// The object of these fields: its kind, mode, owners, ACL, and bytes or target.
-fn bare_of(
+/// The mode, the owner and the owning group that three fields spell.
+fn numbers_of(mode: &str, uid: &str, gid: &str) -> Result<(u16, u32, u32), Fail> {
+    let mode = u16::from_str_radix(mode, 8)?;
+    Ok((mode, uid.parse::<u32>()?, gid.parse::<u32>()?))
+}
+
+/// The node of these fields: its kind, mode, owners and ACL.
+fn node_of(
     rt: &impl Abort,
     alloc: Global,
     kind: &str,
-    mode: u16,
-    owners: (u32, u32),
+    numbers: (u16, u32, u32),
     acl: &str,
-    payload: &str,
-) -> Result<Bare, Fail> {
-    let payload = if payload == "-" { "" } else { payload };
+) -> Result<Node, Fail> {
+    let (mode, uid, gid) = numbers;
+    let acl = read_acl(alloc, acl.as_bytes(), mode, true)?;
     let mut node = plain_node(alloc, kind_of(kind), mode);
-    node.uid = owners.0;
-    node.gid = owners.1;
-    node.acl = read_acl(alloc, acl.as_bytes(), mode, true)?.expect(rt, "an ACL");
-    Ok(Bare::of(alloc, &node, payload.as_bytes())?)
+    node.uid = uid;
+    node.gid = gid;
+    node.acl = acl.expect(rt, "an ACL");
+    Ok(node)
+}
+
+/// The object of a node with some bytes or a target, or of a node without any for a dash.
+fn bare_of(alloc: Global, node: &Node, payload: &str) -> Result<Bare, AllocError> {
+    let payload = if payload == "-" { "" } else { payload };
+    Bare::of(alloc, node, payload.as_bytes())
 }
 
 /// The path of a text, in which staging names may stand.
@@ -37,6 +49,16 @@ fn path_of(alloc: Global, text: &str) -> Result<TreePath, AllocError> {
     Ok(path)
 }
 
+/// Puts an object at the path of a text.
+fn put_at(
+    alloc: Global,
+    standing: &mut Standing,
+    path: &str,
+    bare: Bare,
+) -> Result<(), AllocError> {
+    standing.put(path_of(alloc, path)?, bare)
+}
+
 /// Puts the object of a text, `KIND PATH MODE UID GID ACL PAYLOAD`.
 fn put_object(
     rt: &impl Abort,
@@ -47,10 +69,9 @@ fn put_object(
     let fields: Vec<&str> = object.split(' ').collect(alloc)?;
     match fields.as_slice() {
         [kind, path, mode, uid, gid, acl, payload] => {
-            let mode = u16::from_str_radix(mode, 8)?;
-            let owners = (uid.parse::<u32>()?, gid.parse::<u32>()?);
-            let bare = bare_of(rt, alloc, kind, mode, owners, acl, payload)?;
-            Ok(standing.put(path_of(alloc, path)?, bare)?)
+            let numbers = numbers_of(mode, uid, gid)?;
+            let node = node_of(rt, alloc, kind, numbers, acl)?;
+            Ok(put_at(alloc, standing, path, bare_of(alloc, &node, payload)?)?)
         }
         _ => panic!(rt; "an object: {object}"),
     }

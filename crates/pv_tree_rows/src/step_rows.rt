@@ -341,6 +341,18 @@ pub(crate) fn can<T: Tree>(rt: &impl Abort, alloc: Global, tree: &T, step: &Step
     }
 }
 
+/// Does a step at a moment. Stops where it may not be done.
+fn do_step<T: Tree>(
+    rt: &impl Abort,
+    alloc: Global,
+    tree: &mut T,
+    step: &Step,
+    now: u64,
+) -> Result<(), TreeFault> {
+    assert!(rt; can(rt, alloc, tree, step));
+    tree.step(step, now)
+}
+
 /// Does the step of a line: the moment, what is done, the path, and up to two words more, with one space
 /// between them. Stops where the step may not be done.
 pub(crate) fn perform<T: Tree>(
@@ -353,8 +365,7 @@ pub(crate) fn perform<T: Tree>(
     match words.as_slice() {
         [now, words @ ..] => {
             let step = step_of(rt, alloc, words);
-            assert!(rt; can(rt, alloc, tree, &step));
-            tree.step(&step, number_of(rt, now))
+            do_step(rt, alloc, tree, &step, number_of(rt, now))
         }
         [] => panic!(rt; "no step"),
     }

@@ -25,12 +25,39 @@ fn add_numbers(
 ) -> Result<(), AllocError> {
     for place in places.as_slice() {
         if let Some(line) = table.line(*place) {
-            text.push(b' ')?;
-            let number = line.place.number.to_string(alloc)?;
-            text.extend_from_slice(number.as_bytes())?;
+            add_number(text, alloc, line.place.number)?;
         }
     }
     Ok(())
+}
+
+/// Adds a number after a space.
+fn add_number(text: &mut Vec<u8>, alloc: Global, number: u32) -> Result<(), AllocError> {
+    text.push(b' ')?;
+    let digits = number.to_string(alloc)?;
+    text.extend_from_slice(digits.as_bytes())
+}
+
+/// The lines of a text that pass the filters, if it is the boot or not.
+fn filtered(
+    alloc: Global,
+    boot: bool,
+    prefix: &[u8],
+    exclude: &[u8],
+    text: &[u8],
+    messages: &mut Messages,
+) -> Result<Table, Fail> {
+    let lines = lines_of(alloc, text)?;
+    let prefix = filter_of(alloc, prefix);
+    let exclude = filter_of(alloc, exclude);
+    Ok(build(
+        alloc,
+        lines,
+        boot,
+        prefix.as_ref(),
+        exclude.as_ref(),
+        messages,
+    )?)
 }
 
 /// What a run does with lines: the numbers of those that are carried out in the create phase, then in the remove phase,
@@ -42,33 +69,34 @@ fn plan(
     exclude: &[u8],
     text: &[u8],
 ) -> Result<Vec<u8>, Fail> {
-    let lines = lines_of(alloc, text)?;
-    let prefix = filter_of(alloc, prefix);
-    let exclude = filter_of(alloc, exclude);
     let mut messages = Messages::new(alloc);
-    let table = build(
-        alloc,
-        lines,
-        boot,
-        prefix.as_ref(),
-        exclude.as_ref(),
-        &mut messages,
-    )?;
+    let table = filtered(alloc, boot, prefix, exclude, text, &mut messages)?;
     Ok(plan_text(alloc, &table, &messages)?)
+}
+
+/// Adds the numbers of the lines of a table in the order of the create phase.
+fn add_create(text: &mut Vec<u8>, alloc: Global, table: &Table) -> Result<(), AllocError> {
+    text.extend_from_slice(b"create")?;
+    add_numbers(text, table, alloc, &create_order(alloc, table)?)
+}
+
+/// Adds the numbers of the lines of a table in the order of the remove phase.
+fn add_remove(text: &mut Vec<u8>, alloc: Global, table: &Table) -> Result<(), AllocError> {
+    text.extend_from_slice(b" remove")?;
+    add_numbers(text, table, alloc, &remove_order(alloc, table)?)
 }
 
 /// The numbers of the lines of a table in both orders, and what is said.
 fn plan_text(alloc: Global, table: &Table, messages: &Messages) -> Result<Vec<u8>, AllocError> {
-    let mut text = Vec::from_slice(alloc, b"create")?;
-    add_numbers(&mut text, table, alloc, &create_order(alloc, table)?)?;
-    text.extend_from_slice(b" remove")?;
-    add_numbers(&mut text, table, alloc, &remove_order(alloc, table)?)?;
+    let mut text = Vec::new(alloc);
+    add_create(&mut text, alloc, table)?;
+    add_remove(&mut text, alloc, table)?;
     add_said(&mut text, messages)?;
     Ok(text)
 }
 
 /// Whether it is the boot, the two filters, the lines, and what is done with them.
-const PLANS: [(bool, &[u8], &[u8], &[u8], &[u8]); 16] = [
+const PLANS: &[(bool, &[u8], &[u8], &[u8], &[u8])] = &[
     (
         false,
         b"",
@@ -175,9 +203,8 @@ const PLANS: [(bool, &[u8], &[u8], &[u8], &[u8]); 16] = [
 
 #[test]
 fn lines_are_filtered_and_ordered(rt: HostRuntime) -> Result<(), Fail> {
-    let alloc = rt.alloc();
-    for (boot, prefix, exclude, text, wanted) in PLANS {
-        let done = plan(alloc, boot, prefix, exclude, text)?;
+    for &(boot, prefix, exclude, text, wanted) in PLANS {
+        let done = plan(rt.alloc(), boot, prefix, exclude, text)?;
         assert!(rt; done.as_slice() == wanted, "{text:?} {done:?}");
     }
     Ok(())
@@ -203,15 +230,19 @@ fn deeds_of(alloc: Global, lines: &[Line]) -> Result<Vec<u8>, AllocError> {
     Ok(letters)
 }
 
+/// The same of the lines of a text.
+fn letters_for(alloc: Global, text: &[u8]) -> Result<Vec<u8>, Fail> {
+    let lines = lines_of(alloc, text)?;
+    Ok(deeds_of(alloc, lines.as_slice())?)
+}
+
 /// A line of each type.
 const EACH_TYPE: &[u8] =
     b"f /a - - - - x;F /a;d /a;D /a;v /a;q /a;Q /a;p /a;L /a - - - - /t;c /a - - - - 1:3;b /a - - - - 1:3;C /a - - - - /s;w /a - - - - x;e /a;z /a;Z /a;a /a - - - - u:1:r;A /a - - - - u:1:r;t /a - - - - user.a=1;T /a - - - - user.a=1;h /a - - - - +i;H /a - - - - +i;r /a;R /a;x /a;X /a";
 
 #[test]
 fn each_type_asks_for_something_of_its_own(rt: HostRuntime) -> Result<(), Fail> {
-    let alloc = rt.alloc();
-    let lines = lines_of(alloc, EACH_TYPE)?;
-    let letters = deeds_of(alloc, lines.as_slice())?;
+    let letters = letters_for(rt.alloc(), EACH_TYPE)?;
     assert!(rt;
         letters.as_slice() == b"mmmmmmmmmmmcssssssssss----".as_slice(),
         "{letters:?}"

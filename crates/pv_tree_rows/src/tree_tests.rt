@@ -57,7 +57,7 @@ fn finds_names_by_binary_search(rt: HostRuntime) {
 fn run(rt: &impl Abort, alloc: Global, tree: &mut MemTree, steps: &[u8]) {
     for line in steps.split(|b| *b == b'\n') {
         if !line.is_empty() {
-            assert_eq!(rt; perform(rt, alloc, tree, line), Ok(()));
+            assert!(rt; perform(rt, alloc, tree, line).is_ok());
         }
     }
 }
@@ -84,7 +84,7 @@ fn tree_text(rt: &impl Abort, alloc: Global, tree: &MemTree) -> Vec<u8> {
 }
 
 /// Steps, and the lines of the tree that they leave of a root alone.
-static RUNS: [(&[u8], &[u8]); 15] = [
+const RUNS: &[(&[u8], &[u8])] = &[
     (
         b"7 mkdir /d\n8 symlink /d/l ../x\n9 mkfile /d/f\n10 mkfifo /d/p\n11 mknod /d/b b\n12 mknod /d/c c",
         b"d / 0755 0 0 0:0 0,0,7,7 - - - -\n\
@@ -169,14 +169,18 @@ static RUNS: [(&[u8], &[u8]); 15] = [
     ),
 ];
 
+/// The lines of the tree that some steps leave of a root alone.
+fn text_after(rt: &impl Abort, alloc: Global, steps: &[u8]) -> Vec<u8> {
+    let mut tree = root_tree(rt, alloc);
+    run(rt, alloc, &mut tree, steps);
+    tree_text(rt, alloc, &tree)
+}
+
 #[test]
 fn leaves_what_each_step_says(rt: HostRuntime) {
-    let alloc = rt.alloc();
-    for (steps, lines) in RUNS {
-        let mut tree = root_tree(&rt, alloc);
-        run(&rt, alloc, &mut tree, steps);
-        let text = tree_text(&rt, alloc, &tree);
-        assert_eq!(rt; text.as_slice(), lines);
+    for &(steps, lines) in RUNS {
+        let text = text_after(&rt, rt.alloc(), steps);
+        assert!(rt; text.as_slice() == lines, "{text:?}");
     }
 }
 
@@ -211,7 +215,7 @@ fn names_text(rt: &impl Abort, alloc: Global, tree: &MemTree) -> Vec<u8> {
 }
 
 /// Whether it is a directory, and the path, in the order in which they are added, each with the fault that it has.
-static ADDED: [(bool, &[u8], Option<BuildFault>); 19] = [
+const ADDED: &[(bool, &[u8], Option<BuildFault>)] = &[
     (false, b"/", Some(BuildFault::OutOfOrder)),
     (false, b"/a/b", Some(BuildFault::NoParent)),
     (false, b"/Z", None),
@@ -233,34 +237,45 @@ static ADDED: [(bool, &[u8], Option<BuildFault>); 19] = [
     (false, b"/b", None),
 ];
 
+/// A builder with a root alone.
+fn builder_of_root(rt: &impl Abort, alloc: Global) -> TreeBuilder {
+    let Object { node, payload: _ } = root_object(alloc);
+    TreeBuilder::new(alloc, node).expect(rt, "memory")
+}
+
+/// The tree to which all of them are added that can be.
+fn added_in_order(rt: &impl Abort, alloc: Global) -> MemTree {
+    let mut builder = builder_of_root(rt, alloc);
+    for &(is_directory, text, fault) in ADDED {
+        let added = add(rt, alloc, &mut builder, is_directory, text);
+        assert!(rt; added.err() == fault, "{text:?}");
+    }
+    builder.finish()
+}
+
+/// The lines of that tree.
+const IN_ORDER: &[u8] = b"d / 0755 0 0 0:0 0,0,0,0 - - - -\n\
+    f /Z 0644 0 0 0:0 3,3,3,3 - - - -\n\
+    d /a 0755 0 0 0:0 3,3,3,3 - - - -\n\
+    d /a/b 0755 0 0 0:0 3,3,3,3 - - - -\n\
+    d /a/b/c 0755 0 0 0:0 3,3,3,3 - - - -\n\
+    f /a/b/c/f 0644 0 0 0:0 3,3,3,3 - - - -\n\
+    f /a/b/d 0644 0 0 0:0 3,3,3,3 - - - -\n\
+    f /a/c 0644 0 0 0:0 3,3,3,3 - - - -\n\
+    f /a! 0644 0 0 0:0 3,3,3,3 - - - -\n\
+    f /b 0644 0 0 0:0 3,3,3,3 - - - -\n";
+
+/// Whether the names in the root of a tree are these.
+fn has_names(rt: &impl Abort, alloc: Global, tree: &MemTree, names: &[u8]) -> bool {
+    names_text(rt, alloc, tree).as_slice() == names
+}
+
 #[test]
 fn adds_in_order_below_directories(rt: HostRuntime) {
-    let alloc = rt.alloc();
-    let Object { node, payload: _ } = root_object(alloc);
-    let mut builder = TreeBuilder::new(alloc, node).expect(&rt, "memory");
-    for (is_directory, text, fault) in ADDED {
-        let added = add(&rt, alloc, &mut builder, is_directory, text);
-        assert_eq!(rt; added.err(), fault);
-    }
-    let tree = builder.finish();
-    let names = names_text(&rt, alloc, &tree);
-    assert_eq!(rt; names.as_slice(), b"/Z/a/a!/b".as_slice());
-    let text = tree_text(&rt, alloc, &tree);
-    assert_eq!(rt;
-        text.as_slice(),
-        b"d / 0755 0 0 0:0 0,0,0,0 - - - -\n\
-        f /Z 0644 0 0 0:0 3,3,3,3 - - - -\n\
-        d /a 0755 0 0 0:0 3,3,3,3 - - - -\n\
-        d /a/b 0755 0 0 0:0 3,3,3,3 - - - -\n\
-        d /a/b/c 0755 0 0 0:0 3,3,3,3 - - - -\n\
-        f /a/b/c/f 0644 0 0 0:0 3,3,3,3 - - - -\n\
-        f /a/b/d 0644 0 0 0:0 3,3,3,3 - - - -\n\
-        f /a/c 0644 0 0 0:0 3,3,3,3 - - - -\n\
-        f /a! 0644 0 0 0:0 3,3,3,3 - - - -\n\
-        f /b 0644 0 0 0:0 3,3,3,3 - - - -\n"
-            .as_slice()
-    );
-    assert_eq!(rt; tree.step_count(), 0);
+    let tree = added_in_order(&rt, rt.alloc());
+    assert!(rt; has_names(&rt, rt.alloc(), &tree, b"/Z/a/a!/b"));
+    assert!(rt; tree_text(&rt, rt.alloc(), &tree).as_slice() == IN_ORDER);
+    assert!(rt; tree.step_count() == 0);
 }
 
 /// Whether a tree lends these bytes of a file.
@@ -275,52 +290,54 @@ fn lends_target<T: Tree>(rt: &impl Abort, tree: &T, path: &TreePath, want: &[u8]
     tree.target(path) == want
 }
 
+/// Whether a tree lends the bytes of a file and the target of a link.
+fn lends_both<T: Tree>(rt: &impl Abort, alloc: Global, tree: &T) -> bool {
+    let file = path_of(rt, alloc, b"/f");
+    let link = path_of(rt, alloc, b"/l");
+    lends_bytes(rt, tree, &file, b"xy") && lends_target(rt, tree, &link, b"../x")
+}
+
+/// A tree with a file and a link.
+fn tree_to_lend(rt: &impl Abort, alloc: Global) -> MemTree {
+    let mut tree = root_tree(rt, alloc);
+    let steps = b"1 mkfile /f\n2 write /f xy\n3 symlink /l ../x";
+    run(rt, alloc, &mut tree, steps);
+    tree
+}
+
 #[test]
 fn lends_payloads(rt: HostRuntime) {
-    let alloc = rt.alloc();
-    let mut tree = root_tree(&rt, alloc);
-    run(
-        &rt,
-        alloc,
-        &mut tree,
-        b"1 mkfile /f\n2 write /f xy\n3 symlink /l ../x",
-    );
-    let file = path_of(&rt, alloc, b"/f");
-    let link = path_of(&rt, alloc, b"/l");
-    assert!(rt; lends_bytes(&rt, &tree, &file, b"xy"));
-    assert!(rt; lends_target(&rt, &tree, &link, b"../x"));
+    let tree = tree_to_lend(&rt, rt.alloc());
+    assert!(rt; lends_both(&rt, rt.alloc(), &tree));
     let tree = Fused::new(tree, Some(0));
-    assert!(rt; lends_bytes(&rt, &tree, &file, b"xy"));
-    assert!(rt; lends_target(&rt, &tree, &link, b"../x"));
+    assert!(rt; lends_both(&rt, rt.alloc(), &tree));
 }
 
 /// A limit, how two steps end under it, and the names in the root that are left.
-static LIMITS: [(Option<u64>, bool, bool, &[u8]); 4] = [
+const LIMITS: &[(Option<u64>, bool, bool, &[u8])] = &[
     (None, true, true, b"/a/b"),
     (Some(0), false, false, b"/"),
     (Some(1), true, false, b"/a"),
     (Some(2), true, true, b"/a/b"),
 ];
 
+/// Whether a step ends well.
+fn ends_well(rt: &impl Abort, alloc: Global, tree: &mut Fused<MemTree>, step: &[u8]) -> bool {
+    perform(rt, alloc, tree, step).is_ok()
+}
+
 #[test]
 fn stops_after_the_limit(rt: HostRuntime) {
-    let alloc = rt.alloc();
-    for (limit, first, second, names) in LIMITS {
-        let mut tree = Fused::new(root_tree(&rt, alloc), limit);
-        assert_eq!(rt;
-            perform(&rt, alloc, &mut tree, b"1 mkdir /a").is_ok(),
-            first
+    for &(limit, first, second, names) in LIMITS {
+        let mut tree = Fused::new(root_tree(&rt, rt.alloc()), limit);
+        let is_first = ends_well(&rt, rt.alloc(), &mut tree, b"1 mkdir /a") == first;
+        let is_second = ends_well(&rt, rt.alloc(), &mut tree, b"2 mkdir /b") == second;
+        assert!(rt;
+            is_first && is_second && tree.stopped() != second,
+            "{names:?}"
         );
-        assert_eq!(rt;
-            perform(&rt, alloc, &mut tree, b"2 mkdir /b").is_ok(),
-            second
-        );
-        assert_eq!(rt; tree.stopped(), !second);
-        assert_eq!(rt; names_text(&rt, alloc, tree.inner()).as_slice(), names);
-        assert_eq!(rt;
-            names_text(&rt, alloc, &tree.into_inner()).as_slice(),
-            names
-        );
+        assert!(rt; has_names(&rt, rt.alloc(), tree.inner(), names));
+        assert!(rt; has_names(&rt, rt.alloc(), &tree.into_inner(), names));
     }
 }
 
@@ -352,7 +369,7 @@ fn add_random_path(rt: &impl Abort, random: &mut Random, text: &mut Vec<u8>) {
 }
 
 /// What is done at a path, and the words behind the path.
-static DEEDS: [(&[u8], &[u8]); 20] = [
+const DEEDS: [(&[u8], &[u8]); 20] = [
     (b"mkdir ", b""),
     (b"mkdir ", b""),
     (b"mkfile ", b""),
@@ -410,7 +427,7 @@ fn run_beside(
     if !can(rt, alloc, tree, step) {
         return false;
     }
-    assert_eq!(rt; tree.step(step, now), Ok(()));
+    assert!(rt; tree.step(step, now).is_ok());
     apply(rt, alloc, entries, step, now);
     true
 }
@@ -418,26 +435,50 @@ fn run_beside(
 /// Stops unless a tree and a list hold the same.
 fn expect_same(rt: &impl Abort, alloc: Global, tree: &MemTree, entries: &Vec<(TreePath, Object)>) {
     let text = tree_text(rt, alloc, tree);
-    assert_eq!(rt;
-        text.as_slice(),
-        entries_text(rt, alloc, entries).as_slice()
-    );
+    assert!(rt; text.as_slice() == entries_text(rt, alloc, entries).as_slice());
+}
+
+/// The list of a root alone.
+fn root_entries(rt: &impl Abort, alloc: Global) -> Vec<(TreePath, Object)> {
+    let mut entries = Vec::new(alloc);
+    put(rt, &mut entries, TreePath::root(alloc), root_object(alloc));
+    entries
+}
+
+/// Does a pseudo-random step in a tree and in a list, and counts it, where it may be done.
+fn run_random(
+    rt: &impl Abort,
+    alloc: Global,
+    random: &mut Random,
+    tree: &mut MemTree,
+    entries: &mut Vec<(TreePath, Object)>,
+    done: &mut [u64; 20],
+    now: u64,
+) {
+    let deed = next(random, 20) as usize;
+    let step = random_step(rt, alloc, random, deed);
+    if run_beside(rt, alloc, tree, entries, &step, now) {
+        done[deed] = done[deed].wrapping_add(1);
+    }
 }
 
 #[test]
 fn runs_as_the_sorted_list(rt: HostRuntime) {
     let alloc = rt.alloc();
     let mut tree = root_tree(&rt, alloc);
-    let mut entries = Vec::new(alloc);
-    put(&rt, &mut entries, TreePath::root(alloc), root_object(alloc));
+    let mut entries = root_entries(&rt, alloc);
     let mut random = Random { state: 1 };
     let mut done = [0u64; 20];
     for now in 1..=12_000u64 {
-        let deed = next(&mut random, 20) as usize;
-        let step = random_step(&rt, alloc, &mut random, deed);
-        if run_beside(&rt, alloc, &mut tree, &mut entries, &step, now) {
-            done[deed] = done[deed].wrapping_add(1);
-        }
+        run_random(
+            &rt,
+            alloc,
+            &mut random,
+            &mut tree,
+            &mut entries,
+            &mut done,
+            now,
+        );
         if now % 8 == 0 {
             expect_same(&rt, alloc, &tree, &entries);
         }
