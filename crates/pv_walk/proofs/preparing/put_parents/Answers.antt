@@ -1,4 +1,4 @@
-use Rattle.std.proofs.Common.{◌≡◌, ◌≢◌, ◌⊎◌, [], ℕ, ◌+◌, ◌*◌, ◌<◌, false, cond, Option, Some, None, is_some, Result, refl, inl, inr, sym, ap, subst, ◌∙◌, take, length, fold, arith}
+use Rattle.std.proofs.Common.{◌≡◌, ◌≢◌, ◌⊎◌, [], ℕ, ◌+◌, ◌-◌, ◌*◌, ◌<◌, false, cond, Option, Some, None, is_some, Result, refl, inl, inr, sym, ap, subst, ◌∙◌, take, length, fold, arith}
 use Rattle.std.specs.Prelude.{if◌then◌else◌}
 use Rattle.pv_path.specs.Paths.{Path, has_staging, parent_of, staging_of}
 use Rattle.pv_steps.specs.declared.node.Kind.TheVariants.{Directory}
@@ -7,13 +7,13 @@ use Rattle.pv_steps.specs.Trees.{places, IsAbsentIn, IsKind}
 use Rattle.pv_steps.specs.declared.tree.Tree.{Ghosts}
 use Rattle.pv_steps.specs.declared.tree.TreeFault.{TreeFault}
 use Rattle.pv_steps.specs.Acting.{Acted}
-use Rattle.pv_steps.proofs.ActingLaws.{Moves, well, no_memory, acted_within, acted_passed, acted_ended}
+use Rattle.pv_steps.proofs.ActingLaws.{Moves, well, no_memory, acted_none, acted_within, acted_passed, acted_ended}
 use Rattle.pv_walk.specs.Staging.{can_stage, most_new}
 use Rattle.pv_walk.specs.Putting.{Putting, IsPutStep}
-use Rattle.pv_walk.specs.Preparing.{with_parent, parent_file, parent_count, IsAbove, Preparing, IsPrepareStep}
+use Rattle.pv_walk.specs.Preparing.{with_parent, parent_file, parent_count, IsAbove, Preparing, IsPrepareStep, kept}
 use Rattle.pv_walk.proofs.PreparingLaws.{short_take, nonempty_take, above_take, next_parent, parented_next, parented_end, room_next, absent_parents, absent_parents-le, parent_acted, Parented}
 use Rattle.pv_walk.proofs.preparing.put_parents.Goals as goal
-use Rattle.pv_path.proofs.PathLaws.{is_prefix-take, has_staging-take, parent_of-push}
+use Rattle.pv_path.proofs.PathLaws.{is_prefix-take, has_staging-take, length-parent_of, parent_of-push}
 
 pub put_parent-requires-clause-not_root : goal.put_parent-requires-clause-not_root
 put_parent-requires-clause-not_root g c =
@@ -120,3 +120,20 @@ returns-clause-acted g c =
     let path = c.args.path.now in
     let i = c.loop-name.name-index in
     acted_within g.T.Tree (most_new * absent_parents path t i) (most_new * parent_count path t) (omega (arith, absent_parents-le path t i)) c.loop-name.invariant.acted
+
+pub loop-name-init : goal.loop-name-init
+loop-name-init g c =
+    let moves : Moves g.T.Tree = record { stays = g.met.T.Tree.reaches_self; goes_on = g.met.T.Tree.reaches_on; never_falls = g.met.T.Tree.never_falls } in
+    let t = g.T.Tree.state c.args.tree.now in
+    record {
+      items = rw (c.saturating_sub.ensures, c.names-names.ensures.value) refl;
+      place = c.root-place.ensures;
+      parented = record { here = refl; directory = c.look-root.ensures.tree.root; at = refl; pass = c.requires.pass; swept = c.requires.swept; ahead = λ k lt le. refl };
+      acted = acted_none g.T.Tree moves (Preparing c.args.path.now t) (IsPrepareStep c.args.path.now t) 0 c.args.now c.args.tree.now well refl (λ q plain. kept refl);
+    }
+
+pub returns-clause-parent : goal.returns-clause-parent
+returns-clause-parent g c =
+    let path = c.args.path.now in
+    let end : c.loop-name.name-index ≡ length path - 1 = omega (arith, c.loop-name-test.false, c.loop-name.auto.name-index-end, ap length c.loop-name.invariant.items, length-parent_of path) in
+    subst (λ k. IsKind Directory (g.T.Tree.state c.loop-name.tree) (take k path)) end c.loop-name.invariant.parented.directory

@@ -8,13 +8,13 @@ use Rattle.pv_steps.specs.Steps.{Movable, Yields, moved}
 use Rattle.pv_steps.specs.declared.tree.Tree.{Ghosts}
 use Rattle.pv_steps.specs.declared.tree.TreeFault.{TreeFault}
 use Rattle.pv_steps.specs.Acting.{Acted}
-use Rattle.pv_steps.proofs.ActingLaws.{Moves, no_memory, acted_then, acted_weaken, acted_within, acted_passed, acted_ended, acted_end}
+use Rattle.pv_steps.proofs.ActingLaws.{Moves, no_memory, acted_none, acted_then, acted_weaken, acted_within, acted_passed, acted_ended, acted_end}
 use Rattle.pv_dress.specs.Edits.{Pruned, count_at}
 use Rattle.pv_steps.specs.Content.{Removes}
 use Rattle.pv_walk.specs.Staging.{IsPublishing}
 use Rattle.pv_walk.specs.Removal.{Publishing, MayHaveMoved}
 use Rattle.pv_walk.proofs.PublishLaws.{may_move}
-use Rattle.pv_walk.proofs.SweepLaws.{short_name}
+use Rattle.pv_walk.proofs.SweepLaws.{short_name, pruned-none}
 use Rattle.pv_walk.proofs.Outcomes.{acted-tree}
 use Rattle.pv_walk.proofs.publishing.publish.Goals as goal
 
@@ -76,3 +76,14 @@ returns-clause-acted g c =
     (way_then g.T.Tree moves c.args.path.now c.in_ok-copy.field-0 c.in_ok-copy.ensures c.in_ok-make_way.ensures.acted
     (subst (λ (s : Path). moved c.args.now s c.args.path.now (places (g.T.Tree.state c.make_way.new.tree)) ≡ moved c.args.now s c.args.path.now (places (g.T.Tree.state c.args.tree.now))) c.in_ok-stage.ensures c.in_ok-make_way.ensures.same)
     c.rename.ensures.acted)
+
+pub returns-in_err-stage-clause-acted : goal.returns-in_err-stage-clause-acted
+returns-in_err-stage-clause-acted g c =
+    let moves : Moves g.T.Tree = record { stays = g.met.T.Tree.reaches_self; goes_on = g.met.T.Tree.reaches_on; never_falls = g.met.T.Tree.never_falls } in
+    let t = g.T.Tree.state c.args.tree.now in
+    let path = c.args.path.now in
+    acted_none g.T.Tree moves (Publishing c.args.now path t) (IsPublishing path) (1 + count_at t path) c.args.now c.args.tree.now
+    c.from_residual.result (no_memory c.from_residual.result c.from_residual.ensures.1) (inl (pruned-none (is_prefix path) t))
+
+pub make_way-requires-clause-staged : goal.make_way-requires-clause-staged
+make_way-requires-clause-staged g c = rw c.in_ok-stage.ensures c.requires.staged

@@ -1,12 +1,18 @@
-use Rattle.std.proofs.Common.{sym, arith}
+use Rattle.std.proofs.Common.{refl, sym, arith}
 use Rattle.pv_path.specs.Paths.{is_prefix}
 use Rattle.pv_steps.specs.declared.step.Step.TheVariants.{Write}
-use Rattle.pv_steps.proofs.ActingLaws.{Moves, well, no_memory, acted_tried, acted_then, acted_within, acted_passed, acted_ended}
+use Rattle.pv_steps.proofs.ActingLaws.{Moves, well, no_memory, acted_none, acted_tried, acted_then, acted_within, acted_passed, acted_ended}
 use Rattle.pv_dress.specs.Edits.{SameOutside}
 use Rattle.pv_walk.specs.Staging.{GivesNew}
 use Rattle.pv_walk.specs.Making.{make_step}
 use Rattle.pv_walk.proofs.StageLaws.{make_asks, make_holds, can_write, write_asks, write_holds}
 use Rattle.pv_walk.proofs.stage.put_held.Goals as goal
+
+pub returns-in_err-make_step-clause-acted : goal.returns-in_err-make_step-clause-acted
+returns-in_err-make_step-clause-acted g c =
+    let moves : Moves g.T.Tree = record { stays = g.met.T.Tree.reaches_self; goes_on = g.met.T.Tree.reaches_on; never_falls = g.met.T.Tree.never_falls } in
+    acted_none g.T.Tree moves (SameOutside (is_prefix c.args.path.now) (g.T.Tree.state c.args.tree.now)) (GivesNew c.args.path.now c.args.new.now) 2 c.args.now c.args.tree.now
+    c.from_residual.result (no_memory c.from_residual.result c.from_residual.ensures.1) (λ q e. refl)
 
 pub try_step-requires : goal.try_step-requires
 try_step-requires g c = rw c.in_ok-make_step.ensures (make_asks c.args.path.now c.requires.not_root c.args.now (g.T.Tree.state c.args.tree.now) c.requires.room c.args.new.now c.requires.new).can
