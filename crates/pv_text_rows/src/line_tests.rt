@@ -1,6 +1,6 @@
 //! Rows of lines of tmpfiles.d(5) with what each is read as.
 use crate::given::{People, filled, place_in};
-use pv_lines::{Argument, Line, LineFault, LinePath, name_of, read_line};
+use pv_lines::{Argument, Line, LineFault, LineId, LineMode, LinePath, name_of, read_line};
 use pv_path::{TreePath, print_path};
 use pv_steps::{AttrList, LetterHow};
 use pv_text::Facts;
@@ -76,26 +76,40 @@ fn check_types(
     Ok(())
 }
 
+/// What stands between the letter and the argument, and the answers as for `check_types`.
+const MIDDLES: &[(&[u8], &[u8], &[u8], &[u8])] = &[
+    (b" /a", TYPES, b"ok", b""),
+    (b"! /a", TYPES, b"ok", b""),
+    (b"- /a", TYPES, b"ok", b""),
+    (b"+ /a", b"fwpLcbaA", b"ok", b"BadModifier"),
+    (b"= /a", b"fFdDvqQpLcbC", b"ok", b"BadModifier"),
+    (b"~ /a", b"fFw", b"ok", b"BadModifier"),
+    (b"$ /a", b"fFdDvqQpLcbC", b"ok", b"BadModifier"),
+    (b"!! /a", TYPES, b"BadModifier", b""),
+    (b"!-! /a", TYPES, b"BadModifier", b""),
+    (b" /", b"dDevqQzZaAtThHxX", b"ok", b"RootPath"),
+    (b"$ /", b"fFdDvqQpLcbC", b"RootPath", b"BadModifier"),
+    (b" /[", b"fFdDvqQpLcbC", b"ok", b"UnclosedBracket"),
+    (b" /.#tf-x", TYPES, b"StagingName", b""),
+];
+
 #[test]
 fn types_take_modifiers_and_paths(rt: HostRuntime) -> Result<(), Fail> {
-    for (middle, some, first, second) in [
-        (b" /a".as_slice(), TYPES, b"ok".as_slice(), b"".as_slice()),
-        (b"! /a", TYPES, b"ok", b""),
-        (b"- /a", TYPES, b"ok", b""),
-        (b"+ /a", b"fwpLcbaA", b"ok", b"BadModifier"),
-        (b"= /a", b"fFdDvqQpLcbC", b"ok", b"BadModifier"),
-        (b"~ /a", b"fFw", b"ok", b"BadModifier"),
-        (b"$ /a", b"fFdDvqQpLcbC", b"ok", b"BadModifier"),
-        (b"!! /a", TYPES, b"BadModifier", b""),
-        (b"!-! /a", TYPES, b"BadModifier", b""),
-        (b" /", b"dDevqQzZaAtThHxX", b"ok", b"RootPath"),
-        (b"$ /", b"fFdDvqQpLcbC", b"RootPath", b"BadModifier"),
-        (b" /[", b"fFdDvqQpLcbC", b"ok", b"UnclosedBracket"),
-        (b" /.#tf-x", TYPES, b"StagingName", b""),
-    ] {
+    for &(middle, some, first, second) in MIDDLES {
         check_types(&rt, rt.alloc(), middle, some, first, second)?;
     }
     Ok(())
+}
+
+/// The answer to an age that is none: only some types read their age, and others lack an argument first.
+fn age_answer(letter: u8) -> &'static [u8] {
+    if b"dDevqQCxX".contains(&letter) {
+        b"BadUnit"
+    } else if b"wcbaAtThH".contains(&letter) {
+        b"ArgumentNeeded"
+    } else {
+        b"ok"
+    }
 }
 
 #[test]
@@ -104,17 +118,8 @@ fn types_take_ages_and_arguments(rt: HostRuntime) -> Result<(), Fail> {
     let facts = Facts::new(alloc);
     for letter in TYPES {
         let text = joined(alloc, &[*letter], b" /a - - - 1x ", b"")?;
-        let aged = b"dDevqQCxX".contains(letter);
-        let needy = b"wcbaAtThH".contains(letter);
-        let wanted = if aged {
-            b"BadUnit".as_slice()
-        } else if needy {
-            b"ArgumentNeeded".as_slice()
-        } else {
-            b"ok".as_slice()
-        };
         assert!(rt;
-            answer(alloc, &facts, text.as_slice()) == wanted,
+            answer(alloc, &facts, text.as_slice()) == age_answer(*letter),
             "{text:?}"
         );
     }
@@ -244,39 +249,63 @@ fn faults_come_in_their_order(rt: HostRuntime) {
 
 /// Adds what a line names, its mode, its owners and its age in short.
 fn add_fields(text: &mut Vec<u8>, alloc: Global, line: &Line) -> Result<(), AllocError> {
+    add_named(text, alloc, line)?;
+    add_mode(text, alloc, line.mode)?;
+    add_owner(text, alloc, "user", line.user)?;
+    add_owner(text, alloc, "group", line.group)?;
+    add_age(text, alloc, line)
+}
+
+/// Adds what a line names.
+fn add_named(text: &mut Vec<u8>, alloc: Global, line: &Line) -> Result<(), AllocError> {
     match &line.path {
-        LinePath::Literal(path) => add_path(text, alloc, path)?,
+        LinePath::Literal(path) => add_path(text, alloc, path),
         LinePath::Glob(pattern) => {
             add(text, &format!(in alloc; "{}:", pattern.plains().len())?)?;
-            text.extend_from_slice(line.path_text.as_slice())?;
+            text.extend_from_slice(line.path_text.as_slice())
         }
     }
-    if let Some(mode) = line.mode {
-        let (masked, new_only) = (mode.masked, mode.new_only);
-        add(
-            text,
-            &format!(in alloc; " mode {:o} {masked} {new_only}", mode.value)?,
-        )?;
+}
+
+/// Adds a mode, where there is one.
+fn add_mode(text: &mut Vec<u8>, alloc: Global, mode: Option<LineMode>) -> Result<(), AllocError> {
+    match mode {
+        Some(mode) => {
+            let (masked, new_only) = (mode.masked, mode.new_only);
+            add(
+                text,
+                &format!(in alloc; " mode {:o} {masked} {new_only}", mode.value)?,
+            )
+        }
+        None => Ok(()),
     }
-    if let Some(user) = line.user {
-        add(
-            text,
-            &format!(in alloc; " user {} {}", user.id, user.new_only)?,
-        )?;
+}
+
+/// Adds a user or a group, where there is one.
+fn add_owner(
+    text: &mut Vec<u8>,
+    alloc: Global,
+    what: &str,
+    owner: Option<LineId>,
+) -> Result<(), AllocError> {
+    match owner {
+        Some(owner) => {
+            let (id, new_only) = (owner.id, owner.new_only);
+            add(text, &format!(in alloc; " {what} {id} {new_only}")?)
+        }
+        None => Ok(()),
     }
-    if let Some(group) = line.group {
-        add(
-            text,
-            &format!(in alloc; " group {} {}", group.id, group.new_only)?,
-        )?;
+}
+
+/// Adds the age of a line, where there is one.
+fn add_age(text: &mut Vec<u8>, alloc: Global, line: &Line) -> Result<(), AllocError> {
+    match line.age {
+        Some(age) => {
+            let (micros, spare_first) = (age.micros, age.spare_first);
+            add(text, &format!(in alloc; " age {micros} {spare_first}")?)
+        }
+        None => Ok(()),
     }
-    if let Some(age) = line.age {
-        add(
-            text,
-            &format!(in alloc; " age {} {}", age.micros, age.spare_first)?,
-        )?;
-    }
-    Ok(())
 }
 
 fn add(text: &mut Vec<u8>, more: &str) -> Result<(), AllocError> {
@@ -421,41 +450,45 @@ fn a_line_keeps_its_place(rt: HostRuntime) -> Result<(), Fail> {
     Ok(())
 }
 
+/// The name of the fault of a text with so many `0` in it, or `ok`.
+fn long_answer(
+    alloc: Global,
+    before: &[u8],
+    count: usize,
+    after: &[u8],
+) -> Result<&'static [u8], AllocError> {
+    let text = filled(alloc, before, count, after)?;
+    Ok(answer(alloc, &Facts::new(alloc), text.as_slice()))
+}
+
+/// What stands before and after so many `0`, and the answer.
+const LONG: &[(&[u8], usize, &[u8], &[u8])] = &[
+    (b"", 4095, b" /a", b"UnknownType"),
+    (b"d", 4094, b" /a", b"BadModifier"),
+    (b"d /", 240, b"", b"ok"),
+    (b"d /", 241, b"", b"NameTooLong"),
+    (b"e /", 4094, b"", b"ok"),
+    (b"e /", 4095, b"", b"PathTooLong"),
+    (b"d /", 4095, b"", b"PathTooLong"),
+    (b"d /a ", 5, b"", b"ok"),
+    (b"d /a ", 4095, b"", b"BadMode"),
+    (b"d /a - ", 4095, b"", b"UnknownUser"),
+    (b"d /a - - ", 4095, b"", b"UnknownGroup"),
+    (b"d /a - - - ", 4095, b"", b"ok"),
+    (b"L /a - - - - ", 4095, b"", b"ok"),
+    (b"L /a - - - - ", 4096, b"", b"PathTooLong"),
+    (b"f /a - - - - ", 70000, b"", b"ok"),
+    (b"t /a - - - - user.a=", 65536, b"", b"ok"),
+    (b"t /a - - - - user.a=", 65537, b"", b"BadAttribute"),
+    (b"t /a - - - - user.", 251, b"=", b"BadAttribute"),
+    (b"t /a - - - - user.", 250, b"=", b"ok"),
+];
+
 #[test]
 fn fields_may_be_long(rt: HostRuntime) -> Result<(), Fail> {
-    let alloc = rt.alloc();
-    let facts = Facts::new(alloc);
-    for (before, count, after, wanted) in [
-        (
-            b"".as_slice(),
-            4095usize,
-            b" /a".as_slice(),
-            b"UnknownType".as_slice(),
-        ),
-        (b"d", 4094, b" /a", b"BadModifier"),
-        (b"d /", 240, b"", b"ok"),
-        (b"d /", 241, b"", b"NameTooLong"),
-        (b"e /", 4094, b"", b"ok"),
-        (b"e /", 4095, b"", b"PathTooLong"),
-        (b"d /", 4095, b"", b"PathTooLong"),
-        (b"d /a ", 5, b"", b"ok"),
-        (b"d /a ", 4095, b"", b"BadMode"),
-        (b"d /a - ", 4095, b"", b"UnknownUser"),
-        (b"d /a - - ", 4095, b"", b"UnknownGroup"),
-        (b"d /a - - - ", 4095, b"", b"ok"),
-        (b"L /a - - - - ", 4095, b"", b"ok"),
-        (b"L /a - - - - ", 4096, b"", b"PathTooLong"),
-        (b"f /a - - - - ", 70000, b"", b"ok"),
-        (b"t /a - - - - user.a=", 65536, b"", b"ok"),
-        (b"t /a - - - - user.a=", 65537, b"", b"BadAttribute"),
-        (b"t /a - - - - user.", 251, b"=", b"BadAttribute"),
-        (b"t /a - - - - user.", 250, b"=", b"ok"),
-    ] {
-        let text = filled(alloc, before, count, after)?;
-        assert!(rt;
-            answer(alloc, &facts, text.as_slice()) == wanted,
-            "{before:?} {count}"
-        );
+    for &(before, count, after, wanted) in LONG {
+        let answer = long_answer(rt.alloc(), before, count, after)?;
+        assert!(rt; answer == wanted, "{before:?} {count}");
     }
     Ok(())
 }

@@ -23,40 +23,38 @@ fn is_met(alloc: Global, a: &[u8], b: &[u8], wanted: Option<&[u8]>) -> Result<bo
     }
 }
 
+/// Two patterns, and the first path that they share, if any.
+const ROWS: &[(&[u8], &[u8], Option<&[u8]>)] = &[
+    (b"/a/*b", b"/a/b*", Some(b"/a/b")),
+    (b"/a/*", b"/a/?*c", Some(b"/a/ac")),
+    (b"/v/", b"/v/w/z", Some(b"/v/w/z")),
+    (b"/*/", b"/a/b/", Some(b"/a/b")),
+    (b"/.*", b"/.?*", Some(b"/.a")),
+    (b"/[!a-z]", b"/?", Some(b"/0")),
+    (b"/[!a-z0-9]*", b"/?", Some(b"/A")),
+    (b"/.#t*", b"/.#tf?*", Some(b"/.#tfa")),
+    (b"/", b"/", Some(b"/")),
+    (b"/", b"/*/b/", Some(b"/a/b")),
+    (b"/x/{aa,b}", b"/x/*", Some(b"/x/b")),
+    (b"/{b,?c}", b"/{b,a}c", Some(b"/ac")),
+    (b"/x/[!a]*", b"/x/.h", None),
+    (b"/.*", b"/*", None),
+    (b"/a", b"/a/b", None),
+    (b"/a/\\*", b"/a/b", None),
+    (b"/ab/c", b"/abc/", None),
+    (b"/.#tf[-]*", b"/.*", None),
+    (b"/{a,b}", b"/{c,d}", None),
+    (
+        b"/a/*a*a*a*a*a*a*a*a*a*a*a*a*a*a*a*a*a*a*a*a",
+        b"/a/*b*b*b*b*b*b*b*b*b*b*b*b*b*b*b*b*b*b*b*b",
+        None,
+    ),
+];
+
 #[test]
 fn rows(rt: HostRuntime) -> Result<(), Fail> {
-    let alloc = rt.alloc();
-    for (a, b, wanted) in [
-        (
-            b"/a/*b".as_slice(),
-            b"/a/b*".as_slice(),
-            Some(b"/a/b".as_slice()),
-        ),
-        (b"/a/*", b"/a/?*c", Some(b"/a/ac".as_slice())),
-        (b"/v/", b"/v/w/z", Some(b"/v/w/z".as_slice())),
-        (b"/*/", b"/a/b/", Some(b"/a/b".as_slice())),
-        (b"/.*", b"/.?*", Some(b"/.a".as_slice())),
-        (b"/[!a-z]", b"/?", Some(b"/0".as_slice())),
-        (b"/[!a-z0-9]*", b"/?", Some(b"/A".as_slice())),
-        (b"/.#t*", b"/.#tf?*", Some(b"/.#tfa".as_slice())),
-        (b"/", b"/", Some(b"/".as_slice())),
-        (b"/", b"/*/b/", Some(b"/a/b".as_slice())),
-        (b"/x/{aa,b}", b"/x/*", Some(b"/x/b".as_slice())),
-        (b"/{b,?c}", b"/{b,a}c", Some(b"/ac".as_slice())),
-        (b"/x/[!a]*", b"/x/.h", None),
-        (b"/.*", b"/*", None),
-        (b"/a", b"/a/b", None),
-        (b"/a/\\*", b"/a/b", None),
-        (b"/ab/c", b"/abc/", None),
-        (b"/.#tf[-]*", b"/.*", None),
-        (b"/{a,b}", b"/{c,d}", None),
-        (
-            b"/a/*a*a*a*a*a*a*a*a*a*a*a*a*a*a*a*a*a*a*a*a",
-            b"/a/*b*b*b*b*b*b*b*b*b*b*b*b*b*b*b*b*b*b*b*b",
-            None,
-        ),
-    ] {
-        assert!(rt; is_met(alloc, a, b, wanted)?, "{a:?} {b:?}");
+    for &(a, b, wanted) in ROWS {
+        assert!(rt; is_met(rt.alloc(), a, b, wanted)?, "{a:?} {b:?}");
     }
     Ok(())
 }
