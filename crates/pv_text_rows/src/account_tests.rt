@@ -5,6 +5,7 @@ use pv_accounts::{
 };
 use pv_acl::Names;
 use std::alloc::{AllocError, Global};
+use std::process::Abort;
 use std::test::Fail;
 
 /// Whether a file with more entries is this text.
@@ -153,13 +154,18 @@ const HELD: &[(u32, &[u8], bool)] = &[
     (8, b"d", false),
 ];
 
-#[test]
-fn names_and_ids_are_in_use(rt: HostRuntime) -> Result<(), Fail> {
-    let ids = in_use(rt.alloc())?;
+/// Looks for the numbers and names in use.
+fn expect_held(rt: &impl Abort, ids: &InUse<'_>) {
     for &(id, but, beside) in HELD {
         assert!(rt; ids.is_held_beside(id, but) == beside, "{id}");
     }
     assert!(rt; ids.id_of(b"a") == Some(5) && ids.id_of(b"e").is_none());
     assert!(rt; ids.is_held(8) && !ids.is_held(6));
+}
+
+#[test]
+fn names_and_ids_are_in_use(rt: HostRuntime) -> Result<(), Fail> {
+    let ids = in_use(rt.alloc())?;
+    expect_held(&rt, &ids);
     Ok(())
 }

@@ -383,14 +383,19 @@ fn add_type(text: &mut Vec<u8>, line: &Line) -> Result<(), AllocError> {
     Ok(())
 }
 
+/// A line in short.
+fn told_of(alloc: Global, line: &Line) -> Result<Vec<u8>, Fail> {
+    let mut told = Vec::new(alloc);
+    add_type(&mut told, line)?;
+    add_fields(&mut told, alloc, line)?;
+    add_argument(&mut told, alloc, &line.argument)?;
+    Ok(told)
+}
+
 /// What a text is read as in short.
 fn told(alloc: Global, facts: &Facts, text: &[u8]) -> Result<Vec<u8>, Fail> {
     let line = read(alloc, facts, text)?;
-    let mut told = Vec::new(alloc);
-    add_type(&mut told, &line)?;
-    add_fields(&mut told, alloc, &line)?;
-    add_argument(&mut told, alloc, &line.argument)?;
-    Ok(told)
+    told_of(alloc, &line)
 }
 
 /// Lines, each with a bar and what it is read as in short.

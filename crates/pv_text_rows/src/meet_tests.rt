@@ -1,8 +1,9 @@
 //! Rows of shared paths, and the first shared path against a search among all short names.
 use pv_glob::{Pattern, PatternFault, Plain, matches, parse_pattern};
 use pv_meet::{PairMachine, Reach, least_word, meet};
-use pv_path::{TreePath, child, is_name, print_path};
+use pv_path::{Bytes, TreePath, child, is_name, print_path};
 use std::alloc::{AllocError, Global};
+use std::process::Abort;
 use std::test::Fail;
 
 /// What a pattern reaches; a text that ends in `/` stands for what lies below too.
@@ -65,91 +66,137 @@ fn plain(alloc: Global, text: &[u8]) -> Result<Plain, Fail> {
     Ok(pattern.plains().first().ok_or("none")?.copy()?)
 }
 
+/// How many places the machine of the second names of two patterns has, and the least word that it reads.
+fn read_by(alloc: Global, left: &Plain, right: &Plain) -> Result<(u32, Bytes), Fail> {
+    if left.components().len() != 2 || right.components().len() != 2 {
+        return Err("not two names")?;
+    }
+    let mut machine = PairMachine::of(alloc, left, right, 1)?;
+    let places = machine.places();
+    let word = least_word(alloc, &mut machine, places)?.ok_or("none")?;
+    Ok((places, word))
+}
+
 #[test]
 fn a_machine_reads_the_shared_names(rt: HostRuntime) -> Result<(), Fail> {
-    let alloc = rt.alloc();
-    let left = plain(alloc, b"/a/*b")?;
-    let right = plain(alloc, b"/a/b*")?;
-    assert!(rt; left.components().len() == 2 && right.components().len() == 2);
-    let mut machine = PairMachine::of(alloc, &left, &right, 1)?;
-    let places = machine.places();
-    assert_eq!(rt; places, 63);
-    let word = least_word(alloc, &mut machine, places)?.ok_or("none")?;
-    assert_eq!(rt; word.as_slice(), b"b".as_slice());
+    let left = plain(rt.alloc(), b"/a/*b")?;
+    let right = plain(rt.alloc(), b"/a/b*")?;
+    let (places, word) = read_by(rt.alloc(), &left, &right)?;
+    assert!(rt;
+        places == 63 && word.as_slice() == b"b".as_slice(),
+        "{places}"
+    );
+    Ok(())
+}
+
+/// Adds a text followed by each piece.
+fn add_longer(all: &mut Vec<Vec<u8>>, text: &Vec<u8>, pieces: &[&[u8]]) -> Result<(), AllocError> {
+    for piece in pieces {
+        let mut next: Vec<u8> = text.clone()?;
+        next.extend_from_slice(piece)?;
+        all.push(next)?;
+    }
+    Ok(())
+}
+
+/// Each text followed by each piece.
+fn longer(alloc: Global, texts: &[Vec<u8>], pieces: &[&[u8]]) -> Result<Vec<Vec<u8>>, AllocError> {
+    let mut all = Vec::new(alloc);
+    for text in texts {
+        add_longer(&mut all, text, pieces)?;
+    }
+    Ok(all)
+}
+
+/// Adds copies of texts.
+fn add_copies(all: &mut Vec<Vec<u8>>, texts: &[Vec<u8>]) -> Result<(), AllocError> {
+    for text in texts {
+        all.push(text.clone()?)?;
+    }
     Ok(())
 }
 
 /// All texts of one to `most` pieces, fewer pieces first, and else in the order of the pieces.
 fn spelled(alloc: Global, pieces: &[&[u8]], most: usize) -> Result<Vec<Vec<u8>>, AllocError> {
-    let mut all: Vec<Vec<u8>> = Vec::new(alloc);
+    let mut all = Vec::new(alloc);
     let mut last = vec![in alloc; Vec::new(alloc)]?;
     for _ in 0..most {
-        let mut longer = Vec::new(alloc);
-        for text in &last {
-            for piece in pieces {
-                let mut next: Vec<u8> = text.clone()?;
-                next.extend_from_slice(piece)?;
-                longer.push(next)?;
-            }
-        }
-        for text in &longer {
-            all.push(text.clone()?)?;
-        }
-        last = longer;
+        last = longer(alloc, &last, pieces)?;
+        add_copies(&mut all, &last)?;
     }
     Ok(all)
+}
+
+/// Adds the path of a name below the root, where the text is a name.
+fn add_name(
+    alloc: Global,
+    paths: &mut Vec<TreePath>,
+    root: &TreePath,
+    text: &[u8],
+) -> Result<(), AllocError> {
+    if is_name(text) {
+        paths.push(child(alloc, root, text)?)?;
+    }
+    Ok(())
 }
 
 /// The names of one to four of the bytes `a`, `b`, `c` and `.`, in the order of shared names.
 fn names(alloc: Global) -> Result<Vec<TreePath>, AllocError> {
     let root = TreePath::root(alloc);
+    let texts = spelled(alloc, &[b"a", b"b", b"c", b"."], 4)?;
     let mut paths = Vec::new(alloc);
-    for name in &spelled(alloc, &[b"a", b"b", b"c", b"."], 4)? {
-        if is_name(name.as_slice()) {
-            paths.push(child(alloc, &root, name.as_slice())?)?;
-        }
+    for text in &texts {
+        add_name(alloc, &mut paths, &root, text)?;
     }
     Ok(paths)
 }
 
-/// The pattern of one component, where the text spells one.
-fn component(alloc: Global, text: &[u8]) -> Result<Pattern, PatternFault> {
+/// What the pattern of one component reaches, where the text spells one.
+fn component(alloc: Global, text: &[u8]) -> Result<Reach, PatternFault> {
     let mut path = Vec::from_slice(alloc, b"/")?;
     path.extend_from_slice(text)?;
-    parse_pattern(alloc, path.as_slice())
+    Ok(Reach {
+        pattern: parse_pattern(alloc, path.as_slice())?,
+        below: false,
+    })
+}
+
+/// The first of some names that two patterns match.
+fn first_of<'a>(names: &'a [TreePath], a: &Pattern, b: &Pattern) -> Option<&'a TreePath> {
+    names
+        .iter()
+        .find(|path| matches(a, path) && matches(b, path))
 }
 
 /// Whether the first name that two components share is the first of all names that both match; a text that spells no
 /// pattern is passed over.
 fn is_first(alloc: Global, names: &[TreePath], left: &[u8], right: &[u8]) -> Result<bool, Fail> {
-    let Ok(a) = component(alloc, left) else {
-        return Ok(true);
-    };
-    let Ok(b) = component(alloc, right) else {
-        return Ok(true);
-    };
-    let wanted = names
-        .iter()
-        .find(|path| matches(&a, path) && matches(&b, path));
-    let found = meet(alloc, &named(a.copy()?), &named(b.copy()?))?;
-    Ok(found.as_ref() == wanted)
+    match (component(alloc, left), component(alloc, right)) {
+        (Ok(a), Ok(b)) => {
+            let found = meet(alloc, &a, &b)?;
+            Ok(found.as_ref() == first_of(names, &a.pattern, &b.pattern))
+        }
+        _ => Ok(true),
+    }
 }
 
-/// What a pattern matches, without what lies below.
-fn named(pattern: Pattern) -> Reach {
-    Reach {
-        pattern,
-        below: false,
+/// Goes through the pairs of some texts, each with one from the other end.
+fn expect_first(
+    rt: &impl Abort,
+    alloc: Global,
+    names: &[TreePath],
+    texts: &[Vec<u8>],
+) -> Result<(), Fail> {
+    for (left, right) in texts.iter().zip(texts.iter().rev().skip(5)) {
+        assert!(rt; is_first(alloc, names, left, right)?, "{left:?} {right:?}");
     }
+    Ok(())
 }
 
 #[test]
 fn the_first_name_is_found_by_going_through_all(rt: HostRuntime) -> Result<(), Fail> {
-    let alloc = rt.alloc();
-    let names = names(alloc)?;
-    let texts = spelled(alloc, &[b"a", b"*", b"b", b".", b"?", b"[!a]", b"c"], 3)?;
-    for (left, right) in texts.iter().zip(texts.iter().rev().skip(5)) {
-        assert!(rt; is_first(alloc, &names, left, right)?, "{left:?} {right:?}");
-    }
-    Ok(())
+    let names = names(rt.alloc())?;
+    let pieces: &[&[u8]] = &[b"a", b"*", b"b", b".", b"?", b"[!a]", b"c"];
+    let texts = spelled(rt.alloc(), pieces, 3)?;
+    expect_first(&rt, rt.alloc(), &names, &texts)
 }
