@@ -93,8 +93,8 @@ fn folders_choose_files(rt: HostRuntime) -> Result<(), Fail> {
         let mut messages = Messages::new(rt.alloc());
         let words = WordList::new(rt.alloc());
         let chosen = chosen_files(rt.alloc(), &tree, tool, &words, &mut messages)?;
-        assert!(rt; read(rt.alloc(), &chosen)?.as_slice() == files, "{tool:?}");
-        assert!(rt; told(rt.alloc(), &messages)?.as_slice() == said, "{tool:?}");
+        assert!(rt; read(rt.alloc(), &chosen)?.as_slice() == files);
+        assert!(rt; told(rt.alloc(), &messages)?.as_slice() == said);
         assert!(rt; !chosen.missing);
     }
     Ok(())
