@@ -1,13 +1,16 @@
-use Rattle.std.proofs.Common.{◌≡◌, ◌++◌, [], IfOk, IfErr, ℕ, ◌≤◌, length, List, append_assoc, arith, ap, sym, subst, ◌∙◌}
+use Rattle.std.proofs.Common.{◌≡◌, ◌++◌, [], IfOk, IfErr, OnOk, None, ℕ, ◌+◌, ◌≤◌, length, List, append_assoc, arith, ap, sym, subst, ◌∙◌}
 use Rattle.std.specs.Prelude.{nat_lt}
+use Rattle.pv_steps.specs.Acting.{Acted}
 use Rattle.pv_steps.specs.Trees.{places}
 use Rattle.pv_sysusers.specs.Lines.{lines_from, said_duplicates}
 use Rattle.pv_text.specs.Said.{SaidPart}
+use Rattle.pv_walk.specs.Staging.{count_at_all}
+use Rattle.pv_accounts_run.specs.declared.edit.Edit.{Edit}
 use Rattle.pv_doing.specs.Courses.{carried_of}
 use Rattle.pv_doing.specs.declared.carried.Carried.{Carried}
-use Rattle.pv_accounts_run.specs.Accounted.{edits_by, edits_unless, lacking_in, lacking_unless, plan_at, unusable_texts}
-use Rattle.pv_accounts_run.specs.Carrying.{IsAccountStep}
-use Rattle.pv_accounts_run.specs.Running.{Lacks}
+use Rattle.pv_accounts_run.specs.Accounted.{edits_by, edits_unless, lacking_in, lacking_unless, plan_at, said_unless, unusable_texts}
+use Rattle.pv_accounts_run.specs.Carrying.{AccountWay, IsAccountStep, most_put, swept_names}
+use Rattle.pv_accounts_run.specs.Running.{IfLacking, Lacks, in_steps}
 use Rattle.pv_accounts_run.proofs.MendedLaws.{none_mended, run_mended}
 use Rattle.pv_accounts_run.proofs.RunningLaws.{nil_of, ok_accounted, some_accounted, some_lacking, some_said}
 use Rattle.pv_accounts_run.proofs.SweptLaws.{accounts_leave_none}
@@ -98,3 +101,40 @@ returns-clause-mended g c =
     let none : unusable_texts (places t) ≡ [] = nil_of (unusable_texts (places t)) (subst (λ ys. length ys ≤ 0) c.in_ok-unusable.ensures (omega (arith, c.len.ensures, c.if-len-gt0.false))) in
     run_mended c.args.requests.now c.args.now c.ranges.now.fits (edits_by (places t) plan.texts) (IsAccountStep (edits_by (places t) plan.texts) t) t (g.T.Tree.steps c.args.tree.now)
     (g.T.Tree.state c.run_usable.new.tree) (g.T.Tree.steps c.run_usable.new.tree) c.is_present-rooted.ensures.tree (sym (ap (λ xs. edits_unless xs (edits_by (places t) plan.texts)) none)) c.run_usable.ensures.acted.ran
+
+pub returns-clause-said : goal.returns-clause-said
+returns-clause-said g c =
+    let t = g.T.Tree.state c.args.tree.now in
+    let none : unusable_texts (places t) ≡ [] = nil_of (unusable_texts (places t)) (subst (λ ys. length ys ≤ 0) c.in_ok-unusable.ensures (omega (arith, c.len.ensures, c.if-len-gt0.false))) in
+    subst (λ (ys : List (List ℕ)). OnOk c.run_usable.result (c.run_usable.new.messages ≡ c.args.messages.now ++ said_unless c.args.requests.now ys (plan_at c.args.requests.now c.args.now (places t)).said)) (sym none) c.run_usable.ensures.said
+
+pub returns-clause-lacking_said : goal.returns-clause-lacking_said
+returns-clause-lacking_said g c =
+    let t = g.T.Tree.state c.args.tree.now in
+    let none : unusable_texts (places t) ≡ [] = nil_of (unusable_texts (places t)) (subst (λ ys. length ys ≤ 0) c.in_ok-unusable.ensures (omega (arith, c.len.ensures, c.if-len-gt0.false))) in
+    subst (λ (ys : List (List ℕ)). IfLacking c.run_usable.result (c.run_usable.new.messages ≡ c.args.messages.now ++ said_unless c.args.requests.now ys (plan_at c.args.requests.now c.args.now (places t)).said)) (sym none) c.run_usable.ensures.lacking_said
+
+pub returns-clause-part : goal.returns-clause-part
+returns-clause-part g c =
+    let t = g.T.Tree.state c.args.tree.now in
+    let none : unusable_texts (places t) ≡ [] = nil_of (unusable_texts (places t)) (subst (λ ys. length ys ≤ 0) c.in_ok-unusable.ensures (omega (arith, c.len.ensures, c.if-len-gt0.false))) in
+    subst (λ (ys : List (List ℕ)). SaidPart (said_unless c.args.requests.now ys (plan_at c.args.requests.now c.args.now (places t)).said) c.args.messages.now c.run_usable.new.messages) (sym none) c.run_usable.ensures.part
+
+pub returns-clause-enough : goal.returns-clause-enough
+returns-clause-enough g c =
+    let t = g.T.Tree.state c.args.tree.now in
+    let none : unusable_texts (places t) ≡ [] = nil_of (unusable_texts (places t)) (subst (λ ys. length ys ≤ 0) c.in_ok-unusable.ensures (omega (arith, c.len.ensures, c.if-len-gt0.false))) in
+    subst (λ (ys : List (List ℕ)). OnOk c.run_usable.result (lacking_unless ys (lacking_in (plan_at c.args.requests.now c.args.now (places t)).texts) ≡ None)) (sym none) c.run_usable.ensures.enough
+
+pub returns-clause-acted : goal.returns-clause-acted
+returns-clause-acted g c =
+    let t = g.T.Tree.state c.args.tree.now in
+    let none : unusable_texts (places t) ≡ [] = nil_of (unusable_texts (places t)) (subst (λ ys. length ys ≤ 0) c.in_ok-unusable.ensures (omega (arith, c.len.ensures, c.if-len-gt0.false))) in
+    subst (λ (es : List Edit). Acted g.T.Tree (AccountWay es t) (IsAccountStep es t) (count_at_all t swept_names + most_put es) c.args.now c.args.tree.now c.run_usable.new.tree (in_steps c.run_usable.result))
+    (sym (ap (λ xs. edits_unless xs (edits_by (places t) (plan_at c.args.requests.now c.args.now (places t)).texts)) none)) c.run_usable.ensures.acted
+
+pub returns-clause-idle : goal.returns-clause-idle
+returns-clause-idle g c =
+    let t = g.T.Tree.state c.args.tree.now in
+    let none : unusable_texts (places t) ≡ [] = nil_of (unusable_texts (places t)) (subst (λ ys. length ys ≤ 0) c.in_ok-unusable.ensures (omega (arith, c.len.ensures, c.if-len-gt0.false))) in
+    λ some. absurd (some none)
