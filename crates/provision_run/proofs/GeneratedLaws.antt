@@ -32,25 +32,34 @@ three_messages a b c one two three first second third =
     ∙ append_assoc (message a) (message b) (message c)
     ∙ ap (λ (o : List ℕ). message a ++ (message b ++ o)) (sym (append-nil (message c)))
 
+-- the same of texts that are these
+pub messages_of : (a b c first second third one two three : List ℕ) → first ≡ a → second ≡ b → third ≡ c
+    → one ≡ [] ++ message first → two ≡ one ++ message second → three ≡ two ++ message third → three ≡ messages_text (a ∷ b ∷ c ∷ [])
+messages_of a b c first second third one two three is_a is_b is_c add_a add_b add_c =
+    three_messages first second third one two three add_a add_b add_c
+    ∙ ap (λ (x : List ℕ). messages_text (x ∷ second ∷ third ∷ [])) is_a
+    ∙ ap (λ (x : List ℕ). messages_text (a ∷ x ∷ third ∷ [])) is_b
+    ∙ ap (λ (x : List ℕ). messages_text (a ∷ b ∷ x ∷ [])) is_c
+
 -- what they tell
-pub told : (lines : ℕ) (t u : Files) (before after count : ℕ) (messages : List (List ℕ)) (report : Report) (first second third one two three : List ℕ)
+pub told : (lines : ℕ) (t u : Files) (before after count : ℕ) (messages : List (List ℕ)) (report : Report) (text : List ℕ)
     → before ≡ fin.len t → after ≡ fin.len u → u ≡ created t → count ≡ length messages
     → HasSaidBy (task_of create_alone) create_alone no_facts generated_moment t [] messages
     → ListsOverlaps (lines_in t) report.pairs → ListsReasons (lines_in t) report.unrepeatable → (report.unrepeatable ≡ []) ↔ IsRepeatable (lines_in t)
-    → first ≡ generated_text lines before → second ≡ created_text after count → third ≡ overlaps_text (length report.pairs) (verdict report.unrepeatable)
-    → one ≡ [] ++ message first → two ≡ one ++ message second → three ≡ two ++ message third
-    → IsToldOf lines t three
-told lines t u before after count messages report first second third one two three nodes left run many said overlaps reasons verdict_is a b c add_a add_b add_c = record {
-  said = said.0;
-  is_said = said.1.0;
-  report = report;
-  overlaps = overlaps;
-  reasons = reasons;
-  verdict_is = verdict_is;
-  text = three_messages first second third one two three add_a add_b add_c
-      ∙ ap (λ (x : List ℕ). messages_text (x ∷ second ∷ third ∷ [])) (a ∙ ap (generated_text lines) nodes)
-      ∙ ap (λ (x : List ℕ). messages_text (generated_text lines (fin.len t) ∷ x ∷ third ∷ []))
-      (b ∙ ap (λ (n : ℕ). created_text n count) (left ∙ ap (λ (f : Files). fin.len f) run)
-      ∙ ap (created_text (fin.len (created t))) (many ∙ ap (λ (x : List (List ℕ)). length x) said.1.1))
-      ∙ ap (λ (x : List ℕ). messages_text (generated_text lines (fin.len t) ∷ created_text (fin.len (created t)) (length (read_messages create_alone no_facts t ++ said.0)) ∷ x ∷ [])) c;
-}
+    → text ≡ messages_text (generated_text lines before ∷ created_text after count ∷ overlaps_text (length report.pairs) (verdict report.unrepeatable) ∷ [])
+    → IsToldOf lines t text
+told lines t u before after count messages report text nodes left run many said overlaps reasons verdict_is is =
+    let third : List ℕ = overlaps_text (length report.pairs) (verdict report.unrepeatable) in
+    record {
+      said = said.0;
+      is_said = said.1.0;
+      report = report;
+      overlaps = overlaps;
+      reasons = reasons;
+      verdict_is = verdict_is;
+      text = is
+          ∙ ap (λ (n : ℕ). messages_text (generated_text lines n ∷ created_text after count ∷ third ∷ [])) nodes
+          ∙ ap (λ (x : List ℕ). messages_text (generated_text lines (fin.len t) ∷ x ∷ third ∷ []))
+          (ap (λ (n : ℕ). created_text n count) (left ∙ ap (λ (f : Files). fin.len f) run)
+          ∙ ap (created_text (fin.len (created t))) (many ∙ ap (λ (x : List (List ℕ)). length x) said.1.1));
+    }

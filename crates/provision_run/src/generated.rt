@@ -1,10 +1,11 @@
 //! A run over a generated tree, of which three messages tell.
-ghost use Rattle.std.specs.Prelude.{◌≡◌, ◌↔◌, [], length, IfOk, OnOk};
+ghost use Rattle.std.specs.Prelude.{◌≡◌, ◌↔◌, [], ◌∷◌, length, IfOk, OnOk};
 ghost use Rattle.std.specs.FinMap as fin;
 ghost use Rattle.pv_report.specs.Reporting.{ListsOverlaps, ListsReasons};
 ghost use Rattle.pv_report.specs.Said.{verdict};
 ghost use Rattle.pv_table.specs.Repeatable.{IsRepeatable};
 ghost use Rattle.provision_run.specs.Generated.{create_alone, created, created_text, generated_moment, generated_text, IsGenerated, IsToldOf, lines_in, no_facts, overlaps_text};
+ghost use Rattle.provision_run.specs.Messages.{messages_text};
 ghost use Rattle.provision_run.specs.Tasks.{task_of};
 ghost use Rattle.provision_run.specs.Whole.{HasSaidBy};
 
@@ -41,10 +42,26 @@ fn run_over_lines(alloc: Global, tree: MemTree, lines: u32) -> Result<Vec<u8>, A
     let report = report_on(alloc, &tree)?;
     let messages = create(alloc, &mut tree)?;
     let after = node_count(alloc, &tree)?;
+    let text = three_messages(alloc, lines, before, after, messages.len(), &report)?;
+    Ok(text)
+}
+
+/// The messages on a tree with so many lines and nodes, on the nodes and messages after the run, and on the report.
+fn three_messages(
+    alloc: Global,
+    lines: u32,
+    before: u64,
+    after: u64,
+    said: usize,
+    report: &Report,
+) -> Result<Vec<u8>, AllocError>
+    ensures { let overlaps = overlaps_text (length report.now.pairs) (verdict report.now.unrepeatable) in
+        IfOk result (λ text. text.items ≡ messages_text (generated_text lines before ∷ created_text after said ∷ overlaps ∷ [])) }
+{
     let mut output = Vec::new(alloc);
     add_message(&mut output, &generated_text(alloc, lines, before)?)?;
-    add_message(&mut output, &created_text(alloc, after, messages.len())?)?;
-    add_message(&mut output, &overlaps_text(alloc, &report)?)?;
+    add_message(&mut output, &created_text(alloc, after, said)?)?;
+    add_message(&mut output, &overlaps_text(alloc, report)?)?;
     Ok(output)
 }
 
