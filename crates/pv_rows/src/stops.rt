@@ -1,9 +1,9 @@
-//! A run that is stopped after each number of its steps, and what a whole run then leaves.
-use crate::images::image;
-use crate::rows::run;
+//! Runs that are stopped after each number of their steps, and what a whole run then leaves.
+use crate::runs::{run, stopped};
 use std::alloc::{AllocError, Global};
-use std::process::Abort;
-use std::test::Fail;
+
+/// More steps than a run of a row takes.
+const MOST: u32 = 64;
 
 /// Adds the line of an object without its stamps.
 fn add_object(text: &mut Vec<u8>, line: &[u8]) -> Result<(), AllocError> {
@@ -16,7 +16,7 @@ fn add_object(text: &mut Vec<u8>, line: &[u8]) -> Result<(), AllocError> {
 }
 
 /// The objects of an output without their stamps, and without what is said before them.
-pub(crate) fn objects(alloc: Global, output: &[u8]) -> Result<Vec<u8>, AllocError> {
+fn objects(alloc: Global, output: &[u8]) -> Result<Vec<u8>, AllocError> {
     let mut text = Vec::new(alloc);
     for line in output.split(|byte| *byte == b'\n') {
         if !line.starts_with(b": ") {
@@ -26,75 +26,114 @@ pub(crate) fn objects(alloc: Global, output: &[u8]) -> Result<Vec<u8>, AllocErro
     Ok(text)
 }
 
-/// What a run that is stopped after so many steps writes, if it is stopped.
-pub(crate) fn stopped(
-    alloc: Global,
-    words: &str,
-    input: &[u8],
-    steps: u32,
-) -> Result<Option<Vec<u8>>, AllocError> {
-    let words = format!(in alloc; "{words} --stop-after={steps}")?;
-    let (half, end) = run(alloc, &words, input)?;
-    Ok(if end == 75 { Some(half) } else { None })
+/// Whether a whole run over this output leaves these objects.
+fn is_mended(alloc: Global, words: &str, half: &[u8], wanted: &[u8]) -> Result<bool, AllocError> {
+    let (whole, _) = run(alloc, words, half)?;
+    let left = objects(alloc, &whole)?;
+    Ok(left.as_slice() == wanted)
 }
 
-/// What a run that is stopped after so many steps leaves to one that is not, if it is stopped.
-fn rerun(
-    alloc: Global,
-    words: &str,
-    input: &[u8],
-    steps: u32,
-) -> Result<Option<Vec<u8>>, AllocError> {
-    match stopped(alloc, words, input, steps)? {
-        Some(half) => {
-            let (whole, _) = run(alloc, words, &half)?;
-            Ok(Some(objects(alloc, &whole)?))
-        }
-        None => Ok(None),
-    }
-}
-
-/// After how many numbers of steps, at most 64, a run is stopped, and after which of them a whole run leaves other objects
-/// than one whole run.
-fn stops(alloc: Global, words: &str, input: &[u8]) -> Result<(u32, Vec<u32>), AllocError> {
+/// After how many numbers of steps a run is stopped, and after which of them a whole run leaves other objects than one whole
+/// run.
+pub(crate) fn stops(alloc: Global, words: &str, input: &[u8]) -> Result<String, AllocError> {
     let (whole, _) = run(alloc, words, input)?;
     let wanted = objects(alloc, &whole)?;
-    let mut others = Vec::new(alloc);
-    for steps in 0..64u32 {
-        match rerun(alloc, words, input, steps)? {
-            Some(left) => {
-                if left.as_slice() != wanted.as_slice() {
-                    others.push(steps)?;
-                }
-            }
-            None => return Ok((steps, others)),
+    let mut others = String::new(alloc);
+    for steps in 0..MOST {
+        match stopped(alloc, words, input, steps)? {
+            None => return format!(in alloc; "{steps} steps{others}"),
+            Some(half) if is_mended(alloc, words, &half, &wanted)? => {}
+            Some(_) => others.push_str(&format!(in alloc; ", other objects after {steps}")?)?,
         }
     }
-    Ok((64, others))
+    format!(in alloc; "too many steps")
 }
 
-/// A run that is stopped: its words and its lines, the objects before, how many steps a whole run takes, and after which
-/// numbers of steps a whole run leaves other objects than one whole run.
-#[derive(Drop)]
-pub(crate) struct StoppedRow<'a> {
-    pub words: &'a str,
-    pub lines: &'a str,
-    pub before: &'a [&'a str],
-    pub steps: u32,
-    pub others: &'a [u32],
-}
-
-/// Stops the runs of rows after each number of their steps.
-pub(crate) fn expect_stops(
-    rt: &impl Abort,
-    alloc: Global,
-    rows: &[StoppedRow<'_>],
-) -> Result<(), Fail> {
-    for row in rows {
-        let input = image(alloc, row.lines, row.before)?;
-        let (steps, others) = stops(alloc, row.words, input.as_bytes())?;
-        assert!(rt; steps == row.steps, "{:?}: {steps}", row.lines);
-        assert!(rt; others.as_slice() == row.others, "{:?}", row.lines);
+/// How many steps a whole run over an output takes, if it then writes what is wanted.
+fn steps_of(alloc: Global, words: &str, half: &[u8], wanted: &[u8]) -> Result<String, AllocError> {
+    for steps in 0..MOST {
+        let limited = format!(in alloc; "{words} --stop-after={steps}")?;
+        let (whole, end) = run(alloc, &limited, half)?;
+        if end == 0 && whole.as_slice() == wanted {
+            return format!(in alloc; "{steps} ");
+        }
+        if end != 75 {
+            return format!(in alloc; "other ");
+        }
     }
-    Ok(())
+    format!(in alloc; "too many ")
+}
+
+/// How many steps a whole run takes after each number of steps: what is staged goes first, one step for each object.
+pub(crate) fn reruns(
+    alloc: Global,
+    words: &str,
+    input: &[u8],
+    wanted: &[u8],
+) -> Result<String, AllocError> {
+    let mut counts = String::new(alloc);
+    for steps in 0..MOST {
+        match stopped(alloc, words, input, steps)? {
+            None => return format!(in alloc; "{counts}steps"),
+            Some(half) => counts.push_str(&steps_of(alloc, words, &half, wanted)?)?,
+        }
+    }
+    format!(in alloc; "too many steps")
+}
+
+/// Whether a line is a line of a text.
+fn has_line(text: &[u8], line: &[u8]) -> bool {
+    text.split(|byte| *byte == b'\n').any(|other| other == line)
+}
+
+/// Whether each line of a text is a line of another.
+fn holds(text: &[u8], lines: &[u8]) -> bool {
+    lines
+        .split(|byte| *byte == b'\n')
+        .all(|line| has_line(text, line))
+}
+
+/// After how many numbers of steps a run is stopped, and after which of them an object is gone that a whole run leaves, or one
+/// is there that was not.
+pub(crate) fn takings(alloc: Global, words: &str, input: &[u8]) -> Result<String, AllocError> {
+    let (whole, _) = run(alloc, words, input)?;
+    let (old, left) = (objects(alloc, input)?, objects(alloc, &whole)?);
+    let mut others = String::new(alloc);
+    for steps in 0..MOST {
+        let Some(half) = stopped(alloc, words, input, steps)? else {
+            return format!(in alloc; "{steps} steps{others}");
+        };
+        let half = objects(alloc, &half)?;
+        if !holds(&old, &half) || !holds(&half, &left) {
+            others.push_str(&format!(in alloc; ", other objects after {steps}")?)?;
+        }
+    }
+    format!(in alloc; "too many steps")
+}
+
+/// The statuses of a run, and of the same run over its output.
+pub(crate) fn twice(alloc: Global, words: &str, input: &[u8]) -> Result<String, AllocError> {
+    let (once, first) = run(alloc, words, input)?;
+    let (_, second) = run(alloc, words, &once)?;
+    format!(in alloc; "{first} then {second}")
+}
+
+/// The line in which an input ends.
+fn last_line(input: &[u8]) -> usize {
+    input.split(|byte| *byte == b'\n').count()
+}
+
+/// How many front parts of an input are too short, each told to be so at the line in which it ends.
+pub(crate) fn cuts(alloc: Global, words: &str, input: &[u8]) -> Result<String, AllocError> {
+    let mut count = 0usize;
+    for end in 0..input.len() {
+        let front = &input[..end];
+        let (output, status) = run(alloc, words, front)?;
+        let line = last_line(front);
+        let wanted = format!(in alloc; ": bad image at line {line}: Truncated\n")?;
+        if status == 66 && output.as_slice() == wanted.as_bytes() {
+            count = count.saturating_add(1);
+        }
+    }
+    format!(in alloc; "{count} of {} front parts", input.len())
 }

@@ -1,0 +1,77 @@
+//! What a row gives.
+use crate::readings::{files, lines};
+use crate::runs::{Broken, run, run_with};
+use crate::stops::{cuts, reruns, stops, takings, twice};
+use pv_sheet::{Row, Sheet, input, output};
+use std::alloc::{AllocError, Global};
+
+/// What a run writes, and its status.
+fn ran(
+    alloc: Global,
+    words: &str,
+    input: &[u8],
+    broken: Option<Broken>,
+) -> Result<Vec<u8>, AllocError> {
+    let (mut output, end) = run_with(alloc, words, input, broken)?;
+    output.extend_from_slice(format!(in alloc; "= {end}")?.as_bytes())?;
+    Ok(output)
+}
+
+/// The status of a run.
+fn status(alloc: Global, words: &str, input: &[u8]) -> Result<String, AllocError> {
+    let (_, end) = run(alloc, words, input)?;
+    format!(in alloc; "{end}")
+}
+
+/// The source or the sink that a row breaks.
+fn broken(alloc: Global, row: &Row<'_>) -> Result<Option<Broken>, AllocError> {
+    let source = row.marked(alloc, "source fails at call ")?;
+    let sink = row.marked(alloc, "sink fails at call ")?;
+    Ok(match (source.as_slice(), sink.as_slice()) {
+        ([call], []) => call.parse().ok().map(Broken::Source),
+        ([], [call]) => call.parse().ok().map(Broken::Sink),
+        _ => None,
+    })
+}
+
+/// What is told of the runs of a row.
+fn told(alloc: Global, row: &Row<'_>, input: &[u8]) -> Result<String, AllocError> {
+    match row.call {
+        "stops" => stops(alloc, row.words, input),
+        "takes" => takings(alloc, row.words, input),
+        "twice" => twice(alloc, row.words, input),
+        "cuts" => cuts(alloc, row.words, input),
+        "status" => status(alloc, row.words, input),
+        _ => "no such call".to_string(alloc),
+    }
+}
+
+/// The output that each rerun is to write, and how many steps it takes.
+fn rerun(alloc: Global, words: &str, input: &[u8], wanted: &str) -> Result<Vec<u8>, AllocError> {
+    let told = reruns(alloc, words, input, wanted.as_bytes())?;
+    Ok(format!(in alloc; "{wanted}= {told}")?.into_bytes())
+}
+
+/// What a row gives.
+pub(crate) fn found(
+    alloc: Global,
+    sheet: &Sheet<'_>,
+    row: &Row<'_>,
+) -> Result<Vec<u8>, AllocError> {
+    let input = input(alloc, sheet, row)?;
+    match row.call {
+        "reruns" => rerun(
+            alloc,
+            row.words,
+            input.as_bytes(),
+            &output(alloc, sheet, row)?,
+        ),
+        "run" => ran(alloc, row.words, input.as_bytes(), broken(alloc, row)?),
+        "files" => files(alloc, row.words, input.as_bytes()),
+        "lines" => lines(alloc, row.words, input.as_bytes()),
+        _ => {
+            let told = told(alloc, row, input.as_bytes())?;
+            Ok(format!(in alloc; "= {told}")?.into_bytes())
+        }
+    }
+}

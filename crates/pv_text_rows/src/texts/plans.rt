@@ -1,0 +1,80 @@
+//! Lines of sysusers.d(5) with the texts of all account files after them.
+use super::given::place_in;
+use pv_requests::{RequestList, read_request};
+use pv_sysusers::{PathIds, PlanFault, Texts, plan};
+use pv_text::{Facts, Messages};
+use std::alloc::{AllocError, Global};
+
+/// The requests of lines.
+fn requests_of(alloc: Global, lines: &[&str]) -> Result<RequestList, AllocError> {
+    let facts = Facts::new(alloc);
+    let mut requests = RequestList::new(alloc);
+    for line in lines {
+        let place = place_in(alloc, b"A", 1)?;
+        if let Ok(request) = read_request(alloc, line.as_bytes(), place, &facts) {
+            requests.push(request)?;
+        }
+    }
+    Ok(requests)
+}
+
+/// The texts of the four files, with a line of a dash between them.
+fn joined(alloc: Global, texts: &Texts) -> Result<Vec<u8>, AllocError> {
+    let mut text = Vec::from_slice(alloc, texts.passwd.as_slice())?;
+    text.extend_from_slice(b"-\n")?;
+    text.extend_from_slice(texts.group.as_slice())?;
+    text.extend_from_slice(b"-\n")?;
+    text.extend_from_slice(texts.shadow.as_slice())?;
+    text.extend_from_slice(b"-\n")?;
+    if let Some(gshadow) = &texts.gshadow {
+        text.extend_from_slice(gshadow.as_slice())?;
+    }
+    Ok(text)
+}
+
+/// The texts of a plan, or for which name it has no number, and how many messages there are.
+fn plan_told(
+    alloc: Global,
+    planned: Result<Texts, PlanFault>,
+    said: usize,
+) -> Result<Vec<u8>, AllocError> {
+    match planned {
+        Ok(texts) => {
+            let mut told = joined(alloc, &texts)?;
+            told.extend_from_slice(format!(in alloc; "= {said} messages")?.as_bytes())?;
+            Ok(told)
+        }
+        Err(PlanFault::NoFreeId(name)) => {
+            let mut told = format!(in alloc; "= {said} messages, no number for ")?.into_bytes();
+            told.extend_from_slice(name.as_slice())?;
+            Ok(told)
+        }
+        Err(PlanFault::Memory) => Vec::from_slice(alloc, b"= Memory"),
+    }
+}
+
+/// What lines plan on day 11 for the account files of a text, each followed by a line of a dash and the last one there only
+/// where it has a line, where no path of a line has an object.
+pub(crate) fn planned(alloc: Global, lines: &[&str], input: &str) -> Result<Vec<u8>, AllocError> {
+    let requests = requests_of(alloc, lines)?;
+    let files: Vec<&str> = input.split("-\n").collect(alloc)?;
+    let [passwd, group, shadow, gshadow] = files.as_slice() else {
+        return Vec::from_slice(alloc, b"= not four files");
+    };
+    let (passwd, group, shadow) = (passwd.as_bytes(), group.as_bytes(), shadow.as_bytes());
+    let gshadow = Some(gshadow.as_bytes()).filter(|text| !text.is_empty());
+    let taken = PathIds::new(alloc);
+    let mut messages = Messages::new(alloc);
+    let planned = plan(
+        alloc,
+        &requests,
+        passwd,
+        group,
+        shadow,
+        gshadow,
+        &taken,
+        11,
+        &mut messages,
+    );
+    plan_told(alloc, planned, messages.len())
+}

@@ -1,0 +1,116 @@
+//! Words of a command.
+use crate::marks::unread;
+use pv_path::{TreePath, print_path};
+use pv_sheet::spelled;
+use pv_text::Tool;
+use pv_words::{Asked, Options, asked_of};
+use std::alloc::{AllocError, Global};
+
+/// What a call answers for words.
+pub(crate) fn told(alloc: Global, call: &str, words: &str) -> Result<Vec<u8>, AllocError> {
+    match call {
+        "asked" => asked_told(alloc, words),
+        _ => unread(alloc),
+    }
+}
+
+/// The words of a text that has a blank between two of them, as the program gets them; `∅` stands for a word without a letter.
+fn words_of(alloc: Global, words: &str) -> Result<Vec<String>, AllocError> {
+    let mut all = Vec::new(alloc);
+    if words.is_empty() {
+        return Ok(all);
+    }
+    for word in words.split(' ') {
+        let word = word.replace(alloc, '∅', "")?;
+        all.push(spelled(alloc, &word)?)?;
+    }
+    Ok(all)
+}
+
+/// What words ask for in short, or their fault.
+fn asked_told(alloc: Global, words: &str) -> Result<Vec<u8>, AllocError> {
+    let words = words_of(alloc, words)?;
+    match asked_of(alloc, words.as_slice()) {
+        Ok(asked) => meaning_told(alloc, &asked),
+        Err(fault) => Ok(format!(in alloc; "{fault}")?.into_bytes()),
+    }
+}
+
+/// What is asked for in short.
+fn meaning_told(alloc: Global, asked: &Asked) -> Result<Vec<u8>, AllocError> {
+    match asked {
+        Asked::Generate { seed, count } => {
+            Ok(format!(in alloc; "generate {seed} {count}")?.into_bytes())
+        }
+        Asked::Run(options) => options_told(alloc, options),
+    }
+}
+
+/// A tool by its name.
+fn tool_word(tool: Tool) -> &'static str {
+    match tool {
+        Tool::Tmpfiles => "tmpfiles",
+        Tool::Sysusers => "sysusers",
+    }
+}
+
+/// Adds the names of the options that have no value.
+fn add_flags(text: &mut Vec<u8>, options: &Options) -> Result<(), AllocError> {
+    for (stands, name) in [
+        (options.create, " create"),
+        (options.remove, " remove"),
+        (options.clean, " clean"),
+        (options.report, " report"),
+        (options.purge, " purge"),
+        (options.boot, " boot"),
+    ] {
+        if stands {
+            text.extend_from_slice(name.as_bytes())?;
+        }
+    }
+    Ok(())
+}
+
+/// Adds a name and a number, where there is one.
+fn add_number(
+    text: &mut Vec<u8>,
+    alloc: Global,
+    name: &str,
+    number: Option<u64>,
+) -> Result<(), AllocError> {
+    match number {
+        Some(number) => {
+            text.extend_from_slice(format!(in alloc; " {name} {number}")?.as_bytes())
+        }
+        None => Ok(()),
+    }
+}
+
+/// Adds a name and a path, where there is one.
+fn add_path(
+    text: &mut Vec<u8>,
+    alloc: Global,
+    name: &str,
+    path: &Option<TreePath>,
+) -> Result<(), AllocError> {
+    if let Some(path) = path {
+        text.extend_from_slice(name.as_bytes())?;
+        text.extend_from_slice(&print_path(alloc, path)?)?;
+    }
+    Ok(())
+}
+
+/// The tool, the options, and the file words, each behind a bar.
+fn options_told(alloc: Global, options: &Options) -> Result<Vec<u8>, AllocError> {
+    let mut text = Vec::from_slice(alloc, tool_word(options.tool).as_bytes())?;
+    add_flags(&mut text, options)?;
+    add_number(&mut text, alloc, "after", options.stop_after)?;
+    add_number(&mut text, alloc, "now", options.now)?;
+    add_path(&mut text, alloc, " in ", &options.prefix)?;
+    add_path(&mut text, alloc, " but ", &options.exclude_prefix)?;
+    for word in options.words.as_slice() {
+        text.push(b'|')?;
+        text.extend_from_slice(word.as_slice())?;
+    }
+    Ok(text)
+}
