@@ -82,12 +82,16 @@ fn types_told(alloc: Global, call: &str, words: &str) -> Result<Vec<u8>, AllocEr
     Ok(letters)
 }
 
-/// The number of the place of a line, its file, and the text of its path.
+/// The number of the place of the line of a text, its file, and the text of its path, or the name of its fault.
 fn place_told(alloc: Global, text: &[u8]) -> Result<Vec<u8>, AllocError> {
-    let line = match read(alloc, text)? {
-        Ok(line) => line,
-        Err(fault) => return Vec::from_slice(alloc, name_of(fault)),
-    };
+    match read(alloc, text)? {
+        Ok(line) => place_of(alloc, &line),
+        Err(fault) => Vec::from_slice(alloc, name_of(fault)),
+    }
+}
+
+/// The number of the place of a line, its file, and the text of its path.
+fn place_of(alloc: Global, line: &Line) -> Result<Vec<u8>, AllocError> {
     let mut told = format!(in alloc; "{} ", line.place.number)?.into_bytes();
     told.extend_from_slice(line.place.file.as_slice())?;
     told.push(b' ')?;

@@ -32,23 +32,29 @@ fn joined(alloc: Global, texts: &Texts) -> Result<Vec<u8>, AllocError> {
     Ok(text)
 }
 
-/// The texts of a plan, or for which name it has no number, and how many messages there are.
+/// The texts of a plan, and how many messages there are.
+fn texts_told(alloc: Global, texts: &Texts, said: usize) -> Result<Vec<u8>, AllocError> {
+    let mut told = joined(alloc, texts)?;
+    told.extend_from_slice(format!(in alloc; "= {said} messages")?.as_bytes())?;
+    Ok(told)
+}
+
+/// For which name a plan has no number, and how many messages there are.
+fn lacking_told(alloc: Global, name: &[u8], said: usize) -> Result<Vec<u8>, AllocError> {
+    let mut told = format!(in alloc; "= {said} messages, no number for ")?.into_bytes();
+    told.extend_from_slice(name)?;
+    Ok(told)
+}
+
+/// What a plan gives, and how many messages there are.
 fn plan_told(
     alloc: Global,
     planned: Result<Texts, PlanFault>,
     said: usize,
 ) -> Result<Vec<u8>, AllocError> {
     match planned {
-        Ok(texts) => {
-            let mut told = joined(alloc, &texts)?;
-            told.extend_from_slice(format!(in alloc; "= {said} messages")?.as_bytes())?;
-            Ok(told)
-        }
-        Err(PlanFault::NoFreeId(name)) => {
-            let mut told = format!(in alloc; "= {said} messages, no number for ")?.into_bytes();
-            told.extend_from_slice(name.as_slice())?;
-            Ok(told)
-        }
+        Ok(texts) => texts_told(alloc, &texts, said),
+        Err(PlanFault::NoFreeId(name)) => lacking_told(alloc, name.as_slice(), said),
         Err(PlanFault::Memory) => Vec::from_slice(alloc, b"= Memory"),
     }
 }

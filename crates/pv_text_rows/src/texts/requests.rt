@@ -48,13 +48,18 @@ fn user_told(alloc: Global, id: &UserId, locked: bool) -> Result<Vec<u8>, AllocE
     Ok(format!(in alloc; "{locked} {uid} {gid} {named}")?.into_bytes())
 }
 
+/// The parts of a u line.
+fn request_told(alloc: Global, request: &Request) -> Result<Vec<u8>, AllocError> {
+    match request {
+        Request::User { id, locked, .. } => user_told(alloc, id, *locked),
+        _ => said(alloc, "no user"),
+    }
+}
+
 /// The parts of a u line, or the name of the fault.
 fn read_told(alloc: Global, read: Result<Request, RequestFault>) -> Result<Vec<u8>, AllocError> {
     match read {
-        Ok(request) => match &request {
-            Request::User { id, locked, .. } => user_told(alloc, id, *locked),
-            _ => said(alloc, "no user"),
-        },
+        Ok(request) => request_told(alloc, &request),
         Err(fault) => Vec::from_slice(alloc, name_of(fault)),
     }
 }
