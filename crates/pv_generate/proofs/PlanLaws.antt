@@ -2,7 +2,6 @@
 use Rattle.std.proofs.Common.{◌≡◌, T, List, [], ◌∷◌, map, sym, subst, arith, suc}
 use Rattle.std.specs.BTreeMap.{insert_entry}
 use Rattle.std.specs.FinMap as fin
-use Rattle.std.specs.FinMap.Entries as entries
 use Rattle.std.specs.FinMap.Entries.{below_all, is_sorted}
 use Rattle.std.specs.List.{All}
 use Rattle.std.specs.List.Sorted.{IsStrictlySortedBy}

@@ -3,35 +3,15 @@ ghost use Rattle.std.specs.Prelude.{◌≡◌, IfOk};
 ghost use Rattle.pv_steps.specs.Objects.{fresh};
 ghost use Rattle.pv_generate.specs.Trees.{numbered};
 
-use pv_acl::Acl;
 use pv_path::Bytes;
-use pv_steps::{AttrList, Kind, LetterSet, Node, Object, Stamps, special_bits};
+use pv_steps::{Kind, Object};
 use std::alloc::{AllocError, Global};
 
 /// An object that root owns, all of whose stamps are 0.
 pub(crate) fn object(alloc: Global, kind: Kind, mode: u16, payload: Bytes) -> Object
     ensures { result ≡ fresh kind mode payload 0 0 0 }
 {
-    Object {
-        node: Node {
-            kind,
-            special: special_bits(mode),
-            uid: 0,
-            gid: 0,
-            acl: Acl::of_mode(alloc, mode),
-            stamps: Stamps {
-                access: 0,
-                birth: 0,
-                change: 0,
-                modify: 0,
-            },
-            major: 0,
-            minor: 0,
-            attrs: AttrList::new(alloc),
-            letters: LetterSet::new(),
-        },
-        payload,
-    }
+    Object::fresh(alloc, kind, mode, payload, 0, 0, 0)
 }
 
 /// The name of a letter and a number.

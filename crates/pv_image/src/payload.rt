@@ -1,10 +1,8 @@
 //! What an object keeps beside its attributes, read from its column.
-ghost use Rattle.std.specs.Prelude.{◌≡◌, ◌↔◌, ◌==◌, not, [], codes, IsTrue, IfOk, option_map};
-ghost use Rattle.std.specs.List.{list_all};
+ghost use Rattle.std.specs.Prelude.{◌≡◌, ◌↔◌, [], codes, IsTrue, IfOk, option_map};
 ghost use Rattle.base64.specs.GeneralPurpose.{encode_of};
 ghost use Rattle.base64.specs.Engines.{standard};
 ghost use Rattle.pv_path.specs.Printing.{printed};
-ghost use Rattle.pv_steps.specs.Objects.{IsTarget};
 ghost use Rattle.pv_image.specs.Spelling.{IsPayload, content_text, number_texts, numbers_text, payload_text};
 ghost use Rattle.pv_image.specs.Reading.{AreNumbers, IsByteTarget, IsByteText, Reads, of_bytes, of_numbers, texts};
 
@@ -13,7 +11,7 @@ use crate::printed::read_printed;
 use base64::DecodeAllocError;
 use base64::engine::general_purpose::STANDARD;
 use pv_path::{Bytes, pieces_of};
-use pv_steps::Kind;
+use pv_steps::{Kind, is_target};
 use std::alloc::{AllocError, Global};
 
 /// The bytes of a file or the target of a link, and the numbers of a device.
@@ -56,20 +54,6 @@ fn read_content(alloc: Global, text: &[u8]) -> Result<Option<Bytes>, AllocError>
         return Ok(Some(Bytes::new(alloc)));
     }
     decode(alloc, text)
-}
-
-/// Whether bytes can be the target of a link.
-fn is_target(bytes: &[u8]) -> bool
-    ensures { IsTrue result ↔ IsTarget bytes.now }
-{
-    let without_nul = has_no_nul(bytes);
-    !bytes.is_empty() && bytes.len() <= 4095 && without_nul
-}
-
-fn has_no_nul(bytes: &[u8]) -> bool
-    ensures { result ≡ list_all (λ b. not (b == 0)) bytes.now }
-{
-    bytes.iter().all(|b| *b != 0)
 }
 
 /// The target of a link that a text prints.

@@ -43,10 +43,11 @@ pub fn is_attr(name: &[u8], value: &[u8]) -> bool
     is_attr_name(name) && value.len() <= 65_536
 }
 
-fn has_no_nul(name: &[u8]) -> bool
-    ensures { result ≡ list_all (λ b. not (b == 0)) name.now }
+/// Whether no byte is NUL.
+pub(crate) fn has_no_nul(bytes: &[u8]) -> bool
+    ensures { result ≡ list_all (λ b. not (b == 0)) bytes.now }
 {
-    name.iter().all(|b| *b != 0)
+    bytes.iter().all(|b| *b != 0)
 }
 
 /// Whether a period is neither the first byte nor the last.

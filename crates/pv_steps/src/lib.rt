@@ -23,7 +23,7 @@ pub use laws::{
 pub use letters::{LetterHow, LetterSet};
 pub use looking::{is_directory, is_present, kind_at};
 pub use node::{Kind, Node, Stamps, special_bits};
-pub use object::Object;
+pub use object::{Object, is_target};
 pub use step::Step;
 pub use tree::{Tree, TreeFault};
 pub use why::Why;

@@ -8,10 +8,10 @@ ghost use Rattle.pv_steps.specs.Trees.{IsTreeIn};
 ghost use Rattle.pv_steps.specs.declared.tree.TreeFault.TheVariants.{Failed};
 ghost use Rattle.pv_tree.specs.Slots.{IsForest, AreFree, places_in};
 
-use crate::edits::{change_at, fresh, make, plain, rename, unmake};
+use crate::edits::{change_at, make, plain, rename, unmake};
 use crate::slot::Slot;
 use pv_path::{Bytes, TreePath};
-use pv_steps::{Kind, Step, TreeFault};
+use pv_steps::{Kind, Object, Step, TreeFault};
 use std::alloc::{AllocError, Global};
 
 /// Does a step on the slots, and tells it at the end of the list of steps. The step is copied first. After
@@ -92,11 +92,11 @@ fn do_step(
             minor,
         } => {
             let kind = device_kind(*block);
-            let object = fresh(alloc, kind, 0o600, Bytes::new(alloc), *major, *minor, now);
+            let object = Object::fresh(alloc, kind, 0o600, Bytes::new(alloc), *major, *minor, now);
             make(alloc, slots, free, path, object, now)
         }
         Step::MakeLink { path, target } => {
-            let object = fresh(alloc, Kind::Link, 0o777, target.copy()?, 0, 0, now);
+            let object = Object::fresh(alloc, Kind::Link, 0o777, target.copy()?, 0, 0, now);
             make(alloc, slots, free, path, object, now)
         }
         Step::Write { path, .. }
@@ -138,14 +138,8 @@ pub(crate) fn parts_fit(step: &Step)
             names_fit(path);
             let _numbers = (*major, *minor);
         }
-        Step::MakeLink { path, target } => {
-            names_fit(path);
-            bytes_fit(target);
-        }
-        Step::Write { path, content } => {
-            names_fit(path);
-            bytes_fit(content);
-        }
+        Step::MakeLink { path, target } => text_fits(path, target),
+        Step::Write { path, content } => text_fits(path, content),
         Step::SetMode { path, .. } => names_fit(path),
         Step::SetOwner { path, .. } => names_fit(path),
         Step::SetAcl { path, .. } => names_fit(path),
@@ -177,9 +171,11 @@ fn names_fit(path: &TreePath)
     let _names = path.names();
 }
 
-fn bytes_fit(bytes: &Bytes)
-    ensures { list_all (λ b. nat_lt b 256) bytes.now ≡ true }
+fn text_fits(path: &TreePath, bytes: &Bytes)
+    ensures path { has_names path.now ≡ true }
+    ensures bytes { list_all (λ b. nat_lt b 256) bytes.now ≡ true }
 {
+    names_fit(path);
     slice_fits(bytes.as_slice());
 }
 

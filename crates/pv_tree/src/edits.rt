@@ -14,50 +14,15 @@ use crate::slots::{
     change_slot, child_of, location, next_number, number_at, own_name, place, push_within,
     put_child, remove_child, renew, touch,
 };
-use pv_acl::Acl;
 use pv_path::{Bytes, Name, TreePath};
-use pv_steps::{AttrList, Kind, LetterSet, Node, Object, Stamps, Step, special_bits};
+use pv_steps::{Kind, Object, Step};
 use std::alloc::{AllocError, Global};
-
-/// A new object that root owns, with a device's numbers. It takes no memory.
-pub(crate) fn fresh(
-    alloc: Global,
-    kind: Kind,
-    mode: u16,
-    payload: Bytes,
-    major: u32,
-    minor: u32,
-    now: u64,
-) -> Object
-    ensures { result ≡ fresh kind mode payload major minor now }
-{
-    Object {
-        node: Node {
-            kind,
-            special: special_bits(mode),
-            uid: 0,
-            gid: 0,
-            acl: Acl::of_mode(alloc, mode),
-            stamps: Stamps {
-                access: now,
-                birth: now,
-                change: now,
-                modify: now,
-            },
-            major,
-            minor,
-            attrs: AttrList::new(alloc),
-            letters: LetterSet::new(),
-        },
-        payload,
-    }
-}
 
 /// A new object without a payload, which is no device.
 pub(crate) fn plain(alloc: Global, kind: Kind, mode: u16, now: u64) -> Object
     ensures { result ≡ fresh kind mode [] 0 0 now }
 {
-    fresh(alloc, kind, mode, Bytes::new(alloc), 0, 0, now)
+    Object::fresh(alloc, kind, mode, Bytes::new(alloc), 0, 0, now)
 }
 
 /// Puts an object at an absent path into its directory, which has this number, and gives the number of the

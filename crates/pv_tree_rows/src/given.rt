@@ -2,35 +2,15 @@
 ghost use Rattle.std.specs.Prelude.{◌≡◌, IfOk};
 ghost use Rattle.pv_steps.specs.Objects.{fresh};
 
-use pv_acl::Acl;
 use pv_path::Bytes;
-use pv_steps::{Attr, AttrList, Kind, LetterSet, Node, Object, Stamps, is_attr, special_bits};
+use pv_steps::{Attr, AttrList, Kind, LetterSet, Node, Object, is_attr};
 use std::alloc::{AllocError, Global};
 
 /// A new object that root owns, with these bytes of a file or this target of a link.
 pub(crate) fn plain_object(alloc: Global, kind: Kind, mode: u16, payload: Bytes, now: u64) -> Object
     ensures { result ≡ fresh kind mode payload 0 0 now }
 {
-    Object {
-        node: Node {
-            kind,
-            special: special_bits(mode),
-            uid: 0,
-            gid: 0,
-            acl: Acl::of_mode(alloc, mode),
-            stamps: Stamps {
-                access: now,
-                birth: now,
-                change: now,
-                modify: now,
-            },
-            major: 0,
-            minor: 0,
-            attrs: AttrList::new(alloc),
-            letters: LetterSet::new(),
-        },
-        payload,
-    }
+    Object::fresh(alloc, kind, mode, payload, 0, 0, now)
 }
 
 /// The node of a new object that root owns.

@@ -1,10 +1,9 @@
 //! The steps of removal, of staging and of publishing, over trees in memory.
-ghost use Rattle.std.specs.Prelude.{◌≡◌, ◌≢◌, ◌==◌, ◌↔◌, IsTrue, [], true, not, length, nat_le};
+ghost use Rattle.std.specs.Prelude.{◌≡◌, ◌≢◌, [], true, length, nat_le};
 ghost use Rattle.std.specs.List.{list_all};
 ghost use Rattle.pv_acl.specs.Parts.{is_acl};
 ghost use Rattle.pv_path.specs.Paths.{parent_of, staging_of};
 ghost use Rattle.pv_steps.specs.declared.node.Kind.TheVariants.{Directory};
-ghost use Rattle.pv_steps.specs.Objects.{IsTarget};
 ghost use Rattle.pv_steps.specs.Trees.{IsKind};
 ghost use Rattle.pv_walk.specs.Staging.{HasTarget, IsNewFile, can_stage};
 
@@ -12,7 +11,7 @@ use pv_acl::{Acl, read_acl};
 use pv_dress::{Dress, dress};
 use pv_image::{read_image, write_image};
 use pv_path::{Bytes, Name, TreePath, parent, parse_path, staging};
-use pv_steps::{AttrList, Kind, LetterSet, Tree, Why};
+use pv_steps::{AttrList, Kind, LetterSet, Tree, Why, is_target};
 use pv_text::Facts;
 use pv_tree::{Fused, MemTree};
 use pv_walk::{NewFile, NewKind, Walked, publish, remove_below, stage_file, sweep, walk};
@@ -110,20 +109,6 @@ fn expect_parent<T: Tree>(rt: &impl Abort, alloc: Global, tree: &T, path: &TreeP
         panic!(rt; "the root")
     };
     expect_directory(rt, tree, &up);
-}
-
-/// Whether bytes can be the target of a link.
-fn is_target(bytes: &[u8]) -> bool
-    ensures { IsTrue result ↔ IsTarget bytes.now }
-{
-    let without_nul = has_no_nul(bytes);
-    !bytes.is_empty() && bytes.len() <= 4095 && without_nul
-}
-
-fn has_no_nul(bytes: &[u8]) -> bool
-    ensures { result ≡ list_all (λ b. not (b == 0)) bytes.now }
-{
-    bytes.iter().all(|b| *b != 0)
 }
 
 /// Stops unless a target is one that a link may have.

@@ -1,18 +1,17 @@
 //! Steps as lines of text, and when one may be done.
-ghost use Rattle.std.specs.Prelude.{◌≡◌, ◌==◌, [], true, not, IsTrue};
+ghost use Rattle.std.specs.Prelude.{◌≡◌, [], true, IsTrue};
 ghost use Rattle.std.specs.List.{list_all};
 ghost use Rattle.pv_path.specs.Paths.{parent_of};
 ghost use Rattle.pv_acl.specs.NamedEntries.{id_of, is_named};
 ghost use Rattle.pv_acl.specs.Parts.{is_acl, is_part};
 ghost use Rattle.pv_steps.specs.declared.node.Kind.TheVariants.{Directory};
-ghost use Rattle.pv_steps.specs.Objects.{IsTarget};
 ghost use Rattle.pv_steps.specs.Trees.{places, names_below, IsEmptyIn, IsKindIn};
 ghost use Rattle.pv_steps.specs.Steps.{Can, HasRoom, IsOther, Movable, TakesAcl, Yields};
 
 use crate::given::{attrs_of, letters_of};
 use pv_acl::{Acl, Named, Part, Who, number, read_acl};
 use pv_path::{Bytes, TreePath, is_prefix, parent, parse_path};
-use pv_steps::{Kind, Step, Tree, TreeFault, is_directory, kind_at};
+use pv_steps::{Kind, Step, Tree, TreeFault, is_directory, is_target, kind_at};
 use std::alloc::Global;
 use std::process::Abort;
 
@@ -208,19 +207,6 @@ fn has_no_names<T: Tree>(rt: &impl Abort, alloc: Global, tree: &T, path: &TreePa
 {
     let names = tree.list(alloc, path).expect(rt, "memory");
     names.is_empty()
-}
-
-fn is_target(target: &[u8]) -> bool
-    ensures { IsTrue result → IsTarget target.now }
-{
-    let without_nul = has_no_nul(target);
-    !target.is_empty() && target.len() <= 4095 && without_nul
-}
-
-fn has_no_nul(bytes: &[u8]) -> bool
-    ensures { result ≡ list_all (λ b. not (b == 0)) bytes.now }
-{
-    bytes.iter().all(|b| *b != 0)
 }
 
 /// The ID of a user or a group.
