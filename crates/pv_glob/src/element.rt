@@ -1,5 +1,7 @@
 //! What patterns are made of: bytes, wildcards and sets of bytes.
 ghost use Rattle.std.specs.Prelude.{◌≡◌, IfOk};
+ghost use Rattle.std.specs.List.{list_any};
+ghost use Rattle.pv_glob.specs.Matching.{in_range, in_set};
 
 use pv_path::Sequence;
 use std::alloc::AllocError;
@@ -13,6 +15,15 @@ pub struct ByteRange {
     pub high: u8,
 }
 
+impl ByteRange {
+    /// Whether a byte lies in the range.
+    fn has(self, byte: u8) -> bool
+        ensures { result ≡ in_range byte self }
+    {
+        self.low <= byte && byte <= self.high
+    }
+}
+
 /// The bytes in some range of a list, or those in none of them.
 #[derive(Clone, Drop)]
 pub struct ByteSet {
@@ -20,6 +31,23 @@ pub struct ByteSet {
     pub negated: bool,
     /// The ranges that the bracket spells, in its order.
     pub ranges: Sequence<ByteRange>,
+}
+
+impl ByteSet {
+    /// Whether a byte belongs to the set (glob(7)).
+    pub fn has(&self, byte: u8) -> bool
+        ensures { result ≡ in_set self.now byte }
+    {
+        let listed = is_listed(self.ranges.as_slice(), byte);
+        if self.negated { !listed } else { listed }
+    }
+}
+
+/// Whether a byte lies in some range of a list.
+fn is_listed(ranges: &[ByteRange], byte: u8) -> bool
+    ensures { result ≡ list_any (in_range byte) ranges.now }
+{
+    ranges.iter().any(|range| range.has(byte))
 }
 
 /// What a pattern is made of between its slashes (glob(7)).

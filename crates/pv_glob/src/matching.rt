@@ -1,34 +1,11 @@
 //! Which names and paths elements match.
 ghost use Rattle.std.specs.Prelude.{◌≡◌, ◌∷◌, true, false, length};
-ghost use Rattle.std.specs.List.{list_any};
 ghost use Rattle.std.specs.Cmp.Lexicographic.{pointwise};
-ghost use Rattle.pv_glob.specs.Matching.{byte_matches, component_matches, in_range, in_set, matches, name_matches};
+ghost use Rattle.pv_glob.specs.Matching.{byte_matches, component_matches, matches, name_matches};
 ghost use Rattle.pv_path.specs.Paths.{has_staging};
 
-use crate::element::{ByteRange, ByteSet, Component, Element};
+use crate::element::{Component, Element};
 use pv_path::{Name, is_staging};
-
-/// Whether a byte lies in a range.
-fn in_range(range: ByteRange, byte: u8) -> bool
-    ensures { result ≡ in_range byte range }
-{
-    range.low <= byte && byte <= range.high
-}
-
-/// Whether a byte lies in some range of a list.
-fn is_listed(ranges: &[ByteRange], byte: u8) -> bool
-    ensures { result ≡ list_any (in_range byte) ranges.now }
-{
-    ranges.iter().any(|range| in_range(*range, byte))
-}
-
-/// Whether a byte belongs to the set of a bracket.
-fn in_set(set: &ByteSet, byte: u8) -> bool
-    ensures { result ≡ in_set set.now byte }
-{
-    let listed = is_listed(set.ranges.as_slice(), byte);
-    if set.negated { !listed } else { listed }
-}
 
 /// Whether an element that stands for one byte matches this byte, which is not the first of a name,
 /// or no period.
@@ -39,7 +16,7 @@ fn byte_matches(element: &Element, byte: u8) -> bool
         Element::Byte(wanted) => byte == *wanted,
         Element::Any => true,
         Element::Many => false,
-        Element::OneOf(set) => in_set(set, byte),
+        Element::OneOf(set) => set.has(byte),
     }
 }
 

@@ -1,33 +1,9 @@
 //! Which elements of a component may take the next byte of a name.
 ghost use Rattle.std.specs.Prelude.{◌≡◌, ◌+◌, ◌<◌, ◌≤◌, ◌∷◌, ◌++◌, [], All, length, drop, IfOk, if◌then◌else◌};
-ghost use Rattle.std.specs.List.{list_any};
-ghost use Rattle.pv_glob.specs.Matching.{in_range, in_set};
 ghost use Rattle.pv_meet.specs.Pairs.{behind, element_at, is_many, past_stars, stars, takers, takes};
 
-use pv_glob::{ByteRange, ByteSet, Element};
+use pv_glob::Element;
 use std::alloc::{AllocError, Global};
-
-/// Whether a byte lies in a range.
-fn in_range(range: ByteRange, byte: u8) -> bool
-    ensures { result ≡ in_range byte range }
-{
-    range.low <= byte && byte <= range.high
-}
-
-/// Whether a byte lies in some range of a list.
-fn is_listed(ranges: &[ByteRange], byte: u8) -> bool
-    ensures { result ≡ list_any (in_range byte) ranges.now }
-{
-    ranges.iter().any(|range| in_range(*range, byte))
-}
-
-/// Whether a byte belongs to the set of a bracket.
-fn in_set(set: &ByteSet, byte: u8) -> bool
-    ensures { result ≡ in_set set.now byte }
-{
-    let listed = is_listed(set.ranges.as_slice(), byte);
-    if set.negated { !listed } else { listed }
-}
 
 /// Whether an element takes a byte; `first` says that a name begins with it.
 fn takes(element: &Element, first: bool, byte: u8) -> bool
@@ -37,7 +13,7 @@ fn takes(element: &Element, first: bool, byte: u8) -> bool
     match element {
         Element::Byte(wanted) => byte == *wanted,
         Element::Any | Element::Many => !hiding,
-        Element::OneOf(set) => !hiding && in_set(set, byte),
+        Element::OneOf(set) => !hiding && set.has(byte),
     }
 }
 
