@@ -2,7 +2,7 @@
 use crate::readings::{files, lines};
 use crate::runs::{Broken, run, run_with};
 use crate::stops::{cuts, reruns, stops, takings, twice};
-use pv_sheet::{Row, Sheet, input, output};
+use pv_sheet::{Calls, Row, Sheet, input, output};
 use std::alloc::{AllocError, Global};
 
 /// What a run writes, and its status.
@@ -52,26 +52,27 @@ fn rerun(alloc: Global, words: &str, input: &[u8], wanted: &str) -> Result<Vec<u
     Ok(format!(in alloc; "{wanted}= {told}")?.into_bytes())
 }
 
-/// What a row gives.
-pub(crate) fn found(
-    alloc: Global,
-    sheet: &Sheet<'_>,
-    row: &Row<'_>,
-) -> Result<Vec<u8>, AllocError> {
-    let input = input(alloc, sheet, row)?;
-    match row.call {
-        "reruns" => rerun(
-            alloc,
-            row.words,
-            input.as_bytes(),
-            &output(alloc, sheet, row)?,
-        ),
-        "run" => ran(alloc, row.words, input.as_bytes(), broken(alloc, row)?),
-        "files" => files(alloc, row.words, input.as_bytes()),
-        "lines" => lines(alloc, row.words, input.as_bytes()),
-        _ => {
-            let told = told(alloc, row, input.as_bytes())?;
-            Ok(format!(in alloc; "= {told}")?.into_bytes())
+/// What carries out runs and readings.
+pub(crate) struct Runs;
+
+impl Calls for Runs {
+    fn found(
+        &self,
+        alloc: Global,
+        sheet: &Sheet<'_>,
+        row: &Row<'_>,
+    ) -> Result<Vec<u8>, AllocError> {
+        let input = input(alloc, sheet, row)?;
+        let input = input.as_bytes();
+        match row.call {
+            "reruns" => rerun(alloc, row.words, input, &output(alloc, sheet, row)?),
+            "run" => ran(alloc, row.words, input, broken(alloc, row)?),
+            "files" => files(alloc, row.words, input),
+            "lines" => lines(alloc, row.words, input),
+            _ => {
+                let told = told(alloc, row, input)?;
+                Ok(format!(in alloc; "= {told}")?.into_bytes())
+            }
         }
     }
 }

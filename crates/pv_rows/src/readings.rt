@@ -1,10 +1,10 @@
 //! The files that words choose, and the lines that are read from them.
-use crate::runs::words_of;
 use pv_conf::{Configuration, read_configuration};
 use pv_image::read_image;
 use pv_layers::{Chosen, chosen_files};
 use pv_lines::{Line, LineId};
 use pv_path::{Bytes, WordList, print_path};
+use pv_sheet::words_of;
 use pv_text::{Facts, Messages, Tool};
 use pv_tree::MemTree;
 use std::alloc::{AllocError, Global};

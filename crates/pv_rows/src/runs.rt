@@ -1,7 +1,7 @@
 //! Runs from words and an image.
 use provision_run::{provision, status};
 use pv_io::{MemSink, MemSource};
-use pv_sheet::spelled;
+use pv_sheet::words_of;
 use std::alloc::{AllocError, Global};
 
 /// The moment of the runs, in microseconds since 1970.
@@ -9,19 +9,6 @@ const NOW: u64 = 1_000_000_000_000;
 
 /// More than a run writes.
 const ROOM: usize = 16_777_216;
-
-/// The words of a text that has a blank between two of them, as the program gets them; `∅` stands for a word without a letter.
-pub(crate) fn words_of(alloc: Global, words: &str) -> Result<Vec<String>, AllocError> {
-    let mut all = Vec::new(alloc);
-    if words.is_empty() {
-        return Ok(all);
-    }
-    for word in words.split(' ') {
-        let word = word.replace(alloc, '∅', "")?;
-        all.push(spelled(alloc, &word)?)?;
-    }
-    Ok(all)
-}
 
 /// A source or a sink that fails at a call, counted from 0.
 #[derive(Drop, Clone, Copy)]

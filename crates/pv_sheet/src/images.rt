@@ -3,7 +3,7 @@ use base64::engine::general_purpose::STANDARD;
 use std::alloc::{AllocError, Global};
 
 /// A text in which `␉`, `␊`, `␍` and `␠` stand for a tab, an end of a line, a carriage return and a blank.
-pub fn spelled(alloc: Global, text: &str) -> Result<String, AllocError> {
+pub(crate) fn spelled(alloc: Global, text: &str) -> Result<String, AllocError> {
     let text = text.replace(alloc, '␉', "\t")?;
     let text = text.replace(alloc, '␊', "\n")?;
     let text = text.replace(alloc, '␍', "\r")?;
@@ -11,7 +11,7 @@ pub fn spelled(alloc: Global, text: &str) -> Result<String, AllocError> {
 }
 
 /// The text of these lines. The last line has no end where it ends with `␃`.
-pub fn text_of(alloc: Global, lines: &[&str]) -> Result<String, AllocError> {
+pub(crate) fn text_of(alloc: Global, lines: &[&str]) -> Result<String, AllocError> {
     let mut text = String::new(alloc);
     for line in lines {
         text.push_str(line)?;
@@ -102,7 +102,7 @@ fn object_lines(alloc: Global, lines: &str, object: &str) -> Result<String, Allo
 }
 
 /// The image of these objects, in the order of their paths, over a configuration with these lines.
-pub fn image(alloc: Global, lines: &str, objects: &[&str]) -> Result<String, AllocError> {
+pub(crate) fn image(alloc: Global, lines: &str, objects: &[&str]) -> Result<String, AllocError> {
     let mut text = "tree-image 2\n".to_string(alloc)?;
     for object in objects {
         text.push_str(&object_lines(alloc, lines, object)?)?;

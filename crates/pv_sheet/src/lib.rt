@@ -3,10 +3,11 @@
 
 mod images;
 mod marks;
+mod reports;
 mod rows;
 mod wants;
 
-pub use images::{image, spelled, text_of};
-pub use marks::bytes_of;
+pub use marks::{bytes_of, words_of};
+pub use reports::{Calls, report};
 pub use rows::{Row, Sheet};
-pub use wants::{input, output, wanted};
+pub use wants::{input, output};

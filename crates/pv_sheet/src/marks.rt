@@ -43,3 +43,16 @@ pub fn bytes_of(alloc: Global, text: &str) -> Result<Vec<u8>, AllocError> {
     }
     Ok(bytes)
 }
+
+/// The words of a text that has a blank between two of them, as the program gets them; `∅` stands for a word without a letter.
+pub fn words_of(alloc: Global, words: &str) -> Result<Vec<String>, AllocError> {
+    let mut all = Vec::new(alloc);
+    if words.is_empty() {
+        return Ok(all);
+    }
+    for word in words.split(' ') {
+        let word = word.replace(alloc, '∅', "")?;
+        all.push(spelled(alloc, &word)?)?;
+    }
+    Ok(all)
+}

@@ -34,7 +34,7 @@ pub struct Sheet<'a> {
 impl<'a> Sheet<'a> {
     /// The rows and lists of a text. A line that begins with `#` is a comment; the first other line of a block has the call
     /// and its words.
-    pub fn read(alloc: Global, text: &'a str) -> Result<Sheet<'a>, AllocError> {
+    pub(crate) fn read(alloc: Global, text: &'a str) -> Result<Sheet<'a>, AllocError> {
         let mut sheet = Sheet {
             rows: Vec::new(alloc),
             lists: IndexMap::new(alloc),

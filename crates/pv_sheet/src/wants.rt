@@ -44,7 +44,11 @@ fn said(alloc: Global, row: &Row<'_>) -> Result<String, AllocError> {
 }
 
 /// What a row wants: what is said, the output, and behind `= ` what is told at its end.
-pub fn wanted(alloc: Global, sheet: &Sheet<'_>, row: &Row<'_>) -> Result<Vec<u8>, AllocError> {
+pub(crate) fn wanted(
+    alloc: Global,
+    sheet: &Sheet<'_>,
+    row: &Row<'_>,
+) -> Result<Vec<u8>, AllocError> {
     let mut text = said(alloc, row)?;
     text.push_str(&output(alloc, sheet, row)?)?;
     text.push_str("= ")?;

@@ -12,8 +12,27 @@ mod requests;
 mod transfers;
 mod words;
 
-use pv_sheet::{Row, Sheet, input};
+use crate::marks::Arguments;
+use pv_sheet::{Calls, Row, Sheet, input};
 use std::alloc::{AllocError, Global};
+
+/// What a call of a subject answers for arguments, or nothing where there is no such subject.
+fn argued(
+    alloc: Global,
+    subject: &str,
+    call: &str,
+    arguments: &Arguments,
+) -> Result<Option<Vec<u8>>, AllocError> {
+    Ok(Some(match subject {
+        "account" => accounts::told(alloc, call, arguments)?,
+        "acl" => acls::told(alloc, call, arguments)?,
+        "glob" => globs::told(alloc, call, arguments)?,
+        "io" => transfers::told(alloc, call, arguments)?,
+        "meet" => meetings::told(alloc, call, arguments)?,
+        "path" => paths::told(alloc, call, arguments)?,
+        _ => return Ok(None),
+    }))
+}
 
 /// What a call of a subject answers for words, or nothing where there is no such subject.
 fn told(
@@ -23,37 +42,36 @@ fn told(
     words: &str,
 ) -> Result<Option<Vec<u8>>, AllocError> {
     Ok(Some(match subject {
-        "account" => accounts::told(alloc, call, words)?,
-        "acl" => acls::told(alloc, call, words)?,
         "field" => fields::told(alloc, call, words)?,
-        "glob" => globs::told(alloc, call, words)?,
-        "io" => transfers::told(alloc, call, words)?,
         "line" => lines::told(alloc, call, words)?,
-        "meet" => meetings::told(alloc, call, words)?,
-        "path" => paths::told(alloc, call, words)?,
         "request" => requests::told(alloc, call, words)?,
         "words" => words::told(alloc, call, words)?,
-        _ => return Ok(None),
+        _ => return argued(alloc, subject, call, &Arguments::of(alloc, words)?),
     }))
 }
 
-/// What a row gives, the name of whose call is that of its subject, `-`, and its own: what is told at its end, and before it
-/// the text of the account files where users are planned.
-pub(crate) fn found(
-    alloc: Global,
-    sheet: &Sheet<'_>,
-    row: &Row<'_>,
-) -> Result<Vec<u8>, AllocError> {
-    let (subject, call) = row.call.split_once('-').unwrap_or((row.call, ""));
-    if subject == "plan" {
-        let lines = row.marked(alloc, "| ")?;
-        let input = input(alloc, sheet, row)?;
-        return plans::planned(alloc, &lines, &input);
+/// What carries out single calls. The name of a row's call is that of its subject, `-`, and its own. What is told stands at
+/// the end, and before it the text of the account files where users are planned.
+pub(crate) struct Texts;
+
+impl Calls for Texts {
+    fn found(
+        &self,
+        alloc: Global,
+        sheet: &Sheet<'_>,
+        row: &Row<'_>,
+    ) -> Result<Vec<u8>, AllocError> {
+        let (subject, call) = row.call.split_once('-').unwrap_or((row.call, ""));
+        if subject == "plan" {
+            let lines = row.marked(alloc, "| ")?;
+            let input = input(alloc, sheet, row)?;
+            return plans::planned(alloc, &lines, &input);
+        }
+        let mut found = Vec::from_slice(alloc, b"= ")?;
+        match told(alloc, subject, call, row.words)? {
+            Some(told) => found.extend_from_slice(&told)?,
+            None => found.extend_from_slice(b"no such call")?,
+        }
+        Ok(found)
     }
-    let mut found = Vec::from_slice(alloc, b"= ")?;
-    match told(alloc, subject, call, row.words)? {
-        Some(told) => found.extend_from_slice(&told)?,
-        None => found.extend_from_slice(b"no such call")?,
-    }
-    Ok(found)
 }

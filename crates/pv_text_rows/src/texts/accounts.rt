@@ -8,9 +8,12 @@ use pv_acl::Names;
 use pv_gshadow::{add_group, add_gshadow_member, gshadow_view};
 use std::alloc::{AllocError, Global};
 
-/// What a call answers for words.
-pub(crate) fn told(alloc: Global, call: &str, words: &str) -> Result<Vec<u8>, AllocError> {
-    let arguments = Arguments::of(alloc, words)?;
+/// What a call answers for arguments.
+pub(crate) fn told(
+    alloc: Global,
+    call: &str,
+    arguments: &Arguments,
+) -> Result<Vec<u8>, AllocError> {
     match call {
         "entries" => entries_told(alloc, arguments.at(0), arguments.from(1)),
         "entry" => append_entry(alloc, arguments.at(0), arguments.at(1)),
@@ -24,8 +27,8 @@ pub(crate) fn told(alloc: Global, call: &str, words: &str) -> Result<Vec<u8>, Al
                 arguments.from(3),
             )
         }
-        "in-use-id" | "in-use-held" | "in-use-beside" => in_use_told(alloc, call, &arguments),
-        _ => found_told(alloc, call, &arguments),
+        "in-use-id" | "in-use-held" | "in-use-beside" => in_use_told(alloc, call, arguments),
+        _ => found_told(alloc, call, arguments),
     }
 }
 

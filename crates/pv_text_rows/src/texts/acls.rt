@@ -7,9 +7,12 @@ use pv_acl::{
 };
 use std::alloc::{AllocError, Global};
 
-/// What a call answers for words.
-pub(crate) fn told(alloc: Global, call: &str, words: &str) -> Result<Vec<u8>, AllocError> {
-    let arguments = Arguments::of(alloc, words)?;
+/// What a call answers for arguments.
+pub(crate) fn told(
+    alloc: Global,
+    call: &str,
+    arguments: &Arguments,
+) -> Result<Vec<u8>, AllocError> {
     match call {
         "entries" => entries_told(alloc, arguments.at(0)),
         "changed" => {
@@ -26,7 +29,7 @@ pub(crate) fn told(alloc: Global, call: &str, words: &str) -> Result<Vec<u8>, Al
         "put" => put_told(alloc, arguments.at(0), arguments.at(1)),
         "field" => field_told(alloc, arguments.at(0), arguments.at(1), arguments.at(2)),
         "of-mode" => of_mode_told(alloc, arguments.at(0)),
-        _ => part_told(alloc, call, &arguments),
+        _ => part_told(alloc, call, arguments),
     }
 }
 

@@ -4,9 +4,12 @@ use pv_glob::{Pattern, PatternFault, literal, matches, matches_first, parse_patt
 use pv_path::{PathFault, TreePath, child, has_staging, is_name, parse_path};
 use std::alloc::{AllocError, Global};
 
-/// What a call answers for words.
-pub(crate) fn told(alloc: Global, call: &str, words: &str) -> Result<Vec<u8>, AllocError> {
-    let arguments = Arguments::of(alloc, words)?;
+/// What a call answers for arguments.
+pub(crate) fn told(
+    alloc: Global,
+    call: &str,
+    arguments: &Arguments,
+) -> Result<Vec<u8>, AllocError> {
     match call {
         "pattern" => pattern_told(alloc, arguments.at(0)),
         "matches" => match_told(alloc, arguments.at(0), arguments.at(1)),

@@ -9,13 +9,16 @@ use pv_overlap::{Asker, PairList, head, pairs_by};
 use pv_path::{PathList, TreePath, child, has_staging, is_name, parse_path, print_path};
 use std::alloc::{AllocError, Global};
 
-/// What a call answers for words.
-pub(crate) fn told(alloc: Global, call: &str, words: &str) -> Result<Vec<u8>, AllocError> {
-    let arguments = Arguments::of(alloc, words)?;
+/// What a call answers for arguments.
+pub(crate) fn told(
+    alloc: Global,
+    call: &str,
+    arguments: &Arguments,
+) -> Result<Vec<u8>, AllocError> {
     match call {
         "first" => first_told(alloc, arguments.at(0), arguments.at(1)),
         "machine" => machine_told(alloc, arguments.at(0), arguments.at(1)),
-        "search" => search_told(alloc, &arguments),
+        "search" => search_told(alloc, arguments),
         "head" => head_told(alloc, arguments.at(0)),
         "own-head" => own_head_told(alloc, arguments.at(0)),
         "pairs" => pairs_told(alloc, arguments.from(0)),

@@ -7,9 +7,12 @@ use pv_path::{
 use std::alloc::{AllocError, Global};
 use std::cmp::Ordering;
 
-/// What a call answers for words.
-pub(crate) fn told(alloc: Global, call: &str, words: &str) -> Result<Vec<u8>, AllocError> {
-    let arguments = Arguments::of(alloc, words)?;
+/// What a call answers for arguments.
+pub(crate) fn told(
+    alloc: Global,
+    call: &str,
+    arguments: &Arguments,
+) -> Result<Vec<u8>, AllocError> {
     match call {
         "spelled" => path_told(alloc, arguments.at(0)),
         "long" => name_told(alloc, arguments.at(0)),
@@ -17,7 +20,7 @@ pub(crate) fn told(alloc: Global, call: &str, words: &str) -> Result<Vec<u8>, Al
         "printed" => printed_told(alloc, arguments.at(0), arguments.at(1), arguments.at(2)),
         "copied" => copy_told(alloc, arguments.at(0), arguments.at(1)),
         "staging-name" => staging_name_told(alloc, arguments.at(0)),
-        _ => relation_told(alloc, call, &arguments),
+        _ => relation_told(alloc, call, arguments),
     }
 }
 

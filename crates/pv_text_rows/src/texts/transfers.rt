@@ -9,9 +9,12 @@ use pv_io::{
 use std::alloc::{AllocError, Global};
 use std::io;
 
-/// What a call answers for words.
-pub(crate) fn told(alloc: Global, call: &str, words: &str) -> Result<Vec<u8>, AllocError> {
-    let arguments = Arguments::of(alloc, words)?;
+/// What a call answers for arguments.
+pub(crate) fn told(
+    alloc: Global,
+    call: &str,
+    arguments: &Arguments,
+) -> Result<Vec<u8>, AllocError> {
     match call {
         "read-all" => whole_told(alloc, arguments.at(0), arguments.from(1)),
         "reads" => reads_told(alloc, arguments.at(0), arguments.from(1)),

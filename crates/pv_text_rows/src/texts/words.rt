@@ -1,7 +1,7 @@
 //! Words of a command.
 use crate::marks::unread;
 use pv_path::{TreePath, print_path};
-use pv_sheet::spelled;
+use pv_sheet::words_of;
 use pv_text::Tool;
 use pv_words::{Asked, Options, asked_of};
 use std::alloc::{AllocError, Global};
@@ -12,19 +12,6 @@ pub(crate) fn told(alloc: Global, call: &str, words: &str) -> Result<Vec<u8>, Al
         "asked" => asked_told(alloc, words),
         _ => unread(alloc),
     }
-}
-
-/// The words of a text that has a blank between two of them, as the program gets them; `∅` stands for a word without a letter.
-fn words_of(alloc: Global, words: &str) -> Result<Vec<String>, AllocError> {
-    let mut all = Vec::new(alloc);
-    if words.is_empty() {
-        return Ok(all);
-    }
-    for word in words.split(' ') {
-        let word = word.replace(alloc, '∅', "")?;
-        all.push(spelled(alloc, &word)?)?;
-    }
-    Ok(all)
 }
 
 /// What words ask for in short, or their fault.
