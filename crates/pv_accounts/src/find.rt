@@ -1,6 +1,6 @@
 //! Entries by name and by ID; the first of a name counts.
 ghost use Rattle.std.specs.Prelude.{◌≡◌, ◌≤◌, length, option_and_then, IfSome};
-ghost use Rattle.std.specs.List.{position_or_len};
+ghost use Rattle.std.specs.List.{find, position_or_len};
 ghost use Rattle.std.specs.Option.{option_map};
 ghost use Rattle.pv_accounts.specs.Entries.{entry_of};
 ghost use Rattle.pv_accounts.specs.Files.{lines_of, name_of, entry_named, id_in, id_named, holds_beside, holder_of};
@@ -59,7 +59,8 @@ pub(crate) fn is_entry_named(kind: Kind, line: &[u8], name: &[u8]) -> bool
 
 /// The first line of a file that is an entry with this name.
 pub fn find_line<'a>(kind: Kind, file: &'a [u8], name: &[u8]) -> Option<&'a [u8]>
-    ensures { let line = option_map (λ line. line.now) result in
+    ensures line { option_map (λ line. line.now) result ≡ find (is_entry_named (test_of kind) name.now) (lines_of file.now) }
+    ensures entry { let line = option_map (λ line. line.now) result in
         option_and_then (entry_of (test_of kind)) line ≡ entry_named (test_of kind) file.now name.now }
 {
     let mut rest = file;
