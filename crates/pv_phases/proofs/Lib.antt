@@ -1,3 +1,4 @@
+pub mod BootLaws
 pub mod FrameLaws
 pub mod PhaseLaws
 pub mod SweptLaws
