@@ -1,3 +1,4 @@
+pub mod BootCalls
 pub mod BootLaws
 pub mod FrameLaws
 pub mod PhaseLaws

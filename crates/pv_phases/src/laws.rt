@@ -1,5 +1,5 @@
 //! A law of what phases leave on their way. The function does nothing; its contract is the law.
-ghost use Rattle.std.specs.Prelude.{◌≡◌, ◌⊎◌, ℕ, List, true, false};
+ghost use Rattle.std.specs.Prelude.{◌≡◌, ◌⊎◌, ℕ, ◌<◌, ◌^◌, List, true, false};
 ghost use Rattle.std.specs.List.{AllByRecursion, list_any};
 ghost use Rattle.pv_doing.specs.Courses.{Partway};
 ghost use Rattle.pv_dress.specs.Edits.{Pruned};
@@ -52,7 +52,7 @@ pub fn boots_cut_short_again_and_again_are_mended()
 /// On the way of such a run some of what goes is gone and nothing else has changed; or each path is between two lines of
 /// creating from what removing leaves, where no line has a reason and creating refuses none at a turn.
 pub fn a_boot_on_its_way_removes_or_is_between_two_lines()
-    ensures { (lines : List LineValue) (now : ℕ) (t u : Files) → IsTree (removed lines now t) → AllByRecursion IsLine lines
+    ensures { (lines : List LineValue) (now : ℕ) (t u : Files) → now < 2 ^ 64 → IsTree t → AllByRecursion IsLine lines
         → Partway (phases_course lines now) boot_phases t u
         → Pruned (is_gone lines t) t u
         ⊎ ((s : Bares) → IsRepeatable lines → IsQuiet lines now (removed lines now t) → Agree s (removed lines now t)
