@@ -1,2 +1,4 @@
+pub mod Booted
 pub mod Phases
+pub mod BootedAgain
 pub mod Swept
