@@ -12,6 +12,7 @@ mod taking_away;
 pub use laws::{
     a_purge_cut_short_is_mended, a_purge_leaves_what_lines_are_read_from,
     a_removal_cut_short_is_mended, a_removal_leaves_what_lines_are_read_from,
+    only_what_is_gone_is_as_the_manual_says, what_is_gone_is_as_the_manual_says,
     what_is_purged_is_governed, what_is_removed_is_governed,
 };
 pub use purging::purge_run;
