@@ -127,7 +127,7 @@ module _ (lines : List Line) (now : ℕ) (files : Files) where
       merged false true m f = absurd (let no : false ≡ true = f refl in cc)
       merged false false m f = refl
 
-  below_root : (q : Path) → may_go lines now files q ≡ true → not (length q == 0) ≡ true
+  pub below_root : (q : Path) → may_go lines now files q ≡ true → not (length q == 0) ≡ true
   below_root q h = first (not (length q == 0)) (not (list_any (λ line. names line q) lines)) (is_old_by (scope lines (parent_of q)) now (places files q)) h
     where
       first : (a b c : Bool) → ((a && b) && c) ≡ true → a ≡ true

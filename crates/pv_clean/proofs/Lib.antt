@@ -2,3 +2,4 @@ pub mod AgeLaws
 pub mod CleanLaws
 pub mod InputLaws
 pub mod CleanSteps
+pub mod SentenceLaws

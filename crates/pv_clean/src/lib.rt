@@ -11,5 +11,6 @@ pub use aging::aged_paths;
 pub use cleaning::clean_run;
 pub use laws::{
     a_cleaning_leaves_what_lines_are_read_from, a_stopped_clean_took_what_is_aged,
+    only_what_is_aged_is_as_the_manual_says, what_is_aged_is_as_the_manual_says,
     what_is_aged_is_governed,
 };

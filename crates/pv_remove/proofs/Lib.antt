@@ -4,5 +4,6 @@ pub mod GovernedLaws
 pub mod InputLaws
 pub mod JudgeLaws
 pub mod RunLaws
+pub mod SentenceLaws
 pub mod StopLaws
 pub mod TakeLaws

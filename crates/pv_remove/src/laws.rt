@@ -1,6 +1,6 @@
 //! Laws of removals and purges that were cut short, of what both take, and of what they leave on their way. Each function
 //! does nothing; its contract is the law.
-ghost use Rattle.std.specs.Prelude.{◌≡◌, ℕ, ◌<◌, ◌^◌, List, true, false, is_some};
+ghost use Rattle.std.specs.Prelude.{◌≡◌, ℕ, ◌<◌, ◌^◌, Bool, List, true, false, is_some};
 ghost use Rattle.std.specs.List.{AllByRecursion, list_any};
 ghost use Rattle.pv_lines.specs.declared.line.Line.{Line as LineValue};
 ghost use Rattle.pv_lines.specs.Lines.{IsLine};
@@ -14,6 +14,7 @@ ghost use Rattle.pv_table.specs.Reaching.{governs};
 ghost use Rattle.pv_table.specs.Removed.{is_gone, is_purged, is_unfinished, purged, removed};
 ghost use Rattle.pv_layers.specs.Places.{is_input};
 ghost use Rattle.pv_table.specs.Repeatable.{HasReason};
+ghost use Rattle.pv_remove.specs.Sentences.{is_gone_by};
 
 /// From a tree in which a removal may have been cut short, a whole removal leaves what it leaves from the start, at
 /// whatever moment, whatever the lines; stamps and staging names aside.
@@ -41,6 +42,20 @@ pub fn a_purge_leaves_what_lines_are_read_from()
     ensures { (lines : List LineValue) (t u : Files) (q : Path) → IsTree t → AllByRecursion IsLine lines
         → ((i : ℕ) → HasReason lines i reason.Input → ⊥) → Pruned (is_purged lines t) t u → is_input q ≡ true
         → content_of (places u q) ≡ content_of (places t q) }
+{}
+
+/// What is gone is what the manual says of a path by what is gone of what stands in it: a present path other than the root,
+/// where a line that is not refused takes it, R what it names and all below, D all below a directory that it names, r what
+/// it names, where that is no directory or all that stands in it is gone.
+pub fn what_is_gone_is_as_the_manual_says()
+    ensures { (lines : List LineValue) (t : Files) (q : Path) → IsTree t → is_gone lines t q ≡ is_gone_by (is_gone lines t) lines t q }
+{}
+
+/// Nothing else is as the manual says: what meets its sentence at each present path is what is gone of these paths.
+pub fn only_what_is_gone_is_as_the_manual_says()
+    ensures { (lines : List LineValue) (t : Files) (goes : Path → Bool) → IsTree t
+        → ((q : Path) → is_some (places t q) ≡ true → goes q ≡ is_gone_by goes lines t q)
+        → (q : Path) → is_some (places t q) ≡ true → goes q ≡ is_gone lines t q }
 {}
 
 /// What goes in the remove phase is governed by a line.

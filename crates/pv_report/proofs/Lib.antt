@@ -1,5 +1,6 @@
 pub mod ReachLaws
 pub mod CopyLaws
+pub mod FirstLaws
 pub mod Members
 pub mod MarkLaws
 pub mod MarkOrder

@@ -12,7 +12,9 @@ mod saying;
 mod subject;
 mod traits;
 
-pub use laws::the_reasons_are_one_list;
+pub use laws::{
+    a_report_is_what_its_lines_give, the_overlaps_are_one_list, the_reasons_are_one_list,
+};
 pub use listing::{ReasonList, Report, Unrepeatable};
 pub use reporting::report;
 pub use saying::{say_report, verdict};
