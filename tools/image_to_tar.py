@@ -16,6 +16,7 @@ the archive is not whole.
 """
 
 import argparse
+import gc
 import hashlib
 import sys
 from collections.abc import Iterator
@@ -191,6 +192,7 @@ def run(words: list[str]) -> None:
 
 
 def main() -> int:
+    gc.disable()  # there are no cycles, and many nodes
     try:
         run(sys.argv[1:])
     except (Trouble, OSError) as trouble:

@@ -46,6 +46,8 @@ class Member:
 
 def _number(text: bytes) -> int:
     """A number of a header: octal digits, or base 256 where its first bit is set."""
+    if text[-1:] == b"\0" and text[:-1].isdigit():
+        return int(text[:-1], 8)
     if text[0] & 0x80:
         if text[0] == 0xFF:
             return int.from_bytes(text, "big", signed=True)

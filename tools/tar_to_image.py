@@ -19,6 +19,8 @@ it is an error, and no image is written. Status: 0 done, 1 an error.
 """
 
 import argparse
+import binascii
+import gc
 import hashlib
 import re
 import struct
@@ -65,6 +67,15 @@ class Span:
     length: int
 
 
+@dataclass(slots=True)
+class Entry(Node):
+    """A node with the texts of its ACL, which wait for the tree's own accounts."""
+
+    access_text: bytes = b""
+    default_text: bytes = b""
+    computed_masks: bytes = b""
+
+
 class Store:
     """The contents that stay inline, in a file that has no name."""
 
@@ -95,10 +106,8 @@ class Builder:
         self.limit = limit
         self.inline = inline
         self.store = Store()
-        self.nodes: dict[bytes, Node] = {}
-        self.acl_texts: dict[bytes, tuple[bytes, bytes]] = {}
-        self.computed_masks: dict[bytes, bytes] = {}
-        self._told_records: set[bytes] = set()
+        self.nodes: dict[bytes, Entry] = {}
+        self._has_acls = False
 
     def warn(self, path: bytes, text: str) -> None:
         self.notices.warn(f"{printed_path(path)}: {text}")
@@ -117,9 +126,9 @@ class Builder:
             self.warn(path, f"an object of the tar type {member.kind.decode('latin-1')!r}, left out")
             return
         node = self._plain_node(kind, path, member)
-        if node is None or not self._put_special(node, reader, member):
+        if not self._put_special(node, reader, member):
             return
-        if member.records:
+        if member.records and member.kind != b"1":
             self._put_records(node, member)
         if path in self.nodes and not (path == b"/" or kind == self.nodes[path].kind == "d"):
             self.notices.note(f"{printed_path(path)}: it comes twice, the later one counts")
@@ -134,10 +143,10 @@ class Builder:
                 return None
         return b"/" + b"/".join(names)
 
-    def _plain_node(self, kind: str, path: bytes, member: Member) -> Node | None:
+    def _plain_node(self, kind: str, path: bytes, member: Member) -> Entry:
         modify = self._stamp(path, member.records.get(b"mtime"), member.seconds * 1000000)
-        node = Node(kind, path, member.mode & 0o7777, self._owner(path, member.uid),
-                    self._owner(path, member.gid), modify, modify, modify, modify)
+        node = Entry(kind, path, member.mode & 0o7777, self._owner(path, member.uid),
+                     self._owner(path, member.gid), modify, modify, modify, modify)
         if path == b"/" and kind != "d":
             raise Trouble(f"/: a {KIND_NAMES[kind]} as the root")
         return node
@@ -182,22 +191,12 @@ class Builder:
         if first is None or first.kind == "d":
             self.warn(node.path, "a hard link to nothing before it, left out")
             return False
-        for name in ("kind", "mode", "target", "major", "minor", "content"):
-            setattr(node, name, getattr(first, name))
-        self._copy_rest(node, first)
+        for name in Entry.__dataclass_fields__:
+            if name != "path":
+                setattr(node, name, getattr(first, name))
         self.notices.note(f"{printed_path(node.path)}: a hard link to {printed_path(source)}, "
                           "taken as an object of its own")
         return True
-
-    def _copy_rest(self, node: Node, first: Node) -> None:
-        """What belongs to an object and not to its name: owners, stamps, records."""
-        for name in ("uid", "gid", "access", "birth", "change", "modify", "letters"):
-            setattr(node, name, getattr(first, name))
-        node.attrs = dict(first.attrs)
-        for held in (self.acl_texts, self.computed_masks):
-            held.pop(node.path, None)
-            if first.path in held:
-                held[node.path] = held[first.path]
 
     def _content(self, node: Node, reader: TarReader, member: Member) -> Span | Marker:
         """Take over contents, inline or by a marker."""
@@ -237,8 +236,12 @@ class Builder:
                     self._put_attr(node, name, value)
             elif key == b"RHT.security.selinux":
                 self._put_attr(node, b"security.selinux", value)
-            elif key not in KNOWN_RECORDS:
-                self._tell_record(node, key)
+            elif key.startswith(LIBARCHIVE_XATTR):
+                name = unquoted(key[len(LIBARCHIVE_XATTR):])
+                if XATTR + name not in records:
+                    self._put_attr(node, name, binascii.a2b_base64(value + b"=="))
+            elif key not in KNOWN_RECORDS and not key.startswith(b"GNU.sparse."):
+                self.warn(path, f"the record {printed_path(key)}, left out")
         self._keep_acls(node, acls | records)
 
     def _put_letters(self, node: Node, text: str) -> None:
@@ -257,22 +260,10 @@ class Builder:
         else:
             node.attrs[name] = value
 
-    def _tell_record(self, node: Node, key: bytes) -> None:
-        """Name a record that no node holds."""
-        if key.startswith(LIBARCHIVE_XATTR) or key.startswith(b"GNU.sparse."):
-            if key.startswith(b"GNU.sparse."):
-                return
-            name = key[len(LIBARCHIVE_XATTR):]
-            if name in node.attrs or unquoted(name) in node.attrs:
-                return
-        self.warn(node.path, f"the record {printed_path(key)}, left out")
-
-    def _keep_acls(self, node: Node, records: dict[bytes, bytes]) -> None:
+    def _keep_acls(self, node: Entry, records: dict[bytes, bytes]) -> None:
         """Keep the texts of ACLs until the account files are known."""
         access = records.get(b"SCHILY.acl.access", b"")
         default = records.get(b"SCHILY.acl.default", b"")
-        self.acl_texts.pop(node.path, None)
-        self.computed_masks.pop(node.path, None)
         if not access and not default:
             return
         if node.kind == "l":
@@ -281,64 +272,59 @@ class Builder:
         if default and node.kind != "d":
             self.warn(node.path, f"the default ACL of a {KIND_NAMES[node.kind]}, left out")
             default = b""
-        self.acl_texts[node.path] = access, default
-        if mask := records.get(b"PROVISION.mask"):
-            self.computed_masks[node.path] = mask
+        self._has_acls = True
+        node.access_text, node.default_text = access, default
+        node.computed_masks = records.get(b"PROVISION.mask", b"")
 
     # The whole tree
 
     def finish(self) -> list[Node]:
         """All nodes in order, each below a directory."""
         if b"/" not in self.nodes:
-            self.nodes[b"/"] = Node("d", b"/")
+            self.nodes[b"/"] = Entry("d", b"/")
         self._put_parents()
-        self._put_acls()
+        if self._has_acls:
+            self._put_acls()
         return sorted(self.nodes.values(), key=lambda node: path_key(node.path))
 
     def _put_parents(self) -> None:
         """Make absent parents; leave out what stands below no directory."""
-        nodes = self.nodes
-        lost: set[bytes] = set()
-        for path in sorted(nodes, key=path_key):
-            if path == b"/" or self._has_parent(path, lost):
-                continue
-            lost.add(path)
-            self.warn(path, f"it stands below {printed_path(parent_of(path))}, which is no "
-                            "directory, left out")
-            del nodes[path]
+        for path in sorted(self.nodes, key=path_key):
+            if path != b"/" and not self._has_parent(path):
+                del self.nodes[path]
 
-    def _has_parent(self, path: bytes, lost: set[bytes]) -> bool:
+    def _has_parent(self, path: bytes) -> bool:
         """Whether the parent is a directory, after it is made where it is absent."""
+        absent = []
         parent = parent_of(path)
-        node = self.nodes.get(parent)
-        if node is not None:
-            return node.kind == "d"
-        if parent in lost or not self._has_parent(parent, lost):
-            lost.add(parent)
+        while parent not in self.nodes:
+            absent.append(parent)
+            parent = parent_of(parent)
+        kind = self.nodes[parent].kind
+        if kind != "d":
+            self.warn(path, f"it stands below {printed_path(parent)}, a {KIND_NAMES[kind]}, left out")
             return False
-        self.nodes[parent] = Node("d", parent)
-        self.warn(parent, "absent above another object, made as a directory 0755 0 0")
+        for made in reversed(absent):
+            self.nodes[made] = Entry("d", made)
+            self.warn(made, "absent above another object, made as a directory 0755 0 0")
         return True
 
     def _put_acls(self) -> None:
-        if not self.acl_texts:
-            return
         users, groups = self._ids(b"/etc/passwd"), self._ids(b"/etc/group")
-        for path, (access_text, default_text) in self.acl_texts.items():
-            node = self.nodes.get(path)
-            if node is not None:
-                self._put_acl(node, access_text, default_text, users, groups)
+        for node in self.nodes.values():
+            if node.access_text or node.default_text:
+                self._put_acl(node, users, groups)
 
-    def _put_acl(self, node, access_text, default_text, users, groups) -> None:
-        computed = self.computed_masks.get(node.path, b"").split(b",")
+    def _put_acl(self, node: Entry, users: dict[bytes, int], groups: dict[bytes, int]) -> None:
+        computed = node.computed_masks.split(b",")
         bits = node.mode
         access = AclPart(bits >> 6 & 7, bits >> 3 & 7, bits & 7)
-        if access_text:
-            access = self._part(node, access_text, users, groups, b"access" in computed)
+        if node.access_text:
+            access = self._part(node, node.access_text, users, groups, b"access" in computed)
             node.mode = bits & 0o7000 | access.owner << 6 | access.group << 3 | access.other
         default = None
-        if default_text:
-            default = self._part(node, default_text, users, groups, b"default" in computed)
+        if node.default_text:
+            default = self._part(node, node.default_text, users, groups, b"default" in computed)
         node.acl = print_acl(access, default)
 
     def _part(self, node, text, users, groups, computed: bool) -> AclPart:
@@ -585,9 +571,10 @@ def run(words: list[str]) -> int:
 
 
 def main() -> int:
+    gc.disable()  # there are no cycles, and many nodes
     try:
         return run(sys.argv[1:])
-    except (Trouble, OSError) as trouble:
+    except (Trouble, OSError, binascii.Error) as trouble:
         print(f"tar_to_image: error: {trouble}", file=sys.stderr)
         return 1
 
