@@ -21,7 +21,7 @@ import hashlib
 import sys
 from collections.abc import Iterator
 
-from tar_stream import Member, TarReader, archive_end, member_head, padding
+from tar_stream import XATTR, Member, TarReader, archive_end, member_head, padding
 from tree_image import (
     AclPart, ImageReader, Marker, Node, Trouble, perm_text, printed_path, read_acl, read_marker,
 )
@@ -117,7 +117,7 @@ def member_of(node: Node, size: int) -> Member:
         put_acl(node, member)
     for key, value in node.attrs.items():
         key = key.replace(b"%", b"%25").replace(b"=", b"%3D")
-        member.records[b"SCHILY.xattr." + key] = value
+        member.records[XATTR + key] = value
     if node.letters:
         member.records[b"PROVISION.letters"] = node.letters.encode()
     return member
@@ -169,9 +169,7 @@ class Writer:
 
 def convert(old: OldContents | None) -> None:
     """Read the image, write the archive."""
-    image = ImageReader(sys.stdin.buffer)
-    for note in image.notes:
-        print(f": {note}", file=sys.stderr)
+    image = ImageReader(sys.stdin.buffer, lambda message: print(message, file=sys.stderr))
     writer = Writer(sys.stdout.buffer, old)
     for node in image.nodes():
         writer.add(node)

@@ -15,6 +15,7 @@ BLOCK = 512
 PIECE = 1 << 20
 ZEROS = bytes(BLOCK)
 RECORD = 20 * BLOCK
+XATTR = b"SCHILY.xattr."  # the one record that an empty value does not take away
 
 _PACKED = {
     b"\x1f\x8b": "gzip",
@@ -201,7 +202,8 @@ class TarReader:
         if self.global_records:
             records = {**self.global_records, **records}
         if records:
-            self._put_records(member, {key: records[key] for key in records if records[key]})
+            self._put_records(member, {
+                key: value for key, value in records.items() if value or key.startswith(XATTR)})
         if member.size < 0:
             raise ValueError("size")
         member.stored = member.size if kind not in b"123456" or kind == b"" else 0

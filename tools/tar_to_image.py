@@ -29,7 +29,7 @@ import tempfile
 from collections.abc import Iterator
 from dataclasses import dataclass
 
-from tar_stream import Member, TarReader
+from tar_stream import XATTR, Member, TarReader
 from tree_image import (
     FACT_LETTERS, KIND_NAMES, LARGEST_ID, LARGEST_NUMBER, LARGEST_STAMP, LONGEST_FACT,
     LONGEST_IMAGE, LONGEST_TARGET, MAGIC, NODE_LETTERS, AclPart, Marker, Node, Notices, Trouble,
@@ -41,7 +41,6 @@ INLINE_LIMIT = 65536
 NOBODY = 65534
 KINDS = {b"0": "f", b"\0": "f", b"7": "f", b"S": "f", b"": "f", b"1": "f", b"2": "l", b"3": "c",
          b"4": "b", b"5": "d", b"D": "d", b"6": "p"}
-XATTR = b"SCHILY.xattr."
 LIBARCHIVE_XATTR = b"LIBARCHIVE.xattr."
 SYSTEM_ACLS = {
     b"system.posix_acl_access": b"SCHILY.acl.access",

@@ -16,7 +16,7 @@ Version 1, without the columns ATTRS and LETTERS, is read as well.
 import binascii
 import re
 import sys
-from collections.abc import Iterable, Iterator
+from collections.abc import Callable, Iterable, Iterator
 from dataclasses import dataclass, field
 
 FACT_LETTERS = "ABHMWablmovw"
@@ -313,16 +313,15 @@ _FACT = re.compile(rb"fact ([A-Za-z]) (\S+)\n\Z")
 
 
 class ImageReader:
-    """Reads an image line by line: `notes` and `facts` first, then `nodes`."""
+    """Reads an image line by line: messages, which `say` is given, and `facts`; then `nodes`."""
 
-    def __init__(self, lines: Iterable[bytes]) -> None:
+    def __init__(self, lines: Iterable[bytes], say: Callable[[str], None] | None = None) -> None:
         self._lines = iter(lines)
         self._number = 0
         self._line = b""
         self._version = 2
-        self.notes: list[str] = []
         self.facts: dict[str, bytes] = {}
-        self._read_head()
+        self._read_head(say or (lambda message: None))
 
     def _fault(self, name: str) -> Trouble:
         return Trouble(f"bad image at line {self._number}: {name}")
@@ -334,9 +333,9 @@ class ImageReader:
             raise self._fault("Truncated")
         return self._line
 
-    def _read_head(self) -> None:
+    def _read_head(self, say: Callable[[str], None]) -> None:
         while self._next().startswith(b": "):
-            self.notes.append(self._line[2:-1].decode(errors="backslashreplace"))
+            say(self._line[:-1].decode(errors="backslashreplace"))
         if self._line not in (b"tree-image 1\n", b"tree-image 2\n"):
             raise self._fault("BadHeader")
         self._version = int(self._line[11:12])
