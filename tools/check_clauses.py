@@ -185,12 +185,17 @@ class Document:
         """Clauses, each with the record that it says and parts of that; whether there is a law."""
         record: str | None = None
         inside = False
-        for token, before in tokens_of(part):
+        tokens = tokens_of(part)
+        for (token, before), (crate, between) in zip(tokens, [*tokens[1:], ("", "")]):
             if ")" in before and ":" not in before:
                 record, inside = None, False
-            inside = inside or ":" in before or "(" in before
+            inside = inside or before.strip() in (":", "):") or "(" in before
             first = token.split()[0]
-            if not NAME.match(first) or first == "ensures":
+            if not NAME.match(first) or first == "ensures" or first in self.code.crates:
+                continue
+            if between == " of " and (called := self.code.calls(f"{crate}::{first}", None)):
+                found.append(called)
+                inside = False
                 continue
             self.checked += 1
             if first[0].isupper():
