@@ -263,6 +263,12 @@ class TarReader:
         member.stored -= len(lines)
         return [int(text) for text in lines.split(b"\n")[1:wanted]]
 
+    def whole(self, member: Member) -> bytes:
+        """The contents of the present member at once."""
+        if member.segments is None:
+            return self.take(member.size)
+        return b"".join(self.contents(member))
+
     def contents(self, member: Member) -> Iterator[bytes]:
         """The contents of the present member, in pieces."""
         if member.segments is None:
@@ -330,19 +336,16 @@ def record(key: bytes, value: bytes) -> bytes:
     return str(length).encode() + rest
 
 
-def _field(number: int, digits: int) -> bytes:
-    """A number in octal digits; 0 where a record says it."""
-    if number >= 8**digits:
-        number = 0
-    return b"%0*o\0" % (digits, number)
+_NARROW, _WIDE = 8**7, 8**11
+_NO_OWNER_NAMES = bytes(64)
 
 
 def _block(member: Member, prefix: bytes) -> bytes:
-    block = b"%s%s%s%s%s%s        %s%sustar\x0000%s%s%s%s" % (
-        member.name.ljust(100, b"\0"), _field(member.mode, 7), _field(member.uid, 7),
-        _field(member.gid, 7), _field(member.size, 11), _field(member.seconds, 11),
-        member.kind, member.target.ljust(100, b"\0"), bytes(64),
-        _field(member.major, 7), _field(member.minor, 7), prefix.ljust(167, b"\0"),
+    """The header of a member whose fields have room for it."""
+    block = b"%s%07o\0%07o\0%07o\0%011o\0%011o\0        %s%sustar\x0000%s%07o\0%07o\0%s" % (
+        member.name.ljust(100, b"\0"), member.mode, member.uid, member.gid, member.size,
+        member.seconds, member.kind, member.target.ljust(100, b"\0"), _NO_OWNER_NAMES,
+        member.major, member.minor, prefix.ljust(167, b"\0"),
     )
     return b"%s%06o\0 %s" % (block[:148], sum(block), block[156:])
 
@@ -357,8 +360,19 @@ def _split(name: bytes) -> tuple[bytes, bytes] | None:
     return name[:at], name[at + 1:]
 
 
+def _has_room(member: Member) -> bool:
+    """Whether a header holds a member without any record."""
+    return not (
+        member.records or len(member.name) > 100 or len(member.target) > 100
+        or max(member.uid, member.gid, member.major, member.minor) >= _NARROW
+        or max(member.size, member.seconds) >= _WIDE
+    )
+
+
 def member_head(member: Member) -> bytes:
     """The header of a member, after one with records where they are needed."""
+    if _has_room(member):
+        return _block(member, b"")
     records = dict(member.records)
     fields = _split(member.name)
     if fields is None:
@@ -366,14 +380,17 @@ def member_head(member: Member) -> bytes:
         fields = b"", member.name[:100]
     if len(member.target) > 100:
         records[b"linkpath"] = member.target
-    for key, name in _NUMBER_RECORDS:
-        if getattr(member, name) >= 8 ** (11 if name == "size" else 7):
-            records[key] = b"%d" % getattr(member, name)
     prefix, name = fields
     short = Member(
-        name, member.kind, member.mode, member.uid, member.gid, member.size, member.seconds,
+        name, member.kind, member.mode, member.uid, member.gid, member.size,
+        member.seconds if member.seconds < _WIDE else 0,
         member.target[:100], member.major, member.minor,
     )
+    for key, field_name in _NUMBER_RECORDS:
+        number = getattr(member, field_name)
+        if number >= (_WIDE if field_name == "size" else _NARROW):
+            records[key] = b"%d" % number
+            setattr(short, field_name, 0)
     return (_records_head(name, records) if records else b"") + _block(short, prefix)
 
 

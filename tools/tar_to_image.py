@@ -32,7 +32,7 @@ from dataclasses import dataclass
 from tar_stream import XATTR, Member, TarReader
 from tree_image import (
     FACT_LETTERS, KIND_NAMES, LARGEST_ID, LARGEST_NUMBER, LARGEST_STAMP, LONGEST_FACT,
-    LONGEST_IMAGE, LONGEST_TARGET, MAGIC, NODE_LETTERS, AclPart, Marker, Node, Notices, Trouble,
+    LONGEST_IMAGE, LONGEST_NAME, LONGEST_TARGET, MAGIC, NODE_LETTERS, AclPart, Marker, Node, Notices, Trouble,
     attr_fault, head_lines, is_configuration, name_fault, node_line, parent_of, path_key,
     perm_bits, print_acl, printed, printed_path,
 )
@@ -135,12 +135,13 @@ class Builder:
 
     def _path(self, name: bytes) -> bytes | None:
         """The path of a member's name."""
-        names = [part for part in name.split(b"/") if part not in (b"", b".")]
-        for part in names:
+        names = [part for part in name.split(b"/") if part and part != b"."]
+        path = b"/" + b"/".join(names)
+        for part in names if len(path) > LONGEST_NAME or b".." in names or b"\0" in path else ():
             if fault := name_fault(part):
-                self.warn(b"/" + b"/".join(names), f"{fault}, left out")
+                self.warn(path, f"{fault}, left out")
                 return None
-        return b"/" + b"/".join(names)
+        return path
 
     def _plain_node(self, kind: str, path: bytes, member: Member) -> Entry:
         modify = self._stamp(path, member.records.get(b"mtime"), member.seconds * 1000000)
@@ -201,7 +202,7 @@ class Builder:
         """Take over contents, inline or by a marker."""
         keeps = is_configuration(node.path) or node.path in self.inline
         if member.size <= self.limit or keeps:
-            data = b"".join(reader.contents(member))
+            data = reader.whole(member)
             if not data.startswith(MAGIC):
                 return self.store.add(data)
             if keeps:

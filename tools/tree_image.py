@@ -308,6 +308,7 @@ _NODE = re.compile(
     + _N + rb"," + _N + rb"," + _N + rb"," + _N
     + rb" (\S+)(?: (\S+) (\S+))? (\S+)\n\Z"
 )
+_PLAIN_PATH = re.compile(rb"(?:/(?!\.{1,2}(?:/|\Z))[!-.0-\[\]-~]{1,255})+\Z")
 _DEVICE = re.compile(_N + rb":" + _N + rb"\Z")
 _FACT = re.compile(rb"fact ([A-Za-z]) (\S+)\n\Z")
 
@@ -431,7 +432,7 @@ def _check_node(node: Node) -> None:
 
 def _read_path(text: bytes) -> bytes:
     """The path that a text prints."""
-    if text == b"/":
+    if text == b"/" or _PLAIN_PATH.match(text):
         return text
     names = [unprinted(name) for name in text.split(b"/")[1:]]
     if any(name is None or name_fault(name) for name in names):
