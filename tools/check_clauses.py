@@ -1,0 +1,334 @@
+#!/usr/bin/env python3
+"""Checks that each clause that a document names stands on the call that it names.
+
+Read are README.md, docs/PROMISES.md and crates/*/README.md: tables with a
+column `call` and one of `clause`, `clauses` or `what .. say`, and items of
+lists that begin with calls. In a column of clauses each name must be a clause
+(`ensures NAME {`) of one of the row's calls, and each call must have one of
+them; a name after a record (`IsStopped`: `again`) must be a part of it; a law
+is a function of its name. In a text, `NAME`: at the beginning of a part is a
+clause. What is no such name is said by no one and is not checked.
+
+    check_clauses.py [TOP]      status 1 where a name is missing
+"""
+
+import re
+import sys
+from dataclasses import dataclass, field
+from pathlib import Path
+
+FUNCTION = re.compile(r"^(\s*)(?:pub(?:\([a-z]+\))? )?(?:const )?(?:unsafe )?fn (\w+)")
+OWNER = re.compile(r"^(?:pub(?:\([a-z]+\))? )?(impl|trait)\b(.*)")
+ENSURES = re.compile(r"\bensures(?: (\w+))? \{")
+RECORD = re.compile(r"^(?:abbrev |def )?(?:pub )?(?:record|data) (?:pub )?(\w+)")
+FIELD = re.compile(r"^\s+(?:pub )?([a-z]\w*(?: [a-z]\w*)*) :")
+TOKEN = re.compile(r"`([^`]+)`")
+NAME = re.compile(r"[A-Za-z_]\w*\Z")
+SAME = "the same"
+ONE_CLAUSE = ("its one clause", "the one `ensures`")
+LAWS = re.compile(r"\b(?:a law|laws)\b")
+ALL_CALLS = re.compile(r"each call|every call|the readers")
+
+
+@dataclass
+class Function:
+    """A function of a crate, with the names of its clauses; None for one without a name."""
+
+    crate: str
+    owners: frozenset[str]
+    name: str
+    clauses: list[str | None] = field(default_factory=list)
+
+
+class Code:
+    """Functions, records and names of all crates."""
+
+    def __init__(self, top: Path) -> None:
+        self.functions: dict[str, list[Function]] = {}
+        self.records: dict[str, set[str]] = {}
+        self.words: set[str] = set()
+        self.crates = {crate.name for crate in (top / "crates").iterdir()}
+        for crate in sorted((top / "crates").iterdir()):
+            for path in sorted(crate.rglob("*.rt")):
+                if "out" not in path.relative_to(crate).parts:
+                    self._read_source(crate.name, path.read_text())
+            for path in sorted(crate.rglob("*.antt")):
+                if "out" not in path.relative_to(crate).parts:
+                    self._read_definitions(path.read_text())
+
+    def _read_source(self, crate: str, text: str) -> None:
+        self.words.update(re.findall(r"\w+", text))
+        owners: frozenset[str] = frozenset()
+        function = None
+        for line in text.splitlines():
+            if line.startswith("}"):
+                owners = frozenset()
+            if found := OWNER.match(line):
+                owners = frozenset(re.findall(r"\b[A-Z]\w+", found[2]))
+            if found := FUNCTION.match(line):
+                function = Function(crate, owners, found[2])
+                self.functions.setdefault(found[2], []).append(function)
+            for found in ENSURES.finditer(line):
+                if function is not None and not line.lstrip().startswith("//"):
+                    function.clauses.append(found[1])
+
+    def _read_definitions(self, text: str) -> None:
+        self.words.update(re.findall(r"\w+", text))
+        parts: set[str] | None = None
+        for line in text.splitlines():
+            if found := RECORD.match(line):
+                parts = self.records.setdefault(found[1], set())
+            elif parts is not None and (found := FIELD.match(line)):
+                parts.update(found[1].split())
+            elif line and not line[0].isspace() and not line.startswith("--"):
+                parts = None
+
+    def calls(self, text: str, crate: str | None) -> list[Function]:
+        """The functions that a document calls so; its own crate's where it has one."""
+        if " for " in text:
+            trait = text.split(" for ")[0]
+            return [it for them in self.functions.values() for it in them if trait in it.owners]
+        *before, name = text.split("::")
+        found = self.functions.get(name, [])
+        for word in before:
+            found = [it for it in found if word in (it.crate, *it.owners)]
+        own = [it for it in found if it.crate == crate]
+        return own or found
+
+    def stands_anywhere(self, clause: str) -> bool:
+        return any(clause in it.clauses for found in self.functions.values() for it in found)
+
+
+@dataclass(frozen=True)
+class Missing:
+    place: str
+    text: str
+
+    def __str__(self) -> str:
+        return f"{self.place}: {self.text}"
+
+
+class Document:
+    """One document, row by row and item by item."""
+
+    def __init__(self, code: Code, top: Path, path: Path) -> None:
+        self.code = code
+        self.name = str(path.relative_to(top))
+        self.crate = path.parent.name if path.parent.parent.name == "crates" else None
+        self.lines = path.read_text().splitlines()
+        self.missing: list[Missing] = []
+        self.checked = 0
+
+    def miss(self, number: int, text: str) -> None:
+        self.missing.append(Missing(f"{self.name}:{number}", text))
+
+    def check(self) -> None:
+        header: list[str] | None = None
+        calls: list[str] = []
+        for number, line in enumerate(self.lines, 1):
+            if not line.startswith("|"):
+                header = None
+                if line.startswith("- "):
+                    self._check_item(number, line)
+                continue
+            cells = [cell.strip() for cell in line.strip("|").split("|")]
+            if header is None:
+                header, calls = cells, []
+            elif not set(line) <= set("|- :") and "call" in header:
+                calls = self._check_row(number, header, cells, calls)
+
+    # Rows
+
+    def _check_row(self, number: int, header, cells, before: list[str]) -> list[str]:
+        """Check a row; the calls that the next one may call the same."""
+        cell = cells[header.index("call")]
+        calls = call_names(cell)
+        laws = not cell or LAWS.search(f"{cell} {cells[-1]}") is not None
+        if cell == SAME or not calls and not laws and not ALL_CALLS.search(cell):
+            calls = before
+        for title, text in zip(header, cells):
+            if title in ("clause", "clauses"):
+                for names, part in pairs_of(cell, calls, text):
+                    self._check_clauses(number, names, part, laws, ALL_CALLS.search(cell) is not None)
+            elif title.startswith("what") and title != "what is proved":
+                self._check_text(number, calls, text)
+        return calls
+
+    def _found(self, number: int, calls: list[str]) -> list[list[Function]]:
+        found = []
+        for call in calls:
+            functions = self.code.calls(call, self.crate)
+            if not functions and not call[0].isupper() and call not in self.code.crates:
+                self.miss(number, f"no call `{call}`")
+            if functions:
+                found.append(functions)
+        return found
+
+    def _check_clauses(self, number: int, calls: list[str], text: str, laws: bool, anywhere: bool) -> None:
+        found = self._found(number, calls)
+        if text.strip() in ONE_CLAUSE:
+            for functions in found:
+                self.checked += 1
+                if not any(len(it.clauses) == 1 for it in functions):
+                    self.miss(number, f"`{functions[0].name}` has not one clause")
+            return
+        named: set[str] = set()
+        for part in text.split(";"):
+            laws |= self._check_part(number, found, part, laws, anywhere, named)
+        for functions in found:
+            standing = {it for function in functions for it in function.clauses}
+            if named and not laws and not standing & (named | {None}):
+                self.miss(number, f"`{functions[0].name}` has none of the clauses "
+                          + ", ".join(f"`{it}`" for it in sorted(named)))
+
+    def _check_part(self, number, found, part: str, laws: bool, anywhere: bool, named: set[str]) -> bool:
+        """Clauses, each with the record that it says and parts of that; whether there is a law."""
+        record: str | None = None
+        inside = False
+        tokens = tokens_of(part)
+        for (token, before), (crate, between) in zip(tokens, [*tokens[1:], ("", "")]):
+            if ")" in before and ":" not in before:
+                record, inside = None, False
+            inside = inside or before.strip() in (":", "):") or "(" in before
+            first = token.split()[0]
+            if not NAME.match(first) or first == "ensures" or first in self.code.crates:
+                continue
+            if between == " of " and (called := self.code.calls(f"{crate}::{first}", None)):
+                found.append(called)
+                inside = False
+                continue
+            self.checked += 1
+            if first[0].isupper():
+                record = first
+                if first not in self.code.words:
+                    self.miss(number, f"no definition `{first}`")
+            elif inside:
+                self._check_field(number, record, first)
+            elif not self._is_clause(found, first, named):
+                if self._is_law(found, first, laws):
+                    laws = True
+                elif not (anywhere and self.code.stands_anywhere(first)):
+                    calls = ", ".join(f"`{it[0].name}`" for it in found) or "any call"
+                    self.miss(number, f"no clause `{first}` on {calls}")
+        return laws
+
+    def _check_field(self, number: int, record: str | None, name: str) -> None:
+        records = self.code.records
+        if record is None:
+            fine = any(name in parts for parts in records.values())
+        else:
+            fine = name in records.get(record, ())
+        if not fine:
+            self.miss(number, f"no part `{name}` of " + (f"`{record}`" if record else "any record"))
+
+    @staticmethod
+    def _is_clause(found, name: str, named: set[str]) -> bool:
+        fine = any(name in function.clauses for functions in found for function in functions)
+        if fine:
+            named.add(name)
+        return fine
+
+    def _is_law(self, found, name: str, laws: bool) -> bool:
+        """Whether a name is a law, where laws are spoken of or it is of the crate of a call."""
+        crates = {function.crate for functions in found for function in functions}
+        return any(laws or it.crate in crates for it in self.code.functions.get(name, ()))
+
+    # Texts
+
+    def _check_text(self, number: int, calls: list[str], text: str) -> None:
+        """Names at the beginning of a part of a text, with a colon behind them, are clauses."""
+        found = self._found(number, calls)
+        for part in re.split(r"[;.] ", text):
+            head = re.match(r"\s*((?:`\w+`(?:, | and )?)+):", part)
+            for name in TOKEN.findall(head[1]) if head and found else ():
+                self.checked += 1
+                if name[0].isupper():
+                    fine = name in self.code.words
+                else:
+                    fine = self._is_clause(found, name, set()) or any(
+                        name == it.name for functions in found for it in functions)
+                if not fine:
+                    self.miss(number, f"no clause `{name}` on "
+                              + ", ".join(f"`{it[0].name}`" for it in found))
+
+    def _check_item(self, number: int, line: str) -> None:
+        """An item that begins with calls: names in parentheses are clauses or other names."""
+        text = " ".join([line, *self._rest_of_item(number)])
+        head = re.match(r"- (?:\*\*[^*]*\*\* \()?((?:`[\w:]+`(?:, | and )?)+)", text)
+        if head is None:
+            return
+        calls = [call for call in TOKEN.findall(head[1]) if self.code.calls(call, self.crate)]
+        found = [self.code.calls(call, self.crate) for call in calls]
+        for name in re.findall(r"[(;] ?`(\w+)`(?=[:,)])", text) if found else ():
+            self.checked += 1
+            if not self._is_clause(found, name, set()) and name not in self.code.words:
+                self.miss(number, f"no clause `{name}` on " + ", ".join(f"`{it}`" for it in calls))
+            elif not self._is_clause(found, name, set()) and re.search(rf"\(`{name}`: ", text):
+                if name not in self.code.functions and not self.code.stands_anywhere(name):
+                    self.miss(number, f"no clause `{name}`")
+
+    def _rest_of_item(self, number: int) -> list[str]:
+        rest = []
+        for line in self.lines[number:]:
+            if not line.startswith("  "):
+                break
+            rest.append(line.strip())
+        return rest
+
+
+def call_names(cell: str) -> list[str]:
+    """The calls of a cell; a method that follows another is of the same type."""
+    names = []
+    owner = ""
+    for token in TOKEN.findall(cell):
+        if not re.fullmatch(r"[\w:]+|\w+ for \w+", token):
+            continue
+        *before, name = token.split("::")
+        if before and before[-1][:1].isupper():
+            owner = "::".join(before) + "::"
+        elif before:
+            owner = ""
+        elif owner and name[:1].islower():
+            token = owner + name
+        names.append(token)
+    return names
+
+
+def pairs_of(cell: str, calls: list[str], text: str) -> list[tuple[list[str], str]]:
+    """Calls with their clauses: part by part where both cells have as many, else all with all."""
+    left, right = cell.split(";"), text.split(";")
+    if len(left) == len(right) > 1:
+        return [(call_names(names), part) for names, part in zip(left, right)]
+    return [(calls, text)]
+
+
+def tokens_of(text: str) -> list[tuple[str, str]]:
+    """Each token with the text between it and the one before."""
+    tokens = []
+    end = 0
+    for found in TOKEN.finditer(text):
+        tokens.append((found[1], text[end:found.start()]))
+        end = found.end()
+    return tokens
+
+
+def main(words: list[str]) -> int:
+    top = Path(words[0] if words else Path(__file__).resolve().parent.parent).resolve()
+    code = Code(top)
+    paths = [top / "README.md", top / "docs/PROMISES.md", *sorted(top.glob("crates/*/README.md"))]
+    checked = 0
+    missing: list[Missing] = []
+    for path in paths:
+        if path.exists():
+            document = Document(code, top, path)
+            document.check()
+            checked += document.checked
+            missing += document.missing
+    for it in missing:
+        print(it)
+    print(f"clauses: {checked} names checked, {len(missing)} missing")
+    return 1 if missing or not checked else 0
+
+
+if __name__ == "__main__":
+    sys.exit(main(sys.argv[1:]))
