@@ -1,3 +1,4 @@
 pub mod FrameLaws
 pub mod PhaseLaws
 pub mod SweptLaws
+pub mod WayLaws

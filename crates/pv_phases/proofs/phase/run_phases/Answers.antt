@@ -9,6 +9,7 @@ use Rattle.pv_phases.specs.declared.phase.Phase.TheVariants.{Remove}
 use Rattle.pv_phases.proofs.FrameLaws.{phases_framed}
 use Rattle.pv_phases.proofs.PhaseLaws.{failed_before, phases_start, phases_part, phases_acted, phases_stopped, phases_mended, phases_next, phases_whole, phases_said, phases_told, phases_ended, phases_done}
 use Rattle.pv_phases.proofs.SweptLaws.{phases_swept}
+use Rattle.pv_phases.proofs.WayLaws.{phases_between, phases_give}
 use Rattle.pv_phases.proofs.phase.run_phases.Goals as goal
 
 pub loop-phase-init : goal.loop-phase-init
@@ -121,4 +122,36 @@ returns-clause-framed g c =
     let t = g.T.Tree.state c.args.tree.now in
     phases_framed c.args.table.now c.requires.lines c.args.now c.args.phases.now (IsStepOfSome (phases_course c.args.table.now c.args.now) c.args.phases.now t) t
     (g.T.Tree.steps c.args.tree.now) (g.T.Tree.state c.loop-phase.tree) (g.T.Tree.steps c.loop-phase.tree) c.look-root.ensures.tree
+    c.loop-phase.invariant.going.acted.ran
+
+pub returns-in_err-one-clause-between : goal.returns-in_err-one-clause-between
+returns-in_err-one-clause-between g c =
+    let moves : Moves g.T.Tree = record { stays = g.met.T.Tree.reaches_self; goes_on = g.met.T.Tree.reaches_on; never_falls = g.met.T.Tree.never_falls } in
+    let i = c.loop-phase.phase-index in
+    let phase : Phase = get_or c.args.phases.now i Remove in
+    let is : phase ≡ get_or c.args.phases.now i phase = get_or_default c.args.phases.now i Remove phase c.loop-phase-test.true in
+    phases_between c.args.table.now c.requires.lines c.args.now (g.T.Tree.state c.args.tree.now)
+    (g.T.Tree.steps c.args.tree.now) (g.T.Tree.state c.do_phase.new.tree) (g.T.Tree.steps c.do_phase.new.tree) c.look-root.ensures.tree c.args.phases.now
+    (phases_acted g.T.Tree moves c.args.table.now c.args.now c.args.phases.now c.args.tree.now c.args.messages.now i phase c.loop-phase-test.true is c.loop-phase.carried c.loop-phase.tree c.loop-phase.messages c.loop-phase.invariant c.do_phase.ensures.acted).ran
+
+pub returns-clause-between : goal.returns-clause-between
+returns-clause-between g c =
+    phases_between c.args.table.now c.requires.lines c.args.now (g.T.Tree.state c.args.tree.now)
+    (g.T.Tree.steps c.args.tree.now) (g.T.Tree.state c.loop-phase.tree) (g.T.Tree.steps c.loop-phase.tree) c.look-root.ensures.tree c.args.phases.now
+    c.loop-phase.invariant.going.acted.ran
+
+pub returns-in_err-one-clause-gives : goal.returns-in_err-one-clause-gives
+returns-in_err-one-clause-gives g c =
+    let moves : Moves g.T.Tree = record { stays = g.met.T.Tree.reaches_self; goes_on = g.met.T.Tree.reaches_on; never_falls = g.met.T.Tree.never_falls } in
+    let i = c.loop-phase.phase-index in
+    let phase : Phase = get_or c.args.phases.now i Remove in
+    let is : phase ≡ get_or c.args.phases.now i phase = get_or_default c.args.phases.now i Remove phase c.loop-phase-test.true in
+    phases_give c.args.table.now c.requires.lines c.args.now (g.T.Tree.state c.args.tree.now)
+    (g.T.Tree.steps c.args.tree.now) (g.T.Tree.state c.do_phase.new.tree) (g.T.Tree.steps c.do_phase.new.tree) c.look-root.ensures.tree c.args.phases.now
+    (phases_acted g.T.Tree moves c.args.table.now c.args.now c.args.phases.now c.args.tree.now c.args.messages.now i phase c.loop-phase-test.true is c.loop-phase.carried c.loop-phase.tree c.loop-phase.messages c.loop-phase.invariant c.do_phase.ensures.acted).ran
+
+pub returns-clause-gives : goal.returns-clause-gives
+returns-clause-gives g c =
+    phases_give c.args.table.now c.requires.lines c.args.now (g.T.Tree.state c.args.tree.now)
+    (g.T.Tree.steps c.args.tree.now) (g.T.Tree.state c.loop-phase.tree) (g.T.Tree.steps c.loop-phase.tree) c.look-root.ensures.tree c.args.phases.now
     c.loop-phase.invariant.going.acted.ran
