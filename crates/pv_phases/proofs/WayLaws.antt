@@ -1,37 +1,46 @@
 -- The way of one phase alone is its own, so what holds of creating holds of the one phase.
-use Rattle.std.specs.Prelude.{ℕ, List, [], ◌∷◌, length, drop}
-use Rattle.std.proofs.Common.{inl, inr}
+use Rattle.std.specs.Prelude.{◌≡◌, ◌⊎◌, ℕ, false, List, [], ◌∷◌, length, take, drop, fold, slice_get, Option, Some, None}
+use Rattle.std.specs.FinMap as fin
+use Rattle.std.proofs.Common.{refl, sym, ap, subst, ◌∙◌, inl, inr}
+use Rattle.std.proofs.Math.Seq.{drop-length, take-nil}
 use Rattle.std.specs.List.{AllByRecursion}
 use Rattle.pv_create.proofs.CopyBridge.{between}
 use Rattle.pv_create.proofs.StepLaws.{given}
+use Rattle.pv_create.specs.OnTheWay.{IsGiven}
 use Rattle.pv_create.specs.Ways.{lines_course}
 use Rattle.pv_doing.specs.Courses.{Course, Partway, IsStepOfSome}
+use Rattle.pv_dress.specs.declared.bare.Bare.{Bare}
+use Rattle.pv_dress.specs.Nodes.{bares_of}
+use Rattle.pv_laws.specs.Between.{IsAtLine, IsBetween, IsOnTheWay}
+use Rattle.pv_laws.specs.Moments.{Agree}
 use Rattle.pv_lines.specs.declared.line.Line.{Line}
 use Rattle.pv_lines.specs.Lines.{IsLine}
+use Rattle.pv_path.specs.Paths.{Path, has_staging}
 use Rattle.pv_steps.specs.declared.step.Step.{Step}
-use Rattle.pv_steps.specs.Runs.{Ran}
+use Rattle.pv_steps.specs.Runs.{after_all, Ran}
 use Rattle.pv_steps.specs.Same.{Same}
-use Rattle.pv_steps.specs.Trees.{Files, IsTree}
+use Rattle.pv_steps.specs.Trees.{Files, IsTree, places}
 use Rattle.pv_steps.proofs.RunLaws.{ran_weaken}
 use Rattle.pv_table.specs.Active.{in_create_order}
 use Rattle.pv_table.specs.Created.{after_each}
+use Rattle.pv_table.specs.Pointwise.{Bares, pointwise_after, state}
 use Rattle.pv_phases.specs.OnTheWay.{GiveBy, IsBetweenBy}
 use Rattle.pv_phases.specs.Phases.{phases_course}
 use Rattle.pv_phases.specs.declared.phase.Phase.{Phase}
 use Rattle.pv_phases.specs.declared.phase.Phase.TheVariants.{Remove, Clean, Create, Purge}
 
 -- what is the same as all done is on the way
-way_done : {A : Type 0} (c : Course A) (xs : List A) (t u : Files) → Same (after_each c.whole xs t) u → Partway c xs t u
+pub way_done : {A : Type 0} (c : Course A) (xs : List A) (t u : Files) → Same (after_each c.whole xs t) u → Partway c xs t u
 way_done c [] t u same = same
 way_done c (x ∷ xs) t u same = inr (way_done c xs (c.whole.after x t) u same)
 
 -- the way of creating alone is that of its lines
-create_way : (lines : List Line) (now : ℕ) (t u : Files) → Partway (phases_course lines now) (Create ∷ []) t u → Partway (lines_course now) (in_create_order lines) t u
+pub create_way : (lines : List Line) (now : ℕ) (t u : Files) → Partway (phases_course lines now) (Create ∷ []) t u → Partway (lines_course now) (in_create_order lines) t u
 create_way lines now t u (inl way) = way
 create_way lines now t u (inr same) = way_done (lines_course now) (in_create_order lines) t u same
 
 -- a step of one phase alone is one of its own
-own_step : (c : Course Phase) (phase : Phase) (t : Files) (step : Step) → IsStepOfSome c (phase ∷ []) t step → c.steps phase t step
+pub own_step : (c : Course Phase) (phase : Phase) (t : Files) (step : Step) → IsStepOfSome c (phase ∷ []) t step → c.steps phase t step
 own_step c phase t step (inl h) = h
 own_step c phase t step (inr none) = absurd none
 
@@ -59,3 +68,49 @@ module _ (lines : List Line) (are : AllByRecursion IsLine lines) (now : ℕ) (t 
   phases_give (Remove ∷ phases) run = tt
   phases_give (Clean ∷ phases) run = tt
   phases_give (Purge ∷ phases) run = tt
+
+-- ---- nothing done
+
+-- before the first line each path is as it was
+way_begins : (lines : List Line) (s : Bares) (t : Files) → Agree s t → IsOnTheWay lines s t
+way_begins lines s t agree = by (in_create_order lines) refl
+  where
+    as_it_was : (after : Bares) (line : Line) (q : Path) → has_staging q ≡ false → IsBetween line s after q (bares_of (places t) q)
+    as_it_was after line q plain = at (bares_of (places t) q) refl
+      where
+        at : (here : Option Bare) → bares_of (places t) q ≡ here → IsBetween line s after q here
+        at None e = IsBetween.absent refl (inl (agree q plain ∙ e))
+        at (Some x) e = IsBetween.akin x x refl (inl (agree q plain ∙ e)) (record { kind = refl; uid = refl })
+
+    by : (order : List Line) → in_create_order lines ≡ order → IsOnTheWay lines s t
+    by [] e = inl (λ q plain. ap (λ (xs : List Line). fin.get (fold pointwise_after s (take (length xs) xs)) q) e ∙ agree q plain)
+    by (line ∷ rest) e = inr (record {
+      k = 0;
+      line = line;
+      at = ap (λ (xs : List Line). slice_get xs 0) e;
+      between = λ q plain. subst (λ (before : Bares). IsBetween line before (state lines 1 s) q (bares_of (places t) q)) (sym none) (as_it_was (state lines 1 s) line q plain);
+    })
+      where
+        none : state lines 0 s ≡ s
+        none = ap (λ (xs : List Line). fold pointwise_after s (take 0 xs)) e
+
+module _ (lines : List Line) (now : ℕ) (t : Files) (h : List Step) where
+  create_none : (s : Bares) → Agree s t → (n : ℕ) → IsOnTheWay lines s (after_all t (take n (drop (length h) h)) now)
+  create_none s agree n = subst (λ (steps : List Step). IsOnTheWay lines s (after_all t steps now)) (sym (ap (take n) (drop-length h) ∙ take-nil n)) (way_begins lines s t agree)
+
+  -- a run that has done nothing is where it began
+  pub none_between : (phases : List Phase) → IsBetweenBy phases lines now t (drop (length h) h)
+  none_between (Create ∷ []) = λ n s repeatable quiet agree. create_none s agree n
+  none_between [] = tt
+  none_between (Create ∷ next ∷ phases) = tt
+  none_between (Remove ∷ phases) = tt
+  none_between (Clean ∷ phases) = tt
+  none_between (Purge ∷ phases) = tt
+
+  pub none_give : (phases : List Phase) → GiveBy phases lines now t (drop (length h) h)
+  none_give (Create ∷ []) = λ s repeatable quiet agree. subst (AllByRecursion (IsGiven lines s)) (sym (drop-length h)) tt
+  none_give [] = tt
+  none_give (Create ∷ next ∷ phases) = tt
+  none_give (Remove ∷ phases) = tt
+  none_give (Clean ∷ phases) = tt
+  none_give (Purge ∷ phases) = tt
