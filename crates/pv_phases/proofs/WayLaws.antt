@@ -1,5 +1,5 @@
 -- The way of one phase alone is its own, so what holds of creating holds of the one phase.
-use Rattle.std.specs.Prelude.{◌≡◌, ◌⊎◌, ℕ, false, List, [], ◌∷◌, length, take, drop, fold, slice_get, Option, Some, None}
+use Rattle.std.specs.Prelude.{◌≡◌, ℕ, false, List, [], ◌∷◌, length, take, drop, fold, slice_get, Option, Some, None}
 use Rattle.std.specs.FinMap as fin
 use Rattle.std.proofs.Common.{refl, sym, ap, subst, ◌∙◌, inl, inr}
 use Rattle.std.proofs.Math.Seq.{drop-length, take-nil}
@@ -11,7 +11,7 @@ use Rattle.pv_create.specs.Ways.{lines_course}
 use Rattle.pv_doing.specs.Courses.{Course, Partway, IsStepOfSome}
 use Rattle.pv_dress.specs.declared.bare.Bare.{Bare}
 use Rattle.pv_dress.specs.Nodes.{bares_of}
-use Rattle.pv_laws.specs.Between.{IsAtLine, IsBetween, IsOnTheWay}
+use Rattle.pv_laws.specs.Between.{IsBetween, IsOnTheWay}
 use Rattle.pv_laws.specs.Moments.{Agree}
 use Rattle.pv_lines.specs.declared.line.Line.{Line}
 use Rattle.pv_lines.specs.Lines.{IsLine}
