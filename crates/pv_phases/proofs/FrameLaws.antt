@@ -48,7 +48,7 @@ module _ (goes : Path → Bool) (change : Object → Object) (keeps : (o : Objec
   gone_bare : goes q ≡ true → bares_of (places left) q ≡ None
   gone_bare h = bares_of-same (places left) (λ p. None) q (bares-without goes change keeps t q ∙ ap (λ b. cond b None (bares (places t) q)) h)
 
-  kept_bare : goes q ≡ false → bares_of (places left) q ≡ bares_of (places t) q
+  pub kept_bare : goes q ≡ false → bares_of (places left) q ≡ bares_of (places t) q
   kept_bare h = bares_of-same (places left) (places t) q (bares-without goes change keeps t q ∙ ap (λ b. cond b None (bares (places t) q)) h)
 
   kept_there : is_some (bares_of (places left) q) ≡ true → goes q ≡ false
@@ -78,7 +78,7 @@ module _ (test : Path → Bool) (change : Object → Object) (keeps : (o : Objec
 
 module _ (lines : List Line) (are : AllByRecursion IsLine lines) (now : ℕ) where
   -- it leaves the shape of a tree
-  left_shaped : (phase : Phase) (t : Files) → IsShaped (bares_of (places t)) → IsShaped (bares_of (places (left_by lines now phase t)))
+  pub left_shaped : (phase : Phase) (t : Files) → IsShaped (bares_of (places t)) → IsShaped (bares_of (places (left_by lines now phase t)))
   left_shaped Remove t shape = without_shaped (λ q. list_any (λ line. covers line (places t) q) lines) (modified now) (λ o. refl) t shape
   left_shaped Clean t shape =
       subst (λ (goes : Path → Bool). IsShaped (bares_of (places (files_without goes (changed now) t)))) (λ i q. goes_aged lines now t q i)

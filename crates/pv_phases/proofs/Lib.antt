@@ -1,4 +1,5 @@
 pub mod FrameLaws
+pub mod InputLaws
 pub mod PhaseLaws
 pub mod SweptLaws
 pub mod WayLaws
