@@ -98,8 +98,8 @@ IsMendedIn Phases options facts moment t steps = IsMendedBy (phases_of options) 
 IsMendedIn Report options facts moment t steps = steps ≡ []
 IsMendedIn Accounts options facts moment t steps = accounts.IsMended (run_requests options facts t) moment t steps
 
--- of a run of one phase, and of one that makes accounts: the same is read of the tree that it has left, and a second run,
--- which reads its lines there, mends it
+-- the same is read of the tree that it has left; and a second run, which reads its lines there, mends a run of one phase, and
+-- one that makes accounts
 unfoldable pub IsMendedAnewIn : Task → Options → Values → ℕ → Files → List Step → Type 0
 IsMendedAnewIn Phases options facts moment t steps = IsReread options facts moment t steps × IsMendedAnew options facts moment t steps
 IsMendedAnewIn Report options facts moment t steps = ⊤
