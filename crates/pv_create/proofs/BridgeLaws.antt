@@ -4,9 +4,9 @@ use Rattle.std.specs.Prelude.{◌≡◌, ◌≢◌, ◌⊎◌, ℕ, ◌+◌, ◌
 use Rattle.std.proofs.Common.{zero, suc, refl, sym, ap, subst, ◌∙◌, arith, inl, inr}
 use Rattle.std.proofs.Math.Bool.{or-true}
 use Rattle.std.proofs.Math.Seq.{take-append_seam, take-length}
-use Rattle.std.proofs.lemmas.Bool.{and_parts}
+use Rattle.std.proofs.lemmas.Bool.{and_parts, or_parts}
 use Rattle.std.specs.FinMap as fin
-use Rattle.std.specs.List.{list_any, list_all}
+use Rattle.std.specs.List.{list_any, list_all, AllByRecursion}
 use Rattle.pv_acl.specs.declared.line.AclLine.{AclLine}
 use Rattle.pv_acl.specs.declared.line.Entry.{Entry}
 use Rattle.pv_acl.specs.declared.line.How.{How}
@@ -66,7 +66,7 @@ use Rattle.pv_laws.proofs.Making.{is_dir, IsShaped, does_stay, turn_by, IsPlainD
 use Rattle.pv_laws.proofs.Repeated.{first_makes}
 use Rattle.pv_laws.proofs.Sets.{impossible, is_adjustment, IsAsked, IsMaking, line_is_making, asked, sets_adjust, deep_repeatable}
 use Rattle.pv_laws.proofs.Touching.{turn_open, first_turn, touch_point, any_range, kept_any}
-use Rattle.pv_create.specs.Ways.{WayOf, LineWay}
+use Rattle.pv_create.specs.Ways.{WayOf, LineWay, lines_course}
 use Rattle.pv_path.proofs.Tests.{true_not_false}
 
 -- ---- operations, whole and in front parts
@@ -543,3 +543,12 @@ plain_bridge now line t u is shape quiet = by (asks line) refl
         (ap (λ paths. one_is_refused (by_turn now line) paths t) (sym (turns_touch line touching t e)) ∙ quiet)
         (subst (λ (paths : List Path). Partway (touching_course now line touching) paths t u) (turns_touch line touching t e) way)
     by Idle e same = λ q plain. stopping.IsMidway.piece zero (sym (bares_of-same (places t) (places u) q (same q plain)))
+
+-- so at each moment of lines one after the other
+pub plain_ways : (now : ℕ) (lines : List Line) (t u : Files) → AllByRecursion IsPlain lines → IsShaped (bares_of (places t)) → one_is_refused (by_line now) lines t ≡ false → Partway (lines_course now) lines t u → stopping.Partway lines now t u
+plain_ways now [] t u are shape quiet same = same
+plain_ways now (line ∷ lines) t u are shape quiet (inl way) =
+    inl (plain_bridge now line t u are.0 shape (or_parts ((by_line now).is_refused line t) (one_is_refused (by_line now) lines ((by_line now).after line t)) quiet).0 way)
+plain_ways now (line ∷ lines) t u are shape quiet (inr later) =
+    let two = or_parts ((by_line now).is_refused line t) (one_is_refused (by_line now) lines ((by_line now).after line t)) quiet in
+    inr (plain_ways now lines ((by_line now).after line t) u are.1 (line_point now line are.0 t shape two.0).shape two.1 later)

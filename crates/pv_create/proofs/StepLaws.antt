@@ -37,10 +37,11 @@ use Rattle.pv_table.specs.declared.deed.Touching.{Touching}
 use Rattle.pv_table.specs.Active.{in_create_order}
 use Rattle.pv_table.specs.Asked.{operations}
 use Rattle.pv_table.specs.Asking.{asks}
-use Rattle.pv_table.specs.Created.{after_each, one_is_refused, by_turn, by_line}
+use Rattle.pv_table.specs.Created.{after_each, one_is_refused, by_turn, by_line, IsQuiet}
 use Rattle.pv_table.specs.Effects.{carried_out, is_touched, prepare, turn_after, turns}
-use Rattle.pv_table.specs.Pointwise.{after_turn, parent_bare}
+use Rattle.pv_table.specs.Pointwise.{after_turn, parent_bare, Bares}
 use Rattle.pv_table.specs.Reaching.{names, path_in}
+use Rattle.pv_table.specs.Repeatable.{IsRepeatable}
 use Rattle.pv_table.specs.Saying.{found}
 use Rattle.pv_table.specs.Turns.{Turn, View, view_of, single, copied, copy_of, copying_turn, making_turn, has_something, decide}
 use Rattle.pv_adjust.specs.Adjusting.{GivesBytes}
@@ -49,6 +50,7 @@ use Rattle.pv_doing.specs.Courses.{IsStepOfSome}
 use Rattle.pv_make.specs.OnWay.{IsStepOf, turn_at, puts_parents}
 use Rattle.pv_walk.specs.Copying.{GivesBare, Subtree}
 use Rattle.pv_laws.specs.Copying.{turn_of}
+use Rattle.pv_laws.specs.Moments.{Agree}
 use Rattle.pv_laws.proofs.AllPoints.{IsSafe, line_pointed, all_safe, state_after}
 use Rattle.pv_laws.proofs.Copies.{decide_some}
 use Rattle.pv_laws.proofs.CopyShapes.{IsCopyTurn, puts, becomes, leaves, copy_turns}
@@ -71,7 +73,7 @@ published_gives path b (RemoveDir at) h = tt
 published_gives path b (Rename from to) h = tt
 published_gives path b step h = absurd h
 
-removed_gives : (inside : Path → Bool) (b : Bare) (step : Step) → Removes inside step → Gives b step
+pub removed_gives : (inside : Path → Bool) (b : Bare) (step : Step) → Removes inside step → Gives b step
 removed_gives inside b (Unlink at) h = tt
 removed_gives inside b (RemoveDir at) h = tt
 removed_gives inside b step h = absurd h
@@ -408,11 +410,8 @@ lines_left now (line ∷ lines) safe t shape quiet step (inr later) =
     record { k = suc left.k; path = left.path; plain = left.plain; object = left.object; there = left.there; gives = left.gives }
 
 module _ (table : List Line) (are : AllByRecursion IsLine table) where
-  pub given : (P : Files → Type 0) (now : ℕ) (t : Files) (h : List Step) (u : Files) (k : List Step) → IsTree t → Ran P (IsStepOfSome (lines_course now) (in_create_order table) t) now t h u k
-      → GiveWhatLinesLeave table now t (drop (length h) k)
-  given P now t h u k tree run =
-      subst (λ (steps : List Step). GiveWhatLinesLeave table now t steps) (sym (ap (drop (length h)) run.recorded ∙ drop-append_seam h run.steps)) (λ s repeatable quiet agree.
-      all_map (IsStepOfSome (lines_course now) (in_create_order table) t) (IsGiven table s) (λ step g. (
+  pub step_given : (now : ℕ) (t : Files) → IsTree t → (s : Bares) → IsRepeatable table → IsQuiet table now t → Agree s t → (step : Step) → IsStepOfSome (lines_course now) (in_create_order table) t step → IsGiven table s step
+  step_given now t tree s repeatable quiet agree step g =
       let left = lines_left now (in_create_order table) (all_safe table are repeatable) t (tree_shaped (places t) tree) quiet step g in
       record {
         k = left.k;
@@ -420,4 +419,10 @@ module _ (table : List Line) (are : AllByRecursion IsLine table) where
         object = left.object;
         there = state_after table (all_safe table are repeatable) now s t tree quiet agree left.k left.path left.plain ∙ left.there;
         gives = left.gives;
-      })) run.steps run.gives)
+      }
+
+  pub given : (P : Files → Type 0) (now : ℕ) (t : Files) (h : List Step) (u : Files) (k : List Step) → IsTree t → Ran P (IsStepOfSome (lines_course now) (in_create_order table) t) now t h u k
+      → GiveWhatLinesLeave table now t (drop (length h) k)
+  given P now t h u k tree run =
+      subst (λ (steps : List Step). GiveWhatLinesLeave table now t steps) (sym (ap (drop (length h)) run.recorded ∙ drop-append_seam h run.steps)) (λ s repeatable quiet agree.
+      all_map (IsStepOfSome (lines_course now) (in_create_order table) t) (IsGiven table s) (step_given now t tree s repeatable quiet agree) run.steps run.gives)

@@ -1,3 +1,5 @@
+pub mod BootCalls
+pub mod BootLaws
 pub mod FrameLaws
 pub mod InputLaws
 pub mod PhaseLaws

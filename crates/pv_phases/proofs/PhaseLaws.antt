@@ -1,7 +1,8 @@
 -- Laws of phases carried out one after the other: nothing done, one phase more, one that was stopped, and all done.
-use Rattle.std.specs.Prelude.{◌≡◌, ℕ, ◌+◌, ◌<◌, ◌≤◌, ◌^◌, Bool, false, ◌||◌, List, [], ◌∷◌, ◌++◌, length, take, drop, get_or, Result, Ok, Err, IsErrAnd, IsErrOf}
+use Rattle.std.specs.Prelude.{◌≡◌, ⊤, true, ℕ, ◌+◌, ◌<◌, ◌≤◌, ◌^◌, Bool, false, ◌||◌, List, [], ◌∷◌, ◌++◌, length, take, drop, get_or, Result, Ok, Err, IsErrAnd, IsErrOf}
 use Rattle.std.proofs.Common.{zero, suc, refl, sym, ap, subst, ◌∙◌, inl, inr, arith, append_assoc, append-nil}
 use Rattle.std.proofs.Math.Seq.{drop-length, take-nil}
+use Rattle.std.specs.List.{AllByRecursion}
 use Rattle.pv_clean.specs.Cleaning.{IsCleanStep}
 use Rattle.pv_clean.proofs.CleanLaws.{takes_only}
 use Rattle.pv_create.specs.Ways.{lines_course}
@@ -13,10 +14,11 @@ use Rattle.pv_doing.proofs.CourseLaws.{Going, going_start, going_next, none_left
 use Rattle.pv_create.specs.Mended.{IsMended}
 use Rattle.pv_dress.proofs.OperationLaws.{bares-same}
 use Rattle.pv_laws.proofs.Moments.{created_same}
-use Rattle.pv_steps.specs.Runs.{after_all}
+use Rattle.pv_steps.specs.Runs.{after_all, Ran}
 use Rattle.pv_steps.specs.Same.{Same}
 use Rattle.pv_dress.specs.Edits.{Pruned}
 use Rattle.pv_lines.specs.declared.line.Line.{Line}
+use Rattle.pv_lines.specs.Lines.{IsLine}
 use Rattle.pv_remove.proofs.RunLaws.{removal_mended, purge_mended}
 use Rattle.pv_steps.specs.Acting.{refused, Acted}
 use Rattle.pv_steps.specs.Content.{Removes}
@@ -27,7 +29,7 @@ use Rattle.pv_steps.specs.declared.tree.TreeFault.TheVariants.{Failed}
 use Rattle.pv_steps.specs.Trees.{Files, IsTree, places}
 use Rattle.pv_steps.proofs.ActingLaws.{Moves}
 use Rattle.pv_steps.proofs.RunLaws.{ran_none}
-use Rattle.pv_table.specs.Active.{in_create_order}
+use Rattle.pv_table.specs.Active.{are_distinct, in_create_order}
 use Rattle.pv_table.specs.Cleaned.{is_aged}
 use Rattle.pv_table.specs.Created.{after_each, said_of_each, one_is_refused, taken_by_each, created, created_messages}
 use Rattle.pv_table.specs.Removed.{is_gone, is_purged}
@@ -36,6 +38,7 @@ use Rattle.pv_text.proofs.SaidLaws.{back_of, front_of}
 use Rattle.pv_phases.specs.Phases.{HasSaidStopped, IsMendedBy, IsSaidAtWork, IsSaidStopped, is_step_of, left_by, most_steps_of, falls_short, on_way, phases_course, said_in}
 use Rattle.pv_phases.specs.declared.phase.Phase.{Phase}
 use Rattle.pv_phases.specs.declared.phase.Phase.TheVariants.{Remove, Clean, Create, Purge}
+use Rattle.pv_phases.proofs.BootLaws.{boot_mended}
 use Rattle.pv_path.proofs.Tests.{next_item}
 use Rattle.pv_walk.proofs.SweepLaws.{pruned-none}
 
@@ -54,12 +57,10 @@ nothing_mended lines now t h n later repeatable quiet again =
     subst (λ (steps : List Step). Same (created lines later (after_all t steps now)) (created lines now t)) (sym none)
     (λ q plain. bares-same (places (created lines later t)) (places (created lines now t)) q (created_same lines later now t t (λ p. refl) q))
 
--- of several phases nothing is said
-several_mended : (phase other : Phase) (phases : List Phase) (lines : List Line) (now : ℕ) (t : Files) (steps : List Step) → IsMendedBy (phase ∷ other ∷ phases) lines now t steps
-several_mended Remove other phases lines now t steps = tt
-several_mended Clean other phases lines now t steps = tt
-several_mended Create other phases lines now t steps = tt
-several_mended Purge other phases lines now t steps = tt
+-- of a run of one phase what its stop law says; of several phases nothing
+abbrev pub IsMendedAlone : List Phase → List Line → ℕ → Files → List Step → Type 0
+IsMendedAlone (phase ∷ []) lines now t steps = IsMendedBy (phase ∷ []) lines now t steps
+IsMendedAlone phases lines now t steps = ⊤
 
 -- a run that has done nothing is mended
 module _ (lines : List Line) (now : ℕ) (t : Files) (h : List Step) (fits : now < 2 ^ 64) (tree : IsTree t) where
@@ -75,10 +76,10 @@ module _ (lines : List Line) (now : ℕ) (t : Files) (h : List Step) (fits : now
       purge_mended lines (Removes (is_purged lines t)) now t h t h fits tree
       (ran_none (Pruned (is_purged lines t) t) (Removes (is_purged lines t)) now t h t h (pruned-none (is_purged lines t) t) refl refl)
 
-  pub none_mended : (phases : List Phase) → IsMendedBy phases lines now t (drop (length h) h)
+  pub none_mended : (phases : List Phase) → IsMendedAlone phases lines now t (drop (length h) h)
   none_mended [] = tt
   none_mended (phase ∷ []) = one_none phase
-  none_mended (phase ∷ other ∷ phases) = several_mended phase other phases lines now t (drop (length h) h)
+  none_mended (phase ∷ other ∷ phases) = tt
 
 -- ---- what a stopped run has said
 
@@ -109,7 +110,7 @@ pub record Telling {S : Type 0} (tree : Ghosts S) (lines : List Line) (now : ℕ
 -- the first phase begins where the run began, and the stop law holds so far
 pub record Mending {S : Type 0} (tree : Ghosts S) (lines : List Line) (now : ℕ) (all : List Phase) (i : ℕ) (a b : S) : Type 0 where
   pub still : i ≡ 0 → b ≡ a
-  pub law : IsMendedBy all lines now (tree.state a) (drop (length (tree.steps a)) (tree.steps b))
+  pub law : IsMendedAlone all lines now (tree.state a) (drop (length (tree.steps a)) (tree.steps b))
 
 pub record OnPhases {S : Type 0} (tree : Ghosts S) (lines : List Line) (now : ℕ) (all : List Phase) (i : ℕ) (carried : Carried) (a b : S) (old new : List (List ℕ)) : Type 0 where
   pub refused : Bool
@@ -166,16 +167,16 @@ module _ {S : Type 0} (tree : Ghosts S) (moves : Moves tree) (lines : List Line)
       (one.1.0 ∙ ap (λ (r : List (List ℕ)). r ++ one.0) telling.told ∙ append_assoc old telling.before one.0, said_at_work one.0 one.1.1),
     )
 
-    pub phases_mended : (d : S) → IsMendedBy (phase ∷ []) lines now (tree.state b) (drop (length (tree.steps b)) (tree.steps d)) → IsMendedBy all lines now t (drop (length (tree.steps a)) (tree.steps d))
+    pub phases_mended : (d : S) → IsMendedBy (phase ∷ []) lines now (tree.state b) (drop (length (tree.steps b)) (tree.steps d)) → IsMendedAlone all lines now t (drop (length (tree.steps a)) (tree.steps d))
     phases_mended d one = by all i within is run.mending.still
       where
-        by : (phases : List Phase) (j : ℕ) → j < length phases → phase ≡ get_or phases j phase → (j ≡ 0 → b ≡ a) → IsMendedBy phases lines now t (drop (length (tree.steps a)) (tree.steps d))
+        by : (phases : List Phase) (j : ℕ) → j < length phases → phase ≡ get_or phases j phase → (j ≡ 0 → b ≡ a) → IsMendedAlone phases lines now t (drop (length (tree.steps a)) (tree.steps d))
         by [] j in_it at still = tt
         by (p ∷ []) zero in_it at still =
             subst (λ (x : Phase). IsMendedBy (x ∷ []) lines now t (drop (length (tree.steps a)) (tree.steps d))) at
             (subst (λ (x : S). IsMendedBy (phase ∷ []) lines now (tree.state x) (drop (length (tree.steps x)) (tree.steps d))) (still refl) one)
         by (p ∷ []) (suc j) in_it at still = absurd (omega (arith, in_it))
-        by (p ∷ q ∷ phases) j in_it at still = several_mended p q phases lines now t (drop (length (tree.steps a)) (tree.steps d))
+        by (p ∷ q ∷ phases) j in_it at still = tt
 
     pub phases_next : {B : Type 0} (d : S) {y : B} (said : List (List ℕ)) (ended : Carried) → tree.state d ≡ left_by lines now phase (tree.state b) → said ≡ new ++ said_in lines now phase (tree.state b)
         → Acted tree (on_way lines now phase (tree.state b)) (is_step_of lines now phase (tree.state b)) (most_steps_of lines now phase (tree.state b)) now b d (Ok y)
@@ -217,6 +218,22 @@ module _ {S : Type 0} (tree : Ghosts S) (moves : Moves tree) (lines : List Line)
     pub phases_done : {B : Type 0} (r : Result B TreeFault) → refused r ≡ 0
         → Acted tree (Partway (phases_course lines now) all t) (IsStepOfSome (phases_course lines now) all t) (taken_by_each (phases_course lines now).whole all t) now a b r
     phases_done r none_refused = end_acted (phases_course lines now) tree moves start all now a old run.refused b new all_done r none_refused
+
+-- ---- the stop law of phases
+
+-- of one phase it is known; of the boot command it follows from its way
+module _ (lines : List Line) (are : AllByRecursion IsLine lines) (distinct : are_distinct lines ≡ true) (Q : Step → Type 0) (now : ℕ) (t : Files) (h : List Step) (u : Files) (k : List Step) (fits : now < 2 ^ 64) (tree : IsTree t) where
+  pub phases_mend : (phases : List Phase) → IsMendedAlone phases lines now t (drop (length h) k) → Ran (Partway (phases_course lines now) phases t) Q now t h u k → IsMendedBy phases lines now t (drop (length h) k)
+  phases_mend [] alone run = tt
+  phases_mend (phase ∷ []) alone run = alone
+  phases_mend (Remove ∷ Create ∷ []) alone run = boot_mended lines are Q now t h u k fits tree run distinct
+  phases_mend (Remove ∷ Create ∷ more ∷ phases) alone run = tt
+  phases_mend (Remove ∷ Remove ∷ phases) alone run = tt
+  phases_mend (Remove ∷ Clean ∷ phases) alone run = tt
+  phases_mend (Remove ∷ Purge ∷ phases) alone run = tt
+  phases_mend (Clean ∷ more ∷ phases) alone run = tt
+  phases_mend (Create ∷ more ∷ phases) alone run = tt
+  phases_mend (Purge ∷ more ∷ phases) alone run = tt
 
 -- what holds of some lines and phases holds of those that are the same
 pub both : (P : List Line → List Phase → Type 0) {lines others : List Line} {phases more : List Phase} → lines ≡ others → phases ≡ more → P lines phases → P others more

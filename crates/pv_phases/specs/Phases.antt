@@ -17,12 +17,17 @@ use Rattle.pv_table.specs.Cleaned.{cleaned, is_aged}
 use Rattle.pv_table.specs.Created.{created, created_messages, some_refusal_counts, work}
 use Rattle.pv_table.specs.Removed.{is_gone, is_purge_unfinished, is_purged, is_unfinished, purged, purged_messages, removed, removed_messages}
 use Rattle.pv_words.specs.declared.options.Options.{Options}
+use Rattle.pv_phases.specs.Booted.{IsBootMended}
 use Rattle.pv_phases.specs.declared.phase.Phase.{Phase}
 use Rattle.pv_phases.specs.declared.phase.Phase.TheVariants.{Remove, Clean, Create, Purge}
 
 -- a phase, if it is asked for
 abbrev pub asked : Bool → Phase → List Phase
 asked wanted phase = if wanted then phase ∷ [] else []
+
+-- the phases of the boot command
+abbrev pub boot_phases : List Phase
+boot_phases = Remove ∷ Create ∷ []
 
 -- the phases that options ask for, in their order; a report has none
 abbrev pub phases_of : Options → List Phase
@@ -98,12 +103,14 @@ IsSaidStopped lines now (phase ∷ phases) t said =
 abbrev pub HasSaidStopped : List Line → ℕ → List Phase → Files → List (List ℕ) → List (List ℕ) → Type 0
 HasSaidStopped lines now phases t old new = (said : List (List ℕ)) × ((new ≡ old ++ said) × IsSaidStopped lines now phases t said)
 
--- a run of one phase from a tree, stopped after any of these steps. Removing, purging, and creating under its premises
--- are mended: a whole run from there, at any moment, leaves the tree of one whole run, stamps and staging names aside. A
--- stopped clean has taken only what the whole clean takes. Of several phases nothing is said
+-- a run of phases from a tree, stopped after any of these steps. Removing, purging, creating and the boot command, the
+-- last two under their premises, are mended: a whole run from there, at any moment, leaves the tree of one whole run,
+-- stamps and staging names aside. A stopped clean has taken only what the whole clean takes. Of other phases one after
+-- the other nothing is said
 abbrev pub IsMendedBy : List Phase → List Line → ℕ → Files → List Step → Type 0
 IsMendedBy (Remove ∷ []) lines now t steps = remove.IsMended (removed lines) now t steps
 IsMendedBy (Clean ∷ []) lines now t steps = TakesOnly (is_aged lines now t) now t steps
 IsMendedBy (Create ∷ []) lines now t steps = create.IsMended lines now t steps
 IsMendedBy (Purge ∷ []) lines now t steps = remove.IsMended (purged lines) now t steps
+IsMendedBy (Remove ∷ Create ∷ []) lines now t steps = IsBootMended lines now t steps
 IsMendedBy phases lines now t steps = ⊤

@@ -93,8 +93,9 @@ pub fn run_phases<T: Tree>(
     ensures gives { GiveBy phases.now table.now now (T.state tree.old)
         (drop (length (T.steps tree.old)) (T.steps tree.new)) }
 {
-    // Where nothing is asked for, too, it began with a tree.
+    // Where nothing is asked for, too, it began with a tree, and no two lines of a table make what stands at one path.
     let _root = tree.look(&TreePath::root(alloc));
+    let _lines = table.lines();
     let mut carried = Carried::Whole;
     for phase in phases {
         let one = do_phase(alloc, tree, *phase, table, now, messages)?;

@@ -74,7 +74,7 @@ any_in f g (x ∷ xs) h = by (f x) refl (any_in f g xs) h
         at false is h = let found = rest h in (found.0, later found.0 found.1, found.2, found.3)
     by false e rest h = let found = rest h in (found.0, later found.0 found.1, found.2, found.3)
 
-in_any : (f g : Path → Bool) (xs : List Path) (p : Path) → is_one_of xs p ≡ true → f p ≡ true → g p ≡ true → list_any g (filter f xs) ≡ true
+pub in_any : (f g : Path → Bool) (xs : List Path) (p : Path) → is_one_of xs p ≡ true → f p ≡ true → g p ≡ true → list_any g (filter f xs) ≡ true
 in_any f g [] p h a b = cc
 in_any f g (x ∷ xs) p h a b = by (same_path x p) refl (in_any f g xs p) h
   where
@@ -129,7 +129,7 @@ or_more f items i x old start new within is before after =
 
 -- ---- what one line covers
 
-take_rest_of : (k : ℕ) (q : Path) → k ≤ length q → (r : Path) × (q ≡ take k q ++ r) × (length (take k q) ≡ k)
+pub take_rest_of : (k : ℕ) (q : Path) → k ≤ length q → (r : Path) × (q ≡ take k q ++ r) × (length (take k q) ≡ k)
 take_rest_of zero q le = (q, refl, refl)
 take_rest_of (suc k) [] le = absurd (omega (arith, le))
 take_rest_of (suc k) (n ∷ q) le = let rest = take_rest_of k q (omega (arith, le)) in (rest.0, ap (λ p. n ∷ p) rest.1, omega (arith, rest.2))
@@ -138,7 +138,7 @@ module _ (files : Files) (tree : IsTree files) (line : Line) (q : Path) where
   unrefused : Path → Bool
   unrefused p = is_none (refused_place line (places files) p)
 
-  key_there : (p : Path) → is_some (places files p) ≡ true → is_one_of (fin.keys files) p ≡ true
+  pub key_there : (p : Path) → is_some (places files p) ≡ true → is_one_of (fin.keys files) p ≡ true
   key_there p there = sym (one_of-tied (fin.keys files) p) ∙ sym (fin.contains_key-keys files p) ∙ there
 
   directory_is : (p : Path) → kind_of (places files p) ≡ Some Directory → is_directory_at (places files) p ≡ true

@@ -116,7 +116,7 @@ module _ (line : Line) where
         by (Glob pattern) e fits = absurd (true_not_false is.row.creates makes fits.0)
 
     -- of the lines that take away, D makes something too
-    emptying_makes : taking_of line ≡ taking.Contents → is.row.creates ≡ true
+    pub emptying_makes : taking_of line ≡ taking.Contents → is.row.creates ≡ true
     emptying_makes e =
         let known : type_of 68 ≡ Some is.row = ap type_of (sym (letter (line.letter == 114) (line.letter == 82) (line.letter == 68) refl e)) ∙ is.is_type in
         cc

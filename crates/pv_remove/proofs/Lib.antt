@@ -1,3 +1,4 @@
+pub mod AgainLaws
 pub mod CoverLaws
 pub mod GovernedLaws
 pub mod InputLaws

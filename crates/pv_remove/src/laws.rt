@@ -1,6 +1,6 @@
 //! Laws of removals and purges that were cut short, of what both take, and of what they leave on their way. Each function
 //! does nothing; its contract is the law.
-ghost use Rattle.std.specs.Prelude.{◌≡◌, ℕ, List, true};
+ghost use Rattle.std.specs.Prelude.{◌≡◌, ℕ, ◌<◌, ◌^◌, List, true, false, is_some};
 ghost use Rattle.std.specs.List.{AllByRecursion, list_any};
 ghost use Rattle.pv_lines.specs.declared.line.Line.{Line as LineValue};
 ghost use Rattle.pv_lines.specs.Lines.{IsLine};
@@ -11,7 +11,7 @@ ghost use Rattle.pv_steps.specs.Trees.{Files, places, IsTree};
 ghost use Rattle.pv_dress.specs.Edits.{Pruned};
 ghost use Rattle.pv_table.specs.declared.reason.Reason.TheVariants as reason;
 ghost use Rattle.pv_table.specs.Reaching.{governs};
-ghost use Rattle.pv_table.specs.Removed.{is_gone, is_purged, purged, removed};
+ghost use Rattle.pv_table.specs.Removed.{is_gone, is_purged, is_unfinished, purged, removed};
 ghost use Rattle.pv_layers.specs.Places.{is_input};
 ghost use Rattle.pv_table.specs.Repeatable.{HasReason};
 
@@ -53,4 +53,15 @@ pub fn what_is_removed_is_governed()
 pub fn what_is_purged_is_governed()
     ensures { (lines : List LineValue) (t : Files) (q : Path) → AllByRecursion IsLine lines → is_purged lines t q ≡ true
         → list_any (λ line. governs line q) lines ≡ true }
+{}
+
+/// What goes in removing some tree, and stands in one of which a removal leaves nothing unfinished, goes in that too.
+pub fn what_a_whole_removal_leaves_no_removal_takes()
+    ensures { (lines : List LineValue) (t u : Files) (q : Path) → IsTree t → AllByRecursion IsLine lines
+        → is_unfinished lines t ≡ false → is_gone lines u q ≡ true → is_some (places t q) ≡ true → is_gone lines t q ≡ true }
+{}
+
+/// What removing leaves of a tree is a tree.
+pub fn what_a_removal_leaves_is_a_tree()
+    ensures { (lines : List LineValue) (now : ℕ) (t : Files) → now < 2 ^ 64 → IsTree t → IsTree (removed lines now t) }
 {}

@@ -12,6 +12,7 @@ mod taking_away;
 pub use laws::{
     a_purge_cut_short_is_mended, a_purge_leaves_what_lines_are_read_from,
     a_removal_cut_short_is_mended, a_removal_leaves_what_lines_are_read_from,
+    what_a_removal_leaves_is_a_tree, what_a_whole_removal_leaves_no_removal_takes,
     what_is_purged_is_governed, what_is_removed_is_governed,
 };
 pub use purging::purge_run;

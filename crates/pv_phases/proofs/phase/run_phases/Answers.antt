@@ -7,7 +7,7 @@ use Rattle.pv_phases.specs.Swept.{IsSweptBy}
 use Rattle.pv_phases.specs.declared.phase.Phase.{Phase}
 use Rattle.pv_phases.specs.declared.phase.Phase.TheVariants.{Remove}
 use Rattle.pv_phases.proofs.FrameLaws.{phases_framed}
-use Rattle.pv_phases.proofs.PhaseLaws.{failed_before, phases_start, phases_part, phases_acted, phases_stopped, phases_mended, phases_next, phases_whole, phases_said, phases_told, phases_ended, phases_done}
+use Rattle.pv_phases.proofs.PhaseLaws.{failed_before, phases_start, phases_part, phases_acted, phases_stopped, phases_mended, phases_mend, phases_next, phases_whole, phases_said, phases_told, phases_ended, phases_done}
 use Rattle.pv_phases.proofs.SweptLaws.{phases_swept}
 use Rattle.pv_phases.proofs.WayLaws.{phases_between, phases_give}
 use Rattle.pv_phases.proofs.phase.run_phases.Goals as goal
@@ -50,8 +50,12 @@ returns-in_err-one-clause-mended g c =
     let i = c.loop-phase.phase-index in
     let phase : Phase = get_or c.args.phases.now i Remove in
     let is : phase ≡ get_or c.args.phases.now i phase = get_or_default c.args.phases.now i Remove phase c.loop-phase-test.true in
-    phases_mended g.T.Tree moves c.args.table.now c.args.now c.args.phases.now c.args.tree.now c.args.messages.now i phase c.loop-phase-test.true is c.loop-phase.carried c.loop-phase.tree c.loop-phase.messages c.loop-phase.invariant
-    c.do_phase.new.tree c.do_phase.ensures.mended
+    let t = g.T.Tree.state c.args.tree.now in
+    phases_mend c.args.table.now c.requires.lines c.lines-lines.ensures.distinct (IsStepOfSome (phases_course c.args.table.now c.args.now) c.args.phases.now t) c.args.now t
+    (g.T.Tree.steps c.args.tree.now) (g.T.Tree.state c.do_phase.new.tree) (g.T.Tree.steps c.do_phase.new.tree) c.ranges.now.fits c.look-root.ensures.tree c.args.phases.now
+    (phases_mended g.T.Tree moves c.args.table.now c.args.now c.args.phases.now c.args.tree.now c.args.messages.now i phase c.loop-phase-test.true is c.loop-phase.carried c.loop-phase.tree c.loop-phase.messages c.loop-phase.invariant
+    c.do_phase.new.tree c.do_phase.ensures.mended)
+    (phases_acted g.T.Tree moves c.args.table.now c.args.now c.args.phases.now c.args.tree.now c.args.messages.now i phase c.loop-phase-test.true is c.loop-phase.carried c.loop-phase.tree c.loop-phase.messages c.loop-phase.invariant c.do_phase.ensures.acted).ran
 
 pub returns-in_err-one-clause-framed : goal.returns-in_err-one-clause-framed
 returns-in_err-one-clause-framed g c =
@@ -115,7 +119,10 @@ returns-clause-acted g c =
 
 pub returns-clause-mended : goal.returns-clause-mended
 returns-clause-mended g c =
-    c.loop-phase.invariant.mending.law
+    let t = g.T.Tree.state c.args.tree.now in
+    phases_mend c.args.table.now c.requires.lines c.lines-lines.ensures.distinct (IsStepOfSome (phases_course c.args.table.now c.args.now) c.args.phases.now t) c.args.now t
+    (g.T.Tree.steps c.args.tree.now) (g.T.Tree.state c.loop-phase.tree) (g.T.Tree.steps c.loop-phase.tree) c.ranges.now.fits c.look-root.ensures.tree c.args.phases.now
+    c.loop-phase.invariant.mending.law c.loop-phase.invariant.going.acted.ran
 
 pub returns-clause-framed : goal.returns-clause-framed
 returns-clause-framed g c =
@@ -131,13 +138,13 @@ returns-in_err-one-clause-between g c =
     let phase : Phase = get_or c.args.phases.now i Remove in
     let is : phase ≡ get_or c.args.phases.now i phase = get_or_default c.args.phases.now i Remove phase c.loop-phase-test.true in
     phases_between c.args.table.now c.requires.lines c.args.now (g.T.Tree.state c.args.tree.now)
-    (g.T.Tree.steps c.args.tree.now) (g.T.Tree.state c.do_phase.new.tree) (g.T.Tree.steps c.do_phase.new.tree) c.look-root.ensures.tree c.args.phases.now
+    (g.T.Tree.steps c.args.tree.now) (g.T.Tree.state c.do_phase.new.tree) (g.T.Tree.steps c.do_phase.new.tree) c.ranges.now.fits c.look-root.ensures.tree c.args.phases.now
     (phases_acted g.T.Tree moves c.args.table.now c.args.now c.args.phases.now c.args.tree.now c.args.messages.now i phase c.loop-phase-test.true is c.loop-phase.carried c.loop-phase.tree c.loop-phase.messages c.loop-phase.invariant c.do_phase.ensures.acted).ran
 
 pub returns-clause-between : goal.returns-clause-between
 returns-clause-between g c =
     phases_between c.args.table.now c.requires.lines c.args.now (g.T.Tree.state c.args.tree.now)
-    (g.T.Tree.steps c.args.tree.now) (g.T.Tree.state c.loop-phase.tree) (g.T.Tree.steps c.loop-phase.tree) c.look-root.ensures.tree c.args.phases.now
+    (g.T.Tree.steps c.args.tree.now) (g.T.Tree.state c.loop-phase.tree) (g.T.Tree.steps c.loop-phase.tree) c.ranges.now.fits c.look-root.ensures.tree c.args.phases.now
     c.loop-phase.invariant.going.acted.ran
 
 pub returns-in_err-one-clause-gives : goal.returns-in_err-one-clause-gives
@@ -147,11 +154,11 @@ returns-in_err-one-clause-gives g c =
     let phase : Phase = get_or c.args.phases.now i Remove in
     let is : phase ≡ get_or c.args.phases.now i phase = get_or_default c.args.phases.now i Remove phase c.loop-phase-test.true in
     phases_give c.args.table.now c.requires.lines c.args.now (g.T.Tree.state c.args.tree.now)
-    (g.T.Tree.steps c.args.tree.now) (g.T.Tree.state c.do_phase.new.tree) (g.T.Tree.steps c.do_phase.new.tree) c.look-root.ensures.tree c.args.phases.now
+    (g.T.Tree.steps c.args.tree.now) (g.T.Tree.state c.do_phase.new.tree) (g.T.Tree.steps c.do_phase.new.tree) c.ranges.now.fits c.look-root.ensures.tree c.args.phases.now
     (phases_acted g.T.Tree moves c.args.table.now c.args.now c.args.phases.now c.args.tree.now c.args.messages.now i phase c.loop-phase-test.true is c.loop-phase.carried c.loop-phase.tree c.loop-phase.messages c.loop-phase.invariant c.do_phase.ensures.acted).ran
 
 pub returns-clause-gives : goal.returns-clause-gives
 returns-clause-gives g c =
     phases_give c.args.table.now c.requires.lines c.args.now (g.T.Tree.state c.args.tree.now)
-    (g.T.Tree.steps c.args.tree.now) (g.T.Tree.state c.loop-phase.tree) (g.T.Tree.steps c.loop-phase.tree) c.look-root.ensures.tree c.args.phases.now
+    (g.T.Tree.steps c.args.tree.now) (g.T.Tree.state c.loop-phase.tree) (g.T.Tree.steps c.loop-phase.tree) c.ranges.now.fits c.look-root.ensures.tree c.args.phases.now
     c.loop-phase.invariant.going.acted.ran

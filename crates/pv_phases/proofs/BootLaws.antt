@@ -1,0 +1,219 @@
+-- The boot law: a run of removing and then creating that was stopped is mended by a whole one.
+use Rattle.std.specs.Prelude.{◌≡◌, ◌⊎◌, ℕ, ◌<◌, ◌^◌, Bool, true, false, cond, List, [], ◌∷◌, ◌++◌, length, take, drop, Option, Some, None, is_some, option_map}
+use Rattle.std.proofs.Common.{refl, sym, ap, subst, ◌∙◌, inl, inr, arith}
+use Rattle.std.proofs.Math.Seq.{drop-append_seam}
+use Rattle.std.specs.FinMap as fin
+use Rattle.std.specs.List.{AllByRecursion}
+use Rattle.pv_create.specs.OnTheWay.{IsGiven, GiveWhatLinesLeave}
+use Rattle.pv_create.specs.Ways.{lines_course}
+use Rattle.pv_create.proofs.BridgeLaws.{plain_ways}
+use Rattle.pv_create.proofs.CopyBridge.{run_way}
+use Rattle.pv_create.proofs.StepLaws.{removed_gives, step_given}
+use Rattle.pv_doing.specs.Courses.{Course, Partway, IsStepOfSome}
+use Rattle.pv_dress.specs.declared.bare.Bare.{Bare}
+use Rattle.pv_dress.specs.Edits.{Pruned}
+use Rattle.pv_dress.specs.Nodes.{bare_of, bares_of}
+use Rattle.pv_dress.proofs.OperationLaws.{bares_of-same, bares-same}
+use Rattle.pv_laws.specs.Between.{IsOnTheWay}
+use Rattle.pv_laws.specs.Moments.{Agree, SameBares}
+use Rattle.pv_laws.specs.Stopping.{CopiesNothing, IsPiece}
+use Rattle.pv_laws.proofs.AllPoints.{all_safe}
+use Rattle.pv_laws.proofs.CopyWays.{copies_on_the_way}
+use Rattle.pv_laws.proofs.Making.{is_dir, IsShaped}
+use Rattle.pv_laws.proofs.Moments.{created_same, quiet_same}
+use Rattle.pv_laws.proofs.Sets.{impossible}
+use Rattle.pv_laws.proofs.Shapes.{tree_shaped}
+use Rattle.pv_laws.proofs.Stops.{in_order_plain, partway_piece, pieces_mend}
+use Rattle.pv_lines.specs.declared.line.Line.{Line}
+use Rattle.pv_lines.specs.Lines.{IsLine}
+use Rattle.pv_path.specs.Paths.{Path, has_staging}
+use Rattle.pv_remove.proofs.AgainLaws.{goes_too, removed_tree}
+use Rattle.pv_remove.proofs.StopLaws.{bares-without, removal_mends, told_prefix}
+use Rattle.pv_steps.specs.declared.object.Object.{Object}
+use Rattle.pv_steps.specs.declared.step.Step.{Step}
+use Rattle.pv_steps.specs.Objects.{modified}
+use Rattle.pv_steps.specs.Runs.{after_all, Ran}
+use Rattle.pv_steps.specs.Same.{bares, Same}
+use Rattle.pv_steps.specs.Trees.{Files, IsTree, places}
+use Rattle.pv_steps.proofs.RunLaws.{along_prefix, along_trees}
+use Rattle.pv_table.specs.Active.{are_distinct, in_create_order}
+use Rattle.pv_table.specs.Created.{after_each, IsQuiet}
+use Rattle.pv_table.specs.Pointwise.{Bares}
+use Rattle.pv_table.specs.Removed.{is_gone, is_unfinished, removed}
+use Rattle.pv_table.specs.Repeatable.{IsRepeatable}
+use Rattle.pv_table.proofs.ListedLaws.{all_map}
+use Rattle.pv_phases.specs.Booted.{booted, IsBootBetween, IsBootMended}
+use Rattle.pv_phases.specs.BootedAgain.{IsBootMendedAgain, IsBootStoppedAgain, StoppedBoots}
+use Rattle.pv_phases.specs.Phases.{boot_phases, phases_course}
+use Rattle.pv_phases.specs.declared.phase.Phase.TheVariants.{Remove, Create}
+use Rattle.pv_phases.proofs.FrameLaws.{left_shaped}
+
+-- what is whole is on its way
+partway_whole : {A : Type 0} (c : Course A) (xs : List A) (t u : Files) → Same (after_each c.whole xs t) u → Partway c xs t u
+partway_whole c [] t u same = same
+partway_whole c (x ∷ xs) t u same = inr (partway_whole c xs (c.whole.after x t) u same)
+
+-- a directory is there
+some_directory : (b : Option Bare) → is_dir b ≡ true → (x : Bare) × (b ≡ Some x)
+some_directory None h = impossible h
+some_directory (Some x) h = (x, refl)
+
+module _ (lines : List Line) (are : AllByRecursion IsLine lines) where
+  -- ---- what removing leaves, stamps aside
+
+  removed_bare : (now : ℕ) (t : Files) (q : Path) → bares (places (removed lines now t)) q ≡ cond (is_gone lines t q) None (bares (places t) q)
+  removed_bare now t q = bares-without (is_gone lines t) (modified now) (λ o. refl) t q
+
+  absent : (now : ℕ) (t : Files) (q : Path) → is_gone lines t q ≡ true → bares_of (places (removed lines now t)) q ≡ None
+  absent now t q h = bares_of-same (places (removed lines now t)) (λ p. None) q (removed_bare now t q ∙ ap (λ b. cond b None (bares (places t) q)) h)
+
+  kept : (now : ℕ) (t : Files) (q : Path) → is_gone lines t q ≡ false → bares_of (places (removed lines now t)) q ≡ bares_of (places t) q
+  kept now t q h = bares_of-same (places (removed lines now t)) (places t) q (removed_bare now t q ∙ ap (λ b. cond b None (bares (places t) q)) h)
+
+  -- it needs no moment
+  removed_same : (now later : ℕ) (t : Files) → SameBares (removed lines now t) (removed lines later t)
+  removed_same now later t q = bares_of-same (places (removed lines now t)) (places (removed lines later t)) q (removed_bare now t q ∙ sym (removed_bare later t q))
+
+  -- nor does a whole run
+  booted_same : (now later : ℕ) (t : Files) → Same (booted lines now t) (booted lines later t)
+  booted_same now later t q plain =
+      bares-same (places (booted lines now t)) (places (booted lines later t)) q
+      (created_same lines now later (removed lines now t) (removed lines later t) (removed_same now later t) q)
+
+  shaped : (now : ℕ) (t : Files) → IsTree t → IsShaped (bares_of (places (removed lines now t)))
+  shaped now t tree = left_shaped lines are now Remove t (tree_shaped (places t) tree)
+
+  -- ---- what a second removal takes was not there after the first
+
+  module _ (t u : Files) (tree : IsTree t) (whole : is_unfinished lines t ≡ false) where
+    gone_absent : (now : ℕ) (q : Path) → is_gone lines u q ≡ true → bares_of (places (removed lines now t)) q ≡ None
+    gone_absent now q gone = by (is_some (places t q)) refl (is_gone lines t q) refl
+      where
+        none : (o : Option Object) → is_some o ≡ false → option_map bare_of o ≡ None
+        none None e = refl
+        none (Some x) e = cc
+
+        by : (b : Bool) → is_some (places t q) ≡ b → (g : Bool) → is_gone lines t q ≡ g → bares_of (places (removed lines now t)) q ≡ None
+        by true there g h = absent now t q (goes_too lines are t tree whole u q gone there)
+        by false unknown true h = absent now t q h
+        by false unknown false h = kept now t q h ∙ none (places t q) unknown
+
+    -- so each piece is still there, or is begun anew
+    piece_again : (now later : ℕ) (q : Path) → IsPiece (in_create_order lines) q (bares_of (places (removed lines now t)) q) (bares_of (places u) q)
+        → IsPiece (in_create_order lines) q (bares_of (places (removed lines now t)) q) (bares_of (places (removed lines later u)) q)
+    piece_again now later q one = by (is_gone lines u q) refl
+      where
+        by : (b : Bool) → is_gone lines u q ≡ b → IsPiece (in_create_order lines) q (bares_of (places (removed lines now t)) q) (bares_of (places (removed lines later u)) q)
+        by true gone = IsPiece.piece 0 (absent later u q gone ∙ sym (gone_absent now q gone))
+        by false stays = subst (λ b. IsPiece (in_create_order lines) q (bares_of (places (removed lines now t)) q) b) (sym (kept later u q stays)) one
+
+  -- ---- on the way
+
+  -- creating is on its way or done
+  creating_way : (now : ℕ) (r u : Files) → Partway (phases_course lines now) (Create ∷ []) r u → Partway (lines_course now) (in_create_order lines) r u
+  creating_way now r u (inl way) = way
+  creating_way now r u (inr same) = partway_whole (lines_course now) (in_create_order lines) r u same
+
+  module _ (none : AllByRecursion CopiesNothing lines) (now later : ℕ) (t u : Files) (tree : IsTree t) (there : IsTree u) (whole : is_unfinished lines t ≡ false) (quiet : IsQuiet lines now (removed lines now t)) where
+    pieces : Partway (phases_course lines now) boot_phases t u → (q : Path) → has_staging q ≡ false
+        → IsPiece (in_create_order lines) q (bares_of (places (removed lines now t)) q) (bares_of (places (removed lines later u)) q)
+    pieces (inl pruned) q plain = IsPiece.piece 0 (bares_of-same (places (removed lines later u)) (places (removed lines now t)) q (removal_mends lines now later t u there pruned q plain))
+    pieces (inr way) q plain = piece_again t u tree whole now later q (
+        partway_piece (in_create_order lines) now (removed lines now t) u (in_order_plain lines are none) (shaped now t tree) quiet
+        (plain_ways now (in_create_order lines) (removed lines now t) u (in_order_plain lines are none) (shaped now t tree) quiet (creating_way now (removed lines now t) u way)) q plain)
+
+  -- ---- the law
+
+  none_past : 0 < 2 ^ 64
+  none_past = omega arith
+
+  pub boot_mends : (none : AllByRecursion CopiesNothing lines) (distinct : are_distinct lines ≡ true) (repeatable : IsRepeatable lines) (now later : ℕ) (t u : Files) → IsTree t → IsTree u → is_unfinished lines t ≡ false
+      → IsQuiet lines now (removed lines now t) → IsQuiet lines later (removed lines later u) → Partway (phases_course lines now) boot_phases t u → Same (booted lines later u) (booted lines now t)
+  boot_mends none distinct repeatable now later t u tree there whole quiet again way q plain =
+      booted_same later 0 u q plain
+      ∙ pieces_mend lines are none distinct repeatable 0 0 (removed lines 0 t) (removed lines 0 u) (removed_tree lines 0 t none_past tree) (removed_tree lines 0 u none_past there)
+      (quiet_same lines now 0 (removed lines now t) (removed lines 0 t) (removed_same now 0 t) quiet)
+      (quiet_same lines later 0 (removed lines later u) (removed lines 0 u) (removed_same later 0 u) again)
+      (λ p unstaged.
+      subst (λ b. IsPiece (in_create_order lines) p b (bares_of (places (removed lines 0 u)) p)) (removed_same now 0 t p)
+      (pieces none now 0 t u tree there whole quiet way p unstaged)) q plain
+      ∙ booted_same 0 now t q plain
+
+  -- on its way it removes, or each path is between two lines of creating
+  pub boot_between : (now : ℕ) (t u : Files) → now < 2 ^ 64 → IsTree t → Partway (phases_course lines now) boot_phases t u
+      → Pruned (is_gone lines t) t u ⊎ ((s : Bares) → IsRepeatable lines → IsQuiet lines now (removed lines now t) → Agree s (removed lines now t) → IsOnTheWay lines s u)
+  boot_between now t u fits tree (inl pruned) = inl pruned
+  boot_between now t u fits tree (inr way) = inr (λ s repeatable quiet agree.
+      copies_on_the_way lines now s (removed lines now t) u (removed_tree lines now t fits tree) quiet agree are repeatable
+      (run_way now (in_create_order lines) (removed lines now t) u (all_safe lines are repeatable) (shaped now t tree) quiet (creating_way now (removed lines now t) u way)))
+
+  -- ---- any number of stopped runs
+
+  module _ (none : AllByRecursion CopiesNothing lines) (distinct : are_distinct lines ≡ true) (repeatable : IsRepeatable lines) where
+    -- from the first of these trees creating refuses no line after removing, at some moment
+    quiet_first : (moments : List ℕ) (later : ℕ) (t u : Files) → StoppedBoots lines moments t u → IsQuiet lines later (removed lines later u) → (now : ℕ) × IsQuiet lines now (removed lines now t)
+    quiet_first [] later t u same quiet = (later, subst (λ (v : Files). IsQuiet lines later (removed lines later v)) same quiet)
+    quiet_first (now ∷ moments) later t u runs quiet = (now, runs.1)
+
+    pub boots_mend : (moments : List ℕ) (now later : ℕ) (t u : Files) → IsTree t → IsTree u → StoppedBoots lines moments t u → IsQuiet lines later (removed lines later u) → Same (booted lines later u) (booted lines now t)
+    boots_mend [] now later t u tree there same again = subst (λ (v : Files). Same (booted lines later v) (booted lines now t)) (sym same) (booted_same later now t)
+    boots_mend (first ∷ moments) now later t u tree there runs again = λ q plain.
+        boots_mend moments next.0 later v u runs.2.1 there runs.2.3 again q plain
+        ∙ boot_mends none distinct repeatable first next.0 t v tree runs.2.1 runs.0 runs.1 next.1 runs.2.2 q plain
+        ∙ booted_same first now t q plain
+      where
+        v : Files
+        v = runs.2.0
+
+        next : (m : ℕ) × IsQuiet lines m (removed lines m v)
+        next = quiet_first moments later v u runs.2.3 again
+
+  -- one more
+  then_stopped : (moments : List ℕ) (now : ℕ) (s t u : Files) → StoppedBoots lines moments s t → StoppedBoots lines (now ∷ []) t u → StoppedBoots lines (moments ++ now ∷ []) s u
+  then_stopped [] now s t u same one = subst (λ (v : Files). StoppedBoots lines (now ∷ []) v u) same one
+  then_stopped (first ∷ moments) now s t u runs one = (runs.0, runs.1, (runs.2.0, runs.2.1, runs.2.2, then_stopped moments now runs.2.0 t u runs.2.3 one))
+
+  -- ---- runs
+
+  module _ (Q : Step → Type 0) (now : ℕ) (t : Files) (h : List Step) (u : Files) (k : List Step) (fits : now < 2 ^ 64) (tree : IsTree t) (run : Ran (Partway (phases_course lines now) boot_phases t) Q now t h u k) where
+    abbrev at_moment : ℕ → Files
+    at_moment n = after_all t (take n (drop (length h) k)) now
+
+    way_at : (n : ℕ) → Partway (phases_course lines now) boot_phases t (at_moment n)
+    way_at n = told_prefix (Partway (phases_course lines now) boot_phases t) Q now t h u k run n
+
+    tree_at : (n : ℕ) → IsTree (at_moment n)
+    tree_at n =
+        subst (λ (steps : List Step). IsTree (after_all t (take n steps) now)) (sym (ap (drop (length h)) run.recorded ∙ drop-append_seam h run.steps))
+        (along_prefix IsTree t run.steps now n (along_trees (Partway (phases_course lines now) boot_phases t) t run.steps now fits tree run.along))
+
+    pub boot_mended : are_distinct lines ≡ true → IsBootMended lines now t (drop (length h) k)
+    boot_mended distinct = λ n later repeatable none whole quiet again.
+        boot_mends none distinct repeatable now later t (at_moment n) tree (tree_at n) whole quiet again (way_at n)
+
+    pub boot_amid : IsBootBetween lines now t (drop (length h) k)
+    boot_amid = λ n. boot_between now t (at_moment n) fits tree (way_at n)
+
+    pub boot_stopped : IsBootStoppedAgain lines now t (drop (length h) k)
+    boot_stopped = λ s moments n before whole quiet.
+        then_stopped moments now s t (at_moment n) before (whole, quiet, (at_moment n, tree_at n, way_at n, refl))
+
+    pub boot_mended_again : are_distinct lines ≡ true → IsBootMendedAgain lines now t (drop (length h) k)
+    boot_mended_again distinct = λ s moments n first later start repeatable none before whole quiet again.
+        boots_mend none distinct repeatable (moments ++ now ∷ []) first later s (at_moment n) start (tree_at n) (boot_stopped s moments n before whole quiet) again
+
+  -- ---- each step gives what lines leave, from what removing leaves
+
+  module _ (now : ℕ) (fits : now < 2 ^ 64) (t : Files) (tree : IsTree t) (s : Bares) (repeatable : IsRepeatable lines) (quiet : IsQuiet lines now (removed lines now t)) (agree : Agree s (removed lines now t)) where
+    boot_step_given : (step : Step) → IsStepOfSome (phases_course lines now) boot_phases t step → IsGiven lines s step
+    boot_step_given step (inl removes) =
+        let root = some_directory (bares_of (places (removed lines now t)) []) (shaped now t tree).root in
+        record { k = 0; path = []; object = root.0; there = agree [] refl ∙ root.1; gives = removed_gives (is_gone lines t) root.0 step removes }
+    boot_step_given step (inr (inl own)) = step_given lines are now (removed lines now t) (removed_tree lines now t fits tree) s repeatable quiet agree step own
+    boot_step_given step (inr (inr nothing)) = absurd nothing
+
+  pub boot_given : (P : Files → Type 0) (now : ℕ) (t : Files) (h : List Step) (u : Files) (k : List Step) → now < 2 ^ 64 → IsTree t → Ran P (IsStepOfSome (phases_course lines now) boot_phases t) now t h u k
+      → GiveWhatLinesLeave lines now (removed lines now t) (drop (length h) k)
+  boot_given P now t h u k fits tree run =
+      subst (λ (steps : List Step). GiveWhatLinesLeave lines now (removed lines now t) steps) (sym (ap (drop (length h)) run.recorded ∙ drop-append_seam h run.steps)) (λ s repeatable quiet agree.
+      all_map (IsStepOfSome (phases_course lines now) boot_phases t) (IsGiven lines s) (boot_step_given now fits t tree s repeatable quiet agree) run.steps run.gives)

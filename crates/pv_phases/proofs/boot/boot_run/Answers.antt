@@ -1,0 +1,62 @@
+use Rattle.std.proofs.Common.{◌≡◌}
+use Rattle.pv_create.proofs.RunLaws.{none_staged}
+use Rattle.pv_doing.specs.Courses.{Partway, IsStepOfSome}
+use Rattle.pv_table.specs.Removed.{removed}
+use Rattle.pv_phases.specs.Phases.{boot_phases, phases_course}
+use Rattle.pv_phases.proofs.BootLaws.{boot_amid, boot_given, boot_mended, boot_mended_again, boot_stopped}
+use Rattle.pv_phases.proofs.FrameLaws.{phases_framed}
+use Rattle.pv_phases.proofs.boot.boot_run.Goals as goal
+
+pub returns-clause-staged : goal.returns-clause-staged
+returns-clause-staged g c =
+    let lines = c.args.table.now in
+    let now = c.args.now in
+    none_staged lines c.requires.lines now (removed lines now (g.T.Tree.state c.args.tree.now)) c.remove_then_create.result (g.T.Tree.state c.remove_then_create.new.tree) c.remove_then_create.ensures.run.ok
+
+pub returns-clause-mended : goal.returns-clause-mended
+returns-clause-mended g c =
+    let lines = c.args.table.now in
+    let now = c.args.now in
+    let t = g.T.Tree.state c.args.tree.now in
+    boot_mended lines c.requires.lines (IsStepOfSome (phases_course lines now) boot_phases t) now t (g.T.Tree.steps c.args.tree.now)
+    (g.T.Tree.state c.remove_then_create.new.tree) (g.T.Tree.steps c.remove_then_create.new.tree) c.ranges.now.fits c.look-root.ensures.tree c.remove_then_create.ensures.run.acted.ran c.lines-lines.ensures.distinct
+
+pub returns-clause-again : goal.returns-clause-again
+returns-clause-again g c =
+    let lines = c.args.table.now in
+    let now = c.args.now in
+    let t = g.T.Tree.state c.args.tree.now in
+    boot_mended_again lines c.requires.lines (IsStepOfSome (phases_course lines now) boot_phases t) now t (g.T.Tree.steps c.args.tree.now)
+    (g.T.Tree.state c.remove_then_create.new.tree) (g.T.Tree.steps c.remove_then_create.new.tree) c.ranges.now.fits c.look-root.ensures.tree c.remove_then_create.ensures.run.acted.ran c.lines-lines.ensures.distinct
+
+pub returns-clause-one_more : goal.returns-clause-one_more
+returns-clause-one_more g c =
+    let lines = c.args.table.now in
+    let now = c.args.now in
+    let t = g.T.Tree.state c.args.tree.now in
+    boot_stopped lines c.requires.lines (IsStepOfSome (phases_course lines now) boot_phases t) now t (g.T.Tree.steps c.args.tree.now)
+    (g.T.Tree.state c.remove_then_create.new.tree) (g.T.Tree.steps c.remove_then_create.new.tree) c.ranges.now.fits c.look-root.ensures.tree c.remove_then_create.ensures.run.acted.ran
+
+pub returns-clause-framed : goal.returns-clause-framed
+returns-clause-framed g c =
+    let lines = c.args.table.now in
+    let now = c.args.now in
+    let t = g.T.Tree.state c.args.tree.now in
+    phases_framed lines c.requires.lines now boot_phases (IsStepOfSome (phases_course lines now) boot_phases t) t (g.T.Tree.steps c.args.tree.now)
+    (g.T.Tree.state c.remove_then_create.new.tree) (g.T.Tree.steps c.remove_then_create.new.tree) c.look-root.ensures.tree c.remove_then_create.ensures.run.acted.ran
+
+pub returns-clause-between : goal.returns-clause-between
+returns-clause-between g c =
+    let lines = c.args.table.now in
+    let now = c.args.now in
+    let t = g.T.Tree.state c.args.tree.now in
+    boot_amid lines c.requires.lines (IsStepOfSome (phases_course lines now) boot_phases t) now t (g.T.Tree.steps c.args.tree.now)
+    (g.T.Tree.state c.remove_then_create.new.tree) (g.T.Tree.steps c.remove_then_create.new.tree) c.ranges.now.fits c.look-root.ensures.tree c.remove_then_create.ensures.run.acted.ran
+
+pub returns-clause-gives : goal.returns-clause-gives
+returns-clause-gives g c =
+    let lines = c.args.table.now in
+    let now = c.args.now in
+    let t = g.T.Tree.state c.args.tree.now in
+    boot_given lines c.requires.lines (Partway (phases_course lines now) boot_phases t) now t (g.T.Tree.steps c.args.tree.now)
+    (g.T.Tree.state c.remove_then_create.new.tree) (g.T.Tree.steps c.remove_then_create.new.tree) c.ranges.now.fits c.look-root.ensures.tree c.remove_then_create.ensures.run.acted.ran
