@@ -38,8 +38,12 @@ pub leaves_input : (phases : List Phase) (lines : List Line) → MayRepeat phase
 leaves_input (Remove ∷ []) lines may = may
 leaves_input (Purge ∷ []) lines may = may
 leaves_input (Create ∷ []) lines may = λ i. may i reason.Input
+leaves_input (Remove ∷ Create ∷ []) lines may = λ i. may.0 i reason.Input
 leaves_input [] lines may = absurd may
-leaves_input (Remove ∷ next ∷ phases) lines may = absurd may
+leaves_input (Remove ∷ Create ∷ next ∷ phases) lines may = absurd may
+leaves_input (Remove ∷ Remove ∷ phases) lines may = absurd may
+leaves_input (Remove ∷ Clean ∷ phases) lines may = absurd may
+leaves_input (Remove ∷ Purge ∷ phases) lines may = absurd may
 leaves_input (Purge ∷ next ∷ phases) lines may = absurd may
 leaves_input (Create ∷ next ∷ phases) lines may = absurd may
 leaves_input (Clean ∷ phases) lines may = absurd may
@@ -54,8 +58,12 @@ module _ (lines : List Line) (moment : ℕ) (t : Files) (steps : List Step) (n l
   same_lines_mend (Remove ∷ []) law may = law n later
   same_lines_mend (Purge ∷ []) law may = law n later
   same_lines_mend (Create ∷ []) law may = law n later may.0 may.1.1.0 may.1.1.1
+  same_lines_mend (Remove ∷ Create ∷ []) law may = law n later may.0.0 may.0.1 may.1.0 may.1.1.0 may.1.1.1
   same_lines_mend [] law may = absurd may.0
-  same_lines_mend (Remove ∷ next ∷ phases) law may = absurd may.0
+  same_lines_mend (Remove ∷ Create ∷ next ∷ phases) law may = absurd may.0
+  same_lines_mend (Remove ∷ Remove ∷ phases) law may = absurd may.0
+  same_lines_mend (Remove ∷ Clean ∷ phases) law may = absurd may.0
+  same_lines_mend (Remove ∷ Purge ∷ phases) law may = absurd may.0
   same_lines_mend (Purge ∷ next ∷ phases) law may = absurd may.0
   same_lines_mend (Create ∷ next ∷ phases) law may = absurd may.0
   same_lines_mend (Clean ∷ phases) law may = absurd may.0

@@ -6,21 +6,18 @@ use Rattle.pv_accounts_run.specs.Accounted.{accounted, day_of}
 use Rattle.pv_accounts_run.specs.Mended.{EndAlike}
 use Rattle.pv_image.specs.Images.{IsImage}
 use Rattle.pv_image.proofs.ImageLaws.{one_image}
-use Rattle.pv_dress.proofs.OperationLaws.{bares_of-same}
 use Rattle.pv_laws.proofs.Moments.{quiet_same}
-use Rattle.pv_laws.specs.Moments.{SameBares}
 use Rattle.pv_table.proofs.ListedLaws.{all_map}
 use Rattle.pv_lines.specs.declared.line.Line.{Line}
+use Rattle.pv_phases.proofs.WayLaws.{removed_alike}
 use Rattle.pv_phases.specs.Phases.{phases_of}
 use Rattle.pv_phases.specs.declared.phase.Phase.{Phase}
 use Rattle.pv_phases.specs.declared.phase.Phase.TheVariants.{Remove, Clean, Create, Purge}
-use Rattle.pv_remove.proofs.StopLaws.{bares-without}
 use Rattle.pv_steps.specs.declared.step.Step.{Step}
 use Rattle.pv_steps.specs.Runs.{after_all}
 use Rattle.pv_steps.specs.Same.{Same}
-use Rattle.pv_steps.specs.Objects.{modified}
 use Rattle.pv_steps.specs.Trees.{Files, places}
-use Rattle.pv_table.specs.Removed.{is_gone, removed}
+use Rattle.pv_table.specs.Removed.{removed}
 use Rattle.pv_text.specs.Facts.{Values}
 use Rattle.pv_words.specs.declared.asked.Asked.{Asked}
 use Rattle.pv_words.specs.declared.options.Options.{Options}
@@ -46,12 +43,7 @@ none_done t (step ∷ steps) now = refl
 
 -- ---- phases, over trees
 
--- what removing leaves needs no moment, stamps aside
-removed_alike : (lines : List Line) (now later : ℕ) (t : Files) → SameBares (removed lines now t) (removed lines later t)
-removed_alike lines now later t q = bares_of-same (places (removed lines now t)) (places (removed lines later t)) q
-    (bares-without (is_gone lines t) (modified now) (λ o. refl) t q ∙ sym (bares-without (is_gone lines t) (modified later) (λ o. refl) t q))
-
--- nor does it need one that no line is refused at a turn
+-- that no line is refused at a turn needs no moment
 quiet_by : (phases : List Phase) (lines : List Line) (now later : ℕ) (t : Files) → IsQuietBy phases lines now t → IsQuietBy phases lines later t
 quiet_by (Create ∷ []) lines now later t quiet = quiet_same lines now later t t (λ q. refl) quiet
 quiet_by (Remove ∷ Create ∷ []) lines now later t quiet = quiet_same lines now later (removed lines now t) (removed lines later t) (removed_alike lines now later t) quiet

@@ -100,8 +100,9 @@ stopped_text n = codes "stopped after " ++ decimal n ++ codes " steps"
 -- what a run has written that was stopped after n steps, which are fewer than the most that it takes: what is said in
 -- reading, the first of what is said then (in the phases, of the one that was stopped what it says at work), that it was
 -- stopped, and the image of the tree after the n steps, each one that the lines ask for; this is an image again, and where
--- it has one phase, or makes accounts, the stop law of it holds, also where the lines are read anew of that tree; whatever
--- it does, its frame holds, and where it creates alone what creating leaves on its way and what its steps give
+-- it has one phase, is the boot command or makes accounts, the stop law of it holds, also where the lines are read anew of
+-- that tree; whatever it does, its frame holds; and creating, alone or in the boot command, is on its way, and its steps give
+-- what lines leave
 pub record IsStopped (options : Options) (facts : Values) (moment : ℕ) (t : Files) (n : ℕ) (out : List ℕ) : Type 0 where
   pub limit : options.stop_after ≡ Some n
   pub fewer : n < run_work options facts moment t

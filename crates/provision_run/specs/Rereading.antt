@@ -8,6 +8,7 @@ use Rattle.pv_conf.specs.Known.{configured}
 use Rattle.pv_conf.specs.Requested.{requested}
 use Rattle.pv_layers.specs.Places.{is_input}
 use Rattle.pv_layers.specs.Inputs.{IsPlain}
+use Rattle.pv_laws.specs.Stopping.{CopiesNothing}
 use Rattle.pv_lines.specs.declared.line.Line.{Line}
 use Rattle.pv_phases.specs.Phases.{phases_of}
 use Rattle.pv_phases.specs.declared.phase.Phase.{Phase}
@@ -42,11 +43,13 @@ IsReread options facts moment t steps = (n : ℕ) → ArePlain options → Leave
     configured (after_all t (take n steps) moment) facts options.words ≡ configured t facts options.words
 
 -- what is asked of the lines, by the phases: in removing and purging that none may change what lines are read from; in creating
--- that none has a reason against it. Of a clean, and of several phases, no second run is told
+-- that none has a reason against it; in the boot command that none copies either. Of a clean, and of other phases one after the
+-- other, no second run is told
 abbrev pub MayRepeat : List Phase → List Line → Type 0
 MayRepeat (Remove ∷ []) lines = LeaveInput lines
 MayRepeat (Purge ∷ []) lines = LeaveInput lines
 MayRepeat (Create ∷ []) lines = IsRepeatable lines
+MayRepeat (Remove ∷ Create ∷ []) lines = IsRepeatable lines × AllByRecursion CopiesNothing lines
 MayRepeat phases lines = ⊥
 
 -- what is asked of a tree from which a whole run begins: creating refuses no line at a turn, in the boot command over what

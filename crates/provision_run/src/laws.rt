@@ -16,7 +16,7 @@ ghost use Rattle.provision_run.specs.Tasks.{task_of};
 
 /// After one run or more that were stopped, each from the tree that the last one left, a whole run leaves the tree of one
 /// whole run from the first tree, stamps and staging names aside, at whatever moments; each reads its lines of its own tree.
-/// So it is with creating, removing and purging, each alone. Of accounts `/etc/group`, `/etc/gshadow` and `/etc/passwd` have
+/// So it is with creating, removing and purging, each alone, and with removing and creating. Of accounts `/etc/group`, `/etc/gshadow` and `/etc/passwd` have
 /// the same texts, and the trees are the same where all runs were on one day.
 pub fn trees_of_stopped_runs_are_mended()
     ensures phases { (options : OptionsValue) (facts : Values) (moments : List ℕ) (moment first later : ℕ) (t u : Files)

@@ -46,7 +46,7 @@ pub fn run_on_tree<T: Tree>(
         (run_work options.entry.now facts.now moment (T.state tree.old))
         moment tree.old tree.new result }
 
-    // The stop law of a run of one phase, and of one that makes accounts.
+    // The stop law of a run of one phase, of the boot command, and of a run that makes accounts.
     ensures mended { IsMendedIn (task_of options.entry.now) options.entry.now facts.now moment (T.state tree.old)
         (drop (length (T.steps tree.old)) (T.steps tree.new)) }
     // The stop law where the second run reads its lines anew of the tree that was left.
@@ -56,7 +56,7 @@ pub fn run_on_tree<T: Tree>(
     // What it has left as it was at each moment, whatever it answers.
     ensures framed { IsFramedIn (task_of options.entry.now) options.entry.now facts.now moment (T.state tree.old)
         (drop (length (T.steps tree.old)) (T.steps tree.new)) }
-    // What it has left on its way, and what each step gives.
+    // What creating has left on its way, alone or in the boot command, and what each step gives.
     ensures between { IsOnTheWayIn (task_of options.entry.now) options.entry.now facts.now moment (T.state tree.old)
         (drop (length (T.steps tree.old)) (T.steps tree.new)) }
 {
