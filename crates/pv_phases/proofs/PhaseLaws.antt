@@ -2,7 +2,6 @@
 use Rattle.std.specs.Prelude.{◌≡◌, ⊤, true, ℕ, ◌+◌, ◌<◌, ◌≤◌, ◌^◌, Bool, false, ◌||◌, List, [], ◌∷◌, ◌++◌, length, take, drop, get_or, Result, Ok, Err, IsErrAnd, IsErrOf}
 use Rattle.std.proofs.Common.{zero, suc, refl, sym, ap, subst, ◌∙◌, inl, inr, arith, append_assoc, append-nil}
 use Rattle.std.proofs.Math.Seq.{drop-length, take-nil}
-use Rattle.std.specs.List.{AllByRecursion}
 use Rattle.pv_clean.specs.Cleaning.{IsCleanStep}
 use Rattle.pv_clean.proofs.CleanLaws.{takes_only}
 use Rattle.pv_create.specs.Ways.{lines_course}
@@ -14,11 +13,11 @@ use Rattle.pv_doing.proofs.CourseLaws.{Going, going_start, going_next, none_left
 use Rattle.pv_create.specs.Mended.{IsMended}
 use Rattle.pv_dress.proofs.OperationLaws.{bares-same}
 use Rattle.pv_laws.proofs.Moments.{created_same}
-use Rattle.pv_steps.specs.Runs.{after_all, Ran}
+use Rattle.pv_laws.proofs.Sets.{impossible}
+use Rattle.pv_steps.specs.Runs.{after_all}
 use Rattle.pv_steps.specs.Same.{Same}
 use Rattle.pv_dress.specs.Edits.{Pruned}
 use Rattle.pv_lines.specs.declared.line.Line.{Line}
-use Rattle.pv_lines.specs.Lines.{IsLine}
 use Rattle.pv_remove.proofs.RunLaws.{removal_mended, purge_mended}
 use Rattle.pv_steps.specs.Acting.{refused, Acted}
 use Rattle.pv_steps.specs.Content.{Removes}
@@ -29,16 +28,15 @@ use Rattle.pv_steps.specs.declared.tree.TreeFault.TheVariants.{Failed}
 use Rattle.pv_steps.specs.Trees.{Files, IsTree, places}
 use Rattle.pv_steps.proofs.ActingLaws.{Moves}
 use Rattle.pv_steps.proofs.RunLaws.{ran_none}
-use Rattle.pv_table.specs.Active.{are_distinct, in_create_order}
+use Rattle.pv_table.specs.Active.{in_create_order}
 use Rattle.pv_table.specs.Cleaned.{is_aged}
 use Rattle.pv_table.specs.Created.{after_each, said_of_each, one_is_refused, taken_by_each, created, created_messages}
 use Rattle.pv_table.specs.Removed.{is_gone, is_purged}
 use Rattle.pv_text.specs.Said.{SaidPart}
 use Rattle.pv_text.proofs.SaidLaws.{back_of, front_of}
-use Rattle.pv_phases.specs.Phases.{HasSaidStopped, IsMendedBy, IsSaidAtWork, IsSaidStopped, is_step_of, left_by, most_steps_of, falls_short, on_way, phases_course, said_in}
+use Rattle.pv_phases.specs.Phases.{boot_phases, HasSaidStopped, is_boot, IsMendedBy, IsSaidAtWork, IsSaidStopped, is_step_of, left_by, most_steps_of, falls_short, on_way, phases_course, said_in}
 use Rattle.pv_phases.specs.declared.phase.Phase.{Phase}
 use Rattle.pv_phases.specs.declared.phase.Phase.TheVariants.{Remove, Clean, Create, Purge}
-use Rattle.pv_phases.proofs.BootLaws.{boot_mended}
 use Rattle.pv_path.proofs.Tests.{next_item}
 use Rattle.pv_walk.proofs.SweepLaws.{pruned-none}
 
@@ -219,21 +217,34 @@ module _ {S : Type 0} (tree : Ghosts S) (moves : Moves tree) (lines : List Line)
         → Acted tree (Partway (phases_course lines now) all t) (IsStepOfSome (phases_course lines now) all t) (taken_by_each (phases_course lines now).whole all t) now a b r
     phases_done r none_refused = end_acted (phases_course lines now) tree moves start all now a old run.refused b new all_done r none_refused
 
--- ---- the stop law of phases
+-- ---- the boot command
 
--- of one phase it is known; of the boot command it follows from its way
-module _ (lines : List Line) (are : AllByRecursion IsLine lines) (distinct : are_distinct lines ≡ true) (Q : Step → Type 0) (now : ℕ) (t : Files) (h : List Step) (u : Files) (k : List Step) (fits : now < 2 ^ 64) (tree : IsTree t) where
-  pub phases_mend : (phases : List Phase) → IsMendedAlone phases lines now t (drop (length h) k) → Ran (Partway (phases_course lines now) phases t) Q now t h u k → IsMendedBy phases lines now t (drop (length h) k)
-  phases_mend [] alone run = tt
-  phases_mend (phase ∷ []) alone run = alone
-  phases_mend (Remove ∷ Create ∷ []) alone run = boot_mended lines are Q now t h u k fits tree run distinct
-  phases_mend (Remove ∷ Create ∷ more ∷ phases) alone run = tt
-  phases_mend (Remove ∷ Remove ∷ phases) alone run = tt
-  phases_mend (Remove ∷ Clean ∷ phases) alone run = tt
-  phases_mend (Remove ∷ Purge ∷ phases) alone run = tt
-  phases_mend (Clean ∷ more ∷ phases) alone run = tt
-  phases_mend (Create ∷ more ∷ phases) alone run = tt
-  phases_mend (Purge ∷ more ∷ phases) alone run = tt
+-- of phases one after the other that are not its own nothing is said
+module _ (lines : List Line) (now : ℕ) (t : Files) (steps : List Step) where
+  pub phases_mend : (phases : List Phase) → is_boot phases ≡ false → IsMendedAlone phases lines now t steps → IsMendedBy phases lines now t steps
+  phases_mend [] e alone = tt
+  phases_mend (phase ∷ []) e alone = alone
+  phases_mend (Remove ∷ Create ∷ []) e alone = impossible (sym e)
+  phases_mend (Remove ∷ Create ∷ more ∷ phases) e alone = tt
+  phases_mend (Remove ∷ Remove ∷ phases) e alone = tt
+  phases_mend (Remove ∷ Clean ∷ phases) e alone = tt
+  phases_mend (Remove ∷ Purge ∷ phases) e alone = tt
+  phases_mend (Clean ∷ more ∷ phases) e alone = tt
+  phases_mend (Create ∷ more ∷ phases) e alone = tt
+  phases_mend (Purge ∷ more ∷ phases) e alone = tt
+
+-- the phases of the boot command are these
+pub boot_is : (phases : List Phase) → is_boot phases ≡ true → phases ≡ boot_phases
+boot_is [] e = impossible e
+boot_is (Remove ∷ []) e = impossible e
+boot_is (Remove ∷ Create ∷ []) e = refl
+boot_is (Remove ∷ Create ∷ more ∷ phases) e = impossible e
+boot_is (Remove ∷ Remove ∷ phases) e = impossible e
+boot_is (Remove ∷ Clean ∷ phases) e = impossible e
+boot_is (Remove ∷ Purge ∷ phases) e = impossible e
+boot_is (Clean ∷ phases) e = impossible e
+boot_is (Create ∷ phases) e = impossible e
+boot_is (Purge ∷ phases) e = impossible e
 
 -- what holds of some lines and phases holds of those that are the same
 pub both : (P : List Line → List Phase → Type 0) {lines others : List Line} {phases more : List Phase} → lines ≡ others → phases ≡ more → P lines phases → P others more

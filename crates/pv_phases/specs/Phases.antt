@@ -1,6 +1,6 @@
 -- The phases of a run of systemd-tmpfiles(8), one after the other: removing, cleaning, creating, or purging alone. All are
 -- judged by the lines that are active when the run begins, each over the tree that those before it leave.
-use Rattle.std.specs.Prelude.{◌≡◌, ◌⊎◌, ℕ, Bool, false, List, [], ◌∷◌, ◌++◌, take, if◌then◌else◌, ⊤}
+use Rattle.std.specs.Prelude.{◌≡◌, ◌⊎◌, ℕ, Bool, true, false, List, [], ◌∷◌, ◌++◌, take, if◌then◌else◌, ⊤}
 use Rattle.pv_clean.specs.Cleaning.{IsCleanStep, TakesOnly, most_steps}
 use Rattle.pv_create.specs.Mended as create
 use Rattle.pv_create.specs.Ways.{lines_course}
@@ -28,6 +28,11 @@ asked wanted phase = if wanted then phase ∷ [] else []
 -- the phases of the boot command
 abbrev pub boot_phases : List Phase
 boot_phases = Remove ∷ Create ∷ []
+
+-- whether phases are these
+abbrev pub is_boot : List Phase → Bool
+is_boot (Remove ∷ Create ∷ []) = true
+is_boot phases = false
 
 -- the phases that options ask for, in their order; a report has none
 abbrev pub phases_of : Options → List Phase

@@ -9,9 +9,10 @@ ghost use Rattle.pv_steps.specs.Acting.{Acted};
 ghost use Rattle.pv_table.specs.Created.{after_each, said_of_each, one_is_refused, taken_by_each};
 ghost use Rattle.pv_text.specs.Said.{SaidPart};
 ghost use Rattle.pv_phases.specs.OnTheWay.{GiveBy, IsBetweenBy};
-ghost use Rattle.pv_phases.specs.Phases.{asked, falls_short, HasSaidStopped, is_step_of, IsMendedBy, left_by, most_steps_of, on_way, phases_course, phases_of, said_in};
+ghost use Rattle.pv_phases.specs.Phases.{asked, falls_short, HasSaidStopped, is_boot, is_step_of, IsMendedBy, left_by, most_steps_of, on_way, phases_course, phases_of, said_in};
 ghost use Rattle.pv_phases.specs.Swept.{IsSweptBy};
 
+use crate::boot::boot_run;
 use pv_clean::clean_run;
 use pv_create::create_run;
 use pv_doing::Carried;
@@ -61,6 +62,13 @@ fn add_phase(phases: &mut Vec<Phase>, wanted: bool, phase: Phase) -> Result<(), 
     Ok(())
 }
 
+/// Whether phases are those of the boot command.
+fn is_boot(phases: &[Phase]) -> bool
+    ensures { result ≡ is_boot phases.now }
+{
+    matches!(phases, [Phase::Remove, Phase::Create])
+}
+
 /// Carries out phases one after the other, each over the tree that those before it leave.
 pub fn run_phases<T: Tree>(
     alloc: Global,
@@ -93,9 +101,11 @@ pub fn run_phases<T: Tree>(
     ensures gives { GiveBy phases.now table.now now (T.state tree.old)
         (drop (length (T.steps tree.old)) (T.steps tree.new)) }
 {
-    // Where nothing is asked for, too, it began with a tree, and no two lines of a table make what stands at one path.
+    if is_boot(phases) {
+        return boot_run(alloc, tree, table, now, messages);
+    }
+    // Where nothing is asked for, too, it began with a tree.
     let _root = tree.look(&TreePath::root(alloc));
-    let _lines = table.lines();
     let mut carried = Carried::Whole;
     for phase in phases {
         let one = do_phase(alloc, tree, *phase, table, now, messages)?;

@@ -1,16 +1,27 @@
-use Rattle.std.proofs.Common.{◌≡◌, ◌≤◌, length, get_or, arith, refl, subst, sym}
+use Rattle.std.proofs.Common.{◌≡◌, ◌∙◌, ◌≤◌, List, drop, length, get_or, arith, refl, subst, sym}
 use Rattle.std.proofs.lemmas.List.{get_or_default}
-use Rattle.pv_doing.specs.Courses.{IsStepOfSome}
+use Rattle.pv_doing.specs.Courses.{IsStepOfSome, Partway}
+use Rattle.pv_steps.specs.Acting.{Acted}
+use Rattle.pv_table.specs.Created.{taken_by_each}
 use Rattle.pv_steps.proofs.ActingLaws.{Moves, acted_passed}
+use Rattle.pv_phases.specs.OnTheWay.{GiveBy, IsBetweenBy}
 use Rattle.pv_phases.specs.Phases.{falls_short, phases_course}
 use Rattle.pv_phases.specs.Swept.{IsSweptBy}
 use Rattle.pv_phases.specs.declared.phase.Phase.{Phase}
 use Rattle.pv_phases.specs.declared.phase.Phase.TheVariants.{Remove}
 use Rattle.pv_phases.proofs.FrameLaws.{phases_framed}
-use Rattle.pv_phases.proofs.PhaseLaws.{failed_before, phases_start, phases_part, phases_acted, phases_stopped, phases_mended, phases_mend, phases_next, phases_whole, phases_said, phases_told, phases_ended, phases_done}
+use Rattle.pv_phases.proofs.PhaseLaws.{boot_is, failed_before, phases_start, phases_part, phases_acted, phases_stopped, phases_mended, phases_mend, phases_next, phases_whole, phases_said, phases_told, phases_ended, phases_done}
 use Rattle.pv_phases.proofs.SweptLaws.{phases_swept}
 use Rattle.pv_phases.proofs.WayLaws.{phases_between, phases_give}
 use Rattle.pv_phases.proofs.phase.run_phases.Goals as goal
+
+pub returns-then-is_boot-clause-acted : goal.returns-then-is_boot-clause-acted
+returns-then-is_boot-clause-acted g c =
+    let now = c.args.now in
+    let lines = c.args.table.now in
+    let t = g.T.Tree.state c.args.tree.now in
+    subst (λ (ps : List Phase). Acted g.T.Tree (Partway (phases_course lines now) ps t) (IsStepOfSome (phases_course lines now) ps t) (taken_by_each (phases_course lines now).whole ps t) now c.args.tree.now c.boot_run.new.tree c.boot_run.result)
+    (sym (boot_is c.args.phases.now (sym c.is_boot.ensures ∙ c.if-is_boot.true))) c.boot_run.ensures.acted
 
 pub loop-phase-init : goal.loop-phase-init
 loop-phase-init g c =
@@ -50,12 +61,9 @@ returns-in_err-one-clause-mended g c =
     let i = c.loop-phase.phase-index in
     let phase : Phase = get_or c.args.phases.now i Remove in
     let is : phase ≡ get_or c.args.phases.now i phase = get_or_default c.args.phases.now i Remove phase c.loop-phase-test.true in
-    let t = g.T.Tree.state c.args.tree.now in
-    phases_mend c.args.table.now c.requires.lines c.lines-lines.ensures.distinct (IsStepOfSome (phases_course c.args.table.now c.args.now) c.args.phases.now t) c.args.now t
-    (g.T.Tree.steps c.args.tree.now) (g.T.Tree.state c.do_phase.new.tree) (g.T.Tree.steps c.do_phase.new.tree) c.ranges.now.fits c.look-root.ensures.tree c.args.phases.now
+    phases_mend c.args.table.now c.args.now (g.T.Tree.state c.args.tree.now) (drop (length (g.T.Tree.steps c.args.tree.now)) (g.T.Tree.steps c.do_phase.new.tree)) c.args.phases.now (sym c.is_boot.ensures ∙ c.if-is_boot.false)
     (phases_mended g.T.Tree moves c.args.table.now c.args.now c.args.phases.now c.args.tree.now c.args.messages.now i phase c.loop-phase-test.true is c.loop-phase.carried c.loop-phase.tree c.loop-phase.messages c.loop-phase.invariant
     c.do_phase.new.tree c.do_phase.ensures.mended)
-    (phases_acted g.T.Tree moves c.args.table.now c.args.now c.args.phases.now c.args.tree.now c.args.messages.now i phase c.loop-phase-test.true is c.loop-phase.carried c.loop-phase.tree c.loop-phase.messages c.loop-phase.invariant c.do_phase.ensures.acted).ran
 
 pub returns-in_err-one-clause-framed : goal.returns-in_err-one-clause-framed
 returns-in_err-one-clause-framed g c =
@@ -119,10 +127,7 @@ returns-clause-acted g c =
 
 pub returns-clause-mended : goal.returns-clause-mended
 returns-clause-mended g c =
-    let t = g.T.Tree.state c.args.tree.now in
-    phases_mend c.args.table.now c.requires.lines c.lines-lines.ensures.distinct (IsStepOfSome (phases_course c.args.table.now c.args.now) c.args.phases.now t) c.args.now t
-    (g.T.Tree.steps c.args.tree.now) (g.T.Tree.state c.loop-phase.tree) (g.T.Tree.steps c.loop-phase.tree) c.ranges.now.fits c.look-root.ensures.tree c.args.phases.now
-    c.loop-phase.invariant.mending.law c.loop-phase.invariant.going.acted.ran
+    phases_mend c.args.table.now c.args.now (g.T.Tree.state c.args.tree.now) (drop (length (g.T.Tree.steps c.args.tree.now)) (g.T.Tree.steps c.loop-phase.tree)) c.args.phases.now (sym c.is_boot.ensures ∙ c.if-is_boot.false) c.loop-phase.invariant.mending.law
 
 pub returns-clause-framed : goal.returns-clause-framed
 returns-clause-framed g c =
@@ -162,3 +167,13 @@ returns-clause-gives g c =
     phases_give c.args.table.now c.requires.lines c.args.now (g.T.Tree.state c.args.tree.now)
     (g.T.Tree.steps c.args.tree.now) (g.T.Tree.state c.loop-phase.tree) (g.T.Tree.steps c.loop-phase.tree) c.ranges.now.fits c.look-root.ensures.tree c.args.phases.now
     c.loop-phase.invariant.going.acted.ran
+
+pub returns-then-is_boot-clause-between : goal.returns-then-is_boot-clause-between
+returns-then-is_boot-clause-between g c =
+    subst (λ (ps : List Phase). IsBetweenBy ps c.args.table.now c.args.now (g.T.Tree.state c.args.tree.now) (drop (length (g.T.Tree.steps c.args.tree.now)) (g.T.Tree.steps c.boot_run.new.tree)))
+    (sym (boot_is c.args.phases.now (sym c.is_boot.ensures ∙ c.if-is_boot.true))) c.boot_run.ensures.between
+
+pub returns-then-is_boot-clause-gives : goal.returns-then-is_boot-clause-gives
+returns-then-is_boot-clause-gives g c =
+    subst (λ (ps : List Phase). GiveBy ps c.args.table.now c.args.now (g.T.Tree.state c.args.tree.now) (drop (length (g.T.Tree.steps c.args.tree.now)) (g.T.Tree.steps c.boot_run.new.tree)))
+    (sym (boot_is c.args.phases.now (sym c.is_boot.ensures ∙ c.if-is_boot.true))) c.boot_run.ensures.gives
