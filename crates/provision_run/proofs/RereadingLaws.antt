@@ -25,7 +25,7 @@ use Rattle.pv_table.specs.Active.{active}
 use Rattle.pv_table.specs.Created.{after_each}
 use Rattle.pv_text.specs.Facts.{Values}
 use Rattle.pv_words.specs.declared.options.Options.{Options}
-use Rattle.provision_run.specs.Rereading.{ArePlain, IsMendedAnew, IsReread, LeaveInput, MayMend, MayRepeat}
+use Rattle.provision_run.specs.Rereading.{IsMendedAnew, IsReread, LeaveInput, MayMend, MayRepeat}
 use Rattle.provision_run.specs.Phased.{is_phases_step, phases_way, run_lines}
 use Rattle.pv_path.proofs.Tests.{all_take}
 

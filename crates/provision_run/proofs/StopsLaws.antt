@@ -16,7 +16,7 @@ use Rattle.pv_phases.specs.declared.phase.Phase.TheVariants.{Remove, Clean, Crea
 use Rattle.pv_steps.specs.declared.step.Step.{Step}
 use Rattle.pv_steps.specs.Runs.{after_all}
 use Rattle.pv_steps.specs.Same.{Same}
-use Rattle.pv_steps.specs.Trees.{Files, places}
+use Rattle.pv_steps.specs.Trees.{Files}
 use Rattle.pv_table.specs.Removed.{removed}
 use Rattle.pv_text.specs.Facts.{Values}
 use Rattle.pv_words.specs.declared.asked.Asked.{Asked}
