@@ -18,6 +18,7 @@ use Rattle.provision_run.specs.Tasks.{task_of}
 use Rattle.provision_run.specs.Words.{moment_of}
 use Rattle.provision_run.proofs.TaskLaws.{front_by}
 use Rattle.provision_run.specs.Framed.{IsFramedIn}
+use Rattle.provision_run.specs.OnTheWay.{IsOnTheWayIn}
 use Rattle.provision_run.specs.Swept.{IsSweptIn}
 use Rattle.provision_run.specs.Whole.{final, HasSaidBy, HasSaidStoppedBy, IsMendedAnewIn, IsMendedIn, is_run_step, IsSaid, read_messages, run_end, run_way, run_work}
 use Rattle.provision_run.specs.Answers.{IsAnswer, IsAnswered, IsRun, IsWhole, IsStopped, IsOwn, outcome_of, outcome, stopped_text, most_bytes}
@@ -140,9 +141,9 @@ module _ (options : Options) (facts : Values) (moment : ℕ) (t u : Files) (h k 
   all_told = ran.recorded ∙ ap (λ x. x ++ ran.steps) start
 
   pub whole_run : (found : Outcome) (out : List ℕ) (said : List (List ℕ)) → IsSaid options facts moment t said → found ≡ outcome options facts moment t → u ≡ final options facts moment t
-      → IsSweptIn (task_of options) options facts moment t u → out ≡ messages_text (read_messages options facts t ++ said) ++ text_of facts u → IsImage out facts u → IfSome options.stop_after (λ n. length k ≤ n)
+      → IsSweptIn (task_of options) options facts moment t u → IsFramedIn (task_of options) options facts moment t (drop (length h) k) → out ≡ messages_text (read_messages options facts t ++ said) ++ text_of facts u → IsImage out facts u → IfSome options.stop_after (λ n. length k ≤ n)
       → IsWhole options facts moment t found out
-  whole_run found out said is_said is end staged text image few = record {
+  whole_run found out said is_said is end staged framed text image few = record {
     end = is;
     said = said;
     is_said = is_said;
@@ -153,6 +154,7 @@ module _ (options : Options) (facts : Values) (moment : ℕ) (t u : Files) (h k 
     asked = ran.gives;
     reached = sym end ∙ ran.reached;
     within = subst (λ x. IfSome options.stop_after (λ n. length x ≤ n)) all_told few;
+    framed = subst (IsFramedIn (task_of options) options facts moment t) (ap (λ x. drop (length x) k) start ∙ all_told) framed;
     staged = subst (IsSweptIn (task_of options) options facts moment t) end staged;
   }
 
@@ -163,8 +165,9 @@ module _ (options : Options) (facts : Values) (moment : ℕ) (t u : Files) (h k 
       → IsMendedIn (task_of options) options facts moment t (drop (length h) k)
       → IsMendedAnewIn (task_of options) options facts moment t (drop (length h) k)
       → IsFramedIn (task_of options) options facts moment t (drop (length h) k)
+      → IsOnTheWayIn (task_of options) options facts moment t (drop (length h) k)
       → IsStopped options facts moment t n out
-  stopped_run n out said limit count bound stopped text image mended anew framed = record {
+  stopped_run n out said limit count bound stopped text image mended anew framed between = record {
     limit = limit;
     fewer = fewer;
     steps = ran.steps;
@@ -180,6 +183,7 @@ module _ (options : Options) (facts : Values) (moment : ℕ) (t u : Files) (h k 
     mended = subst (IsMendedIn (task_of options) options facts moment t) (ap (λ x. drop (length x) k) start ∙ all_told) mended;
     anew = subst (IsMendedAnewIn (task_of options) options facts moment t) (ap (λ x. drop (length x) k) start ∙ all_told) anew;
     framed = subst (IsFramedIn (task_of options) options facts moment t) (ap (λ x. drop (length x) k) start ∙ all_told) framed;
+    between = subst (IsOnTheWayIn (task_of options) options facts moment t) (ap (λ x. drop (length x) k) start ∙ all_told) between;
   }
     where
       fewer : n < run_work options facts moment t
@@ -192,16 +196,17 @@ module _ (options : Options) (facts : Values) (moment : ℕ) (t u : Files) (h k 
 module _ (options : Options) (facts : Values) (moment : ℕ) (old new : Held) (start : old.steps ≡ [])
     (ran : Ran (run_way options facts moment old.files) (is_run_step options facts moment old.files) moment old.files old.steps new.files new.steps) (kept : Held) (same : kept ≡ new) where
   pub whole_answered : (e : RunEnd) → e ≡ run_end options facts moment old.files → new.files ≡ final options facts moment old.files
-      → IsSweptIn (task_of options) options facts moment old.files new.files → (said : List (List ℕ)) → HasSaidBy (task_of options) options facts moment old.files [] said
+      → IsSweptIn (task_of options) options facts moment old.files new.files
+      → IsFramedIn (task_of options) options facts moment old.files (drop (length old.steps) new.steps) → (said : List (List ℕ)) → HasSaidBy (task_of options) options facts moment old.files [] said
       → {E : Type 0} (r : Result Answer E) → IfOk r (λ a. a.outcome ≡ outcome_of e) → IfOk r (λ a. a.output.items ≡ messages_text said ++ text_of facts kept.files)
       → IfOk r (λ a. IsImage a.output.items facts kept.files)
       → IfOk r (λ _. IfSome options.stop_after (λ n. length kept.steps ≤ n))
       → IfOk r (λ a. IsAnswered options facts moment old.files a.outcome a.output.items)
-  whole_answered e is end staged said all (Err f) found text image few = tt
-  whole_answered e is end staged said all (Ok a) found text image few =
+  whole_answered e is end staged framed said all (Err f) found text image few = tt
+  whole_answered e is end staged framed said all (Ok a) found text image few =
       answered_whole options facts moment old.files e a.outcome a.output.items found
       (whole_run options facts moment old.files new.files old.steps new.steps start ran a.outcome a.output.items all.0 all.1.0
-      (found ∙ ap outcome_of is) end staged
+      (found ∙ ap outcome_of is) end staged framed
       (text ∙ ap (λ x. messages_text x ++ text_of facts kept.files) all.1.1 ∙ ap (λ (x : Held). messages_text (read_messages options facts old.files ++ all.0) ++ text_of facts x.files) same)
       (subst (λ (x : Held). IsImage a.output.items facts x.files) same image)
       (subst (λ (x : Held). IfSome options.stop_after (λ n. length x.steps ≤ n)) same few))
@@ -212,16 +217,17 @@ module _ (options : Options) (facts : Values) (moment : ℕ) (old new : Held) (s
       → IsMendedIn (task_of options) options facts moment old.files (drop (length old.steps) new.steps)
       → IsMendedAnewIn (task_of options) options facts moment old.files (drop (length old.steps) new.steps)
       → IsFramedIn (task_of options) options facts moment old.files (drop (length old.steps) new.steps)
+      → IsOnTheWayIn (task_of options) options facts moment old.files (drop (length old.steps) new.steps)
       → {E : Type 0} (r : Result Answer E) → IfOk r (λ a. a.outcome ≡ Stopped n) → IfOk r (λ _. length kept.steps ≡ n)
       → IfOk r (λ a. a.output.items ≡ messages_text (said ++ stopped_text n ∷ []) ++ text_of facts kept.files)
       → IfOk r (λ a. IsImage a.output.items facts kept.files)
       → IfOk r (λ a. IsAnswered options facts moment old.files a.outcome a.output.items)
-  stopped_answered n said limit bound part mended anew framed (Err f) found count text image = tt
-  stopped_answered n said limit bound part mended anew framed (Ok a) found count text image =
+  stopped_answered n said limit bound part mended anew framed between (Err f) found count text image = tt
+  stopped_answered n said limit bound part mended anew framed between (Ok a) found count text image =
       subst (λ x. IsAnswered options facts moment old.files x a.output.items) (sym found)
       (stopped_run options facts moment old.files new.files old.steps new.steps start ran n a.output.items said limit
       (ap (λ (x : Held). length x.steps) (sym same) ∙ count) bound part
-      (text ∙ ap (λ (x : Held). messages_text (said ++ stopped_text n ∷ []) ++ text_of facts x.files) same) (subst (λ (x : Held). IsImage a.output.items facts x.files) same image) mended anew framed)
+      (text ∙ ap (λ (x : Held). messages_text (said ++ stopped_text n ∷ []) ++ text_of facts x.files) same) (subst (λ (x : Held). IsImage a.output.items facts x.files) same image) mended anew framed between)
 
 -- the same over a tree that is another by name alone
 pub over_same : (options : Options) (facts : Values) (moment : ℕ) (a b : Held) → a ≡ b → {E : Type 0} (r : Result Answer E)

@@ -13,7 +13,7 @@ use Rattle.pv_words.specs.declared.options.Options.{Options}
 use Rattle.provision_run.specs.Generated.{IsToldOf, create_alone, created, created_text, generated_moment, generated_text, lines_in, no_facts, overlaps_text}
 use Rattle.provision_run.specs.Messages.{message, messages_text}
 use Rattle.provision_run.specs.Tasks.{task_of}
-use Rattle.provision_run.specs.Whole.{HasSaidBy, final, read_messages}
+use Rattle.provision_run.specs.Whole.{HasSaidBy, final}
 
 -- the lines that are read without facts and file words
 pub read_lines : (t : Files) (facts : Values) (words : List (List ℕ)) (lines : List Line) → lines ≡ (configured t facts words).lines → facts ≡ no_facts → words ≡ [] → lines ≡ lines_in t

@@ -9,14 +9,15 @@ use Rattle.pv_image.proofs.ImageLaws.{one_image}
 use Rattle.pv_laws.proofs.Moments.{quiet_same}
 use Rattle.pv_table.proofs.ListedLaws.{all_map}
 use Rattle.pv_lines.specs.declared.line.Line.{Line}
+use Rattle.pv_phases.proofs.WayLaws.{removed_alike}
+use Rattle.pv_phases.specs.Phases.{phases_of}
 use Rattle.pv_phases.specs.declared.phase.Phase.{Phase}
 use Rattle.pv_phases.specs.declared.phase.Phase.TheVariants.{Remove, Clean, Create, Purge}
 use Rattle.pv_steps.specs.declared.step.Step.{Step}
 use Rattle.pv_steps.specs.Runs.{after_all}
 use Rattle.pv_steps.specs.Same.{Same}
 use Rattle.pv_steps.specs.Trees.{Files}
-use Rattle.pv_table.specs.declared.reason.Reason.TheVariants as reason
-use Rattle.pv_table.specs.Repeatable.{HasReason, IsRepeatable}
+use Rattle.pv_table.specs.Removed.{removed}
 use Rattle.pv_text.specs.Facts.{Values}
 use Rattle.pv_words.specs.declared.asked.Asked.{Asked}
 use Rattle.pv_words.specs.declared.options.Options.{Options}
@@ -28,12 +29,12 @@ use Rattle.provision_run.specs.declared.task.Task.TheVariants.{Phases, Report, A
 use Rattle.provision_run.specs.Accounts.{run_requests}
 use Rattle.provision_run.specs.Answers.{HasOutputBy, IsAnswer, IsAnswered, IsRun, IsStopped, IsWhole, outcome_of}
 use Rattle.provision_run.specs.Phased.{phased, run_lines}
-use Rattle.provision_run.specs.Rereading.{AreAccountsMendedAnew, AreRequestsReread, ArePlain, ArePlainRequests, AsksFor, IsMendedAnew, IsReread, LeavesInput, MayMend}
-use Rattle.provision_run.specs.Stops.{AreImages, EndAlikeAfter, HasEndedOver, HasStopped, HasStoppedOver, HaveStopped, HaveStoppedOver, IsCalm, IsCalmOver, MayRepeat, unlimited}
+use Rattle.provision_run.specs.Rereading.{AreAccountsMendedAnew, AreRequestsReread, ArePlain, ArePlainRequests, IsMendedAnew, IsQuietBy, IsReread, MayMend, MayRepeat}
+use Rattle.provision_run.specs.Stops.{AreImages, EndAlikeAfter, HasEndedOver, HasStopped, HasStoppedOver, HaveStopped, HaveStoppedOver, IsCalm, IsCalmOver, unlimited}
 use Rattle.provision_run.specs.Tasks.{task_of}
 use Rattle.provision_run.specs.Whole.{final, final_by, IsMendedAnewIn}
 use Rattle.provision_run.specs.Words.{moment_of}
-use Rattle.provision_run.proofs.RereadingLaws.{lines_reread}
+use Rattle.provision_run.proofs.RereadingLaws.{leaves_input, lines_reread}
 
 -- none of some steps are taken
 none_done : (t : Files) (steps : List Step) (now : ℕ) → after_all t (take 0 steps) now ≡ t
@@ -42,66 +43,67 @@ none_done t (step ∷ steps) now = refl
 
 -- ---- phases, over trees
 
+-- that no line is refused at a turn needs no moment
+quiet_by : (phases : List Phase) (lines : List Line) (now later : ℕ) (t : Files) → IsQuietBy phases lines now t → IsQuietBy phases lines later t
+quiet_by (Create ∷ []) lines now later t quiet = quiet_same lines now later t t (λ q. refl) quiet
+quiet_by (Remove ∷ Create ∷ []) lines now later t quiet = quiet_same lines now later (removed lines now t) (removed lines later t) (removed_alike lines now later t) quiet
+quiet_by [] lines now later t quiet = tt
+quiet_by (Remove ∷ []) lines now later t quiet = tt
+quiet_by (Remove ∷ Remove ∷ phases) lines now later t quiet = tt
+quiet_by (Remove ∷ Clean ∷ phases) lines now later t quiet = tt
+quiet_by (Remove ∷ Create ∷ next ∷ phases) lines now later t quiet = tt
+quiet_by (Remove ∷ Purge ∷ phases) lines now later t quiet = tt
+quiet_by (Clean ∷ phases) lines now later t quiet = tt
+quiet_by (Create ∷ next ∷ phases) lines now later t quiet = tt
+quiet_by (Purge ∷ phases) lines now later t quiet = tt
+
 module _ (options : Options) (facts : Values) where
-  -- what lines may not change stays
-  input_of : (phase : Phase) (t : Files) → MayRepeat phase options facts t → LeavesInput options facts t
-  input_of Create t may = λ i. may i reason.Input
-  input_of Remove t may = may
-  input_of Purge t may = may
-  input_of Clean t may = absurd may
-
-  -- what is asked of the first tree holds where the same lines are read
-  may_as : (phase : Phase) (t u : Files) → run_lines options facts u ≡ run_lines options facts t → MayRepeat phase options facts t → MayRepeat phase options facts u
-  may_as Create t u same may = subst IsRepeatable (sym same) may
-  may_as Remove t u same may = subst (λ (lines : List Line). (i : ℕ) → HasReason lines i reason.Input → ⊥) (sym same) may
-  may_as Purge t u same may = subst (λ (lines : List Line). (i : ℕ) → HasReason lines i reason.Input → ⊥) (sym same) may
-  may_as Clean t u same may = absurd may
-
-  -- what the law for one stop asks
-  may_mend : (phase : Phase) → AsksFor options phase → (moment later : ℕ) (t u : Files) → MayRepeat phase options facts t → IsCalm options facts t → IsCalm options facts u
-      → MayMend phase options facts moment t later u
-  may_mend Create alone moment later t u may calm still = (
+  -- what the law for one stop asks, where the same lines are read
+  may_mend : (moment later : ℕ) (t u : Files) → run_lines options facts u ≡ run_lines options facts t → MayRepeat (phases_of options) (run_lines options facts t) → IsCalm options facts t → IsCalm options facts u
+      → MayMend (phases_of options) (run_lines options facts t) moment t later u
+  may_mend moment later t u same may calm still = (
     may,
     (
-      quiet_same (run_lines options facts t) (calm alone).0 moment t t (λ q. refl) (calm alone).1,
-      quiet_same (run_lines options facts u) (still alone).0 later u u (λ q. refl) (still alone).1,
+      calm.0,
+      (
+        quiet_by (phases_of options) (run_lines options facts t) calm.1.0 moment t calm.1.1,
+        quiet_by (phases_of options) (run_lines options facts t) still.1.0 later u (subst (λ (lines : List Line). IsQuietBy (phases_of options) lines still.1.0 u) same still.1.1),
+      ),
     ),
   )
-  may_mend Remove alone moment later t u may calm still = may
-  may_mend Purge alone moment later t u may calm still = may
-  may_mend Clean alone moment later t u may calm still = absurd may
 
-  module _ (phase : Phase) (alone : AsksFor options phase) (plain : ArePlain options) (is : task_of options ≡ Phases) where
-    module _ (moment : ℕ) (t v : Files) (may : MayRepeat phase options facts t) (stop : HasStopped options facts moment t v) where
+  module _ (plain : ArePlain options) (is : task_of options ≡ Phases) where
+    module _ (moment : ℕ) (t v : Files) (may : MayRepeat (phases_of options) (run_lines options facts t)) (stop : HasStopped options facts moment t v) where
       told : IsReread options facts moment t stop.steps × IsMendedAnew options facts moment t stop.steps
       unfolding IsMendedAnewIn
       told = subst (λ (task : Task). IsMendedAnewIn task options facts moment t stop.steps) is stop.anew
 
+      kept_at : (n : ℕ) → run_lines options facts (after_all t (take n stop.steps) moment) ≡ run_lines options facts t
+      kept_at n = lines_reread options facts t (after_all t (take n stop.steps) moment) (told.0 n plain (leaves_input (phases_of options) (run_lines options facts t) may))
+
       lines_kept : run_lines options facts v ≡ run_lines options facts t
-      lines_kept =
-          ap (λ (w : Files). run_lines options facts w) stop.left
-          ∙ lines_reread options facts t (after_all t (take stop.count stop.steps) moment) (told.0 stop.count phase alone plain (input_of phase t may))
+      lines_kept = ap (λ (w : Files). run_lines options facts w) stop.left ∙ kept_at stop.count
 
       one_mended : IsCalm options facts t → IsCalm options facts v → (later : ℕ) → Same (phased options facts later v) (phased options facts moment t)
       one_mended calm still later =
           subst (λ (w : Files). Same (phased options facts later w) (phased options facts moment t)) (sym stop.left)
-          (told.1 stop.count later phase alone plain
-          (may_mend phase alone moment later t (after_all t (take stop.count stop.steps) moment) may calm (subst (IsCalm options facts) stop.left still)))
+          (told.1 stop.count later plain
+          (may_mend moment later t (after_all t (take stop.count stop.steps) moment) (kept_at stop.count) may calm (subst (IsCalm options facts) stop.left still)))
 
       -- a run needs no moment
       any_moment : IsCalm options facts t → (first : ℕ) → Same (phased options facts first t) (phased options facts moment t)
       any_moment calm first =
           let none = none_done t stop.steps moment in
           subst (λ (w : Files). Same (phased options facts first w) (phased options facts moment t)) none
-          (told.1 0 first phase alone plain (may_mend phase alone moment first t (after_all t (take 0 stop.steps) moment) may calm (subst (IsCalm options facts) (sym none) calm)))
+          (told.1 0 first plain (may_mend moment first t (after_all t (take 0 stop.steps) moment) (kept_at 0) may calm (subst (IsCalm options facts) (sym none) calm)))
 
-    pub phases_mended : (moments : List ℕ) (moment first later : ℕ) (t u : Files) → MayRepeat phase options facts t → HaveStopped options facts (moment ∷ moments) t u → IsCalm options facts u
+    pub phases_mended : (moments : List ℕ) (moment first later : ℕ) (t u : Files) → MayRepeat (phases_of options) (run_lines options facts t) → HaveStopped options facts (moment ∷ moments) t u → IsCalm options facts u
         → Same (phased options facts later u) (phased options facts first t)
     phases_mended [] moment first later t u may (calm, (v, (stop, is_v))) still =
         subst (λ (w : Files). Same (phased options facts later w) (phased options facts first t)) (sym is_v) (λ q bare.
         one_mended moment t v may stop calm (subst (IsCalm options facts) is_v still) later q bare ∙ sym (any_moment moment t v may stop calm first q bare))
     phases_mended (next ∷ moments) moment first later t u may (calm, (v, (stop, more))) still = λ q bare.
-        phases_mended moments next next later v u (may_as phase t v (lines_kept moment t v may stop) may) more still q bare
+        phases_mended moments next next later v u (subst (MayRepeat (phases_of options)) (sym (lines_kept moment t v may stop)) may) more still q bare
         ∙ one_mended moment t v may stop calm more.0 next q bare ∙ sym (any_moment moment t v may stop calm first q bare)
 
 -- ---- accounts, over trees
@@ -150,16 +152,9 @@ module _ (options : Options) (facts : Values) (plain : ArePlainRequests options)
 -- ---- over bytes
 
 -- neither the limit nor the moment of options counts
-mend_unlimited : (phase : Phase) (options : Options) (facts : Values) (moment : ℕ) (t : Files) (later : ℕ) (u : Files) → MayMend phase (unlimited options) facts moment t later u → MayMend phase options facts moment t later u
-mend_unlimited Create options facts moment t later u may = may
-mend_unlimited Remove options facts moment t later u may = may
-mend_unlimited Purge options facts moment t later u may = may
-mend_unlimited Clean options facts moment t later u may = may
-
 anew_unlimited : (task : Task) (options : Options) (facts : Values) (moment : ℕ) (t : Files) (steps : List Step) → IsMendedAnewIn task options facts moment t steps → IsMendedAnewIn task (unlimited options) facts moment t steps
 unfolding IsMendedAnewIn
-anew_unlimited Phases options facts moment t steps h =
-    (h.0, λ n later phase alone plain may. h.1 n later phase alone plain (mend_unlimited phase options facts moment t later (after_all t (take n steps) moment) may))
+anew_unlimited Phases options facts moment t steps h = h
 anew_unlimited Report options facts moment t steps h = h
 anew_unlimited Accounts options facts moment t steps h = h
 
@@ -168,12 +163,6 @@ unfolding final_by
 final_unlimited Phases options facts moment t = refl
 final_unlimited Report options facts moment t = refl
 final_unlimited Accounts options facts moment t = refl
-
-may_unlimited : (phase : Phase) (options : Options) (facts : Values) (t : Files) → MayRepeat phase options facts t → MayRepeat phase (unlimited options) facts t
-may_unlimited Create options facts t may = may
-may_unlimited Remove options facts t may = may
-may_unlimited Purge options facts t may = may
-may_unlimited Clean options facts t may = may
 
 module _ (options : Options) where
   -- a run of a tree and its facts, whose image the input is
@@ -255,12 +244,12 @@ module _ (options : Options) where
       holds = holds;
     }
 
-    pub phases_over : (phase : Phase) → task_of options ≡ Phases → AsksFor options phase → ArePlain options → MayRepeat phase options facts t → IsCalmOver options last
+    pub phases_over : task_of options ≡ Phases → ArePlain options → MayRepeat (phases_of options) (run_lines options facts t) → IsCalmOver options last
         → AreImages (λ one two. Same two one) out again
     unfolding final_by
-    phases_over phase is alone plain may calm = both_images (λ one two. Same two one)
+    phases_over is plain may calm = both_images (λ one two. Same two one)
         (subst (λ (task : Task). Same (final_by task (unlimited options) facts later chain.0) (final_by task (unlimited options) facts first t)) (sym is)
-        (phases_mended (unlimited options) facts phase alone plain is moments moment first later t chain.0 (may_unlimited phase options facts t may) chain.1.1 (calm facts chain.0 chain.1.0)))
+        (phases_mended (unlimited options) facts plain is moments moment first later t chain.0 may chain.1.1 (calm facts chain.0 chain.1.0)))
 
     pub accounts_over : task_of options ≡ Accounts → ArePlainRequests options → AreImages (EndAlikeAfter first (later ∷ moment ∷ moments)) out again
     unfolding final_by

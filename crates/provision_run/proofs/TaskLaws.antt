@@ -7,6 +7,7 @@ use Rattle.pv_accounts_run.specs.Carrying.{AccountWay, IsAccountStep}
 use Rattle.pv_accounts_run.specs.Mended as accounts
 use Rattle.pv_accounts_run.specs.Swept as swept
 use Rattle.pv_create.specs.OnTheWay.{IsFramed}
+use Rattle.pv_phases.specs.OnTheWay.{GiveBy, IsBetweenBy}
 use Rattle.pv_phases.specs.Phases.{HasSaidStopped, IsMendedBy, phases_of}
 use Rattle.pv_phases.specs.Swept.{IsSweptBy}
 use Rattle.pv_phases.proofs.PhaseLaws.{stopped_front}
@@ -24,6 +25,7 @@ use Rattle.provision_run.specs.declared.task.Task.{Task}
 use Rattle.provision_run.specs.declared.task.Task.TheVariants.{Phases, Report, Accounts}
 use Rattle.provision_run.specs.Accounts.{account_messages, accounts_end, accounts_work, requests_messages, run_edits, run_requests}
 use Rattle.provision_run.specs.Framed.{AreAccountsFramed, IsFramedIn}
+use Rattle.provision_run.specs.OnTheWay.{IsOnTheWayIn}
 use Rattle.provision_run.specs.Phased.{is_phases_step, lines_messages, phase_messages, phased, phases_end, phases_way, phases_work, run_lines}
 use Rattle.provision_run.specs.Reported.{HasReported, HasReportedPart, report_end}
 use Rattle.provision_run.specs.Rereading.{AreAccountsMendedAnew, AreRequestsReread, IsMendedAnew, IsReread}
@@ -84,6 +86,11 @@ module _ (options : Options) (facts : Values) (moment : ℕ) (t : Files) where
   unfolding IsFramedIn
   phases_framed k is steps h = subst (λ (j : Task). IsFramedIn j options facts moment t steps) is h
 
+  pub phases_between : (k : Task) → Phases ≡ k → (steps : List Step) → IsBetweenBy (phases_of options) (run_lines options facts t) moment t steps → GiveBy (phases_of options) (run_lines options facts t) moment t steps
+      → IsOnTheWayIn k options facts moment t steps
+  unfolding IsOnTheWayIn
+  phases_between k is steps between gives = subst (λ (j : Task). IsOnTheWayIn j options facts moment t steps) is (between, gives)
+
   -- ---- accounts
 
   pub accounts_left : (k : Task) → Accounts ≡ k → (r : Result RunEnd TreeFault) (u : Files) → OnOk r (u ≡ accounted (run_requests options facts t) moment t) → OnOk r (u ≡ final_by k options facts moment t)
@@ -129,6 +136,10 @@ module _ (options : Options) (facts : Values) (moment : ℕ) (t : Files) where
   unfolding IsFramedIn
   accounts_framed k is steps h = subst (λ (j : Task). IsFramedIn j options facts moment t steps) is h
 
+  pub accounts_between : (k : Task) → Accounts ≡ k → (steps : List Step) → IsOnTheWayIn k options facts moment t steps
+  unfolding IsOnTheWayIn
+  accounts_between k is steps = subst (λ (j : Task). IsOnTheWayIn j options facts moment t steps) is tt
+
   -- ---- reports
 
   pub report_left : (k : Task) → Report ≡ k → t ≡ final_by k options facts moment t
@@ -162,6 +173,10 @@ module _ (options : Options) (facts : Values) (moment : ℕ) (t : Files) where
   pub report_framed : (k : Task) → Report ≡ k → (told : List Step) → IsFramedIn k options facts moment t (drop (length told) told)
   unfolding IsFramedIn
   report_framed k is told = subst (λ (j : Task). IsFramedIn j options facts moment t (drop (length told) told)) is (drop-length told)
+
+  pub report_between : (k : Task) → Report ≡ k → (steps : List Step) → IsOnTheWayIn k options facts moment t steps
+  unfolding IsOnTheWayIn
+  report_between k is steps = subst (λ (j : Task). IsOnTheWayIn j options facts moment t steps) is tt
 
 module _ {S : Type 0} (tree : Ghosts S) (options : Options) (facts : Values) (moment : ℕ) (t : Files) where
   pub phases_acted : (k : Task) → Phases ≡ k → (a b : S) (r : Result RunEnd TreeFault)

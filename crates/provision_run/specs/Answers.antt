@@ -17,6 +17,7 @@ use Rattle.provision_run.specs.declared.outcome.Outcome.TheVariants.{Done, Confi
 use Rattle.provision_run.specs.declared.ending.RunEnd.{RunEnd}
 use Rattle.provision_run.specs.declared.ending.RunEnd.TheVariants as end
 use Rattle.provision_run.specs.Framed.{IsFramedIn}
+use Rattle.provision_run.specs.OnTheWay.{IsOnTheWayIn}
 use Rattle.provision_run.specs.Swept.{IsSweptIn}
 use Rattle.provision_run.specs.Tasks.{task_of}
 use Rattle.provision_run.specs.Words.{moment_of}
@@ -74,8 +75,8 @@ abbrev pub output : Options → Values → ℕ → Files → List (List ℕ) →
 output options facts moment t said = messages_text (read_messages options facts t ++ said) ++ text_of facts (final options facts moment t)
 
 -- a run that was not stopped: how it ended and what it has written, which is an image again; legal steps, each one that
--- the lines ask for, lead to the tree that it leaves, no more than the limit where one was given, and nothing is left there
--- at the staging names of what it made
+-- the lines ask for, lead to the tree that it leaves, no more than the limit where one was given, with its frame at each
+-- moment, and nothing is left there at the staging names of what it made
 pub record IsWhole (options : Options) (facts : Values) (moment : ℕ) (t : Files) (found : Outcome) (out : List ℕ) : Type 0 where
   pub end : found ≡ outcome options facts moment t
   pub said : List (List ℕ)
@@ -87,6 +88,7 @@ pub record IsWhole (options : Options) (facts : Values) (moment : ℕ) (t : File
   pub asked : AllByRecursion (is_run_step options facts moment t) steps
   pub reached : final options facts moment t ≡ after_all t steps moment
   pub within : IfSome options.stop_after (λ n. length steps ≤ n)
+  pub framed : IsFramedIn (task_of options) options facts moment t steps
   pub staged : IsSweptIn (task_of options) options facts moment t (final options facts moment t)
 
 -- ---- stopped runs
@@ -98,8 +100,9 @@ stopped_text n = codes "stopped after " ++ decimal n ++ codes " steps"
 -- what a run has written that was stopped after n steps, which are fewer than the most that it takes: what is said in
 -- reading, the first of what is said then (in the phases, of the one that was stopped what it says at work), that it was
 -- stopped, and the image of the tree after the n steps, each one that the lines ask for; this is an image again, and where
--- it has one phase, or makes accounts, the stop law of it holds, also where the lines are read anew of that tree; whatever
--- it does, its frame holds
+-- it has one phase, is the boot command or makes accounts, the stop law of it holds, also where the lines are read anew of
+-- that tree; whatever it does, its frame holds; and creating, alone or in the boot command, is on its way, and its steps give
+-- what lines leave
 pub record IsStopped (options : Options) (facts : Values) (moment : ℕ) (t : Files) (n : ℕ) (out : List ℕ) : Type 0 where
   pub limit : options.stop_after ≡ Some n
   pub fewer : n < run_work options facts moment t
@@ -115,6 +118,7 @@ pub record IsStopped (options : Options) (facts : Values) (moment : ℕ) (t : Fi
   pub mended : IsMendedIn (task_of options) options facts moment t steps
   pub anew : IsMendedAnewIn (task_of options) options facts moment t steps
   pub framed : IsFramedIn (task_of options) options facts moment t steps
+  pub between : IsOnTheWayIn (task_of options) options facts moment t steps
 
 -- ---- answers
 

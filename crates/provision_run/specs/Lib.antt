@@ -11,4 +11,5 @@ pub mod Generated
 pub mod Answers
 pub mod Stops
 pub mod Framed
+pub mod OnTheWay
 pub mod Swept

@@ -1,5 +1,5 @@
 -- The stop laws of a run that reads its lines anew of the tree that a stopped run has left (tmpfiles.d(5), sysusers.d(5)).
-use Rattle.std.specs.Prelude.{◌≡◌, ℕ, List, [], ◌∷◌, take}
+use Rattle.std.specs.Prelude.{◌≡◌, ℕ, false, List, [], ◌∷◌, take, ⊤}
 use Rattle.std.specs.List.{AllByRecursion}
 use Rattle.pv_accounts_run.specs.Accounted.{accounted}
 use Rattle.pv_accounts_run.specs.Mended.{EndAlike}
@@ -8,15 +8,18 @@ use Rattle.pv_conf.specs.Known.{configured}
 use Rattle.pv_conf.specs.Requested.{requested}
 use Rattle.pv_layers.specs.Places.{is_input}
 use Rattle.pv_layers.specs.Inputs.{IsPlain}
+use Rattle.pv_laws.specs.Stopping.{CopiesNothing}
+use Rattle.pv_lines.specs.declared.line.Line.{Line}
 use Rattle.pv_phases.specs.Phases.{phases_of}
 use Rattle.pv_phases.specs.declared.phase.Phase.{Phase}
-use Rattle.pv_phases.specs.declared.phase.Phase.TheVariants.{Create, Clean}
+use Rattle.pv_phases.specs.declared.phase.Phase.TheVariants.{Remove, Create, Purge}
 use Rattle.pv_steps.specs.declared.step.Step.{Step}
 use Rattle.pv_steps.specs.Runs.{after_all}
 use Rattle.pv_steps.specs.Same.{Same}
 use Rattle.pv_steps.specs.Trees.{Files}
 use Rattle.pv_table.specs.declared.reason.Reason.TheVariants as reason
 use Rattle.pv_table.specs.Created.{IsQuiet}
+use Rattle.pv_table.specs.Removed.{is_unfinished, removed}
 use Rattle.pv_table.specs.Repeatable.{HasReason, IsRepeatable}
 use Rattle.pv_text.specs.Facts.{Values}
 use Rattle.pv_words.specs.declared.options.Options.{Options}
@@ -30,34 +33,47 @@ abbrev pub ArePlain : Options → Type 0
 ArePlain options = AllByRecursion (IsPlain is_input) options.words
 
 -- no line may change what lines are read from
-abbrev pub LeavesInput : Options → Values → Files → Type 0
-LeavesInput options facts t = (i : ℕ) → HasReason (run_lines options facts t) i reason.Input → ⊥
+abbrev pub LeaveInput : List Line → Type 0
+LeaveInput lines = (i : ℕ) → HasReason lines i reason.Input → ⊥
 
--- one phase alone is asked for
-abbrev pub AsksFor : Options → Phase → Type 0
-AsksFor options phase = phases_of options ≡ phase ∷ []
-
--- a run of one phase, stopped after any of these steps, has left a tree of which the same is read: the same lines and
--- messages, the same lines refused, the same file words not found
+-- a run of phases, stopped after any of these steps, has left a tree of which the same is read: the same lines and messages,
+-- the same lines refused, the same file words not found
 abbrev pub IsReread : Options → Values → ℕ → Files → List Step → Type 0
-IsReread options facts moment t steps = (n : ℕ) (phase : Phase) → AsksFor options phase → ArePlain options → LeavesInput options facts t →
+IsReread options facts moment t steps = (n : ℕ) → ArePlain options → LeaveInput (run_lines options facts t) →
     configured (after_all t (take n steps) moment) facts options.words ≡ configured t facts options.words
 
--- what is asked of the lines, and of the tree that a stopped run left: in removing and purging that no line may change what
--- lines are read from; in creating that no line has a reason against it, and that neither a whole run from the start nor one
--- from there refuses a line at a turn. Of a clean that was stopped no second run is told
-abbrev pub MayMend : Phase → Options → Values → ℕ → Files → ℕ → Files → Type 0
-MayMend Create options facts moment t later u =
-    IsRepeatable (run_lines options facts t)
-    × (IsQuiet (run_lines options facts t) moment t × IsQuiet (run_lines options facts u) later u)
-MayMend Clean options facts moment t later u = ⊥
-MayMend phase options facts moment t later u = LeavesInput options facts t
+-- what is asked of the lines, by the phases: in removing and purging that none may change what lines are read from; in creating
+-- that none has a reason against it; in the boot command that none copies either. Of a clean, and of other phases one after the
+-- other, no second run is told
+abbrev pub MayRepeat : List Phase → List Line → Type 0
+MayRepeat (Remove ∷ []) lines = LeaveInput lines
+MayRepeat (Purge ∷ []) lines = LeaveInput lines
+MayRepeat (Create ∷ []) lines = IsRepeatable lines
+MayRepeat (Remove ∷ Create ∷ []) lines = IsRepeatable lines × AllByRecursion CopiesNothing lines
+MayRepeat phases lines = ⊥
 
--- a run of one phase, stopped after any of these steps: a whole run from there, which reads its lines anew, leaves the tree of
--- one whole run, stamps and staging names aside, at any moment
+-- what is asked of a tree from which a whole run begins: creating refuses no line at a turn, in the boot command over what
+-- removing leaves
+abbrev pub IsQuietBy : List Phase → List Line → ℕ → Files → Type 0
+IsQuietBy (Create ∷ []) lines now t = IsQuiet lines now t
+IsQuietBy (Remove ∷ Create ∷ []) lines now t = IsQuiet lines now (removed lines now t)
+IsQuietBy phases lines now t = ⊤
+
+-- and of the tree from which a run began that was stopped: in the boot command removing leaves nothing unfinished
+abbrev pub IsFinishedBy : List Phase → List Line → Files → Type 0
+IsFinishedBy (Remove ∷ Create ∷ []) lines t = is_unfinished lines t ≡ false
+IsFinishedBy phases lines t = ⊤
+
+-- what is asked of the lines, of the tree from which the stopped run began, and of the one that it left
+abbrev pub MayMend : List Phase → List Line → ℕ → Files → ℕ → Files → Type 0
+MayMend phases lines moment t later u =
+    MayRepeat phases lines × (IsFinishedBy phases lines t × (IsQuietBy phases lines moment t × IsQuietBy phases lines later u))
+
+-- a run of phases, stopped after any of these steps: a whole run from there, which reads its lines anew, leaves the tree of one
+-- whole run, stamps and staging names aside, at any moment
 abbrev pub IsMendedAnew : Options → Values → ℕ → Files → List Step → Type 0
-IsMendedAnew options facts moment t steps = (n later : ℕ) (phase : Phase) → AsksFor options phase → ArePlain options →
-    MayMend phase options facts moment t later (after_all t (take n steps) moment) →
+IsMendedAnew options facts moment t steps = (n later : ℕ) → ArePlain options →
+    MayMend (phases_of options) (run_lines options facts t) moment t later (after_all t (take n steps) moment) →
     Same (phased options facts later (after_all t (take n steps) moment)) (phased options facts moment t)
 
 -- ---- systemd-sysusers

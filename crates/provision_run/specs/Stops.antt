@@ -6,14 +6,11 @@ use Rattle.pv_accounts_run.specs.Accounted.{day_of, text_at}
 use Rattle.pv_accounts_run.specs.Carrying.{gshadow_path}
 use Rattle.pv_image.specs.Images.{IsImage}
 use Rattle.pv_layers.specs.Places.{group_path, passwd_path}
-use Rattle.pv_phases.specs.declared.phase.Phase.{Phase}
-use Rattle.pv_phases.specs.declared.phase.Phase.TheVariants.{Create, Clean}
+use Rattle.pv_phases.specs.Phases.{phases_of}
 use Rattle.pv_steps.specs.declared.step.Step.{Step}
 use Rattle.pv_steps.specs.Runs.{after_all}
 use Rattle.pv_steps.specs.Same.{Same}
 use Rattle.pv_steps.specs.Trees.{Files, places}
-use Rattle.pv_table.specs.Created.{IsQuiet}
-use Rattle.pv_table.specs.Repeatable.{IsRepeatable}
 use Rattle.pv_text.specs.Facts.{Values}
 use Rattle.pv_words.specs.declared.options.Options.{Options}
 use Rattle.pv_words.specs.Asked.{asked_of}
@@ -22,23 +19,19 @@ use Rattle.provision_run.specs.declared.ending.RunEnd.{RunEnd}
 use Rattle.provision_run.specs.declared.outcome.Outcome.TheVariants.{Stopped}
 use Rattle.provision_run.specs.Answers.{HasOutput, outcome_of}
 use Rattle.provision_run.specs.Phased.{run_lines}
-use Rattle.provision_run.specs.Rereading.{AsksFor, LeavesInput}
+use Rattle.provision_run.specs.Rereading.{IsFinishedBy, IsQuietBy}
 use Rattle.provision_run.specs.Tasks.{task_of}
 use Rattle.provision_run.specs.Whole.{IsMendedAnewIn}
 use Rattle.provision_run.specs.Words.{moment_of}
 
 -- ---- what is asked
 
--- of the lines that the first run reads: in creating that none has a reason against it, in removing and purging that none may
--- change what lines are read from. Of cleaning no second run is told
-abbrev pub MayRepeat : Phase → Options → Values → Files → Type 0
-MayRepeat Create options facts t = IsRepeatable (run_lines options facts t)
-MayRepeat Clean options facts t = ⊥
-MayRepeat phase options facts t = LeavesInput options facts t
-
--- of a tree: in creating that a whole run from there refuses no line at a turn, at some moment and so at each
+-- of a tree from which a run begins, by its phases and the lines that it reads there: removing leaves nothing unfinished, and
+-- creating refuses no line at a turn, at some moment and so at each
 abbrev pub IsCalm : Options → Values → Files → Type 0
-IsCalm options facts t = AsksFor options Create → ((moment : ℕ) × IsQuiet (run_lines options facts t) moment t)
+IsCalm options facts t =
+    IsFinishedBy (phases_of options) (run_lines options facts t) t
+    × ((moment : ℕ) × IsQuietBy (phases_of options) (run_lines options facts t) moment t)
 
 -- ---- over trees
 

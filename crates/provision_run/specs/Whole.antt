@@ -92,14 +92,14 @@ HasSaidStoppedBy task options facts moment t old new =
 
 -- ---- the stop laws
 
--- of a run of one phase, and of one that makes accounts; a report does no step
+-- of a run of one phase, of the boot command, and of a run that makes accounts; a report does no step
 unfoldable pub IsMendedIn : Task → Options → Values → ℕ → Files → List Step → Type 0
 IsMendedIn Phases options facts moment t steps = IsMendedBy (phases_of options) (run_lines options facts t) moment t steps
 IsMendedIn Report options facts moment t steps = steps ≡ []
 IsMendedIn Accounts options facts moment t steps = accounts.IsMended (run_requests options facts t) moment t steps
 
--- of a run of one phase, and of one that makes accounts: the same is read of the tree that it has left, and a second run,
--- which reads its lines there, mends it
+-- the same is read of the tree that it has left, and a second run, which reads its lines there, mends it: a run of one phase, the
+-- boot command, and a run that makes accounts
 unfoldable pub IsMendedAnewIn : Task → Options → Values → ℕ → Files → List Step → Type 0
 IsMendedAnewIn Phases options facts moment t steps = IsReread options facts moment t steps × IsMendedAnew options facts moment t steps
 IsMendedAnewIn Report options facts moment t steps = ⊤

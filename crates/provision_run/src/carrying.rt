@@ -4,6 +4,7 @@ ghost use Rattle.pv_text.specs.Said.{SaidPart};
 ghost use Rattle.pv_steps.specs.declared.tree.TreeFault.TheVariants.{Failed};
 ghost use Rattle.pv_steps.specs.Acting.{Acted};
 ghost use Rattle.pv_create.specs.OnTheWay.{IsFramed};
+ghost use Rattle.pv_phases.specs.OnTheWay.{GiveBy, IsBetweenBy};
 ghost use Rattle.pv_phases.specs.Phases.{HasSaidStopped, IsMendedBy, phases_of};
 ghost use Rattle.pv_phases.specs.Swept.{IsSweptBy};
 ghost use Rattle.provision_run.specs.Rereading.{IsMendedAnew, IsReread};
@@ -52,6 +53,10 @@ pub(crate) fn carry_out<T: Tree>(
     ensures anew { IsMendedAnew options.entry.now facts.now moment (T.state tree.old)
         (drop (length (T.steps tree.old)) (T.steps tree.new)) }
     ensures framed { IsFramed (run_lines options.entry.now facts.now (T.state tree.old)) moment (T.state tree.old)
+        (drop (length (T.steps tree.old)) (T.steps tree.new)) }
+    ensures between { IsBetweenBy (phases_of options.entry.now) (run_lines options.entry.now facts.now (T.state tree.old)) moment (T.state tree.old)
+        (drop (length (T.steps tree.old)) (T.steps tree.new)) }
+    ensures gives { GiveBy (phases_of options.entry.now) (run_lines options.entry.now facts.now (T.state tree.old)) moment (T.state tree.old)
         (drop (length (T.steps tree.old)) (T.steps tree.new)) }
 {
     // Whatever the run answers, it began with a tree.

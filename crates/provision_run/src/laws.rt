@@ -2,25 +2,25 @@
 ghost use Rattle.std.specs.Prelude.{◌≡◌, ◌∷◌, ℕ, List};
 ghost use Rattle.pv_accounts_run.specs.Accounted.{accounted};
 ghost use Rattle.pv_image.specs.Images.{IsImage};
-ghost use Rattle.pv_phases.specs.declared.phase.Phase.{Phase as PhaseValue};
+ghost use Rattle.pv_phases.specs.Phases.{phases_of};
 ghost use Rattle.pv_steps.specs.Same.{Same};
 ghost use Rattle.pv_steps.specs.Trees.{Files};
 ghost use Rattle.pv_text.specs.Facts.{Values};
 ghost use Rattle.pv_words.specs.declared.options.Options.{Options as OptionsValue};
 ghost use Rattle.provision_run.specs.declared.task.Task.TheVariants.{Accounts, Phases};
 ghost use Rattle.provision_run.specs.Accounts.{run_requests};
-ghost use Rattle.provision_run.specs.Phased.{phased};
-ghost use Rattle.provision_run.specs.Rereading.{ArePlain, ArePlainRequests, AsksFor};
-ghost use Rattle.provision_run.specs.Stops.{AreImages, EndAlikeAfter, HasEndedOver, HaveStopped, HaveStoppedOver, IsCalm, IsCalmOver, MayRepeat};
+ghost use Rattle.provision_run.specs.Phased.{phased, run_lines};
+ghost use Rattle.provision_run.specs.Rereading.{ArePlain, ArePlainRequests, MayRepeat};
+ghost use Rattle.provision_run.specs.Stops.{AreImages, EndAlikeAfter, HasEndedOver, HaveStopped, HaveStoppedOver, IsCalm, IsCalmOver};
 ghost use Rattle.provision_run.specs.Tasks.{task_of};
 
 /// After one run or more that were stopped, each from the tree that the last one left, a whole run leaves the tree of one
 /// whole run from the first tree, stamps and staging names aside, at whatever moments; each reads its lines of its own tree.
-/// So it is with creating, removing and purging, each alone. Of accounts `/etc/group`, `/etc/gshadow` and `/etc/passwd` have
+/// So it is with creating, removing and purging, each alone, and with removing and creating. Of accounts `/etc/group`, `/etc/gshadow` and `/etc/passwd` have
 /// the same texts, and the trees are the same where all runs were on one day.
 pub fn trees_of_stopped_runs_are_mended()
-    ensures phases { (options : OptionsValue) (facts : Values) (moments : List ℕ) (moment first later : ℕ) (t u : Files) (phase : PhaseValue)
-        → task_of options ≡ Phases → AsksFor options phase → ArePlain options → MayRepeat phase options facts t
+    ensures phases { (options : OptionsValue) (facts : Values) (moments : List ℕ) (moment first later : ℕ) (t u : Files)
+        → task_of options ≡ Phases → ArePlain options → MayRepeat (phases_of options) (run_lines options facts t)
         → HaveStopped options facts (moment ∷ moments) t u → IsCalm options facts u
         → Same (phased options facts later u) (phased options facts first t) }
     ensures accounts { (options : OptionsValue) (facts : Values) (moments : List ℕ) (moment first later : ℕ) (t u : Files)
@@ -34,8 +34,8 @@ pub fn trees_of_stopped_runs_are_mended()
 /// run over the first input are images of the same tree, stamps and staging names aside, or of trees with such texts.
 pub fn outputs_of_stopped_runs_are_mended()
     ensures phases { (options : OptionsValue) (moments : List ℕ) (moment first later : ℕ) (input last out again : List ℕ)
-        (facts : Values) (t : Files) (phase : PhaseValue) → IsImage input facts t
-        → task_of options ≡ Phases → AsksFor options phase → ArePlain options → MayRepeat phase options facts t
+        (facts : Values) (t : Files) → IsImage input facts t
+        → task_of options ≡ Phases → ArePlain options → MayRepeat (phases_of options) (run_lines options facts t)
         → HaveStoppedOver options (moment ∷ moments) input last → IsCalmOver options last
         → HasEndedOver options first input out → HasEndedOver options later last again
         → AreImages (λ one two. Same two one) out again }

@@ -4,6 +4,7 @@ ghost use Rattle.pv_steps.specs.declared.tree.TreeFault.TheVariants.{Failed};
 ghost use Rattle.pv_steps.specs.Acting.{Acted};
 ghost use Rattle.provision_run.specs.Tasks.{task_of};
 ghost use Rattle.provision_run.specs.Framed.{IsFramedIn};
+ghost use Rattle.provision_run.specs.OnTheWay.{IsOnTheWayIn};
 ghost use Rattle.provision_run.specs.Swept.{IsSweptIn};
 ghost use Rattle.provision_run.specs.Whole.{end_by, final, final_by, HasSaidBy, HasSaidPartBy, HasSaidStoppedBy, IsMendedAnewIn, IsMendedIn, is_run_step, is_step_by, run_end, run_way, run_work, way_by, work_by};
 
@@ -45,7 +46,7 @@ pub fn run_on_tree<T: Tree>(
         (run_work options.entry.now facts.now moment (T.state tree.old))
         moment tree.old tree.new result }
 
-    // The stop law of a run of one phase, and of one that makes accounts.
+    // The stop law of a run of one phase, of the boot command, and of a run that makes accounts.
     ensures mended { IsMendedIn (task_of options.entry.now) options.entry.now facts.now moment (T.state tree.old)
         (drop (length (T.steps tree.old)) (T.steps tree.new)) }
     // The stop law where the second run reads its lines anew of the tree that was left.
@@ -54,6 +55,9 @@ pub fn run_on_tree<T: Tree>(
 
     // What it has left as it was at each moment, whatever it answers.
     ensures framed { IsFramedIn (task_of options.entry.now) options.entry.now facts.now moment (T.state tree.old)
+        (drop (length (T.steps tree.old)) (T.steps tree.new)) }
+    // What creating has left on its way, alone or in the boot command, and what each step gives.
+    ensures between { IsOnTheWayIn (task_of options.entry.now) options.entry.now facts.now moment (T.state tree.old)
         (drop (length (T.steps tree.old)) (T.steps tree.new)) }
 {
     do_task(
@@ -93,6 +97,8 @@ fn do_task<T: Tree>(
     ensures anew { IsMendedAnewIn task options.entry.now facts.now moment (T.state tree.old)
         (drop (length (T.steps tree.old)) (T.steps tree.new)) }
     ensures framed { IsFramedIn task options.entry.now facts.now moment (T.state tree.old)
+        (drop (length (T.steps tree.old)) (T.steps tree.new)) }
+    ensures between { IsOnTheWayIn task options.entry.now facts.now moment (T.state tree.old)
         (drop (length (T.steps tree.old)) (T.steps tree.new)) }
 {
     match task {

@@ -1,7 +1,7 @@
 -- Cleaning leaves presence, kind and payload at each path from which lines are read, where none of the lines may change what
 -- is read there: what is cleaned goes by an age that a line gives it from above.
 use Rattle.std.specs.Prelude.{◌≡◌, ℕ, ◌+◌, ◌-◌, ◌==◌, ◌<◌, ◌≤◌, Bool, true, false, cond, not, ◌&&◌, ◌||◌, List, [], ◌∷◌, length, take, drop, Option, None, is_some, option_map, option_and_then}
-use Rattle.std.proofs.Common.{zero, suc, refl, ap, ◌∙◌, arith}
+use Rattle.std.proofs.Common.{zero, suc, refl, sym, ap, ◌∙◌, arith}
 use Rattle.std.proofs.lemmas.Bool.{false_from_ne_true, true_from_ne_false}
 use Rattle.std.proofs.lemmas.List.{take-take}
 use Rattle.std.specs.List.{list_all, list_any}
@@ -103,17 +103,25 @@ module _ (lines : List Line) (now : ℕ) (t : Files) where
       let two = and_parts (names line (take k q)) (is_some line.age) e in
       (aging_may line q k within two.0 two.1).governs) lines some) away))))
 
-module _ (lines : List Line) (free : (i : ℕ) → HasReason lines i reason.Input → ⊥) (now : ℕ) (t : Files) (tree : IsTree t) where
+module _ (lines : List Line) (free : (i : ℕ) → HasReason lines i reason.Input → ⊥) (now : ℕ) (t : Files) where
   none_may_go : (q : Path) → is_input q ≡ true → has_names q ≡ true → may_go lines now t q ≡ false
   none_may_go q input named = ageless lines now t q (λ k within. none_passes lines free q input named (gives_age (take k q)) (λ line i at h.
       let two = and_parts (names line (take k q)) (is_some line.age) h in
       aging_may line q k within two.0 two.1))
 
+  pub named_unaged : (q : Path) → is_input q ≡ true → has_names q ≡ true → is_aged lines now t q ≡ false
+  named_unaged q input named = by (is_aged lines now t q) refl
+    where
+      by : (b : Bool) → is_aged lines now t q ≡ b → b ≡ false
+      by true h = absurd (true_not_false (may_go lines now t q) (aged_goes lines now t q h) (none_may_go q input named))
+      by false h = refl
+
+module _ (lines : List Line) (free : (i : ℕ) → HasReason lines i reason.Input → ⊥) (now : ℕ) (t : Files) (tree : IsTree t) where
   pub none_aged : (q : Path) → is_input q ≡ true → is_aged lines now t q ≡ false
   none_aged q input = by (is_aged lines now t q) refl
     where
       by : (b : Bool) → is_aged lines now t q ≡ b → b ≡ false
-      by true h = absurd (true_not_false (may_go lines now t q) (aged_goes lines now t q h) (none_may_go q input (tree.names q (and_parts (is_some (places t q)) (all_at (may_go lines now t) t q) h).0)))
+      by true h = sym h ∙ named_unaged lines free now t q input (tree.names q (and_parts (is_some (places t q)) (all_at (may_go lines now t) t q) h).0)
       by false h = refl
 
   -- at each moment on the way

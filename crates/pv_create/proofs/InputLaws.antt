@@ -354,7 +354,7 @@ module _ (now : ℕ) (line : Line) (is : IsLine line) where
 -- ---- lines one after the other
 
 module _ (now : ℕ) (q : Path) (input : is_input q ≡ true) (named : has_names q ≡ true) (plain : has_staging q ≡ false) where
-  lines_held : (lines : List Line) → AllByRecursion IsLine lines → AllByRecursion IsAway lines → (t u : Files) → IsShaped (bares_of (places t)) → Partway (lines_course now) lines t u
+  pub lines_held : (lines : List Line) → AllByRecursion IsLine lines → AllByRecursion IsAway lines → (t u : Files) → IsShaped (bares_of (places t)) → Partway (lines_course now) lines t u
       → held (bares_of (places u) q) ≡ held (bares_of (places t) q)
   lines_held [] are away t u shape same = ap held (sym (bares_of-same (places t) (places u) q (same q plain)))
   lines_held (line ∷ lines) are away t u shape (inl way) = line_held now line are.0 away.0 q input named plain t u shape way

@@ -62,7 +62,7 @@ use Rattle.pv_create.proofs.StepLaws.{names_plain}
 use Rattle.pv_path.proofs.Tests.{true_not_false, all_take}
 
 -- what is there, by what reading can see of it
-held_some : (o : Option Bare) → is_some (held o) ≡ is_some o
+pub held_some : (o : Option Bare) → is_some (held o) ≡ is_some o
 held_some None = refl
 held_some (Some b) = refl
 
@@ -176,7 +176,7 @@ module _ (f q : Path) (plain : has_staging f ≡ false) (under : is_prefix f q �
   -- ---- lines one after the other
 
   module _ (now : ℕ) (input : is_input f ≡ true) (named : has_names f ≡ true) where
-    lines_outside : (lines : List Line) → AllByRecursion IsLine lines → AllByRecursion IsAway lines → (t : Files) → IsShaped (bares_of (places t)) → is_some (bares_of (places t) f) ≡ true
+    pub lines_outside : (lines : List Line) → AllByRecursion IsLine lines → AllByRecursion IsAway lines → (t : Files) → IsShaped (bares_of (places t)) → is_some (bares_of (places t) f) ≡ true
         → IsStepOfSome (lines_course now) lines t step → alters step q ≡ false
     lines_outside [] are away t shape there h = absurd h
     lines_outside (line ∷ lines) are away t shape there (inl own) = line_outside now line are.0 t shape there away.0 input named own
@@ -204,55 +204,73 @@ above_of test q (p ∷ paths) all any = by (is_prefix p q) refl any (above_of te
 abbrev is_folder : Path → Bool
 is_folder f = is_input f && (has_names f && not (has_staging f))
 
+-- a step alters nothing under a staging name below a folder that is there, and from which lines are read
+abbrev pub IsOutsideFolders : Files → Step → Type 0
+IsOutsideFolders t step = (f q : Path) → has_staging f ≡ false → is_prefix f q ≡ true → has_staging q ≡ true → is_input f ≡ true → has_names f ≡ true → is_input q ≡ true → has_names q ≡ true
+    → is_some (bares_of (places t) f) ≡ true → alters step q ≡ false
+
+-- steps that leave what lines are read from where there is no staging name, and alter nothing under one below folders, leave
+-- it everywhere
+module _ (now : ℕ) (t : Files) (tree : IsTree t) (steps : List Step) (there : IsTree (after_all t steps now)) where
+  module _ (leaves : (q : Path) → is_input q ≡ true → has_staging q ≡ false → content_of (places (after_all t steps now) q) ≡ content_of (places t q)) (out : AllByRecursion (IsOutsideFolders t) steps) where
+    -- what is absent where a folder is absent
+    nothing : (v : Files) → IsTree v → (f q : Path) → is_prefix f q ≡ true → content_of (places v f) ≡ None → content_of (places v q) ≡ None
+    nothing v is f q under none = at (places v q) refl
+      where
+        no_content : (o : Option Object) → content_of o ≡ None → is_some o ≡ false
+        no_content None e = refl
+        no_content (Some x) e = cc
+
+        at : (o : Option Object) → places v q ≡ o → content_of o ≡ None
+        at None e = refl
+        at (Some x) e =
+            let parts = prefix_parts f q under in
+            absurd (true_not_false (is_some (places v f)) (present_above (places v) is f parts.0 (subst (λ (p : Path). is_some (places v p) ≡ true) parts.1 (ap is_some e))) (no_content (places v f) none))
+
+    -- no tree has anything at a path that has no names
+    unnamed : (v : Files) → IsTree v → (q : Path) → has_names q ≡ false → content_of (places v q) ≡ None
+    unnamed v is q none = at (places v q) refl
+      where
+        at : (o : Option Object) → places v q ≡ o → content_of o ≡ None
+        at None e = refl
+        at (Some x) e = absurd (true_not_false (has_names q) (is.names q (ap is_some e)) none)
+
+    below : (q : Path) → is_input q ≡ true → has_names q ≡ true → has_staging q ≡ true → (f : Path) → is_folder f ≡ true → is_prefix f q ≡ true → content_of (places (after_all t steps now) q) ≡ content_of (places t q)
+    below q input named staged f folder under = at (places t f) refl
+      where
+        own : is_input f ≡ true
+        own = (and_parts (is_input f) (has_names f && not (has_staging f)) folder).0
+
+        rest : (has_names f ≡ true) × (not (has_staging f) ≡ true)
+        rest = and_parts (has_names f) (not (has_staging f)) (and_parts (is_input f) (has_names f && not (has_staging f)) folder).1
+
+        plain : has_staging f ≡ false
+        plain = not-true (has_staging f) rest.1
+
+        at : (o : Option Object) → places t f ≡ o → content_of (places (after_all t steps now) q) ≡ content_of (places t q)
+        at None e = nothing (after_all t steps now) there f q under (leaves f own plain ∙ ap content_of e) ∙ sym (nothing t tree f q under (ap content_of e))
+        at (Some x) e = content-after_all t steps now q
+            (all_map (IsOutsideFolders t) (λ step. alters step q ≡ false)
+            (λ step outside. outside f q plain under staged own rest.0 input named (ap (λ (o : Option Object). is_some (option_map bare_of o)) e))
+            steps out)
+
+    pub all_input_left : (q : Path) → is_input q ≡ true → content_of (places (after_all t steps now) q) ≡ content_of (places t q)
+    all_input_left q input = by (has_staging q) refl (has_names q) refl
+      where
+        by : (b : Bool) → has_staging q ≡ b → (n : Bool) → has_names q ≡ n → content_of (places (after_all t steps now) q) ≡ content_of (places t q)
+        by false e n m = leaves q input e
+        by true e true m = let above = above_of is_folder q inputs refl input in below q input m e above.0 above.1.0 above.1.1
+        by true e false m = unnamed (after_all t steps now) there q m ∙ sym (unnamed t tree q m)
+
 module _ (lines : List Line) (are : AllByRecursion IsLine lines) (free : (i : ℕ) → HasReason lines i reason.Input → ⊥) (now : ℕ) (t : Files) (tree : IsTree t) where
   -- at each moment on the way that was reached by steps of the lines
   pub input_after : (steps : List Step) → IsTree (after_all t steps now) → Partway (lines_course now) (in_create_order lines) t (after_all t steps now) → AllByRecursion (IsStepOfSome (lines_course now) (in_create_order lines) t) steps
       → (q : Path) → is_input q ≡ true → content_of (places (after_all t steps now) q) ≡ content_of (places t q)
-  input_after steps there way gives q input = by (has_staging q) refl
-    where
-      shape : IsShaped (bares_of (places t))
-      shape = tree_shaped (places t) tree
-
-      -- what is absent where a folder is absent
-      nothing : (v : Files) → IsTree v → (f : Path) → is_prefix f q ≡ true → content_of (places v f) ≡ None → content_of (places v q) ≡ None
-      nothing v is f under none = at (places v q) refl
-        where
-          no_content : (o : Option Object) → content_of o ≡ None → is_some o ≡ false
-          no_content None e = refl
-          no_content (Some x) e = cc
-
-          at : (o : Option Object) → places v q ≡ o → content_of o ≡ None
-          at None e = refl
-          at (Some x) e =
-              let parts = prefix_parts f q under in
-              absurd (true_not_false (is_some (places v f)) (present_above (places v) is f parts.0 (subst (λ (p : Path). is_some (places v p) ≡ true) parts.1 (ap is_some e))) (no_content (places v f) none))
-
-      below : has_staging q ≡ true → (f : Path) → is_folder f ≡ true → is_prefix f q ≡ true → content_of (places (after_all t steps now) q) ≡ content_of (places t q)
-      below staged f folder under = at (places t f) refl
-        where
-          own : is_input f ≡ true
-          own = (and_parts (is_input f) (has_names f && not (has_staging f)) folder).0
-
-          rest : (has_names f ≡ true) × (not (has_staging f) ≡ true)
-          rest = and_parts (has_names f) (not (has_staging f)) (and_parts (is_input f) (has_names f && not (has_staging f)) folder).1
-
-          plain : has_staging f ≡ false
-          plain = not-true (has_staging f) rest.1
-
-          kept : content_of (places (after_all t steps now) f) ≡ content_of (places t f)
-          kept = input_on_way lines are free now t (after_all t steps now) tree there way f own plain
-
-          at : (o : Option Object) → places t f ≡ o → content_of (places (after_all t steps now) q) ≡ content_of (places t q)
-          at None e = nothing (after_all t steps now) there f under (kept ∙ ap content_of e) ∙ sym (nothing t tree f under (ap content_of e))
-          at (Some x) e = content-after_all t steps now q
-              (all_map (IsStepOfSome (lines_course now) (in_create_order lines) t) (λ step. alters step q ≡ false)
-              (λ step given. lines_outside f q plain under staged step now own rest.0 (in_create_order lines) (all_in_order IsLine lines are) (all_away lines are free) t shape
-              (ap (λ (o : Option Object). is_some (option_map bare_of o)) e) given)
-              steps gives)
-
-      by : (b : Bool) → has_staging q ≡ b → content_of (places (after_all t steps now) q) ≡ content_of (places t q)
-      by true e = let above = above_of is_folder q inputs refl input in below e above.0 above.1.0 above.1.1
-      by false e = input_on_way lines are free now t (after_all t steps now) tree there way q input e
+  input_after steps there way gives = all_input_left now t tree steps there
+      (λ q input plain. input_on_way lines are free now t (after_all t steps now) tree there way q input plain)
+      (all_map (IsStepOfSome (lines_course now) (in_create_order lines) t) (IsOutsideFolders t)
+      (λ step given f q plain under staged own named input within found. lines_outside f q plain under staged step now own named (in_create_order lines) (all_in_order IsLine lines are) (all_away lines are free) t (tree_shaped (places t) tree) found given)
+      steps gives)
 
   -- so after each number of the steps of a run
   pub all_input_on_run : now < 2 ^ 64 → (h : List Step) (u : Files) (k : List Step) → Ran (Partway (lines_course now) (in_create_order lines) t) (IsStepOfSome (lines_course now) (in_create_order lines) t) now t h u k

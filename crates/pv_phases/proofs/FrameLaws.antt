@@ -48,7 +48,7 @@ module _ (goes : Path → Bool) (change : Object → Object) (keeps : (o : Objec
   gone_bare : goes q ≡ true → bares_of (places left) q ≡ None
   gone_bare h = bares_of-same (places left) (λ p. None) q (bares-without goes change keeps t q ∙ ap (λ b. cond b None (bares (places t) q)) h)
 
-  kept_bare : goes q ≡ false → bares_of (places left) q ≡ bares_of (places t) q
+  pub kept_bare : goes q ≡ false → bares_of (places left) q ≡ bares_of (places t) q
   kept_bare h = bares_of-same (places left) (places t) q (bares-without goes change keeps t q ∙ ap (λ b. cond b None (bares (places t) q)) h)
 
   kept_there : is_some (bares_of (places left) q) ≡ true → goes q ≡ false

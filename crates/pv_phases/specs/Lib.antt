@@ -1,4 +1,5 @@
 pub mod Booted
 pub mod Phases
 pub mod BootedAgain
+pub mod OnTheWay
 pub mod Swept

@@ -8,6 +8,7 @@ ghost use Rattle.pv_steps.specs.declared.tree.TreeFault.TheVariants.{Failed};
 ghost use Rattle.pv_steps.specs.Acting.{Acted};
 ghost use Rattle.pv_table.specs.Created.{after_each, said_of_each, one_is_refused, taken_by_each};
 ghost use Rattle.pv_text.specs.Said.{SaidPart};
+ghost use Rattle.pv_phases.specs.OnTheWay.{GiveBy, IsBetweenBy};
 ghost use Rattle.pv_phases.specs.Phases.{asked, falls_short, HasSaidStopped, is_boot, is_step_of, IsMendedBy, left_by, most_steps_of, on_way, phases_course, phases_of, said_in};
 ghost use Rattle.pv_phases.specs.Swept.{IsSweptBy};
 
@@ -94,6 +95,10 @@ pub fn run_phases<T: Tree>(
     ensures mended { IsMendedBy phases.now table.now now (T.state tree.old)
         (drop (length (T.steps tree.old)) (T.steps tree.new)) }
     ensures framed { IsFramed table.now now (T.state tree.old)
+        (drop (length (T.steps tree.old)) (T.steps tree.new)) }
+    ensures between { IsBetweenBy phases.now table.now now (T.state tree.old)
+        (drop (length (T.steps tree.old)) (T.steps tree.new)) }
+    ensures gives { GiveBy phases.now table.now now (T.state tree.old)
         (drop (length (T.steps tree.old)) (T.steps tree.new)) }
 {
     if is_boot(phases) {

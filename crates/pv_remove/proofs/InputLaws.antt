@@ -177,30 +177,46 @@ module _ (line : Line) where
 
 -- ---- the two phases
 
-module _ (lines : List Line) (are : AllByRecursion IsLine lines) (free : (i : ℕ) → HasReason lines i reason.Input → ⊥) (t : Files) (tree : IsTree t) where
+-- at a path that can stand in a tree
+module _ (lines : List Line) (are : AllByRecursion IsLine lines) (free : (i : ℕ) → HasReason lines i reason.Input → ⊥) (t : Files) (q : Path) (input : is_input q ≡ true) (named : has_names q ≡ true) where
   is_at : (line : Line) (i : ℕ) → IsAt lines i line → IsLine line
   is_at line i at = at_place IsLine lines i line are (slice_get_within lines i line at) (sym (get_or_from_slice_get lines i line line at))
 
-  pub gone_none : (q : Path) → is_input q ≡ true → is_gone lines t q ≡ false
-  gone_none q input = by (is_gone lines t q) refl
+  pub named_ungone : is_gone lines t q ≡ false
+  named_ungone = by (is_gone lines t q) refl
     where
       by : (b : Bool) → is_gone lines t q ≡ b → b ≡ false
       by true h =
           let parts = goes_parts (λ r. list_any (λ line. covers line (places t) r) lines) t q h in
           absurd (true_not_false (list_any (λ line. covers line (places t) q) lines)
           (all_at-each (λ r. list_any (λ line. covers line (places t) r) lines) t q parts.2 q parts.0 (is_prefix-refl q))
-          (none_passes lines free q input (tree.names q parts.0) (λ line. covers line (places t) q) (λ line i at. covering_may line (is_at line i at) (places t) q)))
+          (none_passes lines free q input named (λ line. covers line (places t) q) (λ line i at. covering_may line (is_at line i at) (places t) q)))
+      by false h = refl
+
+  pub named_unpurged : is_purged lines t q ≡ false
+  named_unpurged = by (is_purged lines t q) refl
+    where
+      by : (b : Bool) → is_purged lines t q ≡ b → b ≡ false
+      by true h = absurd (true_not_false (list_any (λ line. purges line (places t) q) lines)
+          (and_parts (is_some (places t q) && not (length q == 0)) (list_any (λ line. purges line (places t) q) lines) h).1
+          (none_passes lines free q input named (λ line. purges line (places t) q) (λ line i at. purging_may line (is_at line i at) (places t) q)))
+      by false h = refl
+
+-- so at each path of a tree
+module _ (lines : List Line) (are : AllByRecursion IsLine lines) (free : (i : ℕ) → HasReason lines i reason.Input → ⊥) (t : Files) (tree : IsTree t) where
+  pub gone_none : (q : Path) → is_input q ≡ true → is_gone lines t q ≡ false
+  gone_none q input = by (is_gone lines t q) refl
+    where
+      by : (b : Bool) → is_gone lines t q ≡ b → b ≡ false
+      by true h = sym h ∙ named_ungone lines are free t q input (tree.names q (goes_parts (λ r. list_any (λ line. covers line (places t) r) lines) t q h).0)
       by false h = refl
 
   pub purged_none : (q : Path) → is_input q ≡ true → is_purged lines t q ≡ false
   purged_none q input = by (is_purged lines t q) refl
     where
       by : (b : Bool) → is_purged lines t q ≡ b → b ≡ false
-      by true h = absurd (true_not_false (list_any (λ line. purges line (places t) q) lines)
-          (and_parts (is_some (places t q) && not (length q == 0)) (list_any (λ line. purges line (places t) q) lines) h).1
-          (none_passes lines free q input (tree.names q (and_parts (is_some (places t q)) (not (length q == 0))
+      by true h = sym h ∙ named_unpurged lines are free t q input (tree.names q (and_parts (is_some (places t q)) (not (length q == 0))
           (and_parts (is_some (places t q) && not (length q == 0)) (list_any (λ line. purges line (places t) q) lines) h).0).0)
-          (λ line. purges line (places t) q) (λ line i at. purging_may line (is_at line i at) (places t) q)))
       by false h = refl
 
   -- at each moment on the way

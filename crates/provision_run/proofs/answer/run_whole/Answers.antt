@@ -9,6 +9,6 @@ pub returns-in-Ok : goal.returns-in-Ok
 returns-in-Ok c =
     whole_answered c.args.options.now c.args.image.facts c.args.moment c.args.image.tree c.run_on_tree.new.tree
     c.requires.fresh c.in-Ok.ensures.acted.ran c.run_on_tree.new.tree refl
-    c.in-Ok.end c.in-Ok.ensures.end c.in-Ok.ensures.ok c.in-Ok.ensures.staged c.run_on_tree.new.messages
+    c.in-Ok.end c.in-Ok.ensures.end c.in-Ok.ensures.ok c.in-Ok.ensures.staged c.in-Ok.ensures.framed c.run_on_tree.new.messages
     (subst (λ (old : List (List ℕ)). HasSaidBy (task_of c.args.options.now) c.args.options.now c.args.image.facts c.args.moment c.args.image.tree.files old c.run_on_tree.new.messages) c.new-messages.ensures c.in-Ok.ensures.said)
     c.finish.result (subst (λ o. IfOk c.finish.result (λ a. a.outcome ≡ o)) c.outcome_of.ensures c.finish.ensures.outcome) c.finish.ensures.text c.finish.ensures.again (unlimited c.args.options.now.stop_after _ c.requires.limit c.finish.result)

@@ -6,13 +6,15 @@ use Rattle.pv_steps.specs.Acting.{Acted}
 use Rattle.pv_steps.proofs.ActingLaws.{Moves, no_memory, acted_ended, acted_none, acted_passed}
 use Rattle.pv_table.specs.Created.{after_each, said_of_each, one_is_refused, taken_by_each}
 use Rattle.pv_text.specs.Said.{SaidPart}
+use Rattle.pv_phases.specs.OnTheWay.{GiveBy, IsBetweenBy}
 use Rattle.pv_phases.specs.Phases.{HasSaidStopped, IsMendedBy, phases_course, phases_of}
 use Rattle.pv_phases.specs.Swept.{IsSweptBy}
 use Rattle.pv_create.specs.OnTheWay.{IsFramed}
 use Rattle.pv_phases.specs.declared.phase.Phase.{Phase}
 use Rattle.provision_run.specs.Ending.{end_of, is_uncarried}
 use Rattle.provision_run.specs.Phased.{run_lines, phases_way, is_phases_step, lines_messages, phase_messages, phases_work}
-use Rattle.pv_phases.proofs.PhaseLaws.{both, failed_before, none_mended}
+use Rattle.pv_phases.proofs.PhaseLaws.{both, failed_before}
+use Rattle.pv_phases.proofs.WayLaws.{none_between, none_give, nothing_mended_by}
 use Rattle.provision_run.proofs.FrameLaws.{none_stays}
 use Rattle.provision_run.proofs.RereadingLaws.{mended_anew, nothing_reread, run_anew, run_reread}
 use Rattle.provision_run.proofs.RunLaws.{way_start}
@@ -36,7 +38,7 @@ returns-in_err-read-clause-acted g c =
 pub returns-in_err-read-clause-mended : goal.returns-in_err-read-clause-mended
 returns-in_err-read-clause-mended g c =
     let t = g.T.Tree.state c.args.tree.now in
-    none_mended (run_lines c.args.options.now c.args.facts.now t) c.args.moment t (g.T.Tree.steps c.args.tree.now) c.ranges.moment.fits c.look-root.ensures.tree (phases_of c.args.options.now)
+    nothing_mended_by (run_lines c.args.options.now c.args.facts.now t) c.args.moment t (g.T.Tree.steps c.args.tree.now) c.ranges.moment.fits c.look-root.ensures.tree (phases_of c.args.options.now)
 
 pub returns-in_err-phases-clause-part : goal.returns-in_err-phases-clause-part
 returns-in_err-phases-clause-part g c =
@@ -55,7 +57,7 @@ returns-in_err-phases-clause-acted g c =
 pub returns-in_err-phases-clause-mended : goal.returns-in_err-phases-clause-mended
 returns-in_err-phases-clause-mended g c =
     let t = g.T.Tree.state c.args.tree.now in
-    none_mended (run_lines c.args.options.now c.args.facts.now t) c.args.moment t (g.T.Tree.steps c.args.tree.now) c.ranges.moment.fits c.look-root.ensures.tree (phases_of c.args.options.now)
+    nothing_mended_by (run_lines c.args.options.now c.args.facts.now t) c.args.moment t (g.T.Tree.steps c.args.tree.now) c.ranges.moment.fits c.look-root.ensures.tree (phases_of c.args.options.now)
 
 pub returns-in_err-carried-clause-part : goal.returns-in_err-carried-clause-part
 returns-in_err-carried-clause-part g c =
@@ -145,14 +147,14 @@ returns-in_err-read-clause-anew g c =
     let t = g.T.Tree.state c.args.tree.now in
     let told = g.T.Tree.steps c.args.tree.now in
     mended_anew c.args.options.now c.args.facts.now c.args.moment t (drop (length told) told) (nothing_reread c.args.options.now c.args.facts.now c.args.moment t told)
-    (none_mended (run_lines c.args.options.now c.args.facts.now t) c.args.moment t told c.ranges.moment.fits c.look-root.ensures.tree (phases_of c.args.options.now))
+    (nothing_mended_by (run_lines c.args.options.now c.args.facts.now t) c.args.moment t told c.ranges.moment.fits c.look-root.ensures.tree (phases_of c.args.options.now))
 
 pub returns-in_err-phases-clause-anew : goal.returns-in_err-phases-clause-anew
 returns-in_err-phases-clause-anew g c =
     let t = g.T.Tree.state c.args.tree.now in
     let told = g.T.Tree.steps c.args.tree.now in
     mended_anew c.args.options.now c.args.facts.now c.args.moment t (drop (length told) told) (nothing_reread c.args.options.now c.args.facts.now c.args.moment t told)
-    (none_mended (run_lines c.args.options.now c.args.facts.now t) c.args.moment t told c.ranges.moment.fits c.look-root.ensures.tree (phases_of c.args.options.now))
+    (nothing_mended_by (run_lines c.args.options.now c.args.facts.now t) c.args.moment t told c.ranges.moment.fits c.look-root.ensures.tree (phases_of c.args.options.now))
 
 pub returns-in_err-carried-clause-anew : goal.returns-in_err-carried-clause-anew
 returns-in_err-carried-clause-anew g c =
@@ -193,3 +195,43 @@ returns-in_err-carried-clause-framed g c =
 pub returns-clause-framed : goal.returns-clause-framed
 returns-clause-framed g c =
     subst (λ (lines : List Line). IsFramed lines c.args.moment (g.T.Tree.state c.args.tree.now) (drop (length (g.T.Tree.steps c.args.tree.now)) (g.T.Tree.steps c.run_phases.new.tree))) c.in_ok-read.ensures.lines c.run_phases.ensures.framed
+
+pub returns-in_err-read-clause-between : goal.returns-in_err-read-clause-between
+returns-in_err-read-clause-between g c =
+    let t = g.T.Tree.state c.args.tree.now in
+    none_between (run_lines c.args.options.now c.args.facts.now t) c.args.moment t (g.T.Tree.steps c.args.tree.now) (phases_of c.args.options.now)
+
+pub returns-in_err-phases-clause-between : goal.returns-in_err-phases-clause-between
+returns-in_err-phases-clause-between g c =
+    let t = g.T.Tree.state c.args.tree.now in
+    none_between (run_lines c.args.options.now c.args.facts.now t) c.args.moment t (g.T.Tree.steps c.args.tree.now) (phases_of c.args.options.now)
+
+pub returns-in_err-carried-clause-between : goal.returns-in_err-carried-clause-between
+returns-in_err-carried-clause-between g c =
+    let t = g.T.Tree.state c.args.tree.now in
+    both (λ (lines : List Line) (phases : List Phase). IsBetweenBy phases lines c.args.moment t (drop (length (g.T.Tree.steps c.args.tree.now)) (g.T.Tree.steps c.run_phases.new.tree))) c.in_ok-read.ensures.lines (c.deref.ensures.value ∙ c.in_ok-phases.ensures) c.run_phases.ensures.between
+
+pub returns-clause-between : goal.returns-clause-between
+returns-clause-between g c =
+    let t = g.T.Tree.state c.args.tree.now in
+    both (λ (lines : List Line) (phases : List Phase). IsBetweenBy phases lines c.args.moment t (drop (length (g.T.Tree.steps c.args.tree.now)) (g.T.Tree.steps c.run_phases.new.tree))) c.in_ok-read.ensures.lines (c.deref.ensures.value ∙ c.in_ok-phases.ensures) c.run_phases.ensures.between
+
+pub returns-in_err-read-clause-gives : goal.returns-in_err-read-clause-gives
+returns-in_err-read-clause-gives g c =
+    let t = g.T.Tree.state c.args.tree.now in
+    none_give (run_lines c.args.options.now c.args.facts.now t) c.args.moment t (g.T.Tree.steps c.args.tree.now) (phases_of c.args.options.now)
+
+pub returns-in_err-phases-clause-gives : goal.returns-in_err-phases-clause-gives
+returns-in_err-phases-clause-gives g c =
+    let t = g.T.Tree.state c.args.tree.now in
+    none_give (run_lines c.args.options.now c.args.facts.now t) c.args.moment t (g.T.Tree.steps c.args.tree.now) (phases_of c.args.options.now)
+
+pub returns-in_err-carried-clause-gives : goal.returns-in_err-carried-clause-gives
+returns-in_err-carried-clause-gives g c =
+    let t = g.T.Tree.state c.args.tree.now in
+    both (λ (lines : List Line) (phases : List Phase). GiveBy phases lines c.args.moment t (drop (length (g.T.Tree.steps c.args.tree.now)) (g.T.Tree.steps c.run_phases.new.tree))) c.in_ok-read.ensures.lines (c.deref.ensures.value ∙ c.in_ok-phases.ensures) c.run_phases.ensures.gives
+
+pub returns-clause-gives : goal.returns-clause-gives
+returns-clause-gives g c =
+    let t = g.T.Tree.state c.args.tree.now in
+    both (λ (lines : List Line) (phases : List Phase). GiveBy phases lines c.args.moment t (drop (length (g.T.Tree.steps c.args.tree.now)) (g.T.Tree.steps c.run_phases.new.tree))) c.in_ok-read.ensures.lines (c.deref.ensures.value ∙ c.in_ok-phases.ensures) c.run_phases.ensures.gives

@@ -1,6 +1,6 @@
 use Rattle.std.proofs.Common.{drop, length, refl, sym}
 use Rattle.pv_steps.proofs.ActingLaws.{Moves, no_memory}
-use Rattle.provision_run.proofs.TaskLaws.{accounts_acted, accounts_anew, accounts_ended, accounts_framed, accounts_left, accounts_mended, accounts_part, accounts_said, accounts_staged, accounts_stopped, phases_acted, phases_anew, phases_ended, phases_framed, phases_left, phases_mended, phases_part, phases_said, phases_staged, phases_stopped, report_acted, report_anew, report_ended, report_framed, report_left, report_mended, report_part, report_said, report_staged}
+use Rattle.provision_run.proofs.TaskLaws.{accounts_acted, accounts_anew, accounts_between, accounts_ended, accounts_framed, accounts_left, accounts_mended, accounts_part, accounts_said, accounts_staged, accounts_stopped, phases_acted, phases_anew, phases_between, phases_ended, phases_framed, phases_left, phases_mended, phases_part, phases_said, phases_staged, phases_stopped, report_acted, report_anew, report_between, report_ended, report_framed, report_left, report_mended, report_part, report_said, report_staged}
 use Rattle.provision_run.proofs.run.do_task.Goals as goal
 
 pub returns-in-Phases-clause-ok : goal.returns-in-Phases-clause-ok
@@ -140,3 +140,19 @@ returns-in_ok-report_run-in-Report-clause-anew g c =
 pub returns-in_ok-report_run-in-Report-clause-framed : goal.returns-in_ok-report_run-in-Report-clause-framed
 returns-in_ok-report_run-in-Report-clause-framed g c =
     report_framed c.args.options.now c.args.facts.now c.args.moment (g.T.Tree.state c.args.tree.now) c.args.task (sym c.in-Report.is) (g.T.Tree.steps c.args.tree.now)
+
+pub returns-in-Phases-clause-between : goal.returns-in-Phases-clause-between
+returns-in-Phases-clause-between g c =
+    phases_between c.args.options.now c.args.facts.now c.args.moment (g.T.Tree.state c.args.tree.now) c.args.task (sym c.in-Phases.is) (drop (length (g.T.Tree.steps c.args.tree.now)) (g.T.Tree.steps c.carry_out.new.tree)) c.carry_out.ensures.between c.carry_out.ensures.gives
+
+pub returns-in-Accounts-clause-between : goal.returns-in-Accounts-clause-between
+returns-in-Accounts-clause-between g c =
+    accounts_between c.args.options.now c.args.facts.now c.args.moment (g.T.Tree.state c.args.tree.now) c.args.task (sym c.in-Accounts.is) (drop (length (g.T.Tree.steps c.args.tree.now)) (g.T.Tree.steps c.make_accounts.new.tree))
+
+pub returns-in_err-report_run-in-Report-clause-between : goal.returns-in_err-report_run-in-Report-clause-between
+returns-in_err-report_run-in-Report-clause-between g c =
+    report_between c.args.options.now c.args.facts.now c.args.moment (g.T.Tree.state c.args.tree.now) c.args.task (sym c.in-Report.is) (drop (length (g.T.Tree.steps c.args.tree.now)) (g.T.Tree.steps c.args.tree.now))
+
+pub returns-in_ok-report_run-in-Report-clause-between : goal.returns-in_ok-report_run-in-Report-clause-between
+returns-in_ok-report_run-in-Report-clause-between g c =
+    report_between c.args.options.now c.args.facts.now c.args.moment (g.T.Tree.state c.args.tree.now) c.args.task (sym c.in-Report.is) (drop (length (g.T.Tree.steps c.args.tree.now)) (g.T.Tree.steps c.args.tree.now))

@@ -1,4 +1,3 @@
-use Rattle.std.proofs.Common.{◌≡◌}
 use Rattle.pv_create.proofs.RunLaws.{none_staged}
 use Rattle.pv_doing.specs.Courses.{Partway, IsStepOfSome}
 use Rattle.pv_table.specs.Removed.{removed}

@@ -4,6 +4,7 @@ use Rattle.pv_doing.specs.Courses.{IsStepOfSome, Partway}
 use Rattle.pv_steps.specs.Acting.{Acted}
 use Rattle.pv_table.specs.Created.{taken_by_each}
 use Rattle.pv_steps.proofs.ActingLaws.{Moves, acted_passed}
+use Rattle.pv_phases.specs.OnTheWay.{GiveBy, IsBetweenBy}
 use Rattle.pv_phases.specs.Phases.{falls_short, phases_course}
 use Rattle.pv_phases.specs.Swept.{IsSweptBy}
 use Rattle.pv_phases.specs.declared.phase.Phase.{Phase}
@@ -11,6 +12,7 @@ use Rattle.pv_phases.specs.declared.phase.Phase.TheVariants.{Remove}
 use Rattle.pv_phases.proofs.FrameLaws.{phases_framed}
 use Rattle.pv_phases.proofs.PhaseLaws.{boot_is, failed_before, phases_start, phases_part, phases_acted, phases_stopped, phases_mended, phases_mend, phases_next, phases_whole, phases_said, phases_told, phases_ended, phases_done}
 use Rattle.pv_phases.proofs.SweptLaws.{phases_swept}
+use Rattle.pv_phases.proofs.WayLaws.{phases_between, phases_give}
 use Rattle.pv_phases.proofs.phase.run_phases.Goals as goal
 
 pub returns-then-is_boot-clause-acted : goal.returns-then-is_boot-clause-acted
@@ -133,3 +135,45 @@ returns-clause-framed g c =
     phases_framed c.args.table.now c.requires.lines c.args.now c.args.phases.now (IsStepOfSome (phases_course c.args.table.now c.args.now) c.args.phases.now t) t
     (g.T.Tree.steps c.args.tree.now) (g.T.Tree.state c.loop-phase.tree) (g.T.Tree.steps c.loop-phase.tree) c.look-root.ensures.tree
     c.loop-phase.invariant.going.acted.ran
+
+pub returns-in_err-one-clause-between : goal.returns-in_err-one-clause-between
+returns-in_err-one-clause-between g c =
+    let moves : Moves g.T.Tree = record { stays = g.met.T.Tree.reaches_self; goes_on = g.met.T.Tree.reaches_on; never_falls = g.met.T.Tree.never_falls } in
+    let i = c.loop-phase.phase-index in
+    let phase : Phase = get_or c.args.phases.now i Remove in
+    let is : phase ≡ get_or c.args.phases.now i phase = get_or_default c.args.phases.now i Remove phase c.loop-phase-test.true in
+    phases_between c.args.table.now c.requires.lines c.args.now (g.T.Tree.state c.args.tree.now)
+    (g.T.Tree.steps c.args.tree.now) (g.T.Tree.state c.do_phase.new.tree) (g.T.Tree.steps c.do_phase.new.tree) c.ranges.now.fits c.look-root.ensures.tree c.args.phases.now
+    (phases_acted g.T.Tree moves c.args.table.now c.args.now c.args.phases.now c.args.tree.now c.args.messages.now i phase c.loop-phase-test.true is c.loop-phase.carried c.loop-phase.tree c.loop-phase.messages c.loop-phase.invariant c.do_phase.ensures.acted).ran
+
+pub returns-clause-between : goal.returns-clause-between
+returns-clause-between g c =
+    phases_between c.args.table.now c.requires.lines c.args.now (g.T.Tree.state c.args.tree.now)
+    (g.T.Tree.steps c.args.tree.now) (g.T.Tree.state c.loop-phase.tree) (g.T.Tree.steps c.loop-phase.tree) c.ranges.now.fits c.look-root.ensures.tree c.args.phases.now
+    c.loop-phase.invariant.going.acted.ran
+
+pub returns-in_err-one-clause-gives : goal.returns-in_err-one-clause-gives
+returns-in_err-one-clause-gives g c =
+    let moves : Moves g.T.Tree = record { stays = g.met.T.Tree.reaches_self; goes_on = g.met.T.Tree.reaches_on; never_falls = g.met.T.Tree.never_falls } in
+    let i = c.loop-phase.phase-index in
+    let phase : Phase = get_or c.args.phases.now i Remove in
+    let is : phase ≡ get_or c.args.phases.now i phase = get_or_default c.args.phases.now i Remove phase c.loop-phase-test.true in
+    phases_give c.args.table.now c.requires.lines c.args.now (g.T.Tree.state c.args.tree.now)
+    (g.T.Tree.steps c.args.tree.now) (g.T.Tree.state c.do_phase.new.tree) (g.T.Tree.steps c.do_phase.new.tree) c.ranges.now.fits c.look-root.ensures.tree c.args.phases.now
+    (phases_acted g.T.Tree moves c.args.table.now c.args.now c.args.phases.now c.args.tree.now c.args.messages.now i phase c.loop-phase-test.true is c.loop-phase.carried c.loop-phase.tree c.loop-phase.messages c.loop-phase.invariant c.do_phase.ensures.acted).ran
+
+pub returns-clause-gives : goal.returns-clause-gives
+returns-clause-gives g c =
+    phases_give c.args.table.now c.requires.lines c.args.now (g.T.Tree.state c.args.tree.now)
+    (g.T.Tree.steps c.args.tree.now) (g.T.Tree.state c.loop-phase.tree) (g.T.Tree.steps c.loop-phase.tree) c.ranges.now.fits c.look-root.ensures.tree c.args.phases.now
+    c.loop-phase.invariant.going.acted.ran
+
+pub returns-then-is_boot-clause-between : goal.returns-then-is_boot-clause-between
+returns-then-is_boot-clause-between g c =
+    subst (λ (ps : List Phase). IsBetweenBy ps c.args.table.now c.args.now (g.T.Tree.state c.args.tree.now) (drop (length (g.T.Tree.steps c.args.tree.now)) (g.T.Tree.steps c.boot_run.new.tree)))
+    (sym (boot_is c.args.phases.now (sym c.is_boot.ensures ∙ c.if-is_boot.true))) c.boot_run.ensures.between
+
+pub returns-then-is_boot-clause-gives : goal.returns-then-is_boot-clause-gives
+returns-then-is_boot-clause-gives g c =
+    subst (λ (ps : List Phase). GiveBy ps c.args.table.now c.args.now (g.T.Tree.state c.args.tree.now) (drop (length (g.T.Tree.steps c.args.tree.now)) (g.T.Tree.steps c.boot_run.new.tree)))
+    (sym (boot_is c.args.phases.now (sym c.is_boot.ensures ∙ c.if-is_boot.true))) c.boot_run.ensures.gives
