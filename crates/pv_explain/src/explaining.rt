@@ -86,7 +86,7 @@ fn explain_whole<T: Tree>(
     let paths = at_and_below(alloc, tree, &TreePath::root(alloc))?;
     let start = standing_at(alloc, tree, &paths)?;
     match follow(alloc, table, path, &Scope::Everywhere, start)? {
-        Some(told) => Ok(told),
+        Some(whole) => Ok(whole),
         None => unreachable!(),
     }
 }

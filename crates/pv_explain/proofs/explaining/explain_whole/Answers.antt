@@ -13,4 +13,4 @@ pub returns : goal.returns
 returns g c =
     let t = g.T.Tree.state c.args.tree.now in
     let start = c.in_ok-start.ensures ∙ ap (λ (ps : List Path). tabulated ps (bares_of (places t))) (c.deref.ensures.value ∙ c.in_ok-paths.ensures ∙ ap (λ (p : Path). filter (is_prefix p) (fin.keys t)) c.root.ensures ∙ below_root (fin.keys t)) in
-    c.in_ok-told.ensures.told (standing t) c.in-Some.told c.in-Some.is start
+    c.in_ok-whole.ensures.told (standing t) c.in-Some.whole c.in-Some.is start
