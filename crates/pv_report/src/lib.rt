@@ -17,4 +17,4 @@ pub use laws::{
 };
 pub use listing::{ReasonList, Report, Unrepeatable};
 pub use reporting::report;
-pub use saying::{say_report, verdict};
+pub use saying::{place_text, say_report, verdict};
