@@ -15,4 +15,4 @@ mod traits;
 pub use laws::the_reasons_are_one_list;
 pub use listing::{ReasonList, Report, Unrepeatable};
 pub use reporting::report;
-pub use saying::{say_report, verdict};
+pub use saying::{place_text, say_report, verdict};

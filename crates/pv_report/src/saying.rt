@@ -28,8 +28,8 @@ fn reason_text(reason: Reason) -> &'static [u8]
     }
 }
 
-/// `FILE:N`.
-fn place_text(alloc: Global, file: &OneLine, number: u32) -> Result<Vec<u8>, AllocError>
+/// Where a line stands, `FILE:N`.
+pub fn place_text(alloc: Global, file: &OneLine, number: u32) -> Result<Vec<u8>, AllocError>
     ensures text { IfOk result (λ text. text.items ≡ file.now ++ codes ":" ++ decimal number) }
     ensures line { IfOk result (λ text. is_line text.items ≡ true) }
 {
