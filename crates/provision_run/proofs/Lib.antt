@@ -4,6 +4,7 @@ pub mod AccountRereading
 pub mod AnswerLaws
 pub mod MessageLaws
 pub mod ReportLaws
+pub mod ExplainLaws
 pub mod RereadingLaws
 pub mod RunLaws
 pub mod StopsLaws

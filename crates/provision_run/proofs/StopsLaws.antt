@@ -25,7 +25,7 @@ use Rattle.provision_run.specs.declared.ending.RunEnd.{RunEnd}
 use Rattle.provision_run.specs.declared.ending.RunEnd.TheVariants as end
 use Rattle.provision_run.specs.declared.outcome.Outcome.TheVariants.{Stopped}
 use Rattle.provision_run.specs.declared.task.Task.{Task}
-use Rattle.provision_run.specs.declared.task.Task.TheVariants.{Phases, Report, Accounts}
+use Rattle.provision_run.specs.declared.task.Task.TheVariants.{Phases, Report, Explain, Accounts}
 use Rattle.provision_run.specs.Accounts.{run_requests}
 use Rattle.provision_run.specs.Answers.{HasOutputBy, IsAnswer, IsAnswered, IsRun, IsStopped, IsWhole, outcome_of}
 use Rattle.provision_run.specs.Phased.{phased, run_lines}
@@ -156,12 +156,14 @@ anew_unlimited : (task : Task) (options : Options) (facts : Values) (moment : �
 unfolding IsMendedAnewIn
 anew_unlimited Phases options facts moment t steps h = h
 anew_unlimited Report options facts moment t steps h = h
+anew_unlimited Explain options facts moment t steps h = h
 anew_unlimited Accounts options facts moment t steps h = h
 
 final_unlimited : (task : Task) (options : Options) (facts : Values) (moment : ℕ) (t : Files) → final_by task options facts moment t ≡ final_by task (unlimited options) facts moment t
 unfolding final_by
 final_unlimited Phases options facts moment t = refl
 final_unlimited Report options facts moment t = refl
+final_unlimited Explain options facts moment t = refl
 final_unlimited Accounts options facts moment t = refl
 
 module _ (options : Options) where

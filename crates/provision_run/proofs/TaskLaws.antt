@@ -1,5 +1,5 @@
 -- Laws of runs by their task: what a task's own words say holds by the task.
-use Rattle.std.specs.Prelude.{◌≡◌, ℕ, List, ◌++◌, length, take, drop, Result, OnOk, IfOk}
+use Rattle.std.specs.Prelude.{◌≡◌, ℕ, Bool, true, false, List, ◌++◌, length, take, drop, is_some, Result, OnOk, IfOk}
 use Rattle.std.proofs.Common.{refl, subst, inr}
 use Rattle.std.proofs.Math.Seq.{drop-length}
 use Rattle.pv_accounts_run.specs.Accounted.{accounted}
@@ -19,17 +19,21 @@ use Rattle.pv_steps.proofs.ActingLaws.{Moves, acted_none}
 use Rattle.pv_steps.specs.Trees.{Files}
 use Rattle.pv_text.specs.Facts.{Values}
 use Rattle.pv_text.specs.Said.{SaidPart}
+use Rattle.pv_text.specs.declared.tool.Tool.{Tool}
+use Rattle.pv_text.specs.declared.tool.Tool.TheVariants.{Tmpfiles, Sysusers}
 use Rattle.pv_words.specs.declared.options.Options.{Options}
 use Rattle.provision_run.specs.declared.ending.RunEnd.{RunEnd}
 use Rattle.provision_run.specs.declared.task.Task.{Task}
-use Rattle.provision_run.specs.declared.task.Task.TheVariants.{Phases, Report, Accounts}
+use Rattle.provision_run.specs.declared.task.Task.TheVariants.{Phases, Report, Explain, Accounts}
 use Rattle.provision_run.specs.Accounts.{account_messages, accounts_end, accounts_work, requests_messages, run_edits, run_requests}
+use Rattle.provision_run.specs.Explained.{HasExplained, HasExplainedPart}
 use Rattle.provision_run.specs.Framed.{AreAccountsFramed, IsFramedIn}
 use Rattle.provision_run.specs.OnTheWay.{IsOnTheWayIn}
 use Rattle.provision_run.specs.Phased.{is_phases_step, lines_messages, phase_messages, phased, phases_end, phases_way, phases_work, run_lines}
 use Rattle.provision_run.specs.Reported.{HasReported, HasReportedPart, report_end}
 use Rattle.provision_run.specs.Rereading.{AreAccountsMendedAnew, AreRequestsReread, IsMendedAnew, IsReread}
 use Rattle.provision_run.specs.Swept.{IsSweptIn}
+use Rattle.provision_run.specs.Tasks.{task_by, task_of}
 use Rattle.provision_run.specs.Whole.{end_by, final_by, HasSaidBy, HasSaidPartBy, HasSaidStoppedBy, IsMendedAnewIn, IsMendedIn, IsSaidBy, IsSaidStoppedBy, is_step_by, read_by, way_by, work_by}
 use Rattle.pv_path.proofs.Tests.{on_ok}
 
@@ -40,6 +44,7 @@ unfolding IsSaidBy IsSaidStoppedBy
 front_by Phases options facts moment t said stopped =
     (phase_messages options facts moment t, (refl, stopped_front (run_lines options facts t) moment (phases_of options) t said stopped))
 front_by Report options facts moment t said stopped = absurd stopped
+front_by Explain options facts moment t said stopped = absurd stopped
 front_by Accounts options facts moment t said stopped = (account_messages options facts moment t, (refl, stopped))
 
 module _ (options : Options) (facts : Values) (moment : ℕ) (t : Files) where
@@ -178,6 +183,44 @@ module _ (options : Options) (facts : Values) (moment : ℕ) (t : Files) where
   unfolding IsOnTheWayIn
   report_between k is steps = subst (λ (j : Task). IsOnTheWayIn j options facts moment t steps) is tt
 
+  -- ---- explanations
+
+  pub explain_left : (k : Task) → Explain ≡ k → t ≡ final_by k options facts moment t
+  unfolding final_by
+  explain_left k is = subst (λ (j : Task). t ≡ final_by j options facts moment t) is refl
+
+  pub explain_said : (k : Task) → Explain ≡ k → (old new : List (List ℕ)) → HasExplained options facts t old new → HasSaidBy k options facts moment t old new
+  unfolding IsSaidBy read_by
+  explain_said k is old new h = subst (λ (j : Task). HasSaidBy j options facts moment t old new) is h
+
+  pub explain_ended : (k : Task) → Explain ≡ k → (end : RunEnd) → end ≡ report_end options facts t → end ≡ end_by k options facts moment t
+  unfolding end_by
+  explain_ended k is end h = subst (λ (j : Task). end ≡ end_by j options facts moment t) is h
+
+  pub explain_staged : (k : Task) → Explain ≡ k → (u : Files) → IsSweptIn k options facts moment t u
+  unfolding IsSweptIn
+  explain_staged k is u = subst (λ (j : Task). IsSweptIn j options facts moment t u) is tt
+
+  pub explain_part : (k : Task) → Explain ≡ k → (old new : List (List ℕ)) → HasExplainedPart options facts t old new → HasSaidPartBy k options facts moment t old new
+  unfolding IsSaidBy read_by
+  explain_part k is old new h = subst (λ (j : Task). HasSaidPartBy j options facts moment t old new) is h
+
+  pub explain_mended : (k : Task) → Explain ≡ k → (told : List Step) → IsMendedIn k options facts moment t (drop (length told) told)
+  unfolding IsMendedIn
+  explain_mended k is told = subst (λ (j : Task). IsMendedIn j options facts moment t (drop (length told) told)) is (drop-length told)
+
+  pub explain_anew : (k : Task) → Explain ≡ k → (steps : List Step) → IsMendedAnewIn k options facts moment t steps
+  unfolding IsMendedAnewIn
+  explain_anew k is steps = subst (λ (j : Task). IsMendedAnewIn j options facts moment t steps) is tt
+
+  pub explain_between : (k : Task) → Explain ≡ k → (steps : List Step) → IsOnTheWayIn k options facts moment t steps
+  unfolding IsOnTheWayIn
+  explain_between k is steps = subst (λ (j : Task). IsOnTheWayIn j options facts moment t steps) is tt
+
+  pub explain_framed : (k : Task) → Explain ≡ k → (told : List Step) → IsFramedIn k options facts moment t (drop (length told) told)
+  unfolding IsFramedIn
+  explain_framed k is told = subst (λ (j : Task). IsFramedIn j options facts moment t (drop (length told) told)) is (drop-length told)
+
 module _ {S : Type 0} (tree : Ghosts S) (options : Options) (facts : Values) (moment : ℕ) (t : Files) where
   pub phases_acted : (k : Task) → Phases ≡ k → (a b : S) (r : Result RunEnd TreeFault)
       → Acted tree (phases_way options facts moment t) (is_phases_step options facts moment t) (phases_work options facts moment t) moment a b r
@@ -199,3 +242,20 @@ module _ {S : Type 0} (tree : Ghosts S) (options : Options) (facts : Values) (mo
   report_acted k is moves a r same none =
       subst (λ (j : Task). Acted tree (way_by j options facts moment t) (is_step_by j options facts moment t) (work_by j options facts moment t) moment a a r) is
       (acted_none tree moves (way_by Report options facts moment t) (is_step_by Report options facts moment t) 0 moment a r none same)
+
+  pub explain_acted : (k : Task) → Explain ≡ k → Moves tree → (a : S) (r : Result RunEnd TreeFault) → tree.state a ≡ t → refused r ≡ 0
+      → Acted tree (way_by k options facts moment t) (is_step_by k options facts moment t) (work_by k options facts moment t) moment a a r
+  unfolding way_by is_step_by work_by
+  explain_acted k is moves a r same none =
+      subst (λ (j : Task). Acted tree (way_by j options facts moment t) (is_step_by j options facts moment t) (work_by j options facts moment t) moment a a r) is
+      (acted_none tree moves (way_by Explain options facts moment t) (is_step_by Explain options facts moment t) 0 moment a r none same)
+
+-- a run that is to explain has a path
+pub explain_path : (options : Options) → Explain ≡ task_of options → is_some options.explain ≡ true
+explain_path options is = by options.tool options.report (is_some options.explain) is
+  where
+    by : (tool : Tool) (report explain : Bool) → Explain ≡ task_by tool report explain → explain ≡ true
+    by Tmpfiles true explain e = cc
+    by Tmpfiles false true e = refl
+    by Tmpfiles false false e = cc
+    by Sysusers report explain e = cc

@@ -12,7 +12,7 @@ use Rattle.pv_text.specs.Facts.{Values}
 use Rattle.pv_walk.specs.Removal.{is_one_of}
 use Rattle.pv_words.specs.declared.options.Options.{Options}
 use Rattle.provision_run.specs.declared.task.Task.{Task}
-use Rattle.provision_run.specs.declared.task.Task.TheVariants.{Phases, Report, Accounts}
+use Rattle.provision_run.specs.declared.task.Task.TheVariants.{Phases, Report, Explain, Accounts}
 use Rattle.provision_run.specs.Phased.{run_lines}
 
 -- a run that makes accounts, stopped after any of these steps, has left each path as it was but /etc and the account files;
@@ -21,8 +21,10 @@ abbrev pub AreAccountsFramed : ℕ → Files → List Step → Type 0
 AreAccountsFramed moment t steps = (n : ℕ) (q : Path) → has_staging q ≡ false → same_path etc q ≡ false → is_one_of account_paths q ≡ false →
     bares_of (places (after_all t (take n steps) moment)) q ≡ bares_of (places t) q
 
--- by the task: a run of phases, whatever these are, has left each path that no active line governs; a report does no step
+-- by the task: a run of phases, whatever these are, has left each path that no active line governs; a report and an explanation do no
+-- step
 unfoldable pub IsFramedIn : Task → Options → Values → ℕ → Files → List Step → Type 0
 IsFramedIn Phases options facts moment t steps = IsFramed (run_lines options facts t) moment t steps
 IsFramedIn Report options facts moment t steps = steps ≡ []
+IsFramedIn Explain options facts moment t steps = steps ≡ []
 IsFramedIn Accounts options facts moment t steps = AreAccountsFramed moment t steps

@@ -27,6 +27,7 @@ create_alone = record {
   clean = false;
   report = false;
   purge = false;
+  explain = None;
   boot = false;
   prefix = None;
   exclude_prefix = None;

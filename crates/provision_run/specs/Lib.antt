@@ -3,6 +3,7 @@ pub mod Tasks
 pub mod Ending
 pub mod Phased
 pub mod Reported
+pub mod Explained
 pub mod Accounts
 pub mod Rereading
 pub mod Whole

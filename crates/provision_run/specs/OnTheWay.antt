@@ -7,14 +7,15 @@ use Rattle.pv_steps.specs.Trees.{Files}
 use Rattle.pv_text.specs.Facts.{Values}
 use Rattle.pv_words.specs.declared.options.Options.{Options}
 use Rattle.provision_run.specs.declared.task.Task.{Task}
-use Rattle.provision_run.specs.declared.task.Task.TheVariants.{Phases, Report, Accounts}
+use Rattle.provision_run.specs.declared.task.Task.TheVariants.{Phases, Report, Explain, Accounts}
 use Rattle.provision_run.specs.Phased.{run_lines}
 
 -- by the task: phases, by the active lines, where their premises hold: each path is as after some lines or after one more,
--- and each step gives its node what stands at one path after some of them. A report does no step; the way of a run that makes
+-- and each step gives its node what stands at one path after some of them. A report and an explanation do no step; the way of a run that makes
 -- accounts says which texts are new
 unfoldable pub IsOnTheWayIn : Task → Options → Values → ℕ → Files → List Step → Type 0
 IsOnTheWayIn Phases options facts moment t steps =
     IsBetweenBy (phases_of options) (run_lines options facts t) moment t steps × GiveBy (phases_of options) (run_lines options facts t) moment t steps
 IsOnTheWayIn Report options facts moment t steps = ⊤
+IsOnTheWayIn Explain options facts moment t steps = ⊤
 IsOnTheWayIn Accounts options facts moment t steps = ⊤

@@ -7,13 +7,14 @@ use Rattle.pv_steps.specs.Trees.{Files}
 use Rattle.pv_text.specs.Facts.{Values}
 use Rattle.pv_words.specs.declared.options.Options.{Options}
 use Rattle.provision_run.specs.declared.task.Task.{Task}
-use Rattle.provision_run.specs.declared.task.Task.TheVariants.{Phases, Report, Accounts}
+use Rattle.provision_run.specs.declared.task.Task.TheVariants.{Phases, Report, Explain, Accounts}
 use Rattle.provision_run.specs.Accounts.{run_requests}
 use Rattle.provision_run.specs.Phased.{run_lines}
 
 -- by the task: creating leaves nothing at the staging names of what the active lines made, making accounts nothing at those
--- of /etc and of the account files; a report does no step, and leaves what is there
+-- of /etc and of the account files; a report and an explanation do no step, and leave what is there
 unfoldable pub IsSweptIn : Task → Options → Values → ℕ → Files → Files → Type 0
 IsSweptIn Phases options facts moment t u = IsSweptBy (phases_of options) (run_lines options facts t) moment t u
 IsSweptIn Report options facts moment t u = ⊤
+IsSweptIn Explain options facts moment t u = ⊤
 IsSweptIn Accounts options facts moment t u = accounts.LeavesNoStagingName (run_requests options facts t) moment t u

@@ -13,8 +13,9 @@ use Rattle.pv_text.specs.Said.{SaidPart}
 use Rattle.pv_words.specs.declared.options.Options.{Options}
 use Rattle.provision_run.specs.declared.ending.RunEnd.{RunEnd}
 use Rattle.provision_run.specs.declared.task.Task.{Task}
-use Rattle.provision_run.specs.declared.task.Task.TheVariants.{Phases, Report, Accounts}
+use Rattle.provision_run.specs.declared.task.Task.TheVariants.{Phases, Report, Explain, Accounts}
 use Rattle.provision_run.specs.Accounts.{account_messages, accounts_end, accounts_work, requests_messages, run_edits, run_requests}
+use Rattle.provision_run.specs.Explained.{IsExplanationOf}
 use Rattle.provision_run.specs.Phased.{is_phases_step, lines_messages, phase_messages, phased, phases_end, phases_way, phases_work, run_lines}
 use Rattle.provision_run.specs.Reported.{IsReportOf, report_end}
 use Rattle.provision_run.specs.Rereading.{AreAccountsMendedAnew, AreRequestsReread, IsMendedAnew, IsReread}
@@ -26,24 +27,28 @@ use Rattle.provision_run.specs.Tasks.{task_of}
 unfoldable pub final_by : Task → Options → Values → ℕ → Files → Files
 final_by Phases options facts moment t = phased options facts moment t
 final_by Report options facts moment t = t
+final_by Explain options facts moment t = t
 final_by Accounts options facts moment t = accounted (run_requests options facts t) moment t
 
 -- what is said in reading the configuration, and of its lines before any is carried out
 unfoldable pub read_by : Task → Options → Values → Files → List (List ℕ)
 read_by Phases options facts t = lines_messages options facts t
 read_by Report options facts t = (configured t facts options.words).messages
+read_by Explain options facts t = lines_messages options facts t
 read_by Accounts options facts t = requests_messages options facts t
 
 -- what is said then
 unfoldable pub IsSaidBy : Task → Options → Values → ℕ → Files → List (List ℕ) → Type 0
 IsSaidBy Phases options facts moment t said = said ≡ phase_messages options facts moment t
 IsSaidBy Report options facts moment t said = IsReportOf (configured t facts options.words).lines said
+IsSaidBy Explain options facts moment t said = IsExplanationOf options facts t said
 IsSaidBy Accounts options facts moment t said = said ≡ account_messages options facts moment t
 
 -- how it ends
 unfoldable pub end_by : Task → Options → Values → ℕ → Files → RunEnd
 end_by Phases options facts moment t = phases_end options facts moment t
 end_by Report options facts moment t = report_end options facts t
+end_by Explain options facts moment t = report_end options facts t
 end_by Accounts options facts moment t = accounts_end options facts moment t
 
 -- on the way: some phases are done, the next is at work; the tree is as it was; or the first account files have their new
@@ -51,18 +56,21 @@ end_by Accounts options facts moment t = accounts_end options facts moment t
 unfoldable pub way_by : Task → Options → Values → ℕ → Files → Files → Type 0
 way_by Phases options facts moment t u = phases_way options facts moment t u
 way_by Report options facts moment t u = u ≡ t
+way_by Explain options facts moment t u = u ≡ t
 way_by Accounts options facts moment t u = AccountWay (run_edits options facts moment t) t u
 
 -- a step of it
 unfoldable pub is_step_by : Task → Options → Values → ℕ → Files → Step → Type 0
 is_step_by Phases options facts moment t step = is_phases_step options facts moment t step
 is_step_by Report options facts moment t step = ⊥
+is_step_by Explain options facts moment t step = ⊥
 is_step_by Accounts options facts moment t step = IsAccountStep (run_edits options facts moment t) t step
 
 -- the most steps that it takes
 unfoldable pub work_by : Task → Options → Values → ℕ → Files → ℕ
 work_by Phases options facts moment t = phases_work options facts moment t
 work_by Report options facts moment t = 0
+work_by Explain options facts moment t = 0
 work_by Accounts options facts moment t = accounts_work options facts moment t
 
 -- ---- what is said
@@ -79,10 +87,11 @@ HasSaidPartBy task options facts moment t old new =
     ⊎ ((said : List (List ℕ)) × (IsSaidBy task options facts moment t said × SaidPart (read_by task options facts t ++ said) old new))
 
 -- what may be said after reading where a step was refused: of the phases before the one at work all, and of this what it
--- says at work; a front part of what is said of account files; a report does no step
+-- says at work; a front part of what is said of account files; a report and an explanation do no step
 unfoldable pub IsSaidStoppedBy : Task → Options → Values → ℕ → Files → List (List ℕ) → Type 0
 IsSaidStoppedBy Phases options facts moment t said = IsSaidStopped (run_lines options facts t) moment (phases_of options) t said
 IsSaidStoppedBy Report options facts moment t said = ⊥
+IsSaidStoppedBy Explain options facts moment t said = ⊥
 IsSaidStoppedBy Accounts options facts moment t said = (k : ℕ) × (said ≡ take k (account_messages options facts moment t))
 
 -- what a run has said of which a step was refused
@@ -92,10 +101,11 @@ HasSaidStoppedBy task options facts moment t old new =
 
 -- ---- the stop laws
 
--- of a run of one phase, of the boot command, and of a run that makes accounts; a report does no step
+-- of a run of one phase, of the boot command, and of a run that makes accounts; a report and an explanation do no step
 unfoldable pub IsMendedIn : Task → Options → Values → ℕ → Files → List Step → Type 0
 IsMendedIn Phases options facts moment t steps = IsMendedBy (phases_of options) (run_lines options facts t) moment t steps
 IsMendedIn Report options facts moment t steps = steps ≡ []
+IsMendedIn Explain options facts moment t steps = steps ≡ []
 IsMendedIn Accounts options facts moment t steps = accounts.IsMended (run_requests options facts t) moment t steps
 
 -- the same is read of the tree that it has left, and a second run, which reads its lines there, mends it: a run of one phase, the
@@ -103,6 +113,7 @@ IsMendedIn Accounts options facts moment t steps = accounts.IsMended (run_reques
 unfoldable pub IsMendedAnewIn : Task → Options → Values → ℕ → Files → List Step → Type 0
 IsMendedAnewIn Phases options facts moment t steps = IsReread options facts moment t steps × IsMendedAnew options facts moment t steps
 IsMendedAnewIn Report options facts moment t steps = ⊤
+IsMendedAnewIn Explain options facts moment t steps = ⊤
 IsMendedAnewIn Accounts options facts moment t steps = AreRequestsReread options facts moment t steps × AreAccountsMendedAnew options facts moment t steps
 
 -- ---- by the options

@@ -89,6 +89,7 @@ fn create_alone(alloc: Global) -> Options
         clean: false,
         report: false,
         purge: false,
+        explain: None,
         boot: false,
         prefix: None,
         exclude_prefix: None,

@@ -5,6 +5,7 @@ mod accounting;
 mod answer;
 mod carrying;
 mod ending;
+mod explaining;
 mod generated;
 mod laws;
 mod message;

@@ -11,6 +11,7 @@ ghost use Rattle.provision_run.specs.Whole.{end_by, final, final_by, HasSaidBy, 
 use crate::accounting::make_accounts;
 use crate::carrying::carry_out;
 use crate::ending::RunEnd;
+use crate::explaining::explain_run;
 use crate::reporting::report_run;
 use crate::task::{Task, task_of};
 use pv_steps::{Tree, TreeFault};
@@ -19,8 +20,8 @@ use pv_words::Options;
 use std::alloc::Global;
 
 /// Reads the configuration of a tree and does what the options ask for: of systemd-tmpfiles(8) the phases of removing,
-/// cleaning and creating in this order, or purging alone, or a report that does no step; of systemd-sysusers(8) the users
-/// and groups.
+/// cleaning and creating in this order, or purging alone, or a report or the explanation of a path, which do no step; of
+/// systemd-sysusers(8) the users and groups.
 pub fn run_on_tree<T: Tree>(
     alloc: Global,
     options: &Options,
@@ -81,6 +82,7 @@ fn do_task<T: Tree>(
     tree: &mut T,
     messages: &mut Messages,
 ) -> Result<RunEnd, TreeFault>
+    requires asked { task ≡ task_of options.now }
     ensures ok { OnOk result (T.state tree.new ≡ final_by task options.entry.now facts.now moment (T.state tree.old)) }
     ensures said { OnOk result (HasSaidBy task options.entry.now facts.now moment (T.state tree.old) messages.old messages.new) }
     ensures end { IfOk result (λ end. end ≡ end_by task options.entry.now facts.now moment (T.state tree.old)) }
@@ -104,6 +106,7 @@ fn do_task<T: Tree>(
     match task {
         Task::Phases => carry_out(alloc, options, facts, moment, tree, messages),
         Task::Report => Ok(report_run(alloc, options, facts, tree, messages)?),
+        Task::Explain => Ok(explain_run(alloc, options, facts, tree, messages)?),
         Task::Accounts => make_accounts(alloc, options, facts, moment, tree, messages),
     }
 }

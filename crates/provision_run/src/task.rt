@@ -12,6 +12,8 @@ pub(crate) enum Task {
     Phases,
     /// Lines are reported, and no step is done.
     Report,
+    /// A path is explained, and no step is done.
+    Explain,
     /// Users and groups are made (systemd-sysusers(8)).
     Accounts,
 }
@@ -25,6 +27,8 @@ pub(crate) fn task_of(options: &Options) -> Task
         Tool::Tmpfiles => {
             if options.report {
                 Task::Report
+            } else if options.explain.is_some() {
+                Task::Explain
             } else {
                 Task::Phases
             }

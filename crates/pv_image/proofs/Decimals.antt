@@ -1,12 +1,15 @@
 -- Decimal numbers and their texts.
-use Rattle.std.proofs.Common.{◌≡◌, ℕ, ◌<◌, ◌^◌, Bool, true, false, ◌&&◌, nat_lt, List, Some, None, sym, subst, ◌∙◌, arith, if◌then◌else◌, refl}
-use Rattle.std.specs.Fmt.{decimal}
+use Rattle.std.proofs.Common.{◌≡◌, ℕ, zero, suc, ◌<◌, ◌^◌, ◌/◌, ◌%◌, Bool, true, false, ◌&&◌, ◌==◌, nat_lt, List, [], ◌∷◌, Some, None, sym, subst, ◌∙◌, arith, if◌then◌else◌, refl}
+use Rattle.std.specs.Fmt.{decimal, digit_glyph, digits, digits_onto}
+use Rattle.std.specs.List.{list_all}
 use Rattle.std.specs.Str.{bytes_eq}
 use Rattle.std.specs.Str.Parse.{digits_value}
 use Rattle.std.proofs.lemmas.Bool.Decides.{nat_tests}
+use Rattle.std.proofs.lemmas.Bool.{and_from}
 use Rattle.std.proofs.lemmas.Slice.Eq.{bytes_eq-Decides}
 use Rattle.std.proofs.lemmas.Fmt.{decimal_is_IsNumeral, decimal_injective}
 use Rattle.pv_acl.specs.Numbers.{number_of}
+use Rattle.pv_text.proofs.Characters.{is_digit}
 use Rattle.pv_image.specs.Reading.{Reads}
 
 value_is : (n : ℕ) (text : List ℕ) → n < 2 ^ 64 → text ≡ decimal n → digits_value 10 text ≡ n
@@ -35,3 +38,28 @@ number_reads text = by_tests (nat_lt (digits_value 10 text) 18446744073709551616
 -- two numbers of one text are the same
 pub same_number : (m n : ℕ) (text : List ℕ) → m < 2 ^ 64 → n < 2 ^ 64 → text ≡ decimal m → text ≡ decimal n → m ≡ n
 same_number m n text fits small e f = decimal_injective m n fits small (sym e ∙ f)
+
+-- ---- the text of any number has digits alone
+
+glyph_is : (n : ℕ) → is_digit (digit_glyph false (n % 10)) ≡ true
+glyph_is n = by_test (nat_lt (n % 10) 10) refl
+  where
+    by_test : (t : Bool) → nat_lt (n % 10) 10 ≡ t → is_digit (digit_glyph false (n % 10)) ≡ true
+    by_test true e = rw e (grind (arith, nat_tests))
+    by_test false e = absurd (let small : n % 10 < 10 = omega arith in grind (arith, nat_tests))
+
+one_more : (n : ℕ) (after : List ℕ) → list_all is_digit after ≡ true → list_all is_digit (digit_glyph false (n % 10) ∷ after) ≡ true
+one_more n after e = and_from (is_digit (digit_glyph false (n % 10))) (list_all is_digit after) (glyph_is n) e
+
+onto_digits : (k n : ℕ) (after : List ℕ) → list_all is_digit after ≡ true → list_all is_digit (digits_onto k 10 false n after) ≡ true
+onto_digits zero n after e = e
+onto_digits (suc k) n after e = by_test (n / 10 == 0) refl (one_more n after e) (onto_digits k (n / 10) (digit_glyph false (n % 10) ∷ after) (one_more n after e))
+  where
+    by_test : (t : Bool) → (n / 10 == 0) ≡ t → list_all is_digit (digit_glyph false (n % 10) ∷ after) ≡ true
+        → list_all is_digit (digits_onto k 10 false (n / 10) (digit_glyph false (n % 10) ∷ after)) ≡ true → list_all is_digit (digits_onto (suc k) 10 false n after) ≡ true
+    by_test true q here next = rw q here
+    by_test false q here next = rw q next
+
+pub all_digits : (n : ℕ) → list_all is_digit (decimal n) ≡ true
+unfolding digits
+all_digits n = onto_digits 64 n [] refl

@@ -337,7 +337,7 @@ no_comma = record { digit = digit_lacks 44 refl; dash = refl; colon = refl; user
 are_entries : (acl : Acl) → is_acl acl ≡ true → AreEntries (access_texts acl.access ++ default_texts acl.default_part)
 are_entries acl e = record {
   each = some_append (access_texts acl.access) (default_texts acl.default_part) (some_append (map named_text acl.access.named) (mask_texts acl.access.mask) (names_some acl.access.named) (mask_some acl.access.mask)) (default_some acl.default_part);
-  apart = entries_pass (λ b. not (b == 44)) no_comma acl e;
+  apart = entries_pass (λ b. not (b == 44)) no_comma acl;
 }
 
 pub acl_once : (a b : Acl) → is_acl a ≡ true → is_acl b ≡ true → base_of a.access ≡ base_of b.access → acl_text a ≡ acl_text b → a ≡ b

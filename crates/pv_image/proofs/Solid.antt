@@ -1,11 +1,10 @@
 -- No column of a node has a space or a line feed in it.
-use Rattle.std.proofs.Common.{◌≡◌, ℕ, ◌/◌, ◌%◌, ◌<◌, ◌^◌, Bool, true, false, not, ◌&&◌, ◌||◌, ◌==◌, nat_le, nat_lt, List, [], ◌∷◌, ◌++◌, ◌+◌, map, codes, refl, arith}
+use Rattle.std.proofs.Common.{◌≡◌, ℕ, ◌/◌, ◌%◌, Bool, true, false, not, ◌&&◌, ◌||◌, ◌==◌, nat_le, nat_lt, List, [], ◌∷◌, ◌++◌, ◌+◌, map, codes, refl, arith}
 use Rattle.std.specs.List.{list_all, flat_map, slice_split, join_with_byte}
 use Rattle.std.specs.Fmt.{decimal}
 use Rattle.std.proofs.lemmas.Bool.Decides.{nat_tests}
 use Rattle.std.proofs.lemmas.Bool.{and_parts, and_from}
 use Rattle.pv_acl.specs.declared.part.Acl.{Acl}
-use Rattle.pv_acl.specs.Parts.{is_acl}
 use Rattle.pv_acl.specs.Texts.{access_texts, acl_text, default_texts, or_dash}
 use Rattle.pv_path.specs.Paths.{Path}
 use Rattle.pv_path.specs.Printing.{hex_digit, is_plain, is_plain_but, printed, printed_by, printed_path}
@@ -13,7 +12,6 @@ use Rattle.pv_steps.specs.declared.node.Kind.{Kind}
 use Rattle.pv_steps.specs.declared.node.Kind.TheVariants.{Directory, File, Link, Fifo, CharDevice, BlockDevice}
 use Rattle.pv_steps.specs.declared.node.Stamps.{Stamps}
 use Rattle.pv_steps.specs.declared.object.Object.{Object}
-use Rattle.pv_steps.specs.Objects.{StampsFit}
 use Rattle.pv_steps.specs.declared.attr.Attr.{Attr}
 use Rattle.pv_steps.specs.Letters.{all_letters, has_letter, letters_of}
 use Rattle.pv_image.specs.declared.extras.Extras.{Extras}
@@ -21,11 +19,12 @@ use Rattle.pv_image.specs.declared.payload.Payload.{Payload}
 use Rattle.pv_image.specs.declared.version.Version.{Version}
 use Rattle.pv_image.specs.declared.version.Version.TheVariants.{One, Two}
 use Rattle.pv_text.specs.Lines.{lacks}
-use Rattle.pv_image.specs.Spelling.{IsEntry, IsPayload, attr_text, attr_texts, attrs_text, columns, content_text, extra_texts, extras_of, kind_text, letters_text, mode_text, node_text, numbers_text, payload_of, payload_text, stamps_text}
-use Rattle.pv_text.proofs.Characters.{all_append, all_joined, all_weaker, digits_alone, is_digit, printed_all}
+use Rattle.pv_image.specs.Spelling.{IsEntry, attr_text, attr_texts, attrs_text, columns, content_text, extra_texts, extras_of, kind_text, letters_text, mode_text, node_text, numbers_text, object_text, object_texts, payload_of, payload_text, stamps_text}
+use Rattle.pv_text.proofs.Characters.{all_append, all_joined, all_weaker, is_digit, printed_all}
 use Rattle.pv_image.proofs.AclLetters.{PassesEntries, all_filter, entries_pass}
 use Rattle.pv_image.proofs.Contents.{encoded_all}
-use Rattle.pv_image.proofs.Columns.{mode_at, payload_is}
+use Rattle.pv_image.proofs.Columns.{mode_at}
+use Rattle.pv_image.proofs.Decimals.{all_digits}
 use Rattle.pv_image.proofs.Cutting.{are_apart, split_join}
 
 abbrev pub is_solid : ℕ → Bool
@@ -37,8 +36,8 @@ AreSolid text = list_all is_solid text ≡ true
 digit_solid : (b : ℕ) → is_digit b ≡ true → is_solid b ≡ true
 digit_solid b e = grind (arith, nat_tests)
 
-pub decimal_solid : (n : ℕ) → n < 2 ^ 64 → AreSolid (decimal n)
-decimal_solid n small = all_weaker is_digit is_solid digit_solid (decimal n) (digits_alone n small)
+pub decimal_solid : (n : ℕ) → AreSolid (decimal n)
+decimal_solid n = all_weaker is_digit is_solid digit_solid (decimal n) (all_digits n)
 
 -- ---- printed bytes
 
@@ -102,10 +101,10 @@ dash_solid : (text : List ℕ) → AreSolid text → AreSolid (or_dash text)
 dash_solid [] e = refl
 dash_solid (b ∷ bs) e = e
 
-pub acl_solid : (acl : Acl) → is_acl acl ≡ true → AreSolid (acl_text acl)
-acl_solid acl e =
+pub acl_solid : (acl : Acl) → AreSolid (acl_text acl)
+acl_solid acl =
     let texts = access_texts acl.access ++ default_texts acl.default_part in
-    dash_solid (join_with_byte 44 texts) (all_joined is_solid 44 refl texts (entries_pass is_solid solid_entries acl e))
+    dash_solid (join_with_byte 44 texts) (all_joined is_solid 44 refl texts (entries_pass is_solid solid_entries acl))
 
 -- ---- the columns
 
@@ -123,26 +122,25 @@ octal_solid n = grind (arith, nat_tests)
 pub mode_solid : (mode : ℕ) → AreSolid (mode_text mode)
 mode_solid mode = rw (octal_solid (mode / 512), octal_solid (mode / 64), octal_solid (mode / 8), octal_solid mode) refl
 
-pub stamps_solid : (stamps : Stamps) → StampsFit stamps → AreSolid (stamps_text stamps)
-stamps_solid stamps fit =
+pub stamps_solid : (stamps : Stamps) → AreSolid (stamps_text stamps)
+stamps_solid stamps =
     all_joined is_solid 44 refl (decimal stamps.access ∷ decimal stamps.birth ∷ decimal stamps.change ∷ decimal stamps.modify ∷ [])
-    (rw (decimal_solid stamps.access fit.access, decimal_solid stamps.birth fit.birth, decimal_solid stamps.change fit.change, decimal_solid stamps.modify fit.modify) refl)
+    (rw (decimal_solid stamps.access, decimal_solid stamps.birth, decimal_solid stamps.change, decimal_solid stamps.modify) refl)
 
-numbers_solid : (major minor : ℕ) → major < 2 ^ 32 → minor < 2 ^ 32 → AreSolid (numbers_text (major, minor))
-numbers_solid major minor f g =
-    all_joined is_solid 58 refl (decimal major ∷ decimal minor ∷ []) (rw (decimal_solid major (omega arith), decimal_solid minor (omega arith)) refl)
+numbers_solid : (major minor : ℕ) → AreSolid (numbers_text (major, minor))
+numbers_solid major minor = all_joined is_solid 58 refl (decimal major ∷ decimal minor ∷ []) (rw (decimal_solid major, decimal_solid minor) refl)
 
 content_solid : (bytes : List ℕ) → AreSolid (content_text bytes)
 content_solid [] = refl
 content_solid (b ∷ bytes) = encoded_all is_solid refl refl refl (b ∷ bytes)
 
-payload_solid : (kind : Kind) (payload : Payload) → IsPayload kind payload → AreSolid (payload_text kind payload)
-payload_solid Directory payload is = refl
-payload_solid File payload is = content_solid payload.bytes
-payload_solid Link payload is = printed_solid payload.bytes
-payload_solid Fifo payload is = refl
-payload_solid CharDevice payload is = numbers_solid payload.major payload.minor is.numbers.0 is.numbers.1
-payload_solid BlockDevice payload is = numbers_solid payload.major payload.minor is.numbers.0 is.numbers.1
+payload_solid : (kind : Kind) (payload : Payload) → AreSolid (payload_text kind payload)
+payload_solid Directory payload = refl
+payload_solid File payload = content_solid payload.bytes
+payload_solid Link payload = printed_solid payload.bytes
+payload_solid Fifo payload = refl
+payload_solid CharDevice payload = numbers_solid payload.major payload.minor
+payload_solid BlockDevice payload = numbers_solid payload.major payload.minor
 
 attr_solid : (attr : Attr) → AreSolid (attr_text attr)
 attr_solid attr =
@@ -163,14 +161,16 @@ extras_solid : (version : Version) (extras : Extras) → AllSolid (extra_texts v
 extras_solid One extras = refl
 extras_solid Two extras = rw (attrs_solid extras.attrs, letters_solid extras.letters) refl
 
-pub columns_solid : (version : Version) (e : Path × Object) → IsEntry version e → AllSolid (columns version e)
-columns_solid version e is =
+pub columns_solid : (version : Version) (e : Path × Object) → AllSolid (columns version e)
+columns_solid version e =
     let o = e.1 in
-    let uid : o.node.uid < 2 ^ 64 = let f = is.object.owner.0 in omega arith in
-    let gid : o.node.gid < 2 ^ 64 = let f = is.object.owner.1 in omega arith in
-    let last : AllSolid (payload_text o.node.kind (payload_of o) ∷ []) = rw (payload_solid o.node.kind (payload_of o) (payload_is o is.object)) refl in
-    rw (kind_solid o.node.kind, path_solid e.0, mode_solid (mode_at o), decimal_solid o.node.uid uid, decimal_solid o.node.gid gid, stamps_solid o.node.stamps is.object.stamps, acl_solid o.node.acl is.object.acl)
+    let last : AllSolid (payload_text o.node.kind (payload_of o) ∷ []) = rw (payload_solid o.node.kind (payload_of o)) refl in
+    rw (kind_solid o.node.kind, path_solid e.0, mode_solid (mode_at o), decimal_solid o.node.uid, decimal_solid o.node.gid, stamps_solid o.node.stamps, acl_solid o.node.acl)
     (all_append (list_all is_solid) (extra_texts version (extras_of o)) (payload_text o.node.kind (payload_of o) ∷ []) (extras_solid version (extras_of o)) last)
+
+object_solid : (o : Object) → AllSolid (object_texts o)
+object_solid o =
+    rw (kind_solid o.node.kind, mode_solid (mode_at o), decimal_solid o.node.uid, decimal_solid o.node.gid, acl_solid o.node.acl, attrs_solid o.node.attrs, letters_solid o.node.letters, payload_solid o.node.kind (payload_of o)) refl
 
 solid_apart : (b : ℕ) → is_solid b ≡ true → not (b == 32) ≡ true
 solid_apart b e = (and_parts (not (b == 10)) (not (b == 32)) e).1
@@ -191,7 +191,11 @@ node_again version e is =
     let o = e.1 in
     split_join 32 (kind_text o.node.kind)
     (printed_path e.0 ∷ mode_text (mode_at o) ∷ decimal o.node.uid ∷ decimal o.node.gid ∷ stamps_text o.node.stamps ∷ acl_text o.node.acl ∷ extra_texts version (extras_of o) ++ payload_text o.node.kind (payload_of o) ∷ [])
-    (pieces_apart (columns version e) (columns_solid version e is))
+    (pieces_apart (columns version e) (columns_solid version e))
 
 pub node_whole : (version : Version) (e : Path × Object) → IsEntry version e → lacks 10 (node_text version e) ≡ true
-node_whole version e is = pieces_whole (columns version e) (columns_solid version e is)
+node_whole version e is = pieces_whole (columns version e) (columns_solid version e)
+
+-- and so is an object without its path and its stamps
+pub object_whole : (o : Object) → lacks 10 (object_text o) ≡ true
+object_whole o = pieces_whole (object_texts o) (object_solid o)

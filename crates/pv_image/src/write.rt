@@ -7,6 +7,7 @@ ghost use Rattle.base64.specs.Engines.{standard};
 ghost use Rattle.pv_acl.specs.Parts.{mode_of};
 ghost use Rattle.pv_acl.specs.Texts.{acl_text, or_dash};
 ghost use Rattle.pv_path.specs.Printing.{printed, printed_path};
+ghost use Rattle.pv_text.specs.Lines.{is_line};
 ghost use Rattle.pv_image.specs.declared.version.Version.TheVariants.{Two};
 ghost use Rattle.pv_steps.specs.Attributes.{are_bytes};
 ghost use Rattle.pv_image.specs.Spelling.{attr_text, attrs_text, content_text, fact_text, kind_text, letters_text, line, mode_text, node_text, numbers_text, object_text, payload_text, stamps_text};
@@ -304,7 +305,8 @@ pub(crate) fn add_node(
 /// An object as an image spells it, without its path and its stamps: kind, mode, owner, owning group, ACL,
 /// attributes, letters and payload, with one space between them.
 pub fn print_node(alloc: Global, node: &Node, payload: &[u8]) -> Result<Vec<u8>, AllocError>
-    ensures { IfOk result (λ text. text.items ≡ object_text (record { node = node.now; payload = payload.now })) }
+    ensures text { IfOk result (λ text. text.items ≡ object_text (record { node = node.now; payload = payload.now })) }
+    ensures line { IfOk result (λ text. is_line text.items ≡ true) }
 {
     let mut text = Vec::new(alloc);
     text.push(kind_letter(node.kind))?;

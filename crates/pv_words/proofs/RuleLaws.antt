@@ -16,7 +16,7 @@ use Rattle.pv_path.specs.Names.{same_bytes}
 use Rattle.pv_words.specs.Command.{action_for, files_rule, rule_named, words_app}
 use Rattle.pv_words.specs.Table.{all_options, option_named, row_of, takes_value}
 use Rattle.pv_words.specs.declared.option.OptionName.{OptionName}
-use Rattle.pv_words.specs.declared.option.OptionName.TheVariants.{Create, Remove, Clean, Report, Purge, Boot, Prefix, ExcludePrefix, StopAfter, Now}
+use Rattle.pv_words.specs.declared.option.OptionName.TheVariants.{Create, Remove, Clean, Report, Purge, Explain, Boot, Prefix, ExcludePrefix, StopAfter, Now}
 use Rattle.pv_words.proofs.RowLaws.{leaves}
 
 -- what an option is called, and whether it takes a value
@@ -59,7 +59,7 @@ found_next o false x y e = e
 long-is : (name : List ℕ) → arg_by_long top.rules name ≡ option_map option_made (option_named name)
 long-is name =
     found_next Create _ _ _ (found_next Remove _ _ _ (found_next Clean _ _ _ (found_next Report _ _ _ (found_next Purge _ _ _
-    (found_next Boot _ _ _ (found_next Prefix _ _ _ (found_next ExcludePrefix _ _ _ (found_next StopAfter _ _ _ (found_next Now _ _ _ refl)))))))))
+    (found_next Explain _ _ _ (found_next Boot _ _ _ (found_next Prefix _ _ _ (found_next ExcludePrefix _ _ _ (found_next StopAfter _ _ _ (found_next Now _ _ _ refl))))))))))
 
 id-is : (option : OptionName) → arg_by_id top.rules (name_of option) ≡ Some (option_made option)
 id-is Create = refl
@@ -67,6 +67,7 @@ id-is Remove = refl
 id-is Clean = refl
 id-is Report = refl
 id-is Purge = refl
+id-is Explain = refl
 id-is Boot = refl
 id-is Prefix = refl
 id-is ExcludePrefix = refl
@@ -95,6 +96,7 @@ named-own Remove = refl
 named-own Clean = refl
 named-own Report = refl
 named-own Purge = refl
+named-own Explain = refl
 named-own Boot = refl
 named-own Prefix = refl
 named-own ExcludePrefix = refl

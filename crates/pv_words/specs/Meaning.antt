@@ -58,6 +58,7 @@ options_with tool stands files values = record {
   clean = stands Clean;
   report = stands Report;
   purge = stands Purge;
+  explain = values.explain;
   boot = stands Boot;
   prefix = values.prefix;
   exclude_prefix = values.exclude_prefix;

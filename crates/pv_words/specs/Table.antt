@@ -2,14 +2,14 @@
 -- read, whether it suffices as the one that a tool needs, which options exclude it, and whether it needs a
 -- file word. `--create`, `--remove`, `--clean`, `--purge`, `--boot`, `--prefix` and `--exclude-prefix` are
 -- options of systemd-tmpfiles(8);
--- `--report`, `--stop-after` and `--now` are this profile's own.
+-- `--report`, `--explain`, `--stop-after` and `--now` are this profile's own.
 use Rattle.std.specs.Prelude.{ℕ, Bool, true, false, not, ◌&&◌, List, [], ◌∷◌, codes, Option, Some, None, find, if◌then◌else◌}
 use Rattle.std.specs.List.{filter}
 use Rattle.pv_path.specs.Names.{same_bytes}
 use Rattle.pv_text.specs.declared.tool.Tool.{Tool}
 use Rattle.pv_text.specs.declared.tool.Tool.TheVariants.{Tmpfiles, Sysusers}
 use Rattle.pv_words.specs.declared.option.OptionName.{OptionName}
-use Rattle.pv_words.specs.declared.option.OptionName.TheVariants.{Create, Remove, Clean, Report, Purge, Boot, Prefix, ExcludePrefix, StopAfter, Now}
+use Rattle.pv_words.specs.declared.option.OptionName.TheVariants.{Create, Remove, Clean, Report, Purge, Explain, Boot, Prefix, ExcludePrefix, StopAfter, Now}
 use Rattle.pv_words.specs.declared.option.Reader.{Reader}
 use Rattle.pv_words.specs.declared.option.Reader.TheVariants.{Flag, PathOf, Decimal, Moment}
 
@@ -46,6 +46,7 @@ row_of Remove = of_tmpfiles (codes "remove") Flag true []
 row_of Clean = of_tmpfiles (codes "clean") Flag true []
 row_of Report = of_tmpfiles (codes "report") Flag true (Create ∷ Remove ∷ Clean ∷ StopAfter ∷ [])
 row_of Purge = with_file (of_tmpfiles (codes "purge") Flag true (Create ∷ Remove ∷ Clean ∷ Report ∷ []))
+row_of Explain = of_tmpfiles (codes "explain") PathOf true (Create ∷ Remove ∷ Clean ∷ Report ∷ Purge ∷ StopAfter ∷ [])
 row_of Boot = of_tmpfiles (codes "boot") Flag false []
 row_of Prefix = of_tmpfiles (codes "prefix") PathOf false []
 row_of ExcludePrefix = of_tmpfiles (codes "exclude-prefix") PathOf false []
@@ -54,7 +55,7 @@ row_of Now = of_both (codes "now") Moment false []
 
 -- all rows of the table
 abbrev pub all_options : List OptionName
-all_options = Create ∷ Remove ∷ Clean ∷ Report ∷ Purge ∷ Boot ∷ Prefix ∷ ExcludePrefix ∷ StopAfter ∷ Now ∷ []
+all_options = Create ∷ Remove ∷ Clean ∷ Report ∷ Purge ∷ Explain ∷ Boot ∷ Prefix ∷ ExcludePrefix ∷ StopAfter ∷ Now ∷ []
 
 -- whether a reader is the one of flags, which have no value
 abbrev pub is_flag : Reader → Bool

@@ -11,7 +11,7 @@ use Rattle.pv_path.specs.Paths.{Path}
 use Rattle.pv_path.specs.Parsing.{path_of}
 use Rattle.pv_words.specs.Table.{row_of}
 use Rattle.pv_words.specs.declared.option.OptionName.{OptionName}
-use Rattle.pv_words.specs.declared.option.OptionName.TheVariants.{Prefix, ExcludePrefix, StopAfter, Now}
+use Rattle.pv_words.specs.declared.option.OptionName.TheVariants.{Explain, Prefix, ExcludePrefix, StopAfter, Now}
 use Rattle.pv_words.specs.declared.option.Reader.{Reader}
 use Rattle.pv_words.specs.declared.option.Reader.TheVariants.{Flag, PathOf, Decimal, Moment}
 use Rattle.pv_words.specs.declared.options.Values.{Values}
@@ -68,9 +68,11 @@ abbrev pub values_read : (OptionName → Option (List ℕ)) → Option Values
 values_read text =
     option_and_then (λ stop_after.
     option_and_then (λ now.
+    option_and_then (λ explain.
     option_and_then (λ prefix.
-    option_map (λ exclude_prefix. record { prefix = prefix; exclude_prefix = exclude_prefix; stop_after = stop_after; now = now })
+    option_map (λ exclude_prefix. record { explain = explain; prefix = prefix; exclude_prefix = exclude_prefix; stop_after = stop_after; now = now })
     (read_value ExcludePrefix (text ExcludePrefix)))
     (read_value Prefix (text Prefix)))
+    (read_value Explain (text Explain)))
     (read_value Now (text Now)))
     (read_value StopAfter (text StopAfter))

@@ -14,6 +14,7 @@ pub(crate) enum OptionName {
     Clean,
     Report,
     Purge,
+    Explain,
     Boot,
     Prefix,
     ExcludePrefix,
@@ -68,12 +69,13 @@ impl<'a> Model for Row<'a> {
 }
 
 /// All options of the table.
-const ALL_OPTIONS: [OptionName; 10] = [
+const ALL_OPTIONS: [OptionName; 11] = [
     OptionName::Create,
     OptionName::Remove,
     OptionName::Clean,
     OptionName::Report,
     OptionName::Purge,
+    OptionName::Explain,
     OptionName::Boot,
     OptionName::Prefix,
     OptionName::ExcludePrefix,
@@ -159,6 +161,19 @@ impl OptionName {
                 ],
             )
             .with_file(),
+            OptionName::Explain => Row::of_tmpfiles(
+                "explain",
+                Reader::PathOf,
+                true,
+                &[
+                    OptionName::Create,
+                    OptionName::Remove,
+                    OptionName::Clean,
+                    OptionName::Report,
+                    OptionName::Purge,
+                    OptionName::StopAfter,
+                ],
+            ),
             OptionName::Boot => Row::of_tmpfiles("boot", Reader::Flag, false, &[]),
             OptionName::Prefix => Row::of_tmpfiles("prefix", Reader::PathOf, false, &[]),
             OptionName::ExcludePrefix => {
@@ -223,7 +238,7 @@ fn is_flag(reader: Reader) -> bool
 }
 
 /// All options of the table.
-pub(crate) fn all_options() -> [OptionName; 10]
+pub(crate) fn all_options() -> [OptionName; 11]
     ensures { result ≡ all_options }
 {
     ALL_OPTIONS

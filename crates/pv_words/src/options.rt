@@ -32,6 +32,8 @@ pub struct Options {
     pub report: bool,
     /// `--purge`
     pub purge: bool,
+    /// `--explain`, a path
+    pub explain: Option<TreePath>,
     /// `--boot`
     pub boot: bool,
     /// `--prefix`, a path
@@ -49,6 +51,7 @@ pub struct Options {
 /// The values of the options that take one.
 #[derive(Drop)]
 struct Values {
+    explain: Option<TreePath>,
     prefix: Option<TreePath>,
     exclude_prefix: Option<TreePath>,
     stop_after: Option<u64>,
@@ -111,6 +114,7 @@ fn options_with(tool: Tool, matches: &ArgMatches<'_>, words: WordList, values: V
         clean: is_given(matches, OptionName::Clean),
         report: is_given(matches, OptionName::Report),
         purge: is_given(matches, OptionName::Purge),
+        explain: values.explain,
         boot: is_given(matches, OptionName::Boot),
         prefix: values.prefix,
         exclude_prefix: values.exclude_prefix,
@@ -126,9 +130,11 @@ fn values_of(alloc: Global, matches: &ArgMatches<'_>) -> Result<Values, WordsFau
 {
     let stop_after = decimal_in(value_of(matches, OptionName::StopAfter))?;
     let now = moment_in(value_of(matches, OptionName::Now))?;
+    let explain = path_in(alloc, value_of(matches, OptionName::Explain))?;
     let prefix = path_in(alloc, value_of(matches, OptionName::Prefix))?;
     let exclude_prefix = path_in(alloc, value_of(matches, OptionName::ExcludePrefix))?;
     Ok(Values {
+        explain,
         prefix,
         exclude_prefix,
         stop_after,

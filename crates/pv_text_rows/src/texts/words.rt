@@ -91,6 +91,7 @@ fn add_path(
 fn options_told(alloc: Global, options: &Options) -> Result<Vec<u8>, AllocError> {
     let mut text = Vec::from_slice(alloc, tool_word(options.tool).as_bytes())?;
     add_flags(&mut text, options)?;
+    add_path(&mut text, alloc, " explain ", &options.explain)?;
     add_number(&mut text, alloc, "after", options.stop_after)?;
     add_number(&mut text, alloc, "now", options.now)?;
     add_path(&mut text, alloc, " in ", &options.prefix)?;

@@ -1,6 +1,6 @@
-use Rattle.std.proofs.Common.{drop, length, refl, sym}
+use Rattle.std.proofs.Common.{◌∙◌, drop, length, refl, sym}
 use Rattle.pv_steps.proofs.ActingLaws.{Moves, no_memory}
-use Rattle.provision_run.proofs.TaskLaws.{accounts_acted, accounts_anew, accounts_between, accounts_ended, accounts_framed, accounts_left, accounts_mended, accounts_part, accounts_said, accounts_staged, accounts_stopped, phases_acted, phases_anew, phases_between, phases_ended, phases_framed, phases_left, phases_mended, phases_part, phases_said, phases_staged, phases_stopped, report_acted, report_anew, report_between, report_ended, report_framed, report_left, report_mended, report_part, report_said, report_staged}
+use Rattle.provision_run.proofs.TaskLaws.{accounts_acted, accounts_anew, accounts_between, accounts_ended, accounts_framed, accounts_left, accounts_mended, accounts_part, accounts_said, accounts_staged, accounts_stopped, explain_acted, explain_anew, explain_between, explain_ended, explain_framed, explain_left, explain_mended, explain_part, explain_path, explain_said, explain_staged, phases_acted, phases_anew, phases_between, phases_ended, phases_framed, phases_left, phases_mended, phases_part, phases_said, phases_staged, phases_stopped, report_acted, report_anew, report_between, report_ended, report_framed, report_left, report_mended, report_part, report_said, report_staged}
 use Rattle.provision_run.proofs.run.do_task.Goals as goal
 
 pub returns-in-Phases-clause-ok : goal.returns-in-Phases-clause-ok
@@ -156,3 +156,72 @@ returns-in_err-report_run-in-Report-clause-between g c =
 pub returns-in_ok-report_run-in-Report-clause-between : goal.returns-in_ok-report_run-in-Report-clause-between
 returns-in_ok-report_run-in-Report-clause-between g c =
     report_between c.args.options.now c.args.facts.now c.args.moment (g.T.Tree.state c.args.tree.now) c.args.task (sym c.in-Report.is) (drop (length (g.T.Tree.steps c.args.tree.now)) (g.T.Tree.steps c.args.tree.now))
+
+pub returns-in_err-explain_run-in-Explain-clause-part : goal.returns-in_err-explain_run-in-Explain-clause-part
+returns-in_err-explain_run-in-Explain-clause-part g c =
+    explain_part c.args.options.now c.args.facts.now c.args.moment (g.T.Tree.state c.args.tree.now) c.args.task (sym c.in-Explain.is) c.args.messages.now c.explain_run.new.messages c.explain_run.ensures.part
+
+pub returns-in_err-explain_run-in-Explain-clause-acted : goal.returns-in_err-explain_run-in-Explain-clause-acted
+returns-in_err-explain_run-in-Explain-clause-acted g c =
+    let moves : Moves g.T.Tree = record { stays = g.met.T.Tree.reaches_self; goes_on = g.met.T.Tree.reaches_on; never_falls = g.met.T.Tree.never_falls } in
+    explain_acted g.T.Tree c.args.options.now c.args.facts.now c.args.moment (g.T.Tree.state c.args.tree.now) c.args.task (sym c.in-Explain.is) moves c.args.tree.now c.from_residual-in_err-explain_run-in-Explain.result refl (no_memory c.from_residual-in_err-explain_run-in-Explain.result c.from_residual-in_err-explain_run-in-Explain.ensures.1)
+
+pub returns-in_err-explain_run-in-Explain-clause-mended : goal.returns-in_err-explain_run-in-Explain-clause-mended
+returns-in_err-explain_run-in-Explain-clause-mended g c =
+    explain_mended c.args.options.now c.args.facts.now c.args.moment (g.T.Tree.state c.args.tree.now) c.args.task (sym c.in-Explain.is) (g.T.Tree.steps c.args.tree.now)
+
+pub returns-in_err-explain_run-in-Explain-clause-anew : goal.returns-in_err-explain_run-in-Explain-clause-anew
+returns-in_err-explain_run-in-Explain-clause-anew g c =
+    explain_anew c.args.options.now c.args.facts.now c.args.moment (g.T.Tree.state c.args.tree.now) c.args.task (sym c.in-Explain.is) (drop (length (g.T.Tree.steps c.args.tree.now)) (g.T.Tree.steps c.args.tree.now))
+
+pub returns-in_err-explain_run-in-Explain-clause-framed : goal.returns-in_err-explain_run-in-Explain-clause-framed
+returns-in_err-explain_run-in-Explain-clause-framed g c =
+    explain_framed c.args.options.now c.args.facts.now c.args.moment (g.T.Tree.state c.args.tree.now) c.args.task (sym c.in-Explain.is) (g.T.Tree.steps c.args.tree.now)
+
+pub returns-in_ok-explain_run-in-Explain-clause-ok : goal.returns-in_ok-explain_run-in-Explain-clause-ok
+returns-in_ok-explain_run-in-Explain-clause-ok g c =
+    explain_left c.args.options.now c.args.facts.now c.args.moment (g.T.Tree.state c.args.tree.now) c.args.task (sym c.in-Explain.is)
+
+pub returns-in_ok-explain_run-in-Explain-clause-said : goal.returns-in_ok-explain_run-in-Explain-clause-said
+returns-in_ok-explain_run-in-Explain-clause-said g c =
+    explain_said c.args.options.now c.args.facts.now c.args.moment (g.T.Tree.state c.args.tree.now) c.args.task (sym c.in-Explain.is) c.args.messages.now c.explain_run.new.messages c.in_ok-explain_run-in-Explain.ensures.said
+
+pub returns-in_ok-explain_run-in-Explain-clause-end : goal.returns-in_ok-explain_run-in-Explain-clause-end
+returns-in_ok-explain_run-in-Explain-clause-end g c =
+    explain_ended c.args.options.now c.args.facts.now c.args.moment (g.T.Tree.state c.args.tree.now) c.args.task (sym c.in-Explain.is) c.in_ok-explain_run-in-Explain.field-0 c.in_ok-explain_run-in-Explain.ensures.end
+
+pub returns-in_ok-explain_run-in-Explain-clause-staged : goal.returns-in_ok-explain_run-in-Explain-clause-staged
+returns-in_ok-explain_run-in-Explain-clause-staged g c =
+    explain_staged c.args.options.now c.args.facts.now c.args.moment (g.T.Tree.state c.args.tree.now) c.args.task (sym c.in-Explain.is) (g.T.Tree.state c.args.tree.now)
+
+pub returns-in_ok-explain_run-in-Explain-clause-part : goal.returns-in_ok-explain_run-in-Explain-clause-part
+returns-in_ok-explain_run-in-Explain-clause-part g c =
+    explain_part c.args.options.now c.args.facts.now c.args.moment (g.T.Tree.state c.args.tree.now) c.args.task (sym c.in-Explain.is) c.args.messages.now c.explain_run.new.messages c.explain_run.ensures.part
+
+pub returns-in_ok-explain_run-in-Explain-clause-acted : goal.returns-in_ok-explain_run-in-Explain-clause-acted
+returns-in_ok-explain_run-in-Explain-clause-acted g c =
+    let moves : Moves g.T.Tree = record { stays = g.met.T.Tree.reaches_self; goes_on = g.met.T.Tree.reaches_on; never_falls = g.met.T.Tree.never_falls } in
+    explain_acted g.T.Tree c.args.options.now c.args.facts.now c.args.moment (g.T.Tree.state c.args.tree.now) c.args.task (sym c.in-Explain.is) moves c.args.tree.now _ refl refl
+
+pub returns-in_ok-explain_run-in-Explain-clause-mended : goal.returns-in_ok-explain_run-in-Explain-clause-mended
+returns-in_ok-explain_run-in-Explain-clause-mended g c =
+    explain_mended c.args.options.now c.args.facts.now c.args.moment (g.T.Tree.state c.args.tree.now) c.args.task (sym c.in-Explain.is) (g.T.Tree.steps c.args.tree.now)
+
+pub returns-in_ok-explain_run-in-Explain-clause-anew : goal.returns-in_ok-explain_run-in-Explain-clause-anew
+returns-in_ok-explain_run-in-Explain-clause-anew g c =
+    explain_anew c.args.options.now c.args.facts.now c.args.moment (g.T.Tree.state c.args.tree.now) c.args.task (sym c.in-Explain.is) (drop (length (g.T.Tree.steps c.args.tree.now)) (g.T.Tree.steps c.args.tree.now))
+
+pub returns-in_ok-explain_run-in-Explain-clause-framed : goal.returns-in_ok-explain_run-in-Explain-clause-framed
+returns-in_ok-explain_run-in-Explain-clause-framed g c =
+    explain_framed c.args.options.now c.args.facts.now c.args.moment (g.T.Tree.state c.args.tree.now) c.args.task (sym c.in-Explain.is) (g.T.Tree.steps c.args.tree.now)
+
+pub explain_run-requires : goal.explain_run-requires
+explain_run-requires g c = record { asked = explain_path c.args.options.now (sym c.in-Explain.is ∙ c.requires.asked) }
+
+pub returns-in_err-explain_run-in-Explain-clause-between : goal.returns-in_err-explain_run-in-Explain-clause-between
+returns-in_err-explain_run-in-Explain-clause-between g c =
+    explain_between c.args.options.now c.args.facts.now c.args.moment (g.T.Tree.state c.args.tree.now) c.args.task (sym c.in-Explain.is) (drop (length (g.T.Tree.steps c.args.tree.now)) (g.T.Tree.steps c.args.tree.now))
+
+pub returns-in_ok-explain_run-in-Explain-clause-between : goal.returns-in_ok-explain_run-in-Explain-clause-between
+returns-in_ok-explain_run-in-Explain-clause-between g c =
+    explain_between c.args.options.now c.args.facts.now c.args.moment (g.T.Tree.state c.args.tree.now) c.args.task (sym c.in-Explain.is) (drop (length (g.T.Tree.steps c.args.tree.now)) (g.T.Tree.steps c.args.tree.now))

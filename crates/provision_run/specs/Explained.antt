@@ -1,0 +1,73 @@
+-- An explanation of one path, which does no step: which active lines act on it in the create phase, and what stands there
+-- after them, each path judged by itself (tmpfiles.d(5)). The texts are this project's own.
+use Rattle.std.specs.Prelude.{◌≡◌, ◌⊎◌, ℕ, true, false, List, [], ◌∷◌, ◌++◌, codes, map, Option, Some, None, option_map}
+use Rattle.std.specs.Fmt.{decimal}
+use Rattle.pv_dress.specs.Nodes.{bares_of}
+use Rattle.pv_explain.specs.Acts.{acts, bare_in, last, standing}
+use Rattle.pv_explain.specs.declared.explained.Act.{Act}
+use Rattle.pv_explain.specs.declared.explained.Act.TheVariants.{Makes, Removes, Changes}
+use Rattle.pv_explain.specs.declared.explained.Explained.{Explained}
+use Rattle.pv_explain.specs.declared.explained.LineAct.{LineAct}
+use Rattle.pv_image.specs.Spelling.{object_text}
+use Rattle.pv_path.specs.Paths.{Path, has_staging}
+use Rattle.pv_path.specs.Printing.{printed_path}
+use Rattle.pv_steps.specs.declared.node.Node.{Node}
+use Rattle.pv_steps.specs.Trees.{Files, places}
+use Rattle.pv_table.specs.Created.{IsQuiet}
+use Rattle.pv_table.specs.Repeatable.{IsRepeatable}
+use Rattle.pv_text.specs.Facts.{Values}
+use Rattle.pv_text.specs.Said.{SaidPart}
+use Rattle.pv_words.specs.declared.options.Options.{Options}
+use Rattle.provision_run.specs.Phased.{lines_messages, phased, run_lines}
+
+-- ---- what is said
+
+-- the word for what a line does
+abbrev pub act_word : Act → List ℕ
+act_word Makes = codes "makes"
+act_word Removes = codes "removes"
+act_word Changes = codes "changes"
+
+-- a line acts on a path: `explain FILE:N ACT PATH`
+abbrev pub act_text : Path → LineAct → List ℕ
+act_text path found =
+    codes "explain " ++ (found.place.file ++ codes ":" ++ decimal found.place.number) ++ codes " " ++ act_word found.act ++ codes " " ++ printed_path path
+
+-- what stands at the path after all lines: nothing, or an object as an image has it, without its path and its stamps
+abbrev pub last_text : Path → Option (Node × List ℕ) → List ℕ
+last_text path None = codes "explain " ++ printed_path path ++ codes " is absent"
+last_text path (Some object) = codes "explain " ++ printed_path path ++ codes " is " ++ object_text (record { node = object.0; payload = object.1 })
+
+-- all that is said of a path
+abbrev pub explained_messages : Path → Explained → List (List ℕ)
+explained_messages path told = map (act_text path) told.acts ++ last_text path told.node ∷ []
+
+-- ---- an explanation
+
+-- the same options, but that they ask for creating alone
+abbrev pub creating : Options → Options
+creating options = record options { create = true; remove = false; clean = false; report = false; purge = false; explain = None }
+
+-- what is said of the path that is asked for: exactly the active lines that act on it, in the order of creating, and what
+-- stands there after all lines. Where no line has a reason, a run that creates refuses no line, and the path has no staging
+-- name, this is what such a run leaves there, stamps aside
+pub record IsExplanationOf (options : Options) (facts : Values) (t : Files) (said : List (List ℕ)) : Type 0 where
+  pub path : Path
+  pub asked : options.explain ≡ Some path
+  pub told : Explained
+  pub by_lines : told.acts ≡ acts (run_lines options facts t) (standing t) path
+  pub at_last : option_map bare_in told.node ≡ last (run_lines options facts t) (standing t) path
+  pub text : said ≡ explained_messages path told
+  pub left : (moment : ℕ) → IsRepeatable (run_lines options facts t) → IsQuiet (run_lines options facts t) moment t → has_staging path ≡ false
+      → option_map bare_in told.node ≡ bares_of (places (phased (creating options) facts moment t)) path
+
+-- what is said in reading the configuration and in explaining the path, after messages that were there before
+abbrev pub HasExplained : Options → Values → Files → List (List ℕ) → List (List ℕ) → Type 0
+HasExplained options facts t old new =
+    (said : List (List ℕ)) × (IsExplanationOf options facts t said × (new ≡ old ++ lines_messages options facts t ++ said))
+
+-- a front part of what is said in reading, or of all of it
+abbrev pub HasExplainedPart : Options → Values → Files → List (List ℕ) → List (List ℕ) → Type 0
+HasExplainedPart options facts t old new =
+    SaidPart (lines_messages options facts t) old new
+    ⊎ ((said : List (List ℕ)) × (IsExplanationOf options facts t said × SaidPart (lines_messages options facts t ++ said) old new))
