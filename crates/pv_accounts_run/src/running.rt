@@ -1,5 +1,5 @@
 //! A run of systemd-sysusers over a tree.
-ghost use Rattle.std.specs.Prelude.{◌≡◌, ◌≢◌, ◌++◌, ◌+◌, [], drop, length, None, IfOk, IfErr, OnOk};
+ghost use Rattle.std.specs.Prelude.{◌≡◌, ◌≢◌, ◌++◌, ◌+◌, [], drop, length, None, IfOk, IfErr, IsErrOf, OnOk};
 ghost use Rattle.std.specs.List.{AllByRecursion};
 ghost use Rattle.pv_steps.specs.Trees.{places, IsTree};
 ghost use Rattle.pv_requests.specs.Paths.{HasFewNames};
@@ -9,6 +9,7 @@ ghost use Rattle.pv_text.specs.Said.{SaidPart};
 ghost use Rattle.pv_doing.specs.Courses.{carried_of};
 ghost use Rattle.pv_doing.specs.declared.carried.Carried.TheVariants.{Whole};
 ghost use Rattle.pv_walk.specs.Staging.{count_at_all};
+ghost use Rattle.pv_accounts_run.specs.declared.accounts_fault.AccountsFault.TheVariants.{Failed};
 ghost use Rattle.pv_accounts_run.specs.Accounted.{accounted, accounts_messages, carried_files, edits_at, edits_by, is_unusable, lacking_at, lacking_in, plan_at, unusable_texts};
 ghost use Rattle.pv_accounts_run.specs.Carrying.{AccountWay, IsAccountStep, most_put, swept_names};
 ghost use Rattle.pv_accounts_run.specs.Mended.{IsMended};
@@ -51,6 +52,10 @@ pub fn accounts_run<T: Tree>(
     ensures lacking { IfErr result (Lacks (lacking_at requests.now now (places (T.state tree.old)))) }
     ensures lacking_said { IfLacking result (messages.new ≡ messages.old ++ accounts_messages requests.now now (places (T.state tree.old))) }
     ensures lacking_idle { IfLacking result (T.steps tree.new ≡ T.steps tree.old) }
+
+    // All is said before the first step, and no step is done where a number lacks: where a step failed, all has been said.
+    ensures failed_enough { IsErrOf result Failed → lacking_at requests.now now (places (T.state tree.old)) ≡ None }
+    ensures failed_said { IsErrOf result Failed → messages.new ≡ messages.old ++ accounts_messages requests.now now (places (T.state tree.old)) }
 
     // Nothing is done where a file cannot be used.
     ensures idle { unusable_texts (places (T.state tree.old)) ≢ [] → T.steps tree.new ≡ T.steps tree.old }
@@ -97,6 +102,10 @@ fn run_usable<T: Tree>(
         OnOk result (messages.new ≡ messages.old ++ plan.said) }
     ensures lacking_said { let plan = plan_at requests.now now (places (T.state tree.old)) in
         IfLacking result (messages.new ≡ messages.old ++ plan.said) }
+    ensures failed_enough { let plan = plan_at requests.now now (places (T.state tree.old)) in
+        IsErrOf result Failed → lacking_in plan.texts ≡ None }
+    ensures failed_said { let plan = plan_at requests.now now (places (T.state tree.old)) in
+        IsErrOf result Failed → messages.new ≡ messages.old ++ plan.said }
     ensures part { let plan = plan_at requests.now now (places (T.state tree.old)) in
         SaidPart plan.said messages.old messages.new }
     ensures acted { let edits = edits_by (places (T.state tree.old)) (plan_at requests.now now (places (T.state tree.old))).texts in

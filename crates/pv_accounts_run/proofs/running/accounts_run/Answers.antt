@@ -114,6 +114,18 @@ returns-clause-lacking_said g c =
     let none : unusable_texts (places t) ≡ [] = nil_of (unusable_texts (places t)) (subst (λ ys. length ys ≤ 0) c.in_ok-unusable.ensures (omega (arith, c.len.ensures, c.if-len-gt0.false))) in
     subst (λ (ys : List (List ℕ)). IfLacking c.run_usable.result (c.run_usable.new.messages ≡ c.args.messages.now ++ said_unless c.args.requests.now ys (plan_at c.args.requests.now c.args.now (places t)).said)) (sym none) c.run_usable.ensures.lacking_said
 
+pub returns-clause-failed_enough : goal.returns-clause-failed_enough
+returns-clause-failed_enough g c =
+    let t = g.T.Tree.state c.args.tree.now in
+    let none : unusable_texts (places t) ≡ [] = nil_of (unusable_texts (places t)) (subst (λ ys. length ys ≤ 0) c.in_ok-unusable.ensures (omega (arith, c.len.ensures, c.if-len-gt0.false))) in
+    λ failed. ap (λ ys. lacking_unless ys (lacking_in (plan_at c.args.requests.now c.args.now (places t)).texts)) none ∙ c.run_usable.ensures.failed_enough failed
+
+pub returns-clause-failed_said : goal.returns-clause-failed_said
+returns-clause-failed_said g c =
+    let t = g.T.Tree.state c.args.tree.now in
+    let none : unusable_texts (places t) ≡ [] = nil_of (unusable_texts (places t)) (subst (λ ys. length ys ≤ 0) c.in_ok-unusable.ensures (omega (arith, c.len.ensures, c.if-len-gt0.false))) in
+    λ failed. c.run_usable.ensures.failed_said failed ∙ ap (λ ys. c.args.messages.now ++ said_unless c.args.requests.now ys (plan_at c.args.requests.now c.args.now (places t)).said) (sym none)
+
 pub returns-clause-part : goal.returns-clause-part
 returns-clause-part g c =
     let t = g.T.Tree.state c.args.tree.now in
