@@ -184,6 +184,10 @@ class WhatAnImageCannotHold(ToolCase):
         self.check(archive(Member(b"p", b"6", mode=0o600, records={b"PROVISION.letters": b"a"})),
                    warned("/p: letters on a fifo, left out"), b"p /p 0600 0 0 0,0,0,0 - - - -")
 
+    def test_flags(self):
+        self.check(archive(file_member(b"f", records={b"SCHILY.fflags": b"schg,sappnd,uchg,nodump"})),
+                   warned("/f: the flag uchg, left out"), b"f /f 0644 0 0 0,0,0,0 - - adi -")
+
     def test_acls(self):
         text = b"user::rwx,group::rwx,other::rwx"
         self.check(archive(file_member(b"f", records={b"SCHILY.acl.default": text})),
