@@ -366,25 +366,24 @@ class Builder:
         bits = node.mode
         access = AclPart(bits >> 6 & 7, bits >> 3 & 7, bits & 7)
         if node.access_text:
-            access = self._part(node, node.access_text, users, groups, b"access" in computed)
+            self._read_part(node, access, node.access_text, (users, groups), b"access" in computed)
             node.mode = bits & 0o7000 | access.owner << 6 | access.group << 3 | access.other
         default = None
         if node.default_text:
-            default = self._part(node, node.default_text, users, groups, b"default" in computed)
+            default = AclPart()
+            self._read_part(node, default, node.default_text, (users, groups), b"default" in computed)
         node.acl = print_acl(access, default)
 
-    def _part(self, node, text, users, groups, computed: bool) -> AclPart:
-        """One part of an ACL from its text, with names of the tree's own accounts."""
-        part = AclPart()
+    def _read_part(self, node: Node, part: AclPart, text: bytes, ids: tuple, computed: bool) -> None:
+        """Put the entries of a text into a part, with names of the tree's own accounts."""
         for entry in re.split(rb"[,\n]", text):
             fields = [field.strip() for field in entry.split(b"#", 1)[0].split(b":")]
             if fields == [b""]:
                 continue
-            if not self._put_entry(part, fields, users, groups):
+            if not self._put_entry(part, fields, *ids):
                 self.warn(node.path, f"the ACL entry {printed_path(entry)}, left out")
         if computed and part.mask == part.union():
             part.mask = None
-        return part
 
     @staticmethod
     def _put_entry(part: AclPart, fields: list[bytes], users, groups) -> bool:
