@@ -100,6 +100,9 @@ class Store:
         self._end += len(data)
         return Span(self._end - len(data), len(data))
 
+    def close(self) -> None:
+        self._file.close()
+
     def read(self, content: Span | Marker) -> bytes:
         """The bytes that stand in the image for contents."""
         if isinstance(content, Marker):
@@ -409,8 +412,8 @@ class Builder:
         ids: dict[bytes, int] = {}
         for line in self.file_bytes(path).split(b"\n"):
             fields = line.split(b":")
-            if len(fields) > 2 and fields[2].isdigit():
-                ids.setdefault(fields[0], int(fields[2]))
+            if len(fields) > 2 and (number := id_number(fields[2])) is not None:
+                ids.setdefault(fields[0], number)
         return ids
 
     def file_bytes(self, path: bytes) -> bytes:
@@ -444,8 +447,8 @@ class Builder:
 def micros_of(text: bytes) -> int:
     """Microseconds of a record of seconds; later digits are cut."""
     whole, _, rest = text.partition(b".")
-    if not re.fullmatch(rb"-?[0-9]+", whole) or rest and not rest.isdigit():
-        raise Trouble(f"bad tar: the stamp {printed_path(text)}")
+    if not re.fullmatch(rb"-?[0-9]{1,20}", whole) or rest and not rest.isdigit():
+        raise Trouble(f"bad tar: the stamp {printed_path(text[:40])}")
     micros = int((rest + b"000000")[:6])
     seconds = int(whole)
     return seconds * 1000000 + (-micros if whole.startswith(b"-") else micros)
@@ -456,12 +459,18 @@ def unquoted(name: bytes) -> bytes:
     return re.sub(rb"%([0-9A-Fa-f]{2})", lambda found: bytes([int(found[1], 16)]), name)
 
 
+def id_number(text: bytes) -> int | None:
+    """The number that a text spells, where it is one of a user or a group."""
+    number = int(text) if text.isdigit() and len(text) <= 20 else LARGEST_ID + 1
+    return number if number <= LARGEST_ID else None
+
+
 def id_of(fields: list[bytes], ids: dict[bytes, int]) -> int | None:
     """The number of an entry: its name, that of star's fourth field, or the tree's own."""
     name = fields[1]
     for text in (name, fields[3] if len(fields) > 3 else b""):
         if text.isdigit():
-            return int(text) if int(text) <= LARGEST_ID else None
+            return id_number(text)
     return ids.get(name)
 
 
