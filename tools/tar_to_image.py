@@ -5,11 +5,11 @@
 
 Directories, files, links, FIFOs and devices are taken over with owners as
 numbers, modes, ACLs (SCHILY.acl.*), extended attributes (SCHILY.xattr.*) and
-stamps, cut to microseconds. A stamp that the archive lacks is the modify
-stamp. Hard links become files of their own. Attribute letters are
-taken from the flags that bsdtar writes (SCHILY.fflags). Records of this
-project: PROVISION.letters (attribute letters), PROVISION.birth and PROVISION.change
-(stamps), PROVISION.mask (the parts of an ACL whose mask is none of its own).
+stamps, cut to microseconds (mtime, atime, ctime). A stamp that the archive
+lacks is the modify stamp. Hard links become files of their own. Attribute
+letters are taken from the flags that bsdtar writes (SCHILY.fflags). Records of
+this project: PROVISION.letters (attribute letters), PROVISION.birth (a stamp),
+PROVISION.mask (the parts of an ACL whose mask is none of its own).
 
 Contents over the inline limit stand in the image as a marker, SHA-256 and
 length; image_to_tar.py puts them back from the same archive. The limit is 64
@@ -38,7 +38,7 @@ from tree_image import (
     FACT_LETTERS, KIND_NAMES, LARGEST_ID, LARGEST_NUMBER, LARGEST_STAMP, LONGEST_FACT,
     LONGEST_IMAGE, LONGEST_NAME, LONGEST_TARGET, MAGIC, NODE_LETTERS, AclPart, Marker, Node, Notices, Trouble,
     attr_fault, head_lines, is_configuration, name_fault, node_line, parent_of, path_key,
-    perm_bits, print_acl, printed, printed_path,
+    perm_bits, print_acl, printed_path,
 )
 
 INLINE_LIMIT = 65536
@@ -64,7 +64,7 @@ FLAG_LETTERS = {
 KNOWN_RECORDS = frozenset((
     b"path", b"linkpath", b"size", b"uid", b"gid", b"uname", b"gname", b"mtime", b"atime",
     b"ctime", b"charset", b"hdrcharset", b"comment", b"LIBARCHIVE.creationtime",
-    b"PROVISION.letters", b"PROVISION.birth", b"PROVISION.change", b"PROVISION.mask",
+    b"PROVISION.letters", b"PROVISION.birth", b"PROVISION.mask",
     b"SCHILY.devmajor", b"SCHILY.devminor", b"SCHILY.dev", b"SCHILY.ino", b"SCHILY.nlink",
     b"SCHILY.realsize", b"SCHILY.fflags", b"SCHILY.acl.access", b"SCHILY.acl.default", b"SCHILY.filetype",
     b"RHT.security.selinux",
@@ -245,8 +245,7 @@ class Builder:
         elif b"SCHILY.fflags" in records:
             self._put_flags(node, records[b"SCHILY.fflags"])
         node.access = self._stamp(path, records.get(b"atime"), node.access)
-        change = records.get(b"PROVISION.change", records.get(b"ctime"))
-        node.change = self._stamp(path, change, node.change)
+        node.change = self._stamp(path, records.get(b"ctime"), node.change)
         birth = records.get(b"PROVISION.birth", records.get(b"LIBARCHIVE.creationtime"))
         node.birth = self._stamp(path, birth, node.birth)
         acls = {}

@@ -52,7 +52,7 @@ class OneWay(ToolCase):
                          "user::rwx,user:1:r--,group::---,mask::rwx,other::--x")
         self.assertEqual(records["PROVISION.mask"], "access")
         self.assertEqual(records["PROVISION.letters"], "Aai")
-        self.assertEqual(records["PROVISION.change"], "18446744073709.551615")
+        self.assertEqual(records["ctime"], "18446744073709.551615")
         self.assertEqual(records["SCHILY.xattr.user.p%25%3D"], "")
         self.assertEqual((members["./d"].uid, members["./d"].gid), (4294967294, 2097152))
         self.assertEqual(members["./b"].pax_headers, {"SCHILY.devmajor": "4294967295"})

@@ -64,10 +64,10 @@ class Kinds(ToolCase):
 
     def test_stamps(self):
         records = {b"mtime": b"10.123456789", b"atime": b"11.5", b"ctime": b"12",
-                   b"PROVISION.birth": b"9.000001", b"PROVISION.change": b"13"}
+                   b"PROVISION.birth": b"9.000001"}
         tar = archive(file_member(b"f", records=records),
                       file_member(b"g", seconds=5, records={b"ctime": b"12", b"LIBARCHIVE.creationtime": b"4"}))
-        wanted = image(b"f /f 0644 0 0 11500000,9000001,13000000,10123456 - - - -",
+        wanted = image(b"f /f 0644 0 0 11500000,9000001,12000000,10123456 - - - -",
                        b"f /g 0644 0 0 5000000,4000000,12000000,5000000 - - - -")
         self.assertEqual(self.to_image(tar), wanted)
 
