@@ -11,8 +11,12 @@ begin with `: `) go to standard error. Facts are of a run and not of a tree,
 so they do not come into the archive.
 
 The archive is ustar with pax records where they are needed; those of this
-project are named in tar_to_image.py. Status: 0 done, 1 an error, after which
-the archive is not whole.
+project are named in tar_to_image.py. GNU tar unpacks it whole by
+
+    tar --numeric-owner --acls --xattrs --xattrs-include='*' \\
+        --warning=no-unknown-keyword -xpf NEW.tar
+
+Status: 0 done, 1 an error, after which the archive is not whole.
 """
 
 import argparse
@@ -68,8 +72,7 @@ def stamp_records(node: Node) -> dict[bytes, bytes]:
     seconds, rest = divmod(node.modify, 1000000)
     if rest or seconds >= 8**11:
         records[b"mtime"] = seconds_text(node.modify)
-    for key, value in ((b"atime", node.access), (b"PROVISION.birth", node.birth),
-                       (b"PROVISION.change", node.change)):
+    for key, value in ((b"atime", node.access), (b"ctime", node.change), (b"PROVISION.birth", node.birth)):
         if value != node.modify:
             records[key] = seconds_text(value)
     return records

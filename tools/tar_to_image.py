@@ -5,14 +5,18 @@
 
 Directories, files, links, FIFOs and devices are taken over with owners as
 numbers, modes, ACLs (SCHILY.acl.*), extended attributes (SCHILY.xattr.*) and
-stamps, cut to microseconds. A stamp that the archive lacks is the modify
-stamp. Hard links become files of their own. Records of this project:
-PROVISION.letters (attribute letters), PROVISION.birth and PROVISION.change
-(stamps), PROVISION.mask (the parts of an ACL whose mask is none of its own).
+stamps, cut to microseconds (mtime, atime, ctime). A stamp that the archive
+lacks is the modify stamp. Hard links become files of their own. Attribute
+letters are taken from the flags that bsdtar writes (SCHILY.fflags). Records of
+this project: PROVISION.letters (attribute letters), PROVISION.birth (a stamp),
+PROVISION.mask (the parts of an ACL whose mask is none of its own).
 
 Contents over the inline limit stand in the image as a marker, SHA-256 and
-length; image_to_tar.py puts them back from the same archive. What the program
-reads (below a tmpfiles.d or sysusers.d, account files, --inline) stays inline.
+length; image_to_tar.py puts them back from the same archive. The limit is 64
+KiB, halved until all that stays inline has at most 8 MiB, since the program
+reads images of at most 64 MiB. What the program reads itself (below a
+tmpfiles.d or sysusers.d, account files, --inline) stays inline, whatever its
+length.
 
 Each thing that an image cannot hold is named on standard error; with --strict
 it is an error, and no image is written. Status: 0 done, 1 an error.
@@ -34,10 +38,12 @@ from tree_image import (
     FACT_LETTERS, KIND_NAMES, LARGEST_ID, LARGEST_NUMBER, LARGEST_STAMP, LONGEST_FACT,
     LONGEST_IMAGE, LONGEST_NAME, LONGEST_TARGET, MAGIC, NODE_LETTERS, AclPart, Marker, Node, Notices, Trouble,
     attr_fault, head_lines, is_configuration, name_fault, node_line, parent_of, path_key,
-    perm_bits, print_acl, printed, printed_path,
+    perm_bits, print_acl, printed_path,
 )
 
 INLINE_LIMIT = 65536
+LEAST_LIMIT = 128  # shorter contents are no longer than a marker
+MOST_INLINE = 8 << 20
 NOBODY = 65534
 KINDS = {b"0": "f", b"\0": "f", b"7": "f", b"S": "f", b"": "f", b"1": "f", b"2": "l", b"3": "c",
          b"4": "b", b"5": "d", b"D": "d", b"6": "p"}
@@ -47,13 +53,20 @@ SYSTEM_ACLS = {
     b"system.posix_acl_default": b"SCHILY.acl.default",
 }
 
+# Attribute letters by the names that bsdtar writes.
+FLAG_LETTERS = {
+    b"sappnd": "a", b"sappend": "a", b"schg": "i", b"simmutable": "i", b"noatime": "A", b"compress": "c",
+    b"nocow": "C", b"nodump": "d", b"dirsync": "D", b"journal-data": "j", b"journal": "j", b"projinherit": "P",
+    b"securedeletion": "s", b"sync": "S", b"notail": "t", b"topdir": "T", b"undel": "u",
+}
+
 # Records that stand for what the members and the nodes have, or for nothing that is lost.
 KNOWN_RECORDS = frozenset((
     b"path", b"linkpath", b"size", b"uid", b"gid", b"uname", b"gname", b"mtime", b"atime",
     b"ctime", b"charset", b"hdrcharset", b"comment", b"LIBARCHIVE.creationtime",
-    b"PROVISION.letters", b"PROVISION.birth", b"PROVISION.change", b"PROVISION.mask",
+    b"PROVISION.letters", b"PROVISION.birth", b"PROVISION.mask",
     b"SCHILY.devmajor", b"SCHILY.devminor", b"SCHILY.dev", b"SCHILY.ino", b"SCHILY.nlink",
-    b"SCHILY.realsize", b"SCHILY.acl.access", b"SCHILY.acl.default", b"SCHILY.filetype",
+    b"SCHILY.realsize", b"SCHILY.fflags", b"SCHILY.acl.access", b"SCHILY.acl.default", b"SCHILY.filetype",
     b"RHT.security.selinux",
 ))
 
@@ -87,6 +100,9 @@ class Store:
         self._end += len(data)
         return Span(self._end - len(data), len(data))
 
+    def close(self) -> None:
+        self._file.close()
+
     def read(self, content: Span | Marker) -> bytes:
         """The bytes that stand in the image for contents."""
         if isinstance(content, Marker):
@@ -100,9 +116,10 @@ class Store:
 class Builder:
     """Makes nodes of members; what a node cannot hold is named."""
 
-    def __init__(self, notices: Notices, limit: int, inline: frozenset[bytes]) -> None:
+    def __init__(self, notices: Notices, limit: int | None, inline: frozenset[bytes]) -> None:
         self.notices = notices
-        self.limit = limit
+        self.is_free = limit is None
+        self.limit = INLINE_LIMIT if limit is None else limit
         self.inline = inline
         self.store = Store()
         self.nodes: dict[bytes, Entry] = {}
@@ -198,9 +215,13 @@ class Builder:
                           "taken as an object of its own")
         return True
 
+    def _keeps(self, node: Node) -> bool:
+        """Whether contents stay inline, whatever their length."""
+        return is_configuration(node.path) or node.path in self.inline
+
     def _content(self, node: Node, reader: TarReader, member: Member) -> Span | Marker:
         """Take over contents, inline or by a marker."""
-        keeps = is_configuration(node.path) or node.path in self.inline
+        keeps = self._keeps(node)
         if member.size <= self.limit or keeps:
             data = reader.whole(member)
             if not data.startswith(MAGIC):
@@ -221,9 +242,10 @@ class Builder:
         path = node.path
         if b"PROVISION.letters" in records:
             self._put_letters(node, records[b"PROVISION.letters"].decode("latin-1"))
+        elif b"SCHILY.fflags" in records:
+            self._put_flags(node, records[b"SCHILY.fflags"])
         node.access = self._stamp(path, records.get(b"atime"), node.access)
-        change = records.get(b"PROVISION.change", records.get(b"ctime"))
-        node.change = self._stamp(path, change, node.change)
+        node.change = self._stamp(path, records.get(b"ctime"), node.change)
         birth = records.get(b"PROVISION.birth", records.get(b"LIBARCHIVE.creationtime"))
         node.birth = self._stamp(path, birth, node.birth)
         acls = {}
@@ -253,6 +275,15 @@ class Builder:
             self.warn(node.path, f"the letters {''.join(odd)!r}, left out")
         node.letters = "".join(letter for letter in NODE_LETTERS if letter in text)
 
+    def _put_flags(self, node: Node, text: bytes) -> None:
+        """Letters by the names of file flags; one that no letter stands for is named."""
+        flags = [flag for flag in text.split(b",") if flag]
+        for flag in flags:
+            if flag not in FLAG_LETTERS:
+                self.warn(node.path, f"the flag {printed_path(flag)}, left out")
+        if letters := "".join(FLAG_LETTERS.get(flag, "") for flag in flags):
+            self._put_letters(node, letters)
+
     def _put_attr(self, node: Node, name: bytes, value: bytes) -> None:
         fault = "a link has none" if node.kind == "l" else attr_fault(name, value)
         if fault:
@@ -278,14 +309,31 @@ class Builder:
 
     # The whole tree
 
-    def finish(self) -> list[Node]:
+    def finish(self) -> list[Entry]:
         """All nodes in order, each below a directory."""
         if b"/" not in self.nodes:
             self.nodes[b"/"] = Entry("d", b"/")
         self._put_parents()
         if self._has_acls:
             self._put_acls()
+        self._fit()
         return sorted(self.nodes.values(), key=lambda node: path_key(node.path))
+
+    def _fit(self) -> None:
+        """Halve the limit until what stays inline is short."""
+        if not self.is_free:
+            return
+        nodes = [node for node in self.nodes.values()
+                 if isinstance(node.content, Span) and node.content.length > LEAST_LIMIT and not self._keeps(node)]
+        while self.limit > LEAST_LIMIT and MOST_INLINE < sum(
+                node.content.length for node in nodes if node.content.length <= self.limit):
+            self.limit //= 2
+        for node in nodes:
+            if node.content.length > self.limit:
+                digest = hashlib.sha256(self.store.read(node.content)).hexdigest()
+                node.content = Marker(digest, node.content.length)
+        if self.limit < INLINE_LIMIT:
+            self.notices.note(f"contents over {self.limit} bytes stand as markers, so that the image stays short")
 
     def _put_parents(self) -> None:
         """Make absent parents; leave out what stands below no directory."""
@@ -320,25 +368,24 @@ class Builder:
         bits = node.mode
         access = AclPart(bits >> 6 & 7, bits >> 3 & 7, bits & 7)
         if node.access_text:
-            access = self._part(node, node.access_text, users, groups, b"access" in computed)
+            self._read_part(node, access, node.access_text, (users, groups), b"access" in computed)
             node.mode = bits & 0o7000 | access.owner << 6 | access.group << 3 | access.other
         default = None
         if node.default_text:
-            default = self._part(node, node.default_text, users, groups, b"default" in computed)
+            default = AclPart()
+            self._read_part(node, default, node.default_text, (users, groups), b"default" in computed)
         node.acl = print_acl(access, default)
 
-    def _part(self, node, text, users, groups, computed: bool) -> AclPart:
-        """One part of an ACL from its text, with names of the tree's own accounts."""
-        part = AclPart()
+    def _read_part(self, node: Node, part: AclPart, text: bytes, ids: tuple, computed: bool) -> None:
+        """Put the entries of a text into a part, with names of the tree's own accounts."""
         for entry in re.split(rb"[,\n]", text):
             fields = [field.strip() for field in entry.split(b"#", 1)[0].split(b":")]
             if fields == [b""]:
                 continue
-            if not self._put_entry(part, fields, users, groups):
+            if not self._put_entry(part, fields, *ids):
                 self.warn(node.path, f"the ACL entry {printed_path(entry)}, left out")
         if computed and part.mask == part.union():
             part.mask = None
-        return part
 
     @staticmethod
     def _put_entry(part: AclPart, fields: list[bytes], users, groups) -> bool:
@@ -364,8 +411,8 @@ class Builder:
         ids: dict[bytes, int] = {}
         for line in self.file_bytes(path).split(b"\n"):
             fields = line.split(b":")
-            if len(fields) > 2 and fields[2].isdigit():
-                ids.setdefault(fields[0], int(fields[2]))
+            if len(fields) > 2 and (number := id_number(fields[2])) is not None:
+                ids.setdefault(fields[0], number)
         return ids
 
     def file_bytes(self, path: bytes) -> bytes:
@@ -399,8 +446,8 @@ class Builder:
 def micros_of(text: bytes) -> int:
     """Microseconds of a record of seconds; later digits are cut."""
     whole, _, rest = text.partition(b".")
-    if not re.fullmatch(rb"-?[0-9]+", whole) or rest and not rest.isdigit():
-        raise Trouble(f"bad tar: the stamp {printed_path(text)}")
+    if not re.fullmatch(rb"-?[0-9]{1,20}", whole) or rest and not rest.isdigit():
+        raise Trouble(f"bad tar: the stamp {printed_path(text[:40])}")
     micros = int((rest + b"000000")[:6])
     seconds = int(whole)
     return seconds * 1000000 + (-micros if whole.startswith(b"-") else micros)
@@ -411,12 +458,18 @@ def unquoted(name: bytes) -> bytes:
     return re.sub(rb"%([0-9A-Fa-f]{2})", lambda found: bytes([int(found[1], 16)]), name)
 
 
+def id_number(text: bytes) -> int | None:
+    """The number that a text spells, where it is one of a user or a group."""
+    number = int(text) if text.isdigit() and len(text) <= 20 else LARGEST_ID + 1
+    return number if number <= LARGEST_ID else None
+
+
 def id_of(fields: list[bytes], ids: dict[bytes, int]) -> int | None:
     """The number of an entry: its name, that of star's fourth field, or the tree's own."""
     name = fields[1]
     for text in (name, fields[3] if len(fields) > 3 else b""):
         if text.isdigit():
-            return int(text) if int(text) <= LARGEST_ID else None
+            return id_number(text)
     return ids.get(name)
 
 
@@ -520,8 +573,9 @@ def parse_words(words: list[str]) -> argparse.Namespace:
                         help="what an image cannot hold is an error, and no image is written")
     parser.add_argument("--fact", action="append", type=fact_option, default=[],
                         metavar="LETTER=VALUE", help="a fact; without a value the fact is left out")
-    parser.add_argument("--inline-limit", type=limit_option, default=INLINE_LIMIT, metavar="BYTES",
-                        help="contents over this length stand as a marker (%(default)s)")
+    parser.add_argument("--inline-limit", type=limit_option, default=None, metavar="BYTES",
+                        help="contents over this length stand as a marker (65536, halved until all that "
+                             "stays inline has at most 8 MiB)")
     parser.add_argument("--inline", action="append", type=path_option, default=[], metavar="PATH",
                         help="a file whose contents stay in the image, whatever its length")
     return parser.parse_args(words)

@@ -22,12 +22,12 @@ def run_tool(name: str, *words: str, given: bytes = b"") -> subprocess.Completed
 
 def archive(*parts: Member | tuple[Member, bytes]) -> bytes:
     """An archive of members, with their contents beside them."""
-    data = b""
+    pieces = []
     for part in parts:
         member, content = part if isinstance(part, tuple) else (part, b"")
         member.size = len(content)
-        data += member_head(member) + content + padding(len(content))
-    return data + archive_end(len(data))
+        pieces += [member_head(member), content, padding(len(content))]
+    return b"".join(pieces) + archive_end(sum(map(len, pieces)))
 
 
 def file_member(name: bytes, **fields) -> Member:

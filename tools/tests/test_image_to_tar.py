@@ -52,7 +52,7 @@ class OneWay(ToolCase):
                          "user::rwx,user:1:r--,group::---,mask::rwx,other::--x")
         self.assertEqual(records["PROVISION.mask"], "access")
         self.assertEqual(records["PROVISION.letters"], "Aai")
-        self.assertEqual(records["PROVISION.change"], "18446744073709.551615")
+        self.assertEqual(records["ctime"], "18446744073709.551615")
         self.assertEqual(records["SCHILY.xattr.user.p%25%3D"], "")
         self.assertEqual((members["./d"].uid, members["./d"].gid), (4294967294, 2097152))
         self.assertEqual(members["./b"].pax_headers, {"SCHILY.devmajor": "4294967295"})
@@ -166,6 +166,19 @@ class LargeFiles(ToolCase):
         self.assertEqual(lines[3], self.line(b"/d/big", self.BIG))
         lines = self.to_image(self.old, "--inline", "/d/big").splitlines()
         self.assertEqual(lines[3], self.line(b"/d/big", self.BIG))
+
+    def test_the_limit_is_halved_where_there_is_much(self):
+        # 200 files of 60,000 bytes and 1,000 of 5,000: more than 8 MiB above 32,768 bytes, and less below
+        sizes = [(b"a%03d" % n, 60000) for n in range(200)] + [(b"b%03d" % n, 5000) for n in range(1000)]
+        old = archive(*((file_member(name), name * (size // 4)) for name, size in sizes))
+        said = (b"tar_to_image: note: contents over 32768 bytes stand as markers, so that the image stays short\n")
+        text = self.to_image(old, "--strict", said=said)
+        self.assertEqual(text.count(b64encode(b"provision-large-file sha256")), 200)
+        self.assertIn(self.line(b"/b999", b"b999" * 1250), text)
+        (self.room / "old.tar").write_bytes(old)
+        made = self.contents(self.to_tar(text, str(self.room / "old.tar")))
+        self.assertEqual(made, {"./" + name.decode(): name * (size // 4) for name, size in sizes})
+        self.assertEqual(self.to_image(old, "--inline-limit", "60000").count(b64encode(b"provision-large-file sha256")), 0)
 
     def test_moved_copied_and_added_to(self):
         text = image(self.line(b"/a", self.MARKER), self.line(b"/b", self.MARKER),

@@ -8,6 +8,7 @@ from io import BytesIO
 from pathlib import Path
 
 from tests.helper import TOOLS, ToolCase, archive, file_member, folder_member
+from tests.test_image_to_tar import WHOLE
 
 PROGRAM = Path(os.environ.get("CHECK_PROGRAM") or TOOLS.parent / "crates/provision/out/provision").resolve()
 BIG = bytes(range(256)) * 4000
@@ -57,6 +58,10 @@ class Runs(ToolCase):
         self.assertEqual(big.pax_headers["SCHILY.xattr.user.k"], "v")
         folder = members["./run/0123456789abcdef0123456789abcdef-boot"]
         self.assertEqual((folder.uid, folder.gid, folder.mode, folder.mtime), (70, 71, 0o1777, 1000000))
+
+    def test_an_image_is_spelled_as_the_program_spells_it(self):
+        done = subprocess.run([PROGRAM, "systemd-tmpfiles", "--report"], input=WHOLE, capture_output=True, check=True)
+        self.assertEqual(done.stdout, b": repeatable\n" + WHOLE)
 
     def test_a_stopped_run_through_archives_is_mended(self):
         image = self.to_image(b"", str(self.old), "--fact", "b=boot")

@@ -64,10 +64,10 @@ class Kinds(ToolCase):
 
     def test_stamps(self):
         records = {b"mtime": b"10.123456789", b"atime": b"11.5", b"ctime": b"12",
-                   b"PROVISION.birth": b"9.000001", b"PROVISION.change": b"13"}
+                   b"PROVISION.birth": b"9.000001"}
         tar = archive(file_member(b"f", records=records),
                       file_member(b"g", seconds=5, records={b"ctime": b"12", b"LIBARCHIVE.creationtime": b"4"}))
-        wanted = image(b"f /f 0644 0 0 11500000,9000001,13000000,10123456 - - - -",
+        wanted = image(b"f /f 0644 0 0 11500000,9000001,12000000,10123456 - - - -",
                        b"f /g 0644 0 0 5000000,4000000,12000000,5000000 - - - -")
         self.assertEqual(self.to_image(tar), wanted)
 
@@ -113,6 +113,10 @@ class Acls(ToolCase):
     def test_base_entries_alone_are_the_mode(self):
         line = self.one(file_member(b"x", records={b"SCHILY.acl.access": b"user::rw-,group::r--,other::r--"}))
         self.assertEqual(line, b"f /x 0644 0 0 0,0,0,0 - - - -")
+
+    def test_a_base_entry_that_is_lacking_is_that_of_the_mode(self):
+        line = self.one(file_member(b"x", records={b"SCHILY.acl.access": b"user:3:rwx,mask::rwx"}))
+        self.assertEqual(line, b"f /x 0644 0 0 0,0,0,0 u:3:rwx,m::rwx - - -")
 
     def test_a_computed_mask_is_none(self):
         text = b"user::rw-,user:3:rwx,group::r--,mask::rwx,other::r--"
@@ -183,6 +187,10 @@ class WhatAnImageCannotHold(ToolCase):
                    warned("/f: the letters 'z', left out"), b"f /f 0644 0 0 0,0,0,0 - - ai -")
         self.check(archive(Member(b"p", b"6", mode=0o600, records={b"PROVISION.letters": b"a"})),
                    warned("/p: letters on a fifo, left out"), b"p /p 0600 0 0 0,0,0,0 - - - -")
+
+    def test_flags(self):
+        self.check(archive(file_member(b"f", records={b"SCHILY.fflags": b"schg,sappnd,uchg,nodump"})),
+                   warned("/f: the flag uchg, left out"), b"f /f 0644 0 0 0,0,0,0 - - adi -")
 
     def test_acls(self):
         text = b"user::rwx,group::rwx,other::rwx"
@@ -289,6 +297,10 @@ class GnuTar(ToolCase):
         return self.to_image(b"", str(self.room / "root.tar"))
 
     def plain(self) -> None:
+        try:
+            os.mknod(self.room / "device", 0o20600, os.makedev(5, 1))
+        except PermissionError:
+            self.skipTest("devices cannot be made here")
         self.sh("mkdir -m 755 root; cd root; echo hi > f; chown 7:8 f; chmod 4711 f; mkfifo -m 640 p;"
                 "ln -s ../x l; mknod -m 600 n c 5 1; touch -d @100 . f p n; touch -hd @100 l")
 
