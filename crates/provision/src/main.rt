@@ -1,21 +1,19 @@
 //! `provision`: runs over the image on standard input, and writes messages and the image to standard output.
 #![tactic(auto)]
 
+ghost use Rattle.std.specs.Prelude.{◌≡◌, None, drop, map, string_bytes};
+ghost use Rattle.std.specs.Process.{exit_status};
+ghost use Rattle.pv_io.specs.Faults.{HasRisen};
+ghost use Rattle.pv_words.specs.Asked.{asked_of};
+ghost use Rattle.provision.specs.Ended.{IsStatusOf};
+
 use provision_run::{provision, status};
-use pv_io::{StdSink, StdSource};
+use pv_io::{Sink, Source, StdSink, StdSource};
+use std::alloc::Global;
 use std::env;
 use std::io::{self, ErrorKind};
 use std::process::ExitCode;
 use std::time::SystemTime;
-
-/// The words after the name of the program.
-fn words_of(rt: &HostRuntime) -> io::Result<Vec<String>> {
-    let mut words = Vec::new(rt.alloc());
-    for word in env::args(rt)?.skip(1) {
-        words.push(word)?;
-    }
-    Ok(words)
-}
 
 /// The clock in microseconds since 1970; before that it counts as 0.
 fn clock_of(rt: &HostRuntime) -> u64 {
@@ -39,13 +37,54 @@ fn end_without_words(rt: &HostRuntime, error: &io::Error) -> ExitCode {
     }
 }
 
+/// The arguments, of which the first is the name of the program.
+fn arguments_of(rt: &HostRuntime) -> io::Result<Vec<String>> {
+    let mut arguments = Vec::new(rt.alloc());
+    for argument in env::args(rt)? {
+        arguments.push(argument)?;
+    }
+    Ok(arguments)
+}
+
+/// All arguments after the first, which is the name of the program.
+fn words_of(arguments: &[String]) -> &[String]
+    ensures { result.now ≡ drop 1 arguments.now }
+{
+    match arguments {
+        [] => &[],
+        [_name, words @ ..] => words,
+    }
+}
+
+/// Runs the program with its arguments, and gives the status of how that ended. All arguments after the first are its words.
+fn run<S: Source, K: Sink>(
+    alloc: Global,
+    arguments: &[String],
+    clock_micros: u64,
+    source: &mut S,
+    sink: &mut K,
+) -> ExitCode
+    ensures status { IsStatusOf (map string_bytes (drop 1 arguments.now)) clock_micros (S.left source.old)
+        (K.written sink.old) (K.written sink.new) (HasRisen (S.faults source.old) (S.faults source.new))
+        (HasRisen (K.faults sink.old) (K.faults sink.new)) (exit_status result) }
+    ensures unread { asked_of (map string_bytes (drop 1 arguments.now)) ≡ None → source.new ≡ source.old }
+{
+    let outcome = provision(alloc, words_of(arguments), clock_micros, source, sink);
+    ExitCode::from(status(&outcome))
+}
+
 fn main(rt: HostRuntime) -> ExitCode {
-    let words = match words_of(&rt) {
-        Ok(words) => words,
+    let arguments = match arguments_of(&rt) {
+        Ok(arguments) => arguments,
         Err(error) => return end_without_words(&rt, &error),
     };
     let mut source = StdSource::new(rt.stdin());
     let mut sink = StdSink::new(rt.stdout());
-    let outcome = provision(rt.alloc(), &words, clock_of(&rt), &mut source, &mut sink);
-    ExitCode::from(status(&outcome))
+    run(
+        rt.alloc(),
+        &arguments,
+        clock_of(&rt),
+        &mut source,
+        &mut sink,
+    )
 }

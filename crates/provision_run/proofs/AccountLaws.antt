@@ -59,6 +59,8 @@ pub record Finished {S : Type 0} (tree : Ghosts S) (requests : List Request) (no
   pub lacking : IfErr answer (Lacks (lacking_at requests now (places (tree.state a))))
   pub lacking_said : IfLacking answer (new ≡ old ++ accounts_messages requests now (places (tree.state a)))
   pub lacking_idle : IfLacking answer (tree.steps b ≡ tree.steps a)
+  pub failed_enough : IsErrOf answer fault.Failed → lacking_at requests now (places (tree.state a)) ≡ None
+  pub failed_said : IsErrOf answer fault.Failed → new ≡ old ++ accounts_messages requests now (places (tree.state a))
   pub part : SaidPart (accounts_messages requests now (places (tree.state a))) old new
   pub acted : Acted tree (AccountWay (edits_at requests now (places (tree.state a))) (tree.state a)) (IsAccountStep (edits_at requests now (places (tree.state a))) (tree.state a))
       (count_at_all (tree.state a) swept_names + most_put (edits_at requests now (places (tree.state a)))) now a b (in_steps answer)
@@ -161,9 +163,16 @@ module _ {S : Type 0} (tree : Ghosts S) (options : Options) (facts : Values) (mo
     ended_part answer r f e =
         said_then (requested (tree.state a) facts options.words).messages (account_messages options facts moment (tree.state a)) old mid new read (ended_front answer r f e)
 
+    -- where a step was refused all is said
     pub ended_stopped : (answer : Result Carried AccountsFault) (r : Result RunEnd TreeFault) → Finished tree (run_requests options facts (tree.state a)) moment a b mid v answer → IsEnded answer missing invalid r v new
-        → SaidPart (account_messages options facts moment (tree.state a)) (old ++ (requested (tree.state a) facts options.words).messages) new
-    ended_stopped answer r f e = subst (λ (m : List (List ℕ)). SaidPart (account_messages options facts moment (tree.state a)) m new) read (ended_front answer r f e)
+        → r ≡ Err Failed → new ≡ old ++ (requested (tree.state a) facts options.words).messages ++ account_messages options facts moment (tree.state a)
+    ended_stopped (Ok c) r f e failed = absurd (let no : Ok (end_of (is_uncarried c missing) invalid) ≡ Err Failed = sym e.0 ∙ failed in cc)
+    ended_stopped (Err (fault.NoFreeId name)) r f (inl e) failed = absurd (let no : Ok (NoFreeId name) ≡ Err Failed = sym e.0 ∙ failed in cc)
+    ended_stopped (Err (fault.NoFreeId name)) r f (inr e) failed = absurd (let no : ◌≡◌ {A = Result RunEnd TreeFault} (Err Memory) (Err Failed) = sym e.0 ∙ failed in cc)
+    ended_stopped (Err fault.Failed) r f e failed =
+        e.1 ∙ f.failed_said refl ∙ ap (λ (m : List (List ℕ)). m ++ accounts_messages (run_requests options facts (tree.state a)) moment (places (tree.state a))) read
+        ∙ ap (λ (m : List (List ℕ)). old ++ (requested (tree.state a) facts options.words).messages ++ m) (none_lacks options facts moment (tree.state a) (f.failed_enough refl))
+    ended_stopped (Err fault.Memory) r f e failed = absurd (let no : ◌≡◌ {A = Result RunEnd TreeFault} (Err Memory) (Err Failed) = sym e.0 ∙ failed in cc)
 
   -- how it ends
   pub ended_end : (answer : Result Carried AccountsFault) (r : Result RunEnd TreeFault) → missing ≡ (requested (tree.state a) facts options.words).missing → invalid ≡ (requested (tree.state a) facts options.words).invalid

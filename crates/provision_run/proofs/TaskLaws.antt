@@ -1,7 +1,7 @@
 -- Laws of runs by their task: what a task's own words say holds by the task.
 use Rattle.std.specs.Prelude.{◌≡◌, ℕ, Bool, true, false, List, ◌++◌, length, take, drop, is_some, Result, OnOk, IfOk}
-use Rattle.std.proofs.Common.{refl, subst, inr}
-use Rattle.std.proofs.Math.Seq.{drop-length}
+use Rattle.std.proofs.Common.{refl, sym, subst, ◌∙◌, inr}
+use Rattle.std.proofs.Math.Seq.{drop-length, take-length}
 use Rattle.pv_accounts_run.specs.Accounted.{accounted}
 use Rattle.pv_accounts_run.specs.Carrying.{AccountWay, IsAccountStep}
 use Rattle.pv_accounts_run.specs.Mended as accounts
@@ -45,7 +45,9 @@ front_by Phases options facts moment t said stopped =
     (phase_messages options facts moment t, (refl, stopped_front (run_lines options facts t) moment (phases_of options) t said stopped))
 front_by Report options facts moment t said stopped = absurd stopped
 front_by Explain options facts moment t said stopped = absurd stopped
-front_by Accounts options facts moment t said stopped = (account_messages options facts moment t, (refl, stopped))
+front_by Accounts options facts moment t said stopped =
+    let whole = account_messages options facts moment t in
+    (whole, (refl, (length whole, stopped ∙ sym (take-length whole))))
 
 module _ (options : Options) (facts : Values) (moment : ℕ) (t : Files) where
   -- ---- phases
@@ -123,11 +125,11 @@ module _ (options : Options) (facts : Values) (moment : ℕ) (t : Files) where
   accounts_part k is old new h =
       subst (λ (j : Task). HasSaidPartBy j options facts moment t old new) is (inr (account_messages options facts moment t, (refl, h)))
 
-  pub accounts_stopped : (k : Task) → Accounts ≡ k → (old new : List (List ℕ)) → SaidPart (account_messages options facts moment t) (old ++ requests_messages options facts t) new
+  pub accounts_stopped : (k : Task) → Accounts ≡ k → (old new : List (List ℕ)) → new ≡ old ++ requests_messages options facts t ++ account_messages options facts moment t
       → HasSaidStoppedBy k options facts moment t old new
   unfolding IsSaidStoppedBy read_by
   accounts_stopped k is old new h =
-      subst (λ (j : Task). HasSaidStoppedBy j options facts moment t old new) is (take h.0 (account_messages options facts moment t), (h.1, (h.0, refl)))
+      subst (λ (j : Task). HasSaidStoppedBy j options facts moment t old new) is (account_messages options facts moment t, (h, refl))
 
   pub accounts_mended : (k : Task) → Accounts ≡ k → (steps : List Step) → accounts.IsMended (run_requests options facts t) moment t steps → IsMendedIn k options facts moment t steps
   unfolding IsMendedIn

@@ -1,6 +1,6 @@
 -- A whole run over a tree, by what its options ask for: the tree that it leaves, what it says, how it ends, and the most
 -- steps that it takes (systemd-tmpfiles(8), systemd-sysusers(8)).
-use Rattle.std.specs.Prelude.{◌≡◌, ◌⊎◌, ℕ, List, [], ◌++◌, take, ⊤}
+use Rattle.std.specs.Prelude.{◌≡◌, ◌⊎◌, ℕ, List, [], ◌++◌, ⊤}
 use Rattle.pv_accounts_run.specs.Accounted.{accounted}
 use Rattle.pv_accounts_run.specs.Carrying.{AccountWay, IsAccountStep}
 use Rattle.pv_accounts_run.specs.Mended as accounts
@@ -86,13 +86,13 @@ HasSaidPartBy task options facts moment t old new =
     SaidPart (read_by task options facts t) old new
     ⊎ ((said : List (List ℕ)) × (IsSaidBy task options facts moment t said × SaidPart (read_by task options facts t ++ said) old new))
 
--- what may be said after reading where a step was refused: of the phases before the one at work all, and of this what it
--- says at work; a front part of what is said of account files; a report and an explanation do no step
+-- what is said after reading where a step was refused: of the phases before the one at work all, and of this what it says
+-- at work; of accounts all, since it is said before the first step; a report and an explanation do no step
 unfoldable pub IsSaidStoppedBy : Task → Options → Values → ℕ → Files → List (List ℕ) → Type 0
 IsSaidStoppedBy Phases options facts moment t said = IsSaidStopped (run_lines options facts t) moment (phases_of options) t said
 IsSaidStoppedBy Report options facts moment t said = ⊥
 IsSaidStoppedBy Explain options facts moment t said = ⊥
-IsSaidStoppedBy Accounts options facts moment t said = (k : ℕ) × (said ≡ take k (account_messages options facts moment t))
+IsSaidStoppedBy Accounts options facts moment t said = said ≡ account_messages options facts moment t
 
 -- what a run has said of which a step was refused
 abbrev pub HasSaidStoppedBy : Task → Options → Values → ℕ → Files → List (List ℕ) → List (List ℕ) → Type 0

@@ -39,8 +39,8 @@ pub(crate) fn make_accounts<T: Tree>(
     ensures part { SaidPart
         (requests_messages options.entry.now facts.now (T.state tree.old) ++ account_messages options.entry.now facts.now moment (T.state tree.old))
         messages.old messages.new }
-    ensures stopped { IsErrOf result Failed → SaidPart (account_messages options.entry.now facts.now moment (T.state tree.old))
-        (messages.old ++ requests_messages options.entry.now facts.now (T.state tree.old)) messages.new }
+    ensures stopped { IsErrOf result Failed → messages.new
+        ≡ messages.old ++ requests_messages options.entry.now facts.now (T.state tree.old) ++ account_messages options.entry.now facts.now moment (T.state tree.old) }
     ensures acted { Acted T.Tree
         (AccountWay (run_edits options.entry.now facts.now moment (T.state tree.old)) (T.state tree.old))
         (IsAccountStep (run_edits options.entry.now facts.now moment (T.state tree.old)) (T.state tree.old))

@@ -281,6 +281,19 @@ module _ (a b : Line) (is_a : IsLine a) (is_b : IsLine b) (repeatable : IsRepeat
   first_false true d e h = sym e ∙ h
   first_false false d e h = refl
 
+  -- what the one line reaches, the other leaves
+  b_leaves_reached : (r : Path) → has_staging r ≡ false → reaches a r ≡ true → bares_of (places after_b) r ≡ bares_of (places t) r
+  b_leaves_reached r h reached = same_unnamed (bares_of (places after_b)) (bares_of (places t)) shape_b shape r h (λ named. b_leaves r h (second_false (reaches a r) (governs b r) reached (meet_none r named).0))
+
+  a_leaves_reached : (r : Path) → has_staging r ≡ false → reaches b r ≡ true → bares_of (places after_a) r ≡ bares_of (places t) r
+  a_leaves_reached r h reached = same_unnamed (bares_of (places after_a)) (bares_of (places t)) shape_a shape r h (λ named. a_leaves r h (second_false (reaches b r) (governs a r) reached (meet_none r named).1))
+
+  shape_ab : IsShaped (bares_of (places ((by_line now).after b after_a)))
+  shape_ab = (line_pointed now b safe_b after_a shape_a a_first.1).shape
+
+  shape_ba : IsShaped (bares_of (places ((by_line later).after a after_b)))
+  shape_ba = (line_pointed later a safe_a after_b shape_b b_first.1).shape
+
   module _ (q : Path) (plain : has_staging q ≡ false) where
     abbrev IsSwapped : Type 0
     IsSwapped = bares_of (places ((by_line now).after b after_a)) q ≡ bares_of (places ((by_line later).after a after_b)) q
@@ -289,12 +302,12 @@ module _ (a b : Line) (is_a : IsLine a) (is_b : IsLine b) (repeatable : IsRepeat
     by_a away =
         (each_kept now b safe_b.is after_a shape_a).frame q plain away
         ∙ sym (leaves_same a safe_a now later t after_b shape shape_b a_first.0 b_first.1 sources_a q plain
-        (λ r h reached. b_leaves r h (second_false (reaches a r) (governs b r) reached (meet_none r).0)) (b_leaves q plain away))
+        b_leaves_reached (b_leaves q plain away))
 
     by_b : governs a q ≡ false → IsSwapped
     by_b away =
         leaves_same b safe_b later now t after_a shape shape_a b_first.0 a_first.1 sources_b q plain
-        (λ r h reached. a_leaves r h (second_false (reaches b r) (governs a r) reached (meet_none r).1)) (a_leaves q plain away)
+        a_leaves_reached (a_leaves q plain away)
         ∙ sym ((each_kept later a safe_a.is after_b shape_b).frame q plain away)
 
     -- a path that a line makes as a parent, and does not reach
@@ -304,15 +317,15 @@ module _ (a b : Line) (is_a : IsLine a) (is_b : IsLine b) (repeatable : IsRepeat
         two : (is_creating line ≡ true) × (is_prefix q (path_in line.path) ≡ true)
         two = and_parts (is_creating line) (is_prefix q (path_in line.path)) (sym (ap (λ c. c || (is_creating line && is_prefix q (path_in line.path))) none) ∙ governed)
 
-    by_both : governs a q ≡ true → governs b q ≡ true → IsSwapped
-    by_both in_a in_b =
+    by_both : has_names q ≡ true → governs a q ≡ true → governs b q ≡ true → IsSwapped
+    by_both named in_a in_b =
         of_b.2 ∙ ap (filled of_b.0) of_a.1 ∙ filled_swap of_b.0 of_a.0 (bares_of (places t) q) ∙ ap (filled of_a.0) (sym of_b.1) ∙ sym of_a.2
       where
         as_a : (is_creating a ≡ true) × (is_prefix q (path_in a.path) ≡ true) × (same_path (path_in a.path) q ≡ false)
-        as_a = parent_of a (first_false (reaches a q) (governs b q) in_b (meet_none q).0) in_a
+        as_a = parent_of a (first_false (reaches a q) (governs b q) in_b (meet_none q named).0) in_a
 
         as_b : (is_creating b ≡ true) × (is_prefix q (path_in b.path) ≡ true) × (same_path (path_in b.path) q ≡ false)
-        as_b = parent_of b (first_false (reaches b q) (governs a q) in_a (meet_none q).1) in_b
+        as_b = parent_of b (first_false (reaches b q) (governs a q) in_a (meet_none q named).1) in_b
 
         of_a : (c : Bool) × (bares_of (places after_a) q ≡ filled c (bares_of (places t) q)) × (bares_of (places ((by_line later).after a after_b)) q ≡ filled c (bares_of (places after_b) q))
         of_a = parents_alike a safe_a now later t after_b shape shape_b a_first.0 b_first.1 sources_a q plain as_a.0 as_a.1 as_a.2
@@ -321,12 +334,12 @@ module _ (a b : Line) (is_a : IsLine a) (is_b : IsLine b) (repeatable : IsRepeat
         of_b = parents_alike b safe_b later now t after_a shape shape_a b_first.0 a_first.1 sources_b q plain as_b.0 as_b.1 as_b.2
 
     swapped_here : IsSwapped
-    swapped_here = by (governs a q) refl (governs b q) refl
+    swapped_here = same_unnamed (bares_of (places ((by_line now).after b after_a))) (bares_of (places ((by_line later).after a after_b))) shape_ab shape_ba q plain (λ named. by named (governs a q) refl (governs b q) refl)
       where
-        by : (c : Bool) → governs a q ≡ c → (d : Bool) → governs b q ≡ d → IsSwapped
-        by c e false f = by_a f
-        by false e true f = by_b e
-        by true e true f = by_both e f
+        by : has_names q ≡ true → (c : Bool) → governs a q ≡ c → (d : Bool) → governs b q ≡ d → IsSwapped
+        by named c e false f = by_a f
+        by named false e true f = by_b e
+        by named true e true f = by_both named e f
 
   pub lines_commute : Same (after_each (by_line now) (a ∷ b ∷ []) t) (after_each (by_line later) (b ∷ a ∷ []) t)
   lines_commute q plain = bares-same (places ((by_line now).after b after_a)) (places ((by_line later).after a after_b)) q (swapped_here q plain)

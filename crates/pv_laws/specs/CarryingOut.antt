@@ -1,7 +1,7 @@
 -- Which lines of a run are carried out, and which two lines do not meet (tmpfiles.d(5)).
 use Rattle.std.specs.Prelude.{◌≡◌, ◌⊎◌, ℕ, true, false, ◌&&◌, List, [], ◌∷◌}
 use Rattle.pv_lines.specs.declared.line.Line.{Line}
-use Rattle.pv_path.specs.Paths.{Path}
+use Rattle.pv_path.specs.Paths.{Path, has_names}
 use Rattle.pv_steps.specs.Trees.{Files, places}
 use Rattle.pv_table.specs.Asking.{asks}
 use Rattle.pv_table.specs.Created.{by_line}
@@ -15,6 +15,6 @@ IsCarriedOut line (first ∷ lines) now t =
     ((first ≡ line) × ((by_line now).is_refused first t ≡ false) × (has_something (places t) (asks first) ≡ true))
     ⊎ IsCarriedOut line lines now ((by_line now).after first t)
 
--- of two lines neither reaches a path that the other may change
+-- of two lines neither reaches a path that can stand in a tree and that the other may change
 abbrev pub AreApart : Line → Line → Type 0
-AreApart a b = (q : Path) → ((reaches a q && governs b q) ≡ false) × ((reaches b q && governs a q) ≡ false)
+AreApart a b = (q : Path) → has_names q ≡ true → ((reaches a q && governs b q) ≡ false) × ((reaches b q && governs a q) ≡ false)

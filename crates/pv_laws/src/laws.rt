@@ -101,7 +101,7 @@ pub fn runs_cut_short_again_and_again_are_mended()
         → Same (created lines later u) (created lines now t) }
 {}
 
-/// Two lines without reasons, of which neither reaches a path that the other may change, leave the same in either
+/// Two lines without reasons, of which neither reaches a path of a tree that the other may change, leave the same in either
 /// order, where neither order has one refused; copies included, stamps and staging names aside.
 pub fn lines_that_are_apart_commute()
     ensures { (a b : LineValue) (now later : ℕ) (t : Files) → IsTree t → IsLine a → IsLine b

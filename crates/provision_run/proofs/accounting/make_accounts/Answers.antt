@@ -46,6 +46,8 @@ returns-clause-ok g c =
       lacking = c.accounts_run-answer.ensures.lacking;
       lacking_said = c.accounts_run-answer.ensures.lacking_said;
       lacking_idle = c.accounts_run-answer.ensures.lacking_idle;
+      failed_enough = c.accounts_run-answer.ensures.failed_enough;
+      failed_said = c.accounts_run-answer.ensures.failed_said;
       part = c.accounts_run-answer.ensures.part;
       acted = c.accounts_run-answer.ensures.acted;
     }) in
@@ -66,6 +68,8 @@ returns-clause-staged g c =
       lacking = c.accounts_run-answer.ensures.lacking;
       lacking_said = c.accounts_run-answer.ensures.lacking_said;
       lacking_idle = c.accounts_run-answer.ensures.lacking_idle;
+      failed_enough = c.accounts_run-answer.ensures.failed_enough;
+      failed_said = c.accounts_run-answer.ensures.failed_said;
       part = c.accounts_run-answer.ensures.part;
       acted = c.accounts_run-answer.ensures.acted;
     }) in
@@ -87,6 +91,8 @@ returns-clause-said g c =
       lacking = c.accounts_run-answer.ensures.lacking;
       lacking_said = c.accounts_run-answer.ensures.lacking_said;
       lacking_idle = c.accounts_run-answer.ensures.lacking_idle;
+      failed_enough = c.accounts_run-answer.ensures.failed_enough;
+      failed_said = c.accounts_run-answer.ensures.failed_said;
       part = c.accounts_run-answer.ensures.part;
       acted = c.accounts_run-answer.ensures.acted;
     }) in
@@ -107,6 +113,8 @@ returns-clause-end g c =
       lacking = c.accounts_run-answer.ensures.lacking;
       lacking_said = c.accounts_run-answer.ensures.lacking_said;
       lacking_idle = c.accounts_run-answer.ensures.lacking_idle;
+      failed_enough = c.accounts_run-answer.ensures.failed_enough;
+      failed_said = c.accounts_run-answer.ensures.failed_said;
       part = c.accounts_run-answer.ensures.part;
       acted = c.accounts_run-answer.ensures.acted;
     }) in
@@ -127,6 +135,8 @@ returns-clause-part g c =
       lacking = c.accounts_run-answer.ensures.lacking;
       lacking_said = c.accounts_run-answer.ensures.lacking_said;
       lacking_idle = c.accounts_run-answer.ensures.lacking_idle;
+      failed_enough = c.accounts_run-answer.ensures.failed_enough;
+      failed_said = c.accounts_run-answer.ensures.failed_said;
       part = c.accounts_run-answer.ensures.part;
       acted = c.accounts_run-answer.ensures.acted;
     }) in
@@ -147,10 +157,11 @@ returns-clause-stopped g c =
       lacking = c.accounts_run-answer.ensures.lacking;
       lacking_said = c.accounts_run-answer.ensures.lacking_said;
       lacking_idle = c.accounts_run-answer.ensures.lacking_idle;
+      failed_enough = c.accounts_run-answer.ensures.failed_enough;
+      failed_said = c.accounts_run-answer.ensures.failed_said;
       part = c.accounts_run-answer.ensures.part;
       acted = c.accounts_run-answer.ensures.acted;
     }) in
-    λ failed.
     ended_stopped tree c.args.options.now c.args.facts.now c.args.moment a b c.args.messages.now c.read_requests.new.messages c.accounts_run-answer.new.messages c.ended.new.messages c.in_ok-read.read.missing c.in_ok-read.read.invalid
     c.in_ok-read.ensures.said c.accounts_run-answer.result c.ended.result finished c.ended.ensures
 
@@ -168,6 +179,8 @@ returns-clause-acted g c =
       lacking = c.accounts_run-answer.ensures.lacking;
       lacking_said = c.accounts_run-answer.ensures.lacking_said;
       lacking_idle = c.accounts_run-answer.ensures.lacking_idle;
+      failed_enough = c.accounts_run-answer.ensures.failed_enough;
+      failed_said = c.accounts_run-answer.ensures.failed_said;
       part = c.accounts_run-answer.ensures.part;
       acted = c.accounts_run-answer.ensures.acted;
     }) in
@@ -187,6 +200,8 @@ returns-clause-mended g c =
       lacking = c.accounts_run-answer.ensures.lacking;
       lacking_said = c.accounts_run-answer.ensures.lacking_said;
       lacking_idle = c.accounts_run-answer.ensures.lacking_idle;
+      failed_enough = c.accounts_run-answer.ensures.failed_enough;
+      failed_said = c.accounts_run-answer.ensures.failed_said;
       part = c.accounts_run-answer.ensures.part;
       acted = c.accounts_run-answer.ensures.acted;
     }) in
@@ -217,6 +232,8 @@ returns-clause-reread g c =
       lacking = c.accounts_run-answer.ensures.lacking;
       lacking_said = c.accounts_run-answer.ensures.lacking_said;
       lacking_idle = c.accounts_run-answer.ensures.lacking_idle;
+      failed_enough = c.accounts_run-answer.ensures.failed_enough;
+      failed_said = c.accounts_run-answer.ensures.failed_said;
       part = c.accounts_run-answer.ensures.part;
       acted = c.accounts_run-answer.ensures.acted;
     }) in
@@ -236,6 +253,8 @@ returns-clause-anew g c =
       lacking = c.accounts_run-answer.ensures.lacking;
       lacking_said = c.accounts_run-answer.ensures.lacking_said;
       lacking_idle = c.accounts_run-answer.ensures.lacking_idle;
+      failed_enough = c.accounts_run-answer.ensures.failed_enough;
+      failed_said = c.accounts_run-answer.ensures.failed_said;
       part = c.accounts_run-answer.ensures.part;
       acted = c.accounts_run-answer.ensures.acted;
     }) in
