@@ -52,6 +52,7 @@ use Rattle.pv_laws.proofs.Frames.{ungoverned}
 use Rattle.pv_laws.proofs.Lines.{copy_path, line_is_plain, turns_touch}
 use Rattle.pv_laws.proofs.Making.{IsShaped, dir_there}
 use Rattle.pv_table.proofs.ListedLaws.{all_in_order, all_map, all_tests}
+use Rattle.pv_laws.proofs.Prepared.{bare_some}
 use Rattle.pv_laws.proofs.Sets.{impossible}
 use Rattle.pv_laws.proofs.Shapes.{tree_shaped}
 use Rattle.pv_create.specs.Ways.{IsLineStep, IsStepBy, lines_course}
@@ -204,15 +205,14 @@ above_of test q (p ∷ paths) all any = by (is_prefix p q) refl any (above_of te
 abbrev is_folder : Path → Bool
 is_folder f = is_input f && (has_names f && not (has_staging f))
 
-module _ (lines : List Line) (are : AllByRecursion IsLine lines) (free : (i : ℕ) → HasReason lines i reason.Input → ⊥) (now : ℕ) (t : Files) (tree : IsTree t) where
-  -- at each moment on the way that was reached by steps of the lines
-  pub input_after : (steps : List Step) → IsTree (after_all t steps now) → Partway (lines_course now) (in_create_order lines) t (after_all t steps now) → AllByRecursion (IsStepOfSome (lines_course now) (in_create_order lines) t) steps
-      → (q : Path) → is_input q ≡ true → content_of (places (after_all t steps now) q) ≡ content_of (places t q)
-  input_after steps there way gives q input = by (has_staging q) refl
+-- steps from a tree have left each path from which lines are read that is no staging name, and each of them leaves what
+-- lies under a staging name below a folder that is there: then they have left staging names, too
+module _ (now : ℕ) (t : Files) (tree : IsTree t) (steps : List Step) (there : IsTree (after_all t steps now))
+    (kept : (q : Path) → is_input q ≡ true → has_staging q ≡ false → content_of (places (after_all t steps now) q) ≡ content_of (places t q))
+    (each : (f q : Path) → is_input f ≡ true → has_names f ≡ true → has_staging f ≡ false → is_some (places t f) ≡ true → is_prefix f q ≡ true → has_staging q ≡ true → is_input q ≡ true → AllByRecursion (λ step. alters step q ≡ false) steps) where
+  pub staged_kept : (q : Path) → is_input q ≡ true → content_of (places (after_all t steps now) q) ≡ content_of (places t q)
+  staged_kept q input = by (has_staging q) refl
     where
-      shape : IsShaped (bares_of (places t))
-      shape = tree_shaped (places t) tree
-
       -- what is absent where a folder is absent
       nothing : (v : Files) → IsTree v → (f : Path) → is_prefix f q ≡ true → content_of (places v f) ≡ None → content_of (places v q) ≡ None
       nothing v is f under none = at (places v q) refl
@@ -239,20 +239,28 @@ module _ (lines : List Line) (are : AllByRecursion IsLine lines) (free : (i : �
           plain : has_staging f ≡ false
           plain = not-true (has_staging f) rest.1
 
-          kept : content_of (places (after_all t steps now) f) ≡ content_of (places t f)
-          kept = input_on_way lines are free now t (after_all t steps now) tree there way f own plain
-
           at : (o : Option Object) → places t f ≡ o → content_of (places (after_all t steps now) q) ≡ content_of (places t q)
-          at None e = nothing (after_all t steps now) there f under (kept ∙ ap content_of e) ∙ sym (nothing t tree f under (ap content_of e))
-          at (Some x) e = content-after_all t steps now q
-              (all_map (IsStepOfSome (lines_course now) (in_create_order lines) t) (λ step. alters step q ≡ false)
-              (λ step given. lines_outside f q plain under staged step now own rest.0 (in_create_order lines) (all_in_order IsLine lines are) (all_away lines are free) t shape
-              (ap (λ (o : Option Object). is_some (option_map bare_of o)) e) given)
-              steps gives)
+          at None e = nothing (after_all t steps now) there f under (kept f own plain ∙ ap content_of e) ∙ sym (nothing t tree f under (ap content_of e))
+          at (Some x) e = content-after_all t steps now q (each f q own rest.0 plain (ap is_some e) under staged input)
 
       by : (b : Bool) → has_staging q ≡ b → content_of (places (after_all t steps now) q) ≡ content_of (places t q)
       by true e = let above = above_of is_folder q inputs refl input in below e above.0 above.1.0 above.1.1
-      by false e = input_on_way lines are free now t (after_all t steps now) tree there way q input e
+      by false e = kept q input e
+
+module _ (lines : List Line) (are : AllByRecursion IsLine lines) (free : (i : ℕ) → HasReason lines i reason.Input → ⊥) (now : ℕ) (t : Files) (tree : IsTree t) where
+  -- no step of the lines touches what lies under a staging name below a folder that is there
+  pub step_outside : (f q : Path) → is_input f ≡ true → has_names f ≡ true → has_staging f ≡ false → is_some (places t f) ≡ true → is_prefix f q ≡ true → has_staging q ≡ true → (step : Step)
+      → IsStepOfSome (lines_course now) (in_create_order lines) t step → alters step q ≡ false
+  step_outside f q own named plain there under staged step =
+      lines_outside f q plain under staged step now own named (in_create_order lines) (all_in_order IsLine lines are) (all_away lines are free) t (tree_shaped (places t) tree) (bare_some (places t f) ∙ there)
+
+  -- at each moment on the way that was reached by steps of the lines
+  pub input_after : (steps : List Step) → IsTree (after_all t steps now) → Partway (lines_course now) (in_create_order lines) t (after_all t steps now) → AllByRecursion (IsStepOfSome (lines_course now) (in_create_order lines) t) steps
+      → (q : Path) → is_input q ≡ true → content_of (places (after_all t steps now) q) ≡ content_of (places t q)
+  input_after steps there way gives = staged_kept now t tree steps there
+      (λ q input plain. input_on_way lines are free now t (after_all t steps now) tree there way q input plain)
+      (λ f q own named plain here under staged input.
+      all_map (IsStepOfSome (lines_course now) (in_create_order lines) t) (λ step. alters step q ≡ false) (step_outside f q own named plain here under staged) steps gives)
 
   -- so after each number of the steps of a run
   pub all_input_on_run : now < 2 ^ 64 → (h : List Step) (u : Files) (k : List Step) → Ran (Partway (lines_course now) (in_create_order lines) t) (IsStepOfSome (lines_course now) (in_create_order lines) t) now t h u k

@@ -1,4 +1,5 @@
 pub mod BootCalls
+pub mod BootInputs
 pub mod BootLaws
 pub mod FrameLaws
 pub mod PhaseLaws

@@ -1,4 +1,4 @@
-use Rattle.std.proofs.Common.{◌≡◌, Ok}
+use Rattle.std.proofs.Common.{Ok}
 use Rattle.pv_steps.proofs.ActingLaws.{Moves}
 use Rattle.pv_phases.proofs.BootCalls.{both_done, creating_failed, creating_out, creating_stopped, removing_failed, removing_out}
 use Rattle.pv_phases.proofs.boot.remove_then_create.Goals as goal
