@@ -9,7 +9,7 @@ use Rattle.pv_image.proofs.ImageLaws.{one_image}
 use Rattle.pv_laws.proofs.Moments.{quiet_same}
 use Rattle.pv_table.proofs.ListedLaws.{all_map}
 use Rattle.pv_lines.specs.declared.line.Line.{Line}
-use Rattle.pv_phases.proofs.WayLaws.{removed_alike}
+use Rattle.pv_phases.proofs.BootLaws.{removed_same}
 use Rattle.pv_phases.specs.Phases.{phases_of}
 use Rattle.pv_phases.specs.declared.phase.Phase.{Phase}
 use Rattle.pv_phases.specs.declared.phase.Phase.TheVariants.{Remove, Clean, Create, Purge}
@@ -46,7 +46,7 @@ none_done t (step ∷ steps) now = refl
 -- that no line is refused at a turn needs no moment
 quiet_by : (phases : List Phase) (lines : List Line) (now later : ℕ) (t : Files) → IsQuietBy phases lines now t → IsQuietBy phases lines later t
 quiet_by (Create ∷ []) lines now later t quiet = quiet_same lines now later t t (λ q. refl) quiet
-quiet_by (Remove ∷ Create ∷ []) lines now later t quiet = quiet_same lines now later (removed lines now t) (removed lines later t) (removed_alike lines now later t) quiet
+quiet_by (Remove ∷ Create ∷ []) lines now later t quiet = quiet_same lines now later (removed lines now t) (removed lines later t) (removed_same lines now later t) quiet
 quiet_by [] lines now later t quiet = tt
 quiet_by (Remove ∷ []) lines now later t quiet = tt
 quiet_by (Remove ∷ Remove ∷ phases) lines now later t quiet = tt

@@ -48,7 +48,7 @@ use Rattle.pv_phases.specs.declared.phase.Phase.TheVariants.{Remove, Create}
 use Rattle.pv_phases.proofs.FrameLaws.{left_shaped}
 
 -- what is whole is on its way
-partway_whole : {A : Type 0} (c : Course A) (xs : List A) (t u : Files) → Same (after_each c.whole xs t) u → Partway c xs t u
+pub partway_whole : {A : Type 0} (c : Course A) (xs : List A) (t u : Files) → Same (after_each c.whole xs t) u → Partway c xs t u
 partway_whole c [] t u same = same
 partway_whole c (x ∷ xs) t u same = inr (partway_whole c xs (c.whole.after x t) u same)
 
@@ -57,7 +57,7 @@ some_directory : (b : Option Bare) → is_dir b ≡ true → (x : Bare) × (b �
 some_directory None h = impossible h
 some_directory (Some x) h = (x, refl)
 
-module _ (lines : List Line) (are : AllByRecursion IsLine lines) where
+module _ (lines : List Line) where
   -- ---- what removing leaves, stamps aside
 
   removed_bare : (now : ℕ) (t : Files) (q : Path) → bares (places (removed lines now t)) q ≡ cond (is_gone lines t q) None (bares (places t) q)
@@ -70,15 +70,16 @@ module _ (lines : List Line) (are : AllByRecursion IsLine lines) where
   kept now t q h = bares_of-same (places (removed lines now t)) (places t) q (removed_bare now t q ∙ ap (λ b. cond b None (bares (places t) q)) h)
 
   -- it needs no moment
-  removed_same : (now later : ℕ) (t : Files) → SameBares (removed lines now t) (removed lines later t)
+  pub removed_same : (now later : ℕ) (t : Files) → SameBares (removed lines now t) (removed lines later t)
   removed_same now later t q = bares_of-same (places (removed lines now t)) (places (removed lines later t)) q (removed_bare now t q ∙ sym (removed_bare later t q))
 
   -- nor does a whole run
-  booted_same : (now later : ℕ) (t : Files) → Same (booted lines now t) (booted lines later t)
+  pub booted_same : (now later : ℕ) (t : Files) → Same (booted lines now t) (booted lines later t)
   booted_same now later t q plain =
       bares-same (places (booted lines now t)) (places (booted lines later t)) q
       (created_same lines now later (removed lines now t) (removed lines later t) (removed_same now later t) q)
 
+module _ (lines : List Line) (are : AllByRecursion IsLine lines) where
   shaped : (now : ℕ) (t : Files) → IsTree t → IsShaped (bares_of (places (removed lines now t)))
   shaped now t tree = left_shaped lines are now Remove t (tree_shaped (places t) tree)
 
@@ -93,9 +94,9 @@ module _ (lines : List Line) (are : AllByRecursion IsLine lines) where
         none (Some x) e = cc
 
         by : (b : Bool) → is_some (places t q) ≡ b → (g : Bool) → is_gone lines t q ≡ g → bares_of (places (removed lines now t)) q ≡ None
-        by true there g h = absent now t q (goes_too lines are t tree whole u q gone there)
-        by false unknown true h = absent now t q h
-        by false unknown false h = kept now t q h ∙ none (places t q) unknown
+        by true there g h = absent lines now t q (goes_too lines are t tree whole u q gone there)
+        by false unknown true h = absent lines now t q h
+        by false unknown false h = kept lines now t q h ∙ none (places t q) unknown
 
     -- so each piece is still there, or is begun anew
     piece_again : (now later : ℕ) (q : Path) → IsPiece (in_create_order lines) q (bares_of (places (removed lines now t)) q) (bares_of (places u) q)
@@ -103,13 +104,13 @@ module _ (lines : List Line) (are : AllByRecursion IsLine lines) where
     piece_again now later q one = by (is_gone lines u q) refl
       where
         by : (b : Bool) → is_gone lines u q ≡ b → IsPiece (in_create_order lines) q (bares_of (places (removed lines now t)) q) (bares_of (places (removed lines later u)) q)
-        by true gone = IsPiece.piece 0 (absent later u q gone ∙ sym (gone_absent now q gone))
-        by false stays = subst (λ b. IsPiece (in_create_order lines) q (bares_of (places (removed lines now t)) q) b) (sym (kept later u q stays)) one
+        by true gone = IsPiece.piece 0 (absent lines later u q gone ∙ sym (gone_absent now q gone))
+        by false stays = subst (λ b. IsPiece (in_create_order lines) q (bares_of (places (removed lines now t)) q) b) (sym (kept lines later u q stays)) one
 
   -- ---- on the way
 
   -- creating is on its way or done
-  creating_way : (now : ℕ) (r u : Files) → Partway (phases_course lines now) (Create ∷ []) r u → Partway (lines_course now) (in_create_order lines) r u
+  pub creating_way : (now : ℕ) (r u : Files) → Partway (phases_course lines now) (Create ∷ []) r u → Partway (lines_course now) (in_create_order lines) r u
   creating_way now r u (inl way) = way
   creating_way now r u (inr same) = partway_whole (lines_course now) (in_create_order lines) r u same
 
@@ -129,14 +130,14 @@ module _ (lines : List Line) (are : AllByRecursion IsLine lines) where
   pub boot_mends : (none : AllByRecursion CopiesNothing lines) (distinct : are_distinct lines ≡ true) (repeatable : IsRepeatable lines) (now later : ℕ) (t u : Files) → IsTree t → IsTree u → is_unfinished lines t ≡ false
       → IsQuiet lines now (removed lines now t) → IsQuiet lines later (removed lines later u) → Partway (phases_course lines now) boot_phases t u → Same (booted lines later u) (booted lines now t)
   boot_mends none distinct repeatable now later t u tree there whole quiet again way q plain =
-      booted_same later 0 u q plain
+      booted_same lines later 0 u q plain
       ∙ pieces_mend lines are none distinct repeatable 0 0 (removed lines 0 t) (removed lines 0 u) (removed_tree lines 0 t none_past tree) (removed_tree lines 0 u none_past there)
-      (quiet_same lines now 0 (removed lines now t) (removed lines 0 t) (removed_same now 0 t) quiet)
-      (quiet_same lines later 0 (removed lines later u) (removed lines 0 u) (removed_same later 0 u) again)
+      (quiet_same lines now 0 (removed lines now t) (removed lines 0 t) (removed_same lines now 0 t) quiet)
+      (quiet_same lines later 0 (removed lines later u) (removed lines 0 u) (removed_same lines later 0 u) again)
       (λ p unstaged.
-      subst (λ b. IsPiece (in_create_order lines) p b (bares_of (places (removed lines 0 u)) p)) (removed_same now 0 t p)
+      subst (λ b. IsPiece (in_create_order lines) p b (bares_of (places (removed lines 0 u)) p)) (removed_same lines now 0 t p)
       (pieces none now 0 t u tree there whole quiet way p unstaged)) q plain
-      ∙ booted_same 0 now t q plain
+      ∙ booted_same lines 0 now t q plain
 
   -- on its way it removes, or each path is between two lines of creating
   pub boot_between : (now : ℕ) (t u : Files) → now < 2 ^ 64 → IsTree t → Partway (phases_course lines now) boot_phases t u
@@ -155,11 +156,11 @@ module _ (lines : List Line) (are : AllByRecursion IsLine lines) where
     quiet_first (now ∷ moments) later t u runs quiet = (now, runs.1)
 
     pub boots_mend : (moments : List ℕ) (now later : ℕ) (t u : Files) → IsTree t → IsTree u → StoppedBoots lines moments t u → IsQuiet lines later (removed lines later u) → Same (booted lines later u) (booted lines now t)
-    boots_mend [] now later t u tree there same again = subst (λ (v : Files). Same (booted lines later v) (booted lines now t)) (sym same) (booted_same later now t)
+    boots_mend [] now later t u tree there same again = subst (λ (v : Files). Same (booted lines later v) (booted lines now t)) (sym same) (booted_same lines later now t)
     boots_mend (first ∷ moments) now later t u tree there runs again = λ q plain.
         boots_mend moments next.0 later v u runs.2.1 there runs.2.3 again q plain
         ∙ boot_mends none distinct repeatable first next.0 t v tree runs.2.1 runs.0 runs.1 next.1 runs.2.2 q plain
-        ∙ booted_same first now t q plain
+        ∙ booted_same lines first now t q plain
       where
         v : Files
         v = runs.2.0

@@ -1,7 +1,8 @@
 -- Phases none of whose lines may change what lines are read from leave presence, kind and payload at each path from which
 -- lines are read, after each of their steps, whatever is refused.
-use Rattle.std.specs.Prelude.{◌≡◌, ℕ, Bool, true, false, List, [], ◌∷◌, is_some}
-use Rattle.std.proofs.Common.{refl, sym, ap, ◌∙◌, inl, inr}
+use Rattle.std.specs.Prelude.{◌≡◌, ◌<◌, ◌^◌, ℕ, Bool, true, false, List, [], ◌∷◌, length, take, drop, is_some}
+use Rattle.std.proofs.Common.{refl, sym, ap, subst, ◌∙◌, inl, inr}
+use Rattle.std.proofs.Math.Seq.{drop-append_seam}
 use Rattle.std.specs.List.{AllByRecursion}
 use Rattle.pv_clean.proofs.InputLaws.{cleaning_leaves, named_unaged}
 use Rattle.pv_create.proofs.InputLaws.{all_away, held, held_of, lines_held}
@@ -16,13 +17,15 @@ use Rattle.pv_layers.specs.Places.{is_input}
 use Rattle.pv_lines.specs.declared.line.Line.{Line}
 use Rattle.pv_lines.specs.Lines.{IsLine}
 use Rattle.pv_path.specs.Paths.{Path, has_names, has_staging, is_prefix}
+use Rattle.pv_path.proofs.Tests.{all_take}
 use Rattle.pv_remove.proofs.InputLaws.{named_ungone, named_unpurged}
 use Rattle.pv_steps.specs.declared.step.Step.{Step}
 use Rattle.pv_steps.specs.Content.{alters, content_of}
 use Rattle.pv_steps.specs.Objects.{changed, modified}
-use Rattle.pv_steps.specs.Runs.{after_all}
+use Rattle.pv_steps.specs.Runs.{after_all, Ran}
 use Rattle.pv_steps.specs.Trees.{Files, IsTree, places}
 use Rattle.pv_steps.proofs.ContentLaws.{removal_inside}
+use Rattle.pv_steps.proofs.RunLaws.{along_prefix, along_trees}
 use Rattle.pv_table.proofs.ListedLaws.{all_in_order, all_map}
 use Rattle.pv_table.specs.declared.reason.Reason.TheVariants as reason
 use Rattle.pv_table.specs.Active.{in_create_order}
@@ -30,11 +33,12 @@ use Rattle.pv_table.specs.Cleaned.{is_aged}
 use Rattle.pv_table.specs.Created.{created}
 use Rattle.pv_table.specs.Removed.{is_gone, is_purged}
 use Rattle.pv_table.specs.Repeatable.{HasReason}
+use Rattle.pv_phases.specs.Booted.{KeepsInput}
 use Rattle.pv_phases.specs.Phases.{is_step_of, left_by, on_way, phases_course}
 use Rattle.pv_phases.specs.declared.phase.Phase.{Phase}
 use Rattle.pv_phases.specs.declared.phase.Phase.TheVariants.{Remove, Clean, Create, Purge}
+use Rattle.pv_phases.proofs.BootLaws.{partway_whole}
 use Rattle.pv_phases.proofs.FrameLaws.{kept_bare, left_shaped}
-use Rattle.pv_phases.proofs.WayLaws.{way_done}
 
 module _ (lines : List Line) (are : AllByRecursion IsLine lines) (free : (i : ℕ) → HasReason lines i reason.Input → ⊥) (now : ℕ) where
   -- what can be seen of a path without a staging name
@@ -51,7 +55,7 @@ module _ (lines : List Line) (are : AllByRecursion IsLine lines) (free : (i : �
     left_held : (phase : Phase) (t : Files) → IsShaped (bares_of (places t)) → held (bares_of (places (left_by lines now phase t)) q) ≡ held (bares_of (places t) q)
     left_held Remove t shape = ap held (kept_bare (is_gone lines t) (modified now) (λ o. refl) t q (named_ungone lines are free t q input named))
     left_held Clean t shape = ap held (kept_bare (is_aged lines now t) (changed now) (λ o. refl) t q (named_unaged lines free now t q input named))
-    left_held Create t shape = lines_stay t (created lines now t) shape (way_done (lines_course now) (in_create_order lines) t (created lines now t) (λ p bare. refl))
+    left_held Create t shape = lines_stay t (created lines now t) shape (partway_whole (lines_course now) (in_create_order lines) t (created lines now t) (λ p bare. refl))
     left_held Purge t shape = ap held (kept_bare (is_purged lines t) (modified now) (λ o. refl) t q (named_unpurged lines are free t q input named))
 
     phases_held : (phases : List Phase) (t u : Files) → IsShaped (bares_of (places t)) → Partway (phases_course lines now) phases t u → held (bares_of (places u) q) ≡ held (bares_of (places t) q)
@@ -97,3 +101,13 @@ module _ (lines : List Line) (are : AllByRecursion IsLine lines) (free : (i : �
           by : (b : Bool) → has_names q ≡ b → held (bares_of (places (after_all t steps now)) q) ≡ held (bares_of (places t) q)
           by true named = phases_held q input named plain phases t (after_all t steps now) shape way
           by false none = ap held (nothing_unnamed (bares_of (places (after_all t steps now))) (tree_shaped (places (after_all t steps now)) there) q plain none ∙ sym (nothing_unnamed (bares_of (places t)) shape q plain none))
+
+-- so after each number of the steps of a run
+module _ (lines : List Line) (are : AllByRecursion IsLine lines) (now : ℕ) (phases : List Phase) (fits : now < 2 ^ 64) (t : Files) (tree : IsTree t) where
+  pub phases_keep_input : (h : List Step) (u : Files) (k : List Step) → Ran (Partway (phases_course lines now) phases t) (IsStepOfSome (phases_course lines now) phases t) now t h u k → KeepsInput lines now t (drop (length h) k)
+  phases_keep_input h u k run =
+      subst (KeepsInput lines now t) (sym (ap (drop (length h)) run.recorded ∙ drop-append_seam h run.steps)) (λ free n.
+      phases_leave_input lines are free now phases t (take n run.steps) tree
+      (along_prefix IsTree t run.steps now n (along_trees (Partway (phases_course lines now) phases t) t run.steps now fits tree run.along))
+      (along_prefix (Partway (phases_course lines now) phases t) t run.steps now n run.along)
+      (all_take (IsStepOfSome (phases_course lines now) phases t) n run.steps run.gives))

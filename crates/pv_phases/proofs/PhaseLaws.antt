@@ -34,9 +34,11 @@ use Rattle.pv_table.specs.Created.{after_each, said_of_each, one_is_refused, tak
 use Rattle.pv_table.specs.Removed.{is_gone, is_purged}
 use Rattle.pv_text.specs.Said.{SaidPart}
 use Rattle.pv_text.proofs.SaidLaws.{back_of, front_of}
+use Rattle.pv_phases.specs.Booted.{booted, IsBootMended}
 use Rattle.pv_phases.specs.Phases.{boot_phases, HasSaidStopped, is_boot, IsMendedBy, IsSaidAtWork, IsSaidStopped, is_step_of, left_by, most_steps_of, falls_short, on_way, phases_course, said_in}
 use Rattle.pv_phases.specs.declared.phase.Phase.{Phase}
 use Rattle.pv_phases.specs.declared.phase.Phase.TheVariants.{Remove, Clean, Create, Purge}
+use Rattle.pv_phases.proofs.BootLaws.{booted_same}
 use Rattle.pv_path.proofs.Tests.{next_item}
 use Rattle.pv_walk.proofs.SweepLaws.{pruned-none}
 
@@ -60,6 +62,35 @@ abbrev pub IsMendedAlone : List Phase → List Line → ℕ → Files → List S
 IsMendedAlone (phase ∷ []) lines now t steps = IsMendedBy (phase ∷ []) lines now t steps
 IsMendedAlone phases lines now t steps = ⊤
 
+-- ---- the boot command
+
+-- of phases one after the other that are not its own nothing is said
+module _ (lines : List Line) (now : ℕ) (t : Files) (steps : List Step) where
+  pub phases_mend : (phases : List Phase) → is_boot phases ≡ false → IsMendedAlone phases lines now t steps → IsMendedBy phases lines now t steps
+  phases_mend [] e alone = tt
+  phases_mend (phase ∷ []) e alone = alone
+  phases_mend (Remove ∷ Create ∷ []) e alone = impossible (sym e)
+  phases_mend (Remove ∷ Create ∷ more ∷ phases) e alone = tt
+  phases_mend (Remove ∷ Remove ∷ phases) e alone = tt
+  phases_mend (Remove ∷ Clean ∷ phases) e alone = tt
+  phases_mend (Remove ∷ Purge ∷ phases) e alone = tt
+  phases_mend (Clean ∷ more ∷ phases) e alone = tt
+  phases_mend (Create ∷ more ∷ phases) e alone = tt
+  phases_mend (Purge ∷ more ∷ phases) e alone = tt
+
+-- the phases of the boot command are these
+pub boot_is : (phases : List Phase) → is_boot phases ≡ true → phases ≡ boot_phases
+boot_is [] e = impossible e
+boot_is (Remove ∷ []) e = impossible e
+boot_is (Remove ∷ Create ∷ []) e = refl
+boot_is (Remove ∷ Create ∷ more ∷ phases) e = impossible e
+boot_is (Remove ∷ Remove ∷ phases) e = impossible e
+boot_is (Remove ∷ Clean ∷ phases) e = impossible e
+boot_is (Remove ∷ Purge ∷ phases) e = impossible e
+boot_is (Clean ∷ phases) e = impossible e
+boot_is (Create ∷ phases) e = impossible e
+boot_is (Purge ∷ phases) e = impossible e
+
 -- a run that has done nothing is mended
 module _ (lines : List Line) (now : ℕ) (t : Files) (h : List Step) (fits : now < 2 ^ 64) (tree : IsTree t) where
   one_none : (phase : Phase) → IsMendedBy (phase ∷ []) lines now t (drop (length h) h)
@@ -74,10 +105,22 @@ module _ (lines : List Line) (now : ℕ) (t : Files) (h : List Step) (fits : now
       purge_mended lines (Removes (is_purged lines t)) now t h t h fits tree
       (ran_none (Pruned (is_purged lines t) t) (Removes (is_purged lines t)) now t h t h (pruned-none (is_purged lines t) t) refl refl)
 
-  pub none_mended : (phases : List Phase) → IsMendedAlone phases lines now t (drop (length h) h)
-  none_mended [] = tt
-  none_mended (phase ∷ []) = one_none phase
-  none_mended (phase ∷ other ∷ phases) = tt
+  alone_none : (phases : List Phase) → IsMendedAlone phases lines now t (drop (length h) h)
+  alone_none [] = tt
+  alone_none (phase ∷ []) = one_none phase
+  alone_none (phase ∷ other ∷ phases) = tt
+
+  boot_none : IsBootMended lines now t (drop (length h) h)
+  boot_none n later repeatable copies whole quiet again =
+      let none : take n (drop (length h) h) ≡ [] = ap (take n) (drop-length h) ∙ take-nil n in
+      subst (λ (steps : List Step). Same (booted lines later (after_all t steps now)) (booted lines now t)) (sym none) (booted_same lines later now t)
+
+  pub none_mended : (phases : List Phase) → IsMendedBy phases lines now t (drop (length h) h)
+  none_mended phases = by (is_boot phases) refl
+    where
+      by : (b : Bool) → is_boot phases ≡ b → IsMendedBy phases lines now t (drop (length h) h)
+      by true e = subst (λ (ps : List Phase). IsMendedBy ps lines now t (drop (length h) h)) (sym (boot_is phases e)) boot_none
+      by false e = phases_mend lines now t (drop (length h) h) phases e (alone_none phases)
 
 -- ---- what a stopped run has said
 
@@ -130,7 +173,7 @@ module _ {S : Type 0} (tree : Ghosts S) (moves : Moves tree) (lines : List Line)
     ended = refl;
     going = going_start (phases_course lines now) tree moves start all now a old;
     telling = record { before = []; told = sym (append-nil old); further = λ said stopped. stopped };
-    mending = record { still = λ none. refl; law = none_mended lines now t (tree.steps a) fits is all };
+    mending = record { still = λ none. refl; law = alone_none lines now t (tree.steps a) fits is all };
   }
 
   -- ---- one more
@@ -216,35 +259,6 @@ module _ {S : Type 0} (tree : Ghosts S) (moves : Moves tree) (lines : List Line)
     pub phases_done : {B : Type 0} (r : Result B TreeFault) → refused r ≡ 0
         → Acted tree (Partway (phases_course lines now) all t) (IsStepOfSome (phases_course lines now) all t) (taken_by_each (phases_course lines now).whole all t) now a b r
     phases_done r none_refused = end_acted (phases_course lines now) tree moves start all now a old run.refused b new all_done r none_refused
-
--- ---- the boot command
-
--- of phases one after the other that are not its own nothing is said
-module _ (lines : List Line) (now : ℕ) (t : Files) (steps : List Step) where
-  pub phases_mend : (phases : List Phase) → is_boot phases ≡ false → IsMendedAlone phases lines now t steps → IsMendedBy phases lines now t steps
-  phases_mend [] e alone = tt
-  phases_mend (phase ∷ []) e alone = alone
-  phases_mend (Remove ∷ Create ∷ []) e alone = impossible (sym e)
-  phases_mend (Remove ∷ Create ∷ more ∷ phases) e alone = tt
-  phases_mend (Remove ∷ Remove ∷ phases) e alone = tt
-  phases_mend (Remove ∷ Clean ∷ phases) e alone = tt
-  phases_mend (Remove ∷ Purge ∷ phases) e alone = tt
-  phases_mend (Clean ∷ more ∷ phases) e alone = tt
-  phases_mend (Create ∷ more ∷ phases) e alone = tt
-  phases_mend (Purge ∷ more ∷ phases) e alone = tt
-
--- the phases of the boot command are these
-pub boot_is : (phases : List Phase) → is_boot phases ≡ true → phases ≡ boot_phases
-boot_is [] e = impossible e
-boot_is (Remove ∷ []) e = impossible e
-boot_is (Remove ∷ Create ∷ []) e = refl
-boot_is (Remove ∷ Create ∷ more ∷ phases) e = impossible e
-boot_is (Remove ∷ Remove ∷ phases) e = impossible e
-boot_is (Remove ∷ Clean ∷ phases) e = impossible e
-boot_is (Remove ∷ Purge ∷ phases) e = impossible e
-boot_is (Clean ∷ phases) e = impossible e
-boot_is (Create ∷ phases) e = impossible e
-boot_is (Purge ∷ phases) e = impossible e
 
 -- what holds of some lines and phases holds of those that are the same
 pub both : (P : List Line → List Phase → Type 0) {lines others : List Line} {phases more : List Phase} → lines ≡ others → phases ≡ more → P lines phases → P others more

@@ -1,5 +1,5 @@
--- The way of one phase alone is its own, so what holds of creating holds of the one phase; and what holds of phases that have
--- done nothing.
+-- What phases leave on their way, and what their steps give: the way of one phase alone is its own, so that what holds of
+-- creating holds of the one phase.
 use Rattle.std.specs.Prelude.{◌≡◌, ◌<◌, ◌^◌, ℕ, false, List, [], ◌∷◌, length, take, drop, fold, slice_get, Option, Some, None}
 use Rattle.std.specs.FinMap as fin
 use Rattle.std.proofs.Common.{refl, sym, ap, subst, ◌∙◌, inl, inr}
@@ -13,45 +13,27 @@ use Rattle.pv_doing.specs.Courses.{Course, Partway, IsStepOfSome}
 use Rattle.pv_dress.specs.declared.bare.Bare.{Bare}
 use Rattle.pv_dress.specs.Edits.{Pruned}
 use Rattle.pv_dress.specs.Nodes.{bares_of}
-use Rattle.pv_dress.proofs.OperationLaws.{bares-same, bares_of-same}
 use Rattle.pv_laws.specs.Between.{IsBetween, IsOnTheWay}
-use Rattle.pv_laws.proofs.Moments.{created_same}
-use Rattle.pv_laws.specs.Moments.{Agree, SameBares}
+use Rattle.pv_laws.specs.Moments.{Agree}
 use Rattle.pv_lines.specs.declared.line.Line.{Line}
 use Rattle.pv_lines.specs.Lines.{IsLine}
 use Rattle.pv_path.specs.Paths.{Path, has_staging}
-use Rattle.pv_remove.proofs.StopLaws.{bares-without}
 use Rattle.pv_steps.specs.declared.step.Step.{Step}
-use Rattle.pv_steps.specs.Objects.{modified}
 use Rattle.pv_steps.specs.Runs.{after_all, Ran}
-use Rattle.pv_steps.specs.Same.{Same}
 use Rattle.pv_steps.specs.Trees.{Files, IsTree, places}
 use Rattle.pv_steps.proofs.RunLaws.{ran_weaken}
 use Rattle.pv_table.specs.Active.{in_create_order}
-use Rattle.pv_table.specs.Created.{after_each}
 use Rattle.pv_table.specs.Pointwise.{Bares, pointwise_after, state}
-use Rattle.pv_table.specs.Removed.{is_gone, removed}
+use Rattle.pv_table.specs.Removed.{is_gone}
 use Rattle.pv_walk.proofs.SweepLaws.{pruned-none}
-use Rattle.pv_phases.specs.Booted.{booted, IsBootMended}
 use Rattle.pv_phases.specs.OnTheWay.{GiveBy, IsBetweenBy}
-use Rattle.pv_phases.specs.Phases.{boot_phases, IsMendedBy, phases_course}
+use Rattle.pv_phases.specs.Phases.{boot_phases, phases_course}
 use Rattle.pv_phases.specs.declared.phase.Phase.{Phase}
 use Rattle.pv_phases.specs.declared.phase.Phase.TheVariants.{Remove, Clean, Create, Purge}
-use Rattle.pv_phases.proofs.BootLaws.{boot_amid, boot_given}
-use Rattle.pv_phases.proofs.PhaseLaws.{none_mended}
-
--- what is the same as all done is on the way
-pub way_done : {A : Type 0} (c : Course A) (xs : List A) (t u : Files) → Same (after_each c.whole xs t) u → Partway c xs t u
-way_done c [] t u same = same
-way_done c (x ∷ xs) t u same = inr (way_done c xs (c.whole.after x t) u same)
-
--- the way of creating alone is that of its lines
-pub create_way : (lines : List Line) (now : ℕ) (t u : Files) → Partway (phases_course lines now) (Create ∷ []) t u → Partway (lines_course now) (in_create_order lines) t u
-create_way lines now t u (inl way) = way
-create_way lines now t u (inr same) = way_done (lines_course now) (in_create_order lines) t u same
+use Rattle.pv_phases.proofs.BootLaws.{boot_amid, boot_given, creating_way}
 
 -- a step of one phase alone is one of its own
-pub own_step : (c : Course Phase) (phase : Phase) (t : Files) (step : Step) → IsStepOfSome c (phase ∷ []) t step → c.steps phase t step
+own_step : (c : Course Phase) (phase : Phase) (t : Files) (step : Step) → IsStepOfSome c (phase ∷ []) t step → c.steps phase t step
 own_step c phase t step (inl h) = h
 own_step c phase t step (inr none) = absurd none
 
@@ -62,7 +44,7 @@ module _ (lines : List Line) (are : AllByRecursion IsLine lines) (now : ℕ) (t 
   create_ran : RunOf (Create ∷ []) → Ran (Partway (lines_course now) (in_create_order lines) t) (IsStepOfSome (lines_course now) (in_create_order lines) t) now t h u k
   create_ran run = ran_weaken (Partway (phases_course lines now) (Create ∷ []) t) (Partway (lines_course now) (in_create_order lines) t)
       (IsStepOfSome (phases_course lines now) (Create ∷ []) t) (IsStepOfSome (lines_course now) (in_create_order lines) t) now
-      (create_way lines now t) (own_step (phases_course lines now) Create t) run
+      (creating_way lines are now t) (own_step (phases_course lines now) Create t) run
 
   pub phases_between : (phases : List Phase) → RunOf phases → IsBetweenBy phases lines now t (drop (length h) k)
   phases_between (Create ∷ []) run = between lines are (IsStepOfSome (lines_course now) (in_create_order lines) t) now t h u k tree (create_ran run)
@@ -115,11 +97,6 @@ way_begins lines s t agree = by (in_create_order lines) refl
         none : state lines 0 s ≡ s
         none = ap (λ (xs : List Line). fold pointwise_after s (take 0 xs)) e
 
--- what removing leaves needs no moment, stamps aside
-pub removed_alike : (lines : List Line) (now later : ℕ) (t : Files) → SameBares (removed lines now t) (removed lines later t)
-removed_alike lines now later t q = bares_of-same (places (removed lines now t)) (places (removed lines later t)) q
-    (bares-without (is_gone lines t) (modified now) (λ o. refl) t q ∙ sym (bares-without (is_gone lines t) (modified later) (λ o. refl) t q))
-
 module _ (lines : List Line) (now : ℕ) (t : Files) (h : List Step) where
   none_left : (n : ℕ) → after_all t (take n (drop (length h) h)) now ≡ t
   none_left n = ap (λ (steps : List Step). after_all t steps now) (ap (take n) (drop-length h) ∙ take-nil n)
@@ -153,23 +130,3 @@ module _ (lines : List Line) (now : ℕ) (t : Files) (h : List Step) where
   none_give (Remove ∷ Purge ∷ phases) = tt
   none_give (Clean ∷ phases) = tt
   none_give (Purge ∷ phases) = tt
-
-  -- a boot that has done nothing is mended: what it leaves needs no moment
-  boot_none : IsBootMended lines now t (drop (length h) h)
-  boot_none = λ n later repeatable none whole quiet again.
-      subst (λ (u : Files). Same (booted lines later u) (booted lines now t)) (sym (none_left n)) (λ q plain.
-      bares-same (places (booted lines later t)) (places (booted lines now t)) q
-      (created_same lines later now (removed lines later t) (removed lines now t) (removed_alike lines later now t) q))
-
-  module _ (fits : now < 2 ^ 64) (tree : IsTree t) where
-    pub nothing_mended_by : (phases : List Phase) → IsMendedBy phases lines now t (drop (length h) h)
-    nothing_mended_by (Remove ∷ Create ∷ []) = boot_none
-    nothing_mended_by [] = tt
-    nothing_mended_by (phase ∷ []) = none_mended lines now t h fits tree (phase ∷ [])
-    nothing_mended_by (Remove ∷ Create ∷ next ∷ phases) = tt
-    nothing_mended_by (Remove ∷ Remove ∷ phases) = tt
-    nothing_mended_by (Remove ∷ Clean ∷ phases) = tt
-    nothing_mended_by (Remove ∷ Purge ∷ phases) = tt
-    nothing_mended_by (Clean ∷ next ∷ phases) = tt
-    nothing_mended_by (Create ∷ next ∷ phases) = tt
-    nothing_mended_by (Purge ∷ next ∷ phases) = tt

@@ -1,20 +1,24 @@
 -- What the boot command, removing and then creating, leaves and says, and what a run of it has left when it is stopped
 -- (systemd-tmpfiles(8), --remove --create).
-use Rattle.std.specs.Prelude.{◌≡◌, ◌⊎◌, ℕ, Bool, false, ◌||◌, List, ◌++◌, take}
+use Rattle.std.specs.Prelude.{◌≡◌, ◌⊎◌, ℕ, Bool, true, false, ◌||◌, List, ◌++◌, take}
 use Rattle.std.specs.List.{AllByRecursion}
 use Rattle.pv_dress.specs.Edits.{Pruned}
 use Rattle.pv_laws.specs.Between.{IsOnTheWay}
 use Rattle.pv_laws.specs.Moments.{Agree}
 use Rattle.pv_laws.specs.Stopping.{CopiesNothing}
+use Rattle.pv_layers.specs.Places.{is_input}
 use Rattle.pv_lines.specs.declared.line.Line.{Line}
+use Rattle.pv_path.specs.Paths.{Path}
 use Rattle.pv_steps.specs.declared.step.Step.{Step}
+use Rattle.pv_steps.specs.Content.{content_of}
 use Rattle.pv_steps.specs.Runs.{after_all}
 use Rattle.pv_steps.specs.Same.{Same}
-use Rattle.pv_steps.specs.Trees.{Files}
+use Rattle.pv_steps.specs.Trees.{Files, places}
+use Rattle.pv_table.specs.declared.reason.Reason.TheVariants as reason
 use Rattle.pv_table.specs.Created.{created, created_messages, some_refusal_counts, IsQuiet}
 use Rattle.pv_table.specs.Pointwise.{Bares}
 use Rattle.pv_table.specs.Removed.{is_gone, is_unfinished, removed, removed_messages}
-use Rattle.pv_table.specs.Repeatable.{IsRepeatable}
+use Rattle.pv_table.specs.Repeatable.{HasReason, IsRepeatable}
 
 -- the tree that it leaves
 abbrev pub booted : List Line → ℕ → Files → Files
@@ -48,3 +52,9 @@ IsBootBetween lines now t steps = (n : ℕ) →
     Pruned (is_gone lines t) t (after_all t (take n steps) now)
     ⊎ ((s : Bares) → IsRepeatable lines → IsQuiet lines now (removed lines now t) → Agree s (removed lines now t) →
     IsOnTheWay lines s (after_all t (take n steps) now))
+
+-- lines none of which may change what lines are read from have left, at each moment, presence, kind and payload at each path
+-- from which lines are read, staging names included
+abbrev pub KeepsInput : List Line → ℕ → Files → List Step → Type 0
+KeepsInput lines now t steps = ((i : ℕ) → HasReason lines i reason.Input → ⊥) → (n : ℕ) (q : Path) → is_input q ≡ true →
+    content_of (places (after_all t (take n steps) now) q) ≡ content_of (places t q)

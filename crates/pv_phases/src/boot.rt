@@ -10,7 +10,7 @@ ghost use Rattle.pv_steps.specs.Acting.{Acted};
 ghost use Rattle.pv_table.specs.Created.{taken_by_each};
 ghost use Rattle.pv_table.specs.Removed.{removed};
 ghost use Rattle.pv_text.specs.Said.{SaidPart};
-ghost use Rattle.pv_phases.specs.Booted.{booted, booted_messages, is_boot_unfinished, IsBootBetween, IsBootMended};
+ghost use Rattle.pv_phases.specs.Booted.{booted, booted_messages, is_boot_unfinished, IsBootBetween, IsBootMended, KeepsInput};
 ghost use Rattle.pv_phases.specs.BootedAgain.{IsBootMendedAgain, IsBootStoppedAgain};
 ghost use Rattle.pv_phases.specs.Phases.{boot_phases, phases_course, HasSaidStopped};
 
@@ -61,6 +61,8 @@ pub fn boot_run<T: Tree>(
     ensures framed { IsFramed table.now now (T.state tree.old)
         (drop (length (T.steps tree.old)) (T.steps tree.new)) }
     ensures between { IsBootBetween table.now now (T.state tree.old)
+        (drop (length (T.steps tree.old)) (T.steps tree.new)) }
+    ensures input { KeepsInput table.now now (T.state tree.old)
         (drop (length (T.steps tree.old)) (T.steps tree.new)) }
     ensures gives { GiveWhatLinesLeave table.now now (removed table.now now (T.state tree.old))
         (drop (length (T.steps tree.old)) (T.steps tree.new)) }

@@ -1,23 +1,28 @@
 //! A law of what phases leave on their way. The function does nothing; its contract is the law.
 ghost use Rattle.std.specs.Prelude.{◌≡◌, ◌⊎◌, ℕ, ◌<◌, ◌^◌, List, true, false};
 ghost use Rattle.std.specs.List.{AllByRecursion, list_any};
-ghost use Rattle.pv_doing.specs.Courses.{Partway};
+ghost use Rattle.pv_doing.specs.Courses.{IsStepOfSome, Partway};
 ghost use Rattle.pv_dress.specs.Edits.{Pruned};
 ghost use Rattle.pv_dress.specs.Nodes.{bares_of};
 ghost use Rattle.pv_laws.specs.Between.{IsOnTheWay};
 ghost use Rattle.pv_laws.specs.Moments.{Agree};
 ghost use Rattle.pv_laws.specs.Stopping.{CopiesNothing};
+ghost use Rattle.pv_layers.specs.Places.{is_input};
 ghost use Rattle.pv_lines.specs.declared.line.Line.{Line as LineValue};
 ghost use Rattle.pv_lines.specs.Lines.{IsLine};
 ghost use Rattle.pv_path.specs.Paths.{Path, has_staging};
+ghost use Rattle.pv_steps.specs.declared.step.Step.{Step as StepValue};
+ghost use Rattle.pv_steps.specs.Content.{content_of};
+ghost use Rattle.pv_steps.specs.Runs.{after_all};
 ghost use Rattle.pv_steps.specs.Same.{Same};
 ghost use Rattle.pv_steps.specs.Trees.{Files, places, IsTree};
+ghost use Rattle.pv_table.specs.declared.reason.Reason.TheVariants as reason;
 ghost use Rattle.pv_table.specs.Active.{are_distinct};
 ghost use Rattle.pv_table.specs.Created.{IsQuiet};
 ghost use Rattle.pv_table.specs.Pointwise.{Bares};
 ghost use Rattle.pv_table.specs.Reaching.{governs};
 ghost use Rattle.pv_table.specs.Removed.{is_gone, is_unfinished, removed};
-ghost use Rattle.pv_table.specs.Repeatable.{IsRepeatable};
+ghost use Rattle.pv_table.specs.Repeatable.{HasReason, IsRepeatable};
 ghost use Rattle.pv_phases.specs.Booted.{booted};
 ghost use Rattle.pv_phases.specs.BootedAgain.{StoppedBoots};
 ghost use Rattle.pv_phases.specs.Phases.{boot_phases, phases_course};
@@ -57,4 +62,14 @@ pub fn a_boot_on_its_way_removes_or_is_between_two_lines()
         → Pruned (is_gone lines t) t u
         ⊎ ((s : Bares) → IsRepeatable lines → IsQuiet lines now (removed lines now t) → Agree s (removed lines now t)
         → IsOnTheWay lines s u) }
+{}
+
+/// At each moment on the way of such a run that its steps lead to, lines none of which may change what lines are read from
+/// have left presence, kind and payload at each path from which lines are read, staging names included.
+pub fn a_boot_leaves_what_lines_are_read_from()
+    ensures { (lines : List LineValue) (now : ℕ) (t : Files) (steps : List StepValue) (q : Path) → now < 2 ^ 64 → IsTree t
+        → IsTree (after_all t steps now) → AllByRecursion IsLine lines → ((i : ℕ) → HasReason lines i reason.Input → ⊥)
+        → Partway (phases_course lines now) boot_phases t (after_all t steps now)
+        → AllByRecursion (IsStepOfSome (phases_course lines now) boot_phases t) steps → is_input q ≡ true
+        → content_of (places (after_all t steps now) q) ≡ content_of (places t q) }
 {}

@@ -1,6 +1,6 @@
 -- What a removal that leaves nothing unfinished does not take, no removal takes of any tree where it stands; and what
 -- removing leaves of a tree is a tree.
-use Rattle.std.specs.Prelude.{◌≡◌, ◌≢◌, ℕ, ◌+◌, ◌^◌, ◌<◌, Bool, true, false, cond, not, ◌&&◌, ◌||◌, ◌==◌, List, [], ◌∷◌, ◌++◌, length, take, filter, Option, Some, None, is_some, is_none, option_map}
+use Rattle.std.specs.Prelude.{◌≡◌, ℕ, ◌+◌, ◌^◌, ◌<◌, Bool, true, false, cond, not, ◌&&◌, ◌||◌, ◌==◌, List, [], ◌∷◌, ◌++◌, length, take, filter, Option, Some, None, is_some, is_none, option_map}
 use Rattle.std.proofs.Common.{refl, sym, ap, subst, ◌∙◌, arith, length-append, append_assoc, append-nil}
 use Rattle.std.specs.List.{AllByRecursion, Any, list_any, range_with_len}
 use Rattle.std.specs.FinMap as fin
@@ -13,14 +13,13 @@ use Rattle.pv_lines.specs.declared.line.Line.{Line}
 use Rattle.pv_lines.specs.declared.line.LinePath.{LinePath}
 use Rattle.pv_lines.specs.declared.line.LinePath.TheVariants.{Literal, Glob}
 use Rattle.pv_lines.specs.Lines.{IsLine, IsLinePath}
-use Rattle.pv_path.specs.Paths.{Path, is_prefix, parent_of, same_path, same_path-decides}
+use Rattle.pv_path.specs.Paths.{Path, is_prefix, parent_of, same_path-decides}
 use Rattle.pv_path.proofs.PathLaws.{is_prefix-refl, parent_of-is_prefix, prefix_parts}
 use Rattle.pv_path.proofs.Tests.{true_not_false}
-use Rattle.pv_steps.specs.declared.node.Kind.TheVariants.{Directory}
 use Rattle.pv_steps.specs.declared.object.Object.{Object}
-use Rattle.pv_steps.specs.Objects.{bare, is_directory, modified, IsObject}
+use Rattle.pv_steps.specs.Objects.{is_directory, modified, IsObject}
 use Rattle.pv_steps.specs.Same.{bares}
-use Rattle.pv_steps.specs.Trees.{Files, places, kind_of, IsTree, IsTreeIn}
+use Rattle.pv_steps.specs.Trees.{Files, places, kind_of, IsTree}
 use Rattle.pv_steps.proofs.ObjectLaws.{IsObject-modified}
 use Rattle.pv_steps.proofs.TreeLaws.{present_above, directory_above}
 use Rattle.pv_find.specs.Whole.{goes_whole}

@@ -43,9 +43,13 @@ content-bare : (o : Option Object) → content_of o ≡ content_of (option_map b
 content-bare None = refl
 content-bare (Some o) = refl
 
+-- what is the same but for stamps is read alike
+pub same_content : (x y : Option Object) → option_map bare x ≡ option_map bare y → content_of x ≡ content_of y
+same_content x y e = content-bare x ∙ ap content_of e ∙ sym (content-bare y)
+
 module _ (goes : Path → Bool) (t : Files) where
   pub kept_content : (u : Files) (q : Path) → Pruned goes t u → goes q ≡ false → content_of (places u q) ≡ content_of (places t q)
-  kept_content u q pruned stays = content-bare (places u q) ∙ ap content_of (pruned.outside q stays) ∙ sym (content-bare (places t q))
+  kept_content u q pruned stays = same_content (places u q) (places t q) (pruned.outside q stays)
 
   -- so after each number of the steps of a run
   pub kept_on_run : (Q : Step → Type 0) (now : ℕ) (h : List Step) (u : Files) (k : List Step) → Ran (Pruned goes t) Q now t h u k

@@ -13,8 +13,8 @@ use Rattle.pv_create.specs.OnTheWay.{IsFramed}
 use Rattle.pv_phases.specs.declared.phase.Phase.{Phase}
 use Rattle.provision_run.specs.Ending.{end_of, is_uncarried}
 use Rattle.provision_run.specs.Phased.{run_lines, phases_way, is_phases_step, lines_messages, phase_messages, phases_work}
-use Rattle.pv_phases.proofs.PhaseLaws.{both, failed_before}
-use Rattle.pv_phases.proofs.WayLaws.{none_between, none_give, nothing_mended_by}
+use Rattle.pv_phases.proofs.PhaseLaws.{both, failed_before, none_mended}
+use Rattle.pv_phases.proofs.WayLaws.{none_between, none_give}
 use Rattle.provision_run.proofs.FrameLaws.{none_stays}
 use Rattle.provision_run.proofs.RereadingLaws.{mended_anew, nothing_reread, run_anew, run_reread}
 use Rattle.provision_run.proofs.RunLaws.{way_start}
@@ -38,7 +38,7 @@ returns-in_err-read-clause-acted g c =
 pub returns-in_err-read-clause-mended : goal.returns-in_err-read-clause-mended
 returns-in_err-read-clause-mended g c =
     let t = g.T.Tree.state c.args.tree.now in
-    nothing_mended_by (run_lines c.args.options.now c.args.facts.now t) c.args.moment t (g.T.Tree.steps c.args.tree.now) c.ranges.moment.fits c.look-root.ensures.tree (phases_of c.args.options.now)
+    none_mended (run_lines c.args.options.now c.args.facts.now t) c.args.moment t (g.T.Tree.steps c.args.tree.now) c.ranges.moment.fits c.look-root.ensures.tree (phases_of c.args.options.now)
 
 pub returns-in_err-phases-clause-part : goal.returns-in_err-phases-clause-part
 returns-in_err-phases-clause-part g c =
@@ -57,7 +57,7 @@ returns-in_err-phases-clause-acted g c =
 pub returns-in_err-phases-clause-mended : goal.returns-in_err-phases-clause-mended
 returns-in_err-phases-clause-mended g c =
     let t = g.T.Tree.state c.args.tree.now in
-    nothing_mended_by (run_lines c.args.options.now c.args.facts.now t) c.args.moment t (g.T.Tree.steps c.args.tree.now) c.ranges.moment.fits c.look-root.ensures.tree (phases_of c.args.options.now)
+    none_mended (run_lines c.args.options.now c.args.facts.now t) c.args.moment t (g.T.Tree.steps c.args.tree.now) c.ranges.moment.fits c.look-root.ensures.tree (phases_of c.args.options.now)
 
 pub returns-in_err-carried-clause-part : goal.returns-in_err-carried-clause-part
 returns-in_err-carried-clause-part g c =
@@ -147,14 +147,14 @@ returns-in_err-read-clause-anew g c =
     let t = g.T.Tree.state c.args.tree.now in
     let told = g.T.Tree.steps c.args.tree.now in
     mended_anew c.args.options.now c.args.facts.now c.args.moment t (drop (length told) told) (nothing_reread c.args.options.now c.args.facts.now c.args.moment t told)
-    (nothing_mended_by (run_lines c.args.options.now c.args.facts.now t) c.args.moment t told c.ranges.moment.fits c.look-root.ensures.tree (phases_of c.args.options.now))
+    (none_mended (run_lines c.args.options.now c.args.facts.now t) c.args.moment t told c.ranges.moment.fits c.look-root.ensures.tree (phases_of c.args.options.now))
 
 pub returns-in_err-phases-clause-anew : goal.returns-in_err-phases-clause-anew
 returns-in_err-phases-clause-anew g c =
     let t = g.T.Tree.state c.args.tree.now in
     let told = g.T.Tree.steps c.args.tree.now in
     mended_anew c.args.options.now c.args.facts.now c.args.moment t (drop (length told) told) (nothing_reread c.args.options.now c.args.facts.now c.args.moment t told)
-    (nothing_mended_by (run_lines c.args.options.now c.args.facts.now t) c.args.moment t told c.ranges.moment.fits c.look-root.ensures.tree (phases_of c.args.options.now))
+    (none_mended (run_lines c.args.options.now c.args.facts.now t) c.args.moment t told c.ranges.moment.fits c.look-root.ensures.tree (phases_of c.args.options.now))
 
 pub returns-in_err-carried-clause-anew : goal.returns-in_err-carried-clause-anew
 returns-in_err-carried-clause-anew g c =

@@ -4,6 +4,7 @@ use Rattle.pv_table.specs.Removed.{removed}
 use Rattle.pv_phases.specs.Phases.{boot_phases, phases_course}
 use Rattle.pv_phases.proofs.BootLaws.{boot_amid, boot_given, boot_mended, boot_mended_again, boot_stopped}
 use Rattle.pv_phases.proofs.FrameLaws.{phases_framed}
+use Rattle.pv_phases.proofs.InputLaws.{phases_keep_input}
 use Rattle.pv_phases.proofs.boot.boot_run.Goals as goal
 
 pub returns-clause-staged : goal.returns-clause-staged
@@ -59,3 +60,8 @@ returns-clause-gives g c =
     let t = g.T.Tree.state c.args.tree.now in
     boot_given lines c.requires.lines (Partway (phases_course lines now) boot_phases t) now t (g.T.Tree.steps c.args.tree.now)
     (g.T.Tree.state c.remove_then_create.new.tree) (g.T.Tree.steps c.remove_then_create.new.tree) c.ranges.now.fits c.look-root.ensures.tree c.remove_then_create.ensures.run.acted.ran
+
+pub returns-clause-input : goal.returns-clause-input
+returns-clause-input g c =
+    phases_keep_input c.args.table.now c.requires.lines c.args.now boot_phases c.ranges.now.fits (g.T.Tree.state c.args.tree.now) c.look-root.ensures.tree (g.T.Tree.steps c.args.tree.now)
+    (g.T.Tree.state c.remove_then_create.new.tree) (g.T.Tree.steps c.remove_then_create.new.tree) c.remove_then_create.ensures.run.acted.ran
