@@ -12,20 +12,21 @@ use Rattle.pv_doing.specs.Courses.{Course, Partway, IsStepOfSome}
 use Rattle.pv_dress.specs.declared.bare.Bare.{Bare}
 use Rattle.pv_dress.specs.Edits.{Pruned}
 use Rattle.pv_dress.specs.Nodes.{bare_of, bares_of}
+use Rattle.pv_dress.specs.Operations.{run}
 use Rattle.pv_dress.proofs.OperationLaws.{bares_of-same, bares-same}
 use Rattle.pv_laws.specs.Between.{IsOnTheWay}
 use Rattle.pv_laws.specs.Moments.{Agree, SameBares}
 use Rattle.pv_laws.specs.Stopping.{CopiesNothing, IsPiece}
 use Rattle.pv_laws.proofs.AllPoints.{all_safe}
 use Rattle.pv_laws.proofs.CopyWays.{copies_on_the_way}
-use Rattle.pv_laws.proofs.Making.{is_dir, IsShaped}
+use Rattle.pv_laws.proofs.Making.{is_dir, IsShaped, same_unnamed}
 use Rattle.pv_laws.proofs.Moments.{created_same, quiet_same}
 use Rattle.pv_laws.proofs.Sets.{impossible}
 use Rattle.pv_laws.proofs.Shapes.{tree_shaped}
-use Rattle.pv_laws.proofs.Stops.{in_order_plain, partway_piece, pieces_mend}
+use Rattle.pv_laws.proofs.Stops.{created_point, in_order_plain, partway_piece, piece_mends, pieces_mend}
 use Rattle.pv_lines.specs.declared.line.Line.{Line}
 use Rattle.pv_lines.specs.Lines.{IsLine}
-use Rattle.pv_path.specs.Paths.{Path, has_staging}
+use Rattle.pv_path.specs.Paths.{Path, has_names, has_staging}
 use Rattle.pv_remove.proofs.AgainLaws.{goes_too, removed_tree}
 use Rattle.pv_remove.proofs.StopLaws.{bares-without, removal_mends, told_prefix}
 use Rattle.pv_steps.specs.declared.object.Object.{Object}
@@ -36,7 +37,8 @@ use Rattle.pv_steps.specs.Same.{bares, Same}
 use Rattle.pv_steps.specs.Trees.{Files, IsTree, places}
 use Rattle.pv_steps.proofs.RunLaws.{along_prefix, along_trees}
 use Rattle.pv_table.specs.Active.{are_distinct, in_create_order}
-use Rattle.pv_table.specs.Created.{after_each, IsQuiet}
+use Rattle.pv_table.specs.Asked.{operations_of}
+use Rattle.pv_table.specs.Created.{after_each, created, IsQuiet}
 use Rattle.pv_table.specs.Pointwise.{Bares}
 use Rattle.pv_table.specs.Removed.{is_gone, is_unfinished, removed}
 use Rattle.pv_table.specs.Repeatable.{IsRepeatable}
@@ -149,29 +151,66 @@ module _ (lines : List Line) (are : AllByRecursion IsLine lines) where
 
   -- ---- any number of stopped runs
 
-  module _ (none : AllByRecursion CopiesNothing lines) (distinct : are_distinct lines ≡ true) (repeatable : IsRepeatable lines) where
-    -- from the first of these trees creating refuses no line after removing, at some moment
-    quiet_first : (moments : List ℕ) (later : ℕ) (t u : Files) → StoppedBoots lines moments t u → IsQuiet lines later (removed lines later u) → (now : ℕ) × IsQuiet lines now (removed lines now t)
-    quiet_first [] later t u same quiet = (later, subst (λ (v : Files). IsQuiet lines later (removed lines later v)) same quiet)
-    quiet_first (now ∷ moments) later t u runs quiet = (now, runs.1)
+  -- from the first of these trees creating refuses no line after removing, at some moment
+  quiet_first : (moments : List ℕ) (later : ℕ) (t u : Files) → StoppedBoots lines moments t u → IsQuiet lines later (removed lines later u) → (now : ℕ) × IsQuiet lines now (removed lines now t)
+  quiet_first [] later t u same quiet = (later, subst (λ (v : Files). IsQuiet lines later (removed lines later v)) same quiet)
+  quiet_first (now ∷ moments) later t u runs quiet = (now, runs.0)
 
-    pub boots_mend : (moments : List ℕ) (now later : ℕ) (t u : Files) → IsTree t → IsTree u → StoppedBoots lines moments t u → IsQuiet lines later (removed lines later u) → Same (booted lines later u) (booted lines now t)
-    boots_mend [] now later t u tree there same again = subst (λ (v : Files). Same (booted lines later v) (booted lines now t)) (sym same) (booted_same lines later now t)
-    boots_mend (first ∷ moments) now later t u tree there runs again = λ q plain.
-        boots_mend moments next.0 later v u runs.2.1 there runs.2.3 again q plain
-        ∙ boot_mends none distinct repeatable first next.0 t v tree runs.2.1 runs.0 runs.1 next.1 runs.2.2 q plain
-        ∙ booted_same lines first now t q plain
+  module _ (none : AllByRecursion CopiesNothing lines) (distinct : are_distinct lines ≡ true) (repeatable : IsRepeatable lines) (s : Files) (start : IsTree s) (whole : is_unfinished lines s ≡ false) where
+    -- after removing, what the lines ask for ends at each path as from the first tree
+    EndsAlike : Files → Type 0
+    EndsAlike x = (q : Path) → has_staging q ≡ false → has_names q ≡ true
+        → run (operations_of (in_create_order lines) q) (bares_of (places (removed lines 0 x)) q) ≡ run (operations_of (in_create_order lines) q) (bares_of (places (removed lines 0 s)) q)
+
+    -- so after one more run that was cut short
+    still_alike : (now : ℕ) (x v : Files) → IsTree x → IsTree v → IsQuiet lines now (removed lines now x) → Partway (phases_course lines now) boot_phases x v → EndsAlike x → EndsAlike v
+    unfolding EndsAlike
+    still_alike now x v tree there quiet (inl pruned) ends q plain named =
+        ap (run (operations_of (in_create_order lines) q)) (bares_of-same (places (removed lines 0 v)) (places (removed lines 0 x)) q (removal_mends lines 0 0 x v there pruned q plain))
+        ∙ ends q plain named
+    still_alike now x v tree there quiet (inr way) ends q plain named = by (is_gone lines v q) refl
       where
-        v : Files
-        v = runs.2.0
+        piece : IsPiece (in_create_order lines) q (bares_of (places (removed lines now x)) q) (bares_of (places v) q)
+        piece = partway_piece (in_create_order lines) now (removed lines now x) v (in_order_plain lines are none) (shaped now x tree) quiet
+            (plain_ways now (in_create_order lines) (removed lines now x) v (in_order_plain lines are none) (shaped now x tree) quiet (creating_way now (removed lines now x) v way)) q plain
 
-        next : (m : ℕ) × IsQuiet lines m (removed lines m v)
-        next = quiet_first moments later v u runs.2.3 again
+        by : (b : Bool) → is_gone lines v q ≡ b → run (operations_of (in_create_order lines) q) (bares_of (places (removed lines 0 v)) q) ≡ run (operations_of (in_create_order lines) q) (bares_of (places (removed lines 0 s)) q)
+        by true gone = ap (run (operations_of (in_create_order lines) q)) (absent lines 0 v q gone ∙ sym (gone_absent s v start whole 0 q gone))
+        by false stays =
+            ap (run (operations_of (in_create_order lines) q)) (kept lines 0 v q stays)
+            ∙ piece_mends lines are distinct repeatable q named (bares_of (places (removed lines now x)) q) (bares_of (places v) q) piece
+            ∙ ap (run (operations_of (in_create_order lines) q)) (removed_same lines now 0 x q)
+            ∙ ends q plain named
+
+    all_alike : (moments : List ℕ) (x u : Files) → IsTree x → StoppedBoots lines moments x u → EndsAlike x → EndsAlike u
+    all_alike [] x u tree same ends = subst EndsAlike (sym same) ends
+    all_alike (now ∷ moments) x u tree runs ends = all_alike moments runs.1.0 u runs.1.1 runs.1.3 (still_alike now x runs.1.0 tree runs.1.1 runs.0 runs.1.2 ends)
+
+    begins_alike : EndsAlike s
+    unfolding EndsAlike
+    begins_alike = λ q plain named. refl
+
+    pub boots_mend : (moments : List ℕ) (now later : ℕ) (u : Files) → IsTree u → StoppedBoots lines moments s u → IsQuiet lines later (removed lines later u) → Same (booted lines later u) (booted lines now s)
+    unfolding EndsAlike
+    boots_mend moments now later u there runs again q plain =
+        booted_same lines later 0 u q plain
+        ∙ bares-same (places (created lines 0 (removed lines 0 u))) (places (created lines 0 (removed lines 0 s))) q (
+        same_unnamed (bares_of (places (created lines 0 (removed lines 0 u)))) (bares_of (places (created lines 0 (removed lines 0 s)))) (made_shaped u there) (made_shaped s start) q plain (λ named.
+        created_point lines are none 0 (removed lines 0 u) (removed_tree lines 0 u none_past there) (quiet_same lines later 0 (removed lines later u) (removed lines 0 u) (removed_same lines later 0 u) again) q plain
+        ∙ all_alike moments s u start runs begins_alike q plain named
+        ∙ sym (created_point lines are none 0 (removed lines 0 s) (removed_tree lines 0 s none_past start) (quiet_same lines first.0 0 (removed lines first.0 s) (removed lines 0 s) (removed_same lines first.0 0 s) first.1) q plain)))
+        ∙ booted_same lines 0 now s q plain
+      where
+        first : (m : ℕ) × IsQuiet lines m (removed lines m s)
+        first = quiet_first moments later s u runs again
+
+        made_shaped : (v : Files) → IsTree v → IsShaped (bares_of (places (created lines 0 (removed lines 0 v))))
+        made_shaped v is = left_shaped lines are 0 Create (removed lines 0 v) (shaped 0 v is)
 
   -- one more
   then_stopped : (moments : List ℕ) (now : ℕ) (s t u : Files) → StoppedBoots lines moments s t → StoppedBoots lines (now ∷ []) t u → StoppedBoots lines (moments ++ now ∷ []) s u
   then_stopped [] now s t u same one = subst (λ (v : Files). StoppedBoots lines (now ∷ []) v u) same one
-  then_stopped (first ∷ moments) now s t u runs one = (runs.0, runs.1, (runs.2.0, runs.2.1, runs.2.2, then_stopped moments now runs.2.0 t u runs.2.3 one))
+  then_stopped (first ∷ moments) now s t u runs one = (runs.0, (runs.1.0, runs.1.1, runs.1.2, then_stopped moments now runs.1.0 t u runs.1.3 one))
 
   -- ---- runs
 
@@ -195,12 +234,11 @@ module _ (lines : List Line) (are : AllByRecursion IsLine lines) where
     boot_amid = λ n. boot_between now t (at_moment n) fits tree (way_at n)
 
     pub boot_stopped : IsBootStoppedAgain lines now t (drop (length h) k)
-    boot_stopped = λ s moments n before whole quiet.
-        then_stopped moments now s t (at_moment n) before (whole, quiet, (at_moment n, tree_at n, way_at n, refl))
+    boot_stopped = λ s moments n before quiet. then_stopped moments now s t (at_moment n) before (quiet, (at_moment n, tree_at n, way_at n, refl))
 
     pub boot_mended_again : are_distinct lines ≡ true → IsBootMendedAgain lines now t (drop (length h) k)
-    boot_mended_again distinct = λ s moments n first later start repeatable none before whole quiet again.
-        boots_mend none distinct repeatable (moments ++ now ∷ []) first later s (at_moment n) start (tree_at n) (boot_stopped s moments n before whole quiet) again
+    boot_mended_again distinct = λ s moments n first later start repeatable none whole before quiet again.
+        boots_mend none distinct repeatable s start whole (moments ++ now ∷ []) first later (at_moment n) (tree_at n) (boot_stopped s moments n before quiet) again
 
   -- ---- each step gives what lines leave, from what removing leaves
 

@@ -15,21 +15,21 @@ use Rattle.pv_phases.specs.Booted.{booted}
 use Rattle.pv_phases.specs.Phases.{boot_phases, phases_course}
 
 -- runs, one at each of some moments, each begun on what the last one left, and each cut short; from each of these trees
--- removing leaves nothing unfinished, and then creating refuses no line at a turn
+-- creating refuses no line at a turn, after removing
 abbrev pub StoppedBoots : List Line → List ℕ → Files → Files → Type 0
 StoppedBoots lines [] t u = u ≡ t
 StoppedBoots lines (now ∷ moments) t u =
-    (is_unfinished lines t ≡ false)
-    × IsQuiet lines now (removed lines now t)
+    IsQuiet lines now (removed lines now t)
     × ((v : Files) × IsTree v × Partway (phases_course lines now) boot_phases t v × StoppedBoots lines moments v u)
 
 -- a run from a tree to which such runs had led, stopped after any of its steps: a whole run from there, at any moment,
--- leaves the tree of one whole run from the first of these trees, stamps and staging names aside
+-- leaves the tree of one whole run from the first of these trees, stamps and staging names aside. From the first one removing
+-- leaves nothing unfinished; from the others it may, as where `r` names a directory that creating had filled
 abbrev pub IsBootMendedAgain : List Line → ℕ → Files → List Step → Type 0
 IsBootMendedAgain lines now t steps = (s : Files) (moments : List ℕ) (n first later : ℕ) → IsTree s → IsRepeatable lines →
     AllByRecursion CopiesNothing lines →
+    is_unfinished lines s ≡ false →
     StoppedBoots lines moments s t →
-    is_unfinished lines t ≡ false →
     IsQuiet lines now (removed lines now t) →
     IsQuiet lines later (removed lines later (after_all t (take n steps) now)) →
     Same (booted lines later (after_all t (take n steps) now)) (booted lines first s)
@@ -38,6 +38,5 @@ IsBootMendedAgain lines now t steps = (s : Files) (moments : List ℕ) (n first 
 abbrev pub IsBootStoppedAgain : List Line → ℕ → Files → List Step → Type 0
 IsBootStoppedAgain lines now t steps = (s : Files) (moments : List ℕ) (n : ℕ) →
     StoppedBoots lines moments s t →
-    is_unfinished lines t ≡ false →
     IsQuiet lines now (removed lines now t) →
     StoppedBoots lines (moments ++ now ∷ []) s (after_all t (take n steps) now)

@@ -46,11 +46,12 @@ pub fn a_boot_cut_short_is_mended()
         → Partway (phases_course lines now) boot_phases t u → Same (booted lines later u) (booted lines now t) }
 {}
 
-/// And after any number of such runs, each begun on what the last one left and cut short.
+/// And after any number of such runs, each begun on what the last one left and cut short; removing has to leave nothing
+/// unfinished from the first of these trees alone.
 pub fn boots_cut_short_again_and_again_are_mended()
     ensures { (lines : List LineValue) (moments : List ℕ) (now later : ℕ) (t u : Files) → IsTree t → IsTree u
         → AllByRecursion IsLine lines → AllByRecursion CopiesNothing lines → are_distinct lines ≡ true → IsRepeatable lines
-        → StoppedBoots lines moments t u → IsQuiet lines later (removed lines later u)
+        → is_unfinished lines t ≡ false → StoppedBoots lines moments t u → IsQuiet lines later (removed lines later u)
         → Same (booted lines later u) (booted lines now t) }
 {}
 
