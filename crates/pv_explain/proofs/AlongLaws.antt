@@ -1,10 +1,10 @@
 -- What a line leaves at a path and above it depends on what stands there alone, unless it copies.
-use Rattle.std.specs.Prelude.{◌≡◌, ◌≢◌, ℕ, Bool, true, false, not, cond, ◌&&◌, ◌||◌, List, [], ◌∷◌, ◌++◌, Option, Some, None, is_some, unwrap_or}
+use Rattle.std.specs.Prelude.{◌≡◌, ◌≢◌, ℕ, Bool, true, false, not, cond, ◌&&◌, ◌||◌, List, [], ◌∷◌, ◌++◌, length, take, Option, Some, None, is_some, unwrap_or}
 use Rattle.std.proofs.Common.{refl, sym, ap, subst, ◌∙◌, inl, inr}
 use Rattle.std.proofs.lemmas.Bool.{and_parts}
 use Rattle.std.proofs.lemmas.List.{append-nil}
 use Rattle.std.specs.FinMap as fin
-use Rattle.std.specs.List.{list_all}
+use Rattle.std.specs.List.{list_all, list_any, range_with_len}
 use Rattle.std.specs.Option.{option_map_or}
 use Rattle.std.specs.Ordering.{eq_by_cmp}
 use Rattle.pv_dress.specs.declared.bare.Bare.{Bare}
@@ -14,8 +14,9 @@ use Rattle.pv_dress.proofs.EditLaws.{path_cases}
 use Rattle.pv_laws.proofs.Points.{get-tabulated}
 use Rattle.pv_laws.proofs.Sets.{is_adjustment, adjusted_none, adjusted_some, asked, sets_adjust}
 use Rattle.pv_lines.specs.declared.line.Line.{Line}
-use Rattle.pv_path.specs.Paths.{Path, path_cmp, same_path, is_prefix, rest_under, same_path-decides}
-use Rattle.pv_path.proofs.PathLaws.{is_prefix-trans, is_some-rest_under, rest_under-Some, rest_under-None, tied-equal}
+use Rattle.pv_lines.specs.declared.line.LinePath.TheVariants.{Literal}
+use Rattle.pv_path.specs.Paths.{Path, path_cmp, same_path, is_prefix, rest_under, has_staging, same_path-decides}
+use Rattle.pv_path.proofs.PathLaws.{is_prefix-trans, is_prefix-take, not_prefix_not_same, is_some-rest_under, rest_under-Some, rest_under-None, tied-equal}
 use Rattle.pv_path.proofs.Tests.{none_of, true_not_false}
 use Rattle.pv_steps.proofs.StepLaws.{is_among, among_right, among_left, later_among}
 use Rattle.pv_table.specs.declared.deed.Copying.{Copying}
@@ -25,7 +26,7 @@ use Rattle.pv_table.specs.declared.deed.Making.{Making}
 use Rattle.pv_table.specs.declared.deed.Touching.{Touching}
 use Rattle.pv_table.specs.Asking.{asks}
 use Rattle.pv_table.specs.Pointwise.{Bares, view, parent_bare, after_turn, at_made, touches, point, point_paths, pointwise_after, tabulated}
-use Rattle.pv_table.specs.Reaching.{path_in}
+use Rattle.pv_table.specs.Reaching.{names, names_in, names_above, path_in}
 use Rattle.pv_table.specs.Repeatable.{sets_of}
 use Rattle.pv_table.specs.Turns.{Turn, copied, decide, making_turn, single}
 use Rattle.pv_walk.proofs.PreparedLaws.{has_some, in_parents, among_first, stands_among}
@@ -180,6 +181,16 @@ among_along (name ∷ q) path high = later_among [] (name ∷ q) (path ∷ paren
       ∙ ap (λ b. b && true) high))
 ])
 
+neither : (a d b c : Bool) → a ≡ false → b ≡ false → (a || (d && b && c)) ≡ false
+neither true d b c e f = cc
+neither false true true c e f = cc
+neither false true false c e f = refl
+neither false false b c e f = refl
+
+no_test : (f : ℕ → Bool) (ks : List ℕ) → ((k : ℕ) → f k ≡ false) → list_any f ks ≡ false
+no_test f [] h = refl
+no_test f (k ∷ ks) h = ap (λ b. b || list_any f ks) (h k) ∙ no_test f ks h
+
 module _ (path : Path) (line : Line) (r s : Bares) (along : IsAlong path r s) where
   module _ (q : Path) (high : is_prefix q path ≡ true) where
     -- what a line that does not copy leaves
@@ -205,34 +216,41 @@ module _ (path : Path) (line : Line) (r s : Bares) (along : IsAlong path r s) wh
         by (Touch touching) e = point_touch line touching r q e ∙ ap (λ (o : Option Bare). cond (touches line touching q) (run touching.sets o) o) (along.same q high) ∙ sym (point_touch line touching s q e)
         by Idle e = point_idle line r q e ∙ along.same q high ∙ sym (point_idle line s q e)
 
-    -- a copy aside leaves what there is
-    aside : is_some (copied (asks line)) ≡ true → is_prefix (path_in line.path) path ≡ false → (is_prefix q (path_in line.path) ≡ true → is_some (fin.get r q) ≡ true) → point line s q ≡ fin.get s q
-    aside copies apart there = by (asks line) refl
+    -- a line of a path that does not lie above leaves what there is, where the places above both are there
+    aside : ((p : Path) → names line p ≡ same_path (path_in line.path) p) → is_prefix (path_in line.path) path ≡ false → (is_prefix q (path_in line.path) ≡ true → is_some (fin.get r q) ≡ true) → point line s q ≡ fin.get s q
+    aside named apart there = by (asks line) refl
       where
         filled : (o : Option Bare) → is_some o ≡ true → Some (unwrap_or o parent_bare) ≡ o
         filled None h = let no : false ≡ true = h in cc
         filled (Some x) h = refl
 
-        under : is_prefix (path_in line.path) q ≡ false
-        under = at (is_prefix (path_in line.path) q) refl
+        under : (p : Path) → is_prefix p path ≡ true → is_prefix (path_in line.path) p ≡ false
+        under p above = at (is_prefix (path_in line.path) p) refl
           where
-            at : (b : Bool) → is_prefix (path_in line.path) q ≡ b → b ≡ false
+            at : (b : Bool) → is_prefix (path_in line.path) p ≡ b → b ≡ false
             at false f = refl
-            at true f = absurd (true_not_false (is_prefix (path_in line.path) path) (is_prefix-trans (path_in line.path) q path f high) apart)
+            at true f = absurd (true_not_false (is_prefix (path_in line.path) path) (is_prefix-trans (path_in line.path) p path f above) apart)
+
+        unnamed : (p : Path) → is_prefix p path ≡ true → names line p ≡ false
+        unnamed p above = named p ∙ not_prefix_not_same (path_in line.path) p (under p above)
+
+        untouched : (touching : Touching) → touches line touching q ≡ false
+        untouched touching = neither (names line q) touching.deep (names_above line q) (not (has_staging q)) (unnamed q high)
+            (no_test (λ k. names line (take k q)) (range_with_len 0 (length q)) (λ k. unnamed (take k q) (is_prefix-trans (take k q) q path (is_prefix-take k q) high)))
 
         placed : (turn : Turn) (a : Bool) → is_prefix q (path_in line.path) ≡ a → (c : Bool) → placed_by (a && c) (rest_under (path_in line.path) q) turn (fin.get s q) ≡ fin.get s q
         placed turn true f true = filled (fin.get s q) (sym (ap is_some (along.same q high)) ∙ there f)
-        placed turn true f false = ap (λ (o : Option Path). option_map_or (λ (r' : Path). after_turn turn r' (fin.get s q)) o (fin.get s q)) (rest_under-None (path_in line.path) q under)
-        placed turn false f c = ap (λ (o : Option Path). option_map_or (λ (r' : Path). after_turn turn r' (fin.get s q)) o (fin.get s q)) (rest_under-None (path_in line.path) q under)
+        placed turn true f false = ap (λ (o : Option Path). option_map_or (λ (r' : Path). after_turn turn r' (fin.get s q)) o (fin.get s q)) (rest_under-None (path_in line.path) q (under q high))
+        placed turn false f c = ap (λ (o : Option Path). option_map_or (λ (r' : Path). after_turn turn r' (fin.get s q)) o (fin.get s q)) (rest_under-None (path_in line.path) q (under q high))
 
         sourced : (copying : Copying) (b : Bool) → cond b (at_made (Copy copying) (path_in line.path) s q) (fin.get s q) ≡ fin.get s q
         sourced copying true = placed (decide (Copy copying) (view s) (path_in line.path)) (is_prefix q (path_in line.path)) refl (not (same_path q (path_in line.path)))
         sourced copying false = refl
 
         by : (d : Deed) → asks line ≡ d → point line s q ≡ fin.get s q
-        by (Create making) e = let no : false ≡ true = sym (ap (λ (d : Deed). is_some (copied d)) e) ∙ copies in cc
+        by (Create making) e = point_made line making s q e ∙ placed (decide (Create making) (view s) (path_in line.path)) (is_prefix q (path_in line.path)) refl (not (same_path q (path_in line.path)))
         by (Copy copying) e = point_copy line copying s q e ∙ sourced copying (is_some (fin.get s copying.source))
-        by (Touch touching) e = let no : false ≡ true = sym (ap (λ (d : Deed). is_some (copied d)) e) ∙ copies in cc
+        by (Touch touching) e = point_touch line touching s q e ∙ ap (λ b. cond b (run touching.sets (fin.get s q)) (fin.get s q)) (untouched touching)
         by Idle e = point_idle line s q e
 
   -- so a line that does not copy can be carried out there alone
@@ -246,11 +264,14 @@ module _ (path : Path) (line : Line) (r s : Bares) (along : IsAlong path r s) wh
             ∙ alike q high none ∙ sym (pointed line s along.root q none);
       }
 
-  -- and a copy aside changes nothing there
-  pub along_aside : is_some (copied (asks line)) ≡ true → is_prefix (path_in line.path) path ≡ false
-      → ((q : Path) → is_prefix q path ≡ true → is_prefix q (path_in line.path) ≡ true → is_some (fin.get r q) ≡ true) → IsAlong path r (pointwise_after s line)
-  along_aside copies apart there =
-      let stays : (q : Path) → is_prefix q path ≡ true → fin.get (pointwise_after s line) q ≡ fin.get s q = λ q high. unchanged line s along.root q (aside q high copies apart (there q high)) in
+  -- and a line aside changes nothing there
+  pub along_aside : (own : Path) → line.path ≡ Literal own → is_prefix own path ≡ false
+      → ((q : Path) → is_prefix q path ≡ true → is_prefix q own ≡ true → is_some (fin.get r q) ≡ true) → IsAlong path r (pointwise_after s line)
+  along_aside own e apart there =
+      let own_is : path_in line.path ≡ own = ap path_in e in
+      let named : (p : Path) → names line p ≡ same_path (path_in line.path) p = λ p. ap (λ x. names_in x p) e ∙ ap (λ (o : Path). same_path o p) (sym own_is) in
+      let stays : (q : Path) → is_prefix q path ≡ true → fin.get (pointwise_after s line) q ≡ fin.get s q = λ q high.
+      unchanged line s along.root q (aside q high named (ap (λ (o : Path). is_prefix o path) own_is ∙ apart) (λ above. there q high (ap (is_prefix q) (sym own_is) ∙ above))) in
       record {
         root = ap is_some (stays [] refl) ∙ along.root;
         same = λ q high. along.same q high ∙ sym (stays q high);

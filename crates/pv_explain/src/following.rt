@@ -10,10 +10,10 @@ ghost use Rattle.pv_walk.specs.Preparing.{parents_of};
 ghost use Rattle.pv_explain.specs.declared.following.Scope.TheVariants.{Everywhere};
 ghost use Rattle.pv_explain.specs.Following.{Fits, Follows, IsAlong};
 
-use pv_lines::Line;
+use pv_lines::{Line, LinePath};
 use pv_path::{TreePath, is_prefix};
 use pv_pointwise::{Standing, after_line, after_line_at};
-use pv_table::{Deed, asks, path_of};
+use pv_table::{Deed, asks};
 use std::alloc::{AllocError, Global};
 
 /// Where it is followed what stands.
@@ -44,7 +44,8 @@ pub(crate) fn after(
     }
 }
 
-/// The same at a path and those above it: of a line that copies it is told where it changes nothing there.
+/// The same at a path and those above it: a line that changes nothing there is passed over, and what another copies is not
+/// told.
 fn after_along(
     alloc: Global,
     line: &Line,
@@ -56,15 +57,15 @@ fn after_along(
     ensures { IfOk result (λ next. (s left : Bares) → next ≡ Some left → IsAlong path.now before s
         → IsAlong path.now left (pointwise_after s line.now)) }
 {
-    if !copies(alloc, line)? {
-        return Ok(Some(after_line_at(alloc, line, &before, places)?));
+    if let LinePath::Literal(own) = &line.path {
+        if is_aside(own, path, places, &before) {
+            return Ok(Some(before));
+        }
     }
-    let own = path_of(alloc, line)?;
-    if is_aside(&own, path, places, &before) {
-        Ok(Some(before))
-    } else {
-        Ok(None)
+    if copies(alloc, line)? {
+        return Ok(None);
     }
+    Ok(Some(after_line_at(alloc, line, &before, places)?))
 }
 
 /// Whether a line copies.
