@@ -1,6 +1,6 @@
 -- Which lines act on a path in the create phase, and what stands there at the end (tmpfiles.d(5)): by what lines leave at
 -- each path by itself, stamps aside.
-use Rattle.std.specs.Prelude.{ℕ, suc, List, length, Option, Some, None, option_map, if◌then◌else◌}
+use Rattle.std.specs.Prelude.{ℕ, ◌+◌, List, length, Option, Some, None, option_map, if◌then◌else◌}
 use Rattle.std.specs.FinMap as fin
 use Rattle.std.specs.List.{filter_map, enumerate_from}
 use Rattle.pv_dress.specs.declared.bare.Bare.{Bare}
@@ -29,7 +29,7 @@ act_between (Some a) (Some b) = if same_bare a b then None else Some Changes
 
 -- what the line behind the first k of the create phase does at a path
 abbrev pub act_after : List Line → Bares → Path → ℕ → Option Act
-act_after lines s path k = act_between (fin.get (state lines k s) path) (fin.get (state lines (suc k) s) path)
+act_after lines s path k = act_between (fin.get (state lines k s) path) (fin.get (state lines (k + 1) s) path)
 
 -- what a line does at a path, by the number of lines before it
 abbrev pub line_act : List Line → Bares → Path → ℕ × Line → Option LineAct

@@ -1,18 +1,30 @@
 //! What lines do at a path, one after the other.
-ghost use Rattle.std.specs.Prelude.{◌≡◌, ℕ, false, option_map, IfOk};
-ghost use Rattle.std.specs.List.{AllByRecursion};
+ghost use Rattle.std.specs.Prelude.{◌≡◌, ◌++◌, [], ℕ, false, true, Some, is_some, option_map, slice_get, IfOk, OnOk};
+ghost use Rattle.std.specs.List.{AllByRecursion, cons_option};
+ghost use Rattle.std.specs.Option.{option_copied};
 ghost use Rattle.pv_dress.specs.Nodes.{bares_of};
 ghost use Rattle.pv_lines.specs.Lines.{IsLine};
 ghost use Rattle.pv_path.specs.Paths.{has_staging};
 ghost use Rattle.pv_steps.specs.Trees.{places};
 ghost use Rattle.pv_table.specs.Created.{created, IsQuiet};
+ghost use Rattle.pv_table.specs.Pointwise.{Bares};
 ghost use Rattle.pv_table.specs.Repeatable.{IsRepeatable};
-ghost use Rattle.pv_explain.specs.Acts.{acts, bare_in, last, standing};
+ghost use Rattle.pv_explain.specs.declared.explained.Explained.{Explained as ExplainedValue};
+ghost use Rattle.pv_explain.specs.declared.following.Scope.TheVariants.{Everywhere};
+ghost use Rattle.pv_explain.specs.Acts.{act_between, acts, bare_in, last, standing};
+ghost use Rattle.pv_explain.specs.Following.{Fits, Follows, Tells};
 
-use crate::explained::Explained;
+use crate::comparing::{act_between, node_of};
+use crate::explained::{ActList, Explained, LineAct};
+use crate::following::{Scope, after};
+use crate::standing::standing_at;
+use pv_dress::Bare;
+use pv_find::at_and_below;
+use pv_lines::Line;
 use pv_path::TreePath;
+use pv_pointwise::{Standing, places_along};
 use pv_steps::Tree;
-use pv_table::Table;
+use pv_table::{Table, create_order};
 use std::alloc::{AllocError, Global};
 
 /// Which lines of a table act on a path in the create phase, in their order, and what stands there at the end
@@ -37,5 +49,115 @@ pub fn explain<T: Tree>(
         → has_staging path.now ≡ false
         → option_map bare_in told.node ≡ bares_of (places (created table.now now (T.state tree.now))) path.now) }
 {
-    unreachable!()
+    // In a tree the root is a directory.
+    let _node = tree.look(path);
+    match explain_along(alloc, tree, table, path)? {
+        Some(told) => Ok(told),
+        None => explain_whole(alloc, tree, table, path),
+    }
+}
+
+/// What is told by what stands at the path and above it; nothing where this does not tell it.
+fn explain_along<T: Tree>(
+    alloc: Global,
+    tree: &T,
+    table: &Table,
+    path: &TreePath,
+) -> Result<Option<Explained>, AllocError>
+    ensures { IfOk result (λ answer. (told : ExplainedValue) → answer ≡ Some told
+        → Tells table.now (standing (T.state tree.now)) path.now told) }
+{
+    // In a tree the root is a directory.
+    let _node = tree.look(path);
+    let places = places_along(alloc, path)?;
+    let start = standing_at(alloc, tree, &places)?;
+    follow(alloc, table, path, &Scope::Along(places), start)
+}
+
+/// What is told by all that stands in the tree.
+fn explain_whole<T: Tree>(
+    alloc: Global,
+    tree: &T,
+    table: &Table,
+    path: &TreePath,
+) -> Result<Explained, AllocError>
+    ensures { IfOk result (λ told. Tells table.now (standing (T.state tree.now)) path.now told) }
+{
+    let paths = at_and_below(alloc, tree, &TreePath::root(alloc))?;
+    let start = standing_at(alloc, tree, &paths)?;
+    match follow(alloc, table, path, &Scope::Everywhere, start)? {
+        Some(whole) => Ok(whole),
+        None => unreachable!(),
+    }
+}
+
+/// Follows the lines of a table in the order of the create phase; nothing where what is followed does not tell what stands
+/// at the path.
+fn follow(
+    alloc: Global,
+    table: &Table,
+    path: &TreePath,
+    scope: &Scope,
+    start: Standing,
+) -> Result<Option<Explained>, AllocError>
+    requires { Fits scope.now path.now }
+    ensures told { IfOk result (λ answer. (s : Bares) (told : ExplainedValue) → answer ≡ Some told
+        → Follows scope.now path.now start s → Tells table.now s path.now told) }
+    ensures whole { IfOk result (λ answer. scope.now ≡ Everywhere → is_some answer ≡ true) }
+{
+    let order = create_order(alloc, table)?;
+    let mut standing = start;
+    let mut acts = ActList::new(alloc);
+    for place in order.as_slice() {
+        let line = line_at(table, *place);
+        let before = standing.copy_at(path)?;
+        match after(alloc, line, path, scope, standing)? {
+            Some(next) => standing = next,
+            None => return Ok(None),
+        }
+        note(&mut acts, line, before, standing.get(path))?;
+    }
+    Ok(Some(ended(acts, standing.copy_at(path)?)))
+}
+
+/// What is told by the acts and by what stands at the path at the end.
+fn ended(acts: ActList, last: Option<Bare>) -> Explained
+    ensures acts { result.acts ≡ acts }
+    ensures node { option_map bare_in result.node ≡ last }
+{
+    let node = match last {
+        Some(bare) => Some(node_of(bare)),
+        None => None,
+    };
+    Explained { acts, node }
+}
+
+/// The line at a place of a table.
+fn line_at(table: &Table, place: usize) -> &Line
+    requires { is_some (slice_get table.now place) ≡ true }
+    ensures { slice_get table.now place ≡ Some result.now }
+{
+    match table.line(place) {
+        Some(line) => line,
+        None => unreachable!(),
+    }
+}
+
+/// Adds what a line does, if it does something, by what stands at the path before and after it.
+fn note(
+    acts: &mut ActList,
+    line: &Line,
+    before: Option<Bare>,
+    after: Option<&Bare>,
+) -> Result<(), AllocError>
+    ensures { OnOk result (acts.new ≡ acts.old ++ cons_option
+        (option_map (λ act. record { place = line.now.place; act = act }) (act_between before (option_copied after.entry))) []) }
+{
+    if let Some(act) = act_between(before.as_ref(), after) {
+        acts.push(LineAct {
+            place: line.place.copy()?,
+            act,
+        })?;
+    }
+    Ok(())
 }

@@ -8,4 +8,4 @@ mod standing;
 mod state;
 
 pub use standing::Standing;
-pub use state::{after_line, state_after};
+pub use state::{after_line, after_line_at, places_along, state_after};

@@ -1,5 +1,5 @@
 //! What lines leave at each path, one after the other.
-ghost use Rattle.std.specs.Prelude.{◌≡◌, ◌∷◌, ◌++◌, map, take, IfOk, OnOk};
+ghost use Rattle.std.specs.Prelude.{◌≡◌, [], ◌∷◌, ◌++◌, map, take, IfOk, OnOk};
 ghost use Rattle.std.specs.FinMap as fin;
 ghost use Rattle.std.specs.List.{filter_map};
 ghost use Rattle.pv_lines.specs.declared.line.Line.{Line as LineValue};
@@ -57,6 +57,20 @@ pub fn after_line(alloc: Global, line: &Line, before: &Standing) -> Result<Stand
     tabulated(alloc, line, &deed, &path, before, &paths)
 }
 
+/// What a line leaves at some paths, from what stands at all that it looks at.
+pub fn after_line_at(
+    alloc: Global,
+    line: &Line,
+    before: &Standing,
+    paths: &[TreePath],
+) -> Result<Standing, AllocError>
+    ensures { IfOk result (λ after. after ≡ tabulated paths.now (point line.now before.now)) }
+{
+    let deed = asks(alloc, line)?;
+    let path = path_of(alloc, line)?;
+    tabulated(alloc, line, &deed, &path, before, paths)
+}
+
 /// What a line leaves at some paths.
 fn tabulated(
     alloc: Global,
@@ -103,6 +117,16 @@ fn touched_paths(
     }
     paths.append(&mut present)?;
     Ok(paths)
+}
+
+/// The root, a path, and the paths between them.
+pub fn places_along(alloc: Global, path: &TreePath) -> Result<Vec<TreePath>, AllocError>
+    ensures { IfOk result (λ places. places.items ≡ [] ∷ path.now ∷ parents_of path.now) }
+{
+    let mut places = Vec::new(alloc);
+    places.push(TreePath::root(alloc))?;
+    add_line(alloc, &mut places, path)?;
+    Ok(places)
 }
 
 /// Adds a path and those above it but the root, from the root on.

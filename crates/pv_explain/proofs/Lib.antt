@@ -1,0 +1,3 @@
+pub mod AlongLaws
+pub mod OrderLaws
+pub mod StandingLaws

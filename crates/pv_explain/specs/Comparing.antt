@@ -1,0 +1,19 @@
+-- Objects compared in two parts.
+use Rattle.std.specs.Prelude.{Bool, ◌&&◌, ◌==◌}
+use Rattle.std.specs.Cmp.Lexicographic.{pointwise}
+use Rattle.pv_acl.specs.contracts.part.AclPartialEq as acl_eq
+use Rattle.pv_dress.specs.declared.bare.Body.{Body}
+use Rattle.pv_dress.specs.declared.bare.Dress.{Dress}
+use Rattle.pv_dress.specs.Nodes.{same_kind}
+use Rattle.pv_path.specs.Names.{same_bytes}
+use Rattle.pv_table.specs.Effects.{same_attr}
+
+-- whether two objects are and hold the same
+abbrev pub same_body : Body → Body → Bool
+same_body a b = same_kind a.kind b.kind && same_bytes a.payload b.payload && a.major == b.major && a.minor == b.minor
+
+-- whether two objects are dressed the same
+abbrev pub same_dress : Dress → Dress → Bool
+same_dress a b =
+    a.uid == b.uid && a.gid == b.gid && a.special == b.special && (acl_eq.TheImpl.eq-value).it a.acl b.acl
+    && pointwise same_attr a.attrs b.attrs && a.letters == b.letters

@@ -1,0 +1,105 @@
+//! What stands at a path before and after a line, compared.
+ghost use Rattle.std.specs.Prelude.{◌≡◌, ◌&&◌, ◌==◌, Some};
+ghost use Rattle.std.specs.Cmp.Lexicographic.{pointwise};
+ghost use Rattle.std.specs.Option.{option_copied};
+ghost use Rattle.pv_table.specs.Effects.{same_attr, same_bare};
+ghost use Rattle.pv_explain.specs.Acts.{act_between, bare_in};
+ghost use Rattle.pv_explain.specs.Comparing.{same_body, same_dress};
+
+use crate::explained::Act;
+use pv_dress::{Bare, Body, Dress};
+use pv_path::Bytes;
+use pv_steps::{AttrList, LetterSet, Node, Stamps};
+
+/// What is done between what stands at a path before and after; nothing where it is the same.
+pub(crate) fn act_between(before: Option<&Bare>, after: Option<&Bare>) -> Option<Act>
+    ensures { result ≡ act_between (option_copied before.entry) (option_copied after.entry) }
+{
+    match (before, after) {
+        (None, None) => None,
+        (None, Some(_)) => Some(Act::Makes),
+        (Some(_), None) => Some(Act::Removes),
+        (Some(old), Some(new)) => changed(old, new),
+    }
+}
+
+/// The same where something stands there before and after.
+fn changed(old: &Bare, new: &Bare) -> Option<Act>
+    ensures { result ≡ act_between (Some old.now) (Some new.now) }
+{
+    if is_same(old, new) {
+        None
+    } else {
+        Some(Act::Changes)
+    }
+}
+
+/// Whether two objects are the same.
+fn is_same(a: &Bare, b: &Bare) -> bool
+    ensures { result ≡ same_bare a.now b.now }
+{
+    is_same_body(&a.body, &b.body) && is_same_dress(&a.dress, &b.dress)
+}
+
+/// Whether two objects are and hold the same.
+fn is_same_body(a: &Body, b: &Body) -> bool
+    ensures { result ≡ same_body a.now b.now }
+{
+    a.kind == b.kind && a.payload.is_same(&b.payload) && a.major == b.major && a.minor == b.minor
+}
+
+/// Whether two objects have the same owners, special bits, ACL, extended attributes and letters.
+fn is_same_dress(a: &Dress, b: &Dress) -> bool
+    ensures { result ≡ same_dress a.now b.now }
+{
+    has_same_owners(a, b)
+        && a.acl == b.acl
+        && are_same_attrs(&a.attrs, &b.attrs)
+        && are_same_letters(a.letters, b.letters)
+}
+
+/// Whether two objects have the same owners and special bits.
+fn has_same_owners(a: &Dress, b: &Dress) -> bool
+    ensures { result ≡ (a.now.uid == b.now.uid && a.now.gid == b.now.gid && a.now.special == b.now.special) }
+{
+    a.uid == b.uid && a.gid == b.gid && a.special == b.special
+}
+
+/// Whether extended attributes are the same.
+fn are_same_attrs(a: &AttrList, b: &AttrList) -> bool
+    ensures { result ≡ pointwise same_attr a.now b.now }
+{
+    a.is_same(b)
+}
+
+/// Whether letters are the same.
+fn are_same_letters(a: LetterSet, b: LetterSet) -> bool
+    ensures { result ≡ (a == b) }
+{
+    a.is_same(b)
+}
+
+/// A node and its payload; its stamps are 0.
+pub(crate) fn node_of(bare: Bare) -> (Node, Bytes)
+    ensures { bare_in result ≡ bare }
+{
+    let Bare { body, dress } = bare;
+    let node = Node {
+        kind: body.kind,
+        special: dress.special,
+        uid: dress.uid,
+        gid: dress.gid,
+        acl: dress.acl,
+        stamps: Stamps {
+            access: 0,
+            birth: 0,
+            change: 0,
+            modify: 0,
+        },
+        major: body.major,
+        minor: body.minor,
+        attrs: dress.attrs,
+        letters: dress.letters,
+    };
+    (node, body.payload)
+}
