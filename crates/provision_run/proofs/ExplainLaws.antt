@@ -1,5 +1,5 @@
 -- Laws of explanations: what is said of a path by lines that were read is an explanation of it.
-use Rattle.std.specs.Prelude.{◌≡◌, ℕ, false, List, Option, Some, option_map}
+use Rattle.std.specs.Prelude.{◌≡◌, ℕ, false, List, Some, option_map}
 use Rattle.std.proofs.Common.{ap, subst, ◌∙◌}
 use Rattle.pv_dress.specs.Nodes.{bares_of}
 use Rattle.pv_explain.specs.Acts.{acts, bare_in, last, standing}

@@ -25,8 +25,8 @@ returns-in_err-say_all-clause-part g c =
     let said = c.say_explained.new.messages in
     let text : said ≡ explained_messages c.unwrap-path.result.now told = c.in_ok-say_explained.ensures ∙ ap (λ (old : List (List ℕ)). old ++ explained_messages c.unwrap-path.result.now told) c.new-said.ensures in
     let is : IsExplanationOf options facts t said =
-        explained options facts t c.unwrap-path.result.now (search rules) c.in_ok-read.read.table c.in_ok-read.ensures.lines told
-        c.in_ok-told.ensures.acts c.in_ok-told.ensures.node c.in_ok-told.ensures.leaves said text in
+    explained options facts t c.unwrap-path.result.now (search rules) c.in_ok-read.read.table c.in_ok-read.ensures.lines told
+    c.in_ok-told.ensures.acts c.in_ok-told.ensures.node c.in_ok-told.ensures.leaves said text in
     inr (said, (is, said_then (lines_messages options facts t) said c.args.messages.now c.read_run.new.messages c.say_all.new.messages c.in_ok-read.ensures.said c.say_all.ensures.part))
 
 pub returns-clause-part : goal.returns-clause-part
@@ -38,8 +38,8 @@ returns-clause-part g c =
     let said = c.say_explained.new.messages in
     let text : said ≡ explained_messages c.unwrap-path.result.now told = c.in_ok-say_explained.ensures ∙ ap (λ (old : List (List ℕ)). old ++ explained_messages c.unwrap-path.result.now told) c.new-said.ensures in
     let is : IsExplanationOf options facts t said =
-        explained options facts t c.unwrap-path.result.now (search rules) c.in_ok-read.read.table c.in_ok-read.ensures.lines told
-        c.in_ok-told.ensures.acts c.in_ok-told.ensures.node c.in_ok-told.ensures.leaves said text in
+    explained options facts t c.unwrap-path.result.now (search rules) c.in_ok-read.read.table c.in_ok-read.ensures.lines told
+    c.in_ok-told.ensures.acts c.in_ok-told.ensures.node c.in_ok-told.ensures.leaves said text in
     inr (said, (is, said_then (lines_messages options facts t) said c.args.messages.now c.read_run.new.messages c.say_all.new.messages c.in_ok-read.ensures.said c.say_all.ensures.part))
 
 pub returns-clause-said : goal.returns-clause-said
@@ -51,6 +51,6 @@ returns-clause-said g c =
     let said = c.say_explained.new.messages in
     let text : said ≡ explained_messages c.unwrap-path.result.now told = c.in_ok-say_explained.ensures ∙ ap (λ (old : List (List ℕ)). old ++ explained_messages c.unwrap-path.result.now told) c.new-said.ensures in
     let is : IsExplanationOf options facts t said =
-        explained options facts t c.unwrap-path.result.now (search rules) c.in_ok-read.read.table c.in_ok-read.ensures.lines told
-        c.in_ok-told.ensures.acts c.in_ok-told.ensures.node c.in_ok-told.ensures.leaves said text in
+    explained options facts t c.unwrap-path.result.now (search rules) c.in_ok-read.read.table c.in_ok-read.ensures.lines told
+    c.in_ok-told.ensures.acts c.in_ok-told.ensures.node c.in_ok-told.ensures.leaves said text in
     (said, (is, c.in_ok-say_all.ensures.ok ∙ ap (λ (old : List (List ℕ)). old ++ said) c.in_ok-read.ensures.said))
