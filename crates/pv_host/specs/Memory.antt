@@ -1,5 +1,5 @@
 -- What a host over a tree in memory holds.
-use Rattle.std.specs.Prelude.{List, map}
+use Rattle.std.specs.Prelude.{ℕ, List, map}
 use Rattle.std.specs.FinMap as fin
 use Rattle.pv_path.specs.Paths.{Path}
 use Rattle.pv_steps.specs.declared.node.Kind.{Kind}
@@ -7,7 +7,7 @@ use Rattle.pv_steps.specs.declared.node.Kind.TheVariants as kind
 use Rattle.pv_steps.specs.declared.object.Object.{Object}
 use Rattle.pv_steps.specs.Trees.{Files}
 use Rattle.pv_host.specs.Content.{Content, HostObject}
-use Rattle.pv_host.specs.Content.HostObject as host
+use Rattle.pv_host.specs.Content as host
 
 -- an object of a tree as a host has it: a directory, a file with its bytes, or else another object
 abbrev pub seen_as : Kind → List ℕ → HostObject
