@@ -28,10 +28,14 @@ Held = Path → Option HostObject
 abbrev pub held : Content → Held
 held content = fin.get content
 
+-- the names among what stands between slashes, where nothing may stand too
+abbrev pub names_among : List (List ℕ) → Path
+names_among pieces = filter (λ piece. nat_lt 0 (length piece)) pieces
+
 -- the path that bytes spell: the names between its slashes; a slash at the beginning, at the end, or behind another one
 -- is left out of account (path_resolution(7))
 abbrev pub spelled : List ℕ → Path
-spelled bytes = filter (λ name. nat_lt 0 (length name)) (slice_split (λ b. b == 47) bytes)
+spelled bytes = names_among (slice_split (λ b. b == 47) bytes)
 
 -- what an object is
 abbrev pub kind_of : HostObject → HostKind

@@ -1,6 +1,6 @@
 //! What stands in a directory of a host.
-ghost use Rattle.std.specs.Prelude.{◌≡◌, ◌↔◌, true, [], ◌∷◌, ◌++◌, IsTrue, OnOk, OnErr};
-ghost use Rattle.pv_host.specs.Lists.{all_before, is_ordered};
+ghost use Rattle.std.specs.Prelude.{◌≡◌, ◌↔◌, true, [], ◌∷◌, ◌++◌, IsTrue, OnOk, OnErr, IfOk, if◌then◌else◌};
+ghost use Rattle.pv_host.specs.Lists.{all_before, comes_before, is_ordered};
 
 use pv_path::Bytes;
 use std::alloc::{AllocError, Global};
@@ -64,11 +64,43 @@ impl HostList {
         Ok(())
     }
 
+    /// Adds an object whose name comes after all others, and answers whether it does. Where it does not, and after
+    /// running out of memory, the list is as before.
+    pub fn put_last(&mut self, item: HostItem) -> Result<bool, AllocError>
+        ensures last { IfOk result (λ put. put ≡ all_before self.old item) }
+        ensures ok { IfOk result (λ put. self.new ≡ (if put then self.old ++ item ∷ [] else self.old)) }
+        ensures err { OnErr result (self.new ≡ self.old) }
+    {
+        if !comes_last(self.items.as_slice(), &item) {
+            return Ok(false);
+        }
+        self.push(item)?;
+        Ok(true)
+    }
+
     /// The objects as a slice.
     pub fn as_slice(&self) -> &[HostItem]
         ensures value { result.now ≡ self.now }
         ensures ordered { is_ordered self.now ≡ true }
     {
         self.items.as_slice()
+    }
+}
+
+/// Whether the name of an item comes before that of another.
+fn comes_before(x: &HostItem, y: &HostItem) -> bool
+    ensures { result ≡ comes_before x.now y.now }
+{
+    x.name.as_slice().cmp(y.name.as_slice()).is_lt()
+}
+
+/// Whether an item comes after all of a list in order, which is whether it comes after the last one.
+fn comes_last(items: &[HostItem], item: &HostItem) -> bool
+    requires { is_ordered items.now ≡ true }
+    ensures { result ≡ all_before items.now item.now }
+{
+    match items {
+        [] => true,
+        [.., last] => comes_before(last, item),
     }
 }
