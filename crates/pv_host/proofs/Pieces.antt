@@ -32,7 +32,7 @@ module _ (path : Path) (pieces : List (Bor (List ℕ))) (i : ℕ) (d : Bor (List
   pub not_taken : (text : List (List ℕ)) → texts pieces ≡ text → has_names (names_among ((get_or pieces i d).now ∷ [])) ≡ false → has_names (names_among text) ≡ false
   not_taken text cut unfit =
       let one : has_names (path ++ names_among ((get_or pieces i d).now ∷ [])) ≡ false =
-          has_names-append path (names_among ((get_or pieces i d).now ∷ [])) ∙ and_right (has_names path) (has_names (names_among ((get_or pieces i d).now ∷ []))) unfit in
+      has_names-append path (names_among ((get_or pieces i d).now ∷ [])) ∙ and_right (has_names path) (has_names (names_among ((get_or pieces i d).now ∷ []))) unfit in
       ap (λ (p : List (List ℕ)). has_names (names_among p)) (sym cut) ∙ ap has_names (sym taken)
       ∙ has_names-append (path ++ names_among ((get_or pieces i d).now ∷ [])) (names_among (drop (i + 1) (texts pieces)))
       ∙ and_left (has_names (path ++ names_among ((get_or pieces i d).now ∷ []))) (has_names (names_among (drop (i + 1) (texts pieces)))) one

@@ -13,7 +13,9 @@ use crate::host::{Host, HostFault};
 use crate::item::HostList;
 use crate::plan::Plan;
 use crate::spelling::path_of;
-use crate::tree_host::{file_bytes, kind_at, listing_of, make_dir, remove_dir, remove_file, rename, write_file};
+use crate::tree_host::{
+    file_bytes, kind_at, listing_of, make_dir, remove_dir, remove_file, rename, write_file,
+};
 use pv_path::{Bytes, TreePath};
 use pv_tree::MemTree;
 use std::alloc::{AllocError, Global};

@@ -113,9 +113,7 @@ fn listing_at<R: Files + Alloc<A = Global> + Clone + Drop>(
 ) -> io::Result<Option<HostList>> {
     let path = text_of(path)?;
     match kind_at(rt, path)? {
-        Some(HostKind::Directory) => {
-            Ok(Some(sorted_items(alloc, items_in(rt, alloc, path)?)?))
-        }
+        Some(HostKind::Directory) => { Ok(Some(sorted_items(alloc, items_in(rt, alloc, path)?)?)) }
         _ => Ok(None),
     }
 }

@@ -2,9 +2,8 @@
 use crate::host::Host;
 use crate::item::HostKind;
 use crate::real_host::RealHost;
-use std::env;
-use std::fs;
 use std::test::Fail;
+use std::{env, fs};
 
 #[test]
 fn does_each_call_in_its_own_folder(rt: HostRuntime) -> Result<(), Fail> {
@@ -21,12 +20,12 @@ fn does_each_call_in_its_own_folder(rt: HostRuntime) -> Result<(), Fail> {
     assert!(rt; host.make_dir(a).is_ok());
     let listed = host.list(rt.alloc(), path);
     let are = matches!(listed, Ok(Some(ref items)) if items.as_slice().len() == 2
-        && items.as_slice()[0].name.as_slice() == b"a"
+        && items.as_slice()[0].name.as_slice() == b"a".as_slice()
         && matches!(items.as_slice()[0].kind, HostKind::Directory)
         && matches!(items.as_slice()[1].kind, HostKind::File));
     assert!(rt; are);
     let read = host.read_file(rt.alloc(), b);
-    assert!(rt; matches!(read, Ok(Some(ref bytes)) if bytes.as_slice() == b"abc"));
+    assert!(rt; matches!(read, Ok(Some(ref bytes)) if bytes.as_slice() == b"abc".as_slice()));
     assert!(rt; matches!(host.list(rt.alloc(), b), Ok(None)));
     assert!(rt; matches!(host.read_file(rt.alloc(), a), Ok(None)));
     assert!(rt; host.remove_dir(a).is_ok());

@@ -42,7 +42,12 @@ pub(crate) fn kind_at(tree: &MemTree, path: &TreePath) -> Option<Kind>
 }
 
 /// An object in a directory of a tree, as a host names it.
-fn item_of(alloc: Global, tree: &MemTree, path: &TreePath, name: &Name) -> Result<HostItem, AllocError>
+fn item_of(
+    alloc: Global,
+    tree: &MemTree,
+    path: &TreePath,
+    name: &Name,
+) -> Result<HostItem, AllocError>
     ensures { IfOk result (λ item. item ≡ item_at tree.now.files path.now name.now) }
 {
     let below = child(alloc, path, name.bytes())?;
