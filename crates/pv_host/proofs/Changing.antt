@@ -1,7 +1,7 @@
 -- What steps of a tree in memory are to a host, path by path.
-use Rattle.std.specs.Prelude.{◌≡◌, ◌≢◌, ◌⊎◌, ℕ, Bool, true, false, cond, List, [], ◌∷◌, ◌++◌, Option, Some, None, is_some, option_map, if◌then◌else◌}
-use Rattle.std.proofs.Common.{refl, sym, ap, subst, ◌∙◌, append-nil, inl, inr}
-use Rattle.pv_path.specs.Paths.{Path, is_prefix, parent_of, has_names, rest_under, same_path, same_path-decides}
+use Rattle.std.specs.Prelude.{◌≡◌, ℕ, Bool, true, false, List, [], ◌∷◌, ◌++◌, Option, Some, None, is_some, option_map, if◌then◌else◌}
+use Rattle.std.proofs.Common.{refl, sym, ap, ◌∙◌, append-nil, inl, inr}
+use Rattle.pv_path.specs.Paths.{Path, is_prefix, parent_of, rest_under, same_path, same_path-decides}
 use Rattle.pv_path.proofs.PathLaws.{same_path-refl}
 use Rattle.pv_steps.proofs.TreeLaws.{kind_of-touched}
 use Rattle.pv_steps.specs.declared.node.Kind.{Kind}
@@ -18,7 +18,7 @@ use Rattle.pv_host.specs.declared.item.HostKind.{HostKind}
 use Rattle.pv_host.specs.declared.item.HostKind.TheVariants as named
 use Rattle.pv_host.specs.Content as host
 use Rattle.pv_host.specs.Content.{Change, Content, Held, HostObject, May, bytes_of, changed, held, kind_at, listing, listing_of, moved_at, put_at}
-use Rattle.pv_host.specs.Memory.{Becomes, content_of, host_kind, seen, seen_as}
+use Rattle.pv_host.specs.Memory.{Becomes, content_of, seen, seen_as}
 use Rattle.pv_host.proofs.Seeing.{held_at, held_seen, seen_in}
 
 -- ---- kinds

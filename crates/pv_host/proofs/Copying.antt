@@ -1,5 +1,5 @@
 -- A tree that is copied entry by entry, in the order of the paths.
-use Rattle.std.proofs.Common.{◌≡◌, ◌∙◌, ◌<◌, ℕ, Bool, true, cond, T, List, [], ◌∷◌, drop, length, Option, Some, None, is_some, refl, sym, ap, subst, arith}
+use Rattle.std.proofs.Common.{◌≡◌, ◌∙◌, true, cond, T, [], ◌∷◌, drop, length, Option, Some, is_some, sym, ap, subst, arith}
 use Rattle.std.proofs.lemmas.Option.{same_Some}
 use Rattle.std.specs.Prelude.{slice_get}
 use Rattle.std.specs.FinMap as fin

@@ -1,10 +1,9 @@
 -- What a tree in memory is to a host: a content, whose paths have names.
-use Rattle.std.specs.Prelude.{◌≡◌, ◌≢◌, Bool, true, false, [], Option, Some, None, is_some, option_map}
+use Rattle.std.specs.Prelude.{◌≡◌, true, false, [], Option, Some, None, is_some, option_map}
 use Rattle.std.proofs.Common.{refl, sym, ap, ◌∙◌}
 use Rattle.pv_path.specs.Paths.{Path, has_names, parent_of}
 use Rattle.pv_steps.specs.declared.node.Kind.TheVariants as kind
 use Rattle.pv_steps.specs.Trees.{Files, IsTree, kind_of, places}
-use Rattle.pv_host.specs.declared.item.HostKind.TheVariants as named
 use Rattle.pv_host.specs.Content as host
 use Rattle.pv_host.specs.Content.{Content, HostObject, IsContent, IsPresent, bytes_of, held, kind_at, listing, listing_of}
 use Rattle.pv_host.specs.Memory.{content_of}

@@ -1,18 +1,14 @@
 -- What a host over a tree in memory holds, path by path.
-use Rattle.std.specs.Prelude.{◌≡◌, ◌≢◌, ◌⊎◌, ℕ, Bool, true, false, cond, ◌&&◌, T, List, [], ◌∷◌, ◌++◌, map, length, Option, Some, None, is_some, option_map, if◌then◌else◌}
+use Rattle.std.specs.Prelude.{◌≡◌, Bool, true, false, cond, ◌&&◌, T, List, [], ◌∷◌, map, Some, option_map}
 use Rattle.std.proofs.Common.{refl, sym, ap, subst, ◌∙◌}
-use Rattle.std.specs.List.{AllByRecursion, filter_map, cons_option}
-use Rattle.std.specs.Option.{option_and_then, option_map_or}
-use Rattle.std.specs.Ordering.{eq_by_cmp, is_eq, is_lt}
+use Rattle.std.specs.Ordering.{eq_by_cmp, is_lt}
 use Rattle.std.specs.FinMap as fin
 use Rattle.std.specs.FinMap.Entries.{below_all, find, is_sorted}
 use Rattle.pv_path.specs.Paths.{Path, path_cmp}
-use Rattle.pv_path.proofs.Tests.{both_T, each_T, less_of-T}
 use Rattle.pv_steps.specs.declared.object.Object.{Object}
-use Rattle.pv_steps.specs.Trees.{Files, Places, places, child_name, names_below}
-use Rattle.pv_host.specs.declared.item.HostItem.{HostItem}
-use Rattle.pv_host.specs.Content.{Content, Held, HostObject, held, item_below, items_in}
-use Rattle.pv_host.specs.Memory.{content_of, item_at, seen}
+use Rattle.pv_steps.specs.Trees.{Files, Places, places}
+use Rattle.pv_host.specs.Content.{Held, HostObject, held}
+use Rattle.pv_host.specs.Memory.{content_of, seen}
 
 abbrev pub shown : Path × Object → Path × HostObject
 shown e = (e.0, seen e.1)

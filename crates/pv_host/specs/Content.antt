@@ -1,6 +1,6 @@
 -- What a host holds, and what each of its calls asks for and changes (mkdir(2), rename(2), unlink(2), rmdir(2); a file is
 -- written whole). A host knows directories and files with their bytes; any other object is one that it only names.
-use Rattle.std.specs.Prelude.{◌≡◌, ◌≢◌, ◌⊎◌, ℕ, Bool, true, false, not, ◌==◌, List, [], ◌∷◌, ◌++◌, filter, length, nat_lt, Option, Some, None, is_some, option_map, if◌then◌else◌}
+use Rattle.std.specs.Prelude.{◌≡◌, ◌≢◌, ◌⊎◌, ℕ, true, false, ◌==◌, List, [], ◌∷◌, ◌++◌, filter, length, nat_lt, Option, Some, None, is_some, option_map, if◌then◌else◌}
 use Rattle.std.specs.List.{filter_map, slice_split}
 use Rattle.std.specs.FinMap as fin
 use Rattle.pv_path.specs.Paths.{Path, path_cmp, same_path, is_prefix, rest_under, parent_of, has_names}

@@ -1,8 +1,5 @@
-use Rattle.std.proofs.Common.{◌≡◌, ◌∙◌, ◌+◌, ◌++◌, ◌∷◌, [], true, ℕ, List, map, take, sym, ap, subst, arith, suc}
-use Rattle.std.proofs.Math.Seq.{take-suc}
+use Rattle.std.proofs.Common.{◌≡◌, ◌∙◌, map, sym, ap}
 use Rattle.std.proofs.lemmas.List.{take_all}
-use Rattle.pv_path.proofs.Tests.{map-push}
-use Rattle.pv_host.specs.Lists.{all_before}
 use Rattle.pv_host.specs.Memory.{item_at}
 use Rattle.pv_host.proofs.Naming.{items_are, next_rises}
 use Rattle.pv_host.proofs.tree_host.items_of.Goals as goal
