@@ -1,0 +1,16 @@
+use Rattle.std.proofs.Common.{sym, subst}
+use Rattle.pv_path.specs.Paths.{Path}
+use Rattle.pv_host.specs.Content.{May, Rename, held, spelled}
+use Rattle.pv_host.specs.Memory.{content_of}
+use Rattle.pv_host.proofs.mem_host.MemHostHost.rename.Goals as goal
+
+pub present_path-requires : goal.present_path-requires
+present_path-requires c = c.requires.present
+
+pub named_path-requires : goal.named_path-requires
+named_path-requires c = c.requires.place.1
+
+pub rename-requires : goal.rename-requires
+rename-requires c =
+    subst (λ (p : Path). May (held (content_of c.args.self.now.tree.files)) (Rename p c.in_ok-to.to)) (sym c.in_ok-from.ensures)
+    (subst (λ (p : Path). May (held (content_of c.args.self.now.tree.files)) (Rename (spelled c.args.from.now) p)) (sym c.in_ok-to.ensures) c.requires)
