@@ -118,6 +118,32 @@ accounts() {
   echo end
 }
 
+# drawn COUNT: the tree of `generate 1 COUNT`, with its drawn lines
+drawn() {
+  python3 - "$1" "$version" << 'END'
+import base64, sys
+count, version = int(sys.argv[1]), sys.argv[2]
+forms = ["d /data/g{g}/d{i} 0700 0 0", "f /data/g{g}/f{i} 0600 0 0 - text", "L /data/g{g}/l{i} - - - - /data",
+         "f+ /data/g{g}/e{i} - - - - more", "z /data/g{g}/e? 0640", "w /data/g{g}/e1* - - - - new",
+         "a+ /data/g{g}/e* - - - - u:1:r", "Z /data/g{g} ~0755"]
+draw, lines = 1, []
+for i in range(count):
+    draw = (1103515245 * draw + 12345) % 2**31
+    r = draw // 65536
+    lines.append(forms[r // 8 % 8].format(g=r % 8, i=i))
+nodes = {path: "d" for path in ["/", "/data", "/etc", "/etc/tmpfiles.d", *(f"/data/g{g}" for g in range(8))]}
+nodes.update({f"/data/g{i % 8}/e{i}": b"old" for i in range(count)})
+nodes["/etc/tmpfiles.d/gen.conf"] = "".join(line + "\n" for line in lines).encode()
+empty = "- - " if version != "1" else ""
+print(f"tree-image {version}")
+for path in sorted(nodes, key=lambda path: path.strip("/").split("/") if path != "/" else []):
+    node = nodes[path]
+    kind, mode, payload = ("d", "0755", "-") if node == "d" else ("f", "0644", base64.b64encode(node).decode())
+    print(f"{kind} {path} {mode} 0 0 0,0,0,0 - {empty}{payload}")
+print("end")
+END
+}
+
 # The program as it is in this checkout: what an earlier run left is taken away before.
 build() {
   rm -f "$program"
@@ -202,3 +228,13 @@ words='generate 1 500'
 row drawn500    -        true
 words='generate 1 2000'
 row drawn2000   drawn500 true
+# Read and written alone, then with what is said of one path.
+words=systemd-sysusers
+row readdrawn   -        drawn 2000
+row readamong   -        among 1000 300000
+words='systemd-tmpfiles --explain=/data/g3/e3'
+row saiddrawn   readdrawn drawn 2000
+words='systemd-tmpfiles --explain=/g/d00500'
+row saidamong   readamong among 1000 300000
+words='systemd-tmpfiles --create'
+row rundrawn    readdrawn drawn 2000
