@@ -19,7 +19,7 @@ use Rattle.pv_steps.specs.Steps.{made, put_at}
 use Rattle.pv_steps.specs.Same.{bares, Same}
 use Rattle.pv_dress.specs.Edits.{Pruned}
 use Rattle.pv_dress.proofs.EditLaws.{path_cases, put_at-else, bares-made, bares-put_else, made-here, staging_outside, same-Pruned}
-use Rattle.pv_walk.specs.Staging.{is_under_any, most_new, new_object}
+use Rattle.pv_walk.specs.Staging.{is_under_any, new_object}
 use Rattle.pv_walk.specs.Preparing.{parent_file, with_parent}
 use Rattle.pv_walk.specs.Putting as putting
 use Rattle.pv_walk.specs.Putting.{IsPutting, Putting}
@@ -27,7 +27,7 @@ use Rattle.pv_walk.specs.Removal.{is_one_of}
 use Rattle.pv_walk.proofs.PuttingLaws.{made-none, none_below}
 use Rattle.pv_accounts_run.specs.declared.edit.Edit.{Edit}
 use Rattle.pv_accounts_run.specs.Edits.{AreEdits, IsBeside, IsEdit, IsFree, IsOfSome, IsStaged, Published, PublishesEdit, StagesEdit, edited, etc, most_edited, with_edit, with_published, with_staged}
-use Rattle.pv_accounts_run.specs.Carrying.{AccountWay, IsAccountStep, IsEditOf, PutsDirectory, account_paths, most_put, swept_names, with_directory}
+use Rattle.pv_accounts_run.specs.Carrying.{AccountWay, IsAccountStep, IsEditOf, PutsDirectory, account_paths, directory_steps, most_directory, most_put, swept_names, with_directory}
 use Rattle.pv_accounts_run.proofs.MovingLaws.{not_parent}
 use Rattle.pv_accounts_run.proofs.StagingLaws.{HasRoom, bares_all_staged, bares_edits, published_first, stage_some, stage_up}
 use Rattle.pv_path.proofs.Tests.{true_not_false}
@@ -265,9 +265,13 @@ pub with_some : (now : ℕ) (cs : List Edit) (t : Places) → 1 ≤ length cs �
 with_some now [] t h = absurd (omega (arith, h))
 with_some now (c ∷ cs) t h = refl
 
-pub most_some : (cs : List Edit) → 1 ≤ length cs → most_put cs ≡ most_new + most_edited * length cs
-most_some [] h = absurd (omega (arith, h))
-most_some (c ∷ cs) h = refl
+pub most_some : (cs : List Edit) (t : Places) → 1 ≤ length cs → most_put cs t ≡ directory_steps t + most_edited * length cs
+most_some [] t h = absurd (omega (arith, h))
+most_some (c ∷ cs) t h = refl
+
+-- after sweeping the directory takes as many steps
+pub directory_swept : (t u : Files) → Same u t → directory_steps (places u) ≡ directory_steps (places t)
+directory_swept t u same = ap (λ b. cond {A = ℕ} b 0 most_directory) (is_some-same (places u etc) (places t etc) (same etc refl))
 
 -- ---- calls
 

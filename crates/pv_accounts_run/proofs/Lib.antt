@@ -3,6 +3,7 @@ pub mod StagingLaws
 pub mod SweepingLaws
 pub mod CarryingLaws
 pub mod ActedLaws
+pub mod DirectoryLaws
 pub mod EditingLaws
 pub mod RunningLaws
 pub mod SameLaws

@@ -1,6 +1,6 @@
 -- What is done to the account files of a tree: what earlier runs have staged is taken away, /etc is put where it is
 -- absent, and files whose texts change are put at their paths (systemd-sysusers(8)).
-use Rattle.std.specs.Prelude.{◌≡◌, ◌≢◌, ◌⊎◌, ◌≤◌, ℕ, ◌+◌, ◌*◌, true, false, List, [], ◌∷◌, codes, length, map, take, fold, Some, None}
+use Rattle.std.specs.Prelude.{◌≡◌, ◌≢◌, ◌⊎◌, ◌≤◌, ℕ, ◌+◌, ◌*◌, true, false, List, [], ◌∷◌, codes, length, map, take, fold, Some, None, is_some, if◌then◌else◌}
 use Rattle.pv_layers.specs.Places.{group_path, passwd_path}
 use Rattle.pv_path.specs.Paths.{Path, is_prefix, has_staging, staging_of}
 use Rattle.pv_steps.specs.declared.node.Kind.TheVariants.{File}
@@ -12,7 +12,7 @@ use Rattle.pv_dress.specs.Edits.{all_taken}
 use Rattle.pv_walk.specs.Preparing.{parent_file, with_parent}
 use Rattle.pv_walk.specs.Putting.{IsPutStep}
 use Rattle.pv_walk.specs.Removal.{is_one_of}
-use Rattle.pv_walk.specs.Staging.{can_stage, is_under_any, most_new, staging_names}
+use Rattle.pv_walk.specs.Staging.{can_stage, is_under_any, staging_names}
 use Rattle.pv_accounts_run.specs.declared.edit.Edit.{Edit}
 use Rattle.pv_accounts_run.specs.Edits.{IsEdit, IsOfSome, PublishesEdit, StagesEdit, etc, most_edited, with_edit}
 
@@ -43,10 +43,18 @@ with_directory now (edit ∷ edits) t = with_parent now t etc
 abbrev pub carried_out : ℕ → List Edit → Places → Places
 carried_out now edits t = fold (with_edit now) (with_directory now edits (all_taken now swept_names t)) edits
 
--- at most how many steps put files, and their directory
-abbrev pub most_put : List Edit → ℕ
-most_put [] = 0
-most_put (edit ∷ edits) = most_new + most_edited * length (edit ∷ edits)
+-- at most how many steps put /etc: it is made, gets its mode, and comes to its path
+abbrev pub most_directory : ℕ
+most_directory = 3
+
+-- and none where it is there
+abbrev pub directory_steps : Places → ℕ
+directory_steps t = if is_some (t etc) then 0 else most_directory
+
+-- at most how many steps put files in a tree, and their directory
+abbrev pub most_put : List Edit → Places → ℕ
+most_put [] t = 0
+most_put (edit ∷ edits) t = directory_steps t + most_edited * length (edit ∷ edits)
 
 -- ---- what it needs
 

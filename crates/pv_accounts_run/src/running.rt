@@ -64,7 +64,7 @@ pub fn accounts_run<T: Tree>(
     ensures part { SaidPart (accounts_messages requests.now now (places (T.state tree.old))) messages.old messages.new }
     ensures acted { let edits = edits_at requests.now now (places (T.state tree.old)) in
         Acted T.Tree (AccountWay edits (T.state tree.old)) (IsAccountStep edits (T.state tree.old))
-        (count_at_all (T.state tree.old) swept_names + most_put edits) now tree.old tree.new (in_steps result) }
+        (count_at_all (T.state tree.old) swept_names + most_put edits (places (T.state tree.old))) now tree.old tree.new (in_steps result) }
 
     // The stop law.
     ensures mended { IsMended requests.now now (T.state tree.old) (drop (length (T.steps tree.old)) (T.steps tree.new)) }
@@ -110,7 +110,7 @@ fn run_usable<T: Tree>(
         SaidPart plan.said messages.old messages.new }
     ensures acted { let edits = edits_by (places (T.state tree.old)) (plan_at requests.now now (places (T.state tree.old))).texts in
         Acted T.Tree (AccountWay edits (T.state tree.old)) (IsAccountStep edits (T.state tree.old))
-        (count_at_all (T.state tree.old) swept_names + most_put edits) now tree.old tree.new (in_steps result) }
+        (count_at_all (T.state tree.old) swept_names + most_put edits (places (T.state tree.old))) now tree.old tree.new (in_steps result) }
 {
     match planned_edits(alloc, tree, requests, now, messages) {
         Ok(edits) => run_answer(carry_out(alloc, tree, &edits, now)),

@@ -1,11 +1,16 @@
 -- Laws of the clean phase: what it leaves, the steps it takes, and what one that was cut short has done.
-use Rattle.std.specs.Prelude.{◌≡◌, ℕ, Bool, List, length, take, drop}
-use Rattle.std.proofs.Common.{sym, ◌∙◌}
+use Rattle.std.specs.Prelude.{◌≡◌, ℕ, Bool, List, [], ◌++◌, length, take, drop, Result, Ok, Err, OnOk}
+use Rattle.std.proofs.Common.{sym, ap, ◌∙◌}
+use Rattle.std.proofs.lemmas.List.{append-nil}
+use Rattle.std.proofs.Math.Seq.{drop-append_seam}
 use Rattle.pv_lines.specs.declared.line.Line.{Line}
 use Rattle.pv_path.specs.Paths.{Path}
 use Rattle.pv_steps.specs.declared.step.Step.{Step}
+use Rattle.pv_steps.specs.declared.tree.Tree.{Ghosts}
+use Rattle.pv_steps.specs.declared.tree.TreeFault.{TreeFault}
 use Rattle.pv_steps.specs.Runs.{Ran, after_all}
 use Rattle.pv_steps.specs.Trees.{Files}
+use Rattle.pv_steps.specs.Trying.{TriedAll}
 use Rattle.pv_dress.specs.Edits.{Pruned}
 use Rattle.pv_walk.specs.Removal.{is_one_of}
 use Rattle.pv_find.specs.Whole.{goes_whole}
@@ -23,3 +28,13 @@ module _ (goes : Path → Bool) (t : Files) where
   -- the stop law
   pub takes_only : (Q : Step → Type 0) (now : ℕ) (h : List Step) (u : Files) (k : List Step) → Ran (Pruned goes t) Q now t h u k → TakesOnly goes now t (drop (length h) k)
   takes_only Q now h u k run n q = took goes t (after_all t (take n (drop (length h) k)) now) q (told_prefix (Pruned goes t) Q now t h u k run n)
+
+-- where all of some steps are done, they are what is recorded
+pub tried_told : {S : Type 0} (tree : Ghosts S) (steps : List Step) (now : ℕ) (a b : S) (r : Result (Unit {0}) TreeFault) → TriedAll tree steps now a b r → OnOk r (drop (length (tree.steps a)) (tree.steps b) ≡ steps)
+tried_told tree steps now a b r t = by r t.whole
+  where
+    by : (v : Result (Unit {0}) TreeFault) → OnOk v (t.left ≡ []) → OnOk v (drop (length (tree.steps a)) (tree.steps b) ≡ steps)
+    by (Ok x) none =
+        ap (drop (length (tree.steps a))) t.recorded ∙ drop-append_seam (tree.steps a) t.done
+        ∙ sym (append-nil t.done) ∙ sym (ap (λ (l : List Step). t.done ++ l) none) ∙ t.parts
+    by (Err e) h = h

@@ -405,13 +405,14 @@ module _ (goes : Path → Bool) (t : Files) (now : ℕ) (steps : List Step) (pla
 
 module _ (goes : Path → Bool) (t : Files) where
   -- its steps are as many as are needed
-  pub planned_most : (steps : List Step) → ArePlanned goes t steps → length steps ≤ most_steps goes t
-  planned_most steps plan =
+  pub planned_exact : (steps : List Step) → ArePlanned goes t steps → length steps ≡ most_steps goes t
+  planned_exact steps plan =
       let all = filter goes (fin.keys t) ++ filter (stays_and_loses goes t) (fin.keys t) in
       let few = length-times plan.paths all (λ q. let e = one q in omega (arith, e)) in
+      let none = length-times all plan.paths (λ q. let e = one q in omega (arith, e)) in
       let many = length-append (filter goes (fin.keys t)) (filter (stays_and_loses goes t) (fin.keys t)) in
       let each = ap length plan.are ∙ length-map plan.paths (clean_step goes t) in
-      omega (arith, few, many, each)
+      omega (arith, few, none, many, each)
     where
       by : (i g l : Bool) → ◌≡◌ {A = ℕ} (cond (i && (g || l)) 1 0) (cond g (cond i 1 0) 0 + cond (not g && l) (cond i 1 0) 0)
       by true true l = refl

@@ -23,6 +23,10 @@ pub fn clean_run<T: Tree>(
     // What a whole run leaves, stamps included.
     ensures ok { OnOk result (T.state tree.new ≡ cleaned lines.now now (T.state tree.old)) }
 
+    // A whole run has done one step for each path that goes, and one for each directory that stays and lost a child.
+    ensures exact { OnOk result (length (drop (length (T.steps tree.old)) (T.steps tree.new))
+        ≡ most_steps (is_aged lines.now now (T.state tree.old)) (T.state tree.old)) }
+
     // What any run has done, whatever it answers.
     ensures acted { Acted T.Tree (Pruned (is_aged lines.now now (T.state tree.old)) (T.state tree.old))
         (IsCleanStep (is_aged lines.now now (T.state tree.old)) (T.state tree.old))
@@ -38,6 +42,8 @@ pub fn clean_run<T: Tree>(
 /// The same, without the stop law.
 fn clean<T: Tree>(alloc: Global, tree: &mut T, lines: &[Line], now: u64) -> Result<(), TreeFault>
     ensures ok { OnOk result (T.state tree.new ≡ cleaned lines.now now (T.state tree.old)) }
+    ensures exact { OnOk result (length (drop (length (T.steps tree.old)) (T.steps tree.new))
+        ≡ most_steps (is_aged lines.now now (T.state tree.old)) (T.state tree.old)) }
     ensures acted { Acted T.Tree (Pruned (is_aged lines.now now (T.state tree.old)) (T.state tree.old))
         (IsCleanStep (is_aged lines.now now (T.state tree.old)) (T.state tree.old))
         (most_steps (is_aged lines.now now (T.state tree.old)) (T.state tree.old)) now tree.old tree.new result }

@@ -3,6 +3,7 @@ pub mod CoverLaws
 pub mod GovernedLaws
 pub mod InputLaws
 pub mod JudgeLaws
+pub mod NumberLaws
 pub mod RunLaws
 pub mod SentenceLaws
 pub mod StopLaws

@@ -42,6 +42,7 @@ takes_nothing tree moves goes texts unfinished now a before (Err Memory) h = rec
   carried = tt;
   part = (0, sym (append-nil before));
   silent = λ failed. refl;
+  exact = tt;
   acted = acted_none tree moves (Pruned goes (tree.state a)) (Removes goes) (count_of goes (tree.state a)) now a (Err Memory) refl (pruned-none goes (tree.state a));
 }
 
@@ -55,6 +56,7 @@ takes_failed tree texts unfinished before q (Err f) was h acted = record {
   carried = tt;
   part = (0, sym (append-nil before));
   silent = λ failed. refl;
+  exact = tt;
   acted = acted_passed tree q (Err f) was h acted;
 }
 
@@ -69,6 +71,7 @@ takes_unsaid tree unfinished (Err Memory) h part acted = record {
   carried = tt;
   part = part;
   silent = λ failed. (let no : ◌≡◌ {A = Result Carried TreeFault} (Err Memory) (Err Failed) = failed in cc);
+  exact = tt;
   acted = acted_ended tree (Err Memory) refl acted;
 }
 

@@ -1,6 +1,6 @@
 -- What a phase that takes away does, says and answers, and that one which was cut short is mended by the next
 -- (tmpfiles.d(5), r, R and D; systemd-tmpfiles(8), --purge).
-use Rattle.std.specs.Prelude.{◌≡◌, ℕ, Bool, List, ◌++◌, take, Result, IfOk, IsErrOf, OnOk}
+use Rattle.std.specs.Prelude.{◌≡◌, ℕ, Bool, List, ◌++◌, drop, length, take, Result, IfOk, IsErrOf, OnOk}
 use Rattle.pv_doing.specs.declared.carried.Carried.{Carried}
 use Rattle.pv_doing.specs.Courses.{carried_of}
 use Rattle.pv_dress.specs.Edits.{Pruned}
@@ -20,11 +20,13 @@ use Rattle.pv_table.specs.Removed.{files_without}
 use Rattle.pv_text.specs.Said.{SaidPart}
 
 -- a phase takes away the paths that go, and then says some texts: where it answers Ok it leaves the tree without these
--- paths, has said all the texts, and tells whether something is unfinished; whatever it answers, it has said a front part
--- of them, or none where a step was refused, and has gone by steps each of which takes away a path that goes
+-- paths, has done one step for each path that goes, has said all the texts, and tells whether something is unfinished;
+-- whatever it answers, it has said a front part of them, or none where a step was refused, and has gone by steps each of
+-- which takes away a path that goes
 pub record TakesAway {S : Type 0} (tree : Ghosts S) (goes : Path → Bool) (texts : List (List ℕ)) (unfinished : Bool)
     (now : ℕ) (old new : S) (before behind : List (List ℕ)) (r : Result Carried TreeFault) : Type 0 where
   pub ok : OnOk r (tree.state new ≡ files_without goes (modified now) (tree.state old))
+  pub exact : OnOk r (length (drop (length (tree.steps old)) (tree.steps new)) ≡ count_of goes (tree.state old))
   pub said : OnOk r (behind ≡ before ++ texts)
   pub carried : IfOk r (λ c. c ≡ carried_of unfinished)
   pub part : SaidPart texts before behind

@@ -4,10 +4,10 @@ use Rattle.pv_steps.specs.Content.{Removes}
 use Rattle.pv_steps.proofs.ActingLaws.{Moves, acted_end, acted_passed, acted_then, acted_within}
 use Rattle.pv_dress.specs.Edits.{Pruned, all_taken}
 use Rattle.pv_walk.specs.Preparing.{with_parent}
-use Rattle.pv_walk.specs.Staging.{count_at_all, is_under_any, most_new}
+use Rattle.pv_walk.specs.Staging.{count_at_all, is_under_any}
 use Rattle.pv_accounts_run.specs.Edits.{etc, most_edited, with_edit}
-use Rattle.pv_accounts_run.specs.Carrying.{AccountWay, IsAccountStep, most_put, swept_names}
-use Rattle.pv_accounts_run.proofs.CarryingLaws.{files_swept, frees_swept, most_some, pass_swept, put_after, swept_acted, swept_same, with_some}
+use Rattle.pv_accounts_run.specs.Carrying.{AccountWay, IsAccountStep, directory_steps, most_put, swept_names}
+use Rattle.pv_accounts_run.proofs.CarryingLaws.{directory_swept, files_swept, frees_swept, most_some, pass_swept, put_after, swept_acted, swept_same, with_some}
 use Rattle.pv_accounts_run.proofs.carrying.carry_out.Goals as goal
 use Rattle.pv_path.proofs.Tests.{on_ok}
 
@@ -16,13 +16,13 @@ returns-in_err-sweep_all-clause-acted g c =
     let edits = c.args.edits.now in
     let t = g.T.Tree.state c.args.tree.now in
     acted_passed g.T.Tree c.sweep_all.result c.from_residual.result c.in_err-sweep_all.was c.from_residual.ensures.1
-    (acted_within g.T.Tree (count_at_all t swept_names) (count_at_all t swept_names + most_put edits) (omega arith) (swept_acted g.T.Tree edits c.args.tree.now c.sweep_all.ensures.acted))
+    (acted_within g.T.Tree (count_at_all t swept_names) (count_at_all t swept_names + most_put edits (places t)) (omega arith) (swept_acted g.T.Tree edits c.args.tree.now c.sweep_all.ensures.acted))
 
 pub returns-in-empty-clause-acted : goal.returns-in-empty-clause-acted
 returns-in-empty-clause-acted g c =
     let edits = c.args.edits.now in
     let t = g.T.Tree.state c.args.tree.now in
-    acted_within g.T.Tree (count_at_all t swept_names) (count_at_all t swept_names + most_put edits) (omega arith) (swept_acted g.T.Tree edits c.args.tree.now c.in_ok-sweep_all.ensures.acted)
+    acted_within g.T.Tree (count_at_all t swept_names) (count_at_all t swept_names + most_put edits (places t)) (omega arith) (swept_acted g.T.Tree edits c.args.tree.now c.in_ok-sweep_all.ensures.acted)
 
 pub put_all-requires-clause-some : goal.put_all-requires-clause-some
 put_all-requires-clause-some g c = c.in-len1-up.len_at_least
@@ -61,6 +61,7 @@ returns-in-len1-up-clause-acted g c =
     let t = g.T.Tree.state c.args.tree.now in
     let u = g.T.Tree.state c.sweep_all.new.tree in
     let pruned = acted_end g.T.Tree (Pruned (is_under_any swept_names) t) (Removes (is_under_any swept_names)) c.in_ok-sweep_all.ensures.acted in
-    acted_within g.T.Tree (count_at_all t swept_names + (most_new + most_edited * length edits)) (count_at_all t swept_names + most_put edits) (omega (arith, most_some edits c.in-len1-up.len_at_least))
+    acted_within g.T.Tree (count_at_all t swept_names + (directory_steps (places u) + most_edited * length edits)) (count_at_all t swept_names + most_put edits (places t))
+    (omega (arith, most_some edits (places t) c.in-len1-up.len_at_least, directory_swept t u (swept_same t u pruned)))
     (acted_then g.T.Tree moves (AccountWay edits t) (IsAccountStep edits t) (swept_acted g.T.Tree edits c.args.tree.now c.in_ok-sweep_all.ensures.acted)
     (put_after g.T.Tree edits c.args.tree.now (swept_same t u pruned) c.put_all.ensures.acted))

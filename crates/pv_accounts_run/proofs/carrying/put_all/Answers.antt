@@ -5,10 +5,9 @@ use Rattle.pv_steps.specs.Trees.{IsKindIn, Places, places}
 use Rattle.pv_steps.proofs.ActingLaws.{Moves, acted_passed, acted_then, acted_within}
 use Rattle.pv_walk.specs.Putting.{Putting}
 use Rattle.pv_walk.specs.Preparing.{parent_file}
-use Rattle.pv_walk.specs.Staging.{most_new}
 use Rattle.pv_walk.proofs.Outcomes.{acted-tree}
 use Rattle.pv_accounts_run.specs.Edits.{IsFree, IsStaged, etc, most_edited, most_staged, with_edit, with_published}
-use Rattle.pv_accounts_run.specs.Carrying.{AccountWay, IsAccountStep, PutsDirectory}
+use Rattle.pv_accounts_run.specs.Carrying.{AccountWay, IsAccountStep, PutsDirectory, directory_steps}
 use Rattle.pv_accounts_run.proofs.StagingLaws.{published_all}
 use Rattle.pv_accounts_run.proofs.CarryingLaws.{IsNoDirectory, are_staged, directory_acted, directory_kept, files_put, frees_put, no_directories, published_acted, rooms, staged_acted}
 use Rattle.pv_accounts_run.proofs.carrying.put_all.Goals as goal
@@ -17,8 +16,9 @@ use Rattle.pv_path.proofs.Tests.{on_ok}
 pub returns-in_err-put_directory-clause-acted : goal.returns-in_err-put_directory-clause-acted
 returns-in_err-put_directory-clause-acted g c =
     let edits = c.args.edits.now in
+    let s = places (g.T.Tree.state c.args.tree.now) in
     acted_passed g.T.Tree c.put_directory.result c.from_residual.result c.in_err-put_directory.was c.from_residual.ensures.1
-    (acted_within g.T.Tree most_new (most_new + most_edited * length edits) (omega arith) (directory_acted g.T.Tree edits c.args.tree.now c.requires.some c.put_directory.ensures.acted))
+    (acted_within g.T.Tree (directory_steps s) (directory_steps s + most_edited * length edits) (omega arith) (directory_acted g.T.Tree edits c.args.tree.now c.requires.some c.put_directory.ensures.acted))
 
 pub stage_all-requires-clause-free : goal.stage_all-requires-clause-free
 stage_all-requires-clause-free g c =
@@ -32,7 +32,7 @@ returns-in_err-stage_all-clause-acted g c =
     let edits = c.args.edits.now in
     let s = g.T.Tree.state c.args.tree.now in
     acted_passed g.T.Tree c.stage_all.result c.from_residual-in_err-stage_all.result c.in_err-stage_all.was c.from_residual-in_err-stage_all.ensures.1
-    (acted_within g.T.Tree (most_new + most_staged * length edits) (most_new + most_edited * length edits) (omega arith)
+    (acted_within g.T.Tree (directory_steps (places s) + most_staged * length edits) (directory_steps (places s) + most_edited * length edits) (omega arith)
     (acted_then g.T.Tree moves (AccountWay edits s) (IsAccountStep edits s) (directory_acted g.T.Tree edits c.args.tree.now c.requires.some c.in_ok-put_directory.ensures.acted)
     (staged_acted g.T.Tree edits c.args.tree.now c.requires.some c.in_ok-put_directory.ensures.ok c.stage_all.ensures.acted)))
 
@@ -73,7 +73,7 @@ returns-clause-acted g c =
     let file = subst (λ (x : Places). AllByRecursion (IsNoDirectory x) edits) (sym c.in_ok-put_directory.ensures.ok) (files_put c.args.now s edits c.requires.edits (no_directories s edits c.requires.files)) in
     let free = subst (λ (x : Places). AllByRecursion (IsFree x) edits) (sym c.in_ok-put_directory.ensures.ok) (frees_put c.args.now s edits c.requires.edits c.requires.free) in
     let room = rooms u tree edits c.requires.edits free file in
-    acted_within g.T.Tree ((most_new + most_staged * length edits) + length edits) (most_new + most_edited * length edits) (omega arith)
+    acted_within g.T.Tree ((directory_steps s + most_staged * length edits) + length edits) (directory_steps s + most_edited * length edits) (omega arith)
     (acted_then g.T.Tree moves (AccountWay edits t) (IsAccountStep edits t)
     (acted_then g.T.Tree moves (AccountWay edits t) (IsAccountStep edits t) (directory_acted g.T.Tree edits c.args.tree.now c.requires.some c.in_ok-put_directory.ensures.acted)
     (staged_acted g.T.Tree edits c.args.tree.now c.requires.some c.in_ok-put_directory.ensures.ok c.in_ok-stage_all.ensures.acted))

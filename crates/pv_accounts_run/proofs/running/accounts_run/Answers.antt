@@ -142,7 +142,7 @@ pub returns-clause-acted : goal.returns-clause-acted
 returns-clause-acted g c =
     let t = g.T.Tree.state c.args.tree.now in
     let none : unusable_texts (places t) ≡ [] = nil_of (unusable_texts (places t)) (subst (λ ys. length ys ≤ 0) c.in_ok-unusable.ensures (omega (arith, c.len.ensures, c.if-len-gt0.false))) in
-    subst (λ (es : List Edit). Acted g.T.Tree (AccountWay es t) (IsAccountStep es t) (count_at_all t swept_names + most_put es) c.args.now c.args.tree.now c.run_usable.new.tree (in_steps c.run_usable.result))
+    subst (λ (es : List Edit). Acted g.T.Tree (AccountWay es t) (IsAccountStep es t) (count_at_all t swept_names + most_put es (places t)) c.args.now c.args.tree.now c.run_usable.new.tree (in_steps c.run_usable.result))
     (sym (ap (λ xs. edits_unless xs (edits_by (places t) (plan_at c.args.requests.now c.args.now (places t)).texts)) none)) c.run_usable.ensures.acted
 
 pub returns-clause-idle : goal.returns-clause-idle

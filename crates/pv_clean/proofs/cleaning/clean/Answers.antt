@@ -1,4 +1,4 @@
-use Rattle.std.proofs.Common.{◌≡◌, ◌≤◌, Bool, ap, subst, sym, ◌∙◌, length, reverse}
+use Rattle.std.proofs.Common.{◌≡◌, Bool, ap, subst, ◌∙◌, arith, length, reverse}
 use Rattle.std.proofs.lemmas.List.{length-reverse}
 use Rattle.pv_path.specs.Paths.{Path}
 use Rattle.pv_steps.specs.Acting.{Acted}
@@ -10,8 +10,8 @@ use Rattle.pv_walk.specs.Removal.{is_one_of}
 use Rattle.pv_table.specs.Cleaned.{is_aged}
 use Rattle.pv_table.specs.Removed.{files_without}
 use Rattle.pv_clean.specs.Cleaning.{most_steps, IsCleanStep}
-use Rattle.pv_clean.proofs.CleanLaws.{aged_together}
-use Rattle.pv_clean.proofs.CleanSteps.{planned_ask, planned_end, planned_most}
+use Rattle.pv_clean.proofs.CleanLaws.{aged_together, tried_told}
+use Rattle.pv_clean.proofs.CleanSteps.{planned_ask, planned_end, planned_exact}
 use Rattle.pv_clean.proofs.cleaning.clean.Goals as goal
 use Rattle.pv_path.proofs.Tests.{on_ok}
 
@@ -34,6 +34,16 @@ returns-clause-ok g c =
     ∙ ap (λ (f : Path → Bool). files_without f (changed c.args.now) t) (λ i q. c.in_ok-aged.ensures.aged q i))
     (tried_whole g.T.Tree (reverse steps) c.args.now c.args.tree.now c.try_all.new.tree c.try_all.result c.try_all.ensures)
 
+pub returns-clause-exact : goal.returns-clause-exact
+returns-clause-exact g c =
+    let t = g.T.Tree.state c.args.tree.now in
+    let goes = is_one_of c.in_ok-aged.aged.keys in
+    let steps = c.in_ok-steps.steps.items in
+    let same : goes ≡ is_aged c.args.lines.now c.args.now t = λ i q. c.in_ok-aged.ensures.aged q i in
+    on_ok c.try_all.result
+    (λ told. ap length told ∙ length-reverse steps ∙ planned_exact goes t steps c.in_ok-steps.ensures ∙ ap (λ (f : Path → Bool). most_steps f t) same)
+    (tried_told g.T.Tree (reverse steps) c.args.now c.args.tree.now c.try_all.new.tree c.try_all.result c.try_all.ensures)
+
 pub returns-clause-acted : goal.returns-clause-acted
 returns-clause-acted g c =
     let t = g.T.Tree.state c.args.tree.now in
@@ -41,8 +51,8 @@ returns-clause-acted g c =
     let steps = c.in_ok-steps.steps.items in
     let whole = aged_together c.in_ok-aged.aged.keys c.args.lines.now c.args.now t c.in_ok-aged.ensures.aged in
     let same : goes ≡ is_aged c.args.lines.now c.args.now t = λ i q. c.in_ok-aged.ensures.aged q i in
-    let most = planned_most goes t steps c.in_ok-steps.ensures in
+    let number = planned_exact goes t steps c.in_ok-steps.ensures in
     subst (λ (f : Path → Bool). Acted g.T.Tree (Pruned f t) (IsCleanStep f t) (most_steps f t) c.args.now c.args.tree.now c.try_all.new.tree c.try_all.result) same
-    (acted_within g.T.Tree (length (reverse steps)) (most_steps goes t) (subst (λ n. n ≤ most_steps goes t) (sym (length-reverse steps)) most)
+    (acted_within g.T.Tree (length (reverse steps)) (most_steps goes t) (omega (arith, length-reverse steps, number))
     (acted_all (Pruned goes t) (IsCleanStep goes t) c.args.now g.T.Tree (reverse steps) c.args.tree.now c.try_all.new.tree c.try_all.result c.try_all.ensures
     (planned_ask goes t c.args.now steps c.in_ok-steps.ensures whole)))

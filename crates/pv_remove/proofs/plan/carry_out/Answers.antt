@@ -1,5 +1,8 @@
 use Rattle.std.proofs.Common.{refl}
 use Rattle.pv_steps.proofs.ActingLaws.{acted_ended}
+use Rattle.pv_steps.specs.Objects.{modified}
+use Rattle.pv_walk.specs.Removal.{is_one_of}
+use Rattle.pv_remove.proofs.NumberLaws.{one_step_each}
 use Rattle.pv_remove.proofs.TakeLaws.{takes_failed, takes_unsaid}
 use Rattle.pv_remove.proofs.plan.carry_out.Goals as goal
 
@@ -16,5 +19,6 @@ returns g c = record {
   carried = c.of.ensures;
   part = c.say_all.ensures.part;
   silent = λ failed. cc;
+  exact = one_step_each (is_one_of c.args.plan.paths.keys) (modified c.args.now) c.in_ok-take_away.ensures.acted.ran c.in_ok-take_away.ensures.gone;
   acted = acted_ended g.T.Tree _ refl c.in_ok-take_away.ensures.acted;
 }
