@@ -1,6 +1,6 @@
 -- What lines have left and done, one line more at a time, in the order of the create phase.
-use Rattle.std.specs.Prelude.{◌≡◌, ℕ, ◌+◌, ◌<◌, ◌≤◌, true, List, [], ◌∷◌, ◌++◌, length, map, take, get_or, fold, slice_get, option_map, Option, Some, is_some}
-use Rattle.std.proofs.Common.{zero, suc, refl, sym, ap, subst, ◌∙◌, arith}
+use Rattle.std.specs.Prelude.{◌≡◌, ℕ, ◌+◌, ◌<◌, ◌≤◌, true, List, [], ◌∷◌, ◌++◌, length, map, take, get_or, fold, slice_get, Some, is_some}
+use Rattle.std.proofs.Common.{zero, suc, refl, sym, ap, ◌∙◌, arith}
 use Rattle.std.proofs.lemmas.List.{take_all}
 use Rattle.std.proofs.lemmas.List.Elements.{filter_map-append}
 use Rattle.std.specs.FinMap as fin
@@ -13,11 +13,10 @@ use Rattle.pv_table.specs.Active.{Listed, ordered, create_order, in_create_order
 use Rattle.pv_table.specs.Pointwise.{Bares, pointwise_after, state}
 use Rattle.pv_table.specs.Repeatable.{IsAt}
 use Rattle.pv_explain.specs.declared.following.Scope.{Scope}
-use Rattle.pv_explain.specs.declared.following.Scope.TheVariants.{Everywhere, Along}
-use Rattle.pv_explain.specs.declared.explained.Act.{Act}
-use Rattle.pv_explain.specs.declared.explained.LineAct.{LineAct}
-use Rattle.pv_explain.specs.Acts.{act_between, act_after, line_act, acts, last}
-use Rattle.pv_explain.specs.Following.{Follows, IsAlong}
+use Rattle.pv_explain.specs.declared.following.Scope.TheVariants.{Along, Within}
+use Rattle.pv_explain.specs.Acts.{line_act, acts, last}
+use Rattle.pv_explain.specs.Following.{Fits, Follows, Suits}
+use Rattle.pv_explain.proofs.RegionLaws.{holds_path, holds_copy}
 
 -- ---- lists
 
@@ -93,6 +92,11 @@ module _ (lines : List Line) where
 -- ---- what is followed
 
 -- it has at the path what stands there
-pub follows_path : (scope : Scope) (path : Path) (r s : Bares) → Follows scope path r s → fin.get r path ≡ fin.get s path
-follows_path Everywhere path r s f = ap (λ (m : Bares). fin.get m path) f
-follows_path (Along places) path r s f = f.same path (is_prefix-refl path)
+pub follows_path : (lines : List Line) (scope : Scope) (path : Path) → Fits scope path lines → (r s : Bares) → Follows scope path r s → fin.get r path ≡ fin.get s path
+follows_path lines (Along places) path fits r s f = f.same path (is_prefix-refl path)
+follows_path lines (Within region) path fits r s f = f.same path (holds_path lines path region fits)
+
+-- each line suits it
+pub suits_line : (lines : List Line) (scope : Scope) (path : Path) → Fits scope path lines → (place : ℕ) (line : Line) → slice_get lines place ≡ Some line → Suits scope path line
+suits_line lines (Along places) path fits place line at = fits
+suits_line lines (Within region) path fits place line at = holds_copy lines path region fits place line at

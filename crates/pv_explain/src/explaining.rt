@@ -10,16 +10,17 @@ ghost use Rattle.pv_table.specs.Created.{created, IsQuiet};
 ghost use Rattle.pv_table.specs.Pointwise.{Bares};
 ghost use Rattle.pv_table.specs.Repeatable.{IsRepeatable};
 ghost use Rattle.pv_explain.specs.declared.explained.Explained.{Explained as ExplainedValue};
-ghost use Rattle.pv_explain.specs.declared.following.Scope.TheVariants.{Everywhere};
+ghost use Rattle.pv_explain.specs.declared.following.Scope.TheVariants.{Within};
+ghost use Rattle.pv_explain.specs.declared.region.Region.{Region};
 ghost use Rattle.pv_explain.specs.Acts.{act_between, acts, bare_in, last, standing};
 ghost use Rattle.pv_explain.specs.Following.{Fits, Follows, Tells};
 
 use crate::comparing::{act_between, node_of};
 use crate::explained::{ActList, Explained, LineAct};
 use crate::following::{Scope, after};
+use crate::region::{closed_region, paths_in};
 use crate::standing::standing_at;
 use pv_dress::Bare;
-use pv_find::at_and_below;
 use pv_lines::Line;
 use pv_path::TreePath;
 use pv_pointwise::{Standing, places_along};
@@ -53,7 +54,7 @@ pub fn explain<T: Tree>(
     let _node = tree.look(path);
     match explain_along(alloc, tree, table, path)? {
         Some(told) => Ok(told),
-        None => explain_whole(alloc, tree, table, path),
+        None => explain_within(alloc, tree, table, path),
     }
 }
 
@@ -74,8 +75,8 @@ fn explain_along<T: Tree>(
     follow(alloc, table, path, &Scope::Along(places), start)
 }
 
-/// What is told by all that stands in the tree.
-fn explain_whole<T: Tree>(
+/// What is told by what stands in a region in which each copy has its source with it.
+fn explain_within<T: Tree>(
     alloc: Global,
     tree: &T,
     table: &Table,
@@ -83,9 +84,12 @@ fn explain_whole<T: Tree>(
 ) -> Result<Explained, AllocError>
     ensures { IfOk result (λ told. Tells table.now (standing (T.state tree.now)) path.now told) }
 {
-    let paths = at_and_below(alloc, tree, &TreePath::root(alloc))?;
+    // In a tree the root is a directory.
+    let _node = tree.look(path);
+    let region = closed_region(alloc, table, path)?;
+    let paths = paths_in(alloc, tree, &region)?;
     let start = standing_at(alloc, tree, &paths)?;
-    match follow(alloc, table, path, &Scope::Everywhere, start)? {
+    match follow(alloc, table, path, &Scope::Within(region), start)? {
         Some(whole) => Ok(whole),
         None => unreachable!(),
     }
@@ -100,10 +104,10 @@ fn follow(
     scope: &Scope,
     start: Standing,
 ) -> Result<Option<Explained>, AllocError>
-    requires { Fits scope.now path.now }
+    requires { Fits scope.now path.now table.now }
     ensures told { IfOk result (λ answer. (s : Bares) (told : ExplainedValue) → answer ≡ Some told
         → Follows scope.now path.now start s → Tells table.now s path.now told) }
-    ensures whole { IfOk result (λ answer. scope.now ≡ Everywhere → is_some answer ≡ true) }
+    ensures whole { IfOk result (λ answer. (region : Region) → scope.now ≡ Within region → is_some answer ≡ true) }
 {
     let order = create_order(alloc, table)?;
     let mut standing = start;

@@ -7,22 +7,24 @@ ghost use Rattle.pv_table.specs.Asking.{asks};
 ghost use Rattle.pv_table.specs.Pointwise.{Bares, pointwise_after};
 ghost use Rattle.pv_table.specs.Turns.{copied};
 ghost use Rattle.pv_walk.specs.Preparing.{parents_of};
-ghost use Rattle.pv_explain.specs.declared.following.Scope.TheVariants.{Everywhere};
-ghost use Rattle.pv_explain.specs.Following.{Fits, Follows, IsAlong};
+ghost use Rattle.pv_explain.specs.declared.following.Scope.TheVariants.{Within};
+ghost use Rattle.pv_explain.specs.declared.region.Region.{Region as RegionValue};
+ghost use Rattle.pv_explain.specs.Following.{holds, Follows, HoldsCopy, IsAlong, IsWithin, Suits};
 
+use crate::region::Region;
 use pv_lines::{Line, LinePath};
 use pv_path::{TreePath, is_prefix};
-use pv_pointwise::{Standing, after_line, after_line_at};
+use pv_pointwise::{Standing, after_line, after_line_at, places_along};
 use pv_table::{Deed, asks};
 use std::alloc::{AllocError, Global};
 
 /// Where it is followed what stands.
 #[derive(Drop)]
 pub(crate) enum Scope {
-    /// At all paths.
-    Everywhere,
     /// At a path and those above it.
     Along(Vec<TreePath>),
+    /// In a region.
+    Within(Region),
 }
 
 /// What stands after a line; nothing where what is followed does not tell it.
@@ -33,19 +35,67 @@ pub(crate) fn after(
     scope: &Scope,
     before: Standing,
 ) -> Result<Option<Standing>, AllocError>
-    requires { Fits scope.now path.now }
+    requires { Suits scope.now path.now line.now }
     ensures follows { IfOk result (λ next. (s left : Bares) → next ≡ Some left → Follows scope.now path.now before s
         → Follows scope.now path.now left (pointwise_after s line.now)) }
-    ensures whole { IfOk result (λ next. scope.now ≡ Everywhere → is_some next ≡ true) }
+    ensures whole { IfOk result (λ next. (region : RegionValue) → scope.now ≡ Within region → is_some next ≡ true) }
 {
     match scope {
-        Scope::Everywhere => Ok(Some(after_line(alloc, line, &before)?)),
         Scope::Along(places) => after_along(alloc, line, path, places, before),
+        Scope::Within(region) => Ok(Some(after_within(alloc, line, region, before)?)),
     }
 }
 
-/// The same at a path and those above it: a line that changes nothing there is passed over, and what another copies is not
-/// told.
+/// What stands in a region after a line: one that changes nothing there is passed over.
+fn after_within(
+    alloc: Global,
+    line: &Line,
+    region: &Region,
+    before: Standing,
+) -> Result<Standing, AllocError>
+    requires { HoldsCopy region.now line.now }
+    ensures { IfOk result (λ left. (s : Bares) → IsWithin (holds region.now) before s
+        → IsWithin (holds region.now) left (pointwise_after s line.now)) }
+{
+    if let LinePath::Literal(own) = &line.path {
+        if is_outside(alloc, own, region, &before)? {
+            return Ok(before);
+        }
+    }
+    after_line(alloc, line, &before)
+}
+
+/// Whether nothing is put in a region by what is made at a path: it does not lie there, and those places above it that do
+/// are there.
+fn is_outside(
+    alloc: Global,
+    own: &TreePath,
+    region: &Region,
+    before: &Standing,
+) -> Result<bool, AllocError>
+    ensures { IfOk result (λ outside. outside ≡ (not (holds region.now own.now)
+        && list_all (λ q. not (holds region.now q) || is_some (fin.get before.now q)) ([] ∷ own.now ∷ parents_of own.now))) }
+{
+    let places = places_along(alloc, own)?;
+    Ok(!region.holds(own) && have_all(&places, region, before))
+}
+
+/// Whether those of some places that lie in a region are there.
+fn have_all(places: &[TreePath], region: &Region, before: &Standing) -> bool
+    ensures { result ≡ list_all (λ q. not (holds region.now q) || is_some (fin.get before.now q)) places.now }
+{
+    places.iter().all(|place| has(place, region, before))
+}
+
+/// Whether a place is there, or does not lie in a region.
+fn has(place: &TreePath, region: &Region, before: &Standing) -> bool
+    ensures { result ≡ (not (holds region.now place.now) || is_some (fin.get before.now place.now)) }
+{
+    !region.holds(place) || before.get(place).is_some()
+}
+
+/// What stands at a path and those above it after a line: one that changes nothing there is passed over, and what another
+/// copies is not told.
 fn after_along(
     alloc: Global,
     line: &Line,

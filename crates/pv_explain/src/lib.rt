@@ -5,6 +5,7 @@ mod comparing;
 mod explained;
 mod explaining;
 mod following;
+mod region;
 mod standing;
 
 pub use explained::{Act, ActList, Explained, LineAct};

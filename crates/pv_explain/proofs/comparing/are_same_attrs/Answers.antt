@@ -1,4 +1,3 @@
-use Rattle.std.proofs.Common.{◌∙◌}
 use Rattle.std.specs.Cmp.Lexicographic.{pointwise, pointwise_decides}
 use Rattle.pv_path.proofs.Tests.{same_tests}
 use Rattle.pv_steps.proofs.AttrPutting as attrs

@@ -27,6 +27,6 @@ returns-in-None-clause-leaves g c =
     let path = c.args.path.now in
     if_ok (λ (told : Explained). Tells lines (standing t) path told)
     (λ (told : Explained). (now : ℕ) → IsRepeatable lines → IsQuiet lines now t → has_staging path ≡ false → option_map bare_in told.node ≡ bares_of (places (created lines now t)) path)
-    c.explain_whole.result
+    c.explain_within.result
     (λ told tells now repeatable quiet plain. tells.node ∙ left_there t c.look-node.ensures.tree lines c.requires.lines now repeatable quiet path plain)
-    c.explain_whole.ensures
+    c.explain_within.ensures

@@ -3,7 +3,6 @@ use Rattle.std.proofs.Common.{sym, ap, subst, ◌∙◌, arith}
 use Rattle.std.specs.FinMap as fin
 use Rattle.std.specs.Option.{option_copied}
 use Rattle.std.specs.List.{cons_option, filter_map, enumerate_from}
-use Rattle.pv_dress.specs.declared.bare.Bare.{Bare}
 use Rattle.pv_table.specs.Active.{create_order, in_create_order}
 use Rattle.pv_table.specs.Pointwise.{Bares, state}
 use Rattle.pv_explain.specs.declared.explained.Act.{Act}
@@ -11,7 +10,7 @@ use Rattle.pv_explain.specs.declared.explained.LineAct.{LineAct}
 use Rattle.pv_explain.specs.declared.explained.Explained.{Explained}
 use Rattle.pv_explain.specs.Acts.{act_between, bare_in, line_act}
 use Rattle.pv_explain.specs.Following.{Follows}
-use Rattle.pv_explain.proofs.OrderLaws.{is_there, is_next, order-length, state_more, acts_more, state_end, acts_end, follows_path}
+use Rattle.pv_explain.proofs.OrderLaws.{is_there, is_next, order-length, state_more, acts_more, state_end, acts_end, follows_path, suits_line}
 use Rattle.pv_explain.proofs.explaining.follow.Goals as goal
 
 pub line_at-line-requires : goal.line_at-line-requires
@@ -20,6 +19,9 @@ line_at-line-requires c =
     let i = c.loop-place.place-index in
     let within : i < length (create_order c.args.table.now) = subst (λ (ps : List ℕ). i < length ps) items c.loop-place-test.true in
     is_there c.args.table.now i _ within (ap (λ (ps : List ℕ). get_or ps i 0) items)
+
+pub after-requires : goal.after-requires
+after-requires c = suits_line c.args.table.now c.args.scope.now c.args.path.now c.requires _ c.line_at-line.result.now c.line_at-line.ensures
 
 pub loop-place-preserved : goal.loop-place-preserved
 loop-place-preserved c =
@@ -40,8 +42,8 @@ loop-place-preserved c =
       items = items;
       follows = follows;
       acts = λ s f.
-          let before : c.in_ok-before.before ≡ fin.get (state lines i s) path = c.in_ok-before.ensures ∙ follows_path scope path c.loop-place.standing (state lines i s) (c.loop-place.invariant.follows s f) in
-          let after = c.get.ensures ∙ follows_path scope path c.in-Some.next (state lines (i + 1) s) (follows s f) in
+          let before : c.in_ok-before.before ≡ fin.get (state lines i s) path = c.in_ok-before.ensures ∙ follows_path lines scope path c.requires c.loop-place.standing (state lines i s) (c.loop-place.invariant.follows s f) in
+          let after = c.get.ensures ∙ follows_path lines scope path c.requires c.in-Some.next (state lines (i + 1) s) (follows s f) in
           let old : List LineAct = filter_map (line_act lines s path) (take i (enumerate_from 0 (in_create_order lines))) in
           let made : (Option Act → List LineAct) = λ act. cons_option (option_map (λ (a : Act). record { place = line.place; act = a }) act) [] in
           c.in_ok-note.ensures
@@ -62,5 +64,5 @@ returns-clause-told c = λ s told e f.
     record {
       acts = ap (λ (t : Explained). t.acts) (sym same) ∙ c.ended.ensures.acts ∙ c.acts-2.view_is ∙ c.loop-place.invariant.acts s f ∙ acts_end lines s i past path;
       node = ap (λ (t : Explained). option_map bare_in t.node) (sym same) ∙ c.ended.ensures.node ∙ c.in_ok-copy_at.ensures
-          ∙ follows_path c.args.scope.now path c.loop-place.standing (state lines i s) (c.loop-place.invariant.follows s f) ∙ state_end lines s i past path;
+          ∙ follows_path lines c.args.scope.now path c.requires c.loop-place.standing (state lines i s) (c.loop-place.invariant.follows s f) ∙ state_end lines s i past path;
     }

@@ -1,4 +1,4 @@
-use Rattle.std.specs.Prelude.{◌≡◌, Bool, true, false, not, ◌&&◌, ◌||◌, List, is_some}
+use Rattle.std.specs.Prelude.{◌≡◌, Bool, true, false, not, ◌||◌, List, is_some}
 use Rattle.std.proofs.Common.{sym, ap, subst, ◌∙◌}
 use Rattle.std.proofs.lemmas.Bool.{and_parts}
 use Rattle.std.specs.FinMap as fin
@@ -7,7 +7,8 @@ use Rattle.pv_path.specs.Paths.{Path, is_prefix}
 use Rattle.pv_steps.proofs.StepLaws.{is_among}
 use Rattle.pv_table.specs.Pointwise.{Bares, point, pointwise_after, tabulated}
 use Rattle.pv_explain.specs.Following.{IsAlong}
-use Rattle.pv_explain.proofs.AlongLaws.{along_after, along_aside, among_along, test_among}
+use Rattle.pv_explain.proofs.AlongLaws.{along_after, along_aside, among_along}
+use Rattle.pv_explain.proofs.PointLaws.{test_among}
 use Rattle.pv_explain.proofs.following.after_along.Goals as goal
 
 untrue : (b : Bool) → not b ≡ true → b ≡ false
