@@ -63,7 +63,7 @@ pub record Finished {S : Type 0} (tree : Ghosts S) (requests : List Request) (no
   pub failed_said : IsErrOf answer fault.Failed → new ≡ old ++ accounts_messages requests now (places (tree.state a))
   pub part : SaidPart (accounts_messages requests now (places (tree.state a))) old new
   pub acted : Acted tree (AccountWay (edits_at requests now (places (tree.state a))) (tree.state a)) (IsAccountStep (edits_at requests now (places (tree.state a))) (tree.state a))
-      (count_at_all (tree.state a) swept_names + most_put (edits_at requests now (places (tree.state a)))) now a b (in_steps answer)
+      (count_at_all (tree.state a) swept_names + most_put (edits_at requests now (places (tree.state a))) (places (tree.state a))) now a b (in_steps answer)
 
 module _ (options : Options) (facts : Values) (moment : ℕ) (t : Files) where
   -- where a number is left for each name, no more is said than of lines and files

@@ -61,7 +61,7 @@ accounts_end options facts moment t =
 
 -- the most steps that it takes
 abbrev pub accounts_work : Options → Values → ℕ → Files → ℕ
-accounts_work options facts moment t = count_at_all t swept_names + most_put (run_edits options facts moment t)
+accounts_work options facts moment t = count_at_all t swept_names + most_put (run_edits options facts moment t) (places t)
 
 -- ---- the end of a run
 
