@@ -1,9 +1,9 @@
 //! One object of a manifest merged with what is real.
-ghost use Rattle.std.specs.Prelude.{◌≡◌, ◌↔◌, IsTrue, Some, None, IfOk, false, not};
+ghost use Rattle.std.specs.Prelude.{◌≡◌, ◌↔◌, IsTrue, None, IfOk, false, not};
 ghost use Rattle.std.specs.Option.{option_copied, option_map_or};
 ghost use Rattle.pv_path.specs.Paths.{parent_of};
 ghost use Rattle.pv_steps.specs.declared.node.Kind.TheVariants.{Directory};
-ghost use Rattle.pv_steps.specs.Trees.{IsKind, IsTree, kind_of, places};
+ghost use Rattle.pv_steps.specs.Trees.{IsKind, kind_of, places};
 ghost use Rattle.pv_dress.specs.Nodes.{same_kind};
 ghost use Rattle.pv_folder.specs.Merge.{dressed, is_real_kind, merged_at, merged_of, plain, plain_mode};
 

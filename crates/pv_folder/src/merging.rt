@@ -2,7 +2,7 @@
 ghost use Rattle.std.specs.Prelude.{◌≡◌, [], true, IfOk, IfSome, OnOk};
 ghost use Rattle.std.specs.FinMap as fin;
 ghost use Rattle.std.specs.Ordering.{is_lt};
-ghost use Rattle.pv_path.specs.Paths.{has_names, parent_of, path_cmp};
+ghost use Rattle.pv_path.specs.Paths.{parent_of, path_cmp};
 ghost use Rattle.pv_steps.specs.declared.node.Kind.TheVariants.{Directory};
 ghost use Rattle.pv_steps.specs.Objects.{IsObject};
 ghost use Rattle.pv_steps.specs.Trees.{IsKind, IsTree, places};

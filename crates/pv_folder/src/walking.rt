@@ -1,8 +1,6 @@
 //! Two walks gone through side by side, in the order of the paths.
-ghost use Rattle.std.specs.Prelude.{◌≡◌, Some, None, IfOk, OnOk};
-ghost use Rattle.std.specs.Ordering.{is_lt};
-ghost use Rattle.std.specs.Option.{option_copied, option_map};
-ghost use Rattle.pv_path.specs.Paths.{path_cmp, same_path};
+ghost use Rattle.std.specs.Prelude.{◌≡◌, OnOk};
+ghost use Rattle.std.specs.Option.{option_map};
 ghost use Rattle.pv_folder.specs.Ahead.{first_path, lesser, passed};
 
 use pv_path::{Name, TreePath};
