@@ -21,7 +21,7 @@ use Rattle.pv_tree.specs.Held.{root_alone}
 use Rattle.pv_generate.proofs.GrowLaws.{IsGrowing}
 use Rattle.pv_host.proofs.Copying.{begun, some_entry}
 use Rattle.pv_folder.specs.Ahead.{Entries, added, first_path, lesser, passed}
-use Rattle.pv_folder.specs.Merge.{merged, merged_at, merged_of}
+use Rattle.pv_folder.specs.Merge.{merged, merged_of}
 use Rattle.pv_folder.proofs.MergeLaws.{places-merged}
 
 -- ---- the order of paths

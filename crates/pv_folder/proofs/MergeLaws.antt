@@ -1,5 +1,5 @@
 -- Laws of a manifest merged with what is real: what stands at each path, and that it is a tree.
-use Rattle.std.proofs.Common.{◌≡◌, ◌≢◌, ◌∙◌, ◌⊎◌, inl, inr, Bool, true, false, cond, List, [], ◌++◌, Option, Some, None, is_some, option_map, refl, sym, ap, subst, ℕ, ◌≤◌, ◌<◌, arith, lit≤}
+use Rattle.std.proofs.Common.{◌≡◌, ◌∙◌, ◌⊎◌, inl, inr, Bool, true, false, cond, List, [], ◌++◌, Option, Some, None, is_some, option_map, refl, sym, ap, subst, ℕ, ◌≤◌, lit≤}
 use Rattle.std.specs.FinMap as fin
 use Rattle.pv_acl.specs.Parts.{acl_of_mode, special_of}
 use Rattle.pv_path.specs.Paths.{Path, has_names, parent_of}
@@ -7,7 +7,7 @@ use Rattle.pv_steps.specs.declared.node.Kind.{Kind}
 use Rattle.pv_steps.specs.declared.node.Kind.TheVariants.{Directory, File, Link, Fifo, CharDevice, BlockDevice}
 use Rattle.pv_steps.specs.declared.node.Node.{Node}
 use Rattle.pv_steps.specs.declared.object.Object.{Object}
-use Rattle.pv_steps.specs.Objects.{AclFits, IsObject, NumbersFit, PayloadFits}
+use Rattle.pv_steps.specs.Objects.{AclFits, IsObject, PayloadFits}
 use Rattle.pv_steps.specs.Trees.{Files, IsKind, IsTree, kind_of, places}
 use Rattle.pv_steps.proofs.ObjectLaws.{IsObject-fresh}
 use Rattle.pv_steps.proofs.StepLaws.{among_keys, among_left, among_right, is_among, places-tabulate}

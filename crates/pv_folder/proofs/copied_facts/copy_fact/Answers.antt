@@ -1,4 +1,4 @@
-use Rattle.std.proofs.Common.{◌≡◌, ◌∙◌, ℕ, ap}
+use Rattle.std.proofs.Common.{◌∙◌, ℕ, ap}
 use Rattle.std.specs.FinMap as fin
 use Rattle.pv_path.proofs.Tests.{on_ok}
 use Rattle.pv_text.specs.Facts.{Values}

@@ -1,6 +1,5 @@
 use Rattle.std.proofs.Common.{◌≡◌, ◌∙◌, [], Option, Some, None, sym, ap, subst}
 use Rattle.std.specs.Prelude.{IfSome}
-use Rattle.pv_path.specs.Paths.{Path}
 use Rattle.pv_path.proofs.Tests.{if_ok}
 use Rattle.pv_steps.specs.declared.node.Kind.TheVariants.{Directory}
 use Rattle.pv_steps.specs.declared.object.Object.{Object}

@@ -1,10 +1,6 @@
-use Rattle.std.proofs.Common.{◌≡◌, ◌∙◌, [], drop, Option, Some, sym, ap, subst, refl}
-use Rattle.std.specs.Prelude.{IfSome}
-use Rattle.pv_path.specs.Paths.{Path}
-use Rattle.pv_steps.specs.declared.object.Object.{Object}
-use Rattle.pv_steps.specs.Trees.{Files, IsTree, places}
+use Rattle.std.proofs.Common.{◌∙◌, [], drop, Some, sym, ap, subst}
+use Rattle.pv_steps.specs.Trees.{Files}
 use Rattle.pv_tree.specs.Growth.{Grown}
-use Rattle.pv_tree.specs.Held.{Held, root_alone}
 use Rattle.pv_folder.specs.Ahead.{Entries, passed}
 use Rattle.pv_folder.specs.Merge.{merged, merged_at}
 use Rattle.pv_folder.proofs.MergeLaws.{merged_is_tree, places-merged}
