@@ -1,0 +1,3 @@
+pub mod MergeLaws
+pub mod AheadLaws
+pub mod FactLaws

@@ -1,0 +1,46 @@
+-- A manifest merged with what is real: a host has directories and files with their bytes, the manifest has all else that a
+-- tree says of them, and the objects that a host does not have (this project's own).
+use Rattle.std.specs.Prelude.{ℕ, Bool, true, false, ◌++◌, Option, Some, None, option_map, if◌then◌else◌}
+use Rattle.std.specs.FinMap as fin
+use Rattle.pv_path.specs.Paths.{Path, parent_of}
+use Rattle.pv_steps.specs.declared.node.Kind.{Kind}
+use Rattle.pv_steps.specs.declared.node.Kind.TheVariants.{Directory, File, Link}
+use Rattle.pv_steps.specs.declared.node.Node.{Node}
+use Rattle.pv_steps.specs.declared.object.Object.{Object}
+use Rattle.pv_steps.specs.Objects.{fresh}
+use Rattle.pv_steps.specs.Trees.{Files, kind_of, places, tabulate}
+use Rattle.pv_dress.specs.Nodes.{same_kind}
+
+-- the mode of a real object of which the manifest says nothing
+abbrev pub plain_mode : Kind → ℕ
+plain_mode Directory = 0o755
+plain_mode Link = 0o777
+plain_mode kind = 0o644
+
+-- a real object of which the manifest says nothing: owned by root, without extended attributes and letters, stamps 0
+abbrev pub plain : Object → Object
+plain r = fresh r.node.kind (plain_mode r.node.kind) r.payload r.node.major r.node.minor 0
+
+-- a real object: its bytes are its own, and all else is that of the manifest's node at its path, where that is of its kind
+abbrev pub dressed : Option Node → Object → Object
+dressed None r = plain r
+dressed (Some node) r = if same_kind node.kind r.node.kind then record r { node = node } else plain r
+
+-- whether a host has objects of this kind: directories and files; links, FIFOs and devices are the manifest's alone
+abbrev pub is_real_kind : Kind → Bool
+is_real_kind Directory = true
+is_real_kind File = true
+is_real_kind kind = false
+
+-- what stands at a path of which the manifest says this, at which this is real, in what is really of this kind
+abbrev pub merged_of : Option Object → Option Object → Option Kind → Option Object
+merged_of m (Some r) parent = Some (dressed (option_map (λ o. o.node) m) r)
+merged_of (Some m) None (Some Directory) = if is_real_kind m.node.kind then None else Some m
+merged_of m None parent = None
+
+abbrev pub merged_at : Files → Files → Path → Option Object
+merged_at manifest real path = merged_of (places manifest path) (places real path) (kind_of (places real (parent_of path)))
+
+-- the tree of a manifest and of what is real
+abbrev pub merged : Files → Files → Files
+merged manifest real = tabulate (fin.keys real ++ fin.keys manifest) (merged_at manifest real)
