@@ -213,7 +213,7 @@ all_keep a (line ∷ lines) calm x dir =
 -- ---- none of the lines before one that could be walked to clears what lies above its path
 
 module _ (now : ℕ) (p : Path) where
-  none_clears : (lines : List Line) → AllByRecursion IsSafe lines → AllByRecursion (IsBeside p) lines → Pairwise Before lines → (t : Files) → IsShaped (bares_of (places t))
+  pub none_clears : (lines : List Line) → AllByRecursion IsSafe lines → AllByRecursion (IsBeside p) lines → Pairwise Before lines → (t : Files) → IsShaped (bares_of (places t))
       → one_is_refused (by_line now) lines t ≡ false → Passes now p (after_each (by_line now) lines t) → AllByRecursion (λ line. IsClearing p line → ⊥) lines
   none_clears [] safe beside before t shape quiet passes = tt
   none_clears (line ∷ lines) safe beside before t shape quiet passes =
@@ -253,7 +253,7 @@ module _ (lines : List Line) (are : AllByRecursion IsLine lines) (distinct : are
       by false f = f
 
   free_each : (l : Listed) → Known l → (ls : List Listed) → AllByRecursion Known ls → AllByRecursion (IsFreeOf l.1) (map line_of ls)
-  free_each l known [] h = tt
+  free_each l _ [] h = tt
   free_each l known (k ∷ ls) h = (free_of l k known h.0, free_each l known ls h.1)
 
   pub free_all : (ls : List Listed) → AllByRecursion Known ls → Pairwise IsFreeOf (map line_of ls)
