@@ -84,6 +84,7 @@ pub fn read_requests<T: Tree>(
     ensures lines { IfOk result (λ c. c.lines ≡ (requested (T.state tree.now) facts.now words.now).lines) }
     ensures invalid { IfOk result (λ c. c.invalid ≡ (requested (T.state tree.now) facts.now words.now).invalid) }
     ensures missing { IfOk result (λ c. c.missing ≡ (requested (T.state tree.now) facts.now words.now).missing) }
+    ensures count { IfOk result (λ c. c.count ≡ (requested (T.state tree.now) facts.now words.now).count) }
     ensures few { OnOk result ((requested (T.state tree.now) facts.now words.now).count < 2 ^ 32) }
     ensures whole { IfOk result (λ c. AllByRecursion HasFewNames c.lines) }
     ensures allowed { IfOk result (λ c. AllByRecursion IsAllowed c.lines) }

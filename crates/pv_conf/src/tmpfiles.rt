@@ -111,6 +111,7 @@ pub fn read_configuration<T: Tree>(
     ensures lines { IfOk result (λ c. c.lines ≡ (configured (T.state tree.now) facts.now words.now).lines) }
     ensures invalid { IfOk result (λ c. c.invalid ≡ (configured (T.state tree.now) facts.now words.now).invalid) }
     ensures missing { IfOk result (λ c. c.missing ≡ (configured (T.state tree.now) facts.now words.now).missing) }
+    ensures count { IfOk result (λ c. c.count ≡ (configured (T.state tree.now) facts.now words.now).count) }
     ensures few { OnOk result ((configured (T.state tree.now) facts.now words.now).count < 2 ^ 32) }
     ensures whole { IfOk result (λ c. AllByRecursion IsLine c.lines) }
     ensures said { OnOk result (messages.new ≡ messages.old ++ (configured (T.state tree.now) facts.now words.now).messages) }

@@ -2,10 +2,11 @@
 use Rattle.std.proofs.Common.{◌≡◌, ℕ, ◌+◌, ◌<◌, false, List, [], ◌∷◌, ◌++◌, length, map, take, get_or, All, Option, Some, None, refl, sym, ap, ◌∙◌, subst, append_assoc}
 use Rattle.std.specs.List.{AllByRecursion, cons_option}
 use Rattle.std.specs.Option.{option_to_list}
-use Rattle.std.proofs.lemmas.List.{map-append, take_more}
+use Rattle.std.proofs.lemmas.List.{map-append, take-map, take_more}
 use Rattle.std.proofs.lemmas.List.Elements.{All-from_get_or, All-from_recursion, filter_map-append}
 use Rattle.std.proofs.lemmas.Option.{get_or_from_slice_get, slice_get_within}
 use Rattle.pv_path.specs.Paths.{Path, has_staging}
+use Rattle.pv_text.specs.Said.{SaidPart}
 use Rattle.pv_lines.specs.declared.line.Line.{Line}
 use Rattle.pv_lines.specs.Lines.{IsLine}
 use Rattle.pv_table.specs.Asking.{asks}
@@ -21,6 +22,10 @@ pub said_more : {X : Type 0} (f : X → List ℕ) (xs : List X) (i : ℕ) (d : X
 said_more f xs i d start old new text l before added is =
     added ∙ ap (λ (t : List ℕ). old ++ t ∷ []) is ∙ ap (λ (ms : List (List ℕ)). ms ++ f (get_or xs i d) ∷ []) before
     ∙ append_assoc start (map f (take i xs)) (f (get_or xs i d) ∷ []) ∙ ap (λ (ms : List (List ℕ)). start ++ ms) (sym (map_more f xs i d l))
+
+-- what a loop has said of the first of a list is a part of what is to be said of all
+pub said_upto : {X : Type 0} (f : X → List ℕ) (xs : List X) (i : ℕ) (start new : List (List ℕ)) → new ≡ start ++ map f (take i xs) → SaidPart (map f xs) start new
+said_upto f xs i start new e = (i, e ∙ ap (λ (ms : List (List ℕ)). start ++ ms) (sym (take-map f i xs)))
 
 pub mapped_more : {X Y : Type 0} (f : X → Y) (xs : List X) (i : ℕ) (x : X) (y : Y) (old new : List Y) → i < length xs → x ≡ get_or xs i x → old ≡ map f (take i xs) → y ≡ f x → new ≡ old ++ y ∷ [] → new ≡ map f (take (i + 1) xs)
 mapped_more {X} {Y} f xs i x y old new l at before is added =

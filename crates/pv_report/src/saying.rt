@@ -2,6 +2,7 @@
 ghost use Rattle.std.specs.Prelude.{◌≡◌, ◌↔◌, ◌++◌, ◌∷◌, [], codes, map, true, IfOk, OnOk};
 ghost use Rattle.std.specs.Fmt.{decimal};
 ghost use Rattle.pv_text.specs.Lines.{is_line};
+ghost use Rattle.pv_text.specs.Said.{SaidPart};
 ghost use Rattle.pv_table.specs.Repeatable.{IsRepeatable};
 ghost use Rattle.pv_report.specs.Reporting.{ListsReasons};
 ghost use Rattle.pv_report.specs.Said.{line_text, overlap_text, reason_text, report_messages, SaysRepeatable, unrepeatable_text, verdict};
@@ -105,7 +106,8 @@ fn say_overlaps(
     pairs: &[Pair],
     messages: &mut Messages,
 ) -> Result<(), AllocError>
-    ensures { OnOk result (messages.new ≡ messages.old ++ map (overlap_text lines.now) pairs.now) }
+    ensures said { OnOk result (messages.new ≡ messages.old ++ map (overlap_text lines.now) pairs.now) }
+    ensures part { SaidPart (map (overlap_text lines.now) pairs.now) messages.old messages.new }
 {
     for pair in pairs {
         messages.push(&overlap_text(alloc, lines, pair)?)?;
@@ -120,7 +122,8 @@ fn say_reasons(
     list: &[Unrepeatable],
     messages: &mut Messages,
 ) -> Result<(), AllocError>
-    ensures { OnOk result (messages.new ≡ messages.old ++ map (unrepeatable_text lines.now) list.now) }
+    ensures said { OnOk result (messages.new ≡ messages.old ++ map (unrepeatable_text lines.now) list.now) }
+    ensures part { SaidPart (map (unrepeatable_text lines.now) list.now) messages.old messages.new }
 {
     for found in list {
         messages.push(&unrepeatable_text(alloc, lines, found)?)?;
@@ -130,7 +133,7 @@ fn say_reasons(
 
 /// Says what a report on lines lists: each two lines that share a path, each line with each of its reasons, and whether
 /// there is none. The last message on a report of these lines is `repeatable` exactly where no line has a reason. After
-/// running out of memory some of these messages may have been said.
+/// running out of memory the first of these messages were said, and no others.
 pub fn say_report(
     alloc: Global,
     lines: &LineList,
@@ -138,10 +141,12 @@ pub fn say_report(
     messages: &mut Messages,
 ) -> Result<(), AllocError>
     ensures said { OnOk result (messages.new ≡ messages.old ++ report_messages lines.now report.now) }
+    ensures part { SaidPart (report_messages lines.now report.now) messages.old messages.new }
     ensures verdict { OnOk result (ListsReasons lines.now report.now.unrepeatable → SaysRepeatable messages.new ↔ IsRepeatable lines.now) }
 {
     say_overlaps(alloc, lines.as_slice(), report.pairs.as_slice(), messages)?;
     let list = report.unrepeatable.as_slice();
     say_reasons(alloc, lines.as_slice(), list, messages)?;
-    messages.push(verdict(list))
+    messages.push(verdict(list))?;
+    Ok(())
 }

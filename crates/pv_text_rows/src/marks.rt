@@ -57,6 +57,16 @@ pub(crate) fn said(alloc: Global, text: &str) -> Result<Vec<u8>, AllocError> {
     Vec::from_slice(alloc, text.as_bytes())
 }
 
+/// The name of a fault, and what is printed of it where that is another text.
+pub(crate) fn named(alloc: Global, name: &[u8], printed: &str) -> Result<Vec<u8>, AllocError> {
+    let mut told = Vec::from_slice(alloc, name)?;
+    if printed.as_bytes() != name {
+        told.extend_from_slice(b", printed as ")?;
+        told.extend_from_slice(printed.as_bytes())?;
+    }
+    Ok(told)
+}
+
 /// What is told of words that a call can't read.
 pub(crate) fn unread(alloc: Global) -> Result<Vec<u8>, AllocError> {
     said(alloc, "unread words")

@@ -1,6 +1,6 @@
 //! Fields, escapes, specifiers, facts and messages.
 use super::given::{is_one_line, place_in};
-use crate::marks::{Arguments, number_in, or_none, said, unread};
+use crate::marks::{Arguments, named, number_in, or_none, said, unread};
 use pv_sheet::bytes_of;
 use pv_text::{
     ExpandFault, FACT_LETTERS, Facts, FieldFault, Fields, Messages, Tool, expand, fields, unescape,
@@ -110,7 +110,7 @@ fn expanded_told(
     let facts = facts_of(alloc, facts)?;
     match expand(alloc, text, &facts, tool_of(tool)) {
         Ok(text) => Ok(text),
-        Err(fault) => Vec::from_slice(alloc, fault.name()),
+        Err(fault) => named(alloc, fault.name(), format!(in alloc; "{fault}")?.as_str()),
     }
 }
 

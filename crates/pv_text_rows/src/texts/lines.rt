@@ -1,6 +1,6 @@
 //! Lines of tmpfiles.d(5), and what each is read as.
 use super::given::{People, place_in};
-use crate::marks::unread;
+use crate::marks::{named, said, unread};
 use pv_lines::{Argument, Line, LineFault, LineId, LineMode, LinePath, name_of, read_line};
 use pv_path::print_path;
 use pv_sheet::bytes_of;
@@ -14,7 +14,7 @@ const TYPES: &[u8] = b"fFdDvqQpLcbCwezZaAtThHrRxX";
 /// What a call answers for words.
 pub(crate) fn told(alloc: Global, call: &str, words: &str) -> Result<Vec<u8>, AllocError> {
     match call {
-        "fault" => Vec::from_slice(alloc, answer(alloc, &bytes_of(alloc, words)?)?),
+        "fault" => first_told(alloc, &bytes_of(alloc, words)?),
         "read" => read_told(alloc, &bytes_of(alloc, words)?),
         "place" => place_told(alloc, &bytes_of(alloc, words)?),
         "types" | "bare-types" => types_told(alloc, call, words),
@@ -33,6 +33,20 @@ fn answer(alloc: Global, text: &[u8]) -> Result<&'static [u8], AllocError> {
     match read(alloc, text)? {
         Ok(_) => Ok(b"ok"),
         Err(fault) => Ok(name_of(fault)),
+    }
+}
+
+/// A fault by its name, which is also what is printed of it.
+fn fault_told(alloc: Global, fault: LineFault) -> Result<Vec<u8>, AllocError> {
+    let printed = format!(in alloc; "{fault}")?;
+    named(alloc, name_of(fault), printed.as_str())
+}
+
+/// The fault of a text, or `ok`.
+fn first_told(alloc: Global, text: &[u8]) -> Result<Vec<u8>, AllocError> {
+    match read(alloc, text)? {
+        Ok(_) => said(alloc, "ok"),
+        Err(fault) => fault_told(alloc, fault),
     }
 }
 
@@ -86,7 +100,7 @@ fn types_told(alloc: Global, call: &str, words: &str) -> Result<Vec<u8>, AllocEr
 fn place_told(alloc: Global, text: &[u8]) -> Result<Vec<u8>, AllocError> {
     match read(alloc, text)? {
         Ok(line) => place_of(alloc, &line),
-        Err(fault) => Vec::from_slice(alloc, name_of(fault)),
+        Err(fault) => fault_told(alloc, fault),
     }
 }
 
@@ -103,7 +117,7 @@ fn place_of(alloc: Global, line: &Line) -> Result<Vec<u8>, AllocError> {
 fn read_told(alloc: Global, text: &[u8]) -> Result<Vec<u8>, AllocError> {
     match read(alloc, text)? {
         Ok(line) => line_told(alloc, &line),
-        Err(fault) => Vec::from_slice(alloc, name_of(fault)),
+        Err(fault) => fault_told(alloc, fault),
     }
 }
 

@@ -1,6 +1,6 @@
 //! Lines of sysusers.d(5).
 use super::given::place_in;
-use crate::marks::{said, unread};
+use crate::marks::{named, said, unread};
 use pv_requests::{Primary, Request, RequestFault, UserId, name_of, read_request};
 use pv_sheet::bytes_of;
 use pv_text::Facts;
@@ -60,6 +60,12 @@ fn request_told(alloc: Global, request: &Request) -> Result<Vec<u8>, AllocError>
 fn read_told(alloc: Global, read: Result<Request, RequestFault>) -> Result<Vec<u8>, AllocError> {
     match read {
         Ok(request) => request_told(alloc, &request),
-        Err(fault) => Vec::from_slice(alloc, name_of(fault)),
+        Err(fault) => fault_told(alloc, fault),
     }
+}
+
+/// A fault by its name, which is also what is printed of it.
+fn fault_told(alloc: Global, fault: RequestFault) -> Result<Vec<u8>, AllocError> {
+    let printed = format!(in alloc; "{fault}")?;
+    named(alloc, name_of(fault), printed.as_str())
 }

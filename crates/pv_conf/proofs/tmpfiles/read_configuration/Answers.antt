@@ -20,6 +20,11 @@ returns-clause-invalid g c =
     let same = configured_same (g.T.Tree.state c.args.tree.now) c.args.facts.now c.in_ok-account_names.field-0.passwd c.in_ok-account_names.field-0.group c.args.words.now c.in_ok-account_names.ensures.passwd c.in_ok-account_names.ensures.group in
     c.in_ok-configuration.ensures.reads.invalid ∙ ap (λ (w : Configured Line). w.invalid) same
 
+pub returns-clause-count : goal.returns-clause-count
+returns-clause-count g c =
+    let same = configured_same (g.T.Tree.state c.args.tree.now) c.args.facts.now c.in_ok-account_names.field-0.passwd c.in_ok-account_names.field-0.group c.args.words.now c.in_ok-account_names.ensures.passwd c.in_ok-account_names.ensures.group in
+    c.in_ok-configuration.ensures.reads.count ∙ ap (λ (w : Configured Line). w.count) same
+
 pub returns-clause-few : goal.returns-clause-few
 returns-clause-few g c =
     let same = configured_same (g.T.Tree.state c.args.tree.now) c.args.facts.now c.in_ok-account_names.field-0.passwd c.in_ok-account_names.field-0.group c.args.words.now c.in_ok-account_names.ensures.passwd c.in_ok-account_names.ensures.group in
