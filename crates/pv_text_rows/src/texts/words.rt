@@ -3,13 +3,14 @@ use crate::marks::unread;
 use pv_path::{TreePath, print_path};
 use pv_sheet::words_of;
 use pv_text::Tool;
-use pv_words::{Asked, Options, asked_of};
+use pv_words::{Asked, Options, Rooted, asked_of, rooted_of};
 use std::alloc::{AllocError, Global};
 
 /// What a call answers for words.
 pub(crate) fn told(alloc: Global, call: &str, words: &str) -> Result<Vec<u8>, AllocError> {
     match call {
         "asked" => asked_told(alloc, words),
+        "rooted" => rooted_told(alloc, words),
         _ => unread(alloc),
     }
 }
@@ -21,6 +22,23 @@ fn asked_told(alloc: Global, words: &str) -> Result<Vec<u8>, AllocError> {
         Ok(asked) => meaning_told(alloc, &asked),
         Err(fault) => Ok(format!(in alloc; "{fault}")?.into_bytes()),
     }
+}
+
+/// The folder that words name and what the others ask for in short, or their fault.
+fn rooted_told(alloc: Global, words: &str) -> Result<Vec<u8>, AllocError> {
+    let words = words_of(alloc, words)?;
+    match rooted_of(alloc, words.as_slice()) {
+        Ok(rooted) => folder_told(alloc, &rooted),
+        Err(fault) => Ok(format!(in alloc; "{fault}")?.into_bytes()),
+    }
+}
+
+/// A folder and what is asked for in short.
+fn folder_told(alloc: Global, rooted: &Rooted) -> Result<Vec<u8>, AllocError> {
+    let mut text = Vec::from_slice(alloc, rooted.folder.as_slice())?;
+    text.push(b' ')?;
+    text.extend_from_slice(&options_told(alloc, &rooted.options)?)?;
+    Ok(text)
 }
 
 /// What is asked for in short.
