@@ -148,11 +148,11 @@ module _ (p a : Path) (line : Line) (above : is_prefix a p ≡ true) (never : Is
   object_calm making e same f = calm_of line a (first_of making ∷ making.sets) f
       (first_calm making is making.sets (adjusts_calm (parts making.sets) (parts_adjust making.sets adjust)))
       (λ x dir. (
-        let like = adjusted_like making.sets adjust x in (
-          like.0,
-          ap (run making.sets) (first_on_some making is x ∙ ap (λ b. Some (cond b x (bare_of (new_object making.new 0)))) (stays x dir)) ∙ like.1,
-          like_directory x like.0 like.2 dir,
-        )))
+      let like = adjusted_like making.sets adjust x in (
+        like.0,
+        ap (run making.sets) (first_on_some making is x ∙ ap (λ b. Some (cond b x (bare_of (new_object making.new 0)))) (stays x dir)) ∙ like.1,
+        like_directory x like.0 like.2 dir,
+      )))
     where
       is : IsMaking making
       is = line_is_making line making e
@@ -573,9 +573,9 @@ module _ (lines : List Line) (are : AllByRecursion IsLine lines) (distinct : are
             each [] h = tt
             each (l ∷ ls) h = (
               (λ copying e. ap is_some (
-              frame_after now copying.source (copy_source l.1 h.0.is copying e) xs (all_map' xs safe_xs)
-              (all_before (λ (x : Line). governs x copying.source ≡ false) xs (line ∷ ys) (subst (AllByRecursion (λ (x : Line). governs x copying.source ≡ false)) in_parts (
-              away_all lines are repeatable copying.source l.0 l.1 h.0.at (ap copied e) copying.source (is_prefix-refl copying.source) (source_named l.1 h.0.is copying e)))) t t_shaped)),
+                  frame_after now copying.source (copy_source l.1 h.0.is copying e) xs (all_map' xs safe_xs)
+                  (all_before (λ (x : Line). governs x copying.source ≡ false) xs (line ∷ ys) (subst (AllByRecursion (λ (x : Line). governs x copying.source ≡ false)) in_parts (
+                  away_all lines are repeatable copying.source l.0 l.1 h.0.at (ap copied e) copying.source (is_prefix-refl copying.source) (source_named l.1 h.0.is copying e)))) t t_shaped)),
               each ls h.1,
             )
               where
@@ -692,9 +692,12 @@ module _ (lines : List Line) (are : AllByRecursion IsLine lines) (distinct : are
 
     open_rest : (before after : List Listed) → ordered all ≡ before ++ after → AllOpen (map line_of before) r → AllOpen (map line_of after) (fold pointwise_after r (map line_of before))
     open_rest before [] whole opens = tt
-    open_rest before (one ∷ after) whole opens = (own_turn, subst (AllOpen (map line_of after)) (ap (fold pointwise_after r) (map-append line_of before (one ∷ [])) ∙ fold_one (map line_of before) one.1 r) (
-        open_rest (before ++ one ∷ []) after (whole ∙ sym (append_assoc before (one ∷ []) after))
-        (subst (λ ls. AllOpen ls r) (sym (map-append line_of before (one ∷ []))) (open_one (map line_of before) one.1 r opens own_turn))))
+    open_rest before (one ∷ after) whole opens = (
+      own_turn,
+      subst (AllOpen (map line_of after)) (ap (fold pointwise_after r) (map-append line_of before (one ∷ [])) ∙ fold_one (map line_of before) one.1 r) (
+          open_rest (before ++ one ∷ []) after (whole ∙ sym (append_assoc before (one ∷ []) after))
+          (subst (λ ls. AllOpen ls r) (sym (map-append line_of before (one ∷ []))) (open_one (map line_of before) one.1 r opens own_turn))),
+    )
       where
         by : (b : Bool) → is_touching one.1 ≡ b → IsOpen one.1 (fold pointwise_after r (map line_of before))
         by true f = touch_open one.1 (fold pointwise_after r (map line_of before)) f
