@@ -55,8 +55,8 @@ front_by Phases options facts moment t steps said new cut is (inl part) =
     (whole, (refl, after_front (read_by Phases options facts t) whole said front.0 (sym is ∙ part.1 ∙ front.1)))
 front_by Phases options facts moment t steps said new cut is (inr part) =
     (part.0, (part.1.0, after_front (read_by Phases options facts t) part.0 said part.1.1.0 (sym is ∙ part.1.1.1)))
-front_by Report options facts moment t steps said new cut is part = absurd (omega (arith, cut.0))
-front_by Explain options facts moment t steps said new cut is part = absurd (omega (arith, cut.0))
+front_by Report options facts moment t steps said new cut is part = absurd (let no : ◌≡◌ {A = ℕ} 1 0 = cut.0 in omega (arith, no))
+front_by Explain options facts moment t steps said new cut is part = absurd (let no : ◌≡◌ {A = ℕ} 1 0 = cut.0 in omega (arith, no))
 front_by Accounts options facts moment t steps said new cut is part =
     let whole = account_messages options facts moment t in
     (whole, (refl, (length whole, cut ∙ sym (take-length whole))))

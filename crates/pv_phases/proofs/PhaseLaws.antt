@@ -128,9 +128,9 @@ module _ (lines : List Line) (now : ℕ) (t : Files) (h : List Step) (fits : now
 -- one that says what it says after its last step
 module _ {S : Type 0} (tree : Ghosts S) (lines : List Line) (now : ℕ) (phase : Phase) (a d : S) (old new : List (List ℕ)) (r : Result Carried TreeFault) (silent : IsErrOf r Failed → new ≡ old) where
   failed_of : (v : Result Carried TreeFault) → refused v ≡ 1 → IsErrOf v Failed
-  failed_of (Ok x) one = absurd (omega (arith, one))
+  failed_of (Ok x) one = absurd (let no : ◌≡◌ {A = ℕ} 0 1 = one in omega (arith, no))
   failed_of (Err Failed) one = refl
-  failed_of (Err Memory) one = absurd (omega (arith, one))
+  failed_of (Err Memory) one = absurd (let no : ◌≡◌ {A = ℕ} 0 1 = one in omega (arith, no))
 
   pub quiet_gone : SaidPart (said_in lines now phase (tree.state a)) old new
       → Acted tree (on_way lines now phase (tree.state a)) (is_step_of lines now phase (tree.state a)) (most_steps_of lines now phase (tree.state a)) now a d r
