@@ -49,7 +49,7 @@ begun (Copy copying) now line t = single_start (making_course now line) (λ mome
 begun (Touch touching) now line t =
     cut_start (touching_course now line touching) now
     (λ x u. single_start (touching_course now line touching) (λ moment refused y v done said work. work) now x u (course_start now line touching x u)) (turns line t) t
-begun Idle now line t = (refl, (refl, refl))
+begun Idle now line t = (refl, refl, refl)
 
 pub line_begun : (now : ℕ) (line : Line) (t : Files) → LineCut now 0 line t [] []
 line_begun now line t = begun (asks line) now line t
@@ -143,6 +143,6 @@ module _ (now : ℕ) (line : Line) (e : asks line ≡ Idle) (t : Files) where
 pub idle_carried : {S : Type 0} (tree : Ghosts S) → Moves tree → (now : ℕ) (line : Line) (a : S) (old : List (List ℕ)) → asks line ≡ Idle → CarriesOut tree (line_course now) line now a a old old (Ok Whole)
 idle_carried tree moves now line a old e =
     carried_told tree (line_course now) line now a old moves (line_start now line (tree.state a))
-    (subst (λ deed. CutBy deed now 0 line (tree.state a) [] ((by_line now).says line (tree.state a))) (sym e) (refl, (refl, sym (idle_says now line e (tree.state a))))) old Whole (idle_after now line e (tree.state a))
+    (subst (λ deed. CutBy deed now 0 line (tree.state a) [] ((by_line now).says line (tree.state a))) (sym e) (refl, refl, sym (idle_says now line e (tree.state a)))) old Whole (idle_after now line e (tree.state a))
     (sym (append-nil old) ∙ ap (λ (says : List (List ℕ)). old ++ says) (idle_says now line e (tree.state a)))
     (ap carried_of (idle_refused now line e (tree.state a)))

@@ -75,7 +75,7 @@ module _ {S A : Type 0} (tree : Ghosts S) (c : Course A) (x : A) (now : ℕ) (a 
     carried = tt;
     part = part;
     acted = acted_passed tree q (Err y) was passed acted;
-    went = subst (λ n. HasGone tree (c.cut now n x (tree.state a)) now a b old new) (refused_passed q (Err y) was passed) gone;
+    went = subst (λ n. HasGone tree (c.cut now n x (tree.state a)) now a b old new) (refused_passed {B = Carried} q (Err y) was passed) gone;
   }
 
   -- ---- the same of one thing

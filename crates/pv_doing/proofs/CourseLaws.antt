@@ -73,7 +73,7 @@ module _ {A : Type 0} (c : Course A) where
 
   -- several, of which nothing is done
   pub cut_start : (now : ℕ) → ((x : A) (t : Files) → c.cut now 0 x t [] []) → (xs : List A) (t : Files) → Cut c now 0 xs t [] []
-  cut_start now begun [] t = (refl, (refl, refl))
+  cut_start now begun [] t = (refl, refl, refl)
   cut_start now begun (x ∷ xs) t = inl (begun x t)
 
 -- ---- some is done
@@ -227,5 +227,5 @@ module _ {A S : Type 0} (c : Course A) (tree : Ghosts S) (moves : Moves tree) (s
       recorded = going.recorded ∙ ap (λ v. tree.steps a ++ v) (sym (append-nil going.done));
       reached = going.reached ∙ ap (λ v. after_all (tree.state a) v now) (sym (append-nil going.done));
       said = going.said ∙ ap (λ v. old ++ v) (sym (append-nil going.before));
-      is = going.cutting 0 [] [] (refl, (refl, refl));
+      is = going.cutting 0 [] [] (refl, refl, refl);
     }
