@@ -91,7 +91,7 @@ module _ (xs ys : List Line) (line : Line) (safe : IsSafe line) (copying : Copyi
     pub middle_present : bares_of (places middle) copying.source ≡ Some b
     middle_present = ap (bares_of (places middle)) (sym (append-nil copying.source)) ∙ middle_source [] refl ∙ ap (bares_of (places t)) (append-nil copying.source) ∙ present
 
-    passes : Passes now p middle
+    pub passes : Passes now p middle
     passes = copy_passes line copying e middle
         (first_turn now line p [] middle (ap (λ paths. one_is_refused (by_turn now line) paths middle) (sym (turns_copy line copying middle e)) ∙ quiet_two.0)).0
         (sym (bare_some (places middle copying.source)) ∙ ap is_some middle_present)

@@ -3,9 +3,8 @@ use Rattle.pv_table.proofs.ListedLaws.{all_in_order}
 use Rattle.pv_laws.proofs.Shapes.{tree_shaped}
 use Rattle.pv_laws.proofs.AllFrames.{shape_after, shape_after}
 use Rattle.pv_laws.proofs.Making.{IsShaped, same_unnamed}
-use Rattle.std.specs.Prelude.{◌≡◌, ◌⊎◌, ℕ, Bool, true, false, ◌&&◌, List, [], ◌∷◌, ◌++◌, length, map, Option, Some, None, is_some}
+use Rattle.std.specs.Prelude.{◌≡◌, ◌⊎◌, ℕ, Bool, true, false, ◌&&◌, List, [], ◌∷◌, ◌++◌, map, Option, Some, None, is_some}
 use Rattle.std.proofs.Common.{refl, sym, ap, subst, ◌∙◌, inl, inr}
-use Rattle.std.specs.FinMap as fin
 use Rattle.std.specs.List.{enumerate_from, AllByRecursion}
 use Rattle.std.proofs.lemmas.Bool.{or_parts, and_parts}
 use Rattle.pv_path.specs.Paths.{has_names, Path, is_prefix, has_staging}
@@ -23,23 +22,20 @@ use Rattle.pv_table.specs.declared.deed.Deed.TheVariants.{Create, Copy, Touch, I
 use Rattle.pv_table.specs.Active.{are_distinct, Listed, ordered, in_create_order}
 use Rattle.pv_table.specs.Asking.{asks}
 use Rattle.pv_table.specs.Created.{created, IsQuiet}
-use Rattle.pv_table.specs.Pointwise.{Bares, state}
 use Rattle.pv_table.specs.Reaching.{path_in}
 use Rattle.pv_table.specs.Repeatable.{IsRepeatable}
 use Rattle.pv_laws.specs.Copying.{PartwayOf}
-use Rattle.pv_laws.specs.Moments.{Agree}
-use Rattle.pv_laws.proofs.AllPoints.{state_whole, all_safe}
 use Rattle.pv_laws.proofs.CopyRuns.{copy_mended}
 use Rattle.pv_laws.proofs.Parents.{IsOutside, outside_mended}
 use Rattle.pv_laws.proofs.Sets.{impossible}
 use Rattle.pv_laws.proofs.Splits.{IsSplit, split, line_of}
 
 -- whether a path lies at or below the path of a line that copies what is there
-abbrev reached_by : Files → Path → Line → Deed → Bool
+abbrev pub reached_by : Files → Path → Line → Deed → Bool
 reached_by t q line (Copy copying) = is_some (bares_of (places t) copying.source) && is_prefix (path_in line.path) q
 reached_by t q line deed = false
 
-not_reached : (t : Files) (q : Path) (line : Line) → reached_by t q line (asks line) ≡ false → IsOutside t q line
+pub not_reached : (t : Files) (q : Path) (line : Line) → reached_by t q line (asks line) ≡ false → IsOutside t q line
 not_reached t q line h copying e there = sym (ap (λ b. b && is_prefix (path_in line.path) q) there) ∙ sym (ap (reached_by t q line) e) ∙ h
 
 module _ (lines : List Line) (are : AllByRecursion IsLine lines) (distinct : are_distinct lines ≡ true) (repeatable : IsRepeatable lines) (now later : ℕ) (t u : Files) (tree : IsTree t) (there : IsTree u)
@@ -92,8 +88,3 @@ module _ (lines : List Line) (are : AllByRecursion IsLine lines) (distinct : are
   -- the whole run leaves what one run that was not cut short leaves
   pub copies_mend : Same (created lines later u) (created lines now t)
   copies_mend q plain = bares-same (places (created lines later u)) (places (created lines now t)) q (mended_here q plain)
-
-  -- so the states that start from there end as those that start from the tree of its start
-  pub states_mend : (s r : Bares) → Agree s t → Agree r u → (q : Path) → has_staging q ≡ false → fin.get (state lines (length (in_create_order lines)) r) q ≡ fin.get (state lines (length (in_create_order lines)) s) q
-  states_mend s r agree other q plain =
-      state_whole lines (all_safe lines are repeatable) later r u there again other q plain ∙ mended_here q plain ∙ sym (state_whole lines (all_safe lines are repeatable) now s t tree quiet agree q plain)

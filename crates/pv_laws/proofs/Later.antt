@@ -49,7 +49,7 @@ adjuster_plain line q h = by (asks line) refl
     by Idle e = ap copied e
 
 module _ (p : Path) (line : Line) (q : Path) (under : is_prefix p q ≡ true) where
-  asks_none : IsBeside p line → is_prefix (path_in line.path) p ≡ false → operations line q ≡ []
+  pub asks_none : IsBeside p line → is_prefix (path_in line.path) p ≡ false → operations line q ≡ []
   asks_none is low = by (asks_there p line is q under)
     where
       by : (operations line q ≡ []) ⊎ IsClearing p line → operations line q ≡ []

@@ -33,3 +33,6 @@ pub mod Parents
 pub mod CopyStops
 pub mod AgainStops
 pub mod Commuting
+pub mod StateSteps
+pub mod StatePasses
+pub mod StateStops

@@ -150,7 +150,7 @@ module _ (t : Files) (q : Path) (plain : has_staging q ≡ false) (now : ℕ) (l
   still_alike l is free same copying e =
       ap is_some ((each_kept now line safe.is v shape).frame copying.source (copy_source l is.is copying e) (free copying e)) ∙ same copying e
 
-  all_alike : (lines : List Line) → AllByRecursion IsSafe lines → AllByRecursion (IsFreeOf line) lines → AllByRecursion (IsThereAlike t v) lines → AllByRecursion (IsThereAlike t ((by_line now).after line v)) lines
+  pub all_alike : (lines : List Line) → AllByRecursion IsSafe lines → AllByRecursion (IsFreeOf line) lines → AllByRecursion (IsThereAlike t v) lines → AllByRecursion (IsThereAlike t ((by_line now).after line v)) lines
   all_alike [] is free same = tt
   all_alike (l ∷ lines) is free same = (still_alike l is.0 free.0 same.0, all_alike lines is.1 free.1 same.1)
 

@@ -282,7 +282,7 @@ module _ (now : ℕ) where
     Passes u = (x : Path) → is_prefix x p ≡ true → x ≢ p → is_some (bares_of (places u) x) ≡ true → is_dir (bares_of (places u) x) ≡ true
 
     -- where the path can be walked to in the end, nothing was cleared above it
-    never_clears : (line : Line) (lines : List Line) → IsSafe line → IsBeside p line → AllByRecursion IsSafe lines → AllByRecursion (IsBeside p) lines → AllByRecursion (Before line) lines → (t : Files) → IsShaped (bares_of (places t))
+    pub never_clears : (line : Line) (lines : List Line) → IsSafe line → IsBeside p line → AllByRecursion IsSafe lines → AllByRecursion (IsBeside p) lines → AllByRecursion (Before line) lines → (t : Files) → IsShaped (bares_of (places t))
         → one_is_refused (by_line now) (line ∷ lines) t ≡ false → Passes (after_each (by_line now) (line ∷ lines) t) → IsClearing p line → ⊥
     never_clears line lines safe beside safe_all beside_all before t shape quiet passes clearing =
         true_not_false (is_dir (bares_of (places (after_each (by_line now) (line ∷ lines) t)) (path_in line.path))) (passes (path_in line.path) clearing.above other stuck.there) stuck.no_dir

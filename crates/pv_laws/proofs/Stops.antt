@@ -172,7 +172,7 @@ module _ (lines : List Line) (are : AllByRecursion IsLine lines) (distinct : are
         by (set touching e t f) = impossible (sym two.0 ∙ touch_adjusts touching e)
         by (nothing f) = f
 
-    nothing_before : (before : List Line) → AllByRecursion (λ first. GoesBefore first line) before → list_any is_erasure (operations_of before q) ≡ false → operations_of before q ≡ []
+    pub nothing_before : (before : List Line) → AllByRecursion (λ first. GoesBefore first line) before → list_any is_erasure (operations_of before q) ≡ false → operations_of before q ≡ []
     nothing_before [] goes none = refl
     nothing_before (first ∷ before) goes none =
         let two = or_parts (list_any is_erasure (parts (operations first q))) (list_any is_erasure (operations_of before q)) (sym (list_any-append is_erasure (parts (operations first q)) (operations_of before q)) ∙ none) in

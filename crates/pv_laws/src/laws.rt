@@ -184,12 +184,12 @@ pub fn each_path_by_itself_is_what_lines_without_reasons_leave()
 {}
 
 /// So what the definition gives at each path after all lines is the same from what a stopped run has left as from the tree
-/// of its start, where no line has a reason and neither whole run refuses a line at a turn.
+/// of its start, where no line has a reason and a whole run from the start refuses no line at a turn; whatever a whole run
+/// from what was left would refuse.
 pub fn states_after_a_stop_end_as_from_the_start()
-    ensures { (lines : List LineValue) (now later : ℕ) (s r : Bares) (t u : Files) (q : Path) → IsTree t → IsTree u
+    ensures { (lines : List LineValue) (now : ℕ) (s r : Bares) (t u : Files) (q : Path) → IsTree t → IsTree u
         → AllByRecursion IsLine lines → are_distinct lines ≡ true → IsRepeatable lines → IsQuiet lines now t
-        → IsQuiet lines later u → Agree s t → Agree r u → PartwayOf (in_create_order lines) now t u
-        → has_staging q ≡ false
+        → Agree s t → Agree r u → PartwayOf (in_create_order lines) now t u → has_staging q ≡ false
         → fin.get (state lines (length (in_create_order lines)) r) q
         ≡ fin.get (state lines (length (in_create_order lines)) s) q }
 {}
