@@ -11,11 +11,10 @@ use Rattle.pv_remove.specs.Ended.{TakesAway}
 use Rattle.pv_steps.specs.declared.tree.Tree.{Ghosts}
 use Rattle.pv_steps.specs.declared.tree.TreeFault.{TreeFault}
 use Rattle.pv_steps.specs.Acting.{refused, Acted}
-use Rattle.pv_steps.specs.Trees.{Files}
 use Rattle.pv_steps.proofs.ActingLaws.{Moves}
 use Rattle.pv_table.specs.Active.{in_create_order}
 use Rattle.pv_table.specs.Created.{created, created_messages, some_refusal_counts, work}
-use Rattle.pv_table.specs.Removed.{is_gone, is_unfinished, removed, removed_messages}
+use Rattle.pv_table.specs.Removed.{is_gone, is_unfinished, removed_messages}
 use Rattle.pv_text.specs.Said.{SaidPart}
 use Rattle.pv_phases.specs.Phases.{boot_phases, phases_course}
 use Rattle.pv_phases.specs.declared.phase.Phase.TheVariants.{Remove, Create}

@@ -1,6 +1,6 @@
 -- Laws of phases carried out one after the other: nothing done, one phase more, one that was stopped, and all done.
 use Rattle.std.specs.Prelude.{◌≡◌, ⊤, true, ℕ, ◌+◌, ◌<◌, ◌≤◌, ◌^◌, Bool, false, ◌||◌, List, [], ◌∷◌, ◌++◌, length, take, drop, get_or, Result, Ok, Err, IsErrAnd, IsErrOf}
-use Rattle.std.proofs.Common.{zero, suc, refl, sym, ap, subst, ◌∙◌, inl, inr, arith, append-nil}
+use Rattle.std.proofs.Common.{zero, suc, refl, sym, ap, subst, ◌∙◌, arith, append-nil}
 use Rattle.std.proofs.lemmas.List.{append_cancel_left}
 use Rattle.std.proofs.Math.Seq.{drop-length, take-nil}
 use Rattle.pv_clean.specs.Cleaning.{IsCleanStep}
