@@ -1,6 +1,7 @@
 -- From a run over an image to the answer to its bytes.
 use Rattle.std.specs.Prelude.{◌≡◌, ◌≢◌, ℕ, ◌+◌, ◌-◌, ◌<◌, ◌≤◌, List, [], ◌∷◌, ◌++◌, length, drop, Option, Some, None, Result, Ok, Err, IfOk, IfSome}
 use Rattle.std.proofs.Common.{subst, sym, ap, ◌∙◌, arith}
+use Rattle.std.proofs.lemmas.List.{append_cancel_left}
 use Rattle.pv_text.specs.Facts.{Values}
 use Rattle.pv_steps.specs.declared.step.Step.{Step}
 use Rattle.pv_steps.specs.Trees.{Files}
@@ -20,7 +21,7 @@ use Rattle.provision_run.proofs.TaskLaws.{front_by}
 use Rattle.provision_run.specs.Framed.{IsFramedIn}
 use Rattle.provision_run.specs.OnTheWay.{IsOnTheWayIn}
 use Rattle.provision_run.specs.Swept.{IsSweptIn}
-use Rattle.provision_run.specs.Whole.{final, HasSaidBy, HasSaidStoppedBy, IsMendedAnewIn, IsMendedIn, is_run_step, IsSaid, read_messages, run_end, run_way, run_work}
+use Rattle.provision_run.specs.Whole.{final, HasSaidBy, HasSaidPartBy, HasGoneBy, IsCutBy, IsMendedAnewIn, IsMendedIn, is_run_step, IsSaid, read_messages, run_end, run_way, run_work}
 use Rattle.provision_run.specs.Answers.{IsAnswer, IsAnswered, IsRun, IsWhole, IsStopped, IsOwn, outcome_of, outcome, stopped_text, most_bytes}
 use Rattle.provision_run.specs.Messages.{messages_text}
 
@@ -140,10 +141,10 @@ module _ (options : Options) (facts : Values) (moment : ℕ) (t u : Files) (h k 
   all_told : k ≡ ran.steps
   all_told = ran.recorded ∙ ap (λ x. x ++ ran.steps) start
 
-  pub whole_run : (found : Outcome) (out : List ℕ) (said : List (List ℕ)) → IsSaid options facts moment t said → found ≡ outcome options facts moment t → u ≡ final options facts moment t
+  pub whole_run : (found : Outcome) (out : List ℕ) (said : List (List ℕ)) → IsSaid options facts moment t said → IsCutBy (task_of options) options facts moment 0 t (drop (length h) k) said → found ≡ outcome options facts moment t → u ≡ final options facts moment t
       → IsSweptIn (task_of options) options facts moment t u → IsFramedIn (task_of options) options facts moment t (drop (length h) k) → out ≡ messages_text (read_messages options facts t ++ said) ++ text_of facts u → IsImage out facts u → IfSome options.stop_after (λ n. length k ≤ n)
       → IsWhole options facts moment t found out
-  whole_run found out said is_said is end staged framed text image few = record {
+  whole_run found out said is_said in_turn is end staged framed text image few = record {
     end = is;
     said = said;
     is_said = is_said;
@@ -152,6 +153,7 @@ module _ (options : Options) (facts : Values) (moment : ℕ) (t u : Files) (h k 
     steps = ran.steps;
     way = ran.along;
     asked = ran.gives;
+    in_turn = subst (λ (steps : List Step). IsCutBy (task_of options) options facts moment 0 t steps said) (ap (λ x. drop (length x) k) start ∙ all_told) in_turn;
     reached = sym end ∙ ran.reached;
     within = subst (λ x. IfSome options.stop_after (λ n. length x ≤ n)) all_told few;
     framed = subst (IsFramedIn (task_of options) options facts moment t) (ap (λ x. drop (length x) k) start ∙ all_told) framed;
@@ -160,14 +162,14 @@ module _ (options : Options) (facts : Values) (moment : ℕ) (t u : Files) (h k 
 
   pub stopped_run : (n : ℕ) (out : List ℕ) (said : List (List ℕ)) → options.stop_after ≡ Some n → length k ≡ n
       → (length k - length h) + 1 ≤ run_work options facts moment t
-      → HasSaidStoppedBy (task_of options) options facts moment t [] said
+      → HasSaidPartBy (task_of options) options facts moment t [] said → HasGoneBy (task_of options) options facts moment 1 t (drop (length h) k) [] said
       → out ≡ messages_text (said ++ stopped_text n ∷ []) ++ text_of facts u → IsImage out facts u
       → IsMendedIn (task_of options) options facts moment t (drop (length h) k)
       → IsMendedAnewIn (task_of options) options facts moment t (drop (length h) k)
       → IsFramedIn (task_of options) options facts moment t (drop (length h) k)
       → IsOnTheWayIn (task_of options) options facts moment t (drop (length h) k)
       → IsStopped options facts moment t n out
-  stopped_run n out said limit count bound stopped text image mended anew framed between = record {
+  stopped_run n out said limit count bound part stopped text image mended anew framed between = record {
     limit = limit;
     fewer = fewer;
     steps = ran.steps;
@@ -175,8 +177,8 @@ module _ (options : Options) (facts : Values) (moment : ℕ) (t u : Files) (h k 
     way = ran.along;
     asked = ran.gives;
     said = stopped.0;
-    front = front_by (task_of options) options facts moment t stopped.0 stopped.1.1;
-    at_work = stopped.1.1;
+    front = front_by (task_of options) options facts moment t (drop (length h) k) stopped.0 said stopped.1.1 stopped.1.0 part;
+    at_work = subst (λ (steps : List Step). IsCutBy (task_of options) options facts moment 1 t steps stopped.0) (ap (λ x. drop (length x) k) start ∙ all_told) stopped.1.1;
     text = text ∙ ap (λ x. messages_text (x ++ stopped_text n ∷ []) ++ text_of facts u) stopped.1.0
         ∙ ap (λ x. messages_text (read_messages options facts t ++ stopped.0 ++ stopped_text n ∷ []) ++ text_of facts x) ran.reached;
     again = subst (IsImage out facts) ran.reached image;
@@ -198,14 +200,17 @@ module _ (options : Options) (facts : Values) (moment : ℕ) (old new : Held) (s
   pub whole_answered : (e : RunEnd) → e ≡ run_end options facts moment old.files → new.files ≡ final options facts moment old.files
       → IsSweptIn (task_of options) options facts moment old.files new.files
       → IsFramedIn (task_of options) options facts moment old.files (drop (length old.steps) new.steps) → (said : List (List ℕ)) → HasSaidBy (task_of options) options facts moment old.files [] said
+      → HasGoneBy (task_of options) options facts moment 0 old.files (drop (length old.steps) new.steps) [] said
       → {E : Type 0} (r : Result Answer E) → IfOk r (λ a. a.outcome ≡ outcome_of e) → IfOk r (λ a. a.output.items ≡ messages_text said ++ text_of facts kept.files)
       → IfOk r (λ a. IsImage a.output.items facts kept.files)
       → IfOk r (λ _. IfSome options.stop_after (λ n. length kept.steps ≤ n))
       → IfOk r (λ a. IsAnswered options facts moment old.files a.outcome a.output.items)
-  whole_answered e is end staged framed said all (Err f) found text image few = tt
-  whole_answered e is end staged framed said all (Ok a) found text image few =
+  whole_answered e is end staged framed said all gone (Err f) found text image few = tt
+  whole_answered e is end staged framed said all gone (Ok a) found text image few =
       answered_whole options facts moment old.files e a.outcome a.output.items found
       (whole_run options facts moment old.files new.files old.steps new.steps start ran a.outcome a.output.items all.0 all.1.0
+      (subst (IsCutBy (task_of options) options facts moment 0 old.files (drop (length old.steps) new.steps))
+      (append_cancel_left (read_messages options facts old.files) gone.0 all.0 (sym gone.1.0 ∙ all.1.1)) gone.1.1)
       (found ∙ ap outcome_of is) end staged framed
       (text ∙ ap (λ x. messages_text x ++ text_of facts kept.files) all.1.1 ∙ ap (λ (x : Held). messages_text (read_messages options facts old.files ++ all.0) ++ text_of facts x.files) same)
       (subst (λ (x : Held). IsImage a.output.items facts x.files) same image)
@@ -213,7 +218,8 @@ module _ (options : Options) (facts : Values) (moment : ℕ) (old new : Held) (s
 
   pub stopped_answered : (n : ℕ) (said : List (List ℕ)) → options.stop_after ≡ Some n
       → (length new.steps - length old.steps) + 1 ≤ run_work options facts moment old.files
-      → HasSaidStoppedBy (task_of options) options facts moment old.files [] said
+      → HasSaidPartBy (task_of options) options facts moment old.files [] said
+      → HasGoneBy (task_of options) options facts moment 1 old.files (drop (length old.steps) new.steps) [] said
       → IsMendedIn (task_of options) options facts moment old.files (drop (length old.steps) new.steps)
       → IsMendedAnewIn (task_of options) options facts moment old.files (drop (length old.steps) new.steps)
       → IsFramedIn (task_of options) options facts moment old.files (drop (length old.steps) new.steps)
@@ -222,11 +228,11 @@ module _ (options : Options) (facts : Values) (moment : ℕ) (old new : Held) (s
       → IfOk r (λ a. a.output.items ≡ messages_text (said ++ stopped_text n ∷ []) ++ text_of facts kept.files)
       → IfOk r (λ a. IsImage a.output.items facts kept.files)
       → IfOk r (λ a. IsAnswered options facts moment old.files a.outcome a.output.items)
-  stopped_answered n said limit bound part mended anew framed between (Err f) found count text image = tt
-  stopped_answered n said limit bound part mended anew framed between (Ok a) found count text image =
+  stopped_answered n said limit bound part gone mended anew framed between (Err f) found count text image = tt
+  stopped_answered n said limit bound part gone mended anew framed between (Ok a) found count text image =
       subst (λ x. IsAnswered options facts moment old.files x a.output.items) (sym found)
       (stopped_run options facts moment old.files new.files old.steps new.steps start ran n a.output.items said limit
-      (ap (λ (x : Held). length x.steps) (sym same) ∙ count) bound part
+      (ap (λ (x : Held). length x.steps) (sym same) ∙ count) bound part gone
       (text ∙ ap (λ (x : Held). messages_text (said ++ stopped_text n ∷ []) ++ text_of facts x.files) same) (subst (λ (x : Held). IsImage a.output.items facts x.files) same image) mended anew framed between)
 
 -- the same over a tree that is another by name alone

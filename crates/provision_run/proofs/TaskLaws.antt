@@ -1,16 +1,16 @@
 -- Laws of runs by their task: what a task's own words say holds by the task.
-use Rattle.std.specs.Prelude.{◌≡◌, ℕ, Bool, true, false, List, ◌++◌, length, take, drop, is_some, Result, OnOk, IfOk}
-use Rattle.std.proofs.Common.{refl, sym, subst, ◌∙◌, inr}
-use Rattle.std.proofs.Math.Seq.{drop-length, take-length}
+use Rattle.std.specs.Prelude.{◌≡◌, ℕ, Bool, true, false, List, [], ◌∷◌, ◌++◌, length, take, drop, is_some, Result, OnOk, IfOk}
+use Rattle.std.proofs.Common.{zero, suc, refl, sym, ap, subst, ◌∙◌, inl, inr, arith, append_assoc}
+use Rattle.std.proofs.Math.Seq.{drop-append_seam, drop-length, take-length}
 use Rattle.pv_accounts_run.specs.Accounted.{accounted}
 use Rattle.pv_accounts_run.specs.Carrying.{AccountWay, IsAccountStep}
 use Rattle.pv_accounts_run.specs.Mended as accounts
 use Rattle.pv_accounts_run.specs.Swept as swept
 use Rattle.pv_create.specs.OnTheWay.{IsFramed}
 use Rattle.pv_phases.specs.OnTheWay.{GiveBy, IsBetweenBy}
-use Rattle.pv_phases.specs.Phases.{HasSaidStopped, IsMendedBy, phases_of}
+use Rattle.pv_doing.specs.Courses.{HasGone}
+use Rattle.pv_phases.specs.Phases.{IsMendedBy, phases_of}
 use Rattle.pv_phases.specs.Swept.{IsSweptBy}
-use Rattle.pv_phases.proofs.PhaseLaws.{stopped_front}
 use Rattle.pv_steps.specs.Acting.{Acted, refused}
 use Rattle.pv_steps.specs.declared.step.Step.{Step}
 use Rattle.pv_steps.specs.declared.tree.Tree.{Ghosts}
@@ -29,25 +29,37 @@ use Rattle.provision_run.specs.Accounts.{account_messages, accounts_end, account
 use Rattle.provision_run.specs.Explained.{HasExplained, HasExplainedPart}
 use Rattle.provision_run.specs.Framed.{AreAccountsFramed, IsFramedIn}
 use Rattle.provision_run.specs.OnTheWay.{IsOnTheWayIn}
-use Rattle.provision_run.specs.Phased.{is_phases_step, lines_messages, phase_messages, phased, phases_end, phases_way, phases_work, run_lines}
+use Rattle.provision_run.specs.Phased.{is_phases_step, lines_messages, phase_messages, phased, phases_cut, phases_end, phases_way, phases_work, run_lines}
 use Rattle.provision_run.specs.Reported.{HasReported, HasReportedPart, report_end}
 use Rattle.provision_run.specs.Rereading.{AreAccountsMendedAnew, AreRequestsReread, IsMendedAnew, IsReread}
 use Rattle.provision_run.specs.Swept.{IsSweptIn}
 use Rattle.provision_run.specs.Tasks.{task_by, task_of}
-use Rattle.provision_run.specs.Whole.{end_by, final_by, HasSaidBy, HasSaidPartBy, HasSaidStoppedBy, IsMendedAnewIn, IsMendedIn, IsSaidBy, IsSaidStoppedBy, is_step_by, read_by, way_by, work_by}
+use Rattle.provision_run.specs.Whole.{end_by, final_by, HasSaidBy, HasSaidPartBy, HasGoneBy, IsMendedAnewIn, IsMendedIn, IsSaidBy, IsCutBy, is_step_by, read_by, way_by, work_by}
 use Rattle.pv_path.proofs.Tests.{on_ok}
+use Rattle.pv_text.proofs.SaidLaws.{front_of}
 
--- what may be said where a step was refused is a front part of what is said in all
-pub front_by : (asked : Task) (options : Options) (facts : Values) (moment : ℕ) (t : Files) (said : List (List ℕ)) → IsSaidStoppedBy asked options facts moment t said
+-- what follows a part of a list in a front part of the whole is a front part of the rest
+after_front : (a b s : List (List ℕ)) (n : ℕ) → a ++ s ≡ take n (a ++ b) → (k : ℕ) × (s ≡ take k b)
+after_front [] b s n e = (n, e)
+after_front (x ∷ a) b s zero e = absurd cc
+after_front (x ∷ a) b s (suc n) e = let rest : a ++ s ≡ take n (a ++ b) = cc in after_front a b s n rest
+
+-- what is said where a step was refused is a front part of what is said in all
+pub front_by : (asked : Task) (options : Options) (facts : Values) (moment : ℕ) (t : Files) (steps : List Step) (said new : List (List ℕ)) → IsCutBy asked options facts moment 1 t steps said
+    → new ≡ read_by asked options facts t ++ said → HasSaidPartBy asked options facts moment t [] new
     → (whole : List (List ℕ)) × (IsSaidBy asked options facts moment t whole × ((k : ℕ) × (said ≡ take k whole)))
-unfolding IsSaidBy IsSaidStoppedBy
-front_by Phases options facts moment t said stopped =
-    (phase_messages options facts moment t, (refl, stopped_front (run_lines options facts t) moment (phases_of options) t said stopped))
-front_by Report options facts moment t said stopped = absurd stopped
-front_by Explain options facts moment t said stopped = absurd stopped
-front_by Accounts options facts moment t said stopped =
+unfolding IsSaidBy IsCutBy
+front_by Phases options facts moment t steps said new cut is (inl part) =
+    let whole = phase_messages options facts moment t in
+    let front = front_of (read_by Phases options facts t) whole part.0 in
+    (whole, (refl, after_front (read_by Phases options facts t) whole said front.0 (sym is ∙ part.1 ∙ front.1)))
+front_by Phases options facts moment t steps said new cut is (inr part) =
+    (part.0, (part.1.0, after_front (read_by Phases options facts t) part.0 said part.1.1.0 (sym is ∙ part.1.1.1)))
+front_by Report options facts moment t steps said new cut is part = absurd (let no : ◌≡◌ {A = ℕ} 1 0 = cut.0 in omega (arith, no))
+front_by Explain options facts moment t steps said new cut is part = absurd (let no : ◌≡◌ {A = ℕ} 1 0 = cut.0 in omega (arith, no))
+front_by Accounts options facts moment t steps said new cut is part =
     let whole = account_messages options facts moment t in
-    (whole, (refl, (length whole, stopped ∙ sym (take-length whole))))
+    (whole, (refl, (length whole, cut ∙ sym (take-length whole))))
 
 module _ (options : Options) (facts : Values) (moment : ℕ) (t : Files) where
   -- ---- phases
@@ -76,10 +88,17 @@ module _ (options : Options) (facts : Values) (moment : ℕ) (t : Files) where
   phases_part k is old new h =
       subst (λ (j : Task). HasSaidPartBy j options facts moment t old new) is (inr (phase_messages options facts moment t, (refl, h)))
 
-  pub phases_stopped : (k : Task) → Phases ≡ k → (old new : List (List ℕ)) → HasSaidStopped (run_lines options facts t) moment (phases_of options) t (old ++ lines_messages options facts t) new
-      → HasSaidStoppedBy k options facts moment t old new
-  unfolding IsSaidStoppedBy read_by
-  phases_stopped k is old new h = subst (λ (j : Task). HasSaidStoppedBy j options facts moment t old new) is h
+  pub phases_gone : {S : Type 0} (tree : Ghosts S) (k : Task) → Phases ≡ k → (n : ℕ) (a b : S) (old new : List (List ℕ)) → HasGone tree (phases_cut options facts moment n t) moment a b (old ++ lines_messages options facts t) new
+      → HasGoneBy k options facts moment n t (drop (length (tree.steps a)) (tree.steps b)) old new
+  unfolding IsCutBy read_by
+  phases_gone tree k is n a b old new gone =
+      let steps : drop (length (tree.steps a)) (tree.steps b) ≡ gone.steps = ap (drop (length (tree.steps a))) gone.recorded ∙ drop-append_seam (tree.steps a) gone.steps in
+      subst (λ (j : Task). HasGoneBy j options facts moment n t (drop (length (tree.steps a)) (tree.steps b)) old new) is
+      (gone.texts, (gone.said ∙ append_assoc old (lines_messages options facts t) gone.texts, subst (λ (v : List Step). phases_cut options facts moment n t v gone.texts) (sym steps) gone.is))
+
+  pub phases_gone_ok : {S : Type 0} (tree : Ghosts S) (k : Task) → Phases ≡ k → (r : Result RunEnd TreeFault) (a b : S) (old new : List (List ℕ)) → OnOk r (HasGone tree (phases_cut options facts moment 0 t) moment a b (old ++ lines_messages options facts t) new)
+      → OnOk r (HasGoneBy k options facts moment 0 t (drop (length (tree.steps a)) (tree.steps b)) old new)
+  phases_gone_ok tree k is r a b old new h = on_ok r {Y = HasGoneBy k options facts moment 0 t (drop (length (tree.steps a)) (tree.steps b)) old new} (phases_gone tree k is 0 a b old new) h
 
   pub phases_mended : (k : Task) → Phases ≡ k → (steps : List Step) → IsMendedBy (phases_of options) (run_lines options facts t) moment t steps → IsMendedIn k options facts moment t steps
   unfolding IsMendedIn
@@ -125,11 +144,15 @@ module _ (options : Options) (facts : Values) (moment : ℕ) (t : Files) where
   accounts_part k is old new h =
       subst (λ (j : Task). HasSaidPartBy j options facts moment t old new) is (inr (account_messages options facts moment t, (refl, h)))
 
-  pub accounts_stopped : (k : Task) → Accounts ≡ k → (old new : List (List ℕ)) → new ≡ old ++ requests_messages options facts t ++ account_messages options facts moment t
-      → HasSaidStoppedBy k options facts moment t old new
-  unfolding IsSaidStoppedBy read_by
-  accounts_stopped k is old new h =
-      subst (λ (j : Task). HasSaidStoppedBy j options facts moment t old new) is (account_messages options facts moment t, (h, refl))
+  pub accounts_gone : (k : Task) → Accounts ≡ k → (n : ℕ) (steps : List Step) (old new : List (List ℕ)) → new ≡ old ++ requests_messages options facts t ++ account_messages options facts moment t
+      → HasGoneBy k options facts moment n t steps old new
+  unfolding IsCutBy read_by
+  accounts_gone k is n steps old new h =
+      subst (λ (j : Task). HasGoneBy j options facts moment n t steps old new) is (account_messages options facts moment t, (h, refl))
+
+  pub accounts_gone_ok : (k : Task) → Accounts ≡ k → (r : Result RunEnd TreeFault) (steps : List Step) (old new : List (List ℕ)) → OnOk r (new ≡ old ++ requests_messages options facts t ++ account_messages options facts moment t)
+      → OnOk r (HasGoneBy k options facts moment 0 t steps old new)
+  accounts_gone_ok k is r steps old new h = on_ok r {Y = HasGoneBy k options facts moment 0 t steps old new} (accounts_gone k is 0 steps old new) h
 
   pub accounts_mended : (k : Task) → Accounts ≡ k → (steps : List Step) → accounts.IsMended (run_requests options facts t) moment t steps → IsMendedIn k options facts moment t steps
   unfolding IsMendedIn
@@ -156,6 +179,11 @@ module _ (options : Options) (facts : Values) (moment : ℕ) (t : Files) where
   pub report_said : (k : Task) → Report ≡ k → (old new : List (List ℕ)) → HasReported options facts t old new → HasSaidBy k options facts moment t old new
   unfolding IsSaidBy read_by
   report_said k is old new h = subst (λ (j : Task). HasSaidBy j options facts moment t old new) is h
+
+  pub report_gone : (k : Task) → Report ≡ k → (told : List Step) (old new : List (List ℕ)) → HasReported options facts t old new → HasGoneBy k options facts moment 0 t (drop (length told) told) old new
+  unfolding IsCutBy read_by
+  report_gone k is told old new h =
+      subst (λ (j : Task). HasGoneBy j options facts moment 0 t (drop (length told) told) old new) is (h.0, (h.1.1, (refl, drop-length told)))
 
   pub report_ended : (k : Task) → Report ≡ k → (end : RunEnd) → end ≡ report_end options facts t → end ≡ end_by k options facts moment t
   unfolding end_by
@@ -194,6 +222,11 @@ module _ (options : Options) (facts : Values) (moment : ℕ) (t : Files) where
   pub explain_said : (k : Task) → Explain ≡ k → (old new : List (List ℕ)) → HasExplained options facts t old new → HasSaidBy k options facts moment t old new
   unfolding IsSaidBy read_by
   explain_said k is old new h = subst (λ (j : Task). HasSaidBy j options facts moment t old new) is h
+
+  pub explain_gone : (k : Task) → Explain ≡ k → (told : List Step) (old new : List (List ℕ)) → HasExplained options facts t old new → HasGoneBy k options facts moment 0 t (drop (length told) told) old new
+  unfolding IsCutBy read_by
+  explain_gone k is told old new h =
+      subst (λ (j : Task). HasGoneBy j options facts moment 0 t (drop (length told) told) old new) is (h.0, (h.1.1, (refl, drop-length told)))
 
   pub explain_ended : (k : Task) → Explain ≡ k → (end : RunEnd) → end ≡ report_end options facts t → end ≡ end_by k options facts moment t
   unfolding end_by

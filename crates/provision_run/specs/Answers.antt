@@ -21,7 +21,7 @@ use Rattle.provision_run.specs.OnTheWay.{IsOnTheWayIn}
 use Rattle.provision_run.specs.Swept.{IsSweptIn}
 use Rattle.provision_run.specs.Tasks.{task_of}
 use Rattle.provision_run.specs.Words.{moment_of}
-use Rattle.provision_run.specs.Whole.{run_way, final, IsMendedAnewIn, IsMendedIn, is_run_step, IsSaid, IsSaidStoppedBy, read_messages, run_end, run_work}
+use Rattle.provision_run.specs.Whole.{run_way, final, IsMendedAnewIn, IsMendedIn, is_run_step, IsSaid, IsCutBy, read_messages, run_end, run_work}
 use Rattle.pv_words.specs.Asked.{asked_of}
 use Rattle.pv_words.specs.declared.asked.Asked.{Asked}
 use Rattle.pv_words.specs.declared.asked.Asked.TheVariants.{Run, Generate}
@@ -75,8 +75,8 @@ abbrev pub output : Options → Values → ℕ → Files → List (List ℕ) →
 output options facts moment t said = messages_text (read_messages options facts t ++ said) ++ text_of facts (final options facts moment t)
 
 -- a run that was not stopped: how it ended and what it has written, which is an image again; legal steps, each one that
--- the lines ask for, lead to the tree that it leaves, no more than the limit where one was given, with its frame at each
--- moment, and nothing is left there at the staging names of what it made
+-- the lines ask for at its turn, lead to the tree that it leaves, no more than the limit where one was given, with its frame
+-- at each moment, and nothing is left there at the staging names of what it made
 pub record IsWhole (options : Options) (facts : Values) (moment : ℕ) (t : Files) (found : Outcome) (out : List ℕ) : Type 0 where
   pub end : found ≡ outcome options facts moment t
   pub said : List (List ℕ)
@@ -86,6 +86,7 @@ pub record IsWhole (options : Options) (facts : Values) (moment : ℕ) (t : File
   pub steps : List Step
   pub way : Along (run_way options facts moment t) t steps moment
   pub asked : AllByRecursion (is_run_step options facts moment t) steps
+  pub in_turn : IsCutBy (task_of options) options facts moment 0 t steps said
   pub reached : final options facts moment t ≡ after_all t steps moment
   pub within : IfSome options.stop_after (λ n. length steps ≤ n)
   pub framed : IsFramedIn (task_of options) options facts moment t steps
@@ -98,8 +99,9 @@ abbrev pub stopped_text : ℕ → List ℕ
 stopped_text n = codes "stopped after " ++ decimal n ++ codes " steps"
 
 -- what a run has written that was stopped after n steps, which are fewer than the most that it takes: what is said in
--- reading, the first of what is said then (in the phases, of the one that was stopped what it says at work), that it was
--- stopped, and the image of the tree after the n steps, each one that the lines ask for; this is an image again, and where
+-- reading, the first of what is said then, that it was stopped, and the image of the tree after the n steps. Steps and
+-- messages are those of one choice: the phases and the lines before the one at work have done and said all, those after it
+-- nothing, and the one at work had a step left. What is written is an image again, and where
 -- it has one phase, is the boot command or makes accounts, the stop law of it holds, also where the lines are read anew of
 -- that tree; whatever it does, its frame holds; and creating, alone or in the boot command, is on its way, and its steps give
 -- what lines leave
@@ -112,7 +114,7 @@ pub record IsStopped (options : Options) (facts : Values) (moment : ℕ) (t : Fi
   pub asked : AllByRecursion (is_run_step options facts moment t) steps
   pub said : List (List ℕ)
   pub front : (whole : List (List ℕ)) × (IsSaid options facts moment t whole × ((k : ℕ) × (said ≡ take k whole)))
-  pub at_work : IsSaidStoppedBy (task_of options) options facts moment t said
+  pub at_work : IsCutBy (task_of options) options facts moment 1 t steps said
   pub text : out ≡ messages_text (read_messages options facts t ++ said ++ stopped_text n ∷ []) ++ text_of facts (after_all t steps moment)
   pub again : IsImage out facts (after_all t steps moment)
   pub mended : IsMendedIn (task_of options) options facts moment t steps

@@ -1,7 +1,7 @@
 -- A whole run of systemd-tmpfiles(8) that carries out lines: the lines that it reads of the tree, the tree that its phases
 -- leave, what it says, how it ends, and the most steps that it takes.
 use Rattle.std.specs.Prelude.{ℕ, Bool, List, ◌++◌}
-use Rattle.pv_doing.specs.Courses.{Partway, IsStepOfSome, carried_of}
+use Rattle.pv_doing.specs.Courses.{Cut, Partway, IsStepOfSome, carried_of}
 use Rattle.pv_lines.specs.declared.line.Line.{Line}
 use Rattle.pv_text.specs.Facts.{Values}
 use Rattle.pv_steps.specs.declared.step.Step.{Step}
@@ -41,6 +41,11 @@ phases_way options facts moment t u = Partway (phases_course (run_lines options 
 -- a step of one of the phases
 abbrev pub is_phases_step : Options → Values → ℕ → Files → Step → Type 0
 is_phases_step options facts moment t step = IsStepOfSome (phases_course (run_lines options facts t) moment) (phases_of options) t step
+
+-- the steps that were done and what was said in the phases, by so many refused steps: the phases before the one at work
+-- are done, those after it not begun, and so it is with the lines of creating
+abbrev pub phases_cut : Options → Values → ℕ → ℕ → Files → List Step → List (List ℕ) → Type 0
+phases_cut options facts moment refused t steps said = Cut (phases_course (run_lines options facts t) moment) moment refused (phases_of options) t steps said
 
 -- whether a line was refused in reading
 abbrev pub is_invalid : Options → Values → Files → Bool

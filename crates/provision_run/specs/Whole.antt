@@ -5,7 +5,7 @@ use Rattle.pv_accounts_run.specs.Accounted.{accounted}
 use Rattle.pv_accounts_run.specs.Carrying.{AccountWay, IsAccountStep}
 use Rattle.pv_accounts_run.specs.Mended as accounts
 use Rattle.pv_conf.specs.Known.{configured}
-use Rattle.pv_phases.specs.Phases.{IsMendedBy, IsSaidStopped, phases_of}
+use Rattle.pv_phases.specs.Phases.{IsMendedBy, phases_of}
 use Rattle.pv_steps.specs.declared.step.Step.{Step}
 use Rattle.pv_steps.specs.Trees.{Files}
 use Rattle.pv_text.specs.Facts.{Values}
@@ -16,7 +16,7 @@ use Rattle.provision_run.specs.declared.task.Task.{Task}
 use Rattle.provision_run.specs.declared.task.Task.TheVariants.{Phases, Report, Explain, Accounts}
 use Rattle.provision_run.specs.Accounts.{account_messages, accounts_end, accounts_work, requests_messages, run_edits, run_requests}
 use Rattle.provision_run.specs.Explained.{IsExplanationOf}
-use Rattle.provision_run.specs.Phased.{is_phases_step, lines_messages, phase_messages, phased, phases_end, phases_way, phases_work, run_lines}
+use Rattle.provision_run.specs.Phased.{is_phases_step, lines_messages, phase_messages, phased, phases_cut, phases_end, phases_way, phases_work, run_lines}
 use Rattle.provision_run.specs.Reported.{IsReportOf, report_end}
 use Rattle.provision_run.specs.Rereading.{AreAccountsMendedAnew, AreRequestsReread, IsMendedAnew, IsReread}
 use Rattle.provision_run.specs.Tasks.{task_of}
@@ -86,18 +86,21 @@ HasSaidPartBy task options facts moment t old new =
     SaidPart (read_by task options facts t) old new
     ⊎ ((said : List (List ℕ)) × (IsSaidBy task options facts moment t said × SaidPart (read_by task options facts t ++ said) old new))
 
--- what is said after reading where a step was refused: of the phases before the one at work all, and of this what it says
--- at work; of accounts all, since it is said before the first step; a report and an explanation do no step
-unfoldable pub IsSaidStoppedBy : Task → Options → Values → ℕ → Files → List (List ℕ) → Type 0
-IsSaidStoppedBy Phases options facts moment t said = IsSaidStopped (run_lines options facts t) moment (phases_of options) t said
-IsSaidStoppedBy Report options facts moment t said = ⊥
-IsSaidStoppedBy Explain options facts moment t said = ⊥
-IsSaidStoppedBy Accounts options facts moment t said = said ≡ account_messages options facts moment t
+-- ---- steps and messages together
 
--- what a run has said of which a step was refused
-abbrev pub HasSaidStoppedBy : Task → Options → Values → ℕ → Files → List (List ℕ) → List (List ℕ) → Type 0
-HasSaidStoppedBy task options facts moment t old new =
-    (said : List (List ℕ)) × ((new ≡ old ++ read_by task options facts t ++ said) × IsSaidStoppedBy task options facts moment t said)
+-- which steps are done and what is said after reading, by so many refused steps: the phases before the one at work are done
+-- and those after it not begun, and so it is with the lines of creating; of accounts all is said, since that comes before
+-- the first step; a report and an explanation do no step
+unfoldable pub IsCutBy : Task → Options → Values → ℕ → ℕ → Files → List Step → List (List ℕ) → Type 0
+IsCutBy Phases options facts moment refused t steps said = phases_cut options facts moment refused t steps said
+IsCutBy Report options facts moment refused t steps said = (refused ≡ 0) × (steps ≡ [])
+IsCutBy Explain options facts moment refused t steps said = (refused ≡ 0) × (steps ≡ [])
+IsCutBy Accounts options facts moment refused t steps said = said ≡ account_messages options facts moment t
+
+-- what a run has said that has read its configuration and done these steps
+abbrev pub HasGoneBy : Task → Options → Values → ℕ → ℕ → Files → List Step → List (List ℕ) → List (List ℕ) → Type 0
+HasGoneBy task options facts moment refused t steps old new =
+    (said : List (List ℕ)) × ((new ≡ old ++ read_by task options facts t ++ said) × IsCutBy task options facts moment refused t steps said)
 
 -- ---- the stop laws
 

@@ -4,11 +4,12 @@ ghost use Rattle.pv_text.specs.Said.{SaidPart};
 ghost use Rattle.pv_steps.specs.declared.tree.TreeFault.TheVariants.{Failed};
 ghost use Rattle.pv_steps.specs.Acting.{Acted};
 ghost use Rattle.pv_create.specs.OnTheWay.{IsFramed};
+ghost use Rattle.pv_doing.specs.Courses.{HasGone};
 ghost use Rattle.pv_phases.specs.OnTheWay.{GiveBy, IsBetweenBy};
-ghost use Rattle.pv_phases.specs.Phases.{HasSaidStopped, IsMendedBy, phases_of};
+ghost use Rattle.pv_phases.specs.Phases.{IsMendedBy, phases_of};
 ghost use Rattle.pv_phases.specs.Swept.{IsSweptBy};
 ghost use Rattle.provision_run.specs.Rereading.{IsMendedAnew, IsReread};
-ghost use Rattle.provision_run.specs.Phased.{is_phases_step, lines_messages, phase_messages, phased, phases_end, phases_way, phases_work, run_lines};
+ghost use Rattle.provision_run.specs.Phased.{is_phases_step, lines_messages, phase_messages, phased, phases_cut, phases_end, phases_way, phases_work, run_lines};
 
 use crate::ending::{RunEnd, end_of};
 use crate::run_input::read_run;
@@ -38,9 +39,10 @@ pub(crate) fn carry_out<T: Tree>(
     ensures part { SaidPart
         (lines_messages options.entry.now facts.now (T.state tree.old) ++ phase_messages options.entry.now facts.now moment (T.state tree.old))
         messages.old messages.new }
-    ensures stopped { IsErrOf result Failed → HasSaidStopped (run_lines options.entry.now facts.now (T.state tree.old)) moment
-        (phases_of options.entry.now) (T.state tree.old)
-        (messages.old ++ lines_messages options.entry.now facts.now (T.state tree.old)) messages.new }
+    ensures stopped { IsErrOf result Failed → HasGone T.Tree (phases_cut options.entry.now facts.now moment 1 (T.state tree.old)) moment
+        tree.old tree.new (messages.old ++ lines_messages options.entry.now facts.now (T.state tree.old)) messages.new }
+    ensures in_turn { OnOk result (HasGone T.Tree (phases_cut options.entry.now facts.now moment 0 (T.state tree.old)) moment
+        tree.old tree.new (messages.old ++ lines_messages options.entry.now facts.now (T.state tree.old)) messages.new) }
     ensures acted { Acted T.Tree
         (phases_way options.entry.now facts.now moment (T.state tree.old))
         (is_phases_step options.entry.now facts.now moment (T.state tree.old))

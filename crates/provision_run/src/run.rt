@@ -6,7 +6,7 @@ ghost use Rattle.provision_run.specs.Tasks.{task_of};
 ghost use Rattle.provision_run.specs.Framed.{IsFramedIn};
 ghost use Rattle.provision_run.specs.OnTheWay.{IsOnTheWayIn};
 ghost use Rattle.provision_run.specs.Swept.{IsSweptIn};
-ghost use Rattle.provision_run.specs.Whole.{end_by, final, final_by, HasSaidBy, HasSaidPartBy, HasSaidStoppedBy, IsMendedAnewIn, IsMendedIn, is_run_step, is_step_by, run_end, run_way, run_work, way_by, work_by};
+ghost use Rattle.provision_run.specs.Whole.{end_by, final, final_by, HasSaidBy, HasSaidPartBy, HasGoneBy, IsMendedAnewIn, IsMendedIn, is_run_step, is_step_by, run_end, run_way, run_work, way_by, work_by};
 
 use crate::accounting::make_accounts;
 use crate::carrying::carry_out;
@@ -39,8 +39,12 @@ pub fn run_on_tree<T: Tree>(
 
     // What any run has said and done, whatever it answers.
     ensures part { HasSaidPartBy (task_of options.entry.now) options.entry.now facts.now moment (T.state tree.old) messages.old messages.new }
-    // Where a step was refused, the configuration was read, and all was said of it.
-    ensures read { IsErrOf result Failed → HasSaidStoppedBy (task_of options.entry.now) options.entry.now facts.now moment (T.state tree.old) messages.old messages.new }
+    // Where a step was refused, the configuration was read and all was said of it; the phases and the lines before the one
+    // at work have done and said all, those after it nothing. So it is where it answers Ok, with no step refused.
+    ensures read { IsErrOf result Failed → HasGoneBy (task_of options.entry.now) options.entry.now facts.now moment 1 (T.state tree.old)
+        (drop (length (T.steps tree.old)) (T.steps tree.new)) messages.old messages.new }
+    ensures in_turn { OnOk result (HasGoneBy (task_of options.entry.now) options.entry.now facts.now moment 0 (T.state tree.old)
+        (drop (length (T.steps tree.old)) (T.steps tree.new)) messages.old messages.new) }
     ensures acted { Acted T.Tree
         (run_way options.entry.now facts.now moment (T.state tree.old))
         (is_run_step options.entry.now facts.now moment (T.state tree.old))
@@ -88,7 +92,10 @@ fn do_task<T: Tree>(
     ensures end { IfOk result (λ end. end ≡ end_by task options.entry.now facts.now moment (T.state tree.old)) }
     ensures staged { OnOk result (IsSweptIn task options.entry.now facts.now moment (T.state tree.old) (T.state tree.new)) }
     ensures part { HasSaidPartBy task options.entry.now facts.now moment (T.state tree.old) messages.old messages.new }
-    ensures stopped { IsErrOf result Failed → HasSaidStoppedBy task options.entry.now facts.now moment (T.state tree.old) messages.old messages.new }
+    ensures stopped { IsErrOf result Failed → HasGoneBy task options.entry.now facts.now moment 1 (T.state tree.old)
+        (drop (length (T.steps tree.old)) (T.steps tree.new)) messages.old messages.new }
+    ensures in_turn { OnOk result (HasGoneBy task options.entry.now facts.now moment 0 (T.state tree.old)
+        (drop (length (T.steps tree.old)) (T.steps tree.new)) messages.old messages.new) }
     ensures acted { Acted T.Tree
         (way_by task options.entry.now facts.now moment (T.state tree.old))
         (is_step_by task options.entry.now facts.now moment (T.state tree.old))

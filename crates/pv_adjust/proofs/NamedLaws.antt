@@ -12,7 +12,7 @@ use Rattle.pv_doing.specs.Courses.{Course, carried_of, each_of, CarriesOut}
 use Rattle.pv_doing.specs.declared.carried.Carried.{Carried}
 use Rattle.pv_doing.specs.declared.carried.Carried.TheVariants.{Whole}
 use Rattle.pv_doing.proofs.CarryingLaws.{carried_none, Underway, underway_start, underway_failed, underway_next, underway_end}
-use Rattle.pv_doing.proofs.CourseLaws.{none_left, partway_start}
+use Rattle.pv_doing.proofs.CourseLaws.{cut_start, none_left, partway_start, single_start}
 use Rattle.pv_glob.specs.declared.element.Element.{Element}
 use Rattle.pv_glob.specs.Matching.{component_matches, matches, some_matches}
 use Rattle.pv_lines.specs.declared.line.Line.{Line}
@@ -126,7 +126,9 @@ pub line_none : {S : Type 0} (tree : Ghosts S) → Moves tree → (now : ℕ) (l
     → CarriesOut tree (each_of (touching_course now line touching)) (turns line (tree.state a)) now a a old old r
 line_none tree moves now line touching a old r memory =
     carried_none tree (each_of (touching_course now line touching)) (turns line (tree.state a)) now a old moves
-    (partway_start (touching_course now line touching) (course_start now line touching) (turns line (tree.state a)) (tree.state a)) old refl r memory
+    (partway_start (touching_course now line touching) (course_start now line touching) (turns line (tree.state a)) (tree.state a))
+    (cut_start (touching_course now line touching) now (λ x t. single_start (touching_course now line touching) (λ moment refused y u done said work. work) now x t (course_start now line touching x t)) (turns line (tree.state a)) (tree.state a))
+    old refl r memory
 
 module _ {S : Type 0} (tree : Ghosts S) (moves : Moves tree) (now : ℕ) (line : Line) (touching : Touching) (deed : asks line ≡ Touch touching) (items : List Path) (a : S) (are : items ≡ filter (names line) (fin.keys (tree.state a))) (old : List (List ℕ)) where
   abbrev course : Course Path

@@ -1,9 +1,10 @@
--- A line at its turn, whatever it asks for: what it may have left on its way, and which steps it may do (tmpfiles.d(5)).
-use Rattle.std.specs.Prelude.{ℕ}
+-- A line at its turn, whatever it asks for: what it may have left on its way, which steps it may do, and what it has done
+-- and said where it was cut short (tmpfiles.d(5)).
+use Rattle.std.specs.Prelude.{◌≡◌, ℕ, List, []}
 use Rattle.pv_adjust.specs.Named.{touching_course}
-use Rattle.pv_doing.specs.Courses.{Course, Partway, IsStepOfSome}
+use Rattle.pv_doing.specs.Courses.{Course, Cut, Partway, IsStepOfSome}
 use Rattle.pv_lines.specs.declared.line.Line.{Line}
-use Rattle.pv_make.specs.OnWay.{OnWay, IsStepOf}
+use Rattle.pv_make.specs.OnWay.{OnWay, IsStepOf, making_course}
 use Rattle.pv_steps.specs.declared.step.Step.{Step}
 use Rattle.pv_steps.specs.Same.{Same}
 use Rattle.pv_steps.specs.Trees.{Files}
@@ -34,10 +35,21 @@ IsStepBy Idle now line t step = ⊥
 abbrev pub IsLineStep : ℕ → Line → Files → Step → Type 0
 IsLineStep now line t step = IsStepBy (asks line) now line t step
 
+-- what it has done and said where it was cut short, by what it asks for: at its path; or at the paths that it names, those
+-- before the one at work done, those after it not begun; a line that asks for nothing has done and said nothing
+abbrev pub CutBy : Deed → ℕ → ℕ → Line → Files → List Step → List (List ℕ) → Type 0
+CutBy (Create making) now refused line t steps said = (making_course now line).cut now refused (path_in line.path) t steps said
+CutBy (Copy copying) now refused line t steps said = (making_course now line).cut now refused (path_in line.path) t steps said
+CutBy (Touch touching) now refused line t steps said = Cut (touching_course now line touching) now refused (turns line t) t steps said
+CutBy Idle now refused line t steps said = (refused ≡ 0) × (steps ≡ []) × (said ≡ [])
+
+abbrev pub LineCut : ℕ → ℕ → Line → Files → List Step → List (List ℕ) → Type 0
+LineCut now refused line t steps said = CutBy (asks line) now refused line t steps said
+
 -- a line, of which each refusal counts
 abbrev pub line_course : ℕ → Course Line
-line_course now = record { whole = by_line now; way = LineWay now; steps = IsLineStep now }
+line_course now = record { whole = by_line now; way = LineWay now; steps = IsLineStep now; cut = LineCut }
 
 -- the same, but that a refusal of a line with `-` does not count
 abbrev pub lines_course : ℕ → Course Line
-lines_course now = record { whole = by_line_that_counts now; way = LineWay now; steps = IsLineStep now }
+lines_course now = record { whole = by_line_that_counts now; way = LineWay now; steps = IsLineStep now; cut = LineCut }

@@ -1,10 +1,10 @@
 //! Lines carried out in their order.
 ghost use Rattle.std.specs.Prelude.{◌≡◌, ◌++◌, true, Some, is_some, slice_get, drop, length, IfOk, OnOk};
 ghost use Rattle.std.specs.List.{AllByRecursion};
-ghost use Rattle.pv_doing.specs.Courses.{Partway, IsStepOfSome, carried_of, each_of, CarriesOut};
+ghost use Rattle.pv_doing.specs.Courses.{Partway, IsStepOfSome, carried_of, each_of, CarriesOut, Cut, HasGone};
 ghost use Rattle.pv_laws.specs.Swept.{LeavesNoStagingName};
 ghost use Rattle.pv_lines.specs.Lines.{IsLine};
-ghost use Rattle.pv_steps.specs.Acting.{Acted};
+ghost use Rattle.pv_steps.specs.Acting.{refused, Acted};
 ghost use Rattle.pv_text.specs.Said.{SaidPart};
 ghost use Rattle.pv_table.specs.Active.{in_create_order};
 ghost use Rattle.pv_table.specs.Created.{created, created_messages, some_refusal_counts, work};
@@ -45,6 +45,10 @@ pub fn create_run<T: Tree>(
     ensures acted { Acted T.Tree (Partway (lines_course now) (in_create_order table.now) (T.state tree.old))
         (IsStepOfSome (lines_course now) (in_create_order table.now) (T.state tree.old))
         (work table.now now (T.state tree.old)) now tree.old tree.new result }
+    // Where it was cut short, the lines before the one at work have done all their steps and said all that is said of
+    // them, and those after it nothing; the one at work had a step left where one was refused.
+    ensures went { HasGone T.Tree (Cut (lines_course now) now (refused result) (in_create_order table.now) (T.state tree.old))
+        now tree.old tree.new messages.old messages.new }
 
     // The stop law.
     ensures mended { IsMended table.now now (T.state tree.old)

@@ -1,19 +1,22 @@
 -- Laws of what is done one after the other: what holds when some is done, when one thing is cut short, and when all is
 -- done.
-use Rattle.std.specs.Prelude.{◌≡◌, ℕ, ◌+◌, ◌≤◌, Bool, true, false, ◌||◌, List, [], ◌∷◌, ◌++◌, length, drop, Result, Ok}
-use Rattle.std.proofs.Common.{zero, refl, sym, ap, subst, ◌∙◌, inl, inr, arith, append-nil}
-use Rattle.std.proofs.lemmas.List.{append_assoc, drop_all}
+use Rattle.std.specs.Prelude.{◌≡◌, ℕ, ◌+◌, ◌≤◌, Bool, true, false, ◌||◌, List, [], ◌∷◌, ◌++◌, length, take, drop, Result, Ok}
+use Rattle.std.proofs.Common.{zero, refl, sym, ap, subst, ◌∙◌, inl, inr, arith, append-nil, length-append}
+use Rattle.std.proofs.lemmas.List.{append_assoc, append_cancel_left, drop_all}
 use Rattle.std.proofs.Math.Bool.{or-false}
+use Rattle.std.proofs.Math.Seq.{take-length}
 use Rattle.pv_steps.specs.declared.step.Step.{Step}
 use Rattle.pv_steps.specs.declared.tree.Tree.{Ghosts}
 use Rattle.pv_steps.specs.declared.tree.TreeFault.{TreeFault}
 use Rattle.pv_steps.specs.Trees.{Files}
 use Rattle.pv_steps.specs.Acting.{refused as refused_of, Acted}
+use Rattle.pv_steps.specs.Runs.{after_all}
 use Rattle.pv_steps.proofs.ActingLaws.{Moves, well, acted_none, acted_then, acted_weaken, acted_within, acted_ended}
+use Rattle.pv_steps.proofs.RunLaws.{after_all-append}
 use Rattle.pv_text.specs.Said.{SaidPart}
 use Rattle.pv_text.proofs.SaidLaws.{said_first, said_then, said_whole}
 use Rattle.pv_table.specs.Created.{after_each, said_of_each, one_is_refused, taken_by_each}
-use Rattle.pv_doing.specs.Courses.{Course, Partway, IsStepOfSome}
+use Rattle.pv_doing.specs.Courses.{AtWork, Course, Cut, HasGone, Partway, IsStepOfSome}
 
 -- ---- what is left of a list
 
@@ -30,6 +33,48 @@ part_said all before one rest old mid new whole said part =
 -- nothing is said
 pub part_none : (all old : List (List ℕ)) → SaidPart all old old
 part_none all old = (zero, sym (append-nil old))
+
+-- ---- one thing that was cut short
+
+module _ {A : Type 0} (c : Course A) where
+  -- it is only at work
+  abbrev pub IsSingle : Type 0
+  IsSingle = (now refused : ℕ) (x : A) (t : Files) (done : List Step) (said : List (List ℕ)) → AtWork c.whole c.way c.steps now refused x t done said → c.cut now refused x t done said
+
+  module _ (alone : IsSingle) (now : ℕ) (x : A) (t : Files) (start : c.way x t t) where
+    -- nothing is done or said
+    pub single_start : c.cut now 0 x t [] []
+    single_start = alone now 0 x t [] [] (record { along = start; own = tt; within = omega arith; front = (0, refl) })
+
+    -- there is nothing to be done, and all is said
+    pub single_told : c.cut now 0 x t [] (c.whole.says x t)
+    single_told =
+        alone now 0 x t [] (c.whole.says x t) (record { along = start; own = tt; within = omega arith; front = (length (c.whole.says x t), sym (take-length (c.whole.says x t))) })
+
+  -- what a call has done by its steps, and has said
+  pub single_gone : IsSingle → {S B : Type 0} (tree : Ghosts S) (x : A) (now : ℕ) (a b : S) (old new : List (List ℕ)) {r : Result B TreeFault} → SaidPart (c.whole.says x (tree.state a)) old new
+      → Acted tree (c.way x (tree.state a)) (c.steps x (tree.state a)) (c.whole.takes x (tree.state a)) now a b r → HasGone tree (c.cut now (refused_of r) x (tree.state a)) now a b old new
+  single_gone alone tree x now a b old new {r} part acted = record {
+    steps = acted.ran.steps;
+    texts = take part.0 (c.whole.says x (tree.state a));
+    recorded = acted.ran.recorded;
+    reached = acted.ran.reached;
+    said = part.1;
+    is = alone now (refused_of r) x (tree.state a) acted.ran.steps (take part.0 (c.whole.says x (tree.state a))) (record {
+      along = acted.ran.along;
+      own = acted.ran.gives;
+      within =
+          let count = ap length acted.ran.recorded in
+          let both = length-append (tree.steps a) acted.ran.steps in
+          omega (arith, count, both, acted.bound);
+      front = (part.0, refl);
+    });
+  }
+
+  -- several, of which nothing is done
+  pub cut_start : (now : ℕ) → ((x : A) (t : Files) → c.cut now 0 x t [] []) → (xs : List A) (t : Files) → Cut c now 0 xs t [] []
+  cut_start now begun [] t = (refl, refl, refl)
+  cut_start now begun (x ∷ xs) t = inl (begun x t)
 
 -- ---- some is done
 
@@ -55,6 +100,11 @@ pub record Going {A S : Type 0} (c : Course A) (tree : Ghosts S) (all left : Lis
   pub taken : ℕ
   pub acted : Acted tree (Partway c all (tree.state a)) (IsStepOfSome c all (tree.state a)) taken now a b well
   pub room : taken + taken_by_each c.whole left (tree.state b) ≤ taken_by_each c.whole all (tree.state a)
+  pub done : List Step
+  pub recorded : tree.steps b ≡ tree.steps a ++ done
+  pub reached : tree.state b ≡ after_all (tree.state a) done now
+  pub cutting : (n : ℕ) (steps : List Step) (texts : List (List ℕ)) → Cut c now n left (tree.state b) steps texts
+      → Cut c now n all (tree.state a) (done ++ steps) (before ++ texts)
 
 module _ {A S : Type 0} (c : Course A) (tree : Ghosts S) (moves : Moves tree) (start : (x : A) (t : Files) → c.way x t t) (all : List A) (now : ℕ) (a : S) (old : List (List ℕ)) where
   pub going_start : Going c tree all all now false a a old old
@@ -69,6 +119,10 @@ module _ {A S : Type 0} (c : Course A) (tree : Ghosts S) (moves : Moves tree) (s
     taken = 0;
     acted = acted_none tree moves (Partway c all (tree.state a)) (IsStepOfSome c all (tree.state a)) 0 now a well refl (partway_start c start all (tree.state a));
     room = omega arith;
+    done = [];
+    recorded = sym (append-nil (tree.steps a));
+    reached = refl;
+    cutting = λ n steps texts cut. cut;
   }
 
   -- ---- one more
@@ -93,11 +147,23 @@ module _ {A S : Type 0} (c : Course A) (tree : Ghosts S) (moves : Moves tree) (s
     one_part said part =
         part_said (said_of_each c.whole all (tree.state a)) going.before (c.whole.says x (tree.state b)) (said_of_each c.whole left (c.whole.after x (tree.state b))) old new said going.to_say going.said part
 
+    -- what it and all before it have done and said
+    pub one_gone : (n : ℕ) (d : S) (said : List (List ℕ)) → HasGone tree (c.cut now n x (tree.state b)) now b d new said → HasGone tree (Cut c now n all (tree.state a)) now a d old said
+    one_gone n d said one = record {
+      steps = going.done ++ one.steps;
+      texts = going.before ++ one.texts;
+      recorded = one.recorded ∙ ap (λ v. v ++ one.steps) going.recorded ∙ append_assoc (tree.steps a) going.done one.steps;
+      reached = one.reached ∙ ap (λ v. after_all v one.steps now) going.reached ∙ sym (after_all-append (tree.state a) going.done one.steps now);
+      said = one.said ∙ ap (λ v. v ++ one.texts) going.said ∙ append_assoc old going.before one.texts;
+      is = going.cutting n one.steps one.texts (inl one.is);
+    }
+
     -- when it is done
     pub going_next : {B : Type 0} (d : S) {y : B} (said : List (List ℕ)) → tree.state d ≡ c.whole.after x (tree.state b) → said ≡ new ++ c.whole.says x (tree.state b)
         → Acted tree (c.way x (tree.state b)) (c.steps x (tree.state b)) (c.whole.takes x (tree.state b)) now b d (Ok y)
+        → HasGone tree (c.cut now 0 x (tree.state b)) now b d new said
         → Going c tree all left now (refused || c.whole.is_refused x (tree.state b)) a d old said
-    going_next d said done is one = record {
+    going_next d said done is one gone = record {
       whole = going.whole ∙ ap (after_each c.whole left) (sym done);
       before = going.before ++ c.whole.says x (tree.state b);
       said = is ∙ ap (λ v. v ++ c.whole.says x (tree.state b)) going.said ∙ append_assoc old going.before (c.whole.says x (tree.state b));
@@ -115,6 +181,22 @@ module _ {A S : Type 0} (c : Course A) (tree : Ghosts S) (moves : Moves tree) (s
           let room : going.taken + (c.whole.takes x (tree.state b) + taken_by_each c.whole left (c.whole.after x (tree.state b))) ≤ taken_by_each c.whole all (tree.state a) = going.room in
           let same : taken_by_each c.whole left (tree.state d) ≡ taken_by_each c.whole left (c.whole.after x (tree.state b)) = ap (taken_by_each c.whole left) done in
           omega (arith, room, same);
+      done = going.done ++ gone.steps;
+      recorded = gone.recorded ∙ ap (λ v. v ++ gone.steps) going.recorded ∙ append_assoc (tree.steps a) going.done gone.steps;
+      reached = gone.reached ∙ ap (λ v. after_all v gone.steps now) going.reached ∙ sym (after_all-append (tree.state a) going.done gone.steps now);
+      cutting = λ n steps texts cut.
+          subst (λ v. Cut c now n all (tree.state a) v ((going.before ++ c.whole.says x (tree.state b)) ++ texts)) (sym (append_assoc going.done gone.steps steps))
+          (subst (Cut c now n all (tree.state a) (going.done ++ (gone.steps ++ steps))) (sym (append_assoc going.before (c.whole.says x (tree.state b)) texts))
+          (going.cutting n (gone.steps ++ steps) (c.whole.says x (tree.state b) ++ texts) (inr (record {
+            own = gone.steps;
+            more = steps;
+            texts = texts;
+            done = refl;
+            told = refl;
+            first = subst (c.cut now 0 x (tree.state b) gone.steps) (append_cancel_left new gone.texts (c.whole.says x (tree.state b)) (sym gone.said ∙ is)) gone.is;
+            left = sym gone.reached ∙ done;
+            later = subst (λ v. Cut c now n left v steps texts) done cut;
+          }))));
     }
 
   -- ---- all is done
@@ -137,3 +219,13 @@ module _ {A S : Type 0} (c : Course A) (tree : Ghosts S) (moves : Moves tree) (s
     end_acted r none =
         let room : going.taken + 0 ≤ taken_by_each c.whole all (tree.state a) = going.room in
         acted_within tree going.taken (taken_by_each c.whole all (tree.state a)) (omega (arith, room)) (acted_ended tree r none going.acted)
+
+    pub end_gone : HasGone tree (Cut c now 0 all (tree.state a)) now a b old new
+    end_gone = record {
+      steps = going.done ++ [];
+      texts = going.before ++ [];
+      recorded = going.recorded ∙ ap (λ v. tree.steps a ++ v) (sym (append-nil going.done));
+      reached = going.reached ∙ ap (λ v. after_all (tree.state a) v now) (sym (append-nil going.done));
+      said = going.said ∙ ap (λ v. old ++ v) (sym (append-nil going.before));
+      is = going.cutting 0 [] [] (refl, refl, refl);
+    }

@@ -4,7 +4,7 @@ use Rattle.std.proofs.Common.{refl, sym, ap, ◌∙◌}
 use Rattle.pv_doing.specs.Courses.{carried_of, CarriesOut}
 use Rattle.pv_doing.specs.declared.carried.Carried.{Carried}
 use Rattle.pv_doing.specs.declared.carried.Carried.TheVariants.{NotCarriedOut}
-use Rattle.pv_doing.proofs.CarryingLaws.{carried_none, carried_told}
+use Rattle.pv_doing.proofs.CarryingLaws.{single_none, single_said}
 use Rattle.pv_lines.specs.declared.line.Line.{Line}
 use Rattle.pv_path.specs.Paths.{Path}
 use Rattle.pv_steps.specs.declared.tree.Tree.{Ghosts}
@@ -27,12 +27,12 @@ module _ (now : ℕ) (line : Line) (path : Path) (t : Files) (place : Refused) (
 
 module _ {S : Type 0} (tree : Ghosts S) (moves : Moves tree) (now : ℕ) (line : Line) (path : Path) (a : S) (old new : List (List ℕ)) where
   pub making_none : new ≡ old → (r : Result Carried TreeFault) → IsErrAnd r (λ e. e ≡ Memory) → CarriesOut tree (making_course now line) path now a a old new r
-  making_none unsaid r memory = carried_none tree (making_course now line) path now a old moves (OnWay.before (λ q plain. refl)) new unsaid r memory
+  making_none unsaid r memory = single_none tree (making_course now line) path now a old (λ moment refused x t done said work. work) moves (OnWay.before (λ q plain. refl)) new unsaid r memory
 
   pub making_refused : (place : Refused) → refused_at line path (places (tree.state a)) ≡ Some place → new ≡ old ++ said_at line.place (refused_text place) ∷ []
       → CarriesOut tree (making_course now line) path now a a old new (Ok NotCarriedOut)
   making_refused place refused said =
-      carried_told tree (making_course now line) path now a old moves (OnWay.before (λ q plain. refl)) new NotCarriedOut
+      single_said tree (making_course now line) path now a old (λ moment refused x t done said work. work) moves (OnWay.before (λ q plain. refl)) new NotCarriedOut
       (refused_after now line path (tree.state a) place refused)
       (said ∙ ap (λ (xs : List (List ℕ)). old ++ xs) (sym (refused_says now line path (tree.state a) place refused)))
       (ap carried_of (sym (ap is_some refused)))

@@ -6,7 +6,7 @@ use Rattle.pv_dress.specs.declared.operation.Operation.{Operation}
 use Rattle.pv_dress.specs.Dividing.{parts}
 use Rattle.pv_dress.specs.Nodes.{bares_of}
 use Rattle.pv_dress.specs.Operations.{run}
-use Rattle.pv_doing.specs.Courses.{Course}
+use Rattle.pv_doing.specs.Courses.{Course, single}
 use Rattle.pv_lines.specs.declared.line.Line.{Line}
 use Rattle.pv_path.specs.Paths.{Path, same_path, is_prefix, has_staging}
 use Rattle.pv_steps.specs.declared.step.Step.{Step}
@@ -83,4 +83,4 @@ pub data IsStepOf (now : ℕ) (line : Line) (path : Path) (t : Files) (step : St
 
 -- what it does, what it may have left on its way, and its steps
 abbrev pub making_course : ℕ → Line → Course Path
-making_course now line = record { whole = by_turn now line; way = OnWay now line; steps = IsStepOf now line }
+making_course now line = single (by_turn now line) (OnWay now line) (IsStepOf now line)

@@ -1,8 +1,8 @@
 -- Removing and creating as the two phases of the boot command: one that failed, and both.
-use Rattle.std.specs.Prelude.{◌≡◌, ℕ, Bool, true, false, ◌||◌, List, [], ◌∷◌, ◌++◌, take, Result, Ok, Err, IfOk, IsErrAnd, OnOk}
-use Rattle.std.proofs.Common.{refl, ap, subst, ◌∙◌, inl, inr, append_assoc}
+use Rattle.std.specs.Prelude.{◌≡◌, ℕ, Bool, true, false, ◌||◌, List, [], ◌∷◌, ◌++◌, Result, Ok, Err, IfOk, IsErrAnd, OnOk}
+use Rattle.std.proofs.Common.{refl, subst}
 use Rattle.pv_create.specs.Ways.{lines_course}
-use Rattle.pv_doing.specs.Courses.{Partway, IsStepOfSome, carried_of, each_of, CarriesOut}
+use Rattle.pv_doing.specs.Courses.{Partway, IsStepOfSome, carried_of, each_of, CarriesOut, Cut, HasGone}
 use Rattle.pv_doing.specs.declared.carried.Carried.{Carried}
 use Rattle.pv_doing.specs.declared.carried.Carried.TheVariants.{Whole, NotCarriedOut}
 use Rattle.pv_doing.proofs.CarryingLaws.{Underway, underway_start, underway_failed, underway_next, underway_end}
@@ -10,16 +10,15 @@ use Rattle.pv_lines.specs.declared.line.Line.{Line}
 use Rattle.pv_remove.specs.Ended.{TakesAway}
 use Rattle.pv_steps.specs.declared.tree.Tree.{Ghosts}
 use Rattle.pv_steps.specs.declared.tree.TreeFault.{TreeFault}
-use Rattle.pv_steps.specs.Acting.{Acted}
-use Rattle.pv_steps.specs.Trees.{Files}
+use Rattle.pv_steps.specs.Acting.{refused, Acted}
 use Rattle.pv_steps.proofs.ActingLaws.{Moves}
 use Rattle.pv_table.specs.Active.{in_create_order}
 use Rattle.pv_table.specs.Created.{created, created_messages, some_refusal_counts, work}
-use Rattle.pv_table.specs.Removed.{is_gone, is_unfinished, removed, removed_messages}
+use Rattle.pv_table.specs.Removed.{is_gone, is_unfinished, removed_messages}
 use Rattle.pv_text.specs.Said.{SaidPart}
-use Rattle.pv_phases.specs.Phases.{boot_phases, HasSaidStopped, phases_course}
+use Rattle.pv_phases.specs.Phases.{boot_phases, phases_course}
 use Rattle.pv_phases.specs.declared.phase.Phase.TheVariants.{Remove, Create}
-use Rattle.pv_phases.proofs.PhaseLaws.{phase_start}
+use Rattle.pv_phases.proofs.PhaseLaws.{phase_start, quiet_gone}
 
 module _ {S : Type 0} (tree : Ghosts S) (lines : List Line) (now : ℕ) where
   -- ---- each call as a phase
@@ -33,14 +32,16 @@ module _ {S : Type 0} (tree : Ghosts S) (lines : List Line) (now : ℕ) where
     carried = took.carried;
     part = took.part;
     acted = took.acted;
+    went = quiet_gone tree listed now Remove a d old new r took.silent took.part took.acted;
   })
 
   pub creating_out : (a d : S) (old new : List (List ℕ)) (r : Result Carried TreeFault)
       → OnOk r (tree.state d ≡ created lines now (tree.state a)) → OnOk r (new ≡ old ++ created_messages lines now (tree.state a)) → IfOk r (λ c. c ≡ carried_of (some_refusal_counts lines now (tree.state a)))
       → SaidPart (created_messages lines now (tree.state a)) old new
       → Acted tree (Partway (lines_course now) (in_create_order lines) (tree.state a)) (IsStepOfSome (lines_course now) (in_create_order lines) (tree.state a)) (work lines now (tree.state a)) now a d r
+      → HasGone tree (Cut (lines_course now) now (refused r) (in_create_order lines) (tree.state a)) now a d old new
       → CarriesOut tree (phases_course lines now) Create now a d old new r
-  creating_out a d old new r ok said carried part acted = record { ok = ok; said = said; carried = carried; part = part; acted = acted }
+  creating_out a d old new r ok said carried part acted went = record { ok = ok; said = said; carried = carried; part = part; acted = acted; went = went }
 
   -- ---- one after the other
 
@@ -72,17 +73,3 @@ module _ {S : Type 0} (tree : Ghosts S) (lines : List Line) (now : ℕ) where
       both_done two ended made counts =
           underway_end tree moves (phases_course lines now) (phase_start lines now) boot_phases now a old [] refl ended d new
           (underway_next tree moves (phases_course lines now) (phase_start lines now) boot_phases now a old (Create ∷ []) [] Create refl one b mid half d new two ended made counts)
-
--- where creating was stopped, all of removing was said
-pub creating_stopped : (lines : List Line) (now : ℕ) (t r : Files) (old mid new : List (List ℕ)) → r ≡ removed lines now t → mid ≡ old ++ removed_messages lines t → SaidPart (created_messages lines now r) mid new
-    → HasSaidStopped lines now boot_phases t old new
-creating_stopped lines now t r old mid new left said part = (
-  removed_messages lines t ++ take part.0 (created_messages lines now r),
-  (
-    part.1 ∙ ap (λ (ms : List (List ℕ)). ms ++ take part.0 (created_messages lines now r)) said ∙ append_assoc old (removed_messages lines t) (take part.0 (created_messages lines now r)),
-    inr (
-      take part.0 (created_messages lines now r),
-      (refl, inl (part.0, ap (λ (v : Files). take part.0 (created_messages lines now v)) left)),
-    ),
-  ),
-)

@@ -1,15 +1,17 @@
 -- Laws of phases carried out one after the other: nothing done, one phase more, one that was stopped, and all done.
 use Rattle.std.specs.Prelude.{◌≡◌, ⊤, true, ℕ, ◌+◌, ◌<◌, ◌≤◌, ◌^◌, Bool, false, ◌||◌, List, [], ◌∷◌, ◌++◌, length, take, drop, get_or, Result, Ok, Err, IsErrAnd, IsErrOf}
-use Rattle.std.proofs.Common.{zero, suc, refl, sym, ap, subst, ◌∙◌, inl, inr, arith, append_assoc, append-nil}
+use Rattle.std.proofs.Common.{zero, suc, refl, sym, ap, subst, ◌∙◌, arith, append-nil}
+use Rattle.std.proofs.lemmas.List.{append_cancel_left}
 use Rattle.std.proofs.Math.Seq.{drop-length, take-nil}
 use Rattle.pv_clean.specs.Cleaning.{IsCleanStep}
 use Rattle.pv_clean.proofs.CleanLaws.{takes_only}
 use Rattle.pv_create.specs.Ways.{lines_course}
 use Rattle.pv_create.proofs.LineLaws.{line_start}
-use Rattle.pv_doing.specs.Courses.{Partway, IsStepOfSome, carried_of}
+use Rattle.pv_doing.specs.Courses.{AtWork, Cut, HasGone, Partway, IsStepOfSome, single, carried_of}
 use Rattle.pv_doing.specs.declared.carried.Carried.{Carried}
 use Rattle.pv_doing.specs.declared.carried.Carried.TheVariants.{Whole}
-use Rattle.pv_doing.proofs.CourseLaws.{Going, going_start, going_next, none_left, one_within, one_part, partway_start, end_whole, end_said, end_part, end_refused, end_acted}
+use Rattle.pv_doing.proofs.CourseLaws.{Going, going_start, going_next, none_left, one_gone, one_within, one_part, partway_start, single_gone, end_whole, end_said, end_part, end_refused, end_acted, end_gone}
+use Rattle.pv_doing.proofs.CarryingLaws.{refused_passed}
 use Rattle.pv_create.specs.Mended.{IsMended}
 use Rattle.pv_dress.proofs.OperationLaws.{bares-same}
 use Rattle.pv_laws.proofs.Moments.{created_same}
@@ -24,18 +26,17 @@ use Rattle.pv_steps.specs.Content.{Removes}
 use Rattle.pv_steps.specs.declared.step.Step.{Step}
 use Rattle.pv_steps.specs.declared.tree.Tree.{Ghosts}
 use Rattle.pv_steps.specs.declared.tree.TreeFault.{TreeFault}
-use Rattle.pv_steps.specs.declared.tree.TreeFault.TheVariants.{Failed}
+use Rattle.pv_steps.specs.declared.tree.TreeFault.TheVariants.{Failed, Memory}
 use Rattle.pv_steps.specs.Trees.{Files, IsTree, places}
 use Rattle.pv_steps.proofs.ActingLaws.{Moves}
 use Rattle.pv_steps.proofs.RunLaws.{ran_none}
 use Rattle.pv_table.specs.Active.{in_create_order}
 use Rattle.pv_table.specs.Cleaned.{is_aged}
-use Rattle.pv_table.specs.Created.{after_each, said_of_each, one_is_refused, taken_by_each, created, created_messages}
+use Rattle.pv_table.specs.Created.{after_each, said_of_each, one_is_refused, taken_by_each, created}
 use Rattle.pv_table.specs.Removed.{is_gone, is_purged}
 use Rattle.pv_text.specs.Said.{SaidPart}
-use Rattle.pv_text.proofs.SaidLaws.{back_of, front_of}
 use Rattle.pv_phases.specs.Booted.{booted, IsBootMended}
-use Rattle.pv_phases.specs.Phases.{boot_phases, HasSaidStopped, is_boot, IsMendedBy, IsSaidAtWork, IsSaidStopped, is_step_of, left_by, most_steps_of, falls_short, on_way, phases_course, said_in}
+use Rattle.pv_phases.specs.Phases.{boot_phases, is_boot, IsMendedBy, is_step_of, left_by, most_steps_of, falls_short, on_way, phase_cut, phase_whole, phases_course, said_in}
 use Rattle.pv_phases.specs.declared.phase.Phase.{Phase}
 use Rattle.pv_phases.specs.declared.phase.Phase.TheVariants.{Remove, Clean, Create, Purge}
 use Rattle.pv_phases.proofs.BootLaws.{booted_same}
@@ -122,31 +123,30 @@ module _ (lines : List Line) (now : ℕ) (t : Files) (h : List Step) (fits : now
       by true e = subst (λ (ps : List Phase). IsMendedBy ps lines now t (drop (length h) h)) (sym (boot_is phases e)) boot_none
       by false e = phases_mend lines now t (drop (length h) h) phases e (alone_none phases)
 
--- ---- what a stopped run has said
+-- ---- a phase that was cut short
 
--- it is a front part of what is said in all phases
-module _ (lines : List Line) (now : ℕ) where
-  at_work_front : (phase : Phase) (t : Files) (said rest : List (List ℕ)) → IsSaidAtWork lines now phase t said → (k : ℕ) × (said ≡ take k (said_in lines now phase t ++ rest))
-  at_work_front Remove t said rest none = (0, none)
-  at_work_front Clean t said rest none = (0, none)
-  at_work_front Create t said rest front = let more = front_of (created_messages lines now t) rest front.0 in (more.0, front.1 ∙ more.1)
-  at_work_front Purge t said rest none = (0, none)
+-- one that says what it says after its last step
+module _ {S : Type 0} (tree : Ghosts S) (lines : List Line) (now : ℕ) (phase : Phase) (a d : S) (old new : List (List ℕ)) (r : Result Carried TreeFault) (silent : IsErrOf r Failed → new ≡ old) where
+  failed_of : (v : Result Carried TreeFault) → refused v ≡ 1 → IsErrOf v Failed
+  failed_of (Ok x) one = absurd (let no : ◌≡◌ {A = ℕ} 0 1 = one in omega (arith, no))
+  failed_of (Err Failed) one = refl
+  failed_of (Err Memory) one = absurd (let no : ◌≡◌ {A = ℕ} 0 1 = one in omega (arith, no))
 
-  pub stopped_front : (phases : List Phase) (t : Files) (said : List (List ℕ)) → IsSaidStopped lines now phases t said → (k : ℕ) × (said ≡ take k (said_of_each (phases_course lines now).whole phases t))
-  stopped_front [] t said stopped = absurd stopped
-  stopped_front (phase ∷ phases) t said (inl work) = at_work_front phase t said (said_of_each (phases_course lines now).whole phases (left_by lines now phase t)) work
-  stopped_front (phase ∷ phases) t said (inr later) =
-      let below = stopped_front phases (left_by lines now phase t) later.0 later.1.1 in
-      let more = back_of (said_in lines now phase t) (said_of_each (phases_course lines now).whole phases (left_by lines now phase t)) below.0 in
-      (more.0, later.1.0 ∙ ap (λ (r : List (List ℕ)). said_in lines now phase t ++ r) below.1 ∙ more.1)
+  pub quiet_gone : SaidPart (said_in lines now phase (tree.state a)) old new
+      → Acted tree (on_way lines now phase (tree.state a)) (is_step_of lines now phase (tree.state a)) (most_steps_of lines now phase (tree.state a)) now a d r
+      → HasGone tree (λ steps said. AtWork (phase_whole lines now) (on_way lines now) (is_step_of lines now) now (refused r) phase (tree.state a) steps said × (refused r ≡ 1 → said ≡ [])) now a d old new
+  quiet_gone part acted =
+      let one = single_gone (single (phase_whole lines now) (on_way lines now) (is_step_of lines now)) (λ moment refused x t done said work. work) tree phase now a d old new part acted in
+      record {
+        steps = one.steps;
+        texts = one.texts;
+        recorded = one.recorded;
+        reached = one.reached;
+        said = one.said;
+        is = (one.is, λ failed. append_cancel_left old one.texts [] (sym one.said ∙ silent (failed_of r failed) ∙ sym (append-nil old)));
+      }
 
 -- ---- some phases are done
-
--- where one of those that are left is stopped, all before it has been said
-pub record Telling {S : Type 0} (tree : Ghosts S) (lines : List Line) (now : ℕ) (all left : List Phase) (a b : S) (old new : List (List ℕ)) : Type 0 where
-  pub before : List (List ℕ)
-  pub told : new ≡ old ++ before
-  pub further : (said : List (List ℕ)) → IsSaidStopped lines now left (tree.state b) said → IsSaidStopped lines now all (tree.state a) (before ++ said)
 
 -- the first phase begins where the run began, and the stop law holds so far
 pub record Mending {S : Type 0} (tree : Ghosts S) (lines : List Line) (now : ℕ) (all : List Phase) (i : ℕ) (a b : S) : Type 0 where
@@ -157,7 +157,6 @@ pub record OnPhases {S : Type 0} (tree : Ghosts S) (lines : List Line) (now : �
   pub refused : Bool
   pub ended : carried ≡ carried_of refused
   pub going : Going (phases_course lines now) tree all (drop i all) now refused a b old new
-  pub telling : Telling tree lines now all (drop i all) a b old new
   pub mending : Mending tree lines now all i a b
 
 module _ {S : Type 0} (tree : Ghosts S) (moves : Moves tree) (lines : List Line) (now : ℕ) (all : List Phase) (a : S) (old : List (List ℕ)) where
@@ -172,7 +171,6 @@ module _ {S : Type 0} (tree : Ghosts S) (moves : Moves tree) (lines : List Line)
     refused = false;
     ended = refl;
     going = going_start (phases_course lines now) tree moves start all now a old;
-    telling = record { before = []; told = sym (append-nil old); further = λ said stopped. stopped };
     mending = record { still = λ none. refl; law = alone_none lines now t (tree.steps a) fits is all };
   }
 
@@ -188,9 +186,6 @@ module _ {S : Type 0} (tree : Ghosts S) (moves : Moves tree) (lines : List Line)
     going : Going (phases_course lines now) tree all (phase ∷ rest) now run.refused a b old new
     going = subst (λ ps. Going (phases_course lines now) tree all ps now run.refused a b old new) next run.going
 
-    telling : Telling tree lines now all (phase ∷ rest) a b old new
-    telling = subst (λ ps. Telling tree lines now all ps a b old new) next run.telling
-
     pub phases_part : (said : List (List ℕ)) → SaidPart (said_in lines now phase (tree.state b)) new said → SaidPart (said_of_each (phases_course lines now).whole all t) old said
     phases_part said part = one_part (phases_course lines now) tree moves start all now a old rest phase run.refused b new going said part
 
@@ -198,15 +193,11 @@ module _ {S : Type 0} (tree : Ghosts S) (moves : Moves tree) (lines : List Line)
         → Acted tree (Partway (phases_course lines now) all t) (IsStepOfSome (phases_course lines now) all t) (taken_by_each (phases_course lines now).whole all t) now a d r
     phases_acted one = one_within (phases_course lines now) tree moves start all now a old rest phase run.refused b new going one
 
-    said_at_work : (more : List (List ℕ)) → IsSaidStopped lines now (phase ∷ []) (tree.state b) more → IsSaidStopped lines now all t (telling.before ++ more)
-    said_at_work more (inl work) = telling.further more (inl work)
-    said_at_work more (inr later) = absurd later.1.1
-
-    pub phases_stopped : (said : List (List ℕ)) → HasSaidStopped lines now (phase ∷ []) (tree.state b) new said → HasSaidStopped lines now all t old said
-    phases_stopped said one = (
-      telling.before ++ one.0,
-      (one.1.0 ∙ ap (λ (r : List (List ℕ)). r ++ one.0) telling.told ∙ append_assoc old telling.before one.0, said_at_work one.0 one.1.1),
-    )
+    pub phases_gone : {B C : Type 0} {e : TreeFault} (d : S) (said : List (List ℕ)) (q : Result B TreeFault) (r : Result C TreeFault) → q ≡ Err e → IsErrAnd r (λ y. y ≡ e)
+        → HasGone tree (phase_cut lines now (refused q) phase (tree.state b)) now b d new said → HasGone tree (Cut (phases_course lines now) now (refused r) all t) now a d old said
+    phases_gone d said q r was passed one =
+        subst (λ n. HasGone tree (Cut (phases_course lines now) now n all t) now a d old said) (refused_passed q r was passed)
+        (one_gone (phases_course lines now) tree moves start all now a old rest phase run.refused b new going (refused q) d said one)
 
     pub phases_mended : (d : S) → IsMendedBy (phase ∷ []) lines now (tree.state b) (drop (length (tree.steps b)) (tree.steps d)) → IsMendedAlone all lines now t (drop (length (tree.steps a)) (tree.steps d))
     phases_mended d one = by all i within is run.mending.still
@@ -221,20 +212,14 @@ module _ {S : Type 0} (tree : Ghosts S) (moves : Moves tree) (lines : List Line)
 
     pub phases_next : {B : Type 0} (d : S) {y : B} (said : List (List ℕ)) (ended : Carried) → tree.state d ≡ left_by lines now phase (tree.state b) → said ≡ new ++ said_in lines now phase (tree.state b)
         → Acted tree (on_way lines now phase (tree.state b)) (is_step_of lines now phase (tree.state b)) (most_steps_of lines now phase (tree.state b)) now b d (Ok y)
+        → HasGone tree (phase_cut lines now 0 phase (tree.state b)) now b d new said
         → IsMendedBy (phase ∷ []) lines now (tree.state b) (drop (length (tree.steps b)) (tree.steps d))
         → ((yet : Bool) → carried ≡ carried_of yet → ended ≡ carried_of (yet || falls_short lines now phase (tree.state b)))
         → OnPhases tree lines now all (i + 1) ended a d old said
-    phases_next d {y} said ended done says one law counts = record {
+    phases_next d {y} said ended done says one gone law counts = record {
       refused = run.refused || falls_short lines now phase (tree.state b);
       ended = counts run.refused run.ended;
-      going = going_next (phases_course lines now) tree moves start all now a old rest phase run.refused b new going d {y = y} said done says one;
-      telling = record {
-        before = telling.before ++ said_in lines now phase (tree.state b);
-        told = says ∙ ap (λ (r : List (List ℕ)). r ++ said_in lines now phase (tree.state b)) telling.told ∙ append_assoc old telling.before (said_in lines now phase (tree.state b));
-        further = λ more stopped.
-            subst (IsSaidStopped lines now all t) (sym (append_assoc telling.before (said_in lines now phase (tree.state b)) more))
-            (telling.further (said_in lines now phase (tree.state b) ++ more) (inr (more, (refl, subst (λ (u : Files). IsSaidStopped lines now rest u more) done stopped))));
-      };
+      going = going_next (phases_course lines now) tree moves start all now a old rest phase run.refused b new going d {y = y} said done says one gone;
       mending = record { still = λ none. absurd (omega (arith, none)); law = phases_mended d law };
     }
 
@@ -259,6 +244,9 @@ module _ {S : Type 0} (tree : Ghosts S) (moves : Moves tree) (lines : List Line)
     pub phases_done : {B : Type 0} (r : Result B TreeFault) → refused r ≡ 0
         → Acted tree (Partway (phases_course lines now) all t) (IsStepOfSome (phases_course lines now) all t) (taken_by_each (phases_course lines now).whole all t) now a b r
     phases_done r none_refused = end_acted (phases_course lines now) tree moves start all now a old run.refused b new all_done r none_refused
+
+    pub phases_went : HasGone tree (Cut (phases_course lines now) now 0 all t) now a b old new
+    phases_went = end_gone (phases_course lines now) tree moves start all now a old run.refused b new all_done
 
 -- what holds of some lines and phases holds of those that are the same
 pub both : (P : List Line → List Phase → Type 0) {lines others : List Line} {phases more : List Phase} → lines ≡ others → phases ≡ more → P lines phases → P others more

@@ -1,10 +1,10 @@
 -- The phases of a run of systemd-tmpfiles(8), one after the other: removing, cleaning, creating, or purging alone. All are
 -- judged by the lines that are active when the run begins, each over the tree that those before it leave.
-use Rattle.std.specs.Prelude.{◌≡◌, ◌⊎◌, ℕ, Bool, true, false, List, [], ◌∷◌, ◌++◌, take, if◌then◌else◌, ⊤}
+use Rattle.std.specs.Prelude.{◌≡◌, ℕ, Bool, true, false, List, [], ◌∷◌, ◌++◌, if◌then◌else◌, ⊤}
 use Rattle.pv_clean.specs.Cleaning.{IsCleanStep, TakesOnly, most_steps}
 use Rattle.pv_create.specs.Mended as create
 use Rattle.pv_create.specs.Ways.{lines_course}
-use Rattle.pv_doing.specs.Courses.{Course, Partway, IsStepOfSome}
+use Rattle.pv_doing.specs.Courses.{AtWork, Course, Cut, Partway, IsStepOfSome}
 use Rattle.pv_dress.specs.Edits.{Pruned}
 use Rattle.pv_find.specs.Whole.{count_of}
 use Rattle.pv_lines.specs.declared.line.Line.{Line}
@@ -14,7 +14,7 @@ use Rattle.pv_steps.specs.declared.step.Step.{Step}
 use Rattle.pv_steps.specs.Trees.{Files}
 use Rattle.pv_table.specs.Active.{in_create_order}
 use Rattle.pv_table.specs.Cleaned.{cleaned, is_aged}
-use Rattle.pv_table.specs.Created.{created, created_messages, some_refusal_counts, work}
+use Rattle.pv_table.specs.Created.{created, created_messages, Doing, some_refusal_counts, work}
 use Rattle.pv_table.specs.Removed.{is_gone, is_purge_unfinished, is_purged, is_unfinished, purged, purged_messages, removed, removed_messages}
 use Rattle.pv_words.specs.declared.options.Options.{Options}
 use Rattle.pv_phases.specs.Booted.{IsBootMended}
@@ -82,31 +82,23 @@ is_step_of lines now Clean t step = IsCleanStep (is_aged lines now t) t step
 is_step_of lines now Create t step = IsStepOfSome (lines_course now) (in_create_order lines) t step
 is_step_of lines now Purge t step = Removes (is_purged lines t) step
 
+-- all of it
+abbrev pub phase_whole : List Line → ℕ → Doing Phase
+phase_whole lines now = record { after = left_by lines now; says = said_in lines now; is_refused = falls_short lines now; takes = most_steps_of lines now }
+
+-- what it has done and said where it was cut short: in creating the lines before the one at work are done, those after it
+-- not begun; the other phases are at work, and where a step was refused they have said nothing, since what they say follows
+-- their last step
+abbrev pub phase_cut : List Line → ℕ → ℕ → Phase → Files → List Step → List (List ℕ) → Type 0
+phase_cut lines now refused Create t steps said = Cut (lines_course now) now refused (in_create_order lines) t steps said
+phase_cut lines now refused phase t steps said =
+    AtWork (phase_whole lines now) (on_way lines now) (is_step_of lines now) now refused phase t steps said × (refused ≡ 1 → said ≡ [])
+
 -- phases one after the other
 abbrev pub phases_course : List Line → ℕ → Course Phase
-phases_course lines now = record {
-  whole = record { after = left_by lines now; says = said_in lines now; is_refused = falls_short lines now; takes = most_steps_of lines now };
-  way = on_way lines now;
-  steps = is_step_of lines now;
-}
+phases_course lines now = record { whole = phase_whole lines now; way = on_way lines now; steps = is_step_of lines now; cut = phase_cut lines }
 
 -- ---- stopped runs
-
--- what a phase may have said where it was stopped: creating some of its first messages, the others nothing
-abbrev pub IsSaidAtWork : List Line → ℕ → Phase → Files → List (List ℕ) → Type 0
-IsSaidAtWork lines now Create t said = (n : ℕ) × (said ≡ take n (created_messages lines now t))
-IsSaidAtWork lines now phase t said = said ≡ []
-
--- what may have been said where one of these phases was stopped: all of those before it, and what it says at work
-abbrev pub IsSaidStopped : List Line → ℕ → List Phase → Files → List (List ℕ) → Type 0
-IsSaidStopped lines now [] t said = ⊥
-IsSaidStopped lines now (phase ∷ phases) t said =
-    IsSaidAtWork lines now phase t said
-    ⊎ ((more : List (List ℕ)) × ((said ≡ said_in lines now phase t ++ more) × IsSaidStopped lines now phases (left_by lines now phase t) more))
-
--- the same of messages that were there before
-abbrev pub HasSaidStopped : List Line → ℕ → List Phase → Files → List (List ℕ) → List (List ℕ) → Type 0
-HasSaidStopped lines now phases t old new = (said : List (List ℕ)) × ((new ≡ old ++ said) × IsSaidStopped lines now phases t said)
 
 -- a run of phases from a tree, stopped after any of these steps. Removing, purging, creating and the boot command, the
 -- last two under their premises, are mended: a whole run from there, at any moment, leaves the tree of one whole run,

@@ -1,18 +1,17 @@
 //! The boot command: removing, then creating.
-ghost use Rattle.std.specs.Prelude.{◌≡◌, ◌++◌, drop, length, IfOk, IsErrOf, OnOk};
+ghost use Rattle.std.specs.Prelude.{◌≡◌, ◌++◌, drop, length, IfOk, OnOk};
 ghost use Rattle.std.specs.List.{AllByRecursion};
 ghost use Rattle.pv_create.specs.OnTheWay.{IsFramed, GiveWhatLinesLeave};
-ghost use Rattle.pv_doing.specs.Courses.{Partway, IsStepOfSome, carried_of, each_of, CarriesOut};
+ghost use Rattle.pv_doing.specs.Courses.{Partway, IsStepOfSome, carried_of, each_of, CarriesOut, Cut, HasGone};
 ghost use Rattle.pv_laws.specs.Swept.{LeavesNoStagingName};
 ghost use Rattle.pv_lines.specs.Lines.{IsLine};
-ghost use Rattle.pv_steps.specs.declared.tree.TreeFault.TheVariants.{Failed};
-ghost use Rattle.pv_steps.specs.Acting.{Acted};
+ghost use Rattle.pv_steps.specs.Acting.{refused, Acted};
 ghost use Rattle.pv_table.specs.Created.{taken_by_each};
 ghost use Rattle.pv_table.specs.Removed.{removed};
 ghost use Rattle.pv_text.specs.Said.{SaidPart};
 ghost use Rattle.pv_phases.specs.Booted.{booted, booted_messages, is_boot_unfinished, IsBootBetween, IsBootMended, KeepsInput};
 ghost use Rattle.pv_phases.specs.BootedAgain.{IsBootMendedAgain, IsBootStoppedAgain};
-ghost use Rattle.pv_phases.specs.Phases.{boot_phases, phases_course, HasSaidStopped};
+ghost use Rattle.pv_phases.specs.Phases.{boot_phases, phases_course};
 
 use pv_create::create_run;
 use pv_doing::Carried;
@@ -43,11 +42,11 @@ pub fn boot_run<T: Tree>(
 
     // What any run has said and done, whatever it answers.
     ensures part { SaidPart (booted_messages table.now now (T.state tree.old)) messages.old messages.new }
-    ensures stopped { IsErrOf result Failed
-        → HasSaidStopped table.now now boot_phases (T.state tree.old) messages.old messages.new }
     ensures acted { Acted T.Tree (Partway (phases_course table.now now) boot_phases (T.state tree.old))
         (IsStepOfSome (phases_course table.now now) boot_phases (T.state tree.old))
         (taken_by_each (phases_course table.now now).whole boot_phases (T.state tree.old)) now tree.old tree.new result }
+    ensures went { HasGone T.Tree (Cut (phases_course table.now now) now (refused result) boot_phases (T.state tree.old))
+        now tree.old tree.new messages.old messages.new }
 
     // The boot law.
     ensures mended { IsBootMended table.now now (T.state tree.old)
@@ -82,10 +81,8 @@ fn remove_then_create<T: Tree>(
     messages: &mut Messages,
 ) -> Result<Carried, TreeFault>
     requires lines { AllByRecursion IsLine table.now }
-    ensures run { CarriesOut T.Tree (each_of (phases_course table.now now)) boot_phases now tree.old tree.new
+    ensures { CarriesOut T.Tree (each_of (phases_course table.now now)) boot_phases now tree.old tree.new
         messages.old messages.new result }
-    ensures stopped { IsErrOf result Failed
-        → HasSaidStopped table.now now boot_phases (T.state tree.old) messages.old messages.new }
 {
     let removing = remove_run(alloc, tree, table.lines(), now, messages)?;
     let creating = create_run(alloc, tree, table, now, messages)?;

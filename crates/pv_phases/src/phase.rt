@@ -1,15 +1,14 @@
 //! The phases of a run, one after the other.
-ghost use Rattle.std.specs.Prelude.{◌≡◌, ◌++◌, ◌∷◌, [], drop, length, IfOk, IsErrOf, OnOk};
+ghost use Rattle.std.specs.Prelude.{◌≡◌, ◌++◌, ◌∷◌, [], drop, length, IfOk, OnOk};
 ghost use Rattle.std.specs.List.{AllByRecursion};
 ghost use Rattle.pv_create.specs.OnTheWay.{IsFramed};
-ghost use Rattle.pv_doing.specs.Courses.{Partway, IsStepOfSome, carried_of};
+ghost use Rattle.pv_doing.specs.Courses.{Partway, IsStepOfSome, carried_of, Cut, HasGone};
 ghost use Rattle.pv_lines.specs.Lines.{IsLine};
-ghost use Rattle.pv_steps.specs.declared.tree.TreeFault.TheVariants.{Failed};
-ghost use Rattle.pv_steps.specs.Acting.{Acted};
+ghost use Rattle.pv_steps.specs.Acting.{refused, Acted};
 ghost use Rattle.pv_table.specs.Created.{after_each, said_of_each, one_is_refused, taken_by_each};
 ghost use Rattle.pv_text.specs.Said.{SaidPart};
 ghost use Rattle.pv_phases.specs.OnTheWay.{GiveBy, IsBetweenBy};
-ghost use Rattle.pv_phases.specs.Phases.{asked, falls_short, HasSaidStopped, is_boot, is_step_of, IsMendedBy, left_by, most_steps_of, on_way, phases_course, phases_of, said_in};
+ghost use Rattle.pv_phases.specs.Phases.{asked, falls_short, is_boot, is_step_of, IsMendedBy, left_by, most_steps_of, on_way, phase_cut, phases_course, phases_of, said_in};
 ghost use Rattle.pv_phases.specs.Swept.{IsSweptBy};
 
 use crate::boot::boot_run;
@@ -87,11 +86,13 @@ pub fn run_phases<T: Tree>(
     ensures staged { OnOk result (IsSweptBy phases.now table.now now (T.state tree.old) (T.state tree.new)) }
     ensures part { SaidPart (said_of_each (phases_course table.now now).whole phases.now (T.state tree.old))
         messages.old messages.new }
-    ensures stopped { IsErrOf result Failed
-        → HasSaidStopped table.now now phases.now (T.state tree.old) messages.old messages.new }
     ensures acted { Acted T.Tree (Partway (phases_course table.now now) phases.now (T.state tree.old))
         (IsStepOfSome (phases_course table.now now) phases.now (T.state tree.old))
         (taken_by_each (phases_course table.now now).whole phases.now (T.state tree.old)) now tree.old tree.new result }
+    // Where it was cut short, the phases before the one at work have done all their steps and said all that is said in
+    // them, and those after it nothing; so it is with the lines of creating.
+    ensures went { HasGone T.Tree (Cut (phases_course table.now now) now (refused result) phases.now (T.state tree.old))
+        now tree.old tree.new messages.old messages.new }
     ensures mended { IsMendedBy phases.now table.now now (T.state tree.old)
         (drop (length (T.steps tree.old)) (T.steps tree.new)) }
     ensures framed { IsFramed table.now now (T.state tree.old)
@@ -128,10 +129,10 @@ fn do_phase<T: Tree>(
     ensures said { OnOk result (messages.new ≡ messages.old ++ said_in table.now now phase (T.state tree.old)) }
     ensures carried { IfOk result (λ c. c ≡ carried_of (falls_short table.now now phase (T.state tree.old))) }
     ensures part { SaidPart (said_in table.now now phase (T.state tree.old)) messages.old messages.new }
-    ensures stopped { IsErrOf result Failed
-        → HasSaidStopped table.now now (phase ∷ []) (T.state tree.old) messages.old messages.new }
     ensures acted { Acted T.Tree (on_way table.now now phase (T.state tree.old)) (is_step_of table.now now phase (T.state tree.old))
         (most_steps_of table.now now phase (T.state tree.old)) now tree.old tree.new result }
+    ensures went { HasGone T.Tree (phase_cut table.now now (refused result) phase (T.state tree.old))
+        now tree.old tree.new messages.old messages.new }
     ensures mended { IsMendedBy (phase ∷ []) table.now now (T.state tree.old)
         (drop (length (T.steps tree.old)) (T.steps tree.new)) }
 {

@@ -1,13 +1,17 @@
+use Rattle.std.specs.Prelude.{Result, IsErrOf}
 use Rattle.std.proofs.Common.{◌≡◌, ◌++◌, ◌∙◌, ℕ, List, Ok, ap, drop, length, refl, subst}
 use Rattle.pv_conf.specs.Known.{configured}
-use Rattle.pv_doing.specs.Courses.{Partway, IsStepOfSome, carried_of}
+use Rattle.pv_doing.specs.Courses.{Cut, HasGone, Partway, IsStepOfSome, carried_of}
 use Rattle.pv_lines.specs.declared.line.Line.{Line}
-use Rattle.pv_steps.specs.Acting.{Acted}
+use Rattle.pv_doing.specs.declared.carried.Carried.{Carried}
+use Rattle.pv_steps.specs.Acting.{refused, Acted}
+use Rattle.pv_steps.specs.declared.tree.TreeFault.{TreeFault}
+use Rattle.pv_steps.specs.declared.tree.TreeFault.TheVariants.{Failed}
 use Rattle.pv_steps.proofs.ActingLaws.{Moves, no_memory, acted_ended, acted_none, acted_passed}
 use Rattle.pv_table.specs.Created.{after_each, said_of_each, one_is_refused, taken_by_each}
 use Rattle.pv_text.specs.Said.{SaidPart}
 use Rattle.pv_phases.specs.OnTheWay.{GiveBy, IsBetweenBy}
-use Rattle.pv_phases.specs.Phases.{HasSaidStopped, IsMendedBy, phases_course, phases_of}
+use Rattle.pv_phases.specs.Phases.{IsMendedBy, phases_course, phases_of}
 use Rattle.pv_phases.specs.Swept.{IsSweptBy}
 use Rattle.pv_create.specs.OnTheWay.{IsFramed}
 use Rattle.pv_phases.specs.declared.phase.Phase.{Phase}
@@ -71,9 +75,12 @@ returns-in_err-carried-clause-stopped g c =
     let t = g.T.Tree.state c.args.tree.now in
     let now = c.args.moment in
     λ failed.
-    both (λ (lines : List Line) (phases : List Phase). HasSaidStopped lines now phases t (c.args.messages.now ++ lines_messages c.args.options.now c.args.facts.now t) c.run_phases.new.messages) c.in_ok-read.ensures.lines (c.deref.ensures.value ∙ c.in_ok-phases.ensures)
-    (subst (λ (old : List (List ℕ)). HasSaidStopped c.in_ok-read.read.table now c.deref.result.now t old c.run_phases.new.messages) c.in_ok-read.ensures.said
-    (c.run_phases.ensures.stopped (failed_before c.run_phases.result c.from_residual-in_err-carried.result c.in_err-carried.was c.from_residual-in_err-carried.ensures.1 failed)))
+    let was : IsErrOf c.run_phases.result Failed = failed_before c.run_phases.result c.from_residual-in_err-carried.result c.in_err-carried.was c.from_residual-in_err-carried.ensures.1 failed in
+    let one : refused c.run_phases.result ≡ 1 = ap (λ (r : Result Carried TreeFault). refused r) was in
+    both (λ (lines : List Line) (phases : List Phase). HasGone g.T.Tree (Cut (phases_course lines now) now 1 phases t) now c.args.tree.now c.run_phases.new.tree (c.args.messages.now ++ lines_messages c.args.options.now c.args.facts.now t) c.run_phases.new.messages)
+    c.in_ok-read.ensures.lines (c.deref.ensures.value ∙ c.in_ok-phases.ensures)
+    (subst (λ (old : List (List ℕ)). HasGone g.T.Tree (Cut (phases_course c.in_ok-read.read.table now) now 1 c.deref.result.now t) now c.args.tree.now c.run_phases.new.tree old c.run_phases.new.messages) c.in_ok-read.ensures.said
+    (subst (λ n. HasGone g.T.Tree (Cut (phases_course c.in_ok-read.read.table now) now n c.deref.result.now t) now c.args.tree.now c.run_phases.new.tree c.read_run.new.messages c.run_phases.new.messages) one c.run_phases.ensures.went))
 
 pub returns-in_err-carried-clause-acted : goal.returns-in_err-carried-clause-acted
 returns-in_err-carried-clause-acted g c =
@@ -95,6 +102,15 @@ returns-clause-part g c =
     let now = c.args.moment in
     said_then (lines_messages c.args.options.now c.args.facts.now t) (phase_messages c.args.options.now c.args.facts.now now t) c.args.messages.now c.read_run.new.messages c.run_phases.new.messages c.in_ok-read.ensures.said
     (both (λ (lines : List Line) (phases : List Phase). SaidPart (said_of_each (phases_course lines now).whole phases t) c.read_run.new.messages c.run_phases.new.messages) c.in_ok-read.ensures.lines (c.deref.ensures.value ∙ c.in_ok-phases.ensures) c.run_phases.ensures.part)
+
+pub returns-clause-in_turn : goal.returns-clause-in_turn
+returns-clause-in_turn g c =
+    let t = g.T.Tree.state c.args.tree.now in
+    let now = c.args.moment in
+    both (λ (lines : List Line) (phases : List Phase). HasGone g.T.Tree (Cut (phases_course lines now) now 0 phases t) now c.args.tree.now c.run_phases.new.tree (c.args.messages.now ++ lines_messages c.args.options.now c.args.facts.now t) c.run_phases.new.messages)
+    c.in_ok-read.ensures.lines (c.deref.ensures.value ∙ c.in_ok-phases.ensures)
+    (subst (λ (old : List (List ℕ)). HasGone g.T.Tree (Cut (phases_course c.in_ok-read.read.table now) now 0 c.deref.result.now t) now c.args.tree.now c.run_phases.new.tree old c.run_phases.new.messages) c.in_ok-read.ensures.said
+    c.in_ok-carried.ensures.went)
 
 pub returns-clause-acted : goal.returns-clause-acted
 returns-clause-acted g c =

@@ -1,6 +1,6 @@
 use Rattle.std.proofs.Common.{◌∙◌, drop, length, refl, sym}
 use Rattle.pv_steps.proofs.ActingLaws.{Moves, no_memory}
-use Rattle.provision_run.proofs.TaskLaws.{accounts_acted, accounts_anew, accounts_between, accounts_ended, accounts_framed, accounts_left, accounts_mended, accounts_part, accounts_said, accounts_staged, accounts_stopped, explain_acted, explain_anew, explain_between, explain_ended, explain_framed, explain_left, explain_mended, explain_part, explain_path, explain_said, explain_staged, phases_acted, phases_anew, phases_between, phases_ended, phases_framed, phases_left, phases_mended, phases_part, phases_said, phases_staged, phases_stopped, report_acted, report_anew, report_between, report_ended, report_framed, report_left, report_mended, report_part, report_said, report_staged}
+use Rattle.provision_run.proofs.TaskLaws.{accounts_acted, accounts_anew, accounts_between, accounts_ended, accounts_framed, accounts_left, accounts_mended, accounts_part, accounts_said, accounts_staged, accounts_gone, accounts_gone_ok, explain_acted, explain_anew, explain_between, explain_ended, explain_framed, explain_gone, explain_left, explain_mended, explain_part, explain_path, explain_said, explain_staged, phases_acted, phases_anew, phases_between, phases_ended, phases_framed, phases_left, phases_mended, phases_part, phases_said, phases_staged, phases_gone, phases_gone_ok, report_acted, report_anew, report_between, report_ended, report_framed, report_gone, report_left, report_mended, report_part, report_said, report_staged}
 use Rattle.provision_run.proofs.run.do_task.Goals as goal
 
 pub returns-in-Phases-clause-ok : goal.returns-in-Phases-clause-ok
@@ -25,7 +25,11 @@ returns-in-Phases-clause-part g c =
 
 pub returns-in-Phases-clause-stopped : goal.returns-in-Phases-clause-stopped
 returns-in-Phases-clause-stopped g c =
-    λ failed. phases_stopped c.args.options.now c.args.facts.now c.args.moment (g.T.Tree.state c.args.tree.now) c.args.task (sym c.in-Phases.is) c.args.messages.now c.carry_out.new.messages (c.carry_out.ensures.stopped failed)
+    λ failed. phases_gone c.args.options.now c.args.facts.now c.args.moment (g.T.Tree.state c.args.tree.now) g.T.Tree c.args.task (sym c.in-Phases.is) 1 c.args.tree.now c.carry_out.new.tree c.args.messages.now c.carry_out.new.messages (c.carry_out.ensures.stopped failed)
+
+pub returns-in-Phases-clause-in_turn : goal.returns-in-Phases-clause-in_turn
+returns-in-Phases-clause-in_turn g c =
+    phases_gone_ok c.args.options.now c.args.facts.now c.args.moment (g.T.Tree.state c.args.tree.now) g.T.Tree c.args.task (sym c.in-Phases.is) c.carry_out.result c.args.tree.now c.carry_out.new.tree c.args.messages.now c.carry_out.new.messages c.carry_out.ensures.in_turn
 
 pub returns-in-Phases-clause-acted : goal.returns-in-Phases-clause-acted
 returns-in-Phases-clause-acted g c =
@@ -65,7 +69,11 @@ returns-in-Accounts-clause-part g c =
 
 pub returns-in-Accounts-clause-stopped : goal.returns-in-Accounts-clause-stopped
 returns-in-Accounts-clause-stopped g c =
-    λ failed. accounts_stopped c.args.options.now c.args.facts.now c.args.moment (g.T.Tree.state c.args.tree.now) c.args.task (sym c.in-Accounts.is) c.args.messages.now c.make_accounts.new.messages (c.make_accounts.ensures.stopped failed)
+    λ failed. accounts_gone c.args.options.now c.args.facts.now c.args.moment (g.T.Tree.state c.args.tree.now) c.args.task (sym c.in-Accounts.is) 1 (drop (length (g.T.Tree.steps c.args.tree.now)) (g.T.Tree.steps c.make_accounts.new.tree)) c.args.messages.now c.make_accounts.new.messages (c.make_accounts.ensures.stopped failed)
+
+pub returns-in-Accounts-clause-in_turn : goal.returns-in-Accounts-clause-in_turn
+returns-in-Accounts-clause-in_turn g c =
+    accounts_gone_ok c.args.options.now c.args.facts.now c.args.moment (g.T.Tree.state c.args.tree.now) c.args.task (sym c.in-Accounts.is) c.make_accounts.result (drop (length (g.T.Tree.steps c.args.tree.now)) (g.T.Tree.steps c.make_accounts.new.tree)) c.args.messages.now c.make_accounts.new.messages c.make_accounts.ensures.said
 
 pub returns-in-Accounts-clause-acted : goal.returns-in-Accounts-clause-acted
 returns-in-Accounts-clause-acted g c =
@@ -111,6 +119,10 @@ returns-in_ok-report_run-in-Report-clause-ok g c =
 pub returns-in_ok-report_run-in-Report-clause-said : goal.returns-in_ok-report_run-in-Report-clause-said
 returns-in_ok-report_run-in-Report-clause-said g c =
     report_said c.args.options.now c.args.facts.now c.args.moment (g.T.Tree.state c.args.tree.now) c.args.task (sym c.in-Report.is) c.args.messages.now c.report_run.new.messages c.in_ok-report_run-in-Report.ensures.said
+
+pub returns-in_ok-report_run-in-Report-clause-in_turn : goal.returns-in_ok-report_run-in-Report-clause-in_turn
+returns-in_ok-report_run-in-Report-clause-in_turn g c =
+    report_gone c.args.options.now c.args.facts.now c.args.moment (g.T.Tree.state c.args.tree.now) c.args.task (sym c.in-Report.is) (g.T.Tree.steps c.args.tree.now) c.args.messages.now c.report_run.new.messages c.in_ok-report_run-in-Report.ensures.said
 
 pub returns-in_ok-report_run-in-Report-clause-end : goal.returns-in_ok-report_run-in-Report-clause-end
 returns-in_ok-report_run-in-Report-clause-end g c =
@@ -185,6 +197,10 @@ returns-in_ok-explain_run-in-Explain-clause-ok g c =
 pub returns-in_ok-explain_run-in-Explain-clause-said : goal.returns-in_ok-explain_run-in-Explain-clause-said
 returns-in_ok-explain_run-in-Explain-clause-said g c =
     explain_said c.args.options.now c.args.facts.now c.args.moment (g.T.Tree.state c.args.tree.now) c.args.task (sym c.in-Explain.is) c.args.messages.now c.explain_run.new.messages c.in_ok-explain_run-in-Explain.ensures.said
+
+pub returns-in_ok-explain_run-in-Explain-clause-in_turn : goal.returns-in_ok-explain_run-in-Explain-clause-in_turn
+returns-in_ok-explain_run-in-Explain-clause-in_turn g c =
+    explain_gone c.args.options.now c.args.facts.now c.args.moment (g.T.Tree.state c.args.tree.now) c.args.task (sym c.in-Explain.is) (g.T.Tree.steps c.args.tree.now) c.args.messages.now c.explain_run.new.messages c.in_ok-explain_run-in-Explain.ensures.said
 
 pub returns-in_ok-explain_run-in-Explain-clause-end : goal.returns-in_ok-explain_run-in-Explain-clause-end
 returns-in_ok-explain_run-in-Explain-clause-end g c =

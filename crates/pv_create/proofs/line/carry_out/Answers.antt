@@ -8,7 +8,7 @@ use Rattle.pv_create.proofs.line.carry_out.Goals as goal
 pub returns-in_err-carried : goal.returns-in_err-carried
 returns-in_err-carried g c =
     carried_failed g.T.Tree (lines_course c.args.now) c.args.line.now c.args.now c.args.tree.now c.args.messages.now c.carry_out_asked.new.tree c.carry_out_asked.new.messages
-    c.carry_out_asked.result c.from_residual.result c.in_err-carried.was c.from_residual.ensures.1 c.carry_out_asked.ensures.part c.carry_out_asked.ensures.acted
+    c.carry_out_asked.result c.from_residual.result c.in_err-carried.was c.from_residual.ensures.1 c.carry_out_asked.ensures.part c.carry_out_asked.ensures.acted c.carry_out_asked.ensures.went
 
 pub returns : goal.returns
 returns g c = record {
@@ -17,4 +17,5 @@ returns g c = record {
   carried = c.counted.ensures ((by_line c.args.now).is_refused c.args.line.now (g.T.Tree.state c.args.tree.now)) c.in_ok-carried.ensures.carried;
   part = c.in_ok-carried.ensures.part;
   acted = acted_ended g.T.Tree (Ok c.counted.result) refl c.in_ok-carried.ensures.acted;
+  went = c.in_ok-carried.ensures.went;
 }

@@ -41,6 +41,9 @@ returns-clause-acted g c =
     subst (λ most. Acted g.T.Tree (Partway (lines_course c.args.now) lines t) (IsStepOfSome (lines_course c.args.now) lines t) most c.args.now c.args.tree.now c.run_in_order.new.tree c.run_in_order.result)
     (counting_takes c.args.now lines t) c.run_in_order.ensures.acted
 
+pub returns-clause-went : goal.returns-clause-went
+returns-clause-went g c = c.run_in_order.ensures.went
+
 -- ---- the laws
 
 pub returns-clause-mended : goal.returns-clause-mended

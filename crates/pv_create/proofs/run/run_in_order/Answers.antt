@@ -1,12 +1,12 @@
 use Rattle.std.proofs.Common.{◌≡◌, ◌∙◌, ◌+◌, ◌<◌, ◌≤◌, length, get_or, drop, refl, ap, subst, arith}
 use Rattle.pv_doing.specs.Courses.{each_of}
 use Rattle.pv_doing.proofs.CarryingLaws.{carried_none, underway_start, underway_failed, underway_next, underway_end}
-use Rattle.pv_doing.proofs.CourseLaws.{none_left, partway_start}
+use Rattle.pv_doing.proofs.CourseLaws.{cut_start, none_left, partway_start}
 use Rattle.pv_lines.specs.Lines.{IsLine}
 use Rattle.pv_steps.proofs.ActingLaws.{Moves}
 use Rattle.pv_table.specs.Active.{create_order, in_create_order}
 use Rattle.pv_create.specs.Ways.{lines_course}
-use Rattle.pv_create.proofs.LineLaws.{line_start}
+use Rattle.pv_create.proofs.LineLaws.{line_begun, line_start}
 use Rattle.pv_create.proofs.RunLaws.{is_left, is_there, of_all, order-length}
 use Rattle.pv_create.proofs.run.run_in_order.Goals as goal
 
@@ -15,7 +15,8 @@ returns-in_err-order g c =
     let moves : Moves g.T.Tree = record { stays = g.met.T.Tree.reaches_self; goes_on = g.met.T.Tree.reaches_on; never_falls = g.met.T.Tree.never_falls } in
     let course = lines_course c.args.now in
     let all = in_create_order c.args.table.now in
-    carried_none g.T.Tree (each_of course) all c.args.now c.args.tree.now c.args.messages.now moves (partway_start course (line_start c.args.now) all (g.T.Tree.state c.args.tree.now)) c.args.messages.now refl c.from_residual.result c.from_residual.ensures.1
+    carried_none g.T.Tree (each_of course) all c.args.now c.args.tree.now c.args.messages.now moves (partway_start course (line_start c.args.now) all (g.T.Tree.state c.args.tree.now))
+    (cut_start course c.args.now (line_begun c.args.now) all (g.T.Tree.state c.args.tree.now)) c.args.messages.now refl c.from_residual.result c.from_residual.ensures.1
 
 pub loop-place-init : goal.loop-place-init
 loop-place-init g c =

@@ -1,7 +1,7 @@
 use Rattle.std.proofs.Common.{◌≡◌, ◌++◌, List, ℕ, None, Some, is_some, unwrap_or, refl, sym, ap, ◌∙◌, append-nil}
 use Rattle.pv_doing.specs.Courses.{carried_of}
 use Rattle.pv_doing.specs.declared.carried.Carried.TheVariants.{Whole}
-use Rattle.pv_doing.proofs.CarryingLaws.{carried_told}
+use Rattle.pv_doing.proofs.CarryingLaws.{single_said}
 use Rattle.pv_steps.specs.declared.object.Object.{Object}
 use Rattle.pv_steps.specs.Trees.{places}
 use Rattle.pv_steps.proofs.ActingLaws.{Moves}
@@ -45,7 +45,7 @@ returns-in-None-clause-run g c =
     let passed : source_refusal (places t) copying.source ≡ None = sym c.in_ok-count.ensures.place ∙ c.in_default.is in
     let none : places t copying.source ≡ None = none_mapped (λ (o : Object). unwrap_or (id_for_new line.user) o.node.uid) (places t copying.source) (sym c.in-None.ensures.owner) in
     let free = nothing_refused now line path copying c.requires.asked t passed (ap is_some none) in
-    carried_told g.T.Tree (making_course now line) path now c.args.tree.now c.args.messages.now moves (OnWay.before (λ q plain. refl)) c.args.messages.now Whole
+    single_said g.T.Tree (making_course now line) path now c.args.tree.now c.args.messages.now (λ moment refused x t done said work. work) moves (OnWay.before (λ q plain. refl)) c.args.messages.now Whole
     (nothing_after now line path copying c.requires.asked t free (ap is_some none))
     (sym (ap (λ (xs : List (List ℕ)). c.args.messages.now ++ xs) (nothing_says now line path copying c.requires.asked t free (ap is_some none) c.owner_of_copy.ensures.tree) ∙ append-nil c.args.messages.now))
     (ap (λ r. carried_of (is_some r)) (sym free))

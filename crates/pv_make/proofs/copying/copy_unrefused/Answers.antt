@@ -1,8 +1,8 @@
 use Rattle.std.proofs.Common.{◌++◌, List, ℕ, Ok, is_some, refl, sym, ap, subst, ◌∙◌}
 use Rattle.pv_doing.specs.Courses.{carried_of}
 use Rattle.pv_doing.specs.declared.carried.Carried.TheVariants.{Whole}
-use Rattle.pv_doing.proofs.CarryingLaws.{carried_failed}
-use Rattle.pv_doing.proofs.CourseLaws.{part_none}
+use Rattle.pv_doing.proofs.CarryingLaws.{single_failed}
+use Rattle.pv_doing.proofs.CourseLaws.{part_none, single_gone}
 use Rattle.pv_steps.proofs.ActingLaws.{Moves, acted_ended}
 use Rattle.pv_text.specs.Said.{SaidPart}
 use Rattle.pv_table.specs.Saying.{turn_messages}
@@ -29,7 +29,7 @@ pub returns-in_err-prepare : goal.returns-in_err-prepare
 returns-in_err-prepare g c =
     let line = c.args.line.now in
     let path = c.args.path.now in
-    carried_failed g.T.Tree (making_course c.args.now line) path c.args.now c.args.tree.now c.args.messages.now c.prepare.new.tree c.args.messages.now c.prepare.result c.from_residual.result c.in_err-prepare.was c.from_residual.ensures.1
+    single_failed g.T.Tree (making_course c.args.now line) path c.args.now c.args.tree.now c.args.messages.now (λ moment refused x t done said work. work) c.prepare.new.tree c.args.messages.now c.prepare.result c.from_residual.result c.in_err-prepare.was c.from_residual.ensures.1
     (part_none (turn_messages c.args.now line path (g.T.Tree.state c.args.tree.now)) c.args.messages.now)
     (prepare_acted g.T.Tree c.args.now line path c.args.copying.now c.requires.asked c.args.tree.now c.prepare.new.tree c.requires.unrefused c.requires.something c.prepare.ensures.acted)
 
@@ -44,7 +44,7 @@ returns-in_err-settle_copy g c =
     let u = g.T.Tree.state c.prepare.new.tree in
     let is = prepare_is now path t u c.in_ok-prepare.ensures.ok in
     let says = sym (copy_says now line path copying c.requires.asked t c.requires.unrefused c.requires.something u is) in
-    carried_failed g.T.Tree (making_course now line) path now c.args.tree.now c.args.messages.now c.settle_copy.new.tree c.settle_copy.new.messages c.settle_copy.result c.from_residual-in_err-settle_copy.result c.in_err-settle_copy.was c.from_residual-in_err-settle_copy.ensures.1
+    single_failed g.T.Tree (making_course now line) path now c.args.tree.now c.args.messages.now (λ moment refused x t done said work. work) c.settle_copy.new.tree c.settle_copy.new.messages c.settle_copy.result c.from_residual-in_err-settle_copy.result c.in_err-settle_copy.was c.from_residual-in_err-settle_copy.ensures.1
     (subst (λ (v : List (List ℕ)). SaidPart v c.args.messages.now c.settle_copy.new.messages) says c.settle_copy.ensures.part)
     (copied_acted g.T.Tree now line path copying c.requires.asked c.args.tree.now c.prepare.new.tree c.requires.unrefused c.requires.something moves is (put_bares now path copying u c.settle_copy.ensures.tree) c.in_ok-prepare.ensures.acted c.settle_copy.ensures.acted)
 
@@ -59,10 +59,13 @@ returns g c =
     let u = g.T.Tree.state c.prepare.new.tree in
     let is = prepare_is now path t u c.in_ok-prepare.ensures.ok in
     let says = sym (copy_says now line path copying c.requires.asked t c.requires.unrefused c.requires.something u is) in
+    let part = subst (λ (v : List (List ℕ)). SaidPart v c.args.messages.now c.settle_copy.new.messages) says c.settle_copy.ensures.part in
+    let acted = acted_ended g.T.Tree (Ok Whole) refl (copied_acted g.T.Tree now line path copying c.requires.asked c.args.tree.now c.prepare.new.tree c.requires.unrefused c.requires.something moves is (put_bares now path copying u c.settle_copy.ensures.tree) c.in_ok-prepare.ensures.acted c.in_ok-settle_copy.ensures.acted) in
     record {
       ok = c.in_ok-settle_copy.ensures.ok ∙ sym (copy_after now line path copying c.requires.asked t c.requires.unrefused c.requires.something u is);
       said = c.in_ok-settle_copy.ensures.said ∙ ap (λ (v : List (List ℕ)). c.args.messages.now ++ v) says;
       carried = ap (λ r. carried_of (is_some r)) (sym c.requires.unrefused);
-      part = subst (λ (v : List (List ℕ)). SaidPart v c.args.messages.now c.settle_copy.new.messages) says c.settle_copy.ensures.part;
-      acted = acted_ended g.T.Tree (Ok Whole) refl (copied_acted g.T.Tree now line path copying c.requires.asked c.args.tree.now c.prepare.new.tree c.requires.unrefused c.requires.something moves is (put_bares now path copying u c.settle_copy.ensures.tree) c.in_ok-prepare.ensures.acted c.in_ok-settle_copy.ensures.acted);
+      part = part;
+      acted = acted;
+      went = single_gone (making_course now line) (λ moment refused x t done said work. work) g.T.Tree path now c.args.tree.now c.settle_copy.new.tree c.args.messages.now c.settle_copy.new.messages part acted;
     }

@@ -1,7 +1,7 @@
 use Rattle.std.proofs.Common.{◌≡◌, ◌∙◌, ◌≤◌, List, drop, length, get_or, arith, refl, subst, sym}
 use Rattle.std.proofs.lemmas.List.{get_or_default}
-use Rattle.pv_doing.specs.Courses.{IsStepOfSome, Partway}
-use Rattle.pv_steps.specs.Acting.{Acted}
+use Rattle.pv_doing.specs.Courses.{Cut, HasGone, IsStepOfSome, Partway}
+use Rattle.pv_steps.specs.Acting.{refused, Acted}
 use Rattle.pv_table.specs.Created.{taken_by_each}
 use Rattle.pv_steps.proofs.ActingLaws.{Moves, acted_passed}
 use Rattle.pv_phases.specs.OnTheWay.{GiveBy, IsBetweenBy}
@@ -10,7 +10,7 @@ use Rattle.pv_phases.specs.Swept.{IsSweptBy}
 use Rattle.pv_phases.specs.declared.phase.Phase.{Phase}
 use Rattle.pv_phases.specs.declared.phase.Phase.TheVariants.{Remove}
 use Rattle.pv_phases.proofs.FrameLaws.{phases_framed}
-use Rattle.pv_phases.proofs.PhaseLaws.{boot_is, failed_before, phases_start, phases_part, phases_acted, phases_stopped, phases_mended, phases_mend, phases_next, phases_whole, phases_said, phases_told, phases_ended, phases_done}
+use Rattle.pv_phases.proofs.PhaseLaws.{boot_is, phases_start, phases_part, phases_acted, phases_gone, phases_mended, phases_mend, phases_next, phases_whole, phases_said, phases_told, phases_ended, phases_done, phases_went}
 use Rattle.pv_phases.proofs.SweptLaws.{phases_swept}
 use Rattle.pv_phases.proofs.WayLaws.{phases_between, phases_give}
 use Rattle.pv_phases.proofs.phase.run_phases.Goals as goal
@@ -22,6 +22,13 @@ returns-then-is_boot-clause-acted g c =
     let t = g.T.Tree.state c.args.tree.now in
     subst (λ (ps : List Phase). Acted g.T.Tree (Partway (phases_course lines now) ps t) (IsStepOfSome (phases_course lines now) ps t) (taken_by_each (phases_course lines now).whole ps t) now c.args.tree.now c.boot_run.new.tree c.boot_run.result)
     (sym (boot_is c.args.phases.now (sym c.is_boot.ensures ∙ c.if-is_boot.true))) c.boot_run.ensures.acted
+
+pub returns-then-is_boot-clause-went : goal.returns-then-is_boot-clause-went
+returns-then-is_boot-clause-went g c =
+    let now = c.args.now in
+    let t = g.T.Tree.state c.args.tree.now in
+    subst (λ (ps : List Phase). HasGone g.T.Tree (Cut (phases_course c.args.table.now now) now (refused c.boot_run.result) ps t) now c.args.tree.now c.boot_run.new.tree c.args.messages.now c.boot_run.new.messages)
+    (sym (boot_is c.args.phases.now (sym c.is_boot.ensures ∙ c.if-is_boot.true))) c.boot_run.ensures.went
 
 pub loop-phase-init : goal.loop-phase-init
 loop-phase-init g c =
@@ -37,14 +44,14 @@ returns-in_err-one-clause-part g c =
     phases_part g.T.Tree moves c.args.table.now c.args.now c.args.phases.now c.args.tree.now c.args.messages.now i phase c.loop-phase-test.true is c.loop-phase.carried c.loop-phase.tree c.loop-phase.messages c.loop-phase.invariant
     c.do_phase.new.messages c.do_phase.ensures.part
 
-pub returns-in_err-one-clause-stopped : goal.returns-in_err-one-clause-stopped
-returns-in_err-one-clause-stopped g c =
+pub returns-in_err-one-clause-went : goal.returns-in_err-one-clause-went
+returns-in_err-one-clause-went g c =
     let moves : Moves g.T.Tree = record { stays = g.met.T.Tree.reaches_self; goes_on = g.met.T.Tree.reaches_on; never_falls = g.met.T.Tree.never_falls } in
     let i = c.loop-phase.phase-index in
     let phase : Phase = get_or c.args.phases.now i Remove in
     let is : phase ≡ get_or c.args.phases.now i phase = get_or_default c.args.phases.now i Remove phase c.loop-phase-test.true in
-    λ failed. phases_stopped g.T.Tree moves c.args.table.now c.args.now c.args.phases.now c.args.tree.now c.args.messages.now i phase c.loop-phase-test.true is c.loop-phase.carried c.loop-phase.tree c.loop-phase.messages c.loop-phase.invariant
-    c.do_phase.new.messages (c.do_phase.ensures.stopped (failed_before c.do_phase.result c.from_residual.result c.in_err-one.was c.from_residual.ensures.1 failed))
+    phases_gone g.T.Tree moves c.args.table.now c.args.now c.args.phases.now c.args.tree.now c.args.messages.now i phase c.loop-phase-test.true is c.loop-phase.carried c.loop-phase.tree c.loop-phase.messages c.loop-phase.invariant
+    c.do_phase.new.tree c.do_phase.new.messages c.do_phase.result c.from_residual.result c.in_err-one.was c.from_residual.ensures.1 c.do_phase.ensures.went
 
 pub returns-in_err-one-clause-acted : goal.returns-in_err-one-clause-acted
 returns-in_err-one-clause-acted g c =
@@ -83,7 +90,7 @@ loop-phase-preserved g c =
     let phase : Phase = get_or c.args.phases.now i Remove in
     let is : phase ≡ get_or c.args.phases.now i phase = get_or_default c.args.phases.now i Remove phase c.loop-phase-test.true in
     phases_next g.T.Tree moves c.args.table.now c.args.now c.args.phases.now c.args.tree.now c.args.messages.now i phase c.loop-phase-test.true is c.loop-phase.carried c.loop-phase.tree c.loop-phase.messages c.loop-phase.invariant
-    c.do_phase.new.tree c.do_phase.new.messages c.and-carried.result c.in_ok-one.ensures.ok c.in_ok-one.ensures.said c.in_ok-one.ensures.acted c.in_ok-one.ensures.mended
+    c.do_phase.new.tree c.do_phase.new.messages c.and-carried.result c.in_ok-one.ensures.ok c.in_ok-one.ensures.said c.in_ok-one.ensures.acted c.in_ok-one.ensures.went c.in_ok-one.ensures.mended
     (λ yet ended. c.and-carried.ensures yet (falls_short c.args.table.now c.args.now phase (g.T.Tree.state c.loop-phase.tree)) ended c.in_ok-one.ensures.carried)
 
 pub returns-clause-ok : goal.returns-clause-ok
@@ -124,6 +131,12 @@ returns-clause-acted g c =
     let moves : Moves g.T.Tree = record { stays = g.met.T.Tree.reaches_self; goes_on = g.met.T.Tree.reaches_on; never_falls = g.met.T.Tree.never_falls } in
     let past : length c.args.phases.now ≤ c.loop-phase.phase-index = omega (arith, c.loop-phase-test.false) in
     phases_done g.T.Tree moves c.args.table.now c.args.now c.args.phases.now c.args.tree.now c.args.messages.now c.loop-phase.phase-index past c.loop-phase.carried c.loop-phase.tree c.loop-phase.messages c.loop-phase.invariant _ refl
+
+pub returns-clause-went : goal.returns-clause-went
+returns-clause-went g c =
+    let moves : Moves g.T.Tree = record { stays = g.met.T.Tree.reaches_self; goes_on = g.met.T.Tree.reaches_on; never_falls = g.met.T.Tree.never_falls } in
+    let past : length c.args.phases.now ≤ c.loop-phase.phase-index = omega (arith, c.loop-phase-test.false) in
+    phases_went g.T.Tree moves c.args.table.now c.args.now c.args.phases.now c.args.tree.now c.args.messages.now c.loop-phase.phase-index past c.loop-phase.carried c.loop-phase.tree c.loop-phase.messages c.loop-phase.invariant
 
 pub returns-clause-mended : goal.returns-clause-mended
 returns-clause-mended g c =
