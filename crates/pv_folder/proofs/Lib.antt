@@ -1,3 +1,5 @@
 pub mod MergeLaws
 pub mod AheadLaws
 pub mod FactLaws
+pub mod Spelling
+pub mod Preorder
