@@ -3,3 +3,8 @@ pub mod AheadLaws
 pub mod FactLaws
 pub mod Spelling
 pub mod Preorder
+pub mod FolderLaws
+pub mod ReadingLaws
+pub mod StackLaws
+pub mod GoingLaws
+pub mod OpeningLaws

@@ -45,6 +45,10 @@ abbrev pub size : HostObject → ℕ
 size (host.File bytes) = length bytes
 size o = 0
 
+-- whether there are more objects or bytes than a run takes
+abbrev pub is_over : ℕ → ℕ → Bool
+is_over objects bytes = nat_lt most_objects objects || nat_lt most_bytes bytes
+
 -- an odd object is named by its path in the folder
 abbrev pub odd : Path → OpenFault
 odd path = OddObject (printed_path (codes "tree" ∷ path))
@@ -54,7 +58,7 @@ abbrev pub fault_among : ℕ → ℕ → List (Path × HostObject) → Option Op
 fault_among objects bytes [] = None
 fault_among objects bytes ((path, host.Other) ∷ es) = Some (odd path)
 fault_among objects bytes ((path, o) ∷ es) =
-    if nat_lt most_objects (suc objects) || nat_lt most_bytes (bytes + size o) then Some TooLarge
+    if is_over (suc objects) (bytes + size o) then Some TooLarge
     else fault_among (suc objects) (bytes + size o) es
 
 -- the objects below `tree`: all but the root, which comes first

@@ -52,10 +52,14 @@ abbrev pub seen_object : Seen → Object
 seen_object (seen.Directory items) = fresh node.Directory 0o755 [] 0 0 0
 seen_object (seen.File bytes) = fresh node.File 0o644 bytes 0 0 0
 
+-- what a listing of what was seen names; a file lists nothing
+abbrev pub items_of : Seen → List HostItem
+items_of (seen.Directory items) = items
+items_of (seen.File bytes) = []
+
 -- what is found in what was seen
 abbrev pub found_below : Path → Seen → List Found
-found_below path (seen.Directory items) = map (found_in path) items
-found_below path (seen.File bytes) = []
+found_below path what = map (found_in path) (items_of what)
 
 -- the bytes of what was seen
 abbrev pub seen_size : Seen → ℕ

@@ -1,10 +1,8 @@
 //! What a listing of a host names, and what is seen of it.
-ghost use Rattle.std.specs.Prelude.{◌≡◌, ◌≢◌, ◌⊎◌, ◌∷◌, ◌++◌, [], false, reverse, map, IfOk, IfErr, IfSome, IsErrOf, OnOk};
-ghost use Rattle.pv_folder.specs.declared.open_fault.OpenFault.TheVariants.{HostFailed};
-ghost use Rattle.pv_host.specs.Content.{held, kind_at, spelled};
-ghost use Rattle.pv_folder.specs.Folders.{tree_path};
-ghost use Rattle.pv_folder.specs.Opening.{is_outer, odd};
-ghost use Rattle.pv_folder.specs.Reading.{Shows, found_in, path_of};
+ghost use Rattle.std.specs.Prelude.{◌≡◌, ◌∷◌, ◌++◌, [], true, reverse, map, IfOk, OnOk};
+ghost use Rattle.pv_host.specs.Lists.{is_ordered};
+ghost use Rattle.pv_folder.specs.Opening.{odd};
+ghost use Rattle.pv_folder.specs.Reading.{found_in};
 
 use crate::open_fault::OpenFault;
 use pv_host::{HostItem, HostKind, HostList};
@@ -44,7 +42,8 @@ pub(crate) fn push_found(
     directory: &TreePath,
     items: &HostList,
 ) -> Result<(), AllocError>
-    ensures { OnOk result (pending.new.items ≡ pending.old.items ++ reverse (map (found_in directory.now) items.now)) }
+    ensures pushed { OnOk result (pending.new.items ≡ pending.old.items ++ reverse (map (found_in directory.now) items.now)) }
+    ensures ordered { is_ordered items.now ≡ true }
 {
     for item in items.as_slice().iter().rev() {
         pending.push(found_in(alloc, directory, item)?)?;

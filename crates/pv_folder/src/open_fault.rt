@@ -7,6 +7,7 @@ use pv_host::HostFault;
 use pv_image::ImageFault;
 use pv_path::Bytes;
 use std::alloc::{AllocError, AllocFailed};
+use std::fmt;
 use thiserror::Error;
 
 /// Why a folder is not opened.
@@ -31,6 +32,12 @@ pub enum OpenFault {
     /// Memory ran out.
     #[error("Memory")]
     Memory,
+}
+
+impl fmt::Debug for OpenFault {
+    fn fmt<W: fmt::Write>(&self, f: &mut fmt::Formatter<W>) -> fmt::Result {
+        fmt::Display::fmt(self, f)
+    }
 }
 
 impl From<AllocError> for OpenFault {
