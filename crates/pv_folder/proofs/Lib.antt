@@ -1,3 +1,4 @@
 pub mod MergeLaws
 pub mod AheadLaws
 pub mod FactLaws
+pub mod Spelling

@@ -1,2 +1,6 @@
 pub mod Merge
+pub mod Manifest
+pub mod Folders
+pub mod Opening
+pub mod Keeping
 pub mod Ahead

@@ -4,8 +4,11 @@
 #![tactic(auto)]
 
 mod copied_facts;
+mod host_path;
 mod merged_object;
 mod merging;
+mod open_fault;
 mod walking;
 
 pub use merging::merge;
+pub use open_fault::OpenFault;
