@@ -1,5 +1,5 @@
 -- How bytes spell the paths of a host.
-use Rattle.std.proofs.Common.{◌≡◌, ◌∙◌, ℕ, Bool, true, false, not, cond, ◌==◌, List, [], ◌∷◌, ◌++◌, length, refl, sym, ap, append_assoc, arith}
+use Rattle.std.proofs.Common.{◌≡◌, ◌∙◌, ℕ, Bool, true, false, not, cond, ◌==◌, List, [], ◌∷◌, ◌++◌, length, refl, ap, append_assoc, arith}
 use Rattle.std.specs.Prelude.{nat_lt, ◌&&◌}
 use Rattle.std.specs.List.{list_all, onto_first, slice_split}
 use Rattle.std.proofs.lemmas.Bool.{and_parts}
@@ -16,7 +16,7 @@ slash b = b == 47
 -- the pieces of bytes, one of which is there always
 onto_more : (b : ℕ) (p : ℕ → Bool) (xs : List ℕ) (rest : List (List ℕ)) → onto_first b (slice_split p xs ++ rest) ≡ onto_first b (slice_split p xs) ++ rest
 onto_more b p [] rest = refl
-onto_more b p (x ∷ xs) rest = by (p x) (slice_split p xs) 
+onto_more b p (x ∷ xs) rest = by (p x) (slice_split p xs)
   where
     first : (pieces : List (List ℕ)) → onto_first b (onto_first x pieces ++ rest) ≡ onto_first b (onto_first x pieces) ++ rest
     first [] = refl

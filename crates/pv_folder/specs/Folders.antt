@@ -1,5 +1,5 @@
 -- A folder of a host: `tree` holds directories and files, `manifest` all else that is said of a tree (this project's own).
-use Rattle.std.specs.Prelude.{◌≡◌, ◌≢◌, ◌⊎◌, ℕ, false, List, [], ◌∷◌, ◌++◌, codes, map, Option, Some, None, option_map}
+use Rattle.std.specs.Prelude.{◌≡◌, ◌⊎◌, ℕ, false, List, [], ◌∷◌, ◌++◌, codes, Option, Some, None, option_map}
 use Rattle.std.specs.List.{filter_map}
 use Rattle.std.specs.FinMap as fin
 use Rattle.pv_path.specs.Paths.{Path, is_prefix, rest_under}

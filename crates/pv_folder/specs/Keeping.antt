@@ -1,6 +1,6 @@
 -- A tree kept in memory and in a folder, and what closing it leaves there.
-use Rattle.std.specs.Prelude.{◌≡◌, ◌≢◌, Bool, true, false, Option, Some, None}
-use Rattle.pv_path.specs.Paths.{Path, same_path}
+use Rattle.std.specs.Prelude.{◌≡◌, ◌≢◌, Some, None}
+use Rattle.pv_path.specs.Paths.{Path}
 use Rattle.pv_steps.specs.Trees.{Files}
 use Rattle.pv_text.specs.Facts.{Values}
 use Rattle.pv_host.specs.Content.{Content, Held, HostObject, IsContent, held, put_at}

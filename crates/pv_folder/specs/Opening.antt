@@ -1,7 +1,7 @@
 -- Opening a folder: what is read of it, and why it is not opened. A folder is listed first, then its manifest is read, then
 -- `tree` is gone through, each object before those below it and each with all below it before the next; the first fault that
 -- is met decides.
-use Rattle.std.specs.Prelude.{◌≡◌, ◌≢◌, ◌||◌, ℕ, suc, ◌+◌, nat_lt, Bool, true, false, List, [], ◌∷◌, codes, length, drop, Option, Some, None, if◌then◌else◌}
+use Rattle.std.specs.Prelude.{◌≡◌, ◌||◌, ℕ, suc, ◌+◌, nat_lt, Bool, true, false, List, [], ◌∷◌, codes, length, drop, Option, Some, None, if◌then◌else◌}
 use Rattle.std.specs.FinMap as fin
 use Rattle.pv_path.specs.Paths.{Path}
 use Rattle.pv_path.specs.Printing.{printed_path}
