@@ -12,7 +12,7 @@ use Rattle.pv_path.proofs.Tests.{both_T, each_T, same_tests}
 
 -- ---- the order of paths
 
-less-below : (p : Path) (n : List ℕ) (r : Path) → path_cmp p (p ++ n ∷ r) ≡ Less
+pub less-below : (p : Path) (n : List ℕ) (r : Path) → path_cmp p (p ++ n ∷ r) ≡ Less
 less-below [] n r = refl
 less-below (k ∷ p) n r = ap (λ o. ordering_then o (path_cmp p (p ++ n ∷ r))) (name_cmp-refl k) ∙ less-below p n r
 
@@ -26,12 +26,12 @@ below-child p n q h =
     let parts = prefix_parts (p ++ n ∷ []) q h in
     (parts.0, parts.1 ∙ append_assoc p (n ∷ []) parts.0)
 
-below-less : (p : Path) (n : List ℕ) (q : Path) → is_prefix (p ++ n ∷ []) q ≡ true → path_cmp p q ≡ Less
+pub below-less : (p : Path) (n : List ℕ) (q : Path) → is_prefix (p ++ n ∷ []) q ≡ true → path_cmp p q ≡ Less
 below-less p n q h =
     let at = below-child p n q h in
     subst (λ (x : Path). path_cmp p x ≡ Less) (sym at.1) (less-below p n at.0)
 
-beside-less : (p : Path) (n m : List ℕ) (q x : Path) → name_cmp n m ≡ Less → is_prefix (p ++ n ∷ []) q ≡ true → is_prefix (p ++ m ∷ []) x ≡ true → path_cmp q x ≡ Less
+pub beside-less : (p : Path) (n m : List ℕ) (q x : Path) → name_cmp n m ≡ Less → is_prefix (p ++ n ∷ []) q ≡ true → is_prefix (p ++ m ∷ []) x ≡ true → path_cmp q x ≡ Less
 beside-less p n m q x less h k =
     let one = below-child p n q h in
     let other = below-child p m x k in

@@ -90,7 +90,7 @@ is_some-map f None = refl
 is_some-map f (Some x) = refl
 
 -- what is listed is a directory, and its items are those in it
-listed : (c : Content) (o : Option HostObject) (p : Path) (items : List HostItem) → listing_of c o p ≡ Some items → (o ≡ Some host.Directory) × (items ≡ items_in c p)
+pub listed : (c : Content) (o : Option HostObject) (p : Path) (items : List HostItem) → listing_of c o p ≡ Some items → (o ≡ Some host.Directory) × (items ≡ items_in c p)
 listed c None p items e = cc
 listed c (Some host.Directory) p items e = (refl, let same : Some (items_in c p) ≡ Some items = e in cc)
 listed c (Some (host.File bytes)) p items e = cc
@@ -123,7 +123,7 @@ ahead_both folder c (x ∷ xs) ys =
     ap (λ es. under (objects_in folder c) (path_of x) ++ es) (ahead_both folder c xs ys)
     ∙ sym (append_assoc (under (objects_in folder c) (path_of x)) (ahead folder c xs) (ahead folder c ys))
 
-all_both : {A : Type 0} (P : A → Type 0) (xs ys : List A) → AllByRecursion P xs → AllByRecursion P ys → AllByRecursion P (xs ++ ys)
+pub all_both : {A : Type 0} (P : A → Type 0) (xs ys : List A) → AllByRecursion P xs → AllByRecursion P ys → AllByRecursion P (xs ++ ys)
 all_both P [] ys g h = h
 all_both P (x ∷ xs) ys g h = (g.0, all_both P xs ys g.1 h)
 
@@ -252,7 +252,7 @@ module _ (folder : Path) (c : Content) (objects bytes : ℕ) (files : Files) (la
 
 -- ---- the first objects
 
-real_below : (p : Path) (es : List (Path × HostObject)) → T (below_all path_cmp p es) → T (below_all path_cmp p (real_entries es))
+pub real_below : (p : Path) (es : List (Path × HostObject)) → T (below_all path_cmp p es) → T (below_all path_cmp p (real_entries es))
 real_below p [] h = tt
 real_below p (e ∷ es) h =
     let parts = each_T (is_lt (path_cmp p e.0)) (below_all path_cmp p es) h in
