@@ -6,6 +6,7 @@ ghost use Rattle.pv_io.specs.Faults.{HasRisen};
 ghost use Rattle.pv_path.specs.Names.{is_name};
 ghost use Rattle.pv_path.specs.Paths.{parent_of, path_cmp};
 ghost use Rattle.pv_steps.specs.declared.node.Kind.TheVariants as node;
+ghost use Rattle.pv_steps.specs.Attributes.{are_bytes};
 ghost use Rattle.pv_steps.specs.Objects.{IsObject, fresh};
 ghost use Rattle.pv_steps.specs.Trees.{IsKind};
 ghost use Rattle.pv_tree.specs.Held.{root_alone};
@@ -53,11 +54,19 @@ fn directory_object(alloc: Global) -> Object
     Object::fresh(alloc, Kind::Directory, 0o755, Bytes::new(alloc), 0, 0, 0)
 }
 
+/// Tells that the items of a slice are bytes.
+fn are_bytes(bytes: &[u8])
+    ensures { are_bytes bytes.now ≡ true }
+{
+    let _count = bytes.len();
+}
+
 /// A file of which no more is known than its bytes.
 fn file_object(alloc: Global, bytes: Bytes) -> Object
     ensures object { result ≡ fresh node.File 0o644 bytes 0 0 0 }
     ensures whole { IsObject result }
 {
+    are_bytes(bytes.as_slice());
     Object::fresh(alloc, Kind::File, 0o644, bytes, 0, 0, 0)
 }
 
