@@ -1,6 +1,8 @@
 -- What holds on the way through a folder's tree, and what a folder's own listing says of it.
-use Rattle.std.proofs.Common.{◌≡◌, ◌≢◌, ◌∙◌, ◌⊎◌, inl, inr, ◌≤◌, ◌+◌, suc, Bool, true, false, cond, ◌&&◌, List, [], ◌∷◌, ◌++◌, map, reverse, codes, Option, Some, None, IfSome, is_some, option_map, refl, sym, ap, subst, ℕ, arith}
-use Rattle.std.proofs.lemmas.Bool.{and_parts}
+use Rattle.std.proofs.Common.{◌≡◌, ◌≢◌, ◌∙◌, ◌⊎◌, inl, inr, ◌≤◌, ◌+◌, suc, Bool, true, false, cond, ◌&&◌, List, [], ◌∷◌, ◌++◌, map, reverse, codes, Option, Some, None, IfSome, is_some, option_map, Result, Ok, Err, IfErr, refl, sym, ap, subst, ℕ, arith}
+use Rattle.std.specs.Prelude.{IsErrAnd, nat_lt}
+use Rattle.std.proofs.lemmas.Bool.{and_parts, or_parts}
+use Rattle.std.proofs.lemmas.Bool.Decides.{nat_tests}
 use Rattle.std.proofs.lemmas.List.{reverse-append, reverse-reverse}
 use Rattle.std.specs.FinMap as fin
 use Rattle.pv_path.specs.Names.{is_name}
@@ -9,6 +11,7 @@ use Rattle.pv_path.specs.Paths.{Path, parent_of, path_cmp}
 use Rattle.pv_steps.specs.declared.node.Kind.TheVariants as node
 use Rattle.pv_steps.specs.Objects.{fresh}
 use Rattle.pv_steps.specs.Trees.{Files, IsKind}
+use Rattle.pv_tree.specs.Growth.{Grown}
 use Rattle.pv_tree.specs.Held.{root_alone}
 use Rattle.pv_generate.proofs.GrowLaws.{all_grown}
 use Rattle.pv_host.specs.declared.item.HostItem.{HostItem}
@@ -22,7 +25,7 @@ use Rattle.pv_folder.specs.declared.found.Seen.{Seen}
 use Rattle.pv_folder.specs.declared.open_fault.OpenFault.{OpenFault}
 use Rattle.pv_folder.specs.declared.open_fault.OpenFault.TheVariants.{TooLarge}
 use Rattle.pv_folder.specs.Folders.{IsFree, IsPrepared, manifest_path, new_manifest_path, real_in, tree_path}
-use Rattle.pv_folder.specs.Opening.{fault_among, is_over, objects_below, odd}
+use Rattle.pv_folder.specs.Opening.{fault_among, is_over, most_bytes, most_objects, objects_below, odd}
 use Rattle.pv_folder.specs.Reading.{Shows, found_below, found_in, is_directory, is_free, items_of, kind_named, lists_prepared, path_of, seen_object, seen_size}
 use Rattle.pv_folder.proofs.FolderLaws.{above, directory_present, kind_named-in}
 use Rattle.pv_folder.proofs.ReadingLaws.{IsReading, begun, listed, next_named, next_other, next_over, next_read, next_same}
@@ -38,11 +41,33 @@ pub told_both : {A : Type 0} (P Q R : A → Type 0) (o : Option A) → ((x : A) 
 told_both P Q R None f g h = h
 told_both P Q R (Some x) f g h = f x g h
 
+-- what holds of a fault holds of an answer that passes it on
+pub passed_on : {A : Type 0} (r : Result A OpenFault) (f : OpenFault) (P : OpenFault → Type 0) → IsErrAnd r (λ e. e ≡ f) → P f → IfErr r P
+passed_on (Ok x) f P h p = absurd h
+passed_on (Err e) f P h p = subst P (sym h) p
+
+-- ---- counts
+
+pub not_over : (objects bytes : ℕ) → is_over objects bytes ≡ false → (objects ≤ most_objects) × (bytes ≤ most_bytes)
+not_over objects bytes few =
+    let parts = or_parts (nat_lt most_objects objects) (nat_lt most_bytes bytes) few in
+    (grind (arith, nat_tests, parts.0), grind (arith, nat_tests, parts.1))
+
 -- ---- on the way
 
 pub record IsGoing (content : Option Content) (folder : Path) (objects bytes : ℕ) (files : Files) (last : Path) (pending : List Found) : Type 0 where
   pub stacked : IsStacked files last (reverse pending)
   pub reading : IfSome content (λ c. IsReading folder c objects bytes files last (reverse pending))
+
+-- the same by what is equal
+pub going_at : (content : Option Content) (folder : Path) (objects bytes : ℕ) (files : Files) (last : Path) (pending : List Found) (o b : ℕ) (g : Grown) (p : List Found)
+    → o ≡ objects → b ≡ bytes → g ≡ record { files = files; last = last } → p ≡ pending
+    → IsGoing content folder objects bytes files last pending → IsGoing content folder o b g.files g.last p
+going_at content folder objects bytes files last pending o b g p same_objects same_bytes same_tree same_pending going =
+    subst (λ (x : ℕ). IsGoing content folder x b g.files g.last p) (sym same_objects)
+    (subst (λ (x : ℕ). IsGoing content folder objects x g.files g.last p) (sym same_bytes)
+    (subst (λ (x : Grown). IsGoing content folder objects bytes x.files x.last p) (sym same_tree)
+    (subst (IsGoing content folder objects bytes files last) (sym same_pending) going)))
 
 abbrev pub Faulty : Path → OpenFault → Content → Type 0
 Faulty folder fault c = fault_among 0 0 (objects_below folder c) ≡ Some fault
