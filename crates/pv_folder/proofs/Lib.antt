@@ -4,6 +4,7 @@ pub mod FactLaws
 pub mod Spelling
 pub mod Preorder
 pub mod FolderLaws
+pub mod ListingLaws
 pub mod ReadingLaws
 pub mod StackLaws
 pub mod GoingLaws
