@@ -72,10 +72,14 @@ fn file_object(alloc: Global, bytes: Bytes) -> Object
 
 /// How many bytes what was seen has.
 fn size_of(seen: &Seen) -> usize
-    ensures { result ≡ seen_size seen.now }
+    ensures size { result ≡ seen_size seen.now }
+    ensures ordered { is_ordered (items_of seen.now) ≡ true }
 {
     match seen {
-        Seen::Directory(_) => 0,
+        Seen::Directory(items) => {
+            let _ordered = items.as_slice();
+            0
+        }
         Seen::File(bytes) => bytes.len(),
     }
 }

@@ -50,8 +50,8 @@ returns-in_err-count-clause-fault g c =
     let at : IfSome content (λ k. Shows k (tree_path folder ++ path_of x) s) =
     subst (λ (p : Path). IfSome content (λ k. Shows k (tree_path folder ++ p) s)) c.in_ok-path.ensures.path
     (subst (λ (o : Option Content). IfSome o (λ k. Shows k (tree_path folder ++ c.in_ok-path.path) s)) c.loop-found.invariant.3 c.in_ok-seen.ensures.told) in
-    let ordered : is_ordered (items_of s) ≡ true = ? in
-    let over : is_over (suc r.objects) (r.bytes + seen_size s) ≡ true = ap (λ n. is_over (suc r.objects) (r.bytes + n)) (sym c.size_of.ensures) ∙ c.in_err-count.ensures.over.1 in
+    let ordered : is_ordered (items_of s) ≡ true = c.size_of.ensures.ordered in
+    let over : is_over (suc r.objects) (r.bytes + seen_size s) ≡ true = ap (λ n. is_over (suc r.objects) (r.bytes + n)) (sym c.size_of.ensures.size) ∙ c.in_err-count.ensures.over.1 in
     passed_on c.from_residual-in_err-count.result c.in_err-count.field-0.0 (λ e. is_outer e ≡ false → IfSome content (Faulty folder e)) c.from_residual-in_err-count.ensures.1
     (λ own. subst (λ (e : OpenFault). IfSome content (Faulty folder e)) (sym c.in_err-count.ensures.over.0)
     (going_over content folder r.objects r.bytes r.builder.files r.builder.last c.pop.new.self.items x going s ordered at over))
@@ -68,10 +68,10 @@ loop-found-preserved g c =
     let at : IfSome content (λ k. Shows k (tree_path folder ++ path_of x) s) =
     subst (λ (q : Path). IfSome content (λ k. Shows k (tree_path folder ++ q) s)) c.in_ok-path.ensures.path
     (subst (λ (o : Option Content). IfSome o (λ k. Shows k (tree_path folder ++ p) s)) c.loop-found.invariant.3 c.in_ok-seen.ensures.told) in
-    let few : is_over (suc r.objects) (r.bytes + seen_size s) ≡ false = ap (λ n. is_over (suc r.objects) (r.bytes + n)) (sym c.size_of.ensures) ∙ c.in_ok-count.ensures.ok in
+    let few : is_over (suc r.objects) (r.bytes + seen_size s) ≡ false = ap (λ n. is_over (suc r.objects) (r.bytes + n)) (sym c.size_of.ensures.size) ∙ c.in_ok-count.ensures.ok in
     let within = not_over (suc r.objects) (r.bytes + seen_size s) few in
     let objects : c.take.new.self.objects ≡ suc r.objects = c.take.ensures.objects ∙ c.in_ok-count.ensures.objects in
-    let bytes : c.take.new.self.bytes ≡ r.bytes + seen_size s = c.take.ensures.bytes ∙ c.in_ok-count.ensures.bytes ∙ ap (λ n. r.bytes + n) c.size_of.ensures in
+    let bytes : c.take.new.self.bytes ≡ r.bytes + seen_size s = c.take.ensures.bytes ∙ c.in_ok-count.ensures.bytes ∙ ap (λ n. r.bytes + n) c.size_of.ensures.size in
     let builder : c.take.new.self.builder ≡ record { files = fin.insert r.builder.files (path_of x) (seen_object s); last = path_of x } =
     c.in_ok-take.ensures.builder
     ∙ ap (λ (b : Grown). record { files = fin.insert b.files p (seen_object s); last = p }) c.count.ensures.builder
