@@ -1,5 +1,6 @@
 -- A folder is refused for one reason, and not where it is opened; and what is kept in a folder is opened again as it was.
-use Rattle.std.proofs.Common.{◌≡◌, ◌≢◌, ◌∙◌, Bool, true, false, cond, T, List, [], ◌∷◌, ◌++◌, map, Option, Some, None, is_some, option_map, refl, sym, ap, subst, ℕ, append-nil}
+use Rattle.std.proofs.Common.{◌≡◌, ◌≢◌, ◌∙◌, Bool, true, false, cond, T, List, [], ◌∷◌, ◌++◌, map, Option, Some, None, IfSome, is_some, option_map, Result, Ok, Err, ◌⊎◌, inl, inr, refl, sym, ap, subst, ℕ, append-nil}
+use Rattle.std.specs.Prelude.{IsErrAnd}
 use Rattle.std.specs.List.{cons_option, filter_map}
 use Rattle.std.specs.Option.{option_and_then}
 use Rattle.std.specs.Ordering.{eq_by_cmp, is_eq, is_lt}
@@ -18,16 +19,19 @@ use Rattle.pv_steps.proofs.StepLaws.{among_keys, is_among, places-tabulate}
 use Rattle.pv_dress.specs.Nodes.{same_kind}
 use Rattle.pv_text.specs.Facts.{Values}
 use Rattle.pv_image.specs.declared.image_fault.ImageFault.{ImageFault}
+use Rattle.pv_image.specs.declared.image_fault.ImageFault.TheVariants as image_fault
 use Rattle.pv_image.specs.Images.{HasImageFault, IsImage}
 use Rattle.pv_image.proofs.ImageLaws.{image_sound, one_fault}
-use Rattle.pv_host.specs.Content.{Content, HostObject, held}
+use Rattle.pv_host.specs.Content.{Content, HostObject, bytes_of, held}
 use Rattle.pv_host.specs.Content as host
 use Rattle.pv_folder.specs.declared.open_fault.OpenFault.{OpenFault}
-use Rattle.pv_folder.specs.declared.open_fault.OpenFault.TheVariants.{BadManifest}
-use Rattle.pv_folder.specs.Folders.{Agrees, manifest_path, object_of, objects_in, real_as, real_in, real_of, tree_path}
+use Rattle.pv_folder.specs.declared.open_fault.OpenFault.TheVariants.{BadManifest, HostFailed, Memory}
+use Rattle.pv_folder.specs.Folders.{Agrees, IsPrepared, manifest_path, object_of, objects_in, real_as, real_in, real_of, tree_path}
 use Rattle.pv_folder.specs.Manifest.{emptied, emptied_payload, with_empty_files}
 use Rattle.pv_folder.specs.Merge.{is_real_kind, merged, merged_of, plain}
-use Rattle.pv_folder.specs.Opening.{IsOpened, IsRefused, Says, absent, bad_manifest, fault_among, not_prepared, objects_below, present, real}
+use Rattle.pv_folder.specs.Opening.{IsOpened, IsRefused, Says, absent, bad_manifest, fault_among, is_outer, not_prepared, objects_below, of_image, present, real}
+use Rattle.pv_tree.specs.Held.{root_alone}
+use Rattle.pv_folder.proofs.GoingLaws.{told, told_both}
 use Rattle.pv_folder.proofs.FolderLaws.{objects_found, objects_sorted}
 use Rattle.pv_folder.proofs.MergeLaws.{places-merged}
 use Rattle.pv_folder.proofs.ReadingLaws.{real_below, real_entries}
@@ -63,6 +67,92 @@ module _ (folder : Path) (c : Content) where
   not_both facts tree f o (not_prepared never) = never o.prepared
   not_both facts tree f o (bad_manifest b h p at fault) = says_well facts o.manifest b h o.says at fault
   not_both facts tree f o (real more others e p says fault) = let no : None ≡ Some e = sym o.sound ∙ fault in cc
+
+-- ---- what is told of a folder
+
+file_at : (o : Option HostObject) (bytes : List ℕ) → Some bytes ≡ bytes_of o → o ≡ Some (host.File bytes)
+file_at None bytes e = cc
+file_at (Some host.Directory) bytes e = cc
+file_at (Some (host.File b)) bytes e = let same : Some bytes ≡ Some b = e in cc
+file_at (Some host.Other) bytes e = cc
+
+own_fault : (f : ImageFault) → is_outer (of_image f) ≡ false → (of_image f ≡ BadManifest f) × (f ≢ image_fault.Memory)
+own_fault image_fault.Memory e = cc
+own_fault f e = (refl, λ m. cc)
+
+outer_fault : (f : OpenFault) → is_outer f ≡ true → (f ≡ HostFailed) ⊎ (f ≡ Memory)
+outer_fault HostFailed e = inl refl
+outer_fault Memory e = inr refl
+outer_fault f e = cc
+
+absent_at : (o : Option HostObject) → false ≡ is_some o → o ≡ None
+absent_at None e = refl
+absent_at (Some x) e = cc
+
+always : (Q : Content → Type 0) (content : Option Content) → ((c : Content) → Q c) → IfSome content Q
+always Q None h = tt
+always Q (Some c) h = h c
+
+module _ (content : Option Content) (folder : Path) where
+  -- the bytes of a manifest are no image
+  pub manifest_bad : (bytes : List ℕ) (f : ImageFault) → IfSome content (λ c. IsPrepared folder (held c))
+      → IfSome content (λ c. Some bytes ≡ bytes_of (held c (manifest_path folder))) → (f ≢ image_fault.Memory → HasImageFault bytes f)
+      → is_outer (of_image f) ≡ false → IfSome content (λ c. IsRefused folder c (of_image f))
+  manifest_bad bytes f prepared at has own =
+      let is = own_fault f own in
+      told_both (λ c. IsPrepared folder (held c)) (λ c. Some bytes ≡ bytes_of (held c (manifest_path folder))) (λ c. IsRefused folder c (of_image f)) content
+      (λ c p h. subst (IsRefused folder c) (sym is.0) (bad_manifest bytes f p (file_at (held c (manifest_path folder)) bytes h) (has is.1))) prepared at
+
+  -- or they are one
+  pub manifest_says : (bytes : List ℕ) (facts : Values) (files : Files) → IfSome content (λ c. Some bytes ≡ bytes_of (held c (manifest_path folder)))
+      → IsImage bytes facts files → IfSome content (λ c. Says folder c facts files)
+  manifest_says bytes facts files at image =
+      told (λ c. Some bytes ≡ bytes_of (held c (manifest_path folder))) (λ c. Says folder c facts files) content
+      (λ c h. present bytes (file_at (held c (manifest_path folder)) bytes h) image) at
+
+  -- or no manifest is there
+  pub no_manifest_says : (facts : Values) (files : Files) → IfSome content (λ c. false ≡ is_some (held c (manifest_path folder)))
+      → facts ≡ fin.empty → files ≡ root_alone (fresh node.Directory 0o755 [] 0 0 0).node → IfSome content (λ c. Says folder c facts files)
+  no_manifest_says facts files at none alone =
+      told (λ c. false ≡ is_some (held c (manifest_path folder))) (λ c. Says folder c facts files) content
+      (λ c h. absent (absent_at (held c (manifest_path folder)) h) none alone) at
+
+  -- the fault of what is real
+  pub real_refused : (facts : Values) (files : Files) (f : OpenFault) → IfSome content (λ c. IsPrepared folder (held c)) → IfSome content (λ c. Says folder c facts files)
+      → IfSome content (λ c. fault_among 0 0 (objects_below folder c) ≡ Some f) → IfSome content (λ c. IsRefused folder c f)
+  real_refused facts files f prepared says fault =
+      told_both (λ c. IsPrepared folder (held c) × Says folder c facts files) (λ c. fault_among 0 0 (objects_below folder c) ≡ Some f) (λ c. IsRefused folder c f) content
+      (λ c h e. real facts files f h.0 h.1 e)
+      (told_both (λ c. IsPrepared folder (held c)) (λ c. Says folder c facts files) (λ c. IsPrepared folder (held c) × Says folder c facts files) content (λ c p h. (p, h)) prepared says) fault
+
+  -- a fault that is answered is the reason, or is of the host or of memory
+  pub only_reason : {A : Type 0} (r : Result A OpenFault) (f g : OpenFault) → IsErrAnd r (λ e. e ≡ f) → (is_outer f ≡ false → IfSome content (λ c. IsRefused folder c f))
+      → IfSome content (λ c. IsRefused folder c g → (r ≡ Err g) ⊎ (r ≡ Err HostFailed) ⊎ (r ≡ Err Memory))
+  only_reason {A} (Ok x) f g h why = absurd h
+  only_reason {A} (Err e) f g h why = by (is_outer f) refl
+    where
+      outer : (f ≡ HostFailed) ⊎ (f ≡ Memory) → (◌≡◌ {A = Result A OpenFault} (Err e) (Err g)) ⊎ (◌≡◌ {A = Result A OpenFault} (Err e) (Err HostFailed)) ⊎ (◌≡◌ {A = Result A OpenFault} (Err e) (Err Memory))
+      outer (inl is) = inr (inl (ap Err (h ∙ is)))
+      outer (inr is) = inr (inr (ap Err (h ∙ is)))
+
+      by : (b : Bool) → is_outer f ≡ b
+          → IfSome content (λ c. IsRefused folder c g → (◌≡◌ {A = Result A OpenFault} (Err e) (Err g)) ⊎ (◌≡◌ {A = Result A OpenFault} (Err e) (Err HostFailed)) ⊎ (◌≡◌ {A = Result A OpenFault} (Err e) (Err Memory)))
+      by true is = always (λ c. IsRefused folder c g → (◌≡◌ {A = Result A OpenFault} (Err e) (Err g)) ⊎ (◌≡◌ {A = Result A OpenFault} (Err e) (Err HostFailed)) ⊎ (◌≡◌ {A = Result A OpenFault} (Err e) (Err Memory)))
+          content (λ c other. outer (outer_fault f is))
+      by false is = told (λ c. IsRefused folder c f) (λ c. IsRefused folder c g → (◌≡◌ {A = Result A OpenFault} (Err e) (Err g)) ⊎ (◌≡◌ {A = Result A OpenFault} (Err e) (Err HostFailed)) ⊎ (◌≡◌ {A = Result A OpenFault} (Err e) (Err Memory)))
+          content (λ c own other. inl (ap Err (h ∙ one_reason folder c f g own other))) (why is)
+
+pub folder_opened : (content : Option Content) (folder : Path) (facts said : Values) (tree manifest found : Files) → facts ≡ said → tree ≡ merged manifest found
+    → IfSome content (λ c. IsPrepared folder (held c)) → IfSome content (λ c. Says folder c said manifest) → IfSome content (λ c. fault_among 0 0 (objects_below folder c) ≡ None)
+    → IfSome content (λ c. found ≡ real_in folder c) → IfSome content (λ c. IsOpened folder c facts tree)
+folder_opened None folder facts said tree manifest found same is prepared says sound are = tt
+folder_opened (Some c) folder facts said tree manifest found same is prepared says sound are = record {
+  manifest = manifest;
+  prepared = prepared;
+  says = subst (λ (v : Values). Says folder c v manifest) (sym same) says;
+  sound = sound;
+  is_merged = is ∙ ap (merged manifest) are;
+}
 
 -- ---- what is real, path by path
 

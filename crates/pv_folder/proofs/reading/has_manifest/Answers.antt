@@ -1,4 +1,4 @@
-use Rattle.std.proofs.Common.{◌≡◌, ◌∙◌, List, Option, Some, None, IfSome, is_some, sym, ap, subst}
+use Rattle.std.proofs.Common.{◌≡◌, ◌∙◌, List, Option, Some, None, IfSome, codes, is_some, sym, ap, subst}
 use Rattle.pv_host.specs.declared.item.HostItem.{HostItem}
 use Rattle.pv_host.specs.Content.{Content, IsContent, held, listing, spelled}
 use Rattle.pv_folder.specs.Folders.{IsPrepared, manifest_path}
@@ -40,5 +40,5 @@ returns-clause-there g c =
     let folder = spelled c.args.folder.now in
     let items = c.in-Some.items in
     told (λ k. Some items ≡ listing k folder) (λ k. c.is_some.result ≡ is_some (held k (manifest_path folder))) content
-    (λ k lists. ? ∙ manifest_there folder k items (sym lists))
+    (λ k lists. c.is_some.ensures ∙ ap is_some (c.kind_named.ensures ∙ ap (kind_named (codes "manifest")) c.as_slice-2.ensures.value) ∙ manifest_there folder k items (sym lists))
     (subst (λ (o : Option (List HostItem)). IfSome content (λ k. o ≡ listing k folder)) c.in-Some.is c.in_ok-items.ensures.told)
