@@ -1,3 +1,11 @@
 pub mod MergeLaws
 pub mod AheadLaws
 pub mod FactLaws
+pub mod Spelling
+pub mod Preorder
+pub mod FolderLaws
+pub mod ListingLaws
+pub mod ReadingLaws
+pub mod StackLaws
+pub mod GoingLaws
+pub mod OpeningLaws

@@ -4,8 +4,16 @@
 #![tactic(auto)]
 
 mod copied_facts;
+mod found;
+mod host_path;
+mod looking;
 mod merged_object;
 mod merging;
+mod open_fault;
+mod reading;
+mod reading_tree;
 mod walking;
 
 pub use merging::merge;
+pub use open_fault::OpenFault;
+pub use reading::read_folder;
