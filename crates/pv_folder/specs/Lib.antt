@@ -1,2 +1,5 @@
 pub mod Merge
+pub mod Manifest
+pub mod Folders
+pub mod Keeping
 pub mod Ahead
