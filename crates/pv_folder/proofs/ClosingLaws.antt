@@ -1,5 +1,5 @@
 -- Laws of a manifest that is written beside the old one and then moved over it.
-use Rattle.std.specs.Prelude.{◌≡◌, ◌≢◌, ◌⊎◌, ℕ, Bool, true, false, cond, ◌&&◌, List, [], ◌∷◌, ◌++◌, codes, Option, Some, None, is_some, option_map, IfSome}
+use Rattle.std.specs.Prelude.{◌≡◌, ◌≢◌, ◌⊎◌, ℕ, Bool, true, false, cond, ◌&&◌, List, [], ◌∷◌, ◌++◌, codes, Option, Some, None, is_some, option_map, IfSome, Result, Ok, Err, OnOk, OnErr}
 use Rattle.std.proofs.Common.{refl, sym, ap, subst, ◌∙◌, inl, inr, append_assoc, append-nil}
 use Rattle.std.proofs.lemmas.Option.{same_Some}
 use Rattle.pv_path.specs.Names.{is_name, same_bytes}
@@ -7,6 +7,7 @@ use Rattle.pv_path.specs.Paths.{Path, has_names, is_prefix, parent_of, rest_unde
 use Rattle.pv_path.proofs.PathLaws.{has_names-push, not_prefix_not_same, parent_of-push, prefix_parts, rest_under-Some, same_path-no, same_path-refl}
 use Rattle.pv_steps.specs.Trees.{Files, places}
 use Rattle.pv_steps.proofs.TreeLaws.{no_rest_no_prefix}
+use Rattle.pv_host.specs.declared.host.HostFault.{HostFault}
 use Rattle.pv_host.specs.declared.item.HostKind.TheVariants as named
 use Rattle.pv_host.specs.Content as host
 use Rattle.pv_host.specs.Content.{Content, Held, HostObject, HasPlace, IsChanged, IsDirectory, MayAsk, May, changed, held, put_at}
@@ -279,3 +280,38 @@ agrees_but folder files (Some c) (Some n) same agrees = λ path.
         let no : true ≡ false = sym (same_path-refl (new_manifest_path folder)) ∙ ap (same_path (new_manifest_path folder)) (sym e) ∙ apart folder (codes "manifest.new") y [] s other in
         cc))
     ∙ agrees path
+
+-- ---- the two calls, with paths that are spelled
+
+module _ (folder n p m : Path) (text : List ℕ) (old mid : Option Content) (at : n ≡ new_manifest_path folder) (from : p ≡ new_manifest_path folder) (to : m ≡ manifest_path folder)
+  (done : IsChanged (host.WriteFile n text) old mid) (ready : IfSome old (λ c. IsReady folder (held c))) where
+  wrote_new : IsChanged (host.WriteFile (new_manifest_path folder) text) old mid
+  wrote_new = subst (λ (q : Path). IsChanged (host.WriteFile q text) old mid) at done
+
+  pub may_move_as : MayAsk mid (host.Rename p m)
+  may_move_as =
+      subst (λ (q : Path). MayAsk mid (host.Rename q m)) (sym from)
+      (subst (λ (q : Path). MayAsk mid (host.Rename (new_manifest_path folder) q)) (sym to) (may_move folder text old mid wrote_new ready))
+
+  module _ (new : Option Content) where
+    pub has_manifest_as : IsChanged (host.Rename p m) mid new → HasManifest folder text old new
+    has_manifest_as moved =
+        has_manifest folder text old mid wrote_new new
+        (subst (λ (q : Path). IsChanged (host.Rename (new_manifest_path folder) q) mid new) to (subst (λ (q : Path). IsChanged (host.Rename q m) mid new) from moved)) ready
+
+    pub kept_as : new ≡ mid → IsSameButNew folder old new
+    kept_as same = subst (λ (o : Option Content). IsSameButNew folder old o) (sym same) (same_mid folder text old mid wrote_new)
+
+    pub ready_as : (r : Result (Unit {0}) HostFault) → OnOk r (IsChanged (host.Rename p m) mid new) → OnErr r (new ≡ mid) → IfSome new (λ c. IsReady folder (held c))
+    ready_as (Ok x) moved kept = ready_with folder text old new (has_manifest_as moved) ready
+    ready_as (Err e) moved kept = subst (λ (o : Option Content). IfSome o (λ c. IsReady folder (held c))) (sym kept) (ready_mid folder text old mid wrote_new ready)
+
+pub agrees_as : (folder : Path) (text : List ℕ) (files : Files) (r : Result (Unit {0}) HostFault) (old new : Option Content)
+    → OnOk r (HasManifest folder text old new) → OnErr r (IsSameButNew folder old new) → IfSome old (λ c. IsReady folder (held c))
+    → IfSome old (λ c. Agrees folder files (held c)) → IfSome new (λ c. Agrees folder files (held c))
+agrees_as folder text files (Ok x) old new has kept ready agrees = agrees_with folder text files old new has ready agrees
+agrees_as folder text files (Err e) old new has kept ready agrees = agrees_but folder files old new kept agrees
+
+pub on_err : {A E : Type 0} (r : Result A E) {X Y : Type 0} → (X → Y) → OnErr r X → OnErr r Y
+on_err (Ok x) f h = h
+on_err (Err e) f h = f h

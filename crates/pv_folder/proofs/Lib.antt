@@ -6,3 +6,4 @@ pub mod AgreeLaws
 pub mod ReadyLaws
 pub mod ClosingLaws
 pub mod EmptyLaws
+pub mod EmptyGrowth

@@ -64,6 +64,15 @@ module _ (t : Held) (is : IsContent t) where
         new_alone = nothing_below (new_manifest_path folder) prepared.new_manifest;
       }
 
+-- what is told of a content that holds a tree
+pub ready_kept : (folder : Path) (files : Files) (o : Option Content) → IfSome o (λ c. Keeps folder files c) → IfSome o (λ c. IsReady folder (held c))
+ready_kept folder files None keeps = tt
+ready_kept folder files (Some c) keeps = ready_of (held c) keeps.is_content folder keeps.prepared
+
+pub agrees_kept : (folder : Path) (files : Files) (o : Option Content) → IfSome o (λ c. Keeps folder files c) → IfSome o (λ c. Agrees folder files (held c))
+agrees_kept folder files None keeps = tt
+agrees_kept folder files (Some c) keeps = keeps.agrees
+
 -- ---- a folder stays ready where nothing changes outside of its tree, and that stays a directory
 
 manifest_outside : (folder rest : Path) → is_prefix (tree_path folder) (folder ++ codes "manifest" ∷ rest) ≡ false

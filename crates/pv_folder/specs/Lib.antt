@@ -2,4 +2,5 @@ pub mod Merge
 pub mod Manifest
 pub mod Folders
 pub mod Keeping
+pub mod Sole
 pub mod Ahead

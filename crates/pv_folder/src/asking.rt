@@ -1,7 +1,9 @@
 //! What a step on a tree asks of the host that has it in a folder.
-ghost use Rattle.std.specs.Prelude.{◌≡◌, ◌↔◌, ◌++◌, is_some, IsTrue, OnOk, OnErr};
+ghost use Rattle.std.specs.Prelude.{◌≡◌, ◌↔◌, ◌≤◌, ◌++◌, is_some, IsTrue, OnOk, OnErr, IsErrOf};
+ghost use Rattle.pv_io.specs.Faults.{HasRisen};
 ghost use Rattle.pv_steps.specs.declared.node.Kind.TheVariants.{File};
 ghost use Rattle.pv_steps.specs.Trees.{IsKind, places};
+ghost use Rattle.pv_host.specs.declared.host.HostFault.TheVariants.{Failed};
 ghost use Rattle.pv_host.specs.Content.{spelled};
 ghost use Rattle.pv_host.specs.Counts.{count_after};
 ghost use Rattle.pv_folder.specs.Folders.{real_of, tree_path};
@@ -48,6 +50,8 @@ fn remove_file<H: Host>(
         (removal (tree_path (spelled folder.now) ++ path.now) (real_of (places tree.now.files path.now)))
         (H.content host.old) (H.content host.new)) }
     ensures kept { OnErr result (H.content host.new ≡ H.content host.old) }
+    ensures cause { IsErrOf result Failed → HasRisen (H.faults host.old) (H.faults host.new) }
+    ensures never_falls { H.faults host.old ≤ H.faults host.new }
     ensures count { H.faults host.new ≡ count_after result (H.faults host.old) }
 {
     if !is_file(tree, path) {
@@ -57,6 +61,7 @@ fn remove_file<H: Host>(
 }
 
 /// The two paths of a move.
+#[derive(Drop)]
 struct Move<'a> {
     from: &'a TreePath,
     to: &'a TreePath,
@@ -74,10 +79,12 @@ fn rename<H: Host>(
         MayAskFor (H.content host.old) (move (top ++ paths.from.now) (top ++ paths.to.now)
             (real_of (places tree.now.files paths.from.now)) (real_of (places tree.now.files paths.to.now))) }
     ensures done { let top = tree_path (spelled folder.now) in
-        OnOk result (IsChangedBy (move (top ++ paths.from.now) (top ++ paths.to.now)
-            (real_of (places tree.now.files paths.from.now)) (real_of (places tree.now.files paths.to.now)))
+        OnOk result (IsChangedBy (move (top ++ paths.entry.from.now) (top ++ paths.entry.to.now)
+            (real_of (places tree.now.files paths.entry.from.now)) (real_of (places tree.now.files paths.entry.to.now)))
             (H.content host.old) (H.content host.new)) }
     ensures kept { OnErr result (H.content host.new ≡ H.content host.old) }
+    ensures cause { IsErrOf result Failed → HasRisen (H.faults host.old) (H.faults host.new) }
+    ensures never_falls { H.faults host.old ≤ H.faults host.new }
     ensures count { H.faults host.new ≡ count_after result (H.faults host.old) }
 {
     if !is_real(tree, paths.from) {
@@ -102,6 +109,8 @@ pub(crate) fn ask_for<H: Host>(
         (change_for (tree_path (spelled folder.now)) (places tree.now.files) step.now)
         (H.content host.old) (H.content host.new)) }
     ensures kept { OnErr result (H.content host.new ≡ H.content host.old) }
+    ensures cause { IsErrOf result Failed → HasRisen (H.faults host.old) (H.faults host.new) }
+    ensures never_falls { H.faults host.old ≤ H.faults host.new }
     ensures count { H.faults host.new ≡ count_after result (H.faults host.old) }
 {
     match step {

@@ -1,5 +1,5 @@
 //! Closing a folder: its manifest is written anew.
-ghost use Rattle.std.specs.Prelude.{◌≡◌, OnOk, OnErr, IfSome};
+ghost use Rattle.std.specs.Prelude.{◌≡◌, ◌≤◌, OnOk, OnErr, IfSome};
 ghost use Rattle.pv_host.specs.Content.{held, spelled};
 ghost use Rattle.pv_host.specs.Counts.{count_after};
 ghost use Rattle.pv_folder.specs.Keeping.{HasManifest, IsClosed, IsReady, IsSameButNew};
@@ -23,6 +23,7 @@ pub(crate) fn replace_manifest<H: Host>(
     ensures done { OnOk result (HasManifest (spelled folder.now) text.now (H.content host.old) (H.content host.new)) }
     ensures kept { OnErr result (IsSameButNew (spelled folder.now) (H.content host.old) (H.content host.new)) }
     ensures ready { IfSome (H.content host.new) (λ c. IsReady (spelled folder.now) (held c)) }
+    ensures never_falls { H.faults host.old ≤ H.faults host.new }
     ensures count { H.faults host.new ≡ count_after result (H.faults host.old) }
 {
     let new = below(alloc, folder, b"manifest.new")?;
@@ -42,6 +43,7 @@ pub fn close_folder<H: Host>(
         (H.content tree.old.host.now) (H.content tree.new.host.now)) }
     ensures kept { OnErr result (IsSameButNew (spelled tree.old.folder.items)
         (H.content tree.old.host.now) (H.content tree.new.host.now)) }
+    ensures never_falls { H.faults tree.old.host.now ≤ H.faults tree.new.host.now }
     ensures count { H.faults tree.new.host.now ≡ count_after result (H.faults tree.old.host.now) }
     ensures host { tree.new.host.ghost_name ≡ tree.old.host.ghost_name }
     ensures folder { tree.new.folder ≡ tree.old.folder }

@@ -8,6 +8,7 @@ ghost use Rattle.pv_host.specs.Content.{held, spelled};
 ghost use Rattle.pv_host.specs.Counts.{count_after};
 ghost use Rattle.pv_folder.specs.Folders.{Agrees, tree_path};
 ghost use Rattle.pv_folder.specs.Keeping.{HasManifest, IsChangedBy, IsReady, IsSameButNew, Keeps, Moves, change_for, moves_none, moves_on, same, same_on, step_count};
+ghost use Rattle.pv_folder.specs.Sole.{agrees_prop, ready_prop};
 
 use crate::asking::ask_for;
 use crate::closing::replace_manifest;
@@ -31,8 +32,10 @@ pub struct FolderTree<'a, H: Host> {
     tree: MemTree,
     /// A step has begun that may be done on the host alone.
     pending: bool,
-    ghost ready: { IfSome (H.content host.now) (λ c. IsReady (spelled folder.items) (held c)) },
-    ghost agrees: { pending ≡ false → IfSome (H.content host.now) (λ c. Agrees (spelled folder.items) tree.files (held c)) },
+    ghost ready: { IfSome (H.content host.now) (λ c. IsReady (spelled folder.items) (held c)) }
+        by { ready_prop (spelled folder.items) (H.content host.now) },
+    ghost agrees: { pending ≡ false → IfSome (H.content host.now) (λ c. Agrees (spelled folder.items) tree.files (held c)) }
+        by { agrees_prop pending (spelled folder.items) tree.files (H.content host.now) },
 }
 
 impl<'a, H: Host> FolderTree<'a, H> {
@@ -75,6 +78,7 @@ impl<'a, H: Host> FolderTree<'a, H> {
             (H.content self.old.host.now) (H.content self.new.host.now)) }
         ensures kept { OnErr result (IsSameButNew (spelled self.old.folder.items)
             (H.content self.old.host.now) (H.content self.new.host.now)) }
+        ensures never_falls { H.faults self.old.host.now ≤ H.faults self.new.host.now }
         ensures count { H.faults self.new.host.now ≡ count_after result (H.faults self.old.host.now) }
         ensures host { self.new.host.ghost_name ≡ self.old.host.ghost_name }
         ensures folder { self.new.folder ≡ self.old.folder }
