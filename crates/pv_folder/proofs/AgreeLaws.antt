@@ -1,6 +1,6 @@
 -- Laws of a tree in memory that a host has below a path: what a step asks of the host may be asked, leaves all else there as
 -- it is, and leaves the host with what the tree then has.
-use Rattle.std.specs.Prelude.{◌≡◌, ◌≢◌, ◌⊎◌, ℕ, Bool, true, false, cond, List, [], ◌∷◌, ◌++◌, Option, Some, None, is_some, option_map}
+use Rattle.std.specs.Prelude.{◌≡◌, ◌≢◌, ℕ, Bool, true, false, cond, List, [], ◌∷◌, ◌++◌, Option, Some, None, is_some, option_map}
 use Rattle.std.proofs.Common.{refl, sym, ap, subst, ◌∙◌, inl, inr, append_assoc, append-nil}
 use Rattle.pv_path.specs.Paths.{Path, has_names, is_prefix, parent_of, rest_under, same_path, same_path-decides}
 use Rattle.pv_path.proofs.PathLaws.{has_names-both, not_prefix_not_same, prefix_parts, rest_under-Some}

@@ -1,11 +1,11 @@
 -- Laws of a manifest that is written beside the old one and then moved over it.
-use Rattle.std.specs.Prelude.{◌≡◌, ◌≢◌, ◌⊎◌, ℕ, Bool, true, false, cond, ◌&&◌, List, [], ◌∷◌, ◌++◌, codes, Option, Some, None, is_some, option_map, IfSome, Result, Ok, Err, OnOk, OnErr}
+use Rattle.std.specs.Prelude.{◌≡◌, ℕ, Bool, true, false, cond, ◌&&◌, List, [], ◌∷◌, ◌++◌, codes, Option, Some, None, is_some, option_map, IfSome, Result, Ok, Err, OnOk, OnErr}
 use Rattle.std.proofs.Common.{refl, sym, ap, subst, ◌∙◌, inl, inr, append_assoc, append-nil}
 use Rattle.std.proofs.lemmas.Option.{same_Some}
-use Rattle.pv_path.specs.Names.{is_name, same_bytes}
-use Rattle.pv_path.specs.Paths.{Path, has_names, is_prefix, parent_of, rest_under, same_path, same_path-decides}
+use Rattle.pv_path.specs.Names.{same_bytes}
+use Rattle.pv_path.specs.Paths.{Path, is_prefix, rest_under, same_path}
 use Rattle.pv_path.proofs.PathLaws.{has_names-push, not_prefix_not_same, parent_of-push, prefix_parts, rest_under-Some, same_path-no, same_path-refl}
-use Rattle.pv_steps.specs.Trees.{Files, places}
+use Rattle.pv_steps.specs.Trees.{Files}
 use Rattle.pv_steps.proofs.TreeLaws.{no_rest_no_prefix}
 use Rattle.pv_host.specs.declared.host.HostFault.{HostFault}
 use Rattle.pv_host.specs.declared.item.HostKind.TheVariants as named
@@ -46,10 +46,13 @@ module _ (folder : Path) (bytes : List ℕ) (t : Held) (ready : IsReady folder t
   -- ---- writing
 
   pub may_write_new : May t (host.WriteFile (new_manifest_path folder) bytes)
-  may_write_new =
-      (ready.prepared.new_manifest,
-      (subst (λ (p : Path). IsDirectory t p) (sym (parent_of-push folder (codes "manifest.new"))) ready.place,
-      has_names-push folder (codes "manifest.new") ready.names refl))
+  may_write_new = (
+    ready.prepared.new_manifest,
+    (
+      subst (λ (p : Path). IsDirectory t p) (sym (parent_of-push folder (codes "manifest.new"))) ready.place,
+      has_names-push folder (codes "manifest.new") ready.names refl,
+    ),
+  )
 
   -- at what has another name in the folder all is as before
   beside_new : (y : List ℕ) (s : Path) (o : Option HostObject) → same_bytes (codes "manifest.new") y ≡ false → put_at (new_manifest_path folder) o t (folder ++ y ∷ s) ≡ t (folder ++ y ∷ s)
@@ -98,16 +101,18 @@ module _ (folder : Path) (bytes : List ℕ) (t : Held) (ready : IsReady folder t
     present = ap is_some (put_here (new_manifest_path folder) (Some (host.File bytes)) t);
     no_root = below_some folder (codes "manifest.new" ∷ []) (λ e. cc);
     outside = beside folder (codes "manifest.new") (codes "manifest") [] refl;
-    place =
-        (subst (λ (p : Path). IsDirectory (written folder bytes t) p) (sym (parent_of-push folder (codes "manifest"))) (place_new (Some (host.File bytes))),
-        has_names-push folder (codes "manifest") ready.names refl);
+    place = (
+      subst (λ (p : Path). IsDirectory (written folder bytes t) p) (sym (parent_of-push folder (codes "manifest"))) (place_new (Some (host.File bytes))),
+      has_names-push folder (codes "manifest") ready.names refl,
+    );
     yields = by (free_new (Some (host.File bytes)));
   }
     where
       file_there : host.IsNoDirectory (written folder bytes t) (new_manifest_path folder)
-      file_there =
-          (ap is_some (put_here (new_manifest_path folder) (Some (host.File bytes)) t),
-          λ is. let no : Some named.File ≡ Some named.Directory = sym (ap (option_map host.kind_of) (put_here (new_manifest_path folder) (Some (host.File bytes)) t)) ∙ is in cc)
+      file_there = (
+        ap is_some (put_here (new_manifest_path folder) (Some (host.File bytes)) t),
+        λ is. let no : Some named.File ≡ Some named.Directory = sym (ap (option_map host.kind_of) (put_here (new_manifest_path folder) (Some (host.File bytes)) t)) ∙ is in cc,
+      )
 
       file_of : (o : Option HostObject) → option_map host.kind_of o ≡ Some named.File → (is_some o ≡ true) × (option_map host.kind_of o ≡ Some named.Directory → ⊥)
       file_of None e = cc
@@ -277,14 +282,14 @@ agrees_but folder files None (Some n) same agrees = let no : Some n ≡ None = s
 agrees_but folder files (Some c) (Some n) same agrees = λ path.
     below_tree folder path (held c) (held n)
     (λ y s one other. same (folder ++ y ∷ s) (λ e.
-        let no : true ≡ false = sym (same_path-refl (new_manifest_path folder)) ∙ ap (same_path (new_manifest_path folder)) (sym e) ∙ apart folder (codes "manifest.new") y [] s other in
-        cc))
+    let no : true ≡ false = sym (same_path-refl (new_manifest_path folder)) ∙ ap (same_path (new_manifest_path folder)) (sym e) ∙ apart folder (codes "manifest.new") y [] s other in
+    cc))
     ∙ agrees path
 
 -- ---- the two calls, with paths that are spelled
 
 module _ (folder n p m : Path) (text : List ℕ) (old mid : Option Content) (at : n ≡ new_manifest_path folder) (from : p ≡ new_manifest_path folder) (to : m ≡ manifest_path folder)
-  (done : IsChanged (host.WriteFile n text) old mid) (ready : IfSome old (λ c. IsReady folder (held c))) where
+    (done : IsChanged (host.WriteFile n text) old mid) (ready : IfSome old (λ c. IsReady folder (held c))) where
   wrote_new : IsChanged (host.WriteFile (new_manifest_path folder) text) old mid
   wrote_new = subst (λ (q : Path). IsChanged (host.WriteFile q text) old mid) at done
 

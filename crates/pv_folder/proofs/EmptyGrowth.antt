@@ -1,5 +1,5 @@
 -- A tree with empty files that is made entry by entry, in the order of the paths.
-use Rattle.std.proofs.Common.{◌≡◌, ◌∙◌, true, Some, List, [], ◌∷◌, drop, map, sym, ap, subst}
+use Rattle.std.proofs.Common.{◌≡◌, ◌∙◌, true, Some, [], ◌∷◌, drop, map, ap, subst}
 use Rattle.std.specs.Prelude.{slice_get}
 use Rattle.std.specs.Ordering.{is_lt}
 use Rattle.std.specs.FinMap as fin
@@ -35,7 +35,7 @@ module _ (t : Files) (tree : IsTree t) (w : Planned) (is : w ≡ fin.entries t) 
 -- ---- the next entry
 
 module _ (t files : Files) (last : Path) (w : Planned) (p : Path) (o : Object) (at : Some (p, o) ≡ slice_get w 0)
-  (g : IsGrowing (with_empty_files t) files last (map shown w)) (tree : IsTree t) where
+    (g : IsGrowing (with_empty_files t) files last (map shown w)) (tree : IsTree t) where
   more : IsGrowing (with_empty_files t) files last ((p, emptied o) ∷ drop 1 (map shown w))
   more = next (with_empty_files t) files last (map shown w) p (emptied o) (first_shown w (p, o) at) g
 

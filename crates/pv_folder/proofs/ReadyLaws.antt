@@ -1,5 +1,5 @@
 -- Laws of a folder that is ready for a tree: one that holds a tree is, and it stays so in steps on that tree.
-use Rattle.std.specs.Prelude.{◌≡◌, ◌≢◌, ◌⊎◌, ℕ, ◌<◌, ◌^◌, true, false, ◌&&◌, List, [], ◌∷◌, ◌++◌, codes, Option, Some, None, is_some, option_map, IfSome}
+use Rattle.std.specs.Prelude.{◌≡◌, ℕ, ◌<◌, ◌≤◌, ◌^◌, Bool, true, false, ◌&&◌, List, [], ◌∷◌, ◌++◌, codes, Option, Some, None, is_some, option_map, IfSome}
 use Rattle.std.proofs.Common.{refl, sym, ap, subst, ◌∙◌, inl, inr, append_assoc, append-nil}
 use Rattle.std.proofs.lemmas.Option.{same_Some}
 use Rattle.pv_path.specs.Paths.{Path, has_names, is_prefix, parent_of}
@@ -9,14 +9,14 @@ use Rattle.pv_steps.specs.declared.node.Kind.TheVariants as kind
 use Rattle.pv_steps.specs.declared.object.Object.{Object}
 use Rattle.pv_steps.specs.declared.step.Step.{Step}
 use Rattle.pv_steps.specs.Trees.{Files, IsTree, Places, kind_of, places}
-use Rattle.pv_steps.specs.Steps.{Can, StepFits, after, after_at}
+use Rattle.pv_steps.specs.Steps.{Can, StepFits, after}
 use Rattle.pv_steps.proofs.StepLaws.{at_after}
 use Rattle.pv_steps.proofs.TreeLaws.{tree_after}
 use Rattle.pv_host.specs.declared.item.HostKind.TheVariants as named
 use Rattle.pv_host.specs.Content as host
 use Rattle.pv_host.specs.Content.{Change, Content, Held, HostObject, IsAbsent, IsContent, IsDirectory, IsFile, IsPresent, changed, held}
 use Rattle.pv_folder.specs.Folders.{Agrees, IsFree, IsPrepared, IsSameElse, manifest_path, new_manifest_path, real_as, real_of, tree_path}
-use Rattle.pv_folder.specs.Keeping.{IsChangedBy, IsReady, IsSameOutside, Keeps, MayAskFor, change_for}
+use Rattle.pv_folder.specs.Keeping.{IsChangedBy, IsReady, IsSameOutside, Keeps, MayAskFor, Moves, change_for}
 use Rattle.pv_folder.proofs.AgreeLaws.{MayDo, agrees_after, done, may_ask, same_elsewhere}
 use Rattle.pv_folder.proofs.BelowLaws.{below_some, beside, longer}
 
@@ -181,3 +181,9 @@ module _ (folder : Path) (files : Files) (s : Step) (now : ℕ) (tree : IsTree f
         by (Some c) None is ready agrees same = tt
         by None None is ready agrees same = tt
         by None (Some d) is ready agrees same = let no : Some d ≡ None = same in cc
+
+-- ---- how a step moves a folder
+
+-- a step that asked the host for its change
+pub moves_asked : (folder : Path) (old new : Option Content) (n m : ℕ) (p q : Bool) → IsSameOutside folder old new → n ≤ m → (p ≡ true → q ≡ true) → Moves folder old n p folder new m q
+moves_asked folder old new n m p q outside le lasts = record { same = refl; outside = outside; count = le; lasts = lasts }

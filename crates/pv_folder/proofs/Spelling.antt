@@ -16,7 +16,7 @@ slash b = b == 47
 -- the pieces of bytes, one of which is there always
 onto_more : (b : ℕ) (p : ℕ → Bool) (xs : List ℕ) (rest : List (List ℕ)) → onto_first b (slice_split p xs ++ rest) ≡ onto_first b (slice_split p xs) ++ rest
 onto_more b p [] rest = refl
-onto_more b p (x ∷ xs) rest = by (p x) (slice_split p xs) 
+onto_more b p (x ∷ xs) rest = by (p x) (slice_split p xs)
   where
     first : (pieces : List (List ℕ)) → onto_first b (onto_first x pieces ++ rest) ≡ onto_first b (onto_first x pieces) ++ rest
     first [] = refl

@@ -1,7 +1,7 @@
 -- A tree kept in memory and in a folder of a host: what each of its steps asks of the host, what stays as it is, and what
 -- closing the folder leaves there.
-use Rattle.std.specs.Prelude.{◌≡◌, ◌≢◌, ℕ, ◌≤◌, Bool, true, false, List, [], ◌∷◌, ◌++◌, Option, Some, None, option_map, Result, Ok, Err}
-use Rattle.std.proofs.Common.{refl, sym, subst, ◌∙◌, arith}
+use Rattle.std.specs.Prelude.{◌≡◌, ◌≢◌, ℕ, ◌≤◌, Bool, true, List, [], ◌∷◌, ◌++◌, Option, Some, None, option_map, Result, Err}
+use Rattle.std.proofs.Common.{refl, subst, ◌∙◌, arith}
 use Rattle.pv_io.specs.Faults.{fault_after}
 use Rattle.pv_path.specs.Paths.{Path, has_names}
 use Rattle.pv_steps.specs.declared.step.Step.{Step}
@@ -12,7 +12,7 @@ use Rattle.pv_steps.specs.Trees.{Files, Places}
 use Rattle.pv_text.specs.Facts.{Values}
 use Rattle.pv_host.specs.Content.{Change, Content, Held, HostObject, IsAbsent, IsChanged, IsContent, IsDirectory, MayAsk, held, put_at}
 use Rattle.pv_host.specs.Content as host
-use Rattle.pv_folder.specs.Folders.{Agrees, IsPrepared, IsSameElse, manifest_path, new_manifest_path, real_of, tree_path}
+use Rattle.pv_folder.specs.Folders.{Agrees, IsPrepared, IsSameElse, manifest_path, new_manifest_path, real_of}
 use Rattle.pv_folder.specs.Manifest.{manifest_of}
 
 -- ---- a tree in memory and in a folder

@@ -77,11 +77,11 @@ fn rename<H: Host>(
 ) -> Result<(), HostFault>
     requires { let top = tree_path (spelled folder.now) in
         MayAskFor (H.content host.old) (move (top ++ paths.from.now) (top ++ paths.to.now)
-            (real_of (places tree.now.files paths.from.now)) (real_of (places tree.now.files paths.to.now))) }
+        (real_of (places tree.now.files paths.from.now)) (real_of (places tree.now.files paths.to.now))) }
     ensures done { let top = tree_path (spelled folder.now) in
         OnOk result (IsChangedBy (move (top ++ paths.entry.from.now) (top ++ paths.entry.to.now)
-            (real_of (places tree.now.files paths.entry.from.now)) (real_of (places tree.now.files paths.entry.to.now)))
-            (H.content host.old) (H.content host.new)) }
+        (real_of (places tree.now.files paths.entry.from.now)) (real_of (places tree.now.files paths.entry.to.now)))
+        (H.content host.old) (H.content host.new)) }
     ensures kept { OnErr result (H.content host.new ≡ H.content host.old) }
     ensures cause { IsErrOf result Failed → HasRisen (H.faults host.old) (H.faults host.new) }
     ensures never_falls { H.faults host.old ≤ H.faults host.new }

@@ -2,7 +2,7 @@
 ghost use Rattle.std.specs.Prelude.{◌≡◌, ◌++◌, ◌∷◌, [], ◌≤◌, true, false, IfSome, OnOk, OnErr, IsErrOf, Err};
 ghost use Rattle.pv_io.specs.Faults.{HasRisen};
 ghost use Rattle.pv_steps.specs.declared.tree.TreeFault.TheVariants.{Failed, Memory};
-ghost use Rattle.pv_steps.specs.Trees.{IsKind, IsTree, node_at, payload_at, names_below, places};
+ghost use Rattle.pv_steps.specs.Trees.{IsTree, places};
 ghost use Rattle.pv_steps.specs.Steps.{Can, StepFits, after};
 ghost use Rattle.pv_host.specs.Content.{held, spelled};
 ghost use Rattle.pv_host.specs.Counts.{count_after};
@@ -32,10 +32,15 @@ pub struct FolderTree<'a, H: Host> {
     tree: MemTree,
     /// A step has begun that may be done on the host alone.
     pending: bool,
-    ghost ready: { IfSome (H.content host.now) (λ c. IsReady (spelled folder.items) (held c)) }
-        by { ready_prop (spelled folder.items) (H.content host.now) },
-    ghost agrees: { pending ≡ false → IfSome (H.content host.now) (λ c. Agrees (spelled folder.items) tree.files (held c)) }
-        by { agrees_prop pending (spelled folder.items) tree.files (H.content host.now) },
+    ghost ready: { IfSome (H.content host.now) (λ c. IsReady (spelled folder.items) (held c)) } by { ready_prop (spelled folder.items) (H.content host.now) },
+    ghost agrees: { pending ≡ false → IfSome (H.content host.now) (λ c. Agrees (spelled folder.items) tree.files (held c)) } by { agrees_prop pending (spelled folder.items) tree.files (H.content host.now) },
+}
+
+/// What the type of a tree in memory says.
+fn is_tree(alloc: Global, tree: &MemTree)
+    ensures { IsTree tree.now.files }
+{
+    let _root = tree.node_at(&TreePath::root(alloc));
 }
 
 impl<'a, H: Host> FolderTree<'a, H> {
@@ -148,6 +153,7 @@ impl<'a, H: Host> Tree for FolderTree<'a, H> {
         }
         self.pending = true;
         let alloc = *self.folder.allocator();
+        is_tree(alloc, &self.tree);
         match ask_for(alloc, self.host, &self.folder, &self.tree, step) {
             Ok(()) => {}
             Err(HostFault::Memory) => return Err(TreeFault::Memory),

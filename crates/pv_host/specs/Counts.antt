@@ -1,5 +1,5 @@
 -- How a host counts its faults.
-use Rattle.std.specs.Prelude.{ℕ, Result, Ok, Err}
+use Rattle.std.specs.Prelude.{ℕ, Result, Err}
 use Rattle.pv_io.specs.Faults.{fault_after}
 use Rattle.pv_host.specs.declared.host.HostFault.{HostFault}
 use Rattle.pv_host.specs.declared.host.HostFault.TheVariants.{Failed}

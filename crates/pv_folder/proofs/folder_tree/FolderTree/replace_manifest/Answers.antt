@@ -1,4 +1,4 @@
-use Rattle.std.proofs.Common.{List, ℕ, OnErr, OnOk, ap, subst}
+use Rattle.std.proofs.Common.{OnErr, OnOk, ap, subst}
 use Rattle.std.specs.Prelude.{IfSome}
 use Rattle.pv_path.specs.Paths.{Path}
 use Rattle.pv_host.specs.Content.{held, spelled}
