@@ -9,3 +9,9 @@ pub mod ReadingLaws
 pub mod StackLaws
 pub mod GoingLaws
 pub mod OpeningLaws
+pub mod BelowLaws
+pub mod AgreeLaws
+pub mod ReadyLaws
+pub mod ClosingLaws
+pub mod EmptyLaws
+pub mod EmptyGrowth

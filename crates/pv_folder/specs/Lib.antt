@@ -4,4 +4,5 @@ pub mod Folders
 pub mod Opening
 pub mod Reading
 pub mod Keeping
+pub mod Sole
 pub mod Ahead
