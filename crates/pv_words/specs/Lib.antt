@@ -6,6 +6,8 @@ pub mod Stage
 pub mod Parts
 pub mod Meaning
 pub mod Asked
+pub mod Cut
+pub mod Rooted
 pub mod Answered
 pub mod Command
 pub mod Reading

@@ -8,9 +8,11 @@ mod command;
 mod matches;
 mod option;
 mod options;
+mod rooted;
 mod values;
 mod words_fault;
 
 pub use asked::{Asked, asked_of};
 pub use options::{Options, options_of};
+pub use rooted::{Rooted, rooted_of};
 pub use words_fault::WordsFault;

@@ -66,7 +66,7 @@ fn is_short(word: &str) -> bool
 }
 
 /// Whether the word begins with a dash.
-fn begins_with_dash(word: &[u8]) -> bool
+pub(crate) fn begins_with_dash(word: &[u8]) -> bool
     ensures { result ≡ begins_with_dash word.now }
 {
     word.first() == Some(&b'-')
@@ -136,7 +136,7 @@ pub(crate) fn has_dash(matches: &ArgMatches<'_>) -> bool
 }
 
 /// Whether a text is one dash.
-fn is_dash(text: &str) -> bool
+pub(crate) fn is_dash(text: &str) -> bool
     ensures { result ≡ is_dash text.now }
 {
     text == "-"
