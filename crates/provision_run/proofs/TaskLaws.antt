@@ -1,6 +1,6 @@
 -- Laws of runs by their task: what a task's own words say holds by the task.
 use Rattle.std.specs.Prelude.{◌≡◌, ℕ, Bool, true, false, List, [], ◌∷◌, ◌++◌, length, take, drop, is_some, Result, OnOk, IfOk}
-use Rattle.std.proofs.Common.{zero, suc, refl, sym, ap, subst, ◌∙◌, inl, inr, arith, append_assoc}
+use Rattle.std.proofs.Common.{zero, suc, refl, sym, ap, subst, ◌∙◌, inl, inr, arith}
 use Rattle.std.proofs.Math.Seq.{drop-append_seam, drop-length, take-length}
 use Rattle.pv_accounts_run.specs.Accounted.{accounted}
 use Rattle.pv_accounts_run.specs.Carrying.{AccountWay, IsAccountStep}
@@ -94,7 +94,7 @@ module _ (options : Options) (facts : Values) (moment : ℕ) (t : Files) where
   phases_gone tree k is n a b old new gone =
       let steps : drop (length (tree.steps a)) (tree.steps b) ≡ gone.steps = ap (drop (length (tree.steps a))) gone.recorded ∙ drop-append_seam (tree.steps a) gone.steps in
       subst (λ (j : Task). HasGoneBy j options facts moment n t (drop (length (tree.steps a)) (tree.steps b)) old new) is
-      (gone.texts, (gone.said ∙ append_assoc old (lines_messages options facts t) gone.texts, subst (λ (v : List Step). phases_cut options facts moment n t v gone.texts) (sym steps) gone.is))
+      (gone.texts, (gone.said, subst (λ (v : List Step). phases_cut options facts moment n t v gone.texts) (sym steps) gone.is))
 
   pub phases_gone_ok : {S : Type 0} (tree : Ghosts S) (k : Task) → Phases ≡ k → (r : Result RunEnd TreeFault) (a b : S) (old new : List (List ℕ)) → OnOk r (HasGone tree (phases_cut options facts moment 0 t) moment a b (old ++ lines_messages options facts t) new)
       → OnOk r (HasGoneBy k options facts moment 0 t (drop (length (tree.steps a)) (tree.steps b)) old new)
