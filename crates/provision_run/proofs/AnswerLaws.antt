@@ -8,7 +8,8 @@ use Rattle.pv_steps.specs.Trees.{Files}
 use Rattle.pv_steps.specs.Runs.{Ran}
 use Rattle.pv_image.specs.Images.{IsImage}
 use Rattle.pv_image.specs.Spelling.{text_of}
-use Rattle.pv_tree.specs.Held.{Held}
+use Rattle.pv_tree.specs.Fuses.{Burnt, whole_limit}
+use Rattle.pv_tree.proofs.FuseLaws.{burnt_within}
 use Rattle.pv_words.specs.declared.options.Options.{Options}
 use Rattle.provision_run.specs.declared.answer.Answer.{Answer}
 use Rattle.provision_run.specs.declared.outcome.Outcome.{Outcome}
@@ -20,9 +21,10 @@ use Rattle.provision_run.specs.Words.{moment_of}
 use Rattle.provision_run.proofs.TaskLaws.{front_by}
 use Rattle.provision_run.specs.Framed.{IsFramedIn}
 use Rattle.provision_run.specs.OnTheWay.{IsOnTheWayIn}
+use Rattle.provision_run.specs.OverTree.{HasFailed, HasLeft, HasRun, IsCut, IsStopped, IsWhole, outcome, outcome_of, stopped_text}
 use Rattle.provision_run.specs.Swept.{IsSweptIn}
-use Rattle.provision_run.specs.Whole.{final, HasSaidBy, HasSaidPartBy, HasGoneBy, IsCutBy, IsMendedAnewIn, IsMendedIn, is_run_step, IsSaid, read_messages, run_end, run_way, run_work}
-use Rattle.provision_run.specs.Answers.{IsAnswer, IsAnswered, IsRun, IsWhole, IsStopped, IsOwn, outcome_of, outcome, stopped_text, most_bytes}
+use Rattle.provision_run.specs.Whole.{final, HasSaidBy, HasSaidPartBy, HasGoneBy, IsCutBy, IsMendedAnewIn, IsMendedIn, is_run_step, read_messages, run_end, run_way, run_work}
+use Rattle.provision_run.specs.Answers.{IsAnswer, IsAnswered, IsRun, IsOwn, most_bytes}
 use Rattle.provision_run.specs.Messages.{messages_text}
 
 -- an outcome of a run that was not stopped
@@ -39,37 +41,37 @@ ends end.ConfigInvalid = tt
 ends end.NotCarriedOut = tt
 ends (end.NoFreeId name) = tt
 
--- a run that was not stopped has answered
-whole_of : (options : Options) (facts : Values) (moment : ℕ) (t : Files) (found : Outcome) (out : List ℕ) → IsEnd found
-    → IsWhole options facts moment t found out → IsAnswered options facts moment t found out
-whole_of options facts moment t Done out is h = h
-whole_of options facts moment t ConfigInvalid out is h = h
-whole_of options facts moment t NotCarriedOut out is h = h
-whole_of options facts moment t Usage out is h = h
-whole_of options facts moment t (BadImage f) out is h = h
-whole_of options facts moment t (NoFreeId name) out is h = h
-whole_of options facts moment t Memory out is h = h
-whole_of options facts moment t ReadFault out is h = h
-whole_of options facts moment t WriteFault out is h = h
-whole_of options facts moment t (Stopped n) out is h = absurd is
+-- a run that was not stopped has run
+whole_of : (options : Options) (facts : Values) (moment : ℕ) (t : Files) (found : Outcome) (messages : List (List ℕ)) (left : Files) → IsEnd found
+    → IsWhole options facts moment t found messages left → HasRun options facts moment t found messages left
+whole_of options facts moment t Done messages left is h = h
+whole_of options facts moment t ConfigInvalid messages left is h = h
+whole_of options facts moment t NotCarriedOut messages left is h = h
+whole_of options facts moment t Usage messages left is h = h
+whole_of options facts moment t (BadImage f) messages left is h = h
+whole_of options facts moment t (NoFreeId name) messages left is h = h
+whole_of options facts moment t Memory messages left is h = h
+whole_of options facts moment t ReadFault messages left is h = h
+whole_of options facts moment t WriteFault messages left is h = h
+whole_of options facts moment t (Stopped n) messages left is h = absurd is
 
-pub answered_whole : (options : Options) (facts : Values) (moment : ℕ) (t : Files) (e : RunEnd) (found : Outcome) (out : List ℕ) → found ≡ outcome_of e
-    → IsWhole options facts moment t found out → IsAnswered options facts moment t found out
-answered_whole options facts moment t e found out is h = whole_of options facts moment t found out (subst IsEnd (sym is) (ends e)) h
+run_whole : (options : Options) (facts : Values) (moment : ℕ) (t : Files) (e : RunEnd) (found : Outcome) (messages : List (List ℕ)) (left : Files) → found ≡ outcome_of e
+    → IsWhole options facts moment t found messages left → HasRun options facts moment t found messages left
+run_whole options facts moment t e found messages left is h = whole_of options facts moment t found messages left (subst IsEnd (sym is) (ends e)) h
 
 module _ (options : Options) (clock : ℕ) (input : List ℕ) (facts : Values) (t : Files) (image : IsImage input facts t) (fits : length input ≤ most_bytes) where
   run_of : (found : Outcome) (out : List ℕ) → IsAnswered options facts (moment_of options clock) t found out → IsRun options clock input found out
   run_of found out h = record { facts = facts; tree = t; image = image; fits = fits; answered = h }
 
-  not_end : (found : Outcome) (out : List ℕ) (moment : ℕ) → IsWhole options facts moment t found out → IsEnd found
-  not_end found out moment h = subst IsEnd (sym h.end) (ends (run_end options facts moment t))
+  not_end : (found : Outcome) (messages : List (List ℕ)) (left : Files) (moment : ℕ) → IsWhole options facts moment t found messages left → IsEnd found
+  not_end found messages left moment h = subst IsEnd (sym h.end) (ends (run_end options facts moment t))
 
   answer_of : (found : Outcome) (out : List ℕ) → IsAnswered options facts (moment_of options clock) t found out → IsAnswer options clock input found out
   answer_of Done out h = run_of Done out h
   answer_of ConfigInvalid out h = run_of ConfigInvalid out h
   answer_of NotCarriedOut out h = run_of NotCarriedOut out h
-  answer_of Usage out h = not_end Usage out (moment_of options clock) h
-  answer_of (BadImage f) out h = absurd (not_end (BadImage f) out (moment_of options clock) h)
+  answer_of Usage out h = not_end Usage h.messages h.left (moment_of options clock) h.run
+  answer_of (BadImage f) out h = absurd (not_end (BadImage f) h.messages h.left (moment_of options clock) h.run)
   answer_of (NoFreeId name) out h = run_of (NoFreeId name) out h
   answer_of Memory out h = run_of Memory out h
   answer_of ReadFault out h = run_of ReadFault out h
@@ -105,10 +107,10 @@ own_of_run options clock input found out run = by found run.answered
     by NotCarriedOut h = (tt, λ e. cc)
     by (NoFreeId name) h = (tt, λ e. cc)
     by (BadImage f) h = (tt, λ e. cc)
-    by Usage h = own_of_end Usage (subst IsEnd (sym h.end) (ends (run_end options run.facts (moment_of options clock) run.tree)))
-    by Memory h = own_of_end Memory (subst IsEnd (sym h.end) (ends (run_end options run.facts (moment_of options clock) run.tree)))
-    by ReadFault h = own_of_end ReadFault (subst IsEnd (sym h.end) (ends (run_end options run.facts (moment_of options clock) run.tree)))
-    by WriteFault h = own_of_end WriteFault (subst IsEnd (sym h.end) (ends (run_end options run.facts (moment_of options clock) run.tree)))
+    by Usage h = own_of_end Usage (subst IsEnd (sym h.run.end) (ends (run_end options run.facts (moment_of options clock) run.tree)))
+    by Memory h = own_of_end Memory (subst IsEnd (sym h.run.end) (ends (run_end options run.facts (moment_of options clock) run.tree)))
+    by ReadFault h = own_of_end ReadFault (subst IsEnd (sym h.run.end) (ends (run_end options run.facts (moment_of options clock) run.tree)))
+    by WriteFault h = own_of_end WriteFault (subst IsEnd (sym h.run.end) (ends (run_end options run.facts (moment_of options clock) run.tree)))
 
 pub own_of_answer : (options : Options) (clock : ℕ) (input : List ℕ) (found : Outcome) (out : List ℕ) → IsAnswer options clock input found out → IsOwn found × (found ≢ Usage)
 own_of_answer options clock input (BadImage f) out h = (tt, λ e. cc)
@@ -134,123 +136,100 @@ own_not_read found h e = subst IsOwn e h
 pub own_not_written : (found : Outcome) → IsOwn found → found ≡ WriteFault → ⊥
 own_not_written found h e = subst IsOwn e h
 
--- ---- what a run over any tree says of itself is what belongs to its output
+-- ---- what a run over any tree says of itself
 
-module _ (options : Options) (facts : Values) (moment : ℕ) (t u : Files) (h k : List Step) (start : h ≡ []) (ran : Ran (run_way options facts moment t) (is_run_step options facts moment t) moment t h u k) where
+module _ (options : Options) (facts : Values) (moment : ℕ) (t u : Files) (h k : List Step) (start : h ≡ [])
+    (ran : Ran (run_way options facts moment t) (is_run_step options facts moment t) moment t h u k)
+    (mended : IsMendedIn (task_of options) options facts moment t (drop (length h) k))
+    (anew : IsMendedAnewIn (task_of options) options facts moment t (drop (length h) k))
+    (framed : IsFramedIn (task_of options) options facts moment t (drop (length h) k))
+    (between : IsOnTheWayIn (task_of options) options facts moment t (drop (length h) k)) where
   -- the steps that it added are all that are told
   all_told : k ≡ ran.steps
   all_told = ran.recorded ∙ ap (λ x. x ++ ran.steps) start
 
-  pub whole_run : (found : Outcome) (out : List ℕ) (said : List (List ℕ)) → IsSaid options facts moment t said → IsCutBy (task_of options) options facts moment 0 t (drop (length h) k) said → found ≡ outcome options facts moment t → u ≡ final options facts moment t
-      → IsSweptIn (task_of options) options facts moment t u → IsFramedIn (task_of options) options facts moment t (drop (length h) k) → out ≡ messages_text (read_messages options facts t ++ said) ++ text_of facts u → IsImage out facts u → IfSome options.stop_after (λ n. length k ≤ n)
-      → IsWhole options facts moment t found out
-  whole_run found out said is_said in_turn is end staged framed text image few = record {
-    end = is;
-    said = said;
-    is_said = is_said;
-    text = text ∙ ap (λ x. messages_text (read_messages options facts t ++ said) ++ text_of facts x) end;
-    again = subst (IsImage out facts) end image;
+  added : drop (length h) k ≡ ran.steps
+  added = ap (λ x. drop (length x) k) start ∙ all_told
+
+  abbrev left_here : HasLeft options facts moment t u
+  left_here = record {
     steps = ran.steps;
     way = ran.along;
     asked = ran.gives;
-    in_turn = subst (λ (steps : List Step). IsCutBy (task_of options) options facts moment 0 t steps said) (ap (λ x. drop (length x) k) start ∙ all_told) in_turn;
-    reached = sym end ∙ ran.reached;
-    within = subst (λ x. IfSome options.stop_after (λ n. length x ≤ n)) all_told few;
-    framed = subst (IsFramedIn (task_of options) options facts moment t) (ap (λ x. drop (length x) k) start ∙ all_told) framed;
-    staged = subst (IsSweptIn (task_of options) options facts moment t) end staged;
+    reached = ran.reached;
+    mended = subst (IsMendedIn (task_of options) options facts moment t) added mended;
+    anew = subst (IsMendedAnewIn (task_of options) options facts moment t) added anew;
+    framed = subst (IsFramedIn (task_of options) options facts moment t) added framed;
+    between = subst (IsOnTheWayIn (task_of options) options facts moment t) added between;
   }
 
-  pub stopped_run : (n : ℕ) (out : List ℕ) (said : List (List ℕ)) → options.stop_after ≡ Some n → length k ≡ n
-      → (length k - length h) + 1 ≤ run_work options facts moment t
-      → HasSaidPartBy (task_of options) options facts moment t [] said → HasGoneBy (task_of options) options facts moment 1 t (drop (length h) k) [] said
-      → out ≡ messages_text (said ++ stopped_text n ∷ []) ++ text_of facts u → IsImage out facts u
-      → IsMendedIn (task_of options) options facts moment t (drop (length h) k)
-      → IsMendedAnewIn (task_of options) options facts moment t (drop (length h) k)
-      → IsFramedIn (task_of options) options facts moment t (drop (length h) k)
-      → IsOnTheWayIn (task_of options) options facts moment t (drop (length h) k)
-      → IsStopped options facts moment t n out
-  stopped_run n out said limit count bound part stopped text image mended anew framed between = record {
-    limit = limit;
-    fewer = fewer;
-    steps = ran.steps;
-    count = ap length (sym all_told) ∙ count;
-    way = ran.along;
-    asked = ran.gives;
-    said = stopped.0;
-    front = front_by (task_of options) options facts moment t (drop (length h) k) stopped.0 said stopped.1.1 stopped.1.0 part;
-    at_work = subst (λ (steps : List Step). IsCutBy (task_of options) options facts moment 1 t steps stopped.0) (ap (λ x. drop (length x) k) start ∙ all_told) stopped.1.1;
-    text = text ∙ ap (λ x. messages_text (x ++ stopped_text n ∷ []) ++ text_of facts u) stopped.1.0
-        ∙ ap (λ x. messages_text (read_messages options facts t ++ stopped.0 ++ stopped_text n ∷ []) ++ text_of facts x) ran.reached;
-    again = subst (IsImage out facts) ran.reached image;
-    mended = subst (IsMendedIn (task_of options) options facts moment t) (ap (λ x. drop (length x) k) start ∙ all_told) mended;
-    anew = subst (IsMendedAnewIn (task_of options) options facts moment t) (ap (λ x. drop (length x) k) start ∙ all_told) anew;
-    framed = subst (IsFramedIn (task_of options) options facts moment t) (ap (λ x. drop (length x) k) start ∙ all_told) framed;
-    between = subst (IsOnTheWayIn (task_of options) options facts moment t) (ap (λ x. drop (length x) k) start ∙ all_told) between;
-  }
-    where
-      fewer : n < run_work options facts moment t
+  pub whole_run : (e : RunEnd) (found : Outcome) (messages : List (List ℕ)) → found ≡ outcome_of e → e ≡ run_end options facts moment t
+      → u ≡ final options facts moment t → IsSweptIn (task_of options) options facts moment t u
+      → HasSaidBy (task_of options) options facts moment t [] messages → HasGoneBy (task_of options) options facts moment 0 t (drop (length h) k) [] messages
+      → IfSome options.stop_after (λ n. length k ≤ n) → HasRun options facts moment t found messages u
+  whole_run e found messages is ended final_is staged all in_turn few = run_whole options facts moment t e found messages u is (record {
+    end = is ∙ ap outcome_of ended;
+    said = all.0;
+    is_said = all.1.0;
+    messages_are = all.1.1;
+    final_is = final_is;
+    gone = left_here;
+    in_turn = subst (λ (steps : List Step). IsCutBy (task_of options) options facts moment 0 t steps all.0) added
+        (subst (IsCutBy (task_of options) options facts moment 0 t (drop (length h) k))
+        (append_cancel_left (read_messages options facts t) in_turn.0 all.0 (sym in_turn.1.0 ∙ all.1.1)) in_turn.1.1);
+    within = subst (λ x. IfSome options.stop_after (λ n. length x ≤ n)) all_told few;
+    staged = staged;
+  })
+
+  -- one of which a step was refused
+  module _ (messages : List (List ℕ)) (bound : (length k - length h) + 1 ≤ run_work options facts moment t)
+      (part : HasSaidPartBy (task_of options) options facts moment t [] messages)
+      (stopped : HasGoneBy (task_of options) options facts moment 1 t (drop (length h) k) [] messages) where
+    abbrev cut_here : IsCut options facts moment t stopped.0 u
+    cut_here = record {
+      gone = left_here;
       fewer =
           let none : length h ≡ 0 = ap length start in
-          omega (arith, count, bound, none)
+          let many : length k ≡ length ran.steps = ap length all_told in
+          omega (arith, many, bound, none);
+      front = front_by (task_of options) options facts moment t (drop (length h) k) stopped.0 messages stopped.1.1 stopped.1.0 part;
+      at_work = subst (λ (steps : List Step). IsCutBy (task_of options) options facts moment 1 t steps stopped.0) added stopped.1.1;
+    }
 
--- ---- a run over a tree in memory
+    pub failed_run : HasFailed options facts moment t messages u
+    failed_run = (stopped.0, (stopped.1.0, cut_here))
 
-module _ (options : Options) (facts : Values) (moment : ℕ) (old new : Held) (start : old.steps ≡ [])
-    (ran : Ran (run_way options facts moment old.files) (is_run_step options facts moment old.files) moment old.files old.steps new.files new.steps) (kept : Held) (same : kept ≡ new) where
-  pub whole_answered : (e : RunEnd) → e ≡ run_end options facts moment old.files → new.files ≡ final options facts moment old.files
-      → IsSweptIn (task_of options) options facts moment old.files new.files
-      → IsFramedIn (task_of options) options facts moment old.files (drop (length old.steps) new.steps) → (said : List (List ℕ)) → HasSaidBy (task_of options) options facts moment old.files [] said
-      → HasGoneBy (task_of options) options facts moment 0 old.files (drop (length old.steps) new.steps) [] said
-      → {E : Type 0} (r : Result Answer E) → IfOk r (λ a. a.outcome ≡ outcome_of e) → IfOk r (λ a. a.output.items ≡ messages_text said ++ text_of facts kept.files)
-      → IfOk r (λ a. IsImage a.output.items facts kept.files)
-      → IfOk r (λ _. IfSome options.stop_after (λ n. length kept.steps ≤ n))
-      → IfOk r (λ a. IsAnswered options facts moment old.files a.outcome a.output.items)
-  whole_answered e is end staged framed said all gone (Err f) found text image few = tt
-  whole_answered e is end staged framed said all gone (Ok a) found text image few =
-      answered_whole options facts moment old.files e a.outcome a.output.items found
-      (whole_run options facts moment old.files new.files old.steps new.steps start ran a.outcome a.output.items all.0 all.1.0
-      (subst (IsCutBy (task_of options) options facts moment 0 old.files (drop (length old.steps) new.steps))
-      (append_cancel_left (read_messages options facts old.files) gone.0 all.0 (sym gone.1.0 ∙ all.1.1)) gone.1.1)
-      (found ∙ ap outcome_of is) end staged framed
-      (text ∙ ap (λ x. messages_text x ++ text_of facts kept.files) all.1.1 ∙ ap (λ (x : Held). messages_text (read_messages options facts old.files ++ all.0) ++ text_of facts x.files) same)
-      (subst (λ (x : Held). IsImage a.output.items facts x.files) same image)
-      (subst (λ (x : Held). IfSome options.stop_after (λ n. length x.steps ≤ n)) same few))
+    pub stopped_run : (n : ℕ) (all : List (List ℕ)) → options.stop_after ≡ Some n → length k ≡ n → all ≡ messages ++ stopped_text n ∷ []
+        → IsStopped options facts moment t n all u
+    stopped_run n all limit count is = record {
+      limit = limit;
+      said = stopped.0;
+      cut = cut_here;
+      count = ap length (sym all_told) ∙ count;
+      messages_are = is ∙ ap (λ x. x ++ stopped_text n ∷ []) stopped.1.0;
+    }
 
-  pub stopped_answered : (n : ℕ) (said : List (List ℕ)) → options.stop_after ≡ Some n
-      → (length new.steps - length old.steps) + 1 ≤ run_work options facts moment old.files
-      → HasSaidPartBy (task_of options) options facts moment old.files [] said
-      → HasGoneBy (task_of options) options facts moment 1 old.files (drop (length old.steps) new.steps) [] said
-      → IsMendedIn (task_of options) options facts moment old.files (drop (length old.steps) new.steps)
-      → IsMendedAnewIn (task_of options) options facts moment old.files (drop (length old.steps) new.steps)
-      → IsFramedIn (task_of options) options facts moment old.files (drop (length old.steps) new.steps)
-      → IsOnTheWayIn (task_of options) options facts moment old.files (drop (length old.steps) new.steps)
-      → {E : Type 0} (r : Result Answer E) → IfOk r (λ a. a.outcome ≡ Stopped n) → IfOk r (λ _. length kept.steps ≡ n)
-      → IfOk r (λ a. a.output.items ≡ messages_text (said ++ stopped_text n ∷ []) ++ text_of facts kept.files)
-      → IfOk r (λ a. IsImage a.output.items facts kept.files)
-      → IfOk r (λ a. IsAnswered options facts moment old.files a.outcome a.output.items)
-  stopped_answered n said limit bound part gone mended anew framed between (Err f) found count text image = tt
-  stopped_answered n said limit bound part gone mended anew framed between (Ok a) found count text image =
-      subst (λ x. IsAnswered options facts moment old.files x a.output.items) (sym found)
-      (stopped_run options facts moment old.files new.files old.steps new.steps start ran n a.output.items said limit
-      (ap (λ (x : Held). length x.steps) (sym same) ∙ count) bound part gone
-      (text ∙ ap (λ (x : Held). messages_text (said ++ stopped_text n ∷ []) ++ text_of facts x.files) same) (subst (λ (x : Held). IsImage a.output.items facts x.files) same image) mended anew framed between)
+-- the answer to a run over an image
+pub answered : (options : Options) (facts : Values) (moment : ℕ) (t left : Files) (found : Outcome) (messages : List (List ℕ)) → HasRun options facts moment t found messages left
+    → {E : Type 0} (r : Result Answer E) → IfOk r (λ a. a.outcome ≡ found) → IfOk r (λ a. a.output.items ≡ messages_text messages ++ text_of facts left)
+    → IfOk r (λ a. IsImage a.output.items facts left) → IfOk r (λ a. IsAnswered options facts moment t a.outcome a.output.items)
+answered options facts moment t left found messages run (Ok a) is text again = record {
+  messages = messages;
+  left = left;
+  run = subst (λ (o : Outcome). HasRun options facts moment t o messages left) (sym is) run;
+  text = text;
+  again = again;
+}
+answered options facts moment t left found messages run (Err f) is text again = tt
 
--- the same over a tree that is another by name alone
-pub over_same : (options : Options) (facts : Values) (moment : ℕ) (a b : Held) → a ≡ b → {E : Type 0} (r : Result Answer E)
-    → IfOk r (λ x. IsAnswered options facts moment a.files x.outcome x.output.items) → IfOk r (λ x. IsAnswered options facts moment b.files x.outcome x.output.items)
-over_same options facts moment a b same r h = subst (λ (v : Held). IfOk r (λ x. IsAnswered options facts moment v.files x.outcome x.output.items)) same h
+-- no more steps are done than the limit, if there is one
+pub limited : (limit left : Option ℕ) (refused done : ℕ) → Burnt limit 0 0 left refused done → IfSome limit (λ n. done ≤ n)
+limited None left refused done b = tt
+limited (Some n) left refused done b = burnt_within n left refused done b
 
--- without a limit any number of steps is within it
-pub unlimited : (limit : Option ℕ) (n : ℕ) → limit ≡ None → {E : Type 0} (r : Result Answer E) → IfOk r (λ _. IfSome limit (λ m. n ≤ m))
-unlimited None n is (Ok a) = tt
-unlimited None n is (Err f) = tt
-unlimited (Some m) n is r = cc
-
--- with one the steps are within it where they are no more
-pub limited : (limit : Option ℕ) (most n : ℕ) → limit ≡ Some most → {E : Type 0} (r : Result Answer E) → IfOk r (λ _. n ≤ most) → IfOk r (λ _. IfSome limit (λ m. n ≤ m))
-limited limit most n is r h = subst (λ (x : Option ℕ). IfOk r (λ _. IfSome x (λ m. n ≤ m))) (sym is) h
-
--- what holds whatever is answered
-pub always : {E : Type 0} (r : Result Answer E) {P : Type 0} → P → IfOk r (λ _. P)
-always (Ok a) p = p
-always (Err f) p = tt
+-- and as many, once one was refused for it
+pub burnt_stopped : (limit : ℕ) (left : Option ℕ) (refused done : ℕ) → Burnt (Some limit) 0 0 left refused done → 0 < refused → done ≡ limit
+burnt_stopped limit left refused done b some =
+    let none : left ≡ Some 0 = b.spent (λ h. absurd (let no : 0 < 0 = h in omega arith)) some in
+    let same : whole_limit (Some 0) done ≡ Some (limit + 0) = rw none at b.limit in
+    grind arith

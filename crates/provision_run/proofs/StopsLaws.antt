@@ -27,7 +27,8 @@ use Rattle.provision_run.specs.declared.outcome.Outcome.TheVariants.{Stopped}
 use Rattle.provision_run.specs.declared.task.Task.{Task}
 use Rattle.provision_run.specs.declared.task.Task.TheVariants.{Phases, Report, Explain, Accounts}
 use Rattle.provision_run.specs.Accounts.{run_requests}
-use Rattle.provision_run.specs.Answers.{HasOutputBy, IsAnswer, IsAnswered, IsRun, IsStopped, IsWhole, outcome_of}
+use Rattle.provision_run.specs.Answers.{HasOutputBy, IsAnswer, IsAnswered, IsRun}
+use Rattle.provision_run.specs.OverTree.{HasRun, IsStopped, IsWhole, outcome_of}
 use Rattle.provision_run.specs.Phased.{phased, run_lines}
 use Rattle.provision_run.specs.Rereading.{AreAccountsMendedAnew, AreRequestsReread, ArePlain, ArePlainRequests, IsMendedAnew, IsQuietBy, IsReread, MayMend, MayRepeat}
 use Rattle.provision_run.specs.Stops.{AreImages, EndAlikeAfter, HasEndedOver, HasStopped, HasStoppedOver, HaveStopped, HaveStoppedOver, IsCalm, IsCalmOver, unlimited}
@@ -174,24 +175,31 @@ module _ (options : Options) where
       stopped_run : IsRun over.like.own over.clock input (Stopped over.count) out
       stopped_run = subst (λ (o : Option Asked). HasOutputBy o over.clock input (Stopped over.count) out) over.like.meaning over.output.1
 
-      stopped_here : IsStopped over.like.own facts moment t over.count out
-      stopped_here =
+      answered_here : IsAnswered over.like.own facts moment t (Stopped over.count) out
+      answered_here =
           let same = one_image input stopped_run.facts facts stopped_run.tree t stopped_run.image image in
-          subst (λ (m : ℕ). IsStopped over.like.own facts m t over.count out) (sym over.like.when)
-          (subst (λ (s : Files). IsStopped over.like.own facts (moment_of over.like.own over.clock) s over.count out) same.1
-          (subst (λ (f : Values). IsStopped over.like.own f (moment_of over.like.own over.clock) stopped_run.tree over.count out) same.0 stopped_run.answered))
+          subst (λ (m : ℕ). IsAnswered over.like.own facts m t (Stopped over.count) out) (sym over.like.when)
+          (subst (λ (s : Files). IsAnswered over.like.own facts (moment_of over.like.own over.clock) s (Stopped over.count) out) same.1
+          (subst (λ (f : Values). IsAnswered over.like.own f (moment_of over.like.own over.clock) stopped_run.tree (Stopped over.count) out) same.0 stopped_run.answered))
+
+      stopped_here : IsStopped over.like.own facts moment t over.count answered_here.messages answered_here.left
+      stopped_here = answered_here.run
+
+      steps_here : List Step
+      steps_here = stopped_here.cut.gone.steps
 
       has_stopped : (v : Files) × (IsImage out facts v × HasStopped (unlimited options) facts moment t v)
+      unfolding steps_here stopped_here
       has_stopped = (
-        after_all t stopped_here.steps moment,
+        answered_here.left,
         (
-          stopped_here.again,
+          answered_here.again,
           record {
-            steps = stopped_here.steps;
-            anew = subst (λ (o : Options). IsMendedAnewIn (task_of o) o facts moment t stopped_here.steps) over.like.alike
-                (anew_unlimited (task_of over.like.own) over.like.own facts moment t stopped_here.steps stopped_here.anew);
-            count = length stopped_here.steps;
-            left = ap (λ (steps : List Step). after_all t steps moment) (sym (take-length stopped_here.steps));
+            steps = steps_here;
+            anew = subst (λ (o : Options). IsMendedAnewIn (task_of o) o facts moment t steps_here) over.like.alike
+                (anew_unlimited (task_of over.like.own) over.like.own facts moment t steps_here stopped_here.cut.gone.anew);
+            count = length steps_here;
+            left = stopped_here.cut.gone.reached ∙ ap (λ (steps : List Step). after_all t steps moment) (sym (take-length steps_here));
           },
         ),
       )
@@ -199,7 +207,7 @@ module _ (options : Options) where
     -- the output of one that was not stopped is an image of the tree that a whole run leaves
     ended_image : (out : List ℕ) → HasEndedOver options moment input out → IsImage out facts (final (unlimited options) facts moment t)
     ended_image out over = subst (λ (o : Options). IsImage out facts (final o facts moment t)) over.like.alike
-        (subst (λ (v : Files). IsImage out facts v) (final_unlimited (task_of over.like.own) over.like.own facts moment t) here.again)
+        (subst (λ (v : Files). IsImage out facts v) (is_final ∙ final_unlimited (task_of over.like.own) over.like.own facts moment t) here.again)
       where
         run_of : (e : RunEnd) → IsAnswer over.like.own over.clock input (outcome_of e) out → IsRun over.like.own over.clock input (outcome_of e) out
         run_of end.Done h = h
@@ -210,18 +218,21 @@ module _ (options : Options) where
         run : IsRun over.like.own over.clock input (outcome_of over.end) out
         run = run_of over.end (subst (λ (o : Option Asked). HasOutputBy o over.clock input (outcome_of over.end) out) over.like.meaning over.output.1)
 
-        whole_of : (e : RunEnd) (f : Values) (s : Files) → IsAnswered over.like.own f (moment_of over.like.own over.clock) s (outcome_of e) out → IsWhole over.like.own f (moment_of over.like.own over.clock) s (outcome_of e) out
-        whole_of end.Done f s h = h
-        whole_of end.ConfigInvalid f s h = h
-        whole_of end.NotCarriedOut f s h = h
-        whole_of (end.NoFreeId name) f s h = h
+        whole_of : (e : RunEnd) (messages : List (List ℕ)) (left : Files) → HasRun over.like.own facts moment t (outcome_of e) messages left → IsWhole over.like.own facts moment t (outcome_of e) messages left
+        whole_of end.Done messages left h = h
+        whole_of end.ConfigInvalid messages left h = h
+        whole_of end.NotCarriedOut messages left h = h
+        whole_of (end.NoFreeId name) messages left h = h
 
-        here : IsWhole over.like.own facts moment t (outcome_of over.end) out
+        here : IsAnswered over.like.own facts moment t (outcome_of over.end) out
         here =
             let same = one_image input run.facts facts run.tree t run.image image in
-            subst (λ (m : ℕ). IsWhole over.like.own facts m t (outcome_of over.end) out) (sym over.like.when)
-            (subst (λ (s : Files). IsWhole over.like.own facts (moment_of over.like.own over.clock) s (outcome_of over.end) out) same.1
-            (subst (λ (f : Values). IsWhole over.like.own f (moment_of over.like.own over.clock) run.tree (outcome_of over.end) out) same.0 (whole_of over.end run.facts run.tree run.answered)))
+            subst (λ (m : ℕ). IsAnswered over.like.own facts m t (outcome_of over.end) out) (sym over.like.when)
+            (subst (λ (s : Files). IsAnswered over.like.own facts (moment_of over.like.own over.clock) s (outcome_of over.end) out) same.1
+            (subst (λ (f : Values). IsAnswered over.like.own f (moment_of over.like.own over.clock) run.tree (outcome_of over.end) out) same.0 run.answered))
+
+        is_final : here.left ≡ final over.like.own facts moment t
+        is_final = (whole_of over.end here.messages here.left here.run).final_is
 
   have_stopped : (moments : List ℕ) (input last : List ℕ) (facts : Values) (t : Files) → IsImage input facts t → HaveStoppedOver options moments input last
       → (u : Files) × (IsImage last facts u × HaveStopped (unlimited options) facts moments t u)

@@ -9,6 +9,8 @@ pub mod Rereading
 pub mod Whole
 pub mod Messages
 pub mod Generated
+pub mod Lending
+pub mod OverTree
 pub mod Answers
 pub mod Stops
 pub mod Framed

@@ -17,7 +17,8 @@ use Rattle.pv_words.specs.Asked.{asked_of}
 use Rattle.pv_words.specs.declared.asked.Asked.TheVariants.{Run}
 use Rattle.provision_run.specs.declared.ending.RunEnd.{RunEnd}
 use Rattle.provision_run.specs.declared.outcome.Outcome.TheVariants.{Stopped}
-use Rattle.provision_run.specs.Answers.{HasOutput, outcome_of}
+use Rattle.provision_run.specs.Answers.{HasOutput}
+use Rattle.provision_run.specs.OverTree.{outcome_of}
 use Rattle.provision_run.specs.Phased.{run_lines}
 use Rattle.provision_run.specs.Rereading.{IsFinishedBy, IsQuietBy}
 use Rattle.provision_run.specs.Tasks.{task_of}

@@ -1,25 +1,24 @@
 //! What a run says, from the words and the bytes of its input.
-ghost use Rattle.std.specs.Prelude.{◌≡◌, ◌≢◌, ◌≤◌, ◌↔◌, ◌++◌, ◌∷◌, [], None, Some, false, true, map, string_bytes, length, IfOk, IfSome, IsErrOf, OnOk, OnErr};
+ghost use Rattle.std.specs.Prelude.{◌≡◌, ◌≢◌, ◌≤◌, ◌↔◌, ◌++◌, [], None, false, true, map, string_bytes, length, IfOk, IfSome, IsErrOf};
 ghost use Rattle.pv_image.specs.Images.{IsImage};
 ghost use Rattle.pv_image.specs.Spelling.{text_of};
 ghost use Rattle.pv_io.specs.Faults.{HasRisen};
 ghost use Rattle.pv_words.specs.Asked.{asked_of};
 ghost use Rattle.provision_run.specs.Words.{moment_of};
-ghost use Rattle.provision_run.specs.Answers.{HasOutput, IsAnswer, IsAnswered, IsGeneratedBy, IsOwn, reads_input, IsRefused, bad_image_text, stopped_text, outcome_of, most_bytes};
+ghost use Rattle.provision_run.specs.Answers.{HasOutput, IsAnswer, IsAnswered, IsGeneratedBy, IsOwn, reads_input, IsRefused, bad_image_text, most_bytes};
 ghost use Rattle.provision_run.specs.Generated.{IsGenerated};
 ghost use Rattle.provision_run.specs.Messages.{message, messages_text};
 ghost use Rattle.provision_run.specs.declared.answer.NoAnswer.TheVariants.{Memory, ReadFault};
 
-use crate::ending::RunEnd;
 use crate::generated::run_generated;
-use crate::message::{add_message, bad_image, print_messages, say_stopped};
+use crate::message::{add_message, bad_image, print_messages};
 use crate::outcome::Outcome;
-use crate::run::run_on_tree;
+use crate::running::run_limited;
 use pv_image::{Image, ImageFault, read_image, write_image};
 use pv_io::{ReadAllFault, Source, read_all};
 use pv_steps::TreeFault;
 use pv_text::{Facts, Messages};
-use pv_tree::{Fused, MemTree};
+use pv_tree::MemTree;
 use pv_words::{Asked, Options, WordsFault, asked_of};
 use std::alloc::{AllocError, AllocFailed, Global};
 
@@ -74,18 +73,6 @@ fn refuse(alloc: Global, fault: ImageFault) -> Result<Answer, AllocError>
     one_message(alloc, Outcome::BadImage(fault), &text)
 }
 
-/// The outcome of a run that was not stopped.
-fn outcome_of(end: RunEnd) -> Outcome
-    ensures { result ≡ outcome_of end }
-{
-    match end {
-        RunEnd::Done => Outcome::Done,
-        RunEnd::ConfigInvalid => Outcome::ConfigInvalid,
-        RunEnd::NotCarriedOut => Outcome::NotCarriedOut,
-        RunEnd::NoFreeId(name) => Outcome::NoFreeId(name),
-    }
-}
-
 /// The messages of a run and the image of its tree.
 fn finish(
     alloc: Global,
@@ -104,65 +91,6 @@ fn finish(
     Ok(Answer { outcome, output })
 }
 
-/// Runs over an image without a limit.
-fn run_whole(
-    alloc: Global,
-    image: Image,
-    options: &Options,
-    moment: u64,
-) -> Result<Answer, AllocError>
-    requires limit { options.now.stop_after ≡ None }
-    requires fresh { image.tree.steps ≡ [] }
-    ensures { IfOk result (λ answer. IsAnswered options.entry.now image.facts moment image.tree.files answer.outcome answer.output.items) }
-{
-    let Image { mut tree, facts } = image;
-    let mut messages = Messages::new(alloc);
-    match run_on_tree(alloc, options, &facts, moment, &mut tree, &mut messages) {
-        Ok(end) => finish(alloc, outcome_of(end), &messages, &tree, &facts),
-        Err(TreeFault::Memory) => Err(AllocError),
-        Err(TreeFault::Failed) => unreachable!(),
-    }
-}
-
-/// Runs over an image, and stops where a step more than the limit would be done.
-fn run_fused(
-    alloc: Global,
-    image: Image,
-    options: &Options,
-    limit: u64,
-    moment: u64,
-) -> Result<Answer, AllocError>
-    requires limit { options.now.stop_after ≡ Some limit }
-    requires fresh { image.tree.steps ≡ [] }
-    ensures { IfOk result (λ answer. IsAnswered options.entry.now image.facts moment image.tree.files answer.outcome answer.output.items) }
-{
-    let Image { tree, facts } = image;
-    let mut fused = Fused::new(tree, Some(limit));
-    let mut messages = Messages::new(alloc);
-    match run_on_tree(alloc, options, &facts, moment, &mut fused, &mut messages) {
-        Ok(end) => finish(alloc, outcome_of(end), &messages, fused.inner(), &facts),
-        Err(TreeFault::Memory) => Err(AllocError),
-        Err(TreeFault::Failed) => stop(alloc, limit, &mut messages, fused.inner(), &facts),
-    }
-}
-
-/// Ends a run that was stopped at its limit.
-fn stop(
-    alloc: Global,
-    limit: u64,
-    messages: &mut Messages,
-    tree: &MemTree,
-    facts: &Facts,
-) -> Result<Answer, AllocError>
-    ensures outcome { IfOk result (λ answer. answer.outcome ≡ Outcome.Stopped limit) }
-    ensures text { IfOk result (λ answer. answer.output.items
-        ≡ messages_text (messages.old ++ stopped_text limit ∷ []) ++ text_of facts.now tree.now.files) }
-    ensures again { IfOk result (λ answer. IsImage answer.output.items facts.now tree.now.files) }
-{
-    say_stopped(alloc, limit, messages)?;
-    finish(alloc, Outcome::Stopped(limit), messages, tree, facts)
-}
-
 /// Runs over an image.
 fn run_over(
     alloc: Global,
@@ -173,10 +101,13 @@ fn run_over(
     requires fresh { image.tree.steps ≡ [] }
     ensures { IfOk result (λ answer. IsAnswered options.entry.now image.facts (moment_of options.entry.now clock) image.tree.files answer.outcome answer.output.items) }
 {
+    let Image { mut tree, facts } = image;
     let moment = options.now.unwrap_or(clock);
-    match options.stop_after {
-        Some(limit) => run_fused(alloc, image, options, limit, moment),
-        None => run_whole(alloc, image, options, moment),
+    let mut messages = Messages::new(alloc);
+    match run_limited(alloc, options, &facts, moment, &mut tree, &mut messages) {
+        Ok(outcome) => finish(alloc, outcome, &messages, &tree, &facts),
+        Err(TreeFault::Memory) => Err(AllocError),
+        Err(TreeFault::Failed) => unreachable!(),
     }
 }
 

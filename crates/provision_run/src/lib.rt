@@ -8,11 +8,13 @@ mod ending;
 mod explaining;
 mod generated;
 mod laws;
+mod lent;
 mod message;
 mod outcome;
 mod reporting;
 mod run;
 mod run_input;
+mod running;
 mod task;
 mod top;
 

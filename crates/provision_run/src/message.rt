@@ -1,7 +1,8 @@
 //! The texts of messages, and how they are printed.
 ghost use Rattle.std.specs.Prelude.{◌≡◌, ◌++◌, ◌∷◌, [], true, IfOk, OnOk};
 ghost use Rattle.pv_text.specs.Lines.{are_lines, is_line};
-ghost use Rattle.provision_run.specs.Answers.{bad_image_text, at_line, stopped_text};
+ghost use Rattle.provision_run.specs.Answers.{bad_image_text, at_line};
+ghost use Rattle.provision_run.specs.OverTree.{stopped_text};
 ghost use Rattle.provision_run.specs.Messages.{message, messages_text, message_at};
 
 use pv_image::ImageFault;

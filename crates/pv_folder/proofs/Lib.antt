@@ -1,3 +1,17 @@
 pub mod MergeLaws
 pub mod AheadLaws
 pub mod FactLaws
+pub mod Spelling
+pub mod Preorder
+pub mod FolderLaws
+pub mod ListingLaws
+pub mod ReadingLaws
+pub mod StackLaws
+pub mod GoingLaws
+pub mod OpeningLaws
+pub mod BelowLaws
+pub mod AgreeLaws
+pub mod ReadyLaws
+pub mod ClosingLaws
+pub mod EmptyLaws
+pub mod EmptyGrowth

@@ -1,2 +1,8 @@
 pub mod Merge
+pub mod Manifest
+pub mod Folders
+pub mod Opening
+pub mod Reading
+pub mod Keeping
+pub mod Sole
 pub mod Ahead

@@ -1,11 +1,27 @@
 //! A file tree in a folder of a host: its directories and files are real, and a manifest has all else.
 //!
-//! [`merge`] gives the tree of a manifest and of what is real.
+//! [`merge`] gives the tree of a manifest and of what is real; [`FolderTree`] is a tree in memory whose steps are done in the
+//! folder too, and [`close_folder`] writes its manifest.
 #![tactic(auto)]
 
+mod asking;
+mod closing;
 mod copied_facts;
+mod emptying;
+mod folder_tree;
+mod found;
+mod host_path;
+mod looking;
 mod merged_object;
 mod merging;
+mod open_fault;
+mod parts;
+mod reading;
+mod reading_tree;
 mod walking;
 
+pub use closing::close_folder;
+pub use folder_tree::FolderTree;
 pub use merging::merge;
+pub use open_fault::OpenFault;
+pub use reading::read_folder;

@@ -1,3 +1,4 @@
 pub mod Content
 pub mod Lists
 pub mod Memory
+pub mod Counts

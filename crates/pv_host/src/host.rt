@@ -3,6 +3,7 @@ ghost use Rattle.std.specs.Prelude.{◌≡◌, ◌≤◌, ℕ, Option, option_ma
 ghost use Rattle.pv_io.specs.Faults.{HasRisen};
 ghost use Rattle.pv_host.specs.declared.host.HostFault.TheVariants.{Failed, Memory};
 ghost use Rattle.pv_host.specs.Content.{Content, IsChanged, IsContent, MayAsk, bytes_of, held, listing, spelled};
+ghost use Rattle.pv_host.specs.Counts.{count_after};
 ghost use Rattle.pv_host.specs.Content.Change.{MakeDir, RemoveDir, RemoveFile, Rename, WriteFile};
 
 use crate::item::HostList;
@@ -12,7 +13,7 @@ use thiserror::Error;
 /// Why a host did not do what it was asked for.
 #[derive(Clone, Copy, Debug, PartialEq, Eq, Error)]
 pub enum HostFault {
-    /// It failed; its count of faults has risen.
+    /// It failed, and counted a fault.
     #[error("Failed")]
     Failed,
     /// Memory ran out.
@@ -38,8 +39,8 @@ impl<T: Drop> From<AllocFailed<T>> for HostFault {
 
 /// A host: the directories and files of a machine, or what stands for them.
 ///
-/// It may tell what it holds, and it has a count of faults that never falls. A call answers `Failed` only where the
-/// count rose. One that answers a fault leaves what is held as before.
+/// It may tell what it holds, and it has a count of faults that never falls: a call that answers `Failed` counts one, and
+/// no other does. A call that answers a fault leaves what is held as before.
 pub trait Host {
     ghost content: { Self → Option Content };
 
@@ -51,7 +52,8 @@ pub trait Host {
         ensures content { IfSome (content self.old) (λ c. IsContent (held c)) }
         ensures kept { content self.new ≡ content self.old }
         ensures cause { IsErrOf result Failed → HasRisen (faults self.old) (faults self.new) }
-        ensures never_falls { faults self.old ≤ faults self.new };
+        ensures never_falls { faults self.old ≤ faults self.new }
+        ensures count { faults self.new ≡ count_after result (faults self.old) };
 
     /// The bytes of a file, or nothing where the path is no file.
     fn read_file(&mut self, alloc: Global, path: &[u8]) -> Result<Option<Vec<u8>>, HostFault>
@@ -60,7 +62,8 @@ pub trait Host {
         ensures content { IfSome (content self.old) (λ c. IsContent (held c)) }
         ensures kept { content self.new ≡ content self.old }
         ensures cause { IsErrOf result Failed → HasRisen (faults self.old) (faults self.new) }
-        ensures never_falls { faults self.old ≤ faults self.new };
+        ensures never_falls { faults self.old ≤ faults self.new }
+        ensures count { faults self.new ≡ count_after result (faults self.old) };
 
     /// Writes a file whole, where a file or nothing is.
     fn write_file(&mut self, path: &[u8], bytes: &[u8]) -> Result<(), HostFault>
@@ -68,7 +71,8 @@ pub trait Host {
         ensures done { OnOk result (IsChanged (WriteFile (spelled path.now) bytes.now) (content self.old) (content self.new)) }
         ensures kept { OnErr result (content self.new ≡ content self.old) }
         ensures cause { IsErrOf result Failed → HasRisen (faults self.old) (faults self.new) }
-        ensures never_falls { faults self.old ≤ faults self.new };
+        ensures never_falls { faults self.old ≤ faults self.new }
+        ensures count { faults self.new ≡ count_after result (faults self.old) };
 
     /// Makes a directory where nothing is.
     fn make_dir(&mut self, path: &[u8]) -> Result<(), HostFault>
@@ -76,7 +80,8 @@ pub trait Host {
         ensures done { OnOk result (IsChanged (MakeDir (spelled path.now)) (content self.old) (content self.new)) }
         ensures kept { OnErr result (content self.new ≡ content self.old) }
         ensures cause { IsErrOf result Failed → HasRisen (faults self.old) (faults self.new) }
-        ensures never_falls { faults self.old ≤ faults self.new };
+        ensures never_falls { faults self.old ≤ faults self.new }
+        ensures count { faults self.new ≡ count_after result (faults self.old) };
 
     /// Moves what stands at and below a path to another, in place of what may be replaced there.
     fn rename(&mut self, from: &[u8], to: &[u8]) -> Result<(), HostFault>
@@ -84,7 +89,8 @@ pub trait Host {
         ensures done { OnOk result (IsChanged (Rename (spelled from.now) (spelled to.now)) (content self.old) (content self.new)) }
         ensures kept { OnErr result (content self.new ≡ content self.old) }
         ensures cause { IsErrOf result Failed → HasRisen (faults self.old) (faults self.new) }
-        ensures never_falls { faults self.old ≤ faults self.new };
+        ensures never_falls { faults self.old ≤ faults self.new }
+        ensures count { faults self.new ≡ count_after result (faults self.old) };
 
     /// Removes a file.
     fn remove_file(&mut self, path: &[u8]) -> Result<(), HostFault>
@@ -92,7 +98,8 @@ pub trait Host {
         ensures done { OnOk result (IsChanged (RemoveFile (spelled path.now)) (content self.old) (content self.new)) }
         ensures kept { OnErr result (content self.new ≡ content self.old) }
         ensures cause { IsErrOf result Failed → HasRisen (faults self.old) (faults self.new) }
-        ensures never_falls { faults self.old ≤ faults self.new };
+        ensures never_falls { faults self.old ≤ faults self.new }
+        ensures count { faults self.new ≡ count_after result (faults self.old) };
 
     /// Removes an empty directory.
     fn remove_dir(&mut self, path: &[u8]) -> Result<(), HostFault>
@@ -100,5 +107,6 @@ pub trait Host {
         ensures done { OnOk result (IsChanged (RemoveDir (spelled path.now)) (content self.old) (content self.new)) }
         ensures kept { OnErr result (content self.new ≡ content self.old) }
         ensures cause { IsErrOf result Failed → HasRisen (faults self.old) (faults self.new) }
-        ensures never_falls { faults self.old ≤ faults self.new };
+        ensures never_falls { faults self.old ≤ faults self.new }
+        ensures count { faults self.new ≡ count_after result (faults self.old) };
 }

@@ -6,6 +6,7 @@ ghost use Rattle.pv_io.specs.Memory.{fresh};
 ghost use Rattle.pv_path.specs.Paths.{has_names};
 ghost use Rattle.pv_host.specs.declared.host.HostFault.TheVariants.{Failed};
 ghost use Rattle.pv_host.specs.Content.{IsContent, IsPresent, May, bytes_of, held, listing, spelled};
+ghost use Rattle.pv_host.specs.Counts.{count_after};
 ghost use Rattle.pv_host.specs.Content.Change.{MakeDir, RemoveDir, RemoveFile, Rename, WriteFile};
 ghost use Rattle.pv_host.specs.Memory.{Becomes, content_of};
 
@@ -79,6 +80,7 @@ impl Host for MemHost {
         ensures kept { self.new.tree.files ≡ self.old.tree.files }
         ensures cause { IsErrOf result Failed → HasRisen self.old.plan.faults self.new.plan.faults }
         ensures never_falls { self.old.plan.faults ≤ self.new.plan.faults }
+        ensures count { self.new.plan.faults ≡ count_after result self.old.plan.faults }
         ensures planned { IsErrOf result Failed ↔ Contains self.old.plan.fails self.old.plan.calls }
         ensures counted { self.new.plan.calls ≡ call_after self.old.plan.calls }
     {
@@ -97,6 +99,7 @@ impl Host for MemHost {
         ensures kept { self.new.tree.files ≡ self.old.tree.files }
         ensures cause { IsErrOf result Failed → HasRisen self.old.plan.faults self.new.plan.faults }
         ensures never_falls { self.old.plan.faults ≤ self.new.plan.faults }
+        ensures count { self.new.plan.faults ≡ count_after result self.old.plan.faults }
         ensures planned { IsErrOf result Failed ↔ Contains self.old.plan.fails self.old.plan.calls }
         ensures counted { self.new.plan.calls ≡ call_after self.old.plan.calls }
     {
@@ -114,6 +117,7 @@ impl Host for MemHost {
         ensures kept { OnErr result (self.new.tree.files ≡ self.old.tree.files) }
         ensures cause { IsErrOf result Failed → HasRisen self.old.plan.faults self.new.plan.faults }
         ensures never_falls { self.old.plan.faults ≤ self.new.plan.faults }
+        ensures count { self.new.plan.faults ≡ count_after result self.old.plan.faults }
         ensures planned { IsErrOf result Failed ↔ Contains self.old.plan.fails self.old.plan.calls }
         ensures counted { self.new.plan.calls ≡ call_after self.old.plan.calls }
     {
@@ -130,6 +134,7 @@ impl Host for MemHost {
         ensures kept { OnErr result (self.new.tree.files ≡ self.old.tree.files) }
         ensures cause { IsErrOf result Failed → HasRisen self.old.plan.faults self.new.plan.faults }
         ensures never_falls { self.old.plan.faults ≤ self.new.plan.faults }
+        ensures count { self.new.plan.faults ≡ count_after result self.old.plan.faults }
         ensures planned { IsErrOf result Failed ↔ Contains self.old.plan.fails self.old.plan.calls }
         ensures counted { self.new.plan.calls ≡ call_after self.old.plan.calls }
     {
@@ -144,6 +149,7 @@ impl Host for MemHost {
         ensures kept { OnErr result (self.new.tree.files ≡ self.old.tree.files) }
         ensures cause { IsErrOf result Failed → HasRisen self.old.plan.faults self.new.plan.faults }
         ensures never_falls { self.old.plan.faults ≤ self.new.plan.faults }
+        ensures count { self.new.plan.faults ≡ count_after result self.old.plan.faults }
         ensures planned { IsErrOf result Failed ↔ Contains self.old.plan.fails self.old.plan.calls }
         ensures counted { self.new.plan.calls ≡ call_after self.old.plan.calls }
     {
@@ -159,6 +165,7 @@ impl Host for MemHost {
         ensures kept { OnErr result (self.new.tree.files ≡ self.old.tree.files) }
         ensures cause { IsErrOf result Failed → HasRisen self.old.plan.faults self.new.plan.faults }
         ensures never_falls { self.old.plan.faults ≤ self.new.plan.faults }
+        ensures count { self.new.plan.faults ≡ count_after result self.old.plan.faults }
         ensures planned { IsErrOf result Failed ↔ Contains self.old.plan.fails self.old.plan.calls }
         ensures counted { self.new.plan.calls ≡ call_after self.old.plan.calls }
     {
@@ -173,6 +180,7 @@ impl Host for MemHost {
         ensures kept { OnErr result (self.new.tree.files ≡ self.old.tree.files) }
         ensures cause { IsErrOf result Failed → HasRisen self.old.plan.faults self.new.plan.faults }
         ensures never_falls { self.old.plan.faults ≤ self.new.plan.faults }
+        ensures count { self.new.plan.faults ≡ count_after result self.old.plan.faults }
         ensures planned { IsErrOf result Failed ↔ Contains self.old.plan.fails self.old.plan.calls }
         ensures counted { self.new.plan.calls ≡ call_after self.old.plan.calls }
     {

@@ -3,6 +3,7 @@ ghost use Rattle.std.specs.Prelude.{◌≡◌, ◌≤◌, ◌^◌, ◌↔◌, Co
 ghost use Rattle.pv_io.specs.Calls.{call_after};
 ghost use Rattle.pv_io.specs.Faults.{HasRisen, fault_after};
 ghost use Rattle.pv_io.specs.Memory.{fresh};
+ghost use Rattle.pv_host.specs.Counts.{count_after};
 
 use crate::host::HostFault;
 use std::alloc::Global;
@@ -58,6 +59,7 @@ impl Plan {
         }) }
         ensures rises { OnErr result (HasRisen self.old.faults self.new.faults) }
         ensures never_falls { self.old.faults ≤ self.new.faults }
+        ensures count { self.new.faults ≡ count_after result self.old.faults }
     {
         let number = self.next;
         self.next = number_after(number);

@@ -1,6 +1,7 @@
 //! The machine's own directories and files: the edge.
 ghost use Rattle.std.specs.Prelude.{◌≡◌, ◌≤◌, None, IsErrOf, OnErr};
 ghost use Rattle.pv_io.specs.Faults.{HasRisen};
+ghost use Rattle.pv_host.specs.Counts.{count_after};
 ghost use Rattle.pv_host.specs.declared.host.HostFault.TheVariants.{Failed};
 
 use crate::host::{Host, HostFault};
@@ -34,6 +35,7 @@ impl<R: Files> RealHost<R> {
     fn judged<T>(&mut self, done: io::Result<T>) -> Result<T, HostFault>
         ensures cause { IsErrOf result Failed → HasRisen self.old.faults self.new.faults }
         ensures never_falls { self.old.faults ≤ self.new.faults }
+        ensures count { self.new.faults ≡ count_after result self.old.faults }
     {
         match done {
             Ok(answer) => Ok(answer),

@@ -2,7 +2,7 @@ use Rattle.std.proofs.Common.{◌≡◌, ◌<◌, ◌^◌, ◌++◌, List, ℕ, 
 use Rattle.std.specs.Fmt.{decimal}
 use Rattle.pv_text.specs.Lines.{is_line}
 use Rattle.pv_text.proofs.Characters.{one_line-append, one_line-decimal}
-use Rattle.provision_run.specs.Answers.{stopped_text}
+use Rattle.provision_run.specs.OverTree.{stopped_text}
 use Rattle.provision_run.proofs.message.stopped_text.Goals as goal
 
 pub returns-clause-line : goal.returns-clause-line

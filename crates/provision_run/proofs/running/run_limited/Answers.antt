@@ -1,0 +1,56 @@
+use Rattle.std.proofs.Common.{rules, ap, subst, ◌∙◌, ◌≡◌, ◌+◌, ◌-◌, ◌≤◌, [], Err, ℕ, List, drop, length}
+use Rattle.pv_steps.specs.Acting.{refused}
+use Rattle.provision_run.specs.OverTree.{HasFailed, HasRun, IsStopped}
+use Rattle.provision_run.specs.declared.ending.RunEnd.{RunEnd}
+use Rattle.provision_run.specs.Tasks.{task_of}
+use Rattle.provision_run.specs.Whole.{HasSaidBy, HasSaidPartBy, HasGoneBy, run_work}
+use Rattle.provision_run.proofs.AnswerLaws.{burnt_stopped, failed_run, limited, stopped_run, whole_run}
+use Rattle.provision_run.proofs.running.run_limited.Goals as goal
+
+pub returns-in-Ok-clause-run : goal.returns-in-Ok-clause-run
+returns-in-Ok-clause-run g c =
+    let start : g.T.Tree.steps c.new-fused.result.inner.tree.now ≡ [] = rw (c.new-fused.ensures, c.new.ensures.now) c.requires.fresh in
+    let told : HasRun c.args.options.now c.args.facts.now c.args.moment (g.T.Tree.state c.new-fused.result.inner.tree.now) c.outcome_of.result c.run_on_tree.new.messages (g.T.Tree.state c.run_on_tree.new.tree.inner.tree.now) =
+    whole_run c.args.options.now c.args.facts.now c.args.moment (g.T.Tree.state c.new-fused.result.inner.tree.now) (g.T.Tree.state c.run_on_tree.new.tree.inner.tree.now)
+    (g.T.Tree.steps c.new-fused.result.inner.tree.now) (g.T.Tree.steps c.run_on_tree.new.tree.inner.tree.now) start c.in-Ok.ensures.acted.ran
+    c.in-Ok.ensures.mended c.in-Ok.ensures.anew c.in-Ok.ensures.framed c.in-Ok.ensures.between
+    c.in-Ok.end c.outcome_of.result c.run_on_tree.new.messages c.outcome_of.ensures c.in-Ok.ensures.end c.in-Ok.ensures.ok c.in-Ok.ensures.staged
+    (subst (λ (old : List (List ℕ)). HasSaidBy (task_of c.args.options.now) c.args.options.now c.args.facts.now c.args.moment (g.T.Tree.state c.new-fused.result.inner.tree.now) old c.run_on_tree.new.messages) c.requires.unsaid c.in-Ok.ensures.said)
+    (subst (λ (old : List (List ℕ)). HasGoneBy (task_of c.args.options.now) c.args.options.now c.args.facts.now c.args.moment 0 (g.T.Tree.state c.new-fused.result.inner.tree.now) (drop (length (g.T.Tree.steps c.new-fused.result.inner.tree.now)) (g.T.Tree.steps c.run_on_tree.new.tree.inner.tree.now)) old c.run_on_tree.new.messages) c.requires.unsaid c.in-Ok.ensures.in_turn)
+    (limited c.args.options.now.stop_after _ _ _ (rw (c.new-fused.ensures, c.new.ensures.now, c.requires.fresh) at c.in-Ok.ensures.acted.reaches.1)) in
+    search (rules, told)
+
+pub returns-in_ok-say_stopped-in-Some-clause-run : goal.returns-in_ok-say_stopped-in-Some-clause-run
+returns-in_ok-say_stopped-in-Some-clause-run g c =
+    let start : g.T.Tree.steps c.new-fused.result.inner.tree.now ≡ [] = rw (c.new-fused.ensures, c.new.ensures.now) c.requires.fresh in
+    let bound : (length (g.T.Tree.steps c.run_on_tree.new.tree.inner.tree.now) - length (g.T.Tree.steps c.new-fused.result.inner.tree.now)) + 1 ≤ run_work c.args.options.now c.args.facts.now c.args.moment (g.T.Tree.state c.new-fused.result.inner.tree.now) =
+    subst (λ f. (length (g.T.Tree.steps c.run_on_tree.new.tree.inner.tree.now) - length (g.T.Tree.steps c.new-fused.result.inner.tree.now)) + refused {A = RunEnd} (Err f) ≤ run_work c.args.options.now c.args.facts.now c.args.moment (g.T.Tree.state c.new-fused.result.inner.tree.now)) c.in-Err-Failed.field-0-is c.in-Err-Failed.ensures.acted.bound in
+    let part : HasSaidPartBy (task_of c.args.options.now) c.args.options.now c.args.facts.now c.args.moment (g.T.Tree.state c.new-fused.result.inner.tree.now) [] c.run_on_tree.new.messages =
+    subst (λ (old : List (List ℕ)). HasSaidPartBy (task_of c.args.options.now) c.args.options.now c.args.facts.now c.args.moment (g.T.Tree.state c.new-fused.result.inner.tree.now) old c.run_on_tree.new.messages) c.requires.unsaid c.in-Err-Failed.ensures.part in
+    let said : HasGoneBy (task_of c.args.options.now) c.args.options.now c.args.facts.now c.args.moment 1 (g.T.Tree.state c.new-fused.result.inner.tree.now) (drop (length (g.T.Tree.steps c.new-fused.result.inner.tree.now)) (g.T.Tree.steps c.run_on_tree.new.tree.inner.tree.now)) [] c.run_on_tree.new.messages =
+    subst (λ (old : List (List ℕ)). HasGoneBy (task_of c.args.options.now) c.args.options.now c.args.facts.now c.args.moment 1 (g.T.Tree.state c.new-fused.result.inner.tree.now) (drop (length (g.T.Tree.steps c.new-fused.result.inner.tree.now)) (g.T.Tree.steps c.run_on_tree.new.tree.inner.tree.now)) old c.run_on_tree.new.messages) c.requires.unsaid (c.in-Err-Failed.ensures.read (ap Err c.in-Err-Failed.field-0-is)) in
+    let told : IsStopped c.args.options.now c.args.facts.now c.args.moment (g.T.Tree.state c.new-fused.result.inner.tree.now) c.in-Some.limit c.say_stopped.new.messages (g.T.Tree.state c.run_on_tree.new.tree.inner.tree.now) =
+    stopped_run c.args.options.now c.args.facts.now c.args.moment (g.T.Tree.state c.new-fused.result.inner.tree.now) (g.T.Tree.state c.run_on_tree.new.tree.inner.tree.now)
+    (g.T.Tree.steps c.new-fused.result.inner.tree.now) (g.T.Tree.steps c.run_on_tree.new.tree.inner.tree.now) start c.in-Err-Failed.ensures.acted.ran
+    c.in-Err-Failed.ensures.mended c.in-Err-Failed.ensures.anew c.in-Err-Failed.ensures.framed c.in-Err-Failed.ensures.between
+    c.run_on_tree.new.messages bound part said
+    c.in-Some.limit c.say_stopped.new.messages c.in-Some.is
+    (burnt_stopped c.in-Some.limit _ _ _ (rw (c.new-fused.ensures, c.new.ensures.now, c.requires.fresh, c.in-Some.is) at c.in-Err-Failed.ensures.acted.reaches.1) (search rules))
+    c.in_ok-say_stopped-in-Some.ensures.ok in
+    search (rules, told)
+
+pub returns-in_default-clause-failed : goal.returns-in_default-clause-failed
+returns-in_default-clause-failed g c = λ _.
+    let start : g.T.Tree.steps c.new-fused.result.inner.tree.now ≡ [] = rw (c.new-fused.ensures, c.new.ensures.now) c.requires.fresh in
+    let bound : (length (g.T.Tree.steps c.run_on_tree.new.tree.inner.tree.now) - length (g.T.Tree.steps c.new-fused.result.inner.tree.now)) + 1 ≤ run_work c.args.options.now c.args.facts.now c.args.moment (g.T.Tree.state c.new-fused.result.inner.tree.now) =
+    subst (λ f. (length (g.T.Tree.steps c.run_on_tree.new.tree.inner.tree.now) - length (g.T.Tree.steps c.new-fused.result.inner.tree.now)) + refused {A = RunEnd} (Err f) ≤ run_work c.args.options.now c.args.facts.now c.args.moment (g.T.Tree.state c.new-fused.result.inner.tree.now)) c.in-Err-Failed.field-0-is c.in-Err-Failed.ensures.acted.bound in
+    let part : HasSaidPartBy (task_of c.args.options.now) c.args.options.now c.args.facts.now c.args.moment (g.T.Tree.state c.new-fused.result.inner.tree.now) [] c.run_on_tree.new.messages =
+    subst (λ (old : List (List ℕ)). HasSaidPartBy (task_of c.args.options.now) c.args.options.now c.args.facts.now c.args.moment (g.T.Tree.state c.new-fused.result.inner.tree.now) old c.run_on_tree.new.messages) c.requires.unsaid c.in-Err-Failed.ensures.part in
+    let said : HasGoneBy (task_of c.args.options.now) c.args.options.now c.args.facts.now c.args.moment 1 (g.T.Tree.state c.new-fused.result.inner.tree.now) (drop (length (g.T.Tree.steps c.new-fused.result.inner.tree.now)) (g.T.Tree.steps c.run_on_tree.new.tree.inner.tree.now)) [] c.run_on_tree.new.messages =
+    subst (λ (old : List (List ℕ)). HasGoneBy (task_of c.args.options.now) c.args.options.now c.args.facts.now c.args.moment 1 (g.T.Tree.state c.new-fused.result.inner.tree.now) (drop (length (g.T.Tree.steps c.new-fused.result.inner.tree.now)) (g.T.Tree.steps c.run_on_tree.new.tree.inner.tree.now)) old c.run_on_tree.new.messages) c.requires.unsaid (c.in-Err-Failed.ensures.read (ap Err c.in-Err-Failed.field-0-is)) in
+    let told : HasFailed c.args.options.now c.args.facts.now c.args.moment (g.T.Tree.state c.new-fused.result.inner.tree.now) c.run_on_tree.new.messages (g.T.Tree.state c.run_on_tree.new.tree.inner.tree.now) =
+    failed_run c.args.options.now c.args.facts.now c.args.moment (g.T.Tree.state c.new-fused.result.inner.tree.now) (g.T.Tree.state c.run_on_tree.new.tree.inner.tree.now)
+    (g.T.Tree.steps c.new-fused.result.inner.tree.now) (g.T.Tree.steps c.run_on_tree.new.tree.inner.tree.now) start c.in-Err-Failed.ensures.acted.ran
+    c.in-Err-Failed.ensures.mended c.in-Err-Failed.ensures.anew c.in-Err-Failed.ensures.framed c.in-Err-Failed.ensures.between
+    c.run_on_tree.new.messages bound part said in
+    search (rules, told)

@@ -1,0 +1,100 @@
+-- A run over a tree, whatever holds it: how it ended, what it has said, and the tree that it has left (systemd-tmpfiles(8),
+-- systemd-sysusers(8)).
+use Rattle.std.specs.Prelude.{◌≡◌, ℕ, ◌<◌, ◌≤◌, List, [], ◌∷◌, ◌++◌, length, take, codes, Some, IfSome}
+use Rattle.std.specs.Fmt.{decimal}
+use Rattle.std.specs.List.{AllByRecursion}
+use Rattle.pv_text.specs.Facts.{Values}
+use Rattle.pv_steps.specs.declared.step.Step.{Step}
+use Rattle.pv_steps.specs.Trees.{Files}
+use Rattle.pv_steps.specs.Runs.{Along, after_all}
+use Rattle.pv_words.specs.declared.options.Options.{Options}
+use Rattle.provision_run.specs.declared.outcome.Outcome.{Outcome}
+use Rattle.provision_run.specs.declared.outcome.Outcome.TheVariants.{Done, ConfigInvalid, NotCarriedOut, NoFreeId, Stopped}
+use Rattle.provision_run.specs.declared.ending.RunEnd.{RunEnd}
+use Rattle.provision_run.specs.declared.ending.RunEnd.TheVariants as end
+use Rattle.provision_run.specs.Framed.{IsFramedIn}
+use Rattle.provision_run.specs.OnTheWay.{IsOnTheWayIn}
+use Rattle.provision_run.specs.Swept.{IsSweptIn}
+use Rattle.provision_run.specs.Tasks.{task_of}
+use Rattle.provision_run.specs.Whole.{run_way, final, IsMendedAnewIn, IsMendedIn, is_run_step, IsSaid, IsCutBy, read_messages, run_end, run_work}
+
+-- ---- any run
+
+-- a run has left a tree, whatever it answered: legal steps, each one that the lines ask for, lead there; where it has one phase,
+-- is the boot command or makes accounts, the stop law of it holds, also where the lines are read anew of that tree; whatever it
+-- does, its frame holds; and creating, alone or in the boot command, is on its way, and its steps give what lines leave
+pub record HasLeft (options : Options) (facts : Values) (moment : ℕ) (t left : Files) : Type 0 where
+  pub steps : List Step
+  pub way : Along (run_way options facts moment t) t steps moment
+  pub asked : AllByRecursion (is_run_step options facts moment t) steps
+  pub reached : left ≡ after_all t steps moment
+  pub mended : IsMendedIn (task_of options) options facts moment t steps
+  pub anew : IsMendedAnewIn (task_of options) options facts moment t steps
+  pub framed : IsFramedIn (task_of options) options facts moment t steps
+  pub between : IsOnTheWayIn (task_of options) options facts moment t steps
+
+-- ---- whole runs
+
+-- the outcome of a run that was not stopped
+abbrev pub outcome_of : RunEnd → Outcome
+outcome_of end.Done = Done
+outcome_of end.ConfigInvalid = ConfigInvalid
+outcome_of end.NotCarriedOut = NotCarriedOut
+outcome_of (end.NoFreeId name) = NoFreeId name
+
+abbrev pub outcome : Options → Values → ℕ → Files → Outcome
+outcome options facts moment t = outcome_of (run_end options facts moment t)
+
+-- a run that was not stopped: how it ended, what is said in reading and what is said then, and the tree of a whole run, by
+-- steps that are each done at their turn, no more than the limit where one was given; nothing is left there at the staging
+-- names of what it made
+pub record IsWhole (options : Options) (facts : Values) (moment : ℕ) (t : Files) (found : Outcome) (messages : List (List ℕ)) (left : Files) : Type 0 where
+  pub end : found ≡ outcome options facts moment t
+  pub said : List (List ℕ)
+  pub is_said : IsSaid options facts moment t said
+  pub messages_are : messages ≡ read_messages options facts t ++ said
+  pub final_is : left ≡ final options facts moment t
+  pub gone : HasLeft options facts moment t left
+  pub in_turn : IsCutBy (task_of options) options facts moment 0 t gone.steps said
+  pub within : IfSome options.stop_after (λ n. length gone.steps ≤ n)
+  pub staged : IsSweptIn (task_of options) options facts moment t left
+
+-- ---- runs of which a step was refused
+
+-- a front part of what a whole run says after reading
+abbrev pub IsFront : Options → Values → ℕ → Files → List (List ℕ) → Type 0
+IsFront options facts moment t said = (whole : List (List ℕ)) × (IsSaid options facts moment t whole × ((k : ℕ) × (said ≡ take k whole)))
+
+-- a run of which a step was refused, after fewer than the most that it takes: the first of what is said after reading, and the
+-- tree after the steps that were done. Steps and messages are those of one choice: the phases and the lines before the one at
+-- work have done and said all, those after it nothing, and the one at work had a step left
+pub record IsCut (options : Options) (facts : Values) (moment : ℕ) (t : Files) (said : List (List ℕ)) (left : Files) : Type 0 where
+  pub gone : HasLeft options facts moment t left
+  pub fewer : length gone.steps < run_work options facts moment t
+  pub front : IsFront options facts moment t said
+  pub at_work : IsCutBy (task_of options) options facts moment 1 t gone.steps said
+
+-- what is said of a run that was stopped after n steps
+abbrev pub stopped_text : ℕ → List ℕ
+stopped_text n = codes "stopped after " ++ decimal n ++ codes " steps"
+
+-- a run that was stopped at its limit, after n steps: what is said in reading, the first of what is said then, and that it was
+-- stopped
+pub record IsStopped (options : Options) (facts : Values) (moment : ℕ) (t : Files) (n : ℕ) (messages : List (List ℕ)) (left : Files) : Type 0 where
+  pub limit : options.stop_after ≡ Some n
+  pub said : List (List ℕ)
+  pub cut : IsCut options facts moment t said left
+  pub count : length cut.gone.steps ≡ n
+  pub messages_are : messages ≡ read_messages options facts t ++ said ++ stopped_text n ∷ []
+
+-- ---- by the outcome
+
+-- how a run ended, all that it has said, and the tree that it has left
+abbrev pub HasRun : Options → Values → ℕ → Files → Outcome → List (List ℕ) → Files → Type 0
+HasRun options facts moment t (Stopped n) messages left = IsStopped options facts moment t n messages left
+HasRun options facts moment t found messages left = IsWhole options facts moment t found messages left
+
+-- what a run has said of which a step failed, and the tree that it has left
+abbrev pub HasFailed : Options → Values → ℕ → Files → List (List ℕ) → Files → Type 0
+HasFailed options facts moment t messages left =
+    (said : List (List ℕ)) × ((messages ≡ read_messages options facts t ++ said) × IsCut options facts moment t said left)

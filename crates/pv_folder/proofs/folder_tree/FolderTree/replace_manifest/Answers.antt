@@ -1,0 +1,22 @@
+use Rattle.std.proofs.Common.{OnErr, OnOk, ap, subst}
+use Rattle.std.specs.Prelude.{IfSome}
+use Rattle.pv_path.specs.Paths.{Path}
+use Rattle.pv_host.specs.Content.{held, spelled}
+use Rattle.pv_folder.specs.Keeping.{HasManifest, IsReady, IsSameButNew}
+use Rattle.pv_folder.proofs.ClosingLaws.{agrees_as}
+use Rattle.pv_folder.proofs.folder_tree.FolderTree.replace_manifest.Goals as goal
+
+pub invariant_of-self : goal.invariant_of-self
+invariant_of-self g c =
+    let old = g.H.Host.content c.args.self.now.host.now in
+    let new = g.H.Host.content c.replace_manifest.new.host in
+    let folder = spelled c.args.self.now.folder.items in
+    let at = ap spelled c.deref.ensures.value in
+    record {
+      ready = subst (λ (f : Path). IfSome new (λ x. IsReady f (held x))) at c.replace_manifest.ensures.ready;
+      agrees = λ settled.
+          agrees_as folder c.args.text.now c.args.self.now.tree.files c.replace_manifest.result old new
+          (subst (λ (f : Path). OnOk c.replace_manifest.result (HasManifest f c.args.text.now old new)) at c.replace_manifest.ensures.done)
+          (subst (λ (f : Path). OnErr c.replace_manifest.result (IsSameButNew f old new)) at c.replace_manifest.ensures.kept)
+          c.args.self.now.ready (c.args.self.now.agrees settled);
+    }

@@ -1,0 +1,9 @@
+use Rattle.std.proofs.Common.{List, ◌∙◌, ◌++◌, ap, ℕ}
+use Rattle.pv_host.specs.Content.{spelled}
+use Rattle.pv_folder.proofs.Spelling.{spelled-add}
+use Rattle.pv_folder.proofs.host_path.add_name.Goals as goal
+
+pub returns : goal.returns
+returns c =
+    ap spelled (c.in_ok-extend_from_slice.ensures.items ∙ ap (λ (bytes : List ℕ). bytes ++ c.args.name.now) c.in_ok-push.ensures.items)
+    ∙ spelled-add c.args.path.now.items c.args.name.now c.requires

@@ -1,0 +1,54 @@
+use Rattle.std.proofs.Common.{◌≡◌, Option, None, false, IfSome, subst}
+use Rattle.pv_host.specs.Content.{Content, spelled}
+use Rattle.pv_folder.specs.Folders.{real_in}
+use Rattle.pv_folder.specs.Opening.{IsOpened, IsRefused, fault_among, is_outer, objects_below}
+use Rattle.pv_folder.proofs.GoingLaws.{Faulty, passed_on, told}
+use Rattle.pv_folder.proofs.OpeningLaws.{folder_opened, not_both, only_reason, real_refused}
+use Rattle.pv_folder.proofs.reading.read_folder.Goals as goal
+
+pub returns-in_err-manifest-clause-refuses : goal.returns-in_err-manifest-clause-refuses
+returns-in_err-manifest-clause-refuses g c = λ fault.
+    only_reason (g.H.Host.content c.args.host.now) (spelled c.args.folder.now) c.from_residual.result c.in_err-manifest.field-0.0 fault c.from_residual.ensures.1 c.in_err-manifest.ensures.refused
+
+pub returns-in_err-real-clause-refused : goal.returns-in_err-real-clause-refused
+returns-in_err-real-clause-refused g c =
+    let content = g.H.Host.content c.args.host.now in
+    let folder = spelled c.args.folder.now in
+    let f = c.in_err-real.field-0.0 in
+    let said = c.in_ok-manifest.manifest in
+    passed_on c.from_residual-in_err-real.result f (λ e. is_outer e ≡ false → IfSome content (λ k. IsRefused folder k e)) c.from_residual-in_err-real.ensures.1
+    (λ own. real_refused content folder said.facts said.tree.files f c.in_ok-manifest.ensures.prepared c.in_ok-manifest.ensures.says
+    (subst (λ (o : Option Content). IfSome o (Faulty folder f)) c.manifest_in.ensures.kept (c.in_err-real.ensures.fault own)))
+
+pub returns-in_err-real-clause-refuses : goal.returns-in_err-real-clause-refuses
+returns-in_err-real-clause-refuses g c = λ fault.
+    let content = g.H.Host.content c.args.host.now in
+    let folder = spelled c.args.folder.now in
+    let f = c.in_err-real.field-0.0 in
+    let said = c.in_ok-manifest.manifest in
+    only_reason content folder c.from_residual-in_err-real.result f fault c.from_residual-in_err-real.ensures.1
+    (λ own. real_refused content folder said.facts said.tree.files f c.in_ok-manifest.ensures.prepared c.in_ok-manifest.ensures.says
+    (subst (λ (o : Option Content). IfSome o (Faulty folder f)) c.manifest_in.ensures.kept (c.in_err-real.ensures.fault own)))
+
+pub returns-clause-opened : goal.returns-clause-opened
+returns-clause-opened g c =
+    let content = g.H.Host.content c.args.host.now in
+    let folder = spelled c.args.folder.now in
+    let said = c.in_ok-manifest.manifest in
+    let image = c.in_ok-merge.field-0 in
+    folder_opened content folder image.facts said.facts image.tree.files said.tree.files c.in_ok-real.real.files c.in_ok-merge.ensures.facts c.in_ok-merge.ensures.tree
+    c.in_ok-manifest.ensures.prepared c.in_ok-manifest.ensures.says
+    (subst (λ (o : Option Content). IfSome o (λ k. fault_among 0 0 (objects_below folder k) ≡ None)) c.manifest_in.ensures.kept c.in_ok-real.ensures.sound)
+    (subst (λ (o : Option Content). IfSome o (λ k. c.in_ok-real.real.files ≡ real_in folder k)) c.manifest_in.ensures.kept c.in_ok-real.ensures.real)
+
+pub returns-clause-refuses : goal.returns-clause-refuses
+returns-clause-refuses g c = λ fault.
+    let content = g.H.Host.content c.args.host.now in
+    let folder = spelled c.args.folder.now in
+    let said = c.in_ok-manifest.manifest in
+    let image = c.in_ok-merge.field-0 in
+    let opened = folder_opened content folder image.facts said.facts image.tree.files said.tree.files c.in_ok-real.real.files c.in_ok-merge.ensures.facts c.in_ok-merge.ensures.tree
+    c.in_ok-manifest.ensures.prepared c.in_ok-manifest.ensures.says
+    (subst (λ (o : Option Content). IfSome o (λ k. fault_among 0 0 (objects_below folder k) ≡ None)) c.manifest_in.ensures.kept c.in_ok-real.ensures.sound)
+    (subst (λ (o : Option Content). IfSome o (λ k. c.in_ok-real.real.files ≡ real_in folder k)) c.manifest_in.ensures.kept c.in_ok-real.ensures.real) in
+    told (λ k. IsOpened folder k image.facts image.tree.files) _ content (λ k o r. absurd (not_both folder k image.facts image.tree.files fault o r)) opened

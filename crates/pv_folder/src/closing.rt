@@ -1,0 +1,56 @@
+//! Closing a folder: its manifest is written anew.
+ghost use Rattle.std.specs.Prelude.{◌≡◌, ◌≤◌, OnOk, OnErr, IfSome};
+ghost use Rattle.pv_host.specs.Content.{held, spelled};
+ghost use Rattle.pv_host.specs.Counts.{count_after};
+ghost use Rattle.pv_folder.specs.Keeping.{HasManifest, IsClosed, IsReady, IsSameButNew};
+
+use crate::emptying::with_empty_files;
+use crate::folder_tree::FolderTree;
+use crate::host_path::below;
+use pv_host::{Host, HostFault};
+use pv_image::write_image;
+use pv_text::Facts;
+use std::alloc::Global;
+
+/// Writes a manifest as `manifest.new`, and then moves it to `manifest`.
+pub(crate) fn replace_manifest<H: Host>(
+    alloc: Global,
+    host: &mut H,
+    folder: &[u8],
+    text: &[u8],
+) -> Result<(), HostFault>
+    requires { IfSome (H.content host.old) (λ c. IsReady (spelled folder.now) (held c)) }
+    ensures done { OnOk result (HasManifest (spelled folder.now) text.now (H.content host.old) (H.content host.new)) }
+    ensures kept { OnErr result (IsSameButNew (spelled folder.now) (H.content host.old) (H.content host.new)) }
+    ensures ready { IfSome (H.content host.new) (λ c. IsReady (spelled folder.now) (held c)) }
+    ensures never_falls { H.faults host.old ≤ H.faults host.new }
+    ensures count { H.faults host.new ≡ count_after result (H.faults host.old) }
+{
+    let new = below(alloc, folder, b"manifest.new")?;
+    let manifest = below(alloc, folder, b"manifest")?;
+    host.write_file(&new, text)?;
+    host.rename(&new, &manifest)
+}
+
+/// Writes the manifest of facts and the tree in memory, which takes the place of the old one. It may be called at any time, also
+/// after a step that failed or ran out of memory. After a fault the old manifest is there.
+pub fn close_folder<H: Host>(
+    alloc: Global,
+    tree: &mut FolderTree<'_, H>,
+    facts: &Facts,
+) -> Result<(), HostFault>
+    ensures done { OnOk result (IsClosed (spelled tree.old.folder.items) facts.now tree.old.tree.files
+        (H.content tree.old.host.now) (H.content tree.new.host.now)) }
+    ensures kept { OnErr result (IsSameButNew (spelled tree.old.folder.items)
+        (H.content tree.old.host.now) (H.content tree.new.host.now)) }
+    ensures never_falls { H.faults tree.old.host.now ≤ H.faults tree.new.host.now }
+    ensures count { H.faults tree.new.host.now ≡ count_after result (H.faults tree.old.host.now) }
+    ensures host { tree.new.host.ghost_name ≡ tree.old.host.ghost_name }
+    ensures folder { tree.new.folder ≡ tree.old.folder }
+    ensures tree { tree.new.tree ≡ tree.old.tree }
+    ensures pending { tree.new.pending ≡ tree.old.pending }
+{
+    let empty = with_empty_files(alloc, tree.tree())?;
+    let text = write_image(alloc, &empty, facts)?;
+    tree.replace_manifest(alloc, &text)
+}

@@ -1,0 +1,175 @@
+//! A tree in memory that a folder of a host has too.
+ghost use Rattle.std.specs.Prelude.{◌≡◌, ◌++◌, ◌∷◌, [], ◌≤◌, true, false, IfSome, OnOk, OnErr, IsErrOf, Err};
+ghost use Rattle.pv_io.specs.Faults.{HasRisen};
+ghost use Rattle.pv_steps.specs.declared.tree.TreeFault.TheVariants.{Failed, Memory};
+ghost use Rattle.pv_steps.specs.Trees.{IsTree, places};
+ghost use Rattle.pv_steps.specs.Steps.{Can, StepFits, after};
+ghost use Rattle.pv_host.specs.Content.{held, spelled};
+ghost use Rattle.pv_host.specs.Counts.{count_after};
+ghost use Rattle.pv_folder.specs.Folders.{Agrees, tree_path};
+ghost use Rattle.pv_folder.specs.Keeping.{HasManifest, IsChangedBy, IsReady, IsSameButNew, Keeps, Moves, change_for, moves_none, moves_on, same, same_on, step_count};
+ghost use Rattle.pv_folder.specs.Sole.{agrees_prop, ready_prop};
+
+use crate::asking::ask_for;
+use crate::closing::replace_manifest;
+use crate::parts::parts_fit;
+use pv_host::{Host, HostFault};
+use pv_path::{NameList, TreePath};
+use pv_steps::{Node, Step, Tree, TreeFault};
+use pv_tree::MemTree;
+use std::alloc::{AllocError, Global};
+
+/// A tree in memory whose directories and files a folder of a host has too.
+///
+/// Each step asks for at most one change of the host, where it concerns a directory or a file, and is then done in memory. A
+/// step that runs out of memory may have been done on the host; from then on every step answers `Memory`. Until then a host
+/// that tells its content has in the folder exactly the directories and files of the tree in memory.
+#[derive(Drop)]
+pub struct FolderTree<'a, H: Host> {
+    host: &'a mut H,
+    /// The folder's path on the host.
+    folder: Vec<u8>,
+    tree: MemTree,
+    /// A step has begun that may be done on the host alone.
+    pending: bool,
+    ghost ready: { IfSome (H.content host.now) (λ c. IsReady (spelled folder.items) (held c)) } by { ready_prop (spelled folder.items) (H.content host.now) },
+    ghost agrees: { pending ≡ false → IfSome (H.content host.now) (λ c. Agrees (spelled folder.items) tree.files (held c)) } by { agrees_prop pending (spelled folder.items) tree.files (H.content host.now) },
+}
+
+/// What the type of a tree in memory says.
+fn is_tree(alloc: Global, tree: &MemTree)
+    ensures { IsTree tree.now.files }
+{
+    let _root = tree.node_at(&TreePath::root(alloc));
+}
+
+impl<'a, H: Host> FolderTree<'a, H> {
+    /// A tree that a host has in a folder. It takes no memory.
+    pub fn of(host: &'a mut H, folder: Vec<u8>, tree: MemTree) -> FolderTree<'a, H>
+        requires { IfSome (H.content host.old) (λ c. Keeps (spelled folder.items) tree.files c) }
+        ensures host { result.host.ghost_name ≡ host.entry.ghost_name }
+        ensures now { result.host.now ≡ host.old }
+        ensures folder { result.folder ≡ folder }
+        ensures tree { result.tree ≡ tree }
+        ensures pending { result.pending ≡ false }
+    {
+        FolderTree {
+            host,
+            folder,
+            tree,
+            pending: false,
+        }
+    }
+
+    /// The tree in memory. It takes no memory.
+    pub fn tree(&self) -> &MemTree
+        ensures { result.now ≡ self.now.tree }
+    {
+        &self.tree
+    }
+
+    /// Whether a step has run out of memory; until then the host has what the tree in memory has. It takes no memory.
+    pub fn is_pending(&self) -> bool
+        ensures pending { result ≡ self.now.pending }
+        ensures agrees { result ≡ false →
+            IfSome (H.content self.now.host.now) (λ c. Agrees (spelled self.now.folder.items) self.now.tree.files (held c)) }
+    {
+        self.pending
+    }
+
+    /// Puts a manifest in the place of the old one. After a fault that one is there.
+    pub(crate) fn replace_manifest(&mut self, alloc: Global, text: &[u8]) -> Result<(), HostFault>
+        ensures done { OnOk result (HasManifest (spelled self.old.folder.items) text.now
+            (H.content self.old.host.now) (H.content self.new.host.now)) }
+        ensures kept { OnErr result (IsSameButNew (spelled self.old.folder.items)
+            (H.content self.old.host.now) (H.content self.new.host.now)) }
+        ensures never_falls { H.faults self.old.host.now ≤ H.faults self.new.host.now }
+        ensures count { H.faults self.new.host.now ≡ count_after result (H.faults self.old.host.now) }
+        ensures host { self.new.host.ghost_name ≡ self.old.host.ghost_name }
+        ensures folder { self.new.folder ≡ self.old.folder }
+        ensures tree { self.new.tree ≡ self.old.tree }
+        ensures pending { self.new.pending ≡ self.old.pending }
+    {
+        replace_manifest(alloc, self.host, &self.folder, text)
+    }
+}
+
+impl<'a, H: Host> Tree for FolderTree<'a, H> {
+    ghost state = { λ t. t.tree.files };
+
+    ghost steps = { λ t. t.tree.steps };
+
+    ghost faults = { λ t. H.faults t.host.now };
+
+    ghost reaches = { λ a b. (b.host.ghost_name ≡ a.host.ghost_name)
+        × Moves (spelled a.folder.items) (H.content a.host.now) (H.faults a.host.now) a.pending
+        (spelled b.folder.items) (H.content b.host.now) (H.faults b.host.now) b.pending };
+
+    fn look(&self, path: &TreePath) -> Option<&Node> {
+        self.tree.node_at(path)
+    }
+
+    fn list(&self, alloc: Global, path: &TreePath) -> Result<NameList, AllocError> {
+        self.tree.names_at(alloc, path)
+    }
+
+    fn bytes(&self, path: &TreePath) -> &[u8] {
+        self.tree.bytes(path)
+    }
+
+    fn target(&self, path: &TreePath) -> &[u8] {
+        self.tree.target(path)
+    }
+
+    fn step(&mut self, step: &Step, now: u64) -> Result<(), TreeFault>
+        requires { Can (places self.old.tree.files) step.now }
+        ensures state { OnOk result (self.new.tree.files ≡ after self.old.tree.files step.now now) }
+        ensures recorded { OnOk result (self.new.tree.steps ≡ self.old.tree.steps ++ step.now ∷ []) }
+        ensures kept { OnErr result (self.new.tree.files ≡ self.old.tree.files) }
+        ensures unrecorded { OnErr result (self.new.tree.steps ≡ self.old.tree.steps) }
+        ensures fits { StepFits step.now }
+        ensures reaches { (self.new.host.ghost_name ≡ self.old.host.ghost_name)
+            × Moves (spelled self.old.folder.items) (H.content self.old.host.now) (H.faults self.old.host.now) self.old.pending
+            (spelled self.new.folder.items) (H.content self.new.host.now) (H.faults self.new.host.now) self.new.pending }
+        ensures cause { IsErrOf result Failed → HasRisen (H.faults self.old.host.now) (H.faults self.new.host.now) }
+
+        // One fault was counted where the answer is Failed, else none.
+        ensures count { H.faults self.new.host.now ≡ step_count result (H.faults self.old.host.now) }
+
+        // A step that is done has asked the host for its change; one that failed has changed nothing there.
+        ensures changed { OnOk result (IsChangedBy
+            (change_for (tree_path (spelled self.old.folder.items)) (places self.old.tree.files) step.now)
+            (H.content self.old.host.now) (H.content self.new.host.now)) }
+        ensures unchanged { IsErrOf result Failed → H.content self.new.host.now ≡ H.content self.old.host.now }
+
+        // Once a step has run out of memory, each further one does, and the host is not asked.
+        ensures pending { IsErrOf result Memory → self.new.pending ≡ true }
+        ensures settled { (IsErrOf result Memory → ⊥) → self.new.pending ≡ false }
+        ensures spent { self.old.pending ≡ true → (result ≡ Err Memory) × (self.new.host.now ≡ self.old.host.now) }
+    {
+        parts_fit(step);
+        if self.pending {
+            return Err(TreeFault::Memory);
+        }
+        self.pending = true;
+        let alloc = *self.folder.allocator();
+        is_tree(alloc, &self.tree);
+        match ask_for(alloc, self.host, &self.folder, &self.tree, step) {
+            Ok(()) => {}
+            Err(HostFault::Memory) => return Err(TreeFault::Memory),
+            Err(HostFault::Failed) => {
+                self.pending = false;
+                return Err(TreeFault::Failed);
+            }
+        }
+        self.tree.step(step, now)?;
+        self.pending = false;
+        Ok(())
+    }
+
+    ghost reaches_self = { λ a. (same _, moves_none _ _ _ _) };
+
+    ghost reaches_on = { λ a b c p q. (same_on _ _ _ p.0 q.0, moves_on _ _ _ _ _ _ _ _ _ _ _ _ p.1 q.1) };
+
+    ghost never_falls = { λ _ _ p. p.1.count };
+}

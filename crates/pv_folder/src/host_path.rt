@@ -1,0 +1,43 @@
+//! Paths of a host, spelled in bytes.
+ghost use Rattle.std.specs.Prelude.{◌≡◌, ◌∷◌, ◌++◌, [], true, IfOk, OnOk};
+ghost use Rattle.pv_path.specs.Names.{is_name};
+ghost use Rattle.pv_host.specs.Content.{spelled};
+ghost use Rattle.pv_folder.specs.Folders.{tree_path};
+
+use pv_path::TreePath;
+use std::alloc::{AllocError, Global};
+
+/// Adds a name to a path of a host.
+fn add_name(path: &mut Vec<u8>, name: &[u8]) -> Result<(), AllocError>
+    requires { is_name name.now ≡ true }
+    ensures { OnOk result (spelled path.new.items ≡ spelled path.old.items ++ name.now ∷ []) }
+{
+    path.push(b'/')?;
+    path.extend_from_slice(name)?;
+    Ok(())
+}
+
+/// The path of what has a name in a folder of a host.
+pub(crate) fn below(alloc: Global, folder: &[u8], name: &[u8]) -> Result<Vec<u8>, AllocError>
+    requires { is_name name.now ≡ true }
+    ensures { IfOk result (λ bytes. spelled bytes.items ≡ spelled folder.now ++ name.now ∷ []) }
+{
+    let mut path = Vec::from_slice(alloc, folder)?;
+    add_name(&mut path, name)?;
+    Ok(path)
+}
+
+/// The path where an object of a tree stands in a folder of a host.
+pub(crate) fn host_path(
+    alloc: Global,
+    folder: &[u8],
+    path: &TreePath,
+) -> Result<Vec<u8>, AllocError>
+    ensures { IfOk result (λ bytes. spelled bytes.items ≡ tree_path (spelled folder.now) ++ path.now) }
+{
+    let mut bytes = below(alloc, folder, b"tree")?;
+    for name in path.names() {
+        add_name(&mut bytes, name.bytes())?;
+    }
+    Ok(bytes)
+}

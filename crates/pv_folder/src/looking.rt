@@ -1,0 +1,89 @@
+//! What a host tells of a folder.
+ghost use Rattle.std.specs.Prelude.{◌≡◌, ◌≢◌, ◌≤◌, ◌∷◌, ◌++◌, [], true, false, option_map, IfOk, IfErr, IfSome, IsErrOf};
+ghost use Rattle.pv_io.specs.Faults.{HasRisen};
+ghost use Rattle.pv_path.specs.Names.{is_name};
+ghost use Rattle.pv_host.specs.declared.item.HostKind.TheVariants as kind;
+ghost use Rattle.pv_host.specs.Content.{IsContent, bytes_of, held, kind_at, listing, spelled};
+ghost use Rattle.pv_folder.specs.declared.open_fault.OpenFault.TheVariants.{HostFailed};
+ghost use Rattle.pv_folder.specs.Folders.{tree_path};
+ghost use Rattle.pv_folder.specs.Opening.{is_outer, odd};
+ghost use Rattle.pv_folder.specs.Reading.{Shows, path_of};
+
+use crate::found::{Found, Seen, odd};
+use crate::host_path::host_path;
+use crate::open_fault::OpenFault;
+use pv_host::{Host, HostKind, HostList};
+use pv_path::{Bytes, TreePath};
+use std::alloc::Global;
+
+/// The objects in a directory of a folder's tree, or nothing where it is none.
+pub(crate) fn items_at<H: Host>(
+    alloc: Global,
+    host: &mut H,
+    folder: &[u8],
+    path: &TreePath,
+) -> Result<Option<HostList>, OpenFault>
+    ensures told { IfOk result (λ items. IfSome (H.content host.old) (λ c.
+        items ≡ listing c (tree_path (spelled folder.now) ++ path.now))) }
+    ensures content { IfOk result (λ _. IfSome (H.content host.old) (λ c. IsContent (held c))) }
+    ensures outer { IfErr result (λ fault. is_outer fault ≡ true) }
+    ensures kept { H.content host.new ≡ H.content host.old }
+    ensures cause { IsErrOf result HostFailed → HasRisen (H.faults host.old) (H.faults host.new) }
+    ensures never_falls { H.faults host.old ≤ H.faults host.new }
+{
+    let place = host_path(alloc, folder, path)?;
+    Ok(host.list(alloc, place.as_slice())?)
+}
+
+/// The bytes of a file at a path of a host, or nothing where it is none.
+pub(crate) fn bytes_at<H: Host>(
+    alloc: Global,
+    host: &mut H,
+    place: &[u8],
+) -> Result<Option<Bytes>, OpenFault>
+    ensures told { IfOk result (λ bytes. IfSome (H.content host.old) (λ c. bytes ≡ bytes_of (held c (spelled place.now)))) }
+    ensures outer { IfErr result (λ fault. is_outer fault ≡ true) }
+    ensures kept { H.content host.new ≡ H.content host.old }
+    ensures cause { IsErrOf result HostFailed → HasRisen (H.faults host.old) (H.faults host.new) }
+    ensures never_falls { H.faults host.old ≤ H.faults host.new }
+{
+    match host.read_file(alloc, place)? {
+        Some(bytes) => Ok(Some(Bytes::from_vec(bytes))),
+        None => Ok(None),
+    }
+}
+
+/// What is seen of an object of a folder's tree, whose path is given too. It is odd where it is not what the listing says.
+pub(crate) fn look<H: Host>(
+    alloc: Global,
+    host: &mut H,
+    folder: &[u8],
+    found: &Found,
+    path: &TreePath,
+) -> Result<Seen, OpenFault>
+    requires kind { found.now.kind ≢ kind.Other }
+    requires path { path.now ≡ path_of found.now }
+    ensures told { IfOk result (λ seen. IfSome (H.content host.old) (λ c. Shows c (tree_path (spelled folder.now) ++ path.now) seen)) }
+    ensures odd { IfErr result (λ fault. is_outer fault ≡ false → fault ≡ odd path.now) }
+    ensures other { IfErr result (λ fault. is_outer fault ≡ false → IfSome (H.content host.old) (λ c.
+        kind_at (held c) (tree_path (spelled folder.now) ++ path.now) ≢ Some found.now.kind)) }
+    ensures kept { H.content host.new ≡ H.content host.old }
+    ensures cause { IsErrOf result HostFailed → HasRisen (H.faults host.old) (H.faults host.new) }
+    ensures never_falls { H.faults host.old ≤ H.faults host.new }
+{
+    match found.kind {
+        HostKind::Directory => {
+            if let Some(items) = items_at(alloc, host, folder, path)? {
+                return Ok(Seen::Directory(items));
+            }
+        }
+        HostKind::File => {
+            let place = host_path(alloc, folder, path)?;
+            if let Some(bytes) = bytes_at(alloc, host, place.as_slice())? {
+                return Ok(Seen::File(bytes));
+            }
+        }
+        HostKind::Other => unreachable!(),
+    }
+    Err(odd(alloc, &found.directory, found.name.as_slice())?)
+}

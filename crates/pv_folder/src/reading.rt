@@ -1,0 +1,149 @@
+//! A folder of a host, opened.
+ghost use Rattle.std.specs.Prelude.{◌≡◌, ◌≤◌, ◌⊎◌, [], true, false, is_some, IfOk, IfErr, IfSome, IsErrOf, Err};
+ghost use Rattle.pv_io.specs.Faults.{HasRisen};
+ghost use Rattle.std.specs.FinMap as fin;
+ghost use Rattle.pv_steps.specs.declared.node.Kind.TheVariants as node;
+ghost use Rattle.pv_steps.specs.Objects.{fresh};
+ghost use Rattle.pv_tree.specs.Held.{root_alone};
+ghost use Rattle.pv_host.specs.Content.{held, spelled};
+ghost use Rattle.pv_folder.specs.declared.open_fault.OpenFault.TheVariants.{HostFailed, Memory};
+ghost use Rattle.pv_folder.specs.declared.open_fault.OpenFault.{OpenFault as Fault};
+ghost use Rattle.pv_folder.specs.Folders.{IsPrepared, manifest_path};
+ghost use Rattle.pv_folder.specs.Opening.{IsOpened, IsRefused, Says, is_outer};
+ghost use Rattle.pv_folder.specs.Reading.{is_free, kind_named, lists_prepared};
+
+use crate::host_path::below;
+use crate::looking::bytes_at;
+use crate::merging::merge;
+use crate::open_fault::OpenFault;
+use crate::reading_tree::read_tree;
+use pv_host::{Host, HostItem, HostKind};
+use pv_image::{Image, read_image};
+use pv_path::Bytes;
+use pv_steps::{Kind, Object};
+use pv_text::Facts;
+use pv_tree::TreeBuilder;
+use std::alloc::{AllocError, Global};
+
+/// The kind that a listing gives for a name, if it has the name.
+fn kind_named(items: &[HostItem], name: &[u8]) -> Option<HostKind>
+    ensures { result ≡ kind_named name.now items.now }
+{
+    for item in items {
+        if item.name.as_slice() == name {
+            return Some(item.kind);
+        }
+    }
+    None
+}
+
+/// Whether a file may be written where something of a kind is, or nothing.
+fn is_free(kind: Option<HostKind>) -> bool
+    ensures { result ≡ is_free kind }
+{
+    matches!(kind, None | Some(HostKind::File))
+}
+
+/// Whether a folder that lists this can be run on.
+fn is_prepared(items: &[HostItem]) -> bool
+    ensures { result ≡ lists_prepared items.now }
+{
+    kind_named(items, b"tree") == Some(HostKind::Directory)
+        && is_free(kind_named(items, b"manifest"))
+        && is_free(kind_named(items, b"manifest.new"))
+}
+
+/// Whether a folder has a manifest, where it can be run on.
+fn has_manifest<H: Host>(alloc: Global, host: &mut H, folder: &[u8]) -> Result<bool, OpenFault>
+    ensures prepared { IfOk result (λ _. IfSome (H.content host.old) (λ c. IsPrepared (spelled folder.now) (held c))) }
+    ensures there { IfOk result (λ there. IfSome (H.content host.old) (λ c.
+        there ≡ is_some (held c (manifest_path (spelled folder.now))))) }
+    ensures refused { IfErr result (λ fault. is_outer fault ≡ false → IfSome (H.content host.old) (λ c.
+        IsRefused (spelled folder.now) c fault)) }
+    ensures kept { H.content host.new ≡ H.content host.old }
+    ensures cause { IsErrOf result HostFailed → HasRisen (H.faults host.old) (H.faults host.new) }
+    ensures never_falls { H.faults host.old ≤ H.faults host.new }
+{
+    let Some(items) = host.list(alloc, folder)? else {
+        return Err(OpenFault::NotPrepared);
+    };
+    if !is_prepared(items.as_slice()) {
+        return Err(OpenFault::NotPrepared);
+    }
+    Ok(kind_named(items.as_slice(), b"manifest").is_some())
+}
+
+/// The facts and the tree that the manifest of a folder says, where it is there.
+fn read_manifest<H: Host>(alloc: Global, host: &mut H, folder: &[u8]) -> Result<Image, OpenFault>
+    requires prepared { IfSome (H.content host.old) (λ c. IsPrepared (spelled folder.now) (held c)) }
+    requires there { IfSome (H.content host.old) (λ c. is_some (held c (manifest_path (spelled folder.now))) ≡ true) }
+    ensures says { IfOk result (λ image. IfSome (H.content host.old) (λ c.
+        Says (spelled folder.now) c image.facts image.tree.files)) }
+    ensures refused { IfErr result (λ fault. is_outer fault ≡ false → IfSome (H.content host.old) (λ c.
+        IsRefused (spelled folder.now) c fault)) }
+    ensures kept { H.content host.new ≡ H.content host.old }
+    ensures cause { IsErrOf result HostFailed → HasRisen (H.faults host.old) (H.faults host.new) }
+    ensures never_falls { H.faults host.old ≤ H.faults host.new }
+{
+    let place = below(alloc, folder, b"manifest")?;
+    let Some(bytes) = bytes_at(alloc, host, place.as_slice())? else {
+        return Err(OpenFault::OddObject(Bytes::copy_of(alloc, b"/manifest")?));
+    };
+    Ok(read_image(alloc, bytes.as_slice())?)
+}
+
+/// What an absent manifest says: no facts and a root alone.
+fn no_manifest(alloc: Global) -> Result<Image, AllocError>
+    ensures facts { IfOk result (λ image. image.facts ≡ fin.empty) }
+    ensures tree { IfOk result (λ image. image.tree.files ≡ root_alone (fresh node.Directory 0o755 [] 0 0 0).node) }
+{
+    let root = Object::fresh(alloc, Kind::Directory, 0o755, Bytes::new(alloc), 0, 0, 0);
+    Ok(Image {
+        tree: TreeBuilder::new(alloc, root.node)?.finish(),
+        facts: Facts::new(alloc),
+    })
+}
+
+/// The facts and the tree that the manifest of a folder says, where the folder can be run on.
+fn manifest_in<H: Host>(alloc: Global, host: &mut H, folder: &[u8]) -> Result<Image, OpenFault>
+    ensures prepared { IfOk result (λ _. IfSome (H.content host.old) (λ c. IsPrepared (spelled folder.now) (held c))) }
+    ensures says { IfOk result (λ image. IfSome (H.content host.old) (λ c.
+        Says (spelled folder.now) c image.facts image.tree.files)) }
+    ensures refused { IfErr result (λ fault. is_outer fault ≡ false → IfSome (H.content host.old) (λ c.
+        IsRefused (spelled folder.now) c fault)) }
+    ensures kept { H.content host.new ≡ H.content host.old }
+    ensures cause { IsErrOf result HostFailed → HasRisen (H.faults host.old) (H.faults host.new) }
+    ensures never_falls { H.faults host.old ≤ H.faults host.new }
+{
+    if has_manifest(alloc, host, folder)? {
+        read_manifest(alloc, host, folder)
+    } else {
+        Ok(no_manifest(alloc)?)
+    }
+}
+
+/// Opens a folder of a host: the facts of its manifest, and the manifest's tree merged with what is real in `tree`. No step
+/// is recorded in the tree. The folder is listed first, then its manifest is read, then `tree` is gone through in the order of
+/// the paths; the first fault that is met is answered.
+pub fn read_folder<H: Host>(
+    alloc: Global,
+    host: &mut H,
+    folder: &[u8],
+) -> Result<Image, OpenFault>
+    ensures opened { IfOk result (λ image. IfSome (H.content host.old) (λ c.
+        IsOpened (spelled folder.now) c image.facts image.tree.files)) }
+    ensures steps { IfOk result (λ image. image.tree.steps ≡ []) }
+
+    // A fault of the host or of memory may take the place of the folder's own.
+    ensures refused { IfErr result (λ fault. is_outer fault ≡ false → IfSome (H.content host.old) (λ c.
+        IsRefused (spelled folder.now) c fault)) }
+    ensures refuses { (fault : Fault) → IfSome (H.content host.old) (λ c. IsRefused (spelled folder.now) c fault →
+        (result ≡ Err fault) ⊎ IsErrOf result HostFailed ⊎ IsErrOf result Memory) }
+    ensures kept { H.content host.new ≡ H.content host.old }
+    ensures cause { IsErrOf result HostFailed → HasRisen (H.faults host.old) (H.faults host.new) }
+    ensures never_falls { H.faults host.old ≤ H.faults host.new }
+{
+    let manifest = manifest_in(alloc, host, folder)?;
+    let real = read_tree(alloc, host, folder)?;
+    Ok(merge(alloc, &manifest, &real)?)
+}
