@@ -11,6 +11,7 @@ mod emptying;
 mod folder_tree;
 mod found;
 mod host_path;
+mod laws;
 mod looking;
 mod merged_object;
 mod merging;
@@ -22,6 +23,7 @@ mod walking;
 
 pub use closing::close_folder;
 pub use folder_tree::FolderTree;
+pub use laws::an_opened_folder_keeps_its_tree;
 pub use merging::merge;
 pub use open_fault::OpenFault;
 pub use reading::read_folder;
