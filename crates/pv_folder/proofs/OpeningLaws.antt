@@ -29,7 +29,7 @@ use Rattle.pv_folder.specs.Folders.{Agrees, IsPrepared, manifest_path, object_of
 use Rattle.pv_folder.specs.Manifest.{emptied, emptied_payload, with_empty_files}
 use Rattle.pv_folder.specs.Merge.{is_real_kind, merged, merged_of, plain}
 use Rattle.pv_folder.specs.Opening.{IsOpened, IsRefused, Says, absent, bad_manifest, fault_among, is_outer, not_prepared, objects_below, of_image, present, real}
-use Rattle.pv_folder.proofs.GoingLaws.{told, told_both}
+use Rattle.pv_folder.proofs.GoingLaws.{Faulty, told, told_both}
 use Rattle.pv_folder.proofs.FolderLaws.{objects_found, objects_sorted}
 use Rattle.pv_folder.proofs.MergeLaws.{places-merged}
 use Rattle.pv_folder.proofs.ReadingLaws.{real_below, real_entries}
@@ -104,13 +104,15 @@ module _ (content : Option Content) (folder : Path) where
       told (λ c. Some bytes ≡ bytes_of (held c (manifest_path folder))) (λ c. Says folder c facts files) content
       (λ c h. present bytes (file_at (held c (manifest_path folder)) bytes h) image) at
 
-  -- the fault of what is real
-  pub real_refused : (facts : Values) (files : Files) (f : OpenFault) → IfSome content (λ c. IsPrepared folder (held c)) → IfSome content (λ c. Says folder c facts files)
-      → IfSome content (λ c. fault_among 0 0 (objects_below folder c) ≡ Some f) → IfSome content (λ c. IsRefused folder c f)
-  real_refused facts files f prepared says fault =
-      told_both (λ c. IsPrepared folder (held c) × Says folder c facts files) (λ c. fault_among 0 0 (objects_below folder c) ≡ Some f) (λ c. IsRefused folder c f) content
+  -- a fault of what is real, which is looked at after that
+  pub real_refused : (facts : Values) (files : Files) (f : OpenFault) (after : Option Content) → after ≡ content
+      → IfSome content (λ c. IsPrepared folder (held c)) → IfSome content (λ c. Says folder c facts files)
+      → (is_outer f ≡ false → IfSome after (Faulty folder f)) → is_outer f ≡ false → IfSome content (λ c. IsRefused folder c f)
+  real_refused facts files f after kept prepared says fault own =
+      told_both (λ c. IsPrepared folder (held c) × Says folder c facts files) (Faulty folder f) (λ c. IsRefused folder c f) content
       (λ c h e. real facts files f h.0 h.1 e)
-      (told_both (λ c. IsPrepared folder (held c)) (λ c. Says folder c facts files) (λ c. IsPrepared folder (held c) × Says folder c facts files) content (λ c p h. (p, h)) prepared says) fault
+      (told_both (λ c. IsPrepared folder (held c)) (λ c. Says folder c facts files) (λ c. IsPrepared folder (held c) × Says folder c facts files) content (λ c p h. (p, h)) prepared says)
+      (subst (λ (o : Option Content). IfSome o (Faulty folder f)) kept (fault own))
 
   -- a fault that is answered is the reason, or is of the host or of memory
   pub only_reason : {A : Type 0} (r : Result A OpenFault) (f g : OpenFault) → IsErrAnd r (λ e. e ≡ f) → (is_outer f ≡ false → IfSome content (λ c. IsRefused folder c f))
