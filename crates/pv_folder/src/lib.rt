@@ -1,7 +1,7 @@
 //! A file tree in a folder of a host: its directories and files are real, and a manifest has all else.
 //!
-//! [`merge`] gives the tree of a manifest and of what is real; [`FolderTree`] is a tree in memory whose steps are done in the
-//! folder too, and [`close_folder`] writes its manifest.
+//! [`read_folder`] opens a folder, and [`merge`] gives the tree of its manifest and of what is real; [`FolderTree`] is a tree
+//! in memory whose steps are done in the folder too, and [`close_folder`] writes its manifest.
 #![tactic(auto)]
 
 mod asking;

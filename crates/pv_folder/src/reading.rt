@@ -127,11 +127,7 @@ fn manifest_in<H: Host>(alloc: Global, host: &mut H, folder: &[u8]) -> Result<Im
 /// Opens a folder of a host: the facts of its manifest, and the manifest's tree merged with what is real in `tree`. No step
 /// is recorded in the tree. The folder is listed first, then its manifest is read, then `tree` is gone through in the order of
 /// the paths; the first fault that is met is answered.
-pub fn read_folder<H: Host>(
-    alloc: Global,
-    host: &mut H,
-    folder: &[u8],
-) -> Result<Image, OpenFault>
+pub fn read_folder<H: Host>(alloc: Global, host: &mut H, folder: &[u8]) -> Result<Image, OpenFault>
     ensures opened { IfOk result (λ image. IfSome (H.content host.old) (λ c.
         IsOpened (spelled folder.now) c image.facts image.tree.files)) }
     ensures steps { IfOk result (λ image. image.tree.steps ≡ []) }
