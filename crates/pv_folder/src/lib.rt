@@ -12,6 +12,8 @@ mod merging;
 mod open_fault;
 mod reading;
 mod reading_tree;
+#[cfg(test)]
+mod tests;
 mod walking;
 
 pub use merging::merge;
