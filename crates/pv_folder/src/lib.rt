@@ -19,6 +19,8 @@ mod open_fault;
 mod parts;
 mod reading;
 mod reading_tree;
+#[cfg(test)]
+mod tests;
 mod walking;
 
 pub use closing::close_folder;
