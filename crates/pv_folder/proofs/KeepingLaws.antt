@@ -1,11 +1,14 @@
 -- A folder that is opened keeps the tree that it is opened with: its directories and files are exactly those that are real.
+-- And one that keeps a tree and is closed is opened again with that tree.
 use Rattle.std.proofs.Common.{◌≡◌, ◌≢◌, ◌∙◌, ◌+◌, suc, Bool, true, false, cond, T, List, [], ◌∷◌, ◌++◌, Option, Some, None, option_map, refl, sym, ap, ℕ, append-nil}
 use Rattle.std.specs.Prelude.{drop}
 use Rattle.std.specs.Option.{option_and_then}
 use Rattle.std.specs.Ordering.{eq_by_cmp, is_lt}
 use Rattle.std.specs.declared.cmp.Ordering.TheVariants.{Less}
 use Rattle.std.specs.FinMap.Entries.{below_all, find, is_sorted}
+use Rattle.std.proofs.lemmas.Option.{same_Some}
 use Rattle.pv_path.specs.Paths.{Path, parent_of, path_cmp}
+use Rattle.pv_path.proofs.PathLaws.{same_path-refl}
 use Rattle.pv_path.proofs.Tests.{each_T, less_of-T}
 use Rattle.pv_steps.specs.declared.node.Kind.{Kind}
 use Rattle.pv_steps.specs.declared.node.Kind.TheVariants as node
@@ -16,17 +19,24 @@ use Rattle.pv_steps.specs.Trees.{Files, kind_of, places}
 use Rattle.pv_dress.specs.Nodes.{same_kind}
 use Rattle.pv_text.specs.Facts.{Values}
 use Rattle.pv_host.specs.declared.item.HostKind.TheVariants as kind
-use Rattle.pv_host.specs.Content.{Content, HostObject, IsContent, held}
+use Rattle.pv_image.specs.declared.version.Version.TheVariants.{Two}
+use Rattle.pv_image.specs.Images.{HaveText}
+use Rattle.pv_image.proofs.ImageLaws.{text_image}
+use Rattle.pv_host.specs.Content.{Content, Held, HostObject, IsContent, held, put_at}
 use Rattle.pv_host.specs.Content as host
 use Rattle.pv_folder.specs.declared.open_fault.OpenFault.{OpenFault}
 use Rattle.pv_folder.specs.declared.open_fault.OpenFault.TheVariants.{TooLarge}
-use Rattle.pv_folder.specs.Folders.{IsPrepared, object_of, objects_in, real_as, real_in, real_of, tree_path}
-use Rattle.pv_folder.specs.Keeping.{Keeps}
+use Rattle.pv_folder.specs.Folders.{Agrees, manifest_path, new_manifest_path, object_of, objects_in, real_as, real_in, real_of, tree_path}
+use Rattle.pv_folder.specs.Keeping.{IsClosed, Keeps, with_manifest}
+use Rattle.pv_folder.specs.Manifest.{manifest_of, with_empty_files}
 use Rattle.pv_folder.specs.Merge.{dressed, is_real_kind, merged_of, plain}
-use Rattle.pv_folder.specs.Opening.{IsOpened, fault_among, is_over, objects_below, size}
+use Rattle.pv_folder.specs.Opening.{IsOpened, fault_among, is_over, objects_below, present, size}
+use Rattle.pv_folder.proofs.ClosingLaws.{agrees_with, ready_with}
+use Rattle.pv_folder.proofs.EmptyLaws.{tree_emptied}
 use Rattle.pv_folder.proofs.FolderLaws.{objects_found, objects_sorted}
 use Rattle.pv_folder.proofs.MergeLaws.{places-merged, same_kind-exact}
-use Rattle.pv_folder.proofs.OpeningLaws.{places-real}
+use Rattle.pv_folder.proofs.OpeningLaws.{places-real, reopened}
+use Rattle.pv_folder.proofs.ReadyLaws.{ready_kept}
 
 -- ---- no other object
 
@@ -128,3 +138,26 @@ module _ (folder : Path) (c : Content) (facts : Values) (tree : Files) (opened :
 
   pub opened_keeps : IsContent (held c) → Keeps folder tree c
   opened_keeps content = record { is_content = content; prepared = opened.prepared; agrees = λ p. sym (real_there p) }
+
+-- ---- what is closed is opened again
+
+has_empty_text : (facts : Values) (files : Files) → HaveText Two facts files → HaveText Two facts (with_empty_files files)
+has_empty_text facts files has = record { facts_fit = has.facts_fit; tree = tree_emptied files has.tree; shown = λ path o is. tt }
+
+pub closed_opens : (folder : Path) (old new : Content) (facts : Values) (files : Files) → Keeps folder files old → HaveText Two facts files
+    → IsClosed folder facts files (Some old) (Some new) → fault_among 0 0 (objects_below folder new) ≡ None → IsOpened folder new facts files
+closed_opens folder old new facts files keeps has closed sound =
+    let bytes = manifest_of facts files in
+    let ready = ready_kept folder files (Some old) keeps in
+    let agrees : Agrees folder files (held new) = agrees_with folder bytes files (Some old) (Some new) closed ready keeps.agrees in
+    let is : held new ≡ with_manifest folder bytes (held old) = same_Some (held new) (with_manifest folder bytes (held old)) closed in
+    let there : held new (manifest_path folder) ≡ Some (host.File bytes) =
+    ap (λ (u : Held). u (manifest_path folder)) is
+    ∙ ap (λ b. cond b (Some (host.File bytes)) (put_at (new_manifest_path folder) None (held old) (manifest_path folder))) (same_path-refl (manifest_path folder)) in
+    record {
+      manifest = with_empty_files files;
+      prepared = (ready_with folder bytes (Some old) (Some new) closed ready).prepared;
+      says = present bytes there (text_image facts (with_empty_files files) (has_empty_text facts files has));
+      sound = sound;
+      is_merged = sym (reopened folder new files has.tree agrees);
+    }

@@ -30,6 +30,7 @@ use Rattle.pv_folder.specs.Manifest.{emptied, emptied_payload, with_empty_files}
 use Rattle.pv_folder.specs.Merge.{is_real_kind, merged, merged_of, plain}
 use Rattle.pv_folder.specs.Opening.{IsOpened, IsRefused, Says, absent, bad_manifest, fault_among, is_outer, not_prepared, objects_below, of_image, present, real}
 use Rattle.pv_folder.proofs.GoingLaws.{Faulty, told, told_both}
+use Rattle.pv_folder.proofs.EmptyLaws.{places-emptied}
 use Rattle.pv_folder.proofs.FolderLaws.{objects_found, objects_sorted}
 use Rattle.pv_folder.proofs.MergeLaws.{places-merged}
 use Rattle.pv_folder.proofs.ReadingLaws.{real_below, real_entries}
@@ -175,13 +176,6 @@ places-real folder c q =
 
 -- ---- what is kept is opened again
 
-places-empty : (t : Files) (q : Path) → places (with_empty_files t) q ≡ option_map emptied (places t q)
-places-empty t q = places-tabulate (fin.keys t) (λ p. option_map emptied (places t p)) q (λ h. among_keys t q ∙ some (places t q) h)
-  where
-    some : (o : Option Object) → is_some (option_map emptied o) ≡ true → is_some o ≡ true
-    some None h = cc
-    some (Some o) h = refl
-
 -- a directory that is real, or nothing, in a tree that agrees
 real_directory : (o : Option Object) → kind_of o ≡ Some node.Directory → kind_of (option_and_then object_of (real_of o)) ≡ Some node.Directory
 real_directory None e = cc
@@ -224,6 +218,6 @@ module _ (folder : Path) (c : Content) (t : Files) (tree : IsTree t) (agrees : A
   pub reopened : merged (with_empty_files t) (real_in folder c) ≡ t
   reopened = fin.same_map path_total path_exact (merged (with_empty_files t) (real_in folder c)) t (λ q.
       places-merged (with_empty_files t) (real_in folder c) q
-      ∙ ap (λ (m : Option Object). merged_of m (places (real_in folder c) q) (kind_of (places (real_in folder c) (parent_of q)))) (places-empty t q)
+      ∙ ap (λ (m : Option Object). merged_of m (places (real_in folder c) q) (kind_of (places (real_in folder c) (parent_of q)))) (places-emptied t q)
       ∙ ap (λ (r : Option Object). merged_of (option_map emptied (places t q)) r (kind_of (places (real_in folder c) (parent_of q)))) (real_at q)
       ∙ at_path q (places t q) refl)

@@ -25,7 +25,7 @@ mod walking;
 
 pub use closing::close_folder;
 pub use folder_tree::FolderTree;
-pub use laws::an_opened_folder_keeps_its_tree;
+pub use laws::{a_closed_folder_is_opened_again, an_opened_folder_keeps_its_tree};
 pub use merging::merge;
 pub use open_fault::OpenFault;
 pub use reading::read_folder;
