@@ -2,7 +2,6 @@
 """Makes a tar archive of a tree image, such as a run has printed.
 
     image_to_tar.py [ROOT.tar] < OUTPUT > NEW.tar
-    image_to_tar.py --folder FOLDER > NEW.tar
 
 ROOT.tar is the archive that tar_to_image.py has read. The contents of large
 files come from it, by their SHA-256 and their length, wherever the run has
@@ -10,9 +9,6 @@ moved or copied them; bytes that a line has added stand behind them. It is a
 file, since it is read at many places. Messages before the image (lines that
 begin with `: `) go to standard error. Facts are of a run and not of a tree,
 so they do not come into the archive.
-
-With --folder the archive is that of the tree in a folder, as a run of the
-program with --root=FOLDER reads and leaves it: FOLDER/tree with FOLDER/manifest.
 
 The archive is ustar with pax records where they are needed; those of this
 project are named in tar_to_image.py. GNU tar unpacks it whole by
@@ -26,18 +22,14 @@ Status: 0 done, 1 an error, after which the archive is not whole.
 import argparse
 import gc
 import hashlib
-import os
 import sys
 from collections.abc import Iterator
-from pathlib import Path
 
 from tar_stream import XATTR, Member, TarReader, archive_end, member_head, padding
-from tree_folder import merged_nodes, real_path
 from tree_image import (
     AclPart, ImageReader, Marker, Node, Trouble, perm_text, printed_path, read_acl, read_marker,
 )
 
-PIECE = 1 << 20
 TYPES = {"d": b"5", "f": b"0", "l": b"2", "p": b"6", "c": b"3", "b": b"4"}
 
 
@@ -173,15 +165,6 @@ class Writer:
             self._write(piece)
         self._write(added + padding(size))
 
-    def add_real(self, node: Node, path: bytes) -> None:
-        """A node with the contents of a file of the machine."""
-        with open(path, "rb") as file:
-            size = os.fstat(file.fileno()).st_size
-            self._write(member_head(member_of(node, size)))
-            while data := file.read(PIECE):
-                self._write(data)
-        self._write(padding(size))
-
     def finish(self) -> None:
         self._write(archive_end(self._written))
         self._sink.flush()
@@ -196,32 +179,17 @@ def convert(old: OldContents | None) -> None:
     writer.finish()
 
 
-def convert_folder(folder: Path) -> None:
-    """Read the folder, write the archive."""
-    writer = Writer(sys.stdout.buffer, None)
-    for node in merged_nodes(folder):
-        if node.kind == "f":
-            writer.add_real(node, real_path(folder, node.path))
-        else:
-            writer.add(node)
-    writer.finish()
-
-
 def run(words: list[str]) -> None:
     parser = argparse.ArgumentParser(
         prog="image_to_tar", description="Makes a tar archive of a tree image on standard input.")
     parser.add_argument("tar", nargs="?", metavar="ROOT.tar",
                         help="the archive that the contents of large files come from")
-    parser.add_argument("--folder", type=Path, default=None, metavar="FOLDER",
-                        help="the archive of the tree in a folder; no image is read")
     options = parser.parse_args(words)
-    if options.folder is not None:
-        convert_folder(options.folder)
-    elif options.tar is None:
+    if options.tar is None:
         convert(None)
-    else:
-        with open(options.tar, "rb") as file:
-            convert(OldContents(file))
+        return
+    with open(options.tar, "rb") as file:
+        convert(OldContents(file))
 
 
 def main() -> int:

@@ -2,7 +2,6 @@
 """Makes a tree image of a root file system in a tar archive.
 
     tar_to_image.py ROOT.tar > IMAGE        tar_to_image.py < ROOT.tar > IMAGE
-    tar_to_image.py --folder FOLDER ROOT.tar
 
 Directories, files, links, FIFOs and devices are taken over with owners as
 numbers, modes, ACLs (SCHILY.acl.*), extended attributes (SCHILY.xattr.*) and
@@ -19,10 +18,6 @@ reads images of at most 64 MiB. What the program reads itself (below a
 tmpfiles.d or sysusers.d, account files, --inline) stays inline, whatever its
 length.
 
-With --folder no image is printed: FOLDER/tree gets the directories and files
-with all their bytes, FOLDER/manifest an image of all else, for a run of the
-program with --root=FOLDER. Neither may be there before.
-
 Each thing that an image cannot hold is named on standard error; with --strict
 it is an error, and no image is written. Status: 0 done, 1 an error.
 """
@@ -37,10 +32,8 @@ import sys
 import tempfile
 from collections.abc import Iterator
 from dataclasses import dataclass
-from pathlib import Path
 
 from tar_stream import XATTR, Member, TarReader
-from tree_folder import write_folder
 from tree_image import (
     FACT_LETTERS, KIND_NAMES, LARGEST_ID, LARGEST_NUMBER, LARGEST_STAMP, LONGEST_FACT,
     LONGEST_IMAGE, LONGEST_NAME, LONGEST_TARGET, MAGIC, NODE_LETTERS, AclPart, Marker, Node, Notices, Trouble,
@@ -123,10 +116,9 @@ class Store:
 class Builder:
     """Makes nodes of members; what a node cannot hold is named."""
 
-    def __init__(self, notices: Notices, limit: int | None, inline: frozenset[bytes], whole: bool) -> None:
+    def __init__(self, notices: Notices, limit: int | None, inline: frozenset[bytes]) -> None:
         self.notices = notices
-        self.whole = whole  # all contents are kept as they are
-        self.is_free = limit is None and not whole
+        self.is_free = limit is None
         self.limit = INLINE_LIMIT if limit is None else limit
         self.inline = inline
         self.store = Store()
@@ -229,8 +221,6 @@ class Builder:
 
     def _content(self, node: Node, reader: TarReader, member: Member) -> Span | Marker:
         """Take over contents, inline or by a marker."""
-        if self.whole:
-            return self.store.add(reader.whole(member))
         keeps = self._keeps(node)
         if member.size <= self.limit or keeps:
             data = reader.whole(member)
@@ -579,8 +569,6 @@ def parse_words(words: list[str]) -> argparse.Namespace:
     parser = argparse.ArgumentParser(
         prog="tar_to_image", description="Makes a tree image of a root file system in a tar archive.")
     parser.add_argument("tar", nargs="?", metavar="ROOT.tar", help="else standard input is read")
-    parser.add_argument("--folder", type=Path, default=None, metavar="FOLDER",
-                        help="make a folder for a run with --root=FOLDER, and print no image")
     parser.add_argument("--strict", action="store_true",
                         help="what an image cannot hold is an error, and no image is written")
     parser.add_argument("--fact", action="append", type=fact_option, default=[],
@@ -617,7 +605,7 @@ def image_pieces(builder: Builder, nodes: list[Node], facts: dict[str, bytes]) -
 def run(words: list[str]) -> int:
     options = parse_words(words)
     notices = Notices("tar_to_image", options.strict)
-    builder = Builder(notices, options.inline_limit, frozenset(options.inline), options.folder is not None)
+    builder = Builder(notices, options.inline_limit, frozenset(options.inline))
     if options.tar is None:
         nodes = read_tar(sys.stdin.buffer, builder)
     else:
@@ -626,14 +614,6 @@ def run(words: list[str]) -> int:
     facts = all_facts(builder, dict(options.fact))
     if notices.failed():
         return 1
-    if options.folder is not None:
-        write_folder(options.folder, nodes, facts, lambda node: builder.store.read(node.content), notices)
-        return 1 if notices.failed() else 0
-    return print_image(builder, nodes, facts, notices)
-
-
-def print_image(builder: Builder, nodes: list[Node], facts: dict[str, bytes], notices: Notices) -> int:
-    """Print the image; the status."""
     length = 0
     for piece in image_pieces(builder, nodes, facts):
         length += len(piece)
