@@ -1,5 +1,5 @@
 //! Paths that two patterns share, and heads of patterns.
-ghost use Rattle.std.specs.Prelude.{◌≡◌, ℕ, List, [], true, slice_index_or, Option, Some, None, if◌then◌else◌};
+ghost use Rattle.std.specs.Prelude.{◌≡◌, ℕ, List, [], true, false, slice_index_or, Option, Some, None, if◌then◌else◌};
 ghost use Rattle.pv_overlap.specs.Heads.{related};
 
 use crate::marks::{Arguments, number_in, said, unread};
