@@ -14,7 +14,6 @@ use Rattle.pv_steps.specs.declared.node.Kind.TheVariants as node
 use Rattle.pv_steps.specs.declared.object.Object.{Object}
 use Rattle.pv_steps.specs.Objects.{PayloadFits, fresh}
 use Rattle.pv_steps.specs.Trees.{Files, IsTree, kind_of, places}
-use Rattle.pv_steps.proofs.StepLaws.{among_keys, places-tabulate}
 use Rattle.pv_dress.specs.Nodes.{same_kind}
 use Rattle.pv_text.specs.Facts.{Values}
 use Rattle.pv_image.specs.declared.image_fault.ImageFault.{ImageFault}

@@ -1,7 +1,6 @@
 use Rattle.std.proofs.Common.{◌∙◌, [], drop, map, sym, ap, subst}
 use Rattle.std.specs.FinMap as fin
 use Rattle.pv_path.specs.Paths.{Path}
-use Rattle.pv_steps.specs.declared.node.Kind.{Kind}
 use Rattle.pv_steps.specs.declared.node.Node.{Node}
 use Rattle.pv_steps.specs.declared.object.Object.{Object}
 use Rattle.pv_steps.specs.Objects.{IsObject}
