@@ -1,23 +1,19 @@
 -- What a folder holds: listings and what stands at each path, and what is real in its tree.
-use Rattle.std.proofs.Common.{◌≡◌, ◌≢◌, ◌∙◌, Bool, true, false, cond, ◌&&◌, T, List, [], ◌∷◌, ◌++◌, map, Option, Some, None, is_some, option_map, refl, sym, ap, subst, ℕ, append_assoc, append-nil}
-use Rattle.std.specs.List.{AllByRecursion, cons_option, filter_map, list_all, list_any}
-use Rattle.std.specs.Option.{option_and_then}
+use Rattle.std.proofs.Common.{◌≡◌, ◌≢◌, ◌∙◌, Bool, true, false, cond, ◌&&◌, T, List, [], ◌∷◌, ◌++◌, Option, Some, None, is_some, option_map, refl, sym, ap, subst, ℕ, append_assoc}
+use Rattle.std.specs.List.{cons_option, filter_map}
 use Rattle.std.specs.Ordering.{eq_by_cmp, is_eq, is_lt, ordering_then}
 use Rattle.std.specs.declared.cmp.Ordering.TheVariants.{Less}
 use Rattle.std.specs.FinMap as fin
 use Rattle.std.specs.FinMap.Entries.{below_all, find, is_sorted}
-use Rattle.std.proofs.lemmas.Bool.{and_parts}
-use Rattle.pv_path.specs.Names.{name_cmp, same_bytes}
-use Rattle.pv_path.specs.Paths.{Path, has_names, is_prefix, parent_of, path_cmp, path_exact, path_total, rest_under, same_path}
-use Rattle.pv_path.proofs.PathLaws.{has_names-rest, name_cmp-refl, parent_of-push, path_cmp-refl, rest_under-Some, rest_under-append, same_bytes-decides, same_bytes-refl, tied-equal, tied-same}
+use Rattle.pv_path.specs.Names.{same_bytes}
+use Rattle.pv_path.specs.Paths.{Path, path_cmp, rest_under, same_path}
+use Rattle.pv_path.proofs.PathLaws.{name_cmp-refl, parent_of-push, rest_under-Some, rest_under-append, same_bytes-decides, same_bytes-refl, tied-equal, tied-same}
 use Rattle.pv_path.proofs.Tests.{both_T, each_T, less_of-T}
 use Rattle.pv_steps.specs.Trees.{child_name}
 use Rattle.pv_steps.proofs.NameLaws.{child_name-Some, child_name-push}
-use Rattle.pv_host.specs.declared.item.HostItem.{HostItem}
 use Rattle.pv_host.specs.declared.item.HostKind.{HostKind}
 use Rattle.pv_host.specs.declared.item.HostKind.TheVariants as kind
 use Rattle.pv_host.specs.Content.{Content, Held, HostObject, IsContent, IsDirectory, IsPresent, held, item_below, items_in, kind_at, kind_of}
-use Rattle.pv_host.specs.Content as host
 use Rattle.pv_folder.specs.Folders.{object_below, objects_in, tree_path}
 use Rattle.pv_folder.specs.Reading.{kind_named}
 

@@ -1,5 +1,5 @@
 -- What holds on the way through a folder's tree, and what a folder's own listing says of it.
-use Rattle.std.proofs.Common.{◌≡◌, ◌≢◌, ◌∙◌, ◌⊎◌, inl, inr, ◌≤◌, ◌+◌, suc, Bool, true, false, cond, ◌&&◌, List, [], ◌∷◌, ◌++◌, map, reverse, codes, Option, Some, None, IfSome, is_some, option_map, Result, Ok, Err, IfErr, refl, sym, ap, subst, ℕ, arith}
+use Rattle.std.proofs.Common.{◌≡◌, ◌≢◌, ◌∙◌, ◌⊎◌, inl, inr, ◌≤◌, ◌+◌, suc, true, false, ◌&&◌, List, [], ◌∷◌, ◌++◌, map, reverse, codes, Option, Some, None, IfSome, is_some, option_map, Result, Ok, Err, IfErr, refl, sym, ap, subst, ℕ, arith}
 use Rattle.std.specs.Prelude.{IsErrAnd, nat_lt}
 use Rattle.std.proofs.lemmas.Bool.{and_parts, or_parts}
 use Rattle.std.proofs.lemmas.Bool.Decides.{nat_tests}

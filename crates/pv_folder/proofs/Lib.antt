@@ -9,6 +9,7 @@ pub mod ReadingLaws
 pub mod StackLaws
 pub mod GoingLaws
 pub mod OpeningLaws
+pub mod KeepingLaws
 pub mod BelowLaws
 pub mod AgreeLaws
 pub mod ReadyLaws

@@ -35,7 +35,7 @@ module _ (manifest real : Files) where
 
 -- ---- kinds
 
-same_kind-exact : (a b : Kind) → same_kind a b ≡ true → a ≡ b
+pub same_kind-exact : (a b : Kind) → same_kind a b ≡ true → a ≡ b
 same_kind-exact Directory Directory e = refl
 same_kind-exact File File e = refl
 same_kind-exact Link Link e = refl

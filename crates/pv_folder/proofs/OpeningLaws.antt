@@ -1,21 +1,20 @@
 -- A folder is refused for one reason, and not where it is opened; and what is kept in a folder is opened again as it was.
-use Rattle.std.proofs.Common.{◌≡◌, ◌≢◌, ◌∙◌, Bool, true, false, cond, T, List, [], ◌∷◌, ◌++◌, map, Option, Some, None, IfSome, is_some, option_map, Result, Ok, Err, ◌⊎◌, inl, inr, refl, sym, ap, subst, ℕ, append-nil}
+use Rattle.std.proofs.Common.{◌≡◌, ◌≢◌, ◌∙◌, Bool, true, false, cond, T, List, [], ◌∷◌, ◌++◌, Option, Some, None, IfSome, is_some, option_map, Result, Ok, Err, ◌⊎◌, inl, inr, refl, sym, ap, subst, ℕ}
 use Rattle.std.specs.Prelude.{IsErrAnd}
-use Rattle.std.specs.List.{cons_option, filter_map}
+use Rattle.std.specs.List.{cons_option}
 use Rattle.std.specs.Option.{option_and_then}
 use Rattle.std.specs.Ordering.{eq_by_cmp, is_eq, is_lt}
-use Rattle.std.specs.declared.cmp.Ordering.TheVariants.{Less}
 use Rattle.std.specs.FinMap as fin
 use Rattle.std.specs.FinMap.Entries.{below_all, find, is_sorted}
 use Rattle.pv_path.specs.Paths.{Path, parent_of, path_cmp, path_exact, path_total}
-use Rattle.pv_path.proofs.PathLaws.{path_cmp-refl, tied-equal}
+use Rattle.pv_path.proofs.PathLaws.{tied-equal}
 use Rattle.pv_path.proofs.Tests.{each_T, less_of-T}
 use Rattle.pv_steps.specs.declared.node.Kind.{Kind}
 use Rattle.pv_steps.specs.declared.node.Kind.TheVariants as node
 use Rattle.pv_steps.specs.declared.object.Object.{Object}
 use Rattle.pv_steps.specs.Objects.{PayloadFits, fresh}
 use Rattle.pv_steps.specs.Trees.{Files, IsTree, kind_of, places}
-use Rattle.pv_steps.proofs.StepLaws.{among_keys, is_among, places-tabulate}
+use Rattle.pv_steps.proofs.StepLaws.{among_keys, places-tabulate}
 use Rattle.pv_dress.specs.Nodes.{same_kind}
 use Rattle.pv_text.specs.Facts.{Values}
 use Rattle.pv_image.specs.declared.image_fault.ImageFault.{ImageFault}
@@ -30,8 +29,7 @@ use Rattle.pv_folder.specs.Folders.{Agrees, IsPrepared, manifest_path, object_of
 use Rattle.pv_folder.specs.Manifest.{emptied, emptied_payload, with_empty_files}
 use Rattle.pv_folder.specs.Merge.{is_real_kind, merged, merged_of, plain}
 use Rattle.pv_folder.specs.Opening.{IsOpened, IsRefused, Says, absent, bad_manifest, fault_among, is_outer, not_prepared, objects_below, of_image, present, real}
-use Rattle.pv_tree.specs.Held.{root_alone}
-use Rattle.pv_folder.proofs.GoingLaws.{told, told_both}
+use Rattle.pv_folder.proofs.GoingLaws.{Faulty, told, told_both}
 use Rattle.pv_folder.proofs.FolderLaws.{objects_found, objects_sorted}
 use Rattle.pv_folder.proofs.MergeLaws.{places-merged}
 use Rattle.pv_folder.proofs.ReadingLaws.{real_below, real_entries}
@@ -85,10 +83,6 @@ outer_fault HostFailed e = inl refl
 outer_fault Memory e = inr refl
 outer_fault f e = cc
 
-absent_at : (o : Option HostObject) → false ≡ is_some o → o ≡ None
-absent_at None e = refl
-absent_at (Some x) e = cc
-
 always : (Q : Content → Type 0) (content : Option Content) → ((c : Content) → Q c) → IfSome content Q
 always Q None h = tt
 always Q (Some c) h = h c
@@ -110,20 +104,15 @@ module _ (content : Option Content) (folder : Path) where
       told (λ c. Some bytes ≡ bytes_of (held c (manifest_path folder))) (λ c. Says folder c facts files) content
       (λ c h. present bytes (file_at (held c (manifest_path folder)) bytes h) image) at
 
-  -- or no manifest is there
-  pub no_manifest_says : (facts : Values) (files : Files) → IfSome content (λ c. false ≡ is_some (held c (manifest_path folder)))
-      → facts ≡ fin.empty → files ≡ root_alone (fresh node.Directory 0o755 [] 0 0 0).node → IfSome content (λ c. Says folder c facts files)
-  no_manifest_says facts files at none alone =
-      told (λ c. false ≡ is_some (held c (manifest_path folder))) (λ c. Says folder c facts files) content
-      (λ c h. absent (absent_at (held c (manifest_path folder)) h) none alone) at
-
-  -- the fault of what is real
-  pub real_refused : (facts : Values) (files : Files) (f : OpenFault) → IfSome content (λ c. IsPrepared folder (held c)) → IfSome content (λ c. Says folder c facts files)
-      → IfSome content (λ c. fault_among 0 0 (objects_below folder c) ≡ Some f) → IfSome content (λ c. IsRefused folder c f)
-  real_refused facts files f prepared says fault =
-      told_both (λ c. IsPrepared folder (held c) × Says folder c facts files) (λ c. fault_among 0 0 (objects_below folder c) ≡ Some f) (λ c. IsRefused folder c f) content
+  -- a fault of what is real, which is looked at after that
+  pub real_refused : (facts : Values) (files : Files) (f : OpenFault) (after : Option Content) → after ≡ content
+      → IfSome content (λ c. IsPrepared folder (held c)) → IfSome content (λ c. Says folder c facts files)
+      → (is_outer f ≡ false → IfSome after (Faulty folder f)) → is_outer f ≡ false → IfSome content (λ c. IsRefused folder c f)
+  real_refused facts files f after kept prepared says fault own =
+      told_both (λ c. IsPrepared folder (held c) × Says folder c facts files) (Faulty folder f) (λ c. IsRefused folder c f) content
       (λ c h e. real facts files f h.0 h.1 e)
-      (told_both (λ c. IsPrepared folder (held c)) (λ c. Says folder c facts files) (λ c. IsPrepared folder (held c) × Says folder c facts files) content (λ c p h. (p, h)) prepared says) fault
+      (told_both (λ c. IsPrepared folder (held c)) (λ c. Says folder c facts files) (λ c. IsPrepared folder (held c) × Says folder c facts files) content (λ c p h. (p, h)) prepared says)
+      (subst (λ (o : Option Content). IfSome o (Faulty folder f)) kept (fault own))
 
   -- a fault that is answered is the reason, or is of the host or of memory
   pub only_reason : {A : Type 0} (r : Result A OpenFault) (f g : OpenFault) → IsErrAnd r (λ e. e ≡ f) → (is_outer f ≡ false → IfSome content (λ c. IsRefused folder c f))
@@ -223,8 +212,8 @@ module _ (folder : Path) (c : Content) (t : Files) (tree : IsTree t) (agrees : A
   parent_real q o is other =
       ap kind_of (real_at (parent_of q))
       ∙ real_directory (places t (parent_of q)) (tree.parents q (ap is_some is) (λ e.
-          let root : Some o.node.kind ≡ Some node.Directory = sym (ap kind_of is) ∙ ap (λ (p : Path). kind_of (places t p)) e ∙ tree.root in
-          other cc))
+      let root : Some o.node.kind ≡ Some node.Directory = sym (ap kind_of is) ∙ ap (λ (p : Path). kind_of (places t p)) e ∙ tree.root in
+      other cc))
 
   at_path : (q : Path) (o : Option Object) → places t q ≡ o
       → merged_of (option_map emptied o) (option_and_then object_of (real_of o)) (kind_of (places (real_in folder c) (parent_of q))) ≡ o

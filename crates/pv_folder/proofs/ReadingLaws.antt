@@ -1,24 +1,21 @@
 -- What holds of a folder's tree as it is gone through: what listings named and is still to come leads to the rest of it.
-use Rattle.std.proofs.Common.{◌≡◌, ◌≢◌, ◌∙◌, ◌⊎◌, inl, inr, ◌+◌, ◌<◌, ◌≤◌, suc, length, arith, Bool, true, false, cond, ◌&&◌, ◌||◌, T, List, [], ◌∷◌, ◌++◌, map, Option, Some, None, is_some, option_map, refl, sym, ap, subst, ℕ, append_assoc, append-nil}
-use Rattle.std.specs.Prelude.{drop, nat_lt}
+use Rattle.std.proofs.Common.{◌≡◌, ◌≢◌, ◌∙◌, ◌+◌, suc, length, Bool, true, false, cond, ◌||◌, T, List, [], ◌∷◌, ◌++◌, map, Option, Some, None, is_some, option_map, refl, sym, ap, subst, ℕ, append_assoc, append-nil}
+use Rattle.std.specs.Prelude.{drop}
 use Rattle.std.specs.List.{AllByRecursion, cons_option, filter_map, flat_map, list_all, list_any}
-use Rattle.std.specs.Option.{option_and_then, option_or}
+use Rattle.std.specs.Option.{option_or}
 use Rattle.std.specs.Ordering.{eq_by_cmp, is_eq, is_lt, ordering_reverse}
 use Rattle.std.specs.declared.cmp.Ordering.TheVariants.{Less, Equal}
 use Rattle.std.specs.FinMap as fin
 use Rattle.std.specs.FinMap.Entries.{below_all, find, is_sorted}
 use Rattle.std.proofs.lemmas.Bool.{and_parts}
-use Rattle.std.proofs.lemmas.Bool.Decides.{nat_tests}
-use Rattle.std.proofs.lemmas.List.Elements.{filter_map-append}
 use Rattle.pv_path.specs.Names.{is_name, name_cmp, same_bytes}
-use Rattle.pv_path.specs.Paths.{Path, has_names, is_prefix, parent_of, path_cmp, path_exact, path_total}
-use Rattle.pv_path.proofs.PathLaws.{is_name-last_name, is_prefix-append, is_prefix-refl, is_prefix-trans, last_name-push, name_cmp-refl, parent_of-push, path_cmp-refl, same_bytes-decides, same_bytes-refl, tied-equal}
-use Rattle.pv_path.proofs.Tests.{both_T, each_T, less_of, less_of-T}
-use Rattle.pv_steps.specs.declared.node.Kind.{Kind}
+use Rattle.pv_path.specs.Paths.{Path, has_names, path_cmp, path_total}
+use Rattle.pv_path.proofs.PathLaws.{is_name-last_name, last_name-push, name_cmp-refl, same_bytes-decides, same_bytes-refl}
+use Rattle.pv_path.proofs.Tests.{both_T, each_T, less_of}
 use Rattle.pv_steps.specs.declared.node.Kind.TheVariants as node
 use Rattle.pv_steps.specs.declared.object.Object.{Object}
 use Rattle.pv_steps.specs.Objects.{fresh}
-use Rattle.pv_steps.specs.Trees.{Files, IsKind, kind_of, places}
+use Rattle.pv_steps.specs.Trees.{Files, places}
 use Rattle.pv_tree.specs.Held.{root_alone}
 use Rattle.pv_generate.proofs.GrowLaws.{IsGrowing, grown}
 use Rattle.pv_host.specs.declared.item.HostItem.{HostItem}
@@ -30,13 +27,12 @@ use Rattle.pv_host.specs.Lists.{comes_before, is_ordered}
 use Rattle.pv_folder.specs.declared.found.Found.{Found}
 use Rattle.pv_folder.specs.declared.found.Seen.{Seen}
 use Rattle.pv_folder.specs.declared.found.Seen.TheVariants as seen
-use Rattle.pv_folder.specs.declared.open_fault.OpenFault.{OpenFault}
 use Rattle.pv_folder.specs.declared.open_fault.OpenFault.TheVariants.{TooLarge}
 use Rattle.pv_folder.specs.Folders.{object_of, objects_in, real_in, tree_path}
 use Rattle.pv_folder.specs.Opening.{fault_among, is_over, objects_below, odd}
 use Rattle.pv_folder.specs.Reading.{Shows, found_below, found_in, items_of, kind_named, path_of, seen_object, seen_size}
-use Rattle.pv_folder.proofs.Preorder.{Rise, beside-less, below-less, less-below, preorder, under, under_each}
-use Rattle.pv_folder.proofs.FolderLaws.{above, child_there, directory_present, kind_named-in, objects_found, objects_sorted}
+use Rattle.pv_folder.proofs.Preorder.{Rise, preorder, under, under_each}
+use Rattle.pv_folder.proofs.FolderLaws.{above, child_there, kind_named-in, objects_found, objects_sorted}
 
 -- ---- listings
 
@@ -150,8 +146,8 @@ module _ (folder : Path) (c : Content) (content : IsContent (held c)) (p : Path)
   alone o is other =
       preorder (objects_in folder c) p o [] (objects_sorted folder c) (objects_found folder c p ∙ is)
       (λ n h.
-          let directory = above (held c) content [] (tree_path folder ++ p) n (found_there (n ∷ []) h) in
-          absurd (let same : Some (host.kind_of o) ≡ Some kind.Directory = sym (ap (option_map host.kind_of) is) ∙ directory in other cc))
+      let directory = above (held c) content [] (tree_path folder ++ p) n (found_there (n ∷ []) h) in
+      absurd (let same : Some (host.kind_of o) ≡ Some kind.Directory = sym (ap (option_map host.kind_of) is) ∙ directory in other cc))
       closed tt
 
   -- below a directory there is what its listing leads to
@@ -161,19 +157,20 @@ module _ (folder : Path) (c : Content) (content : IsContent (held c)) (p : Path)
       let parts = listed c (held c (tree_path folder ++ p)) (tree_path folder ++ p) items lists in
       preorder (objects_in folder c) p host.Directory (names_of items) (objects_sorted folder c) (objects_found folder c p ∙ parts.0)
       (λ n h.
-          sym (named_any n items) ∙ ap (λ (xs : List HostItem). is_some (kind_named n xs)) parts.1
-          ∙ ap is_some (kind_named-in c (tree_path folder ++ p) n)
-          ∙ is_some-map host.kind_of (held c ((tree_path folder ++ p) ++ n ∷ []))
-          ∙ found_there (n ∷ []) h)
+      sym (named_any n items) ∙ ap (λ (xs : List HostItem). is_some (kind_named n xs)) parts.1
+      ∙ ap is_some (kind_named-in c (tree_path folder ++ p) n)
+      ∙ is_some-map host.kind_of (held c ((tree_path folder ++ p) ++ n ∷ []))
+      ∙ found_there (n ∷ []) h)
       closed (ordered_rise items ordered)
       ∙ ap (λ es. (p, host.Directory) ∷ es) (sym (ahead_each folder c p items))
 
   children : (xs items : List HostItem) → items ≡ items_in c (tree_path folder ++ p) → AllByRecursion (λ (i : HostItem). kind_named i.name items ≡ Some i.kind) xs
       → AllByRecursion (λ (x : Found). kind_at (held c) (tree_path folder ++ path_of x) ≡ Some x.kind) (map (found_in p) xs)
   children [] items are h = tt
-  children (x ∷ xs) items are h =
-      (ap (kind_at (held c)) (sym (below (x.name ∷ []))) ∙ sym (kind_named-in c (tree_path folder ++ p) x.name) ∙ ap (kind_named x.name) (sym are) ∙ h.0,
-      children xs items are h.1)
+  children (x ∷ xs) items are h = (
+    ap (kind_at (held c)) (sym (below (x.name ∷ []))) ∙ sym (kind_named-in c (tree_path folder ++ p) x.name) ∙ ap (kind_named x.name) (sym are) ∙ h.0,
+    children xs items are h.1,
+  )
 
   -- and each of it is of its kind
   pub kinds_below : (items : List HostItem) → listing c (tree_path folder ++ p) ≡ Some items → is_ordered items ≡ true
@@ -233,11 +230,11 @@ module _ (folder : Path) (c : Content) (objects bytes : ℕ) (files : Files) (la
       record {
         content = w.content;
         kinds = all_both (λ (y : Found). kind_at (held c) (tree_path folder ++ path_of y) ≡ Some y.kind) (map (found_in (path_of x)) items) next
-        (kinds_below folder c w.content (path_of x) items shows ordered) w.kinds.1;
+            (kinds_below folder c w.content (path_of x) items shows ordered) w.kinds.1;
         fault = w.fault ∙ ap (fault_among objects bytes) both
-        ∙ ap (λ b. cond b (Some TooLarge) (fault_among (suc objects) (bytes + 0) (ahead folder c (map (found_in (path_of x)) items ++ next)))) few;
+            ∙ ap (λ b. cond b (Some TooLarge) (fault_among (suc objects) (bytes + 0) (ahead folder c (map (found_in (path_of x)) items ++ next)))) few;
         growing = grown (real_in folder c) files last (path_of x) (seen_object (seen.Directory items)) (real_entries (ahead folder c (map (found_in (path_of x)) items ++ next)))
-        (subst (λ es. IsGrowing (real_in folder c) files last (real_entries es)) both w.growing);
+            (subst (λ es. IsGrowing (real_in folder c) files last (real_entries es)) both w.growing);
       }
   next_read (seen.File b) shows ordered few =
       let both : ahead folder c (x ∷ next) ≡ (path_of x, host.File b) ∷ ahead folder c next =
@@ -247,7 +244,7 @@ module _ (folder : Path) (c : Content) (objects bytes : ℕ) (files : Files) (la
         kinds = w.kinds.1;
         fault = w.fault ∙ ap (fault_among objects bytes) both ∙ ap (λ t. cond t (Some TooLarge) (fault_among (suc objects) (bytes + length b) (ahead folder c next))) few;
         growing = grown (real_in folder c) files last (path_of x) (seen_object (seen.File b)) (real_entries (ahead folder c next))
-        (subst (λ es. IsGrowing (real_in folder c) files last (real_entries es)) both w.growing);
+            (subst (λ es. IsGrowing (real_in folder c) files last (real_entries es)) both w.growing);
       }
 
 -- ---- the first objects

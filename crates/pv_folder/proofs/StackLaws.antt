@@ -1,6 +1,6 @@
 -- What holds of a tree that is gone through by listings alone, whatever they name: each object comes after the last one and
 -- lies in a directory that was seen.
-use Rattle.std.proofs.Common.{◌≡◌, ◌∙◌, Bool, true, false, cond, List, [], ◌∷◌, ◌++◌, map, Option, Some, None, refl, sym, ap, subst, ℕ, append-nil}
+use Rattle.std.proofs.Common.{◌≡◌, ◌∙◌, Bool, true, false, cond, List, [], ◌∷◌, ◌++◌, map, Some, None, refl, sym, ap, subst, ℕ, append-nil}
 use Rattle.std.specs.List.{AllByRecursion}
 use Rattle.std.specs.Ordering.{eq_by_cmp, is_eq, is_lt, ordering_reverse}
 use Rattle.std.specs.declared.cmp.Ordering.TheVariants.{Less}
@@ -8,7 +8,6 @@ use Rattle.std.specs.FinMap as fin
 use Rattle.pv_path.specs.Names.{name_cmp}
 use Rattle.pv_path.specs.Paths.{Path, is_prefix, parent_of, path_cmp, path_total}
 use Rattle.pv_path.proofs.PathLaws.{is_prefix-append, is_prefix-refl, is_prefix-trans, parent_of-push, path_cmp-refl, tied-equal}
-use Rattle.pv_steps.specs.declared.node.Kind.{Kind}
 use Rattle.pv_steps.specs.declared.node.Kind.TheVariants.{Directory, File}
 use Rattle.pv_steps.specs.declared.object.Object.{Object}
 use Rattle.pv_steps.specs.Objects.{fresh}
@@ -61,9 +60,10 @@ narrowed p n (y ∷ next) h = ((λ q at. h.0 q (is_prefix-trans p (p ++ n ∷ []
 children_apart : (p : Path) (items : List HostItem) (next : List Found) → Rise (names_of items)
     → AllByRecursion (λ (y : Found). (q : Path) → is_prefix p q ≡ true → path_cmp q (path_of y) ≡ Less) next → Apart next → Apart (map (found_in p) items ++ next)
 children_apart p [] next rise h apart = apart
-children_apart p (i ∷ items) next rise h apart =
-    (all_both (λ (y : Found). (q : Path) → is_prefix (p ++ i.name ∷ []) q ≡ true → path_cmp q (path_of y) ≡ Less) (map (found_in p) items) next (beside p i.name items rise.0) (narrowed p i.name next h),
-    children_apart p items next rise.1 h apart)
+children_apart p (i ∷ items) next rise h apart = (
+  all_both (λ (y : Found). (q : Path) → is_prefix (p ++ i.name ∷ []) q ≡ true → path_cmp q (path_of y) ≡ Less) (map (found_in p) items) next (beside p i.name items rise.0) (narrowed p i.name next h),
+  children_apart p items next rise.1 h apart,
+)
 
 later : (p : Path) (next : List Found) → AllByRecursion (λ (y : Found). (q : Path) → is_prefix p q ≡ true → path_cmp q (path_of y) ≡ Less) next
     → AllByRecursion (λ (y : Found). path_cmp p (path_of y) ≡ Less) next

@@ -52,11 +52,7 @@ pub(crate) fn push_found(
 }
 
 /// The fault of an odd object in a directory of a folder's tree.
-pub(crate) fn odd(
-    alloc: Global,
-    directory: &TreePath,
-    name: &[u8],
-) -> Result<OpenFault, AllocError>
+pub(crate) fn odd(alloc: Global, directory: &TreePath, name: &[u8]) -> Result<OpenFault, AllocError>
     ensures { IfOk result (λ fault. fault ≡ odd (directory.now ++ name.now ∷ [])) }
 {
     let tree = child(alloc, &TreePath::root(alloc), b"tree")?;

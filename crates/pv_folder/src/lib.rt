@@ -1,7 +1,7 @@
 //! A file tree in a folder of a host: its directories and files are real, and a manifest has all else.
 //!
-//! [`merge`] gives the tree of a manifest and of what is real; [`FolderTree`] is a tree in memory whose steps are done in the
-//! folder too, and [`close_folder`] writes its manifest.
+//! [`read_folder`] opens a folder, and [`merge`] gives the tree of its manifest and of what is real; [`FolderTree`] is a tree
+//! in memory whose steps are done in the folder too, and [`close_folder`] writes its manifest.
 #![tactic(auto)]
 
 mod asking;
@@ -11,6 +11,7 @@ mod emptying;
 mod folder_tree;
 mod found;
 mod host_path;
+mod laws;
 mod looking;
 mod merged_object;
 mod merging;
@@ -22,6 +23,7 @@ mod walking;
 
 pub use closing::close_folder;
 pub use folder_tree::FolderTree;
+pub use laws::an_opened_folder_keeps_its_tree;
 pub use merging::merge;
 pub use open_fault::OpenFault;
 pub use reading::read_folder;

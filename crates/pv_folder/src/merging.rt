@@ -20,7 +20,11 @@ use pv_tree::{BuildFault, MemTree, TreeBuilder};
 use std::alloc::{AllocError, Global};
 
 /// Adds the next object, whose path is in order and lies in a directory.
-pub(crate) fn add(builder: &mut TreeBuilder, path: TreePath, object: Object) -> Result<(), AllocError>
+pub(crate) fn add(
+    builder: &mut TreeBuilder,
+    path: TreePath,
+    object: Object,
+) -> Result<(), AllocError>
     requires object { IsObject object }
     requires after { is_lt (path_cmp builder.old.last path) ≡ true }
     requires parent { IsKind Directory builder.old.files (parent_of path) }

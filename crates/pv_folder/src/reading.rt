@@ -5,7 +5,7 @@ ghost use Rattle.std.specs.FinMap as fin;
 ghost use Rattle.pv_steps.specs.declared.node.Kind.TheVariants as node;
 ghost use Rattle.pv_steps.specs.Objects.{fresh};
 ghost use Rattle.pv_tree.specs.Held.{root_alone};
-ghost use Rattle.pv_host.specs.Content.{held, spelled};
+ghost use Rattle.pv_host.specs.Content.{IsContent, held, spelled};
 ghost use Rattle.pv_folder.specs.declared.open_fault.OpenFault.TheVariants.{HostFailed, Memory};
 ghost use Rattle.pv_folder.specs.declared.open_fault.OpenFault.{OpenFault as Fault};
 ghost use Rattle.pv_folder.specs.Folders.{IsPrepared, manifest_path};
@@ -58,6 +58,7 @@ fn has_manifest<H: Host>(alloc: Global, host: &mut H, folder: &[u8]) -> Result<b
     ensures prepared { IfOk result (λ _. IfSome (H.content host.old) (λ c. IsPrepared (spelled folder.now) (held c))) }
     ensures there { IfOk result (λ there. IfSome (H.content host.old) (λ c.
         there ≡ is_some (held c (manifest_path (spelled folder.now))))) }
+    ensures content { IfSome (H.content host.old) (λ c. IsContent (held c)) }
     ensures refused { IfErr result (λ fault. is_outer fault ≡ false → IfSome (H.content host.old) (λ c.
         IsRefused (spelled folder.now) c fault)) }
     ensures kept { H.content host.new ≡ H.content host.old }
@@ -107,6 +108,7 @@ fn no_manifest(alloc: Global) -> Result<Image, AllocError>
 /// The facts and the tree that the manifest of a folder says, where the folder can be run on.
 fn manifest_in<H: Host>(alloc: Global, host: &mut H, folder: &[u8]) -> Result<Image, OpenFault>
     ensures prepared { IfOk result (λ _. IfSome (H.content host.old) (λ c. IsPrepared (spelled folder.now) (held c))) }
+    ensures content { IfSome (H.content host.old) (λ c. IsContent (held c)) }
     ensures says { IfOk result (λ image. IfSome (H.content host.old) (λ c.
         Says (spelled folder.now) c image.facts image.tree.files)) }
     ensures refused { IfErr result (λ fault. is_outer fault ≡ false → IfSome (H.content host.old) (λ c.
@@ -125,11 +127,7 @@ fn manifest_in<H: Host>(alloc: Global, host: &mut H, folder: &[u8]) -> Result<Im
 /// Opens a folder of a host: the facts of its manifest, and the manifest's tree merged with what is real in `tree`. No step
 /// is recorded in the tree. The folder is listed first, then its manifest is read, then `tree` is gone through in the order of
 /// the paths; the first fault that is met is answered.
-pub fn read_folder<H: Host>(
-    alloc: Global,
-    host: &mut H,
-    folder: &[u8],
-) -> Result<Image, OpenFault>
+pub fn read_folder<H: Host>(alloc: Global, host: &mut H, folder: &[u8]) -> Result<Image, OpenFault>
     ensures opened { IfOk result (λ image. IfSome (H.content host.old) (λ c.
         IsOpened (spelled folder.now) c image.facts image.tree.files)) }
     ensures steps { IfOk result (λ image. image.tree.steps ≡ []) }
@@ -139,6 +137,7 @@ pub fn read_folder<H: Host>(
         IsRefused (spelled folder.now) c fault)) }
     ensures refuses { (fault : Fault) → IfSome (H.content host.old) (λ c. IsRefused (spelled folder.now) c fault →
         (result ≡ Err fault) ⊎ IsErrOf result HostFailed ⊎ IsErrOf result Memory) }
+    ensures content { IfSome (H.content host.old) (λ c. IsContent (held c)) }
     ensures kept { H.content host.new ≡ H.content host.old }
     ensures cause { IsErrOf result HostFailed → HasRisen (H.faults host.old) (H.faults host.new) }
     ensures never_falls { H.faults host.old ≤ H.faults host.new }

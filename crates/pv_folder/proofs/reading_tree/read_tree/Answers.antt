@@ -1,17 +1,16 @@
-use Rattle.std.proofs.Common.{◌≡◌, ◌∙◌, ◌+◌, ◌≤◌, suc, false, true, [], ◌∷◌, ◌++◌, IfSome, List, Option, reverse, refl, sym, ap, subst, ℕ, arith}
+use Rattle.std.proofs.Common.{◌≡◌, ◌∙◌, ◌+◌, suc, false, true, [], ◌++◌, IfSome, List, Option, reverse, refl, sym, ap, subst, arith}
 use Rattle.std.proofs.lemmas.List.{nil_from_length}
 use Rattle.std.specs.FinMap as fin
 use Rattle.pv_path.specs.Paths.{Path}
 use Rattle.pv_steps.specs.declared.node.Kind.TheVariants as node
 use Rattle.pv_steps.specs.Objects.{fresh}
-use Rattle.pv_steps.specs.Trees.{Files}
 use Rattle.pv_tree.specs.Growth.{Grown}
 use Rattle.pv_tree.specs.Held.{root_alone}
 use Rattle.pv_host.specs.Content.{Content, spelled}
 use Rattle.pv_host.specs.Lists.{is_ordered}
 use Rattle.pv_folder.specs.declared.found.Found.{Found}
 use Rattle.pv_folder.specs.declared.open_fault.OpenFault.{OpenFault}
-use Rattle.pv_folder.specs.Folders.{real_in, tree_path}
+use Rattle.pv_folder.specs.Folders.{tree_path}
 use Rattle.pv_folder.specs.Opening.{is_outer, is_over}
 use Rattle.pv_folder.specs.Reading.{Shows, found_below, items_of, path_of, seen_object, seen_size}
 use Rattle.pv_folder.proofs.GoingLaws.{Faulty, IsGoing, going_at, going_first, going_odd, going_on, going_over, going_real, not_over, passed_on}
@@ -21,11 +20,15 @@ pub loop-found-init : goal.loop-found-init
 loop-found-init g c =
     let content = g.H.Host.content c.args.host.now in
     let r = c.in_ok-reading.reading in
-    let told = c.in_ok-reading.ensures in
-    (going_at content (spelled c.args.folder.now) 0 0 (root_alone (fresh node.Directory 0o755 [] 0 0 0).node) [] _ r.objects r.bytes r.builder r.pending.items
-    told.objects told.bytes told.builder told.pending
-    (going_first content (spelled c.args.folder.now) c.in_ok-items.items told.ordered c.in_ok-items.ensures.content c.in_ok-items.ensures.told),
-    omega (arith, told.objects), omega (arith, told.bytes), c.items_in_tree.ensures.kept, c.items_in_tree.ensures.never_falls)
+    let told = c.in_ok-reading.ensures in (
+      going_at content (spelled c.args.folder.now) 0 0 (root_alone (fresh node.Directory 0o755 [] 0 0 0).node) [] _ r.objects r.bytes r.builder r.pending.items
+          told.objects told.bytes told.builder told.pending
+          (going_first content (spelled c.args.folder.now) c.in_ok-items.items told.ordered c.in_ok-items.ensures.content c.in_ok-items.ensures.told),
+      omega (arith, told.objects),
+      omega (arith, told.bytes),
+      c.items_in_tree.ensures.kept,
+      c.items_in_tree.ensures.never_falls,
+    )
 
 pub returns-in_err-path-clause-fault : goal.returns-in_err-path-clause-fault
 returns-in_err-path-clause-fault g c =
@@ -80,11 +83,15 @@ loop-found-preserved g c =
     let pending : c.take.new.self.pending.items ≡ c.pop.new.self.items ++ reverse (found_below (path_of x) s) =
     c.in_ok-take.ensures.pending
     ∙ ap (λ (xs : List Found). xs ++ reverse (found_below p s)) kept
-    ∙ ap (λ (q : Path). c.pop.new.self.items ++ reverse (found_below q s)) c.in_ok-path.ensures.path in
-    (going_at content folder (suc r.objects) (r.bytes + seen_size s) (fin.insert r.builder.files (path_of x) (seen_object s)) (path_of x) (c.pop.new.self.items ++ reverse (found_below (path_of x) s))
-    c.take.new.self.objects c.take.new.self.bytes c.take.new.self.builder c.take.new.self.pending.items objects bytes builder pending
-    (going_on content folder r.objects r.bytes r.builder.files r.builder.last c.pop.new.self.items x going s c.take.ensures.ordered at few),
-    omega (arith, objects, within.0), omega (arith, bytes, within.1), c.look.ensures.kept ∙ c.loop-found.invariant.3, omega (arith, c.look.ensures.never_falls, c.loop-found.invariant.4))
+    ∙ ap (λ (q : Path). c.pop.new.self.items ++ reverse (found_below q s)) c.in_ok-path.ensures.path in (
+      going_at content folder (suc r.objects) (r.bytes + seen_size s) (fin.insert r.builder.files (path_of x) (seen_object s)) (path_of x) (c.pop.new.self.items ++ reverse (found_below (path_of x) s))
+          c.take.new.self.objects c.take.new.self.bytes c.take.new.self.builder c.take.new.self.pending.items objects bytes builder pending
+          (going_on content folder r.objects r.bytes r.builder.files r.builder.last c.pop.new.self.items x going s c.take.ensures.ordered at few),
+      omega (arith, objects, within.0),
+      omega (arith, bytes, within.1),
+      c.look.ensures.kept ∙ c.loop-found.invariant.3,
+      omega (arith, c.look.ensures.never_falls, c.loop-found.invariant.4),
+    )
 
 pub returns-clause-real : goal.returns-clause-real
 returns-clause-real g c =
