@@ -2,9 +2,10 @@
 """Runs the built program once for each exit status and compares status and output.
 
 0 done, 1 words without a meaning and no free number, 65 an invalid line, 66 no
-image, 71 no memory (a limit on it by ulimit -v), 73 a refused line, 74 input
-that cannot be read (a directory, or none), 75 stopped, 76 output that cannot
-be written (/dev/full, or none). The wanted outputs are written by hand.
+image or a folder that cannot be run on, 71 no memory (a limit on it by ulimit
+-v), 73 a refused line, 74 input that cannot be read (a directory, or none), 75
+stopped, 76 output that cannot be written (/dev/full, or none), 77 a folder that
+cannot be read (its name is too long). The wanted outputs are written by hand.
 
     check_status.py [PROGRAM]      crates/provision/out/provision, or CHECK_PROGRAM
 """
@@ -49,6 +50,8 @@ LINE = "d /run/app 0750 0 0"
 CHANGED = "0,0,1000000000000,1000000000000"
 NEW = "1000000000000,1000000000000,1000000000000,1000000000000"
 CONFIGURATION = (directory("/etc"), directory("/etc/tmpfiles.d"), file_of("/etc/tmpfiles.d/a.conf", LINE + "\n"))
+ROOTED = (*CREATE, "--root=r")
+FOLDER = "mkdir -p r/tree/etc/tmpfiles.d; echo 'd /run/app 0750 0 0' > r/tree/etc/tmpfiles.d/a.conf"
 DONE = image(*CONFIGURATION, directory("/run", NEW), f"d /run/app 0750 0 0 {NEW} - - - -\n", root=CHANGED)
 STAGED = image(f"d /.#tf-run 0700 0 0 {NEW} - - - -\n", *CONFIGURATION, root=CHANGED)
 REFUSED = configured("d /a/b", "l /a 0777 0 0 0,0,0,0 - - - etc\n")
@@ -56,7 +59,7 @@ REFUSED = configured("d /a/b", "l /a 0777 0 0 0,0,0,0 - - - etc\n")
 
 @dataclass(frozen=True)
 class Case:
-    """A run: its words, its input, its wanted status and output, and how its ends are bent."""
+    """A run: its words, its input, its wanted status and output, how its ends are bent, and what is there before."""
 
     name: str
     words: tuple[str, ...]
@@ -65,6 +68,7 @@ class Case:
     wanted: str
     ends: str = ""
     limit: int = 0
+    before: str = ""  # what makes a folder, in the folder in which the program runs
 
 
 CASES = (
@@ -86,17 +90,27 @@ CASES = (
     Case("stopped", (*CREATE, "--stop-after=1"), configured(LINE), 75, ": stopped after 1 steps\n" + STAGED),
     Case("a full output", CREATE, configured(LINE), 76, "", ends="> /dev/full"),
     Case("no output", CREATE, configured(LINE), 76, "", ends=">&-"),
+    Case("a folder", ROOTED, "", 0, "", before=FOLDER),
+    Case("a folder, stopped", (*ROOTED, "--stop-after=1"), "", 75, ": stopped after 1 steps\n", before=FOLDER),
+    Case("no folder", ROOTED, "", 66, ": bad folder: NotPrepared\n"),
+    Case("a folder without its tree", ROOTED, "", 66, ": bad folder: NotPrepared\n", before="mkdir r"),
+    Case("a manifest that is no image", ROOTED, "", 66, ": bad folder: BadManifest\n", before=FOLDER + "; echo x > r/manifest"),
+    Case("a link in a folder", ROOTED, "", 66, ": bad folder: OddObject\n", before=FOLDER + "; ln -s etc r/tree/a"),
+    Case("a folder with too long a name", (*CREATE, "--root=" + "r" * 300), "", 77, ""),
+    Case("a folder without a name", (*CREATE, "--root="), "", 1, ": usage\n"),
+    Case("two folders", (*ROOTED, "--root=r"), "", 1, ": usage\n", before=FOLDER),
 )
 
 
 def run(program: Path, case: Case) -> tuple[int, str]:
     """The status and the output of a case."""
-    script = (f"ulimit -v {case.limit}; " if case.limit else "") + f'exec "$@" {case.ends}'
-    with tempfile.TemporaryFile() as given:
+    limit = f"ulimit -v {case.limit}; " if case.limit else ""
+    script = f'{case.before or ":"}; {limit}exec "$@" {case.ends}'
+    with tempfile.TemporaryFile() as given, tempfile.TemporaryDirectory() as room:
         given.write(case.given.encode())
         given.seek(0)
-        done = subprocess.run(["bash", "-c", script, "", str(program), *case.words], stdin=given,
-                              capture_output=True, check=False)
+        done = subprocess.run(["bash", "-c", script, "", str(program.resolve()), *case.words], stdin=given,
+                              cwd=room, capture_output=True, check=False)
     return done.returncode, (done.stdout + done.stderr).decode(errors="backslashreplace")
 
 

@@ -1,13 +1,15 @@
-//! `provision`: runs over the image on standard input, and writes messages and the image to standard output.
+//! `provision`: runs over the image on standard input, or on a folder, and writes messages, and the image, to standard output.
 #![tactic(auto)]
 
 ghost use Rattle.std.specs.Prelude.{◌≡◌, None, drop, map, string_bytes};
 ghost use Rattle.std.specs.Process.{exit_status};
 ghost use Rattle.pv_io.specs.Faults.{HasRisen};
 ghost use Rattle.pv_words.specs.Asked.{asked_of};
+ghost use Rattle.pv_words.specs.Rooted.{rooted_of};
 ghost use Rattle.provision.specs.Ended.{IsStatusOf};
 
-use provision_run::{provision, status};
+use provision_run::{provision_all, status};
+use pv_host::{Host, RealHost};
 use pv_io::{Sink, Source, StdSink, StdSource};
 use std::alloc::Global;
 use std::env;
@@ -57,19 +59,29 @@ fn words_of(arguments: &[String]) -> &[String]
 }
 
 /// Runs the program with its arguments, and gives the status of how that ended. All arguments after the first are its words.
-fn run<S: Source, K: Sink>(
+fn run<S: Source, K: Sink, H: Host>(
     alloc: Global,
     arguments: &[String],
     clock_micros: u64,
     source: &mut S,
     sink: &mut K,
+    host: &mut H,
 ) -> ExitCode
     ensures status { IsStatusOf (map string_bytes (drop 1 arguments.now)) clock_micros (S.left source.old)
-        (K.written sink.old) (K.written sink.new) (HasRisen (S.faults source.old) (S.faults source.new))
-        (HasRisen (K.faults sink.old) (K.faults sink.new)) (exit_status result) }
+        (K.written sink.old) (K.written sink.new) (H.content host.old) (H.content host.new)
+        (HasRisen (S.faults source.old) (S.faults source.new)) (HasRisen (K.faults sink.old) (K.faults sink.new))
+        (HasRisen (H.faults host.old) (H.faults host.new)) (exit_status result) }
     ensures unread { asked_of (map string_bytes (drop 1 arguments.now)) ≡ None → source.new ≡ source.old }
+    ensures unasked { rooted_of (map string_bytes (drop 1 arguments.now)) ≡ None → host.new ≡ host.old }
 {
-    let outcome = provision(alloc, words_of(arguments), clock_micros, source, sink);
+    let outcome = provision_all(
+        alloc,
+        words_of(arguments),
+        clock_micros,
+        source,
+        sink,
+        host,
+    );
     ExitCode::from(status(&outcome))
 }
 
@@ -80,11 +92,13 @@ fn main(rt: HostRuntime) -> ExitCode {
     };
     let mut source = StdSource::new(rt.stdin());
     let mut sink = StdSink::new(rt.stdout());
+    let mut host = RealHost::new(rt);
     run(
         rt.alloc(),
         &arguments,
         clock_of(&rt),
         &mut source,
         &mut sink,
+        &mut host,
     )
 }

@@ -13,7 +13,7 @@ use Rattle.pv_tree.proofs.FuseLaws.{burnt_within}
 use Rattle.pv_words.specs.declared.options.Options.{Options}
 use Rattle.provision_run.specs.declared.answer.Answer.{Answer}
 use Rattle.provision_run.specs.declared.outcome.Outcome.{Outcome}
-use Rattle.provision_run.specs.declared.outcome.Outcome.TheVariants.{Done, ConfigInvalid, NotCarriedOut, Usage, BadImage, NoFreeId, Memory, ReadFault, WriteFault, Stopped}
+use Rattle.provision_run.specs.declared.outcome.Outcome.TheVariants.{Done, ConfigInvalid, NotCarriedOut, Usage, BadImage, NoFreeId, Memory, ReadFault, WriteFault, Stopped, BadFolder, FolderFailed}
 use Rattle.provision_run.specs.declared.ending.RunEnd.{RunEnd}
 use Rattle.provision_run.specs.declared.ending.RunEnd.TheVariants as end
 use Rattle.provision_run.specs.Tasks.{task_of}
@@ -28,14 +28,14 @@ use Rattle.provision_run.specs.Answers.{IsAnswer, IsAnswered, IsRun, IsOwn, most
 use Rattle.provision_run.specs.Messages.{messages_text}
 
 -- an outcome of a run that was not stopped
-abbrev IsEnd : Outcome → Type 0
+abbrev pub IsEnd : Outcome → Type 0
 IsEnd Done = Unit {0}
 IsEnd ConfigInvalid = Unit {0}
 IsEnd NotCarriedOut = Unit {0}
 IsEnd (NoFreeId name) = Unit {0}
 IsEnd found = ⊥
 
-ends : (e : RunEnd) → IsEnd (outcome_of e)
+pub ends : (e : RunEnd) → IsEnd (outcome_of e)
 ends end.Done = tt
 ends end.ConfigInvalid = tt
 ends end.NotCarriedOut = tt
@@ -54,6 +54,8 @@ whole_of options facts moment t Memory messages left is h = h
 whole_of options facts moment t ReadFault messages left is h = h
 whole_of options facts moment t WriteFault messages left is h = h
 whole_of options facts moment t (Stopped n) messages left is h = absurd is
+whole_of options facts moment t (BadFolder f) messages left is h = h
+whole_of options facts moment t FolderFailed messages left is h = h
 
 run_whole : (options : Options) (facts : Values) (moment : ℕ) (t : Files) (e : RunEnd) (found : Outcome) (messages : List (List ℕ)) (left : Files) → found ≡ outcome_of e
     → IsWhole options facts moment t found messages left → HasRun options facts moment t found messages left
@@ -77,6 +79,8 @@ module _ (options : Options) (clock : ℕ) (input : List ℕ) (facts : Values) (
   answer_of ReadFault out h = run_of ReadFault out h
   answer_of WriteFault out h = run_of WriteFault out h
   answer_of (Stopped n) out h = run_of (Stopped n) out h
+  answer_of (BadFolder f) out h = run_of (BadFolder f) out h
+  answer_of FolderFailed out h = run_of FolderFailed out h
 
   -- what was answered over an image is the answer to its bytes
   pub answers : {E : Type 0} (r : Result Answer E) → IfOk r (λ a. IsAnswered options facts (moment_of options clock) t a.outcome a.output.items)
@@ -96,6 +100,8 @@ own_of_end Memory h = absurd h
 own_of_end ReadFault h = absurd h
 own_of_end WriteFault h = absurd h
 own_of_end (Stopped n) h = absurd h
+own_of_end (BadFolder f) h = absurd h
+own_of_end FolderFailed h = absurd h
 
 own_of_run : (options : Options) (clock : ℕ) (input : List ℕ) (found : Outcome) (out : List ℕ) → IsRun options clock input found out → IsOwn found × (found ≢ Usage)
 own_of_run options clock input found out run = by found run.answered
@@ -111,6 +117,8 @@ own_of_run options clock input found out run = by found run.answered
     by Memory h = own_of_end Memory (subst IsEnd (sym h.run.end) (ends (run_end options run.facts (moment_of options clock) run.tree)))
     by ReadFault h = own_of_end ReadFault (subst IsEnd (sym h.run.end) (ends (run_end options run.facts (moment_of options clock) run.tree)))
     by WriteFault h = own_of_end WriteFault (subst IsEnd (sym h.run.end) (ends (run_end options run.facts (moment_of options clock) run.tree)))
+    by (BadFolder f) h = own_of_end (BadFolder f) (subst IsEnd (sym h.run.end) (ends (run_end options run.facts (moment_of options clock) run.tree)))
+    by FolderFailed h = own_of_end FolderFailed (subst IsEnd (sym h.run.end) (ends (run_end options run.facts (moment_of options clock) run.tree)))
 
 pub own_of_answer : (options : Options) (clock : ℕ) (input : List ℕ) (found : Outcome) (out : List ℕ) → IsAnswer options clock input found out → IsOwn found × (found ≢ Usage)
 own_of_answer options clock input (BadImage f) out h = (tt, λ e. cc)
@@ -123,6 +131,8 @@ own_of_answer options clock input Memory out h = own_of_run options clock input 
 own_of_answer options clock input ReadFault out h = own_of_run options clock input ReadFault out h
 own_of_answer options clock input WriteFault out h = own_of_run options clock input WriteFault out h
 own_of_answer options clock input (Stopped n) out h = own_of_run options clock input (Stopped n) out h
+own_of_answer options clock input (BadFolder f) out h = own_of_run options clock input (BadFolder f) out h
+own_of_answer options clock input FolderFailed out h = own_of_run options clock input FolderFailed out h
 
 pub answers_own : (options : Options) (clock : ℕ) (input : List ℕ) {E : Type 0} (r : Result Answer E) → IfOk r (λ a. IsAnswer options clock input a.outcome a.output.items)
     → IfOk r (λ a. IsOwn a.outcome × (a.outcome ≢ Usage))

@@ -10,5 +10,7 @@ pub mod RunLaws
 pub mod StopsLaws
 pub mod TaskLaws
 pub mod WrittenLaws
+pub mod FolderLaws
+pub mod RootedLaws
 pub mod GeneratedLaws
 mod FrameLaws

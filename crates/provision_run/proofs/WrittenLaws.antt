@@ -1,13 +1,14 @@
 -- What a call has written, from its answer and what the sink took.
 use Rattle.std.specs.Prelude.{◌≡◌, ℕ, true, false, List, [], take, Option, Some, None, IfSome}
-use Rattle.std.proofs.Common.{subst, sym, ap, ◌∙◌}
+use Rattle.std.proofs.Common.{refl, subst, sym, ap, ◌∙◌}
 use Rattle.std.specs.Io.KnownBytes.{Appends}
 use Rattle.pv_io.specs.Transfers.{AppendsFront}
 use Rattle.pv_words.specs.declared.asked.Asked.{Asked}
 use Rattle.pv_words.specs.declared.asked.Asked.TheVariants.{Generate}
 use Rattle.provision_run.specs.declared.outcome.Outcome.{Outcome}
-use Rattle.provision_run.specs.declared.outcome.Outcome.TheVariants.{Done, ConfigInvalid, NotCarriedOut, Usage, BadImage, NoFreeId, Memory, ReadFault, WriteFault, Stopped}
-use Rattle.provision_run.specs.Answers.{HasOutput, HasWritten, HasWrittenGenerated, IsGeneratedBy, reads_input}
+use Rattle.provision_run.specs.declared.outcome.Outcome.TheVariants.{Done, ConfigInvalid, NotCarriedOut, Usage, BadImage, NoFreeId, Memory, ReadFault, WriteFault, Stopped, BadFolder, FolderFailed}
+use Rattle.provision_run.specs.Answers.{HasOutput, HasWritten, HasWrittenGenerated, IsGeneratedBy, IsOwn, reads_input}
+use Rattle.provision_run.specs.OnFolder.{is_of_folder}
 
 -- the whole output was taken
 pub wholly_written : (words : List (List ℕ)) (clock : ℕ) (input : List ℕ) (found : Outcome) (out : List ℕ) (old new : Option (List ℕ))
@@ -22,6 +23,8 @@ wholly_written words clock input Memory out old new h a = absurd h.0
 wholly_written words clock input ReadFault out old new h a = absurd h.0
 wholly_written words clock input WriteFault out old new h a = absurd h.0
 wholly_written words clock input (Stopped n) out old new h a = (out, h, a)
+wholly_written words clock input (BadFolder f) out old new h a = absurd h.0
+wholly_written words clock input FolderFailed out old new h a = absurd h.0
 
 -- a front part of it was taken
 pub front_written : (words : List (List ℕ)) (clock : ℕ) (left : Option (List ℕ)) (found : Outcome) (out bytes : List ℕ) (old new : Option (List ℕ)) → bytes ≡ out
@@ -63,3 +66,19 @@ module _ (asked : Option Asked) (seed count : ℕ) (is : asked ≡ Some (Generat
 pub generated_nothing : (seed count : ℕ) (old new : Option (List ℕ)) → Appends old new [] → HasWrittenGenerated seed count Memory old new
 unfolding HasWrittenGenerated
 generated_nothing seed count old new none = none
+
+-- ---- of no folder
+
+pub own_unfolded : (found : Outcome) → IsOwn found → is_of_folder found ≡ false
+own_unfolded Done h = refl
+own_unfolded ConfigInvalid h = refl
+own_unfolded NotCarriedOut h = refl
+own_unfolded Usage h = refl
+own_unfolded (BadImage f) h = refl
+own_unfolded (NoFreeId name) h = refl
+own_unfolded Memory h = refl
+own_unfolded ReadFault h = refl
+own_unfolded WriteFault h = refl
+own_unfolded (Stopped n) h = refl
+own_unfolded (BadFolder f) h = absurd h
+own_unfolded FolderFailed h = absurd h

@@ -10,7 +10,7 @@ use Rattle.pv_image.specs.declared.image_fault.ImageFault.TheVariants as fault
 use Rattle.pv_image.specs.Images.{IsImage, HasImageFault}
 use Rattle.pv_image.specs.Spelling.{text_of}
 use Rattle.provision_run.specs.declared.outcome.Outcome.{Outcome}
-use Rattle.provision_run.specs.declared.outcome.Outcome.TheVariants.{Done, ConfigInvalid, NotCarriedOut, Usage, BadImage, NoFreeId, Memory, ReadFault, WriteFault, Stopped}
+use Rattle.provision_run.specs.declared.outcome.Outcome.TheVariants.{Done, ConfigInvalid, NotCarriedOut, Usage, BadImage, NoFreeId, Memory, ReadFault, WriteFault, Stopped, BadFolder, FolderFailed}
 use Rattle.provision_run.specs.OverTree.{HasRun}
 use Rattle.provision_run.specs.Words.{moment_of}
 use Rattle.pv_words.specs.Asked.{asked_of}
@@ -31,6 +31,8 @@ status_of Memory = 71
 status_of ReadFault = 74
 status_of WriteFault = 76
 status_of (Stopped steps) = 75
+status_of (BadFolder fault) = 66
+status_of FolderFailed = 77
 
 -- ---- texts
 
@@ -77,11 +79,14 @@ pub record IsRun (options : Options) (clock : ℕ) (input : List ℕ) (found : O
   pub fits : length input ≤ most_bytes
   pub answered : IsAnswered options facts (moment_of options clock) tree found out
 
--- an outcome that has an output of its own, unlike running out of memory and the failures of the two ends
+-- an outcome that has an output of its own, unlike running out of memory and the failures of the two ends; a run over an image
+-- has none of a folder
 abbrev pub IsOwn : Outcome → Type 0
 IsOwn Memory = ⊥
 IsOwn ReadFault = ⊥
 IsOwn WriteFault = ⊥
+IsOwn (BadFolder fault) = ⊥
+IsOwn FolderFailed = ⊥
 IsOwn found = Unit {0}
 
 -- the whole output that belongs to an input and an outcome

@@ -12,6 +12,7 @@ pub mod Generated
 pub mod Lending
 pub mod OverTree
 pub mod Answers
+pub mod OnFolder
 pub mod Stops
 pub mod Framed
 pub mod OnTheWay

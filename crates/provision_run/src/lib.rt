@@ -10,6 +10,7 @@ mod generated;
 mod laws;
 mod lent;
 mod message;
+mod on_folder;
 mod outcome;
 mod reporting;
 mod run;
@@ -23,4 +24,4 @@ pub use laws::{outputs_of_stopped_runs_are_mended, trees_of_stopped_runs_are_men
 pub use outcome::{Outcome, status};
 pub use pv_phases::boot_run;
 pub use run::run_on_tree;
-pub use top::provision;
+pub use top::{provision, provision_all};

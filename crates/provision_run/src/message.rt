@@ -2,9 +2,11 @@
 ghost use Rattle.std.specs.Prelude.{◌≡◌, ◌++◌, ◌∷◌, [], true, IfOk, OnOk};
 ghost use Rattle.pv_text.specs.Lines.{are_lines, is_line};
 ghost use Rattle.provision_run.specs.Answers.{bad_image_text, at_line};
+ghost use Rattle.provision_run.specs.OnFolder.{bad_folder_text};
 ghost use Rattle.provision_run.specs.OverTree.{stopped_text};
 ghost use Rattle.provision_run.specs.Messages.{message, messages_text, message_at};
 
+use pv_folder::OpenFault;
 use pv_image::ImageFault;
 use pv_text::Messages;
 use std::alloc::{AllocError, Global};
@@ -65,6 +67,20 @@ pub fn bad_image(alloc: Global, fault: ImageFault) -> Result<Vec<u8>, AllocError
         ImageFault::NoParent(n) => at_line(alloc, n, "NoParent"),
         ImageFault::Truncated(n) => at_line(alloc, n, "Truncated"),
         ImageFault::Memory => Ok(Vec::new(alloc)),
+    }
+}
+
+/// What is said of a folder that is not opened: the name of the fault, and nothing where the folder is not at fault.
+pub fn bad_folder(alloc: Global, fault: &OpenFault) -> Result<Vec<u8>, AllocError>
+    ensures text { IfOk result (λ text. text.items ≡ bad_folder_text fault.now) }
+    ensures line { IfOk result (λ text. is_line text.items ≡ true) }
+{
+    match fault {
+        OpenFault::NotPrepared => Vec::from_slice(alloc, b"bad folder: NotPrepared"),
+        OpenFault::BadManifest(_) => Vec::from_slice(alloc, b"bad folder: BadManifest"),
+        OpenFault::OddObject(_) => Vec::from_slice(alloc, b"bad folder: OddObject"),
+        OpenFault::TooLarge => Vec::from_slice(alloc, b"bad folder: TooLarge"),
+        OpenFault::HostFailed | OpenFault::Memory => Ok(Vec::new(alloc)),
     }
 }
 

@@ -2,6 +2,7 @@
 ghost use Rattle.std.specs.Prelude.{◌≡◌};
 ghost use Rattle.provision_run.specs.Answers.{status_of};
 
+use pv_folder::OpenFault;
 use pv_image::ImageFault;
 use pv_path::Bytes;
 
@@ -28,6 +29,10 @@ pub enum Outcome {
     WriteFault,
     /// The run was stopped after so many steps.
     Stopped(u64),
+    /// The folder cannot be run on, for a fault of what is there.
+    BadFolder(OpenFault),
+    /// The host failed; the folder may hold a part of what the run leaves.
+    FolderFailed,
 }
 
 /// The status with which the program ends.
@@ -45,5 +50,7 @@ pub fn status(outcome: &Outcome) -> u8
         Outcome::ReadFault => 74,
         Outcome::WriteFault => 76,
         Outcome::Stopped(_) => 75,
+        Outcome::BadFolder(_) => 66,
+        Outcome::FolderFailed => 77,
     }
 }

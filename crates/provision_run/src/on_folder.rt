@@ -1,0 +1,108 @@
+//! A run on a folder of a host.
+ghost use Rattle.std.specs.Prelude.{◌≡◌, ◌∷◌, [], IfOk, IfSome};
+ghost use Rattle.pv_io.specs.Faults.{HasRisen};
+ghost use Rattle.pv_host.specs.Content.{spelled};
+ghost use Rattle.pv_folder.specs.Keeping.{Keeps};
+ghost use Rattle.pv_folder.specs.Opening.{IsOpened};
+ghost use Rattle.provision_run.specs.Messages.{messages_text};
+ghost use Rattle.provision_run.specs.OnFolder.{EndsAs, HasOutputOn, bad_folder_text};
+
+use crate::answer::Answer;
+use crate::message::{add_message, bad_folder, print_messages};
+use crate::outcome::Outcome;
+use crate::running::run_limited;
+use pv_folder::{FolderTree, OpenFault, close_folder, read_folder};
+use pv_host::{Host, HostFault};
+use pv_image::Image;
+use pv_steps::TreeFault;
+use pv_text::Messages;
+use pv_words::Rooted;
+use std::alloc::{AllocError, Global};
+
+/// The answer to words that name a folder, and what the folder then holds.
+pub(crate) fn answer_folder<H: Host>(
+    alloc: Global,
+    rooted: &Rooted,
+    clock: u64,
+    host: &mut H,
+) -> Result<Answer, AllocError>
+    ensures output { IfOk result (λ answer. HasOutputOn (spelled rooted.entry.now.folder) rooted.entry.now.options clock
+        (H.content host.old) (H.content host.new) answer.outcome answer.output.items) }
+    ensures cause { IfOk result (λ answer. answer.outcome ≡ Outcome.FolderFailed → HasRisen (H.faults host.old) (H.faults host.new)) }
+{
+    match read_folder(alloc, host, rooted.folder.as_slice()) {
+        Ok(image) => run_opened(alloc, rooted, image, clock, host),
+        Err(OpenFault::Memory) => Err(AllocError),
+        Err(OpenFault::HostFailed) => Ok(Answer {
+            outcome: Outcome::FolderFailed,
+            output: Vec::new(alloc),
+        }),
+        Err(fault) => refuse_folder(alloc, fault),
+    }
+}
+
+/// The answer where the folder cannot be run on.
+fn refuse_folder(alloc: Global, fault: OpenFault) -> Result<Answer, AllocError>
+    ensures outcome { IfOk result (λ answer. answer.outcome ≡ Outcome.BadFolder fault) }
+    ensures output { IfOk result (λ answer. answer.output.items ≡ messages_text (bad_folder_text fault ∷ [])) }
+{
+    let text = bad_folder(alloc, &fault)?;
+    let mut output = Vec::new(alloc);
+    add_message(&mut output, &text)?;
+    Ok(Answer {
+        outcome: Outcome::BadFolder(fault),
+        output,
+    })
+}
+
+/// Runs over the tree of a folder that was opened, and keeps there what the run has left, whatever the run answered.
+fn run_opened<H: Host>(
+    alloc: Global,
+    rooted: &Rooted,
+    image: Image,
+    clock: u64,
+    host: &mut H,
+) -> Result<Answer, AllocError>
+    requires fresh { image.tree.steps ≡ [] }
+    requires opened { IfSome (H.content host.old) (λ c. IsOpened (spelled rooted.now.folder) c image.facts image.tree.files) }
+    requires ready { IfSome (H.content host.old) (λ c. Keeps (spelled rooted.now.folder) image.tree.files c) }
+    ensures output { IfOk result (λ answer. HasOutputOn (spelled rooted.entry.now.folder) rooted.entry.now.options clock
+        (H.content host.old) (H.content host.new) answer.outcome answer.output.items) }
+    ensures cause { IfOk result (λ answer. answer.outcome ≡ Outcome.FolderFailed → HasRisen (H.faults host.old) (H.faults host.new)) }
+{
+    let Image { tree, facts } = image;
+    let options = &rooted.options;
+    let folder = Vec::from_slice(alloc, rooted.folder.as_slice())?;
+    let mut tree = FolderTree::of(host, folder, tree);
+    let mut messages = Messages::new(alloc);
+    let moment = options.now.unwrap_or(clock);
+    let ran = run_limited(alloc, options, &facts, moment, &mut tree, &mut messages);
+    let pending = tree.is_pending();
+    let closed = close_folder(alloc, &mut tree, &facts);
+    let outcome = outcome_of(ran, pending, closed)?;
+    let output = print_messages(alloc, &messages)?;
+    Ok(Answer { outcome, output })
+}
+
+/// The outcome of a run, by whether the host has all that it did, and whether that is kept.
+fn outcome_of(
+    ran: Result<Outcome, TreeFault>,
+    pending: bool,
+    closed: Result<(), HostFault>,
+) -> Result<Outcome, AllocError>
+    ensures { IfOk result (EndsAs ran pending closed) }
+{
+    match (ran, closed) {
+        (Err(TreeFault::Memory), _) => Err(AllocError),
+        (Err(TreeFault::Failed), _) => Ok(Outcome::FolderFailed),
+        (Ok(_), Err(HostFault::Failed)) => Ok(Outcome::FolderFailed),
+        (Ok(_), Err(HostFault::Memory)) => Err(AllocError),
+        (Ok(outcome), Ok(())) => {
+            if pending {
+                Err(AllocError)
+            } else {
+                Ok(outcome)
+            }
+        }
+    }
+}

@@ -1,0 +1,48 @@
+//! What a row gives.
+use crate::hosts::{folder_text, host_image};
+use crate::runs::{failures, run, stops};
+use pv_sheet::{Calls, Row, Sheet};
+use std::alloc::{AllocError, Global};
+
+/// The call of the host that a row breaks.
+fn broken(alloc: Global, row: &Row<'_>) -> Result<Option<u64>, AllocError> {
+    let calls = row.marked(alloc, "host fails at call ")?;
+    Ok(match calls.as_slice() {
+        [call] => call.parse().ok(),
+        _ => None,
+    })
+}
+
+/// What a run writes, what the host then has in the folder, and the status.
+fn ran(alloc: Global, row: &Row<'_>, image: &[u8]) -> Result<Vec<u8>, AllocError> {
+    let Some(ran) = run(alloc, row.words, image, broken(alloc, row)?)? else {
+        return Ok("no image".to_string(alloc)?.into_bytes());
+    };
+    let mut text = ran.said;
+    let folder = folder_text(alloc, str::from_utf8(&ran.image).unwrap_or(""))?;
+    text.extend_from_slice(folder.as_bytes())?;
+    text.extend_from_slice(format!(in alloc; "= {}", ran.status)?.as_bytes())?;
+    Ok(text)
+}
+
+/// What carries out runs on a folder.
+pub(crate) struct Runs;
+
+impl Calls for Runs {
+    fn found(
+        &self,
+        alloc: Global,
+        sheet: &Sheet<'_>,
+        row: &Row<'_>,
+    ) -> Result<Vec<u8>, AllocError> {
+        let image = host_image(alloc, sheet, row)?;
+        let image = image.as_bytes();
+        let told = match row.call {
+            "folder" => return ran(alloc, row, image),
+            "failures" => failures(alloc, row.words, image)?,
+            "stops" => stops(alloc, row.words, image)?,
+            _ => "no such call".to_string(alloc)?,
+        };
+        Ok(format!(in alloc; "= {told}")?.into_bytes())
+    }
+}
