@@ -1,6 +1,6 @@
 //! What a run says, from the words and the bytes of its input.
-ghost use Rattle.std.specs.Prelude.{◌≡◌, ◌≢◌, ◌≤◌, ◌↔◌, ◌++◌, [], None, false, true, map, string_bytes, length, IfOk, IfSome, IsErrOf};
-ghost use Rattle.pv_image.specs.Images.{IsImage};
+ghost use Rattle.std.specs.Prelude.{◌≡◌, ◌≢◌, ◌≤◌, ◌↔◌, ◌++◌, [], None, false, true, map, string_bytes, length, IfErr, IfOk, IfSome, IsErrOf};
+ghost use Rattle.pv_image.specs.Images.{HasImageFault, IsImage};
 ghost use Rattle.pv_image.specs.Spelling.{text_of};
 ghost use Rattle.pv_io.specs.Faults.{HasRisen};
 ghost use Rattle.pv_words.specs.Asked.{asked_of};
@@ -14,7 +14,7 @@ use crate::generated::run_generated;
 use crate::message::{add_message, bad_image, print_messages};
 use crate::outcome::Outcome;
 use crate::running::run_limited;
-use pv_image::{Image, ImageFault, read_image, write_image};
+use pv_image::{Image, ImageFault, add_image, read_image};
 use pv_io::{ReadAllFault, Source, read_all};
 use pv_steps::TreeFault;
 use pv_text::{Facts, Messages};
@@ -86,8 +86,7 @@ fn finish(
     ensures outcome { IfOk result (λ answer. answer.outcome ≡ outcome) }
 {
     let mut output = print_messages(alloc, messages)?;
-    let text = write_image(alloc, tree, facts)?;
-    output.extend_from_slice(&text)?;
+    add_image(alloc, &mut output, tree, facts)?;
     Ok(Answer { outcome, output })
 }
 
@@ -111,17 +110,26 @@ fn run_over(
     }
 }
 
-/// The answer to the bytes of an input.
+/// The image of an input, whose bytes are given up.
+fn read_input(alloc: Global, bytes: Vec<u8>) -> Result<Image, ImageFault>
+    ensures image { IfOk result (λ image. IsImage bytes.items image.facts image.tree.files) }
+    ensures steps { IfOk result (λ image. image.tree.steps ≡ []) }
+    ensures fault { IfErr result (λ f. f ≢ ImageFault.Memory → HasImageFault bytes.items f) }
+{
+    read_image(alloc, &bytes)
+}
+
+/// The answer to the bytes of an input, which are given up once they are read.
 fn answer_bytes(
     alloc: Global,
-    bytes: &[u8],
+    bytes: Vec<u8>,
     options: &Options,
     clock: u64,
 ) -> Result<Answer, AllocError>
-    requires fits { length bytes.now ≤ most_bytes }
-    ensures { IfOk result (λ answer. IsAnswer options.entry.now clock bytes.now answer.outcome answer.output.items) }
+    requires fits { length bytes.items ≤ most_bytes }
+    ensures { IfOk result (λ answer. IsAnswer options.entry.now clock bytes.items answer.outcome answer.output.items) }
 {
-    match read_image(alloc, bytes) {
+    match read_input(alloc, bytes) {
         Ok(image) => run_over(alloc, image, options, clock),
         Err(ImageFault::Memory) => Err(AllocError),
         Err(fault) => refuse(alloc, fault),
@@ -141,7 +149,7 @@ fn answer_source<S: Source>(
     ensures cause { IsErrOf result NoAnswer.ReadFault → HasRisen (S.faults source.old) (S.faults source.new) }
 {
     match read_all(alloc, source) {
-        Ok(bytes) => Ok(answer_bytes(alloc, &bytes, options, clock)?),
+        Ok(bytes) => Ok(answer_bytes(alloc, bytes, options, clock)?),
         Err(ReadAllFault::TooLong) => Ok(refuse(alloc, ImageFault::TooLong)?),
         Err(ReadAllFault::ReadFault) => Err(NoAnswer::ReadFault),
         Err(ReadAllFault::Memory) => Err(NoAnswer::Memory),

@@ -26,4 +26,4 @@ pub use laws::{
 pub use reader::{Image, read_image};
 pub use version::Version;
 pub use write::print_node;
-pub use writer::write_image;
+pub use writer::{add_image, write_image};

@@ -20,12 +20,22 @@ pub fn write_image(alloc: Global, tree: &MemTree, facts: &Facts) -> Result<Vec<u
     ensures text { IfOk result (λ text. text.items ≡ text_of facts.now tree.now.files) }
     ensures image { IfOk result (λ text. IsImage text.items facts.now tree.now.files) }
 {
-    let mut output = Vec::from_slice(alloc, header(Version::Two))?;
-    output.push(b'\n')?;
-    add_facts(&mut output, facts)?;
-    add_nodes(alloc, &mut output, tree)?;
-    output.extend_from_slice(b"end\n")?;
+    let mut output = Vec::new(alloc);
+    add_image(alloc, &mut output, tree, facts)?;
     Ok(output)
+}
+
+/// Adds the one text of facts and a tree, in version 2, which is an image of them, to a text.
+pub fn add_image(alloc: Global, output: &mut Vec<u8>, tree: &MemTree, facts: &Facts) -> Result<(), AllocError>
+    ensures text { OnOk result (output.new.items ≡ output.old.items ++ text_of facts.now tree.now.files) }
+    ensures image { OnOk result (IsImage (text_of facts.now tree.now.files) facts.now tree.now.files) }
+{
+    output.extend_from_slice(header(Version::Two))?;
+    output.push(b'\n')?;
+    add_facts(output, facts)?;
+    add_nodes(alloc, output, tree)?;
+    output.extend_from_slice(b"end\n")?;
+    Ok(())
 }
 
 /// Adds the lines of all facts, in the order of their letters.

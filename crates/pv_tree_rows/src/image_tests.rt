@@ -87,16 +87,6 @@ fn faults_of_texts(rt: HostRuntime) {
     }
 }
 
-/// Messages name a fault by its name alone.
-#[test]
-fn names_of_faults(rt: HostRuntime) -> Result<(), Fail> {
-    let line = ImageFault::OutOfOrder(7).to_string(rt.alloc())?;
-    assert!(rt; line.as_str() == "OutOfOrder");
-    let long = ImageFault::TooLong.to_string(rt.alloc())?;
-    assert!(rt; long.as_str() == "TooLong");
-    Ok(())
-}
-
 /// An image of a root and further lines.
 fn with_lines(alloc: Global, front: &[u8], lines: &[u8]) -> Result<Vec<u8>, AllocError> {
     let mut text = Vec::from_slice(alloc, front)?;

@@ -8,6 +8,8 @@ mod create_tests;
 #[cfg(test)]
 mod dress_tests;
 #[cfg(test)]
+mod fault_tests;
+#[cfg(test)]
 mod generate_tests;
 #[cfg(test)]
 mod given;
