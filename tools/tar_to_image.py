@@ -642,8 +642,8 @@ def run(words: list[str]) -> int:
     if notices.failed():
         return 1
     if options.folder is not None:
-        write_folder(options.folder, facts, nodes, lambda node: builder.store.pieces(node.content))
-        return 0
+        write_folder(options.folder, facts, nodes, lambda node: builder.store.pieces(node.content), notices)
+        return 1 if notices.failed() else 0
     return write_image(builder, nodes, facts, notices)
 
 

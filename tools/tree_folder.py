@@ -15,28 +15,34 @@ import stat
 from collections.abc import Callable, Iterable, Iterator
 from pathlib import Path
 
-from tree_image import ImageReader, Node, Trouble, head_lines, node_line, parent_of, path_key, printed_path
+from tree_image import ImageReader, Node, Notices, Trouble, head_lines, node_line, parent_of, path_key, printed_path
 
 PIECE = 1 << 20
+MOST_OBJECTS = 1000000
+MOST_BYTES = 67108864
 REAL_KINDS = "df"
 
 
 def write_folder(folder: str, facts: dict[str, bytes], nodes: Iterable[Node],
-                 pieces: Callable[[Node], Iterator[bytes]]) -> None:
+                 pieces: Callable[[Node], Iterator[bytes]], notices: Notices) -> None:
     """Write a tree into a folder that is absent or empty; the manifest comes last."""
     top = Path(folder)
     top.mkdir(exist_ok=True)
     if any(top.iterdir()):
         raise Trouble(f"{folder}: the folder is not empty")
     root = os.fsencode(top / "tree")
+    objects = size = 0
     with open(top / "manifest.new", "wb") as manifest:
         manifest.write(head_lines(facts))
         for node in nodes:
             _check_name(node)
-            _write_real(root, node, pieces)
+            objects += node.kind in REAL_KINDS and node.path != b"/"
+            size += _write_real(root, node, pieces)
             manifest.write(node_line(node))
         manifest.write(b"end\n")
     os.rename(top / "manifest.new", top / "manifest")
+    if objects > MOST_OBJECTS or size > MOST_BYTES:
+        notices.warn(f"{objects} objects with {size} bytes; the program takes {MOST_OBJECTS} with {MOST_BYTES}")
 
 
 def _check_name(node: Node) -> None:
@@ -48,13 +54,14 @@ def _check_name(node: Node) -> None:
                       "in a folder") from None
 
 
-def _write_real(root: bytes, node: Node, pieces: Callable[[Node], Iterator[bytes]]) -> None:
+def _write_real(root: bytes, node: Node, pieces: Callable[[Node], Iterator[bytes]]) -> int:
+    """Make a directory or a file, and give how many bytes it has."""
     if node.kind == "d":
         os.mkdir(_place(root, node.path))
     elif node.kind == "f":
         with open(_place(root, node.path), "xb") as file:
-            for piece in pieces(node):
-                file.write(piece)
+            return sum(file.write(piece) for piece in pieces(node))
+    return 0
 
 
 def _place(root: bytes, path: bytes) -> bytes:

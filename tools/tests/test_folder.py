@@ -65,6 +65,10 @@ class Folders(ToolCase):
         said = b"tar_to_image: error: /\\xff: a name that is not UTF-8; the program reads none in a folder\n"
         self.write(archive((file_member(b"\xff"), b"")), said=said, status=1)
 
+    def test_more_bytes_than_a_run_takes(self):
+        said = b"tar_to_image: warning: 1 objects with 67108865 bytes; the program takes 1000000 with 67108864\n"
+        self.write(archive((file_member(b"large"), bytes(67108865))), said=said)
+
     def test_options_that_do_not_go_together(self):
         for words in (("--inline=/a",), ("--inline-limit=9",)):
             self.to_image(archive(folder_member(b"./")), self.option, *words, said=None, status=2)
