@@ -152,6 +152,7 @@ class Installing(ToolCase):
         top = self.room / "top"
         self.assertEqual(done.stderr.splitlines(), [
             "install: /none is lacking", f"install: {top}/tools/tar_stream.py is lacking",
+            f"install: {top}/tools/tree_folder.py is lacking",
             f"install: {top}/man/provision.1 is lacking", f"install: {top}/man/tree-image.5 is lacking"])
         self.assertEqual(done.returncode, 1)
         self.assertFalse((self.room / "to").exists())
