@@ -117,6 +117,7 @@ class Examples(ToolCase):
         self.assertEqual(self.said(text), (0, "examples: 3 commands and 0 images, 0 differ, 0 blocks not run\n"))
         text = "    $ out/provision a > /tmp/y; pwd | grep -o 'crates/.*'\n    crates/provision\n    $ cat /tmp/y\n    a\n"
         self.assertEqual(self.said(text)[0], 0)
+        self.assertEqual(self.said(text + "    $ dd if=/tmp/y status=none\n    a\n")[0], 0)
 
     def test_a_difference(self):
         status, said = self.said("x\n\n    $ provision a\n    b\n")
