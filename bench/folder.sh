@@ -1,20 +1,36 @@
 #!/usr/bin/env bash
-# Runs the built program on folders of this machine (`--root=FOLDER`): what it answers to folders that it cannot run on,
-# what a run costs beside a plain loop over the same files, and, where systemd-tmpfiles is installed and this is root, in
-# what its trees differ. It is no part of the gate.
+# Runs the built program on folders of this machine (`--root=FOLDER`). It is no part of the gate.
 #
-#   bench/folder.sh [PROGRAM]
+#   bench/folder.sh [PROGRAM [PART..]]      crates/provision/out/provision, and all parts, where none is named
 #
-# PROGRAM is crates/provision/out/provision where none is named. Status: 0 all as expected, 1 something is otherwise.
+#   answers  what it says of folders that it cannot run on, or not to the end, and what it leaves there; root runs it as
+#            nobody, so that permissions count. For a short time there are a million small files
+#   cost     a run on 100,000 files beside a plain loop over the same files and the manifest
+#   beside   where systemd-tmpfiles is installed and this is root: in which paths, kinds, links and contents its trees differ
+#            from what the program leaves, for each example
+#
+# Status: 0 all as expected, 1 something is otherwise.
 set -eu
 
 top=$(cd "$(dirname "$0")/.." && pwd)
-program=$(realpath "${1:-$top/crates/provision/out/provision}")
-[ -x "$program" ] || { echo "folder: $program is not built" >&2; exit 1; }
+built=$(realpath "${1:-$top/crates/provision/out/provision}")
+[ -x "$built" ] || { echo "folder: $built is not built" >&2; exit 1; }
+[ $# -lt 2 ] && parts="answers cost beside" || parts="${*:2}"
 room=$(mktemp -d)
 trap 'chmod -R u+rwx "$room"; rm -rf "$room"' EXIT
-cd "$room"
+chmod 711 "$room"
+program=$room/provision
+install -m 755 "$built" "$program"
+now=--now=1970-01-12T13:46:40Z
 odd=0
+otherwise() { echo "OTHERWISE: $1"; odd=1; }
+is_root() { [ "$(id -u)" = 0 ]; }
+
+# ---- what it answers
+
+user=()
+is_root && user=(setpriv --reuid=65534 --regid=65534 --clear-groups)
+own() { if is_root; then chown -R 65534:65534 "$@"; fi; }
 
 # fresh: a folder `it` with one line of configuration
 fresh() {
@@ -22,55 +38,162 @@ fresh() {
   rm -rf it
   mkdir -p it/tree/etc/tmpfiles.d
   echo 'd /run/app 0750 7 8' > it/tree/etc/tmpfiles.d/a.conf
+  own it
+}
+
+# run WORD..: the program on the folder `it`; $room_for is the largest file that may be written, in KiB
+room_for=unlimited
+run() {
+  (trap '' XFSZ; ulimit -f "$room_for"
+   exec "${user[@]}" "$program" systemd-tmpfiles --create "$now" --root=it "$@" < /dev/null 2> ../complaints)
 }
 
 # answers NAME STATUS TEXT [WORD..]: the program's answer to the folder `it`
 answers() {
-  name=$1 status=$2 text=$3; shift 3
-  found=0
-  said=$("$program" systemd-tmpfiles --create --root=it "$@" < /dev/null 2> /dev/null) || found=$?
-  if [ "$found" = "$status" ] && [ "$said" = "$text" ]; then echo "as expected: $name"; else
-    echo "OTHERWISE: $name: status $found, said: $said"; odd=1
+  local name=$1 status=$2 text=$3 found=0 said; shift 3
+  said=$(run "$@") || found=$?
+  if [ "$found" = "$status" ] && [ "$said" = "$text" ] && [ ! -s ../complaints ]; then
+    echo "as expected: $name"
+  else
+    otherwise "$name: status $found, said: $said $(head -c 300 ../complaints)"
   fi
 }
 
-# same NAME: nothing below `it` has changed since `before` was taken
-before() { find it -printf '%y %p %s\n' | sort > before; }
-same() { find it -printf '%y %p %s\n' | sort | cmp -s - before || { echo "OTHERWISE: $1: the folder has changed"; odd=1; }; }
+# refused NAME STATUS TEXT [WORD..]: the same, and all in the folder is as before
+state() { find it -printf '%y %m %p %s %l %T@\n' 2> /dev/null | sort; }
+refused() {
+  state > ../before
+  answers "$@"
+  state | cmp -s - ../before || otherwise "$1: the folder has changed"
+}
 
-# as somebody who may be refused something: root may do all
-plain_user() { [ "$(id -u)" != 0 ]; }
+# is_done NAME: the directory is there, and the manifest says of whom it is
+is_done() {
+  if [ ! -d it/tree/run/app ] || ! grep -q '^d /run/app 0750 7 8 ' it/manifest || [ -e it/manifest.new ]; then
+    otherwise "$1: what a run leaves"
+  fi
+}
 
-fresh; answers "a run" 0 ""
-[ -d it/tree/run/app ] && grep -q '^d /run/app 0750 7 8 ' it/manifest && [ ! -e it/manifest.new ] || { echo "OTHERWISE: what a run leaves"; odd=1; }
-answers "the same once more" 0 ""
-rm it/manifest; answers "no manifest" 0 ""
-fresh; before; answers "stopped before the first step" 75 ": stopped after 0 steps" --stop-after=0
-answers "and then whole" 0 ""
-rm -rf it; mkdir it; before; answers "no tree" 66 ": bad folder: NotPrepared"; same "no tree"
-rm -rf it; before 2> /dev/null || true; answers "no folder" 66 ": bad folder: NotPrepared"
-fresh; rm -rf it/tree; ln -s /etc it/tree; before; answers "tree is a link" 66 ": bad folder: NotPrepared"; same "a link"
-fresh; mkdir it/manifest; before; answers "manifest is a directory" 66 ": bad folder: NotPrepared"; same "a directory"
-fresh; ln -s nothing it/manifest.new; before; answers "manifest.new is a link" 66 ": bad folder: NotPrepared"; same "manifest.new"
-fresh; echo x > it/manifest; before; answers "a manifest that is no image" 66 ": bad folder: BadManifest"; same "no image"
-fresh; ln -s / it/tree/way; before; answers "a link below tree" 66 ": bad folder: OddObject"; same "a link below"
-fresh; mkfifo it/tree/pipe; before; answers "a FIFO below tree" 66 ": bad folder: OddObject"; same "a FIFO"
-fresh; printf x > "it/tree/$(printf 'a\nb')"; answers "a name with a line feed" 0 ""
-fresh; printf x > "it/tree/$(printf '\377')"; before; answers "a name that is not UTF-8" 77 ""; same "not UTF-8"
-fresh; truncate -s 67108865 it/tree/large; before; answers "more bytes than a run takes" 66 ": bad folder: TooLarge"; same "too large"
-if plain_user; then
-  fresh; chmod 0 it/tree/etc; answers "a directory that may not be read" 77 ""
-  fresh; chmod 0500 it/tree; answers "a tree that may not be written" 77 ""
-  fresh; chmod 0500 it; answers "a folder that may not be written" 77 ""
-else
-  echo "left out, since root may do all: what may not be read or written"
-fi
+# ends NAME STATUS TEXT [WORD..]: so a run ends here; after it a run by an ordinary user who may do all ends well
+ends() {
+  answers "$@"
+  room_for=unlimited
+  chmod -R u+rwx it
+  answers "$1, and then whole" 0 ""
+  is_done "$1"
+}
+
+# objects COUNT: so many objects below the tree, those of the configuration included
+objects() {
+  python3 - "$1" << 'END'
+import os, sys
+left = int(sys.argv[1]) - 3
+while left > 0:
+    directory = f"it/tree/d{left:07}"
+    os.mkdir(directory)
+    left -= 1
+    for number in range(min(left, 1000)):
+        os.close(os.open(f"{directory}/f{number:03}", os.O_CREAT | os.O_WRONLY))
+    left -= min(left, 1000)
+END
+  own it
+}
+
+# lines COUNT: lines that make so many directories and files, and link to them
+lines() {
+  awk -v count="$1" 'BEGIN { for (i = 0; i < count; i++)
+    printf "d /data/d%d 0750 7 8\nf /data/d%d/f 0640 7 8 - text\nL /data/l%d - - - - d%d\n", i, i, i, i }'
+}
+
+# left: what a run has left, without stamps
+left() { (cd it && find tree -printf '%y %p\n' | sort; find it/tree -type f -exec sha256sum {} + | sort; cut -d' ' -f1-5,7- it/manifest); }
+
+check_answers() {
+  fresh; answers "a run" 0 ""; is_done "a run"
+  answers "the same once more" 0 ""; is_done "the same once more"
+  rm it/manifest; answers "no manifest" 0 ""; is_done "no manifest"
+  fresh; echo left > it/manifest.new; own it; answers "an old manifest.new" 0 ""; is_done "an old manifest.new"
+  fresh; answers "stopped before the first step" 75 ": stopped after 0 steps" --stop-after=0
+  ends "stopped after three steps" 75 ": stopped after 3 steps" --stop-after=3
+
+  # folders that cannot be run on: all stays
+  rm -rf it; refused "no folder" 66 ": bad folder: NotPrepared"
+  mkdir it; refused "no tree" 66 ": bad folder: NotPrepared"
+  echo x > it/tree; refused "tree is a file" 66 ": bad folder: NotPrepared"
+  rm -rf it; echo x > it; refused "a file in place of the folder" 66 ": bad folder: NotPrepared"
+  fresh; mv it other; ln -s other it; refused "a link in place of the folder" 66 ": bad folder: NotPrepared"; rm -rf it other
+  fresh; mv it/tree it/other; ln -s other it/tree; refused "tree is a link" 66 ": bad folder: NotPrepared"
+  fresh; mkdir it/manifest; refused "manifest is a directory" 66 ": bad folder: NotPrepared"
+  fresh; echo x > it/x; ln -s x it/manifest; refused "manifest is a link" 66 ": bad folder: NotPrepared"
+  fresh; mkdir it/manifest.new; refused "manifest.new is a directory" 66 ": bad folder: NotPrepared"
+  fresh; ln -s nothing it/manifest.new; refused "manifest.new is a link" 66 ": bad folder: NotPrepared"
+  fresh; echo x > it/manifest; refused "a manifest that is no image" 66 ": bad folder: BadManifest"
+  fresh; : > it/manifest; refused "an empty manifest" 66 ": bad folder: BadManifest"
+  fresh; printf 'tree-image 2\nd / 0755 0 0 0,0,0,0 - - - -\n' > it/manifest
+  refused "a manifest without its end" 66 ": bad folder: BadManifest"
+  fresh; ln -s / it/tree/way; refused "a link below tree" 66 ": bad folder: OddObject"
+  fresh; mkfifo it/tree/etc/pipe; refused "a FIFO below tree" 66 ": bad folder: OddObject"
+  fresh; (cd it/tree && python3 -c 'import socket; socket.socket(socket.AF_UNIX).bind("s")')
+  refused "a socket below tree" 66 ": bad folder: OddObject"
+  if is_root && fresh && mknod it/tree/null c 1 3 2> /dev/null; then
+    refused "a device below tree" 66 ": bad folder: OddObject"
+  fi
+  fresh; : > "it/tree/$(printf '\377')"; refused "a name that is not UTF-8" 77 ""
+  fresh; deep=$(printf 'd%.0s' {1..250})
+  (cd it/tree && for _ in {1..20}; do mkdir "$deep" && cd "$deep"; done); own it
+  refused "a path that is too long for the machine" 77 ""
+
+  # a name with a line feed is a name
+  fresh; echo x > it/tree/$'a\nb'; own it; answers "a name with a line feed" 0 ""; is_done "a name with a line feed"
+  grep -q '^f /a\\x0ab 0644 0 0 ' it/manifest || otherwise "a name with a line feed: the manifest"
+  [ "$(cat it/tree/$'a\nb')" = x ] || otherwise "a name with a line feed: its bytes"
+
+  # as many objects and bytes as a run takes, and more
+  fresh; truncate -s $((67108864 - 20)) it/tree/large; own it; answers "67,108,864 bytes" 0 ""; is_done "67,108,864 bytes"
+  fresh; truncate -s $((67108865 - 20)) it/tree/large; own it; refused "a byte more" 66 ": bad folder: TooLarge"
+  fresh; objects 1000000; answers "1,000,000 objects" 0 ""; is_done "1,000,000 objects"
+  fresh; objects 1000001; refused "an object more" 66 ": bad folder: TooLarge"
+
+  # what may not be read: all stays; what may not be written: what was done is there, and a later run ends well
+  fresh; chmod 0 it; refused "a folder that may not be read" 77 ""
+  fresh; chmod 0 it/tree; refused "a tree that may not be read" 77 ""
+  fresh; chmod 0 it/tree/etc; refused "a directory that may not be read" 77 ""
+  fresh; chmod 0 it/tree/etc/tmpfiles.d/a.conf; refused "a file that may not be read" 77 ""
+  fresh; echo x > it/manifest; own it; chmod 0 it/manifest; refused "a manifest that may not be read" 77 ""
+  fresh; chmod 0500 it/tree; ends "a tree that may not be written" 77 ""
+  fresh; mkdir it/tree/run; own it; chmod 0500 it/tree/run; ends "a directory that may not be written" 77 ""
+  fresh; chmod 0500 it; ends "a folder that may not be written" 77 ""
+  fresh; echo x > it/manifest.new; own it; chmod 0400 it/manifest.new; ends "a manifest.new that may not be written" 77 ""
+  fresh; answers "a manifest that may not be written" 0 ""; chmod 0400 it/manifest; echo 'd /a' >> it/tree/etc/tmpfiles.d/a.conf
+  answers "it is replaced" 0 ""; grep -q '^d /a 0755 ' it/manifest || otherwise "it is replaced: by what"
+
+  # no room: the manifest that was there stays
+  fresh; room_for=0; ends "no room for a manifest" 77 ""
+  cp it/manifest ../old; echo 'f /a 0640 7 8 - text' >> it/tree/etc/tmpfiles.d/a.conf; room_for=0
+  answers "no room for a file" 77 ""; room_for=unlimited
+  cmp -s it/manifest ../old || otherwise "no room for a file: the manifest has changed"
+  [ ! -e it/tree/a ] || otherwise "no room for a file: it is there"
+  answers "no room for a file, and then whole" 0 ""
+  [ "$(cat it/tree/a)" = text ] && grep -q '^f /a 0640 7 8 ' it/manifest || otherwise "no room for a file, and then whole"
+
+  # runs that are killed somewhere, and then one that is not
+  fresh; lines 1000 >> it/tree/etc/tmpfiles.d/a.conf; answers "3,000 lines" 0 ""; left > ../whole
+  local killed=0 after
+  for after in 0.02 0.05 0.1 0.15 0.2 0.25 0.3 0.4 0.5 0.7; do
+    fresh; lines 1000 >> it/tree/etc/tmpfiles.d/a.conf
+    timeout -s KILL "$after" "${user[@]}" "$program" systemd-tmpfiles --create "$now" --root=it < /dev/null > /dev/null 2>&1 || killed=$((killed + 1))
+    run > /dev/null || otherwise "killed after $after s, and then whole: status $?"
+    left | cmp -s - ../whole || otherwise "killed after $after s, and then whole: something else is left"
+  done
+  echo "of ten runs $killed were killed; then whole, each left what one whole run leaves"
+}
 
 # ---- what it costs
 
-rm -rf it; mkdir -p it/tree/etc/tmpfiles.d
-echo 'd /run/app' > it/tree/etc/tmpfiles.d/a.conf
-python3 - << 'END'
+check_cost() {
+  mkdir -p it/tree/etc/tmpfiles.d
+  echo 'd /run/app' > it/tree/etc/tmpfiles.d/a.conf
+  python3 - << 'END'
 import os
 for directory in range(100):
     os.mkdir(f"it/tree/d{directory:02}")
@@ -78,67 +201,109 @@ for directory in range(100):
         with open(f"it/tree/d{directory:02}/f{number:03}", "w") as file:
             file.write("x" * 100)
 END
-"$program" systemd-tmpfiles --create --root=it < /dev/null > /dev/null
-cat > loop.c << 'END'
+  "$program" systemd-tmpfiles --create --root=it < /dev/null > /dev/null
+  cat > loop.c << 'END'
+// Asks the machine for what a run asks it for: each object by its whole path, first what it is, then what is in it.
 #include <dirent.h>
 #include <fcntl.h>
 #include <stdio.h>
 #include <stdlib.h>
 #include <string.h>
+#include <sys/stat.h>
 #include <unistd.h>
 static char bytes[1 << 20];
-static void read_all(int at, const char *name) {
-  int file = openat(at, name, O_RDONLY | O_NOFOLLOW);
+static void read_all(const char *path) {
+  struct stat it;
+  if (lstat(path, &it)) exit(1);
+  int file = open(path, O_RDONLY | O_CLOEXEC);
   while (read(file, bytes, sizeof bytes) > 0) {}
   close(file);
 }
-static void list(int at, const char *name) {
-  int here = openat(at, name, O_RDONLY | O_DIRECTORY | O_NOFOLLOW);
-  DIR *directory = fdopendir(here);
+static void list(const char *path) {
+  struct stat it;
+  if (lstat(path, &it)) exit(1);
+  DIR *directory = opendir(path);
+  char below[4096];
   for (struct dirent *item; (item = readdir(directory));) {
     if (!strcmp(item->d_name, ".") || !strcmp(item->d_name, "..")) continue;
-    if (item->d_type == DT_DIR) list(here, item->d_name); else read_all(here, item->d_name);
+    snprintf(below, sizeof below, "%s/%s", path, item->d_name);
+    if (item->d_type == DT_DIR) list(below); else read_all(below);
   }
   closedir(directory);
 }
 int main(void) {
-  list(AT_FDCWD, "it/tree");
+  list("it/tree");
   int old = open("it/manifest", O_RDONLY), new = open("copy", O_WRONLY | O_CREAT | O_TRUNC, 0644);
   for (ssize_t n; (n = read(old, bytes, sizeof bytes)) > 0;) if (write(new, bytes, n) != n) return 1;
-  return 0;
+  return rename("copy", "copied");
 }
 END
-cc -O2 -o loop loop.c
+  cc -O2 -o loop loop.c
+  local run_clock run_work loop_clock loop_work
+  read -r loop_clock loop_work < <(spent ./loop)
+  read -r run_clock run_work < <(spent "$program" systemd-tmpfiles --create --root=it)
+  awk -v a="$run_clock" -v b="$loop_clock" -v c="$run_work" -v d="$loop_work" 'BEGIN {
+    printf "100,000 files: %.2f s by the clock, %.2f s of processor time; a plain loop over them and the manifest %.2f and %.2f s: %.1f and %.1f times\n", a, c, b, d, a / b, c / d
+    exit a > 1.5 * b }' || otherwise "a run takes more than 1.5 times what the loop takes"
+}
+
 # spent COMMAND..: the least seconds, by the clock and of processor time, of five runs
 spent() {
   for _ in 1 2 3 4 5; do /usr/bin/time -f '%e %U %S' "$@" < /dev/null 2>&1 > /dev/null; done |
     awk '{ clock = $1; work = $2 + $3; if (NR == 1 || clock < a) a = clock; if (NR == 1 || work < b) b = work } END { print a, b }'
 }
-read -r loop_clock loop_work < <(spent ./loop)
-read -r run_clock run_work < <(spent "$program" systemd-tmpfiles --create --root=it)
-awk -v a="$run_clock" -v b="$loop_clock" -v c="$run_work" -v d="$loop_work" 'BEGIN {
-  printf "100,000 files: %.2f s by the clock, %.2f s of processor time; a plain loop over them and the manifest %.2f and %.2f s: %.1f and %.1f times\n", a, c, b, d, a / b, c / d }'
 
 # ---- beside systemd-tmpfiles
 
-if command -v systemd-tmpfiles > /dev/null && [ "$(id -u)" = 0 ]; then
+# unpack FOLDER: the archive `it.tar` as real objects
+unpack() {
+  rm -rf "$1"; mkdir "$1"
+  tar -C "$1" --numeric-owner --acls --xattrs --xattrs-include='*' --warning=no-unknown-keyword -xpf it.tar || echo "not all could be unpacked"
+}
+
+# listed FOLDER: paths, kinds, links, and contents
+listed() { (cd "$1" && find . -printf '%y %p %l\n' && find . -type f -exec sha256sum {} +) | sort; }
+
+# compare IMAGE WORD..: what the program leaves in a folder, and what systemd-tmpfiles leaves in the same tree
+compare() {
+  local image=$1 name status=0; shift
+  name="$(basename "$image"), $*"
+  rm -rf it
+  "$program" systemd-sysusers "$now" < "$image" | "$top/tools/image_to_tar.py" > it.tar 2> said
+  "$top/tools/tar_to_image.py" --folder=it it.tar 2>> said
+  unpack theirs
+  systemd-tmpfiles "$@" --root="$PWD/theirs" > said.theirs 2>&1 || true
+  "$program" systemd-tmpfiles "$@" --root=it < /dev/null > said || status=$?
+  "$top/tools/image_to_tar.py" --folder=it > it.tar
+  unpack ours
+  listed ours > ours.list; listed theirs > theirs.list
+  if cmp -s ours.list theirs.list; then
+    echo "$name: the same $(grep -c '^[a-z] ' ours.list) objects (status $status)"
+  else
+    echo "$name: $(diff ours.list theirs.list | grep -c '^[<>]') lines differ (status $status; < the program, > systemd-tmpfiles)"
+    diff ours.list theirs.list | grep '^[<>]' | sed 's/^/  /' | head -n 12
+    sed 's/^/  the program: /' said | head -n 4
+    sed 's/^/  systemd-tmpfiles: /' said.theirs | head -n 4
+  fi
+}
+
+check_beside() {
+  if ! is_root || ! command -v systemd-tmpfiles > /dev/null; then
+    echo "systemd-tmpfiles is not installed, or this is not root: no comparison"
+    return
+  fi
+  systemd-tmpfiles --version | head -n 1
+  local image
   for image in "$top"/examples/*.image; do
-    rm -rf it other
-    python3 "$top/tools/image_to_tar.py" < "$image" > it.tar
-    python3 "$top/tools/tar_to_image.py" --folder=it it.tar
-    mkdir other
-    tar -C other --numeric-owner --acls --xattrs --warning=no-unknown-keyword -xpf it.tar
-    "$program" systemd-tmpfiles --create --root=it < /dev/null > said || true
-    systemd-tmpfiles --create --root="$PWD/other" > /dev/null 2> other.said || true
-    python3 "$top/tools/image_to_tar.py" --folder=it > it.tar
-    mkdir mine
-    tar -C mine --numeric-owner --acls --xattrs --warning=no-unknown-keyword -xpf it.tar
-    for side in mine other; do (cd "$side" && find . -printf '%y %p %l\n' -type f -exec sha256sum {} + | sort) > "$side.list"; done
-    echo "$(basename "$image"): $(diff mine.list other.list | grep -c '^[<>]') lines differ of $(wc -l < mine.list)"
-    diff mine.list other.list | head -20 || true
-    rm -rf mine
+    compare "$image" --create --boot
+    compare "$image" --remove --boot
   done
-else
-  echo "systemd-tmpfiles is not installed, or this is not root: no comparison"
-fi
+}
+
+for part in $parts; do
+  mkdir "$room/$part"
+  own "$room/$part"
+  cd "$room/$part"
+  "check_$part"
+done
 exit $odd
