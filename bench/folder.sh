@@ -17,7 +17,8 @@ built=$(realpath "${1:-$top/crates/provision/out/provision}")
 [ -x "$built" ] || { echo "folder: $built is not built" >&2; exit 1; }
 [ $# -lt 2 ] && parts="answers cost beside" || parts="${*:2}"
 room=$(mktemp -d)
-trap 'chmod -R u+rwx "$room"; rm -rf "$room"' EXIT
+cleared() { chattr -f -R -i -a "$@" 2> /dev/null || true; chmod -R u+rwx "$@" 2> /dev/null || true; rm -rf "$@"; }
+trap 'cleared "$room"' EXIT
 chmod 711 "$room"
 program=$room/provision
 install -m 755 "$built" "$program"
@@ -34,8 +35,7 @@ own() { if is_root; then chown -R 65534:65534 "$@"; fi; }
 
 # fresh: a folder `it` with one line of configuration
 fresh() {
-  chmod -R u+rwx it 2> /dev/null || true
-  rm -rf it
+  cleared it
   mkdir -p it/tree/etc/tmpfiles.d
   echo 'd /run/app 0750 7 8' > it/tree/etc/tmpfiles.d/a.conf
   own it
@@ -257,8 +257,8 @@ spent() {
 
 # unpack FOLDER: the archive `it.tar` as real objects
 unpack() {
-  rm -rf "$1"; mkdir "$1"
-  tar -C "$1" --numeric-owner --acls --xattrs --xattrs-include='*' --warning=no-unknown-keyword -xpf it.tar || echo "not all could be unpacked"
+  cleared "$1"; mkdir "$1"
+  tar -C "$1" --numeric-owner --acls --xattrs --xattrs-include='*' -xpf it.tar 2> /dev/null || true
 }
 
 # listed FOLDER: paths, kinds, links, and contents
@@ -272,7 +272,7 @@ compare() {
   "$program" systemd-sysusers "$now" < "$image" | "$top/tools/image_to_tar.py" > it.tar 2> said
   "$top/tools/tar_to_image.py" --folder=it it.tar 2>> said
   unpack theirs
-  systemd-tmpfiles "$@" --root="$PWD/theirs" > said.theirs 2>&1 || true
+  { systemd-tmpfiles "$@" --root="$PWD/theirs" 2>&1 || true; } | sed "s:$PWD/theirs::g" > said.theirs
   "$program" systemd-tmpfiles "$@" --root=it < /dev/null > said || status=$?
   "$top/tools/image_to_tar.py" --folder=it > it.tar
   unpack ours
