@@ -31,7 +31,7 @@ TOP = Path(__file__).resolve().parent.parent
 INDENT = "    "
 PROMPT = "    $ "
 NOT_RUN = re.compile(r"(?:<!--|\.\\\") not run: (.*?)(?: -->)?$")
-TEMPORARY = re.compile(r"(?<=[\s<>])/tmp/")
+TEMPORARY = re.compile(r"(?<=[\s<>=])/tmp/")
 
 
 @dataclass

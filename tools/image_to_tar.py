@@ -2,6 +2,7 @@
 """Makes a tar archive of a tree image, such as a run has printed.
 
     image_to_tar.py [ROOT.tar] < OUTPUT > NEW.tar
+    image_to_tar.py --folder=FOLDER > NEW.tar
 
 ROOT.tar is the archive that tar_to_image.py has read. The contents of large
 files come from it, by their SHA-256 and their length, wherever the run has
@@ -9,6 +10,9 @@ moved or copied them; bytes that a line has added stand behind them. It is a
 file, since it is read at many places. Messages before the image (lines that
 begin with `: `) go to standard error. Facts are of a run and not of a tree,
 so they do not come into the archive.
+
+With --folder the tree is that of a folder such as runs with --root change:
+FOLDER/tree with what FOLDER/manifest says of it.
 
 The archive is ustar with pax records where they are needed; those of this
 project are named in tar_to_image.py. GNU tar unpacks it whole by
@@ -26,6 +30,7 @@ import sys
 from collections.abc import Iterator
 
 from tar_stream import XATTR, Member, TarReader, archive_end, member_head, padding
+from tree_folder import FolderReader
 from tree_image import (
     AclPart, ImageReader, Marker, Node, Trouble, perm_text, printed_path, read_acl, read_marker,
 )
@@ -151,6 +156,19 @@ class Writer:
         if content:
             self._write(content + padding(len(content)))
 
+    def add_real(self, node: Node, folder: FolderReader) -> None:
+        """A node of a folder; the bytes of a file come from there."""
+        size = folder.size(node) if node.kind == "f" else 0
+        self._write(member_head(member_of(node, size)))
+        if size:
+            written = 0
+            for piece in folder.pieces(node):
+                self._write(piece)
+                written += len(piece)
+            if written != size:
+                raise Trouble(f"{printed_path(node.path)}: its length has changed while it was read")
+            self._write(padding(size))
+
     def _add_large(self, node: Node, marker: Marker, added: bytes) -> None:
         """A file whose contents stand in the old archive, and what a run has added."""
         if self._old is None:
@@ -179,12 +197,26 @@ def convert(old: OldContents | None) -> None:
     writer.finish()
 
 
+def convert_folder(folder: FolderReader) -> None:
+    """Write the archive of a folder."""
+    writer = Writer(sys.stdout.buffer, None)
+    for node in folder.nodes():
+        writer.add_real(node, folder)
+    writer.finish()
+
+
 def run(words: list[str]) -> None:
     parser = argparse.ArgumentParser(
         prog="image_to_tar", description="Makes a tar archive of a tree image on standard input.")
     parser.add_argument("tar", nargs="?", metavar="ROOT.tar",
                         help="the archive that the contents of large files come from")
+    parser.add_argument("--folder", metavar="FOLDER", help="the tree of this folder, in place of an image")
     options = parser.parse_args(words)
+    if options.folder is not None:
+        if options.tar is not None:
+            parser.error("--folder takes no archive: the contents are in the folder")
+        convert_folder(FolderReader(options.folder))
+        return
     if options.tar is None:
         convert(None)
         return

@@ -18,7 +18,7 @@ fi
 
 lacking=0
 for file in "$program" "$top/tools/tar_to_image.py" "$top/tools/image_to_tar.py" "$top/tools/tree_image.py" \
-  "$top/tools/tar_stream.py" "$top/man/provision.1" "$top/man/tree-image.5"; do
+  "$top/tools/tar_stream.py" "$top/tools/tree_folder.py" "$top/man/provision.1" "$top/man/tree-image.5"; do
   if [ ! -f "$file" ]; then
     echo "install: $file is lacking" >&2
     lacking=1
@@ -30,7 +30,7 @@ library=$prefix/lib/provision
 install -d "$prefix/bin" "$library" "$prefix/share/man/man1" "$prefix/share/man/man5"
 install -m 755 "$program" "$prefix/bin/provision"
 install -m 755 "$top/tools/tar_to_image.py" "$top/tools/image_to_tar.py" "$library"
-install -m 644 "$top/tools/tree_image.py" "$top/tools/tar_stream.py" "$library"
+install -m 644 "$top/tools/tree_image.py" "$top/tools/tar_stream.py" "$top/tools/tree_folder.py" "$library"
 for tool in tar_to_image image_to_tar; do
   ln -sf "../lib/provision/$tool.py" "$prefix/bin/$tool"
 done

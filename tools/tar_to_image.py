@@ -2,6 +2,7 @@
 """Makes a tree image of a root file system in a tar archive.
 
     tar_to_image.py ROOT.tar > IMAGE        tar_to_image.py < ROOT.tar > IMAGE
+    tar_to_image.py --folder=FOLDER ROOT.tar
 
 Directories, files, links, FIFOs and devices are taken over with owners as
 numbers, modes, ACLs (SCHILY.acl.*), extended attributes (SCHILY.xattr.*) and
@@ -17,6 +18,10 @@ KiB, halved until all that stays inline has at most 8 MiB, since the program
 reads images of at most 64 MiB. What the program reads itself (below a
 tmpfiles.d or sysusers.d, account files, --inline) stays inline, whatever its
 length.
+
+With --folder the tree comes into a folder that is absent or empty, for runs
+with --root: directories and files are real (FOLDER/tree), whatever their
+length, and FOLDER/manifest has all else. No name may be other than UTF-8.
 
 Each thing that an image cannot hold is named on standard error; with --strict
 it is an error, and no image is written. Status: 0 done, 1 an error.
@@ -34,6 +39,7 @@ from collections.abc import Iterator
 from dataclasses import dataclass
 
 from tar_stream import XATTR, Member, TarReader
+from tree_folder import write_folder
 from tree_image import (
     FACT_LETTERS, KIND_NAMES, LARGEST_ID, LARGEST_NUMBER, LARGEST_STAMP, LONGEST_FACT,
     LONGEST_IMAGE, LONGEST_NAME, LONGEST_TARGET, MAGIC, NODE_LETTERS, AclPart, Marker, Node, Notices, Trouble,
@@ -42,6 +48,7 @@ from tree_image import (
 )
 
 INLINE_LIMIT = 65536
+PIECE = 1 << 20
 LEAST_LIMIT = 128  # shorter contents are no longer than a marker
 MOST_INLINE = 8 << 20
 NOBODY = 65534
@@ -95,6 +102,13 @@ class Store:
         self._file = tempfile.TemporaryFile()
         self._end = 0
 
+    def add_pieces(self, pieces: Iterator[bytes]) -> Span:
+        start = self._end
+        for piece in pieces:
+            self._file.write(piece)
+            self._end += len(piece)
+        return Span(start, self._end - start)
+
     def add(self, data: bytes) -> Span:
         self._file.write(data)
         self._end += len(data)
@@ -112,13 +126,19 @@ class Store:
         self._file.seek(content.start)
         return self._file.read(content.length)
 
+    def pieces(self, content: Span) -> Iterator[bytes]:
+        """The bytes of contents, piece by piece."""
+        for start in range(content.start, content.start + content.length, PIECE):
+            yield self.read(Span(start, min(PIECE, content.start + content.length - start)))
+
 
 class Builder:
     """Makes nodes of members; what a node cannot hold is named."""
 
-    def __init__(self, notices: Notices, limit: int | None, inline: frozenset[bytes]) -> None:
+    def __init__(self, notices: Notices, limit: int | None, inline: frozenset[bytes], whole: bool = False) -> None:
         self.notices = notices
-        self.is_free = limit is None
+        self.is_whole = whole  # contents of every length are kept as they are
+        self.is_free = limit is None and not whole
         self.limit = INLINE_LIMIT if limit is None else limit
         self.inline = inline
         self.store = Store()
@@ -221,6 +241,8 @@ class Builder:
 
     def _content(self, node: Node, reader: TarReader, member: Member) -> Span | Marker:
         """Take over contents, inline or by a marker."""
+        if self.is_whole:
+            return self.store.add_pieces(reader.contents(member))
         keeps = self._keeps(node)
         if member.size <= self.limit or keeps:
             data = reader.whole(member)
@@ -569,6 +591,8 @@ def parse_words(words: list[str]) -> argparse.Namespace:
     parser = argparse.ArgumentParser(
         prog="tar_to_image", description="Makes a tree image of a root file system in a tar archive.")
     parser.add_argument("tar", nargs="?", metavar="ROOT.tar", help="else standard input is read")
+    parser.add_argument("--folder", metavar="FOLDER",
+                        help="the tree comes into this folder, which is absent or empty, and no image is written")
     parser.add_argument("--strict", action="store_true",
                         help="what an image cannot hold is an error, and no image is written")
     parser.add_argument("--fact", action="append", type=fact_option, default=[],
@@ -578,7 +602,10 @@ def parse_words(words: list[str]) -> argparse.Namespace:
                              "stays inline has at most 8 MiB)")
     parser.add_argument("--inline", action="append", type=path_option, default=[], metavar="PATH",
                         help="a file whose contents stay in the image, whatever its length")
-    return parser.parse_args(words)
+    options = parser.parse_args(words)
+    if options.folder is not None and (options.inline or options.inline_limit is not None):
+        parser.error("--folder takes neither --inline nor --inline-limit: all contents are files there")
+    return options
 
 
 def read_tar(file, builder: Builder) -> list[Node]:
@@ -605,7 +632,7 @@ def image_pieces(builder: Builder, nodes: list[Node], facts: dict[str, bytes]) -
 def run(words: list[str]) -> int:
     options = parse_words(words)
     notices = Notices("tar_to_image", options.strict)
-    builder = Builder(notices, options.inline_limit, frozenset(options.inline))
+    builder = Builder(notices, options.inline_limit, frozenset(options.inline), options.folder is not None)
     if options.tar is None:
         nodes = read_tar(sys.stdin.buffer, builder)
     else:
@@ -614,6 +641,14 @@ def run(words: list[str]) -> int:
     facts = all_facts(builder, dict(options.fact))
     if notices.failed():
         return 1
+    if options.folder is not None:
+        write_folder(options.folder, facts, nodes, lambda node: builder.store.pieces(node.content), notices)
+        return 1 if notices.failed() else 0
+    return write_image(builder, nodes, facts, notices)
+
+
+def write_image(builder: Builder, nodes: list[Node], facts: dict[str, bytes], notices: Notices) -> int:
+    """Write the image to standard output, and give the status."""
     length = 0
     for piece in image_pieces(builder, nodes, facts):
         length += len(piece)

@@ -117,6 +117,7 @@ class Examples(ToolCase):
         self.assertEqual(self.said(text), (0, "examples: 3 commands and 0 images, 0 differ, 0 blocks not run\n"))
         text = "    $ out/provision a > /tmp/y; pwd | grep -o 'crates/.*'\n    crates/provision\n    $ cat /tmp/y\n    a\n"
         self.assertEqual(self.said(text)[0], 0)
+        self.assertEqual(self.said(text + "    $ dd if=/tmp/y status=none\n    a\n")[0], 0)
 
     def test_a_difference(self):
         status, said = self.said("x\n\n    $ provision a\n    b\n")
@@ -152,6 +153,7 @@ class Installing(ToolCase):
         top = self.room / "top"
         self.assertEqual(done.stderr.splitlines(), [
             "install: /none is lacking", f"install: {top}/tools/tar_stream.py is lacking",
+            f"install: {top}/tools/tree_folder.py is lacking",
             f"install: {top}/man/provision.1 is lacking", f"install: {top}/man/tree-image.5 is lacking"])
         self.assertEqual(done.returncode, 1)
         self.assertFalse((self.room / "to").exists())

@@ -1,6 +1,9 @@
 //! `provision`: runs over the image on standard input, or on a folder, and writes messages, and the image, to standard output.
 #![tactic(auto)]
 
+#[cfg(test)]
+mod tests;
+
 ghost use Rattle.std.specs.Prelude.{◌≡◌, None, drop, map, string_bytes};
 ghost use Rattle.std.specs.Process.{exit_status};
 ghost use Rattle.pv_io.specs.Faults.{HasRisen};
@@ -74,14 +77,7 @@ fn run<S: Source, K: Sink, H: Host>(
     ensures unread { asked_of (map string_bytes (drop 1 arguments.now)) ≡ None → source.new ≡ source.old }
     ensures unasked { rooted_of (map string_bytes (drop 1 arguments.now)) ≡ None → host.new ≡ host.old }
 {
-    let outcome = provision_all(
-        alloc,
-        words_of(arguments),
-        clock_micros,
-        source,
-        sink,
-        host,
-    );
+    let outcome = provision_all(alloc, words_of(arguments), clock_micros, source, sink, host);
     ExitCode::from(status(&outcome))
 }
 

@@ -4,13 +4,15 @@ use crate::runs::{failures, run, stops};
 use pv_sheet::{Calls, Row, Sheet};
 use std::alloc::{AllocError, Global};
 
-/// The call of the host that a row breaks.
-fn broken(alloc: Global, row: &Row<'_>) -> Result<Option<u64>, AllocError> {
-    let calls = row.marked(alloc, "host fails at call ")?;
-    Ok(match calls.as_slice() {
-        [call] => call.parse().ok(),
-        _ => None,
-    })
+/// The calls of the host that a row breaks.
+fn broken(alloc: Global, row: &Row<'_>) -> Result<Vec<u64>, AllocError> {
+    let mut fails = Vec::new(alloc);
+    for call in row.marked(alloc, "host fails at call ")? {
+        if let Ok(call) = call.parse() {
+            fails.push(call)?;
+        }
+    }
+    Ok(fails)
 }
 
 /// What a run writes, what the host then has in the folder, and the status.
@@ -39,7 +41,8 @@ impl Calls for Runs {
         let image = image.as_bytes();
         let told = match row.call {
             "folder" => return ran(alloc, row, image),
-            "failures" => failures(alloc, row.words, image)?,
+            "failures" => failures(alloc, row.words, image, false)?,
+            "cuts" => failures(alloc, row.words, image, true)?,
             "stops" => stops(alloc, row.words, image)?,
             _ => "no such call".to_string(alloc)?,
         };

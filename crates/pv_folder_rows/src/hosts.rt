@@ -70,18 +70,14 @@ pub(crate) fn host_image(
     Ok(text)
 }
 
-/// A host of this image that fails at a call, if one is given; none where the text is no image.
+/// A host of this image that fails at these calls; none where the text is no image.
 pub(crate) fn host_of(
     alloc: Global,
     image: &[u8],
-    fails: Option<u64>,
+    fails: Vec<u64>,
 ) -> Result<Option<MemHost>, AllocError> {
-    let mut calls = Vec::new(alloc);
-    if let Some(call) = fails {
-        calls.push(call)?;
-    }
     Ok(match read_image(alloc, image) {
-        Ok(image) => Some(MemHost::new(image.tree, calls)),
+        Ok(image) => Some(MemHost::new(image.tree, fails)),
         Err(_) => None,
     })
 }

@@ -19,12 +19,12 @@ pub(crate) struct Ran {
     pub(crate) image: Vec<u8>,
 }
 
-/// A run with these words over the host of an image, which fails at a call, if one is given.
+/// A run with these words over the host of an image, which fails at these calls.
 pub(crate) fn run(
     alloc: Global,
     words: &str,
     image: &[u8],
-    fails: Option<u64>,
+    fails: Vec<u64>,
 ) -> Result<Option<Ran>, AllocError> {
     let words = words_of(alloc, words)?;
     let Some(mut host) = host_of(alloc, image, fails)? else {
@@ -64,7 +64,7 @@ fn objects(alloc: Global, image: &[u8]) -> Result<String, AllocError> {
 
 /// Whether a whole run over this host leaves these objects.
 fn is_mended(alloc: Global, words: &str, half: &[u8], wanted: &str) -> Result<bool, AllocError> {
-    match run(alloc, words, half, None)? {
+    match run(alloc, words, half, Vec::new(alloc))? {
         Some(whole) => Ok(objects(alloc, &whole.image)?.as_str() == wanted),
         None => Ok(false),
     }
@@ -72,19 +72,34 @@ fn is_mended(alloc: Global, words: &str, half: &[u8], wanted: &str) -> Result<bo
 
 /// What one whole run leaves in the folder.
 fn wanted_of(alloc: Global, words: &str, image: &[u8]) -> Result<String, AllocError> {
-    match run(alloc, words, image, None)? {
+    match run(alloc, words, image, Vec::new(alloc))? {
         Some(whole) => objects(alloc, &whole.image),
         None => Ok(String::new(alloc)),
     }
 }
 
-/// How many calls a run asks the host for, each of which ends it with status 77 where it fails, and after which of them a
-/// whole run leaves other objects than one whole run.
-pub(crate) fn failures(alloc: Global, words: &str, image: &[u8]) -> Result<String, AllocError> {
+/// The calls that fail: this one, and where the machine stops there also the next one, which would write the manifest.
+fn failing(alloc: Global, call: u32, stops: bool) -> Result<Vec<u64>, AllocError> {
+    let mut fails = Vec::new(alloc);
+    fails.push(u64::from(call))?;
+    if stops {
+        fails.push(u64::from(call) + 1)?;
+    }
+    Ok(fails)
+}
+
+/// How many calls a run asks the host for, each of which ends it with status 77 where it fails, or the machine stops there, and
+/// after which of them a whole run leaves other objects than one whole run.
+pub(crate) fn failures(
+    alloc: Global,
+    words: &str,
+    image: &[u8],
+    stops: bool,
+) -> Result<String, AllocError> {
     let wanted = wanted_of(alloc, words, image)?;
     let mut others = String::new(alloc);
     for call in 0..MOST {
-        match run(alloc, words, image, Some(u64::from(call)))? {
+        match run(alloc, words, image, failing(alloc, call, stops)?)? {
             Some(half) if half.status == 77 => {
                 if !is_mended(alloc, words, &half.image, &wanted)? {
                     others.push_str(&format!(in alloc; ", other objects after {call}")?)?;
@@ -103,7 +118,7 @@ pub(crate) fn stops(alloc: Global, words: &str, image: &[u8]) -> Result<String, 
     let mut others = String::new(alloc);
     for steps in 0..MOST {
         let limited = format!(in alloc; "{words} --stop-after={steps}")?;
-        match run(alloc, &limited, image, None)? {
+        match run(alloc, &limited, image, Vec::new(alloc))? {
             Some(half) if half.status == 75 => {
                 if !is_mended(alloc, words, &half.image, &wanted)? {
                     others.push_str(&format!(in alloc; ", other objects after {steps}")?)?;
