@@ -26,7 +26,12 @@ pub fn write_image(alloc: Global, tree: &MemTree, facts: &Facts) -> Result<Vec<u
 }
 
 /// Adds the one text of facts and a tree, in version 2, which is an image of them, to a text.
-pub fn add_image(alloc: Global, output: &mut Vec<u8>, tree: &MemTree, facts: &Facts) -> Result<(), AllocError>
+pub fn add_image(
+    alloc: Global,
+    output: &mut Vec<u8>,
+    tree: &MemTree,
+    facts: &Facts,
+) -> Result<(), AllocError>
     ensures text { OnOk result (output.new.items ≡ output.old.items ++ text_of facts.now tree.now.files) }
     ensures image { OnOk result (IsImage (text_of facts.now tree.now.files) facts.now tree.now.files) }
 {
