@@ -234,7 +234,7 @@ module _ (folder : Path) (options : Options) (clock : ℕ) (old new : Option Con
   unfolding HasWrittenOn
   folder_not_usage found before after h e =
       let told = subst (λ (o : Outcome). HasWrittenOn folder options clock old new o before after) e h in
-      subst IsEnd (sym told.1.0.1.0.run.end) (ends _)
+      subst IsEnd (sym told.1.1.0.run.end) (ends _)
 
   pub folder_not_read : (found : Outcome) (before after : Option (List ℕ)) → HasWrittenOn folder options clock old new found before after → found ≡ ReadFault → ⊥
   unfolding HasWrittenOn
