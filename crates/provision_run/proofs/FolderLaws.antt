@@ -54,23 +54,27 @@ beside_tree folder name path differs =
 module _ (folder : Path) (facts : Values) (left : Files) where
   kept_some : (x y z : Content) → IsSameElse folder (held x) (held y) → Agrees folder left (held y) → held z ≡ with_manifest folder (manifest_of facts left) (held y)
       → IsKept folder facts left (held x) (held z)
-  kept_some x y z else agrees is = record {
+  kept_some x y z out agrees is = record {
     agrees = λ path. at (tree_path folder ++ path)
         ∙ elsewhere folder (manifest_of facts left) (held y) (tree_path folder ++ path) (beside_tree folder (codes "manifest") path refl) (beside_tree folder (codes "manifest.new") path refl)
         ∙ agrees path;
     manifest = at (manifest_path folder) ∙ at_manifest folder (manifest_of facts left) (held y);
-    else = λ path out no no_new. at path
+    outside = λ path below no no_new. at path
         ∙ elsewhere folder (manifest_of facts left) (held y) path (same_path-no (manifest_path folder) path (λ e. no (sym e))) (same_path-no (new_manifest_path folder) path (λ e. no_new (sym e)))
-        ∙ else path out;
+        ∙ out path below;
   }
     where
       at : (q : Path) → held z q ≡ with_manifest folder (manifest_of facts left) (held y) q
       at q = ap (λ (t : Held). t q) is
 
+  untold : (new : Option Content) → IsClosed folder facts left None new → new ≡ None
+  untold None closed = refl
+  untold (Some z) closed = let no : Some (held z) ≡ None = closed in cc
+
   -- steps that changed nothing outside of `tree`, and then a new manifest
   pub left_in : (old mid new : Option Content) → IsSameOutside folder old mid → IfSome mid (λ c. Agrees folder left (held c)) → IsClosed folder facts left mid new
       → IsLeftIn folder old new facts left
-  left_in None mid new outside agrees closed = tt
+  left_in None mid new outside agrees closed = untold new (subst (λ (o : Option Content). IsClosed folder facts left o new) outside closed)
   left_in (Some x) None new outside agrees closed = absurd outside
   left_in (Some x) (Some y) None outside agrees closed = absurd (let no : None ≡ Some (with_manifest folder (manifest_of facts left) (held y)) = closed in cc)
   left_in (Some x) (Some y) (Some z) outside agrees closed =
@@ -194,8 +198,8 @@ module _ (folder : Path) (options : Options) (clock : ℕ) (old new : Option Con
   )
   refused_output f outer refused kept (Err e) is text = tt
 
-  pub failed_opening : HasOutputOn folder options clock old new FolderFailed []
-  failed_opening = ([], (in_opening refl, refl))
+  pub failed_opening : new ≡ old → HasOutputOn folder options clock old new FolderFailed []
+  failed_opening kept = ([], (in_opening refl kept, refl))
 
   -- what was written wholly
   pub folder_written : (found : Outcome) (out : List ℕ) (before after : Option (List ℕ)) → HasOutputOn folder options clock old new found out → Appends before after out
@@ -230,7 +234,7 @@ module _ (folder : Path) (options : Options) (clock : ℕ) (old new : Option Con
   unfolding HasWrittenOn
   folder_not_usage found before after h e =
       let told = subst (λ (o : Outcome). HasWrittenOn folder options clock old new o before after) e h in
-      subst IsEnd (sym told.1.0.1.0.run.end) (ends _)
+      subst IsEnd (sym told.1.1.0.run.end) (ends _)
 
   pub folder_not_read : (found : Outcome) (before after : Option (List ℕ)) → HasWrittenOn folder options clock old new found before after → found ≡ ReadFault → ⊥
   unfolding HasWrittenOn

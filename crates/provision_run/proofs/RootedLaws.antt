@@ -13,11 +13,15 @@ use Rattle.pv_words.specs.declared.asked.Asked.TheVariants.{Run, Generate}
 use Rattle.pv_words.specs.declared.options.Options.{Options}
 use Rattle.pv_words.specs.declared.rooted.Rooted.{Rooted}
 
+-- a folder with options
+abbrev with_options : List ℕ → Options → Rooted
+with_options folder o = record { folder = folder; options = o }
+
 -- a folder with words that mean nothing
 no_options : (folder : List ℕ) → rooted_with folder None ≡ None
 no_options folder = by (is_folder folder)
   where
-    by : (t : Bool) → (if t then option_map (λ (o : Options). (record { folder = folder; options = o } : Rooted)) None else None) ≡ None
+    by : (t : Bool) → (if t then option_map (with_options folder) None else None) ≡ None
     by true = refl
     by false = refl
 

@@ -167,6 +167,33 @@ final_unlimited Report options facts moment t = refl
 final_unlimited Explain options facts moment t = refl
 final_unlimited Accounts options facts moment t = refl
 
+-- a run that was stopped, by options that are these but for the limit and the moment
+pub stopped_by : (options own : Options) → unlimited own ≡ unlimited options → (facts : Values) (moment : ℕ) (t : Files) (n : ℕ) (messages : List (List ℕ)) (left : Files)
+    → IsStopped own facts moment t n messages left → HasStopped (unlimited options) facts moment t left
+stopped_by options own alike facts moment t n messages left stopped = record {
+  steps = stopped.cut.gone.steps;
+  anew = subst (λ (o : Options). IsMendedAnewIn (task_of o) o facts moment t stopped.cut.gone.steps) alike
+      (anew_unlimited (task_of own) own facts moment t stopped.cut.gone.steps stopped.cut.gone.anew);
+  count = length stopped.cut.gone.steps;
+  left = stopped.cut.gone.reached ∙ ap (λ (steps : List Step). after_all t steps moment) (sym (take-length stopped.cut.gone.steps));
+}
+
+-- a run that was not stopped
+whole_of : (options : Options) (facts : Values) (moment : ℕ) (t : Files) (e : RunEnd) (messages : List (List ℕ)) (left : Files)
+    → HasRun options facts moment t (outcome_of e) messages left → IsWhole options facts moment t (outcome_of e) messages left
+whole_of options facts moment t end.Done messages left h = h
+whole_of options facts moment t end.ConfigInvalid messages left h = h
+whole_of options facts moment t end.NotCarriedOut messages left h = h
+whole_of options facts moment t (end.NoFreeId name) messages left h = h
+
+-- and the tree that it leaves
+pub left_by : (options own : Options) → unlimited own ≡ unlimited options → (facts : Values) (moment : ℕ) (t : Files) (e : RunEnd) (messages : List (List ℕ)) (left : Files)
+    → HasRun own facts moment t (outcome_of e) messages left → left ≡ final (unlimited options) facts moment t
+left_by options own alike facts moment t e messages left run =
+    (whole_of own facts moment t e messages left run).final_is
+    ∙ final_unlimited (task_of own) own facts moment t
+    ∙ ap (λ (o : Options). final o facts moment t) alike
+
 module _ (options : Options) where
   -- a run of a tree and its facts, whose image the input is
   module _ (input : List ℕ) (facts : Values) (t : Files) (image : IsImage input facts t) (moment : ℕ) where
@@ -182,32 +209,16 @@ module _ (options : Options) where
           (subst (λ (s : Files). IsAnswered over.like.own facts (moment_of over.like.own over.clock) s (Stopped over.count) out) same.1
           (subst (λ (f : Values). IsAnswered over.like.own f (moment_of over.like.own over.clock) stopped_run.tree (Stopped over.count) out) same.0 stopped_run.answered))
 
-      stopped_here : IsStopped over.like.own facts moment t over.count answered_here.messages answered_here.left
-      stopped_here = answered_here.run
-
-      steps_here : List Step
-      steps_here = stopped_here.cut.gone.steps
-
       has_stopped : (v : Files) × (IsImage out facts v × HasStopped (unlimited options) facts moment t v)
-      unfolding steps_here stopped_here
       has_stopped = (
         answered_here.left,
-        (
-          answered_here.again,
-          record {
-            steps = steps_here;
-            anew = subst (λ (o : Options). IsMendedAnewIn (task_of o) o facts moment t steps_here) over.like.alike
-                (anew_unlimited (task_of over.like.own) over.like.own facts moment t steps_here stopped_here.cut.gone.anew);
-            count = length steps_here;
-            left = stopped_here.cut.gone.reached ∙ ap (λ (steps : List Step). after_all t steps moment) (sym (take-length steps_here));
-          },
-        ),
+        (answered_here.again, stopped_by options over.like.own over.like.alike facts moment t over.count answered_here.messages answered_here.left answered_here.run),
       )
 
     -- the output of one that was not stopped is an image of the tree that a whole run leaves
     ended_image : (out : List ℕ) → HasEndedOver options moment input out → IsImage out facts (final (unlimited options) facts moment t)
-    ended_image out over = subst (λ (o : Options). IsImage out facts (final o facts moment t)) over.like.alike
-        (subst (λ (v : Files). IsImage out facts v) (is_final ∙ final_unlimited (task_of over.like.own) over.like.own facts moment t) here.again)
+    ended_image out over =
+        subst (λ (v : Files). IsImage out facts v) (left_by options over.like.own over.like.alike facts moment t over.end here.messages here.left here.run) here.again
       where
         run_of : (e : RunEnd) → IsAnswer over.like.own over.clock input (outcome_of e) out → IsRun over.like.own over.clock input (outcome_of e) out
         run_of end.Done h = h
@@ -218,21 +229,12 @@ module _ (options : Options) where
         run : IsRun over.like.own over.clock input (outcome_of over.end) out
         run = run_of over.end (subst (λ (o : Option Asked). HasOutputBy o over.clock input (outcome_of over.end) out) over.like.meaning over.output.1)
 
-        whole_of : (e : RunEnd) (messages : List (List ℕ)) (left : Files) → HasRun over.like.own facts moment t (outcome_of e) messages left → IsWhole over.like.own facts moment t (outcome_of e) messages left
-        whole_of end.Done messages left h = h
-        whole_of end.ConfigInvalid messages left h = h
-        whole_of end.NotCarriedOut messages left h = h
-        whole_of (end.NoFreeId name) messages left h = h
-
         here : IsAnswered over.like.own facts moment t (outcome_of over.end) out
         here =
             let same = one_image input run.facts facts run.tree t run.image image in
             subst (λ (m : ℕ). IsAnswered over.like.own facts m t (outcome_of over.end) out) (sym over.like.when)
             (subst (λ (s : Files). IsAnswered over.like.own facts (moment_of over.like.own over.clock) s (outcome_of over.end) out) same.1
             (subst (λ (f : Values). IsAnswered over.like.own f (moment_of over.like.own over.clock) run.tree (outcome_of over.end) out) same.0 run.answered))
-
-        is_final : here.left ≡ final over.like.own facts moment t
-        is_final = (whole_of over.end here.messages here.left here.run).final_is
 
   have_stopped : (moments : List ℕ) (input last : List ℕ) (facts : Values) (t : Files) → IsImage input facts t → HaveStoppedOver options moments input last
       → (u : Files) × (IsImage last facts u × HaveStopped (unlimited options) facts moments t u)

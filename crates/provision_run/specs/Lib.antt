@@ -14,6 +14,7 @@ pub mod OverTree
 pub mod Answers
 pub mod OnFolder
 pub mod Stops
+pub mod FolderStops
 pub mod Framed
 pub mod OnTheWay
 pub mod Swept

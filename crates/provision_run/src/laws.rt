@@ -1,7 +1,10 @@
 //! Laws of runs that were stopped, however many. Each function does nothing; its contract is the law.
 ghost use Rattle.std.specs.Prelude.{◌≡◌, ◌∷◌, ℕ, List};
 ghost use Rattle.pv_accounts_run.specs.Accounted.{accounted};
+ghost use Rattle.pv_folder.specs.Opening.{IsOpened};
+ghost use Rattle.pv_host.specs.Content.{Content};
 ghost use Rattle.pv_image.specs.Images.{IsImage};
+ghost use Rattle.pv_path.specs.Paths.{Path};
 ghost use Rattle.pv_phases.specs.Phases.{phases_of};
 ghost use Rattle.pv_steps.specs.Same.{Same};
 ghost use Rattle.pv_steps.specs.Trees.{Files};
@@ -9,6 +12,7 @@ ghost use Rattle.pv_text.specs.Facts.{Values};
 ghost use Rattle.pv_words.specs.declared.options.Options.{Options as OptionsValue};
 ghost use Rattle.provision_run.specs.declared.task.Task.TheVariants.{Accounts, Phases};
 ghost use Rattle.provision_run.specs.Accounts.{run_requests};
+ghost use Rattle.provision_run.specs.FolderStops.{AreFolders, HasEndedOn, HaveStoppedOn, IsCalmOn};
 ghost use Rattle.provision_run.specs.Phased.{phased, run_lines};
 ghost use Rattle.provision_run.specs.Rereading.{ArePlain, ArePlainRequests, MayRepeat};
 ghost use Rattle.provision_run.specs.Stops.{AreImages, EndAlikeAfter, HasEndedOver, HaveStopped, HaveStoppedOver, IsCalm, IsCalmOver};
@@ -45,4 +49,22 @@ pub fn outputs_of_stopped_runs_are_mended()
         → HaveStoppedOver options (moment ∷ moments) input last
         → HasEndedOver options first input out → HasEndedOver options later last again
         → AreImages (EndAlikeAfter first (later ∷ moment ∷ moments)) out again }
+{}
+
+/// So it is with a folder of a host that tells what it holds: after one run or more on it that were stopped, each on what the last
+/// one left there, by words that mean the same but for the limit and the moment, a whole run leaves there the facts that a whole
+/// run leaves that was not stopped, and the same tree, stamps and staging names aside, or a tree with such texts.
+pub fn folders_of_stopped_runs_are_mended()
+    ensures phases { (options : OptionsValue) (folder : Path) (moments : List ℕ) (moment first later : ℕ)
+        (old last one again : Content) (facts : Values) (t : Files) → IsOpened folder old facts t
+        → task_of options ≡ Phases → ArePlain options → MayRepeat (phases_of options) (run_lines options facts t)
+        → HaveStoppedOn options folder (moment ∷ moments) old last → IsCalmOn options folder last
+        → HasEndedOn options folder first old one → HasEndedOn options folder later last again
+        → AreFolders (λ one two. Same two one) folder old one again }
+    ensures accounts { (options : OptionsValue) (folder : Path) (moments : List ℕ) (moment first later : ℕ)
+        (old last one again : Content) (facts : Values) (t : Files) → IsOpened folder old facts t
+        → task_of options ≡ Accounts → ArePlainRequests options
+        → HaveStoppedOn options folder (moment ∷ moments) old last
+        → HasEndedOn options folder first old one → HasEndedOn options folder later last again
+        → AreFolders (EndAlikeAfter first (later ∷ moment ∷ moments)) folder old one again }
 {}

@@ -20,7 +20,10 @@ mod task;
 mod top;
 
 pub use ending::RunEnd;
-pub use laws::{outputs_of_stopped_runs_are_mended, trees_of_stopped_runs_are_mended};
+pub use laws::{
+    folders_of_stopped_runs_are_mended, outputs_of_stopped_runs_are_mended,
+    trees_of_stopped_runs_are_mended,
+};
 pub use outcome::{Outcome, status};
 pub use pv_phases::boot_run;
 pub use run::run_on_tree;

@@ -1,7 +1,7 @@
 use Rattle.std.proofs.Common.{map, string_bytes}
 use Rattle.std.proofs.KnownBytes.{Appends-nil}
 use Rattle.pv_words.specs.Asked.{asked_of}
-use Rattle.provision_run.proofs.WrittenLaws.{front_written, generated_front, generated_nothing, generated_wholly}
+use Rattle.provision_run.proofs.WrittenLaws.{front_written, generated_front, generated_nothing, generated_wholly, own_unfolded}
 use Rattle.provision_run.proofs.AnswerLaws.{own_not_read, own_not_written}
 use Rattle.provision_run.proofs.top.provision.Goals as goal
 
@@ -25,3 +25,6 @@ returns-in-Ok-write_all_of-clause-generated g c = λ seed count e.
 
 pub returns-in-Err-Memory-clause-generated : goal.returns-in-Err-Memory-clause-generated
 returns-in-Err-Memory-clause-generated g c = λ seed count e. generated_nothing seed count _ _ (Appends-nil (g.K.Sink.written c.args.sink.now))
+
+pub returns-in-Ok-write_all_of-clause-unfolded : goal.returns-in-Ok-write_all_of-clause-unfolded
+returns-in-Ok-write_all_of-clause-unfolded g c = own_unfolded c.in-Ok.answer.outcome c.in-Ok.ensures.own
