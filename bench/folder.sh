@@ -106,7 +106,11 @@ lines() {
 }
 
 # left: what a run has left, without stamps
-left() { (cd it && find tree -printf '%y %p\n' | sort; find it/tree -type f -exec sha256sum {} + | sort; cut -d' ' -f1-5,7- it/manifest); }
+left() {
+  find it/tree -printf '%y %p\n' | sort
+  find it/tree -type f -exec sha256sum {} + | sort
+  cut -d' ' -f1-5,7- it/manifest
+}
 
 check_answers() {
   fresh; answers "a run" 0 ""; is_done "a run"

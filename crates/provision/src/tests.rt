@@ -50,28 +50,30 @@ fn ran(rt: HostRuntime, options: &[&str]) -> Result<(Vec<u8>, u8), Fail> {
     Ok((Vec::from_slice(alloc, sink.written())?, status(&outcome)))
 }
 
-/// A whole run from here says nothing, and leaves the directory and the manifest.
-fn runs_whole(rt: HostRuntime) -> Result<(), Fail> {
+/// Whether a whole run from here says nothing, and leaves the directory and the manifest.
+fn is_whole(rt: HostRuntime) -> Result<bool, Fail> {
     let (said, status) = ran(rt, &["--create", "--root=it"])?;
-    assert!(rt; said.is_empty());
-    assert_eq!(rt; status, 0);
-    assert!(rt; fs::symlink_metadata(&rt, "it/tree/run/app")?.is_dir());
-    assert!(rt; fs::read(&rt, "it/manifest")?.as_slice() == MANIFEST);
-    assert!(rt; fs::symlink_metadata(&rt, "it/manifest.new").is_err());
-    Ok(())
+    let manifest = fs::read(&rt, "it/manifest")?;
+    Ok(
+        said.is_empty()
+            && status == 0
+            && manifest.as_slice() == MANIFEST
+            && fs::symlink_metadata(&rt, "it/tree/run/app")?.is_dir()
+            && fs::symlink_metadata(&rt, "it/manifest.new").is_err(),
+    )
 }
 
 /// Whole; and stopped after three steps, when the parent is there, and then whole.
 #[test]
 fn runs_on_a_folder(rt: HostRuntime) -> Result<(), Fail> {
     prepare(rt)?;
-    runs_whole(rt)?;
+    assert!(rt; is_whole(rt)?);
     prepare(rt)?;
     let (said, status) = ran(rt, &["--create", "--root=it", "--stop-after=3"])?;
     assert!(rt; said.as_slice() == b": stopped after 3 steps\n".as_slice());
     assert_eq!(rt; status, 75);
     assert!(rt; fs::symlink_metadata(&rt, "it/tree/run")?.is_dir());
-    runs_whole(rt)?;
+    assert!(rt; is_whole(rt)?);
     fs::remove_dir_all(&rt, "it")?;
     Ok(())
 }

@@ -7,7 +7,7 @@ use std::alloc::{AllocError, Global};
 /// The calls of the host that a row breaks.
 fn broken(alloc: Global, row: &Row<'_>) -> Result<Vec<u64>, AllocError> {
     let mut fails = Vec::new(alloc);
-    for call in row.marked(alloc, "host fails at call ")? {
+    for call in row.marked(alloc, "fails at call ")? {
         if let Ok(call) = call.parse() {
             fails.push(call)?;
         }
