@@ -1,8 +1,7 @@
 -- A run on a folder of a host: what it says, how it ends, and what the host then holds (systemd-tmpfiles(8), systemd-sysusers(8),
 -- `--root`). The messages and the form of the folder are this project's own.
-use Rattle.std.specs.Prelude.{◌≡◌, ◌≢◌, ℕ, Bool, true, false, List, [], ◌∷◌, codes, take, Option, Some, Result, Ok, Err, IfSome}
+use Rattle.std.specs.Prelude.{◌≡◌, ◌≢◌, ℕ, Bool, true, false, List, [], ◌∷◌, codes, take, Option, Some, None, Result, Ok, Err, IfSome}
 use Rattle.std.specs.Io.KnownBytes.{Appends}
-use Rattle.std.specs.Option.{ForSome}
 use Rattle.pv_path.specs.Paths.{Path, is_prefix}
 use Rattle.pv_steps.specs.declared.tree.TreeFault.{TreeFault}
 use Rattle.pv_steps.specs.declared.tree.TreeFault.TheVariants as step
@@ -30,16 +29,18 @@ use Rattle.provision_run.specs.Words.{moment_of}
 pub record IsKept (folder : Path) (facts : Values) (tree : Files) (old new : Held) : Type 0 where
   pub agrees : Agrees folder tree new
   pub manifest : new (manifest_path folder) ≡ Some (File (manifest_of facts tree))
-  pub else : (path : Path) → is_prefix (tree_path folder) path ≡ false → path ≢ manifest_path folder → path ≢ new_manifest_path folder
+  pub outside : (path : Path) → is_prefix (tree_path folder) path ≡ false → path ≢ manifest_path folder → path ≢ new_manifest_path folder
       → new path ≡ old path
 
 -- a host that tells what it holds: it was opened with these facts and this tree
 abbrev pub WasOpened : Path → Option Content → Values → Files → Type 0
 WasOpened folder old facts tree = IfSome old (λ c. IsOpened folder c facts tree)
 
--- and what is left of the tree is kept there
+-- and what is left of the tree is kept there; what is untold stays untold
 abbrev pub IsLeftIn : Path → Option Content → Option Content → Values → Files → Type 0
-IsLeftIn folder old new facts left = IfSome old (λ c. ForSome new (λ d. IsKept folder facts left (held c) (held d)))
+IsLeftIn folder (Some old) (Some new) facts left = IsKept folder facts left (held old) (held new)
+IsLeftIn folder (Some old) None facts left = ⊥
+IsLeftIn folder None new facts left = new ≡ None
 
 -- ---- how a run ends
 
@@ -53,14 +54,14 @@ pub record IsRunOn (folder : Path) (options : Options) (clock : ℕ) (old new : 
   pub run : HasRun options facts (moment_of options clock) tree found messages left
   pub kept : IsLeftIn folder old new facts left
 
--- a run on a folder of a host that failed: in opening, and nothing is said; in a step, and what was said before that; or in keeping
--- what the run has left, and all that it has said
-pub data IsFailedOn (folder : Path) (options : Options) (clock : ℕ) (old : Option Content) (messages : List (List ℕ)) : Type 0 where
-  in_opening : messages ≡ [] → IsFailedOn folder options clock old messages
+-- a run on a folder of a host that failed: in opening, and nothing is said or changed; in a step, and what was said before that;
+-- or in keeping what the run has left, and all that it has said
+pub data IsFailedOn (folder : Path) (options : Options) (clock : ℕ) (old new : Option Content) (messages : List (List ℕ)) : Type 0 where
+  in_opening : messages ≡ [] → new ≡ old → IsFailedOn folder options clock old new messages
   in_step : (facts : Values) (tree left : Files) → WasOpened folder old facts tree
-      → HasFailed options facts (moment_of options clock) tree messages left → IsFailedOn folder options clock old messages
+      → HasFailed options facts (moment_of options clock) tree messages left → IsFailedOn folder options clock old new messages
   in_keeping : (facts : Values) (tree left : Files) (found : Outcome) → WasOpened folder old facts tree
-      → HasRun options facts (moment_of options clock) tree found messages left → IsFailedOn folder options clock old messages
+      → HasRun options facts (moment_of options clock) tree found messages left → IsFailedOn folder options clock old new messages
 
 -- the outcome of a run on a folder, by how the run over its tree ended, whether a step of it may be half done, and whether what it
 -- has left is kept: the run's own where all is well, else the host's failure
@@ -90,7 +91,7 @@ pub record IsRefusedOn (folder : Path) (old new : Option Content) (f : OpenFault
 -- what is said with an outcome: the folder cannot be run on, the host failed, or a run has ended
 abbrev pub IsAnswerOn : Path → Options → ℕ → Option Content → Option Content → Outcome → List (List ℕ) → Type 0
 IsAnswerOn folder options clock old new (BadFolder f) messages = IsRefusedOn folder old new f messages
-IsAnswerOn folder options clock old new FolderFailed messages = IsFailedOn folder options clock old messages
+IsAnswerOn folder options clock old new FolderFailed messages = IsFailedOn folder options clock old new messages
 IsAnswerOn folder options clock old new found messages = IsRunOn folder options clock old new found messages
 
 -- the whole output that belongs to an outcome: the messages alone
