@@ -1,5 +1,5 @@
 //! What a run says, from the words and the bytes of its input.
-ghost use Rattle.std.specs.Prelude.{◌≡◌, ◌≢◌, ◌≤◌, ◌↔◌, ◌++◌, [], None, false, true, map, string_bytes, length, IfErr, IfOk, IfSome, IsErrOf};
+ghost use Rattle.std.specs.Prelude.{◌≡◌, ◌≢◌, ◌≤◌, ◌↔◌, ◌++◌, [], None, Err, false, true, map, string_bytes, length, IfErr, IfOk, IfSome, IsErrOf};
 ghost use Rattle.pv_image.specs.Images.{HasImageFault, IsImage};
 ghost use Rattle.pv_image.specs.Spelling.{text_of};
 ghost use Rattle.pv_io.specs.Faults.{HasRisen};
@@ -119,6 +119,7 @@ fn read_input(alloc: Global, bytes: Vec<u8>) -> Result<Image, ImageFault>
     ensures image { IfOk result (λ image. IsImage bytes.items image.facts image.tree.files) }
     ensures steps { IfOk result (λ image. image.tree.steps ≡ []) }
     ensures fault { IfErr result (λ f. f ≢ ImageFault.Memory → HasImageFault bytes.items f) }
+    ensures bounded { result ≢ Err ImageFault.TooLong }
 {
     read_image(alloc, &bytes)
 }
