@@ -215,7 +215,8 @@ for directory in range(100):
 END
   "$program" systemd-tmpfiles --create --root=it < /dev/null > /dev/null
   cat > loop.c << 'END'
-// Asks the machine for what a run asks it for: each object by its whole path, first what it is, then what is in it.
+// Asks the machine for what RealHost asks it for: of each object by its whole path what it is, once in listing its directory
+// and once before it is itself listed or read, and then what is in it.
 #include <dirent.h>
 #include <fcntl.h>
 #include <stdio.h>
@@ -239,7 +240,8 @@ static void list(const char *path) {
   for (struct dirent *item; (item = readdir(directory));) {
     if (!strcmp(item->d_name, ".") || !strcmp(item->d_name, "..")) continue;
     snprintf(below, sizeof below, "%s/%s", path, item->d_name);
-    if (item->d_type == DT_DIR) list(below); else read_all(below);
+    if (lstat(below, &it)) exit(1);
+    if (S_ISDIR(it.st_mode)) list(below); else read_all(below);
   }
   closedir(directory);
 }
