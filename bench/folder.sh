@@ -99,10 +99,10 @@ END
   own it
 }
 
-# lines COUNT: lines that make so many directories and files, and link to them
+# lines COUNT: lines that make so many directories of root with files, and link to them
 lines() {
   awk -v count="$1" 'BEGIN { for (i = 0; i < count; i++)
-    printf "d /data/d%d 0750 7 8\nf /data/d%d/f 0640 7 8 - text\nL /data/l%d - - - - d%d\n", i, i, i, i }'
+    printf "d /data/d%d 0750 0 8\nf /data/d%d/f 0640 7 8 - text\nL /data/l%d - - - - d%d\n", i, i, i, i }'
 }
 
 # left: what a run has left, without stamps
@@ -180,12 +180,20 @@ check_answers() {
   answers "no room for a file, and then whole" 0 ""
   [ "$(cat it/tree/a)" = text ] && grep -q '^f /a 0640 7 8 ' it/manifest || otherwise "no room for a file, and then whole"
 
+  # with the manifest the owner is lost, and what is root's in a directory of another owner is refused
+  fresh; echo 'f /run/app/f 0640 7 8' >> it/tree/etc/tmpfiles.d/a.conf; room_for=0
+  answers "no room for a manifest, and a file in a directory of a user" 77 ""; room_for=unlimited
+  answers "and then whole: what is in it is root's" 73 ": /etc/tmpfiles.d/a.conf:2: /run/app/f refused at /run/app/f: unsafe owner"
+
   # runs that are killed somewhere, and then one that is not
-  fresh; lines 1000 >> it/tree/etc/tmpfiles.d/a.conf; answers "3,000 lines" 0 ""; left > ../whole
-  local killed=0 after
-  for after in 0.02 0.05 0.1 0.15 0.2 0.25 0.3 0.4 0.5 0.7; do
+  local killed=0 part after begun took
+  fresh; lines 1000 >> it/tree/etc/tmpfiles.d/a.conf
+  begun=$(date +%s%N); answers "3,000 lines" 0 ""; took=$(($(date +%s%N) - begun))
+  left > ../whole
+  for part in 1 2 3 4 5 6 7 8 9 10; do
     fresh; lines 1000 >> it/tree/etc/tmpfiles.d/a.conf
-    timeout -s KILL "$after" "${user[@]}" "$program" systemd-tmpfiles --create "$now" --root=it < /dev/null > /dev/null 2>&1 || killed=$((killed + 1))
+    after=$(awk -v took="$took" -v part="$part" 'BEGIN { printf "%.4f", took / 1e9 * part / 11 }')
+    timeout --foreground -s KILL "$after" "${user[@]}" "$program" systemd-tmpfiles --create "$now" --root=it < /dev/null > /dev/null 2>&1 || killed=$((killed + 1))
     run > /dev/null || otherwise "killed after $after s, and then whole: status $?"
     left | cmp -s - ../whole || otherwise "killed after $after s, and then whole: something else is left"
   done
@@ -207,7 +215,8 @@ for directory in range(100):
 END
   "$program" systemd-tmpfiles --create --root=it < /dev/null > /dev/null
   cat > loop.c << 'END'
-// Asks the machine for what a run asks it for: each object by its whole path, first what it is, then what is in it.
+// Asks the machine for what RealHost asks it for: of each object by its whole path what it is, once in listing its directory
+// and once before it is itself listed or read, and then what is in it.
 #include <dirent.h>
 #include <fcntl.h>
 #include <stdio.h>
@@ -231,7 +240,8 @@ static void list(const char *path) {
   for (struct dirent *item; (item = readdir(directory));) {
     if (!strcmp(item->d_name, ".") || !strcmp(item->d_name, "..")) continue;
     snprintf(below, sizeof below, "%s/%s", path, item->d_name);
-    if (item->d_type == DT_DIR) list(below); else read_all(below);
+    if (lstat(below, &it)) exit(1);
+    if (S_ISDIR(it.st_mode)) list(below); else read_all(below);
   }
   closedir(directory);
 }
@@ -268,13 +278,20 @@ unpack() {
 # listed FOLDER: paths, kinds, links, and contents
 listed() { (cd "$1" && find . -printf '%y %p %l\n' && find . -type f -exec sha256sum {} +) | sort; }
 
+# of_machine: the facts that systemd-tmpfiles takes of this machine, and those of the image that it takes of the tree
+of_machine() {
+  echo "--fact b=$(tr -d - < /proc/sys/kernel/random/boot_id) --fact v=$(uname -r) --fact H=$(uname -n) --fact l=$(uname -n | cut -d. -f1) --fact a=$(uname -m | tr _ -)"
+  sed -n 's/^fact \([mow]\) \(.*\)/--fact \1=\2/p' "$1"
+}
+
 # compare IMAGE WORD..: what the program leaves in a folder, and what systemd-tmpfiles leaves in the same tree
 compare() {
   local image=$1 name status=0; shift
   name="$(basename "$image"), $*"
   rm -rf it
   "$program" systemd-sysusers "$now" < "$image" | "$top/tools/image_to_tar.py" > it.tar 2> said
-  "$top/tools/tar_to_image.py" --folder=it it.tar 2>> said
+  # shellcheck disable=SC2046 # no fact has a blank
+  "$top/tools/tar_to_image.py" --folder=it $(of_machine "$image") it.tar 2>> said
   unpack theirs
   { systemd-tmpfiles "$@" --root="$PWD/theirs" 2>&1 || true; } | sed "s:$PWD/theirs::g" > said.theirs
   "$program" systemd-tmpfiles "$@" --root=it < /dev/null > said || status=$?
