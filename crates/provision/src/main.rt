@@ -78,14 +78,7 @@ fn run<S: Source, K: Sink, H: Host>(
     ensures generated { (seed count : ℕ) → asked_of (map string_bytes (drop 1 arguments.now)) ≡ Some (Generate seed count) → source.new ≡ source.old }
     ensures unasked { rooted_of (map string_bytes (drop 1 arguments.now)) ≡ None → host.new ≡ host.old }
 {
-    let outcome = provision_all(
-        alloc,
-        words_of(arguments),
-        clock_micros,
-        source,
-        sink,
-        host,
-    );
+    let outcome = provision_all(alloc, words_of(arguments), clock_micros, source, sink, host);
     ExitCode::from(status(&outcome))
 }
 

@@ -1,5 +1,5 @@
 -- Runs on a folder that were stopped, one or more, each on what the last one left there, are mended by a whole run.
-use Rattle.std.specs.Prelude.{◌≡◌, ◌≢◌, ℕ, false, List, [], ◌∷◌, ◌++◌, Option, Some, None}
+use Rattle.std.specs.Prelude.{◌≡◌, ◌≢◌, ℕ, false, List, [], ◌∷◌, Some, None}
 use Rattle.std.proofs.Common.{refl, sym, ap, subst, ◌∙◌}
 use Rattle.pv_folder.proofs.EmptyLaws.{tree_emptied}
 use Rattle.pv_folder.proofs.OpeningLaws.{reopened}
@@ -7,7 +7,7 @@ use Rattle.pv_folder.specs.Folders.{manifest_path, new_manifest_path, real_in, t
 use Rattle.pv_folder.specs.Manifest.{manifest_of, with_empty_files}
 use Rattle.pv_folder.specs.Merge.{merged}
 use Rattle.pv_folder.specs.Opening.{IsOpened, Says, absent, present}
-use Rattle.pv_host.specs.Content.{Content, Held, HostObject, held, spelled}
+use Rattle.pv_host.specs.Content.{Content, Held, held}
 use Rattle.pv_host.specs.Content as host
 use Rattle.pv_image.proofs.ImageLaws.{one_image, text_image}
 use Rattle.pv_image.specs.declared.version.Version.TheVariants.{Two}
@@ -18,7 +18,6 @@ use Rattle.pv_steps.specs.Same.{Same}
 use Rattle.pv_steps.specs.Trees.{Files}
 use Rattle.pv_text.specs.Facts.{Values}
 use Rattle.pv_words.specs.declared.options.Options.{Options}
-use Rattle.provision_run.specs.declared.outcome.Outcome.TheVariants.{Stopped}
 use Rattle.provision_run.specs.declared.task.Task.{Task}
 use Rattle.provision_run.specs.declared.task.Task.TheVariants.{Accounts, Phases}
 use Rattle.provision_run.specs.FolderStops.{AreFolders, HasEndedOn, HasStoppedOn, HaveStoppedOn, IsCalmOn}
@@ -26,7 +25,7 @@ use Rattle.provision_run.specs.OnFolder.{IsKept}
 use Rattle.provision_run.specs.OverTree.{HasRun, IsStopped, outcome_of}
 use Rattle.provision_run.specs.Phased.{run_lines}
 use Rattle.provision_run.specs.Rereading.{ArePlain, ArePlainRequests, MayRepeat}
-use Rattle.provision_run.specs.Stops.{EndAlikeAfter, HasStopped, HaveStopped, IsCalm, unlimited}
+use Rattle.provision_run.specs.Stops.{EndAlikeAfter, HasStopped, HaveStopped, unlimited}
 use Rattle.provision_run.specs.Tasks.{task_of}
 use Rattle.provision_run.specs.Whole.{final, final_by}
 use Rattle.provision_run.specs.Words.{moment_of}

@@ -1,14 +1,13 @@
 -- Words that name a folder ask for no run over a generated tree.
 use Rattle.std.specs.Prelude.{◌≡◌, ℕ, Bool, true, false, List, [], ◌∷◌, codes, Option, Some, None, option_and_then, if◌then◌else◌}
 use Rattle.std.specs.Option.{option_map}
-use Rattle.std.proofs.Common.{refl, sym, ap, subst, ◌∙◌}
+use Rattle.std.proofs.Common.{refl, sym, subst}
 use Rattle.pv_path.specs.Names.{same_bytes}
 use Rattle.pv_path.proofs.PathLaws.{same_bytes-decides}
 use Rattle.pv_words.specs.Asked.{asked_of, generate_of}
 use Rattle.pv_words.specs.Cut.{Cut}
 use Rattle.pv_words.specs.Meaning.{options_of}
 use Rattle.pv_words.specs.Rooted.{cut_of, is_folder, rooted_of, rooted_with}
-use Rattle.pv_words.specs.declared.asked.Asked.{Asked}
 use Rattle.pv_words.specs.declared.asked.Asked.TheVariants.{Run, Generate}
 use Rattle.pv_words.specs.declared.options.Options.{Options}
 use Rattle.pv_words.specs.declared.rooted.Rooted.{Rooted}
