@@ -1,5 +1,5 @@
 -- From a run over the tree of a folder to what belongs to the folder.
-use Rattle.std.specs.Prelude.{◌≡◌, ◌≤◌, ◌<◌, ◌+◌, ◌⊎◌, min, ℕ, false, List, [], ◌∷◌, ◌++◌, codes, take, Option, Some, None, Result, Ok, Err, IfOk, IfSome, IsErrOf, OnOk, Bool, if◌then◌else◌}
+use Rattle.std.specs.Prelude.{◌≡◌, ◌≢◌, ◌≤◌, ◌<◌, ◌+◌, ◌⊎◌, min, ℕ, true, false, List, [], ◌∷◌, ◌++◌, codes, take, Option, Some, None, Result, Ok, Err, IfOk, IfSome, IsErrOf, OnOk, Bool, if◌then◌else◌}
 use Rattle.std.specs.Io.KnownBytes.{Appends}
 use Rattle.std.proofs.Common.{arith, inl, inr, refl, sym, ap, subst, ◌∙◌, append_assoc}
 use Rattle.std.proofs.Math.Nat.{eq-or-lt_of_le, min-le_right}
