@@ -1,5 +1,5 @@
 -- From a run over the tree of a folder to what belongs to the folder.
-use Rattle.std.specs.Prelude.{◌≡◌, ◌≢◌, ◌≤◌, ◌<◌, ◌+◌, ◌⊎◌, min, ℕ, true, false, List, [], ◌∷◌, ◌++◌, codes, take, Option, Some, None, Result, Ok, Err, IfOk, IfSome, IsErrOf, OnOk, Bool, if◌then◌else◌}
+use Rattle.std.specs.Prelude.{◌≡◌, ◌≤◌, ◌<◌, ◌+◌, ◌⊎◌, min, ℕ, false, List, [], ◌∷◌, ◌++◌, codes, take, Option, Some, None, Result, Ok, Err, IfOk, IfSome, IsErrOf, OnOk, Bool, if◌then◌else◌}
 use Rattle.std.specs.Io.KnownBytes.{Appends}
 use Rattle.std.proofs.Common.{arith, inl, inr, refl, sym, ap, subst, ◌∙◌, append_assoc}
 use Rattle.std.proofs.Math.Nat.{eq-or-lt_of_le, min-le_right}
@@ -72,7 +72,7 @@ module _ (folder : Path) (facts : Values) (left : Files) where
   untold (Some z) closed = let no : Some (held z) ≡ None = closed in cc
 
   -- steps that changed nothing outside of `tree`, and then a new manifest
-  pub left_in : (old mid new : Option Content) → IsSameOutside folder old mid → IfSome mid (λ c. Agrees folder left (held c)) → IsClosed folder facts left mid new
+  left_in : (old mid new : Option Content) → IsSameOutside folder old mid → IfSome mid (λ c. Agrees folder left (held c)) → IsClosed folder facts left mid new
       → IsLeftIn folder old new facts left
   left_in None mid new outside agrees closed = untold new (subst (λ (o : Option Content). IsClosed folder facts left o new) outside closed)
   left_in (Some x) None new outside agrees closed = absurd outside
@@ -83,26 +83,26 @@ module _ (folder : Path) (facts : Values) (left : Files) where
 
 -- ---- a tree that steps have moved
 
--- the folder is the same
-module _ (folder own other : Path) (same : own ≡ folder) (old mid : Option Content) (faults faults' : ℕ) (pending pending' : Bool)
-    (moves : Moves own old faults pending other mid faults' pending') where
-  there : other ≡ folder
-  there = moves.same ∙ same
+module _ (folder other : Path) (old mid : Option Content) (faults faults' : ℕ) (pending pending' : Bool)
+    (moves : Moves folder old faults pending other mid faults' pending') where
+  moved_agrees : (settled : Bool) (left : Files) → (settled ≡ false → IfSome mid (λ c. Agrees other left (held c))) → settled ≡ false → IfSome mid (λ c. Agrees folder left (held c))
+  moved_agrees settled left agrees h = subst (λ (f : Path). IfSome mid (λ c. Agrees f left (held c))) moves.same (agrees h)
 
-  pub moved_outside : IsSameOutside folder old mid
-  moved_outside = subst (λ (f : Path). IsSameOutside f old mid) same moves.outside
-
-  pub moved_agrees : (settled : Bool) (left : Files) → (settled ≡ false → IfSome mid (λ c. Agrees other left (held c))) → settled ≡ false → IfSome mid (λ c. Agrees folder left (held c))
-  moved_agrees settled left agrees h = subst (λ (f : Path). IfSome mid (λ c. Agrees f left (held c))) there (agrees h)
-
-  pub moved_closed : (closed : Result (Unit {0}) HostFault) (facts : Values) (left : Files) (new : Option Content) → OnOk closed (IsClosed other facts left mid new) → OnOk closed (IsClosed folder facts left mid new)
-  moved_closed closed facts left new done = subst (λ (f : Path). OnOk closed (IsClosed f facts left mid new)) there done
+  moved_closed : (closed : Result (Unit {0}) HostFault) (facts : Values) (left : Files) (new : Option Content) → OnOk closed (IsClosed other facts left mid new) → OnOk closed (IsClosed folder facts left mid new)
+  moved_closed closed facts left new done = subst (λ (f : Path). OnOk closed (IsClosed f facts left mid new)) moves.same done
 
 -- a folder that is opened keeps its tree
 pub keeps_opened : (folder : Path) (content : Option Content) (facts : Values) (tree : Files) → IfSome content (λ c. IsOpened folder c facts tree)
     → IfSome content (λ c. IsContent (held c)) → IfSome content (λ c. Keeps folder tree c)
 keeps_opened folder (Some c) facts tree opened is_content = opened_keeps folder c facts tree opened is_content
 keeps_opened folder None facts tree opened is_content = tt
+
+-- also where it is told by another name, and after it was read
+pub keeps_after : (given folder : Path) (old new : Option Content) (facts : Values) (tree : Files) → given ≡ folder → new ≡ old → IfSome old (λ c. IsOpened given c facts tree)
+    → IfSome old (λ c. IsContent (held c)) → IfSome new (λ c. Keeps folder tree c)
+keeps_after given folder old new facts tree at kept opened is_content =
+    subst (λ (o : Option Content). IfSome o (λ c. Keeps folder tree c)) (sym kept)
+    (subst (λ (p : Path). IfSome old (λ c. Keeps p tree c)) at (keeps_opened given old facts tree opened is_content))
 
 -- its refusal does not blame the host
 pub refused_unblamed : (f : OpenFault) (X : Type 0) {E : Type 0} (r : Result Answer E) → IfOk r (λ a. a.outcome ≡ BadFolder f) → IfOk r (λ a. a.outcome ≡ FolderFailed → X)
@@ -127,6 +127,35 @@ risen_closing (Err host.Failed) old mid new (inr h) up is =
     inr (let at : new ≡ min (mid + 1) last_count = is in let same : mid ≡ last_count = h in omega (arith, at, same))
 risen_closing (Err host.Memory) old mid new (inr h) up is = inr (is ∙ h)
 
+-- a count that rose after others, in an answer
+pub blames_from : (old mid new : ℕ) → old ≤ mid → {A E : Type 0} (outcome : A → Outcome) (r : Result A E) → IfOk r (λ a. outcome a ≡ FolderFailed → HasRisen mid new)
+    → IfOk r (λ a. outcome a ≡ FolderFailed → HasRisen old new)
+blames_from old mid new up outcome (Ok a) blames = λ e. by (blames e)
+  where
+    by : HasRisen mid new → HasRisen old new
+    by (inl h) = inl (omega (arith, up, h))
+    by (inr h) = inr h
+blames_from old mid new up outcome (Err e) blames = tt
+
+-- ---- an outcome with its messages
+
+-- an answer to a folder by its other name, and to what the host held and holds by other names
+pub told_output : (options : Options) (clock : ℕ) (own folder : Path) (told old left new : Option Content) (found : Outcome) (messages : List (List ℕ)) → own ≡ folder → told ≡ old → left ≡ new
+    → IsAnswerOn own options clock told left found messages → {E : Type 0} (r : Result Answer E) → IfOk r (λ a. a.outcome ≡ found)
+    → IfOk r (λ a. a.output.items ≡ messages_text messages) → IfOk r (λ a. HasOutputOn folder options clock old new a.outcome a.output.items)
+told_output options clock own folder told old left new found messages at same last answer (Ok a) is text =
+    let here = subst (λ (p : Path). IsAnswerOn p options clock told left found messages) at answer in
+    let first = subst (λ (c : Option Content). IsAnswerOn folder options clock c left found messages) same here in
+    let whole = subst (λ (c : Option Content). IsAnswerOn folder options clock old c found messages) last first in
+    (messages, (subst (λ (o : Outcome). IsAnswerOn folder options clock old new o messages) (sym is) whole, text))
+told_output options clock own folder told old left new found messages at same last answer (Err e) is text = tt
+
+pub told_blames : (told old left new : ℕ) (found : Outcome) → told ≡ old → left ≡ new → (found ≡ FolderFailed → HasRisen told left) → {E : Type 0} (r : Result Answer E)
+    → IfOk r (λ a. a.outcome ≡ found) → IfOk r (λ a. a.outcome ≡ FolderFailed → HasRisen old new)
+told_blames told old left new found same last blames (Ok a) is = λ e.
+    subst (λ (n : ℕ). HasRisen old n) last (subst (λ (n : ℕ). HasRisen n left) same (blames (sym is ∙ e)))
+told_blames told old left new found same last blames (Err e) is = tt
+
 -- ---- what belongs to an outcome
 
 module _ (folder : Path) (options : Options) (clock : ℕ) (old new : Option Content) where
@@ -148,41 +177,49 @@ module _ (folder : Path) (options : Options) (clock : ℕ) (old new : Option Con
   run_on (BadFolder f) messages h = absurd (subst IsEnd (sym h.run.end) (ends _))
   run_on FolderFailed messages h = absurd (subst IsEnd (sym h.run.end) (ends _))
 
-  -- a run over the tree of a folder, and what was kept of it then
-  module _ (facts : Values) (tree left : Files) (mid : Option Content) (ran : Result Outcome TreeFault) (pending : Bool) (closed : Result (Unit {0}) HostFault) (messages : List (List ℕ))
+  -- a run over the tree of a folder at its moment, which moved the tree in its folder, and what was kept of it then
+  module _ (facts : Values) (tree left : Files) (moment : ℕ) (ran : Result Outcome TreeFault) (pending : Bool) (closed : Result (Unit {0}) HostFault) (messages : List (List ℕ))
+      (other : Path) (mid : Option Content) (before between : ℕ) (was will : Bool)
+      (at : moment ≡ moment_of options clock)
       (opened : WasOpened folder old facts tree)
-      (run : IfOk ran (λ found. HasRun options facts (moment_of options clock) tree found messages left))
-      (failed : IsErrOf ran step.Failed → HasFailed options facts (moment_of options clock) tree messages left)
-      (outside : IsSameOutside folder old mid) (agrees : pending ≡ false → IfSome mid (λ c. Agrees folder left (held c)))
-      (done : OnOk closed (IsClosed folder facts left mid new)) where
+      (run : IfOk ran (λ found. HasRun options facts moment tree found messages left))
+      (failed : IsErrOf ran step.Failed → HasFailed options facts moment tree messages left)
+      (moves : Moves folder old before was other mid between will)
+      (agrees : pending ≡ false → IfSome mid (λ c. Agrees other left (held c)))
+      (done : OnOk closed (IsClosed other facts left mid new)) where
     run_as : (found : Outcome) → ran ≡ Ok found → HasRun options facts (moment_of options clock) tree found messages left
-    run_as found is = subst (λ r. IfOk r (λ f. HasRun options facts (moment_of options clock) tree f messages left)) is run
+    run_as found is = subst (λ (m : ℕ). HasRun options facts m tree found messages left) at (subst (λ r. IfOk r (λ f. HasRun options facts moment tree f messages left)) is run)
 
-    pub opened_answer : (found : Outcome) → EndsAs ran pending closed found → IsAnswerOn folder options clock old new found messages
-    opened_answer found (as_run _ is settled kept) = run_on found messages (record {
-      facts = facts;
-      tree = tree;
-      opened = opened;
-      left = left;
-      run = run_as found is;
-      kept = left_in folder facts left old mid new outside (agrees settled) (subst (λ r. OnOk r (IsClosed folder facts left mid new)) kept done);
-    })
-    opened_answer found (step_failed is) = in_step facts tree left opened (failed is)
-    opened_answer found (keeping_failed end is fault) = in_keeping facts tree left end opened (run_as end is)
+    failed_as : ran ≡ Err step.Failed → HasFailed options facts (moment_of options clock) tree messages left
+    failed_as is = subst (λ (m : ℕ). HasFailed options facts m tree messages left) at (failed is)
+
+    kept_in : pending ≡ false → closed ≡ Ok tt → IsLeftIn folder old new facts left
+    kept_in settled kept =
+        left_in folder facts left old mid new moves.outside (moved_agrees folder other old mid before between was will moves pending left agrees settled)
+        (subst (λ r. OnOk r (IsClosed folder facts left mid new)) kept (moved_closed folder other old mid before between was will moves closed facts left new done))
+
+    ended_answer : (found : Outcome) → EndsAs ran pending closed found → IsAnswerOn folder options clock old new found messages
+    ended_answer found (as_run _ is settled kept) =
+        run_on found messages (record { facts = facts; tree = tree; opened = opened; left = left; run = run_as found is; kept = kept_in settled kept })
+    ended_answer found (step_failed is) = in_step facts tree left opened (failed_as is)
+    ended_answer found (keeping_failed end is fault) = in_keeping facts tree left end opened (run_as end is)
+
+    pub kept_answer : {E : Type 0} (r : Result Outcome E) → IfOk r (EndsAs ran pending closed) → IfOk r (λ found. IsAnswerOn folder options clock old new found messages)
+    kept_answer (Ok found) ends = ended_answer found ends
+    kept_answer (Err f) ends = tt
 
     -- the host is blamed where its count of faults rose, in a step or in keeping what was left
-    pub opened_blames : (before between after : ℕ) → (IsErrOf ran step.Failed → HasRisen before between) → before ≤ between → between ≤ after → after ≡ count_after closed between
-        → (found : Outcome) → EndsAs ran pending closed found → found ≡ FolderFailed → HasRisen before after
-    opened_blames before between after cause up more is found (as_run _ ran_is settled kept) e =
-        absurd (subst IsEnd (sym (subst (λ (o : Outcome). HasRun options facts (moment_of options clock) tree o messages left) e (run_as found ran_is)).end) (ends _))
-    opened_blames before between after cause up more is found (step_failed failed_is) e = risen_closing closed before between after (cause failed_is) more is
-    opened_blames before between after cause up more is found (keeping_failed end ran_is fault) e =
-        risen_by_fault before between after up (is ∙ ap (λ (r : Result (Unit {0}) HostFault). count_after r between) fault)
+    module _ (after : ℕ) (cause : IsErrOf ran step.Failed → HasRisen before between) (more : between ≤ after) (is : after ≡ count_after closed between) where
+      ended_blames : (found : Outcome) → EndsAs ran pending closed found → found ≡ FolderFailed → HasRisen before after
+      ended_blames found (as_run _ ran_is settled kept) e =
+          absurd (subst IsEnd (sym (subst (λ (o : Outcome). HasRun options facts (moment_of options clock) tree o messages left) e (run_as found ran_is)).end) (ends _))
+      ended_blames found (step_failed failed_is) e = risen_closing closed before between after (cause failed_is) more is
+      ended_blames found (keeping_failed end ran_is fault) e =
+          risen_by_fault before between after moves.count (is ∙ ap (λ (r : Result (Unit {0}) HostFault). count_after r between) fault)
 
-    pub opened_output : {E : Type 0} (r : Result Outcome E) → IfOk r (EndsAs ran pending closed) → (out : List ℕ) → out ≡ messages_text messages
-        → IfOk r (λ found. HasOutputOn folder options clock old new found out)
-    opened_output (Ok found) ends out text = (messages, (opened_answer found ends, text))
-    opened_output (Err f) ends out text = tt
+      pub kept_blames : {E : Type 0} (r : Result Outcome E) → IfOk r (EndsAs ran pending closed) → IfOk r (λ found. found ≡ FolderFailed → HasRisen before after)
+      kept_blames (Ok found) ends = ended_blames found ends
+      kept_blames (Err f) ends = tt
 
   -- a folder that is not opened
   pub refused_output : (f : OpenFault) → is_outer f ≡ false → IfSome old (λ c. IsRefused folder c f) → new ≡ old
@@ -198,8 +235,8 @@ module _ (folder : Path) (options : Options) (clock : ℕ) (old new : Option Con
   )
   refused_output f outer refused kept (Err e) is text = tt
 
-  pub failed_opening : new ≡ old → HasOutputOn folder options clock old new FolderFailed []
-  failed_opening kept = ([], (in_opening refl kept, refl))
+  pub failed_opening : (out : List ℕ) → out ≡ [] → new ≡ old → HasOutputOn folder options clock old new FolderFailed out
+  failed_opening out none kept = ([], (in_opening refl kept, none))
 
   -- what was written wholly
   pub folder_written : (found : Outcome) (out : List ℕ) (before after : Option (List ℕ)) → HasOutputOn folder options clock old new found out → Appends before after out

@@ -57,7 +57,11 @@ impl<T: Drop> From<AllocFailed<T>> for NoAnswer {
 }
 
 /// The answer that is one message.
-fn one_message(alloc: Global, outcome: Outcome, text: &[u8]) -> Result<Answer, AllocError>
+pub(crate) fn one_message(
+    alloc: Global,
+    outcome: Outcome,
+    text: &[u8],
+) -> Result<Answer, AllocError>
     ensures { IfOk result (λ answer. (answer.outcome ≡ outcome) × (answer.output.items ≡ message text.now)) }
 {
     let mut output = Vec::new(alloc);

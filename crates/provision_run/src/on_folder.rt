@@ -1,22 +1,22 @@
 //! A run on a folder of a host.
-ghost use Rattle.std.specs.Prelude.{◌≡◌, ◌∷◌, [], IfOk, IfSome};
+ghost use Rattle.std.specs.Prelude.{◌≡◌, ◌∷◌, [], Ok, IfOk, IfSome};
 ghost use Rattle.pv_io.specs.Faults.{HasRisen};
 ghost use Rattle.pv_host.specs.Content.{spelled};
 ghost use Rattle.pv_folder.specs.Keeping.{Keeps};
 ghost use Rattle.pv_folder.specs.Opening.{IsOpened};
 ghost use Rattle.provision_run.specs.Messages.{messages_text};
-ghost use Rattle.provision_run.specs.OnFolder.{EndsAs, HasOutputOn, bad_folder_text};
+ghost use Rattle.provision_run.specs.OnFolder.{EndsAs, HasOutputOn, IsAnswerOn, WasOpened, bad_folder_text};
 
-use crate::answer::Answer;
-use crate::message::{add_message, bad_folder, print_messages};
+use crate::answer::{Answer, one_message};
+use crate::message::{bad_folder, print_messages};
 use crate::outcome::Outcome;
 use crate::running::run_limited;
 use pv_folder::{FolderTree, OpenFault, close_folder, read_folder};
 use pv_host::{Host, HostFault};
 use pv_image::Image;
 use pv_steps::TreeFault;
-use pv_text::Messages;
-use pv_words::Rooted;
+use pv_text::{Facts, Messages};
+use pv_words::{Options, Rooted};
 use std::alloc::{AllocError, Global};
 
 /// The answer to words that name a folder, and what the folder then holds.
@@ -47,12 +47,7 @@ fn refuse_folder(alloc: Global, fault: OpenFault) -> Result<Answer, AllocError>
     ensures output { IfOk result (λ answer. answer.output.items ≡ messages_text (bad_folder_text fault ∷ [])) }
 {
     let text = bad_folder(alloc, &fault)?;
-    let mut output = Vec::new(alloc);
-    add_message(&mut output, &text)?;
-    Ok(Answer {
-        outcome: Outcome::BadFolder(fault),
-        output,
-    })
+    one_message(alloc, Outcome::BadFolder(fault), &text)
 }
 
 /// Runs over the tree of a folder that was opened, and keeps there what the run has left, whatever the run answered.
@@ -71,17 +66,56 @@ fn run_opened<H: Host>(
     ensures cause { IfOk result (λ answer. answer.outcome ≡ Outcome.FolderFailed → HasRisen (H.faults host.old) (H.faults host.new)) }
 {
     let Image { tree, facts } = image;
-    let options = &rooted.options;
     let folder = Vec::from_slice(alloc, rooted.folder.as_slice())?;
     let mut tree = FolderTree::of(host, folder, tree);
     let mut messages = Messages::new(alloc);
-    let moment = options.now.unwrap_or(clock);
-    let ran = run_limited(alloc, options, &facts, moment, &mut tree, &mut messages);
-    let pending = tree.is_pending();
-    let closed = close_folder(alloc, &mut tree, &facts);
-    let outcome = outcome_of(ran, pending, closed)?;
-    let output = print_messages(alloc, &messages)?;
+    let ran = run_kept(
+        alloc,
+        &rooted.options,
+        &facts,
+        clock,
+        &mut tree,
+        &mut messages,
+    );
+    let _host = tree.into_host();
+    match ran {
+        Ok(outcome) => with_messages(alloc, outcome, &messages),
+        Err(_memory) => Err(AllocError),
+    }
+}
+
+/// An outcome with its messages.
+fn with_messages(alloc: Global, outcome: Outcome, messages: &Messages) -> Result<Answer, AllocError>
+    ensures outcome { IfOk result (λ answer. answer.outcome ≡ outcome) }
+    ensures output { IfOk result (λ answer. answer.output.items ≡ messages_text messages.now) }
+{
+    let output = print_messages(alloc, messages)?;
     Ok(Answer { outcome, output })
+}
+
+/// Runs over a tree that a host has in a folder, and keeps there what the run has left, whatever it answered.
+fn run_kept<H: Host>(
+    alloc: Global,
+    options: &Options,
+    facts: &Facts,
+    clock: u64,
+    tree: &mut FolderTree<'_, H>,
+    messages: &mut Messages,
+) -> Result<Outcome, AllocError>
+    requires fresh { tree.old.tree.steps ≡ [] }
+    requires unsaid { messages.old ≡ [] }
+    requires opened { WasOpened (spelled tree.old.folder.items) (H.content tree.old.host.now) facts.now tree.old.tree.files }
+    ensures answer { IfOk result (λ found. IsAnswerOn (spelled tree.old.folder.items) options.entry.now clock
+        (H.content tree.old.host.now) (H.content tree.new.host.now) found messages.new) }
+    ensures cause { IfOk result (λ found. found ≡ Outcome.FolderFailed →
+        HasRisen (H.faults tree.old.host.now) (H.faults tree.new.host.now)) }
+    ensures host { tree.new.host.ghost_name ≡ tree.old.host.ghost_name }
+{
+    let moment = options.now.unwrap_or(clock);
+    let ran = run_limited(alloc, options, facts, moment, tree, messages);
+    let pending = tree.is_pending();
+    let closed = close_folder(alloc, tree, facts);
+    outcome_of(ran, pending, closed)
 }
 
 /// The outcome of a run, by whether the host has all that it did, and whether that is kept.
@@ -92,17 +126,30 @@ fn outcome_of(
 ) -> Result<Outcome, AllocError>
     ensures { IfOk result (EndsAs ran pending closed) }
 {
-    match (ran, closed) {
-        (Err(TreeFault::Memory), _) => Err(AllocError),
-        (Err(TreeFault::Failed), _) => Ok(Outcome::FolderFailed),
-        (Ok(_), Err(HostFault::Failed)) => Ok(Outcome::FolderFailed),
-        (Ok(_), Err(HostFault::Memory)) => Err(AllocError),
-        (Ok(outcome), Ok(())) => {
+    match ran {
+        Ok(outcome) => kept_outcome(outcome, pending, closed),
+        Err(TreeFault::Failed) => Ok(Outcome::FolderFailed),
+        Err(TreeFault::Memory) => Err(AllocError),
+    }
+}
+
+/// The outcome of a run of which no step failed.
+fn kept_outcome(
+    outcome: Outcome,
+    pending: bool,
+    closed: Result<(), HostFault>,
+) -> Result<Outcome, AllocError>
+    ensures { IfOk result (EndsAs (Ok outcome) pending closed) }
+{
+    match closed {
+        Ok(()) => {
             if pending {
                 Err(AllocError)
             } else {
                 Ok(outcome)
             }
         }
+        Err(HostFault::Failed) => Ok(Outcome::FolderFailed),
+        Err(HostFault::Memory) => Err(AllocError),
     }
 }

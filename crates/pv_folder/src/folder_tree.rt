@@ -61,6 +61,20 @@ impl<'a, H: Host> FolderTree<'a, H> {
         }
     }
 
+    /// The host again, as the tree has left it. It takes no memory.
+    pub fn into_host(self) -> &'a mut H
+        ensures host { result.ghost_name ≡ self.entry.host.ghost_name }
+        ensures now { result.now ≡ self.entry.host.now }
+    {
+        let FolderTree {
+            host,
+            folder: _,
+            tree: _,
+            pending: _,
+        } = self;
+        host
+    }
+
     /// The tree in memory. It takes no memory.
     pub fn tree(&self) -> &MemTree
         ensures { result.now ≡ self.now.tree }
