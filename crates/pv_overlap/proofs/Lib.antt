@@ -1,4 +1,6 @@
+pub mod Asking
 pub mod HeadLaws
+pub mod Pairs
 pub mod Related
 pub mod Sorted
 pub mod Walking

@@ -4,12 +4,14 @@ use Rattle.std.specs.Ordering.{ordering_reverse}
 use Rattle.std.specs.declared.cmp.Ordering.{Ordering}
 use Rattle.std.specs.declared.cmp.Ordering.TheVariants.{Less, Equal, Greater}
 use Rattle.std.proofs.lemmas.Bool.{cases_lt}
-use Rattle.std.proofs.lemmas.List.Elements.{All-push, All-filter, All-weaker, Contains-push, Contains-append_left}
+use Rattle.std.proofs.lemmas.List.Elements.{All-push, All-contains, All-filter, All-weaker, Contains-push, Contains-append_left}
+use Rattle.std.proofs.lemmas.List.Kept.{AllPairs-filter}
 use Rattle.pv_path.specs.Paths.{Path, path_cmp, path_total, is_prefix}
 use Rattle.pv_path.proofs.PathLaws.{path_cmp-exact, prefix_between, prefix_not_greater, is_prefix-refl}
 use Rattle.pv_overlap.specs.declared.walk.Head.{Head}
 use Rattle.pv_overlap.specs.Heads.{related}
 use Rattle.pv_overlap.specs.Walk.{IsOpen, IsOrderOf, head_at}
+use Rattle.pv_overlap.proofs.Pairs.{AllPairs-append, AllPairs-one, in_one}
 
 -- paths that come no later than each other are the same
 both_first : (p q : Path) → path_cmp p q ≢ Greater → path_cmp q p ≢ Greater → p ≡ q
@@ -56,6 +58,8 @@ module _ (heads : List Path) (order : List Head) (is_order : IsOrderOf heads ord
   pub open_next : IsOpen order (at + 1) (filter begins open' ++ at ∷ [])
   open_next = record {
     below = All-push (λ q. q < at + 1) (filter begins open') at (All-weaker (λ q. q < at) (λ q. q < at + 1) (λ q l. omega arith) (filter begins open') (All-filter begins (λ q. q < at) open' is_open.below)) (omega arith);
+    rising = AllPairs-append ◌<◌ (filter begins open') (at ∷ []) (AllPairs-filter ◌<◌ begins open' is_open.rising) (AllPairs-one ◌<◌ at) (λ q p among last.
+        (let same : at ≡ p = in_one at p last in subst (λ x. q < x) same (All-contains (λ q. q < at) (filter begins open') q (All-filter begins (λ q. q < at) open' is_open.below) among)));
     all = λ q p l m n e. elim (cases_lt q at) [
       | inl less ↦ Contains-append_left (filter begins open') (at ∷ []) q (kept_open q less
           (prefix_between (head_at order q).path (head_at order at).path (head_at order p).path e (is_order.sorted q at (omega arith) inside) (is_order.sorted at p (omega arith) n)))

@@ -1,5 +1,5 @@
 -- What is known while the heads are walked in order: which of them begin the next, and which answers were found.
-use Rattle.std.specs.Prelude.{◌≡◌, ◌≢◌, ℕ, ◌<◌, ◌≤◌, ◌⊎◌, true, List, [], length, slice_index_or, All, Contains, Option, Some, None}
+use Rattle.std.specs.Prelude.{◌≡◌, ◌≢◌, ℕ, ◌<◌, ◌≤◌, ◌⊎◌, min, max, true, List, [], length, map, slice_index_or, All, AllPairs, Contains, Option, Some, None}
 use Rattle.std.specs.Ordering.{nat_cmp, ordering_then}
 use Rattle.std.specs.declared.cmp.Ordering.{Ordering}
 use Rattle.std.specs.declared.cmp.Ordering.TheVariants.{Greater}
@@ -7,6 +7,7 @@ use Rattle.std.specs.BTreeMap.{BTreeMap, get}
 use Rattle.pv_path.specs.Paths.{Path, path_cmp, is_prefix}
 use Rattle.pv_overlap.specs.declared.walk.Head.{Head}
 use Rattle.pv_overlap.specs.Answers.{Answers}
+use Rattle.pv_overlap.specs.Questions.{Question}
 
 -- a head past the end of a list of them
 abbrev pub no_head : Head
@@ -23,12 +24,21 @@ IsHeadOf heads head = (head.index < length heads) × (head.path ≡ slice_index_
 pub record IsOrderOf (heads : List Path) (order : List Head) : Type 0 where
   pub all : (i : ℕ) → i < length heads → (k : ℕ) × (k < length order) × ((head_at order k).index ≡ i)
   pub each : (k : ℕ) → k < length order → IsHeadOf heads (head_at order k)
+  pub once : (k l : ℕ) → k < l → l < length order → (head_at order k).index ≢ (head_at order l).index
   pub sorted : (k l : ℕ) → k ≤ l → l < length order → path_cmp (head_at order k).path (head_at order l).path ≢ Greater
 
 -- the open ones among the heads below a place: those that begin one from there on
 pub record IsOpen (order : List Head) (at : ℕ) (open' : List ℕ) : Type 0 where
   pub below : All (λ q. q < at) open'
+  pub rising : AllPairs ◌<◌ open'
   pub all : (q p : ℕ) → q < at → at ≤ p → p < length order → is_prefix (head_at order q).path (head_at order p).path ≡ true → Contains open' q
+
+-- the question about two heads, and those about the head at a place and some others, by their places
+abbrev pub question_of : Head → Head → Question
+question_of a b = (min a.index b.index, max a.index b.index)
+
+abbrev pub questions_at : List Head → ℕ → List ℕ → List Question
+questions_at order at places = map (λ q. question_of (head_at order q) (head_at order at)) places
 
 -- the paths that were found, by the numbers of two heads
 abbrev pub Found : Type 0

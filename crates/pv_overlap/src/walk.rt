@@ -1,10 +1,11 @@
 //! The walk over heads in order, which asks only about those of which one begins the other.
-ghost use Rattle.std.specs.Prelude.{◌≡◌, ◌↔◌, ℕ, ◌+◌, ◌<◌, ◌≤◌, ◌^◌, List, [], ◌∷◌, ◌++◌, true, false, length, slice_index_or, filter, All, AllPairs, Contains, Option, Some, None, IfOk, OnOk};
+ghost use Rattle.std.specs.Prelude.{◌≡◌, ◌≢◌, ◌↔◌, ℕ, ◌+◌, ◌<◌, ◌≤◌, ◌^◌, List, [], ◌∷◌, ◌++◌, true, false, length, slice_index_or, take, filter, All, AllPairs, Contains, Option, Some, None, IfOk, OnOk, is_ok};
 ghost use Rattle.pv_path.specs.Paths.{Path, is_prefix};
 ghost use Rattle.pv_overlap.specs.declared.pair.Pair.{Pair as PairValue};
 ghost use Rattle.pv_overlap.specs.Answers.{ComesBefore, IsAnswered, IsTold, SameAnswers};
 ghost use Rattle.pv_overlap.specs.Heads.{related};
-ghost use Rattle.pv_overlap.specs.Walk.{Grown, HasAnswer, IsHeadOf, IsOrderOf, IsSound, found_at, head_at};
+ghost use Rattle.pv_overlap.specs.Questions.{WasAsked};
+ghost use Rattle.pv_overlap.specs.Walk.{Grown, HasAnswer, IsHeadOf, IsOrderOf, IsSound, found_at, head_at, question_of, questions_at};
 
 use crate::asker::Asker;
 use crate::pair::{Pair, PairList};
@@ -53,6 +54,7 @@ fn note<A: Asker>(
     requires sound { IsSound (A.answers asker.old) (length (A.heads asker.old)) found.old }
     ensures grown { OnOk result (Grown (A.answers asker.old) (length (A.heads asker.old)) found.old found.new) }
     ensures noted { OnOk result (HasAnswer (A.answers asker.old) found.new i j) }
+    ensures asked { A.asked asker.old asker.new ((i, j) ∷ []) }
     ensures heads { A.heads asker.new ≡ A.heads asker.old }
     ensures answers { SameAnswers (A.answers asker.old) (A.answers asker.new) }
 {
@@ -73,15 +75,18 @@ fn ask_about<A: Asker>(
     requires a { IsHeadOf (A.heads asker.old) a.now }
     requires b { IsHeadOf (A.heads asker.old) b.now }
     requires prefix { is_prefix a.now.path b.now.path ≡ true }
+    requires apart { a.now.index ≢ b.now.index }
     requires sound { IsSound (A.answers asker.old) (length (A.heads asker.old)) found.old }
     ensures grown { OnOk result (Grown (A.answers asker.old) (length (A.heads asker.old)) found.old found.new) }
     ensures noted { OnOk result (HasAnswer (A.answers asker.old) found.new a.now.index b.now.index) }
+    ensures asked { A.asked asker.old asker.new (question_of a.now b.now ∷ []) }
     ensures heads { A.heads asker.new ≡ A.heads asker.old }
     ensures answers { SameAnswers (A.answers asker.old) (A.answers asker.new) }
 {
     match a.index.cmp(&b.index) {
         Ordering::Less => note(alloc, asker, a.index, b.index, found),
         Ordering::Greater => note(alloc, asker, b.index, a.index, found),
+        // No two heads have one number.
         Ordering::Equal => Ok(()),
     }
 }
@@ -122,6 +127,8 @@ fn ask_open<A: Asker>(
     requires sound { IsSound (A.answers asker.old) (length (A.heads asker.old)) found.old }
     ensures grown { OnOk result (Grown (A.answers asker.old) (length (A.heads asker.old)) found.old found.new) }
     ensures noted { OnOk result (All (λ q. HasAnswer (A.answers asker.old) found.new (head_at order.now q).index (head_at order.now at).index) opened.now) }
+    ensures some { (many : ℕ) × A.asked asker.old asker.new (questions_at order.now at (take many opened.now)) }
+    ensures asked { OnOk result (A.asked asker.old asker.new (questions_at order.now at opened.now)) }
     ensures heads { A.heads asker.new ≡ A.heads asker.old }
     ensures answers { SameAnswers (A.answers asker.old) (A.answers asker.new) }
 {
@@ -161,6 +168,7 @@ pub fn pairs_by<A: Asker>(
     ensures listed { IfOk result (λ pairs. (pair : PairValue) → Contains pairs pair → IsAnswered (A.answers asker.old) (length heads.now) pair) }
     ensures all { IfOk result (λ pairs. (i j : ℕ) → i < j → j < length heads.now → IsTold (A.answers asker.old) pairs i j) }
     ensures ordered { IfOk result (AllPairs ComesBefore) }
+    ensures asked { WasAsked (A.asked asker.old asker.new) heads.now (is_ok result) }
     ensures heads { A.heads asker.new ≡ A.heads asker.old }
     ensures answers { SameAnswers (A.answers asker.old) (A.answers asker.new) }
 {

@@ -1,5 +1,5 @@
 //! The pairs of reaches that share a path, asked of the machines of patterns.
-ghost use Rattle.std.specs.Prelude.{◌≡◌, ℕ, ◌<◌, ◌^◌, length, All, AllPairs, Contains, IfOk};
+ghost use Rattle.std.specs.Prelude.{◌≡◌, ℕ, ◌<◌, ◌^◌, length, All, AllPairs, Contains, IfOk, ⊤};
 ghost use Rattle.pv_path.specs.Paths.{Path};
 ghost use Rattle.pv_overlap.specs.declared.pair.Pair.{Pair as PairValue};
 ghost use Rattle.pv_overlap.specs.Answers.{ComesBefore, IsAnswered, IsTold};
@@ -22,6 +22,8 @@ impl<'a> Asker for Meeting<'a> {
 
     ghost answers = { λ s i j answer. MayAnswer s.reaches.now s.lines i j answer };
 
+    ghost asked = { λ _ _ _. ⊤ };
+
     fn ask(&mut self, alloc: Global, i: u32, j: u32) -> Result<Option<TreePath>, AllocError> {
         if (i as usize) < self.lines {
             meet(alloc, &self.reaches[i as usize], &self.reaches[j as usize])
@@ -29,6 +31,10 @@ impl<'a> Asker for Meeting<'a> {
             Ok(None)
         }
     }
+
+    ghost asked_nothing = { λ _. tt };
+
+    ghost asked_on = { λ _ _ _ _ _ _ _. tt };
 }
 
 /// The heads of reaches.

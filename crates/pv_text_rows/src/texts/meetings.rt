@@ -1,5 +1,5 @@
 //! Paths that two patterns share, and heads of patterns.
-ghost use Rattle.std.specs.Prelude.{◌≡◌, ℕ, List, [], true, slice_index_or, Option, Some, None, if◌then◌else◌};
+ghost use Rattle.std.specs.Prelude.{◌≡◌, ℕ, List, [], true, slice_index_or, Option, Some, None, if◌then◌else◌, ⊤};
 ghost use Rattle.pv_overlap.specs.Heads.{related};
 
 use crate::marks::{Arguments, number_in, said, unread};
@@ -122,9 +122,15 @@ impl<'a> Asker for Second<'a> {
 
     ghost answers = { λ s i j answer. answer ≡ (if related (slice_index_or s.heads.now i []) (slice_index_or s.heads.now j []) then Some (slice_index_or s.heads.now j []) else None) };
 
+    ghost asked = { λ _ _ _. ⊤ };
+
     fn ask(&mut self, _alloc: Global, _i: u32, j: u32) -> Result<Option<TreePath>, AllocError> {
         Ok(Some(self.heads.as_slice()[j as usize].copy()?))
     }
+
+    ghost asked_nothing = { λ _. tt };
+
+    ghost asked_on = { λ _ _ _ _ _ _ _. tt };
 }
 
 /// The paths that texts spell; a text that spells none is left out.

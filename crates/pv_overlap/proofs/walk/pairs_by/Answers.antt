@@ -1,8 +1,9 @@
-use Rattle.std.proofs.Common.{◌≡◌, ◌<◌, ◌+◌, ◌∷◌, ◌++◌, [], ℕ, List, All, true, length, filter, rules, subst, sym, ap, ◌∙◌}
+use Rattle.std.proofs.Common.{◌≡◌, ◌<◌, ◌+◌, ◌∷◌, ◌++◌, [], ℕ, List, All, true, length, filter, take, rules, arith, is_ok, subst, sym, ap, ◌∙◌}
 use Rattle.std.proofs.lemmas.List.Elements.{All-filter, All-weaker, filter_passes}
 use Rattle.pv_path.specs.Paths.{Path, is_prefix}
 use Rattle.pv_overlap.specs.declared.walk.Head.{Head}
-use Rattle.pv_overlap.specs.Walk.{Grown, HasAnswer, IsOrderOf, IsSound, Walked, head_at}
+use Rattle.pv_overlap.specs.Walk.{Grown, HasAnswer, IsOrderOf, IsSound, Walked, head_at, questions_at}
+use Rattle.pv_overlap.proofs.Asking.{asked_next, asked_part, was_all, was_none, was_some}
 use Rattle.pv_overlap.proofs.Walking.{all_answered, all_told, grown_same, has_same, same_on, sound_same, walked_next, walked_all}
 use Rattle.pv_overlap.proofs.walk.pairs_by.Goals as goal
 
@@ -53,6 +54,10 @@ loop-at-preserved g c =
     let next = walked_next answers heads order is_order at (search rules) open' c.loop-at.found c.ask_open.new.found c.requires.unrelated inv.walked grown noted in
     record {
       walked = subst (λ (xs : List ℕ). Walked answers (length heads) order (at + 1) xs c.ask_open.new.found) (sym (c.in_ok-push.ensures.items ∙ ap (λ (xs : List ℕ). xs ++ at ∷ []) kept)) next;
+      asked = asked_next heads order is_order at (search rules) open' inv.walked.is_open (g.A.Asker.asked c.args.asker.now c.loop-at.asker) (g.A.Asker.asked c.args.asker.now c.ask_open.new.asker) inv.asked
+          (g.met.A.Asker.asked_on c.args.asker.now c.loop-at.asker c.ask_open.new.asker inv.asked.questions (questions_at order at (filter begins open')) inv.asked.told
+          (subst (λ (xs : List ℕ). g.A.Asker.asked c.loop-at.asker c.ask_open.new.asker (questions_at order at xs)) (c.as_slice-in-loop-at-4.ensures.value ∙ kept)
+          (subst (λ (o : List Head). g.A.Asker.asked c.loop-at.asker c.ask_open.new.asker (questions_at o at c.as_slice-in-loop-at-4.result.now)) same told.asked)));
       heads = c.ask_open.ensures.heads ∙ inv.heads;
       answers = same_on answers (g.A.Asker.answers c.loop-at.asker) (g.A.Asker.answers c.ask_open.new.asker) inv.answers c.ask_open.ensures.answers;
     }
@@ -74,3 +79,64 @@ ask_open-requires-clause-sound g c =
     let inv = c.loop-at.invariant in
     sound_same (g.A.Asker.answers c.args.asker.now) (g.A.Asker.answers c.loop-at.asker) (length (g.A.Asker.heads c.loop-at.asker)) c.loop-at.found inv.answers
     (subst (λ (x : List Path). IsSound (g.A.Asker.answers c.args.asker.now) (length x) c.loop-at.found) (c.requires.heads ∙ sym inv.heads) inv.walked.sound)
+
+pub returns-clause-asked : goal.returns-clause-asked
+returns-clause-asked g c =
+    let order = c.in_ok-order.order.items in
+    let is_order : IsOrderOf c.args.heads.now order = subst (λ (x : List Path). IsOrderOf x order) c.as_slice.ensures c.in_ok-order.ensures in
+    was_all c.args.heads.now order is_order (g.A.Asker.asked c.args.asker.now c.loop-at.asker) c.loop-at.at (search rules) (search rules) c.loop-at.invariant.asked (is_ok c.listed.result)
+
+pub returns-in_err-order-clause-asked : goal.returns-in_err-order-clause-asked
+returns-in_err-order-clause-asked g c = was_none (g.A.Asker.asked c.args.asker.now c.args.asker.now) c.args.heads.now (g.met.A.Asker.asked_nothing c.args.asker.now) c.from_residual.result c.from_residual.ensures.0
+
+pub returns-in_err-kept-clause-asked : goal.returns-in_err-kept-clause-asked
+returns-in_err-kept-clause-asked g c =
+    let order = c.in_ok-order.order.items in
+    let is_order : IsOrderOf c.args.heads.now order = subst (λ (x : List Path). IsOrderOf x order) c.as_slice.ensures c.in_ok-order.ensures in
+    let below = c.loop-at.invariant.asked in
+    let inside : c.loop-at.at < length order = search rules in
+    was_some c.args.heads.now order is_order (g.A.Asker.asked c.args.asker.now c.loop-at.asker) c.loop-at.at (omega arith) below.questions below.told below.are c.from_residual-in_err-kept.result c.from_residual-in_err-kept.ensures.0
+
+pub returns-in_err-ask_open-clause-asked : goal.returns-in_err-ask_open-clause-asked
+returns-in_err-ask_open-clause-asked g c =
+    let order = c.in_ok-order.order.items in
+    let is_order : IsOrderOf c.args.heads.now order = subst (λ (x : List Path). IsOrderOf x order) c.as_slice.ensures c.in_ok-order.ensures in
+    let at = c.loop-at.at in
+    let open' = c.loop-at.opened.items in
+    let inv = c.loop-at.invariant in
+    let inside : at < length order = search rules in
+    let begins = λ (q : ℕ). is_prefix (head_at order q).path (head_at order at).path in
+    let kept : c.as_slice-in-loop-at-4.result.now ≡ filter begins open' =
+    c.as_slice-in-loop-at-4.ensures.value
+    ∙ c.in_ok-kept.ensures
+    ∙ ap (λ (x : List Head). filter (λ q. is_prefix (head_at x q).path (head_at x at).path) c.as_slice-in-loop-at-2.result.now) c.as_slice-in-loop-at.ensures.value
+    ∙ ap (filter begins) c.as_slice-in-loop-at-2.ensures.value in
+    let same : c.as_slice-in-loop-at-3.result.now ≡ order = c.as_slice-in-loop-at-3.ensures.value in
+    let below = inv.asked in
+    let some = c.ask_open.ensures.some in
+    was_some c.args.heads.now order is_order (g.A.Asker.asked c.args.asker.now c.ask_open.new.asker) (at + 1) (omega arith) (below.questions ++ questions_at order at (take some.0 (filter begins open')))
+    (g.met.A.Asker.asked_on c.args.asker.now c.loop-at.asker c.ask_open.new.asker below.questions (questions_at order at (take some.0 (filter begins open'))) below.told
+    (subst (λ (xs : List ℕ). g.A.Asker.asked c.loop-at.asker c.ask_open.new.asker (questions_at order at (take some.0 xs))) kept
+    (subst (λ (o : List Head). g.A.Asker.asked c.loop-at.asker c.ask_open.new.asker (questions_at o at (take some.0 c.as_slice-in-loop-at-4.result.now))) same some.1)))
+    (asked_part c.args.heads.now order is_order at inside open' inv.walked.is_open below.questions below.are some.0) c.from_residual-in_err-ask_open.result c.from_residual-in_err-ask_open.ensures.0
+
+pub returns-in_err-push-clause-asked : goal.returns-in_err-push-clause-asked
+returns-in_err-push-clause-asked g c =
+    let order = c.in_ok-order.order.items in
+    let is_order : IsOrderOf c.args.heads.now order = subst (λ (x : List Path). IsOrderOf x order) c.as_slice.ensures c.in_ok-order.ensures in
+    let at = c.loop-at.at in
+    let open' = c.loop-at.opened.items in
+    let inv = c.loop-at.invariant in
+    let inside : at < length order = search rules in
+    let begins = λ (q : ℕ). is_prefix (head_at order q).path (head_at order at).path in
+    let kept : c.as_slice-in-loop-at-4.result.now ≡ filter begins open' =
+    c.as_slice-in-loop-at-4.ensures.value
+    ∙ c.in_ok-kept.ensures
+    ∙ ap (λ (x : List Head). filter (λ q. is_prefix (head_at x q).path (head_at x at).path) c.as_slice-in-loop-at-2.result.now) c.as_slice-in-loop-at.ensures.value
+    ∙ ap (filter begins) c.as_slice-in-loop-at-2.ensures.value in
+    let same : c.as_slice-in-loop-at-3.result.now ≡ order = c.as_slice-in-loop-at-3.ensures.value in
+    let next = asked_next c.args.heads.now order is_order at inside open' inv.walked.is_open (g.A.Asker.asked c.args.asker.now c.loop-at.asker) (g.A.Asker.asked c.args.asker.now c.ask_open.new.asker) inv.asked
+    (g.met.A.Asker.asked_on c.args.asker.now c.loop-at.asker c.ask_open.new.asker inv.asked.questions (questions_at order at (filter begins open')) inv.asked.told
+    (subst (λ (xs : List ℕ). g.A.Asker.asked c.loop-at.asker c.ask_open.new.asker (questions_at order at xs)) kept
+    (subst (λ (o : List Head). g.A.Asker.asked c.loop-at.asker c.ask_open.new.asker (questions_at o at c.as_slice-in-loop-at-4.result.now)) same c.in_ok-ask_open.ensures.asked))) in
+    was_some c.args.heads.now order is_order (g.A.Asker.asked c.args.asker.now c.ask_open.new.asker) (at + 1) (omega arith) next.questions next.told next.are c.from_residual-in_err-push.result c.from_residual-in_err-push.ensures.0
