@@ -13,7 +13,7 @@ use Rattle.pv_dress.specs.Edits.{cut, count_at}
 use Rattle.pv_dress.specs.Nodes.{bare_of, same_kind, same_substance}
 use Rattle.pv_dress.specs.Operations.{stays}
 use Rattle.pv_path.specs.Paths.{Path, same_path, is_prefix, rest_under, parent_of}
-use Rattle.pv_path.proofs.PathLaws.{is_some-rest_under, rest_under-Some, rest_under-self, same_path-refl, not_prefix_not_same}
+use Rattle.pv_path.proofs.PathLaws.{is_some-rest_under, rest_under-Some, same_path-refl, not_prefix_not_same}
 use Rattle.pv_steps.specs.declared.node.Kind.TheVariants.{Directory}
 use Rattle.pv_steps.specs.declared.object.Object.{Object}
 use Rattle.pv_steps.specs.declared.tree.Tree.{Ghosts}
@@ -22,11 +22,10 @@ use Rattle.pv_steps.specs.Acting.{Acted}
 use Rattle.pv_steps.specs.Objects.{modified, is_directory}
 use Rattle.pv_steps.specs.Steps.{put_at}
 use Rattle.pv_steps.specs.Trees.{Files, Places, places, kind_of, IsTree, IsPresent}
-use Rattle.pv_steps.proofs.ActingLaws.{acted_within}
 use Rattle.pv_dress.proofs.EditLaws.{put_at-else}
 use Rattle.pv_table.specs.declared.deed.Deed.TheVariants.{Create}
 use Rattle.pv_table.specs.declared.deed.Making.{Making}
-use Rattle.pv_table.specs.Created.{turn_work, put_count}
+use Rattle.pv_table.specs.Created.{turn_work}
 use Rattle.pv_table.specs.Effects.{turned}
 use Rattle.pv_table.specs.Turns.{Turn, making_turn, single}
 use Rattle.pv_walk.specs.Copying.{Subtree, with_subtree}
@@ -89,12 +88,6 @@ stays_directory : (test : Test) (new old : Body) → new.kind ≡ Directory → 
 stays_directory test new old e f h = λ i. (same_kind (e i) (f i) && (not (h i) || same_substance new old)) || (test.spares_directories && is_directory old.kind)
 
 module _ (making : Making) (path : Path) (u : Files) where
-  pub put_one : put_count path (single (bare_of (new_object making.new 0))) (path ∷ []) ≡ 1
-  put_one = ap (λ (r : Option Path). length (cond (option_map_or (λ rest. is_some (single (bare_of (new_object making.new 0)) rest)) r false) (path ∷ []) [])) (rest_under-self path)
-
-  pub put_most : turn_work (Create making) path (Turn.Put (single (bare_of (new_object making.new 0)))) u ≡ count_at u path + most_new
-  put_most = let one = put_one in omega (arith, one)
-
   -- what is adjusted stands there
   pub become_present : (operations : List Operation) → settling_turn making path u ≡ Turn.Become operations → IsPresent u path
   become_present operations e = by (places u path) refl e
@@ -159,9 +152,7 @@ module _ (making : Making) (path : Path) (u : Files) where
         → Acted tree (PuttingOver path making.new u) (IsPutStep path making.new) (count_at u path + most_new) now a b r
         → Acted tree (Settling making path u) (IsSettleStep making path u) (turn_work (Create making) path (settling_turn making path u) u) now a b r
     put_acted e acted =
-        let most = put_most in
-        settled_by (Turn.Put (single (bare_of (new_object making.new 0)))) e
-        (acted_within tree (count_at u path + most_new) (turn_work (Create making) path (Turn.Put (single (bare_of (new_object making.new 0)))) u) (omega (arith, most)) acted)
+        settled_by (Turn.Put (single (bare_of (new_object making.new 0)))) e acted
 
 -- ---- paths of lines
 
