@@ -22,9 +22,15 @@ pub record Moves {S : Type 0} (tree : Ghosts S) : Type 0 where
 pub ran-length : (P : Files → Type 0) (Q : Step → Type 0) (now : ℕ) {t : Files} {h : List Step} {u : Files} {k : List Step} → Ran P Q now t h u k → length h ≤ length k
 ran-length P Q now {h = h} r = omega (arith, ap length r.recorded, length-append h r.steps)
 
--- an answer that refuses nothing leaves the count of faults
+-- an answer that refuses nothing leaves a count of faults as it was
 pub none_counted : {A : Type 0} (r : Result A TreeFault) → refused r ≡ 0 → (n : ℕ) → faults_after (refused r) n ≡ n
 none_counted r none n = ap (λ k. faults_after k n) none
+
+-- nor does one that is never Failed
+pub never_counted : {A : Type 0} (r : Result A TreeFault) → (IsErrOf r Failed → ⊥) → (n : ℕ) → n ≡ faults_after (refused r) n
+never_counted (Ok x) h n = refl
+never_counted (Err Failed) h n = absurd (h refl)
+never_counted (Err Memory) h n = refl
 
 -- an answer that tells running out of memory refuses nothing
 pub unrefused : {A : Type 0} (r : Result A TreeFault) → IsErrOf r Memory → refused r ≡ 0

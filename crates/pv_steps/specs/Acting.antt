@@ -26,7 +26,7 @@ pub record Tried {S : Type 0} (tree : Ghosts S) (step : Step) (now : ℕ) (old n
   pub counted : tree.faults new ≡ faults_after (refused r) (tree.faults old)
 
 -- a call went by steps at one moment: P holds of the tree at every moment and Q of each step, at most so many steps were
--- asked for, and the tree counted one fault where the answer is Failed, else none: the first refused step ends the call
+-- asked for, and the tree refused one where the answer is Failed, else none: its count of faults tells
 pub record Acted {S A : Type 0} (tree : Ghosts S) (P : Files → Type 0) (Q : Step → Type 0) (most now : ℕ) (old new : S) (r : Result A TreeFault) : Type 0 where
   pub ran : Ran P Q now (tree.state old) (tree.steps old) (tree.state new) (tree.steps new)
   pub bound : asked r (tree.steps old) (tree.steps new) ≤ most

@@ -1,6 +1,7 @@
 use Rattle.std.proofs.Common.{ap, ◌∙◌, ◌+◌, ◌-◌, ◌≤◌, List, ℕ, length, subst}
 use Rattle.std.specs.Prelude.{◌≡◌, Err, IfOk}
-use Rattle.pv_steps.specs.Acting.{refused}
+use Rattle.pv_steps.specs.Counting.{refused, faults_after}
+use Rattle.pv_tree.specs.Fuses.{capped}
 use Rattle.provision_run.specs.declared.ending.RunEnd.{RunEnd}
 use Rattle.provision_run.specs.Tasks.{task_of}
 use Rattle.provision_run.specs.Whole.{HasSaidBy, HasSaidStoppedBy, run_work}
@@ -28,4 +29,4 @@ returns c =
     (subst (λ f. (length c.run_on_tree.new.tree.inner.steps - length c.new-fused.result.inner.steps) + refused {A = RunEnd} (Err f) ≤ run_work c.args.options.now c.args.image.facts c.args.moment c.new-fused.result.inner.files) c.in-Err-Failed.field-0-is c.in-Err-Failed.ensures.acted.bound)
     (subst (λ (old : List (List ℕ)). HasSaidStoppedBy (task_of c.args.options.now) c.args.options.now c.args.image.facts c.args.moment c.new-fused.result.inner.files old c.run_on_tree.new.messages) c.new-messages.ensures (c.in-Err-Failed.ensures.read (ap Err c.in-Err-Failed.field-0-is)))
     c.in-Err-Failed.ensures.mended c.in-Err-Failed.ensures.anew c.in-Err-Failed.ensures.framed c.in-Err-Failed.ensures.between
-    c.stop.result c.stop.ensures.outcome (always c.stop.result (rw c.inner-in-Err-Failed.ensures (burnt_out _ _ _ _ (rw (c.new-fused.ensures, c.requires.fresh) at c.in-Err-Failed.ensures.acted.reaches.1) (rw c.new-fused.ensures at (c.in-Err-Failed.ensures.acted.cause (ap Err c.in-Err-Failed.field-0-is)))))) c.stop.ensures.text c.stop.ensures.again)
+    c.stop.result c.stop.ensures.outcome (always c.stop.result (rw c.inner-in-Err-Failed.ensures (burnt_out _ _ _ _ (rw (c.new-fused.ensures, c.requires.fresh) at c.in-Err-Failed.ensures.acted.reaches.1) (rw c.new-fused.ensures at (c.in-Err-Failed.ensures.acted.counted ∙ ap (λ f. faults_after (refused {A = RunEnd} (Err f)) (capped (0 + c.new-fused.result.refused))) c.in-Err-Failed.field-0-is))))) c.stop.ensures.text c.stop.ensures.again)
