@@ -8,6 +8,7 @@ ghost use Rattle.pv_steps.specs.declared.tree.TreeFault.TheVariants.{Failed};
 ghost use Rattle.pv_steps.specs.Objects.{IsObject};
 ghost use Rattle.pv_steps.specs.Trees.{places, IsKind, IsTree, node_at, payload_at, names_below, child_name};
 ghost use Rattle.pv_steps.specs.Steps.{Can, HasRoom, StepFits, after};
+ghost use Rattle.pv_steps.specs.Counting.{refused, faults_after};
 ghost use Rattle.pv_tree.specs.Held.{root_alone};
 ghost use Rattle.pv_tree.specs.Slots.{files_of, IsTreeOf};
 
@@ -188,6 +189,7 @@ impl Tree for MemTree {
 
         // It has no faults: running out of memory alone can stop it.
         ensures cause { IsErrOf result Failed → ⊥ }
+        ensures counted { 0 ≡ faults_after (refused result) 0 }
     {
         parts_fit(step);
         do_told(
