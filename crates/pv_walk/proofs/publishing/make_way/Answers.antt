@@ -102,11 +102,11 @@ returns-in-true-true-clause-acted g c =
     (clearing_below c.args.path.now t c.is_present.ensures.tree (c.in-true-true.ensures'.kind.0 refl)) (removes-wider (is_below c.args.path.now) (is_prefix c.args.path.now) (below_prefix c.args.path.now))
     (count_below-le t c.args.path.now) c.remove_below.ensures.acted
 
-taken : {S A : Type 0} (tree : Ghosts S) (path stage : Path) → stage ≡ staging_of path → {now : ℕ} {a b : S} {r : Result A TreeFault} → IsPresent (tree.state a) path
+cleared_by_taking : {S A : Type 0} (tree : Ghosts S) (path stage : Path) → stage ≡ staging_of path → {now : ℕ} {a b : S} {r : Result A TreeFault} → IsPresent (tree.state a) path
     → (IsKind Directory (tree.state a) stage → IsKind Directory (tree.state a) path → ⊥) → ((IsKind Directory (tree.state a) stage → ⊥) → (IsKind Directory (tree.state a) path → ⊥) → ⊥)
     → Acted tree (Pruned (is_prefix path) (tree.state a)) (Removes (is_prefix path)) (count_at (tree.state a) path) now a b r
     → Acted tree (Clearing path (tree.state a)) (Removes (is_prefix path)) (count_at (tree.state a) path) now a b r
-taken tree path stage is {a = a} present both neither =
+cleared_by_taking tree path stage is {a = a} present both neither =
     let t = tree.state a in
     acted_weaken tree (Pruned (is_prefix path) t) (Clearing path t) (Removes (is_prefix path)) (Removes (is_prefix path)) (count_at t path) (count_at t path)
     (clearing_taken path t present (λ x y. both (subst (IsKind Directory t) (sym is) x) y) (λ x y. neither (λ z. x (subst (IsKind Directory t) is z)) y)) (λ s h. h) (omega arith)
@@ -119,12 +119,12 @@ take_away-requires-in-false-true g c = c.requires.not_root
 
 pub returns-in-true-false-clause-acted : goal.returns-in-true-false-clause-acted
 returns-in-true-false-clause-acted g c =
-    taken g.T.Tree c.args.path.now c.args.stage.now c.requires.stage (sym c.is_present.ensures.present ∙ c.if-not-is_present.false)
+    cleared_by_taking g.T.Tree c.args.path.now c.args.stage.now c.requires.stage (sym c.is_present.ensures.present ∙ c.if-not-is_present.false)
     (λ x y. let no : false ≡ true = c.in-true-false.ensures'.kind.1 y in cc) (λ x y. x (c.in-true-false.ensures.kind.0 refl)) c.take_away.ensures.acted
 
 pub returns-in-false-true-clause-acted : goal.returns-in-false-true-clause-acted
 returns-in-false-true-clause-acted g c =
-    taken g.T.Tree c.args.path.now c.args.stage.now c.requires.stage (sym c.is_present.ensures.present ∙ c.if-not-is_present.false)
+    cleared_by_taking g.T.Tree c.args.path.now c.args.stage.now c.requires.stage (sym c.is_present.ensures.present ∙ c.if-not-is_present.false)
     (λ x y. let no : false ≡ true = c.in-false-true.ensures.kind.1 x in cc) (λ x y. y (c.in-false-true.ensures'.kind.0 refl)) c.take_away-in-false-true.ensures.acted
 
 untouched : {S A : Type 0} (tree : Ghosts S) → Moves tree → (path : Path) (now : ℕ) (a : S) (r : Result A TreeFault) → refused r ≡ 0
