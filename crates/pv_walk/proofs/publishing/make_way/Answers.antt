@@ -1,4 +1,4 @@
-use Rattle.std.proofs.Common.{true, false, ◌≡◌, ◌≢◌, ℕ, sym, ap, subst, ◌∙◌, refl, [], is_some, Result}
+use Rattle.std.proofs.Common.{arith, true, false, ◌≡◌, ◌≢◌, ℕ, sym, ap, subst, ◌∙◌, refl, [], is_some, Result}
 use Rattle.pv_path.specs.Paths.{Path, is_prefix, staging_of}
 use Rattle.pv_steps.specs.declared.node.Kind.TheVariants.{Directory}
 use Rattle.pv_steps.specs.Trees.{Files, Places, places, IsTree, IsPresent, IsKind}
