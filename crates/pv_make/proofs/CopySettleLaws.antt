@@ -2,7 +2,7 @@
 use Rattle.std.specs.Prelude.{◌≡◌, ℕ, ◌+◌, ◌*◌, ◌≤◌, Bool, true, false, not, ◌&&◌, List, [], ◌∷◌, filter_map, Option, Some, None, IfSome, is_some, option_map, Result, Ok, if◌then◌else◌}
 use Rattle.std.specs.List.{cons_option, list_all}
 use Rattle.std.specs.Option.{option_map_or}
-use Rattle.std.proofs.Common.{refl, sym, ap, subst, ◌∙◌, inl}
+use Rattle.std.proofs.Common.{refl, sym, ap, subst, ◌∙◌, inl, suc, arith}
 use Rattle.std.specs.FinMap as fin
 use Rattle.std.proofs.Math.Bool.{not-not}
 use Rattle.pv_dress.specs.declared.bare.Bare.{Bare}
@@ -28,8 +28,8 @@ use Rattle.pv_table.specs.Asking.{mode_for_new}
 use Rattle.pv_table.specs.Created.{turn_work}
 use Rattle.pv_table.specs.Effects.{turned}
 use Rattle.pv_table.specs.Turns.{Turn, view_of, copy_of, copying_turn, topped_by, top_of, is_childless, is_visible_child}
-use Rattle.pv_walk.specs.Copying.{IsTopNode, copy_from, copied_count, topped, with_subtree, CopyingOver, IsCopyStep, Subtree}
-use Rattle.pv_walk.specs.Putting.{IsMakingWay}
+use Rattle.pv_walk.specs.Copying.{IsTopNode, copy_from, copied_count, topped, with_subtree, IsCopyStep, Subtree}
+use Rattle.pv_walk.specs.Replacing.{Replacing}
 use Rattle.pv_walk.specs.Staging.{most_new}
 use Rattle.pv_make.specs.declared.choosing.Choice.{Choice}
 use Rattle.pv_make.specs.declared.choosing.Choice.TheVariants as choice
@@ -203,11 +203,11 @@ directory_is false v f g o e = by o.node.kind refl
 
 module _ {S : Type 0} (tree : Ghosts S) (now : ℕ) (path : Path) (copying : Copying) (a b : S) (r : Result (Unit {0}) TreeFault) where
   pub put_acted : (s : Subtree) → s ≡ copy_of copying (view_of (tree.state a))
-      → Acted tree (CopyingOver path s (tree.state a)) (IsCopyStep path s) (count_at (tree.state a) path + most_new * copied_count s copying.source (tree.state a)) now a b r
+      → Acted tree (Replacing path s (tree.state a)) (IsCopyStep path s) (count_at (tree.state a) path + most_new * copied_count s copying.source (tree.state a)) now a b r
       → Acted tree (CopySettlingBy copying path (Turn.Put (copy_of copying (view_of (tree.state a)))) (tree.state a)) (IsCopySettleStepBy copying path (Turn.Put (copy_of copying (view_of (tree.state a)))) (tree.state a))
       (turn_work (Copy copying) path (Turn.Put (copy_of copying (view_of (tree.state a)))) (tree.state a)) now a b r
   put_acted s same acted =
-      subst (λ (v : Subtree). Acted tree (CopyingOver path v (tree.state a)) (IsCopyStep path v) (turn_work (Copy copying) path (Turn.Put v) (tree.state a)) now a b r) same acted
+      subst (λ (v : Subtree). Acted tree (Replacing path v (tree.state a)) (IsCopyStep path v) (turn_work (Copy copying) path (Turn.Put v) (tree.state a)) now a b r) same acted
 
   pub settled_by : (turn : Turn) → copy_turn copying path (tree.state a) ≡ turn
       → Acted tree (CopySettlingBy copying path turn (tree.state a)) (IsCopySettleStepBy copying path turn (tree.state a)) (turn_work (Copy copying) path turn (tree.state a)) now a b r
@@ -220,7 +220,7 @@ module _ {S : Type 0} (tree : Ghosts S) (now : ℕ) (path : Path) (copying : Cop
   kept_way false o = refl
 
   settle_start : (turn : Turn) (t : Files) → CopySettlingBy copying path turn t t
-  settle_start (Turn.Put s) t = inl (λ q plain. IsMakingWay.kept refl)
+  settle_start (Turn.Put s) t = Replacing.before (λ q plain. refl)
   settle_start (Turn.Become operations) t = (0, λ q. kept_way (same_path path q) (option_map bare_of (places t q)))
   settle_start (Turn.Left kind) t = λ q plain. refl
   settle_start Turn.Nothing t = λ q plain. refl

@@ -10,6 +10,7 @@ pub mod PublishLaws
 pub mod RemovalLaws
 pub mod SweepLaws
 pub mod PuttingLaws
+pub mod ReplacingLaws
 pub mod PreparingLaws
 pub mod PreparingSweep
 pub mod PuttingOverLaws
