@@ -1,6 +1,6 @@
 -- Removing and creating as the two phases of the boot command: one that failed, and both.
 use Rattle.std.specs.Prelude.{◌≡◌, ℕ, Bool, true, false, ◌||◌, List, [], ◌∷◌, ◌++◌, take, Result, Ok, Err, IfOk, IsErrAnd, OnOk}
-use Rattle.std.proofs.Common.{refl, ap, subst, ◌∙◌, inl, inr, append_assoc}
+use Rattle.std.proofs.Common.{refl, ap, ◌∙◌, inl, inr, append_assoc}
 use Rattle.pv_create.specs.Ways.{lines_course}
 use Rattle.pv_doing.specs.Courses.{Partway, IsStepOfSome, carried_of, each_of, CarriesOut}
 use Rattle.pv_doing.specs.declared.carried.Carried.{Carried}
@@ -24,16 +24,16 @@ use Rattle.pv_phases.proofs.PhaseLaws.{phase_start}
 module _ {S : Type 0} (tree : Ghosts S) (lines : List Line) (now : ℕ) where
   -- ---- each call as a phase
 
-  pub removing_out : (listed : List Line) → listed ≡ lines → (a d : S) (old new : List (List ℕ)) (r : Result Carried TreeFault)
-      → TakesAway tree (is_gone listed (tree.state a)) (removed_messages listed (tree.state a)) (is_unfinished listed (tree.state a)) now a d old new r
+  pub removing_out : (a d : S) (old new : List (List ℕ)) (r : Result Carried TreeFault)
+      → TakesAway tree (is_gone lines (tree.state a)) (removed_messages lines (tree.state a)) (is_unfinished lines (tree.state a)) now a d old new r
       → CarriesOut tree (phases_course lines now) Remove now a d old new r
-  removing_out listed same a d old new r took = subst (λ (ls : List Line). CarriesOut tree (phases_course ls now) Remove now a d old new r) same (record {
+  removing_out a d old new r took = record {
     ok = took.ok;
     said = took.said;
     carried = took.carried;
     part = took.part;
     acted = took.acted;
-  })
+  }
 
   pub creating_out : (a d : S) (old new : List (List ℕ)) (r : Result Carried TreeFault)
       → OnOk r (tree.state d ≡ created lines now (tree.state a)) → OnOk r (new ≡ old ++ created_messages lines now (tree.state a)) → IfOk r (λ c. c ≡ carried_of (some_refusal_counts lines now (tree.state a)))

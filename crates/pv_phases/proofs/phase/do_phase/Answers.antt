@@ -1,10 +1,8 @@
-use Rattle.std.proofs.Common.{◌≡◌, ◌∷◌, [], Ok, OnOk, drop, length, refl, subst, sym, List}
-use Rattle.pv_lines.specs.declared.line.Line.{Line}
+use Rattle.std.proofs.Common.{◌≡◌, ◌∷◌, [], Ok, OnOk, drop, length, refl, subst, sym}
 use Rattle.pv_steps.specs.Acting.{Acted}
 use Rattle.pv_steps.proofs.ActingLaws.{acted_ended, acted_passed}
 use Rattle.pv_phases.specs.Phases.{is_step_of, IsMendedBy, left_by, most_steps_of, on_way}
 use Rattle.pv_phases.specs.declared.phase.Phase.{Phase}
-use Rattle.pv_phases.specs.declared.phase.Phase.TheVariants.{Remove, Clean, Purge}
 use Rattle.pv_phases.proofs.phase.do_phase.Goals as goal
 
 pub returns-in-Remove-clause-ok : goal.returns-in-Remove-clause-ok
@@ -13,7 +11,7 @@ returns-in-Remove-clause-ok g c =
     let now = c.args.now in
     let table = c.args.table.now in
     subst (λ (p : Phase). OnOk c.remove_run.result (g.T.Tree.state c.remove_run.new.tree ≡ left_by table now p t)) (sym c.in-Remove.is)
-    (subst (λ (ls : List Line). OnOk c.remove_run.result (g.T.Tree.state c.remove_run.new.tree ≡ left_by ls now Remove t)) c.lines.ensures.lines c.remove_run.ensures.run.ok)
+    c.remove_run.ensures.run.ok
 
 pub returns-in-Remove-clause-acted : goal.returns-in-Remove-clause-acted
 returns-in-Remove-clause-acted g c =
@@ -21,7 +19,7 @@ returns-in-Remove-clause-acted g c =
     let now = c.args.now in
     let table = c.args.table.now in
     subst (λ (p : Phase). Acted g.T.Tree (on_way table now p t) (is_step_of table now p t) (most_steps_of table now p t) now c.args.tree.now c.remove_run.new.tree c.remove_run.result) (sym c.in-Remove.is)
-    (subst (λ (ls : List Line). Acted g.T.Tree (on_way ls now Remove t) (is_step_of ls now Remove t) (most_steps_of ls now Remove t) now c.args.tree.now c.remove_run.new.tree c.remove_run.result) c.lines.ensures.lines c.remove_run.ensures.run.acted)
+    c.remove_run.ensures.run.acted
 
 pub returns-in-Remove-clause-mended : goal.returns-in-Remove-clause-mended
 returns-in-Remove-clause-mended g c =
@@ -29,7 +27,7 @@ returns-in-Remove-clause-mended g c =
     let now = c.args.now in
     let table = c.args.table.now in
     subst (λ (p : Phase). IsMendedBy (p ∷ []) table now t (drop (length (g.T.Tree.steps c.args.tree.now)) (g.T.Tree.steps c.remove_run.new.tree))) (sym c.in-Remove.is)
-    (subst (λ (ls : List Line). IsMendedBy (Remove ∷ []) ls now t (drop (length (g.T.Tree.steps c.args.tree.now)) (g.T.Tree.steps c.remove_run.new.tree))) c.lines.ensures.lines c.remove_run.ensures.mended)
+    c.remove_run.ensures.mended
 
 pub returns-in-Purge-clause-ok : goal.returns-in-Purge-clause-ok
 returns-in-Purge-clause-ok g c =
@@ -37,7 +35,7 @@ returns-in-Purge-clause-ok g c =
     let now = c.args.now in
     let table = c.args.table.now in
     subst (λ (p : Phase). OnOk c.purge_run.result (g.T.Tree.state c.purge_run.new.tree ≡ left_by table now p t)) (sym c.in-Purge.is)
-    (subst (λ (ls : List Line). OnOk c.purge_run.result (g.T.Tree.state c.purge_run.new.tree ≡ left_by ls now Purge t)) c.lines-in-Purge.ensures.lines c.purge_run.ensures.run.ok)
+    c.purge_run.ensures.run.ok
 
 pub returns-in-Purge-clause-acted : goal.returns-in-Purge-clause-acted
 returns-in-Purge-clause-acted g c =
@@ -45,7 +43,7 @@ returns-in-Purge-clause-acted g c =
     let now = c.args.now in
     let table = c.args.table.now in
     subst (λ (p : Phase). Acted g.T.Tree (on_way table now p t) (is_step_of table now p t) (most_steps_of table now p t) now c.args.tree.now c.purge_run.new.tree c.purge_run.result) (sym c.in-Purge.is)
-    (subst (λ (ls : List Line). Acted g.T.Tree (on_way ls now Purge t) (is_step_of ls now Purge t) (most_steps_of ls now Purge t) now c.args.tree.now c.purge_run.new.tree c.purge_run.result) c.lines-in-Purge.ensures.lines c.purge_run.ensures.run.acted)
+    c.purge_run.ensures.run.acted
 
 pub returns-in-Purge-clause-mended : goal.returns-in-Purge-clause-mended
 returns-in-Purge-clause-mended g c =
@@ -53,7 +51,7 @@ returns-in-Purge-clause-mended g c =
     let now = c.args.now in
     let table = c.args.table.now in
     subst (λ (p : Phase). IsMendedBy (p ∷ []) table now t (drop (length (g.T.Tree.steps c.args.tree.now)) (g.T.Tree.steps c.purge_run.new.tree))) (sym c.in-Purge.is)
-    (subst (λ (ls : List Line). IsMendedBy (Purge ∷ []) ls now t (drop (length (g.T.Tree.steps c.args.tree.now)) (g.T.Tree.steps c.purge_run.new.tree))) c.lines-in-Purge.ensures.lines c.purge_run.ensures.mended)
+    c.purge_run.ensures.mended
 
 pub returns-in-Create-clause-acted : goal.returns-in-Create-clause-acted
 returns-in-Create-clause-acted g c =
@@ -70,7 +68,7 @@ returns-in_err-clean_run-in-Clean-clause-acted g c =
     let table = c.args.table.now in
     acted_passed g.T.Tree c.clean_run.result c.from_residual.result c.in_err-clean_run-in-Clean.was c.from_residual.ensures.1
     (subst (λ (p : Phase). Acted g.T.Tree (on_way table now p t) (is_step_of table now p t) (most_steps_of table now p t) now c.args.tree.now c.clean_run.new.tree c.clean_run.result) (sym c.in-Clean.is)
-    (subst (λ (ls : List Line). Acted g.T.Tree (on_way ls now Clean t) (is_step_of ls now Clean t) (most_steps_of ls now Clean t) now c.args.tree.now c.clean_run.new.tree c.clean_run.result) c.lines-in-Clean.ensures.lines c.clean_run.ensures.acted))
+    c.clean_run.ensures.acted)
 
 pub returns-in_ok-clean_run-in-Clean-clause-ok : goal.returns-in_ok-clean_run-in-Clean-clause-ok
 returns-in_ok-clean_run-in-Clean-clause-ok g c =
@@ -78,7 +76,7 @@ returns-in_ok-clean_run-in-Clean-clause-ok g c =
     let now = c.args.now in
     let table = c.args.table.now in
     subst (λ (p : Phase). g.T.Tree.state c.clean_run.new.tree ≡ left_by table now p t) (sym c.in-Clean.is)
-    (subst (λ (ls : List Line). g.T.Tree.state c.clean_run.new.tree ≡ left_by ls now Clean t) c.lines-in-Clean.ensures.lines c.in_ok-clean_run-in-Clean.ensures.ok)
+    c.in_ok-clean_run-in-Clean.ensures.ok
 
 pub returns-in_ok-clean_run-in-Clean-clause-acted : goal.returns-in_ok-clean_run-in-Clean-clause-acted
 returns-in_ok-clean_run-in-Clean-clause-acted g c =
@@ -87,4 +85,4 @@ returns-in_ok-clean_run-in-Clean-clause-acted g c =
     let table = c.args.table.now in
     acted_ended g.T.Tree {x = c.in_ok-clean_run-in-Clean.field-0} _ refl
     (subst (λ (p : Phase). Acted g.T.Tree (on_way table now p t) (is_step_of table now p t) (most_steps_of table now p t) now c.args.tree.now c.clean_run.new.tree (Ok c.in_ok-clean_run-in-Clean.field-0)) (sym c.in-Clean.is)
-    (subst (λ (ls : List Line). Acted g.T.Tree (on_way ls now Clean t) (is_step_of ls now Clean t) (most_steps_of ls now Clean t) now c.args.tree.now c.clean_run.new.tree (Ok c.in_ok-clean_run-in-Clean.field-0)) c.lines-in-Clean.ensures.lines c.in_ok-clean_run-in-Clean.ensures.acted))
+    c.in_ok-clean_run-in-Clean.ensures.acted)
