@@ -21,14 +21,14 @@ try_all-requires g c =
     let goes = is_one_of c.in_ok-aged.aged.keys in
     let steps = c.in_ok-steps.steps.items in
     ask_can (Pruned goes t) (IsCleanStep goes t) c.args.now t (reverse steps)
-    (planned_ask goes t c.args.now steps c.in_ok-steps.ensures (aged_together c.in_ok-aged.aged.keys c.args.lines.now c.args.now t c.in_ok-aged.ensures.aged))
+    (planned_ask goes t c.args.now steps c.in_ok-steps.ensures (aged_together c.in_ok-aged.aged.keys c.args.table.now c.args.now t c.in_ok-aged.ensures.aged))
 
 pub returns-clause-ok : goal.returns-clause-ok
 returns-clause-ok g c =
     let t = g.T.Tree.state c.args.tree.now in
     let goes = is_one_of c.in_ok-aged.aged.keys in
     let steps = c.in_ok-steps.steps.items in
-    let whole = aged_together c.in_ok-aged.aged.keys c.args.lines.now c.args.now t c.in_ok-aged.ensures.aged in
+    let whole = aged_together c.in_ok-aged.aged.keys c.args.table.now c.args.now t c.in_ok-aged.ensures.aged in
     on_ok c.try_all.result
     (λ e. planned_end goes t c.args.now steps c.in_ok-steps.ensures whole (g.T.Tree.state c.try_all.new.tree) e
     ∙ ap (λ (f : Path → Bool). files_without f (changed c.args.now) t) (λ i q. c.in_ok-aged.ensures.aged q i))
@@ -39,7 +39,7 @@ returns-clause-exact g c =
     let t = g.T.Tree.state c.args.tree.now in
     let goes = is_one_of c.in_ok-aged.aged.keys in
     let steps = c.in_ok-steps.steps.items in
-    let same : goes ≡ is_aged c.args.lines.now c.args.now t = λ i q. c.in_ok-aged.ensures.aged q i in
+    let same : goes ≡ is_aged c.args.table.now c.args.now t = λ i q. c.in_ok-aged.ensures.aged q i in
     on_ok c.try_all.result
     (λ told. ap length told ∙ length-reverse steps ∙ planned_exact goes t steps c.in_ok-steps.ensures ∙ ap (λ (f : Path → Bool). most_steps f t) same)
     (tried_told g.T.Tree (reverse steps) c.args.now c.args.tree.now c.try_all.new.tree c.try_all.result c.try_all.ensures)
@@ -49,8 +49,8 @@ returns-clause-acted g c =
     let t = g.T.Tree.state c.args.tree.now in
     let goes = is_one_of c.in_ok-aged.aged.keys in
     let steps = c.in_ok-steps.steps.items in
-    let whole = aged_together c.in_ok-aged.aged.keys c.args.lines.now c.args.now t c.in_ok-aged.ensures.aged in
-    let same : goes ≡ is_aged c.args.lines.now c.args.now t = λ i q. c.in_ok-aged.ensures.aged q i in
+    let whole = aged_together c.in_ok-aged.aged.keys c.args.table.now c.args.now t c.in_ok-aged.ensures.aged in
+    let same : goes ≡ is_aged c.args.table.now c.args.now t = λ i q. c.in_ok-aged.ensures.aged q i in
     let number = planned_exact goes t steps c.in_ok-steps.ensures in
     subst (λ (f : Path → Bool). Acted g.T.Tree (Pruned f t) (IsCleanStep f t) (most_steps f t) c.args.now c.args.tree.now c.try_all.new.tree c.try_all.result) same
     (acted_within g.T.Tree (length (reverse steps)) (most_steps goes t) (omega (arith, length-reverse steps, number))
