@@ -3,7 +3,7 @@ ghost use Rattle.std.specs.Prelude.{◌≡◌, drop, length, OnOk};
 ghost use Rattle.pv_steps.specs.Acting.{Acted};
 ghost use Rattle.pv_dress.specs.Edits.{Pruned};
 ghost use Rattle.pv_table.specs.Cleaned.{cleaned, is_aged};
-ghost use Rattle.pv_clean.specs.Cleaning.{most_steps, IsCleanStep, TakesOnly};
+ghost use Rattle.pv_clean.specs.Cleaning.{most_steps, IsCleanStep, IsCleanedInTurn, TakesOnly};
 
 use crate::aging::aged_paths;
 use crate::steps::clean_steps;
@@ -32,6 +32,9 @@ pub fn clean_run<T: Tree>(
         (IsCleanStep (is_aged table.now now (T.state tree.old)) (T.state tree.old))
         (most_steps (is_aged table.now now (T.state tree.old)) (T.state tree.old)) now tree.old tree.new result }
 
+    // On the way a directory has its stamps back before anything goes that does not lie in it.
+    ensures in_turn { IsCleanedInTurn now (T.state tree.old) (drop (length (T.steps tree.old)) (T.steps tree.new)) }
+
     // The stop law.
     ensures stopped { TakesOnly (is_aged table.now now (T.state tree.old)) now (T.state tree.old)
         (drop (length (T.steps tree.old)) (T.steps tree.new)) }
@@ -47,6 +50,7 @@ fn clean<T: Tree>(alloc: Global, tree: &mut T, table: &Table, now: u64) -> Resul
     ensures acted { Acted T.Tree (Pruned (is_aged table.now now (T.state tree.old)) (T.state tree.old))
         (IsCleanStep (is_aged table.now now (T.state tree.old)) (T.state tree.old))
         (most_steps (is_aged table.now now (T.state tree.old)) (T.state tree.old)) now tree.old tree.new result }
+    ensures in_turn { IsCleanedInTurn now (T.state tree.old) (drop (length (T.steps tree.old)) (T.steps tree.new)) }
 {
     let aged = aged_paths(alloc, tree, table, now)?;
     let steps = clean_steps(alloc, tree, &aged)?;

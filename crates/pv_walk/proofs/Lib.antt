@@ -6,6 +6,7 @@ pub mod CountLaws
 pub mod EmptyingLaws
 pub mod TakingLaws
 pub mod ListingLaws
+pub mod GatheredLaws
 pub mod PublishLaws
 pub mod RemovalLaws
 pub mod SweepLaws

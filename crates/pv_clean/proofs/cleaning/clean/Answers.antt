@@ -11,6 +11,7 @@ use Rattle.pv_table.specs.Cleaned.{is_aged}
 use Rattle.pv_table.specs.Removed.{files_without}
 use Rattle.pv_clean.specs.Cleaning.{most_steps, IsCleanStep}
 use Rattle.pv_clean.proofs.CleanLaws.{aged_together, tried_told}
+use Rattle.pv_clean.proofs.TurnLaws.{none_in_turn, tried_in_turn}
 use Rattle.pv_clean.proofs.CleanSteps.{planned_ask, planned_end, planned_exact}
 use Rattle.pv_clean.proofs.cleaning.clean.Goals as goal
 use Rattle.pv_path.proofs.Tests.{on_ok}
@@ -56,3 +57,10 @@ returns-clause-acted g c =
     (acted_within g.T.Tree (length (reverse steps)) (most_steps goes t) (omega (arith, length-reverse steps, number))
     (acted_all (Pruned goes t) (IsCleanStep goes t) c.args.now g.T.Tree (reverse steps) c.args.tree.now c.try_all.new.tree c.try_all.result c.try_all.ensures
     (planned_ask goes t c.args.now steps c.in_ok-steps.ensures whole)))
+
+pub returns-clause-in_turn : goal.returns-clause-in_turn
+returns-clause-in_turn g c =
+    let t = g.T.Tree.state c.args.tree.now in
+    let goes = is_one_of c.in_ok-aged.aged.keys in
+    tried_in_turn g.T.Tree goes c.args.now c.in_ok-steps.steps.items c.args.tree.now c.try_all.new.tree c.try_all.result c.in_ok-steps.ensures
+    (aged_together c.in_ok-aged.aged.keys c.args.lines.now c.args.now t c.in_ok-aged.ensures.aged) c.in_ok-steps.ensures.gathered c.try_all.ensures
