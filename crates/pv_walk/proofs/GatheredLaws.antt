@@ -65,10 +65,10 @@ module _ (w : Path) (back xs : List Path) (child : (x : Path) → 1 ≤ times x 
     | inr m ↦ inl m
   ]
 
-  either_of : (mid : List Path) (q : Path) → 1 ≤ times q (mid ++ w ∷ xs ++ back) → (1 ≤ times q xs) ⊎ (1 ≤ times q (mid ++ w ∷ back))
+  either_of : (mid : List Path) (q : Path) → 1 ≤ times q (mid ++ w ∷ (xs ++ back)) → (1 ≤ times q xs) ⊎ (1 ≤ times q (mid ++ w ∷ back))
   either_of mid q some = elim (zero_or_more (times q xs)) [
     | inl z ↦
-        inr (let all = times-append q mid (w ∷ xs ++ back) in let sum = times-append q xs back in let old = times-append q mid (w ∷ back) in
+        inr (let all = times-append q mid (w ∷ (xs ++ back)) in let sum = times-append q xs back in let old = times-append q mid (w ∷ back) in
         omega (arith, some, all, sum, old, z))
     | inr m ↦ inl m
   ]
@@ -79,7 +79,7 @@ module _ (w : Path) (back xs : List Path) (child : (x : Path) → 1 ≤ times x 
       let up = parent_of-child w q (child q some) in
       subst (λ (r : Path). is_below p r ≡ true) up (is_below-parent_of p q b (ap (same_path p) up ∙ apart))
 
-  gathered_before : (p : Path) (mid : List Path) → same_path p w ≡ false → IsGatheredBelow p (mid ++ w ∷ back) → IsGatheredBelow p (mid ++ w ∷ xs ++ back)
+  gathered_before : (p : Path) (mid : List Path) → same_path p w ≡ false → IsGatheredBelow p (mid ++ w ∷ back) → IsGatheredBelow p (mid ++ w ∷ (xs ++ back))
   gathered_before p [] apart g = (first, last)
     where
       first : (q : Path) → is_below p q ≡ true → 1 ≤ times q (xs ++ back) → is_below p w ≡ true
@@ -121,7 +121,7 @@ gathered_children w back (y ∷ ys) child none g = (
 
 -- a path in such a list, its children put right after it
 pub gathered_next : (w : Path) (back xs : List Path) → ((x : Path) → 1 ≤ times x xs → is_child w x ≡ true) → ((q : Path) → is_below w q ≡ true → 1 ≤ times q back → ⊥)
-    → (front : List Path) → times w front ≡ 0 → AreGathered (front ++ w ∷ back) → AreGathered (front ++ w ∷ xs ++ back)
+    → (front : List Path) → times w front ≡ 0 → AreGathered (front ++ w ∷ back) → AreGathered (front ++ w ∷ (xs ++ back))
 gathered_next w back xs child none [] new g = (gathered_over w xs back (λ x some. is_below-child w x (child x some)) g.0, gathered_children w back xs child none g.1)
 gathered_next w back xs child none (p ∷ front) new g = (
   gathered_before w back xs child p front (apart (same_path p w) refl) g.0,
