@@ -15,7 +15,8 @@ use Rattle.pv_steps.specs.declared.step.Step.{Step}
 use Rattle.pv_steps.specs.declared.tree.Tree.{Ghosts}
 use Rattle.pv_steps.specs.declared.tree.TreeFault.{TreeFault}
 use Rattle.pv_steps.specs.declared.tree.TreeFault.TheVariants.{Failed, Memory}
-use Rattle.pv_steps.specs.Acting.{Acted, refused}
+use Rattle.pv_steps.specs.Counting.{refused, faults_after}
+use Rattle.pv_steps.specs.Acting.{Acted}
 use Rattle.pv_steps.specs.Runs.{after_all}
 use Rattle.pv_steps.specs.Trees.{Files, places}
 use Rattle.pv_text.specs.Facts.{Values}
@@ -42,8 +43,13 @@ if_err P r e is = subst (λ x. IfOk x P) (sym is) tt
 
 -- an answer that refuses as much as another
 acted_as : {S A B : Type 0} (tree : Ghosts S) {P : Files → Type 0} {Q : Step → Type 0} {most now : ℕ} {a b : S} (q : Result A TreeFault) (r : Result B TreeFault)
-    → refused r ≡ refused q → (IsErrOf r Failed → IsErrOf q Failed) → Acted tree P Q most now a b q → Acted tree P Q most now a b r
-acted_as tree q r same cause acted = record { ran = acted.ran; bound = omega (arith, same, acted.bound); reaches = acted.reaches; cause = λ failed. acted.cause (cause failed) }
+    → refused r ≡ refused q → Acted tree P Q most now a b q → Acted tree P Q most now a b r
+acted_as tree {a = a} q r same acted = record {
+  ran = acted.ran;
+  bound = omega (arith, same, acted.bound);
+  reaches = acted.reaches;
+  counted = acted.counted ∙ ap (λ k. faults_after k (tree.faults a)) (sym same);
+}
 
 none_of : (xs : List Step) → length xs ≡ 0 → xs ≡ []
 none_of [] e = refl
@@ -193,11 +199,11 @@ module _ {S : Type 0} (tree : Ghosts S) (options : Options) (facts : Values) (mo
 pub ended_acted : {S : Type 0} (tree : Ghosts S) {P : Files → Type 0} {Q : Step → Type 0} {most now : ℕ} {a b : S} (v new : List (List ℕ)) (missing invalid : Bool) (answer : Result Carried AccountsFault)
     (r : Result RunEnd TreeFault) → IsEnded answer missing invalid r v new → Acted tree P Q most now a b (in_steps answer) → Acted tree P Q most now a b r
 ended_acted tree v new missing invalid (Ok c) r e acted =
-    acted_as tree (Ok c) r (ap (λ x. refused x) e.0) (λ failed. absurd (let no : Ok (end_of (is_uncarried c missing) invalid) ≡ Err Failed = sym e.0 ∙ failed in cc)) acted
+    acted_as tree (Ok c) r (ap (λ x. refused x) e.0) acted
 ended_acted tree v new missing invalid (Err (fault.NoFreeId name)) r (inl e) acted =
-    acted_as {A = Carried} tree (Err Memory) r (ap (λ x. refused x) e.0) (λ failed. absurd (let no : Ok (NoFreeId name) ≡ Err Failed = sym e.0 ∙ failed in cc)) acted
+    acted_as {A = Carried} tree (Err Memory) r (ap (λ x. refused x) e.0) acted
 ended_acted tree v new missing invalid (Err (fault.NoFreeId name)) r (inr e) acted =
-    acted_as {A = Carried} tree (Err Memory) r (ap (λ x. refused x) e.0) (λ failed. absurd (let no : ◌≡◌ {A = Result RunEnd TreeFault} (Err Memory) (Err Failed) = sym e.0 ∙ failed in cc)) acted
-ended_acted tree v new missing invalid (Err fault.Failed) r e acted = acted_as {A = Carried} tree (Err Failed) r (ap (λ x. refused x) e.0) (λ failed. refl) acted
+    acted_as {A = Carried} tree (Err Memory) r (ap (λ x. refused x) e.0) acted
+ended_acted tree v new missing invalid (Err fault.Failed) r e acted = acted_as {A = Carried} tree (Err Failed) r (ap (λ x. refused x) e.0) acted
 ended_acted tree v new missing invalid (Err fault.Memory) r e acted =
-    acted_as {A = Carried} tree (Err Memory) r (ap (λ x. refused x) e.0) (λ failed. absurd (let no : ◌≡◌ {A = Result RunEnd TreeFault} (Err Memory) (Err Failed) = sym e.0 ∙ failed in cc)) acted
+    acted_as {A = Carried} tree (Err Memory) r (ap (λ x. refused x) e.0) acted

@@ -13,6 +13,7 @@ use crate::message::add_message;
 use crate::run::run_on_tree;
 use pv_conf::read_configuration;
 use pv_generate::{generated_tree, node_count};
+use pv_lines::LineList;
 use pv_path::WordList;
 use pv_report::{Report, report, verdict};
 use pv_steps::TreeFault;
@@ -75,7 +76,7 @@ fn report_on(alloc: Global, tree: &MemTree) -> Result<Report, AllocError>
     let words = WordList::new(alloc);
     let mut messages = Messages::new(alloc);
     let read = read_configuration(alloc, tree, &words, &facts, &mut messages)?;
-    report(alloc, &read.lines)
+    report(alloc, &LineList::of(read.lines))
 }
 
 /// The options of `systemd-tmpfiles --create`.

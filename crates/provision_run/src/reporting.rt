@@ -5,6 +5,7 @@ ghost use Rattle.provision_run.specs.Reported.{HasReported, HasReportedPart, rep
 use crate::ending::{RunEnd, end_of};
 use pv_conf::read_configuration;
 use pv_doing::Carried;
+use pv_lines::LineList;
 use pv_report::{report, say_report};
 use pv_steps::Tree;
 use pv_text::{Facts, Messages, say_all};
@@ -25,9 +26,10 @@ pub(crate) fn report_run<T: Tree>(
     ensures part { HasReportedPart options.entry.now facts.now (T.state tree.now) messages.old messages.new }
 {
     let read = read_configuration(alloc, tree, &options.words, facts, messages)?;
-    let found = report(alloc, &read.lines)?;
+    let lines = LineList::of(read.lines);
+    let found = report(alloc, &lines)?;
     let mut said = Messages::new(alloc);
-    say_report(alloc, &read.lines, &found, &mut said)?;
+    say_report(alloc, &lines, &found, &mut said)?;
     say_all(&said, messages)?;
     Ok(end_of(Carried::Whole, read.missing, read.invalid))
 }

@@ -43,7 +43,7 @@ pub(crate) fn read_run<T: Tree>(
     ensures part { SaidPart (lines_messages options.entry.now facts.now (T.state tree.now)) messages.old messages.new }
 {
     let read = read_configuration(alloc, tree, &options.words, facts, messages)?;
-    let table = build_active(alloc, read.lines, options, messages)?;
+    let table = build_active(alloc, LineList::of(read.lines), options, messages)?;
     Ok(RunTable {
         table,
         invalid: read.invalid,

@@ -54,6 +54,6 @@ pub way_beside : (edits : List Edit) (t u : Files) → AllByRecursion (IsEditOf 
     → (q : Path) → has_staging q ≡ false → same_path etc q ≡ false → is_one_of account_paths q ≡ false → bares (places u) q ≡ bares (places t) q
 way_beside edits t u of (inl same) q plain off far = same q plain
 way_beside edits t u of (inr h) q plain off far =
-    h.1.1 q plain
+    h.1.1.0 q plain
     ∙ edits_left q (take h.1.0 edits) (first_all (λ c. same_path c.path q ≡ false) h.1.0 edits (else_of (places t) q far edits of)) (with_parent 0 (places t) etc)
     ∙ directory_bares 0 (places t) q off

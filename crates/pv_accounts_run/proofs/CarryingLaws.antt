@@ -27,7 +27,7 @@ use Rattle.pv_walk.specs.Removal.{is_one_of}
 use Rattle.pv_walk.proofs.PuttingLaws.{made-none, none_below}
 use Rattle.pv_accounts_run.specs.declared.edit.Edit.{Edit}
 use Rattle.pv_accounts_run.specs.Edits.{AreEdits, IsBeside, IsEdit, IsFree, IsOfSome, IsStaged, Published, PublishesEdit, StagesEdit, edited, etc, most_edited, with_edit, with_published, with_staged}
-use Rattle.pv_accounts_run.specs.Carrying.{AccountWay, IsAccountStep, IsEditOf, PutsDirectory, account_paths, directory_steps, most_directory, most_put, swept_names, with_directory}
+use Rattle.pv_accounts_run.specs.Carrying.{AccountWay, IsAccountStep, IsEditOf, IsStagedWhole, PutsDirectory, account_paths, directory_steps, most_directory, most_put, swept_names, with_directory}
 use Rattle.pv_accounts_run.proofs.MovingLaws.{not_parent}
 use Rattle.pv_accounts_run.proofs.StagingLaws.{HasRoom, bares_all_staged, bares_edits, published_first, stage_some, stage_up}
 use Rattle.pv_path.proofs.Tests.{true_not_false}
@@ -153,6 +153,21 @@ module _ (now : ℕ) where
     all_staged cs are.1.1 (with_staged now t c),
   )
 
+  -- whole
+  kept_whole : (c : Edit) (cs : List Edit) → AllByRecursion (IsBeside c) cs → (t : Places) → IsStagedWhole t c → IsStagedWhole (fold (with_staged now) t cs) c
+  kept_whole c [] beside t is = is
+  kept_whole c (d ∷ cs) beside t is =
+      kept_whole c cs beside.1 (with_staged now t d)
+      (bares-made now (staging_of d.path) (edited now d) t (staging_of c.path)
+      ∙ bares-put_else (staging_of d.path) (staging_of c.path) (Some (edited now d)) t (not_prefix_not_same (staging_of d.path) (staging_of c.path) beside.0.stages_back) ∙ is)
+
+  pub all_whole : (cs : List Edit) → AreEdits cs → (t : Places) → AllByRecursion (IsStagedWhole (fold (with_staged now) t cs)) cs
+  all_whole [] are t = tt
+  all_whole (c ∷ cs) are t = (
+    kept_whole c cs are.1.0 (with_staged now t c) (ap (option_map bare) (made-here now (staging_of c.path) t (stage_some c are.0) (edited now c))),
+    all_whole cs are.1.1 (with_staged now t c),
+  )
+
   both_staged : (x : Places) (cs : List Edit) → AllByRecursion (IsStagedIn x) cs → AllByRecursion (IsNoDirectory x) cs → AllByRecursion (IsStaged x) cs
   both_staged x [] staged file = tt
   both_staged x (c ∷ cs) staged file = (record { staged = staged.0; file = file.0 }, both_staged x cs staged.1 file.1)
@@ -177,6 +192,10 @@ drop_edits zero cs are = are
 drop_edits (suc k) [] are = tt
 drop_edits (suc k) (c ∷ cs) are = drop_edits k cs are.1.1
 
+-- where none is at its path, nothing is said of the others
+none_yet : {P : Type 0} → 1 ≤ 0 → P
+none_yet some = absurd (omega (arith, some))
+
 module _ (edits : List Edit) (t : Files) where
   -- while the directory is put
   pub way_directory : 1 ≤ length edits → (u : Files) → Putting etc parent_file t u → AccountWay edits t u
@@ -188,7 +207,7 @@ module _ (edits : List Edit) (t : Files) where
           one : (q : Path) → IsPutting etc parent_file q (bares (places t) q) (bares (places u) q) → bares (places u) etc ≡ bares (places t) etc → bares (places u) q ≡ bares (places t) q
           one q (putting.kept h) e = h
           one q (putting.put here old new) e = ap (λ (p : Path). bares (places u) p) here ∙ e ∙ ap (λ (p : Path). bares (places t) p) (sym here)
-      by (putting.put here old new) = inr (some, (zero, λ q plain. one q (step q plain) (path_cases etc q)))
+      by (putting.put here old new) = inr (some, (zero, (λ q plain. one q (step q plain) (path_cases etc q), none_yet)))
         where
           none : (o : Option Object) → option_map bare o ≡ None → is_some o ≡ false
           none None e = refl
@@ -206,7 +225,7 @@ module _ (edits : List Edit) (t : Files) where
   pub way_staged : 1 ≤ length edits → (now : ℕ) (b u : Files) → places b ≡ with_parent now (places t) etc → Same b u → AccountWay edits t u
   way_staged some now b u is same = inr (
     some,
-    (zero, λ q plain. sym (same q plain) ∙ ap (λ (x : Places). bares x q) is ∙ parent_bares now 0 (places t) (places t) (λ p h. refl) q plain),
+    (zero, (λ q plain. sym (same q plain) ∙ ap (λ (x : Places). bares x q) is ∙ parent_bares now 0 (places t) (places t) (λ p h. refl) q plain, none_yet)),
   )
 
   -- while they are published
@@ -216,13 +235,20 @@ module _ (edits : List Edit) (t : Files) where
     some,
     (
       first.0,
-      λ q plain.
-          ap (λ (x : Places). bares x q) (first.1 ∙ ap (λ (x : Places). fold (with_published now) x (take first.0 edits)) staged ∙ published_first now first.0 edits are (places b) room)
-          ∙ bares_all_staged now (drop first.0 edits) (drop_edits first.0 edits are) (fold (with_edit now) (places b) (take first.0 edits)) q plain
-          ∙ bares_edits now 0 (take first.0 edits) (places b) (with_parent 0 (places t) etc)
-          (λ p h. ap (λ (x : Places). bares x p) is ∙ parent_bares now 0 (places t) (places t) (λ r g. refl) p h) q plain,
+      (
+        λ q plain.
+            ap (λ (x : Places). bares x q) reached
+            ∙ bares_all_staged now (drop first.0 edits) (drop_edits first.0 edits are) (fold (with_edit now) (places b) (take first.0 edits)) q plain
+            ∙ bares_edits now 0 (take first.0 edits) (places b) (with_parent 0 (places t) etc)
+            (λ p h. ap (λ (x : Places). bares x p) is ∙ parent_bares now 0 (places t) (places t) (λ r g. refl) p h) q plain,
+        λ some. subst (λ (x : Places). AllByRecursion (IsStagedWhole x) (drop first.0 edits)) (sym reached)
+            (all_whole now (drop first.0 edits) (drop_edits first.0 edits are) (fold (with_edit now) (places b) (take first.0 edits))),
+      ),
     ),
   )
+    where
+      reached : places u ≡ fold (with_staged now) (fold (with_edit now) (places b) (take first.0 edits)) (drop first.0 edits)
+      reached = first.1 ∙ ap (λ (x : Places). fold (with_published now) x (take first.0 edits)) staged ∙ published_first now first.0 edits are (places b) room
 
   -- after what was staged before is taken away
   pub way_after : (s u : Files) → Same s t → AccountWay edits s u → AccountWay edits t u
@@ -231,8 +257,11 @@ module _ (edits : List Edit) (t : Files) where
     h.0,
     (
       h.1.0,
-      λ q plain. h.1.1 q plain ∙ bares_edits 0 0 (take h.1.0 edits) (with_parent 0 (places s) etc) (with_parent 0 (places t) etc)
-          (parent_bares 0 0 (places s) (places t) same) q plain,
+      (
+        λ q plain. h.1.1.0 q plain ∙ bares_edits 0 0 (take h.1.0 edits) (with_parent 0 (places s) etc) (with_parent 0 (places t) etc)
+            (parent_bares 0 0 (places s) (places t) same) q plain,
+        h.1.1.1,
+      ),
     ),
   )
 

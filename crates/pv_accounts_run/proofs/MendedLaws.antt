@@ -627,7 +627,7 @@ way_mended requests allowed plain now later small t u tree way = by (unusable_te
             let some : 1 ≤ length (edits_to (places t) texts) = subst (λ (es : List Edit). 1 ≤ length es) are h.0 in
             let k : ℕ = h.1.0 in
             let at : (q : Path) → has_staging q ≡ false → bares (places u) q ≡ bares (fold (with_edit 0) (with_parent 0 (places t) etc) (take k (edits_to (places t) texts))) q =
-            λ q bare. h.1.1 q bare ∙ ap (λ (es : List Edit). bares (fold (with_edit 0) (with_parent 0 (places t) etc) (take k es)) q) are in
+            λ q bare. h.1.1.0 q bare ∙ ap (λ (es : List Edit). bares (fold (with_edit 0) (with_parent 0 (places t) etc) (take k es)) q) are in
             put_first k some at
           where
             put_first : (k : ℕ) → 1 ≤ length (edits_to (places t) texts)

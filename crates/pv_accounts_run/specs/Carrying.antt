@@ -1,11 +1,13 @@
 -- What is done to the account files of a tree: what earlier runs have staged is taken away, /etc is put where it is
 -- absent, and files whose texts change are put at their paths (systemd-sysusers(8)).
-use Rattle.std.specs.Prelude.{◌≡◌, ◌≢◌, ◌⊎◌, ◌≤◌, ℕ, ◌+◌, ◌*◌, true, false, List, [], ◌∷◌, codes, length, map, take, fold, Some, None, is_some, if◌then◌else◌}
+use Rattle.std.specs.Prelude.{◌≡◌, ◌≢◌, ◌⊎◌, ◌≤◌, ℕ, ◌+◌, ◌*◌, true, false, List, [], ◌∷◌, codes, length, map, take, drop, fold, Some, None, is_some, if◌then◌else◌}
+use Rattle.std.specs.List.{AllByRecursion}
 use Rattle.pv_layers.specs.Places.{group_path, passwd_path}
 use Rattle.pv_path.specs.Paths.{Path, is_prefix, has_staging, staging_of}
 use Rattle.pv_steps.specs.declared.node.Kind.TheVariants.{File}
 use Rattle.pv_steps.specs.declared.step.Step.{Step}
 use Rattle.pv_steps.specs.Content.{Removes}
+use Rattle.pv_steps.specs.Objects.{bare}
 use Rattle.pv_steps.specs.Trees.{Files, Places, places, kind_of, IsAbsentIn}
 use Rattle.pv_steps.specs.Same.{Same, bares}
 use Rattle.pv_dress.specs.Edits.{all_taken}
@@ -14,7 +16,7 @@ use Rattle.pv_walk.specs.Putting.{IsPutStep}
 use Rattle.pv_walk.specs.Removal.{is_one_of}
 use Rattle.pv_walk.specs.Staging.{can_stage, is_under_any, staging_names}
 use Rattle.pv_accounts_run.specs.declared.edit.Edit.{Edit}
-use Rattle.pv_accounts_run.specs.Edits.{IsEdit, IsOfSome, PublishesEdit, StagesEdit, etc, most_edited, with_edit}
+use Rattle.pv_accounts_run.specs.Edits.{IsEdit, IsOfSome, PublishesEdit, StagesEdit, edited, etc, most_edited, with_edit}
 
 -- ---- the account files
 
@@ -74,13 +76,19 @@ pub record IsSweptPath (path : Path) : Type 0 where
 
 -- ---- on the way
 
+-- stamps aside, the new file stands whole at its staging name
+abbrev pub IsStagedWhole : Places → Edit → Type 0
+IsStagedWhole u edit = bares u (staging_of edit.path) ≡ Some (bare (edited 0 edit))
+
 -- stamps and staging names aside: nothing has changed, or some text changes, /etc stands, and the first edits are at their
--- paths
+-- paths; once one is, all the others stand whole at their staging names
 abbrev pub AccountWay : List Edit → Files → Files → Type 0
 AccountWay edits t u =
     Same u t
     ⊎ ((1 ≤ length edits)
-    × ((k : ℕ) × ((q : Path) → has_staging q ≡ false → bares (places u) q ≡ bares (fold (with_edit 0) (with_parent 0 (places t) etc) (take k edits)) q)))
+    × ((k : ℕ)
+    × (((q : Path) → has_staging q ≡ false → bares (places u) q ≡ bares (fold (with_edit 0) (with_parent 0 (places t) etc) (take k edits)) q)
+    × (1 ≤ k → AllByRecursion (IsStagedWhole (places u)) (drop k edits)))))
 
 -- a step puts /etc, which was absent
 abbrev pub PutsDirectory : Files → Step → Type 0

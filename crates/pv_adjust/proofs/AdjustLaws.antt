@@ -12,11 +12,12 @@ use Rattle.pv_steps.specs.declared.object.Object.{Object}
 use Rattle.pv_steps.specs.declared.step.Step.{Step}
 use Rattle.pv_steps.specs.declared.tree.Tree.{Ghosts}
 use Rattle.pv_steps.specs.declared.tree.TreeFault.{TreeFault}
+use Rattle.pv_steps.specs.Counting.{refused, faults_after}
 use Rattle.pv_steps.specs.Acting.{asked, Acted}
 use Rattle.pv_steps.specs.Objects.{bare, changed, modified, with_content, IsObject}
 use Rattle.pv_steps.specs.Runs.{Ran}
 use Rattle.pv_steps.specs.Same.{bares}
-use Rattle.pv_steps.proofs.ActingLaws.{Moves, ran-length, rises_later}
+use Rattle.pv_steps.proofs.ActingLaws.{Moves, ran-length}
 use Rattle.pv_steps.proofs.RunLaws.{ran_then, ran_weaken}
 use Rattle.pv_steps.specs.Steps.{on_at, put_at}
 use Rattle.pv_steps.specs.Trees.{Files, Places, places, kind_of, node_at, IsKind, IsPresent, IsTree}
@@ -327,7 +328,7 @@ module _ {S : Type 0} (tree : Ghosts S) (moves : Moves tree) (path : Path) (sets
         (writing path sets are t whole o there wanted is now) (bytes_give path sets are t whole o there wanted is now) acted.ran;
     bound = few_writes path sets are t whole o there wanted is now r (tree.steps a) (tree.steps b) acted.bound idle;
     reaches = acted.reaches;
-    cause = acted.cause;
+    counted = acted.counted;
   }
 
   module _ (c : S) (wrote : places (tree.state b) ≡ on_at path (written now wanted.bytes) (places t)) (x : Unit {0}) (first : Acted tree (Changing path (holding wanted.bytes) t) (GivesWanted path wanted.bytes t) 1 now a b (Ok x))
@@ -349,7 +350,7 @@ module _ {S : Type 0} (tree : Ghosts S) (moves : Moves tree) (path : Path) (sets
           ran = ran_then (Adjusting path sets t) (GivesSet path sets t) now before.ran after;
           bound = omega (arith, one, more, most);
           reaches = moves.goes_on a b c first.reaches last.reaches;
-          cause = λ failed. rises_later (tree.faults a) (tree.faults b) (tree.faults c) (moves.never_falls a b first.reaches) (last.cause failed);
+          counted = last.counted ∙ ap (λ n. faults_after (refused r) n) first.counted;
         }
 
 -- ---- where a call begins

@@ -22,10 +22,11 @@ use Rattle.pv_steps.proofs.StepLaws.{at_after, same_files}
 use Rattle.pv_steps.proofs.NameLaws.{child_name-push}
 use Rattle.pv_steps.proofs.TreeLaws.{present_of_kind}
 use Rattle.pv_dress.specs.Edits.{Pruned}
-use Rattle.pv_walk.specs.Listing.{times, is_child, IsListing, ParentsFirst}
+use Rattle.pv_walk.specs.Listing.{times, is_child, AreGathered, IsGatheredBelow, IsListing, ParentsFirst}
 use Rattle.pv_walk.specs.Removal.{is_below, is_one_of, loses_child, removal, removal_at}
 use Rattle.pv_walk.proofs.CountLaws.{is_child-push, length-times, same_or_not, taken_out, times-append, times-filter, times-keys, times-self}
 use Rattle.pv_walk.proofs.RemovalLaws.{cond-true, is_below-child, kept-bare, kept-kind, kept-present, modified_kept, no_same, not_first, zero_or_more, gone-here, gone-none, gone-other, gone-parent, IsKept}
+use Rattle.pv_walk.proofs.GatheredLaws.{gathered_filter}
 use Rattle.pv_walk.proofs.ListingLaws.{cond-le}
 use Rattle.pv_walk.proofs.Removing.{after_removal, removal_asks}
 use Rattle.pv_find.specs.Whole.{goes_whole}
@@ -114,7 +115,7 @@ abbrev pub worked : (Path → Bool) → Files → ℕ → List Path → Places �
 worked goes t now [] x = x
 worked goes t now (p ∷ ps) x = worked_one goes t now p (worked goes t now ps x)
 
-later : (p q : Path) (ps : List Path) → same_path p q ≡ false → 1 ≤ times q (p ∷ ps) → 1 ≤ times q ps
+pub later : (p q : Path) (ps : List Path) → same_path p q ≡ false → 1 ≤ times q (p ∷ ps) → 1 ≤ times q ps
 later p q ps d h = let rest : 1 ≤ 0 + times q ps = subst (λ c. 1 ≤ cond c 1 0 + times q ps) d h in omega (arith, rest)
 
 module _ (goes : Path → Bool) (t : Files) (now : ℕ) where
@@ -289,7 +290,7 @@ module _ (goes : Path → Bool) (t : Files) (now : ℕ) (whole : (q : Path) → 
 
 -- ---- all of a plan is done
 
-order_back : (goes : Path → Bool) (t : Files) (xs ys : List Path) → GoAfter goes t (xs ++ ys) → GoAfter goes t ys
+pub order_back : (goes : Path → Bool) (t : Files) (xs ys : List Path) → GoAfter goes t (xs ++ ys) → GoAfter goes t ys
 order_back goes t [] ys h = h
 order_back goes t (x ∷ xs) ys h = order_back goes t xs ys h.1
 
@@ -303,7 +304,7 @@ filter_any f g (x ∷ xs) r h = by (f x) refl (filter_any f g xs r) h
     by false e rest k = rest k
 
 -- a directory loses a child that goes
-child_lost : (goes : Path → Bool) (t : Files) (q r : Path) → r ≢ [] → parent_of r ≡ q → is_some (places t r) ≡ true → goes r ≡ true → (is_child q r ≡ true) × (loses_child goes t q ≡ true)
+pub child_lost : (goes : Path → Bool) (t : Files) (q r : Path) → r ≢ [] → parent_of r ≡ q → is_some (places t r) ≡ true → goes r ≡ true → (is_child q r ≡ true) × (loses_child goes t q ≡ true)
 child_lost goes t q r nonempty over there h = elim (path_ends r) [
   | inl root ↦ absurd (nonempty root)
   | inr (above, name, e) ↦
@@ -320,7 +321,7 @@ child_lost goes t q r nonempty over there h = elim (path_ends r) [
 ]
 
 -- with its own stamps, of an object only that of its change is new
-own_again : (now : ℕ) (o new : Option Object) → is_some o ≡ true → IsKept now o new
+pub own_again : (now : ℕ) (o new : Option Object) → is_some o ≡ true → IsKept now o new
     → option_map (with_stamps (option_map_or (λ x. x.node.stamps.access) o 0) (option_map_or (λ x. x.node.stamps.modify) o 0) now) new ≡ option_map (changed now) o
 own_again now None new h k = cc
 own_again now (Some o) new h (inl e) = ap (option_map (with_stamps o.node.stamps.access o.node.stamps.modify now)) e
@@ -447,12 +448,21 @@ module _ (goes : Path → Bool) (t : Files) where
       by true rest = (first, rest)
       by false rest = rest
 
+  -- all of a listing lies below the root
+  under_root : (ps : List Path) → ((q : Path) → 1 ≤ times q ps → is_below [] q ≡ true) → IsGatheredBelow [] ps
+  under_root [] under = tt
+  under_root (p ∷ ps) under = (
+    λ q b some. under p (let self = times-self p ps in omega (arith, self)),
+    under_root ps (λ q some. under q (let more : times q ps ≤ times q (p ∷ ps) = omega arith in omega (arith, some, more))),
+  )
+
   -- the steps at the root and at a listing of all below it
-  pub planned_from : IsTree t → (listed : List Path) (steps : List Step) → IsListing t [] listed → steps ≡ map (clean_step goes t) (filter (is_task goes t) ([] ∷ listed)) → ArePlanned goes t steps
-  planned_from tree listed steps l are = record {
+  pub planned_from : IsTree t → (listed : List Path) (steps : List Step) → IsListing t [] listed → AreGathered listed → steps ≡ map (clean_step goes t) (filter (is_task goes t) ([] ∷ listed)) → ArePlanned goes t steps
+  planned_from tree listed steps l gathered are = record {
     paths = filter (is_task goes t) ([] ∷ listed);
     are = are;
     once = λ q. times-filter (is_task goes t) q ([] ∷ listed) ∙ ap (λ (n : ℕ). cond (is_task goes t q) n 0) (all q) ∙ by (is_some (places t q)) (is_task goes t q);
+    gathered = gathered_filter (is_task goes t) ([] ∷ listed) (under_root listed (λ q some. (and_parts (is_below [] q) (is_some (places t q)) (cond-true (is_below [] q && is_some (places t q)) (let e = l.once q in omega (arith, e, some)))).0), gathered);
     order = kept_order ([] ∷ listed) (λ q child there. let e = l.once q ∙ ap (λ b. cond {A = ℕ} b 1 0) (and_from (is_below [] q) (is_some (places t q)) (is_below-child [] q child) there) in omega (arith, e), l.order);
   }
     where

@@ -1,14 +1,15 @@
 -- Cleaning by steps: which directories get their stamps back, what a clean phase asks of a tree, and what one that was cut
 -- short has done (tmpfiles.d(5), "Age"; utimensat(2)).
-use Rattle.std.specs.Prelude.{◌≡◌, ◌⊎◌, ℕ, ◌+◌, ◌≤◌, Bool, true, cond, not, ◌&&◌, ◌||◌, List, [], ◌∷◌, map, take, Some, is_some, option_map, if◌then◌else◌, ⊤}
+use Rattle.std.specs.Prelude.{◌≡◌, ◌≢◌, ◌⊎◌, ℕ, ◌+◌, ◌≤◌, Bool, true, cond, not, ◌&&◌, ◌||◌, List, [], ◌∷◌, map, take, Some, is_some, option_map, if◌then◌else◌, ⊤}
 use Rattle.std.specs.Option.{option_map_or}
-use Rattle.pv_path.specs.Paths.{Path}
+use Rattle.pv_path.specs.Paths.{Path, is_prefix}
+use Rattle.pv_steps.specs.declared.object.Object.{Object}
 use Rattle.pv_steps.specs.declared.step.Step.{Step}
 use Rattle.pv_steps.specs.declared.step.Step.TheVariants.{SetStamps, Unlink, RemoveDir}
 use Rattle.pv_steps.specs.Runs.{after_all}
 use Rattle.pv_steps.specs.Same.{bares}
 use Rattle.pv_steps.specs.Trees.{Files, places, IsAbsentIn, IsPresent}
-use Rattle.pv_walk.specs.Listing.{times, is_child}
+use Rattle.pv_walk.specs.Listing.{times, is_child, AreGathered}
 use Rattle.pv_walk.specs.Removal.{loses_child, removal_at}
 use Rattle.pv_find.specs.Whole.{count_of}
 
@@ -41,6 +42,7 @@ pub record ArePlanned (goes : Path → Bool) (t : Files) (steps : List Step) : T
   pub are : steps ≡ map (clean_step goes t) paths
   pub once : (q : Path) → times q paths ≡ cond (is_some (places t q) && is_task goes t q) 1 0
   pub order : GoAfter goes t paths
+  pub gathered : AreGathered paths
 
 -- a step takes away a path that goes, or gives a directory that stays and loses a child the stamps that it has in a tree
 abbrev pub IsCleanStep : (Path → Bool) → Files → Step → Type 0
@@ -54,6 +56,23 @@ IsCleanStep goes t step = ⊥
 -- how many steps that takes: one for each path that goes, and one for each directory that stays and loses a child
 abbrev pub most_steps : (Path → Bool) → Files → ℕ
 most_steps goes t = count_of goes t + count_of (stays_and_loses goes t) t
+
+-- the stamps of access and of modification of an object
+abbrev pub moments_of : Object → ℕ × ℕ
+moments_of o = (o.node.stamps.access, o.node.stamps.modify)
+
+-- what stands at a path has other stamps of access or of modification than in a tree
+abbrev pub HasOtherStamps : Files → Files → Path → Type 0
+HasOtherStamps t u q = IsPresent u q × (option_map moments_of (places u q) ≢ option_map moments_of (places t q))
+
+-- all that has other stamps than in a tree lies on one way down from the root: of two such paths one lies at or below the
+-- other, so each directory has its stamps back before anything goes that does not lie in it
+abbrev pub AreOnOneWay : Files → Files → Type 0
+AreOnOneWay t u = (p q : Path) → HasOtherStamps t u p → HasOtherStamps t u q → (is_prefix p q ≡ true) ⊎ (is_prefix q p ≡ true)
+
+-- after each number of these steps
+abbrev pub IsCleanedInTurn : ℕ → Files → List Step → Type 0
+IsCleanedInTurn now t steps = (n : ℕ) → AreOnOneWay t (after_all t (take n steps) now)
 
 -- after each number of these steps each path is one that goes and is gone, or has what stood there, stamps aside
 abbrev pub TakesOnly : (Path → Bool) → ℕ → Files → List Step → Type 0

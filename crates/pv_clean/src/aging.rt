@@ -10,10 +10,9 @@ ghost use Rattle.pv_table.specs.Reaching.{names};
 use crate::naming::all_named;
 use pv_age::is_old;
 use pv_find::{at_and_below, is_among, whole_of};
-use pv_lines::Line;
 use pv_path::{Name, TreePath, child};
 use pv_steps::{Tree, is_directory, is_present};
-use pv_table::{Scope, scope_of};
+use pv_table::{Scope, Table, scope_of};
 use std::alloc::{AllocError, Global};
 use std::collections::BTreeSet;
 
@@ -22,19 +21,19 @@ use std::collections::BTreeSet;
 pub fn aged_paths<T: Tree>(
     alloc: Global,
     tree: &T,
-    lines: &[Line],
+    table: &Table,
     now: u64,
 ) -> Result<BTreeSet<TreePath>, AllocError>
-    ensures aged { IfOk result (λ paths. (q : Path) → is_one_of paths.keys q ≡ is_aged lines.now now (T.state tree.now) q) }
+    ensures aged { IfOk result (λ paths. (q : Path) → is_one_of paths.keys q ≡ is_aged table.now now (T.state tree.now) q) }
     ensures tree { IsTree (T.state tree.now) }
 {
     let root = TreePath::root(alloc);
     let _rooted = is_present(tree, &root);
-    let named = all_named(alloc, tree, lines)?;
+    let named = all_named(alloc, tree, table.lines())?;
     let paths = at_and_below(alloc, tree, &root)?;
     let mut may_go = Vec::new(alloc);
     for path in &paths {
-        add_aged(alloc, tree, lines, &named, now, path, &mut may_go)?;
+        add_aged(alloc, tree, table, &named, now, path, &mut may_go)?;
     }
     let aged = whole_of(alloc, tree, may_go)?;
     Ok(aged)
@@ -44,21 +43,21 @@ pub fn aged_paths<T: Tree>(
 fn add_aged<T: Tree>(
     alloc: Global,
     tree: &T,
-    lines: &[Line],
+    table: &Table,
     named: &BTreeSet<TreePath>,
     now: u64,
     path: &TreePath,
     found: &mut Vec<TreePath>,
 ) -> Result<(), AllocError>
     requires named { (q : Path) → is_one_of named.now.keys q
-        ≡ (is_some (places (T.state tree.now) q) && list_any (λ line. names line q) lines.now) }
+        ≡ (is_some (places (T.state tree.now) q) && list_any (λ line. names line q) table.now) }
     ensures { OnOk result (found.new.items ≡ found.old.items ++ map (λ n. path.now ++ n ∷ [])
-        (filter (λ n. may_go lines.now now (T.state tree.now) (path.now ++ n ∷ [])) (names_below (T.state tree.now) path.now))) }
+        (filter (λ n. may_go table.now now (T.state tree.now) (path.now ++ n ∷ [])) (names_below (T.state tree.now) path.now))) }
 {
     if !is_directory(tree, path) {
         return Ok(());
     }
-    let scope = scope_of(lines, path);
+    let scope = scope_of(table, path);
     let names = tree.list(alloc, path)?;
     for name in names.as_slice() {
         add_if_old(alloc, tree, scope, named, now, path, name, found)?;

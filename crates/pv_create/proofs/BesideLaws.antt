@@ -73,10 +73,10 @@ module _ (f q : Path) (plain : has_staging f ≡ false) (under : is_prefix f q �
     new_outside file (MakeLink at target) h = at_own at h.0
     new_outside file (SetOwner at uid gid) h = refl
     new_outside file (SetMode at mode) h = refl
-    new_outside file (MakeDir at) h = at_own at h
-    new_outside file (MakeFile at) h = at_own at h
-    new_outside file (MakeFifo at) h = at_own at h
-    new_outside file (MakeDevice at block major minor) h = at_own at h
+    new_outside file (MakeDir at) h = at_own at h.0
+    new_outside file (MakeFile at) h = at_own at h.0
+    new_outside file (MakeFifo at) h = at_own at h.0
+    new_outside file (MakeDevice at block major minor) h = at_own at h.0
     new_outside file step h = absurd h
 
     below_own : (rest at : Path) → at ≡ staging_of place ++ rest → same_path at q ≡ false
@@ -91,10 +91,10 @@ module _ (f q : Path) (plain : has_staging f ≡ false) (under : is_prefix f q �
     bare_outside rest b (SetAcl at acl) h = refl
     bare_outside rest b (SetAttrs at attrs) h = refl
     bare_outside rest b (SetLetters at letters) h = refl
-    bare_outside rest b (MakeDir at) h = below_own rest at h
-    bare_outside rest b (MakeFile at) h = below_own rest at h
-    bare_outside rest b (MakeFifo at) h = below_own rest at h
-    bare_outside rest b (MakeDevice at block major minor) h = below_own rest at h
+    bare_outside rest b (MakeDir at) h = below_own rest at h.0
+    bare_outside rest b (MakeFile at) h = below_own rest at h.0
+    bare_outside rest b (MakeFifo at) h = below_own rest at h.0
+    bare_outside rest b (MakeDevice at block major minor) h = below_own rest at h.0
     bare_outside rest b step h = absurd h
 
     -- or one that publishes the place

@@ -58,7 +58,7 @@ use Rattle.pv_table.specs.Turns.{Turn, view_of, copied, has_something, decide, m
 use Rattle.pv_doing.specs.Courses.{Partway}
 use Rattle.pv_adjust.specs.Named.{touching_course}
 use Rattle.pv_adjust.specs.Reached.{IsPartSet}
-use Rattle.pv_make.specs.OnWay.{OnWay, IsMidway, turn_at, sets_at}
+use Rattle.pv_make.specs.OnWay.{OnWay, IsMidway, IsClearing, turn_at, sets_at}
 use Rattle.pv_laws.specs.Stopping as stopping
 use Rattle.pv_laws.specs.Stopping.{IsRenewal}
 use Rattle.pv_laws.proofs.Lines.{IsPlain, line_point, turns_made, turns_touch, asked_made, asked_touch}
@@ -516,7 +516,11 @@ module _ (now : ℕ) (line : Line) (making : Making) (e : asks line ≡ Create m
       by : (path ≡ q) ⊎ (same_path path q ≡ false) → same_path path q ≡ false
       by (inl same) = absurd (above.1 (sym same))
       by (inr other) = other
-  making_at q plain new (IsMidway.gone subtree put below none) = elim (path_cases path q) [
+
+  -- and while what stands there makes way
+  clearing_at : (subtree : Subtree) → turn_at now line path t ≡ Turn.Put subtree → (q : Path) → has_staging q ≡ false → (new : Option Bare) → IsClearing now line path t q (bares_of (places t) q) new → stopping.IsMidway line q (bares_of (places t) q) new
+  clearing_at subtree put q plain new (IsClearing.midway m) = making_at q plain new m
+  clearing_at subtree put q plain new (IsClearing.gone below none) = elim (path_cases path q) [
     | inl same ↦ subst (λ (p : Path). stopping.IsMidway line p (bares_of (places t) p) new) same (gone_here subtree (bares_of (places t) path) new (sym turn_is ∙ put) none)
     | inr other ↦ gone_below q plain below other subtree new (sym turn_is ∙ put) none
   ]
@@ -524,6 +528,7 @@ module _ (now : ℕ) (line : Line) (making : Making) (e : asks line ≡ Create m
   making_piece : (u : Files) → (by_line now).is_refused line t ≡ false → OnWay now line path t u → stopping.OnWay line t u
   making_piece u quiet (OnWay.before same) q plain = stopping.IsMidway.piece zero (sym (bares_of-same (places t) (places u) q (same q plain)))
   making_piece u quiet (OnWay.midway free at) q plain = making_at q plain (bares_of (places u) q) (at q plain)
+  making_piece u quiet (OnWay.making_way subtree free put staged needed at) q plain = clearing_at subtree put q plain (bares_of (places u) q) (at q plain)
   making_piece u quiet (OnWay.whole same) q plain = stopping.IsMidway.piece (length (parts (operations line q))) (
       sym (bares_of-same (places (turn_after now line path t)) (places u) q (same q plain))
       ∙ ap (λ paths. bares_of (places (after_each (by_turn now line) paths t)) q) (sym (turns_made line making t e))

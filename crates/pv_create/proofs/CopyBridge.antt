@@ -32,7 +32,8 @@ use Rattle.pv_table.specs.Repeatable.{IsRepeatable}
 use Rattle.pv_table.specs.Saying.{found}
 use Rattle.pv_table.specs.Turns.{Turn, View, view_of, copied, has_something, decide, copying_turn, refused_at}
 use Rattle.pv_doing.specs.Courses.{Partway}
-use Rattle.pv_make.specs.OnWay.{OnWay, IsMidway, turn_at, sets_at, puts_parents}
+use Rattle.pv_walk.specs.Copying.{Subtree}
+use Rattle.pv_make.specs.OnWay.{OnWay, IsMidway, IsClearing, turn_at, sets_at, puts_parents}
 use Rattle.pv_laws.specs.Copying.{IsCopyMidway, turn_of, OnWayOf, PartwayOf, StoppedRuns}
 use Rattle.pv_laws.proofs.AgainStops.{again_mended, stopped_then}
 use Rattle.pv_laws.proofs.AllPoints.{IsSafe, line_pointed, turns_copy, copy_idle, all_safe}
@@ -103,7 +104,10 @@ module _ (now : ℕ) (line : Line) (copying : Copying) (e : asks line ≡ Copy c
             own : xs ≡ copying.sets
             own = become_sets copying (view_of (found now (Copy copying) path t)) path xs g
     copy_at q old new (IsMidway.parent puts_it above absent is_parent) = IsCopyMidway.parent above.0 above.1 absent is_parent
-    copy_at q old new (IsMidway.gone subtree put below none) = IsCopyMidway.gone subtree below (sym turn_there ∙ put) none
+
+    clearing_at : (subtree : Subtree) → turn_at now line path t ≡ Turn.Put subtree → (q : Path) (old new : Option Bare) → IsClearing now line path t q old new → IsCopyMidway path copying (turn_of line copying now t) q old new
+    clearing_at subtree put q old new (IsClearing.midway m) = copy_at q old new m
+    clearing_at subtree put q old new (IsClearing.gone below none) = IsCopyMidway.gone subtree below (sym turn_there ∙ put) none
 
     bare_there : is_some (bares_of (places t) copying.source) ≡ true
     bare_there = bare_some (places t copying.source) ∙ there
@@ -119,7 +123,6 @@ module _ (now : ℕ) (line : Line) (copying : Copying) (e : asks line ≡ Copy c
     idle_at : (q : Path) (old new : Option Bare) → IsMidway now line path t q old new → new ≡ old
     idle_at q old new (IsMidway.set k f) = set_there q k Turn.Nothing idle_turn old new f ∙ none_done k old
     idle_at q old new (IsMidway.parent puts_it above absent is_parent) = impossible (sym none ∙ sym (ap (puts_parents (places t)) e) ∙ puts_it)
-    idle_at q old new (IsMidway.gone subtree put below gone) = absurd (let no : Turn.Nothing ≡ Turn.Put subtree = sym idle_turn ∙ put in cc)
 
     free : refused_at line path (places t) ≡ None
     free = (first_turn now line path [] t (ap (λ paths. one_is_refused (by_turn now line) paths t) (sym (turns_copy line copying t e)) ∙ quiet)).0
@@ -144,6 +147,11 @@ module _ (now : ℕ) (line : Line) (copying : Copying) (e : asks line ≡ Copy c
       by : (b : Bool) → is_some (places t copying.source) ≡ b → OnWayOf line now t u
       by true there = before_way there (λ q plain. copy_at there q (bares_of (places t) q) (bares_of (places u) q) (at q plain))
       by false none = idle_way none quiet (λ q plain. bares-same (places t) (places u) q (sym (idle_at none quiet q (bares_of (places t) q) (bares_of (places u) q) (at q plain))))
+  copy_bridge quiet (OnWay.making_way subtree open_path put staged needed at) = by (is_some (places t copying.source)) refl
+    where
+      by : (b : Bool) → is_some (places t copying.source) ≡ b → OnWayOf line now t u
+      by true there = before_way there (λ q plain. clearing_at there subtree put q (bares_of (places t) q) (bares_of (places u) q) (at q plain))
+      by false none = absurd (let no : Turn.Nothing ≡ Turn.Put subtree = sym (idle_turn none quiet) ∙ put in cc)
 
 -- ---- each line
 

@@ -19,7 +19,7 @@ use Rattle.pv_dress.specs.Operations.{stays, run}
 use Rattle.pv_dress.proofs.OperationLaws.{bares_of-same}
 use Rattle.pv_lines.specs.declared.line.Line.{Line}
 use Rattle.pv_lines.specs.Lines.{IsLine}
-use Rattle.pv_walk.specs.Copying.{Subtree}
+use Rattle.pv_walk.specs.Copying.{Subtree, single}
 use Rattle.pv_walk.specs.Staging.{new_object}
 use Rattle.pv_table.specs.declared.deed.Copying.{Copying}
 use Rattle.pv_table.specs.declared.deed.Deed.{Deed}
@@ -32,11 +32,11 @@ use Rattle.pv_table.specs.Created.{after_each, by_turn, by_line}
 use Rattle.pv_table.specs.Effects.{is_touched, turn_after, turns}
 use Rattle.pv_table.specs.Reaching.{names, path_in, governs}
 use Rattle.pv_table.specs.Saying.{found}
-use Rattle.pv_table.specs.Turns.{Turn, view_of, single, copied, has_something, decide, making_turn}
+use Rattle.pv_table.specs.Turns.{Turn, view_of, copied, has_something, decide, making_turn}
 use Rattle.pv_adjust.specs.Named.{touching_course}
 use Rattle.pv_adjust.specs.Reached.{IsPartSet}
 use Rattle.pv_doing.specs.Courses.{Partway}
-use Rattle.pv_make.specs.OnWay.{OnWay, IsMidway, turn_at, sets_at}
+use Rattle.pv_make.specs.OnWay.{OnWay, IsMidway, IsClearing, turn_at, sets_at}
 use Rattle.pv_laws.proofs.AllFrames.{not_at, not_above, not_below, each_kept, all_away}
 use Rattle.pv_laws.proofs.AllPoints.{turns_copy}
 use Rattle.pv_laws.proofs.Frames.{IsFree, ungoverned, names_literal, creates, not_reached, turn_away, touch_kept}
@@ -97,11 +97,15 @@ module _ (now : ℕ) (line : Line) (is : IsLine line) (t : Files) (shape : IsSha
         f ∙ ap (λ (x : Deed). run (take k (parts (sets_at x (turn_at now line path t) path q))) (bares_of (places t) q)) e
         ∙ ap (λ xs. run (take k (parts xs)) (bares_of (places t) q)) (sets_none d other (turn_at now line path t) differ) ∙ none_done k (bares_of (places t) q)
     midway_stays new (IsMidway.parent puts above none f) = absurd (true_not_false (is_prefix q path) above.0 high)
-    midway_stays new (IsMidway.gone subtree put below none) = none ∙ sym (low subtree put below)
+
+    clearing_stays : (subtree : Subtree) → turn_at now line path t ≡ Turn.Put subtree → (new : Option Bare) → IsClearing now line path t q (bares_of (places t) q) new → new ≡ bares_of (places t) q
+    clearing_stays subtree put new (IsClearing.midway m) = midway_stays new m
+    clearing_stays subtree put new (IsClearing.gone below none) = none ∙ sym (low subtree put below)
 
     way_stays : (u : Files) → OnWay now line path t u → bares_of (places u) q ≡ bares_of (places t) q
     way_stays u (OnWay.before same) = sym (bares_of-same (places t) (places u) q (same q plain))
     way_stays u (OnWay.midway unrefused at) = midway_stays (bares_of (places u) q) (at q plain)
+    way_stays u (OnWay.making_way subtree unrefused put staged needed at) = clearing_stays subtree put (bares_of (places u) q) (at q plain)
     way_stays u (OnWay.whole same) =
         sym (bares_of-same (places (turn_after now line path t)) (places u) q (same q plain))
         ∙ ap (λ paths. bares_of (places (after_each (by_turn now line) paths t)) q) (sym listed) ∙ (each_kept now line is t shape).frame q plain away

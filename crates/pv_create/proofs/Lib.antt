@@ -7,3 +7,4 @@ pub mod FrameWays
 pub mod StepLaws
 pub mod BesideLaws
 pub mod LeavingInput
+pub mod ReplacingLaws

@@ -27,7 +27,7 @@ use Rattle.pv_walk.specs.declared.new_file.NewFile.{NewFile}
 use Rattle.pv_walk.specs.Listing.{times}
 use Rattle.pv_walk.specs.Preparing.{parent_file}
 use Rattle.pv_walk.specs.Preparing as preparing
-use Rattle.pv_walk.specs.Staging.{staging_names, is_under_any, new_object, new_mode, GivesNew, IsPublishing}
+use Rattle.pv_walk.specs.Staging.{staging_names, is_under_any, new_kind, new_payload, new_major, new_minor, new_object, new_mode, GivesNew, IsPublishing}
 use Rattle.pv_walk.proofs.StageLaws.{mode_again}
 use Rattle.pv_table.specs.declared.deed.Copying.{Copying}
 use Rattle.pv_table.specs.declared.deed.Deed.{Deed}
@@ -43,12 +43,12 @@ use Rattle.pv_table.specs.Pointwise.{after_turn, parent_bare, Bares}
 use Rattle.pv_table.specs.Reaching.{names, path_in}
 use Rattle.pv_table.specs.Repeatable.{IsRepeatable}
 use Rattle.pv_table.specs.Saying.{found}
-use Rattle.pv_table.specs.Turns.{Turn, View, view_of, single, copied, copy_of, copying_turn, making_turn, has_something, decide}
+use Rattle.pv_table.specs.Turns.{Turn, View, view_of, copied, copy_of, copying_turn, making_turn, has_something, decide}
 use Rattle.pv_adjust.specs.Adjusting.{GivesBytes}
 use Rattle.pv_adjust.specs.Named.{touching_course}
 use Rattle.pv_doing.specs.Courses.{IsStepOfSome}
 use Rattle.pv_make.specs.OnWay.{IsStepOf, turn_at, puts_parents}
-use Rattle.pv_walk.specs.Copying.{GivesBare, Subtree}
+use Rattle.pv_walk.specs.Copying.{GivesBare, Subtree, single}
 use Rattle.pv_laws.specs.Copying.{turn_of}
 use Rattle.pv_laws.specs.Moments.{Agree}
 use Rattle.pv_laws.proofs.AllPoints.{IsSafe, line_pointed, all_safe, state_after}
@@ -79,28 +79,28 @@ removed_gives inside b (RemoveDir at) h = tt
 removed_gives inside b step h = absurd h
 
 new_gives : (at : Path) (file : NewFile) (step : Step) → GivesNew at file step → Gives (bare_of (new_object file 0)) step
-new_gives at file (Write path content) h = h.1
-new_gives at file (MakeLink path target) h = h.1
+new_gives at file (Write path content) h = ap new_payload h.1
+new_gives at file (MakeLink path target) h = (ap new_kind h.1, ap new_payload h.1)
 new_gives at file (SetOwner path uid gid) h = h.1
 new_gives at file (SetMode path mode) h = h.1 ∙ sym (mode_again (new_mode file.what file.mode))
-new_gives at file (MakeDir path) h = tt
-new_gives at file (MakeFile path) h = tt
-new_gives at file (MakeFifo path) h = tt
-new_gives at file (MakeDevice path block major minor) h = tt
+new_gives at file (MakeDir path) h = ap new_kind h.1
+new_gives at file (MakeFile path) h = h.1
+new_gives at file (MakeFifo path) h = ap new_kind h.1
+new_gives at file (MakeDevice path block major minor) h = (ap new_kind h.1, (ap new_major h.1, ap new_minor h.1))
 new_gives at file step h = absurd h
 
 bare_gives : (at : Path) (b : Bare) (step : Step) → GivesBare at b step → Gives b step
-bare_gives at b (Write path content) h = h.1
+bare_gives at b (Write path content) h = h.1.1
 bare_gives at b (MakeLink path target) h = h.1
 bare_gives at b (SetOwner path uid gid) h = h.1
 bare_gives at b (SetMode path mode) h = h.1
 bare_gives at b (SetAcl path acl) h = h.1
 bare_gives at b (SetAttrs path attrs) h = h.1
 bare_gives at b (SetLetters path letters) h = h.1
-bare_gives at b (MakeDir path) h = tt
-bare_gives at b (MakeFile path) h = tt
-bare_gives at b (MakeFifo path) h = tt
-bare_gives at b (MakeDevice path block major minor) h = tt
+bare_gives at b (MakeDir path) h = h.1
+bare_gives at b (MakeFile path) h = h.1
+bare_gives at b (MakeFifo path) h = h.1
+bare_gives at b (MakeDevice path block major minor) h = h.1
 bare_gives at b step h = absurd h
 
 set_gives : (at : Path) (b : Bare) (t : Files) (step : Step) → GivesBytes at b.body.payload t step ⊎ GivesDress at b.dress t step → Gives b step

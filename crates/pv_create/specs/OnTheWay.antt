@@ -8,9 +8,11 @@ use Rattle.pv_dress.specs.Dressing.{dress_mode}
 use Rattle.pv_dress.specs.Nodes.{bares_of}
 use Rattle.pv_lines.specs.declared.line.Line.{Line}
 use Rattle.pv_path.specs.Paths.{Path, has_staging}
+use Rattle.pv_steps.specs.declared.node.Kind.TheVariants.{Directory, File, Link, Fifo}
 use Rattle.pv_steps.specs.declared.step.Step.{Step}
-use Rattle.pv_steps.specs.declared.step.Step.TheVariants.{MakeLink, Write, SetMode, SetOwner, SetAcl, SetAttrs, SetLetters, SetStamps}
+use Rattle.pv_steps.specs.declared.step.Step.TheVariants.{MakeDir, MakeFile, MakeFifo, MakeDevice, MakeLink, Write, SetMode, SetOwner, SetAcl, SetAttrs, SetLetters, SetStamps}
 use Rattle.pv_steps.specs.Runs.{after_all}
+use Rattle.pv_steps.specs.Steps.{device_kind}
 use Rattle.pv_steps.specs.Trees.{Files, places}
 use Rattle.pv_laws.specs.Between.{IsOnTheWay}
 use Rattle.pv_laws.specs.Moments.{Agree}
@@ -33,10 +35,15 @@ IsStoppedBetween lines now t steps = (n : ℕ) (s : Bares) → IsRepeatable line
 
 -- ---- single steps
 
--- a Write, MakeLink or Set step gives its node what an object has; no step sets stamps, and any other gives nothing
+-- a Make step makes an object of the kind, the target and the numbers that an object has; a Write or Set step gives its node
+-- what the object has; no step sets stamps, and any other gives nothing
 abbrev pub Gives : Bare → Step → Type 0
-Gives b (Write at content) = content ≡ b.body.payload
-Gives b (MakeLink at target) = target ≡ b.body.payload
+Gives b (MakeDir at) = b.body.kind ≡ Directory
+Gives b (MakeFile at) = b.body.kind ≡ File
+Gives b (MakeFifo at) = b.body.kind ≡ Fifo
+Gives b (MakeDevice at block major minor) = (b.body.kind ≡ device_kind block) × ((b.body.major ≡ major) × (b.body.minor ≡ minor))
+Gives b (MakeLink at target) = (b.body.kind ≡ Link) × (b.body.payload ≡ target)
+Gives b (Write at content) = b.body.payload ≡ content
 Gives b (SetOwner at uid gid) = (uid ≡ b.dress.uid) × (gid ≡ b.dress.gid)
 Gives b (SetMode at mode) = mode ≡ dress_mode b.dress
 Gives b (SetAcl at acl) = acl ≡ b.dress.acl

@@ -1,6 +1,7 @@
 //! Laws of what a run of lines leaves on its way. Each function does nothing; its contract is the law.
-ghost use Rattle.std.specs.Prelude.{◌≡◌, ℕ, List, true, false};
+ghost use Rattle.std.specs.Prelude.{◌≡◌, ◌⊎◌, ℕ, List, true, false};
 ghost use Rattle.std.specs.List.{AllByRecursion};
+ghost use Rattle.pv_dress.specs.Nodes.{bares_of};
 ghost use Rattle.pv_doing.specs.Courses.{Partway, IsStepOfSome};
 ghost use Rattle.pv_lines.specs.declared.line.Line.{Line as LineValue};
 ghost use Rattle.pv_lines.specs.Lines.{IsLine};
@@ -9,6 +10,13 @@ ghost use Rattle.pv_steps.specs.declared.step.Step.{Step as StepValue};
 ghost use Rattle.pv_steps.specs.Content.{content_of};
 ghost use Rattle.pv_steps.specs.Runs.{after_all};
 ghost use Rattle.pv_steps.specs.Trees.{Files, places, IsTree};
+ghost use Rattle.pv_make.specs.OnWay.{OnWay, turn_at, puts_parents};
+ghost use Rattle.pv_table.specs.Asking.{asks};
+ghost use Rattle.pv_table.specs.Effects.{turn_after};
+ghost use Rattle.pv_table.specs.Saying.{found};
+ghost use Rattle.pv_table.specs.Turns.{Turn};
+ghost use Rattle.pv_walk.specs.Copying.{Subtree};
+ghost use Rattle.pv_walk.specs.Replacing.{CanReplace};
 ghost use Rattle.pv_table.specs.declared.reason.Reason.TheVariants as reason;
 ghost use Rattle.pv_table.specs.Active.{in_create_order};
 ghost use Rattle.pv_layers.specs.Places.{is_input};
@@ -31,4 +39,15 @@ pub fn the_steps_of_a_run_leave_what_lines_are_read_from()
         → Partway (lines_course now) (in_create_order lines) t (after_all t steps now)
         → AllByRecursion (IsStepOfSome (lines_course now) (in_create_order lines) t) steps → is_input q ≡ true
         → content_of (places (after_all t steps now) q) ≡ content_of (places t q) }
+{}
+
+/// Where one Rename can put what a line makes or copies in the place of what stands at its path, the path has at each moment
+/// on the way of the line what stood there or what the line leaves there, stamps aside: so a link or a file that another
+/// link or file replaces is never absent.
+pub fn what_one_rename_can_replace_is_never_absent()
+    ensures { (now : ℕ) (line : LineValue) (path : Path) (t u : Files) (subtree : Subtree) → IsTree t → has_staging path ≡ false
+        → puts_parents (places t) (asks line) ≡ true → turn_at now line path t ≡ Turn.Put subtree
+        → CanReplace path subtree (found now (asks line) path t) → OnWay now line path t u
+        → (bares_of (places u) path ≡ bares_of (places t) path)
+        ⊎ (bares_of (places u) path ≡ bares_of (places (turn_after now line path t)) path) }
 {}

@@ -7,5 +7,6 @@ mod run;
 
 pub use laws::{
     a_run_leaves_what_lines_are_read_from, the_steps_of_a_run_leave_what_lines_are_read_from,
+    what_one_rename_can_replace_is_never_absent,
 };
 pub use run::create_run;

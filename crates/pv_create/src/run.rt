@@ -1,9 +1,7 @@
 //! Lines carried out in their order.
 ghost use Rattle.std.specs.Prelude.{◌≡◌, ◌++◌, true, Some, is_some, slice_get, drop, length, IfOk, OnOk};
-ghost use Rattle.std.specs.List.{AllByRecursion};
 ghost use Rattle.pv_doing.specs.Courses.{Partway, IsStepOfSome, carried_of, each_of, CarriesOut, Cut, HasGone};
 ghost use Rattle.pv_laws.specs.Swept.{LeavesNoStagingName};
-ghost use Rattle.pv_lines.specs.Lines.{IsLine};
 ghost use Rattle.pv_steps.specs.Acting.{refused, Acted};
 ghost use Rattle.pv_text.specs.Said.{SaidPart};
 ghost use Rattle.pv_table.specs.Active.{in_create_order};
@@ -30,8 +28,6 @@ pub fn create_run<T: Tree>(
     now: u64,
     messages: &mut Messages,
 ) -> Result<Carried, TreeFault>
-    requires lines { AllByRecursion IsLine table.now }
-
     // What a whole run leaves, stamps and staging names included, what it says and how it ends.
     ensures ok { OnOk result (T.state tree.new ≡ created table.now now (T.state tree.old)) }
     ensures said { OnOk result (messages.new
@@ -66,7 +62,7 @@ pub fn create_run<T: Tree>(
     ensures gives { GiveWhatLinesLeave table.now now (T.state tree.old)
         (drop (length (T.steps tree.old)) (T.steps tree.new)) }
 {
-    // In a tree the root is a directory, and no two lines of a table make what stands at one path.
+    // In a tree the root is a directory; the lines of a table were read, and no two make what stands at one path.
     let _root = tree.look(&TreePath::root(alloc));
     let _lines = table.lines();
     run_in_order(alloc, tree, table, now, messages)
@@ -80,10 +76,11 @@ fn run_in_order<T: Tree>(
     now: u64,
     messages: &mut Messages,
 ) -> Result<Carried, TreeFault>
-    requires lines { AllByRecursion IsLine table.now }
     ensures { CarriesOut T.Tree (each_of (lines_course now)) (in_create_order table.now) now tree.old tree.new
         messages.old messages.new result }
 {
+    // The lines of a table were read.
+    let _lines = table.lines();
     let order = create_order(alloc, table)?;
     let mut carried = Carried::Whole;
     for place in order.as_slice() {

@@ -30,7 +30,8 @@ use Rattle.pv_table.specs.Asking.{asks}
 use Rattle.pv_table.specs.Pointwise.{Bares, view, parent_bare, after_turn, at_made, touches, point, point_paths, pointwise_after, tabulated}
 use Rattle.pv_table.specs.Reaching.{names, names_in, names_above, path_in}
 use Rattle.pv_table.specs.Repeatable.{sets_of}
-use Rattle.pv_table.specs.Turns.{Turn, copy_of, copying_turn, decide, making_turn, single, topped_by}
+use Rattle.pv_table.specs.Turns.{Turn, copy_of, copying_turn, decide, making_turn, topped_by}
+use Rattle.pv_walk.specs.Copying.{single}
 use Rattle.pv_walk.proofs.CopiedLaws.{among_copied}
 use Rattle.pv_walk.proofs.PreparedLaws.{has_some, in_parents, among_first, stands_among}
 use Rattle.pv_walk.specs.Preparing.{parents_of}

@@ -1,9 +1,8 @@
 //! What lines do at a path, one after the other.
 ghost use Rattle.std.specs.Prelude.{◌≡◌, ◌++◌, [], ℕ, false, true, Some, is_some, option_map, slice_get, IfOk, OnOk};
-ghost use Rattle.std.specs.List.{AllByRecursion, cons_option};
+ghost use Rattle.std.specs.List.{cons_option};
 ghost use Rattle.std.specs.Option.{option_copied};
 ghost use Rattle.pv_dress.specs.Nodes.{bares_of};
-ghost use Rattle.pv_lines.specs.Lines.{IsLine};
 ghost use Rattle.pv_path.specs.Paths.{has_staging};
 ghost use Rattle.pv_steps.specs.Trees.{places};
 ghost use Rattle.pv_table.specs.Created.{created, IsQuiet};
@@ -36,8 +35,6 @@ pub fn explain<T: Tree>(
     table: &Table,
     path: &TreePath,
 ) -> Result<Explained, AllocError>
-    requires lines { AllByRecursion IsLine table.now }
-
     // Exactly the lines before and after which something else stands at the path.
     ensures acts { IfOk result (λ told. told.acts ≡ acts table.now (standing (T.state tree.now)) path.now) }
 
@@ -50,8 +47,9 @@ pub fn explain<T: Tree>(
         → has_staging path.now ≡ false
         → option_map bare_in told.node ≡ bares_of (places (created table.now now (T.state tree.now))) path.now) }
 {
-    // In a tree the root is a directory.
+    // In a tree the root is a directory, and the lines of a table were read.
     let _node = tree.look(path);
+    let _lines = table.lines();
     match explain_along(alloc, tree, table, path)? {
         Some(told) => Ok(told),
         None => explain_within(alloc, tree, table, path),

@@ -23,7 +23,7 @@ use Rattle.pv_dress.specs.declared.operation.Test.{Test}
 use Rattle.pv_dress.specs.Nodes.{bare_of, bares_of, is_link, same_kind, same_substance}
 use Rattle.pv_dress.specs.Operations.{stays, done, run}
 use Rattle.pv_dress.proofs.EditLaws.{path_cases, on_at-here, on_at-else}
-use Rattle.pv_walk.specs.Copying.{Subtree, object_of, with_subtree}
+use Rattle.pv_walk.specs.Copying.{Subtree, object_of, with_subtree, single}
 use Rattle.pv_walk.specs.declared.new_file.NewKind.{NewKind}
 use Rattle.pv_walk.specs.declared.new_file.NewKind.TheVariants as new
 use Rattle.pv_walk.specs.Staging.{new_object, new_kind, new_major, new_minor}
@@ -33,7 +33,7 @@ use Rattle.pv_table.specs.declared.deed.Making.{Making}
 use Rattle.pv_table.specs.Asked.{first_of, clears_below, made_at}
 use Rattle.pv_table.specs.Effects.{put_paths, turned, prepare, carried_out, become}
 use Rattle.pv_table.specs.Pointwise.{parent_bare, after_turn}
-use Rattle.pv_table.specs.Turns.{Turn, single, making_turn}
+use Rattle.pv_table.specs.Turns.{Turn, making_turn}
 use Rattle.pv_laws.proofs.Comparing.{become-bare}
 use Rattle.pv_table.proofs.EffectLaws.{place-become, place-prepare, place-put, single_keyed}
 use Rattle.pv_laws.proofs.Prepared.{filled, prepared-here, prepared-else}

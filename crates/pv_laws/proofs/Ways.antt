@@ -39,7 +39,8 @@ use Rattle.pv_table.specs.Asked.{first_of, operations}
 use Rattle.pv_table.specs.Asking.{mode_to_set, without_links, owners_and_mode, contents_to_set, making, touching, set_by, bytes_of, asks}
 use Rattle.pv_table.specs.Pointwise.{Bares, view, parent_bare}
 use Rattle.pv_table.specs.Repeatable.{sets_of}
-use Rattle.pv_table.specs.Turns.{Turn, single, decide, making_turn}
+use Rattle.pv_table.specs.Turns.{Turn, decide, making_turn}
+use Rattle.pv_walk.specs.Copying.{single}
 use Rattle.pv_laws.specs.Between.{IsAkin, Replaces, IsBetween}
 use Rattle.pv_laws.specs.Stopping.{IsRenewal, IsMidway}
 use Rattle.pv_laws.proofs.Making.{does_stay, first_on_none, first_on_some}

@@ -6,6 +6,7 @@ mod attributes;
 mod fault_name;
 mod line;
 mod line_fault;
+mod line_list;
 mod mode_field;
 mod path_field;
 mod read;
@@ -15,7 +16,5 @@ mod types;
 pub use fault_name::name_of;
 pub use line::{Argument, Line, LineId, LineMode, LinePath};
 pub use line_fault::LineFault;
+pub use line_list::LineList;
 pub use read::read_line;
-
-/// Lines in some order.
-pub type LineList = pv_path::Sequence<Line>;

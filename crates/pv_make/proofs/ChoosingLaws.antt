@@ -11,7 +11,8 @@ use Rattle.pv_steps.specs.declared.node.Node.{Node}
 use Rattle.pv_steps.specs.declared.object.Object.{Object}
 use Rattle.pv_steps.specs.Trees.{Files, places, node_at}
 use Rattle.pv_table.specs.declared.deed.Making.{Making}
-use Rattle.pv_table.specs.Turns.{Turn, making_turn, single}
+use Rattle.pv_table.specs.Turns.{Turn, making_turn}
+use Rattle.pv_walk.specs.Copying.{single}
 use Rattle.pv_walk.specs.Staging.{new_kind, new_object}
 use Rattle.pv_make.specs.declared.choosing.Choice.TheVariants as choice
 use Rattle.pv_make.specs.Settling.{chosen, kept_choice, settling_turn}

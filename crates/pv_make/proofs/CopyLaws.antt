@@ -7,11 +7,11 @@ use Rattle.pv_adjust.specs.Adjusting.{GivesSet}
 use Rattle.pv_dress.specs.declared.bare.Bare.{Bare}
 use Rattle.pv_dress.specs.declared.operation.Operation.{Operation}
 use Rattle.pv_dress.specs.Dividing.{parts}
-use Rattle.pv_dress.specs.Nodes.{bares_of}
+use Rattle.pv_dress.specs.Nodes.{bare_of, bares_of}
 use Rattle.pv_dress.specs.Operations.{run}
 use Rattle.pv_dress.proofs.EditLaws.{path_cases}
 use Rattle.pv_lines.specs.declared.line.Line.{Line}
-use Rattle.pv_path.specs.Paths.{Path, same_path}
+use Rattle.pv_path.specs.Paths.{Path, same_path, is_prefix}
 use Rattle.pv_path.proofs.PathLaws.{same_path-refl}
 use Rattle.pv_steps.specs.declared.object.Object.{Object}
 use Rattle.pv_steps.specs.declared.step.Step.{Step}
@@ -20,8 +20,8 @@ use Rattle.pv_steps.specs.declared.tree.TreeFault.{TreeFault}
 use Rattle.pv_steps.specs.declared.why.Why.{Why}
 use Rattle.pv_steps.specs.Acting.{Acted}
 use Rattle.pv_steps.specs.Refusal.{refusal}
-use Rattle.pv_steps.specs.Same.{bares}
-use Rattle.pv_steps.specs.Trees.{Files, places, IsTree}
+use Rattle.pv_steps.specs.Same.{Same, bares}
+use Rattle.pv_steps.specs.Trees.{Files, places, IsAbsentIn, IsTree}
 use Rattle.pv_steps.proofs.ActingLaws.{Moves, acted_then, acted_weaken, acted_within, acted_end}
 use Rattle.pv_text.specs.Said.{said_at}
 use Rattle.pv_table.specs.declared.deed.Copying.{Copying}
@@ -34,11 +34,11 @@ use Rattle.pv_table.specs.Saying.{found, texts, turn_messages, turn_texts}
 use Rattle.pv_table.specs.Turns.{Refused, Turn, copied, decide, has_something, named_refusal, owner_made, refused_at, source_owner, source_refusal, view_of}
 use Rattle.pv_walk.specs.Copying.{with_subtree, Subtree}
 use Rattle.pv_walk.specs.Preparing.{IsPreparing, Preparing, IsPrepareStep, parent_file, parent_count, CanPass}
-use Rattle.pv_walk.specs.Putting.{IsMakingWay}
+use Rattle.pv_walk.specs.Replacing.{CanReplace, Replacing}
 use Rattle.pv_walk.specs.Staging.{new_object, staging_names, count_at_all, most_new}
 use Rattle.pv_walk.proofs.PreparingSweep.{unrefused_pass}
 use Rattle.pv_make.specs.Copies.{copy_turn, CopySettlingBy, CopySettling, IsCopySettleStepBy, IsCopySettleStep}
-use Rattle.pv_make.specs.OnWay.{turn_at, puts_parents, sets_at, IsMidway, OnWay, IsStepOf}
+use Rattle.pv_make.specs.OnWay.{turn_at, puts_parents, sets_at, IsMidway, IsClearing, OnWay, IsStepOf}
 use Rattle.pv_make.proofs.AbsentSource.{says_nothing}
 use Rattle.pv_make.proofs.MakeLaws.{bare_same}
 
@@ -182,13 +182,15 @@ module _ (now : ℕ) (line : Line) (path : Path) (copying : Copying) (asked : as
 
         pub settling_way : ((s : Subtree) → copy_turn copying path u ≡ Turn.Put s → (q : Path) → bares (places (turned now (Copy copying) path (Turn.Put s) u)) q ≡ bares (with_subtree 0 path s (places u)) q)
             → (w : Files) (turn : Turn) → copy_turn copying path u ≡ turn → CopySettlingBy copying path turn u w → OnWay now line path t w
-        settling_way whole w (Turn.Put s) e (inl h) = OnWay.midway free (λ q plain. by q (before q plain) (h q plain))
+        settling_way whole w (Turn.Put s) e (Replacing.before same) = OnWay.midway free (λ q plain. as_prepared q (bares_of (places w) q) (before q plain) (bare_same (places w q) (places u q) (sym (same q plain))))
+        settling_way whole w (Turn.Put s) e (Replacing.making_way m) =
+            OnWay.making_way s free (copy_turn_is ∙ e) m.staged (subst (λ (v : Files). CanReplace path s v → Same v w) (sym copy_found) m.needed) (λ q plain. by q (before q plain) (m.parts q plain))
           where
-            by : (q : Path) → IsPreparing path q (bares (places t) q) (bares (places u) q) → IsMakingWay path q (bares (places u) q) (bares (places w) q)
-                → IsMidway now line path t q (bares_of (places t) q) (bares_of (places w) q)
-            by q p (IsMakingWay.kept f) = as_prepared q (bares_of (places w) q) p (bare_same (places w q) (places u q) f)
-            by q p (IsMakingWay.gone inside f) = IsMidway.gone s (copy_turn_is ∙ e) inside (bare_same (places w q) None f)
-        settling_way whole w (Turn.Put s) e (inr h) = OnWay.whole (λ q plain.
+            by : (q : Path) → IsPreparing path q (bares (places t) q) (bares (places u) q) → (bares (places w) q ≡ bares (places u) q) ⊎ ((is_prefix path q ≡ true) × IsAbsentIn (places w) q)
+                → IsClearing now line path t q (bares_of (places t) q) (bares_of (places w) q)
+            by q p (inl f) = IsClearing.midway (as_prepared q (bares_of (places w) q) p (bare_same (places w q) (places u q) f))
+            by q p (inr gone) = IsClearing.gone gone.0 (ap (option_map bare_of) gone.1)
+        settling_way whole w (Turn.Put s) e (Replacing.come h) = OnWay.whole (λ q plain.
             ap (λ (v : Files). bares (places v) q) (copy_after ∙ ap (λ (v : Turn). turned now (Copy copying) path v u) e) ∙ whole s e q ∙ sym (h q plain))
         settling_way whole w (Turn.Become operations) e (k, h) = OnWay.midway free (λ q plain. by q (before q plain) (path_cases path q))
           where

@@ -1,8 +1,8 @@
 -- Laws of a copy at a prepared path: that what is put is what the table says, where it may stand, and how many steps it takes.
-use Rattle.std.specs.Prelude.{◌≡◌, ℕ, ◌+◌, ◌*◌, ◌≤◌, Bool, true, false, not, ◌&&◌, cond, List, [], ◌∷◌, ◌++◌, length, map, filter, filter_map, Option, Some, None, IfSome, is_some, option_map, Result, Ok, if◌then◌else◌}
+use Rattle.std.specs.Prelude.{◌≡◌, ℕ, ◌+◌, ◌*◌, ◌≤◌, Bool, true, false, not, ◌&&◌, List, [], ◌∷◌, filter_map, Option, Some, None, IfSome, is_some, option_map, Result, Ok, if◌then◌else◌}
 use Rattle.std.specs.List.{cons_option, list_all}
 use Rattle.std.specs.Option.{option_map_or}
-use Rattle.std.proofs.Common.{suc, refl, sym, ap, subst, ◌∙◌, inl, arith}
+use Rattle.std.proofs.Common.{refl, sym, ap, subst, ◌∙◌, inl, suc, arith}
 use Rattle.std.specs.FinMap as fin
 use Rattle.std.proofs.Math.Bool.{not-not}
 use Rattle.pv_dress.specs.declared.bare.Bare.{Bare}
@@ -10,8 +10,7 @@ use Rattle.pv_dress.specs.Edits.{count_at}
 use Rattle.pv_dress.specs.Nodes.{bare_of, bares_of, same_kind}
 use Rattle.pv_lines.specs.declared.line.LineMode.{LineMode}
 use Rattle.pv_path.specs.Names.{is_staging}
-use Rattle.pv_path.specs.Paths.{Path, same_path, rest_under}
-use Rattle.pv_path.proofs.PathLaws.{rest_under-append}
+use Rattle.pv_path.specs.Paths.{Path, same_path}
 use Rattle.pv_dress.specs.declared.operation.Operation.{Operation}
 use Rattle.pv_steps.specs.declared.node.Kind.{Kind}
 use Rattle.pv_steps.specs.declared.node.Kind.TheVariants.{Directory, File, Link, Fifo, CharDevice, BlockDevice}
@@ -22,15 +21,15 @@ use Rattle.pv_steps.specs.Trees.{Files, places, kind_of, child_name, IsTree}
 use Rattle.pv_steps.specs.declared.tree.Tree.{Ghosts}
 use Rattle.pv_steps.specs.declared.tree.TreeFault.{TreeFault}
 use Rattle.pv_steps.specs.Acting.{refused, Acted}
-use Rattle.pv_steps.proofs.ActingLaws.{Moves, acted_none, acted_within}
+use Rattle.pv_steps.proofs.ActingLaws.{Moves, acted_none}
 use Rattle.pv_table.specs.declared.deed.Copying.{Copying}
 use Rattle.pv_table.specs.declared.deed.Deed.TheVariants.{Copy}
 use Rattle.pv_table.specs.Asking.{mode_for_new}
-use Rattle.pv_table.specs.Created.{turn_work, put_count}
+use Rattle.pv_table.specs.Created.{turn_work}
 use Rattle.pv_table.specs.Effects.{turned}
 use Rattle.pv_table.specs.Turns.{Turn, view_of, copy_of, copying_turn, topped_by, top_of, is_childless, is_visible_child}
-use Rattle.pv_walk.specs.Copying.{IsTopNode, copy_from, copied_count, topped, with_subtree, CopyingOver, IsCopyStep, Subtree}
-use Rattle.pv_walk.specs.Putting.{IsMakingWay}
+use Rattle.pv_walk.specs.Copying.{IsTopNode, copy_from, copied_count, topped, with_subtree, IsCopyStep, Subtree}
+use Rattle.pv_walk.specs.Replacing.{Replacing}
 use Rattle.pv_walk.specs.Staging.{most_new}
 use Rattle.pv_make.specs.declared.choosing.Choice.{Choice}
 use Rattle.pv_make.specs.declared.choosing.Choice.TheVariants as choice
@@ -61,34 +60,6 @@ copy_same copying directory u kind = λ i rest. at rest i
     at : (rest : Path) → copy_from (topped (top_of copying directory)) copying.source (bares_of (places u)) rest ≡ copy_of copying (view_of u) rest
     at [] = top (places u copying.source) refl
     at (name ∷ rest) = refl
-
--- ---- how many steps it takes
-
-abbrev moved_of : Path → Subtree → List Path → List Path
-moved_of path s rs = filter (λ q. option_map_or (λ rest. is_some (s rest)) (rest_under path q) false) (map (λ r. path ++ r) rs)
-
-count_moved : (path : Path) (s : Subtree) (rs : List Path)
-    → length (filter (λ q. option_map_or (λ rest. is_some (s rest)) (rest_under path q) false) (map (λ r. path ++ r) rs)) ≡ length (filter (λ rest. is_some (s rest)) rs)
-count_moved path s [] = refl
-count_moved path s (r ∷ rs) =
-    ap (λ (o : Option Path). length (cond (option_map_or (λ rest. is_some (s rest)) o false) ((path ++ r) ∷ moved_of path s rs) (moved_of path s rs))) (rest_under-append path r)
-    ∙ by (is_some (s r)) (moved_of path s rs) (filter (λ rest. is_some (s rest)) rs) (count_moved path s rs)
-  where
-    by : (b : Bool) (xs ys : List Path) → length xs ≡ length ys → length (cond b ((path ++ r) ∷ xs) xs) ≡ length (cond b (r ∷ ys) ys)
-    by true xs ys e = ap (λ n. suc n) e
-    by false xs ys e = e
-
-at_least : (b : Bool) (x : Path) (xs : List Path) → length xs ≤ length (cond b (x ∷ xs) xs)
-at_least true x xs = omega arith
-at_least false x xs = omega arith
-
-pub copy_work : (path : Path) (copying : Copying) (s : Subtree) (u : Files) → count_at u path + most_new * copied_count s copying.source u ≤ turn_work (Copy copying) path (Turn.Put s) u
-copy_work path copying s u =
-    let rs = filter_map (rest_under copying.source) (fin.keys u) in
-    let f = λ (q : Path). option_map_or (λ rest. is_some (s rest)) (rest_under path q) false in
-    let more : length (filter f (map (λ r. path ++ r) rs)) ≤ put_count path s (path ∷ map (λ r. path ++ r) rs) = at_least (f path) path (filter f (map (λ r. path ++ r) rs)) in
-    let same : length (filter f (map (λ r. path ++ r) rs)) ≡ copied_count s copying.source u = count_moved path s rs in
-    omega (arith, more, same)
 
 -- ---- a directory that holds nothing
 
@@ -232,12 +203,11 @@ directory_is false v f g o e = by o.node.kind refl
 
 module _ {S : Type 0} (tree : Ghosts S) (now : ℕ) (path : Path) (copying : Copying) (a b : S) (r : Result (Unit {0}) TreeFault) where
   pub put_acted : (s : Subtree) → s ≡ copy_of copying (view_of (tree.state a))
-      → Acted tree (CopyingOver path s (tree.state a)) (IsCopyStep path s) (count_at (tree.state a) path + most_new * copied_count s copying.source (tree.state a)) now a b r
+      → Acted tree (Replacing path s (tree.state a)) (IsCopyStep path s) (count_at (tree.state a) path + most_new * copied_count s copying.source (tree.state a)) now a b r
       → Acted tree (CopySettlingBy copying path (Turn.Put (copy_of copying (view_of (tree.state a)))) (tree.state a)) (IsCopySettleStepBy copying path (Turn.Put (copy_of copying (view_of (tree.state a)))) (tree.state a))
       (turn_work (Copy copying) path (Turn.Put (copy_of copying (view_of (tree.state a)))) (tree.state a)) now a b r
   put_acted s same acted =
-      subst (λ (v : Subtree). Acted tree (CopyingOver path v (tree.state a)) (IsCopyStep path v) (turn_work (Copy copying) path (Turn.Put v) (tree.state a)) now a b r) same
-      (acted_within tree (count_at (tree.state a) path + most_new * copied_count s copying.source (tree.state a)) (turn_work (Copy copying) path (Turn.Put s) (tree.state a)) (copy_work path copying s (tree.state a)) acted)
+      subst (λ (v : Subtree). Acted tree (Replacing path v (tree.state a)) (IsCopyStep path v) (turn_work (Copy copying) path (Turn.Put v) (tree.state a)) now a b r) same acted
 
   pub settled_by : (turn : Turn) → copy_turn copying path (tree.state a) ≡ turn
       → Acted tree (CopySettlingBy copying path turn (tree.state a)) (IsCopySettleStepBy copying path turn (tree.state a)) (turn_work (Copy copying) path turn (tree.state a)) now a b r
@@ -250,7 +220,7 @@ module _ {S : Type 0} (tree : Ghosts S) (now : ℕ) (path : Path) (copying : Cop
   kept_way false o = refl
 
   settle_start : (turn : Turn) (t : Files) → CopySettlingBy copying path turn t t
-  settle_start (Turn.Put s) t = inl (λ q plain. IsMakingWay.kept refl)
+  settle_start (Turn.Put s) t = Replacing.before (λ q plain. refl)
   settle_start (Turn.Become operations) t = (0, λ q. kept_way (same_path path q) (option_map bare_of (places t q)))
   settle_start (Turn.Left kind) t = λ q plain. refl
   settle_start Turn.Nothing t = λ q plain. refl

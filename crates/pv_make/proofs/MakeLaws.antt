@@ -1,17 +1,16 @@
 -- Laws of a line that makes something: what it leaves, says and takes, by what is done before its path and at it.
-use Rattle.std.specs.Prelude.{◌≡◌, ℕ, ◌+◌, ◌*◌, ◌≤◌, Bool, true, false, cond, List, [], map, take, Option, Some, None, is_some, option_map, unwrap_or, Result, Ok, if◌then◌else◌}
+use Rattle.std.specs.Prelude.{◌≡◌, ℕ, ◌+◌, ◌*◌, ◌≤◌, Bool, true, false, List, [], map, take, Option, Some, None, is_some, option_map, unwrap_or, Result, Ok, if◌then◌else◌}
 use Rattle.std.specs.Option.{option_or, option_and_then}
 use Rattle.std.proofs.Common.{refl, sym, ap, subst, ◌∙◌, inl, inr, ◌⊎◌, arith}
 use Rattle.pv_adjust.specs.Adjusting.{GivesSet}
 use Rattle.pv_dress.specs.declared.bare.Bare.{Bare}
 use Rattle.pv_dress.specs.declared.operation.Operation.{Operation}
 use Rattle.pv_dress.specs.Dividing.{parts}
-use Rattle.pv_dress.specs.Edits.{cut}
 use Rattle.pv_dress.specs.Nodes.{bare_of, bares_of}
 use Rattle.pv_dress.specs.Operations.{run}
-use Rattle.pv_dress.proofs.EditLaws.{path_cases, bares-made}
+use Rattle.pv_dress.proofs.EditLaws.{path_cases}
 use Rattle.pv_lines.specs.declared.line.Line.{Line}
-use Rattle.pv_path.specs.Paths.{Path, same_path}
+use Rattle.pv_path.specs.Paths.{Path, same_path, is_prefix}
 use Rattle.pv_path.proofs.PathLaws.{same_path-refl}
 use Rattle.pv_steps.specs.declared.object.Object.{Object}
 use Rattle.pv_steps.specs.declared.step.Step.{Step}
@@ -21,8 +20,8 @@ use Rattle.pv_steps.specs.declared.why.Why.{Why}
 use Rattle.pv_steps.specs.Acting.{Acted}
 use Rattle.pv_steps.specs.Objects.{bare}
 use Rattle.pv_steps.specs.Refusal.{refusal}
-use Rattle.pv_steps.specs.Same.{bares}
-use Rattle.pv_steps.specs.Trees.{Files, places}
+use Rattle.pv_steps.specs.Same.{Same, bares}
+use Rattle.pv_steps.specs.Trees.{Files, places, IsAbsentIn}
 use Rattle.pv_steps.proofs.ActingLaws.{Moves, acted_then, acted_weaken, acted_within, acted_end}
 use Rattle.pv_text.specs.Said.{said_at}
 use Rattle.pv_table.specs.declared.deed.Deed.{Deed}
@@ -33,14 +32,16 @@ use Rattle.pv_table.specs.Created.{by_turn, deed_work, turn_work}
 use Rattle.pv_table.specs.Effects.{carried_out, prepare, turn_after, turned}
 use Rattle.pv_table.specs.Saying.{found, texts, turn_messages, turn_texts}
 use Rattle.pv_table.specs.Turns.{Refused, Turn, copied, decide, has_something, refused_at, source_owner, source_refusal, view_of}
-use Rattle.pv_walk.specs.Copying.{Subtree}
+use Rattle.pv_walk.specs.Copying.{Subtree, single, with_subtree}
 use Rattle.pv_walk.specs.Preparing.{IsPreparing, Preparing, IsPrepareStep, parent_file, parent_count, CanPass}
-use Rattle.pv_walk.specs.Putting.{IsMakingWay, put_over}
+use Rattle.pv_walk.specs.Replacing.{CanReplace, Replacing}
 use Rattle.pv_walk.specs.Staging.{new_object, staging_names, count_at_all, most_new}
 use Rattle.pv_walk.proofs.PreparingSweep.{unrefused_pass}
-use Rattle.pv_make.specs.OnWay.{turn_at, puts_parents, sets_at, IsMidway, OnWay, IsStepOf}
+use Rattle.pv_make.specs.OnWay.{turn_at, puts_parents, sets_at, IsMidway, IsClearing, OnWay, IsStepOf}
 use Rattle.pv_make.specs.Settling.{settling_turn, SettlingBy, Settling, IsSettleStepBy, IsSettleStep}
-use Rattle.pv_make.proofs.SettleLaws.{put_new_object, put_places}
+use Rattle.pv_table.proofs.EffectLaws.{place-put, single_keyed}
+use Rattle.pv_walk.proofs.CopyingLaws.{bares_with}
+use Rattle.pv_make.proofs.SettleLaws.{put_new_object}
 use Rattle.pv_path.proofs.Tests.{option_or-none}
 
 -- ---- objects without stamps
@@ -150,28 +151,28 @@ module _ (now : ℕ) (line : Line) (path : Path) (making : Making) (asked : asks
       kept_here q e (IsPreparing.kept f) = bare_same (places u q) (places t q) f
       kept_here q e (IsPreparing.parent above none f) = absurd (above.1 (sym e))
 
-      stamps : (b : Bool) (v : Option Object) → option_map bare (cond b (Some (new_object making.new now)) v) ≡ option_map bare (cond b (Some (new_object making.new 0)) v)
-      stamps true v = refl
-      stamps false v = refl
-
       put_whole : (subtree : Subtree) → settling_turn making path u ≡ Turn.Put subtree → (q : Path)
-          → bares (places (turn_after now line path t)) q ≡ bares (put_over 0 path making.new (places u)) q
+          → bares (places (turn_after now line path t)) q ≡ bares (with_subtree 0 path subtree (places u)) q
       put_whole subtree turn q =
+          let b = bare_of (new_object making.new 0) in
           let one = put_new_object making path u (bares_of (places u) path) subtree turn in
+          let same : single b ≡ subtree = (let both : Turn.Put (single b) ≡ Turn.Put subtree = sym one ∙ turn in cc) in
           ap (λ (v : Files). bares (places v) q) (made_after free u is ∙ ap (λ (v : Turn). turned now (Create making) path v u) one)
-          ∙ ap (option_map bare) (put_places now path making u q)
-          ∙ bares-made now path (new_object making.new now) (cut path (places u)) q
-          ∙ stamps (same_path path q) (cut path (places u) q)
-          ∙ sym (bares-made 0 path (new_object making.new 0) (cut path (places u)) q)
+          ∙ ap (option_map bare) (place-put now (Create making) path u (single b) (single_keyed making path u b) q)
+          ∙ bares_with path (single b) (places u) now 0 q
+          ∙ ap (λ (s : Subtree). bares (with_subtree 0 path s (places u)) q) same
 
       pub settling_way : (w : Files) (turn : Turn) → settling_turn making path u ≡ turn → SettlingBy making path turn u w → OnWay now line path t w
-      settling_way w (Turn.Put subtree) e (inl h) = OnWay.midway free (λ q plain. by q (before q plain) (h q plain))
+      settling_way w (Turn.Put subtree) e (Replacing.before same) =
+          OnWay.midway free (λ q plain. as_prepared free u is q (bares_of (places w) q) (before q plain) (bare_same (places w q) (places u q) (sym (same q plain))))
+      settling_way w (Turn.Put subtree) e (Replacing.making_way m) =
+          OnWay.making_way subtree free (made_turn free u is ∙ e) m.staged (subst (λ (v : Files). CanReplace path subtree v → Same v w) (sym (made_found free u is)) m.needed) (λ q plain. by q (before q plain) (m.parts q plain))
         where
-          by : (q : Path) → IsPreparing path q (bares (places t) q) (bares (places u) q) → IsMakingWay path q (bares (places u) q) (bares (places w) q)
-              → IsMidway now line path t q (bares_of (places t) q) (bares_of (places w) q)
-          by q p (IsMakingWay.kept f) = as_prepared free u is q (bares_of (places w) q) p (bare_same (places w q) (places u q) f)
-          by q p (IsMakingWay.gone inside f) = IsMidway.gone subtree (made_turn free u is ∙ e) inside (bare_same (places w q) None f)
-      settling_way w (Turn.Put subtree) e (inr h) = OnWay.whole (λ q plain. put_whole subtree e q ∙ sym (h q plain))
+          by : (q : Path) → IsPreparing path q (bares (places t) q) (bares (places u) q) → (bares (places w) q ≡ bares (places u) q) ⊎ ((is_prefix path q ≡ true) × IsAbsentIn (places w) q)
+              → IsClearing now line path t q (bares_of (places t) q) (bares_of (places w) q)
+          by q p (inl f) = IsClearing.midway (as_prepared free u is q (bares_of (places w) q) p (bare_same (places w q) (places u q) f))
+          by q p (inr gone) = IsClearing.gone gone.0 (ap (option_map bare_of) gone.1)
+      settling_way w (Turn.Put subtree) e (Replacing.come h) = OnWay.whole (λ q plain. put_whole subtree e q ∙ sym (h q plain))
       settling_way w (Turn.Become operations) e (k, h) = OnWay.midway free (λ q plain. by q (before q plain) (path_cases path q))
         where
           at : (q : Path) (b : Bool) → same_path path q ≡ b → bares_of (places w) q ≡ (if b then run (take k (parts operations)) (bares_of (places u) q) else bares_of (places u) q)

@@ -2,14 +2,14 @@
 use Rattle.std.specs.Prelude.{◌≡◌, ◌≢◌, ℕ, nat_le, ◌+◌, Bool, true, false, not, ◌&&◌, ◌||◌, cond, List, [], ◌∷◌, ◌++◌, length, Option, Some, None, is_some, option_map, Result, if◌then◌else◌}
 use Rattle.std.specs.List.{list_all}
 use Rattle.std.specs.Option.{option_map_or}
-use Rattle.std.proofs.Common.{refl, sym, ap, subst, ◌∙◌, arith, append-nil, length-append}
+use Rattle.std.proofs.Common.{refl, sym, ap, subst, ◌∙◌, arith}
 use Rattle.std.proofs.lemmas.Bool.Decides.{nat_tests}
 use Rattle.std.proofs.lemmas.Bool.{and_parts}
 use Rattle.pv_dress.specs.declared.bare.Bare.{Bare}
 use Rattle.pv_dress.specs.declared.bare.Body.{Body}
 use Rattle.pv_dress.specs.declared.operation.Operation.{Operation}
 use Rattle.pv_dress.specs.declared.operation.Test.{Test}
-use Rattle.pv_dress.specs.Edits.{cut, count_at}
+use Rattle.pv_dress.specs.Edits.{count_at}
 use Rattle.pv_dress.specs.Nodes.{bare_of, same_kind, same_substance}
 use Rattle.pv_dress.specs.Operations.{stays}
 use Rattle.pv_path.specs.Paths.{Path, same_path, is_prefix, rest_under, parent_of}
@@ -26,56 +26,20 @@ use Rattle.pv_steps.proofs.ActingLaws.{acted_within}
 use Rattle.pv_dress.proofs.EditLaws.{put_at-else}
 use Rattle.pv_table.specs.declared.deed.Deed.TheVariants.{Create}
 use Rattle.pv_table.specs.declared.deed.Making.{Making}
-use Rattle.pv_table.specs.Created.{turn_work, put_count}
+use Rattle.pv_table.specs.Created.{turn_work}
 use Rattle.pv_table.specs.Effects.{turned}
-use Rattle.pv_table.specs.Turns.{Turn, making_turn, single}
-use Rattle.pv_walk.specs.Copying.{Subtree, with_subtree}
-use Rattle.pv_walk.specs.declared.new_file.NewFile.{NewFile}
-use Rattle.pv_walk.specs.Putting.{PuttingOver, IsPutStep, put_over}
+use Rattle.pv_table.specs.Turns.{Turn, making_turn}
+use Rattle.pv_walk.specs.Copying.{Subtree, single}
+use Rattle.pv_walk.specs.Putting.{IsPutStep, put_over}
+use Rattle.pv_walk.specs.Replacing.{Replacing, new_subtree}
+use Rattle.pv_walk.proofs.PuttingOverLaws.{put_single}
 use Rattle.pv_walk.specs.Staging.{can_stage, new_kind, new_object, most_new}
-use Rattle.pv_walk.proofs.RemovalLaws.{no_same}
 use Rattle.pv_make.specs.Settling.{IsMaking, settling_turn, SettlingBy, Settling, IsSettleStepBy, IsSettleStep}
-use Rattle.pv_table.proofs.EffectLaws.{place-put, put_is, single_keyed}
+use Rattle.pv_table.proofs.EffectLaws.{put_is, single_keyed}
 
 -- ---- a new object
 
-module _ (now : ℕ) (path : Path) (file : NewFile) (t : Places) where
-  -- what is put is what a call that puts a new object leaves
-  pub put_single : (q : Path) → with_subtree now path (single (bare_of (new_object file 0))) t q ≡ put_over now path file t q
-  put_single q = by (rest_under path q) refl
-    where
-      over : (x y : Option Object) → x ≡ y → cond (same_path (parent_of path) q) (option_map (modified now) x) x ≡ cond (same_path (parent_of path) q) (option_map (modified now) y) y
-      over x y e = ap (λ v. cond (same_path (parent_of path) q) (option_map (modified now) v) v) e
-
-      inside : is_some (rest_under path q) ≡ true → is_prefix path q ≡ true
-      inside e = sym (is_some-rest_under path q) ∙ e
-
-      here : q ≡ path → put_at path (Some (new_object file now)) (cut path t) q ≡ Some (new_object file now)
-      here e = ap (λ b. cond b (Some (new_object file now)) (cut path t q)) (ap (same_path path) e ∙ same_path-refl path)
-
-      below : same_path path q ≡ false → is_prefix path q ≡ true → put_at path (Some (new_object file now)) (cut path t) q ≡ None
-      below d e = put_at-else path q (Some (new_object file now)) (cut path t) d ∙ ap (λ b. cond b None (t q)) e
-
-      beside : is_prefix path q ≡ false → put_at path (Some (new_object file now)) (cut path t) q ≡ t q
-      beside e = put_at-else path q (Some (new_object file now)) (cut path t) (not_prefix_not_same path q e) ∙ ap (λ b. cond b None (t q)) e
-
-      longer : (name : List ℕ) (rest : Path) → q ≡ path ++ name ∷ rest → same_path path q ≡ false
-      longer name rest e = no_same path q (λ s. shorter (s ∙ e))
-        where
-          shorter : path ≡ path ++ name ∷ rest → ⊥
-          shorter l = let n = ap length l in omega (arith, n, length-append path (name ∷ rest))
-
-      by : (r : Option Path) → rest_under path q ≡ r → with_subtree now path (single (bare_of (new_object file 0))) t q ≡ put_over now path file t q
-      by None e = rw e (over (t q) _ (sym (beside (sym (is_some-rest_under path q) ∙ ap is_some e))))
-      by (Some []) e = rw e (over (Some (new_object file now)) _ (sym (here (rest_under-Some path q [] e ∙ append-nil path))))
-      by (Some (name ∷ rest)) e = rw e (over None _ (sym (below (longer name rest (rest_under-Some path q (name ∷ rest) e)) (inside (ap is_some e)))))
-
 module _ (now : ℕ) (path : Path) (making : Making) (u : Files) where
-  pub put_places : (q : Path) → places (turned now (Create making) path (Turn.Put (single (bare_of (new_object making.new 0)))) u) q ≡ put_over now path making.new (places u) q
-  put_places q =
-      place-put now (Create making) path u (single (bare_of (new_object making.new 0))) (single_keyed making path u (bare_of (new_object making.new 0))) q
-      ∙ put_single now path making.new (places u) q
-
   pub put_tree : (v : Files) → places v ≡ put_over now path making.new (places u)
       → v ≡ turned now (Create making) path (Turn.Put (single (bare_of (new_object making.new 0)))) u
   put_tree v is =
@@ -89,12 +53,6 @@ stays_directory : (test : Test) (new old : Body) → new.kind ≡ Directory → 
 stays_directory test new old e f h = λ i. (same_kind (e i) (f i) && (not (h i) || same_substance new old)) || (test.spares_directories && is_directory old.kind)
 
 module _ (making : Making) (path : Path) (u : Files) where
-  pub put_one : put_count path (single (bare_of (new_object making.new 0))) (path ∷ []) ≡ 1
-  put_one = ap (λ (r : Option Path). length (cond (option_map_or (λ rest. is_some (single (bare_of (new_object making.new 0)) rest)) r false) (path ∷ []) [])) (rest_under-self path)
-
-  pub put_most : turn_work (Create making) path (Turn.Put (single (bare_of (new_object making.new 0)))) u ≡ count_at u path + most_new
-  put_most = let one = put_one in omega (arith, one)
-
   -- what is adjusted stands there
   pub become_present : (operations : List Operation) → settling_turn making path u ≡ Turn.Become operations → IsPresent u path
   become_present operations e = by (places u path) refl e
@@ -156,12 +114,10 @@ module _ (making : Making) (path : Path) (u : Files) where
         subst (λ (v : Turn). Acted tree (SettlingBy making path v u) (IsSettleStepBy making path v u) (turn_work (Create making) path v u) now a b r) (sym e) acted
 
     pub put_acted : settling_turn making path u ≡ Turn.Put (single (bare_of (new_object making.new 0)))
-        → Acted tree (PuttingOver path making.new u) (IsPutStep path making.new) (count_at u path + most_new) now a b r
+        → Acted tree (Replacing path (new_subtree making.new) u) (IsPutStep path making.new) (count_at u path + most_new) now a b r
         → Acted tree (Settling making path u) (IsSettleStep making path u) (turn_work (Create making) path (settling_turn making path u) u) now a b r
     put_acted e acted =
-        let most = put_most in
-        settled_by (Turn.Put (single (bare_of (new_object making.new 0)))) e
-        (acted_within tree (count_at u path + most_new) (turn_work (Create making) path (Turn.Put (single (bare_of (new_object making.new 0)))) u) (omega (arith, most)) acted)
+        settled_by (Turn.Put (single (bare_of (new_object making.new 0)))) e acted
 
 -- ---- paths of lines
 

@@ -12,7 +12,8 @@ use Rattle.pv_steps.specs.Trees.{Files}
 use Rattle.pv_table.specs.declared.deed.Copying.{Copying}
 use Rattle.pv_table.specs.declared.deed.Deed.TheVariants.{Copy}
 use Rattle.pv_table.specs.Turns.{Turn, view_of, copy_of, decide}
-use Rattle.pv_walk.specs.Copying.{CopyingOver, IsCopyStep}
+use Rattle.pv_walk.specs.Copying.{IsCopyStep}
+use Rattle.pv_walk.specs.Replacing.{Replacing}
 use Rattle.pv_make.specs.declared.choosing.Choice.{Choice}
 use Rattle.pv_make.specs.declared.choosing.Choice.TheVariants as choice
 
@@ -45,7 +46,7 @@ kept_copy copying kind there empty =
 
 -- on the way, by what is done
 abbrev pub CopySettlingBy : Copying → Path → Turn → Files → Files → Type 0
-CopySettlingBy copying path (Turn.Put subtree) t u = CopyingOver path subtree t u
+CopySettlingBy copying path (Turn.Put subtree) t u = Replacing path subtree t u
 CopySettlingBy copying path (Turn.Become operations) t u = Adjusting path operations t u
 CopySettlingBy copying path turn t u = Same t u
 

@@ -15,6 +15,7 @@ use Rattle.pv_steps.specs.Trees.{Files, Places, places}
 use Rattle.pv_walk.specs.Preparing.{IsAbove, IsPrepareStep}
 use Rattle.pv_walk.specs.Putting.{IsPutStep}
 use Rattle.pv_walk.specs.Copying.{IsCopyStep, Subtree}
+use Rattle.pv_walk.specs.Replacing.{IsStaged, CanReplace}
 use Rattle.pv_table.specs.declared.deed.Copying.{Copying}
 use Rattle.pv_table.specs.declared.deed.Deed.{Deed}
 use Rattle.pv_table.specs.declared.deed.Deed.TheVariants.{Create, Copy, Touch}
@@ -50,19 +51,27 @@ sets_at deed turn path q = []
 -- ---- on the way
 
 -- what stands at one path while a line is at work, from what stood there: what the first of the sets, in parts, make of
--- it; above the path of the line a parent where nothing stood; nothing at or below that path where something else is to
--- come
+-- it; or above the path of the line a parent where nothing stood
 pub data IsMidway (now : ℕ) (line : Line) (path : Path) (t : Files) (q : Path) (old new : Option Bare) : Type 0 where
   set : (k : ℕ) → new ≡ run (take k (parts (sets_at (asks line) (turn_at now line path t) path q))) old → IsMidway now line path t q old new
   parent : puts_parents (places t) (asks line) ≡ true → IsAbove q path → old ≡ None → new ≡ Some parent_bare → IsMidway now line path t q old new
-  gone : (subtree : Subtree) → turn_at now line path t ≡ Turn.Put subtree → is_prefix path q ≡ true → new ≡ None → IsMidway now line path t q old new
+
+-- the same while what stood at the path of the line makes way: nothing may be left at and below it
+pub data IsClearing (now : ℕ) (line : Line) (path : Path) (t : Files) (q : Path) (old new : Option Bare) : Type 0 where
+  midway : IsMidway now line path t q old new → IsClearing now line path t q old new
+  gone : is_prefix path q ≡ true → new ≡ None → IsClearing now line path t q old new
 
 -- on the way of a line at a path, at each path without a staging name: nothing is done yet; or it is not refused, and is
--- at work; or it is done, and what is put, with all below it, is there whole
+-- at work; or what stood there makes way for what is put, which stands whole at its staging name, where one Rename cannot
+-- replace it; or it is done, and what is put, with all below it, is there whole
 pub data OnWay (now : ℕ) (line : Line) (path : Path) (t u : Files) : Type 0 where
   before : Same t u → OnWay now line path t u
   midway : refused_at line path (places t) ≡ None
       → ((q : Path) → has_staging q ≡ false → IsMidway now line path t q (bares_of (places t) q) (bares_of (places u) q))
+      → OnWay now line path t u
+  making_way : (subtree : Subtree) → refused_at line path (places t) ≡ None → turn_at now line path t ≡ Turn.Put subtree → IsStaged path subtree u
+      → (CanReplace path subtree (found now (asks line) path t) → Same (found now (asks line) path t) u)
+      → ((q : Path) → has_staging q ≡ false → IsClearing now line path t q (bares_of (places t) q) (bares_of (places u) q))
       → OnWay now line path t u
   whole : Same (turn_after now line path t) u → OnWay now line path t u
 

@@ -12,8 +12,10 @@ use Rattle.pv_steps.specs.declared.step.Step.{Step}
 use Rattle.pv_steps.specs.Same.{Same}
 use Rattle.pv_steps.specs.Trees.{Files, places}
 use Rattle.pv_table.specs.declared.deed.Making.{Making}
-use Rattle.pv_table.specs.Turns.{Turn, making_turn, single}
-use Rattle.pv_walk.specs.Putting.{PuttingOver, IsPutStep}
+use Rattle.pv_table.specs.Turns.{Turn, making_turn}
+use Rattle.pv_walk.specs.Copying.{single}
+use Rattle.pv_walk.specs.Putting.{IsPutStep}
+use Rattle.pv_walk.specs.Replacing.{Replacing}
 use Rattle.pv_walk.specs.Staging.{IsNewFile, new_kind, new_object}
 use Rattle.pv_make.specs.declared.choosing.Choice.{Choice}
 use Rattle.pv_make.specs.declared.choosing.Choice.TheVariants as choice
@@ -40,7 +42,7 @@ settling_turn making path t = making_turn making (bares_of (places t) path)
 
 -- on the way, by what is done
 abbrev pub SettlingBy : Making → Path → Turn → Files → Files → Type 0
-SettlingBy making path (Turn.Put subtree) t u = PuttingOver path making.new t u
+SettlingBy making path (Turn.Put subtree) t u = Replacing path subtree t u
 SettlingBy making path (Turn.Become operations) t u = Adjusting path operations t u
 SettlingBy making path turn t u = Same t u
 

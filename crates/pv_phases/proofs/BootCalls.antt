@@ -23,10 +23,10 @@ use Rattle.pv_phases.proofs.PhaseLaws.{phase_start, quiet_gone}
 module _ {S : Type 0} (tree : Ghosts S) (lines : List Line) (now : ℕ) where
   -- ---- each call as a phase
 
-  pub removing_out : (listed : List Line) → listed ≡ lines → (a d : S) (old new : List (List ℕ)) (r : Result Carried TreeFault)
-      → TakesAway tree (is_gone listed (tree.state a)) (removed_messages listed (tree.state a)) (is_unfinished listed (tree.state a)) now a d old new r
+  pub removing_out : (a d : S) (old new : List (List ℕ)) (r : Result Carried TreeFault)
+      → TakesAway tree (is_gone lines (tree.state a)) (removed_messages lines (tree.state a)) (is_unfinished lines (tree.state a)) now a d old new r
       → CarriesOut tree (phases_course lines now) Remove now a d old new r
-  removing_out listed same a d old new r took = subst (λ (ls : List Line). CarriesOut tree (phases_course ls now) Remove now a d old new r) same (record {
+  removing_out a d old new r took = record {
     ok = took.ok;
     said = took.said;
     carried = took.carried;

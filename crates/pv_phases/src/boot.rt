@@ -1,10 +1,8 @@
 //! The boot command: removing, then creating.
 ghost use Rattle.std.specs.Prelude.{◌≡◌, ◌++◌, drop, length, IfOk, OnOk};
-ghost use Rattle.std.specs.List.{AllByRecursion};
 ghost use Rattle.pv_create.specs.OnTheWay.{IsFramed, GiveWhatLinesLeave};
 ghost use Rattle.pv_doing.specs.Courses.{Partway, IsStepOfSome, carried_of, each_of, CarriesOut, Cut, HasGone};
 ghost use Rattle.pv_laws.specs.Swept.{LeavesNoStagingName};
-ghost use Rattle.pv_lines.specs.Lines.{IsLine};
 ghost use Rattle.pv_steps.specs.Acting.{refused, Acted};
 ghost use Rattle.pv_table.specs.Created.{taken_by_each};
 ghost use Rattle.pv_table.specs.Removed.{removed};
@@ -31,8 +29,6 @@ pub fn boot_run<T: Tree>(
     now: u64,
     messages: &mut Messages,
 ) -> Result<Carried, TreeFault>
-    requires lines { AllByRecursion IsLine table.now }
-
     // What a whole run leaves, stamps and staging names included, what it says and how it ends.
     ensures ok { OnOk result (T.state tree.new ≡ booted table.now now (T.state tree.old)) }
     ensures said { OnOk result (messages.new ≡ messages.old ++ booted_messages table.now now (T.state tree.old)) }
@@ -66,7 +62,7 @@ pub fn boot_run<T: Tree>(
     ensures gives { GiveWhatLinesLeave table.now now (removed table.now now (T.state tree.old))
         (drop (length (T.steps tree.old)) (T.steps tree.new)) }
 {
-    // In a tree the root is a directory, and no two lines of a table make what stands at one path.
+    // In a tree the root is a directory; the lines of a table were read, and no two make what stands at one path.
     let _root = tree.look(&TreePath::root(alloc));
     let _lines = table.lines();
     remove_then_create(alloc, tree, table, now, messages)
@@ -80,11 +76,10 @@ fn remove_then_create<T: Tree>(
     now: u64,
     messages: &mut Messages,
 ) -> Result<Carried, TreeFault>
-    requires lines { AllByRecursion IsLine table.now }
     ensures { CarriesOut T.Tree (each_of (phases_course table.now now)) boot_phases now tree.old tree.new
         messages.old messages.new result }
 {
-    let removing = remove_run(alloc, tree, table.lines(), now, messages)?;
+    let removing = remove_run(alloc, tree, table, now, messages)?;
     let creating = create_run(alloc, tree, table, now, messages)?;
     Ok(removing.and(creating))
 }

@@ -1,9 +1,7 @@
 //! The phases of a run, one after the other.
 ghost use Rattle.std.specs.Prelude.{◌≡◌, ◌++◌, ◌∷◌, [], drop, length, IfOk, OnOk};
-ghost use Rattle.std.specs.List.{AllByRecursion};
 ghost use Rattle.pv_create.specs.OnTheWay.{IsFramed};
 ghost use Rattle.pv_doing.specs.Courses.{Partway, IsStepOfSome, carried_of, Cut, HasGone};
-ghost use Rattle.pv_lines.specs.Lines.{IsLine};
 ghost use Rattle.pv_steps.specs.Acting.{refused, Acted};
 ghost use Rattle.pv_table.specs.Created.{after_each, said_of_each, one_is_refused, taken_by_each};
 ghost use Rattle.pv_text.specs.Said.{SaidPart};
@@ -77,7 +75,6 @@ pub fn run_phases<T: Tree>(
     now: u64,
     messages: &mut Messages,
 ) -> Result<Carried, TreeFault>
-    requires lines { AllByRecursion IsLine table.now }
     ensures ok { OnOk result (T.state tree.new ≡ after_each (phases_course table.now now).whole phases.now (T.state tree.old)) }
     ensures said { OnOk result (messages.new
         ≡ messages.old ++ said_of_each (phases_course table.now now).whole phases.now (T.state tree.old)) }
@@ -102,6 +99,8 @@ pub fn run_phases<T: Tree>(
     ensures gives { GiveBy phases.now table.now now (T.state tree.old)
         (drop (length (T.steps tree.old)) (T.steps tree.new)) }
 {
+    // The lines of a table were read.
+    let _lines = table.lines();
     if is_boot(phases) {
         return boot_run(alloc, tree, table, now, messages);
     }
@@ -124,7 +123,6 @@ fn do_phase<T: Tree>(
     now: u64,
     messages: &mut Messages,
 ) -> Result<Carried, TreeFault>
-    requires lines { AllByRecursion IsLine table.now }
     ensures ok { OnOk result (T.state tree.new ≡ left_by table.now now phase (T.state tree.old)) }
     ensures said { OnOk result (messages.new ≡ messages.old ++ said_in table.now now phase (T.state tree.old)) }
     ensures carried { IfOk result (λ c. c ≡ carried_of (falls_short table.now now phase (T.state tree.old))) }
@@ -137,12 +135,12 @@ fn do_phase<T: Tree>(
         (drop (length (T.steps tree.old)) (T.steps tree.new)) }
 {
     match phase {
-        Phase::Remove => remove_run(alloc, tree, table.lines(), now, messages),
+        Phase::Remove => remove_run(alloc, tree, table, now, messages),
         Phase::Clean => {
-            clean_run(alloc, tree, table.lines(), now)?;
+            clean_run(alloc, tree, table, now)?;
             Ok(Carried::Whole)
         }
         Phase::Create => create_run(alloc, tree, table, now, messages),
-        Phase::Purge => purge_run(alloc, tree, table.lines(), now, messages),
+        Phase::Purge => purge_run(alloc, tree, table, now, messages),
     }
 }

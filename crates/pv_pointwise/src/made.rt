@@ -4,7 +4,8 @@ ghost use Rattle.std.specs.Option.{option_copied, option_map_or};
 ghost use Rattle.pv_dress.specs.Nodes.{bare_of};
 ghost use Rattle.pv_dress.specs.Operations.{stays};
 ghost use Rattle.pv_table.specs.Pointwise.{after_turn, parent_bare};
-ghost use Rattle.pv_table.specs.Turns.{Turn, making_turn, single};
+ghost use Rattle.pv_table.specs.Turns.{Turn, making_turn};
+ghost use Rattle.pv_walk.specs.Copying.{single};
 ghost use Rattle.pv_walk.specs.Staging.{new_object};
 
 use pv_dress::{Bare, Body, Test, run_operations, stays};

@@ -17,7 +17,7 @@ use pv_find::{at_and_below, whole_of};
 use pv_lines::Line;
 use pv_path::TreePath;
 use pv_steps::{Tree, TreeFault, Why, is_present};
-use pv_table::{path_of, say_refused};
+use pv_table::{Table, path_of, say_refused};
 use pv_text::Messages;
 use std::alloc::{AllocError, Global};
 
@@ -27,32 +27,30 @@ use std::alloc::{AllocError, Global};
 pub fn purge_run<T: Tree>(
     alloc: Global,
     tree: &mut T,
-    lines: &[Line],
+    table: &Table,
     now: u64,
     messages: &mut Messages,
 ) -> Result<Carried, TreeFault>
-    requires lines { AllByRecursion IsLine lines.now }
-
     // What it leaves, stamps included, what it says, how it ends, and by which steps.
-    ensures run { TakesAway T.Tree (is_purged lines.now (T.state tree.old)) (purged_messages lines.now (T.state tree.old))
-        (is_purge_unfinished lines.now (T.state tree.old)) now tree.old tree.new messages.old messages.new result }
+    ensures run { TakesAway T.Tree (is_purged table.now (T.state tree.old)) (purged_messages table.now (T.state tree.old))
+        (is_purge_unfinished table.now (T.state tree.old)) now tree.old tree.new messages.old messages.new result }
 
     // The stop law.
-    ensures mended { IsMended (purged lines.now) now (T.state tree.old)
+    ensures mended { IsMended (purged table.now) now (T.state tree.old)
         (drop (length (T.steps tree.old)) (T.steps tree.new)) }
 {
-    let plan = purge_plan(alloc, tree, lines)?;
+    let plan = purge_plan(alloc, tree, table)?;
     carry_out(alloc, tree, plan, now, messages)
 }
 
 /// What lines with `$` take away, and what is said of them.
-fn purge_plan<T: Tree>(alloc: Global, tree: &T, lines: &[Line]) -> Result<Plan, AllocError>
-    requires lines { AllByRecursion IsLine lines.now }
-    ensures gone { IfOk result (λ plan. (q : Path) → is_one_of plan.paths.keys q ≡ is_purged lines.now (T.state tree.now) q) }
-    ensures said { IfOk result (λ plan. plan.said ≡ purged_messages lines.now (T.state tree.now)) }
-    ensures unfinished { IfOk result (λ plan. plan.unfinished ≡ is_purge_unfinished lines.now (T.state tree.now)) }
+fn purge_plan<T: Tree>(alloc: Global, tree: &T, table: &Table) -> Result<Plan, AllocError>
+    ensures gone { IfOk result (λ plan. (q : Path) → is_one_of plan.paths.keys q ≡ is_purged table.now (T.state tree.now) q) }
+    ensures said { IfOk result (λ plan. plan.said ≡ purged_messages table.now (T.state tree.now)) }
+    ensures unfinished { IfOk result (λ plan. plan.unfinished ≡ is_purge_unfinished table.now (T.state tree.now)) }
     ensures tree { IsTree (T.state tree.now) }
 {
+    let lines = table.lines();
     let _rooted = is_present(tree, &TreePath::root(alloc));
     let purged = purged_paths(alloc, tree, lines)?;
     let paths = whole_of(alloc, tree, purged)?;

@@ -1,7 +1,5 @@
 //! The remove phase.
 ghost use Rattle.std.specs.Prelude.{◌≡◌, drop, length, IfOk};
-ghost use Rattle.std.specs.List.{AllByRecursion};
-ghost use Rattle.pv_lines.specs.Lines.{IsLine};
 ghost use Rattle.pv_path.specs.Paths.{Path};
 ghost use Rattle.pv_steps.specs.Trees.{IsTree};
 ghost use Rattle.pv_walk.specs.Removal.{is_one_of};
@@ -13,9 +11,9 @@ use crate::judging::judge;
 use crate::plan::{Plan, carry_out};
 use pv_doing::Carried;
 use pv_find::whole_of;
-use pv_lines::Line;
 use pv_path::TreePath;
 use pv_steps::{Tree, TreeFault, is_present};
+use pv_table::Table;
 use pv_text::Messages;
 use std::alloc::{AllocError, Global};
 
@@ -24,32 +22,30 @@ use std::alloc::{AllocError, Global};
 pub fn remove_run<T: Tree>(
     alloc: Global,
     tree: &mut T,
-    lines: &[Line],
+    table: &Table,
     now: u64,
     messages: &mut Messages,
 ) -> Result<Carried, TreeFault>
-    requires lines { AllByRecursion IsLine lines.now }
-
     // What it leaves, stamps included, what it says, how it ends, and by which steps.
-    ensures run { TakesAway T.Tree (is_gone lines.now (T.state tree.old)) (removed_messages lines.now (T.state tree.old))
-        (is_unfinished lines.now (T.state tree.old)) now tree.old tree.new messages.old messages.new result }
+    ensures run { TakesAway T.Tree (is_gone table.now (T.state tree.old)) (removed_messages table.now (T.state tree.old))
+        (is_unfinished table.now (T.state tree.old)) now tree.old tree.new messages.old messages.new result }
 
     // The stop law.
-    ensures mended { IsMended (removed lines.now) now (T.state tree.old)
+    ensures mended { IsMended (removed table.now) now (T.state tree.old)
         (drop (length (T.steps tree.old)) (T.steps tree.new)) }
 {
-    let plan = removal_plan(alloc, tree, lines)?;
+    let plan = removal_plan(alloc, tree, table)?;
     carry_out(alloc, tree, plan, now, messages)
 }
 
 /// What lines r, R and D take away, and what is said of them.
-fn removal_plan<T: Tree>(alloc: Global, tree: &T, lines: &[Line]) -> Result<Plan, AllocError>
-    requires lines { AllByRecursion IsLine lines.now }
-    ensures gone { IfOk result (λ plan. (q : Path) → is_one_of plan.paths.keys q ≡ is_gone lines.now (T.state tree.now) q) }
-    ensures said { IfOk result (λ plan. plan.said ≡ removed_messages lines.now (T.state tree.now)) }
-    ensures unfinished { IfOk result (λ plan. plan.unfinished ≡ is_unfinished lines.now (T.state tree.now)) }
+fn removal_plan<T: Tree>(alloc: Global, tree: &T, table: &Table) -> Result<Plan, AllocError>
+    ensures gone { IfOk result (λ plan. (q : Path) → is_one_of plan.paths.keys q ≡ is_gone table.now (T.state tree.now) q) }
+    ensures said { IfOk result (λ plan. plan.said ≡ removed_messages table.now (T.state tree.now)) }
+    ensures unfinished { IfOk result (λ plan. plan.unfinished ≡ is_unfinished table.now (T.state tree.now)) }
     ensures tree { IsTree (T.state tree.now) }
 {
+    let lines = table.lines();
     let _rooted = is_present(tree, &TreePath::root(alloc));
     let covered = covered_paths(alloc, tree, lines)?;
     let paths = whole_of(alloc, tree, covered)?;

@@ -1,7 +1,5 @@
 //! The report on lines.
 ghost use Rattle.std.specs.Prelude.{◌≡◌, ◌↔◌, ◌<◌, ◌^◌, [], nat_lt, filter, length, IfOk};
-ghost use Rattle.std.specs.List.{AllByRecursion};
-ghost use Rattle.pv_lines.specs.Lines.{IsLine};
 ghost use Rattle.pv_table.specs.Repeatable.{IsRepeatable};
 ghost use Rattle.pv_report.specs.Reporting.{ListsOverlaps, ListsReasons};
 
@@ -29,8 +27,7 @@ fn overlaps_of(alloc: Global, pairs: PairList, lines: usize) -> Result<PairList,
 /// The report on lines of a configuration (tmpfiles.d(5)). It looks at all of them, active or not. Only lines of which
 /// one has a head that begins the head of the other are compared.
 pub fn report(alloc: Global, lines: &LineList) -> Result<Report, AllocError>
-    requires lines { AllByRecursion IsLine lines.now }
-    requires few { length lines.now < 2 ^ 32 }
+    requires { length lines.now < 2 ^ 32 }
     ensures overlaps { IfOk result (λ report. ListsOverlaps lines.now report.pairs) }
     ensures reasons { IfOk result (λ report. ListsReasons lines.now report.unrepeatable) }
     ensures verdict { IfOk result (λ report. (report.unrepeatable ≡ []) ↔ IsRepeatable lines.now) }

@@ -1,7 +1,6 @@
 -- Laws of calls that go by steps: nothing asked, one step tried, one call after another, and what a call has said passed on.
 use Rattle.std.specs.Prelude.{◌≡◌, ℕ, ◌+◌, ◌≤◌, List, [], ◌∷◌, ◌++◌, length, Result, Ok, Err, IsErrOf, IsErrAnd}
 use Rattle.std.proofs.Common.{refl, sym, ap, ◌∙◌, arith, inl, inr, length-append}
-use Rattle.pv_io.specs.Faults.{HasRisen}
 use Rattle.pv_steps.specs.declared.step.Step.{Step}
 use Rattle.pv_steps.specs.declared.tree.Tree.{Ghosts}
 use Rattle.pv_steps.specs.declared.tree.TreeFault.{TreeFault}
@@ -9,7 +8,8 @@ use Rattle.pv_steps.specs.declared.tree.TreeFault.TheVariants.{Failed, Memory}
 use Rattle.pv_steps.specs.Trees.{Files, places}
 use Rattle.pv_steps.specs.Steps.{Can, after}
 use Rattle.pv_steps.specs.Runs.{IsNotIdle, Ran}
-use Rattle.pv_steps.specs.Acting.{refused, Tried, Acted}
+use Rattle.pv_steps.specs.Counting.{refused, faults_after}
+use Rattle.pv_steps.specs.Acting.{Tried, Acted}
 use Rattle.pv_steps.proofs.RunLaws.{ran_none, ran_one, ran_then, ran_weaken, ran_end}
 
 -- the trait's laws of how calls move a tree: reflexive, composing, and the count of faults never falls
@@ -18,18 +18,19 @@ pub record Moves {S : Type 0} (tree : Ghosts S) : Type 0 where
   pub goes_on : (a b c : S) → tree.reaches a b → tree.reaches b c → tree.reaches a c
   pub never_falls : (a b : S) → tree.reaches a b → tree.faults a ≤ tree.faults b
 
--- a count that rose later has risen from before
-pub rises_later : (a b c : ℕ) → a ≤ b → HasRisen b c → HasRisen a c
-rises_later a b c h (inl r) = inl (omega arith)
-rises_later a b c h (inr r) = inr r
-
 -- the steps recorded are never fewer
 pub ran-length : (P : Files → Type 0) (Q : Step → Type 0) (now : ℕ) {t : Files} {h : List Step} {u : Files} {k : List Step} → Ran P Q now t h u k → length h ≤ length k
 ran-length P Q now {h = h} r = omega (arith, ap length r.recorded, length-append h r.steps)
 
--- an answer that refuses nothing is not Failed
-pub unfailed : {A : Type 0} (r : Result A TreeFault) → refused r ≡ 0 → IsErrOf r Failed → ⊥
-unfailed {A} r none failed = let one : refused r ≡ 1 = ap (λ (v : Result A TreeFault). refused v) failed in omega (arith, none, one)
+-- an answer that refuses nothing leaves a count of faults as it was
+pub none_counted : {A : Type 0} (r : Result A TreeFault) → refused r ≡ 0 → (n : ℕ) → faults_after (refused r) n ≡ n
+none_counted r none n = ap (λ k. faults_after k n) none
+
+-- nor does one that is never Failed
+pub never_counted : {A : Type 0} (r : Result A TreeFault) → (IsErrOf r Failed → ⊥) → (n : ℕ) → n ≡ faults_after (refused r) n
+never_counted (Ok x) h n = refl
+never_counted (Err Failed) h n = absurd (h refl)
+never_counted (Err Memory) h n = refl
 
 -- an answer that tells running out of memory refuses nothing
 pub unrefused : {A : Type 0} (r : Result A TreeFault) → IsErrOf r Memory → refused r ≡ 0
@@ -61,7 +62,7 @@ module _ {S : Type 0} (tree : Ghosts S) where
     ran = ran_none P Q now (tree.state a) (tree.steps a) (tree.state a) (tree.steps a) p refl refl;
     bound = omega (arith, none);
     reaches = moves.stays a;
-    cause = λ failed. absurd (unfailed r none failed);
+    counted = sym (none_counted r none (tree.faults a));
   }
 
   -- one step was tried
@@ -70,12 +71,12 @@ module _ {S : Type 0} (tree : Ghosts S) where
   acted_tried P Q s now a b r done asks = by r done
     where
       same : {v : Result (Unit {0}) TreeFault} → tree.state b ≡ tree.state a → tree.steps b ≡ tree.steps a → refused v ≤ 1
-          → tree.reaches a b → (IsErrOf v Failed → HasRisen (tree.faults a) (tree.faults b)) → Acted tree P Q 1 now a b v
-      same kept unrecorded one reaches cause = record {
+          → tree.reaches a b → tree.faults b ≡ faults_after (refused v) (tree.faults a) → Acted tree P Q 1 now a b v
+      same kept unrecorded one reaches counted = record {
         ran = ran_none P Q now (tree.state a) (tree.steps a) (tree.state b) (tree.steps b) asks.start kept unrecorded;
         bound = let e : length (tree.steps b) ≡ length (tree.steps a) = ap length unrecorded in omega (arith, e, one);
         reaches = reaches;
-        cause = cause;
+        counted = counted;
       }
 
       by : (v : Result (Unit {0}) TreeFault) → Tried tree s now a b v → Acted tree P Q 1 now a b v
@@ -83,10 +84,10 @@ module _ {S : Type 0} (tree : Ghosts S) where
         ran = ran_one P Q now (tree.state a) (tree.steps a) s (tree.state b) (tree.steps b) asks.start (record { can = asks.can; fits = d.fits; busy = asks.busy }) (asks.there (tree.state b) d.state) asks.gives d.state d.recorded;
         bound = let e : length (tree.steps b) ≡ length (tree.steps a ++ s ∷ []) = ap length d.recorded in omega (arith, e, length-append (tree.steps a) (s ∷ []));
         reaches = d.reaches;
-        cause = d.cause;
+        counted = d.counted;
       }
-      by (Err Failed) d = same d.kept d.unrecorded (omega arith) d.reaches d.cause
-      by (Err Memory) d = same d.kept d.unrecorded (omega arith) d.reaches d.cause
+      by (Err Failed) d = same d.kept d.unrecorded (omega arith) d.reaches d.counted
+      by (Err Memory) d = same d.kept d.unrecorded (omega arith) d.reaches d.counted
 
   -- one call after another that went well
   pub acted_then : {A B : Type 0} → Moves tree → (P : Files → Type 0) (Q : Step → Type 0) {m n now : ℕ} {a b c : S} {x : A} {r : Result B TreeFault}
@@ -98,7 +99,7 @@ module _ {S : Type 0} (tree : Ghosts S) where
         let behind = ran-length P Q now last.ran in
         omega (arith, before, behind, first.bound, last.bound);
     reaches = moves.goes_on a b c first.reaches last.reaches;
-    cause = λ failed. rises_later (tree.faults a) (tree.faults b) (tree.faults c) (moves.never_falls a b first.reaches) (last.cause failed);
+    counted = last.counted ∙ ap (λ n. faults_after (refused r) n) first.counted;
   }
 
   -- what follows from P at each moment and from Q of each step, within a greater bound
@@ -108,19 +109,19 @@ module _ {S : Type 0} (tree : Ghosts S) where
     ran = ran_weaken P P' Q Q' now f g acted.ran;
     bound = omega (arith, le, acted.bound);
     reaches = acted.reaches;
-    cause = acted.cause;
+    counted = acted.counted;
   }
 
   -- within a greater bound
   pub acted_within : {A : Type 0} {P : Files → Type 0} {Q : Step → Type 0} (m n : ℕ) → m ≤ n
       → {now : ℕ} {a b : S} {r : Result A TreeFault} → Acted tree P Q m now a b r → Acted tree P Q n now a b r
-  acted_within m n le acted = record { ran = acted.ran; bound = omega (arith, le, acted.bound); reaches = acted.reaches; cause = acted.cause }
+  acted_within m n le acted = record { ran = acted.ran; bound = omega (arith, le, acted.bound); reaches = acted.reaches; counted = acted.counted }
 
   -- the fault of a call is passed on by `?`
   pub acted_passed : {A B : Type 0} {P : Files → Type 0} {Q : Step → Type 0} {most now : ℕ} {a b : S} {e : TreeFault} (q : Result A TreeFault) (r : Result B TreeFault)
       → q ≡ Err e → IsErrAnd r (λ y. y ≡ e) → Acted tree P Q most now a b q → Acted tree P Q most now a b r
-  acted_passed {A} {B} {e = e} q r was given acted =
-      record { ran = acted.ran; bound = omega (arith, same, acted.bound); reaches = acted.reaches; cause = λ failed. acted.cause (by e was is failed) }
+  acted_passed {A} {B} {a = a} {e = e} q r was given acted =
+      record { ran = acted.ran; bound = omega (arith, same, acted.bound); reaches = acted.reaches; counted = acted.counted ∙ ap (λ k. faults_after k (tree.faults a)) (sym same) }
     where
       passed : (v : Result B TreeFault) → IsErrAnd v (λ y. y ≡ e) → v ≡ Err e
       passed (Ok x) h = absurd h
@@ -136,14 +137,11 @@ module _ {S : Type 0} (tree : Ghosts S) where
       same : refused r ≡ refused q
       same = ap (λ (v : Result B TreeFault). refused v) is ∙ either e ∙ sym (ap (λ (v : Result A TreeFault). refused v) was)
 
-      by : (f : TreeFault) → q ≡ Err f → r ≡ Err f → IsErrOf r Failed → IsErrOf q Failed
-      by Failed was is failed = was
-      by Memory was is failed = absurd (unfailed r (unrefused r is) failed)
-
   -- the answer of a call that went well gives way to one that refuses nothing
   pub acted_ended : {A B : Type 0} {P : Files → Type 0} {Q : Step → Type 0} {most now : ℕ} {a b : S} {x : A} (r : Result B TreeFault)
       → refused r ≡ 0 → Acted tree P Q most now a b (Ok x) → Acted tree P Q most now a b r
-  acted_ended r none acted = record { ran = acted.ran; bound = omega (arith, none, acted.bound); reaches = acted.reaches; cause = λ failed. absurd (unfailed r none failed) }
+  acted_ended {a = a} r none acted =
+      record { ran = acted.ran; bound = omega (arith, none, acted.bound); reaches = acted.reaches; counted = acted.counted ∙ sym (none_counted r none (tree.faults a)) }
 
   -- P holds after the call
   pub acted_end : {A : Type 0} (P : Files → Type 0) (Q : Step → Type 0) {most now : ℕ} {a b : S} {r : Result A TreeFault} → Acted tree P Q most now a b r → P (tree.state b)

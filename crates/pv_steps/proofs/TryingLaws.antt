@@ -10,10 +10,11 @@ use Rattle.pv_steps.specs.declared.tree.TreeFault.TheVariants.{Failed, Memory}
 use Rattle.pv_steps.specs.Trees.{Files}
 use Rattle.pv_steps.specs.Steps.{StepFits, after}
 use Rattle.pv_steps.specs.Runs.{after_all, Along}
-use Rattle.pv_steps.specs.Acting.{refused, Tried, Acted}
+use Rattle.pv_steps.specs.Counting.{refused, faults_after}
+use Rattle.pv_steps.specs.Acting.{Tried, Acted}
 use Rattle.pv_steps.specs.Trying.{CanAll, TriedAll}
 use Rattle.pv_steps.proofs.RunLaws.{after_all-append}
-use Rattle.pv_steps.proofs.ActingLaws.{Asks, Moves, rises_later, well}
+use Rattle.pv_steps.proofs.ActingLaws.{Asks, Moves, well}
 
 -- ---- lists done from their end
 
@@ -27,7 +28,7 @@ reverse-first s back = reverse-append (s ∷ []) back
 
 -- ---- steps tried on the way
 
--- a front part of some steps is done, and the rest may be asked for
+-- a front part of some steps is done, none was refused, and the rest may be asked for
 pub record Trying {S : Type 0} (tree : Ghosts S) (steps left : List Step) (now : ℕ) (old new : S) : Type 0 where
   pub done : List Step
   pub parts : done ++ left ≡ steps
@@ -35,6 +36,7 @@ pub record Trying {S : Type 0} (tree : Ghosts S) (steps left : List Step) (now :
   pub recorded : tree.steps new ≡ tree.steps old ++ done
   pub fits : AllByRecursion StepFits done
   pub reaches : tree.reaches old new
+  pub counted : tree.faults new ≡ tree.faults old
   pub can : CanAll (tree.state new) left now
 
 fits_more : (done : List Step) (s : Step) → AllByRecursion StepFits done → StepFits s → AllByRecursion StepFits (done ++ s ∷ [])
@@ -50,6 +52,7 @@ module _ {S : Type 0} (tree : Ghosts S) (moves : Moves tree) where
     recorded = sym (append-nil (tree.steps a));
     fits = tt;
     reaches = moves.stays a;
+    counted = refl;
     can = can;
   }
 
@@ -62,6 +65,7 @@ module _ {S : Type 0} (tree : Ghosts S) (moves : Moves tree) where
     recorded = last.recorded ∙ ap (λ h. h ++ s ∷ []) t.recorded ∙ append_assoc (tree.steps a) t.done (s ∷ []);
     fits = fits_more t.done s t.fits last.fits;
     reaches = moves.goes_on a b c t.reaches last.reaches;
+    counted = last.counted ∙ t.counted;
     can = subst (λ u. CanAll u left now) (sym last.state) t.can.1;
   }
 
@@ -77,7 +81,7 @@ module _ {S : Type 0} (tree : Ghosts S) (moves : Moves tree) where
     whole = refl;
     short = tt;
     reaches = t.reaches;
-    cause = λ failed. cc;
+    counted = t.counted;
   }
 
   -- one step is not done, and its fault is passed on by `?`
@@ -101,7 +105,7 @@ module _ {S : Type 0} (tree : Ghosts S) (moves : Moves tree) where
         whole = tt;
         short = λ none. cc;
         reaches = moves.goes_on a b c t.reaches d.reaches;
-        cause = λ failed. rises_later (tree.faults a) (tree.faults b) (tree.faults c) (moves.never_falls a b t.reaches) (d.cause failed);
+        counted = d.counted ∙ ap (λ n. faults_after (refused {A = Unit {0}} (Err e)) n) t.counted;
       }
 
 -- what all of them leave
@@ -164,7 +168,7 @@ module _ (P : Files → Type 0) (Q : Step → Type 0) (now : ℕ) where
               let one = room r t.left t.short in
               omega (arith, told, all, one);
           reaches = t.reaches;
-          cause = t.cause;
+          counted = t.counted;
         }
       where
         some : (left : List Step) → left ≢ [] → 1 ≤ length left

@@ -1,25 +1,21 @@
 -- Calls that change a tree by steps: how many steps a call has asked for, what one step tried leaves, and what every call
 -- that goes by steps says of the tree before it, the tree after it, and its answer (this project's own).
-use Rattle.std.specs.Prelude.{◌≡◌, ℕ, ◌+◌, ◌-◌, ◌≤◌, List, [], ◌∷◌, ◌++◌, length, Result, Err, OnOk, OnErr, IsErrOf}
-use Rattle.pv_io.specs.Faults.{HasRisen}
+use Rattle.std.specs.Prelude.{◌≡◌, ℕ, ◌+◌, ◌-◌, ◌≤◌, List, [], ◌∷◌, ◌++◌, length, Result, OnOk, OnErr}
 use Rattle.pv_steps.specs.declared.step.Step.{Step}
 use Rattle.pv_steps.specs.declared.tree.Tree.{Ghosts}
 use Rattle.pv_steps.specs.declared.tree.TreeFault.{TreeFault}
-use Rattle.pv_steps.specs.declared.tree.TreeFault.TheVariants.{Failed}
+pub use Rattle.pv_steps.specs.Counting.{refused}
+use Rattle.pv_steps.specs.Counting.{faults_after}
 use Rattle.pv_steps.specs.Trees.{Files}
 use Rattle.pv_steps.specs.Steps.{StepFits, after}
 use Rattle.pv_steps.specs.Runs.{Ran}
-
--- one where the tree refused a step, else none
-abbrev pub refused : {A : Type 0} → Result A TreeFault → ℕ
-refused (Err Failed) = 1
-refused r = 0
 
 -- how many steps a call has asked for: those that were done, and one more where the tree refused it
 abbrev pub asked : {A : Type 0} → Result A TreeFault → List Step → List Step → ℕ
 asked r old new = (length new - length old) + refused r
 
--- one step was done and recorded, or nothing where the answer is a fault; `tree` is what trees of this type tell of themselves
+-- one step was done and recorded, or nothing where the answer is a fault, and the tree counted a fault exactly where it
+-- refused the step; `tree` is what trees of this type tell of themselves
 pub record Tried {S : Type 0} (tree : Ghosts S) (step : Step) (now : ℕ) (old new : S) (r : Result (Unit {0}) TreeFault) : Type 0 where
   pub state : OnOk r (tree.state new ≡ after (tree.state old) step now)
   pub recorded : OnOk r (tree.steps new ≡ tree.steps old ++ step ∷ [])
@@ -27,12 +23,12 @@ pub record Tried {S : Type 0} (tree : Ghosts S) (step : Step) (now : ℕ) (old n
   pub kept : OnErr r (tree.state new ≡ tree.state old)
   pub unrecorded : OnErr r (tree.steps new ≡ tree.steps old)
   pub reaches : tree.reaches old new
-  pub cause : IsErrOf r Failed → HasRisen (tree.faults old) (tree.faults new)
+  pub counted : tree.faults new ≡ faults_after (refused r) (tree.faults old)
 
 -- a call went by steps at one moment: P holds of the tree at every moment and Q of each step, at most so many steps were
--- asked for, and the answer is Failed only where the tree's count of faults has risen
+-- asked for, and the tree refused one where the answer is Failed, else none: its count of faults tells
 pub record Acted {S A : Type 0} (tree : Ghosts S) (P : Files → Type 0) (Q : Step → Type 0) (most now : ℕ) (old new : S) (r : Result A TreeFault) : Type 0 where
   pub ran : Ran P Q now (tree.state old) (tree.steps old) (tree.state new) (tree.steps new)
   pub bound : asked r (tree.steps old) (tree.steps new) ≤ most
   pub reaches : tree.reaches old new
-  pub cause : IsErrOf r Failed → HasRisen (tree.faults old) (tree.faults new)
+  pub counted : tree.faults new ≡ faults_after (refused r) (tree.faults old)

@@ -4,6 +4,7 @@ pub mod Objects
 pub mod Trees
 pub mod Steps
 pub mod Runs
+pub mod Counting
 pub mod Acting
 pub mod Trying
 pub mod Same

@@ -1,12 +1,11 @@
 -- Steps tried one after the other: when they may be asked for, and what is left where all of them are done or one is not
 -- (this project's own).
-use Rattle.std.specs.Prelude.{◌≡◌, ◌≢◌, ℕ, List, [], ◌∷◌, ◌++◌, Result, OnOk, OnErr, IsErrOf, ⊤}
+use Rattle.std.specs.Prelude.{◌≡◌, ◌≢◌, ℕ, List, [], ◌∷◌, ◌++◌, Result, OnOk, OnErr, ⊤}
 use Rattle.std.specs.List.{AllByRecursion}
-use Rattle.pv_io.specs.Faults.{HasRisen}
 use Rattle.pv_steps.specs.declared.step.Step.{Step}
 use Rattle.pv_steps.specs.declared.tree.Tree.{Ghosts}
 use Rattle.pv_steps.specs.declared.tree.TreeFault.{TreeFault}
-use Rattle.pv_steps.specs.declared.tree.TreeFault.TheVariants.{Failed}
+use Rattle.pv_steps.specs.Counting.{refused, faults_after}
 use Rattle.pv_steps.specs.Runs.{after_all}
 use Rattle.pv_steps.specs.Steps.{Can, StepFits, after}
 use Rattle.pv_steps.specs.Trees.{Files, places}
@@ -16,8 +15,8 @@ abbrev pub CanAll : Files → List Step → ℕ → Type 0
 CanAll t [] now = ⊤
 CanAll t (step ∷ steps) now = Can (places t) step × CanAll (after t step now) steps now
 
--- a front part of some steps was done and recorded, all of them exactly where the answer is Ok; `tree` is what trees of this
--- type tell of themselves
+-- a front part of some steps was done and recorded, all of them exactly where the answer is Ok, and the tree counted one fault
+-- where it refused the next of them, else none; `tree` is what trees of this type tell of themselves
 pub record TriedAll {S : Type 0} (tree : Ghosts S) (steps : List Step) (now : ℕ) (old new : S) (r : Result (Unit {0}) TreeFault) : Type 0 where
   pub done : List Step
   pub left : List Step
@@ -28,4 +27,4 @@ pub record TriedAll {S : Type 0} (tree : Ghosts S) (steps : List Step) (now : �
   pub whole : OnOk r (left ≡ [])
   pub short : OnErr r (left ≢ [])
   pub reaches : tree.reaches old new
-  pub cause : IsErrOf r Failed → HasRisen (tree.faults old) (tree.faults new)
+  pub counted : tree.faults new ≡ faults_after (refused r) (tree.faults old)

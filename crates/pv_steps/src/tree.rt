@@ -1,12 +1,12 @@
 //! Trees that can be walked and changed: what a caller may ask of one, and why a step is not done.
-ghost use Rattle.std.specs.Prelude.{◌≡◌, ℕ, ◌∷◌, ◌++◌, [], ◌≤◌, List, Some, IfOk, OnOk, OnErr, IsErrOf};
+ghost use Rattle.std.specs.Prelude.{◌≡◌, ℕ, ◌∷◌, ◌++◌, [], ◌≤◌, List, Some, IfOk, OnOk, OnErr};
 ghost use Rattle.std.specs.Option.{option_copied};
-ghost use Rattle.pv_io.specs.Faults.{HasRisen};
 ghost use Rattle.pv_steps.specs.declared.step.Step.{Step as StepValue};
-ghost use Rattle.pv_steps.specs.declared.tree.TreeFault.TheVariants.{Memory, Failed};
+ghost use Rattle.pv_steps.specs.declared.tree.TreeFault.TheVariants.{Memory};
 ghost use Rattle.pv_steps.specs.declared.node.Kind.TheVariants.{Directory, File, Link};
 ghost use Rattle.pv_steps.specs.Trees.{Files, places, IsKind, IsTree, node_at, payload_at, names_below};
 ghost use Rattle.pv_steps.specs.Steps.{Can, StepFits, after};
+ghost use Rattle.pv_steps.specs.Counting.{refused, faults_after};
 
 use crate::node::Node;
 use crate::step::Step;
@@ -17,7 +17,7 @@ use thiserror::Error;
 /// Why a step was not done.
 #[derive(Clone, Copy, Debug, PartialEq, Eq, Error)]
 pub enum TreeFault {
-    /// The tree refused or could not do it; its count of faults has risen.
+    /// The tree refused or could not do it, and counted a fault.
     #[error("Failed")]
     Failed,
     /// Memory ran out.
@@ -86,7 +86,9 @@ pub trait Tree {
         ensures fits { StepFits step.now }
 
         ensures reaches { reaches self.old self.new }
-        ensures cause { IsErrOf result Failed → HasRisen (faults self.old) (faults self.new) };
+
+        // It counts one fault where it refuses the step, else none.
+        ensures counted { faults self.new ≡ faults_after (refused result) (faults self.old) };
 
     ghost reaches_self: { (a : Self) → reaches a a };
 

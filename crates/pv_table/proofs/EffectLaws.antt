@@ -9,7 +9,7 @@ use Rattle.pv_path.proofs.PathLaws.{rest_under-Some}
 use Rattle.pv_steps.specs.Steps.{on_at}
 use Rattle.pv_steps.specs.Trees.{Files, Places, places}
 use Rattle.pv_steps.proofs.StepLaws.{same_files, is_among, places-tabulate, among_keys, is_some-on_at, is_some-touched, among_right, among_left, later_among}
-use Rattle.pv_walk.specs.Copying.{Subtree, object_of, standing, with_subtree}
+use Rattle.pv_walk.specs.Copying.{Subtree, object_of, standing, with_subtree, single}
 use Rattle.pv_walk.specs.Preparing.{parents_of, prepared}
 use Rattle.pv_walk.proofs.CopiedLaws.{among_copied, copied_stands}
 use Rattle.pv_walk.proofs.PreparedLaws.{among_first, prepared_present}
@@ -18,7 +18,7 @@ use Rattle.pv_table.specs.declared.deed.Deed.{Deed}
 use Rattle.pv_table.specs.declared.deed.Deed.TheVariants.{Create, Copy}
 use Rattle.pv_table.specs.declared.deed.Making.{Making}
 use Rattle.pv_table.specs.Effects.{become, prepare, put_paths, turned}
-use Rattle.pv_table.specs.Turns.{Turn, copy_of, single, topped_by, view_of}
+use Rattle.pv_table.specs.Turns.{Turn, copy_of, topped_by, view_of}
 
 -- ---- a prepared tree
 

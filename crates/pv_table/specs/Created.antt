@@ -1,16 +1,15 @@
 -- Lines carried out one after the other: the tree that they leave, what is said, whether one was refused, and the most
 -- steps that it takes (tmpfiles.d(5)).
-use Rattle.std.specs.Prelude.{◌≡◌, ℕ, ◌+◌, ◌*◌, Bool, false, not, ◌&&◌, ◌||◌, List, [], ◌∷◌, ◌++◌, length, map, filter, fold, sum, Option, Some, None, is_some, if◌then◌else◌}
+use Rattle.std.specs.Prelude.{◌≡◌, ℕ, ◌+◌, ◌*◌, Bool, false, not, ◌&&◌, ◌||◌, List, [], ◌∷◌, ◌++◌, map, filter, fold, sum, Option, Some, None, is_some, if◌then◌else◌}
 use Rattle.std.specs.FinMap as fin
-use Rattle.std.specs.Option.{option_map_or}
 use Rattle.pv_dress.specs.declared.operation.Operation.{Operation}
 use Rattle.pv_dress.specs.Edits.{count_at}
 use Rattle.pv_dress.specs.Nodes.{bare_of}
 use Rattle.pv_lines.specs.declared.line.Line.{Line}
-use Rattle.pv_path.specs.Paths.{Path, rest_under}
+use Rattle.pv_path.specs.Paths.{Path}
 use Rattle.pv_steps.specs.declared.object.Object.{Object}
 use Rattle.pv_steps.specs.Trees.{Files, places}
-use Rattle.pv_walk.specs.Copying.{Subtree}
+use Rattle.pv_walk.specs.Copying.{Subtree, copied_count}
 use Rattle.pv_walk.specs.Preparing.{parent_count}
 use Rattle.pv_walk.specs.Staging.{staging_names, count_at_all, most_new}
 use Rattle.pv_table.specs.declared.deed.Deed.{Deed}
@@ -18,7 +17,7 @@ use Rattle.pv_table.specs.declared.deed.Deed.TheVariants.{Create, Copy, Touch, I
 use Rattle.pv_table.specs.declared.deed.Touching.{Touching}
 use Rattle.pv_table.specs.Active.{in_create_order}
 use Rattle.pv_table.specs.Asking.{asks}
-use Rattle.pv_table.specs.Effects.{same_bare, become, put_paths, prepare, is_touched, turn_after, turns}
+use Rattle.pv_table.specs.Effects.{same_bare, become, prepare, is_touched, turn_after, turns}
 use Rattle.pv_table.specs.Saying.{turn_messages}
 use Rattle.pv_table.specs.Turns.{Turn, view_of, has_something, decide, refused_at}
 
@@ -59,15 +58,16 @@ abbrev pub change_work : List Operation → Option Object → ℕ
 change_work operations None = 0
 change_work operations (Some o) = if same_bare (bare_of (become 0 operations o)) (bare_of o) then 0 else most_changed
 
--- how many objects a subtree has at paths below which it may have some
-abbrev pub put_count : Path → Subtree → List Path → ℕ
-put_count path subtree paths = length (filter (λ q. option_map_or (λ rest. is_some (subtree rest)) (rest_under path q) false) paths)
+-- how many objects are put: those of the source that the copy has, each once, or the one that is made
+abbrev pub put_count : Deed → Subtree → Files → ℕ
+put_count (Copy copying) subtree t = copied_count subtree copying.source t
+put_count deed subtree t = 1
 
 -- one step for each object that gives way, the most for each new one; or the most for one that changes
 abbrev pub turn_work : Deed → Path → Turn → Files → ℕ
 turn_work deed path Turn.Nothing t = 0
 turn_work deed path (Turn.Left kind) t = 0
-turn_work deed path (Turn.Put subtree) t = count_at t path + most_new * put_count path subtree (put_paths deed path t)
+turn_work deed path (Turn.Put subtree) t = count_at t path + most_new * put_count deed subtree t
 turn_work deed path (Turn.Become operations) t = change_work operations (places t path)
 
 -- of a line that is not refused: one for each object that an earlier run has staged, the most for each new parent, and

@@ -1,6 +1,6 @@
 -- A line at its turn: whether it is refused, and what is done at a path that it names, by what stands there without its
 -- stamps (tmpfiles.d(5)).
-use Rattle.std.specs.Prelude.{ℕ, Bool, true, false, not, ◌&&◌, List, [], ◌∷◌, length, take, Option, Some, None, is_some, option_map, unwrap_or, if◌then◌else◌}
+use Rattle.std.specs.Prelude.{ℕ, Bool, true, false, not, ◌&&◌, List, ◌∷◌, length, take, Option, Some, None, is_some, option_map, unwrap_or, if◌then◌else◌}
 use Rattle.std.specs.List.{list_all, range_with_len}
 use Rattle.std.specs.Option.{option_map_or, option_or, option_and_then}
 use Rattle.std.specs.FinMap as fin
@@ -17,7 +17,7 @@ use Rattle.pv_steps.specs.Objects.{is_directory}
 use Rattle.pv_steps.specs.Refusal.{refusal, first_refused, why_blocked}
 use Rattle.pv_steps.specs.Trees.{Files, Places, places, kind_of, child_name}
 use Rattle.pv_walk.specs.declared.copying.TopNode.{TopNode}
-use Rattle.pv_walk.specs.Copying.{Subtree, copy_from, topped}
+use Rattle.pv_walk.specs.Copying.{Subtree, single, copy_from, topped}
 use Rattle.pv_walk.specs.Staging.{new_object}
 use Rattle.pv_table.specs.declared.deed.Copying.{Copying}
 use Rattle.pv_table.specs.declared.deed.Deed.{Deed}
@@ -82,11 +82,6 @@ pub data Turn : Type 0 where
   Left : Kind → Turn
   Put : Subtree → Turn
   Become : List Operation → Turn
-
--- one object with nothing below it
-abbrev pub single : Bare → Subtree
-single b [] = Some b
-single b (name ∷ rest) = None
 
 -- what the top of a copy gets, by whether it is a directory
 abbrev pub top_of : Copying → Bool → TopNode

@@ -7,14 +7,22 @@ ghost use Rattle.pv_table.specs.Scopes.{first_age, gives_age, inherited, is_exem
 
 use crate::reach::{names_first, sparing_of};
 use crate::scope::Scope;
+use crate::table::Table;
 use crate::taking::Sparing;
 use pv_age::Age;
 use pv_lines::Line;
 use pv_path::TreePath;
 
-/// The age for what stands in a directory, by lines in their listing order (tmpfiles.d(5), "Age", x and X). It takes
-/// no memory.
-pub fn scope_of(lines: &[Line], path: &TreePath) -> Option<Scope>
+/// The age for what stands in a directory, by the lines of a table in their listing order (tmpfiles.d(5), "Age", x and X).
+/// It takes no memory.
+pub fn scope_of(table: &Table, path: &TreePath) -> Option<Scope>
+    ensures { result ≡ scope table.now path.now }
+{
+    scope_by(table.lines(), path)
+}
+
+/// The same by lines.
+fn scope_by(lines: &[Line], path: &TreePath) -> Option<Scope>
     ensures { result ≡ scope lines.now path.now }
 {
     let mut scope = scope_at(None, lines, path, 0);

@@ -1,6 +1,7 @@
 //! From the lines of a configuration to the active ones.
 ghost use Rattle.std.specs.Prelude.{◌≡◌, [], ◌∷◌, ◌++◌, IfOk, OnOk, OnErr};
 ghost use Rattle.std.specs.Option.{option_copied};
+ghost use Rattle.pv_lines.specs.Lines.{IsLine};
 ghost use Rattle.pv_text.specs.Said.{SaidPart};
 ghost use Rattle.pv_table.specs.Active.{active, dropped_message, duplicate_message, duplicates, line_message, with_line};
 
@@ -37,13 +38,14 @@ pub fn build(
     Ok(table)
 }
 
-/// Keeps a line, unless a line that makes what it makes is kept already.
+/// Keeps a line that was read, unless a line that makes what it makes is kept already.
 fn keep(
     alloc: Global,
     table: Table,
     line: Line,
     messages: &mut Messages,
 ) -> Result<Table, AllocError>
+    requires { IsLine line }
     ensures kept { IfOk result (λ more. more ≡ with_line table line) }
     ensures said { OnOk result (messages.new ≡ messages.old ++ line_message table line) }
     ensures unsaid { OnErr result (messages.new ≡ messages.old) }

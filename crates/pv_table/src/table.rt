@@ -1,7 +1,9 @@
 //! The active lines of a configuration.
 ghost use Rattle.std.specs.Prelude.{◌≡◌, ◌++◌, [], ◌∷◌, true, cond, length, find, None, Some, IfOk, OnOk, slice_get};
+ghost use Rattle.std.specs.List.{AllByRecursion};
 ghost use Rattle.std.specs.Option.{option_copied};
 ghost use Rattle.indexmap.specs.IndexMap.{get};
+ghost use Rattle.pv_lines.specs.Lines.{IsLine};
 ghost use Rattle.pv_path.specs.Paths.{Path, same_path};
 ghost use Rattle.pv_table.specs.Active.{are_distinct, make_same};
 ghost use Rattle.pv_table.specs.Building.{first_place, makes};
@@ -12,8 +14,8 @@ use pv_path::TreePath;
 use std::alloc::{AllocError, Global};
 use std::marker::Model;
 
-/// The active lines of a configuration, as they are listed; of the lines that make what stands at one path there is one
-/// alone (tmpfiles.d(5)). Clauses see the list.
+/// The active lines of a configuration, as they are listed, each as one that was read; of the lines that make what stands
+/// at one path there is one alone (tmpfiles.d(5)). Clauses see the list.
 #[derive(Drop)]
 pub struct Table {
     lines: Vec<Line>,
@@ -22,8 +24,10 @@ pub struct Table {
 
 impl Model for Table {
     ghost use Rattle.std.specs.Prelude.{◌≡◌, true, List};
+    ghost use Rattle.std.specs.List.{AllByRecursion};
     ghost use Rattle.indexmap.specs.IndexMap.{get};
     ghost use Rattle.pv_lines.specs.declared.line.Line.{Line};
+    ghost use Rattle.pv_lines.specs.Lines.{IsLine};
     ghost use Rattle.pv_path.specs.Paths.{same_path};
     ghost use Rattle.pv_table.specs.Active.{are_distinct};
     ghost use Rattle.pv_table.specs.Building.{IsIndexOf};
@@ -32,7 +36,8 @@ impl Model for Table {
 
     ghost view = { λ t. t.lines.items };
 
-    ghost invariant = { λ t. (are_distinct t.lines.items ≡ true) × IsIndexOf t.lines.items (get same_path t.places) };
+    ghost invariant = { λ t. (are_distinct t.lines.items ≡ true) × IsIndexOf t.lines.items (get same_path t.places)
+        × AllByRecursion IsLine t.lines.items };
 }
 
 impl Table {
@@ -46,9 +51,10 @@ impl Table {
         }
     }
 
-    /// The table with a line more, which makes what no earlier line makes.
+    /// The table with a line more that was read, which makes what no earlier line makes.
     pub(crate) fn with(self, line: Line) -> Result<Table, AllocError>
-        requires { find (λ first. make_same first line) self ≡ None }
+        requires line { IsLine line }
+        requires first { find (λ first. make_same first line) self ≡ None }
         ensures { IfOk result (λ table. table ≡ self ++ line ∷ []) }
     {
         let Table {
@@ -78,6 +84,7 @@ impl Table {
     pub fn lines(&self) -> &[Line]
         ensures lines { result.now ≡ self.now }
         ensures distinct { are_distinct self.now ≡ true }
+        ensures whole { AllByRecursion IsLine self.now }
     {
         self.lines.as_slice()
     }

@@ -1,11 +1,11 @@
 //! A tree that refuses each step after a number of them.
-ghost use Rattle.std.specs.Prelude.{◌≡◌, ◌≢◌, ℕ, ◌+◌, ◌<◌, ◌≤◌, ◌↔◌, IsTrue, List, [], ◌∷◌, ◌++◌, length, Some, OnOk, OnErr, IfOk, IsErrOf};
+ghost use Rattle.std.specs.Prelude.{◌≡◌, ◌≢◌, ℕ, ◌+◌, ◌<◌, ◌≤◌, ◌↔◌, IsTrue, List, [], ◌∷◌, ◌++◌, length, Some, OnOk, OnErr, IfOk};
 ghost use Rattle.std.specs.Option.{option_copied};
-ghost use Rattle.pv_io.specs.Faults.{HasRisen};
 ghost use Rattle.pv_steps.specs.declared.node.Kind.TheVariants.{Directory, File, Link};
 ghost use Rattle.pv_steps.specs.declared.tree.TreeFault.TheVariants.{Failed};
 ghost use Rattle.pv_steps.specs.Trees.{places, IsKind, IsTree, node_at, payload_at, names_below};
 ghost use Rattle.pv_steps.specs.Steps.{Can, StepFits, after};
+ghost use Rattle.pv_steps.specs.Counting.{refused, faults_after};
 ghost use Rattle.pv_tree.specs.Fuses.{Burnt, burnt_refl, burnt_trans, one_less, capped, refusals_after};
 ghost use Rattle.std.proofs.Common.{arith};
 
@@ -100,17 +100,16 @@ impl<T: Tree> Tree for Fused<T> {
         ensures reaches { T.reaches self.old.inner self.new.inner
             × Burnt self.old.left self.old.refused (length (T.steps self.old.inner))
             self.new.left self.new.refused (length (T.steps self.new.inner)) }
-        ensures cause { IsErrOf result Failed →
-            HasRisen (capped (T.faults self.old.inner + self.old.refused))
-            (capped (T.faults self.new.inner + self.new.refused)) }
+        ensures counted { capped (T.faults self.new.inner + self.new.refused)
+            ≡ faults_after (refused result) (capped (T.faults self.old.inner + self.old.refused)) }
 
         // It refuses each step where nothing is left, and the inner tree is not asked.
         ensures refused { self.old.left ≡ Some 0 → (result ≡ Err Failed) × (self.new.inner ≡ self.old.inner) }
         ensures refusals { self.new.refused ≡ refusals_after self.old.left self.old.refused }
 
         // Else a step fails only where the inner tree does.
-        ensures passed { self.old.left ≢ Some 0 → IsErrOf result Failed →
-            HasRisen (T.faults self.old.inner) (T.faults self.new.inner) }
+        ensures passed { self.old.left ≢ Some 0 →
+            T.faults self.new.inner ≡ faults_after (refused result) (T.faults self.old.inner) }
 
         // Only a step that succeeds uses up the limit.
         ensures used { OnOk result (self.new.left ≡ one_less self.old.left) }

@@ -7,16 +7,18 @@ ghost use Rattle.pv_steps.specs.declared.node.Kind.TheVariants.{Directory, File,
 ghost use Rattle.pv_steps.specs.declared.tree.TreeFault.TheVariants.{Failed};
 ghost use Rattle.pv_steps.specs.Objects.{IsObject};
 ghost use Rattle.pv_steps.specs.Trees.{places, IsKind, IsTree, node_at, payload_at, names_below, child_name};
-ghost use Rattle.pv_steps.specs.Steps.{Can, StepFits, after};
+ghost use Rattle.pv_steps.specs.Steps.{Can, HasRoom, StepFits, after};
+ghost use Rattle.pv_steps.specs.Counting.{refused, faults_after};
 ghost use Rattle.pv_tree.specs.Held.{root_alone};
 ghost use Rattle.pv_tree.specs.Slots.{files_of, IsTreeOf};
 
 use crate::apply::{do_told, parts_fit};
+use crate::edits::put;
 use crate::slot::Slot;
 use crate::slots::{root_slots, slot_at};
 use crate::walk::Walk;
-use pv_path::{NameList, TreePath};
-use pv_steps::{Node, Step, Tree, TreeFault};
+use pv_path::{Bytes, NameList, TreePath};
+use pv_steps::{Node, Object, Step, Tree, TreeFault};
 use std::alloc::{AllocError, Global};
 use std::marker::Model;
 
@@ -66,6 +68,32 @@ impl MemTree {
             free,
             steps: Vec::new(alloc),
         }
+    }
+
+    /// Adds an object at an absent path in a directory, with its stamps as they are, and records no step. After running
+    /// out of memory the tree is as before.
+    pub fn add(&mut self, path: &TreePath, node: Node, payload: &[u8]) -> Result<(), AllocError>
+        requires room { HasRoom (places self.old.files) path.now }
+        requires object { IsObject (record { node = node; payload = payload.now }) }
+        ensures ok { OnOk result (self.new ≡ record self.old {
+          files = fin.insert self.old.files path.now (record { node = node; payload = payload.now });
+        }) }
+        ensures err { OnErr result (self.new ≡ self.old) }
+    {
+        let payload = Bytes::copy_of(self.alloc, payload)?;
+        self.add_object(path, Object { node, payload })
+    }
+
+    /// The same, but that the payload is taken over.
+    fn add_object(&mut self, path: &TreePath, object: Object) -> Result<(), AllocError>
+        requires room { HasRoom (places self.old.files) path.now }
+        requires object { IsObject object }
+        ensures ok { OnOk result (self.new ≡ record self.old { files = fin.insert self.old.files path.now object }) }
+        ensures err { OnErr result (self.new ≡ self.old) }
+    {
+        let _names = path.names();
+        put(self.alloc, &mut self.slots, &mut self.free, path, object)?;
+        Ok(())
     }
 
     /// The node at a path, or nothing where the path is absent. It takes no memory.
@@ -161,6 +189,7 @@ impl Tree for MemTree {
 
         // It has no faults: running out of memory alone can stop it.
         ensures cause { IsErrOf result Failed → ⊥ }
+        ensures counted { 0 ≡ faults_after (refused result) 0 }
     {
         parts_fit(step);
         do_told(

@@ -1,8 +1,4 @@
 //! Lines of a configuration from one text, and what is said of them.
-ghost use Rattle.std.specs.Prelude.{IfOk};
-ghost use Rattle.std.specs.List.{AllByRecursion};
-ghost use Rattle.pv_lines.specs.Lines.{IsLine};
-
 use pv_acl::Names;
 use pv_lines::{LineFault, LineList, read_line};
 use pv_table::{Table, build};
@@ -31,10 +27,7 @@ impl Names for Nobody {
 }
 
 /// The lines of a text, numbered from 1 in a file `A`; a semicolon stands between two of them.
-#[tactic(auto, using(crate::proofs::LineLaws::lines_push))]
-pub(crate) fn lines_of(alloc: Global, text: &[u8]) -> Result<LineList, LineFault>
-    ensures { IfOk result (AllByRecursion IsLine) }
-{
+pub(crate) fn lines_of(alloc: Global, text: &[u8]) -> Result<LineList, LineFault> {
     let facts = Facts::new(alloc);
     let mut lines = LineList::new(alloc);
     let mut number: u32 = 0;

@@ -6,7 +6,7 @@ use pv_age::is_old;
 use pv_lines::Line;
 use pv_path::{Name, TreePath, is_prefix, parent, parse_path, print_path};
 use pv_steps::{Kind, Node, Stamps};
-use pv_table::{names, names_first, scope_of};
+use pv_table::{Table, names, names_first, scope_of};
 use std::alloc::{AllocError, Global};
 use std::process::Abort;
 use std::test::Fail;
@@ -121,14 +121,14 @@ fn removed(alloc: Global, lines: &[Line], things: &[Thing]) -> Result<Vec<TreePa
 }
 
 /// Whether an object that no line names is old by the age of its directory.
-fn is_aged(alloc: Global, lines: &[Line], thing: &Thing, now: u64) -> Result<bool, AllocError> {
-    if lines.iter().any(|line| names(line, &thing.path)) {
+fn is_aged(alloc: Global, table: &Table, thing: &Thing, now: u64) -> Result<bool, AllocError> {
+    if table.lines().iter().any(|line| names(line, &thing.path)) {
         return Ok(false);
     }
     let Some(above) = parent(alloc, &thing.path)? else {
         return Ok(false);
     };
-    match scope_of(lines, &above) {
+    match scope_of(table, &above) {
         Some(scope) => {
             let spared = scope.age.spare_first && scope.own;
             Ok(!spared && is_old(&thing.node, &scope.age, now))
@@ -140,13 +140,13 @@ fn is_aged(alloc: Global, lines: &[Line], thing: &Thing, now: u64) -> Result<boo
 /// What goes in the phase clean: what is old, and of directories those in which nothing stays.
 fn cleaned(
     alloc: Global,
-    lines: &[Line],
+    table: &Table,
     things: &[Thing],
     now: u64,
 ) -> Result<Vec<TreePath>, AllocError> {
     let mut going = Vec::new(alloc);
     for thing in things.iter().rev() {
-        if is_aged(alloc, lines, thing, now)? && all_go(things, &going, &thing.path) {
+        if is_aged(alloc, table, thing, now)? && all_go(things, &going, &thing.path) {
             going.push(thing.path.copy()?)?;
         }
     }
@@ -212,7 +212,7 @@ fn cleaned_text(
 ) -> Result<Vec<u8>, Fail> {
     let table = table_of(rt, alloc, lines)?;
     let things = things_of(rt, alloc, objects)?;
-    let going = cleaned(alloc, table.lines(), &things, NOW)?;
+    let going = cleaned(alloc, &table, &things, NOW)?;
     Ok(text_of(alloc, &going)?)
 }
 

@@ -1,7 +1,4 @@
 //! Rows of reports: lines of a configuration with what is said of them.
-ghost use Rattle.std.specs.List.{AllByRecursion};
-ghost use Rattle.pv_lines.specs.Lines.{IsLine};
-
 use crate::lines::{add_said, lines_of};
 use pv_lines::LineList;
 use pv_report::{report, say_report};
@@ -10,9 +7,7 @@ use std::alloc::{AllocError, Global};
 use std::test::Fail;
 
 /// Says the report on lines, of which there are few.
-fn say_few(alloc: Global, lines: &LineList, messages: &mut Messages) -> Result<(), AllocError>
-    requires { AllByRecursion IsLine lines.now }
-{
+fn say_few(alloc: Global, lines: &LineList, messages: &mut Messages) -> Result<(), AllocError> {
     if lines.len() < 100 {
         let found = report(alloc, lines)?;
         say_report(alloc, lines, &found, messages)?;

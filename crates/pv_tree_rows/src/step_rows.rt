@@ -183,7 +183,7 @@ fn has_parent<T: Tree>(rt: &impl Abort, alloc: Global, tree: &T, path: &TreePath
 }
 
 /// Whether there is room for a new object at a path.
-fn has_room<T: Tree>(rt: &impl Abort, alloc: Global, tree: &T, path: &TreePath) -> bool
+pub(crate) fn has_room<T: Tree>(rt: &impl Abort, alloc: Global, tree: &T, path: &TreePath) -> bool
     ensures { IsTrue result → HasRoom (places (T.state tree.now)) path.now }
 {
     kind_at(tree, path).is_none() && has_parent(rt, alloc, tree, path)

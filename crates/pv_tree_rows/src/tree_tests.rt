@@ -1,12 +1,14 @@
 //! Rows of the tree in memory and of fuses.
 ghost use Rattle.std.specs.Prelude.{◌≡◌, ℕ, ◌+◌, ◌^◌, ◌<◌, ◌≤◌, length, map};
 ghost use Rattle.std.specs.Ordering.{nat_cmp};
+ghost use Rattle.pv_steps.specs.Steps.{HasRoom};
+ghost use Rattle.pv_steps.specs.Trees.{places};
 ghost use Rattle.pv_tree.specs.Finding.{IsRising};
 
 use crate::given::plain_object;
 use crate::plain_tree::{apply, entries_text, put, root_object, root_tree};
 use crate::shown::{add_object, add_path};
-use crate::step_rows::{bytes_of, can, is_kind, path_of, perform, pieces_of, step_of};
+use crate::step_rows::{bytes_of, can, has_room, is_kind, path_of, perform, pieces_of, step_of};
 use pv_path::{Bytes, TreePath};
 use pv_steps::{Kind, Object, Step, Tree};
 use pv_tree::{BuildFault, Fused, MemTree, Place, Probe, TreeBuilder, find};
@@ -276,6 +278,64 @@ fn adds_in_order_below_directories(rt: HostRuntime) {
     assert!(rt; has_names(&rt, rt.alloc(), &tree, b"/Z/a/a!/b"));
     assert!(rt; tree_text(&rt, rt.alloc(), &tree).as_slice() == IN_ORDER);
     assert!(rt; tree.step_count() == 0);
+}
+
+/// The path that a text spells, at which a tree has room for an object.
+fn room_of(rt: &impl Abort, alloc: Global, tree: &MemTree, text: &[u8]) -> TreePath
+    ensures { HasRoom (places tree.now.files) result }
+{
+    let path = path_of(rt, alloc, text);
+    assert!(rt; has_room(rt, alloc, tree, &path));
+    path
+}
+
+/// Adds a directory to a tree, with its stamps as they are.
+fn add_directory(rt: &impl Abort, alloc: Global, tree: &mut MemTree, text: &[u8]) {
+    let path = room_of(rt, alloc, tree, text);
+    let made = plain_object(alloc, Kind::Directory, 0o755, Bytes::new(alloc), 3);
+    tree.add(&path, made.node, b"").expect(rt, "memory");
+}
+
+/// Adds a file of two bytes.
+fn add_file(rt: &impl Abort, alloc: Global, tree: &mut MemTree, text: &[u8]) {
+    let path = room_of(rt, alloc, tree, text);
+    let made = plain_object(alloc, Kind::File, 0o644, Bytes::new(alloc), 3);
+    tree.add(&path, made.node, b"xy").expect(rt, "memory");
+}
+
+/// Adds a link.
+fn add_link(rt: &impl Abort, alloc: Global, tree: &mut MemTree, text: &[u8]) {
+    let path = room_of(rt, alloc, tree, text);
+    let made = plain_object(alloc, Kind::Link, 0o777, Bytes::new(alloc), 3);
+    tree.add(&path, made.node, b"../x").expect(rt, "memory");
+}
+
+/// A tree to which objects are added in no order, after a step.
+fn added_anywhere(rt: &impl Abort, alloc: Global) -> MemTree {
+    let mut tree = root_tree(rt, alloc);
+    run(rt, alloc, &mut tree, b"7 mkdir /m");
+    add_directory(rt, alloc, &mut tree, b"/z");
+    add_file(rt, alloc, &mut tree, b"/z/f");
+    add_directory(rt, alloc, &mut tree, b"/a");
+    add_link(rt, alloc, &mut tree, b"/m/l");
+    add_file(rt, alloc, &mut tree, b"/a/f");
+    tree
+}
+
+/// The lines of that tree: no directory is touched.
+const ANYWHERE: &[u8] = b"d / 0755 0 0 0:0 0,0,7,7 - - - -\n\
+    d /a 0755 0 0 0:0 3,3,3,3 - - - -\n\
+    f /a/f 0644 0 0 0:0 3,3,3,3 - - - xy\n\
+    d /m 0700 0 0 0:0 7,7,7,7 - - - -\n\
+    l /m/l 0777 0 0 0:0 3,3,3,3 - - - ../x\n\
+    d /z 0755 0 0 0:0 3,3,3,3 - - - -\n\
+    f /z/f 0644 0 0 0:0 3,3,3,3 - - - xy\n";
+
+#[test]
+fn adds_anywhere_and_records_nothing(rt: HostRuntime) {
+    let tree = added_anywhere(&rt, rt.alloc());
+    assert!(rt; tree_text(&rt, rt.alloc(), &tree).as_slice() == ANYWHERE);
+    assert!(rt; tree.step_count() == 1);
 }
 
 /// Whether a tree lends these bytes of a file.

@@ -24,10 +24,12 @@ use Rattle.pv_steps.specs.Steps.{HasRoom, made, touched}
 use Rattle.pv_steps.specs.Trees.{Files, Places, places, kind_of, IsKindIn, IsAbsentIn}
 use Rattle.pv_walk.specs.declared.listing.Piece.TheVariants.{Make, Give}
 use Rattle.pv_walk.specs.declared.new_file.NewFile.{NewFile}
+use Rattle.pv_walk.specs.declared.new_file.NewKind.{NewKind}
+use Rattle.pv_walk.specs.declared.new_file.NewKind.TheVariants as new
 use Rattle.pv_walk.specs.Copying.{object_of, standing, with_subtree, GivesBare}
 use Rattle.pv_walk.specs.Making.{held_object}
 use Rattle.pv_walk.specs.Pieces.{what_of, file_of, plain, IsWhole, after_piece, HasPlace}
-use Rattle.pv_walk.specs.Staging.{GivesNew, new_mode, new_payload}
+use Rattle.pv_walk.specs.Staging.{GivesNew, new_kind, new_mode}
 use Rattle.pv_walk.proofs.RemovalLaws.{no_same}
 use Rattle.pv_path.proofs.Tests.{true_not_false}
 
@@ -256,8 +258,12 @@ module _ (now : ℕ) (stage : Path) (nonempty : stage ≢ []) (t : Files) (paren
 -- ---- steps
 
 module _ (b : Bare) (whole : IsWhole b) where
-  payload_is : new_payload (what_of b.body) ≡ b.body.payload
-  payload_is = ap (λ (x : Body). x.payload) whole.body
+  -- what is first made of it has all of its body
+  body_is : (what : NewKind) → what_of b.body ≡ what → b.body ≡ (bare_of (held_object what 0)).body
+  body_is what e = sym whole.body ∙ ap (λ (w : NewKind). (bare_of (held_object w 0)).body) e
+
+  kind_is : (what : NewKind) → what_of b.body ≡ what → b.body.kind ≡ new_kind what
+  kind_is what e = ap (λ (x : Body). x.kind) (body_is what e)
 
   mode_is : new_mode (what_of b.body) (dress_mode b.dress) ≡ dress_mode b.dress
   mode_is = by b.body.kind refl whole.dress.fits
@@ -273,12 +279,15 @@ module _ (b : Bare) (whole : IsWhole b) where
       by BlockDevice e f = ap (λ k. new_mode (what_of (record b.body { kind = k })) (dress_mode b.dress)) e
 
   pub made_gives : (path : Path) (step : Step) → GivesNew path (file_of b) step → GivesBare path b step
-  made_gives path (MakeDir at) h = h
-  made_gives path (MakeFile at) h = h
-  made_gives path (MakeFifo at) h = h
-  made_gives path (MakeDevice at block major minor) h = h
-  made_gives path (MakeLink at target) h = (h.0, h.1 ∙ payload_is)
-  made_gives path (Write at content) h = (h.0, h.1 ∙ payload_is)
+  made_gives path (MakeDir at) h = (h.0, kind_is new.Directory h.1)
+  made_gives path (MakeFile at) h = (h.0, sym (ap (λ (x : Body). x.kind) whole.body) ∙ h.1)
+  made_gives path (MakeFifo at) h = (h.0, kind_is new.Fifo h.1)
+  made_gives path (MakeDevice at block major minor) h = (
+    h.0,
+    (kind_is (new.Device block major minor) h.1, (ap (λ (x : Body). x.major) (body_is (new.Device block major minor) h.1), ap (λ (x : Body). x.minor) (body_is (new.Device block major minor) h.1))),
+  )
+  made_gives path (MakeLink at target) h = (h.0, (kind_is (new.Link target) h.1, ap (λ (x : Body). x.payload) (body_is (new.Link target) h.1)))
+  made_gives path (Write at content) h = (h.0, (kind_is (new.File content) h.1, ap (λ (x : Body). x.payload) (body_is (new.File content) h.1)))
   made_gives path (SetOwner at uid gid) h = h
   made_gives path (SetMode at mode) h = (h.0, h.1 ∙ mode_is)
   made_gives path (SetAcl at acl) h = absurd h

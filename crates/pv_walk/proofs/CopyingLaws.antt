@@ -8,9 +8,11 @@ use Rattle.pv_dress.specs.declared.bare.Bare.{Bare}
 use Rattle.pv_dress.specs.declared.bare.Dress.{Dress}
 use Rattle.pv_dress.specs.Dressing.{Dressing, GivesDress}
 use Rattle.pv_dress.specs.Edits.{SameOutside, count_at}
+use Rattle.pv_dress.specs.Nodes.{bare_of, bares_of}
 use Rattle.pv_dress.proofs.DressLaws.{outside_dressing}
 use Rattle.pv_dress.proofs.EditLaws.{bares-touched, staging_outside}
-use Rattle.pv_path.specs.Paths.{Path, is_prefix, same_path, parent_of, rest_under, staging_of}
+use Rattle.pv_dress.proofs.OperationLaws.{bares_of-same}
+use Rattle.pv_path.specs.Paths.{Path, is_prefix, same_path, parent_of, rest_under, has_staging, staging_of}
 use Rattle.pv_path.proofs.PathLaws.{is_prefix-append, is_prefix-trans, is_prefix-refl, rest_under-Some, prefix_rest, is_some-rest_under, parent_of-staging_of, has_staging-staging_of}
 use Rattle.pv_steps.specs.declared.node.Kind.TheVariants.{Directory}
 use Rattle.pv_steps.specs.declared.object.Object.{Object}
@@ -27,10 +29,10 @@ use Rattle.pv_steps.proofs.StepLaws.{is_some-touched}
 use Rattle.pv_walk.specs.declared.listing.Piece.{Piece}
 use Rattle.pv_walk.specs.declared.listing.Piece.TheVariants.{Make, Give}
 use Rattle.pv_walk.specs.declared.new_file.NewFile.{NewFile}
-use Rattle.pv_walk.specs.Copying.{copied_count, object_of, standing, with_subtree, CopyingOver, GivesPart, IsStagingOf, IsCopyStep, Subtree}
+use Rattle.pv_walk.specs.Copying.{copied_count, object_of, standing, with_subtree, GivesPart, IsStagingOf, IsCopyStep, Subtree}
 use Rattle.pv_walk.specs.Listing.{times}
 use Rattle.pv_walk.specs.Pieces.{CanDo, IsDone, GivesPiece, place_of, piece_cost, cost_of, after_piece, built, IsDoable, AreDoable, made_of, IsPlan}
-use Rattle.pv_walk.specs.Putting.{IsMakingWay}
+use Rattle.pv_walk.specs.Replacing.{Replacing}
 use Rattle.pv_walk.specs.Removal.{Publishing}
 use Rattle.pv_walk.specs.Staging.{IsNewFile, IsPublishing, GivesNew, most_staged, most_new}
 use Rattle.pv_walk.proofs.BuildingLaws.{IsBuilt, built_start, built_outside, built_end, not_empty, with_inside, with_outside, room, made_built, can_wear_here, worn_built, made_gives, dress_gives_bare}
@@ -41,6 +43,7 @@ use Rattle.pv_walk.proofs.PlanLaws.{built-append, doable-last}
 use Rattle.pv_walk.proofs.PublishLaws.{staged_outside}
 use Rattle.pv_walk.proofs.PuttingLaws.{none_under}
 use Rattle.pv_walk.proofs.RemovalLaws.{no_same}
+use Rattle.pv_walk.proofs.ReplacingLaws.{yields_same}
 use Rattle.pv_path.proofs.Tests.{true_not_false}
 
 -- some pieces of a list are done, and these are left
@@ -244,21 +247,37 @@ module _ (now : ℕ) (path : Path) (nonempty : path ≢ []) (s : Path → Option
   -- ---- on the way
 
   -- while the copy is made under its staging name
-  pub copy_before : (u : Files) → SameOutside (is_prefix (staging_of path)) t u → CopyingOver path s t u
-  copy_before u h = inl (λ q plain. IsMakingWay.kept (h q (staging_outside (staging_of path) (has_staging-staging_of path nonempty) q plain)))
+  pub copy_before : (u : Files) → SameOutside (is_prefix (staging_of path)) t u → Replacing path s t u
+  copy_before u h = Replacing.before (λ q plain. sym (h q (staging_outside (staging_of path) (has_staging-staging_of path nonempty) q plain)))
 
   -- while what stands at the path makes way, or the copy comes there
-  pub copy_published : (u : Files) → places u ≡ with_subtree now (staging_of path) s (places t) → SameOutside (is_prefix (staging_of path)) t u → (w : Files) → Publishing now path u w → CopyingOver path s t w
-  copy_published u is before w (inl p) = inl (λ q plain.
-      (let kept : bares (places u) q ≡ bares (places t) q = before q (staging_outside (staging_of path) (has_staging-staging_of path nonempty) q plain) in
-      elim (cases_Bool (is_prefix path q)) [
-        | inl e ↦ elim (p.within q e) [
-          | inl gone ↦ IsMakingWay.gone e (ap (option_map bare) gone)
-          | inr same ↦ IsMakingWay.kept (same ∙ kept)
-        ]
-        | inr e ↦ IsMakingWay.kept (p.outside q e ∙ kept)
-      ]))
-  copy_published u is before w (inr e) = inr (λ q plain. e q ∙ ap (λ (x : Places). bares x q) (ap (moved now (staging_of path) path) is ∙ copy_moved) ∙ bares_with path s (places t) now 0 q)
+  pub copy_published : (u : Files) → places u ≡ with_subtree now (staging_of path) s (places t) → SameOutside (is_prefix (staging_of path)) t u → (w : Files) → Publishing now path u w → Replacing path s t w
+  copy_published u is before w (inl c) = Replacing.making_way (record {
+    staged = λ rest. bares_of-same (places w) (places u) (staging_of path ++ rest) (c.pruned.outside (staging_of path ++ rest) (staged_outside path nonempty rest)) ∙ staged_bare rest;
+    needed = λ y q plain. sym (c.needed (yields_same (with_subtree 0 (staging_of path) s (places t)) (places u) staged_same (staging_of path) path y) q ∙ kept q plain);
+    parts = λ q plain. elim (cases_Bool (is_prefix path q)) [
+      | inl e ↦ elim (c.pruned.within q e) [
+        | inl gone ↦ inr (e, gone)
+        | inr same ↦ inl (same ∙ kept q plain)
+      ]
+      | inr e ↦ inl (c.pruned.outside q e ∙ kept q plain)
+    ];
+  })
+    where
+      kept : (q : Path) → has_staging q ≡ false → bares (places u) q ≡ bares (places t) q
+      kept q plain = before q (staging_outside (staging_of path) (has_staging-staging_of path nonempty) q plain)
+
+      again : (o : Option Bare) → option_map bare_of (option_map (object_of now) o) ≡ o
+      again None = refl
+      again (Some b) = refl
+
+      staged_bare : (rest : Path) → bares_of (places u) (staging_of path ++ rest) ≡ s rest
+      staged_bare rest =
+          ap (λ (x : Places). bares_of x (staging_of path ++ rest)) is ∙ ap (option_map bare_of) (with_inside now (staging_of path) stage_nonempty t stage_parent s rest) ∙ again (s rest)
+
+      staged_same : (q : Path) → bares (with_subtree 0 (staging_of path) s (places t)) q ≡ bares (places u) q
+      staged_same q = bares_with (staging_of path) s (places t) 0 now q ∙ ap (λ (x : Places). bares x q) (sym is)
+  copy_published u is before w (inr e) = Replacing.come (λ q plain. e q ∙ ap (λ (x : Places). bares x q) (ap (moved now (staging_of path) path) is ∙ copy_moved) ∙ bares_with path s (places t) now 0 q)
 
 -- a piece that gives an object what it is to dressed
 pub worn_acted : {S A : Type 0} (tree : Ghosts S) (stage rest : Path) (new : Dress) (piece : Piece) (p : Path) {now : ℕ} {a b : S} {r : Result A TreeFault} → piece ≡ Give rest new → p ≡ stage ++ rest
@@ -303,20 +322,20 @@ module _ {S : Type 0} (tree : Ghosts S) (now : ℕ) (path : Path) (nonempty : pa
   from = tree.state a
 
   pub copy_staging : {A : Type 0} {r : Result A TreeFault} (most : ℕ) → most_staged * n ≤ most → Acted tree (SameOutside (is_prefix (staging_of path)) (tree.state a)) (IsStagingOf path s) (most_staged * n) now a b r
-      → Acted tree (CopyingOver path s (tree.state a)) (IsCopyStep path s) most now a b r
+      → Acted tree (Replacing path s (tree.state a)) (IsCopyStep path s) most now a b r
   copy_staging most le before =
-      acted_weaken tree (SameOutside (is_prefix (staging_of path)) (tree.state a)) (CopyingOver path s (tree.state a)) (IsStagingOf path s) (IsCopyStep path s) (most_staged * n) most
+      acted_weaken tree (SameOutside (is_prefix (staging_of path)) (tree.state a)) (Replacing path s (tree.state a)) (IsStagingOf path s) (IsCopyStep path s) (most_staged * n) most
       (copy_before now path nonempty s (tree.state a) parent is_tree free stage_nonempty stage_parent) (λ step g. inl g) le before
 
   pub copy_acted : {A B : Type 0} {c : S} {x : A} {r : Result B TreeFault} → Moves tree → 1 ≤ n → places (tree.state b) ≡ with_subtree now (staging_of path) s (places (tree.state a))
       → Acted tree (SameOutside (is_prefix (staging_of path)) (tree.state a)) (IsStagingOf path s) (most_staged * n) now a b (Ok x)
       → Acted tree (Publishing now path (tree.state b)) (IsPublishing path) (1 + count_at (tree.state b) path) now b c r
-      → Acted tree (CopyingOver path s (tree.state a)) (IsCopyStep path s) (count_at (tree.state a) path + most_new * n) now a c r
+      → Acted tree (Replacing path s (tree.state a)) (IsCopyStep path s) (count_at (tree.state a) path + most_new * n) now a c r
   copy_acted moves one is before last =
       let fewer = copy_count now path nonempty s (tree.state a) parent is_tree free stage_nonempty stage_parent (tree.state b) is in
       acted_within tree (most_staged * n + (1 + count_at (tree.state b) path)) (count_at (tree.state a) path + most_new * n) (omega (arith, fewer, one))
-      (acted_then tree moves (CopyingOver path s (tree.state a)) (IsCopyStep path s)
+      (acted_then tree moves (Replacing path s (tree.state a)) (IsCopyStep path s)
       (copy_staging (most_staged * n) (omega arith) before)
-      (acted_weaken tree (Publishing now path (tree.state b)) (CopyingOver path s (tree.state a)) (IsPublishing path) (IsCopyStep path s) (1 + count_at (tree.state b) path) (1 + count_at (tree.state b) path)
+      (acted_weaken tree (Publishing now path (tree.state b)) (Replacing path s (tree.state a)) (IsPublishing path) (IsCopyStep path s) (1 + count_at (tree.state b) path) (1 + count_at (tree.state b) path)
       (copy_published now path nonempty s (tree.state a) parent is_tree free stage_nonempty stage_parent (tree.state b) is (acted_end tree (SameOutside (is_prefix (staging_of path)) (tree.state a)) (IsStagingOf path s) before))
       (λ step g. inr g) (omega arith) last))

@@ -6,10 +6,12 @@ pub mod CountLaws
 pub mod EmptyingLaws
 pub mod TakingLaws
 pub mod ListingLaws
+pub mod GatheredLaws
 pub mod PublishLaws
 pub mod RemovalLaws
 pub mod SweepLaws
 pub mod PuttingLaws
+pub mod ReplacingLaws
 pub mod PreparingLaws
 pub mod PreparingSweep
 pub mod PuttingOverLaws

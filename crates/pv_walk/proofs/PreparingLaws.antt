@@ -222,7 +222,7 @@ acted_still tree P Q R n {now = now} {a = a} {b = b} {r = r} none acted = record
   ran = record { steps = acted.ran.steps; recorded = acted.ran.recorded; reached = acted.ran.reached; along = acted.ran.along; gives = by acted.ran.steps few };
   bound = acted.bound;
   reaches = acted.reaches;
-  cause = acted.cause;
+  counted = acted.counted;
 }
   where
     few : length acted.ran.steps ≡ 0

@@ -1,15 +1,14 @@
 -- Laws of putting a new object at an absent path: it is made under its staging name, and what stands there comes to the path.
 use Rattle.std.specs.Prelude.{◌≡◌, ◌≢◌, ℕ, Bool, true, false, cond, List, [], ◌∷◌, ◌++◌, length, Option, Some, None, is_some, option_map}
 use Rattle.std.proofs.Common.{refl, sym, ap, ◌∙◌, arith, append-nil, length-append}
-use Rattle.pv_path.specs.Paths.{Path, same_path, is_prefix, rest_under, parent_of, has_staging, staging_of}
-use Rattle.pv_path.proofs.PathLaws.{is_some-rest_under, rest_under-Some, prefix_parts, parent_of-staging_of, has_staging-staging_of, not_prefix_not_same}
+use Rattle.pv_path.specs.Paths.{Path, same_path, is_prefix, rest_under, parent_of, staging_of}
+use Rattle.pv_path.proofs.PathLaws.{is_some-rest_under, rest_under-Some, prefix_parts, parent_of-staging_of, not_prefix_not_same}
 use Rattle.pv_steps.specs.declared.object.Object.{Object}
 use Rattle.pv_steps.specs.Objects.{changed, modified}
 use Rattle.pv_steps.specs.Trees.{Files, Places, places, IsTreeIn, IsAbsentIn, IsPresent}
 use Rattle.pv_steps.proofs.TreeLaws.{not_absent, present_above}
 use Rattle.pv_steps.specs.Steps.{put_at, on_at, touched, made, moved, moved_at, carried}
-use Rattle.pv_steps.specs.Same.{bares}
-use Rattle.pv_dress.proofs.EditLaws.{put_at-else, on_at-twice, made-here, bares-made, bares-put_else, staging_outside}
+use Rattle.pv_dress.proofs.EditLaws.{put_at-else, on_at-twice, made-here}
 use Rattle.pv_walk.specs.declared.new_file.NewFile.{NewFile}
 use Rattle.pv_walk.specs.Staging.{new_object}
 use Rattle.pv_walk.proofs.RemovalLaws.{no_same}
@@ -103,9 +102,3 @@ module _ (now : ℕ) (path : Path) (nonempty : path ≢ []) (t : Places) (tree :
 module _ (now : ℕ) (path : Path) (nonempty : path ≢ []) (file : NewFile) (t u : Files) (is : places u ≡ made now (staging_of path) (new_object file now) (places t)) where
   pub is_staged : IsPresent u (staging_of path)
   is_staged = ap (λ (x : Places). is_some (x (staging_of path))) is ∙ ap is_some (made-here now (staging_of path) (places t) (staging_nonempty path nonempty) (new_object file now))
-
-  pub outside_stage : (q : Path) → has_staging q ≡ false → bares (places u) q ≡ bares (places t) q
-  outside_stage q plain =
-      ap (λ (x : Places). bares x q) is ∙ bares-made now (staging_of path) (new_object file now) (places t) q
-      ∙ bares-put_else (staging_of path) q (Some (new_object file now)) (places t)
-      (not_prefix_not_same (staging_of path) q (staging_outside (staging_of path) (has_staging-staging_of path nonempty) q plain))

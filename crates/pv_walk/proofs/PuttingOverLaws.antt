@@ -1,31 +1,36 @@
 -- Laws of putting a new object over what stands at a path: it is made under its staging name, what stands at the path makes
 -- way, and what is staged comes there.
-use Rattle.std.specs.Prelude.{◌≡◌, ◌≢◌, ℕ, ◌+◌, ◌≤◌, Bool, true, false, cond, [], ◌∷◌, filter, Option, Some, None, is_some, option_map, Result, Ok}
-use Rattle.std.proofs.Common.{refl, sym, ap, ◌∙◌, arith, inl, inr, ◌⊎◌}
+use Rattle.std.specs.Prelude.{◌≡◌, ◌≢◌, ℕ, ◌+◌, ◌≤◌, Bool, true, false, cond, [], List, ◌∷◌, ◌++◌, length, filter, Option, Some, None, is_some, option_map, Result, Ok}
+use Rattle.std.proofs.Common.{refl, sym, ap, ◌∙◌, arith, append-nil, length-append, inl, inr, ◌⊎◌}
 use Rattle.std.specs.FinMap as fin
 use Rattle.std.proofs.lemmas.Bool.{cases_Bool}
-use Rattle.pv_path.specs.Paths.{Path, same_path, is_prefix, parent_of, staging_of}
-use Rattle.pv_path.proofs.PathLaws.{is_prefix-refl, is_prefix-trans, parent_of-is_prefix, has_staging-staging_of}
+use Rattle.pv_path.specs.Paths.{Path, same_path, is_prefix, parent_of, rest_under, staging_of}
+use Rattle.pv_path.proofs.PathLaws.{is_prefix-refl, is_prefix-trans, is_some-rest_under, rest_under-Some, same_path-refl, not_prefix_not_same, parent_of-is_prefix, parent_of-staging_of, has_staging-staging_of}
+use Rattle.pv_steps.specs.declared.node.Kind.TheVariants.{Directory}
 use Rattle.pv_steps.specs.declared.object.Object.{Object}
 use Rattle.pv_steps.specs.Objects.{bare, modified}
-use Rattle.pv_steps.specs.Trees.{Files, Places, places, kind_of, IsTreeIn, IsTree, IsAbsentIn, IsPresentIn}
+use Rattle.pv_steps.specs.Trees.{Files, Places, places, kind_of, IsTreeIn, IsTree, IsAbsentIn, IsKindIn, IsPresentIn}
 use Rattle.pv_steps.specs.Steps.{put_at, made, moved}
 use Rattle.pv_steps.specs.Same.{bares}
 use Rattle.pv_steps.specs.declared.tree.Tree.{Ghosts}
 use Rattle.pv_steps.specs.declared.tree.TreeFault.{TreeFault}
 use Rattle.pv_steps.specs.Acting.{Acted}
-use Rattle.pv_steps.proofs.ActingLaws.{Moves, acted_then, acted_weaken}
+use Rattle.pv_steps.proofs.ActingLaws.{Moves, acted_then, acted_weaken, acted_end}
 use Rattle.pv_dress.specs.Edits.{SameOutside, cut, count_at}
+use Rattle.pv_dress.specs.Nodes.{bare_of}
 use Rattle.pv_dress.proofs.EditLaws.{path_cases, put_at-else, put_at-here, bares-made, bares-put_else, staging_outside}
 use Rattle.pv_walk.specs.declared.new_file.NewFile.{NewFile}
 use Rattle.pv_walk.specs.Staging.{new_object, GivesNew, IsPublishing}
 use Rattle.pv_walk.specs.Removal.{Publishing}
-use Rattle.pv_walk.specs.Putting.{IsPutting, Putting, IsMakingWay, PuttingOver, IsPutStep, put_over}
+use Rattle.pv_walk.specs.Copying.{single, with_subtree}
+use Rattle.pv_walk.specs.Putting.{IsPutting, Putting, IsPutStep, put_over}
+use Rattle.pv_walk.specs.Replacing.{Replacing, new_subtree}
 use Rattle.pv_walk.specs.Listing.{times}
 use Rattle.pv_walk.proofs.RemovalLaws.{no_same}
 use Rattle.pv_walk.proofs.CountLaws.{times-filter, times-keys, length-times}
-use Rattle.pv_walk.proofs.PublishLaws.{IsCleared, moved_same, stage_outside}
-use Rattle.pv_walk.proofs.PuttingLaws.{moved-made, none_under, outside_stage, on_at-of}
+use Rattle.pv_walk.proofs.CopyingLaws.{copy_published}
+use Rattle.pv_walk.proofs.PublishLaws.{IsCleared, moved_same, staging_nonempty, stage_outside}
+use Rattle.pv_walk.proofs.PuttingLaws.{moved-made, none_under, on_at-of}
 use Rattle.pv_path.proofs.Tests.{true_not_false}
 
 -- ---- a tree without what stands at a path
@@ -122,46 +127,6 @@ module _ (now : ℕ) (path : Path) (nonempty : path ≢ []) (file : NewFile) (t 
         | inr e ↦ omega (arith, ap (λ b. cond b (times q (fin.keys u)) 0) e)
       ]
 
-  -- ---- on the way
-
-  -- while what stands there makes way, or the new object comes to its path
-  pub over_published : IsTree t → IsAbsentIn (places t) (staging_of path) → (w : Files) → Publishing now path u w → PuttingOver path file t w
-  over_published tree free w (inl p) = inl (λ q plain. elim (cases_Bool (is_prefix path q)) [
-    | inl e ↦ elim (p.within q e) [
-      | inl gone ↦ IsMakingWay.gone e (ap (option_map bare) gone)
-      | inr same ↦ IsMakingWay.kept (same ∙ outside_stage now path nonempty file t u is q plain)
-    ]
-    | inr e ↦ IsMakingWay.kept (p.outside q e ∙ outside_stage now path nonempty file t u is q plain)
-  ])
-  over_published tree free w (inr e) = inr (λ q plain.
-      e q ∙ ap (λ (x : Places). bares x q) (over_moved tree free)
-      ∙ bares-made now path (new_object file now) (cut path (places t)) q
-      ∙ stamps (same_path path q) (cut path (places t) q)
-      ∙ sym (bares-made 0 path (new_object file 0) (cut path (places t)) q))
-    where
-      stamps : (b : Bool) (v : Option Object) → option_map bare (cond b (Some (new_object file now)) v) ≡ option_map bare (cond b (Some (new_object file 0)) v)
-      stamps true v = refl
-      stamps false v = refl
-
--- ---- calls that put it
-
-module _ {S : Type 0} (tree : Ghosts S) (now : ℕ) (path : Path) (nonempty : path ≢ []) (file : NewFile) (a b : S) where
-  -- while it is made under its staging name
-  pub over_staged : {A : Type 0} {m : ℕ} {r : Result A TreeFault} → Acted tree (SameOutside (is_prefix (staging_of path)) (tree.state a)) (GivesNew (staging_of path) file) m now a b r
-      → Acted tree (PuttingOver path file (tree.state a)) (IsPutStep path file) m now a b r
-  over_staged {m = m} before =
-      acted_weaken tree (SameOutside (is_prefix (staging_of path)) (tree.state a)) (PuttingOver path file (tree.state a)) (GivesNew (staging_of path) file) (IsPutStep path file) m m
-      (λ w h. inl (λ q plain. IsMakingWay.kept (h q (staging_outside (staging_of path) (has_staging-staging_of path nonempty) q plain)))) (λ s g. inl g) (omega arith) before
-
-  pub over_acted : {A B : Type 0} {m n : ℕ} {c : S} {x : A} {r : Result B TreeFault} → Moves tree → places (tree.state b) ≡ made now (staging_of path) (new_object file now) (places (tree.state a))
-      → IsTree (tree.state a) → IsAbsentIn (places (tree.state a)) (staging_of path)
-      → Acted tree (SameOutside (is_prefix (staging_of path)) (tree.state a)) (GivesNew (staging_of path) file) m now a b (Ok x)
-      → Acted tree (Publishing now path (tree.state b)) (IsPublishing path) n now b c r → Acted tree (PuttingOver path file (tree.state a)) (IsPutStep path file) (m + n) now a c r
-  over_acted {n = n} moves is standing free before last =
-      acted_then tree moves (PuttingOver path file (tree.state a)) (IsPutStep path file) (over_staged before)
-      (acted_weaken tree (Publishing now path (tree.state b)) (PuttingOver path file (tree.state a)) (IsPublishing path) (IsPutStep path file) n n
-      (over_published now path nonempty file (tree.state a) (tree.state b) is standing free) (λ s g. inr g) (omega arith) last)
-
 -- ---- where nothing stands
 
 module _ (path : Path) (t : Files) (tree : IsTree t) (none : IsAbsentIn (places t) path) where
@@ -186,19 +151,90 @@ module _ (path : Path) (t : Files) (tree : IsTree t) (none : IsAbsentIn (places 
         | inr e ↦ omega (arith, ap (λ b. cond b (times q (fin.keys t)) 0) e)
       ]
 
-  -- on the way the new object is put where nothing stood
-  pub over_putting : (file : NewFile) (u : Files) → PuttingOver path file t u → Putting path file t u
-  over_putting file u (inl h) = λ q plain. by q (h q plain)
-    where
-      by : (q : Path) → IsMakingWay path q (bares (places t) q) (bares (places u) q) → IsPutting path file q (bares (places t) q) (bares (places u) q)
-      by q (IsMakingWay.kept e) = IsPutting.kept e
-      by q (IsMakingWay.gone inside e) = IsPutting.kept (e ∙ sym (ap (option_map bare) (none_under (places t) tree path q none inside)))
-  over_putting file u (inr h) = λ q plain. by q (h q plain) (path_cases path q)
-    where
-      whole : (q : Path) → bares (put_over 0 path file (places t)) q ≡ bares (put_at path (Some (new_object file 0)) (places t)) q
-      whole q = bares-made 0 path (new_object file 0) (cut path (places t)) q ∙ ap (λ (x : Places). bares (put_at path (Some (new_object file 0)) x) q) cut_absent
+-- ---- stamps aside, or not
 
-      by : (q : Path) → bares (places u) q ≡ bares (put_over 0 path file (places t)) q → (path ≡ q) ⊎ (same_path path q ≡ false) → IsPutting path file q (bares (places t) q) (bares (places u) q)
+-- what a call that puts a new object leaves is the subtree of one object put there
+module _ (now : ℕ) (path : Path) (file : NewFile) (t : Places) where
+  pub put_single : (q : Path) → with_subtree now path (single (bare_of (new_object file 0))) t q ≡ put_over now path file t q
+  put_single q = by (rest_under path q) refl
+    where
+      over : (x y : Option Object) → x ≡ y → cond (same_path (parent_of path) q) (option_map (modified now) x) x ≡ cond (same_path (parent_of path) q) (option_map (modified now) y) y
+      over x y e = ap (λ v. cond (same_path (parent_of path) q) (option_map (modified now) v) v) e
+
+      inside : is_some (rest_under path q) ≡ true → is_prefix path q ≡ true
+      inside e = sym (is_some-rest_under path q) ∙ e
+
+      here : q ≡ path → put_at path (Some (new_object file now)) (cut path t) q ≡ Some (new_object file now)
+      here e = ap (λ b. cond b (Some (new_object file now)) (cut path t q)) (ap (same_path path) e ∙ same_path-refl path)
+
+      below : same_path path q ≡ false → is_prefix path q ≡ true → put_at path (Some (new_object file now)) (cut path t) q ≡ None
+      below d e = put_at-else path q (Some (new_object file now)) (cut path t) d ∙ ap (λ b. cond b None (t q)) e
+
+      beside : is_prefix path q ≡ false → put_at path (Some (new_object file now)) (cut path t) q ≡ t q
+      beside e = put_at-else path q (Some (new_object file now)) (cut path t) (not_prefix_not_same path q e) ∙ ap (λ b. cond b None (t q)) e
+
+      longer : (name : List ℕ) (rest : Path) → q ≡ path ++ name ∷ rest → same_path path q ≡ false
+      longer name rest e = no_same path q (λ s. shorter (s ∙ e))
+        where
+          shorter : path ≡ path ++ name ∷ rest → ⊥
+          shorter l = let n = ap length l in omega (arith, n, length-append path (name ∷ rest))
+
+      by : (r : Option Path) → rest_under path q ≡ r → with_subtree now path (single (bare_of (new_object file 0))) t q ≡ put_over now path file t q
+      by None e = rw e (over (t q) _ (sym (beside (sym (is_some-rest_under path q) ∙ ap is_some e))))
+      by (Some []) e = rw e (over (Some (new_object file now)) _ (sym (here (rest_under-Some path q [] e ∙ append-nil path))))
+      by (Some (name ∷ rest)) e = rw e (over None _ (sym (below (longer name rest (rest_under-Some path q (name ∷ rest) e)) (inside (ap is_some e)))))
+
+-- ---- on the way
+
+module _ (now : ℕ) (path : Path) (nonempty : path ≢ []) (file : NewFile) (t : Files) (parent : IsKindIn Directory (places t) (parent_of path)) (tree : IsTree t) (free : IsAbsentIn (places t) (staging_of path)) (u : Files)
+    (is : places u ≡ made now (staging_of path) (new_object file now) (places t)) where
+  staged_single : places u ≡ with_subtree now (staging_of path) (new_subtree file) (places t)
+  staged_single =
+      is ∙ ap (made now (staging_of path) (new_object file now)) (sym (cut_absent (staging_of path) t tree free))
+      ∙ (λ i q. sym (put_single now (staging_of path) file (places t) q) i)
+
+  -- while what stands there makes way, or the new object comes to its path
+  pub over_published : SameOutside (is_prefix (staging_of path)) t u → (w : Files) → Publishing now path u w → Replacing path (new_subtree file) t w
+  over_published =
+      copy_published now path nonempty (new_subtree file) t parent tree free (staging_nonempty path nonempty)
+      (ap (λ p. kind_of (places t p)) (parent_of-staging_of path) ∙ parent) u staged_single
+
+module _ (path : Path) (t : Files) (tree : IsTree t) (none : IsAbsentIn (places t) path) where
+  -- on the way the new object is put where nothing stood
+  pub over_putting : (file : NewFile) (u : Files) → Replacing path (new_subtree file) t u → Putting path file t u
+  over_putting file u (Replacing.before same) = λ q plain. IsPutting.kept (sym (same q plain))
+  over_putting file u (Replacing.making_way m) = λ q plain. by q (m.parts q plain)
+    where
+      by : (q : Path) → (bares (places u) q ≡ bares (places t) q) ⊎ ((is_prefix path q ≡ true) × IsAbsentIn (places u) q) → IsPutting path file q (bares (places t) q) (bares (places u) q)
+      by q (inl e) = IsPutting.kept e
+      by q (inr gone) = IsPutting.kept (ap (option_map bare) (gone.1 ∙ sym (none_under (places t) tree path q none gone.0)))
+  over_putting file u (Replacing.come h) = λ q plain. by q (h q plain) (path_cases path q)
+    where
+      whole : (q : Path) → bares (with_subtree 0 path (new_subtree file) (places t)) q ≡ bares (put_at path (Some (new_object file 0)) (places t)) q
+      whole q =
+          ap (option_map bare) (put_single 0 path file (places t) q)
+          ∙ bares-made 0 path (new_object file 0) (cut path (places t)) q ∙ ap (λ (x : Places). bares (put_at path (Some (new_object file 0)) x) q) (cut_absent path t tree none)
+
+      by : (q : Path) → bares (places u) q ≡ bares (with_subtree 0 path (new_subtree file) (places t)) q → (path ≡ q) ⊎ (same_path path q ≡ false) → IsPutting path file q (bares (places t) q) (bares (places u) q)
       by q e (inl s) = IsPutting.put (sym s) (ap (λ (p : Path). bares (places t) p) (sym s) ∙ ap (option_map bare) none)
           (e ∙ whole q ∙ ap (λ (p : Path). bares (put_at path (Some (new_object file 0)) (places t)) p) (sym s) ∙ ap (option_map bare) (put_at-here path (Some (new_object file 0)) (places t)))
       by q e (inr d) = IsPutting.kept (e ∙ whole q ∙ bares-put_else path q (Some (new_object file 0)) (places t) d)
+
+-- ---- calls that put it
+
+module _ {S : Type 0} (tree : Ghosts S) (now : ℕ) (path : Path) (nonempty : path ≢ []) (file : NewFile) (a b : S) where
+  -- while it is made under its staging name
+  pub over_staged : {A : Type 0} {m : ℕ} {r : Result A TreeFault} → Acted tree (SameOutside (is_prefix (staging_of path)) (tree.state a)) (GivesNew (staging_of path) file) m now a b r
+      → Acted tree (Replacing path (new_subtree file) (tree.state a)) (IsPutStep path file) m now a b r
+  over_staged {m = m} before =
+      acted_weaken tree (SameOutside (is_prefix (staging_of path)) (tree.state a)) (Replacing path (new_subtree file) (tree.state a)) (GivesNew (staging_of path) file) (IsPutStep path file) m m
+      (λ w h. Replacing.before (λ q plain. sym (h q (staging_outside (staging_of path) (has_staging-staging_of path nonempty) q plain)))) (λ s g. inl g) (omega arith) before
+
+  pub over_acted : {A B : Type 0} {m n : ℕ} {c : S} {x : A} {r : Result B TreeFault} → Moves tree → places (tree.state b) ≡ made now (staging_of path) (new_object file now) (places (tree.state a))
+      → IsKindIn Directory (places (tree.state a)) (parent_of path) → IsTree (tree.state a) → IsAbsentIn (places (tree.state a)) (staging_of path)
+      → Acted tree (SameOutside (is_prefix (staging_of path)) (tree.state a)) (GivesNew (staging_of path) file) m now a b (Ok x)
+      → Acted tree (Publishing now path (tree.state b)) (IsPublishing path) n now b c r → Acted tree (Replacing path (new_subtree file) (tree.state a)) (IsPutStep path file) (m + n) now a c r
+  over_acted {n = n} moves is parent standing free before last =
+      acted_then tree moves (Replacing path (new_subtree file) (tree.state a)) (IsPutStep path file) (over_staged before)
+      (acted_weaken tree (Publishing now path (tree.state b)) (Replacing path (new_subtree file) (tree.state a)) (IsPublishing path) (IsPutStep path file) n n
+      (over_published now path nonempty file (tree.state a) parent standing free (tree.state b) is (acted_end tree (SameOutside (is_prefix (staging_of path)) (tree.state a)) (GivesNew (staging_of path) file) before)) (λ s g. inr g) (omega arith) last)

@@ -31,7 +31,7 @@ use Rattle.pv_dress.proofs.EditLaws.{on_at-here, on_at-else, made-here, put_at-m
 use Rattle.pv_walk.specs.declared.new_file.NewFile.{NewFile}
 use Rattle.pv_walk.specs.declared.new_file.NewKind.{NewKind}
 use Rattle.pv_walk.specs.declared.new_file.NewKind.TheVariants as new
-use Rattle.pv_walk.specs.Staging.{new_kind, new_payload, new_major, new_minor, new_mode, new_object, IsNewFile, HasTarget, GivesNew}
+use Rattle.pv_walk.specs.Staging.{new_kind, new_major, new_minor, new_mode, new_object, IsNewFile, HasTarget, GivesNew}
 use Rattle.pv_walk.specs.Making.{make_step, content_of, made_mode, held_object, new_dress}
 
 -- ---- objects
@@ -56,7 +56,7 @@ record Held (what : NewKind) (now : ℕ) (content : List ℕ) : Type 0 where
   kind : new_kind what ≡ File
   empty : first_payload what ≡ []
   some : content ≢ []
-  is : content ≡ new_payload what
+  is : what ≡ new.File content
   object : with_content content now (first_object what now) ≡ held_object what now
 
 held_content : (what : NewKind) (now : ℕ) (content : List ℕ) → Some content ≡ content_of what → Held what now content
@@ -64,7 +64,7 @@ held_content new.Directory now content e = cc
 held_content (new.File []) now content e = cc
 held_content (new.File (b ∷ bytes)) now content e =
     let same : content ≡ b ∷ bytes = cc in
-    record { kind = refl; empty = refl; some = λ none. (let no : b ∷ bytes ≡ [] = sym same ∙ none in cc); is = same; object = ap (λ c. with_content c now (first_object (new.File (b ∷ bytes)) now)) same }
+    record { kind = refl; empty = refl; some = λ none. (let no : b ∷ bytes ≡ [] = sym same ∙ none in cc); is = ap new.File (sym same); object = ap (λ c. with_content c now (first_object (new.File (b ∷ bytes)) now)) same }
 held_content (new.Link target) now content e = cc
 held_content new.Fifo now content e = cc
 held_content (new.Device block major minor) now content e = cc
@@ -72,11 +72,11 @@ held_content (new.Device block major minor) now content e = cc
 -- ---- the step that makes the object
 
 gives_make : (path : Path) (file : NewFile) (what : NewKind) → file.what ≡ what → GivesNew path file (make_step path what)
-gives_make path file new.Directory e = refl
-gives_make path file (new.File content) e = refl
-gives_make path file (new.Link target) e = (refl, sym (ap new_payload e))
-gives_make path file new.Fifo e = refl
-gives_make path file (new.Device block major minor) e = refl
+gives_make path file new.Directory e = (refl, e)
+gives_make path file (new.File content) e = (refl, ap new_kind e)
+gives_make path file (new.Link target) e = (refl, e)
+gives_make path file new.Fifo e = (refl, e)
+gives_make path file (new.Device block major minor) e = (refl, e)
 
 module _ (path : Path) (nonempty : path ≢ []) (now : ℕ) (t : Files) (room : HasRoom (places t) path) where
   make_leaves : (what : NewKind) → after_at (places t) (make_step path what) now ≡ made now path (first_object what now) (places t)

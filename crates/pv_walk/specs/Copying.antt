@@ -7,16 +7,15 @@ use Rattle.pv_dress.specs.Dressing.{dress_mode}
 use Rattle.pv_dress.specs.Nodes.{is_link}
 use Rattle.pv_dress.specs.Operations.{with_mode}
 use Rattle.pv_path.specs.Paths.{Path, rest_under, has_staging, staging_of}
+use Rattle.pv_steps.specs.declared.node.Kind.TheVariants.{Directory, File, Link, Fifo}
 use Rattle.pv_steps.specs.declared.node.Stamps.{Stamps}
 use Rattle.pv_steps.specs.declared.object.Object.{Object}
 use Rattle.pv_steps.specs.declared.step.Step.{Step}
 use Rattle.pv_steps.specs.declared.step.Step.TheVariants.{MakeDir, MakeFile, MakeFifo, MakeDevice, MakeLink, Write, SetMode, SetOwner, SetAcl, SetAttrs, SetLetters}
 use Rattle.pv_steps.specs.Objects.{stamped, IsId}
-use Rattle.pv_steps.specs.Same.{bares}
-use Rattle.pv_steps.specs.Steps.{touched}
-use Rattle.pv_steps.specs.Trees.{Files, Places, places}
+use Rattle.pv_steps.specs.Steps.{device_kind, touched}
+use Rattle.pv_steps.specs.Trees.{Files, Places}
 use Rattle.pv_walk.specs.declared.copying.TopNode.{TopNode}
-use Rattle.pv_walk.specs.Putting.{IsMakingWay}
 use Rattle.pv_walk.specs.Staging.{IsPublishing}
 
 -- ---- what is copied
@@ -39,6 +38,11 @@ topped top b = moded top.mode (record b { dress = record b.dress { uid = unwrap_
 -- what is to stand at and below a path, by what comes after it
 abbrev pub Subtree : Type 0
 Subtree = Path → Option Bare
+
+-- one object with nothing below it
+abbrev pub single : Bare → Subtree
+single b [] = Some b
+single b (name ∷ rest) = None
 
 -- the copy of what stands at and below a path, with another top; staging names are left out
 abbrev pub copy_from : (Bare → Bare) → Path → (Path → Option Bare) → Subtree
@@ -82,22 +86,16 @@ standing now subtree old (Some rest) = option_map (object_of now) (subtree rest)
 abbrev pub with_subtree : ℕ → Path → Subtree → Places → Places
 with_subtree now path subtree t = touched now path (λ q. standing now subtree (t q) (rest_under path q))
 
--- on the way, at each path without a staging name: what stood at the path makes way, or the copy has come there whole
-abbrev pub CopyingOver : Path → Subtree → Files → Files → Type 0
-CopyingOver path subtree t u =
-    ((q : Path) → has_staging q ≡ false → IsMakingWay path q (bares (places t) q) (bares (places u) q))
-    ⊎ ((q : Path) → has_staging q ≡ false → bares (places u) q ≡ bares (with_subtree 0 path subtree (places t)) q)
-
 -- ---- single steps
 
--- a step makes something at a path, or gives it a part of what an object without stamps has
+-- a step makes an object without stamps at a path, of its kind, with its target or numbers, or gives it a part of what it has
 abbrev pub GivesBare : Path → Bare → Step → Type 0
-GivesBare path b (MakeDir at) = at ≡ path
-GivesBare path b (MakeFile at) = at ≡ path
-GivesBare path b (MakeFifo at) = at ≡ path
-GivesBare path b (MakeDevice at block major minor) = at ≡ path
-GivesBare path b (MakeLink at target) = (at ≡ path) × (target ≡ b.body.payload)
-GivesBare path b (Write at content) = (at ≡ path) × (content ≡ b.body.payload)
+GivesBare path b (MakeDir at) = (at ≡ path) × (b.body.kind ≡ Directory)
+GivesBare path b (MakeFile at) = (at ≡ path) × (b.body.kind ≡ File)
+GivesBare path b (MakeFifo at) = (at ≡ path) × (b.body.kind ≡ Fifo)
+GivesBare path b (MakeDevice at block major minor) = (at ≡ path) × ((b.body.kind ≡ device_kind block) × ((b.body.major ≡ major) × (b.body.minor ≡ minor)))
+GivesBare path b (MakeLink at target) = (at ≡ path) × ((b.body.kind ≡ Link) × (b.body.payload ≡ target))
+GivesBare path b (Write at content) = (at ≡ path) × ((b.body.kind ≡ File) × (b.body.payload ≡ content))
 GivesBare path b (SetOwner at uid gid) = (at ≡ path) × ((uid ≡ b.dress.uid) × (gid ≡ b.dress.gid))
 GivesBare path b (SetMode at mode) = (at ≡ path) × (mode ≡ dress_mode b.dress)
 GivesBare path b (SetAcl at acl) = (at ≡ path) × (acl ≡ b.dress.acl)

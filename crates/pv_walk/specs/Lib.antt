@@ -7,4 +7,5 @@ pub mod Listing
 pub mod Putting
 pub mod Preparing
 pub mod Copying
+pub mod Replacing
 pub mod Pieces

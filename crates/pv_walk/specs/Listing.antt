@@ -31,6 +31,16 @@ pub record IsListing (files : Files) (path : Path) (ps : List Path) : Type 0 whe
   pub once : (q : Path) → times q ps ≡ cond (stands_below files path q) 1 0
   pub order : ParentsFirst files [] ps
 
+-- where something below a path follows in a list, all before it in the list is below the path
+abbrev pub IsGatheredBelow : Path → List Path → Type 0
+IsGatheredBelow path [] = Unit {0}
+IsGatheredBelow path (p ∷ ps) = ((q : Path) → is_below path q ≡ true → 1 ≤ times q ps → is_below path p ≡ true) × IsGatheredBelow path ps
+
+-- what is below a path of a list and follows it, follows it in one piece
+abbrev pub AreGathered : List Path → Type 0
+AreGathered [] = Unit {0}
+AreGathered (p ∷ ps) = IsGatheredBelow p ps × AreGathered ps
+
 -- paths that can be taken away from the last one on: each is present and stands once in the list, none is the root, and
 -- all that is in one stands after it
 pub record AreRemovable (files : Files) (paths : List Path) : Type 0 where

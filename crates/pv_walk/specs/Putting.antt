@@ -1,6 +1,6 @@
 -- Putting a new object at a path: what it may have left on its way, stamps and staging names aside (rename(2)).
-use Rattle.std.specs.Prelude.{◌≡◌, ◌⊎◌, ℕ, true, false, Option, Some, None}
-use Rattle.pv_path.specs.Paths.{Path, is_prefix, has_staging, staging_of}
+use Rattle.std.specs.Prelude.{◌≡◌, ◌⊎◌, ℕ, false, Option, Some, None}
+use Rattle.pv_path.specs.Paths.{Path, has_staging, staging_of}
 use Rattle.pv_steps.specs.declared.object.Object.{Object}
 use Rattle.pv_steps.specs.declared.step.Step.{Step}
 use Rattle.pv_steps.specs.Objects.{bare}
@@ -31,14 +31,3 @@ IsPutStep path file step = GivesNew (staging_of path) file step ⊎ IsPublishing
 -- the new object stands at the path in the place of all that stood at and below it
 abbrev pub put_over : ℕ → Path → NewFile → Places → Places
 put_over now path file t = made now path (new_object file now) (cut path t)
-
--- at one path while that makes way: what stood there, or nothing at or below the path
-pub data IsMakingWay (path q : Path) (old new : Option Object) : Type 0 where
-  kept : new ≡ old → IsMakingWay path q old new
-  gone : is_prefix path q ≡ true → new ≡ None → IsMakingWay path q old new
-
--- on the way, at each path without a staging name: what stood at the path makes way, or the new object has come there
-abbrev pub PuttingOver : Path → NewFile → Files → Files → Type 0
-PuttingOver path file t u =
-    ((q : Path) → has_staging q ≡ false → IsMakingWay path q (bares (places t) q) (bares (places u) q))
-    ⊎ ((q : Path) → has_staging q ≡ false → bares (places u) q ≡ bares (put_over 0 path file (places t)) q)

@@ -10,7 +10,7 @@ use Rattle.pv_steps.specs.declared.step.Step.TheVariants.{Unlink, RemoveDir}
 use Rattle.pv_steps.specs.declared.object.Object.{Object}
 use Rattle.pv_steps.specs.Objects.{is_directory}
 use Rattle.pv_steps.specs.Trees.{Files, Places, places, kind_of, names_below}
-use Rattle.pv_steps.specs.Steps.{gone, moved}
+use Rattle.pv_steps.specs.Steps.{Yields, gone, moved}
 use Rattle.pv_steps.specs.Same.{bares}
 use Rattle.pv_dress.specs.Edits.{Pruned}
 
@@ -45,10 +45,15 @@ without goes change files = λ q.
     else if loses_child goes files q then option_map change (places files q)
     else places files q
 
--- on the way, stamps aside: objects at and below the path may be gone, or what was staged for it has come to it
+-- stamps aside, objects at and below a path may be gone, but not where one Rename from the staging name can replace them
+pub record Clearing (path : Path) (t u : Files) : Type 0 where
+  pub pruned : Pruned (is_prefix path) t u
+  pub needed : Yields (places t) (staging_of path) path → (q : Path) → bares (places u) q ≡ bares (places t) q
+
+-- on the way, stamps aside: what stands at the path makes way, or what was staged for it has come to it
 abbrev pub Publishing : ℕ → Path → Files → Files → Type 0
 Publishing now path t u =
-    Pruned (is_prefix path) t u ⊎ ((q : Path) → bares (places u) q ≡ bares (moved now (staging_of path) path (places t)) q)
+    Clearing path t u ⊎ ((q : Path) → bares (places u) q ≡ bares (moved now (staging_of path) path (places t)) q)
 
 -- nothing is done, or the object at a path is gone
 abbrev pub MayHaveGone : ℕ → Path → Files → Files → Type 0

@@ -95,16 +95,16 @@ most_staged = 7
 abbrev pub most_new : ℕ
 most_new = 8
 
--- a Write, MakeLink or Set step gives its node what the new object has; other steps give nothing
+-- a step makes the new object, of its kind, with its target or numbers; writes its content; or gives it its owners or its mode
 abbrev pub GivesNew : Path → NewFile → Step → Type 0
-GivesNew path file (Write at content) = (at ≡ path) × (content ≡ new_payload file.what)
-GivesNew path file (MakeLink at target) = (at ≡ path) × (target ≡ new_payload file.what)
+GivesNew path file (MakeDir at) = (at ≡ path) × (file.what ≡ new.Directory)
+GivesNew path file (MakeFile at) = (at ≡ path) × (new_kind file.what ≡ File)
+GivesNew path file (MakeFifo at) = (at ≡ path) × (file.what ≡ new.Fifo)
+GivesNew path file (MakeDevice at block major minor) = (at ≡ path) × (file.what ≡ new.Device block major minor)
+GivesNew path file (MakeLink at target) = (at ≡ path) × (file.what ≡ new.Link target)
+GivesNew path file (Write at content) = (at ≡ path) × (file.what ≡ new.File content)
 GivesNew path file (SetOwner at uid gid) = (at ≡ path) × ((uid ≡ file.uid) × (gid ≡ file.gid))
 GivesNew path file (SetMode at mode) = (at ≡ path) × (mode ≡ new_mode file.what file.mode)
-GivesNew path file (MakeDir at) = at ≡ path
-GivesNew path file (MakeFile at) = at ≡ path
-GivesNew path file (MakeFifo at) = at ≡ path
-GivesNew path file (MakeDevice at block major minor) = at ≡ path
 GivesNew path file step = ⊥
 
 -- a step takes something away at or below a path, or is the one that publishes the path

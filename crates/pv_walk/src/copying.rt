@@ -6,7 +6,8 @@ ghost use Rattle.pv_path.specs.Paths.{Path, is_prefix, parent_of, has_staging, s
 ghost use Rattle.pv_steps.specs.declared.node.Kind.TheVariants.{Directory};
 ghost use Rattle.pv_steps.specs.Acting.{Acted};
 ghost use Rattle.pv_steps.specs.Trees.{places, IsKind, IsAbsentIn, IsPresent};
-ghost use Rattle.pv_walk.specs.Copying.{copy_from, copied_count, topped, with_subtree, CopyingOver, IsStagingOf, GivesPart, IsCopyStep, IsTopNode};
+ghost use Rattle.pv_walk.specs.Copying.{copy_from, copied_count, topped, with_subtree, IsStagingOf, GivesPart, IsCopyStep, IsTopNode};
+ghost use Rattle.pv_walk.specs.Replacing.{Replacing};
 ghost use Rattle.pv_walk.specs.Pieces.{CanDo, IsDone, GivesPiece, place_of, piece_cost, cost_of, IsPlan, made_of};
 ghost use Rattle.pv_walk.specs.Staging.{can_stage, most_staged, most_new};
 
@@ -148,7 +149,7 @@ pub fn copy_over<T: Tree>(
         ≡ with_subtree now path.now (copy_from (topped top.now) source.now (bares_of (places (T.state tree.old))))
         (places (T.state tree.old))) }
     ensures acted { let subtree = copy_from (topped top.now) source.now (bares_of (places (T.state tree.old))) in
-        Acted T.Tree (CopyingOver path.now subtree (T.state tree.old)) (IsCopyStep path.now subtree)
+        Acted T.Tree (Replacing path.now subtree (T.state tree.old)) (IsCopyStep path.now subtree)
         (count_at (T.state tree.old) path.now
         + most_new * copied_count subtree source.now (T.state tree.old)) now tree.old tree.new result }
 {

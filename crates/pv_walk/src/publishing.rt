@@ -4,10 +4,10 @@ ghost use Rattle.pv_path.specs.Paths.{is_prefix, staging_of};
 ghost use Rattle.pv_steps.specs.Trees.{places, IsPresent, IsTree};
 ghost use Rattle.pv_steps.specs.Steps.{Movable, Yields, moved};
 ghost use Rattle.pv_steps.specs.Content.{Removes};
-ghost use Rattle.pv_dress.specs.Edits.{Pruned, count_at};
+ghost use Rattle.pv_dress.specs.Edits.{count_at};
 ghost use Rattle.pv_steps.specs.Acting.{Acted};
 ghost use Rattle.pv_walk.specs.Staging.{IsPublishing, can_stage};
-ghost use Rattle.pv_walk.specs.Removal.{Publishing, MayHaveMoved};
+ghost use Rattle.pv_walk.specs.Removal.{Clearing, Publishing, MayHaveMoved};
 
 use crate::remove::remove_below;
 use crate::sweeping::take_away;
@@ -33,8 +33,7 @@ fn make_way<T: Tree>(
         ≡ moved now stage.now path.now (places (T.state tree.old))) }
     ensures staged { OnOk result (IsPresent (T.state tree.new) stage.now) }
     ensures tree { IsTree (T.state tree.old) }
-    ensures acted { Acted T.Tree (Pruned (is_prefix path.now) (T.state tree.old))
-        (Removes (is_prefix path.now))
+    ensures acted { Acted T.Tree (Clearing path.now (T.state tree.old)) (Removes (is_prefix path.now))
         (count_at (T.state tree.old) path.now) now tree.old tree.new result }
 {
     if !is_present(tree, path) {
@@ -43,7 +42,8 @@ fn make_way<T: Tree>(
     match (is_directory(tree, stage), is_directory(tree, path)) {
         (true, true) => remove_below(alloc, tree, path, now),
         (false, false) => Ok(()),
-        _ => take_away(alloc, tree, path, now),
+        (true, false) => take_away(alloc, tree, path, now),
+        (false, true) => take_away(alloc, tree, path, now),
     }
 }
 

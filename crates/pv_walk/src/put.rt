@@ -7,7 +7,8 @@ ghost use Rattle.pv_steps.specs.Steps.{made};
 ghost use Rattle.pv_dress.specs.Edits.{count_at};
 ghost use Rattle.pv_steps.specs.Acting.{Acted};
 ghost use Rattle.pv_walk.specs.Staging.{IsNewFile, new_object, can_stage, most_new};
-ghost use Rattle.pv_walk.specs.Putting.{Putting, PuttingOver, IsPutStep, put_over};
+ghost use Rattle.pv_walk.specs.Putting.{Putting, IsPutStep, put_over};
+ghost use Rattle.pv_walk.specs.Replacing.{Replacing, new_subtree};
 
 use crate::new_file::NewFile;
 use crate::publishing::publish;
@@ -59,7 +60,7 @@ pub fn put_over<T: Tree>(
     requires new { IsNewFile new.now }
     ensures ok { OnOk result (places (T.state tree.new)
         ≡ put_over now path.now new.now (places (T.state tree.old))) }
-    ensures acted { Acted T.Tree (PuttingOver path.now new.now (T.state tree.old))
+    ensures acted { Acted T.Tree (Replacing path.now (new_subtree new.now) (T.state tree.old))
         (IsPutStep path.now new.now) (count_at (T.state tree.old) path.now + most_new)
         now tree.old tree.new result }
 {

@@ -8,7 +8,7 @@ ghost use Rattle.pv_steps.specs.Content.{Removes};
 ghost use Rattle.pv_dress.specs.Edits.{Pruned, emptied};
 ghost use Rattle.pv_steps.specs.Acting.{Acted};
 ghost use Rattle.pv_walk.specs.Removal.{is_below, is_one_of, without, count_below, removal_at, MayHaveGone};
-ghost use Rattle.pv_walk.specs.Listing.{children_of, IsListing, AreRemovable};
+ghost use Rattle.pv_walk.specs.Listing.{children_of, IsListing, AreGathered, AreRemovable};
 
 use pv_path::{TreePath, child};
 use pv_steps::{Step, Tree, TreeFault, is_directory, try_all, try_step};
@@ -40,6 +40,7 @@ fn push_children<T: Tree>(
 /// end on the list has the children of a directory in byte order, each with all below it first.
 pub fn below<T: Tree>(alloc: Global, tree: &T, path: &TreePath) -> Result<Vec<TreePath>, AllocError>
     ensures all { IfOk result (λ paths. IsListing (T.state tree.now) path.now paths.items) }
+    ensures gathered { IfOk result (λ paths. AreGathered paths.items) }
     ensures tree { IsTree (T.state tree.now) }
 {
     let mut work = Vec::new(alloc);

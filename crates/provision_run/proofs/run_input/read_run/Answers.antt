@@ -18,22 +18,22 @@ pub returns-in_err-table-clause-part : goal.returns-in_err-table-clause-part
 returns-in_err-table-clause-part g c =
     let read = configured (g.T.Tree.state c.args.tree.now) c.args.facts.now c.args.options.now.words in
     said_then read.messages (listed_messages c.args.options.now read.lines) c.args.messages.now c.read_configuration.new.messages c.build_active.new.messages c.in_ok-read.ensures.said
-    (subst (λ (lines : List Line). SaidPart (listed_messages c.args.options.now lines) c.read_configuration.new.messages c.build_active.new.messages) c.in_ok-read.ensures.lines c.build_active.ensures.part)
+    (subst (λ (lines : List Line). SaidPart (listed_messages c.args.options.now lines) c.read_configuration.new.messages c.build_active.new.messages) (c.of.ensures ∙ c.in_ok-read.ensures.lines) c.build_active.ensures.part)
 
 pub returns-clause-whole : goal.returns-clause-whole
 returns-clause-whole g c =
     subst (AllByRecursion IsLine) (sym c.in_ok-table.ensures.table)
-    (all_active IsLine c.args.options.now.boot c.args.options.now.prefix c.args.options.now.exclude_prefix c.in_ok-read.read.lines c.in_ok-read.ensures.whole)
+    (all_active IsLine c.args.options.now.boot c.args.options.now.prefix c.args.options.now.exclude_prefix c.of.result (subst (AllByRecursion IsLine) (sym c.of.ensures) c.in_ok-read.ensures.whole))
 
 pub returns-clause-part : goal.returns-clause-part
 returns-clause-part g c =
     let read = configured (g.T.Tree.state c.args.tree.now) c.args.facts.now c.args.options.now.words in
     said_then read.messages (listed_messages c.args.options.now read.lines) c.args.messages.now c.read_configuration.new.messages c.build_active.new.messages c.in_ok-read.ensures.said
-    (subst (λ (lines : List Line). SaidPart (listed_messages c.args.options.now lines) c.read_configuration.new.messages c.build_active.new.messages) c.in_ok-read.ensures.lines c.build_active.ensures.part)
+    (subst (λ (lines : List Line). SaidPart (listed_messages c.args.options.now lines) c.read_configuration.new.messages c.build_active.new.messages) (c.of.ensures ∙ c.in_ok-read.ensures.lines) c.build_active.ensures.part)
 
 pub returns-clause-said : goal.returns-clause-said
 returns-clause-said g c =
     let options = c.args.options.now in
     let read = configured (g.T.Tree.state c.args.tree.now) c.args.facts.now options.words in
-    c.in_ok-table.ensures.said ∙ ap (λ (lines : List Line). c.read_configuration.new.messages ++ listed_messages options lines) c.in_ok-read.ensures.lines
+    c.in_ok-table.ensures.said ∙ ap (λ (lines : List Line). c.read_configuration.new.messages ++ listed_messages options lines) (c.of.ensures ∙ c.in_ok-read.ensures.lines)
     ∙ ap (λ (said : List (List ℕ)). said ++ listed_messages options read.lines) c.in_ok-read.ensures.said ∙ append_assoc c.args.messages.now read.messages (listed_messages options read.lines)

@@ -6,7 +6,8 @@ use Rattle.pv_steps.specs.Steps.{made, moved}
 use Rattle.pv_steps.proofs.ActingLaws.{Moves, acted_passed, acted_weaken}
 use Rattle.pv_dress.specs.Edits.{count_at}
 use Rattle.pv_walk.specs.Preparing.{parent_file}
-use Rattle.pv_walk.specs.Putting.{IsPutStep, Putting, PuttingOver}
+use Rattle.pv_walk.specs.Putting.{IsPutStep, Putting}
+use Rattle.pv_walk.specs.Replacing.{Replacing, new_subtree}
 use Rattle.pv_walk.specs.Removal.{Publishing}
 use Rattle.pv_walk.specs.Staging.{IsPublishing, new_object}
 use Rattle.pv_walk.proofs.PuttingOverLaws.{count_absent, count_over, cut_absent, over_acted, over_moved, over_putting, over_staged}
@@ -20,7 +21,7 @@ pub returns-in_err-stage_directory-clause-acted : goal.returns-in_err-stage_dire
 returns-in_err-stage_directory-clause-acted g c =
     let t = g.T.Tree.state c.args.tree.now in
     acted_passed g.T.Tree c.stage_directory.result c.from_residual.result c.in_err-stage_directory.was c.from_residual.ensures.1
-    (acted_weaken g.T.Tree (PuttingOver etc parent_file t) (Putting etc parent_file t) (IsPutStep etc parent_file) (IsPutStep etc parent_file) 2 most_directory
+    (acted_weaken g.T.Tree (Replacing etc (new_subtree parent_file) t) (Putting etc parent_file t) (IsPutStep etc parent_file) (IsPutStep etc parent_file) 2 most_directory
     (over_putting etc t c.is_present-rooted.ensures.tree c.requires.absent parent_file) (λ s q. q) (omega arith)
     (over_staged g.T.Tree c.args.now etc etc_some parent_file c.args.tree.now c.stage_directory.new.tree c.stage_directory.ensures.acted))
 
@@ -42,7 +43,7 @@ returns-clause-acted g c =
     let fewer = count_over c.args.now etc etc_some parent_file t u c.in_ok-stage_directory.ensures.ok in
     let none = count_absent etc t c.is_present-rooted.ensures.tree c.requires.absent in
     let published = subst (λ (p : Path). Acted g.T.Tree (Publishing c.args.now p u) (IsPublishing p) (1 + count_at u p) c.args.now c.stage_directory.new.tree c.publish.new.tree c.publish.result) c.requires.path c.publish.ensures.acted in
-    acted_weaken g.T.Tree (PuttingOver etc parent_file t) (Putting etc parent_file t) (IsPutStep etc parent_file) (IsPutStep etc parent_file) (2 + (1 + count_at u etc)) most_directory
+    acted_weaken g.T.Tree (Replacing etc (new_subtree parent_file) t) (Putting etc parent_file t) (IsPutStep etc parent_file) (IsPutStep etc parent_file) (2 + (1 + count_at u etc)) most_directory
     (over_putting etc t c.is_present-rooted.ensures.tree c.requires.absent parent_file) (λ s q. q) (omega (arith, fewer, none))
-    (over_acted g.T.Tree c.args.now etc etc_some parent_file c.args.tree.now c.stage_directory.new.tree moves c.in_ok-stage_directory.ensures.ok c.is_present-rooted.ensures.tree c.requires.free
+    (over_acted g.T.Tree c.args.now etc etc_some parent_file c.args.tree.now c.stage_directory.new.tree moves c.in_ok-stage_directory.ensures.ok c.is_present-rooted.ensures.tree.root c.is_present-rooted.ensures.tree c.requires.free
     c.in_ok-stage_directory.ensures.acted published)

@@ -11,6 +11,7 @@ use Rattle.pv_table.specs.Cleaned.{is_aged}
 use Rattle.pv_table.specs.Removed.{files_without}
 use Rattle.pv_clean.specs.Cleaning.{most_steps, IsCleanStep}
 use Rattle.pv_clean.proofs.CleanLaws.{aged_together, tried_told}
+use Rattle.pv_clean.proofs.TurnLaws.{none_in_turn, tried_in_turn}
 use Rattle.pv_clean.proofs.CleanSteps.{planned_ask, planned_end, planned_exact}
 use Rattle.pv_clean.proofs.cleaning.clean.Goals as goal
 use Rattle.pv_path.proofs.Tests.{on_ok}
@@ -21,14 +22,14 @@ try_all-requires g c =
     let goes = is_one_of c.in_ok-aged.aged.keys in
     let steps = c.in_ok-steps.steps.items in
     ask_can (Pruned goes t) (IsCleanStep goes t) c.args.now t (reverse steps)
-    (planned_ask goes t c.args.now steps c.in_ok-steps.ensures (aged_together c.in_ok-aged.aged.keys c.args.lines.now c.args.now t c.in_ok-aged.ensures.aged))
+    (planned_ask goes t c.args.now steps c.in_ok-steps.ensures (aged_together c.in_ok-aged.aged.keys c.args.table.now c.args.now t c.in_ok-aged.ensures.aged))
 
 pub returns-clause-ok : goal.returns-clause-ok
 returns-clause-ok g c =
     let t = g.T.Tree.state c.args.tree.now in
     let goes = is_one_of c.in_ok-aged.aged.keys in
     let steps = c.in_ok-steps.steps.items in
-    let whole = aged_together c.in_ok-aged.aged.keys c.args.lines.now c.args.now t c.in_ok-aged.ensures.aged in
+    let whole = aged_together c.in_ok-aged.aged.keys c.args.table.now c.args.now t c.in_ok-aged.ensures.aged in
     on_ok c.try_all.result
     (λ e. planned_end goes t c.args.now steps c.in_ok-steps.ensures whole (g.T.Tree.state c.try_all.new.tree) e
     ∙ ap (λ (f : Path → Bool). files_without f (changed c.args.now) t) (λ i q. c.in_ok-aged.ensures.aged q i))
@@ -39,7 +40,7 @@ returns-clause-exact g c =
     let t = g.T.Tree.state c.args.tree.now in
     let goes = is_one_of c.in_ok-aged.aged.keys in
     let steps = c.in_ok-steps.steps.items in
-    let same : goes ≡ is_aged c.args.lines.now c.args.now t = λ i q. c.in_ok-aged.ensures.aged q i in
+    let same : goes ≡ is_aged c.args.table.now c.args.now t = λ i q. c.in_ok-aged.ensures.aged q i in
     on_ok c.try_all.result
     (λ told. ap length told ∙ length-reverse steps ∙ planned_exact goes t steps c.in_ok-steps.ensures ∙ ap (λ (f : Path → Bool). most_steps f t) same)
     (tried_told g.T.Tree (reverse steps) c.args.now c.args.tree.now c.try_all.new.tree c.try_all.result c.try_all.ensures)
@@ -49,10 +50,17 @@ returns-clause-acted g c =
     let t = g.T.Tree.state c.args.tree.now in
     let goes = is_one_of c.in_ok-aged.aged.keys in
     let steps = c.in_ok-steps.steps.items in
-    let whole = aged_together c.in_ok-aged.aged.keys c.args.lines.now c.args.now t c.in_ok-aged.ensures.aged in
-    let same : goes ≡ is_aged c.args.lines.now c.args.now t = λ i q. c.in_ok-aged.ensures.aged q i in
+    let whole = aged_together c.in_ok-aged.aged.keys c.args.table.now c.args.now t c.in_ok-aged.ensures.aged in
+    let same : goes ≡ is_aged c.args.table.now c.args.now t = λ i q. c.in_ok-aged.ensures.aged q i in
     let number = planned_exact goes t steps c.in_ok-steps.ensures in
     subst (λ (f : Path → Bool). Acted g.T.Tree (Pruned f t) (IsCleanStep f t) (most_steps f t) c.args.now c.args.tree.now c.try_all.new.tree c.try_all.result) same
     (acted_within g.T.Tree (length (reverse steps)) (most_steps goes t) (omega (arith, length-reverse steps, number))
     (acted_all (Pruned goes t) (IsCleanStep goes t) c.args.now g.T.Tree (reverse steps) c.args.tree.now c.try_all.new.tree c.try_all.result c.try_all.ensures
     (planned_ask goes t c.args.now steps c.in_ok-steps.ensures whole)))
+
+pub returns-clause-in_turn : goal.returns-clause-in_turn
+returns-clause-in_turn g c =
+    let t = g.T.Tree.state c.args.tree.now in
+    let goes = is_one_of c.in_ok-aged.aged.keys in
+    tried_in_turn g.T.Tree goes c.args.now c.in_ok-steps.steps.items c.args.tree.now c.try_all.new.tree c.try_all.result c.in_ok-steps.ensures
+    (aged_together c.in_ok-aged.aged.keys c.args.lines.now c.args.now t c.in_ok-aged.ensures.aged) c.in_ok-steps.ensures.gathered c.try_all.ensures

@@ -24,7 +24,7 @@ returns g c =
     c.in_ok-add_step.ensures
     ∙ ap (λ (ss : List Step). ss ++ cond (is_task goes t c.root-root.result) (clean_step goes t c.root-root.result ∷ []) []) c.new-steps.ensures.items
     ∙ ap (λ (p : Path). cond (is_task goes t p) (clean_step goes t p ∷ []) []) c.root-root.ensures in
-    planned_from goes t c.below.ensures.tree listed c.loop-path.steps.items (rw c.root-root.ensures at c.in_ok-paths.ensures.all)
+    planned_from goes t c.below.ensures.tree listed c.loop-path.steps.items (rw c.root-root.ensures at c.in_ok-paths.ensures.all) c.in_ok-paths.ensures.gathered
     (c.loop-path.invariant
     ∙ ap (λ (ps : List Path). c.add_step.new.steps.items ++ map (clean_step goes t) (filter (is_task goes t) ps)) (take_all c.loop-path.path-index c.deref-path-items.result.now c.loop-path-test.false ∙ c.deref-path-items.ensures.value)
     ∙ ap (λ (ss : List Step). ss ++ map (clean_step goes t) (filter (is_task goes t) listed)) first

@@ -27,7 +27,7 @@ pub returns-clause-staged : goal.returns-clause-staged
 returns-clause-staged g c =
     let now = c.args.now in
     let t = g.T.Tree.state c.args.tree.now in
-    none_staged c.args.table.now c.requires.lines now t c.run_in_order.result (g.T.Tree.state c.run_in_order.new.tree) c.run_in_order.ensures.ok
+    none_staged c.args.table.now c.lines-lines.ensures.whole now t c.run_in_order.result (g.T.Tree.state c.run_in_order.new.tree) c.run_in_order.ensures.ok
 
 pub returns-clause-part : goal.returns-clause-part
 returns-clause-part g c =
@@ -52,7 +52,7 @@ returns-clause-mended g c =
     let now = c.args.now in
     let t = g.T.Tree.state c.args.tree.now in
     λ n later repeatable quiet again.
-    mended table c.requires.lines (IsStepOfSome (lines_course now) (in_create_order table) t) now t (g.T.Tree.steps c.args.tree.now)
+    mended table c.lines-lines.ensures.whole (IsStepOfSome (lines_course now) (in_create_order table) t) now t (g.T.Tree.steps c.args.tree.now)
     (g.T.Tree.state c.run_in_order.new.tree) (g.T.Tree.steps c.run_in_order.new.tree) c.ranges.now.fits c.look-root.ensures.tree c.run_in_order.ensures.acted.ran
     n later quiet again repeatable c.lines-lines.ensures.distinct
 
@@ -61,7 +61,7 @@ returns-clause-again g c =
     let table = c.args.table.now in
     let now = c.args.now in
     let t = g.T.Tree.state c.args.tree.now in
-    mended_again table c.requires.lines (IsStepOfSome (lines_course now) (in_create_order table) t) now t (g.T.Tree.steps c.args.tree.now)
+    mended_again table c.lines-lines.ensures.whole (IsStepOfSome (lines_course now) (in_create_order table) t) now t (g.T.Tree.steps c.args.tree.now)
     (g.T.Tree.state c.run_in_order.new.tree) (g.T.Tree.steps c.run_in_order.new.tree) c.ranges.now.fits c.look-root.ensures.tree c.run_in_order.ensures.acted.ran c.lines-lines.ensures.distinct
 
 pub returns-clause-stopped : goal.returns-clause-stopped
@@ -69,7 +69,7 @@ returns-clause-stopped g c =
     let table = c.args.table.now in
     let now = c.args.now in
     let t = g.T.Tree.state c.args.tree.now in
-    stopped table c.requires.lines (IsStepOfSome (lines_course now) (in_create_order table) t) now t (g.T.Tree.steps c.args.tree.now)
+    stopped table c.lines-lines.ensures.whole (IsStepOfSome (lines_course now) (in_create_order table) t) now t (g.T.Tree.steps c.args.tree.now)
     (g.T.Tree.state c.run_in_order.new.tree) (g.T.Tree.steps c.run_in_order.new.tree) c.ranges.now.fits c.look-root.ensures.tree c.run_in_order.ensures.acted.ran
 
 pub returns-clause-framed : goal.returns-clause-framed
@@ -77,7 +77,7 @@ returns-clause-framed g c =
     let table = c.args.table.now in
     let now = c.args.now in
     let t = g.T.Tree.state c.args.tree.now in
-    framed table c.requires.lines (IsStepOfSome (lines_course now) (in_create_order table) t) now t (g.T.Tree.steps c.args.tree.now)
+    framed table c.lines-lines.ensures.whole (IsStepOfSome (lines_course now) (in_create_order table) t) now t (g.T.Tree.steps c.args.tree.now)
     (g.T.Tree.state c.run_in_order.new.tree) (g.T.Tree.steps c.run_in_order.new.tree) c.look-root.ensures.tree c.run_in_order.ensures.acted.ran
 
 pub returns-clause-between : goal.returns-clause-between
@@ -85,7 +85,7 @@ returns-clause-between g c =
     let table = c.args.table.now in
     let now = c.args.now in
     let t = g.T.Tree.state c.args.tree.now in
-    between table c.requires.lines (IsStepOfSome (lines_course now) (in_create_order table) t) now t (g.T.Tree.steps c.args.tree.now)
+    between table c.lines-lines.ensures.whole (IsStepOfSome (lines_course now) (in_create_order table) t) now t (g.T.Tree.steps c.args.tree.now)
     (g.T.Tree.state c.run_in_order.new.tree) (g.T.Tree.steps c.run_in_order.new.tree) c.look-root.ensures.tree c.run_in_order.ensures.acted.ran
 
 pub returns-clause-gives : goal.returns-clause-gives
@@ -93,5 +93,5 @@ returns-clause-gives g c =
     let table = c.args.table.now in
     let now = c.args.now in
     let t = g.T.Tree.state c.args.tree.now in
-    given table c.requires.lines (Partway (lines_course now) (in_create_order table) t) now t (g.T.Tree.steps c.args.tree.now)
+    given table c.lines-lines.ensures.whole (Partway (lines_course now) (in_create_order table) t) now t (g.T.Tree.steps c.args.tree.now)
     (g.T.Tree.state c.run_in_order.new.tree) (g.T.Tree.steps c.run_in_order.new.tree) c.look-root.ensures.tree c.run_in_order.ensures.acted.ran

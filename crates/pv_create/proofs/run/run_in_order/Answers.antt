@@ -38,7 +38,7 @@ line_at-requires g c =
 pub carry_out-requires : goal.carry_out-requires
 carry_out-requires g c =
     let place = get_or c.as_slice-place-items.result.now c.loop-place.place-index 0 in
-    record { line = of_all IsLine c.args.table.now c.requires.lines place c.line_at.result.now c.line_at.ensures }
+    record { line = of_all IsLine c.args.table.now c.lines-lines.ensures.whole place c.line_at.result.now c.line_at.ensures }
 
 pub returns-in_err-one : goal.returns-in_err-one
 returns-in_err-one g c =

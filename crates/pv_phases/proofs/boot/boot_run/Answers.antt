@@ -11,7 +11,7 @@ pub returns-clause-staged : goal.returns-clause-staged
 returns-clause-staged g c =
     let lines = c.args.table.now in
     let now = c.args.now in
-    none_staged lines c.requires.lines now (removed lines now (g.T.Tree.state c.args.tree.now)) c.remove_then_create.result (g.T.Tree.state c.remove_then_create.new.tree) c.remove_then_create.ensures.ok
+    none_staged lines c.lines-lines.ensures.whole now (removed lines now (g.T.Tree.state c.args.tree.now)) c.remove_then_create.result (g.T.Tree.state c.remove_then_create.new.tree) c.remove_then_create.ensures.ok
 
 pub returns-clause-went : goal.returns-clause-went
 returns-clause-went g c = c.remove_then_create.ensures.went
@@ -21,7 +21,7 @@ returns-clause-mended g c =
     let lines = c.args.table.now in
     let now = c.args.now in
     let t = g.T.Tree.state c.args.tree.now in
-    boot_mended lines c.requires.lines (IsStepOfSome (phases_course lines now) boot_phases t) now t (g.T.Tree.steps c.args.tree.now)
+    boot_mended lines c.lines-lines.ensures.whole (IsStepOfSome (phases_course lines now) boot_phases t) now t (g.T.Tree.steps c.args.tree.now)
     (g.T.Tree.state c.remove_then_create.new.tree) (g.T.Tree.steps c.remove_then_create.new.tree) c.ranges.now.fits c.look-root.ensures.tree c.remove_then_create.ensures.acted.ran c.lines-lines.ensures.distinct
 
 pub returns-clause-again : goal.returns-clause-again
@@ -29,7 +29,7 @@ returns-clause-again g c =
     let lines = c.args.table.now in
     let now = c.args.now in
     let t = g.T.Tree.state c.args.tree.now in
-    boot_mended_again lines c.requires.lines (IsStepOfSome (phases_course lines now) boot_phases t) now t (g.T.Tree.steps c.args.tree.now)
+    boot_mended_again lines c.lines-lines.ensures.whole (IsStepOfSome (phases_course lines now) boot_phases t) now t (g.T.Tree.steps c.args.tree.now)
     (g.T.Tree.state c.remove_then_create.new.tree) (g.T.Tree.steps c.remove_then_create.new.tree) c.ranges.now.fits c.look-root.ensures.tree c.remove_then_create.ensures.acted.ran c.lines-lines.ensures.distinct
 
 pub returns-clause-one_more : goal.returns-clause-one_more
@@ -37,7 +37,7 @@ returns-clause-one_more g c =
     let lines = c.args.table.now in
     let now = c.args.now in
     let t = g.T.Tree.state c.args.tree.now in
-    boot_stopped lines c.requires.lines (IsStepOfSome (phases_course lines now) boot_phases t) now t (g.T.Tree.steps c.args.tree.now)
+    boot_stopped lines c.lines-lines.ensures.whole (IsStepOfSome (phases_course lines now) boot_phases t) now t (g.T.Tree.steps c.args.tree.now)
     (g.T.Tree.state c.remove_then_create.new.tree) (g.T.Tree.steps c.remove_then_create.new.tree) c.ranges.now.fits c.look-root.ensures.tree c.remove_then_create.ensures.acted.ran
 
 pub returns-clause-framed : goal.returns-clause-framed
@@ -45,7 +45,7 @@ returns-clause-framed g c =
     let lines = c.args.table.now in
     let now = c.args.now in
     let t = g.T.Tree.state c.args.tree.now in
-    phases_framed lines c.requires.lines now boot_phases (IsStepOfSome (phases_course lines now) boot_phases t) t (g.T.Tree.steps c.args.tree.now)
+    phases_framed lines c.lines-lines.ensures.whole now boot_phases (IsStepOfSome (phases_course lines now) boot_phases t) t (g.T.Tree.steps c.args.tree.now)
     (g.T.Tree.state c.remove_then_create.new.tree) (g.T.Tree.steps c.remove_then_create.new.tree) c.look-root.ensures.tree c.remove_then_create.ensures.acted.ran
 
 pub returns-clause-between : goal.returns-clause-between
@@ -53,7 +53,7 @@ returns-clause-between g c =
     let lines = c.args.table.now in
     let now = c.args.now in
     let t = g.T.Tree.state c.args.tree.now in
-    boot_amid lines c.requires.lines (IsStepOfSome (phases_course lines now) boot_phases t) now t (g.T.Tree.steps c.args.tree.now)
+    boot_amid lines c.lines-lines.ensures.whole (IsStepOfSome (phases_course lines now) boot_phases t) now t (g.T.Tree.steps c.args.tree.now)
     (g.T.Tree.state c.remove_then_create.new.tree) (g.T.Tree.steps c.remove_then_create.new.tree) c.ranges.now.fits c.look-root.ensures.tree c.remove_then_create.ensures.acted.ran
 
 pub returns-clause-gives : goal.returns-clause-gives
@@ -61,10 +61,10 @@ returns-clause-gives g c =
     let lines = c.args.table.now in
     let now = c.args.now in
     let t = g.T.Tree.state c.args.tree.now in
-    boot_given lines c.requires.lines (Partway (phases_course lines now) boot_phases t) now t (g.T.Tree.steps c.args.tree.now)
+    boot_given lines c.lines-lines.ensures.whole (Partway (phases_course lines now) boot_phases t) now t (g.T.Tree.steps c.args.tree.now)
     (g.T.Tree.state c.remove_then_create.new.tree) (g.T.Tree.steps c.remove_then_create.new.tree) c.ranges.now.fits c.look-root.ensures.tree c.remove_then_create.ensures.acted.ran
 
 pub returns-clause-input : goal.returns-clause-input
 returns-clause-input g c =
-    phases_keep_input c.args.table.now c.requires.lines c.args.now boot_phases c.ranges.now.fits (g.T.Tree.state c.args.tree.now) c.look-root.ensures.tree (g.T.Tree.steps c.args.tree.now)
+    phases_keep_input c.args.table.now c.lines-lines.ensures.whole c.args.now boot_phases c.ranges.now.fits (g.T.Tree.state c.args.tree.now) c.look-root.ensures.tree (g.T.Tree.steps c.args.tree.now)
     (g.T.Tree.state c.remove_then_create.new.tree) (g.T.Tree.steps c.remove_then_create.new.tree) c.remove_then_create.ensures.acted.ran

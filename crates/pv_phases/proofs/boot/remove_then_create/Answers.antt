@@ -9,7 +9,7 @@ returns-in_err-removing g c =
     let lines = c.args.table.now in
     let now = c.args.now in
     removing_failed g.T.Tree lines now moves c.args.tree.now c.args.messages.now c.remove_run.new.tree c.remove_run.new.messages c.remove_run.result c.from_residual.result c.in_err-removing.was c.from_residual.ensures.1
-    (removing_out g.T.Tree lines now c.lines.result.now c.lines.ensures.lines c.args.tree.now c.remove_run.new.tree c.args.messages.now c.remove_run.new.messages c.remove_run.result c.remove_run.ensures.run)
+    (removing_out g.T.Tree lines now c.args.tree.now c.remove_run.new.tree c.args.messages.now c.remove_run.new.messages c.remove_run.result c.remove_run.ensures.run)
 
 pub returns-in_err-creating : goal.returns-in_err-creating
 returns-in_err-creating g c =
@@ -17,7 +17,7 @@ returns-in_err-creating g c =
     let lines = c.args.table.now in
     let now = c.args.now in
     creating_failed g.T.Tree lines now moves c.args.tree.now c.args.messages.now c.remove_run.new.tree c.remove_run.new.messages c.in_ok-removing.removing
-    (removing_out g.T.Tree lines now c.lines.result.now c.lines.ensures.lines c.args.tree.now c.remove_run.new.tree c.args.messages.now c.remove_run.new.messages (Ok c.in_ok-removing.removing) c.in_ok-removing.ensures.run)
+    (removing_out g.T.Tree lines now c.args.tree.now c.remove_run.new.tree c.args.messages.now c.remove_run.new.messages (Ok c.in_ok-removing.removing) c.in_ok-removing.ensures.run)
     c.create_run.new.tree c.create_run.new.messages c.create_run.result c.from_residual-in_err-creating.result c.in_err-creating.was c.from_residual-in_err-creating.ensures.1
     (creating_out g.T.Tree lines now c.remove_run.new.tree c.create_run.new.tree c.remove_run.new.messages c.create_run.new.messages c.create_run.result
     c.create_run.ensures.ok c.create_run.ensures.said c.create_run.ensures.carried c.create_run.ensures.part c.create_run.ensures.acted c.create_run.ensures.went)
@@ -28,7 +28,7 @@ returns g c =
     let lines = c.args.table.now in
     let now = c.args.now in
     both_done g.T.Tree lines now moves c.args.tree.now c.args.messages.now c.remove_run.new.tree c.remove_run.new.messages c.in_ok-removing.removing
-    (removing_out g.T.Tree lines now c.lines.result.now c.lines.ensures.lines c.args.tree.now c.remove_run.new.tree c.args.messages.now c.remove_run.new.messages (Ok c.in_ok-removing.removing) c.in_ok-removing.ensures.run)
+    (removing_out g.T.Tree lines now c.args.tree.now c.remove_run.new.tree c.args.messages.now c.remove_run.new.messages (Ok c.in_ok-removing.removing) c.in_ok-removing.ensures.run)
     c.create_run.new.tree c.create_run.new.messages c.in_ok-creating.creating c.and.result
     (creating_out g.T.Tree lines now c.remove_run.new.tree c.create_run.new.tree c.remove_run.new.messages c.create_run.new.messages (Ok c.in_ok-creating.creating)
     c.in_ok-creating.ensures.ok c.in_ok-creating.ensures.said c.in_ok-creating.ensures.carried c.in_ok-creating.ensures.part c.in_ok-creating.ensures.acted c.in_ok-creating.ensures.went)

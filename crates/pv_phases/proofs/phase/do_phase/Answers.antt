@@ -17,7 +17,7 @@ returns-in-Remove-clause-ok g c =
     let now = c.args.now in
     let table = c.args.table.now in
     subst (λ (p : Phase). OnOk c.remove_run.result (g.T.Tree.state c.remove_run.new.tree ≡ left_by table now p t)) (sym c.in-Remove.is)
-    (subst (λ (ls : List Line). OnOk c.remove_run.result (g.T.Tree.state c.remove_run.new.tree ≡ left_by ls now Remove t)) c.lines.ensures.lines c.remove_run.ensures.run.ok)
+    c.remove_run.ensures.run.ok
 
 pub returns-in-Remove-clause-acted : goal.returns-in-Remove-clause-acted
 returns-in-Remove-clause-acted g c =
@@ -25,7 +25,7 @@ returns-in-Remove-clause-acted g c =
     let now = c.args.now in
     let table = c.args.table.now in
     subst (λ (p : Phase). Acted g.T.Tree (on_way table now p t) (is_step_of table now p t) (most_steps_of table now p t) now c.args.tree.now c.remove_run.new.tree c.remove_run.result) (sym c.in-Remove.is)
-    (subst (λ (ls : List Line). Acted g.T.Tree (on_way ls now Remove t) (is_step_of ls now Remove t) (most_steps_of ls now Remove t) now c.args.tree.now c.remove_run.new.tree c.remove_run.result) c.lines.ensures.lines c.remove_run.ensures.run.acted)
+    c.remove_run.ensures.run.acted
 
 pub returns-in-Remove-clause-mended : goal.returns-in-Remove-clause-mended
 returns-in-Remove-clause-mended g c =
@@ -33,7 +33,7 @@ returns-in-Remove-clause-mended g c =
     let now = c.args.now in
     let table = c.args.table.now in
     subst (λ (p : Phase). IsMendedBy (p ∷ []) table now t (drop (length (g.T.Tree.steps c.args.tree.now)) (g.T.Tree.steps c.remove_run.new.tree))) (sym c.in-Remove.is)
-    (subst (λ (ls : List Line). IsMendedBy (Remove ∷ []) ls now t (drop (length (g.T.Tree.steps c.args.tree.now)) (g.T.Tree.steps c.remove_run.new.tree))) c.lines.ensures.lines c.remove_run.ensures.mended)
+    c.remove_run.ensures.mended
 
 pub returns-in-Purge-clause-ok : goal.returns-in-Purge-clause-ok
 returns-in-Purge-clause-ok g c =
@@ -41,7 +41,7 @@ returns-in-Purge-clause-ok g c =
     let now = c.args.now in
     let table = c.args.table.now in
     subst (λ (p : Phase). OnOk c.purge_run.result (g.T.Tree.state c.purge_run.new.tree ≡ left_by table now p t)) (sym c.in-Purge.is)
-    (subst (λ (ls : List Line). OnOk c.purge_run.result (g.T.Tree.state c.purge_run.new.tree ≡ left_by ls now Purge t)) c.lines-in-Purge.ensures.lines c.purge_run.ensures.run.ok)
+    c.purge_run.ensures.run.ok
 
 pub returns-in-Purge-clause-acted : goal.returns-in-Purge-clause-acted
 returns-in-Purge-clause-acted g c =
@@ -49,7 +49,7 @@ returns-in-Purge-clause-acted g c =
     let now = c.args.now in
     let table = c.args.table.now in
     subst (λ (p : Phase). Acted g.T.Tree (on_way table now p t) (is_step_of table now p t) (most_steps_of table now p t) now c.args.tree.now c.purge_run.new.tree c.purge_run.result) (sym c.in-Purge.is)
-    (subst (λ (ls : List Line). Acted g.T.Tree (on_way ls now Purge t) (is_step_of ls now Purge t) (most_steps_of ls now Purge t) now c.args.tree.now c.purge_run.new.tree c.purge_run.result) c.lines-in-Purge.ensures.lines c.purge_run.ensures.run.acted)
+    c.purge_run.ensures.run.acted
 
 pub returns-in-Purge-clause-mended : goal.returns-in-Purge-clause-mended
 returns-in-Purge-clause-mended g c =
@@ -57,7 +57,7 @@ returns-in-Purge-clause-mended g c =
     let now = c.args.now in
     let table = c.args.table.now in
     subst (λ (p : Phase). IsMendedBy (p ∷ []) table now t (drop (length (g.T.Tree.steps c.args.tree.now)) (g.T.Tree.steps c.purge_run.new.tree))) (sym c.in-Purge.is)
-    (subst (λ (ls : List Line). IsMendedBy (Purge ∷ []) ls now t (drop (length (g.T.Tree.steps c.args.tree.now)) (g.T.Tree.steps c.purge_run.new.tree))) c.lines-in-Purge.ensures.lines c.purge_run.ensures.mended)
+    c.purge_run.ensures.mended
 
 pub returns-in-Create-clause-acted : goal.returns-in-Create-clause-acted
 returns-in-Create-clause-acted g c =
@@ -74,7 +74,7 @@ returns-in_err-clean_run-in-Clean-clause-acted g c =
     let table = c.args.table.now in
     acted_passed g.T.Tree c.clean_run.result c.from_residual.result c.in_err-clean_run-in-Clean.was c.from_residual.ensures.1
     (subst (λ (p : Phase). Acted g.T.Tree (on_way table now p t) (is_step_of table now p t) (most_steps_of table now p t) now c.args.tree.now c.clean_run.new.tree c.clean_run.result) (sym c.in-Clean.is)
-    (subst (λ (ls : List Line). Acted g.T.Tree (on_way ls now Clean t) (is_step_of ls now Clean t) (most_steps_of ls now Clean t) now c.args.tree.now c.clean_run.new.tree c.clean_run.result) c.lines-in-Clean.ensures.lines c.clean_run.ensures.acted))
+    c.clean_run.ensures.acted)
 
 pub returns-in_ok-clean_run-in-Clean-clause-ok : goal.returns-in_ok-clean_run-in-Clean-clause-ok
 returns-in_ok-clean_run-in-Clean-clause-ok g c =
@@ -82,7 +82,7 @@ returns-in_ok-clean_run-in-Clean-clause-ok g c =
     let now = c.args.now in
     let table = c.args.table.now in
     subst (λ (p : Phase). g.T.Tree.state c.clean_run.new.tree ≡ left_by table now p t) (sym c.in-Clean.is)
-    (subst (λ (ls : List Line). g.T.Tree.state c.clean_run.new.tree ≡ left_by ls now Clean t) c.lines-in-Clean.ensures.lines c.in_ok-clean_run-in-Clean.ensures.ok)
+    c.in_ok-clean_run-in-Clean.ensures.ok
 
 pub returns-in_ok-clean_run-in-Clean-clause-acted : goal.returns-in_ok-clean_run-in-Clean-clause-acted
 returns-in_ok-clean_run-in-Clean-clause-acted g c =

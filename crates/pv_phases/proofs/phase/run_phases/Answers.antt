@@ -79,7 +79,7 @@ returns-in_err-one-clause-framed g c =
     let phase : Phase = get_or c.args.phases.now i Remove in
     let is : phase ≡ get_or c.args.phases.now i phase = get_or_default c.args.phases.now i Remove phase c.loop-phase-test.true in
     let t = g.T.Tree.state c.args.tree.now in
-    phases_framed c.args.table.now c.requires.lines c.args.now c.args.phases.now (IsStepOfSome (phases_course c.args.table.now c.args.now) c.args.phases.now t) t
+    phases_framed c.args.table.now c.lines-lines.ensures.whole c.args.now c.args.phases.now (IsStepOfSome (phases_course c.args.table.now c.args.now) c.args.phases.now t) t
     (g.T.Tree.steps c.args.tree.now) (g.T.Tree.state c.do_phase.new.tree) (g.T.Tree.steps c.do_phase.new.tree) c.look-root.ensures.tree
     (phases_acted g.T.Tree moves c.args.table.now c.args.now c.args.phases.now c.args.tree.now c.args.messages.now i phase c.loop-phase-test.true is c.loop-phase.carried c.loop-phase.tree c.loop-phase.messages c.loop-phase.invariant c.do_phase.ensures.acted).ran
 
@@ -118,7 +118,7 @@ returns-clause-staged g c =
     let t = g.T.Tree.state c.args.tree.now in
     subst (IsSweptBy c.args.phases.now c.args.table.now c.args.now t)
     (sym (phases_whole g.T.Tree moves c.args.table.now c.args.now c.args.phases.now c.args.tree.now c.args.messages.now c.loop-phase.phase-index past c.loop-phase.carried c.loop-phase.tree c.loop-phase.messages c.loop-phase.invariant))
-    (phases_swept c.args.table.now c.requires.lines c.args.now c.args.phases.now t)
+    (phases_swept c.args.table.now c.lines-lines.ensures.whole c.args.now c.args.phases.now t)
 
 pub returns-clause-part : goal.returns-clause-part
 returns-clause-part g c =
@@ -145,7 +145,7 @@ returns-clause-mended g c =
 pub returns-clause-framed : goal.returns-clause-framed
 returns-clause-framed g c =
     let t = g.T.Tree.state c.args.tree.now in
-    phases_framed c.args.table.now c.requires.lines c.args.now c.args.phases.now (IsStepOfSome (phases_course c.args.table.now c.args.now) c.args.phases.now t) t
+    phases_framed c.args.table.now c.lines-lines.ensures.whole c.args.now c.args.phases.now (IsStepOfSome (phases_course c.args.table.now c.args.now) c.args.phases.now t) t
     (g.T.Tree.steps c.args.tree.now) (g.T.Tree.state c.loop-phase.tree) (g.T.Tree.steps c.loop-phase.tree) c.look-root.ensures.tree
     c.loop-phase.invariant.going.acted.ran
 
@@ -155,13 +155,13 @@ returns-in_err-one-clause-between g c =
     let i = c.loop-phase.phase-index in
     let phase : Phase = get_or c.args.phases.now i Remove in
     let is : phase ≡ get_or c.args.phases.now i phase = get_or_default c.args.phases.now i Remove phase c.loop-phase-test.true in
-    phases_between c.args.table.now c.requires.lines c.args.now (g.T.Tree.state c.args.tree.now)
+    phases_between c.args.table.now c.lines-lines.ensures.whole c.args.now (g.T.Tree.state c.args.tree.now)
     (g.T.Tree.steps c.args.tree.now) (g.T.Tree.state c.do_phase.new.tree) (g.T.Tree.steps c.do_phase.new.tree) c.ranges.now.fits c.look-root.ensures.tree c.args.phases.now
     (phases_acted g.T.Tree moves c.args.table.now c.args.now c.args.phases.now c.args.tree.now c.args.messages.now i phase c.loop-phase-test.true is c.loop-phase.carried c.loop-phase.tree c.loop-phase.messages c.loop-phase.invariant c.do_phase.ensures.acted).ran
 
 pub returns-clause-between : goal.returns-clause-between
 returns-clause-between g c =
-    phases_between c.args.table.now c.requires.lines c.args.now (g.T.Tree.state c.args.tree.now)
+    phases_between c.args.table.now c.lines-lines.ensures.whole c.args.now (g.T.Tree.state c.args.tree.now)
     (g.T.Tree.steps c.args.tree.now) (g.T.Tree.state c.loop-phase.tree) (g.T.Tree.steps c.loop-phase.tree) c.ranges.now.fits c.look-root.ensures.tree c.args.phases.now
     c.loop-phase.invariant.going.acted.ran
 
@@ -171,13 +171,13 @@ returns-in_err-one-clause-gives g c =
     let i = c.loop-phase.phase-index in
     let phase : Phase = get_or c.args.phases.now i Remove in
     let is : phase ≡ get_or c.args.phases.now i phase = get_or_default c.args.phases.now i Remove phase c.loop-phase-test.true in
-    phases_give c.args.table.now c.requires.lines c.args.now (g.T.Tree.state c.args.tree.now)
+    phases_give c.args.table.now c.lines-lines.ensures.whole c.args.now (g.T.Tree.state c.args.tree.now)
     (g.T.Tree.steps c.args.tree.now) (g.T.Tree.state c.do_phase.new.tree) (g.T.Tree.steps c.do_phase.new.tree) c.ranges.now.fits c.look-root.ensures.tree c.args.phases.now
     (phases_acted g.T.Tree moves c.args.table.now c.args.now c.args.phases.now c.args.tree.now c.args.messages.now i phase c.loop-phase-test.true is c.loop-phase.carried c.loop-phase.tree c.loop-phase.messages c.loop-phase.invariant c.do_phase.ensures.acted).ran
 
 pub returns-clause-gives : goal.returns-clause-gives
 returns-clause-gives g c =
-    phases_give c.args.table.now c.requires.lines c.args.now (g.T.Tree.state c.args.tree.now)
+    phases_give c.args.table.now c.lines-lines.ensures.whole c.args.now (g.T.Tree.state c.args.tree.now)
     (g.T.Tree.steps c.args.tree.now) (g.T.Tree.state c.loop-phase.tree) (g.T.Tree.steps c.loop-phase.tree) c.ranges.now.fits c.look-root.ensures.tree c.args.phases.now
     c.loop-phase.invariant.going.acted.ran
 

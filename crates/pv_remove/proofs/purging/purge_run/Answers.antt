@@ -11,27 +11,27 @@ pub returns-in_err-plan-clause-run : goal.returns-in_err-plan-clause-run
 returns-in_err-plan-clause-run g c =
     let moves : Moves g.T.Tree = record { stays = g.met.T.Tree.reaches_self; goes_on = g.met.T.Tree.reaches_on; never_falls = g.met.T.Tree.never_falls } in
     let t = g.T.Tree.state c.args.tree.now in
-    takes_nothing g.T.Tree moves (is_purged c.args.lines.now t) (purged_messages c.args.lines.now t) (is_purge_unfinished c.args.lines.now t) c.args.now c.args.tree.now c.args.messages.now c.from_residual.result c.from_residual.ensures.1
+    takes_nothing g.T.Tree moves (is_purged c.args.table.now t) (purged_messages c.args.table.now t) (is_purge_unfinished c.args.table.now t) c.args.now c.args.tree.now c.args.messages.now c.from_residual.result c.from_residual.ensures.1
 
 pub returns-in_err-plan-clause-mended : goal.returns-in_err-plan-clause-mended
 returns-in_err-plan-clause-mended g c =
     let moves : Moves g.T.Tree = record { stays = g.met.T.Tree.reaches_self; goes_on = g.met.T.Tree.reaches_on; never_falls = g.met.T.Tree.never_falls } in
     let t = g.T.Tree.state c.args.tree.now in
     let h = g.T.Tree.steps c.args.tree.now in
-    let none = takes_nothing g.T.Tree moves (is_purged c.args.lines.now t) (purged_messages c.args.lines.now t) (is_purge_unfinished c.args.lines.now t) c.args.now c.args.tree.now c.args.messages.now c.from_residual.result c.from_residual.ensures.1 in
-    purge_mended c.args.lines.now (Removes (is_purged c.args.lines.now t)) c.args.now t h t h c.ranges.now.fits c.purge_plan.ensures.tree none.acted.ran
+    let none = takes_nothing g.T.Tree moves (is_purged c.args.table.now t) (purged_messages c.args.table.now t) (is_purge_unfinished c.args.table.now t) c.args.now c.args.tree.now c.args.messages.now c.from_residual.result c.from_residual.ensures.1 in
+    purge_mended c.args.table.now (Removes (is_purged c.args.table.now t)) c.args.now t h t h c.ranges.now.fits c.purge_plan.ensures.tree none.acted.ran
 
 pub carry_out-requires : goal.carry_out-requires
-carry_out-requires g c = record { whole = purged_together c.in_ok-plan.plan.paths.keys c.args.lines.now (g.T.Tree.state c.args.tree.now) c.in_ok-plan.ensures.gone }
+carry_out-requires g c = record { whole = purged_together c.in_ok-plan.plan.paths.keys c.args.table.now (g.T.Tree.state c.args.tree.now) c.in_ok-plan.ensures.gone }
 
 pub returns-clause-run : goal.returns-clause-run
 returns-clause-run g c =
-    let same : is_one_of c.in_ok-plan.plan.paths.keys ≡ is_purged c.args.lines.now (g.T.Tree.state c.args.tree.now) = λ i q. c.in_ok-plan.ensures.gone q i in
+    let same : is_one_of c.in_ok-plan.plan.paths.keys ≡ is_purged c.args.table.now (g.T.Tree.state c.args.tree.now) = λ i q. c.in_ok-plan.ensures.gone q i in
     takes-same g.T.Tree same c.in_ok-plan.ensures.said c.in_ok-plan.ensures.unfinished c.carry_out.ensures
 
 pub returns-clause-mended : goal.returns-clause-mended
 returns-clause-mended g c =
     let t = g.T.Tree.state c.args.tree.now in
-    let same : is_one_of c.in_ok-plan.plan.paths.keys ≡ is_purged c.args.lines.now t = λ i q. c.in_ok-plan.ensures.gone q i in
+    let same : is_one_of c.in_ok-plan.plan.paths.keys ≡ is_purged c.args.table.now t = λ i q. c.in_ok-plan.ensures.gone q i in
     let took = takes-same g.T.Tree same c.in_ok-plan.ensures.said c.in_ok-plan.ensures.unfinished c.carry_out.ensures in
-    purge_mended c.args.lines.now (Removes (is_purged c.args.lines.now t)) c.args.now t (g.T.Tree.steps c.args.tree.now) (g.T.Tree.state c.carry_out.new.tree) (g.T.Tree.steps c.carry_out.new.tree) c.ranges.now.fits c.purge_plan.ensures.tree took.acted.ran
+    purge_mended c.args.table.now (Removes (is_purged c.args.table.now t)) c.args.now t (g.T.Tree.steps c.args.tree.now) (g.T.Tree.state c.carry_out.new.tree) (g.T.Tree.steps c.carry_out.new.tree) c.ranges.now.fits c.purge_plan.ensures.tree took.acted.ran

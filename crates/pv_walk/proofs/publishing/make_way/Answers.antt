@@ -1,4 +1,4 @@
-use Rattle.std.proofs.Common.{◌≡◌, ◌≢◌, ℕ, sym, ap, subst, ◌∙◌, refl, [], is_some, Result}
+use Rattle.std.proofs.Common.{arith, true, false, ◌≡◌, ◌≢◌, ℕ, sym, ap, subst, ◌∙◌, refl, [], is_some, Result}
 use Rattle.pv_path.specs.Paths.{Path, is_prefix, staging_of}
 use Rattle.pv_steps.specs.declared.node.Kind.TheVariants.{Directory}
 use Rattle.pv_steps.specs.Trees.{Files, Places, places, IsTree, IsPresent, IsKind}
@@ -6,12 +6,14 @@ use Rattle.pv_steps.specs.Steps.{Yields, moved}
 use Rattle.pv_steps.specs.declared.tree.Tree.{Ghosts}
 use Rattle.pv_steps.specs.declared.tree.TreeFault.{TreeFault}
 use Rattle.pv_steps.specs.Content.{Removes}
+use Rattle.pv_steps.proofs.ContentLaws.{removes-wider}
 use Rattle.pv_steps.specs.Acting.{Acted, refused}
-use Rattle.pv_steps.proofs.ActingLaws.{Moves, well, acted_none}
+use Rattle.pv_steps.proofs.ActingLaws.{Moves, well, acted_none, acted_weaken}
 use Rattle.pv_dress.specs.Edits.{Pruned, taken, emptied, count_at}
 use Rattle.pv_walk.proofs.PublishLaws.{IsCleared, cleared-emptied, cleared-taken, moved_same, stage_same, yields_emptied, yields_taken}
-use Rattle.pv_walk.proofs.SweepLaws.{count_below-le, pruned-none}
-use Rattle.pv_walk.proofs.Removing.{widened}
+use Rattle.pv_walk.specs.Removal.{is_below, count_below, Clearing}
+use Rattle.pv_walk.proofs.ReplacingLaws.{clearing_none, clearing_below, clearing_taken}
+use Rattle.pv_walk.proofs.SweepLaws.{below_prefix, count_below-le}
 use Rattle.pv_walk.proofs.publishing.make_way.Goals as goal
 use Rattle.pv_path.proofs.Tests.{on_ok}
 
@@ -57,39 +59,78 @@ returns-in-true-true-clause-staged g c =
     (λ e. cleared_staged c.args.now c.args.path.now c.args.stage.now c.requires.stage c.requires.not_root (g.T.Tree.state c.args.tree.now) (g.T.Tree.state c.remove_below.new.tree) (by_emptied c.args.now c.args.path.now c.args.stage.now c.requires.stage c.requires.not_root (g.T.Tree.state c.args.tree.now) (g.T.Tree.state c.remove_below.new.tree) c.is_present.ensures.tree e) c.requires.staged)
     c.remove_below.ensures.emptied
 
-pub returns-in_default-clause-yields : goal.returns-in_default-clause-yields
-returns-in_default-clause-yields g c =
+pub returns-in-true-false-clause-yields : goal.returns-in-true-false-clause-yields
+returns-in-true-false-clause-yields g c =
     on_ok c.take_away.result
     (taken_yields c.args.now c.args.path.now c.args.stage.now c.requires.stage c.requires.not_root (g.T.Tree.state c.args.tree.now) (g.T.Tree.state c.take_away.new.tree) c.is_present.ensures.tree (sym c.is_present.ensures.present ∙ c.if-not-is_present.false))
     c.take_away.ensures.taken
 
-pub returns-in_default-clause-same : goal.returns-in_default-clause-same
-returns-in_default-clause-same g c =
+pub returns-in-true-false-clause-same : goal.returns-in-true-false-clause-same
+returns-in-true-false-clause-same g c =
     on_ok c.take_away.result
     (λ e. cleared_moved c.args.now c.args.path.now c.args.stage.now c.requires.stage c.requires.not_root (g.T.Tree.state c.args.tree.now) (g.T.Tree.state c.take_away.new.tree) (by_taken c.args.now c.args.path.now c.args.stage.now c.requires.stage c.requires.not_root (g.T.Tree.state c.args.tree.now) (g.T.Tree.state c.take_away.new.tree) (sym c.is_present.ensures.present ∙ c.if-not-is_present.false) e))
     c.take_away.ensures.taken
 
-pub returns-in_default-clause-staged : goal.returns-in_default-clause-staged
-returns-in_default-clause-staged g c =
+pub returns-in-true-false-clause-staged : goal.returns-in-true-false-clause-staged
+returns-in-true-false-clause-staged g c =
     on_ok c.take_away.result
     (λ e. cleared_staged c.args.now c.args.path.now c.args.stage.now c.requires.stage c.requires.not_root (g.T.Tree.state c.args.tree.now) (g.T.Tree.state c.take_away.new.tree) (by_taken c.args.now c.args.path.now c.args.stage.now c.requires.stage c.requires.not_root (g.T.Tree.state c.args.tree.now) (g.T.Tree.state c.take_away.new.tree) (sym c.is_present.ensures.present ∙ c.if-not-is_present.false) e) c.requires.staged)
     c.take_away.ensures.taken
 
+pub returns-in-false-true-clause-yields : goal.returns-in-false-true-clause-yields
+returns-in-false-true-clause-yields g c =
+    on_ok c.take_away-in-false-true.result
+    (taken_yields c.args.now c.args.path.now c.args.stage.now c.requires.stage c.requires.not_root (g.T.Tree.state c.args.tree.now) (g.T.Tree.state c.take_away-in-false-true.new.tree) c.is_present.ensures.tree (sym c.is_present.ensures.present ∙ c.if-not-is_present.false))
+    c.take_away-in-false-true.ensures.taken
+
+pub returns-in-false-true-clause-same : goal.returns-in-false-true-clause-same
+returns-in-false-true-clause-same g c =
+    on_ok c.take_away-in-false-true.result
+    (λ e. cleared_moved c.args.now c.args.path.now c.args.stage.now c.requires.stage c.requires.not_root (g.T.Tree.state c.args.tree.now) (g.T.Tree.state c.take_away-in-false-true.new.tree) (by_taken c.args.now c.args.path.now c.args.stage.now c.requires.stage c.requires.not_root (g.T.Tree.state c.args.tree.now) (g.T.Tree.state c.take_away-in-false-true.new.tree) (sym c.is_present.ensures.present ∙ c.if-not-is_present.false) e))
+    c.take_away-in-false-true.ensures.taken
+
+pub returns-in-false-true-clause-staged : goal.returns-in-false-true-clause-staged
+returns-in-false-true-clause-staged g c =
+    on_ok c.take_away-in-false-true.result
+    (λ e. cleared_staged c.args.now c.args.path.now c.args.stage.now c.requires.stage c.requires.not_root (g.T.Tree.state c.args.tree.now) (g.T.Tree.state c.take_away-in-false-true.new.tree) (by_taken c.args.now c.args.path.now c.args.stage.now c.requires.stage c.requires.not_root (g.T.Tree.state c.args.tree.now) (g.T.Tree.state c.take_away-in-false-true.new.tree) (sym c.is_present.ensures.present ∙ c.if-not-is_present.false) e) c.requires.staged)
+    c.take_away-in-false-true.ensures.taken
+
 pub returns-in-true-true-clause-acted : goal.returns-in-true-true-clause-acted
 returns-in-true-true-clause-acted g c =
     let t = g.T.Tree.state c.args.tree.now in
-    widened g.T.Tree c.args.path.now (count_at t c.args.path.now) (count_below-le t c.args.path.now) c.remove_below.ensures.acted
+    acted_weaken g.T.Tree (Pruned (is_below c.args.path.now) t) (Clearing c.args.path.now t) (Removes (is_below c.args.path.now)) (Removes (is_prefix c.args.path.now)) (count_below t c.args.path.now) (count_at t c.args.path.now)
+    (clearing_below c.args.path.now t c.is_present.ensures.tree (c.in-true-true.ensures'.kind.0 refl)) (removes-wider (is_below c.args.path.now) (is_prefix c.args.path.now) (below_prefix c.args.path.now))
+    (count_below-le t c.args.path.now) c.remove_below.ensures.acted
+
+cleared_by_taking : {S A : Type 0} (tree : Ghosts S) (path stage : Path) → stage ≡ staging_of path → {now : ℕ} {a b : S} {r : Result A TreeFault} → IsPresent (tree.state a) path
+    → (IsKind Directory (tree.state a) stage → IsKind Directory (tree.state a) path → ⊥) → ((IsKind Directory (tree.state a) stage → ⊥) → (IsKind Directory (tree.state a) path → ⊥) → ⊥)
+    → Acted tree (Pruned (is_prefix path) (tree.state a)) (Removes (is_prefix path)) (count_at (tree.state a) path) now a b r
+    → Acted tree (Clearing path (tree.state a)) (Removes (is_prefix path)) (count_at (tree.state a) path) now a b r
+cleared_by_taking tree path stage is {a = a} present both neither =
+    let t = tree.state a in
+    acted_weaken tree (Pruned (is_prefix path) t) (Clearing path t) (Removes (is_prefix path)) (Removes (is_prefix path)) (count_at t path) (count_at t path)
+    (clearing_taken path t present (λ x y. both (subst (IsKind Directory t) (sym is) x) y) (λ x y. neither (λ z. x (subst (IsKind Directory t) is z)) y)) (λ s h. h) (omega arith)
 
 pub take_away-requires : goal.take_away-requires
 take_away-requires g c = c.requires.not_root
 
-pub returns-in_default-clause-acted : goal.returns-in_default-clause-acted
-returns-in_default-clause-acted g c = c.take_away.ensures.acted
+pub take_away-requires-in-false-true : goal.take_away-requires-in-false-true
+take_away-requires-in-false-true g c = c.requires.not_root
+
+pub returns-in-true-false-clause-acted : goal.returns-in-true-false-clause-acted
+returns-in-true-false-clause-acted g c =
+    cleared_by_taking g.T.Tree c.args.path.now c.args.stage.now c.requires.stage (sym c.is_present.ensures.present ∙ c.if-not-is_present.false)
+    (λ x y. let no : false ≡ true = c.in-true-false.ensures'.kind.1 y in cc) (λ x y. x (c.in-true-false.ensures.kind.0 refl)) c.take_away.ensures.acted
+
+pub returns-in-false-true-clause-acted : goal.returns-in-false-true-clause-acted
+returns-in-false-true-clause-acted g c =
+    cleared_by_taking g.T.Tree c.args.path.now c.args.stage.now c.requires.stage (sym c.is_present.ensures.present ∙ c.if-not-is_present.false)
+    (λ x y. let no : false ≡ true = c.in-false-true.ensures.kind.1 x in cc) (λ x y. y (c.in-false-true.ensures'.kind.0 refl)) c.take_away-in-false-true.ensures.acted
 
 untouched : {S A : Type 0} (tree : Ghosts S) → Moves tree → (path : Path) (now : ℕ) (a : S) (r : Result A TreeFault) → refused r ≡ 0
-    → Acted tree (Pruned (is_prefix path) (tree.state a)) (Removes (is_prefix path)) (count_at (tree.state a) path) now a a r
+    → Acted tree (Clearing path (tree.state a)) (Removes (is_prefix path)) (count_at (tree.state a) path) now a a r
 untouched tree moves path now a r none =
-    acted_none tree moves (Pruned (is_prefix path) (tree.state a)) (Removes (is_prefix path)) (count_at (tree.state a) path) now a r none (pruned-none (is_prefix path) (tree.state a))
+    acted_none tree moves (Clearing path (tree.state a)) (Removes (is_prefix path)) (count_at (tree.state a) path) now a r none (clearing_none path (tree.state a))
 
 pub returns-then-not-is_present-clause-acted : goal.returns-then-not-is_present-clause-acted
 returns-then-not-is_present-clause-acted g c =

@@ -3,7 +3,8 @@ use Rattle.pv_steps.specs.Trees.{Places}
 use Rattle.pv_steps.specs.Steps.{made}
 use Rattle.pv_steps.proofs.ActingLaws.{acted_weaken}
 use Rattle.pv_dress.specs.Edits.{count_at}
-use Rattle.pv_walk.specs.Putting.{Putting, PuttingOver, IsPutStep}
+use Rattle.pv_walk.specs.Putting.{Putting, IsPutStep}
+use Rattle.pv_walk.specs.Replacing.{Replacing, new_subtree}
 use Rattle.pv_walk.specs.Staging.{new_object, most_new}
 use Rattle.pv_walk.proofs.PuttingOverLaws.{cut_absent, count_absent, over_putting}
 use Rattle.pv_walk.proofs.put.put_new.Goals as goal
@@ -22,5 +23,5 @@ returns-clause-acted g c =
     let path = c.args.path.now in
     let file = c.args.new.now in
     let none = count_absent path t c.look-absent.ensures.tree c.requires.absent in
-    acted_weaken g.T.Tree (PuttingOver path file t) (Putting path file t) (IsPutStep path file) (IsPutStep path file) (count_at t path + most_new) most_new
+    acted_weaken g.T.Tree (Replacing path (new_subtree file) t) (Putting path file t) (IsPutStep path file) (IsPutStep path file) (count_at t path + most_new) most_new
     (over_putting path t c.look-absent.ensures.tree c.requires.absent file) (λ s q. q) (omega (arith, none)) c.put_over.ensures.acted

@@ -30,5 +30,5 @@ returns-clause-acted g c =
     let path = c.args.path.now in
     let fewer = count_over c.args.now path c.requires.not_root c.args.new.now t u c.in_ok-stage_file.ensures.ok in
     acted_within g.T.Tree (most_staged + (1 + count_at u path)) (count_at t path + most_new) (omega (arith, fewer))
-    (over_acted g.T.Tree c.args.now path c.requires.not_root c.args.new.now c.args.tree.now c.stage_file.new.tree moves c.in_ok-stage_file.ensures.ok c.look-there.ensures.tree c.requires.free
+    (over_acted g.T.Tree c.args.now path c.requires.not_root c.args.new.now c.args.tree.now c.stage_file.new.tree moves c.in_ok-stage_file.ensures.ok c.requires.parent c.look-there.ensures.tree c.requires.free
     c.in_ok-stage_file.ensures.acted c.publish.ensures.acted)

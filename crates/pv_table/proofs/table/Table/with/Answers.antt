@@ -1,7 +1,9 @@
 use Rattle.std.specs.Vec.{vec_len}
-use Rattle.std.proofs.Common.{rules, length, ◌≡◌, ◌∙◌, List, None, Some, cond, find, subst, sym, ap}
+use Rattle.std.proofs.Common.{rules, length, ◌≡◌, ◌∙◌, List, [], ◌∷◌, None, Some, cond, find, subst, sym, ap}
 use Rattle.indexmap.specs.IndexMap.{get}
 use Rattle.pv_lines.specs.declared.line.Line.{Line}
+use Rattle.pv_lines.specs.Lines.{IsLine}
+use Rattle.pv_path.proofs.Tests.{all_append}
 use Rattle.pv_path.specs.Paths.{Path, same_path}
 use Rattle.pv_table.specs.Active.{are_distinct, make_same}
 use Rattle.pv_table.specs.Building.{first_place, makes}
@@ -11,7 +13,7 @@ use Rattle.pv_table.proofs.table.Table.with.Goals as goal
 pub invariant_of-result : goal.invariant_of-result
 invariant_of-result c =
     let kept = c.self.inside.lines.items in
-    let none : find (λ first. make_same first c.args.line) kept ≡ None = subst (λ (lines : List Line). find (λ first. make_same first c.args.line) lines ≡ None) (sym c.self.view_is) c.requires in
+    let none : find (λ first. make_same first c.args.line) kept ≡ None = subst (λ (lines : List Line). find (λ first. make_same first c.args.line) lines ≡ None) (sym c.self.view_is) c.requires.first in
     let items = c.in_ok-push.ensures.items in
     let count : vec_len c.self.inside.lines ≡ length kept = search rules in
     let step = λ (q : Path). c.in_ok-note_place.ensures q ∙ ap (λ n. cond (makes q c.args.line) (Some n) (get same_path c.self.inside.places q)) (c.len.ensures ∙ count) in (
@@ -19,4 +21,5 @@ invariant_of-result c =
       λ q.
           index-push kept (get same_path c.self.inside.places) (get same_path c.note_place.new.places) c.args.line c.self.invariant.1 none step q
           ∙ ap (first_place (makes q)) (sym items),
+      rw items (all_append IsLine kept (c.args.line ∷ []) c.self.invariant.2 (c.requires.line, tt)),
     )

@@ -1,4 +1,5 @@
 use Rattle.std.proofs.Common.{ap}
+use Rattle.pv_steps.proofs.ActingLaws.{never_counted}
 use Rattle.pv_tree.specs.Held.{Held}
 use Rattle.pv_tree.proofs.State.{tree_in, can_in, told_tree, told_state}
 use Rattle.pv_tree.proofs.mem_tree.MemTreeTree.step.Goals as goal
@@ -18,3 +19,6 @@ pub returns-clause-state : goal.returns-clause-state
 returns-clause-state c =
     told_state c.do_told.result c.self.inside.slots.items c.do_told.new.slots.items c.args.self.now.files c.args.step.now c.args.now (ap (λ (h : Held). h.files) c.self.view_is)
     c.self.invariant.forest c.do_told.ensures.forest c.do_told.ensures.ok
+
+pub returns-clause-counted : goal.returns-clause-counted
+returns-clause-counted c = never_counted c.do_told.result c.do_told.ensures.fault 0
