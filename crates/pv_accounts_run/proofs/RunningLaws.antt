@@ -23,7 +23,6 @@ use Rattle.pv_accounts_run.specs.Edits.{edited, etc, with_edit}
 use Rattle.pv_accounts_run.specs.Carrying.{carried_out, swept_names, with_directory}
 use Rattle.pv_requests.specs.declared.request.Request.{Request}
 use Rattle.pv_sysusers.specs.Lines.{lines_from, said_duplicates}
-use Rattle.pv_doing.specs.declared.carried.Carried.TheVariants.{Whole}
 use Rattle.pv_steps.specs.declared.step.Step.{Step}
 use Rattle.pv_steps.specs.declared.tree.Tree.{Ghosts}
 use Rattle.pv_steps.specs.Acting.{Acted, refused}

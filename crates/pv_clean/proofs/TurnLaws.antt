@@ -1,5 +1,5 @@
 -- Laws of the order of a clean phase: a directory has its stamps back before anything goes that does not lie below it.
-use Rattle.std.specs.Prelude.{◌≡◌, ◌≢◌, ℕ, ◌+◌, ◌≤◌, Bool, true, false, cond, ◌&&◌, ◌||◌, not, List, [], ◌∷◌, ◌++◌, length, map, reverse, take, drop, Option, Some, None, is_some, option_map, Result, Ok, Err}
+use Rattle.std.specs.Prelude.{◌≡◌, ◌≢◌, ℕ, ◌+◌, ◌≤◌, Bool, true, false, cond, ◌&&◌, ◌||◌, not, List, [], ◌∷◌, ◌++◌, length, map, reverse, take, drop, Option, Some, None, is_some, option_map, Result}
 use Rattle.std.proofs.Common.{refl, sym, ap, subst, ◌∙◌, append_assoc, inl, inr, ◌⊎◌, arith, length-append, zero, suc}
 use Rattle.std.proofs.lemmas.Bool.{cases_Bool, and_parts, and_from}
 use Rattle.std.proofs.lemmas.List.{take-append-drop, take-append-le, take_all}
@@ -13,16 +13,16 @@ use Rattle.pv_steps.specs.declared.tree.Tree.{Ghosts}
 use Rattle.pv_steps.specs.declared.tree.TreeFault.{TreeFault}
 use Rattle.pv_steps.specs.Objects.{changed}
 use Rattle.pv_steps.specs.Runs.{after_all}
-use Rattle.pv_steps.specs.Trees.{Files, Places, places, IsPresent}
+use Rattle.pv_steps.specs.Trees.{Files, Places, places}
 use Rattle.pv_steps.specs.Trying.{TriedAll}
 use Rattle.pv_steps.proofs.TryingLaws.{reverse-first}
-use Rattle.pv_walk.specs.Listing.{times, is_child, AreGathered, IsGatheredBelow}
+use Rattle.pv_walk.specs.Listing.{times, AreGathered, IsGatheredBelow}
 use Rattle.pv_walk.specs.Removal.{is_below, loses_child}
 use Rattle.pv_walk.proofs.CountLaws.{same_or_not, taken_out, times-append, times-self}
 use Rattle.pv_walk.proofs.ListingLaws.{cond-le}
 use Rattle.pv_walk.proofs.RemovalLaws.{cond-true, is_below-child, no_same, zero_or_more}
 use Rattle.pv_find.specs.Whole.{goes_whole}
-use Rattle.pv_clean.specs.Cleaning.{clean_step, is_task, ArePlanned, AreOnOneWay, GoAfter, HasOtherStamps, IsCleanedInTurn, moments_of}
+use Rattle.pv_clean.specs.Cleaning.{clean_step, is_task, ArePlanned, AreOnOneWay, GoAfter, IsCleanedInTurn, moments_of}
 use Rattle.pv_clean.proofs.CleanSteps.{child_lost, later, no_root, one-set, order_back, own_again, steps_work, worked, worked-append, worked-gone, worked-kept, worked-none, worked-same}
 
 -- ---- lists
@@ -50,24 +50,22 @@ pub record Cut (f : Path → Step) (n : ℕ) (ps : List Path) : Type 0 where
 
 pub cut : (f : Path → Step) (n : ℕ) (ps : List Path) → Cut f n ps
 cut f n [] = record { front = []; back = []; parts = refl; done = take_all n [] (omega arith) }
-cut f n (p ∷ ps) = elim (le_or n (length (reverse (map f ps)))) [
-  | inl h ↦ record {
-    front = p ∷ rest.front;
-    back = rest.back;
-    parts = ap (λ xs. p ∷ xs) rest.parts;
-    done = ap (take n) (reverse-first (f p) (map f ps)) ∙ take-append-le n (reverse (map f ps)) (f p ∷ []) h ∙ rest.done;
-  }
-  | inr h ↦ record {
-    front = [];
-    back = p ∷ ps;
-    parts = refl;
-    done = take_all n (reverse (map f (p ∷ ps)))
-        (let all = ap length (reverse-first (f p) (map f ps)) ∙ length-append (reverse (map f ps)) (f p ∷ []) in omega (arith, all, h));
-  }
-]
+cut f n (p ∷ ps) = by (cut f n ps) (le_or n (length (reverse (map f ps))))
   where
-    rest : Cut f n ps
-    rest = cut f n ps
+    by : Cut f n ps → (n ≤ length (reverse (map f ps))) ⊎ (suc (length (reverse (map f ps))) ≤ n) → Cut f n (p ∷ ps)
+    by rest (inl h) = record {
+      front = p ∷ rest.front;
+      back = rest.back;
+      parts = ap (λ xs. p ∷ xs) rest.parts;
+      done = ap (take n) (reverse-first (f p) (map f ps)) ∙ take-append-le n (reverse (map f ps)) (f p ∷ []) h ∙ rest.done;
+    }
+    by rest (inr h) = record {
+      front = [];
+      back = p ∷ ps;
+      parts = refl;
+      done = take_all n (reverse (map f (p ∷ ps)))
+          (let all = ap length (reverse-first (f p) (map f ps)) ∙ length-append (reverse (map f ps)) (f p ∷ []) in omega (arith, all, h));
+    }
 
 -- ---- what is below a path that stands in front
 
@@ -226,19 +224,16 @@ pub tried_in_turn : {S : Type 0} (tree : Ghosts S) (goes : Path → Bool) (now :
     (plan : ArePlanned goes (tree.state a) steps) → ((q : Path) → goes q ≡ goes_whole goes (tree.state a) q) → AreGathered plan.paths
     → TriedAll tree (reverse steps) now a b r → IsCleanedInTurn now (tree.state a) (drop (length (tree.steps a)) (tree.steps b))
 tried_in_turn tree goes now steps a b r plan whole gathered tried n =
-    in_turn goes (tree.state a) now steps plan whole c.front c.back c.parts gathered (after_all (tree.state a) (take n told) now) (ap (λ (ss : List Step). after_all (tree.state a) ss now) there)
+    in_turn goes (tree.state a) now steps plan whole c.front c.back c.parts gathered (after_all (tree.state a) (take n (drop (length (tree.steps a)) (tree.steps b))) now) (ap (λ (ss : List Step). after_all (tree.state a) ss now) there)
   where
-    abbrev told : List Step
-    told = drop (length (tree.steps a)) (tree.steps b)
-
-    told_is : told ≡ tried.done
+    told_is : drop (length (tree.steps a)) (tree.steps b) ≡ tried.done
     told_is = ap (drop (length (tree.steps a))) tried.recorded ∙ drop-append_seam (tree.steps a) tried.done
 
     c : Cut (clean_step goes (tree.state a)) (length (take n tried.done)) plan.paths
     c = cut (clean_step goes (tree.state a)) (length (take n tried.done)) plan.paths
 
     -- they are the first of all of them
-    there : take n told ≡ reverse (map (clean_step goes (tree.state a)) c.back)
+    there : take n (drop (length (tree.steps a)) (tree.steps b)) ≡ reverse (map (clean_step goes (tree.state a)) c.back)
     there =
         ap (take n) told_is
         ∙ sym (take-append_seam (take n tried.done) (drop n tried.done ++ tried.left))

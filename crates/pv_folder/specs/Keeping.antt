@@ -1,13 +1,10 @@
 -- A tree kept in memory and in a folder of a host: what each of its steps asks of the host, what stays as it is, and what
 -- closing the folder leaves there.
-use Rattle.std.specs.Prelude.{◌≡◌, ◌≢◌, ℕ, ◌≤◌, Bool, true, List, [], ◌∷◌, ◌++◌, Option, Some, None, option_map, Result, Err}
+use Rattle.std.specs.Prelude.{◌≡◌, ◌≢◌, ℕ, ◌≤◌, Bool, true, List, [], ◌∷◌, ◌++◌, Option, Some, None, option_map}
 use Rattle.std.proofs.Common.{refl, subst, ◌∙◌, arith}
-use Rattle.pv_io.specs.Faults.{fault_after}
 use Rattle.pv_path.specs.Paths.{Path, has_names}
 use Rattle.pv_steps.specs.declared.step.Step.{Step}
 use Rattle.pv_steps.specs.declared.step.Step.TheVariants.{MakeDir, MakeFile, Write, Rename, Unlink, RemoveDir}
-use Rattle.pv_steps.specs.declared.tree.TreeFault.{TreeFault}
-use Rattle.pv_steps.specs.declared.tree.TreeFault.TheVariants.{Failed}
 use Rattle.pv_steps.specs.Trees.{Files, Places}
 use Rattle.pv_text.specs.Facts.{Values}
 use Rattle.pv_host.specs.Content.{Change, Content, Held, HostObject, IsAbsent, IsChanged, IsContent, IsDirectory, MayAsk, held, put_at}
@@ -79,11 +76,6 @@ pub record Moves (folder : Path) (old : Option Content) (faults : ℕ) (pending 
   pub outside : IsSameOutside folder old new
   pub count : faults ≤ faults'
   pub lasts : pending ≡ true → pending' ≡ true
-
--- the host's count of faults after a step: one more where it answered Failed, else as before
-abbrev pub step_count : {A : Type 0} → Result A TreeFault → ℕ → ℕ
-step_count (Err Failed) n = fault_after n
-step_count r n = n
 
 -- over any number of steps: none, and one run of steps after another
 pub same_outside : (folder : Path) (old : Option Content) → IsSameOutside folder old old

@@ -1,13 +1,13 @@
 //! A tree in memory that a folder of a host has too.
 ghost use Rattle.std.specs.Prelude.{◌≡◌, ◌++◌, ◌∷◌, [], ◌≤◌, true, false, IfSome, OnOk, OnErr, IsErrOf, Err};
-ghost use Rattle.pv_io.specs.Faults.{HasRisen};
 ghost use Rattle.pv_steps.specs.declared.tree.TreeFault.TheVariants.{Failed, Memory};
 ghost use Rattle.pv_steps.specs.Trees.{IsTree, places};
 ghost use Rattle.pv_steps.specs.Steps.{Can, StepFits, after};
+ghost use Rattle.pv_steps.specs.Counting.{refused, faults_after};
 ghost use Rattle.pv_host.specs.Content.{held, spelled};
 ghost use Rattle.pv_host.specs.Counts.{count_after};
 ghost use Rattle.pv_folder.specs.Folders.{Agrees, tree_path};
-ghost use Rattle.pv_folder.specs.Keeping.{HasManifest, IsChangedBy, IsReady, IsSameButNew, Keeps, Moves, change_for, moves_none, moves_on, same, same_on, step_count};
+ghost use Rattle.pv_folder.specs.Keeping.{HasManifest, IsChangedBy, IsReady, IsSameButNew, Keeps, Moves, change_for, moves_none, moves_on, same, same_on};
 ghost use Rattle.pv_folder.specs.Sole.{agrees_prop, ready_prop};
 
 use crate::asking::ask_for;
@@ -145,10 +145,7 @@ impl<'a, H: Host> Tree for FolderTree<'a, H> {
         ensures reaches { (self.new.host.ghost_name ≡ self.old.host.ghost_name)
             × Moves (spelled self.old.folder.items) (H.content self.old.host.now) (H.faults self.old.host.now) self.old.pending
             (spelled self.new.folder.items) (H.content self.new.host.now) (H.faults self.new.host.now) self.new.pending }
-        ensures cause { IsErrOf result Failed → HasRisen (H.faults self.old.host.now) (H.faults self.new.host.now) }
-
-        // One fault was counted where the answer is Failed, else none.
-        ensures count { H.faults self.new.host.now ≡ step_count result (H.faults self.old.host.now) }
+        ensures counted { H.faults self.new.host.now ≡ faults_after (refused result) (H.faults self.old.host.now) }
 
         // A step that is done has asked the host for its change; one that failed has changed nothing there.
         ensures changed { OnOk result (IsChangedBy

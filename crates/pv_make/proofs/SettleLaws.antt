@@ -1,5 +1,5 @@
 -- Laws of what is done at a prepared path: a new object put there, what stands there adjusted, or left.
-use Rattle.std.specs.Prelude.{◌≡◌, ◌≢◌, ℕ, nat_le, ◌+◌, Bool, true, false, not, ◌&&◌, ◌||◌, cond, List, [], ◌∷◌, ◌++◌, length, Option, Some, None, is_some, option_map, Result, if◌then◌else◌}
+use Rattle.std.specs.Prelude.{◌≡◌, ◌≢◌, ℕ, nat_le, ◌+◌, Bool, true, false, not, ◌&&◌, ◌||◌, List, [], ◌∷◌, length, Option, Some, None, is_some, option_map, Result, if◌then◌else◌}
 use Rattle.std.specs.List.{list_all}
 use Rattle.std.specs.Option.{option_map_or}
 use Rattle.std.proofs.Common.{refl, sym, ap, subst, ◌∙◌, arith}
@@ -12,18 +12,14 @@ use Rattle.pv_dress.specs.declared.operation.Test.{Test}
 use Rattle.pv_dress.specs.Edits.{count_at}
 use Rattle.pv_dress.specs.Nodes.{bare_of, same_kind, same_substance}
 use Rattle.pv_dress.specs.Operations.{stays}
-use Rattle.pv_path.specs.Paths.{Path, same_path, is_prefix, rest_under, parent_of}
-use Rattle.pv_path.proofs.PathLaws.{is_some-rest_under, rest_under-Some, rest_under-self, same_path-refl, not_prefix_not_same}
+use Rattle.pv_path.specs.Paths.{Path}
 use Rattle.pv_steps.specs.declared.node.Kind.TheVariants.{Directory}
 use Rattle.pv_steps.specs.declared.object.Object.{Object}
 use Rattle.pv_steps.specs.declared.tree.Tree.{Ghosts}
 use Rattle.pv_steps.specs.declared.tree.TreeFault.{TreeFault}
 use Rattle.pv_steps.specs.Acting.{Acted}
-use Rattle.pv_steps.specs.Objects.{modified, is_directory}
-use Rattle.pv_steps.specs.Steps.{put_at}
-use Rattle.pv_steps.specs.Trees.{Files, Places, places, kind_of, IsTree, IsPresent}
-use Rattle.pv_steps.proofs.ActingLaws.{acted_within}
-use Rattle.pv_dress.proofs.EditLaws.{put_at-else}
+use Rattle.pv_steps.specs.Objects.{is_directory}
+use Rattle.pv_steps.specs.Trees.{Files, places, kind_of, IsTree, IsPresent}
 use Rattle.pv_table.specs.declared.deed.Deed.TheVariants.{Create}
 use Rattle.pv_table.specs.declared.deed.Making.{Making}
 use Rattle.pv_table.specs.Created.{turn_work}

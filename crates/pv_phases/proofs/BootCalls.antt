@@ -1,6 +1,6 @@
 -- Removing and creating as the two phases of the boot command: one that failed, and both.
 use Rattle.std.specs.Prelude.{◌≡◌, ℕ, Bool, true, false, ◌||◌, List, [], ◌∷◌, ◌++◌, Result, Ok, Err, IfOk, IsErrAnd, OnOk}
-use Rattle.std.proofs.Common.{refl, subst}
+use Rattle.std.proofs.Common.{refl}
 use Rattle.pv_create.specs.Ways.{lines_course}
 use Rattle.pv_doing.specs.Courses.{Partway, IsStepOfSome, carried_of, each_of, CarriesOut, Cut, HasGone}
 use Rattle.pv_doing.specs.declared.carried.Carried.{Carried}
@@ -32,8 +32,8 @@ module _ {S : Type 0} (tree : Ghosts S) (lines : List Line) (now : ℕ) where
     carried = took.carried;
     part = took.part;
     acted = took.acted;
-    went = quiet_gone tree listed now Remove a d old new r took.silent took.part took.acted;
-  })
+    went = quiet_gone tree lines now Remove a d old new r took.silent took.part took.acted;
+  }
 
   pub creating_out : (a d : S) (old new : List (List ℕ)) (r : Result Carried TreeFault)
       → OnOk r (tree.state d ≡ created lines now (tree.state a)) → OnOk r (new ≡ old ++ created_messages lines now (tree.state a)) → IfOk r (λ c. c ≡ carried_of (some_refusal_counts lines now (tree.state a)))

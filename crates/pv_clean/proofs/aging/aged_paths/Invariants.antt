@@ -9,4 +9,4 @@ use Rattle.pv_clean.proofs.aging.aged_paths.Given as goal
 
 abbrev pub invariant-loop-path : goal.invariant-loop-path
 invariant-loop-path g l = (q : Path) → is_one_of l.may_go.items q
-    ≡ list_any (λ d. is_some (places (g.T.Tree.state l.tree) q) && option_map_or (λ n. may_go l.lines l.now (g.T.Tree.state l.tree) (d ++ n ∷ [])) (child_name d q) false) (take l.path-index l.path-items)
+    ≡ list_any (λ d. is_some (places (g.T.Tree.state l.tree) q) && option_map_or (λ n. may_go l.table l.now (g.T.Tree.state l.tree) (d ++ n ∷ [])) (child_name d q) false) (take l.path-index l.path-items)

@@ -58,9 +58,15 @@ returns-clause-acted g c =
     (acted_all (Pruned goes t) (IsCleanStep goes t) c.args.now g.T.Tree (reverse steps) c.args.tree.now c.try_all.new.tree c.try_all.result c.try_all.ensures
     (planned_ask goes t c.args.now steps c.in_ok-steps.ensures whole)))
 
+pub returns-in_err-aged-clause-in_turn : goal.returns-in_err-aged-clause-in_turn
+returns-in_err-aged-clause-in_turn g c = none_in_turn c.args.now (g.T.Tree.state c.args.tree.now) (g.T.Tree.steps c.args.tree.now)
+
+pub returns-in_err-steps-clause-in_turn : goal.returns-in_err-steps-clause-in_turn
+returns-in_err-steps-clause-in_turn g c = none_in_turn c.args.now (g.T.Tree.state c.args.tree.now) (g.T.Tree.steps c.args.tree.now)
+
 pub returns-clause-in_turn : goal.returns-clause-in_turn
 returns-clause-in_turn g c =
     let t = g.T.Tree.state c.args.tree.now in
     let goes = is_one_of c.in_ok-aged.aged.keys in
     tried_in_turn g.T.Tree goes c.args.now c.in_ok-steps.steps.items c.args.tree.now c.try_all.new.tree c.try_all.result c.in_ok-steps.ensures
-    (aged_together c.in_ok-aged.aged.keys c.args.lines.now c.args.now t c.in_ok-aged.ensures.aged) c.in_ok-steps.ensures.gathered c.try_all.ensures
+    (aged_together c.in_ok-aged.aged.keys c.args.table.now c.args.now t c.in_ok-aged.ensures.aged) c.in_ok-steps.ensures.gathered c.try_all.ensures

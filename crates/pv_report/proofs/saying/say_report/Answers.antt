@@ -12,7 +12,7 @@ returns-in_err-say_overlaps-clause-part c =
     let last = verdict c.args.report.now.unrepeatable ∷ [] in
     said_first (overlaps ++ reasons) last c.args.messages.now c.say_overlaps.new.messages
     (said_first overlaps reasons c.args.messages.now c.say_overlaps.new.messages
-    (subst (λ (ms : List (List ℕ)). SaidPart ms c.args.messages.now c.say_overlaps.new.messages) (λ i. map (overlap_text (c.as_slice.ensures i)) (c.as_slice-2.ensures i)) c.say_overlaps.ensures.part))
+    (subst (λ (ms : List (List ℕ)). SaidPart ms c.args.messages.now c.say_overlaps.new.messages) (λ i. map (overlap_text (c.as_slice.ensures.value i)) (c.as_slice-2.ensures i)) c.say_overlaps.ensures.part))
 
 pub returns-in_err-say_reasons-clause-part : goal.returns-in_err-say_reasons-clause-part
 returns-in_err-say_reasons-clause-part c =
@@ -21,8 +21,8 @@ returns-in_err-say_reasons-clause-part c =
     let last = verdict c.args.report.now.unrepeatable ∷ [] in
     said_first (overlaps ++ reasons) last c.args.messages.now c.say_reasons.new.messages
     (said_then overlaps reasons c.args.messages.now c.say_overlaps.new.messages c.say_reasons.new.messages
-    (c.in_ok-say_overlaps.ensures.said ∙ (λ i. c.args.messages.now ++ map (overlap_text (c.as_slice.ensures i)) (c.as_slice-2.ensures i)))
-    (subst (λ (ms : List (List ℕ)). SaidPart ms c.say_overlaps.new.messages c.say_reasons.new.messages) (λ i. map (unrepeatable_text (c.as_slice-3.ensures i)) (c.as_slice-list.ensures i)) c.say_reasons.ensures.part))
+    (c.in_ok-say_overlaps.ensures.said ∙ (λ i. c.args.messages.now ++ map (overlap_text (c.as_slice.ensures.value i)) (c.as_slice-2.ensures i)))
+    (subst (λ (ms : List (List ℕ)). SaidPart ms c.say_overlaps.new.messages c.say_reasons.new.messages) (λ i. map (unrepeatable_text (c.as_slice-3.ensures.value i)) (c.as_slice-list.ensures i)) c.say_reasons.ensures.part))
 
 pub returns-in_err-push-clause-part : goal.returns-in_err-push-clause-part
 returns-in_err-push-clause-part c =
@@ -31,9 +31,9 @@ returns-in_err-push-clause-part c =
     let last = verdict c.args.report.now.unrepeatable ∷ [] in
     said_first (overlaps ++ reasons) last c.args.messages.now c.push.new.self
     (said_then overlaps reasons c.args.messages.now c.say_overlaps.new.messages c.push.new.self
-    (c.in_ok-say_overlaps.ensures.said ∙ (λ i. c.args.messages.now ++ map (overlap_text (c.as_slice.ensures i)) (c.as_slice-2.ensures i)))
+    (c.in_ok-say_overlaps.ensures.said ∙ (λ i. c.args.messages.now ++ map (overlap_text (c.as_slice.ensures.value i)) (c.as_slice-2.ensures i)))
     (said_whole reasons c.say_overlaps.new.messages c.push.new.self (
-    c.in_err-push.ensures.err ∙ c.in_ok-say_reasons.ensures.said ∙ (λ i. c.say_overlaps.new.messages ++ map (unrepeatable_text (c.as_slice-3.ensures i)) (c.as_slice-list.ensures i)))))
+    c.in_err-push.ensures.err ∙ c.in_ok-say_reasons.ensures.said ∙ (λ i. c.say_overlaps.new.messages ++ map (unrepeatable_text (c.as_slice-3.ensures.value i)) (c.as_slice-list.ensures i)))))
 
 pub returns-clause-part : goal.returns-clause-part
 returns-clause-part c =
@@ -41,8 +41,8 @@ returns-clause-part c =
     let reasons = map (unrepeatable_text c.args.lines.now) c.args.report.now.unrepeatable in
     let last = verdict c.args.report.now.unrepeatable ∷ [] in
     said_then (overlaps ++ reasons) last c.args.messages.now c.say_reasons.new.messages c.push.new.self
-    (c.in_ok-say_reasons.ensures.said ∙ (λ i. c.say_overlaps.new.messages ++ map (unrepeatable_text (c.as_slice-3.ensures i)) (c.as_slice-list.ensures i))
-    ∙ ap (λ (ms : List (List ℕ)). ms ++ reasons) (c.in_ok-say_overlaps.ensures.said ∙ (λ i. c.args.messages.now ++ map (overlap_text (c.as_slice.ensures i)) (c.as_slice-2.ensures i)))
+    (c.in_ok-say_reasons.ensures.said ∙ (λ i. c.say_overlaps.new.messages ++ map (unrepeatable_text (c.as_slice-3.ensures.value i)) (c.as_slice-list.ensures i))
+    ∙ ap (λ (ms : List (List ℕ)). ms ++ reasons) (c.in_ok-say_overlaps.ensures.said ∙ (λ i. c.args.messages.now ++ map (overlap_text (c.as_slice.ensures.value i)) (c.as_slice-2.ensures i)))
     ∙ append_assoc c.args.messages.now overlaps reasons)
     (said_whole last c.say_reasons.new.messages c.push.new.self (
     c.in_ok-push.ensures.ok ∙ ap (λ (t : List ℕ). c.say_reasons.new.messages ++ t ∷ []) (c.verdict.ensures.text ∙ ap verdict c.as_slice-list.ensures)))
