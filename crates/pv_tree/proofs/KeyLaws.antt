@@ -116,11 +116,11 @@ key_same k l xs ys s t h zero_byte =
     joined_same 8 xs ys 0 (plain xs s.named) (plain ys t.named) (omega (arith, first)) (omega (arith, second)) (one ∙ sym other)
 
 -- what two keys tell of the order of the names that clauses see
-pub told_less : (k l : ℕ) (xs ys a b : List ℕ) → IsKeyed k xs → IsKeyed l ys → xs ≡ a → ys ≡ b → Less ≡ nat_cmp k l → Less ≡ name_cmp a b
-told_less k l xs ys a b s t p q is = sym (key_less k l xs ys s t (ranked k l Less is)) ∙ ap (λ v. name_cmp v ys) p ∙ ap (name_cmp a) q
+pub told_less : (k l : ℕ) (xs ys a b : List ℕ) → IsKeyed k xs → IsKeyed l ys → xs ≡ a → ys ≡ b → k < l → Less ≡ name_cmp a b
+told_less k l xs ys a b s t p q is = sym (key_less k l xs ys s t is) ∙ ap (λ v. name_cmp v ys) p ∙ ap (name_cmp a) q
 
-pub told_greater : (k l : ℕ) (xs ys a b : List ℕ) → IsKeyed k xs → IsKeyed l ys → xs ≡ a → ys ≡ b → Greater ≡ nat_cmp k l → Greater ≡ name_cmp a b
-told_greater k l xs ys a b s t p q is = sym (reversed ys xs Less (key_less l k ys xs t s (ranked k l Greater is))) ∙ ap (λ v. name_cmp v ys) p ∙ ap (name_cmp a) q
+pub told_greater : (k l : ℕ) (xs ys a b : List ℕ) → IsKeyed k xs → IsKeyed l ys → xs ≡ a → ys ≡ b → l < k → Greater ≡ name_cmp a b
+told_greater k l xs ys a b s t p q is = sym (reversed ys xs Less (key_less l k ys xs t s is)) ∙ ap (λ v. name_cmp v ys) p ∙ ap (name_cmp a) q
 
-pub told_equal : (k l : ℕ) (xs ys a b : List ℕ) → IsKeyed k xs → IsKeyed l ys → xs ≡ a → ys ≡ b → Equal ≡ nat_cmp k l → k % 256 ≡ 0 → Equal ≡ name_cmp a b
-told_equal k l xs ys a b s t p q is short = sym (key_same k l xs ys s t (ranked k l Equal is) short) ∙ ap (λ v. name_cmp v ys) p ∙ ap (name_cmp a) q
+pub told_equal : (k l : ℕ) (xs ys a b : List ℕ) → IsKeyed k xs → IsKeyed l ys → xs ≡ a → ys ≡ b → l ≤ k → k ≤ l → k % 256 ≡ 0 → Equal ≡ name_cmp a b
+told_equal k l xs ys a b s t p q least most short = sym (key_same k l xs ys s t (omega (arith, least, most)) short) ∙ ap (λ v. name_cmp v ys) p ∙ ap (name_cmp a) q

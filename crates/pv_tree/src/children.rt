@@ -34,12 +34,31 @@ impl<'a> Probe for NameProbe<'a> {
     }
 }
 
-/// The number that stands at a name, or nothing where it is absent. It asks at most 64 questions.
-fn number_of(entries: &VecDeque<(KeyedName, usize)>, name: &SoughtName<'_>) -> Option<usize>
-    requires { IsSorted entries.now.items }
-    ensures { result ≡ fin.find name_cmp name.now entries.now.items }
+/// The same names where they lie in a row, which are asked faster.
+#[derive(Drop)]
+struct RowProbe<'a> {
+    entries: &'a [(KeyedName, usize)],
+    name: &'a SoughtName<'a>,
+    left: u32,
+}
+
+impl<'a> Probe for RowProbe<'a> {
+    ghost orders = { λ p. orders_of p.name.now p.entries.now };
+
+    ghost left = { λ p. p.left };
+
+    fn compare(&mut self, i: usize) -> Ordering {
+        self.left -= 1;
+        self.entries[i].0.order(self.name)
+    }
+}
+
+/// The number that stands at a name in a row, or nothing where it is absent. It asks at most 64 questions.
+fn number_in(entries: &[(KeyedName, usize)], name: &SoughtName<'_>) -> Option<usize>
+    requires { IsSorted entries.now }
+    ensures { result ≡ fin.find name_cmp name.now entries.now }
 {
-    let mut probe = NameProbe {
+    let mut probe = RowProbe {
         entries,
         name,
         left: 64,
@@ -47,6 +66,19 @@ fn number_of(entries: &VecDeque<(KeyedName, usize)>, name: &SoughtName<'_>) -> O
     match find(&mut probe, entries.len()) {
         Some(i) => Some(entries[i].1),
         None => None,
+    }
+}
+
+/// The number that stands at a name, or nothing where it is absent. The entries lie in two rows, of which the second is
+/// mostly empty.
+fn number_of(entries: &VecDeque<(KeyedName, usize)>, name: &SoughtName<'_>) -> Option<usize>
+    requires { IsSorted entries.now.items }
+    ensures { result ≡ fin.find name_cmp name.now entries.now.items }
+{
+    let (first, second) = entries.as_slices();
+    match number_in(first, name) {
+        Some(number) => Some(number),
+        None => number_in(second, name),
     }
 }
 

@@ -89,16 +89,16 @@ impl KeyedName {
     pub(crate) fn order(&self, sought: &SoughtName<'_>) -> Ordering
         ensures { result ≡ name_cmp self.now sought.now }
     {
-        match self.key.cmp(&sought.key) {
-            Ordering::Less => Ordering::Less,
-            Ordering::Greater => Ordering::Greater,
-            Ordering::Equal => {
-                if self.key % 256 == 0 {
-                    return Ordering::Equal;
-                }
-                self.name.cmp(sought.name)
-            }
+        if self.key < sought.key {
+            return Ordering::Less;
         }
+        if sought.key < self.key {
+            return Ordering::Greater;
+        }
+        if self.key % 256 == 0 {
+            return Ordering::Equal;
+        }
+        self.name.cmp(sought.name)
     }
 }
 
