@@ -1,5 +1,6 @@
 pub mod BinarySearch
 pub mod Names
+pub mod KeyLaws
 pub mod EdgeLaws
 pub mod PlaceLaws
 pub mod SlotLaws

@@ -10,14 +10,14 @@ use Rattle.std.specs.FinMap.Entries.{below_all, is_sorted-put, is_sorted-where_k
 use Rattle.std.specs.Cmp.{eq_by_cmp_equiv}
 use Rattle.std.specs.Cmp.Lexicographic.{nat_list_cmp_total}
 use Rattle.std.specs.List.{HoldsAt}
-use Rattle.std.specs.Option.{option_copied}
+use Rattle.std.specs.Option.{option_copied, option_or}
 use Rattle.std.proofs.lemmas.Option.{slice_get-map, slice_get-get_or, slice_get_past, slice_get_within}
 use Rattle.pv_path.proofs.PathLaws.{name_cmp-exact}
 use Rattle.pv_tree.specs.Finding.{IsRising, IsFoundAt, IsGapAt}
 use Rattle.pv_tree.proofs.BinarySearch.{rising_found, rising_none, stands, length_rising, missed}
 use Rattle.pv_path.specs.Names.{name_cmp}
 use Rattle.pv_tree.specs.Children.{Children, IsSorted, orders_of, without}
-use Rattle.pv_path.proofs.Tests.{less_of-T, each_T}
+use Rattle.pv_path.proofs.Tests.{less_of-T, each_T, both_T}
 
 abbrev pub Entries : Type 0
 Entries = List (List ℕ × ℕ)
@@ -214,6 +214,44 @@ after_last name es e h at less =
 pub place_within : (name : List ℕ) (es : Entries) (r : Result ℕ ℕ) → MatchResult r (IsFoundAt (orders_of name es)) (IsGapAt (orders_of name es)) → MatchResult r (λ i. i < length es) (λ i. i ≤ length es)
 place_within name es (Ok i) h = found_within name es i h
 place_within name es (Err i) h = gap_within name es i h
+
+-- ---- a list in two parts
+
+below_first : (p : List ℕ) (es fs : Entries) → T (below_all name_cmp p (es ++ fs)) → T (below_all name_cmp p es)
+below_first p [] fs h = tt
+below_first p (e ∷ es) fs h = both_T _ _ (each_T _ _ h).0 (below_first p es fs (each_T _ _ h).1)
+
+first_sorted : (es fs : Entries) → IsSorted (es ++ fs) → IsSorted es
+first_sorted [] fs h = tt
+first_sorted (e ∷ es) fs h = both_T _ _ (below_first e.0 es fs (each_T _ _ h).0) (first_sorted es fs (each_T _ _ h).1)
+
+second_sorted : (es fs : Entries) → IsSorted (es ++ fs) → IsSorted fs
+second_sorted [] fs h = h
+second_sorted (e ∷ es) fs h = second_sorted es fs (each_T _ _ h).1
+
+find_append : (name : List ℕ) (es fs : Entries) (r : Option ℕ) → find name_cmp name es ≡ r → find name_cmp name (es ++ fs) ≡ option_or r (find name_cmp name fs)
+find_append name [] fs r h = ap (λ v. option_or v (find name_cmp name fs)) h
+find_append name (e ∷ es) fs r h = by_test (eq_by_cmp name_cmp name e.0) refl (find_append name es fs r)
+  where
+    by_test : (b : Bool) → eq_by_cmp name_cmp name e.0 ≡ b → (find name_cmp name es ≡ r → find name_cmp name (es ++ fs) ≡ option_or r (find name_cmp name fs)) → find name_cmp name ((e ∷ es) ++ fs) ≡ option_or r (find name_cmp name fs)
+    by_test true is rest =
+        let here : find name_cmp name (e ∷ es) ≡ Some e.1 = rw is in
+        rw is (ap (λ v. option_or v (find name_cmp name fs)) (sym here ∙ h))
+    by_test false is rest =
+        let there : find name_cmp name (e ∷ es) ≡ find name_cmp name es = rw is in
+        rw is (rest (sym there ∙ h))
+
+pub sorted_first : (es fs all : Entries) → es ++ fs ≡ all → IsSorted all → IsSorted es
+sorted_first es fs all is h = first_sorted es fs (subst IsSorted (sym is) h)
+
+pub sorted_second : (es fs all : Entries) → es ++ fs ≡ all → IsSorted all → IsSorted fs
+sorted_second es fs all is h = second_sorted es fs (subst IsSorted (sym is) h)
+
+pub find_first : (name : List ℕ) (es fs all : Entries) (n : ℕ) → es ++ fs ≡ all → Some n ≡ find name_cmp name es → Some n ≡ find name_cmp name all
+find_first name es fs all n is h = sym (find_append name es fs (Some n) (sym h)) ∙ ap (find name_cmp name) is
+
+pub find_second : (name : List ℕ) (es fs all : Entries) (r : Option ℕ) → es ++ fs ≡ all → None ≡ find name_cmp name es → r ≡ find name_cmp name fs → r ≡ find name_cmp name all
+find_second name es fs all r is h there = there ∙ sym (find_append name es fs None (sym h)) ∙ ap (find name_cmp name) is
 
 -- ---- the lists as maps
 

@@ -7,6 +7,7 @@ mod builder;
 mod children;
 mod edits;
 mod fused;
+mod keyed_name;
 mod mem_tree;
 mod slot;
 mod slots;

@@ -4,6 +4,7 @@ ghost use Rattle.std.specs.Option.{option_copied, option_map};
 ghost use Rattle.pv_tree.specs.Slots.{IsForest, entries_in};
 ghost use Rattle.pv_tree.specs.Walks.{IsWay, children_in, left_in};
 
+use crate::keyed_name::KeyedName;
 use crate::slot::Slot;
 use pv_path::Name;
 use pv_steps::Node;
@@ -94,7 +95,7 @@ impl<'a> Walk<'a> {
 }
 
 /// The child of a slot at a place in the order of the names, if there is one.
-fn child_at(slots: &Vec<Slot>, number: usize, i: usize) -> Option<&(Name, usize)>
+fn child_at(slots: &Vec<Slot>, number: usize, i: usize) -> Option<&(KeyedName, usize)>
     ensures child { option_copied result ≡ slice_get (children_in slots.now.items number) i }
     ensures within { IfSome result (λ _. i + 1 < 2 ^ 64) }
 {
@@ -110,7 +111,7 @@ fn open_child(
     opened: &mut Vec<(usize, usize)>,
     number: usize,
     next: usize,
-    child: &(Name, usize),
+    child: &(KeyedName, usize),
 ) -> Result<(), AllocError>
     requires { next + 1 < 2 ^ 64 }
     ensures names { OnOk result (names.new.items ≡ names.old.items ++ child.now.0 ∷ []) }
@@ -119,7 +120,7 @@ fn open_child(
 {
     opened.push((number, next + 1))?;
     opened.push((child.1, 0))?;
-    names.push(child.0.copy()?)?;
+    names.push(child.0.name().copy()?)?;
     Ok(())
 }
 

@@ -1,14 +1,14 @@
-use Rattle.std.proofs.Common.{ℕ, List, Some, ap, ◌∙◌}
-use Rattle.pv_tree.proofs.Names.{rising, read_there, read_nowhere}
+use Rattle.pv_tree.proofs.Names.{sorted_first, sorted_second, find_first, find_second}
 use Rattle.pv_tree.proofs.children.number_of.Goals as goal
 
-pub find-requires-clause-rising : goal.find-requires-clause-rising
-find-requires-clause-rising c = rising c.args.name.now c.args.entries.now.items c.requires
+pub number_in-requires : goal.number_in-requires
+number_in-requires c = sorted_first c.as_slices.result.0.now c.as_slices.result.1.now c.args.entries.now.items c.as_slices.ensures.items c.requires
+
+pub number_in-requires-in-None : goal.number_in-requires-in-None
+number_in-requires-in-None c = sorted_second c.as_slices.result.0.now c.as_slices.result.1.now c.args.entries.now.items c.as_slices.ensures.items c.requires
 
 pub returns-in-Some : goal.returns-in-Some
-returns-in-Some c =
-    ap (λ (e : List ℕ × ℕ). Some e.1) c.index.ensures
-    ∙ read_there c.args.name.now c.args.entries.now.items c.in-Some.i c.index.result.now c.requires c.in-Some.ensures.place
+returns-in-Some c = find_first c.args.name.now c.as_slices.result.0.now c.as_slices.result.1.now c.args.entries.now.items c.in-Some.number c.as_slices.ensures.items c.in-Some.ensures
 
 pub returns-in-None : goal.returns-in-None
-returns-in-None c = read_nowhere c.args.name.now c.args.entries.now.items c.requires c.in-None.ensures.place
+returns-in-None c = find_second c.args.name.now c.as_slices.result.0.now c.as_slices.result.1.now c.args.entries.now.items c.number_in-in-None.result c.as_slices.ensures.items c.in-None.ensures c.number_in-in-None.ensures

@@ -1,0 +1,126 @@
+-- The keys of names: where they differ they are in the order of the names, and a key that ends in a zero byte is that of
+-- one name alone.
+use Rattle.std.proofs.Common.{◌≡◌, ℕ, suc, zero, ◌+◌, ◌*◌, ◌%◌, ◌<◌, ◌≤◌, List, [], ◌∷◌, length, true, refl, sym, ap, subst, ◌∙◌, arith}
+use Rattle.std.proofs.lemmas.Bool.Decides.{nat_tests}
+use Rattle.std.proofs.lemmas.Cmp.{ranked}
+use Rattle.std.specs.List.{list_all}
+use Rattle.std.specs.Ordering.{nat_cmp, MatchOrdering}
+use Rattle.std.specs.declared.cmp.Ordering.{Ordering}
+use Rattle.std.specs.declared.cmp.Ordering.TheVariants.{Less, Equal, Greater}
+use Rattle.pv_path.specs.Names.{is_name, is_name_byte, name_cmp}
+use Rattle.pv_path.proofs.PathLaws.{is_name-parts}
+use Rattle.std.proofs.lemmas.Bool.{and_parts}
+use Rattle.std.specs.Bool.{⊤}
+use Rattle.pv_tree.specs.Keys.{key_of, IsKeyed}
+use Rattle.pv_tree.proofs.Names.{reversed}
+
+-- bytes of a name: no NUL is among them
+abbrev Plain : List ℕ → Type 0
+Plain [] = ⊤
+Plain (x ∷ xs) = (0 < x) × (x < 256) × Plain xs
+
+plain_byte : (x : ℕ) → is_name_byte x ≡ true → (0 < x) × (x < 256)
+plain_byte x e = (grind (arith, nat_tests), grind (arith, nat_tests))
+
+plain_bytes : (xs : List ℕ) → list_all is_name_byte xs ≡ true → Plain xs
+plain_bytes [] e = tt
+plain_bytes (x ∷ xs) e =
+    let both = and_parts (is_name_byte x) (list_all is_name_byte xs) e in
+    let byte = plain_byte x both.0 in
+    (byte.0, byte.1, plain_bytes xs both.1)
+
+plain : (xs : List ℕ) → is_name xs ≡ true → Plain xs
+plain xs e = plain_bytes xs (is_name-parts xs e).2
+
+-- n bytes, with zeros past the end, after bytes that make the number a
+abbrev joined : ℕ → List ℕ → ℕ → ℕ
+joined zero xs a = a
+joined (suc n) [] a = joined n [] (a * 256)
+joined (suc n) (x ∷ xs) a = joined n xs (a * 256 + x)
+
+key_is : (xs : List ℕ) → key_of xs ≡ joined 8 xs 0
+key_is [] = omega arith
+key_is (a ∷ []) = omega arith
+key_is (a ∷ b ∷ []) = omega arith
+key_is (a ∷ b ∷ c ∷ []) = omega arith
+key_is (a ∷ b ∷ c ∷ d ∷ []) = omega arith
+key_is (a ∷ b ∷ c ∷ d ∷ e ∷ []) = omega arith
+key_is (a ∷ b ∷ c ∷ d ∷ e ∷ f ∷ []) = omega arith
+key_is (a ∷ b ∷ c ∷ d ∷ e ∷ f ∷ g ∷ []) = omega arith
+key_is (a ∷ b ∷ c ∷ d ∷ e ∷ f ∷ g ∷ h ∷ xs) = omega arith
+
+-- what differs stays so, whatever comes after
+apart : (n : ℕ) (xs ys : List ℕ) (a b : ℕ) → Plain xs → a < b → joined n xs a < joined n ys b
+apart zero xs ys a b s h = h
+apart (suc n) [] [] a b s h = apart n [] [] (a * 256) (b * 256) tt (omega arith)
+apart (suc n) [] (y ∷ ys) a b s h = apart n [] ys (a * 256) (b * 256 + y) tt (omega arith)
+apart (suc n) (x ∷ xs) [] a b s h = apart n xs [] (a * 256 + x) (b * 256) s.2 (omega (arith, s.1, h))
+apart (suc n) (x ∷ xs) (y ∷ ys) a b s h = apart n xs ys (a * 256 + x) (b * 256 + y) s.2 (omega (arith, s.1, h))
+
+joined_less : (n : ℕ) (xs ys : List ℕ) (a : ℕ) → Plain xs → Plain ys → joined n xs a < joined n ys a → name_cmp xs ys ≡ Less
+joined_less zero xs ys a s t h = absurd (omega (arith, h))
+joined_less (suc n) [] [] a s t h = absurd (omega (arith, h))
+joined_less (suc n) [] (y ∷ ys) a s t h = refl
+joined_less (suc n) (x ∷ xs) [] a s t h =
+    let back = apart n [] xs (a * 256) (a * 256 + x) tt (omega (arith, s.0)) in
+    absurd (omega (arith, h, back))
+joined_less (suc n) (x ∷ xs) (y ∷ ys) a s t h = by_order (nat_cmp x y) refl (ranked x y (nat_cmp x y) refl) (joined_less n xs ys (a * 256 + x) s.2 t.2)
+  where
+    by_order : (o : Ordering) → nat_cmp x y ≡ o → MatchOrdering o (x < y) (x ≡ y) (y < x) → (joined n xs (a * 256 + x) < joined n ys (a * 256 + x) → name_cmp xs ys ≡ Less) → name_cmp (x ∷ xs) (y ∷ ys) ≡ Less
+    by_order Less is r rest = rw is
+    by_order Equal is r rest = rw is (rest (subst (λ v. joined n xs (a * 256 + x) < joined n ys (a * 256 + v)) (sym r) h))
+    by_order Greater is r rest =
+        let back = apart n ys xs (a * 256 + y) (a * 256 + x) t.2 (omega (arith, r)) in
+        absurd (omega (arith, h, back))
+
+joined_same : (n : ℕ) (xs ys : List ℕ) (a : ℕ) → Plain xs → Plain ys → length xs ≤ n → length ys ≤ n → joined n xs a ≡ joined n ys a → name_cmp xs ys ≡ Equal
+joined_same zero [] [] a s t k l h = refl
+joined_same zero [] (y ∷ ys) a s t k l h = absurd (omega (arith, l))
+joined_same zero (x ∷ xs) ys a s t k l h = absurd (omega (arith, k))
+joined_same (suc n) [] [] a s t k l h = refl
+joined_same (suc n) [] (y ∷ ys) a s t k l h =
+    let less = apart n [] ys (a * 256) (a * 256 + y) tt (omega (arith, t.0)) in
+    absurd (omega (arith, h, less))
+joined_same (suc n) (x ∷ xs) [] a s t k l h =
+    let less = apart n [] xs (a * 256) (a * 256 + x) tt (omega (arith, s.0)) in
+    absurd (omega (arith, h, less))
+joined_same (suc n) (x ∷ xs) (y ∷ ys) a s t k l h = by_order (nat_cmp x y) refl (ranked x y (nat_cmp x y) refl) (joined_same n xs ys (a * 256 + x) s.2 t.2 (omega (arith, k)) (omega (arith, l)))
+  where
+    by_order : (o : Ordering) → nat_cmp x y ≡ o → MatchOrdering o (x < y) (x ≡ y) (y < x) → (joined n xs (a * 256 + x) ≡ joined n ys (a * 256 + x) → name_cmp xs ys ≡ Equal) → name_cmp (x ∷ xs) (y ∷ ys) ≡ Equal
+    by_order Less is r rest =
+        let less = apart n xs ys (a * 256 + x) (a * 256 + y) s.2 (omega (arith, r)) in
+        absurd (omega (arith, h, less))
+    by_order Equal is r rest = rw is (rest (subst (λ v. joined n xs (a * 256 + x) ≡ joined n ys (a * 256 + v)) (sym r) h))
+    by_order Greater is r rest =
+        let less = apart n ys xs (a * 256 + y) (a * 256 + x) t.2 (omega (arith, r)) in
+        absurd (omega (arith, h, less))
+
+-- a last byte that is zero lies past the end
+ends : (n : ℕ) (xs : List ℕ) (a : ℕ) → Plain xs → joined (suc n) xs a % 256 ≡ 0 → length xs ≤ n
+ends zero [] a s h = omega arith
+ends zero (x ∷ xs) a s h = absurd (omega (arith, s.0, s.1, h))
+ends (suc n) [] a s h = omega arith
+ends (suc n) (x ∷ xs) a s h = omega (arith, ends n xs (a * 256 + x) s.2 h)
+
+-- ---- keys
+
+key_less : (k l : ℕ) (xs ys : List ℕ) → IsKeyed k xs → IsKeyed l ys → k < l → name_cmp xs ys ≡ Less
+key_less k l xs ys s t h = joined_less 8 xs ys 0 (plain xs s.named) (plain ys t.named) (omega (arith, h, s.made, t.made, key_is xs, key_is ys))
+
+key_same : (k l : ℕ) (xs ys : List ℕ) → IsKeyed k xs → IsKeyed l ys → k ≡ l → k % 256 ≡ 0 → name_cmp xs ys ≡ Equal
+key_same k l xs ys s t h zero_byte =
+    let one : joined 8 xs 0 ≡ k = sym (s.made ∙ key_is xs) in
+    let other : joined 8 ys 0 ≡ k = sym (h ∙ t.made ∙ key_is ys) in
+    let first = ends 7 xs 0 (plain xs s.named) (ap (λ v. v % 256) one ∙ zero_byte) in
+    let second = ends 7 ys 0 (plain ys t.named) (ap (λ v. v % 256) other ∙ zero_byte) in
+    joined_same 8 xs ys 0 (plain xs s.named) (plain ys t.named) (omega (arith, first)) (omega (arith, second)) (one ∙ sym other)
+
+-- what two keys tell of the order of the names that clauses see
+pub told_less : (k l : ℕ) (xs ys a b : List ℕ) → IsKeyed k xs → IsKeyed l ys → xs ≡ a → ys ≡ b → k < l → Less ≡ name_cmp a b
+told_less k l xs ys a b s t p q is = sym (key_less k l xs ys s t is) ∙ ap (λ v. name_cmp v ys) p ∙ ap (name_cmp a) q
+
+pub told_greater : (k l : ℕ) (xs ys a b : List ℕ) → IsKeyed k xs → IsKeyed l ys → xs ≡ a → ys ≡ b → l < k → Greater ≡ name_cmp a b
+told_greater k l xs ys a b s t p q is = sym (reversed ys xs Less (key_less l k ys xs t s is)) ∙ ap (λ v. name_cmp v ys) p ∙ ap (name_cmp a) q
+
+pub told_equal : (k l : ℕ) (xs ys a b : List ℕ) → IsKeyed k xs → IsKeyed l ys → xs ≡ a → ys ≡ b → l ≤ k → k ≤ l → k % 256 ≡ 0 → Equal ≡ name_cmp a b
+told_equal k l xs ys a b s t p q least most short = sym (key_same k l xs ys s t (omega (arith, least, most)) short) ∙ ap (λ v. name_cmp v ys) p ∙ ap (name_cmp a) q
