@@ -1,11 +1,13 @@
 -- From a run over an image to the answer to its bytes.
-use Rattle.std.specs.Prelude.{◌≡◌, ◌≢◌, ℕ, ◌+◌, ◌-◌, ◌<◌, ◌≤◌, List, [], ◌∷◌, ◌++◌, length, drop, Option, Some, None, Result, Ok, Err, IfOk, IfSome}
-use Rattle.std.proofs.Common.{subst, sym, ap, ◌∙◌, arith}
+use Rattle.std.specs.Prelude.{◌≡◌, ◌≢◌, ℕ, zero, suc, ◌+◌, ◌-◌, ◌<◌, ◌≤◌, List, [], ◌∷◌, ◌++◌, length, drop, Option, Some, None, Result, Ok, Err, IfOk, IfSome}
+use Rattle.std.proofs.Common.{refl, subst, sym, ap, ◌∙◌, arith}
 use Rattle.std.proofs.lemmas.List.{append_cancel_left}
 use Rattle.pv_text.specs.Facts.{Values}
 use Rattle.pv_steps.specs.declared.step.Step.{Step}
 use Rattle.pv_steps.specs.Trees.{Files}
 use Rattle.pv_steps.specs.Runs.{Ran}
+use Rattle.pv_steps.specs.Counting.{faults_after}
+use Rattle.pv_io.specs.Faults.{last_count}
 use Rattle.pv_image.specs.Images.{IsImage}
 use Rattle.pv_image.specs.Spelling.{text_of}
 use Rattle.pv_tree.specs.Fuses.{Burnt, whole_limit}
@@ -21,6 +23,7 @@ use Rattle.provision_run.specs.Words.{moment_of}
 use Rattle.provision_run.proofs.TaskLaws.{front_by}
 use Rattle.provision_run.specs.Framed.{IsFramedIn}
 use Rattle.provision_run.specs.OnTheWay.{IsOnTheWayIn}
+use Rattle.provision_run.specs.Lending.{HaveCounted}
 use Rattle.provision_run.specs.OverTree.{HasFailed, HasLeft, HasRun, IsCut, IsStopped, IsWhole, outcome, outcome_of, stopped_text}
 use Rattle.provision_run.specs.Swept.{IsSweptIn}
 use Rattle.provision_run.specs.Whole.{final, HasSaidBy, HasSaidPartBy, HasGoneBy, IsCutBy, IsMendedAnewIn, IsMendedIn, is_run_step, read_messages, run_end, run_way, run_work}
@@ -243,3 +246,25 @@ burnt_stopped limit left refused done b some =
     let none : left ≡ Some 0 = b.spent (λ h. absurd (let no : 0 < 0 = h in omega arith)) some in
     let same : whole_limit (Some 0) done ≡ Some (limit + 0) = rw none at b.limit in
     grind arith
+
+-- a run without a limit refuses no step for it
+pub unlimited : (left : Option ℕ) (refused done : ℕ) → Burnt None 0 0 left refused done → refused ≡ 0
+unlimited left zero done b = refl
+unlimited left (suc refused) done b =
+    let none : left ≡ Some 0 = b.spent (λ h. absurd (let no : 0 < 0 = h in omega arith)) (omega arith) in
+    absurd (let no : whole_limit (Some 0) done ≡ whole_limit None 0 = rw none at b.limit in cc)
+
+-- few faults that were counted from none are as many
+few_counted : (k m : ℕ) → faults_after k 0 ≡ m → m < last_count → k ≡ m
+few_counted zero m is few = is
+few_counted (suc k) m is few =
+    let one : faults_after k 0 + 1 ≡ m = omega (arith, is, few) in
+    let rest = few_counted k (faults_after k 0) refl (omega (arith, one, few)) in
+    omega (arith, one, rest)
+
+-- a tree that was lent has counted as many faults as the one who lent it, which began with none
+pub lent_counted : (old new before after m : ℕ) → HaveCounted old new before after → before ≡ 0 → after ≡ m → m < last_count → new ≡ faults_after m old
+lent_counted old new before after m h none is few =
+    h.there
+    ∙ ap (λ k. faults_after k old)
+    (few_counted h.times m (ap (λ n. faults_after h.times n) (sym none) ∙ sym h.here ∙ is) few)

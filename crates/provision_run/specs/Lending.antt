@@ -1,14 +1,16 @@
--- A tree that is lent by reference, and the steps that failed there.
-use Rattle.std.specs.Prelude.{◌≡◌, ◌⊎◌, ◌<◌, ◌≤◌, ℕ}
-use Rattle.std.proofs.Common.{arith, inl, inr, subst, sym, ◌∙◌}
-use Rattle.std.proofs.Math.Nat.{eq-or-lt_of_le}
-use Rattle.pv_io.specs.Faults.{HasRisen, last_count}
+-- A tree that is lent by reference, and the steps that it refused.
+use Rattle.std.specs.Prelude.{◌≡◌, ◌≤◌, ◌+◌, ℕ, zero, suc}
+use Rattle.std.proofs.Common.{refl, arith, ap, subst, ◌∙◌}
+use Rattle.pv_io.specs.Faults.{fault_after}
+use Rattle.pv_steps.specs.Counting.{faults_after}
 
--- between two counts of faults of a tree: they never fall, and where a step failed they have risen
-pub record HasFailedSince (old new before after : ℕ) : Type 0 where
-  pub never_falls : old ≤ new
+-- over some calls the count of faults of a tree went from `old` to `new`, and that of the lent one from `before` to `after`:
+-- both have counted as many
+pub record HaveCounted (old new before after : ℕ) : Type 0 where
+  pub times : ℕ
+  pub there : new ≡ faults_after times old
+  pub here : after ≡ faults_after times before
   pub rises : before ≤ after
-  pub cause : before < after → HasRisen old new
 
 pub same_name : {X : Type 0} → (a : X) → a ≡ a
 same_name a = λ i. a
@@ -16,29 +18,19 @@ same_name a = λ i. a
 pub one_name : {X : Type 0} → (a b c : X) → b ≡ a → c ≡ b → c ≡ a
 one_name a b c p q = subst (λ x. c ≡ x) p q
 
+-- so many faults more, and then so many
+faults_on : (more k n : ℕ) → faults_after more (faults_after k n) ≡ faults_after (more + k) n
+faults_on zero k n = refl
+faults_on (suc more) k n = ap fault_after (faults_on more k n)
+
 -- over no call, and over one run of calls after another
-pub failed_still : (old before : ℕ) → HasFailedSince old old before before
-failed_still old before = record { never_falls = omega arith; rises = omega arith; cause = λ h. absurd (let no : before < before = h in omega arith) }
+pub counted_none : (old before : ℕ) → HaveCounted old old before before
+counted_none old before = record { times = 0; there = refl; here = refl; rises = omega arith }
 
-pub failed_since : (a b c x y z : ℕ) → HasFailedSince a b x y → HasFailedSince b c y z → HasFailedSince a c x z
-failed_since a b c x y z p q = record {
-  never_falls = omega (arith, p.never_falls, q.never_falls);
+pub counted_on : (a b c x y z : ℕ) → HaveCounted a b x y → HaveCounted b c y z → HaveCounted a c x z
+counted_on a b c x y z p q = record {
+  times = q.times + p.times;
+  there = q.there ∙ ap (λ n. faults_after q.times n) p.there ∙ faults_on q.times p.times a;
+  here = q.here ∙ ap (λ n. faults_after q.times n) p.here ∙ faults_on q.times p.times x;
   rises = omega (arith, p.rises, q.rises);
-  cause = λ h. by h (eq-or-lt_of_le p.rises);
 }
-  where
-    first : HasRisen a b → HasRisen a c
-    first (inl h) = inl (omega (arith, h, q.never_falls))
-    first (inr h) = at_last (eq-or-lt_of_le q.never_falls)
-      where
-        at_last : (b ≡ c) ⊎ (b < c) → HasRisen a c
-        at_last (inl same) = inr (sym same ∙ h)
-        at_last (inr less) = inl (let up = p.never_falls in omega (arith, up, less))
-
-    second : HasRisen b c → HasRisen a c
-    second (inl h) = inl (let up = p.never_falls in omega (arith, up, h))
-    second (inr h) = inr h
-
-    by : x < z → (x ≡ y) ⊎ (x < y) → HasRisen a c
-    by h (inl same) = second (q.cause (omega (arith, same, h)))
-    by h (inr less) = first (p.cause less)

@@ -1,13 +1,13 @@
 //! A tree behind a reference, as a tree.
 ghost use Rattle.std.specs.Prelude.{◌≡◌};
-ghost use Rattle.provision_run.specs.Lending.{HasFailedSince, failed_since, failed_still, one_name, same_name};
+ghost use Rattle.provision_run.specs.Lending.{HaveCounted, counted_none, counted_on, one_name, same_name};
 ghost use Rattle.std.proofs.Common.{arith};
 
 use pv_path::{NameList, TreePath};
 use pv_steps::{Node, Step, Tree, TreeFault};
 use std::alloc::{AllocError, Global};
 
-/// A tree that is lent: what is done with it is done to the one that lends. It counts the steps that failed there.
+/// A tree that is lent: what is done with it is done to the one that lends. It counts the steps that are refused there.
 #[derive(Drop)]
 pub(crate) struct Lent<'a, T: Tree> {
     tree: &'a mut T,
@@ -15,7 +15,7 @@ pub(crate) struct Lent<'a, T: Tree> {
 }
 
 impl<'a, T: Tree> Lent<'a, T> {
-    /// A tree as a lent one, of which no step has failed.
+    /// A tree as a lent one, of which no step was refused.
     pub(crate) fn new(tree: &'a mut T) -> Lent<'a, T>
         ensures same { result.tree.ghost_name ≡ tree.entry.ghost_name }
         ensures now { result.tree.now ≡ tree.old }
@@ -33,7 +33,7 @@ impl<'a, T: Tree> Tree for Lent<'a, T> {
     ghost faults = { λ l. l.failed };
 
     ghost reaches = { λ a b. (b.tree.ghost_name ≡ a.tree.ghost_name) × (T.reaches a.tree.now b.tree.now
-        × HasFailedSince (T.faults a.tree.now) (T.faults b.tree.now) a.failed b.failed) };
+        × HaveCounted (T.faults a.tree.now) (T.faults b.tree.now) a.failed b.failed) };
 
     fn look(&self, path: &TreePath) -> Option<&Node> {
         self.tree.look(path)
@@ -62,13 +62,13 @@ impl<'a, T: Tree> Tree for Lent<'a, T> {
         }
     }
 
-    ghost reaches_self = { λ a. (same_name _, (T.reaches_self a.tree.now, failed_still _ _)) };
+    ghost reaches_self = { λ a. (same_name _, (T.reaches_self a.tree.now, counted_none _ _)) };
 
     ghost reaches_on = { λ a b c p q. (
       one_name _ _ _ p.0 q.0,
       (
         T.reaches_on a.tree.now b.tree.now c.tree.now p.1.0 q.1.0,
-        failed_since _ _ _ _ _ _ p.1.1 q.1.1,
+        counted_on _ _ _ _ _ _ p.1.1 q.1.1,
       ),
     ) };
 

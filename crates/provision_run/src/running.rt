@@ -1,6 +1,6 @@
 //! A run over any tree, which is stopped at the limit of its options.
 ghost use Rattle.std.specs.Prelude.{◌≡◌, [], IfOk, IsErrOf};
-ghost use Rattle.pv_io.specs.Faults.{HasRisen};
+ghost use Rattle.pv_steps.specs.Counting.{refused, faults_after};
 ghost use Rattle.pv_steps.specs.declared.tree.TreeFault.TheVariants.{Failed};
 ghost use Rattle.provision_run.specs.OverTree.{HasFailed, HasRun, outcome_of};
 
@@ -30,7 +30,9 @@ pub(crate) fn run_limited<T: Tree>(
 
     // A step failed, and not for the limit.
     ensures failed { IsErrOf result Failed → HasFailed options.entry.now facts.now moment (T.state tree.old) messages.new (T.state tree.new) }
-    ensures cause { IsErrOf result Failed → HasRisen (T.faults tree.old) (T.faults tree.new) }
+
+    // It counted one fault where a step failed so, else none.
+    ensures counted { T.faults tree.new ≡ faults_after (refused result) (T.faults tree.old) }
 
     ensures reaches { T.reaches tree.old tree.new }
 {
