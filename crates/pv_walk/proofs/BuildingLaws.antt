@@ -10,7 +10,7 @@ use Rattle.pv_dress.specs.declared.bare.Body.{Body}
 use Rattle.pv_dress.specs.declared.bare.Dress.{Dress}
 use Rattle.pv_dress.specs.Dressing.{IsDress, dress_mode, CanDress, ChangedAt, IsChanged, GivesDress, dressed}
 use Rattle.pv_dress.specs.Edits.{SameOutside}
-use Rattle.pv_dress.specs.Nodes.{bare_of}
+use Rattle.pv_dress.specs.Nodes.{bare_of, bares_of}
 use Rattle.pv_dress.proofs.EditLaws.{path_cases, made-here, put_at-here, put_at-else, bares-touched}
 use Rattle.pv_path.specs.Paths.{Path, is_prefix, same_path, parent_of, rest_under}
 use Rattle.pv_path.proofs.PathLaws.{rest_under-append, rest_under-None, prefix_parts, length-parent_of, parent_of-differs, is_prefix-append, path_ends, parent_of-push, same_path-refl}
@@ -68,6 +68,14 @@ settled : (now : ℕ) (c : Bool) (o : Option Bare) → cond c (option_map (modif
 settled now true None = refl
 settled now true (Some b) = refl
 settled now false o = refl
+
+-- what stands is what is built, stamps aside
+pub bares_built : (now : ℕ) (stage : Path) (s : Path → Option Bare) (t u : Files) → IsBuilt now stage s t u → (r : Path) → bares_of (places u) (stage ++ r) ≡ s r
+bares_built now stage s t u b r = ap (option_map bare_of) (b.inside r) ∙ again (s r)
+  where
+    again : (o : Option Bare) → option_map bare_of (option_map (object_of now) o) ≡ o
+    again None = refl
+    again (Some x) = refl
 
 module _ (now : ℕ) (stage : Path) (nonempty : stage ≢ []) (t : Files) (parent : IsKindIn Directory (places t) (parent_of stage)) where
   -- nothing is made yet
@@ -128,10 +136,10 @@ module _ (now : ℕ) (stage : Path) (nonempty : stage ≢ []) (t : Files) (paren
   -- ---- one place of the copy
 
   module _ (s : Path → Option Bare) (u : Files) (b : IsBuilt now stage s t u) (rest : Path) where
-    here_outside : (q : Path) → is_prefix stage q ≡ false → same_path (stage ++ rest) q ≡ false
+    pub here_outside : (q : Path) → is_prefix stage q ≡ false → same_path (stage ++ rest) q ≡ false
     here_outside q h = no_same (stage ++ rest) q (λ e. true_not_false (is_prefix stage q) (ap (is_prefix stage) (sym e) ∙ is_prefix-append stage rest) h)
 
-    here_else : (r : Path) → same_path rest r ≡ false → same_path (stage ++ rest) (stage ++ r) ≡ false
+    pub here_else : (r : Path) → same_path rest r ≡ false → same_path (stage ++ rest) (stage ++ r) ≡ false
     here_else r d = no_same (stage ++ rest) (stage ++ r) (λ e. true_not_false (same_path rest r) (ap (same_path rest) (sym (rest_same stage rest r e)) ∙ same_path-refl rest) d)
 
     -- ---- an object is made there

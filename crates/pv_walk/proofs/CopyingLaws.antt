@@ -1,19 +1,19 @@
 -- Laws of copies: pieces of work that are done one after the other, and the copy that comes to its path.
 use Rattle.std.specs.Prelude.{◌≡◌, ◌≢◌, ℕ, ◌+◌, ◌-◌, ◌*◌, ◌≤◌, Bool, true, false, cond, List, [], ◌∷◌, ◌++◌, filter, filter_map, Option, Some, None, is_some, option_map, Result, Ok}
-use Rattle.std.proofs.Common.{refl, sym, ap, subst, ◌∙◌, inl, inr, ◌⊎◌, arith}
+use Rattle.std.proofs.Common.{refl, sym, ap, subst, ◌∙◌, inl, inr, ◌⊎◌, arith, zero}
 use Rattle.std.proofs.lemmas.List.{append-nil}
 use Rattle.std.specs.FinMap as fin
 use Rattle.std.proofs.lemmas.Bool.{cases_Bool}
 use Rattle.pv_dress.specs.declared.bare.Bare.{Bare}
 use Rattle.pv_dress.specs.declared.bare.Dress.{Dress}
-use Rattle.pv_dress.specs.Dressing.{Dressing, GivesDress}
+use Rattle.pv_dress.specs.Dressing.{GivesDress}
 use Rattle.pv_dress.specs.Edits.{SameOutside, count_at}
 use Rattle.pv_dress.specs.Nodes.{bare_of, bares_of}
 use Rattle.pv_dress.proofs.DressLaws.{outside_dressing}
-use Rattle.pv_dress.proofs.EditLaws.{bares-touched, staging_outside}
+use Rattle.pv_dress.proofs.EditLaws.{path_cases, bares-stamped, bares-touched, staging_outside}
 use Rattle.pv_dress.proofs.OperationLaws.{bares_of-same}
 use Rattle.pv_path.specs.Paths.{Path, is_prefix, same_path, parent_of, rest_under, has_staging, staging_of}
-use Rattle.pv_path.proofs.PathLaws.{is_prefix-append, is_prefix-trans, is_prefix-refl, rest_under-Some, prefix_rest, is_some-rest_under, parent_of-staging_of, has_staging-staging_of}
+use Rattle.pv_path.proofs.PathLaws.{same_path-refl, rest_under-Some, prefix_rest, is_some-rest_under, parent_of-staging_of, has_staging-staging_of}
 use Rattle.pv_steps.specs.declared.node.Kind.TheVariants.{Directory}
 use Rattle.pv_steps.specs.declared.object.Object.{Object}
 use Rattle.pv_steps.specs.declared.step.Step.{Step}
@@ -31,42 +31,59 @@ use Rattle.pv_walk.specs.declared.listing.Piece.TheVariants.{Make, Give}
 use Rattle.pv_walk.specs.declared.new_file.NewFile.{NewFile}
 use Rattle.pv_walk.specs.Copying.{copied_count, object_of, standing, with_subtree, GivesPart, IsStagingOf, IsCopyStep, Subtree}
 use Rattle.pv_walk.specs.Listing.{times}
-use Rattle.pv_walk.specs.Pieces.{CanDo, IsDone, GivesPiece, place_of, piece_cost, cost_of, after_piece, built, IsDoable, AreDoable, made_of, IsPlan}
+use Rattle.pv_walk.specs.Pieces.{CanDo, IsDone, GivesPiece, PieceWay, plain, piece_cost, cost_of, after_piece, built, IsDoable, AreDoable, made_of, IsPlan}
 use Rattle.pv_walk.specs.Replacing.{Replacing}
 use Rattle.pv_walk.specs.Removal.{Publishing}
+use Rattle.pv_walk.specs.Making.{held_object}
+use Rattle.pv_walk.specs.Stages.{IsStage, IsAtStage, Staging}
 use Rattle.pv_walk.specs.Staging.{IsNewFile, IsPublishing, GivesNew, most_staged, most_new}
-use Rattle.pv_walk.proofs.BuildingLaws.{IsBuilt, built_start, built_outside, built_end, not_empty, with_inside, with_outside, room, made_built, can_wear_here, worn_built, made_gives, dress_gives_bare}
+use Rattle.pv_walk.proofs.BuildingLaws.{IsBuilt, built_start, built_outside, bares_built, built_end, not_empty, with_inside, with_outside, here_outside, here_else, room, made_built, stands_here, can_wear_here, worn_built, made_gives, dress_gives_bare}
 use Rattle.pv_walk.proofs.CountLaws.{times-filter, times-keys, length-times, same_or_not}
 use Rattle.pv_walk.proofs.CopyListing.{rests_of, cost-push}
 use Rattle.pv_walk.proofs.ListingLaws.{cond-one, cond-zero}
 use Rattle.pv_walk.proofs.PlanLaws.{built-append, doable-last}
 use Rattle.pv_walk.proofs.PublishLaws.{staged_outside}
 use Rattle.pv_walk.proofs.PuttingLaws.{none_under}
-use Rattle.pv_walk.proofs.RemovalLaws.{no_same}
 use Rattle.pv_walk.proofs.ReplacingLaws.{yields_same}
+use Rattle.pv_walk.proofs.StageLaws.{begun_start, begun_stage, dressing_stage}
+use Rattle.pv_walk.proofs.StagedLaws.{at_same}
 use Rattle.pv_path.proofs.Tests.{true_not_false}
+
+-- nothing of a piece is done
+pub way_start : (stage : Path) (p : Piece) (t : Files) → CanDo stage p t → PieceWay stage p t t
+way_start stage (Make rest file) t can = begun_start (stage ++ rest) can.0 0 t can.1.0 file.what
+way_start stage (Give rest dress) t can = (zero, λ q. sym (bares-stamped (stage ++ rest) (λ o. o) (λ o. refl) (places t) q))
 
 -- some pieces of a list are done, and these are left
 pub record Doing (now : ℕ) (stage : Path) (t : Files) (all left : List Piece) (u : Files) : Type 0 where
   pub objects : Path → Option Bare
   pub stands : IsBuilt now stage objects t u
+  pub stages : (r : Path) → IsAtStage (made_of all r) (objects r)
   pub doable : AreDoable (made_of all) objects left
   pub whole : built left objects ≡ made_of all
 
 module _ (now : ℕ) (stage : Path) (nonempty : stage ≢ []) (t : Files) (parent : IsKindIn Directory (places t) (parent_of stage)) (all : List Piece) where
   pub doing_start : ((r : Path) → IsAbsentIn (places t) (stage ++ r)) → IsPlan all → Doing now stage t all all t
-  doing_start free plan = record { objects = λ q. None; stands = built_start now stage nonempty t parent free; doable = plan; whole = refl }
+  doing_start free plan = record { objects = λ q. None; stands = built_start now stage nonempty t parent free; stages = λ r. IsAtStage.none refl; doable = plan; whole = refl }
 
-  -- nothing has changed elsewhere, stamps aside
-  pub doing_outside : (left : List Piece) (u : Files) → Doing now stage t all left u → SameOutside (is_prefix stage) t u
-  doing_outside left u e = built_outside now stage nonempty t parent e.objects u e.stands
+  -- nothing has changed elsewhere, stamps aside, and what stands is at its stage
+  pub doing_staged : (left : List Piece) (u : Files) → Doing now stage t all left u → Staging stage (made_of all) t u
+  doing_staged left u e = record {
+    outside = built_outside now stage nonempty t parent e.objects u e.stands;
+    stages = λ r. at_same (e.stages r) (bares_of (places u) (stage ++ r)) (bares_built now stage e.objects t u e.stands r);
+  }
 
-  -- nor does it while a piece is done
-  pub doing_way : (left : List Piece) (u : Files) → Doing now stage t all left u → (rest : Path) (w : Files) → SameOutside (is_prefix (stage ++ rest)) u w → SameOutside (is_prefix stage) t w
-  doing_way left u e rest w h q out = h q (elim (cases_Bool (is_prefix (stage ++ rest) q)) [
-    | inl p ↦ absurd (true_not_false (is_prefix stage q) (is_prefix-trans stage (stage ++ rest) q (is_prefix-append stage rest) p) out)
-    | inr d ↦ d
-  ]) ∙ doing_outside left u e q out
+  -- so it is while a piece is done: nothing has changed but at its place, and there a stage stands
+  way_staged : (left : List Piece) (u : Files) → Doing now stage t all left u → (rest : Path) (w : Files) → SameOutside (same_path (stage ++ rest)) u w → IsAtStage (made_of all rest) (bares_of (places w) (stage ++ rest)) → Staging stage (made_of all) t w
+  way_staged left u e rest w h here = record {
+    outside = λ q out. h q (here_outside now stage nonempty t parent e.objects u e.stands rest q out) ∙ built_outside now stage nonempty t parent e.objects u e.stands q out;
+    stages = λ r. elim (path_cases rest r) [
+      | inl same ↦ subst (λ (p : Path). IsAtStage (made_of all p) (bares_of (places w) (stage ++ p))) same here
+      | inr d ↦
+          at_same (e.stages r) (bares_of (places w) (stage ++ r))
+          (bares_of-same (places w) (places u) (stage ++ r) (h (stage ++ r) (here_else now stage nonempty t parent e.objects u e.stands rest r d)) ∙ bares_built now stage e.objects t u e.stands r)
+    ];
+  }
 
   -- the last of those that are left is done next
   module _ (left : List Piece) (u : Files) where
@@ -82,10 +99,38 @@ module _ (now : ℕ) (stage : Path) (nonempty : stage ≢ []) (t : Files) (paren
     stands_by (Make rest file) s v b (o, (there, (whole, (same, (none, place))))) h = made_built now stage nonempty t parent s u b rest none place file v h
     stands_by (Give rest dress) s v b (o, (there, (whole, (same, here)))) h = worn_built now stage nonempty t parent s u b rest o here dress v h
 
+    way_by : (p : Piece) → Doing now stage t all (left ++ p ∷ []) u → (s : Path → Option Bare) → IsBuilt now stage s t u → IsDoable (made_of all) s p → (w : Files) → PieceWay stage p u w → Staging stage (made_of all) t w
+    way_by (Make rest file) e s b (o, (there, (whole, (same, (none, place))))) w h =
+        way_staged (left ++ Make rest file ∷ []) u e rest w h.outside
+        (subst (λ (v : Option Bare). IsAtStage v (bares_of (places w) (stage ++ rest))) (sym there) (begun_stage (stage ++ rest) file.what o u w (ap (λ (f : NewFile). f.what) same) h))
+    way_by (Give rest dress) e s b (o, (there, (whole, (same, here)))) w h =
+        way_staged (left ++ Give rest dress ∷ []) u e rest w (outside_dressing (stage ++ rest) dress u w h)
+        (subst (λ (v : Option Bare). IsAtStage v (bares_of (places w) (stage ++ rest))) (sym there)
+        (dressing_stage (stage ++ rest) o dress (object_of now (plain o)) u w same (stands_here now stage nonempty t parent s u b rest o here) refl h))
+
+    pub doing_way : (p : Piece) → Doing now stage t all (left ++ p ∷ []) u → (w : Files) → PieceWay stage p u w → Staging stage (made_of all) t w
+    doing_way p e w h = way_by p e e.objects e.stands (doable-last (made_of all) e.objects left p e.doable).0 w h
+
+    -- what a piece leaves is at its stage
+    stage_by : (p : Piece) (s : Path → Option Bare) → ((r : Path) → IsAtStage (made_of all r) (s r)) → IsDoable (made_of all) s p → (r : Path) → IsAtStage (made_of all r) (after_piece p s r)
+    stage_by (Make rest file) s h (o, (there, (whole, (same, (none, place))))) r = elim (path_cases rest r) [
+      | inl e ↦ subst (λ (q : Path). IsAtStage (made_of all q) (after_piece (Make rest file) s q)) e
+          (IsAtStage.stage o (bare_of (held_object file.what 0)) there (ap (λ c. cond c (Some (bare_of (held_object file.what 0))) (s rest)) (same_path-refl rest))
+          (IsStage.begun (inr (ap (λ (f : NewFile). bare_of (held_object f.what 0)) same))))
+      | inr d ↦ at_same (h r) (after_piece (Make rest file) s r) (ap (λ c. cond c (Some (bare_of (held_object file.what 0))) (s r)) d)
+    ]
+    stage_by (Give rest dress) s h (o, (there, (whole, (same, here)))) r = elim (path_cases rest r) [
+      | inl e ↦ subst (λ (q : Path). IsAtStage (made_of all q) (after_piece (Give rest dress) s q)) e
+          (IsAtStage.stage o (record (plain o) { dress = dress }) there
+          (ap (λ c. cond c (option_map (λ (b : Bare). record b { dress = dress }) (s rest)) (s rest)) (same_path-refl rest) ∙ ap (option_map (λ (b : Bare). record b { dress = dress })) here)
+          (IsStage.dressing 5 (ap (λ (d : Dress). record (plain o) { dress = d }) same)))
+      | inr d ↦ at_same (h r) (after_piece (Give rest dress) s r) (ap (λ c. cond c (option_map (λ (b : Bare). record b { dress = dress }) (s r)) (s r)) d)
+    ]
+
     pub doing_next : (p : Piece) (v : Files) → Doing now stage t all (left ++ p ∷ []) u → IsDone now stage p u v → Doing now stage t all left v
     doing_next p v e h =
         let parts = doable-last (made_of all) e.objects left p e.doable in
-        record { objects = after_piece p e.objects; stands = stands_by p e.objects v e.stands parts.0 h; doable = parts.1; whole = sym (built-append left (p ∷ []) e.objects) ∙ e.whole }
+        record { objects = after_piece p e.objects; stands = stands_by p e.objects v e.stands parts.0 h; stages = stage_by p e.objects e.stages parts.0; doable = parts.1; whole = sym (built-append left (p ∷ []) e.objects) ∙ e.whole }
 
     gives_by : (p : Piece) (s : Path → Option Bare) (step : Step) → IsDoable (made_of all) s p → GivesPiece stage p u step → GivesPart stage (made_of all) step
     gives_by (Make rest file) s step (o, (there, (whole, (same, e)))) h =
@@ -105,24 +150,24 @@ module _ (now : ℕ) (stage : Path) (nonempty : stage ≢ []) (t : Files) (paren
 -- one piece more is done
 pub one_more : {S A : Type 0} (tree : Ghosts S) → Moves tree → (stage : Path) → stage ≢ [] → (all left : List Piece) (p : Piece) {m now : ℕ} {a b c : S} {r : Result A TreeFault}
     → IsKindIn Directory (places (tree.state a)) (parent_of stage) → Doing now stage (tree.state a) all (left ++ p ∷ []) (tree.state b) → (n : ℕ) → m + piece_cost p ≤ n
-    → Acted tree (SameOutside (is_prefix stage) (tree.state a)) (GivesPart stage (made_of all)) m now a b well
-    → Acted tree (SameOutside (is_prefix (stage ++ place_of p)) (tree.state b)) (GivesPiece stage p (tree.state b)) (piece_cost p) now b c r
-    → Acted tree (SameOutside (is_prefix stage) (tree.state a)) (GivesPart stage (made_of all)) n now a c r
+    → Acted tree (Staging stage (made_of all) (tree.state a)) (GivesPart stage (made_of all)) m now a b well
+    → Acted tree (PieceWay stage p (tree.state b)) (GivesPiece stage p (tree.state b)) (piece_cost p) now b c r
+    → Acted tree (Staging stage (made_of all) (tree.state a)) (GivesPart stage (made_of all)) n now a c r
 one_more tree moves stage nonempty all left p {m = m} {now = now} {a = a} {b = b} parent doing n le before last =
     acted_within tree (m + piece_cost p) n le
-    (acted_then tree moves (SameOutside (is_prefix stage) (tree.state a)) (GivesPart stage (made_of all)) before
-    (acted_weaken tree (SameOutside (is_prefix (stage ++ place_of p)) (tree.state b)) (SameOutside (is_prefix stage) (tree.state a)) (GivesPiece stage p (tree.state b)) (GivesPart stage (made_of all)) (piece_cost p) (piece_cost p)
-    (doing_way now stage nonempty (tree.state a) parent all (left ++ p ∷ []) (tree.state b) doing (place_of p))
+    (acted_then tree moves (Staging stage (made_of all) (tree.state a)) (GivesPart stage (made_of all)) before
+    (acted_weaken tree (PieceWay stage p (tree.state b)) (Staging stage (made_of all) (tree.state a)) (GivesPiece stage p (tree.state b)) (GivesPart stage (made_of all)) (piece_cost p) (piece_cost p)
+    (doing_way now stage nonempty (tree.state a) parent all left (tree.state b) p doing)
     (doing_gives now stage nonempty (tree.state a) parent all left (tree.state b) p doing)
     (omega arith) last))
 
 -- so the next piece is done
 pub next_done : {S : Type 0} (tree : Ghosts S) → Moves tree → (now : ℕ) (stage : Path) → stage ≢ [] → (all left front : List Piece) (p : Piece) → left ≡ front ++ p ∷ [] → (a b c : S)
     → IsKindIn Directory (places (tree.state a)) (parent_of stage) → Doing now stage (tree.state a) all left (tree.state b) → cost_of left ≤ cost_of all
-    → Acted tree (SameOutside (is_prefix stage) (tree.state a)) (GivesPart stage (made_of all)) (cost_of all - cost_of left) now a b well
+    → Acted tree (Staging stage (made_of all) (tree.state a)) (GivesPart stage (made_of all)) (cost_of all - cost_of left) now a b well
     → IsDone now stage p (tree.state b) (tree.state c)
-    → Acted tree (SameOutside (is_prefix (stage ++ place_of p)) (tree.state b)) (GivesPiece stage p (tree.state b)) (piece_cost p) now b c well
-    → Doing now stage (tree.state a) all front (tree.state c) × ((cost_of front ≤ cost_of all) × Acted tree (SameOutside (is_prefix stage) (tree.state a)) (GivesPart stage (made_of all)) (cost_of all - cost_of front) now a c well)
+    → Acted tree (PieceWay stage p (tree.state b)) (GivesPiece stage p (tree.state b)) (piece_cost p) now b c well
+    → Doing now stage (tree.state a) all front (tree.state c) × ((cost_of front ≤ cost_of all) × Acted tree (Staging stage (made_of all) (tree.state a)) (GivesPart stage (made_of all)) (cost_of all - cost_of front) now a c well)
 next_done tree moves now stage nonempty all left front p is a b c parent doing room before done last =
     let here : Doing now stage (tree.state a) all (front ++ p ∷ []) (tree.state b) = subst (λ (ps : List Piece). Doing now stage (tree.state a) all ps (tree.state b)) is doing in
     let one = cost-push front p is in (
@@ -279,17 +324,6 @@ module _ (now : ℕ) (path : Path) (nonempty : path ≢ []) (s : Path → Option
       staged_same q = bares_with (staging_of path) s (places t) 0 now q ∙ ap (λ (x : Places). bares x q) (sym is)
   copy_published u is before w (inr e) = Replacing.come (λ q plain. e q ∙ ap (λ (x : Places). bares x q) (ap (moved now (staging_of path) path) is ∙ copy_moved) ∙ bares_with path s (places t) now 0 q)
 
--- a piece that gives an object what it is to dressed
-pub worn_acted : {S A : Type 0} (tree : Ghosts S) (stage rest : Path) (new : Dress) (piece : Piece) (p : Path) {now : ℕ} {a b : S} {r : Result A TreeFault} → piece ≡ Give rest new → p ≡ stage ++ rest
-    → Acted tree (Dressing p new (tree.state a)) (GivesDress p new (tree.state a)) 5 now a b r
-    → Acted tree (SameOutside (is_prefix (stage ++ place_of piece)) (tree.state a)) (GivesPiece stage piece (tree.state a)) (piece_cost piece) now a b r
-worn_acted {A = A} tree stage rest new piece p {now = now} {a = a} {b = b} {r = r} is at acted =
-    subst (λ (v : Piece). Acted {A = A} tree (SameOutside (is_prefix (stage ++ place_of v)) (tree.state a)) (GivesPiece stage v (tree.state a)) (piece_cost v) now a b r) (sym is)
-    (acted_weaken tree (Dressing (stage ++ rest) new (tree.state a)) (SameOutside (is_prefix (stage ++ rest)) (tree.state a)) (GivesDress (stage ++ rest) new (tree.state a)) (GivesDress (stage ++ rest) new (tree.state a)) 5 5
-    (λ u h q out. outside_dressing (stage ++ rest) new (tree.state a) u h q (no_same (stage ++ rest) q (λ e. true_not_false (is_prefix (stage ++ rest) q) (ap (is_prefix (stage ++ rest)) (sym e) ∙ is_prefix-refl (stage ++ rest)) out)))
-    (λ step g. g) (omega arith)
-    (subst (λ (v : Path). Acted {A = A} tree (Dressing v new (tree.state a)) (GivesDress v new (tree.state a)) 5 now a b r) at acted))
-
 -- a copy of what is there has an object
 pub copied_some : (s : Path → Option Bare) (source : Path) (t : Files) → is_some (s []) ≡ true → is_some (places t source) ≡ true → 1 ≤ copied_count s source t
 copied_some s source t top there =
@@ -308,12 +342,12 @@ copied_some s source t top there =
 
 -- pieces that make a subtree at the staging name of a path
 pub staged_acted : {S A : Type 0} (tree : Ghosts S) (path stage : Path) (s : Path → Option Bare) (pieces : List Piece) (n : ℕ) {now : ℕ} {a b : S} {r : Result A TreeFault} → stage ≡ staging_of path → made_of pieces ≡ s → cost_of pieces ≤ n
-    → Acted tree (SameOutside (is_prefix stage) (tree.state a)) (GivesPart stage (made_of pieces)) (cost_of pieces) now a b r
-    → Acted tree (SameOutside (is_prefix (staging_of path)) (tree.state a)) (IsStagingOf path s) n now a b r
+    → Acted tree (Staging stage (made_of pieces) (tree.state a)) (GivesPart stage (made_of pieces)) (cost_of pieces) now a b r
+    → Acted tree (Staging (staging_of path) s (tree.state a)) (IsStagingOf path s) n now a b r
 staged_acted {A = A} tree path stage s pieces n {now = now} {a = a} {b = b} {r = r} at all few acted =
     acted_within tree (cost_of pieces) n few
-    (subst (λ (v : Path → Option Bare). Acted {A = A} tree (SameOutside (is_prefix (staging_of path)) (tree.state a)) (GivesPart (staging_of path) v) (cost_of pieces) now a b r) all
-    (subst (λ (p : Path). Acted {A = A} tree (SameOutside (is_prefix p) (tree.state a)) (GivesPart p (made_of pieces)) (cost_of pieces) now a b r) at acted))
+    (subst (λ (v : Path → Option Bare). Acted {A = A} tree (Staging (staging_of path) v (tree.state a)) (GivesPart (staging_of path) v) (cost_of pieces) now a b r) all
+    (subst (λ (p : Path). Acted {A = A} tree (Staging p (made_of pieces) (tree.state a)) (GivesPart p (made_of pieces)) (cost_of pieces) now a b r) at acted))
 
 -- a copy that is staged and comes to its path
 module _ {S : Type 0} (tree : Ghosts S) (now : ℕ) (path : Path) (nonempty : path ≢ []) (s : Path → Option Bare) (a b : S) (parent : IsKindIn Directory (places (tree.state a)) (parent_of path)) (is_tree : IsTree (tree.state a))

@@ -1,5 +1,6 @@
 pub mod WalkLaws
 pub mod StageLaws
+pub mod StagedLaws
 pub mod Outcomes
 pub mod Removing
 pub mod CountLaws

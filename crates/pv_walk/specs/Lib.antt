@@ -9,3 +9,4 @@ pub mod Preparing
 pub mod Copying
 pub mod Replacing
 pub mod Pieces
+pub mod Stages

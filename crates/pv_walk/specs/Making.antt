@@ -1,13 +1,17 @@
 -- How a new object comes to its staging name: the step that makes it, what it holds, and its dress (mkdir(2), mknod(2),
 -- symlink(2)).
-use Rattle.std.specs.Prelude.{ℕ, List, [], ◌∷◌, Option, Some, None}
-use Rattle.pv_path.specs.Paths.{Path}
+use Rattle.std.specs.Prelude.{◌≡◌, ◌⊎◌, ℕ, List, [], ◌∷◌, Option, Some, None}
+use Rattle.pv_path.specs.Paths.{Path, same_path}
 use Rattle.pv_acl.specs.Parts.{special_of, acl_of_mode}
 use Rattle.pv_steps.specs.declared.object.Object.{Object}
 use Rattle.pv_steps.specs.declared.step.Step.{Step}
 use Rattle.pv_steps.specs.declared.step.Step.TheVariants.{MakeDir, MakeFile, MakeFifo, MakeDevice, MakeLink}
 use Rattle.pv_steps.specs.Objects.{fresh}
+use Rattle.pv_steps.specs.Trees.{Files, places}
+use Rattle.pv_dress.specs.declared.bare.Bare.{Bare}
 use Rattle.pv_dress.specs.declared.bare.Dress.{Dress}
+use Rattle.pv_dress.specs.Edits.{SameOutside}
+use Rattle.pv_dress.specs.Nodes.{bare_of, bares_of}
 use Rattle.pv_walk.specs.declared.new_file.NewFile.{NewFile}
 use Rattle.pv_walk.specs.declared.new_file.NewKind.{NewKind}
 use Rattle.pv_walk.specs.declared.new_file.NewKind.TheVariants as new
@@ -33,6 +37,15 @@ made_mode new.Directory = 0o700
 made_mode (new.Link target) = 0o777
 made_mode kind = 0o600
 
+-- what it holds then: the target of a link, else nothing
+abbrev pub first_payload : NewKind → List ℕ
+first_payload (new.Link target) = target
+first_payload kind = []
+
+-- the object as such a step leaves it
+abbrev pub first_object : NewKind → ℕ → Object
+first_object what now = fresh (new_kind what) (made_mode what) (first_payload what) (new_major what) (new_minor what) now
+
 -- the object with all it holds, in the mode and with the owners that such a step gives
 abbrev pub held_object : NewKind → ℕ → Object
 held_object what now = fresh (new_kind what) (made_mode what) (new_payload what) (new_major what) (new_minor what) now
@@ -47,3 +60,12 @@ new_dress file = record {
   attrs = [];
   letters = 0;
 }
+
+-- an object without stamps as its Make step leaves it, or with all it holds
+abbrev pub IsBegun : NewKind → Bare → Type 0
+IsBegun what there = (there ≡ bare_of (first_object what 0)) ⊎ (there ≡ bare_of (held_object what 0))
+
+-- on the way of making it where nothing stood: nothing has changed elsewhere, stamps aside, and it is not there yet, or only begun
+pub record Beginning (path : Path) (what : NewKind) (t u : Files) : Type 0 where
+  pub outside : SameOutside (same_path path) t u
+  pub here : (bares_of (places u) path ≡ None) ⊎ ((there : Bare) × ((bares_of (places u) path ≡ Some there) × IsBegun what there))

@@ -3,7 +3,7 @@
 use Rattle.std.specs.Prelude.{◌≡◌, ◌≢◌, ◌⊎◌, ℕ, ◌+◌, true, false, List, [], ◌∷◌, ◌++◌, map, Option, Some, None, is_some, option_map, if◌then◌else◌}
 use Rattle.pv_dress.specs.declared.bare.Bare.{Bare}
 use Rattle.pv_dress.specs.declared.bare.Body.{Body}
-use Rattle.pv_dress.specs.Dressing.{IsDress, dress_mode, CanDress, ChangedAt, GivesDress, dressed}
+use Rattle.pv_dress.specs.Dressing.{IsDress, dress_mode, CanDress, ChangedAt, Dressing, GivesDress, dressed}
 use Rattle.pv_dress.specs.Nodes.{bare_of}
 use Rattle.pv_path.specs.Paths.{Path, same_path, parent_of}
 use Rattle.pv_steps.specs.declared.node.Kind.{Kind}
@@ -19,7 +19,7 @@ use Rattle.pv_walk.specs.declared.listing.Piece.TheVariants.{Make, Give}
 use Rattle.pv_walk.specs.declared.listing.Task.{Task}
 use Rattle.pv_walk.specs.declared.listing.Task.TheVariants.{Open, Close}
 use Rattle.pv_walk.specs.Copying.{Subtree}
-use Rattle.pv_walk.specs.Making.{held_object}
+use Rattle.pv_walk.specs.Making.{Beginning, held_object}
 use Rattle.pv_walk.specs.Staging.{IsNewFile, GivesNew}
 
 -- ---- single pieces
@@ -60,10 +60,10 @@ abbrev pub IsDone : ℕ → Path → Piece → Files → Files → Type 0
 IsDone now stage (Make rest file) t u = places u ≡ made now (stage ++ rest) (held_object file.what now) (places t)
 IsDone now stage (Give rest dress) t u = ChangedAt (dressed dress) (stage ++ rest) now t u
 
--- where it works
-abbrev pub place_of : Piece → Path
-place_of (Make rest file) = rest
-place_of (Give rest dress) = rest
+-- on the way
+abbrev pub PieceWay : Path → Piece → Files → Files → Type 0
+PieceWay stage (Make rest file) t u = Beginning (stage ++ rest) file.what t u
+PieceWay stage (Give rest dress) t u = Dressing (stage ++ rest) dress t u
 
 -- a step of it
 abbrev pub GivesPiece : Path → Piece → Files → Step → Type 0

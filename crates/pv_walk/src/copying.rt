@@ -1,19 +1,20 @@
 //! Copies of all that stands at and below a path.
 ghost use Rattle.std.specs.Prelude.{◌≡◌, ◌≢◌, ◌≤◌, ◌+◌, ◌*◌, [], ◌++◌, true, false, is_some, OnOk};
-ghost use Rattle.pv_dress.specs.Edits.{SameOutside, count_at};
+ghost use Rattle.pv_dress.specs.Edits.{count_at};
 ghost use Rattle.pv_dress.specs.Nodes.{bares_of};
-ghost use Rattle.pv_path.specs.Paths.{Path, is_prefix, parent_of, has_staging, staging_of};
+ghost use Rattle.pv_path.specs.Paths.{Path, parent_of, has_staging, staging_of};
 ghost use Rattle.pv_steps.specs.declared.node.Kind.TheVariants.{Directory};
 ghost use Rattle.pv_steps.specs.Acting.{Acted};
 ghost use Rattle.pv_steps.specs.Trees.{places, IsKind, IsAbsentIn, IsPresent};
 ghost use Rattle.pv_walk.specs.Copying.{copy_from, copied_count, topped, with_subtree, IsStagingOf, GivesPart, IsCopyStep, IsTopNode};
 ghost use Rattle.pv_walk.specs.Replacing.{Replacing};
-ghost use Rattle.pv_walk.specs.Pieces.{CanDo, IsDone, GivesPiece, place_of, piece_cost, cost_of, IsPlan, made_of};
+ghost use Rattle.pv_walk.specs.Pieces.{CanDo, IsDone, GivesPiece, PieceWay, piece_cost, cost_of, IsPlan, made_of};
+ghost use Rattle.pv_walk.specs.Stages.{InStages, Staging};
 ghost use Rattle.pv_walk.specs.Staging.{can_stage, most_staged, most_new};
 
 use crate::listing::{Piece, pieces_of};
 use crate::publishing::publish;
-use crate::stage::put_held;
+use crate::stage::begin;
 use pv_dress::dress;
 use pv_path::{TreePath, staging};
 use pv_steps::{Tree, TreeFault};
@@ -49,16 +50,16 @@ pub fn stage_copy<T: Tree>(
     requires source { IsPresent (T.state tree.old) source.now }
     requires top { IsTopNode top.now }
     ensures acted { let subtree = copy_from (topped top.now) source.now (bares_of (places (T.state tree.old))) in
-        Acted T.Tree (SameOutside (is_prefix (staging_of path.now)) (T.state tree.old))
+        Acted T.Tree (Staging (staging_of path.now) subtree (T.state tree.old))
         (IsStagingOf path.now subtree)
         (most_staged * copied_count subtree source.now (T.state tree.old)) now tree.old tree.new result }
     ensures ok { OnOk result (places (T.state tree.new)
         ≡ with_subtree now (staging_of path.now)
         (copy_from (topped top.now) source.now (bares_of (places (T.state tree.old)))) (places (T.state tree.old))) }
 {
-    let stage = staging(alloc, path)?;
     // In a tree nothing stands below an absent path.
-    let _free = tree.look(&stage);
+    let _free = tree.look(path);
+    let stage = staging(alloc, path)?;
     let pieces = pieces_of(alloc, tree, source, top)?;
     put_pieces(tree, &stage, pieces, now)
 }
@@ -74,7 +75,7 @@ fn put_pieces<T: Tree>(
     requires parent { IsKind Directory (T.state tree.old) (parent_of stage.now) }
     requires free { (rest : Path) → IsAbsentIn (places (T.state tree.old)) (stage.now ++ rest) }
     requires plan { IsPlan pieces.items }
-    ensures acted { Acted T.Tree (SameOutside (is_prefix stage.now) (T.state tree.old))
+    ensures acted { Acted T.Tree (Staging stage.now (made_of pieces.items) (T.state tree.old))
         (GivesPart stage.now (made_of pieces.items)) (cost_of pieces.items)
         now tree.old tree.new result }
     ensures ok { OnOk result (is_some (made_of pieces.items []) ≡ true
@@ -96,8 +97,7 @@ fn put_owned<T: Tree>(
     now: u64,
 ) -> Result<(), TreeFault>
     requires { CanDo stage.now piece (T.state tree.old) }
-    ensures acted { Acted T.Tree
-        (SameOutside (is_prefix (stage.now ++ place_of piece)) (T.state tree.old))
+    ensures acted { Acted T.Tree (PieceWay stage.now piece (T.state tree.old))
         (GivesPiece stage.now piece (T.state tree.old)) (piece_cost piece)
         now tree.old tree.new result }
     ensures ok { OnOk result
@@ -114,15 +114,14 @@ fn put_piece<T: Tree>(
     now: u64,
 ) -> Result<(), TreeFault>
     requires { CanDo stage.now piece.now (T.state tree.old) }
-    ensures acted { Acted T.Tree
-        (SameOutside (is_prefix (stage.now ++ place_of piece.now)) (T.state tree.old))
+    ensures acted { Acted T.Tree (PieceWay stage.now piece.now (T.state tree.old))
         (GivesPiece stage.now piece.now (T.state tree.old)) (piece_cost piece.now)
         now tree.old tree.new result }
     ensures ok { OnOk result
         (IsDone now stage.now piece.now (T.state tree.old) (T.state tree.new)) }
 {
     match piece {
-        Piece::Make(rest, file) => put_held(tree, &stage.followed_by(rest.names())?, file, now),
+        Piece::Make(rest, file) => begin(tree, &stage.followed_by(rest.names())?, file, now),
         Piece::Give(rest, new) => dress(tree, &stage.followed_by(rest.names())?, new, now),
     }
 }
@@ -150,6 +149,11 @@ pub fn copy_over<T: Tree>(
         (places (T.state tree.old))) }
     ensures acted { let subtree = copy_from (topped top.now) source.now (bares_of (places (T.state tree.old))) in
         Acted T.Tree (Replacing path.now subtree (T.state tree.old)) (IsCopyStep path.now subtree)
+        (count_at (T.state tree.old) path.now
+        + most_new * copied_count subtree source.now (T.state tree.old)) now tree.old tree.new result }
+    // Under the staging name nothing stands but stages of the copy.
+    ensures stages { let subtree = copy_from (topped top.now) source.now (bares_of (places (T.state tree.old))) in
+        Acted T.Tree (InStages (staging_of path.now) subtree) (IsCopyStep path.now subtree)
         (count_at (T.state tree.old) path.now
         + most_new * copied_count subtree source.now (T.state tree.old)) now tree.old tree.new result }
 {

@@ -9,6 +9,7 @@ ghost use Rattle.pv_steps.specs.Acting.{Acted};
 ghost use Rattle.pv_walk.specs.Staging.{IsNewFile, new_object, can_stage, most_new};
 ghost use Rattle.pv_walk.specs.Putting.{Putting, IsPutStep, put_over};
 ghost use Rattle.pv_walk.specs.Replacing.{Replacing, new_subtree};
+ghost use Rattle.pv_walk.specs.Stages.{InStages};
 
 use crate::new_file::NewFile;
 use crate::publishing::publish;
@@ -36,6 +37,9 @@ pub fn put_new<T: Tree>(
         ≡ made now path.now (new_object new.now now) (places (T.state tree.old))) }
     ensures acted { Acted T.Tree (Putting path.now new.now (T.state tree.old))
         (IsPutStep path.now new.now) most_new now tree.old tree.new result }
+    // Under the staging name nothing stands but stages of the new object.
+    ensures stages { Acted T.Tree (InStages (staging_of path.now) (new_subtree new.now))
+        (IsPutStep path.now new.now) most_new now tree.old tree.new result }
 {
     // In a tree nothing stands below an absent path.
     let _absent = tree.look(path);
@@ -61,6 +65,10 @@ pub fn put_over<T: Tree>(
     ensures ok { OnOk result (places (T.state tree.new)
         ≡ put_over now path.now new.now (places (T.state tree.old))) }
     ensures acted { Acted T.Tree (Replacing path.now (new_subtree new.now) (T.state tree.old))
+        (IsPutStep path.now new.now) (count_at (T.state tree.old) path.now + most_new)
+        now tree.old tree.new result }
+    // Under the staging name nothing stands but stages of the new object.
+    ensures stages { Acted T.Tree (InStages (staging_of path.now) (new_subtree new.now))
         (IsPutStep path.now new.now) (count_at (T.state tree.old) path.now + most_new)
         now tree.old tree.new result }
 {

@@ -9,7 +9,10 @@ ghost use Rattle.pv_steps.specs.Steps.{HasRoom, made};
 ghost use Rattle.pv_dress.specs.Edits.{SameOutside};
 ghost use Rattle.pv_steps.specs.Acting.{Acted};
 ghost use Rattle.pv_walk.specs.Staging.{IsNewFile, GivesNew, new_object, can_stage, most_staged};
-ghost use Rattle.pv_walk.specs.Making.{make_step, content_of, held_object};
+ghost use Rattle.pv_dress.specs.Nodes.{bare_of};
+ghost use Rattle.pv_walk.specs.Making.{make_step, content_of, held_object, Beginning};
+ghost use Rattle.pv_walk.specs.Replacing.{new_subtree};
+ghost use Rattle.pv_walk.specs.Stages.{Making, Staging};
 
 use crate::new_file::{NewFile, NewKind, dress_of};
 use pv_dress::dress;
@@ -17,8 +20,8 @@ use pv_path::{Bytes, TreePath, staging};
 use pv_steps::{Step, Tree, TreeFault, try_step};
 use std::alloc::{AllocError, Global};
 
-/// Makes a new object under the staging name of a path, with its content, owners and mode, all four stamps
-/// now. After a fault some of these steps may be done; nothing but the staging name has changed.
+/// Makes a new object under the staging name of a path, with its content, owners and mode in this order, all four
+/// stamps now. After a fault some of these steps may be done; nothing but the staging name has changed.
 pub fn stage_file<T: Tree>(
     alloc: Global,
     tree: &mut T,
@@ -31,11 +34,13 @@ pub fn stage_file<T: Tree>(
     requires parent { IsKind Directory (T.state tree.old) (parent_of path.now) }
     requires free { IsAbsentIn (places (T.state tree.old)) (staging_of path.now) }
     requires new { IsNewFile new.now }
-    ensures acted { Acted T.Tree (SameOutside (is_prefix (staging_of path.now)) (T.state tree.old))
+    ensures acted { Acted T.Tree (Staging (staging_of path.now) (new_subtree new.now) (T.state tree.old))
         (GivesNew (staging_of path.now) new.now) most_staged now tree.old tree.new result }
     ensures ok { OnOk result (places (T.state tree.new)
         ≡ made now (staging_of path.now) (new_object new.now now) (places (T.state tree.old))) }
 {
+    // In a tree nothing stands below an absent path.
+    let _free = tree.look(path);
     let stage = staging(alloc, path)?;
     make_new(alloc, tree, &stage, new, now)
 }
@@ -51,12 +56,12 @@ fn make_new<T: Tree>(
     requires not_root { path.now ≢ [] }
     requires room { HasRoom (places (T.state tree.old)) path.now }
     requires new { IsNewFile new.now }
-    ensures acted { Acted T.Tree (SameOutside (is_prefix path.now) (T.state tree.old))
+    ensures acted { Acted T.Tree (Making path.now (bare_of (new_object new.now 0)) (T.state tree.old))
         (GivesNew path.now new.now) most_staged now tree.old tree.new result }
     ensures ok { OnOk result (places (T.state tree.new)
         ≡ made now path.now (new_object new.now now) (places (T.state tree.old))) }
 {
-    put_held(tree, path, new, now)?;
+    begin(tree, path, new, now)?;
     dress(tree, path, &dress_of(alloc, new), now)
 }
 
@@ -72,6 +77,26 @@ pub fn put_held<T: Tree>(
     requires room { HasRoom (places (T.state tree.old)) path.now }
     requires new { IsNewFile new.now }
     ensures acted { Acted T.Tree (SameOutside (is_prefix path.now) (T.state tree.old))
+        (GivesNew path.now new.now) 2 now tree.old tree.new result }
+    ensures begun { Acted T.Tree (Beginning path.now new.now.what (T.state tree.old))
+        (GivesNew path.now new.now) 2 now tree.old tree.new result }
+    ensures ok { OnOk result (places (T.state tree.new)
+        ≡ made now path.now (held_object new.now.what now) (places (T.state tree.old))) }
+{
+    begin(tree, path, new, now)
+}
+
+/// Makes a new object at a path, with its content.
+pub(crate) fn begin<T: Tree>(
+    tree: &mut T,
+    path: &TreePath,
+    new: &NewFile,
+    now: u64,
+) -> Result<(), TreeFault>
+    requires not_root { path.now ≢ [] }
+    requires room { HasRoom (places (T.state tree.old)) path.now }
+    requires new { IsNewFile new.now }
+    ensures acted { Acted T.Tree (Beginning path.now new.now.what (T.state tree.old))
         (GivesNew path.now new.now) 2 now tree.old tree.new result }
     ensures ok { OnOk result (places (T.state tree.new)
         ≡ made now path.now (held_object new.now.what now) (places (T.state tree.old))) }

@@ -1,23 +1,20 @@
-use Rattle.std.proofs.Common.{◌++◌, refl, ap, ◌∙◌}
-use Rattle.pv_path.specs.Paths.{is_prefix}
 use Rattle.pv_steps.proofs.ActingLaws.{Moves, no_memory, acted_none}
-use Rattle.pv_dress.specs.Edits.{SameOutside}
-use Rattle.pv_walk.specs.Pieces.{GivesPiece, place_of, piece_cost}
-use Rattle.pv_walk.proofs.CopyingLaws.{worn_acted}
+use Rattle.pv_walk.specs.Pieces.{GivesPiece, PieceWay, piece_cost}
+use Rattle.pv_walk.proofs.CopyingLaws.{way_start}
 use Rattle.pv_walk.proofs.copying.put_piece.Goals as goal
 
-pub put_held-requires-clause-not_root : goal.put_held-requires-clause-not_root
-put_held-requires-clause-not_root g c =
+pub begin-requires-clause-not_root : goal.begin-requires-clause-not_root
+begin-requires-clause-not_root g c =
     let can = rw c.in-Make.is at c.requires in
     rw (c.in_ok-followed_by-in-Make.ensures, c.names.ensures.value) can.0
 
-pub put_held-requires-clause-room : goal.put_held-requires-clause-room
-put_held-requires-clause-room g c =
+pub begin-requires-clause-room : goal.begin-requires-clause-room
+begin-requires-clause-room g c =
     let can = rw c.in-Make.is at c.requires in
     rw (c.in_ok-followed_by-in-Make.ensures, c.names.ensures.value) can.1.0
 
-pub put_held-requires-clause-new : goal.put_held-requires-clause-new
-put_held-requires-clause-new g c =
+pub begin-requires-clause-new : goal.begin-requires-clause-new
+begin-requires-clause-new g c =
     let can = rw c.in-Make.is at c.requires in
     can.1.1
 
@@ -30,30 +27,30 @@ pub returns-in_err-followed_by-in-Make-clause-acted : goal.returns-in_err-follow
 returns-in_err-followed_by-in-Make-clause-acted g c =
     let moves : Moves g.T.Tree = record { stays = g.met.T.Tree.reaches_self; goes_on = g.met.T.Tree.reaches_on; never_falls = g.met.T.Tree.never_falls } in
     let t = g.T.Tree.state c.args.tree.now in
-    acted_none g.T.Tree moves (SameOutside (is_prefix (c.args.stage.now ++ place_of c.args.piece.now)) t) (GivesPiece c.args.stage.now c.args.piece.now t) (piece_cost c.args.piece.now) c.args.now c.args.tree.now
-    c.from_residual.result (no_memory c.from_residual.result c.from_residual.ensures.1) (λ q e. refl)
+    acted_none g.T.Tree moves (PieceWay c.args.stage.now c.args.piece.now t) (GivesPiece c.args.stage.now c.args.piece.now t) (piece_cost c.args.piece.now) c.args.now c.args.tree.now
+    c.from_residual.result (no_memory c.from_residual.result c.from_residual.ensures.1) (way_start c.args.stage.now c.args.piece.now t c.requires)
 
 pub returns-in_err-followed_by-in-Give-clause-acted : goal.returns-in_err-followed_by-in-Give-clause-acted
 returns-in_err-followed_by-in-Give-clause-acted g c =
     let moves : Moves g.T.Tree = record { stays = g.met.T.Tree.reaches_self; goes_on = g.met.T.Tree.reaches_on; never_falls = g.met.T.Tree.never_falls } in
     let t = g.T.Tree.state c.args.tree.now in
-    acted_none g.T.Tree moves (SameOutside (is_prefix (c.args.stage.now ++ place_of c.args.piece.now)) t) (GivesPiece c.args.stage.now c.args.piece.now t) (piece_cost c.args.piece.now) c.args.now c.args.tree.now
-    c.from_residual-in_err-followed_by-in-Give.result (no_memory c.from_residual-in_err-followed_by-in-Give.result c.from_residual-in_err-followed_by-in-Give.ensures.1) (λ q e. refl)
+    acted_none g.T.Tree moves (PieceWay c.args.stage.now c.args.piece.now t) (GivesPiece c.args.stage.now c.args.piece.now t) (piece_cost c.args.piece.now) c.args.now c.args.tree.now
+    c.from_residual-in_err-followed_by-in-Give.result (no_memory c.from_residual-in_err-followed_by-in-Give.result c.from_residual-in_err-followed_by-in-Give.ensures.1) (way_start c.args.stage.now c.args.piece.now t c.requires)
 
 pub returns-in_ok-followed_by-in-Make-clause-acted : goal.returns-in_ok-followed_by-in-Make-clause-acted
 returns-in_ok-followed_by-in-Make-clause-acted g c =
-    let made = rw (c.in_ok-followed_by-in-Make.ensures, c.names.ensures.value) at c.put_held-in-Make.ensures.acted in
+    let made = rw (c.in_ok-followed_by-in-Make.ensures, c.names.ensures.value) at c.begin-in-Make.ensures.acted in
     rw c.in-Make.is made
 
 pub returns-in_ok-followed_by-in-Make-clause-ok : goal.returns-in_ok-followed_by-in-Make-clause-ok
 returns-in_ok-followed_by-in-Make-clause-ok g c =
-    let made = rw (c.in_ok-followed_by-in-Make.ensures, c.names.ensures.value) at c.put_held-in-Make.ensures.ok in
+    let made = rw (c.in_ok-followed_by-in-Make.ensures, c.names.ensures.value) at c.begin-in-Make.ensures.ok in
     rw c.in-Make.is made
 
 pub returns-in_ok-followed_by-in-Give-clause-acted : goal.returns-in_ok-followed_by-in-Give-clause-acted
 returns-in_ok-followed_by-in-Give-clause-acted g c =
-    worn_acted g.T.Tree c.args.stage.now c.in-Give.rest c.in-Give.new c.args.piece.now c.in_ok-followed_by-in-Give.field-0 c.in-Give.is
-    (c.in_ok-followed_by-in-Give.ensures ∙ ap (λ r. c.args.stage.now ++ r) c.names-in-Give.ensures.value) c.dress-in-Give.ensures.acted
+    let worn = rw (c.in_ok-followed_by-in-Give.ensures, c.names-in-Give.ensures.value) at c.dress-in-Give.ensures.acted in
+    rw c.in-Give.is worn
 
 pub returns-in_ok-followed_by-in-Give-clause-ok : goal.returns-in_ok-followed_by-in-Give-clause-ok
 returns-in_ok-followed_by-in-Give-clause-ok g c =

@@ -1,12 +1,11 @@
 use Rattle.std.proofs.Common.{◌≡◌, ◌-◌, sym, ◌∙◌, refl, [], arith}
 use Rattle.std.proofs.lemmas.List.{nil_from_length}
-use Rattle.pv_dress.specs.Edits.{SameOutside}
-use Rattle.pv_path.specs.Paths.{is_prefix}
 use Rattle.pv_steps.proofs.ActingLaws.{Moves, well, acted_none, acted_within, acted_passed}
 use Rattle.pv_walk.specs.Copying.{GivesPart}
 use Rattle.pv_walk.specs.Pieces.{cost_of, made_of}
+use Rattle.pv_walk.specs.Stages.{Staging}
 use Rattle.pv_walk.proofs.CopyListing.{cost-push}
-use Rattle.pv_walk.proofs.CopyingLaws.{doing_start, doing_outside, doing_can, doing_end, one_more, next_done}
+use Rattle.pv_walk.proofs.CopyingLaws.{doing_start, doing_staged, doing_can, doing_end, one_more, next_done}
 use Rattle.pv_walk.proofs.copying.put_pieces.Goals as goal
 
 pub loop-piece-init : goal.loop-piece-init
@@ -19,8 +18,8 @@ loop-piece-init g c =
       here = here;
       room = omega arith;
       acted =
-          acted_none g.T.Tree moves (SameOutside (is_prefix c.args.stage.now) t) (GivesPart c.args.stage.now (made_of pieces)) (cost_of pieces - cost_of pieces) c.args.now c.args.tree.now well refl
-          (doing_outside c.args.now c.args.stage.now c.requires.not_root t c.requires.parent pieces pieces t here);
+          acted_none g.T.Tree moves (Staging c.args.stage.now (made_of pieces) t) (GivesPart c.args.stage.now (made_of pieces)) (cost_of pieces - cost_of pieces) c.args.now c.args.tree.now well refl
+          (doing_staged c.args.now c.args.stage.now c.requires.not_root t c.requires.parent pieces pieces t here);
     }
 
 pub put_owned-requires : goal.put_owned-requires

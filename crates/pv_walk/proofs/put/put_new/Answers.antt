@@ -1,7 +1,7 @@
 use Rattle.std.proofs.Common.{◌+◌, ap, ◌∙◌, arith}
 use Rattle.pv_steps.specs.Trees.{Places}
 use Rattle.pv_steps.specs.Steps.{made}
-use Rattle.pv_steps.proofs.ActingLaws.{acted_weaken}
+use Rattle.pv_steps.proofs.ActingLaws.{acted_weaken, acted_within}
 use Rattle.pv_dress.specs.Edits.{count_at}
 use Rattle.pv_walk.specs.Putting.{Putting, IsPutStep}
 use Rattle.pv_walk.specs.Replacing.{Replacing, new_subtree}
@@ -25,3 +25,10 @@ returns-clause-acted g c =
     let none = count_absent path t c.look-absent.ensures.tree c.requires.absent in
     acted_weaken g.T.Tree (Replacing path (new_subtree file) t) (Putting path file t) (IsPutStep path file) (IsPutStep path file) (count_at t path + most_new) most_new
     (over_putting path t c.look-absent.ensures.tree c.requires.absent file) (λ s q. q) (omega (arith, none)) c.put_over.ensures.acted
+
+pub returns-clause-stages : goal.returns-clause-stages
+returns-clause-stages g c =
+    let t = g.T.Tree.state c.args.tree.now in
+    let path = c.args.path.now in
+    let none = count_absent path t c.look-absent.ensures.tree c.requires.absent in
+    acted_within g.T.Tree (count_at t path + most_new) most_new (omega (arith, none)) c.put_over.ensures.stages
