@@ -1,5 +1,4 @@
-use Rattle.std.proofs.Common.{◌≡◌, ◌∷◌, [], Ok, OnOk, drop, length, refl, subst, sym, List}
-use Rattle.pv_lines.specs.declared.line.Line.{Line}
+use Rattle.std.proofs.Common.{◌≡◌, ◌∷◌, [], Ok, OnOk, drop, length, refl, subst, sym}
 use Rattle.pv_doing.specs.Courses.{HasGone}
 use Rattle.pv_doing.specs.declared.carried.Carried.TheVariants.{Whole}
 use Rattle.pv_doing.proofs.CourseLaws.{part_none}
@@ -91,7 +90,7 @@ returns-in_ok-clean_run-in-Clean-clause-acted g c =
     let table = c.args.table.now in
     acted_ended g.T.Tree {x = c.in_ok-clean_run-in-Clean.field-0} _ refl
     (subst (λ (p : Phase). Acted g.T.Tree (on_way table now p t) (is_step_of table now p t) (most_steps_of table now p t) now c.args.tree.now c.clean_run.new.tree (Ok c.in_ok-clean_run-in-Clean.field-0)) (sym c.in-Clean.is)
-    (subst (λ (ls : List Line). Acted g.T.Tree (on_way ls now Clean t) (is_step_of ls now Clean t) (most_steps_of ls now Clean t) now c.args.tree.now c.clean_run.new.tree (Ok c.in_ok-clean_run-in-Clean.field-0)) c.lines-in-Clean.ensures.lines c.in_ok-clean_run-in-Clean.ensures.acted))
+    c.in_ok-clean_run-in-Clean.ensures.acted)
 
 pub returns-in-Remove-clause-went : goal.returns-in-Remove-clause-went
 returns-in-Remove-clause-went g c =
@@ -100,8 +99,7 @@ returns-in-Remove-clause-went g c =
     let r = c.remove_run.result in
     let run = c.remove_run.ensures.run in
     subst (λ (p : Phase). HasGone g.T.Tree (phase_cut c.args.table.now now (refused r) p t) now c.args.tree.now c.remove_run.new.tree c.args.messages.now c.remove_run.new.messages) (sym c.in-Remove.is)
-    (subst (λ (ls : List Line). HasGone g.T.Tree (phase_cut ls now (refused r) Remove t) now c.args.tree.now c.remove_run.new.tree c.args.messages.now c.remove_run.new.messages) c.lines.ensures.lines
-    (quiet_gone g.T.Tree c.lines.result.now now Remove c.args.tree.now c.remove_run.new.tree c.args.messages.now c.remove_run.new.messages r run.silent run.part run.acted))
+    (quiet_gone g.T.Tree c.args.table.now now Remove c.args.tree.now c.remove_run.new.tree c.args.messages.now c.remove_run.new.messages r run.silent run.part run.acted)
 
 pub returns-in-Purge-clause-went : goal.returns-in-Purge-clause-went
 returns-in-Purge-clause-went g c =
@@ -110,8 +108,7 @@ returns-in-Purge-clause-went g c =
     let r = c.purge_run.result in
     let run = c.purge_run.ensures.run in
     subst (λ (p : Phase). HasGone g.T.Tree (phase_cut c.args.table.now now (refused r) p t) now c.args.tree.now c.purge_run.new.tree c.args.messages.now c.purge_run.new.messages) (sym c.in-Purge.is)
-    (subst (λ (ls : List Line). HasGone g.T.Tree (phase_cut ls now (refused r) Purge t) now c.args.tree.now c.purge_run.new.tree c.args.messages.now c.purge_run.new.messages) c.lines-in-Purge.ensures.lines
-    (quiet_gone g.T.Tree c.lines-in-Purge.result.now now Purge c.args.tree.now c.purge_run.new.tree c.args.messages.now c.purge_run.new.messages r run.silent run.part run.acted))
+    (quiet_gone g.T.Tree c.args.table.now now Purge c.args.tree.now c.purge_run.new.tree c.args.messages.now c.purge_run.new.messages r run.silent run.part run.acted)
 
 pub returns-in-Create-clause-went : goal.returns-in-Create-clause-went
 returns-in-Create-clause-went g c =
@@ -127,9 +124,8 @@ returns-in_err-clean_run-in-Clean-clause-went g c =
     let ms = c.args.messages.now in
     let r = c.from_residual.result in
     subst (λ (p : Phase). HasGone g.T.Tree (phase_cut c.args.table.now now (refused r) p t) now c.args.tree.now c.clean_run.new.tree ms ms) (sym c.in-Clean.is)
-    (subst (λ (ls : List Line). HasGone g.T.Tree (phase_cut ls now (refused r) Clean t) now c.args.tree.now c.clean_run.new.tree ms ms) c.lines-in-Clean.ensures.lines
-    (quiet_gone g.T.Tree c.lines-in-Clean.result.now now Clean c.args.tree.now c.clean_run.new.tree ms ms r (λ failed. refl) (part_none [] ms)
-    (acted_passed g.T.Tree c.clean_run.result r c.in_err-clean_run-in-Clean.was c.from_residual.ensures.1 c.clean_run.ensures.acted)))
+    (quiet_gone g.T.Tree c.args.table.now now Clean c.args.tree.now c.clean_run.new.tree ms ms r (λ failed. refl) (part_none [] ms)
+    (acted_passed g.T.Tree c.clean_run.result r c.in_err-clean_run-in-Clean.was c.from_residual.ensures.1 c.clean_run.ensures.acted))
 
 pub returns-in_ok-clean_run-in-Clean-clause-went : goal.returns-in_ok-clean_run-in-Clean-clause-went
 returns-in_ok-clean_run-in-Clean-clause-went g c =
@@ -137,6 +133,5 @@ returns-in_ok-clean_run-in-Clean-clause-went g c =
     let now = c.args.now in
     let ms = c.args.messages.now in
     subst (λ (p : Phase). HasGone g.T.Tree (phase_cut c.args.table.now now 0 p t) now c.args.tree.now c.clean_run.new.tree ms ms) (sym c.in-Clean.is)
-    (subst (λ (ls : List Line). HasGone g.T.Tree (phase_cut ls now 0 Clean t) now c.args.tree.now c.clean_run.new.tree ms ms) c.lines-in-Clean.ensures.lines
-    (quiet_gone g.T.Tree c.lines-in-Clean.result.now now Clean c.args.tree.now c.clean_run.new.tree ms ms (Ok Whole) (λ failed. refl) (part_none [] ms)
-    (acted_ended g.T.Tree {x = c.in_ok-clean_run-in-Clean.field-0} (Ok Whole) refl c.in_ok-clean_run-in-Clean.ensures.acted)))
+    (quiet_gone g.T.Tree c.args.table.now now Clean c.args.tree.now c.clean_run.new.tree ms ms (Ok Whole) (λ failed. refl) (part_none [] ms)
+    (acted_ended g.T.Tree {x = c.in_ok-clean_run-in-Clean.field-0} (Ok Whole) refl c.in_ok-clean_run-in-Clean.ensures.acted))
