@@ -224,6 +224,7 @@ row old100k     old10k   full 'd /v - - - 0' 100000
 words=systemd-sysusers
 row users1000   -        accounts 1000 0
 row members1000 users1000 accounts 1000 1000
+row members10k members1000 accounts 10000 10000
 words='generate 1 500'
 row drawn500    -        true
 words='generate 1 2000'

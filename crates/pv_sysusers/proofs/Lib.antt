@@ -12,3 +12,4 @@ pub mod NewLaws
 pub mod EntryLaws
 pub mod AgainLaws
 pub mod FinishLaws
+pub mod MemberLaws

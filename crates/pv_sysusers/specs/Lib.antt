@@ -7,6 +7,7 @@ pub mod Groups
 pub mod Users
 pub mod Deciding
 pub mod Texts
+pub mod Members
 pub mod Plans
 pub mod Planning
 pub mod Allowed

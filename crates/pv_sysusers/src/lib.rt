@@ -5,6 +5,7 @@ mod fixed;
 mod groups;
 mod laws;
 mod lines;
+mod members;
 mod needs;
 mod path_ids;
 mod plan_fault;

@@ -11,12 +11,12 @@ ghost use Rattle.pv_sysusers.specs.Shown.{shown, shown_line};
 ghost use Rattle.pv_sysusers.specs.Texts.{group_line, group_text, gshadow_text, has_entry, is_known, membership_of, own_shell, passwd_line, passwd_start, passwd_text, shadow_end, shadow_line, shadow_lines, shadow_text, with_memberships, without_entry};
 
 use crate::lines::Line;
+use crate::members::with_memberships;
 use crate::needs::Need;
 use crate::users::NewUser;
-use pv_accounts::{EntryNames, Kind, add_member_in, append_entries};
+use pv_accounts::{EntryNames, Kind, append_entries};
 use pv_gshadow::new_group;
 use pv_path::Bytes;
-use pv_requests::Request;
 use std::alloc::{AllocError, Global};
 
 /// The entry of a new group: `NAME:x:GID:`.
@@ -116,42 +116,6 @@ fn with_lines(alloc: Global, file: &[u8], lines: &[Vec<u8>]) -> Result<Vec<u8>, 
 {
     let entries = slices(alloc, lines)?;
     append_entries(alloc, file, entries.as_slice())
-}
-
-/// A file with the user of an m line among the members of his group.
-fn with_membership(
-    alloc: Global,
-    kind: Kind,
-    text: Vec<u8>,
-    line: Line<'_>,
-) -> Result<Vec<u8>, AllocError>
-    requires { has_members kind ≡ true }
-    ensures { IfOk result (λ new. new.items ≡ with_memberships (test_of kind) (membership_of (shown_line line.entry)) text.items) }
-{
-    match line.0 {
-        Request::Member { user, group, .. } => {
-            add_member_in(alloc, kind, &text, group.as_slice(), user.as_slice())
-        }
-        _ => Ok(text),
-    }
-}
-
-/// A file with each user of an m line among the members of his group, in order.
-fn with_memberships(
-    alloc: Global,
-    kind: Kind,
-    file: Vec<u8>,
-    lines: &[Line<'_>],
-) -> Result<Vec<u8>, AllocError>
-    requires { has_members kind ≡ true }
-    ensures { let members = flat_map membership_of (shown lines.now) in
-        IfOk result (λ text. text.items ≡ with_memberships (test_of kind) members file.items) }
-{
-    let mut text = file;
-    for line in lines {
-        text = with_membership(alloc, kind, text, *line)?;
-    }
-    Ok(text)
 }
 
 /// The entries of new groups.

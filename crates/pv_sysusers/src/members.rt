@@ -1,0 +1,276 @@
+//! New members of groups: the file is cut into its lines once for all of them (group(5), gshadow(5)).
+ghost use Rattle.std.specs.Prelude.{◌≡◌, ◌++◌, ℕ, List, [], ◌∷◌, false, true, None, Some, cond, map, IfOk, OnOk};
+ghost use Rattle.std.specs.List.{flat_map, list_all};
+ghost use Rattle.std.specs.Option.{option_map_or, option_or};
+ghost use Rattle.std.specs.Str.{bytes_eq};
+ghost use Rattle.pv_accounts.specs.Edits.{lacks_end, text_of, with_member};
+ghost use Rattle.pv_accounts.specs.Files.{lines_of};
+ghost use Rattle.pv_accounts.specs.Kinds.{has_members, is_entry_named, test_of};
+ghost use Rattle.pv_requests.specs.Names.{is_account_name};
+ghost use Rattle.pv_sysusers.specs.Members.{AreLines, IsPlaced, are_accounts, lines_held, pairs_of, place_of, place_told};
+ghost use Rattle.pv_sysusers.specs.Shown.{shown, shown_line};
+ghost use Rattle.pv_sysusers.specs.Texts.{membership_of, with_memberships};
+
+use crate::lines::Line;
+use pv_accounts::{Kind, add_member_in, cut, find_line};
+use pv_path::pieces_of;
+use pv_requests::{Request, is_account_name};
+use std::alloc::{AllocError, Global};
+use std::collections::HashMap;
+
+/// A group and a user who becomes a member of it.
+pub(crate) type Member<'a> = (&'a [u8], &'a [u8]);
+
+/// The lines of a file, of which the entries are looked up by their names without a pass over all.
+#[derive(Drop)]
+pub struct MemberLines<'a> {
+    /// The lines, without their ends.
+    lines: Vec<Vec<u8>>,
+    /// The place of the first entry of each name.
+    places: HashMap<&'a [u8], usize>,
+}
+
+/// The name of the entry that a line is, if it is one.
+fn name_in<'a>(kind: Kind, line: &'a [u8]) -> Option<&'a [u8]>
+    requires members { has_members kind ≡ true }
+    requires whole { lacks_end line.now ≡ true }
+    ensures { (name : List ℕ) → is_entry_named (test_of kind) name line.entry.now ≡ option_map_or (λ n. bytes_eq n.now name) result false }
+{
+    let (name, _rest) = cut(line, b':')?;
+    let _entry = find_line(kind, line, name)?;
+    Some(name)
+}
+
+impl<'a> MemberLines<'a> {
+    /// No lines.
+    fn new(alloc: Global) -> Self
+        ensures lines { lines_held result ≡ [] }
+        ensures places { (name : List ℕ) → place_told result name ≡ None }
+    {
+        MemberLines {
+            lines: Vec::new(alloc),
+            places: HashMap::new(alloc),
+        }
+    }
+
+    /// The place of the first entry of a name.
+    fn place(&self, name: &[u8]) -> Option<usize>
+        ensures { result ≡ place_told self.now name.now }
+    {
+        self.places.get(name).copied()
+    }
+
+    /// Notes the place of a name, where none is known.
+    fn note(&mut self, name: &'a [u8], at: usize) -> Result<(), AllocError>
+        ensures places { OnOk result ((other : List ℕ) →
+            place_told self.new other ≡ option_or (place_told self.old other) (cond (bytes_eq name.entry.now other) (Some at) None)) }
+        ensures lines { self.new.lines ≡ self.old.lines }
+    {
+        match self.place(name) {
+            Some(_) => Ok(()),
+            None => {
+                self.places.insert(name, at)?;
+                Ok(())
+            }
+        }
+    }
+
+    /// Notes the place of a line, where it is the first entry of its name.
+    fn note_line(&mut self, kind: Kind, line: &'a [u8], at: usize) -> Result<(), AllocError>
+        requires members { has_members kind ≡ true }
+        requires whole { lacks_end line.now ≡ true }
+        ensures places { OnOk result ((name : List ℕ) → place_told self.new name
+            ≡ option_or (place_told self.old name) (cond (is_entry_named (test_of kind) name line.entry.now) (Some at) None)) }
+        ensures lines { self.new.lines ≡ self.old.lines }
+    {
+        match name_in(kind, line) {
+            Some(name) => self.note(name, at),
+            None => Ok(()),
+        }
+    }
+
+    /// Adds a line.
+    fn push(&mut self, alloc: Global, kind: Kind, line: &'a [u8]) -> Result<(), AllocError>
+        requires members { has_members kind ≡ true }
+        requires whole { lacks_end line.now ≡ true }
+        requires placed { IsPlaced (test_of kind) self.old }
+        ensures lines { OnOk result (lines_held self.new ≡ lines_held self.old ++ line.entry.now ∷ []) }
+        ensures placed { OnOk result (IsPlaced (test_of kind) self.new) }
+    {
+        let at = self.lines.len();
+        self.note_line(kind, line, at)?;
+        self.lines.push(Vec::from_slice(alloc, line)?)?;
+        Ok(())
+    }
+
+    /// The lines of a file.
+    fn of(alloc: Global, kind: Kind, file: &'a [u8]) -> Result<Self, AllocError>
+        requires { has_members kind ≡ true }
+        ensures lines { IfOk result (λ held. lines_held held ≡ lines_of file.entry.now) }
+        ensures placed { IfOk result (IsPlaced (test_of kind)) }
+    {
+        let lines = pieces_of(alloc, file, b'\n')?;
+        MemberLines::of_lines(alloc, kind, &lines)
+    }
+
+    /// Lines without line ends in them.
+    fn of_lines(alloc: Global, kind: Kind, lines: &[&'a [u8]]) -> Result<Self, AllocError>
+        requires members { has_members kind ≡ true }
+        requires whole { list_all lacks_end (map (λ line. line.now) lines.now) ≡ true }
+        ensures lines { IfOk result (λ held. lines_held held ≡ map (λ line. line.now) lines.entry.now) }
+        ensures placed { IfOk result (IsPlaced (test_of kind)) }
+    {
+        let mut held = MemberLines::new(alloc);
+        for line in lines {
+            held.push(alloc, kind, line)?;
+        }
+        Ok(held)
+    }
+
+    /// Adds a user at the end of the members of the entry at a place, where he is not among them.
+    fn lengthen(
+        &mut self,
+        alloc: Global,
+        kind: Kind,
+        at: usize,
+        member: Member<'_>,
+    ) -> Result<(), AllocError>
+        requires members { has_members kind ≡ true }
+        requires account { is_account_name member.1.now ≡ true }
+        requires place { place_of (test_of kind) member.0.now (lines_held self.old) ≡ Some at }
+        requires whole { AreLines (lines_held self.old) }
+        ensures lines { OnOk result (lines_held self.new ≡ with_member (test_of kind) member.entry.0.now member.entry.1.now (lines_held self.old)) }
+        ensures places { self.new.places ≡ self.old.places }
+    {
+        let line = add_member_in(alloc, kind, &self.lines[at], member.0, member.1)?;
+        self.lines[at] = line;
+        Ok(())
+    }
+
+    /// Adds a user at the end of the members of the first entry of a group, where he is not among them.
+    fn add(&mut self, alloc: Global, kind: Kind, member: Member<'_>) -> Result<(), AllocError>
+        requires members { has_members kind ≡ true }
+        requires account { is_account_name member.1.now ≡ true }
+        requires placed { IsPlaced (test_of kind) self.old }
+        requires whole { AreLines (lines_held self.old) }
+        ensures lines { OnOk result (lines_held self.new ≡ with_member (test_of kind) member.entry.0.now member.entry.1.now (lines_held self.old)) }
+        ensures placed { OnOk result (IsPlaced (test_of kind) self.new) }
+        ensures whole { OnOk result (AreLines (lines_held self.new)) }
+    {
+        match self.place(member.0) {
+            Some(at) => self.lengthen(alloc, kind, at, member),
+            None => Ok(()),
+        }
+    }
+}
+
+/// The text of lines: line ends between them.
+fn joined(alloc: Global, lines: &[Vec<u8>]) -> Result<Vec<u8>, AllocError>
+    ensures { IfOk result (λ text. text.items ≡ text_of (map (λ line. line.items) lines.entry.now)) }
+{
+    match lines {
+        [] => Ok(Vec::new(alloc)),
+        [first, others @ ..] => {
+            let mut text = Vec::from_slice(alloc, first)?;
+            add_lines(&mut text, others)?;
+            Ok(text)
+        }
+    }
+}
+
+/// Adds lines, each after the end of the one before.
+fn add_lines(text: &mut Vec<u8>, lines: &[Vec<u8>]) -> Result<(), AllocError>
+    ensures { OnOk result (text.new.items ≡ text.old.items ++ flat_map (λ line. 10 ∷ line.items) lines.now) }
+{
+    for line in lines {
+        text.push(b'\n')?;
+        text.extend_from_slice(line)?;
+    }
+    Ok(())
+}
+
+/// A file with users who have names of accounts among the members of their groups, in order.
+fn with_accounts(
+    alloc: Global,
+    kind: Kind,
+    file: &[u8],
+    members: &[Member<'_>],
+) -> Result<Vec<u8>, AllocError>
+    requires members { has_members kind ≡ true }
+    requires accounts { are_accounts members.now ≡ true }
+    ensures { IfOk result (λ text. text.items ≡ with_memberships (test_of kind) (pairs_of members.entry.now) file.entry.now) }
+{
+    let mut held = MemberLines::of(alloc, kind, file)?;
+    for member in members {
+        held.add(alloc, kind, *member)?;
+    }
+    joined(alloc, &held.lines)
+}
+
+/// A file with users among the members of their groups, in order. It is cut anew for each, since a user whose name is not that of
+/// an account can begin a line.
+fn with_any(
+    alloc: Global,
+    kind: Kind,
+    file: Vec<u8>,
+    members: &[Member<'_>],
+) -> Result<Vec<u8>, AllocError>
+    requires { has_members kind ≡ true }
+    ensures { IfOk result (λ text. text.items ≡ with_memberships (test_of kind) (pairs_of members.entry.now) file.items) }
+{
+    let mut text = file;
+    for member in members {
+        text = add_member_in(alloc, kind, &text, member.0, member.1)?;
+    }
+    Ok(text)
+}
+
+/// Whether each user has the name of an account.
+fn are_accounts(members: &[Member<'_>]) -> bool
+    ensures { result ≡ are_accounts members.now }
+{
+    members.iter().all(|member| is_account_name(member.1))
+}
+
+/// Adds the group and the user of an m line.
+fn add_membership<'a>(members: &mut Vec<Member<'a>>, line: Line<'a>) -> Result<(), AllocError>
+    ensures { OnOk result (pairs_of members.new.items ≡ pairs_of members.old.items ++ membership_of (shown_line line.entry)) }
+{
+    if let Request::Member { user, group, .. } = line.0 {
+        members.push((group.as_slice(), user.as_slice()))?;
+    }
+    Ok(())
+}
+
+/// The groups and the users of m lines.
+fn memberships_of<'a>(alloc: Global, lines: &[Line<'a>]) -> Result<Vec<Member<'a>>, AllocError>
+    ensures { IfOk result (λ members. pairs_of members.items ≡ flat_map membership_of (shown lines.now)) }
+{
+    let mut members = Vec::new(alloc);
+    for line in lines {
+        add_membership(&mut members, *line)?;
+    }
+    Ok(members)
+}
+
+/// A file with each user of an m line among the members of his group, in order.
+pub(crate) fn with_memberships(
+    alloc: Global,
+    kind: Kind,
+    file: Vec<u8>,
+    lines: &[Line<'_>],
+) -> Result<Vec<u8>, AllocError>
+    requires { has_members kind ≡ true }
+    ensures { let members = flat_map membership_of (shown lines.now) in
+        IfOk result (λ text. text.items ≡ with_memberships (test_of kind) members file.items) }
+{
+    let members = memberships_of(alloc, lines)?;
+    if members.is_empty() {
+        return Ok(file);
+    }
+    if are_accounts(&members) {
+        with_accounts(alloc, kind, &file, &members)
+    } else {
+        with_any(alloc, kind, file, &members)
+    }
+}
