@@ -10,4 +10,4 @@ mod wants;
 pub use marks::{bytes_of, words_of};
 pub use reports::{Calls, report};
 pub use rows::{Row, Sheet};
-pub use wants::{input, output};
+pub use wants::{ended, input, output};
