@@ -1,7 +1,7 @@
 //! What a row gives.
 use crate::hosts::{folder_text, host_image};
 use crate::runs::{failures, run, stops};
-use pv_sheet::{Calls, Row, Sheet};
+use pv_sheet::{Calls, Row, Sheet, ended};
 use std::alloc::{AllocError, Global};
 
 /// The calls of the host that a row breaks.
@@ -23,8 +23,7 @@ fn ran(alloc: Global, row: &Row<'_>, image: &[u8]) -> Result<Vec<u8>, AllocError
     let mut text = ran.said;
     let folder = folder_text(alloc, str::from_utf8(&ran.image).unwrap_or(""))?;
     text.extend_from_slice(folder.as_bytes())?;
-    text.extend_from_slice(format!(in alloc; "= {}", ran.status)?.as_bytes())?;
-    Ok(text)
+    ended(text, format!(in alloc; "{}", ran.status)?.as_bytes())
 }
 
 /// What carries out runs on a folder.
@@ -46,6 +45,6 @@ impl Calls for Runs {
             "stops" => stops(alloc, row.words, image)?,
             _ => "no such call".to_string(alloc)?,
         };
-        Ok(format!(in alloc; "= {told}")?.into_bytes())
+        ended(Vec::new(alloc), told.as_bytes())
     }
 }

@@ -2,7 +2,7 @@
 use crate::readings::{files, lines};
 use crate::runs::{Broken, run, run_with};
 use crate::stops::{cuts, reruns, stops, takings, twice};
-use pv_sheet::{Calls, Row, Sheet, input, output};
+use pv_sheet::{Calls, Row, Sheet, ended, input, output};
 use std::alloc::{AllocError, Global};
 
 /// What a run writes, and its status.
@@ -12,9 +12,8 @@ fn ran(
     input: &[u8],
     broken: Option<Broken>,
 ) -> Result<Vec<u8>, AllocError> {
-    let (mut output, end) = run_with(alloc, words, input, broken)?;
-    output.extend_from_slice(format!(in alloc; "= {end}")?.as_bytes())?;
-    Ok(output)
+    let (output, end) = run_with(alloc, words, input, broken)?;
+    ended(output, format!(in alloc; "{end}")?.as_bytes())
 }
 
 /// The status of a run.
@@ -49,7 +48,7 @@ fn told(alloc: Global, row: &Row<'_>, input: &[u8]) -> Result<String, AllocError
 /// The output that each rerun is to write, and how many steps it takes.
 fn rerun(alloc: Global, words: &str, input: &[u8], wanted: &str) -> Result<Vec<u8>, AllocError> {
     let told = reruns(alloc, words, input, wanted.as_bytes())?;
-    Ok(format!(in alloc; "{wanted}= {told}")?.into_bytes())
+    ended(Vec::from_slice(alloc, wanted.as_bytes())?, told.as_bytes())
 }
 
 /// What carries out runs and readings.
@@ -69,10 +68,7 @@ impl Calls for Runs {
             "run" => ran(alloc, row.words, input, broken(alloc, row)?),
             "files" => files(alloc, row.words, input),
             "lines" => lines(alloc, row.words, input),
-            _ => {
-                let told = told(alloc, row, input)?;
-                Ok(format!(in alloc; "= {told}")?.into_bytes())
-            }
+            _ => ended(Vec::new(alloc), told(alloc, row, input)?.as_bytes()),
         }
     }
 }

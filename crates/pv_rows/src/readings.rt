@@ -4,7 +4,7 @@ use pv_image::read_image;
 use pv_layers::{Chosen, chosen_files};
 use pv_lines::{Line, LineId};
 use pv_path::{Bytes, WordList, print_path};
-use pv_sheet::words_of;
+use pv_sheet::{ended, words_of};
 use pv_text::{Facts, Messages, Tool};
 use pv_tree::MemTree;
 use std::alloc::{AllocError, Global};
@@ -39,21 +39,16 @@ fn said(alloc: Global, messages: &Messages) -> Result<Vec<u8>, AllocError> {
     Ok(text)
 }
 
-/// Adds the printed paths of the chosen files, and whether a word names none.
+/// Adds the printed paths of the chosen files.
 fn add_chosen(alloc: Global, text: &mut Vec<u8>, chosen: &Chosen) -> Result<(), AllocError> {
     for path in chosen.files.as_slice() {
         text.extend_from_slice(&print_path(alloc, path)?)?;
         text.push(b'\n')?;
     }
-    let end: &[u8] = if chosen.missing {
-        b"= missing"
-    } else {
-        b"= found"
-    };
-    text.extend_from_slice(end)
+    Ok(())
 }
 
-/// What is said of the files that words choose for a tool, and the files.
+/// What is said of the files that words choose for a tool, the files, and whether a word names none.
 fn chosen_of(alloc: Global, tool: Tool, words: &str, input: &[u8]) -> Result<Vec<u8>, AllocError> {
     let Some(tree) = tree_of(alloc, input) else {
         return Ok(Vec::new(alloc));
@@ -63,7 +58,8 @@ fn chosen_of(alloc: Global, tool: Tool, words: &str, input: &[u8]) -> Result<Vec
     let chosen = chosen_files(alloc, &tree, tool, &words, &mut messages)?;
     let mut text = said(alloc, &messages)?;
     add_chosen(alloc, &mut text, &chosen)?;
-    Ok(text)
+    let end: &[u8] = if chosen.missing { b"missing" } else { b"found" };
+    ended(text, end)
 }
 
 /// What is said of the files that the words after the name of the tool choose, and the files.
@@ -96,7 +92,7 @@ fn add_line(alloc: Global, text: &mut Vec<u8>, line: &Line) -> Result<(), AllocE
     text.extend_from_slice(format!(in alloc; ":{}\n", line.place.number)?.as_bytes())
 }
 
-/// Adds the lines of a configuration, how many were looked at, and whether one is invalid or a word names no file.
+/// Adds the lines of a configuration.
 fn add_lines(
     alloc: Global,
     text: &mut Vec<u8>,
@@ -105,10 +101,14 @@ fn add_lines(
     for line in read.lines.as_slice() {
         add_line(alloc, text, line)?;
     }
+    Ok(())
+}
+
+/// How many lines of a configuration were looked at, and whether one is invalid or a word names no file.
+fn counted(alloc: Global, read: &Configuration<Line>) -> Result<String, AllocError> {
     let invalid = if read.invalid { ", invalid" } else { "" };
     let missing = if read.missing { ", missing" } else { "" };
-    let end = format!(in alloc; "= {} lines{invalid}{missing}", read.count)?;
-    text.extend_from_slice(end.as_bytes())
+    format!(in alloc; "{} lines{invalid}{missing}", read.count)
 }
 
 /// What is said of the lines that are read from the files that words choose, and the lines.
@@ -122,5 +122,5 @@ pub(crate) fn lines(alloc: Global, words: &str, input: &[u8]) -> Result<Vec<u8>,
     let read = read_configuration(alloc, &tree, &words, &facts, &mut messages)?;
     let mut text = said(alloc, &messages)?;
     add_lines(alloc, &mut text, &read)?;
-    Ok(text)
+    ended(text, counted(alloc, &read)?.as_bytes())
 }

@@ -3,11 +3,13 @@
 
 mod images;
 mod marks;
+mod objects;
 mod reports;
 mod rows;
 mod wants;
 
 pub use marks::{bytes_of, words_of};
+pub use objects::{attr_of, attrs_of, kind_of, letter_of, letters_of, plain_node, plain_object};
 pub use reports::{Calls, report};
 pub use rows::{Row, Sheet};
-pub use wants::{input, output};
+pub use wants::{ended, input, output};

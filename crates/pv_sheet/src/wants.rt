@@ -34,6 +34,14 @@ pub fn output(alloc: Global, sheet: &Sheet<'_>, row: &Row<'_>) -> Result<String,
     text(alloc, sheet, row, ">> ", "> ")
 }
 
+/// What is said and the output, and behind `= ` what is told at its end.
+pub fn ended(output: Vec<u8>, end: &[u8]) -> Result<Vec<u8>, AllocError> {
+    let mut ended = output;
+    ended.extend_from_slice(b"= ")?;
+    ended.extend_from_slice(end)?;
+    Ok(ended)
+}
+
 /// What is said, in lines as a run writes them.
 fn said(alloc: Global, row: &Row<'_>) -> Result<String, AllocError> {
     let mut text = String::new(alloc);
@@ -51,8 +59,5 @@ pub(crate) fn wanted(
 ) -> Result<Vec<u8>, AllocError> {
     let mut text = said(alloc, row)?;
     text.push_str(&output(alloc, sheet, row)?)?;
-    text.push_str("= ")?;
-    let mut wanted = text.into_bytes();
-    wanted.extend_from_slice(&bytes_of(alloc, row.end)?)?;
-    Ok(wanted)
+    ended(text.into_bytes(), &bytes_of(alloc, row.end)?)
 }

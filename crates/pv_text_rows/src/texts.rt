@@ -13,7 +13,7 @@ mod transfers;
 mod words;
 
 use crate::marks::Arguments;
-use pv_sheet::{Calls, Row, Sheet, input};
+use pv_sheet::{Calls, Row, Sheet, ended, input};
 use std::alloc::{AllocError, Global};
 
 /// What a call of a subject answers for arguments, or nothing where there is no such subject.
@@ -67,11 +67,9 @@ impl Calls for Texts {
             let input = input(alloc, sheet, row)?;
             return plans::planned(alloc, &lines, &input);
         }
-        let mut found = Vec::from_slice(alloc, b"= ")?;
         match told(alloc, subject, call, row.words)? {
-            Some(told) => found.extend_from_slice(&told)?,
-            None => found.extend_from_slice(b"no such call")?,
+            Some(told) => ended(Vec::new(alloc), &told),
+            None => ended(Vec::new(alloc), b"no such call"),
         }
-        Ok(found)
     }
 }

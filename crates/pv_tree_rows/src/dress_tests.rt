@@ -1,22 +1,20 @@
-//! Rows of dresses and of objects without stamps.
+//! Rows of ACLs that a dress gives.
 ghost use Rattle.std.specs.Prelude.{◌≡◌, true};
 ghost use Rattle.pv_acl.specs.Parts.{is_acl};
 
-use crate::given::{attrs_of, letters_of, plain_node};
 use crate::plain_tree::root_tree;
-use crate::standings::bare_text;
 use crate::step_rows::is_kind;
 use pv_acl::{Acl, read_acl};
-use pv_dress::{Bare, Dress, dress};
+use pv_dress::{Dress, dress};
 use pv_path::TreePath;
 use pv_steps::{AttrList, Kind, LetterSet};
 use pv_tree::MemTree;
-use std::alloc::{AllocError, Global};
+use std::alloc::Global;
 use std::process::Abort;
 use std::test::Fail;
 
 /// The ACL that a field spells beside a mode.
-fn acl_of(rt: &impl Abort, alloc: Global, mode: u16, field: &[u8]) -> Acl
+pub(crate) fn acl_of(rt: &impl Abort, alloc: Global, mode: u16, field: &[u8]) -> Acl
     ensures { is_acl result ≡ true }
 {
     match read_acl(alloc, field, mode, true).expect(rt, "memory") {
@@ -70,74 +68,6 @@ fn acls_are_compared_whole(rt: HostRuntime) -> Result<(), Fail> {
         (0o750, b"-", 1),
     ] {
         assert_eq!(rt; steps_to(&rt, alloc, mode, field), steps);
-    }
-    Ok(())
-}
-
-/// A copy of what is seen of an object with an ACL, an attribute, a letter and the numbers of a device.
-fn seen(
-    alloc: Global,
-    kind: Kind,
-    payload: &[u8],
-    minor: u32,
-    acl: Acl,
-) -> Result<Bare, AllocError> {
-    let mut node = plain_node(alloc, kind, 0o2640);
-    node.uid = 1000;
-    node.gid = 4;
-    node.major = 8;
-    node.minor = minor;
-    node.acl = acl;
-    node.attrs = attrs_of(alloc, &[(b"user.a", b"1")])?;
-    node.letters = letters_of(b"i");
-    Bare::of(alloc, &node, payload)?.copy()
-}
-
-/// What is seen of such an object is shown by a text.
-fn is_shown(
-    rt: &impl Abort,
-    alloc: Global,
-    bare: &Bare,
-    minor: u32,
-    text: &str,
-) -> Result<(), Fail> {
-    assert_eq!(rt; bare_text(rt, alloc, b"/x", bare)?.as_str(), text);
-    assert_eq!(rt; (bare.body.major, bare.body.minor), (8, minor));
-    assert_eq!(rt; bare.dress.attrs.as_slice().len(), 1);
-    assert!(rt; bare.dress.letters.has(b'i'));
-    Ok(())
-}
-
-#[test]
-fn objects_are_seen_without_stamps(rt: HostRuntime) -> Result<(), Fail> {
-    let alloc = rt.alloc();
-    for (kind, payload, minor, field, text) in [
-        (
-            Kind::File,
-            b"hi".as_slice(),
-            0,
-            b"-".as_slice(),
-            "f /x 2640 1000 4 - hi\n",
-        ),
-        (Kind::Link, b"/t", 0, b"-", "l /x 2640 1000 4 - /t\n"),
-        (
-            Kind::BlockDevice,
-            b"",
-            1,
-            b"m::r--",
-            "b /x 2640 1000 4 m::r-- -\n",
-        ),
-        (
-            Kind::Directory,
-            b"",
-            0,
-            b"u:1000:rw-,m::r--,d:u::rwx,d:g::---,d:o::---",
-            "d /x 2640 1000 4 u:1000:rw-,m::r--,d:u::rwx,d:g::---,d:o::--- -\n",
-        ),
-    ] {
-        let acl = acl_of(&rt, alloc, 0o640, field);
-        let bare = seen(alloc, kind, payload, minor, acl)?;
-        is_shown(&rt, alloc, &bare, minor, text)?;
     }
     Ok(())
 }

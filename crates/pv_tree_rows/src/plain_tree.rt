@@ -4,9 +4,9 @@ ghost use Rattle.std.specs.Prelude.{◌≡◌, []};
 ghost use Rattle.pv_steps.specs.declared.node.Kind.TheVariants.{Directory};
 ghost use Rattle.pv_steps.specs.Objects.{fresh};
 
-use crate::given::plain_object;
 use crate::shown::add_object;
 use pv_path::{Bytes, TreePath, carry, is_prefix, parent};
+use pv_sheet::plain_object;
 use pv_steps::{Kind, Node, Object, Step, special_bits};
 use pv_tree::MemTree;
 use std::alloc::Global;

@@ -1,7 +1,7 @@
 //! Trees as lines of text.
-use crate::given::letter_of;
 use pv_acl::{Part, print_acl};
 use pv_path::{Name, add_printed};
+use pv_sheet::letter_of;
 use pv_steps::{Attr, Node, Object};
 use std::alloc::Global;
 use std::process::Abort;

@@ -1,16 +1,16 @@
 //! The steps of removal, of staging and of publishing, over trees in memory.
 ghost use Rattle.std.specs.Prelude.{◌≡◌, ◌≢◌, [], true, length, nat_le};
 ghost use Rattle.std.specs.List.{list_all};
-ghost use Rattle.pv_acl.specs.Parts.{is_acl};
 ghost use Rattle.pv_path.specs.Paths.{parent_of, staging_of};
 ghost use Rattle.pv_steps.specs.declared.node.Kind.TheVariants.{Directory};
 ghost use Rattle.pv_steps.specs.Trees.{IsKind};
 ghost use Rattle.pv_walk.specs.Staging.{HasTarget, IsNewFile, can_stage};
 
-use pv_acl::{Acl, read_acl};
+use crate::dress_tests::acl_of;
+use crate::step_rows::path_of;
 use pv_dress::{Dress, dress};
 use pv_image::{read_image, write_image};
-use pv_path::{Bytes, Name, TreePath, parent, parse_path, staging};
+use pv_path::{Bytes, Name, TreePath, parent, staging};
 use pv_steps::{AttrList, Kind, LetterSet, Tree, Why, is_target};
 use pv_text::Facts;
 use pv_tree::{Fused, MemTree};
@@ -20,10 +20,6 @@ use std::process::Abort;
 use std::test::Fail;
 
 const NOW: u64 = 9;
-
-fn path_of(rt: &impl Abort, alloc: Global, text: &[u8]) -> TreePath {
-    parse_path(alloc, text).expect(rt, "a path")
-}
 
 fn tree_of(rt: &impl Abort, alloc: Global, image: &[u8]) -> MemTree {
     read_image(alloc, image).expect(rt, "an image").tree
@@ -366,16 +362,6 @@ fn walks_have_their_answers(rt: HostRuntime) -> Result<(), Fail> {
     Ok(())
 }
 
-/// The ACL that a field spells beside a mode.
-fn acl_of(rt: &impl Abort, alloc: Global, field: &[u8], mode: u16) -> Acl
-    ensures { is_acl result ≡ true }
-{
-    match read_acl(alloc, field, mode, true).expect(rt, "memory") {
-        Some(acl) => acl,
-        None => panic!(rt; "no ACL"),
-    }
-}
-
 /// Dresses the directory at a path in owners, a mode and an ACL.
 fn dress_at(
     rt: &impl Abort,
@@ -392,7 +378,7 @@ fn dress_at(
         uid,
         gid: 0,
         special: 0,
-        acl: acl_of(rt, alloc, field, mode),
+        acl: acl_of(rt, alloc, mode, field),
         attrs: AttrList::new(alloc),
         letters: LetterSet::new(),
     };

@@ -8,9 +8,9 @@ ghost use Rattle.pv_steps.specs.declared.node.Kind.TheVariants.{Directory};
 ghost use Rattle.pv_steps.specs.Trees.{places, names_below, IsEmptyIn, IsKindIn};
 ghost use Rattle.pv_steps.specs.Steps.{Can, HasRoom, IsOther, Movable, TakesAcl, Yields};
 
-use crate::given::{attrs_of, letters_of};
 use pv_acl::{Acl, Named, Part, Who, number, read_acl};
 use pv_path::{Bytes, TreePath, is_prefix, parent, parse_path};
+use pv_sheet::{attrs_of, letters_of};
 use pv_steps::{Kind, Step, Tree, TreeFault, is_directory, is_target, kind_at};
 use std::alloc::Global;
 use std::process::Abort;

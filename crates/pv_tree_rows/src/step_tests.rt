@@ -1,5 +1,5 @@
 //! Rows of attributes and letters.
-use crate::given::{attr_of, attrs_of, letters_of};
+use pv_sheet::{attr_of, attrs_of, letters_of};
 use pv_steps::{AttrList, LetterHow, LetterSet, is_attr, is_attr_name};
 use std::alloc::{AllocError, Global};
 use std::test::Fail;

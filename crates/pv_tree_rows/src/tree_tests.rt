@@ -5,11 +5,11 @@ ghost use Rattle.pv_steps.specs.Steps.{HasRoom};
 ghost use Rattle.pv_steps.specs.Trees.{places};
 ghost use Rattle.pv_tree.specs.Finding.{IsRising};
 
-use crate::given::plain_object;
 use crate::plain_tree::{apply, entries_text, put, root_object, root_tree};
 use crate::shown::{add_object, add_path};
 use crate::step_rows::{bytes_of, can, has_room, is_kind, path_of, perform, pieces_of, step_of};
 use pv_path::{Bytes, TreePath};
+use pv_sheet::plain_object;
 use pv_steps::{Kind, Object, Step, Tree};
 use pv_tree::{BuildFault, Fused, MemTree, Place, Probe, TreeBuilder, find};
 use std::alloc::Global;

@@ -1,11 +1,11 @@
 //! Paths that two patterns share, and heads of patterns.
-ghost use Rattle.std.specs.Prelude.{◌≡◌, ℕ, List, [], true, slice_index_or, Option, Some, None, if◌then◌else◌, ⊤};
+ghost use Rattle.std.specs.Prelude.{◌≡◌, ℕ, List, [], true, false, slice_index_or, Option, Some, None, if◌then◌else◌, ⊤};
 ghost use Rattle.pv_overlap.specs.Heads.{related};
 
 use crate::marks::{Arguments, number_in, said, unread};
 use pv_glob::{Pattern, PatternFault, Plain, literal, matches, parse_pattern};
 use pv_meet::{PairMachine, Reach, least_word, meet};
-use pv_overlap::{Asker, PairList, head, pairs_by};
+use pv_overlap::{Asker, Pair, PairList, head, pairs_by};
 use pv_path::{PathList, TreePath, child, has_staging, is_name, parse_path, print_path};
 use std::alloc::{AllocError, Global};
 
@@ -22,6 +22,7 @@ pub(crate) fn told(
         "head" => head_told(alloc, arguments.at(0)),
         "own-head" => own_head_told(alloc, arguments.at(0)),
         "pairs" => pairs_told(alloc, arguments.from(0)),
+        "given" => given_told(alloc, arguments.from(0)),
         _ => unread(alloc),
     }
 }
@@ -162,6 +163,79 @@ fn pairs_told(alloc: Global, texts: &[Vec<u8>]) -> Result<Vec<u8>, AllocError> {
         return said(alloc, "too many heads");
     }
     let mut asker = Second { heads: &heads };
+    let pairs = pairs_by(alloc, &heads, &mut asker)?;
+    list_told(alloc, &pairs)
+}
+
+/// Answers what is given for the numbers of two heads.
+#[derive(Drop)]
+struct Given<'a> {
+    heads: &'a PathList,
+    pairs: &'a [Pair],
+}
+
+impl<'a> Asker for Given<'a> {
+    ghost heads = { λ s. s.heads.now };
+
+    ghost answers = { λ s i j answer. related (slice_index_or s.heads.now i []) (slice_index_or s.heads.now j []) ≡ false → answer ≡ None };
+
+    ghost asked = { λ _ _ _. ⊤ };
+
+    fn ask(&mut self, _alloc: Global, i: u32, j: u32) -> Result<Option<TreePath>, AllocError> {
+        let given = self
+            .pairs
+            .iter()
+            .find(|pair| pair.first == i && pair.second == j);
+        match given {
+            Some(pair) => Ok(Some(pair.path.copy()?)),
+            None => Ok(None),
+        }
+    }
+
+    ghost asked_nothing = { λ _. tt };
+
+    ghost asked_on = { λ _ _ _ _ _ _ _. tt };
+}
+
+/// The pair that the number of a head, that of a later one and a path spell.
+fn pair_in(alloc: Global, first: &[u8], second: &[u8], path: &[u8]) -> Option<Pair> {
+    Some(Pair {
+        first: u32::try_from(number_in(first)?).ok()?,
+        second: u32::try_from(number_in(second)?).ok()?,
+        path: parse_path(alloc, path).ok()?,
+    })
+}
+
+/// The pairs that texts spell, three for each; three that spell none are left out.
+fn pairs_in(alloc: Global, texts: &[Vec<u8>]) -> Result<Vec<Pair>, AllocError> {
+    let mut pairs = Vec::new(alloc);
+    for three in texts.chunks_exact(3) {
+        if let Some(pair) = pair_in(alloc, &three[0], &three[1], &three[2]) {
+            pairs.push(pair)?;
+        }
+    }
+    Ok(pairs)
+}
+
+/// The pairs of heads that are told where the paths of some are given: behind the heads a `;`, and then the numbers and
+/// the path of each pair.
+fn given_told(alloc: Global, texts: &[Vec<u8>]) -> Result<Vec<u8>, AllocError> {
+    let end = texts
+        .iter()
+        .take_while(|text| text.as_slice() != b";".as_slice())
+        .count();
+    if end >= texts.len() {
+        return unread(alloc);
+    }
+    let heads = paths(alloc, &texts[..end])?;
+    if heads.len() > 100 {
+        return said(alloc, "too many heads");
+    }
+    let given = pairs_in(alloc, &texts[end + 1..])?;
+    let mut asker = Given {
+        heads: &heads,
+        pairs: given.as_slice(),
+    };
     let pairs = pairs_by(alloc, &heads, &mut asker)?;
     list_told(alloc, &pairs)
 }

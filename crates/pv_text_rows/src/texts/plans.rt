@@ -1,6 +1,7 @@
 //! Lines of sysusers.d(5) with the texts of all account files after them.
 use super::given::place_in;
 use pv_requests::{RequestList, read_request};
+use pv_sheet::ended;
 use pv_sysusers::{PathIds, PlanFault, Texts, plan};
 use pv_text::{Facts, Messages};
 use std::alloc::{AllocError, Global};
@@ -34,16 +35,15 @@ fn joined(alloc: Global, texts: &Texts) -> Result<Vec<u8>, AllocError> {
 
 /// The texts of a plan, and how many messages there are.
 fn texts_told(alloc: Global, texts: &Texts, said: usize) -> Result<Vec<u8>, AllocError> {
-    let mut told = joined(alloc, texts)?;
-    told.extend_from_slice(format!(in alloc; "= {said} messages")?.as_bytes())?;
-    Ok(told)
+    let told = format!(in alloc; "{said} messages")?;
+    ended(joined(alloc, texts)?, told.as_bytes())
 }
 
 /// For which name a plan has no number, and how many messages there are.
 fn lacking_told(alloc: Global, name: &[u8], said: usize) -> Result<Vec<u8>, AllocError> {
-    let mut told = format!(in alloc; "= {said} messages, no number for ")?.into_bytes();
+    let mut told = format!(in alloc; "{said} messages, no number for ")?.into_bytes();
     told.extend_from_slice(name)?;
-    Ok(told)
+    ended(Vec::new(alloc), &told)
 }
 
 /// What a plan gives, and how many messages there are.
@@ -55,7 +55,7 @@ fn plan_told(
     match planned {
         Ok(texts) => texts_told(alloc, &texts, said),
         Err(PlanFault::NoFreeId(name)) => lacking_told(alloc, name.as_slice(), said),
-        Err(PlanFault::Memory) => Vec::from_slice(alloc, b"= Memory"),
+        Err(PlanFault::Memory) => ended(Vec::new(alloc), b"Memory"),
     }
 }
 
@@ -65,7 +65,7 @@ pub(crate) fn planned(alloc: Global, lines: &[&str], input: &str) -> Result<Vec<
     let requests = requests_of(alloc, lines)?;
     let files: Vec<&str> = input.split("-\n").collect(alloc)?;
     let [passwd, group, shadow, gshadow] = files.as_slice() else {
-        return Vec::from_slice(alloc, b"= not four files");
+        return ended(Vec::new(alloc), b"not four files");
     };
     let (passwd, group, shadow) = (passwd.as_bytes(), group.as_bytes(), shadow.as_bytes());
     let gshadow = Some(gshadow.as_bytes()).filter(|text| !text.is_empty());

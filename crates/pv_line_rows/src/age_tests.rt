@@ -1,7 +1,7 @@
 //! Rows of ages and of what is old.
-use crate::given::plain_node;
 use bitflags::Flags;
 use pv_age::{Age, AgeFault, StampSet, is_old, parse_age};
+use pv_sheet::plain_node;
 use pv_steps::{Kind, Stamps};
 use std::alloc::{AllocError, Global};
 use std::test::Fail;

@@ -1,4 +1,4 @@
-//! What rows of several crates are given: objects, their kinds, attributes and letters.
+//! What rows are given: objects, their kinds, attributes and letters.
 ghost use Rattle.std.specs.Prelude.{◌≡◌, IfOk};
 ghost use Rattle.pv_steps.specs.Objects.{fresh};
 
@@ -7,20 +7,20 @@ use pv_steps::{Attr, AttrList, Kind, LetterSet, Node, Object, is_attr};
 use std::alloc::{AllocError, Global};
 
 /// A new object that root owns, with these bytes of a file or this target of a link.
-pub(crate) fn plain_object(alloc: Global, kind: Kind, mode: u16, payload: Bytes, now: u64) -> Object
+pub fn plain_object(alloc: Global, kind: Kind, mode: u16, payload: Bytes, now: u64) -> Object
     ensures { result ≡ fresh kind mode payload 0 0 now }
 {
     Object::fresh(alloc, kind, mode, payload, 0, 0, now)
 }
 
 /// The node of a new object that root owns.
-pub(crate) fn plain_node(alloc: Global, kind: Kind, mode: u16) -> Node {
+pub fn plain_node(alloc: Global, kind: Kind, mode: u16) -> Node {
     let Object { node, payload: _ } = plain_object(alloc, kind, mode, Bytes::new(alloc), 0);
     node
 }
 
 /// The letter of a kind.
-pub(crate) fn letter_of(kind: Kind) -> &'static str {
+pub fn letter_of(kind: Kind) -> &'static str {
     match kind {
         Kind::Directory => "d",
         Kind::File => "f",
@@ -32,7 +32,7 @@ pub(crate) fn letter_of(kind: Kind) -> &'static str {
 }
 
 /// The kind of a letter; other letters are files.
-pub(crate) fn kind_of(letter: &str) -> Kind {
+pub fn kind_of(letter: &str) -> Kind {
     match letter {
         "d" => Kind::Directory,
         "l" => Kind::Link,
@@ -44,7 +44,7 @@ pub(crate) fn kind_of(letter: &str) -> Kind {
 }
 
 /// The attribute of a name and a value.
-pub(crate) fn attr_of(alloc: Global, name: &[u8], value: &[u8]) -> Result<Attr, AllocError>
+pub fn attr_of(alloc: Global, name: &[u8], value: &[u8]) -> Result<Attr, AllocError>
     ensures { IfOk result (λ attr. attr ≡ record { name = name.now; value = value.now }) }
 {
     Ok(Attr {
@@ -54,7 +54,7 @@ pub(crate) fn attr_of(alloc: Global, name: &[u8], value: &[u8]) -> Result<Attr, 
 }
 
 /// The list of some attributes, put in turn, of which those that are not allowed are left out.
-pub(crate) fn attrs_of(alloc: Global, rows: &[(&[u8], &[u8])]) -> Result<AttrList, AllocError> {
+pub fn attrs_of(alloc: Global, rows: &[(&[u8], &[u8])]) -> Result<AttrList, AllocError> {
     let mut attrs = AttrList::new(alloc);
     for (name, value) in rows {
         if is_attr(*name, *value) {
@@ -65,7 +65,7 @@ pub(crate) fn attrs_of(alloc: Global, rows: &[(&[u8], &[u8])]) -> Result<AttrLis
 }
 
 /// The set of some letters, of which those that are none are left out.
-pub(crate) fn letters_of(bytes: &[u8]) -> LetterSet {
+pub fn letters_of(bytes: &[u8]) -> LetterSet {
     let mut letters = LetterSet::new();
     for byte in bytes {
         if let Some(one) = LetterSet::of(*byte) {

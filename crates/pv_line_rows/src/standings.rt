@@ -1,9 +1,9 @@
 //! What stands at paths, from a text and as a text: a line for each object.
-use crate::given::{kind_of, letter_of, plain_node};
 use pv_acl::{print_acl, read_acl};
 use pv_dress::Bare;
 use pv_path::{TreePath, child, is_name, print_path};
 use pv_pointwise::Standing;
+use pv_sheet::{kind_of, letter_of, plain_node};
 use pv_steps::Node;
 use std::alloc::{AllocError, Global};
 use std::process::Abort;

@@ -1,5 +1,4 @@
 //! A plain program of the phase create, as the manual has it: each line at its turn, unless its path is refused.
-use crate::given::plain_node;
 use crate::lines::table_of;
 use crate::standings::{standing_of, text_of};
 use crate::things::{Thing, is_refused};
@@ -7,6 +6,7 @@ use pv_dress::Bare;
 use pv_lines::{Argument, Line, LinePath};
 use pv_path::{Name, TreePath, is_prefix};
 use pv_pointwise::{Standing, after_line};
+use pv_sheet::plain_node;
 use pv_steps::Node;
 use pv_table::{Table, create_order, names};
 use std::alloc::{AllocError, Global};

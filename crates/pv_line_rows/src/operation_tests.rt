@@ -1,9 +1,9 @@
 //! Rows of operations on one object.
-use crate::given::{attrs_of, letters_of, plain_node};
 use crate::lines::Nobody;
 use pv_acl::{Acl, How, parse_acl, print_acl};
 use pv_dress::{Bare, Change, Guard, Operation, Test, run_operations};
 use pv_path::Bytes;
+use pv_sheet::{attrs_of, letters_of, plain_node};
 use pv_steps::{Kind, LetterHow, special_bits};
 use std::alloc::{AllocError, Global};
 use std::test::Fail;
