@@ -395,6 +395,22 @@ at_and_below_are files path listed paths l is q =
     by false false true f = refl
     by false false false f = refl
 
+or_turned : (a b : Bool) → (a || b) ≡ (b || a)
+or_turned true true = refl
+or_turned true false = refl
+or_turned false true = refl
+or_turned false false = refl
+
+-- so has the path followed by what is listed, in any order
+pub path_and_below_are : (files : Files) (path : Path) (listed ordered paths : List Path) → IsListing files path listed → ((q : Path) → is_one_of ordered q ≡ is_one_of listed q)
+    → paths ≡ cond (is_some (places files path)) (path ∷ []) [] ++ ordered → (q : Path) → is_one_of paths q ≡ (is_some (places files q) && is_prefix path q)
+path_and_below_are files path listed ordered paths l same is q =
+    ap (λ (xs : List Path). is_one_of xs q) is ∙ list_any-append (λ r. same_path r q) (cond (is_some (places files path)) (path ∷ []) []) ordered
+    ∙ ap (λ b. is_one_of (cond (is_some (places files path)) (path ∷ []) []) q || b) (same q)
+    ∙ or_turned (is_one_of (cond (is_some (places files path)) (path ∷ []) []) q) (is_one_of listed q)
+    ∙ sym (list_any-append (λ r. same_path r q) listed (cond (is_some (places files path)) (path ∷ []) []))
+    ∙ at_and_below_are files path listed (listed ++ cond (is_some (places files path)) (path ∷ []) []) l refl q
+
 -- the paths of a tree that pass a test
 pub keys_passing : (files : Files) (f : Path → Bool) (q : Path) → is_one_of (filter f (fin.keys files)) q ≡ (is_some (places files q) && f q)
 keys_passing files f q =

@@ -11,7 +11,8 @@ use pv_walk::below;
 use std::alloc::{AllocError, Global};
 
 /// The paths of what stands at and below a path, in byte order: each before its children. It goes down by a list of what
-/// is still to do, and takes no more of the stack in a deep tree.
+/// is still to do, and takes no more of the stack in a deep tree. What is listed is mostly in order already, backwards in a
+/// wide directory: the path itself comes before it once it is.
 pub fn at_and_below<T: Tree>(
     alloc: Global,
     tree: &T,
@@ -19,8 +20,10 @@ pub fn at_and_below<T: Tree>(
 ) -> Result<Vec<TreePath>, AllocError>
     ensures { IfOk result (λ paths. paths.items ≡ filter (is_prefix path.now) (fin.keys (T.state tree.now))) }
 {
-    let mut paths = below(alloc, tree, path)?;
+    let mut listed = in_order(below(alloc, tree, path)?);
+    let mut paths = Vec::new(alloc);
     add_standing(tree, path, &mut paths)?;
+    paths.append(&mut listed)?;
     Ok(in_order(paths))
 }
 
