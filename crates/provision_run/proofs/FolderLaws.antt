@@ -19,7 +19,7 @@ use Rattle.pv_host.specs.declared.host.HostFault.TheVariants as host
 use Rattle.pv_host.specs.Counts.{count_after}
 use Rattle.pv_folder.specs.Folders.{Agrees, IsSameElse, manifest_path, new_manifest_path, tree_path}
 use Rattle.pv_folder.specs.Keeping.{IsClosed, IsSameOutside, Keeps, Moves, with_manifest}
-use Rattle.pv_folder.specs.Manifest.{manifest_of}
+use Rattle.pv_folder.specs.Manifest.{IsManifest, manifest_of}
 use Rattle.pv_folder.specs.Opening.{IsOpened, IsRefused, is_outer}
 use Rattle.pv_folder.specs.declared.open_fault.OpenFault.{OpenFault}
 use Rattle.pv_folder.proofs.BelowLaws.{beside}
@@ -53,12 +53,13 @@ beside_tree folder name path differs =
 
 module _ (folder : Path) (facts : Values) (left : Files) where
   kept_some : (x y z : Content) → IsSameElse folder (held x) (held y) → Agrees folder left (held y) → held z ≡ with_manifest folder (manifest_of facts left) (held y)
-      → IsKept folder facts left (held x) (held z)
-  kept_some x y z out agrees is = record {
+      → IsManifest facts left → IsKept folder facts left (held x) (held z)
+  kept_some x y z out agrees is image = record {
     agrees = λ path. at (tree_path folder ++ path)
         ∙ elsewhere folder (manifest_of facts left) (held y) (tree_path folder ++ path) (beside_tree folder (codes "manifest") path refl) (beside_tree folder (codes "manifest.new") path refl)
         ∙ agrees path;
     manifest = at (manifest_path folder) ∙ at_manifest folder (manifest_of facts left) (held y);
+    image = image;
     outside = λ path below no no_new. at path
         ∙ elsewhere folder (manifest_of facts left) (held y) path (same_path-no (manifest_path folder) path (λ e. no (sym e))) (same_path-no (new_manifest_path folder) path (λ e. no_new (sym e)))
         ∙ out path below;
@@ -73,13 +74,13 @@ module _ (folder : Path) (facts : Values) (left : Files) where
 
   -- steps that changed nothing outside of `tree`, and then a new manifest
   left_in : (old mid new : Option Content) → IsSameOutside folder old mid → IfSome mid (λ c. Agrees folder left (held c)) → IsClosed folder facts left mid new
-      → IsLeftIn folder old new facts left
-  left_in None mid new outside agrees closed = untold new (subst (λ (o : Option Content). IsClosed folder facts left o new) outside closed)
-  left_in (Some x) None new outside agrees closed = absurd outside
-  left_in (Some x) (Some y) None outside agrees closed = absurd (let no : None ≡ Some (with_manifest folder (manifest_of facts left) (held y)) = closed in cc)
-  left_in (Some x) (Some y) (Some z) outside agrees closed =
+      → IsManifest facts left → IsLeftIn folder old new facts left
+  left_in None mid new outside agrees closed image = untold new (subst (λ (o : Option Content). IsClosed folder facts left o new) outside closed)
+  left_in (Some x) None new outside agrees closed image = absurd outside
+  left_in (Some x) (Some y) None outside agrees closed image = absurd (let no : None ≡ Some (with_manifest folder (manifest_of facts left) (held y)) = closed in cc)
+  left_in (Some x) (Some y) (Some z) outside agrees closed image =
       let both : Some (held z) ≡ Some (with_manifest folder (manifest_of facts left) (held y)) = closed in
-      kept_some x y z outside agrees (let same : held z ≡ with_manifest folder (manifest_of facts left) (held y) = (cc) in same)
+      kept_some x y z outside agrees (let same : held z ≡ with_manifest folder (manifest_of facts left) (held y) = (cc) in same) image
 
 -- ---- a tree that steps have moved
 
@@ -186,7 +187,8 @@ module _ (folder : Path) (options : Options) (clock : ℕ) (old new : Option Con
       (failed : IsErrOf ran step.Failed → HasFailed options facts moment tree messages left)
       (moves : Moves folder old before was other mid between will)
       (agrees : pending ≡ false → IfSome mid (λ c. Agrees other left (held c)))
-      (done : OnOk closed (IsClosed other facts left mid new)) where
+      (done : OnOk closed (IsClosed other facts left mid new))
+      (image : OnOk closed (IsManifest facts left)) where
     run_as : (found : Outcome) → ran ≡ Ok found → HasRun options facts (moment_of options clock) tree found messages left
     run_as found is = subst (λ (m : ℕ). HasRun options facts m tree found messages left) at (subst (λ r. IfOk r (λ f. HasRun options facts moment tree f messages left)) is run)
 
@@ -197,6 +199,7 @@ module _ (folder : Path) (options : Options) (clock : ℕ) (old new : Option Con
     kept_in settled kept =
         left_in folder facts left old mid new moves.outside (moved_agrees folder other old mid before between was will moves pending left agrees settled)
         (subst (λ r. OnOk r (IsClosed folder facts left mid new)) kept (moved_closed folder other old mid before between was will moves closed facts left new done))
+        (subst (λ r. OnOk r (IsManifest facts left)) kept image)
 
     ended_answer : (found : Outcome) → EndsAs ran pending closed found → IsAnswerOn folder options clock old new found messages
     ended_answer found (as_run _ is settled kept) =

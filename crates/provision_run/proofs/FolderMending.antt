@@ -1,17 +1,16 @@
 -- Runs on a folder that were stopped, one or more, each on what the last one left there, are mended by a whole run.
 use Rattle.std.specs.Prelude.{◌≡◌, ◌≢◌, ℕ, false, List, [], ◌∷◌, Some, None}
 use Rattle.std.proofs.Common.{refl, sym, ap, subst, ◌∙◌}
-use Rattle.pv_folder.proofs.EmptyLaws.{tree_emptied}
 use Rattle.pv_folder.proofs.OpeningLaws.{reopened}
 use Rattle.pv_folder.specs.Folders.{manifest_path, new_manifest_path, real_in, tree_path}
-use Rattle.pv_folder.specs.Manifest.{manifest_of, with_empty_files}
+use Rattle.pv_folder.specs.Manifest.{manifest_of}
 use Rattle.pv_folder.specs.Merge.{merged}
 use Rattle.pv_folder.specs.Opening.{IsOpened, Says, absent, present}
 use Rattle.pv_host.specs.Content.{Content, Held, held}
 use Rattle.pv_host.specs.Content as host
-use Rattle.pv_image.proofs.ImageLaws.{one_image, text_image}
-use Rattle.pv_image.specs.declared.version.Version.TheVariants.{Two}
-use Rattle.pv_image.specs.Images.{HaveText, IsImage}
+use Rattle.pv_image.proofs.ImageLaws.{one_image}
+use Rattle.pv_image.specs.Emptied.{with_empty_files}
+use Rattle.pv_image.specs.Images.{IsImage}
 use Rattle.pv_path.specs.Paths.{Path, is_prefix}
 use Rattle.pv_phases.specs.Phases.{phases_of}
 use Rattle.pv_steps.specs.Same.{Same}
@@ -56,11 +55,9 @@ module _ (folder : Path) (c : Content) (facts : Values) (t : Files) where
   opened_once opened = same_opened opened.manifest opened.says opened.is_merged
 
   -- one in which a tree is kept is opened with this tree
-  kept_opens : (old : Held) → IsKept folder facts t old (held c) → HaveText Two facts t → OpensWith folder c facts t
-  kept_opens old kept has = same_opened (with_empty_files t)
-      (present (manifest_of facts t) kept.manifest
-      (text_image facts (with_empty_files t) (record { facts_fit = has.facts_fit; tree = tree_emptied t has.tree; shown = λ path o is. tt })))
-      (sym (reopened folder c t has.tree kept.agrees))
+  kept_opens : (old : Held) → IsKept folder facts t old (held c) → OpensWith folder c facts t
+  kept_opens old kept =
+      same_opened (with_empty_files t) (present (manifest_of facts t) kept.manifest kept.image) (sym (reopened folder c t kept.image.fit.tree kept.agrees))
 
 -- outside of `tree` and of the manifests one content is as another
 abbrev IsSameBeside : Path → Held → Held → Type 0
@@ -70,6 +67,7 @@ kept_from : (folder : Path) (facts : Values) (t : Files) (old mid new : Held) �
 kept_from folder facts t old mid new same kept = record {
   agrees = kept.agrees;
   manifest = kept.manifest;
+  image = kept.image;
   outside = λ path out no no_new. kept.outside path out no no_new ∙ same path out no no_new;
 }
 
@@ -113,7 +111,6 @@ module _ (options : Options) (folder : Path) where
 
       then_opens : OpensWith folder new facts stop.run.left
       then_opens = kept_opens folder new facts stop.run.left (held old) kept_here
-          (subst (λ (f : Values). HaveText Two f stop.run.left) same_there.0 stop.has_text)
 
     -- one that was not stopped
     module _ (whole : HasEndedOn options folder moment old new) where

@@ -3,8 +3,6 @@
 use Rattle.std.specs.Prelude.{◌≡◌, ℕ, List, ◌∷◌, [], Some}
 use Rattle.pv_folder.specs.Opening.{IsOpened}
 use Rattle.pv_host.specs.Content.{Content, held, spelled}
-use Rattle.pv_image.specs.declared.version.Version.TheVariants.{Two}
-use Rattle.pv_image.specs.Images.{HaveText}
 use Rattle.pv_path.specs.Paths.{Path}
 use Rattle.pv_steps.specs.Trees.{Files}
 use Rattle.pv_text.specs.Facts.{Values}
@@ -26,8 +24,7 @@ pub record AreLikeOn (options : Options) (folder : Path) (words : List (List ℕ
   pub alike : unlimited own.options ≡ unlimited options
   pub when : moment ≡ moment_of own.options clock
 
--- a run on a folder of a host that tells what it holds, by such words, was stopped; what it has left is a tree that an image can be
--- written of, as each one is that a call has
+-- a run on a folder of a host that tells what it holds, by such words, was stopped
 pub record HasStoppedOn (options : Options) (folder : Path) (moment : ℕ) (old new : Content) : Type 0 where
   pub words : List (List ℕ)
   pub clock : ℕ
@@ -35,7 +32,6 @@ pub record HasStoppedOn (options : Options) (folder : Path) (moment : ℕ) (old 
   pub count : ℕ
   pub messages : List (List ℕ)
   pub run : IsRunOn (spelled like.own.folder) like.own.options clock (Some old) (Some new) (Stopped count) messages
-  pub has_text : HaveText Two run.facts run.left
 
 -- the tree that a folder is opened with is calm
 abbrev pub IsCalmOn : Options → Path → Content → Type 0

@@ -14,7 +14,7 @@ use Rattle.pv_host.specs.declared.host.HostFault.TheVariants as host
 use Rattle.pv_folder.specs.declared.open_fault.OpenFault.{OpenFault}
 use Rattle.pv_folder.specs.declared.open_fault.OpenFault.TheVariants as fault
 use Rattle.pv_folder.specs.Folders.{Agrees, manifest_path, new_manifest_path, tree_path}
-use Rattle.pv_folder.specs.Manifest.{manifest_of}
+use Rattle.pv_folder.specs.Manifest.{IsManifest, manifest_of}
 use Rattle.pv_folder.specs.Opening.{IsOpened, IsRefused, is_outer}
 use Rattle.provision_run.specs.declared.outcome.Outcome.{Outcome}
 use Rattle.provision_run.specs.declared.outcome.Outcome.TheVariants.{Memory, ReadFault, WriteFault, BadFolder, FolderFailed}
@@ -24,11 +24,12 @@ use Rattle.provision_run.specs.Words.{moment_of}
 
 -- ---- what the host then holds
 
--- a folder holds a tree: below `tree` are exactly its directories and files, with their bytes, `manifest` says all else of it, and
--- outside of `tree` all but `manifest` and `manifest.new` is as before
+-- a folder holds a tree: below `tree` are exactly its directories and files, with their bytes, `manifest` says all else of it and is
+-- an image again, and outside of `tree` all but `manifest` and `manifest.new` is as before
 pub record IsKept (folder : Path) (facts : Values) (tree : Files) (old new : Held) : Type 0 where
   pub agrees : Agrees folder tree new
   pub manifest : new (manifest_path folder) ≡ Some (File (manifest_of facts tree))
+  pub image : IsManifest facts tree
   pub outside : (path : Path) → is_prefix (tree_path folder) path ≡ false → path ≢ manifest_path folder → path ≢ new_manifest_path folder
       → new path ≡ old path
 

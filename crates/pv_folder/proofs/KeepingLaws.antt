@@ -19,20 +19,17 @@ use Rattle.pv_steps.specs.Trees.{Files, kind_of, places}
 use Rattle.pv_dress.specs.Nodes.{same_kind}
 use Rattle.pv_text.specs.Facts.{Values}
 use Rattle.pv_host.specs.declared.item.HostKind.TheVariants as kind
-use Rattle.pv_image.specs.declared.version.Version.TheVariants.{Two}
-use Rattle.pv_image.specs.Images.{HaveText}
-use Rattle.pv_image.proofs.ImageLaws.{text_image}
+use Rattle.pv_image.specs.Emptied.{with_empty_files}
 use Rattle.pv_host.specs.Content.{Content, Held, HostObject, IsContent, held, put_at}
 use Rattle.pv_host.specs.Content as host
 use Rattle.pv_folder.specs.declared.open_fault.OpenFault.{OpenFault}
 use Rattle.pv_folder.specs.declared.open_fault.OpenFault.TheVariants.{TooLarge}
 use Rattle.pv_folder.specs.Folders.{Agrees, manifest_path, new_manifest_path, object_of, objects_in, real_as, real_in, real_of, tree_path}
 use Rattle.pv_folder.specs.Keeping.{IsClosed, Keeps, with_manifest}
-use Rattle.pv_folder.specs.Manifest.{manifest_of, with_empty_files}
+use Rattle.pv_folder.specs.Manifest.{IsManifest, manifest_of}
 use Rattle.pv_folder.specs.Merge.{dressed, is_real_kind, merged_of, plain}
 use Rattle.pv_folder.specs.Opening.{IsOpened, fault_among, is_over, objects_below, present, size}
 use Rattle.pv_folder.proofs.ClosingLaws.{agrees_with, ready_with}
-use Rattle.pv_folder.proofs.EmptyLaws.{tree_emptied}
 use Rattle.pv_folder.proofs.FolderLaws.{objects_found, objects_sorted}
 use Rattle.pv_folder.proofs.MergeLaws.{places-merged, same_kind-exact}
 use Rattle.pv_folder.proofs.OpeningLaws.{places-real, reopened}
@@ -141,12 +138,9 @@ module _ (folder : Path) (c : Content) (facts : Values) (tree : Files) (opened :
 
 -- ---- what is closed is opened again
 
-has_empty_text : (facts : Values) (files : Files) → HaveText Two facts files → HaveText Two facts (with_empty_files files)
-has_empty_text facts files has = record { facts_fit = has.facts_fit; tree = tree_emptied files has.tree; shown = λ path o is. tt }
-
-pub closed_opens : (folder : Path) (old new : Content) (facts : Values) (files : Files) → Keeps folder files old → HaveText Two facts files
+pub closed_opens : (folder : Path) (old new : Content) (facts : Values) (files : Files) → Keeps folder files old → IsManifest facts files
     → IsClosed folder facts files (Some old) (Some new) → fault_among 0 0 (objects_below folder new) ≡ None → IsOpened folder new facts files
-closed_opens folder old new facts files keeps has closed sound =
+closed_opens folder old new facts files keeps image closed sound =
     let bytes = manifest_of facts files in
     let ready = ready_kept folder files (Some old) keeps in
     let agrees : Agrees folder files (held new) = agrees_with folder bytes files (Some old) (Some new) closed ready keeps.agrees in
@@ -157,7 +151,7 @@ closed_opens folder old new facts files keeps has closed sound =
     record {
       manifest = with_empty_files files;
       prepared = (ready_with folder bytes (Some old) (Some new) closed ready).prepared;
-      says = present bytes there (text_image facts (with_empty_files files) (has_empty_text facts files has));
+      says = present bytes there image;
       sound = sound;
-      is_merged = sym (reopened folder new files has.tree agrees);
+      is_merged = sym (reopened folder new files image.fit.tree agrees);
     }

@@ -1,5 +1,5 @@
 pub mod MergeLaws
-pub mod AheadLaws
+pub mod MergingLaws
 pub mod FactLaws
 pub mod Spelling
 pub mod Preorder
@@ -14,5 +14,4 @@ pub mod BelowLaws
 pub mod AgreeLaws
 pub mod ReadyLaws
 pub mod ClosingLaws
-pub mod EmptyLaws
-pub mod EmptyGrowth
+pub mod PlainGrowth

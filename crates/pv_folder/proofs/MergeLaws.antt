@@ -53,7 +53,7 @@ kind-dressed (Some n) r = by (same_kind n.kind r.node.kind) refl
     by false e = refl
 
 -- what is real keeps its kind
-kind_of-merged : (m r : Option Object) (p : Option Kind) (k : Kind) → kind_of r ≡ Some k → kind_of (merged_of m r p) ≡ Some k
+pub kind_of-merged : (m r : Option Object) (p : Option Kind) (k : Kind) → kind_of r ≡ Some k → kind_of (merged_of m r p) ≡ Some k
 kind_of-merged m (Some r) p k e = ap Some (kind-dressed (option_map (λ o. o.node) m) r) ∙ e
 kind_of-merged m None p k e = cc
 
@@ -75,13 +75,13 @@ plain-bound Fifo = lit≤ tt
 plain-bound CharDevice = lit≤ tt
 plain-bound BlockDevice = lit≤ tt
 
-IsObject-plain : (r : Object) → IsObject r → IsObject (plain r)
+pub IsObject-plain : (r : Object) → IsObject r → IsObject (plain r)
 IsObject-plain r h =
     IsObject-fresh r.node.kind (plain_mode r.node.kind) r.payload r.node.major r.node.minor 0 (lit≤ tt) (plain-bound r.node.kind)
     h.payload h.bytes h.numbers (plain-special r.node.kind)
 
 -- a node with the bytes of an object of its kind
-redressed : (n : Node) (payload : List ℕ) (r : Object) → n.kind ≡ r.node.kind → IsObject (record { node = n; payload = payload }) → IsObject r
+pub redressed : (n : Node) (payload : List ℕ) (r : Object) → n.kind ≡ r.node.kind → IsObject (record { node = n; payload = payload }) → IsObject r
     → IsObject (record r { node = n })
 redressed n payload r e m h = record {
   payload = subst (λ (k : Kind). PayloadFits k r.payload) (sym e) h.payload;

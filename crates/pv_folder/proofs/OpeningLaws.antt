@@ -18,18 +18,18 @@ use Rattle.pv_dress.specs.Nodes.{same_kind}
 use Rattle.pv_text.specs.Facts.{Values}
 use Rattle.pv_image.specs.declared.image_fault.ImageFault.{ImageFault}
 use Rattle.pv_image.specs.declared.image_fault.ImageFault.TheVariants as image_fault
+use Rattle.pv_image.specs.Emptied.{emptied, emptied_payload, with_empty_files}
 use Rattle.pv_image.specs.Images.{HasImageFault, IsImage}
+use Rattle.pv_image.proofs.EmptyLaws.{kind_of-emptied, places-emptied}
 use Rattle.pv_image.proofs.ImageLaws.{image_sound, one_fault}
 use Rattle.pv_host.specs.Content.{Content, HostObject, bytes_of, held}
 use Rattle.pv_host.specs.Content as host
 use Rattle.pv_folder.specs.declared.open_fault.OpenFault.{OpenFault}
 use Rattle.pv_folder.specs.declared.open_fault.OpenFault.TheVariants.{BadManifest, HostFailed, Memory}
 use Rattle.pv_folder.specs.Folders.{Agrees, IsPrepared, manifest_path, object_of, objects_in, real_as, real_in, real_of, tree_path}
-use Rattle.pv_folder.specs.Manifest.{emptied, emptied_payload, with_empty_files}
 use Rattle.pv_folder.specs.Merge.{is_real_kind, merged, merged_of, plain}
 use Rattle.pv_folder.specs.Opening.{IsOpened, IsRefused, Says, absent, bad_manifest, fault_among, is_outer, not_prepared, objects_below, of_image, present, real}
 use Rattle.pv_folder.proofs.GoingLaws.{Faulty, told, told_both}
-use Rattle.pv_folder.proofs.EmptyLaws.{places-emptied}
 use Rattle.pv_folder.proofs.FolderLaws.{objects_found, objects_sorted}
 use Rattle.pv_folder.proofs.MergeLaws.{places-merged}
 use Rattle.pv_folder.proofs.ReadingLaws.{real_below, real_entries}
@@ -185,7 +185,7 @@ real_directory (Some o) e =
 unreal : (k : Kind) (o : Object) → o.node.kind ≡ k → is_real_kind k ≡ false → (parent : Option Kind) → parent ≡ Some node.Directory → merged_of (Some o) None parent ≡ Some o
 unreal k o is other parent above = ap (merged_of (Some o) None) above ∙ ap (λ b. cond b None (Some o)) (ap is_real_kind is ∙ other)
 
-again : (k : Kind) (o : Object) → o.node.kind ≡ k → PayloadFits k o.payload → (parent : Option Kind) → (k ≢ node.Directory → parent ≡ Some node.Directory)
+again : (k : Kind) (o : Object) → o.node.kind ≡ k → PayloadFits k (emptied_payload k o.payload) → (parent : Option Kind) → (k ≢ node.Directory → parent ≡ Some node.Directory)
     → merged_of (Some (record o { payload = emptied_payload k o.payload })) (option_and_then object_of (real_as k o.payload)) parent ≡ Some o
 again node.Directory o is fits parent above =
     ap (λ (k : Kind). Some (cond (same_kind k node.Directory) (record { node = o.node; payload = [] }) (plain (fresh node.Directory 0o755 [] 0 0 0)))) is
@@ -197,21 +197,27 @@ again node.Fifo o is fits parent above = unreal node.Fifo o is refl parent (abov
 again node.CharDevice o is fits parent above = unreal node.CharDevice o is refl parent (above (λ e. cc))
 again node.BlockDevice o is fits parent above = unreal node.BlockDevice o is refl parent (above (λ e. cc))
 
-module _ (folder : Path) (c : Content) (t : Files) (tree : IsTree t) (agrees : Agrees folder t (held c)) where
+module _ (folder : Path) (c : Content) (t : Files) (tree : IsTree (with_empty_files t)) (agrees : Agrees folder t (held c)) where
   real_at : (q : Path) → places (real_in folder c) q ≡ option_and_then object_of (real_of (places t q))
   real_at q = places-real folder c q ∙ ap (option_and_then object_of) (agrees q)
+
+  kind_at : (q : Path) → kind_of (places (with_empty_files t) q) ≡ kind_of (places t q)
+  kind_at q = ap kind_of (places-emptied t q) ∙ kind_of-emptied (places t q)
+
+  emptied_at : (q : Path) (o : Object) → places t q ≡ Some o → places (with_empty_files t) q ≡ Some (emptied o)
+  emptied_at q o is = places-emptied t q ∙ ap (option_map emptied) is
 
   parent_real : (q : Path) (o : Object) → places t q ≡ Some o → (o.node.kind ≢ node.Directory) → kind_of (places (real_in folder c) (parent_of q)) ≡ Some node.Directory
   parent_real q o is other =
       ap kind_of (real_at (parent_of q))
-      ∙ real_directory (places t (parent_of q)) (tree.parents q (ap is_some is) (λ e.
-      let root : Some o.node.kind ≡ Some node.Directory = sym (ap kind_of is) ∙ ap (λ (p : Path). kind_of (places t p)) e ∙ tree.root in
+      ∙ real_directory (places t (parent_of q)) (sym (kind_at (parent_of q)) ∙ tree.parents q (ap is_some (emptied_at q o is)) (λ e.
+      let root : Some o.node.kind ≡ Some node.Directory = sym (ap kind_of is) ∙ ap (λ (p : Path). kind_of (places t p)) e ∙ sym (kind_at []) ∙ tree.root in
       other cc))
 
   at_path : (q : Path) (o : Option Object) → places t q ≡ o
       → merged_of (option_map emptied o) (option_and_then object_of (real_of o)) (kind_of (places (real_in folder c) (parent_of q))) ≡ o
   at_path q None is = refl
-  at_path q (Some o) is = again o.node.kind o refl (tree.objects q o is).payload (kind_of (places (real_in folder c) (parent_of q))) (parent_real q o is)
+  at_path q (Some o) is = again o.node.kind o refl (tree.objects q (emptied o) (emptied_at q o is)).payload (kind_of (places (real_in folder c) (parent_of q))) (parent_real q o is)
 
   -- the manifest of a tree that a folder keeps, merged with what is real there, is the tree
   pub reopened : merged (with_empty_files t) (real_in folder c) ≡ t

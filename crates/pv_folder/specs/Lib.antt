@@ -5,4 +5,3 @@ pub mod Opening
 pub mod Reading
 pub mod Keeping
 pub mod Sole
-pub mod Ahead

@@ -1,25 +1,15 @@
 -- The manifest of a tree: an image of all but the bytes of files.
-use Rattle.std.specs.Prelude.{ℕ, List, [], option_map}
-use Rattle.std.specs.FinMap as fin
-use Rattle.pv_steps.specs.declared.node.Kind.{Kind}
-use Rattle.pv_steps.specs.declared.node.Kind.TheVariants.{File}
-use Rattle.pv_steps.specs.declared.object.Object.{Object}
-use Rattle.pv_steps.specs.Trees.{Files, places, tabulate}
+use Rattle.std.specs.Prelude.{ℕ, List}
+use Rattle.pv_steps.specs.Trees.{Files}
 use Rattle.pv_text.specs.Facts.{Values}
+use Rattle.pv_image.specs.Emptied.{with_empty_files}
+use Rattle.pv_image.specs.Images.{IsImage}
 use Rattle.pv_image.specs.Spelling.{text_of}
-
--- no bytes for a file; the target of a link stays
-abbrev pub emptied_payload : Kind → List ℕ → List ℕ
-emptied_payload File payload = []
-emptied_payload kind payload = payload
-
-abbrev pub emptied : Object → Object
-emptied o = record o { payload = emptied_payload o.node.kind o.payload }
-
--- a tree with empty files
-abbrev pub with_empty_files : Files → Files
-with_empty_files t = tabulate (fin.keys t) (λ path. option_map emptied (places t path))
 
 -- the manifest of facts and a tree: the image of the tree with empty files, each of which has the payload `-`
 abbrev pub manifest_of : Values → Files → List ℕ
 manifest_of facts t = text_of facts (with_empty_files t)
+
+-- it is an image of them again
+abbrev pub IsManifest : Values → Files → Type 0
+IsManifest facts t = IsImage (manifest_of facts t) facts (with_empty_files t)

@@ -1,6 +1,6 @@
 -- A manifest merged with what is real: a host has directories and files with their bytes, the manifest has all else that a
 -- tree says of them, and the objects that a host does not have (this project's own).
-use Rattle.std.specs.Prelude.{ℕ, Bool, true, false, ◌++◌, Option, Some, None, option_map, if◌then◌else◌}
+use Rattle.std.specs.Prelude.{◌≡◌, ℕ, Bool, true, false, ◌++◌, Option, Some, None, IfSome, option_map, if◌then◌else◌}
 use Rattle.std.specs.FinMap as fin
 use Rattle.pv_path.specs.Paths.{Path, parent_of}
 use Rattle.pv_steps.specs.declared.node.Kind.{Kind}
@@ -44,3 +44,15 @@ merged_at manifest real path = merged_of (places manifest path) (places real pat
 -- the tree of a manifest and of what is real
 abbrev pub merged : Files → Files → Files
 merged manifest real = tabulate (fin.keys real ++ fin.keys manifest) (merged_at manifest real)
+
+-- what is real at a path is an object of which the manifest says nothing
+abbrev pub IsPlainAt : Files → Path → Type 0
+IsPlainAt t path = IfSome (places t path) (λ o. plain o ≡ o)
+
+-- a tree of such objects alone
+abbrev pub IsPlain : Files → Type 0
+IsPlain t = (path : Path) → IsPlainAt t path
+
+-- a tree as if the manifest said nothing of it
+abbrev pub plained : Files → Files
+plained t = tabulate (fin.keys t) (λ path. option_map plain (places t path))

@@ -2,13 +2,13 @@
 ghost use Rattle.std.specs.Prelude.{◌≡◌, ◌≤◌, OnOk, OnErr, IfSome};
 ghost use Rattle.pv_host.specs.Content.{held, spelled};
 ghost use Rattle.pv_host.specs.Counts.{count_after};
+ghost use Rattle.pv_folder.specs.Manifest.{IsManifest};
 ghost use Rattle.pv_folder.specs.Keeping.{HasManifest, IsClosed, IsReady, IsSameButNew};
 
-use crate::emptying::with_empty_files;
 use crate::folder_tree::FolderTree;
 use crate::host_path::below;
 use pv_host::{Host, HostFault};
-use pv_image::write_image;
+use pv_image::write_emptied;
 use pv_text::Facts;
 use std::alloc::Global;
 
@@ -41,6 +41,7 @@ pub fn close_folder<H: Host>(
 ) -> Result<(), HostFault>
     ensures done { OnOk result (IsClosed (spelled tree.old.folder.items) facts.now tree.old.tree.files
         (H.content tree.old.host.now) (H.content tree.new.host.now)) }
+    ensures image { OnOk result (IsManifest facts.now tree.old.tree.files) }
     ensures kept { OnErr result (IsSameButNew (spelled tree.old.folder.items)
         (H.content tree.old.host.now) (H.content tree.new.host.now)) }
     ensures never_falls { H.faults tree.old.host.now ≤ H.faults tree.new.host.now }
@@ -50,7 +51,6 @@ pub fn close_folder<H: Host>(
     ensures tree { tree.new.tree ≡ tree.old.tree }
     ensures pending { tree.new.pending ≡ tree.old.pending }
 {
-    let empty = with_empty_files(alloc, tree.tree())?;
-    let text = write_image(alloc, &empty, facts)?;
+    let text = write_emptied(alloc, tree.tree(), facts)?;
     tree.replace_manifest(alloc, &text)
 }

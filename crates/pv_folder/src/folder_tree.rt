@@ -12,11 +12,10 @@ ghost use Rattle.pv_folder.specs.Sole.{agrees_prop, ready_prop};
 
 use crate::asking::ask_for;
 use crate::closing::replace_manifest;
-use crate::parts::parts_fit;
 use pv_host::{Host, HostFault};
 use pv_path::{NameList, TreePath};
 use pv_steps::{Node, Step, Tree, TreeFault};
-use pv_tree::MemTree;
+use pv_tree::{MemTree, parts_fit};
 use std::alloc::{AllocError, Global};
 
 /// A tree in memory whose directories and files a folder of a host has too.

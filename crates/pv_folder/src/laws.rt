@@ -3,10 +3,9 @@ ghost use Rattle.std.specs.Prelude.{◌≡◌, Some, None};
 ghost use Rattle.pv_path.specs.Paths.{Path};
 ghost use Rattle.pv_steps.specs.Trees.{Files};
 ghost use Rattle.pv_text.specs.Facts.{Values};
-ghost use Rattle.pv_image.specs.declared.version.Version.TheVariants.{Two};
-ghost use Rattle.pv_image.specs.Images.{HaveText};
 ghost use Rattle.pv_host.specs.Content.{Content, IsContent, held};
 ghost use Rattle.pv_folder.specs.Keeping.{IsClosed, Keeps};
+ghost use Rattle.pv_folder.specs.Manifest.{IsManifest};
 ghost use Rattle.pv_folder.specs.Opening.{IsOpened, fault_among, objects_below};
 
 /// A folder that is opened keeps the tree that it is opened with: the tree has exactly the directories and files that are real.
@@ -19,6 +18,6 @@ pub fn an_opened_folder_keeps_its_tree()
 /// more than a run takes.
 pub fn a_closed_folder_is_opened_again()
     ensures { (folder : Path) (old new : Content) (facts : Values) (files : Files) → Keeps folder files old
-        → HaveText Two facts files → IsClosed folder facts files (Some old) (Some new)
+        → IsManifest facts files → IsClosed folder facts files (Some old) (Some new)
         → fault_among 0 0 (objects_below folder new) ≡ None → IsOpened folder new facts files }
 {}

@@ -7,7 +7,6 @@
 mod asking;
 mod closing;
 mod copied_facts;
-mod emptying;
 mod folder_tree;
 mod found;
 mod host_path;
@@ -16,12 +15,11 @@ mod looking;
 mod merged_object;
 mod merging;
 mod open_fault;
-mod parts;
+mod plain;
 mod reading;
 mod reading_tree;
 #[cfg(test)]
 mod tests;
-mod walking;
 
 pub use closing::close_folder;
 pub use folder_tree::FolderTree;

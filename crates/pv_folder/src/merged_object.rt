@@ -1,27 +1,18 @@
-//! One object of a manifest merged with what is real.
-ghost use Rattle.std.specs.Prelude.{◌≡◌, ◌↔◌, IsTrue, None, IfOk, false, not};
-ghost use Rattle.std.specs.Option.{option_copied, option_map_or};
-ghost use Rattle.pv_path.specs.Paths.{parent_of};
+//! One object of a manifest, merged into the tree of what is real.
+ghost use Rattle.std.specs.Prelude.{◌≡◌, ◌↔◌, IsTrue, Some, None, IfSome, OnOk, true};
+ghost use Rattle.pv_path.specs.Paths.{has_names, parent_of};
 ghost use Rattle.pv_steps.specs.declared.node.Kind.TheVariants.{Directory};
+ghost use Rattle.pv_steps.specs.Objects.{IsObject};
+ghost use Rattle.pv_steps.specs.Steps.{on_at, put_at};
 ghost use Rattle.pv_steps.specs.Trees.{IsKind, kind_of, places};
+ghost use Rattle.pv_tree.specs.Changes.{MayHave};
 ghost use Rattle.pv_dress.specs.Nodes.{same_kind};
-ghost use Rattle.pv_folder.specs.Merge.{dressed, is_real_kind, merged_at, merged_of, plain, plain_mode};
+ghost use Rattle.pv_folder.specs.Merge.{IsPlainAt, dressed, is_real_kind, merged_of};
 
-use pv_path::{Bytes, TreePath, parent};
-use pv_steps::{Kind, Node, Object, is_directory};
+use pv_path::{Name, TreePath};
+use pv_steps::{Kind, Node};
 use pv_tree::MemTree;
 use std::alloc::{AllocError, Global};
-
-/// The mode of a real object of which the manifest says nothing.
-fn plain_mode(kind: Kind) -> u16
-    ensures { result ≡ plain_mode kind }
-{
-    match kind {
-        Kind::Directory => 0o755,
-        Kind::Link => 0o777,
-        Kind::File | Kind::Fifo | Kind::CharDevice | Kind::BlockDevice => 0o644,
-    }
-}
 
 /// Whether a host has objects of this kind.
 fn is_real_kind(kind: Kind) -> bool
@@ -36,88 +27,82 @@ fn same_kind(a: Kind, b: Kind) -> bool
     a == b
 }
 
-/// A real object of which the manifest says nothing.
-fn plain(alloc: Global, object: Object) -> Object
-    ensures { result ≡ plain object }
+/// Gives a real object of a kind all that the manifest's node at its path says of one of its kind.
+fn dress(tree: &mut MemTree, names: &[Name], node: &Node, kind: Kind) -> Result<(), AllocError>
+    requires kind { kind_of (places tree.old.files names.now) ≡ Some kind }
+    requires plain { IsPlainAt tree.old.files names.now }
+    requires fits { same_kind node.now.kind kind ≡ true → IfSome (places tree.old.files names.now) (MayHave node.now) }
+    ensures places { OnOk result
+        (places tree.new.files ≡ on_at names.now (dressed (Some node.now)) (places tree.old.files)) }
+    ensures steps { tree.new.steps ≡ tree.old.steps }
 {
-    let Object { node, payload } = object;
-    let mode = plain_mode(node.kind);
-    Object::fresh(alloc, node.kind, mode, payload, node.major, node.minor, 0)
-}
-
-/// A real object with all that the manifest's node at its path says of one of its kind.
-fn dressed(alloc: Global, node: Option<&Node>, object: Object) -> Result<Object, AllocError>
-    ensures { IfOk result (λ o. o ≡ dressed (option_copied node.entry) object) }
-{
-    match node {
-        Some(node) if same_kind(node.kind, object.node.kind) => Ok(Object {
-            node: node.copy()?,
-            payload: object.payload,
-        }),
-        _ => Ok(plain(alloc, object)),
+    if same_kind(node.kind, kind) {
+        tree.set_node(names, node.copy()?);
     }
+    Ok(())
 }
 
-/// A copy of the object at a path of a tree, or nothing where nothing stands there.
-fn object_at(alloc: Global, tree: &MemTree, path: &TreePath) -> Result<Option<Object>, AllocError>
-    ensures { IfOk result (λ o. o ≡ places tree.now.files path.now) }
+/// The names of the directory in which a path lies.
+fn parent_names(names: &[Name]) -> &[Name]
+    ensures { result.now ≡ parent_of names.now }
 {
-    match (tree.node_at(path), tree.payload_at(path)) {
-        (Some(node), Some(payload)) => Ok(Some(Object {
-            node: node.copy()?,
-            payload: Bytes::copy_of(alloc, payload)?,
-        })),
-        _ => Ok(None),
-    }
-}
-
-/// Whether an object that no host has stands at a path of a tree.
-fn is_unreal(tree: &MemTree, path: &TreePath) -> bool
-    ensures { result ≡ option_map_or (λ k. not (is_real_kind k)) (kind_of (places tree.now.files path.now)) false }
-{
-    match tree.node_at(path) {
-        Some(node) => !is_real_kind(node.kind),
-        None => false,
+    match names {
+        [] => names,
+        [above @ .., _] => above,
     }
 }
 
 /// Whether a path lies in a directory of a tree.
-fn lies_in_directory(alloc: Global, tree: &MemTree, path: &TreePath) -> Result<bool, AllocError>
-    ensures { IfOk result (λ lies. IsTrue lies ↔ IsKind Directory tree.now.files (parent_of path.now)) }
+fn lies_in_directory(tree: &MemTree, names: &[Name]) -> bool
+    ensures { IsTrue result ↔ IsKind Directory tree.now.files (parent_of names.now) }
 {
-    match parent(alloc, path)? {
-        Some(directory) => Ok(is_directory(tree, &directory)),
-        None => Ok(is_directory(tree, path)),
+    match tree.kind_at(parent_names(names)) {
+        Some(kind) => matches!(kind, Kind::Directory),
+        None => false,
     }
 }
 
-/// The manifest's object at a path where nothing is real, or nothing where it is dropped.
-fn unreal_object(
+/// Puts the manifest's object at a path where nothing is real, where it is not dropped.
+fn add_unreal(
     alloc: Global,
-    manifest: &MemTree,
-    real: &MemTree,
-    path: &TreePath,
-) -> Result<Option<Object>, AllocError>
-    ensures { IfOk result (λ o. o ≡ merged_of (places manifest.now.files path.now) None
-        (kind_of (places real.now.files (parent_of path.now)))) }
+    tree: &mut MemTree,
+    names: &[Name],
+    node: &Node,
+    payload: &[u8],
+) -> Result<(), AllocError>
+    requires absent { places tree.old.files names.now ≡ None }
+    requires names { has_names names.now ≡ true }
+    requires object { IsObject (record { node = node.now; payload = payload.now }) }
+    ensures places { let path = names.now in let t = places tree.old.files in
+        let said = Some (record { node = node.now; payload = payload.now }) in
+        OnOk result (places tree.new.files ≡ put_at path (merged_of said None (kind_of (t (parent_of path)))) t) }
+    ensures steps { tree.new.steps ≡ tree.old.steps }
 {
-    if !is_unreal(manifest, path) || !lies_in_directory(alloc, real, path)? {
-        return Ok(None);
+    if is_real_kind(node.kind) || !lies_in_directory(tree, names) {
+        return Ok(());
     }
-    object_at(alloc, manifest, path)
+    let path = TreePath::of(alloc, names)?;
+    tree.add(&path, node.copy()?, payload)
 }
 
-/// What stands at a path of a manifest merged with what is real.
-pub(crate) fn merged_object(
+/// Merges what the manifest says at a path into a tree of what is real.
+pub(crate) fn merge_at(
     alloc: Global,
-    manifest: &MemTree,
-    real: &MemTree,
-    path: &TreePath,
-) -> Result<Option<Object>, AllocError>
-    ensures { IfOk result (λ o. o ≡ merged_at manifest.now.files real.now.files path.now) }
+    tree: &mut MemTree,
+    names: &[Name],
+    node: &Node,
+    payload: &[u8],
+) -> Result<(), AllocError>
+    requires names { has_names names.now ≡ true }
+    requires object { IsObject (record { node = node.now; payload = payload.now }) }
+    requires plain { IsPlainAt tree.old.files names.now }
+    ensures places { let path = names.now in let t = places tree.old.files in
+        let said = Some (record { node = node.now; payload = payload.now }) in
+        OnOk result (places tree.new.files ≡ put_at path (merged_of said (t path) (kind_of (t (parent_of path)))) t) }
+    ensures steps { tree.new.steps ≡ tree.old.steps }
 {
-    match object_at(alloc, real, path)? {
-        Some(object) => Ok(Some(dressed(alloc, manifest.node_at(path), object)?)),
-        None => unreal_object(alloc, manifest, real, path),
+    match tree.kind_at(names) {
+        Some(kind) => dress(tree, names, node, kind),
+        None => add_unreal(alloc, tree, names, node, payload),
     }
 }

@@ -1,18 +1,16 @@
 //! A manifest merged with what is real.
-ghost use Rattle.std.specs.Prelude.{◌≡◌, [], true, IfOk, IfSome, OnOk};
+ghost use Rattle.std.specs.Prelude.{◌≡◌, [], true, IfOk, OnOk};
 ghost use Rattle.std.specs.FinMap as fin;
 ghost use Rattle.std.specs.Ordering.{is_lt};
 ghost use Rattle.pv_path.specs.Paths.{parent_of, path_cmp};
 ghost use Rattle.pv_steps.specs.declared.node.Kind.TheVariants.{Directory};
 ghost use Rattle.pv_steps.specs.Objects.{IsObject};
-ghost use Rattle.pv_steps.specs.Trees.{IsKind, IsTree, places};
-ghost use Rattle.pv_tree.specs.Held.{root_alone};
-ghost use Rattle.pv_folder.specs.Ahead.{added};
-ghost use Rattle.pv_folder.specs.Merge.{merged, merged_at};
+ghost use Rattle.pv_steps.specs.Trees.{IsKind};
+ghost use Rattle.pv_folder.specs.Merge.{IsPlain, merged};
 
 use crate::copied_facts::copy_of;
-use crate::merged_object::merged_object;
-use crate::walking::{next_names, pass};
+use crate::merged_object::merge_at;
+use crate::plain::plain_copy;
 use pv_image::Image;
 use pv_path::TreePath;
 use pv_steps::Object;
@@ -37,55 +35,31 @@ pub(crate) fn add(
     }
 }
 
-/// The root of a manifest merged with what is real, as a tree in the making.
-fn merged_root(alloc: Global, manifest: &MemTree, real: &MemTree) -> Result<TreeBuilder, AllocError>
-    requires { IsTree (merged manifest.now.files real.now.files) }
-    ensures last { IfOk result (λ builder. builder.last ≡ []) }
-    ensures root { IfOk result (λ builder. IfSome (places (merged manifest.now.files real.now.files) [])
-        (λ o. builder.files ≡ root_alone o.node)) }
-{
-    match merged_object(alloc, manifest, real, &TreePath::root(alloc))? {
-        Some(root) => TreeBuilder::new(alloc, root.node),
-        None => unreachable!(),
-    }
-}
-
-/// Adds what stands at the next path, where something does.
-fn add_next(
-    alloc: Global,
-    builder: &mut TreeBuilder,
-    manifest: &MemTree,
-    real: &MemTree,
-    path: &TreePath,
-) -> Result<(), AllocError>
-    requires tree { IsTree (merged manifest.now.files real.now.files) }
-    requires after { is_lt (path_cmp builder.old.last path.now) ≡ true }
-    requires parent { IsKind Directory (merged manifest.now.files real.now.files) (parent_of path.now)
-        → IsKind Directory builder.old.files (parent_of path.now) }
-    ensures { OnOk result (builder.new ≡ added path.now (merged_at manifest.now.files real.now.files path.now) builder.old) }
-{
-    match merged_object(alloc, manifest, real, path)? {
-        Some(object) => add(builder, path.copy()?, object),
-        None => Ok(()),
-    }
-}
-
-/// The tree of a manifest and of what is real.
-fn merged_tree(alloc: Global, manifest: &MemTree, real: &MemTree) -> Result<MemTree, AllocError>
-    ensures { IfOk result (λ tree. tree ≡ record { files = merged manifest.now.files real.now.files; steps = [] }) }
+/// Merges a manifest's tree into that of what is real, of which no manifest says anything yet.
+fn merge_into(alloc: Global, tree: &mut MemTree, manifest: &MemTree) -> Result<(), AllocError>
+    requires { IsPlain tree.old.files }
+    ensures files { OnOk result (tree.new.files ≡ merged manifest.now.files tree.old.files) }
+    ensures steps { tree.new.steps ≡ tree.old.steps }
 {
     let mut said = manifest.walk(alloc)?;
-    let mut found = real.walk(alloc)?;
-    let mut builder = merged_root(alloc, manifest, real)?;
-    said.advance()?;
-    found.advance()?;
-    while let Some(names) = next_names(&said, &found) {
-        let path = TreePath::of(alloc, names)?;
-        add_next(alloc, &mut builder, manifest, real, &path)?;
-        pass(&mut said, &path)?;
-        pass(&mut found, &path)?;
+    while let Some(place) = said.place() {
+        merge_at(alloc, tree, place.names, place.node, place.payload)?;
+        said.advance()?;
     }
-    Ok(builder.finish())
+    Ok(())
+}
+
+/// A manifest merged with the tree of what is real, which is taken over with all its bytes.
+pub(crate) fn merge_with(alloc: Global, manifest: Image, real: MemTree) -> Result<Image, AllocError>
+    requires { IsPlain real.files }
+    ensures tree { IfOk result (λ image. image.tree.files ≡ merged manifest.tree.files real.files) }
+    ensures steps { IfOk result (λ image. image.tree.steps ≡ real.steps) }
+    ensures facts { IfOk result (λ image. image.facts ≡ manifest.facts) }
+{
+    let Image { tree: said, facts } = manifest;
+    let mut tree = real;
+    merge_into(alloc, &mut tree, &said)?;
+    Ok(Image { tree, facts })
 }
 
 /// The tree of a manifest and of what is real, with the manifest's facts. No step is recorded in it.
@@ -97,8 +71,8 @@ pub fn merge(alloc: Global, manifest: &Image, real: &MemTree) -> Result<Image, A
     ensures steps { IfOk result (λ image. image.tree.steps ≡ []) }
     ensures facts { IfOk result (λ image. image.facts ≡ manifest.now.facts) }
 {
-    Ok(Image {
-        tree: merged_tree(alloc, &manifest.tree, real)?,
-        facts: copy_of(alloc, &manifest.facts)?,
-    })
+    let facts = copy_of(alloc, &manifest.facts)?;
+    let mut tree = plain_copy(alloc, real)?;
+    merge_into(alloc, &mut tree, &manifest.tree)?;
+    Ok(Image { tree, facts })
 }

@@ -14,7 +14,7 @@ ghost use Rattle.pv_folder.specs.Reading.{is_free, kind_named, lists_prepared};
 
 use crate::host_path::below;
 use crate::looking::bytes_at;
-use crate::merging::merge;
+use crate::merging::merge_with;
 use crate::open_fault::OpenFault;
 use crate::reading_tree::read_tree;
 use pv_host::{Host, HostItem, HostKind};
@@ -144,5 +144,5 @@ pub fn read_folder<H: Host>(alloc: Global, host: &mut H, folder: &[u8]) -> Resul
 {
     let manifest = manifest_in(alloc, host, folder)?;
     let real = read_tree(alloc, host, folder)?;
-    Ok(merge(alloc, &manifest, &real)?)
+    Ok(merge_with(alloc, manifest, real)?)
 }

@@ -15,6 +15,7 @@ ghost use Rattle.pv_host.specs.Lists.{is_ordered};
 ghost use Rattle.pv_host.specs.Content.{IsContent, IsDirectory, held, listing, spelled};
 ghost use Rattle.pv_folder.specs.declared.open_fault.OpenFault.TheVariants.{HostFailed, TooLarge};
 ghost use Rattle.pv_folder.specs.Folders.{real_in, tree_path};
+ghost use Rattle.pv_folder.specs.Merge.{IsPlain};
 ghost use Rattle.pv_folder.specs.Opening.{fault_among, is_outer, is_over, most_bytes, most_objects, objects_below, odd};
 ghost use Rattle.pv_folder.specs.Reading.{found_below, found_in, items_of, path_of, seen_object, seen_size};
 
@@ -186,6 +187,8 @@ pub(crate) fn read_tree<H: Host>(
     requires { IfSome (H.content host.old) (λ c. IsDirectory (held c) (tree_path (spelled folder.now))) }
     ensures sound { IfOk result (λ _. IfSome (H.content host.old) (λ c. fault_among 0 0 (objects_below (spelled folder.now) c) ≡ None)) }
     ensures real { IfOk result (λ tree. IfSome (H.content host.old) (λ c. tree.files ≡ real_in (spelled folder.now) c)) }
+    ensures plain { IfOk result (λ tree. IsPlain tree.files) }
+    ensures steps { IfOk result (λ tree. tree.steps ≡ []) }
     ensures fault { IfErr result (λ fault. is_outer fault ≡ false → IfSome (H.content host.old) (λ c.
         fault_among 0 0 (objects_below (spelled folder.now) c) ≡ Some fault)) }
     ensures kept { H.content host.new ≡ H.content host.old }

@@ -9,6 +9,8 @@ pub mod Solid
 pub mod Feeds
 pub mod Order
 pub mod Facts
+pub mod MappedLaws
+pub mod EmptyLaws
 mod Lines
 mod Wholes
 pub mod Stages

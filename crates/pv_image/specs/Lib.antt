@@ -4,3 +4,5 @@ pub mod Nodes
 pub mod Images
 pub mod Progress
 pub mod Writing
+pub mod Emptied
+pub mod Told

@@ -3,6 +3,7 @@
 
 mod attrs;
 mod column;
+mod extent;
 mod extras;
 mod image_fault;
 mod laws;
@@ -26,4 +27,4 @@ pub use laws::{
 pub use reader::{Image, read_image};
 pub use version::Version;
 pub use write::print_node;
-pub use writer::{add_image, write_image};
+pub use writer::{add_image, write_emptied, write_image};

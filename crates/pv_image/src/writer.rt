@@ -7,10 +7,14 @@ ghost use Rattle.pv_image.specs.Writing.{fact_fits, fact_line, fact_line_of, nod
 ghost use Rattle.pv_steps.specs.Trees.{IsTree};
 ghost use Rattle.pv_image.specs.Spelling.{text_of};
 ghost use Rattle.pv_image.specs.Images.{IsImage, is_byte_fact};
+ghost use Rattle.pv_image.specs.Emptied.{emptied_payload, with_empty_files};
+ghost use Rattle.pv_image.specs.Told.{told_payload, told_tree};
 
+use crate::extent::Extent;
 use crate::line::header;
 use crate::version::Version;
 use crate::write::{add_fact, add_node};
+use pv_steps::Kind;
 use pv_text::{FACT_LETTERS, Facts};
 use pv_tree::MemTree;
 use std::alloc::{AllocError, Global};
@@ -35,10 +39,36 @@ pub fn add_image(
     ensures text { OnOk result (output.new.items ≡ output.old.items ++ text_of facts.now tree.now.files) }
     ensures image { OnOk result (IsImage (text_of facts.now tree.now.files) facts.now tree.now.files) }
 {
+    add_image_with(alloc, output, tree, facts, Extent::Whole)
+}
+
+/// Writes the one text of facts and a tree with empty files, in version 2, which is an image of them.
+pub fn write_emptied(alloc: Global, tree: &MemTree, facts: &Facts) -> Result<Vec<u8>, AllocError>
+    ensures text { IfOk result (λ text. text.items ≡ text_of facts.now (with_empty_files tree.now.files)) }
+    ensures image { IfOk result (λ text. IsImage text.items facts.now (with_empty_files tree.now.files)) }
+{
+    let mut output = Vec::new(alloc);
+    add_image_with(alloc, &mut output, tree, facts, Extent::EmptyFiles)?;
+    Ok(output)
+}
+
+/// Adds the one text of facts and a tree to a text, with so much of its files.
+fn add_image_with(
+    alloc: Global,
+    output: &mut Vec<u8>,
+    tree: &MemTree,
+    facts: &Facts,
+    extent: Extent,
+) -> Result<(), AllocError>
+    ensures text { let told = told_tree extent tree.now.files in
+        OnOk result (output.new.items ≡ output.old.items ++ text_of facts.now told) }
+    ensures image { let told = told_tree extent tree.now.files in
+        OnOk result (IsImage (text_of facts.now told) facts.now told) }
+{
     output.extend_from_slice(header(Version::Two))?;
     output.push(b'\n')?;
     add_facts(output, facts)?;
-    add_nodes(alloc, output, tree)?;
+    add_nodes(alloc, output, tree, extent)?;
     output.extend_from_slice(b"end\n")?;
     Ok(())
 }
@@ -67,15 +97,41 @@ fn add_fact_of(output: &mut Vec<u8>, facts: &Facts, letter: u8) -> Result<(), Al
     }
 }
 
-/// Adds the lines of all nodes, in the order of their paths.
-fn add_nodes(alloc: Global, output: &mut Vec<u8>, tree: &MemTree) -> Result<(), AllocError>
-    ensures text { let lines = flat_map node_line (fin.entries tree.now.files) in
+/// What is kept of a payload where files are empty.
+fn emptied_payload(kind: Kind, payload: &[u8]) -> &[u8]
+    ensures { result.now ≡ emptied_payload kind payload.now }
+{
+    match kind {
+        Kind::File => &[],
+        Kind::Directory | Kind::Link | Kind::Fifo | Kind::CharDevice | Kind::BlockDevice => payload,
+    }
+}
+
+/// What is written of a payload.
+fn told_payload(extent: Extent, kind: Kind, payload: &[u8]) -> &[u8]
+    ensures { result.now ≡ told_payload extent kind payload.now }
+{
+    match extent {
+        Extent::Whole => payload,
+        Extent::EmptyFiles => emptied_payload(kind, payload),
+    }
+}
+
+/// Adds the lines of all nodes, in the order of their paths, with so much of the files.
+fn add_nodes(
+    alloc: Global,
+    output: &mut Vec<u8>,
+    tree: &MemTree,
+    extent: Extent,
+) -> Result<(), AllocError>
+    ensures text { let lines = flat_map node_line (fin.entries (told_tree extent tree.now.files)) in
         OnOk result (output.new.items ≡ output.old.items ++ lines) }
     ensures tree { IsTree tree.now.files }
 {
     let mut walk = tree.walk(alloc)?;
     while let Some(place) = walk.place() {
-        add_node(alloc, output, place.names, place.node, place.payload)?;
+        let payload = told_payload(extent, place.node.kind, place.payload);
+        add_node(alloc, output, place.names, place.node, payload)?;
         walk.advance()?;
     }
     Ok(())

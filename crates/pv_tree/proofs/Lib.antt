@@ -9,4 +9,5 @@ pub mod Files
 pub mod State
 pub mod WalkLaws
 pub mod GrowthLaws
+pub mod NodeLaws
 pub mod FuseLaws

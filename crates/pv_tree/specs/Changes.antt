@@ -1,12 +1,13 @@
 -- What a step that changes one object leaves of it (chmod(2), chown(2), setxattr(2), chattr(1),
--- utimensat(2), write(2); acl(5)).
-use Rattle.std.specs.Prelude.{◌≢◌, ℕ, List, [], ◌∷◌, ◌++◌}
+-- utimensat(2), write(2); acl(5)), and an object with another node.
+use Rattle.std.specs.Prelude.{◌≡◌, ◌≢◌, ℕ, List, [], ◌∷◌, ◌++◌}
 use Rattle.pv_path.specs.Paths.{Path, parent_of}
+use Rattle.pv_steps.specs.declared.node.Node.{Node}
 use Rattle.pv_steps.specs.declared.object.Object.{Object}
 use Rattle.pv_steps.specs.declared.step.Step.{Step}
 use Rattle.pv_steps.specs.declared.step.Step.TheVariants.{Write, SetMode, SetOwner, SetAcl, SetAttrs, SetLetters, SetStamps}
 use Rattle.pv_steps.specs.Trees.{Places, IsPresentIn, IsAbsentIn}
-use Rattle.pv_steps.specs.Objects.{with_mode, with_owner, with_acl, with_attrs, with_letters, with_stamps, with_content}
+use Rattle.pv_steps.specs.Objects.{IsObject, with_mode, with_owner, with_acl, with_attrs, with_letters, with_stamps, with_content}
 
 -- the object after the step; each other kind of step leaves it as it is
 abbrev pub change_of : Step → ℕ → Object → Object
@@ -24,3 +25,11 @@ pub record IsRemovable (t : Places) (path : Path) : Type 0 where
   pub no_root : path ≢ []
   pub parent : IsPresentIn t (parent_of path)
   pub alone : (name : List ℕ) (rest : Path) → IsAbsentIn t (path ++ name ∷ rest)
+
+-- an object with another node; its payload stays
+abbrev pub with_node : Node → Object → Object
+with_node node o = record o { node = node }
+
+-- an object may get a node: it is one of its kind, and the object is whole with it
+abbrev pub MayHave : Node → Object → Type 0
+MayHave node o = (node.kind ≡ o.node.kind) × IsObject (with_node node o)

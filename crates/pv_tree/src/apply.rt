@@ -121,8 +121,8 @@ fn device_kind(block: bool) -> Kind
     }
 }
 
-/// What the types of a step's parts say.
-pub(crate) fn parts_fit(step: &Step)
+/// What the types of a step's parts say: it fits. It takes no memory.
+pub fn parts_fit(step: &Step)
     ensures { StepFits step.now }
 {
     match step {

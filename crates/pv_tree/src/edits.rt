@@ -5,17 +5,17 @@ ghost use Rattle.pv_path.specs.Paths.{Path, parent_of};
 ghost use Rattle.pv_steps.specs.Objects.{fresh};
 ghost use Rattle.pv_steps.specs.Trees.{IsPresentIn, IsTreeIn};
 ghost use Rattle.pv_steps.specs.Steps.{HasRoom, Movable, put_at, on_at, made, gone, moved};
-ghost use Rattle.pv_tree.specs.Changes.{IsRemovable, change_of};
+ghost use Rattle.pv_tree.specs.Changes.{IsRemovable, change_of, with_node};
 ghost use Rattle.pv_tree.specs.Edges.{IsSet};
 ghost use Rattle.pv_tree.specs.Slots.{IsForest, AreFree, child_in, next_number, number_in, object_in, places_in};
 
 use crate::slot::Slot;
 use crate::slots::{
     change_slot, child_of, location, next_number, number_at, own_name, place, push_within,
-    put_child, remove_child, renew, touch,
+    put_child, remove_child, renew, set_node, touch,
 };
 use pv_path::{Bytes, Name, TreePath};
-use pv_steps::{Kind, Object, Step};
+use pv_steps::{Kind, Node, Object, Step};
 use std::alloc::{AllocError, Global};
 
 /// A new object without a payload, which is no device.
@@ -139,6 +139,19 @@ pub(crate) fn change_at(
     match number_at(slots, path.names()) {
         Some(number) => change_slot(slots, number, step, now),
         None => Ok(()),
+    }
+}
+
+/// Gives the object at the path of some names, where there is one, another node.
+pub(crate) fn set_node_at(slots: &mut Vec<Slot>, names: &[Name], node: Node)
+    requires { IsForest slots.old.items }
+    ensures forest { IsForest slots.new.items }
+    ensures free { (free : List ℕ) → AreFree slots.old.items free → AreFree slots.new.items free }
+    ensures places { places_in slots.new.items ≡ on_at names.now (with_node node) (places_in slots.old.items) }
+{
+    match number_at(slots, names) {
+        Some(number) => set_node(slots, number, node),
+        None => {}
     }
 }
 

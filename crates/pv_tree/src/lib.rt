@@ -13,6 +13,7 @@ mod slot;
 mod slots;
 mod walk;
 
+pub use apply::parts_fit;
 pub use binary_search::{Probe, find};
 pub use builder::{BuildFault, TreeBuilder};
 pub use fused::Fused;

@@ -1,24 +1,25 @@
 //! The tree in memory.
-ghost use Rattle.std.specs.Prelude.{◌≡◌, ◌↔◌, IsTrue, ℕ, ◌≤◌, List, [], ◌∷◌, ◌++◌, length, Some, None, IfOk, OnOk, OnErr, IsErrOf, slice_get, filter_map, map, ⊤};
+ghost use Rattle.std.specs.Prelude.{◌≡◌, ◌↔◌, IsTrue, ℕ, ◌≤◌, List, [], ◌∷◌, ◌++◌, length, Some, None, IfOk, IfSome, OnOk, OnErr, IsErrOf, slice_get, filter_map, map, ⊤};
 ghost use Rattle.std.proofs.Common.{arith};
 ghost use Rattle.std.specs.Option.{option_copied, option_to_list};
 ghost use Rattle.std.specs.FinMap as fin;
 ghost use Rattle.pv_steps.specs.declared.node.Kind.TheVariants.{Directory, File, Link};
 ghost use Rattle.pv_steps.specs.declared.tree.TreeFault.TheVariants.{Failed};
 ghost use Rattle.pv_steps.specs.Objects.{IsObject};
-ghost use Rattle.pv_steps.specs.Trees.{places, IsKind, IsTree, node_at, payload_at, names_below, child_name};
-ghost use Rattle.pv_steps.specs.Steps.{Can, HasRoom, StepFits, after};
+ghost use Rattle.pv_steps.specs.Trees.{places, IsKind, IsTree, kind_of, node_at, payload_at, names_below, child_name};
+ghost use Rattle.pv_steps.specs.Steps.{Can, HasRoom, StepFits, after, on_at};
 ghost use Rattle.pv_steps.specs.Counting.{refused, faults_after};
+ghost use Rattle.pv_tree.specs.Changes.{MayHave, with_node};
 ghost use Rattle.pv_tree.specs.Held.{root_alone};
 ghost use Rattle.pv_tree.specs.Slots.{files_of, IsTreeOf};
 
 use crate::apply::{do_told, parts_fit};
-use crate::edits::put;
+use crate::edits::{put, set_node_at};
 use crate::slot::Slot;
-use crate::slots::{root_slots, slot_at};
+use crate::slots::{root_slots, slot_at, slot_of};
 use crate::walk::Walk;
-use pv_path::{Bytes, NameList, TreePath};
-use pv_steps::{Node, Object, Step, Tree, TreeFault};
+use pv_path::{Bytes, Name, NameList, TreePath};
+use pv_steps::{Kind, Node, Object, Step, Tree, TreeFault};
 use std::alloc::{AllocError, Global};
 use std::marker::Model;
 
@@ -105,6 +106,27 @@ impl MemTree {
             Some(slot) => Some(&slot.object.node),
             None => None,
         }
+    }
+
+    /// The kind of what stands at the path of some names, or nothing where it is absent. It takes no memory.
+    pub fn kind_at(&self, names: &[Name]) -> Option<Kind>
+        ensures kind { result ≡ kind_of (places self.now.files names.now) }
+        ensures tree { IsTree self.now.files }
+    {
+        match slot_of(&self.slots, names) {
+            Some(slot) => Some(slot.object.node.kind),
+            None => None,
+        }
+    }
+
+    /// Gives what stands at the path of some names, if something does, another node of its kind. Its payload and what lies
+    /// below it stay. It records no step, and takes no memory.
+    pub fn set_node(&mut self, names: &[Name], node: Node)
+        requires { IfSome (places self.old.files names.now) (MayHave node) }
+        ensures places { places self.new.files ≡ on_at names.now (with_node node) (places self.old.files) }
+        ensures steps { self.new.steps ≡ self.old.steps }
+    {
+        set_node_at(&mut self.slots, names, node);
     }
 
     /// The names in a directory, in byte order.

@@ -5,7 +5,7 @@ ghost use Rattle.pv_path.specs.Paths.{parent_of};
 ghost use Rattle.pv_steps.specs.declared.node.Kind.TheVariants.{Directory};
 ghost use Rattle.pv_steps.specs.Objects.{IsObject, is_directory, modified, changed};
 ghost use Rattle.pv_steps.specs.Trees.{IsPresentIn};
-ghost use Rattle.pv_tree.specs.Changes.{change_of};
+ghost use Rattle.pv_tree.specs.Changes.{change_of, with_node};
 ghost use Rattle.pv_tree.specs.Edges.{IsSet, IsChanged, IsPlaced};
 ghost use Rattle.pv_tree.specs.Held.{root_alone};
 ghost use Rattle.pv_tree.specs.Slots.{child_in, files_of, object_in, number_in, slot_in, places_in, next_number, IsTreeOf};
@@ -45,14 +45,21 @@ pub(crate) fn is_directory_in(slots: &Vec<Slot>, number: usize) -> bool
     slots[number].object.node.kind.is_directory()
 }
 
+/// The slot at the path of some names, or nothing where it is absent.
+pub(crate) fn slot_of<'a>(slots: &'a Vec<Slot>, names: &[Name]) -> Option<&'a Slot>
+    ensures { option_copied result ≡ slot_in slots.now.items names.now }
+{
+    match number_at(slots, names) {
+        Some(number) => slots.get(number),
+        None => None,
+    }
+}
+
 /// The slot at a path, or nothing where the path is absent.
 pub(crate) fn slot_at<'a>(slots: &'a Vec<Slot>, path: &TreePath) -> Option<&'a Slot>
     ensures { option_copied result ≡ slot_in slots.now.items path.now }
 {
-    match number_at(slots, path.names()) {
-        Some(number) => slots.get(number),
-        None => None,
-    }
+    slot_of(slots, path.names())
 }
 
 /// The names of the directory that a path lies in.
@@ -160,6 +167,17 @@ pub(crate) fn change_slot(
 {
     let slot = &mut slots[number];
     change(&mut slot.object, step, now)
+}
+
+/// Gives the object with a number another node.
+pub(crate) fn set_node(slots: &mut Vec<Slot>, number: usize, node: Node)
+    requires { number < length slots.old.items }
+    ensures objects { IsChanged number (with_node node) (object_in slots.old.items) (object_in slots.new.items) }
+    ensures edges { child_in slots.new.items ≡ child_in slots.old.items }
+    ensures length { length slots.new.items ≡ length slots.old.items }
+{
+    let slot = &mut slots[number];
+    slot.object.node = node;
 }
 
 /// The number that the next new slot gets.

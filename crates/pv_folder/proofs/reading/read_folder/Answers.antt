@@ -33,8 +33,8 @@ returns-clause-opened g c =
     let content = g.H.Host.content c.args.host.now in
     let folder = spelled c.args.folder.now in
     let said = c.in_ok-manifest.manifest in
-    let image = c.in_ok-merge.field-0 in
-    folder_opened content folder image.facts said.facts image.tree.files said.tree.files c.in_ok-real.real.files c.in_ok-merge.ensures.facts c.in_ok-merge.ensures.tree
+    let image = c.in_ok-merge_with.field-0 in
+    folder_opened content folder image.facts said.facts image.tree.files said.tree.files c.in_ok-real.real.files c.in_ok-merge_with.ensures.facts c.in_ok-merge_with.ensures.tree
     c.in_ok-manifest.ensures.prepared c.in_ok-manifest.ensures.says
     (subst (λ (o : Option Content). IfSome o (λ k. fault_among 0 0 (objects_below folder k) ≡ None)) c.manifest_in.ensures.kept c.in_ok-real.ensures.sound)
     (subst (λ (o : Option Content). IfSome o (λ k. c.in_ok-real.real.files ≡ real_in folder k)) c.manifest_in.ensures.kept c.in_ok-real.ensures.real)
@@ -42,5 +42,5 @@ returns-clause-opened g c =
 pub returns-clause-refuses : goal.returns-clause-refuses
 returns-clause-refuses g c = λ fault.
     let folder = spelled c.args.folder.now in
-    let image = c.in_ok-merge.field-0 in
+    let image = c.in_ok-merge_with.field-0 in
     told (λ k. IsOpened folder k image.facts image.tree.files) _ (g.H.Host.content c.args.host.now) (λ k o r. absurd (not_both folder k image.facts image.tree.files fault o r)) (returns-clause-opened g c)

@@ -14,6 +14,7 @@ use Rattle.pv_folder.specs.Folders.{tree_path}
 use Rattle.pv_folder.specs.Opening.{is_outer, is_over}
 use Rattle.pv_folder.specs.Reading.{Shows, found_below, items_of, path_of, seen_object, seen_size}
 use Rattle.pv_folder.proofs.GoingLaws.{Faulty, IsGoing, going_at, going_first, going_odd, going_on, going_over, going_real, not_over, passed_on}
+use Rattle.pv_folder.proofs.MergingLaws.{plain_first, plain_on}
 use Rattle.pv_folder.proofs.reading_tree.read_tree.Goals as goal
 
 pub loop-found-init : goal.loop-found-init
@@ -28,6 +29,7 @@ loop-found-init g c =
       omega (arith, told.bytes),
       c.items_in_tree.ensures.kept,
       c.items_in_tree.ensures.never_falls,
+      plain_first r.builder told.builder,
     )
 
 pub returns-in_err-path-clause-fault : goal.returns-in_err-path-clause-fault
@@ -91,6 +93,7 @@ loop-found-preserved g c =
       omega (arith, bytes, within.1),
       c.look.ensures.kept ∙ c.loop-found.invariant.3,
       omega (arith, c.look.ensures.never_falls, c.loop-found.invariant.4),
+      plain_on r.builder.files (path_of x) s c.take.new.self.builder builder c.loop-found.invariant.5,
     )
 
 pub returns-clause-real : goal.returns-clause-real
@@ -101,3 +104,6 @@ returns-clause-real g c =
     let none : r.pending.items ≡ [] = nil_from_length r.pending.items (sym r.pending.ok.0 ∙ c.in_default.ensures.cases.0) in
     let going = subst (IsGoing content folder r.objects r.bytes r.builder.files r.builder.last) none c.loop-found.invariant.0 in
     rw c.finish.ensures.value (going_real content folder r.objects r.bytes r.builder.files r.builder.last going)
+
+pub returns-clause-plain : goal.returns-clause-plain
+returns-clause-plain g c = rw c.finish.ensures.value c.loop-found.invariant.5

@@ -1,5 +1,6 @@
 use Rattle.std.proofs.Common.{◌≡◌, ◌≤◌, ◌-◌, ◌+◌}
 use Rattle.pv_host.specs.Content.{spelled}
+use Rattle.pv_folder.specs.Merge.{IsPlain}
 use Rattle.pv_folder.specs.Opening.{most_bytes, most_objects}
 use Rattle.pv_folder.proofs.GoingLaws.{IsGoing}
 use Rattle.pv_folder.proofs.reading_tree.read_tree.Given as goal
@@ -10,6 +11,7 @@ invariant-loop-found g l =
     IsGoing (g.H.Host.content l.fn.host) (spelled l.folder) l.reading.objects l.reading.bytes l.reading.builder.files l.reading.builder.last l.reading.pending.items
     × (l.reading.objects ≤ most_objects) × (l.reading.bytes ≤ most_bytes)
     × (g.H.Host.content l.host ≡ g.H.Host.content l.fn.host) × (g.H.Host.faults l.fn.host ≤ g.H.Host.faults l.host)
+    × IsPlain l.reading.builder.files
 
 abbrev pub decreases-loop-found : goal.decreases-loop-found
 decreases-loop-found g l = most_objects + 1 - l.reading.objects

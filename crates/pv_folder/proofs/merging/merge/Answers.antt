@@ -1,0 +1,14 @@
+use Rattle.std.proofs.Common.{◌∙◌, sym, ap, subst}
+use Rattle.pv_steps.specs.Trees.{Files}
+use Rattle.pv_tree.specs.Held.{Held}
+use Rattle.pv_folder.specs.Merge.{IsPlain, merged}
+use Rattle.pv_folder.proofs.MergingLaws.{merged_plained, plained_plain}
+use Rattle.pv_folder.proofs.merging.merge.Goals as goal
+
+pub merge_into-requires : goal.merge_into-requires
+merge_into-requires c = subst IsPlain (sym (ap (λ (h : Held). h.files) c.in_ok-tree.ensures)) (plained_plain c.args.real.now.files)
+
+pub returns-clause-tree : goal.returns-clause-tree
+returns-clause-tree c =
+    let m = c.args.manifest.now.tree.files in
+    c.in_ok-merge_into.ensures.files ∙ ap (merged m) (ap (λ (h : Held). h.files) c.in_ok-tree.ensures) ∙ merged_plained m c.args.real.now.files

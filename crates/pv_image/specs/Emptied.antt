@@ -1,0 +1,19 @@
+-- Trees with empty files: an image of all but the bytes of files.
+use Rattle.std.specs.Prelude.{ℕ, List, [], option_map}
+use Rattle.std.specs.FinMap as fin
+use Rattle.pv_steps.specs.declared.node.Kind.{Kind}
+use Rattle.pv_steps.specs.declared.node.Kind.TheVariants.{File}
+use Rattle.pv_steps.specs.declared.object.Object.{Object}
+use Rattle.pv_steps.specs.Trees.{Files, places, tabulate}
+
+-- no bytes for a file; the target of a link stays
+abbrev pub emptied_payload : Kind → List ℕ → List ℕ
+emptied_payload File payload = []
+emptied_payload kind payload = payload
+
+abbrev pub emptied : Object → Object
+emptied o = record o { payload = emptied_payload o.node.kind o.payload }
+
+-- a tree with empty files
+abbrev pub with_empty_files : Files → Files
+with_empty_files t = tabulate (fin.keys t) (λ path. option_map emptied (places t path))
