@@ -1,16 +1,19 @@
 -- From a run over an image to the answer to its bytes.
-use Rattle.std.specs.Prelude.{◌≡◌, ◌≢◌, ℕ, zero, suc, ◌+◌, ◌-◌, ◌<◌, ◌≤◌, List, [], ◌∷◌, ◌++◌, length, drop, Option, Some, None, Result, Ok, Err, IfOk, IfSome}
-use Rattle.std.proofs.Common.{refl, subst, sym, ap, ◌∙◌, arith}
+use Rattle.std.specs.Prelude.{◌≡◌, ◌≢◌, ◌⊎◌, ℕ, zero, suc, ◌+◌, ◌-◌, ◌<◌, ◌≤◌, min, IsTrue, true, false, List, [], ◌∷◌, ◌++◌, length, drop, Option, Some, None, Result, Ok, Err, IfOk, IfSome, IsErrOf}
+use Rattle.std.proofs.Common.{refl, subst, sym, ap, ◌∙◌, arith, inl, inr}
 use Rattle.std.proofs.lemmas.List.{append_cancel_left}
+use Rattle.std.proofs.Math.Nat.{eq-or-lt_of_le, min-le_right}
 use Rattle.pv_text.specs.Facts.{Values}
 use Rattle.pv_steps.specs.declared.step.Step.{Step}
 use Rattle.pv_steps.specs.Trees.{Files}
 use Rattle.pv_steps.specs.Runs.{Ran}
-use Rattle.pv_steps.specs.Counting.{faults_after}
-use Rattle.pv_io.specs.Faults.{last_count}
+use Rattle.pv_steps.specs.Counting.{faults_after, refused}
+use Rattle.pv_steps.specs.declared.tree.TreeFault.{TreeFault}
+use Rattle.pv_steps.specs.declared.tree.TreeFault.TheVariants as step
+use Rattle.pv_io.specs.Faults.{HasRisen, last_count}
 use Rattle.pv_image.specs.Images.{IsImage}
 use Rattle.pv_image.specs.Spelling.{text_of}
-use Rattle.pv_tree.specs.Fuses.{Burnt, whole_limit}
+use Rattle.pv_tree.specs.Fuses.{Burnt, capped, whole_limit}
 use Rattle.pv_tree.proofs.FuseLaws.{burnt_within}
 use Rattle.pv_words.specs.declared.options.Options.{Options}
 use Rattle.provision_run.specs.declared.answer.Answer.{Answer}
@@ -24,7 +27,7 @@ use Rattle.provision_run.proofs.TaskLaws.{front_by}
 use Rattle.provision_run.specs.Framed.{IsFramedIn}
 use Rattle.provision_run.specs.OnTheWay.{IsOnTheWayIn}
 use Rattle.provision_run.specs.Lending.{HaveCounted}
-use Rattle.provision_run.specs.OverTree.{HasFailed, HasLeft, HasRun, IsCut, IsStopped, IsWhole, outcome, outcome_of, stopped_text}
+use Rattle.provision_run.specs.OverTree.{HasFailed, HasLeft, HasRun, IsCut, IsStopped, IsWhole, outcome_of, stopped_text}
 use Rattle.provision_run.specs.Swept.{IsSweptIn}
 use Rattle.provision_run.specs.Whole.{final, HasSaidBy, HasSaidPartBy, HasGoneBy, IsCutBy, IsMendedAnewIn, IsMendedIn, is_run_step, read_messages, run_end, run_way, run_work}
 use Rattle.provision_run.specs.Answers.{IsAnswer, IsAnswered, IsRun, IsOwn, most_bytes}
@@ -268,3 +271,24 @@ lent_counted old new before after m h none is few =
     h.there
     ∙ ap (λ k. faults_after k old)
     (few_counted h.times m (ap (λ n. faults_after h.times n) (sym none) ∙ sym h.here ∙ is) few)
+
+-- a run that was refused once, and not for its limit, was refused by the tree that was lent
+pub passed_counted : (old new before after was own : ℕ) → HaveCounted old new before after → before ≡ 0 → was ≡ 0
+    → capped (after + own) ≡ faults_after 1 (capped (before + was)) → own ≡ 0 → new ≡ faults_after 1 old
+passed_counted old new before after was own h none first counted passed =
+    lent_counted old new before after 1 h none (omega (arith, none, first, counted, passed)) (omega arith)
+
+-- a fuse that is not stopped has refused no step
+pub none_refused : (refused : ℕ) → (0 < refused → IsTrue false) → refused ≡ 0
+none_refused zero passed = refl
+none_refused (suc refused) passed = absurd (let no : false ≡ true = passed (omega arith) in cc)
+
+-- a count that tells of a refused step has risen
+pub refused_risen : {A : Type 0} (r : Result A TreeFault) (old new : ℕ) → new ≡ faults_after (refused r) old → IsErrOf r step.Failed → HasRisen old new
+refused_risen (Ok x) old new is failed = absurd (let no : Ok x ≡ Err step.Failed = failed in cc)
+refused_risen {A} (Err step.Memory) old new is failed = absurd (let no : ◌≡◌ {A = Result A TreeFault} (Err step.Memory) (Err step.Failed) = failed in cc)
+refused_risen (Err step.Failed) old new is failed = by (eq-or-lt_of_le (min-le_right (old + 1) last_count))
+  where
+    by : (min (old + 1) last_count ≡ last_count) ⊎ (min (old + 1) last_count < last_count) → HasRisen old new
+    by (inl last) = inr (is ∙ last)
+    by (inr less) = inl (let at : new ≡ min (old + 1) last_count = is in omega (arith, at, less))

@@ -20,8 +20,8 @@ one_name a b c p q = subst (λ x. c ≡ x) p q
 
 -- so many faults more, and then so many
 faults_on : (more k n : ℕ) → faults_after more (faults_after k n) ≡ faults_after (more + k) n
-faults_on zero k n = refl
-faults_on (suc more) k n = ap fault_after (faults_on more k n)
+faults_on zero k n = ap (λ m. faults_after m n) (let same : k ≡ 0 + k = omega arith in same)
+faults_on (suc more) k n = ap fault_after (faults_on more k n) ∙ ap (λ m. faults_after m n) (let same : suc (more + k) ≡ suc more + k = omega arith in same)
 
 -- over no call, and over one run of calls after another
 pub counted_none : (old before : ℕ) → HaveCounted old old before before

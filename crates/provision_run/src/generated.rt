@@ -76,7 +76,8 @@ fn report_on(alloc: Global, tree: &MemTree) -> Result<Report, AllocError>
     let words = WordList::new(alloc);
     let mut messages = Messages::new(alloc);
     let read = read_configuration(alloc, tree, &words, &facts, &mut messages)?;
-    report(alloc, &LineList::of(read.lines))
+    let lines = LineList::of(read.lines);
+    report(alloc, &lines)
 }
 
 /// The options of `systemd-tmpfiles --create`.

@@ -1,6 +1,6 @@
 use Rattle.provision_run.specs.OverTree.{HasRun}
 use Rattle.provision_run.specs.Words.{moment_of}
-use Rattle.std.proofs.Common.{subst, ◌≡◌, ℕ}
+use Rattle.std.proofs.Common.{subst, ℕ}
 use Rattle.provision_run.proofs.AnswerLaws.{answered}
 use Rattle.provision_run.proofs.answer.run_over.Goals as goal
 

@@ -1,5 +1,4 @@
 use Rattle.std.proofs.Common.{◌++◌, codes, refl}
-use Rattle.provision_run.specs.Explained.{act_word}
 use Rattle.pv_path.specs.Printing.{printed_path}
 use Rattle.pv_text.proofs.Characters.{one_line-append, one_line-printed_path}
 use Rattle.provision_run.proofs.explaining.act_text.Goals as goal

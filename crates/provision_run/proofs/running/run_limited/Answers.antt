@@ -1,11 +1,12 @@
-use Rattle.std.proofs.Common.{rules, ap, subst, ◌∙◌, ◌≡◌, ◌+◌, ◌-◌, ◌≤◌, [], Err, ℕ, List, drop, length}
-use Rattle.pv_steps.specs.Acting.{refused}
+use Rattle.std.proofs.Common.{rules, ap, subst, ◌∙◌, ◌≡◌, ◌+◌, ◌-◌, ◌≤◌, [], Err, None, ℕ, List, drop, length}
+use Rattle.pv_steps.specs.Counting.{refused, faults_after}
 use Rattle.provision_run.specs.OverTree.{HasFailed, HasRun, IsStopped}
 use Rattle.provision_run.specs.declared.ending.RunEnd.{RunEnd}
 use Rattle.provision_run.specs.Tasks.{task_of}
 use Rattle.provision_run.specs.Whole.{HasSaidBy, HasSaidPartBy, HasGoneBy, run_work}
-use Rattle.provision_run.proofs.AnswerLaws.{burnt_stopped, failed_run, limited, stopped_run, whole_run}
+use Rattle.provision_run.proofs.AnswerLaws.{burnt_stopped, failed_run, limited, none_refused, passed_counted, stopped_run, unlimited, whole_run}
 use Rattle.provision_run.proofs.running.run_limited.Goals as goal
+use Rattle.provision_run.proofs.running.run_limited.Goals.{in_default-via-in-Some+else-stopped, in_default-via-in-None-1}
 
 pub returns-in-Ok-clause-run : goal.returns-in-Ok-clause-run
 returns-in-Ok-clause-run g c =
@@ -53,4 +54,19 @@ returns-in_default-clause-failed g c = λ _.
     (g.T.Tree.steps c.new-fused.result.inner.tree.now) (g.T.Tree.steps c.run_on_tree.new.tree.inner.tree.now) start c.in-Err-Failed.ensures.acted.ran
     c.in-Err-Failed.ensures.mended c.in-Err-Failed.ensures.anew c.in-Err-Failed.ensures.framed c.in-Err-Failed.ensures.between
     c.run_on_tree.new.messages bound part said in
+    search (rules, told)
+
+pub returns-in_default-clause-counted : goal.returns-in_default-clause-counted
+returns-in_default-clause-counted g c =
+    let acted = c.in-Err-Failed.ensures.acted in
+    let passed : c.run_on_tree.new.tree.refused ≡ 0 = elim c.in_default.branch [
+      | in_default-via-in-Some+else-stopped w ↦ none_refused _ w.if-stopped.ensures.1
+      | in_default-via-in-None-1 w ↦
+          let none : c.args.options.now.stop_after ≡ None = search (rules, w) in
+          unlimited _ _ _ (rw (c.new-fused.ensures, c.new.ensures.now, c.requires.fresh, none) at acted.reaches.1)
+    ] in
+    let told : g.T.Tree.faults c.run_on_tree.new.tree.inner.tree.now ≡ faults_after 1 (g.T.Tree.faults c.new-fused.result.inner.tree.now) =
+    passed_counted _ _ _ c.run_on_tree.new.tree.inner.failed _ c.run_on_tree.new.tree.refused acted.reaches.0.1.1
+    (ap (λ f. f.inner.failed) c.new-fused.ensures ∙ c.new.ensures.none) (ap (λ f. f.refused) c.new-fused.ensures) (rw c.in-Err-Failed.field-0-is at acted.counted)
+    passed in
     search (rules, told)
