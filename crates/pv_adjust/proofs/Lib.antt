@@ -8,3 +8,4 @@ pub mod ReachedLaws
 pub mod AskedSets
 pub mod TouchLaws
 pub mod NamedLaws
+pub mod WearingLaws

@@ -286,11 +286,15 @@ reached_with touching path t present paths all are longer q = longer q ∙ by (s
         ∙ plain (is_prefix path q) touching.deep (has_staging q) (is_some (places t q))
         ∙ sym (ap {B = ℕ} (λ b. cond b 1 0) (λ j. (e j || touching.deep && is_prefix path q && not (has_staging q)) && is_some (places t q)))
 
--- and so in another order
-pub reached_sorted : (touching : Touching) (path : Path) (t : Files) → IsPresent t path → (paths more all : List Path) (copy : Path) → AreReachedBelow touching path t paths → more ≡ paths ++ copy ∷ [] → copy ≡ path → IsPermutation more all → IsReached touching path t all
-reached_sorted touching path t present paths more all copy are pushed same sorted =
-    reached_with touching path t present paths all are
-    (λ q. times-permuted more all sorted q ∙ ap (times q) (pushed ∙ ap (λ (x : Path). paths ++ x ∷ []) same) ∙ times-push q paths path)
+-- and so where the path comes first, and in another order
+pub reached_first : (touching : Touching) (path : Path) (t : Files) → IsPresent t path → (paths ordered more all : List Path) (copy : Path) → AreReachedBelow touching path t paths → IsPermutation paths ordered → more ≡ copy ∷ ordered
+    → copy ≡ path → IsPermutation more all → IsReached touching path t all
+reached_first touching path t present paths ordered more all copy are turned put same sorted =
+    reached_with touching path t present paths all are (λ q.
+    let whole : times q more ≡ cond {A = ℕ} (same_path path q) 1 0 + times q ordered = ap (times q) (put ∙ ap (λ (x : Path). x ∷ ordered) same) in
+    let old : times q ordered ≡ times q paths = times-permuted paths ordered turned q in
+    let new : times q all ≡ times q more = times-permuted more all sorted q in
+    omega (arith, new, whole, old))
 
 -- a listing without staging names
 pub unstaged : (touching : Touching) (path : Path) (t : Files) (listed paths : List Path) → touching.deep ≡ true → IsListing t path listed → paths ≡ filter (λ q. not (has_staging q)) listed → AreReachedBelow touching path t paths

@@ -4,12 +4,14 @@ use Rattle.std.specs.Prelude.{◌≡◌, ◌⊎◌, ℕ, List, take, Option, Som
 use Rattle.pv_path.specs.Names.{same_bytes}
 use Rattle.pv_path.specs.Paths.{Path, same_path}
 use Rattle.pv_steps.specs.declared.node.Kind.TheVariants.{File}
+use Rattle.pv_steps.specs.declared.node.Node.{Node}
 use Rattle.pv_steps.specs.declared.object.Object.{Object}
 use Rattle.pv_steps.specs.declared.step.Step.{Step}
 use Rattle.pv_steps.specs.declared.step.Step.TheVariants.{Write}
 use Rattle.pv_steps.specs.Objects.{with_content}
 use Rattle.pv_steps.specs.Trees.{Files, places}
 use Rattle.pv_dress.specs.declared.bare.Bare.{Bare}
+use Rattle.pv_dress.specs.declared.bare.Dress.{Dress}
 use Rattle.pv_dress.specs.declared.operation.Operation.{Operation}
 use Rattle.pv_dress.specs.Dividing.{parts}
 use Rattle.pv_dress.specs.Dressing.{Lacks, GivesDress}
@@ -33,6 +35,17 @@ pub record GivesSet (path : Path) (sets : List Operation) (t : Files) (step : St
   pub new : Bare
   pub is : run sets (bares_of (places t) path) ≡ Some new
   pub gives : GivesBytes path new.body.payload t step ⊎ GivesDress path new.dress t step
+
+-- an object has the owners and the special bits of a dress
+abbrev pub HasBase : Dress → Node → Type 0
+HasBase new node = (node.uid ≡ new.uid) × ((node.gid ≡ new.gid) × (node.special ≡ new.special))
+
+-- an object has all of a dress
+pub record Wears (new : Dress) (node : Node) : Type 0 where
+  pub base : HasBase new node
+  pub acl : node.acl ≡ new.acl
+  pub attrs : node.attrs ≡ new.attrs
+  pub letters : node.letters ≡ new.letters
 
 -- ---- bytes
 

@@ -1,21 +1,21 @@
 //! Adjusting one object.
-ghost use Rattle.std.specs.Prelude.{◌≡◌, ◌≤◌, None, IfSome, OnOk};
+ghost use Rattle.std.specs.Prelude.{◌≡◌, ◌↔◌, ◌≤◌, IsTrue, None, IfSome, OnOk};
 ghost use Rattle.pv_path.specs.Names.{same_bytes};
 ghost use Rattle.pv_steps.specs.declared.node.Kind.TheVariants.{File};
 ghost use Rattle.pv_steps.specs.Acting.{asked, Acted};
 ghost use Rattle.pv_steps.specs.Steps.{on_at};
 ghost use Rattle.pv_steps.specs.Trees.{places, IsKind, IsPresent};
-ghost use Rattle.pv_dress.specs.Dressing.{IsKeptBy};
-ghost use Rattle.pv_dress.specs.Changing.{Changing};
+ghost use Rattle.pv_dress.specs.Dressing.{CanDress, ChangedAt, Dressing, GivesDress, IsKeptBy, dressed, dressed_attrs, dressed_letters};
+ghost use Rattle.pv_dress.specs.Changing.{Changing, dressed_access};
 ghost use Rattle.pv_table.specs.Created.{change_work};
 ghost use Rattle.pv_table.specs.Effects.{become};
 ghost use Rattle.pv_adjust.specs.Sets.{AreSets};
-ghost use Rattle.pv_adjust.specs.Adjusting.{Adjusting, GivesSet, GivesWanted, holding, written};
+ghost use Rattle.pv_adjust.specs.Adjusting.{Adjusting, GivesSet, GivesWanted, HasBase, Wears, holding, written};
 
-use crate::wanted::wanted_at;
-use pv_dress::{Operation, dress};
+use crate::wanted::{node_of, wanted_at};
+use pv_dress::{Dress, Operation, dress};
 use pv_path::{Bytes, TreePath};
-use pv_steps::{Step, Tree, TreeFault, try_step};
+use pv_steps::{Node, Step, Tree, TreeFault, try_step};
 use std::alloc::Global;
 
 /// Adjusts the object at a path: its bytes, owner, mode, ACL, extended attributes and letters, in this order, each
@@ -42,7 +42,57 @@ pub fn adjust<T: Tree>(
 {
     let new = wanted_at(alloc, tree, path, sets)?;
     give_bytes(tree, path, &new.bytes, now)?;
-    dress(tree, path, &new.dress, now)
+    give_dress(tree, path, &new.dress, now)
+}
+
+/// Gives the object at a path a dress; where it has all of it, one look at it tells.
+fn give_dress<T: Tree>(
+    tree: &mut T,
+    path: &TreePath,
+    new: &Dress,
+    now: u64,
+) -> Result<(), TreeFault>
+    requires { CanDress (T.state tree.old) path.now new.now }
+    ensures acted { Acted T.Tree (Dressing path.now new.now (T.state tree.old))
+        (GivesDress path.now new.now (T.state tree.old)) 5 now tree.old tree.new result }
+    ensures ok { OnOk result
+        (ChangedAt (dressed new.now) path.now now (T.state tree.old) (T.state tree.new)) }
+    ensures few { IsKeptBy (dressed_attrs new.now) path.now (T.state tree.old)
+        → IsKeptBy (dressed_letters new.now) path.now (T.state tree.old)
+        → asked result (T.steps tree.old) (T.steps tree.new) ≤ 3 }
+    ensures two { IsKeptBy (dressed_access new.now) path.now (T.state tree.old)
+        → asked result (T.steps tree.old) (T.steps tree.new) ≤ 2 }
+    ensures idle { IsKeptBy (dressed new.now) path.now (T.state tree.old)
+        → asked result (T.steps tree.old) (T.steps tree.new) ≡ 0 }
+{
+    if wears(node_of(tree, path), new) {
+        return Ok(());
+    }
+    dress(tree, path, new, now)
+}
+
+/// Whether an object has the owners and the special bits of a dress.
+fn has_base(node: &Node, new: &Dress) -> bool
+    ensures { IsTrue result ↔ HasBase new.now node.now }
+{
+    node.uid == new.uid && node.gid == new.gid && node.special == new.special
+}
+
+/// Whether an object has all of a dress.
+fn wears(node: &Node, new: &Dress) -> bool
+    ensures { IsTrue result → Wears new.now node.now }
+{
+    if !has_base(node, new) {
+        return false;
+    }
+    let same = node.acl == new.acl;
+    if !same {
+        return false;
+    }
+    if !node.attrs.is_same(&new.attrs) {
+        return false;
+    }
+    node.letters.is_same(new.letters)
 }
 
 /// Gives the file at a path the wanted bytes, where it has others.

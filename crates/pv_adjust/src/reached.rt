@@ -57,7 +57,8 @@ fn adjust_each<T: Tree>(
     Ok(())
 }
 
-/// The paths that a line reaches from one where something stands, in byte order.
+/// The paths that a line reaches from one where something stands, in byte order. What is below is mostly in order already,
+/// backwards in a wide directory: the path itself is put before it once it is.
 fn reached_paths<T: Tree>(
     alloc: Global,
     tree: &T,
@@ -69,7 +70,8 @@ fn reached_paths<T: Tree>(
     ensures order { IfOk result (λ paths. IsSorted path_cmp paths.items) }
 {
     let mut paths = reached_below(alloc, tree, touching, path)?;
-    paths.push(path.copy()?)?;
+    paths.sort_unstable();
+    paths.insert(0, path.copy()?)?;
     paths.sort_unstable();
     Ok(paths)
 }

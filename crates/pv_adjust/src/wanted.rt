@@ -81,7 +81,7 @@ fn is_writing(operation: &Operation) -> bool
 }
 
 /// The node at a path where an object stands.
-fn node_of<'a, T: Tree>(tree: &'a T, path: &TreePath) -> &'a Node
+pub(crate) fn node_of<'a, T: Tree>(tree: &'a T, path: &TreePath) -> &'a Node
     requires { IsPresent (T.state tree.now) path.now }
     ensures node { Some result.now ≡ node_at (T.state tree.now) path.now }
     ensures tree { IsTree (T.state tree.now) }
