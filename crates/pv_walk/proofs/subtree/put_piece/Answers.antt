@@ -1,7 +1,7 @@
 use Rattle.pv_steps.proofs.ActingLaws.{Moves, no_memory, acted_none}
 use Rattle.pv_walk.specs.Pieces.{GivesPiece, PieceWay, piece_cost}
 use Rattle.pv_walk.proofs.CopyingLaws.{way_start}
-use Rattle.pv_walk.proofs.copying.put_piece.Goals as goal
+use Rattle.pv_walk.proofs.subtree.put_piece.Goals as goal
 
 pub begin-requires-clause-not_root : goal.begin-requires-clause-not_root
 begin-requires-clause-not_root g c =
@@ -13,8 +13,8 @@ begin-requires-clause-room g c =
     let can = rw c.in-Make.is at c.requires in
     rw (c.in_ok-followed_by-in-Make.ensures, c.names.ensures.value) can.1.0
 
-pub begin-requires-clause-new : goal.begin-requires-clause-new
-begin-requires-clause-new g c =
+pub begin-requires-clause-target : goal.begin-requires-clause-target
+begin-requires-clause-target g c =
     let can = rw c.in-Make.is at c.requires in
     can.1.1
 

@@ -6,7 +6,7 @@ use Rattle.pv_walk.specs.Pieces.{cost_of, made_of}
 use Rattle.pv_walk.specs.Stages.{Staging}
 use Rattle.pv_walk.proofs.CopyListing.{cost-push}
 use Rattle.pv_walk.proofs.CopyingLaws.{doing_start, doing_staged, doing_can, doing_end, one_more, next_done}
-use Rattle.pv_walk.proofs.copying.put_pieces.Goals as goal
+use Rattle.pv_walk.proofs.subtree.put_pieces.Goals as goal
 
 pub loop-piece-init : goal.loop-piece-init
 loop-piece-init g c =

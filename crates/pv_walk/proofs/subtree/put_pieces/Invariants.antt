@@ -5,7 +5,7 @@ use Rattle.pv_walk.specs.Copying.{GivesPart}
 use Rattle.pv_walk.specs.Pieces.{cost_of, made_of}
 use Rattle.pv_walk.specs.Stages.{Staging}
 use Rattle.pv_walk.proofs.CopyingLaws.{Doing}
-use Rattle.pv_walk.proofs.copying.put_pieces.Given as goal
+use Rattle.pv_walk.proofs.subtree.put_pieces.Given as goal
 
 abbrev pub invariant-loop-piece : goal.invariant-loop-piece
 invariant-loop-piece g l = record {
