@@ -1,6 +1,5 @@
 //! New objects, made at paths.
 ghost use Rattle.std.specs.Prelude.{◌≡◌, ◌≢◌, [], IfOk, OnOk};
-ghost use Rattle.std.specs.Option.{option_copied};
 ghost use Rattle.pv_path.specs.Paths.{is_prefix};
 ghost use Rattle.pv_steps.specs.declared.step.Step.TheVariants.{Write};
 ghost use Rattle.pv_steps.specs.Trees.{places};
@@ -33,25 +32,25 @@ pub fn put_held<T: Tree>(
     ensures ok { OnOk result (places (T.state tree.new)
         ≡ made now path.now (held_object new.now.what now) (places (T.state tree.old))) }
 {
-    begin(tree, path, &new.what, now)
+    begin(tree, path, new.what.copy()?, now)
 }
 
 /// Makes a new object at a path, with its content.
 pub(crate) fn begin<T: Tree>(
     tree: &mut T,
     path: &TreePath,
-    what: &NewKind,
+    what: NewKind,
     now: u64,
 ) -> Result<(), TreeFault>
     requires not_root { path.now ≢ [] }
     requires room { HasRoom (places (T.state tree.old)) path.now }
-    requires target { HasTarget what.now }
-    ensures acted { Acted T.Tree (Beginning path.now what.now (T.state tree.old))
-        (BeginsNew path.now what.now) 2 now tree.old tree.new result }
+    requires target { HasTarget what }
+    ensures acted { Acted T.Tree (Beginning path.now what (T.state tree.old))
+        (BeginsNew path.now what) 2 now tree.old tree.new result }
     ensures ok { OnOk result (places (T.state tree.new)
-        ≡ made now path.now (held_object what.now now) (places (T.state tree.old))) }
+        ≡ made now path.now (held_object what now) (places (T.state tree.old))) }
 {
-    try_step(tree, make_step(path, what)?, now)?;
+    try_step(tree, make_step(path, &what)?, now)?;
     match content_of(what) {
         Some(content) => try_step(tree, write_step(path, content)?, now),
         None => Ok(()),
@@ -85,24 +84,27 @@ fn make_step(path: &TreePath, what: &NewKind) -> Result<Step, AllocError>
 }
 
 /// The step that writes the content of a file.
-fn write_step(path: &TreePath, content: &Bytes) -> Result<Step, AllocError>
-    ensures { IfOk result (λ step. step ≡ Write path.now content.now) }
+fn write_step(path: &TreePath, content: Bytes) -> Result<Step, AllocError>
+    ensures { IfOk result (λ step. step ≡ Write path.now content) }
 {
     Ok(Step::Write {
         path: path.copy()?,
-        content: content.copy()?,
+        content,
     })
 }
 
 /// The content that a new file is to have, if it is to have any.
-fn content_of(what: &NewKind) -> Option<&Bytes>
-    ensures { option_copied result ≡ content_of what.now }
+fn content_of(what: NewKind) -> Option<Bytes>
+    ensures { result ≡ content_of what }
 {
     match what {
-        NewKind::File(content) => match content.as_slice() {
-            [] => None,
-            [_, ..] => Some(content),
-        },
+        NewKind::File(content) => {
+            if content.is_empty() {
+                None
+            } else {
+                Some(content)
+            }
+        }
         NewKind::Directory => None,
         NewKind::Link(_) => None,
         NewKind::Fifo => None,

@@ -97,13 +97,13 @@ fn put_pieces<T: Tree>(
 {
     let mut left = pieces;
     while let Some(piece) = left.pop() {
-        put_owned(tree, stage, piece, now)?;
+        put_piece(tree, stage, piece, now)?;
     }
     Ok(())
 }
 
-/// Does one piece of work, which is not needed any more then.
-fn put_owned<T: Tree>(
+/// Does one piece of work.
+fn put_piece<T: Tree>(
     tree: &mut T,
     stage: &TreePath,
     piece: Piece,
@@ -116,25 +116,8 @@ fn put_owned<T: Tree>(
     ensures ok { OnOk result
         (IsDone now stage.now piece (T.state tree.old) (T.state tree.new)) }
 {
-    put_piece(tree, stage, &piece, now)
-}
-
-/// Does one piece of work.
-fn put_piece<T: Tree>(
-    tree: &mut T,
-    stage: &TreePath,
-    piece: &Piece,
-    now: u64,
-) -> Result<(), TreeFault>
-    requires { CanDo stage.now piece.now (T.state tree.old) }
-    ensures acted { Acted T.Tree (PieceWay stage.now piece.now (T.state tree.old))
-        (GivesPiece stage.now piece.now (T.state tree.old)) (piece_cost piece.now)
-        now tree.old tree.new result }
-    ensures ok { OnOk result
-        (IsDone now stage.now piece.now (T.state tree.old) (T.state tree.new)) }
-{
     match piece {
         Piece::Make(rest, what) => begin(tree, &stage.followed_by(rest.names())?, what, now),
-        Piece::Give(rest, new) => dress(tree, &stage.followed_by(rest.names())?, new, now),
+        Piece::Give(rest, new) => dress(tree, &stage.followed_by(rest.names())?, &new, now),
     }
 }

@@ -27,15 +27,15 @@ pub returns-in_err-followed_by-in-Make-clause-acted : goal.returns-in_err-follow
 returns-in_err-followed_by-in-Make-clause-acted g c =
     let moves : Moves g.T.Tree = record { stays = g.met.T.Tree.reaches_self; goes_on = g.met.T.Tree.reaches_on; never_falls = g.met.T.Tree.never_falls } in
     let t = g.T.Tree.state c.args.tree.now in
-    acted_none g.T.Tree moves (PieceWay c.args.stage.now c.args.piece.now t) (GivesPiece c.args.stage.now c.args.piece.now t) (piece_cost c.args.piece.now) c.args.now c.args.tree.now
-    c.from_residual.result (no_memory c.from_residual.result c.from_residual.ensures.1) (way_start c.args.stage.now c.args.piece.now t c.requires)
+    acted_none g.T.Tree moves (PieceWay c.args.stage.now c.args.piece t) (GivesPiece c.args.stage.now c.args.piece t) (piece_cost c.args.piece) c.args.now c.args.tree.now
+    c.from_residual.result (no_memory c.from_residual.result c.from_residual.ensures.1) (way_start c.args.stage.now c.args.piece t c.requires)
 
 pub returns-in_err-followed_by-in-Give-clause-acted : goal.returns-in_err-followed_by-in-Give-clause-acted
 returns-in_err-followed_by-in-Give-clause-acted g c =
     let moves : Moves g.T.Tree = record { stays = g.met.T.Tree.reaches_self; goes_on = g.met.T.Tree.reaches_on; never_falls = g.met.T.Tree.never_falls } in
     let t = g.T.Tree.state c.args.tree.now in
-    acted_none g.T.Tree moves (PieceWay c.args.stage.now c.args.piece.now t) (GivesPiece c.args.stage.now c.args.piece.now t) (piece_cost c.args.piece.now) c.args.now c.args.tree.now
-    c.from_residual-in_err-followed_by-in-Give.result (no_memory c.from_residual-in_err-followed_by-in-Give.result c.from_residual-in_err-followed_by-in-Give.ensures.1) (way_start c.args.stage.now c.args.piece.now t c.requires)
+    acted_none g.T.Tree moves (PieceWay c.args.stage.now c.args.piece t) (GivesPiece c.args.stage.now c.args.piece t) (piece_cost c.args.piece) c.args.now c.args.tree.now
+    c.from_residual-in_err-followed_by-in-Give.result (no_memory c.from_residual-in_err-followed_by-in-Give.result c.from_residual-in_err-followed_by-in-Give.ensures.1) (way_start c.args.stage.now c.args.piece t c.requires)
 
 pub returns-in_ok-followed_by-in-Make-clause-acted : goal.returns-in_ok-followed_by-in-Make-clause-acted
 returns-in_ok-followed_by-in-Make-clause-acted g c =

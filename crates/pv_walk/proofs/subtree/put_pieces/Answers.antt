@@ -22,8 +22,8 @@ loop-piece-init g c =
           (doing_staged c.args.now c.args.stage.now c.requires.not_root t c.requires.parent pieces pieces t here);
     }
 
-pub put_owned-requires : goal.put_owned-requires
-put_owned-requires g c =
+pub put_piece-requires : goal.put_piece-requires
+put_piece-requires g c =
     doing_can c.args.now c.args.stage.now c.requires.not_root (g.T.Tree.state c.args.tree.now) c.requires.parent c.args.pieces.items c.pop.new.self.items (g.T.Tree.state c.loop-piece.tree) c.in-Some.piece
     (rw c.in-Some.ensures.items at c.loop-piece.invariant.here)
 
@@ -31,18 +31,18 @@ pub loop-piece-preserved : goal.loop-piece-preserved
 loop-piece-preserved g c =
     let moves : Moves g.T.Tree = record { stays = g.met.T.Tree.reaches_self; goes_on = g.met.T.Tree.reaches_on; never_falls = g.met.T.Tree.never_falls } in
     let next =
-    next_done g.T.Tree moves c.args.now c.args.stage.now c.requires.not_root c.args.pieces.items c.loop-piece.left.items c.pop.new.self.items c.in-Some.piece c.in-Some.ensures.items c.args.tree.now c.loop-piece.tree c.put_owned.new.tree
-    c.requires.parent c.loop-piece.invariant.here c.loop-piece.invariant.room c.loop-piece.invariant.acted c.in_ok-put_owned.ensures.ok c.in_ok-put_owned.ensures.acted in
+    next_done g.T.Tree moves c.args.now c.args.stage.now c.requires.not_root c.args.pieces.items c.loop-piece.left.items c.pop.new.self.items c.in-Some.piece c.in-Some.ensures.items c.args.tree.now c.loop-piece.tree c.put_piece.new.tree
+    c.requires.parent c.loop-piece.invariant.here c.loop-piece.invariant.room c.loop-piece.invariant.acted c.in_ok-put_piece.ensures.ok c.in_ok-put_piece.ensures.acted in
     record { here = next.0; room = next.1.0; acted = next.1.1 }
 
-pub returns-in_err-put_owned-clause-acted : goal.returns-in_err-put_owned-clause-acted
-returns-in_err-put_owned-clause-acted g c =
+pub returns-in_err-put_piece-clause-acted : goal.returns-in_err-put_piece-clause-acted
+returns-in_err-put_piece-clause-acted g c =
     let moves : Moves g.T.Tree = record { stays = g.met.T.Tree.reaches_self; goes_on = g.met.T.Tree.reaches_on; never_falls = g.met.T.Tree.never_falls } in
     let pieces = c.args.pieces.items in
     let one = cost-push c.pop.new.self.items c.in-Some.piece c.in-Some.ensures.items in
-    acted_passed g.T.Tree c.put_owned.result c.from_residual.result c.in_err-put_owned.was c.from_residual.ensures.1
+    acted_passed g.T.Tree c.put_piece.result c.from_residual.result c.in_err-put_piece.was c.from_residual.ensures.1
     (one_more g.T.Tree moves c.args.stage.now c.requires.not_root pieces c.pop.new.self.items c.in-Some.piece c.requires.parent (rw c.in-Some.ensures.items at c.loop-piece.invariant.here)
-    (cost_of pieces) (omega (arith, c.loop-piece.invariant.room, one)) c.loop-piece.invariant.acted c.put_owned.ensures.acted)
+    (cost_of pieces) (omega (arith, c.loop-piece.invariant.room, one)) c.loop-piece.invariant.acted c.put_piece.ensures.acted)
 
 pub returns-clause-ok : goal.returns-clause-ok
 returns-clause-ok g c =
