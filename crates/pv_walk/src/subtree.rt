@@ -1,11 +1,11 @@
 //! Subtrees of new objects, put at paths: made under a staging name, they come to their path in one step.
-ghost use Rattle.std.specs.Prelude.{◌≡◌, ◌≢◌, ◌+◌, [], ◌++◌, true, is_some, OnOk};
+ghost use Rattle.std.specs.Prelude.{◌≡◌, ◌≢◌, ◌+◌, [], true, is_some, OnOk};
 ghost use Rattle.pv_dress.specs.Edits.{count_at};
-ghost use Rattle.pv_path.specs.Paths.{Path, parent_of, staging_of};
+ghost use Rattle.pv_path.specs.Paths.{parent_of, staging_of};
 ghost use Rattle.pv_steps.specs.declared.node.Kind.TheVariants.{Directory};
 ghost use Rattle.pv_steps.specs.Acting.{Acted};
 ghost use Rattle.pv_steps.specs.Trees.{places, IsKind, IsAbsentIn};
-ghost use Rattle.pv_walk.specs.Copying.{with_subtree, IsStagingOf, GivesPart, IsCopyStep};
+ghost use Rattle.pv_walk.specs.Copying.{with_subtree, IsStagingOf, IsCopyStep};
 ghost use Rattle.pv_walk.specs.Replacing.{Replacing};
 ghost use Rattle.pv_walk.specs.Pieces.{CanDo, IsDone, GivesPiece, PieceWay, piece_cost, cost_of, IsPlan, made_of};
 ghost use Rattle.pv_walk.specs.Stages.{InStages, Staging};
@@ -51,7 +51,7 @@ pub(crate) fn put_subtree<T: Tree>(
     publish(alloc, tree, path, now)
 }
 
-/// Makes it under the staging name. After a fault some of the steps may be done; nothing but the staging name and what is
+/// Makes it under the staging name, from the last piece of the list on. After a fault some of the steps may be done; nothing but the staging name and what is
 /// below it has changed.
 pub(crate) fn stage_subtree<T: Tree>(
     alloc: Global,
@@ -74,30 +74,9 @@ pub(crate) fn stage_subtree<T: Tree>(
     // In a tree nothing stands below an absent path.
     let _free = tree.look(path);
     let stage = staging(alloc, path)?;
-    put_pieces(tree, &stage, pieces, now)
-}
-
-/// Does pieces of work at a path and below it, from the last one of the list on.
-fn put_pieces<T: Tree>(
-    tree: &mut T,
-    stage: &TreePath,
-    pieces: Vec<Piece>,
-    now: u64,
-) -> Result<(), TreeFault>
-    requires not_root { stage.now ≢ [] }
-    requires parent { IsKind Directory (T.state tree.old) (parent_of stage.now) }
-    requires free { (rest : Path) → IsAbsentIn (places (T.state tree.old)) (stage.now ++ rest) }
-    requires plan { IsPlan pieces.items }
-    ensures acted { Acted T.Tree (Staging stage.now (made_of pieces.items) (T.state tree.old))
-        (GivesPart stage.now (made_of pieces.items)) (cost_of pieces.items)
-        now tree.old tree.new result }
-    ensures ok { OnOk result (is_some (made_of pieces.items []) ≡ true
-        → places (T.state tree.new)
-        ≡ with_subtree now stage.now (made_of pieces.items) (places (T.state tree.old))) }
-{
     let mut left = pieces;
     while let Some(piece) = left.pop() {
-        put_piece(tree, stage, piece, now)?;
+        put_piece(tree, &stage, piece, now)?;
     }
     Ok(())
 }
