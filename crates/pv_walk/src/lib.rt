@@ -18,7 +18,7 @@ pub use listing::topped;
 pub use new_file::{NewFile, NewKind, new_bare};
 pub use preparing::prepare;
 pub use publishing::publish;
-pub use put::{put_new, put_over, stage_file};
+pub use put::{put_over, stage_file};
 pub use pv_steps::Why;
 pub use remove::{below, removal, remove_all, remove_below};
 pub use stage::put_held;

@@ -9,7 +9,7 @@ ghost use Rattle.pv_steps.specs.Acting.{Acted};
 ghost use Rattle.pv_walk.specs.declared.listing.Piece.TheVariants.{Make, Give};
 ghost use Rattle.pv_walk.specs.Making.{new_dress};
 ghost use Rattle.pv_walk.specs.Staging.{IsNewFile, GivesNew, new_object, can_stage, most_staged, most_new};
-ghost use Rattle.pv_walk.specs.Putting.{Putting, IsPutStep, put_over};
+ghost use Rattle.pv_walk.specs.Putting.{IsPutStep, put_over};
 ghost use Rattle.pv_walk.specs.Replacing.{Replacing, new_subtree};
 ghost use Rattle.pv_walk.specs.Stages.{InStages, Staging};
 
@@ -19,34 +19,6 @@ use crate::subtree::{put_subtree, stage_subtree};
 use pv_path::TreePath;
 use pv_steps::{Tree, TreeFault};
 use std::alloc::{AllocError, Global};
-
-/// Puts a new object at an absent path in a directory.
-pub fn put_new<T: Tree>(
-    alloc: Global,
-    tree: &mut T,
-    path: &TreePath,
-    new: &NewFile,
-    now: u64,
-) -> Result<(), TreeFault>
-    requires not_root { path.now ≢ [] }
-    requires short { can_stage path.now ≡ true }
-    requires unstaged { has_staging path.now ≡ false }
-    requires parent { IsKind Directory (T.state tree.old) (parent_of path.now) }
-    requires absent { IsAbsentIn (places (T.state tree.old)) path.now }
-    requires free { IsAbsentIn (places (T.state tree.old)) (staging_of path.now) }
-    requires new { IsNewFile new.now }
-    ensures ok { OnOk result (places (T.state tree.new)
-        ≡ made now path.now (new_object new.now now) (places (T.state tree.old))) }
-    ensures acted { Acted T.Tree (Putting path.now new.now (T.state tree.old))
-        (IsPutStep path.now new.now) most_new now tree.old tree.new result }
-    // Under the staging name nothing stands but stages of the new object.
-    ensures stages { Acted T.Tree (InStages (staging_of path.now) (new_subtree new.now))
-        (IsPutStep path.now new.now) most_new now tree.old tree.new result }
-{
-    // In a tree nothing stands below an absent path.
-    let _absent = tree.look(path);
-    put_over(alloc, tree, path, new, now)
-}
 
 /// Puts a new object at a path in a directory, in the place of all that stands at and below the path: it is made under
 /// its staging name, gets all that it is to have there, and comes to its path in one step, once what stands there has
