@@ -3,33 +3,28 @@ use Rattle.std.specs.Prelude.{◌≡◌, ◌≢◌, ℕ, ◌≤◌, Bool, true, 
 use Rattle.std.proofs.Common.{refl, sym, ap, subst, ◌∙◌, inl, inr, ◌⊎◌, append_assoc, arith, length-append}
 use Rattle.std.proofs.lemmas.List.{append-nil}
 use Rattle.std.proofs.lemmas.Bool.{cases_Bool}
-use Rattle.pv_acl.specs.declared.part.Acl.{Acl}
-use Rattle.pv_acl.specs.Parts.{mode_of}
 use Rattle.pv_dress.specs.declared.bare.Bare.{Bare}
 use Rattle.pv_dress.specs.declared.bare.Body.{Body}
 use Rattle.pv_dress.specs.declared.bare.Dress.{Dress}
-use Rattle.pv_dress.specs.Dressing.{IsDress, dress_mode, CanDress, ChangedAt, IsChanged, GivesDress, dressed}
+use Rattle.pv_dress.specs.Dressing.{IsDress, CanDress, ChangedAt, IsChanged, GivesDress, dressed}
 use Rattle.pv_dress.specs.Edits.{SameOutside}
 use Rattle.pv_dress.specs.Nodes.{bare_of, bares_of}
 use Rattle.pv_dress.proofs.EditLaws.{path_cases, made-here, put_at-here, put_at-else, bares-touched}
 use Rattle.pv_path.specs.Paths.{Path, is_prefix, same_path, parent_of, rest_under}
-use Rattle.pv_path.proofs.PathLaws.{rest_under-append, rest_under-None, prefix_parts, length-parent_of, parent_of-differs, is_prefix-append, path_ends, parent_of-push, same_path-refl}
-use Rattle.pv_steps.specs.declared.node.Kind.{Kind}
-use Rattle.pv_steps.specs.declared.node.Kind.TheVariants.{Directory, File, Link, Fifo, CharDevice, BlockDevice}
+use Rattle.pv_path.proofs.PathLaws.{rest_under-append, rest_under-None, prefix_parts, length-parent_of, is_prefix-append, path_ends, parent_of-push, same_path-refl}
+use Rattle.pv_steps.specs.declared.node.Kind.TheVariants.{Directory}
 use Rattle.pv_steps.specs.declared.step.Step.{Step}
-use Rattle.pv_steps.specs.declared.step.Step.TheVariants.{MakeDir, MakeFile, MakeFifo, MakeDevice, MakeLink, Write, SetMode, SetOwner, SetAcl, SetAttrs, SetLetters, SetStamps, Rename, Unlink, RemoveDir}
-use Rattle.pv_steps.specs.Objects.{bare, changed, modified, AclFits}
+use Rattle.pv_steps.specs.Objects.{bare, changed, modified}
 use Rattle.pv_steps.specs.Same.{bares}
 use Rattle.pv_steps.specs.Steps.{HasRoom, made, touched}
 use Rattle.pv_steps.specs.Trees.{Files, Places, places, kind_of, IsKindIn, IsAbsentIn}
 use Rattle.pv_walk.specs.declared.listing.Piece.TheVariants.{Make, Give}
-use Rattle.pv_walk.specs.declared.new_file.NewFile.{NewFile}
 use Rattle.pv_walk.specs.declared.new_file.NewKind.{NewKind}
 use Rattle.pv_walk.specs.declared.new_file.NewKind.TheVariants as new
-use Rattle.pv_walk.specs.Copying.{object_of, standing, with_subtree, GivesBare}
-use Rattle.pv_walk.specs.Making.{held_object}
-use Rattle.pv_walk.specs.Pieces.{what_of, file_of, plain, IsWhole, after_piece, HasPlace}
-use Rattle.pv_walk.specs.Staging.{GivesNew, new_kind, new_mode}
+use Rattle.pv_walk.specs.Copying.{object_of, standing, with_subtree, GivesBare, IsNeeded}
+use Rattle.pv_walk.specs.Making.{make_step, held_object, BeginsNew}
+use Rattle.pv_walk.specs.Pieces.{what_of, plain, IsWhole, after_piece, HasPlace}
+use Rattle.pv_walk.specs.Staging.{new_kind}
 use Rattle.pv_walk.proofs.RemovalLaws.{no_same}
 use Rattle.pv_path.proofs.Tests.{true_not_false}
 
@@ -77,6 +72,25 @@ bares_built now stage s t u b r = ap (option_map bare_of) (b.inside r) ∙ again
     again None = refl
     again (Some x) = refl
 
+-- what a subtree leaves, at and below its path and elsewhere
+module _ (now : ℕ) (stage : Path) (nonempty : stage ≢ []) (t : Files) where
+  parent_else : (r : Path) → same_path (parent_of stage) (stage ++ r) ≡ false
+  parent_else r = no_same (parent_of stage) (stage ++ r) (λ e.
+      let l = ap length e in
+      omega (arith, l, length-append stage r, length-parent_of stage, some stage nonempty))
+    where
+      some : (p : Path) → p ≢ [] → 1 ≤ length p
+      some [] h = absurd (h refl)
+      some (n ∷ p) h = omega arith
+
+  pub with_inside : (s : Path → Option Bare) (r : Path) → with_subtree now stage s (places t) (stage ++ r) ≡ option_map (object_of now) (s r)
+  with_inside s r =
+      ap (λ b. cond b (option_map (modified now) (standing now s (places t (stage ++ r)) (rest_under stage (stage ++ r)))) (standing now s (places t (stage ++ r)) (rest_under stage (stage ++ r)))) (parent_else r)
+      ∙ ap (standing now s (places t (stage ++ r))) (rest_under-append stage r)
+
+  pub with_outside : (s : Path → Option Bare) (q : Path) → is_prefix stage q ≡ false → with_subtree now stage s (places t) q ≡ touched now stage (places t) q
+  with_outside s q h = ap (λ v. cond (same_path (parent_of stage) q) (option_map (modified now) v) v) (ap (standing now s (places t q)) (rest_under-None stage q h))
+
 module _ (now : ℕ) (stage : Path) (nonempty : stage ≢ []) (t : Files) (parent : IsKindIn Directory (places t) (parent_of stage)) where
   -- nothing is made yet
   pub built_start : ((r : Path) → IsAbsentIn (places t) (stage ++ r)) → IsBuilt now stage (λ q. None) t t
@@ -99,27 +113,6 @@ module _ (now : ℕ) (stage : Path) (nonempty : stage ≢ []) (t : Files) (paren
 
   -- ---- the end
 
-  -- the directory of the path lies outside
-  parent_outside : same_path (parent_of stage) stage ≡ false
-  parent_outside = no_same (parent_of stage) stage (parent_of-differs stage nonempty)
-
-  parent_else : (r : Path) → same_path (parent_of stage) (stage ++ r) ≡ false
-  parent_else r = no_same (parent_of stage) (stage ++ r) (λ e.
-      let l = ap length e in
-      omega (arith, l, length-append stage r, length-parent_of stage, some stage nonempty))
-    where
-      some : (p : Path) → p ≢ [] → 1 ≤ length p
-      some [] h = absurd (h refl)
-      some (n ∷ p) h = omega arith
-
-  pub with_inside : (s : Path → Option Bare) (r : Path) → with_subtree now stage s (places t) (stage ++ r) ≡ option_map (object_of now) (s r)
-  with_inside s r =
-      ap (λ b. cond b (option_map (modified now) (standing now s (places t (stage ++ r)) (rest_under stage (stage ++ r)))) (standing now s (places t (stage ++ r)) (rest_under stage (stage ++ r)))) (parent_else r)
-      ∙ ap (standing now s (places t (stage ++ r))) (rest_under-append stage r)
-
-  pub with_outside : (s : Path → Option Bare) (q : Path) → is_prefix stage q ≡ false → with_subtree now stage s (places t) q ≡ touched now stage (places t) q
-  with_outside s q h = ap (λ v. cond (same_path (parent_of stage) q) (option_map (modified now) v) v) (ap (standing now s (places t q)) (rest_under-None stage q h))
-
   pub built_end : (s : Path → Option Bare) (u : Files) → IsBuilt now stage s t u → is_some (s []) ≡ true → places u ≡ with_subtree now stage s (places t)
   built_end s u b top = λ i q. at q (cases_Bool (is_prefix stage q)) i
     where
@@ -130,8 +123,8 @@ module _ (now : ℕ) (stage : Path) (nonempty : stage ≢ []) (t : Files) (paren
       at : (q : Path) → (is_prefix stage q ≡ true) ⊎ (is_prefix stage q ≡ false) → places u q ≡ with_subtree now stage s (places t) q
       at q (inl h) =
           let parts = prefix_parts stage q h in
-          ap (places u) parts.1 ∙ b.inside parts.0 ∙ sym (with_inside s parts.0) ∙ sym (ap (with_subtree now stage s (places t)) parts.1)
-      at q (inr h) = touched_else b.outside q h ∙ sym (with_outside s q h)
+          ap (places u) parts.1 ∙ b.inside parts.0 ∙ sym (with_inside now stage nonempty t s parts.0) ∙ sym (ap (with_subtree now stage s (places t)) parts.1)
+      at q (inr h) = touched_else b.outside q h ∙ sym (with_outside now stage nonempty t s q h)
 
   -- ---- one place of the copy
 
@@ -180,25 +173,25 @@ module _ (now : ℕ) (stage : Path) (nonempty : stage ≢ []) (t : Files) (paren
           by (inl e) = ap (λ (p : Path). kind_of (places u (parent_of p))) (top_here e.0) ∙ ap (λ (x : Places). kind_of (x (parent_of stage))) e.1 ∙ parent
           by (inr w) = ap (λ (p : Path). kind_of (places u p)) (above_here w) ∙ ap kind_of (b.inside w.above) ∙ kind_object now (s w.above) ∙ w.dir
 
-      module _ (file : NewFile) (v : Files) (is : places v ≡ made now (stage ++ rest) (held_object file.what now) (places u)) where
+      module _ (what : NewKind) (v : Files) (is : places v ≡ made now (stage ++ rest) (held_object what now) (places u)) where
         at_else : (q : Path) → same_path (stage ++ rest) q ≡ false → places v q ≡ cond (same_path (parent_of (stage ++ rest)) q) (option_map (modified now) (places u q)) (places u q)
-        at_else q d = ap (λ (x : Places). x q) is ∙ ap (λ o. cond (same_path (parent_of (stage ++ rest)) q) (option_map (modified now) o) o) (put_at-else (stage ++ rest) q (Some (held_object file.what now)) (places u) d)
+        at_else q d = ap (λ (x : Places). x q) is ∙ ap (λ o. cond (same_path (parent_of (stage ++ rest)) q) (option_map (modified now) o) o) (put_at-else (stage ++ rest) q (Some (held_object what now)) (places u) d)
 
-        made_inside : (r : Path) → (rest ≡ r) ⊎ (same_path rest r ≡ false) → places v (stage ++ r) ≡ option_map (object_of now) (after_piece (Make rest file) s r)
-        made_inside r (inl e) = subst (λ (p : Path). places v (stage ++ p) ≡ option_map (object_of now) (after_piece (Make rest file) s p)) e
-            (ap (λ (x : Places). x (stage ++ rest)) is ∙ made-here now (stage ++ rest) (places u) (not_empty rest) (held_object file.what now)
-            ∙ ap (λ c. option_map (object_of now) (cond c (Some (bare_of (held_object file.what 0))) (s rest))) (sym (same_path-refl rest)))
+        made_inside : (r : Path) → (rest ≡ r) ⊎ (same_path rest r ≡ false) → places v (stage ++ r) ≡ option_map (object_of now) (after_piece (Make rest what) s r)
+        made_inside r (inl e) = subst (λ (p : Path). places v (stage ++ p) ≡ option_map (object_of now) (after_piece (Make rest what) s p)) e
+            (ap (λ (x : Places). x (stage ++ rest)) is ∙ made-here now (stage ++ rest) (places u) (not_empty rest) (held_object what now)
+            ∙ ap (λ c. option_map (object_of now) (cond c (Some (bare_of (held_object what 0))) (s rest))) (sym (same_path-refl rest)))
         made_inside r (inr d) =
             at_else (stage ++ r) (here_else r d)
             ∙ ap (λ o. cond (same_path (parent_of (stage ++ rest)) (stage ++ r)) (option_map (modified now) o) o) (b.inside r)
             ∙ settled now (same_path (parent_of (stage ++ rest)) (stage ++ r)) (s r)
-            ∙ ap (λ c. option_map (object_of now) (cond c (Some (bare_of (held_object file.what 0))) (s r))) (sym d)
+            ∙ ap (λ c. option_map (object_of now) (cond c (Some (bare_of (held_object what 0))) (s r))) (sym d)
 
-        made_top : ((rest ≡ []) × (places u ≡ places t)) ⊎ IsWithin now stage s t u rest → is_some (after_piece (Make rest file) s []) ≡ true
-        made_top (inl e) = ap (λ (p : Path). is_some (cond (same_path p []) (Some (bare_of (held_object file.what 0))) (s []))) e.0
+        made_top : ((rest ≡ []) × (places u ≡ places t)) ⊎ IsWithin now stage s t u rest → is_some (after_piece (Make rest what) s []) ≡ true
+        made_top (inl e) = ap (λ (p : Path). is_some (cond (same_path p []) (Some (bare_of (held_object what 0))) (s []))) e.0
         made_top (inr w) = still (same_path rest []) w.top
           where
-            still : (c : Bool) → is_some (s []) ≡ true → is_some (cond c (Some (bare_of (held_object file.what 0))) (s [])) ≡ true
+            still : (c : Bool) → is_some (s []) ≡ true → is_some (cond c (Some (bare_of (held_object what 0))) (s [])) ≡ true
             still true h = refl
             still false h = h
 
@@ -211,7 +204,7 @@ module _ (now : ℕ) (stage : Path) (nonempty : stage ≢ []) (t : Files) (paren
             no_same (parent_of (stage ++ rest)) q (λ e. true_not_false (is_prefix stage q) (ap (is_prefix stage) (sym e ∙ above_here w) ∙ is_prefix-append stage w.above) h) in
             at_else q (here_outside q h) ∙ ap (λ c. cond c (option_map (modified now) (places u q)) (places u q)) apart_q ∙ w.outside q h
 
-        pub made_built : IsBuilt now stage (after_piece (Make rest file) s) t v
+        pub made_built : IsBuilt now stage (after_piece (Make rest what) s) t v
         made_built = record { inside = λ r. made_inside r (path_cases rest r); outside = inr (made_top place_for, made_outside place_for) }
 
     -- ---- an object gets its dress
@@ -273,42 +266,26 @@ module _ (b : Bare) (whole : IsWhole b) where
   kind_is : (what : NewKind) → what_of b.body ≡ what → b.body.kind ≡ new_kind what
   kind_is what e = ap (λ (x : Body). x.kind) (body_is what e)
 
-  mode_is : new_mode (what_of b.body) (dress_mode b.dress) ≡ dress_mode b.dress
-  mode_is = by b.body.kind refl whole.dress.fits
-    where
-      by : (kind : Kind) → b.body.kind ≡ kind → AclFits kind b.dress.special b.dress.acl → new_mode (what_of b.body) (dress_mode b.dress) ≡ dress_mode b.dress
-      by Directory e f = ap (λ k. new_mode (what_of (record b.body { kind = k })) (dress_mode b.dress)) e
-      by File e f = ap (λ k. new_mode (what_of (record b.body { kind = k })) (dress_mode b.dress)) e
-      by Link e f =
-          ap (λ k. new_mode (what_of (record b.body { kind = k })) (dress_mode b.dress)) e
-          ∙ sym (ap (λ (x : ℕ). mode_of x b.dress.acl.access) f.0 ∙ ap (λ (x : Acl). mode_of 0 x.access) f.1)
-      by Fifo e f = ap (λ k. new_mode (what_of (record b.body { kind = k })) (dress_mode b.dress)) e
-      by CharDevice e f = ap (λ k. new_mode (what_of (record b.body { kind = k })) (dress_mode b.dress)) e
-      by BlockDevice e f = ap (λ k. new_mode (what_of (record b.body { kind = k })) (dress_mode b.dress)) e
-
-  pub made_gives : (path : Path) (step : Step) → GivesNew path (file_of b) step → GivesBare path b step
-  made_gives path (MakeDir at) h = (h.0, kind_is new.Directory h.1)
-  made_gives path (MakeFile at) h = (h.0, sym (ap (λ (x : Body). x.kind) whole.body) ∙ h.1)
-  made_gives path (MakeFifo at) h = (h.0, kind_is new.Fifo h.1)
-  made_gives path (MakeDevice at block major minor) h = (
-    h.0,
-    (kind_is (new.Device block major minor) h.1, (ap (λ (x : Body). x.major) (body_is (new.Device block major minor) h.1), ap (λ (x : Body). x.minor) (body_is (new.Device block major minor) h.1))),
+  makes : (path : Path) (what : NewKind) → what_of b.body ≡ what → GivesBare path b (make_step path what) × IsNeeded b (make_step path what)
+  makes path new.Directory e = ((refl, kind_is new.Directory e), tt)
+  makes path (new.File content) e = ((refl, kind_is (new.File content) e), tt)
+  makes path (new.Link target) e = ((refl, (kind_is (new.Link target) e, ap (λ (x : Body). x.payload) (body_is (new.Link target) e))), tt)
+  makes path new.Fifo e = ((refl, kind_is new.Fifo e), tt)
+  makes path (new.Device block major minor) e = (
+    (refl, (kind_is (new.Device block major minor) e, (ap (λ (x : Body). x.major) (body_is (new.Device block major minor) e), ap (λ (x : Body). x.minor) (body_is (new.Device block major minor) e)))),
+    tt,
   )
-  made_gives path (MakeLink at target) h = (h.0, (kind_is (new.Link target) h.1, ap (λ (x : Body). x.payload) (body_is (new.Link target) h.1)))
-  made_gives path (Write at content) h = (h.0, (kind_is (new.File content) h.1, ap (λ (x : Body). x.payload) (body_is (new.File content) h.1)))
-  made_gives path (SetOwner at uid gid) h = h
-  made_gives path (SetMode at mode) h = (h.0, h.1 ∙ mode_is)
-  made_gives path (SetAcl at acl) h = absurd h
-  made_gives path (SetAttrs at attrs) h = absurd h
-  made_gives path (SetLetters at letters) h = absurd h
-  made_gives path (SetStamps at access modify) h = absurd h
-  made_gives path (Rename from to) h = absurd h
-  made_gives path (Unlink at) h = absurd h
-  made_gives path (RemoveDir at) h = absurd h
 
-pub dress_gives_bare : (b : Bare) (path : Path) (u : Files) (step : Step) → GivesDress path b.dress u step → GivesBare path b step
-dress_gives_bare b path u step (inl e) = subst (GivesBare path b) (sym e) (refl, (refl, refl))
-dress_gives_bare b path u step (inr (inl e)) = subst (GivesBare path b) (sym e) (refl, refl)
-dress_gives_bare b path u step (inr (inr (inl e))) = subst (GivesBare path b) (sym e.0) (refl, refl)
-dress_gives_bare b path u step (inr (inr (inr (inl e)))) = subst (GivesBare path b) (sym e.0) (refl, refl)
-dress_gives_bare b path u step (inr (inr (inr (inr e)))) = subst (GivesBare path b) (sym e.0) (refl, refl)
+  -- what begins it gives it a part of what it has
+  pub made_gives : (path : Path) (step : Step) → BeginsNew path (what_of b.body) step → GivesBare path b step × IsNeeded b step
+  made_gives path step (inl e) = subst (λ s. GivesBare path b s × IsNeeded b s) (sym e) (makes path (what_of b.body) refl)
+  made_gives path step (inr (content, (e, is))) = subst (λ s. GivesBare path b s × IsNeeded b s) (sym e)
+      ((refl, (kind_is (new.File content) is, ap (λ (x : Body). x.payload) (body_is (new.File content) is))), tt)
+
+-- and so does its dress, once it has all it holds
+pub dress_gives_bare : (b : Bare) (path : Path) (now : ℕ) (u : Files) → places u path ≡ Some (object_of now (plain b)) → (step : Step) → GivesDress path b.dress u step → GivesBare path b step × IsNeeded b step
+dress_gives_bare b path now u there step (inl e) = subst (λ s. GivesBare path b s × IsNeeded b s) (sym e) ((refl, (refl, refl)), tt)
+dress_gives_bare b path now u there step (inr (inl e)) = subst (λ s. GivesBare path b s × IsNeeded b s) (sym e) ((refl, refl), tt)
+dress_gives_bare b path now u there step (inr (inr (inl e))) = subst (λ s. GivesBare path b s × IsNeeded b s) (sym e.0) ((refl, refl), e.1 (object_of now (plain b)) there)
+dress_gives_bare b path now u there step (inr (inr (inr (inl e)))) = subst (λ s. GivesBare path b s × IsNeeded b s) (sym e.0) ((refl, refl), e.1 (object_of now (plain b)) there)
+dress_gives_bare b path now u there step (inr (inr (inr (inr e)))) = subst (λ s. GivesBare path b s × IsNeeded b s) (sym e.0) ((refl, refl), e.1 (object_of now (plain b)) there)

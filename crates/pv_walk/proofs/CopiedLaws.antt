@@ -24,7 +24,6 @@ use Rattle.pv_dress.specs.Dressing.{IsDress}
 use Rattle.pv_dress.specs.Nodes.{bare_of, bares_of, is_link}
 use Rattle.pv_dress.specs.Operations as operations
 use Rattle.pv_dress.proofs.EditLaws.{path_cases}
-use Rattle.pv_dress.proofs.ChangingLaws.{mode_bound}
 use Rattle.pv_walk.specs.declared.copying.TopNode.{TopNode}
 use Rattle.pv_walk.specs.Copying.{IsTopNode, moded, topped, copy_from}
 use Rattle.pv_walk.specs.Pieces.{what_of, plain, IsWhole, names_at}
@@ -92,7 +91,7 @@ pub whole_object : (o : Object) → IsObject o → IsWhole (bare_of o)
 whole_object o is =
     let dress : IsDress o.node.kind (bare_of o).dress = record { owner = is.owner; special = is.special; acl = is.acl; fits = is.kind_acl; attrs = is.attrs; letters = is.letters } in
     record {
-      new = record { mode = mode_bound o.node.kind (bare_of o).dress dress; owner = is.owner; target = target_is o.node.kind (bare_of o) refl is.payload };
+      target = target_is o.node.kind (bare_of o) refl is.payload;
       body = body_is o.node.kind (bare_of o) refl is.payload is.numbers;
       dress = dress;
     }
@@ -220,10 +219,6 @@ module _ (top : TopNode) (fits : IsTopNode top) (source : Path) (t : Files) (tre
         ∙ present_above (places t) tree ((source ++ r) ++ n ∷ []) x (ap (λ (p : Path). is_some (places t p)) (append_assoc (source ++ r) (n ∷ []) x) ∙ deeper r n x h);
     distinct = λ r. IsDistinct-from_sorted (slice_cmp nat_cmp) (names_below t (source ++ r)) (names_below-rise t (source ++ r));
   }
-
-  -- so its special bits are those of an object
-  pub special_fits : (q : Path) (b : Bare) → copy_from (topped top) source (bares_of (places t)) q ≡ Some b → b.dress.special ≤ 7
-  special_fits q b e = (object_fits q b e).dress.special
 
 -- the top of a copy of what is there
 pub top_present : (top : TopNode) (source : Path) (t : Files) → is_some (places t source) ≡ true → is_some (copy_from (topped top) source (bares_of (places t)) []) ≡ true

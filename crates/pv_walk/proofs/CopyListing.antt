@@ -16,7 +16,7 @@ use Rattle.pv_walk.specs.declared.listing.Task.{Task}
 use Rattle.pv_walk.specs.declared.listing.Task.TheVariants.{Open, Close}
 use Rattle.pv_walk.specs.Copying.{copied_count}
 use Rattle.pv_walk.specs.Listing.{times}
-use Rattle.pv_walk.specs.Pieces.{file_of, built, made_of, IsPlan, IsDoable, AreDoable, cost_of, piece_cost, last_piece, tasks_before, pieces_now, tasks_left}
+use Rattle.pv_walk.specs.Pieces.{what_of, built, made_of, IsPlan, IsDoable, AreDoable, cost_of, piece_cost, last_piece, tasks_before, pieces_now, tasks_left}
 use Rattle.pv_walk.specs.Staging.{most_staged}
 use Rattle.pv_walk.proofs.CountLaws.{times-filter, times-keys, length-times, same_or_not}
 use Rattle.pv_walk.proofs.BuildingLaws.{rest_same}
@@ -39,12 +39,12 @@ cost-push xs x is = let all = ap cost_of is in let parts = cost-append xs (x ∷
 -- the places at which objects are made
 abbrev pub made_places : List Piece → List Path
 made_places [] = []
-made_places (Make rest file ∷ pieces) = rest ∷ made_places pieces
+made_places (Make rest what ∷ pieces) = rest ∷ made_places pieces
 made_places (Give rest dress ∷ pieces) = made_places pieces
 
 pub made_places-append : (xs ys : List Piece) → made_places (xs ++ ys) ≡ made_places xs ++ made_places ys
 made_places-append [] ys = refl
-made_places-append (Make rest file ∷ xs) ys = ap (λ ps. rest ∷ ps) (made_places-append xs ys)
+made_places-append (Make rest what ∷ xs) ys = ap (λ ps. rest ∷ ps) (made_places-append xs ys)
 made_places-append (Give rest dress ∷ xs) ys = made_places-append xs ys
 
 -- seven steps at most for each object that is made
@@ -61,7 +61,7 @@ priced-each f h r (n ∷ ns) = priced-append (each_below f r ns) (f (r ++ n ∷ 
 priced-around : (r : Path) (inner : List Piece) (o : Option Bare) → IsPriced inner → IsPriced (around r inner o)
 priced-around r inner None h = refl
 priced-around r inner (Some b) h =
-    omega (arith, h, cost-append inner (Make r (file_of b) ∷ []), ap length (made_places-append inner (Make r (file_of b) ∷ [])), length-append (made_places inner) (r ∷ []))
+    omega (arith, h, cost-append inner (Make r (what_of b.body) ∷ []), ap length (made_places-append inner (Make r (what_of b.body) ∷ [])), length-append (made_places inner) (r ∷ []))
 
 pub priced : (subtree : Subtree) (names : Path → List (List ℕ)) (k : ℕ) (r : Path) → IsPriced (pieces_below subtree names k r)
 priced subtree names zero r = refl
@@ -74,18 +74,18 @@ one_if b = cond b 1 0
 -- no object is made twice
 pub made_once : (subtree : Subtree) (pieces : List Piece) → AreDoable subtree (λ q. None) pieces → (q : Path) → times q (made_places pieces) ≤ cond (is_some (made_of pieces q)) 1 0
 made_once subtree [] h q = omega arith
-made_once subtree (Make rest file ∷ pieces) h q = by (made_once subtree pieces h.0 q) h.1 (same_or_not rest q)
+made_once subtree (Make rest what ∷ pieces) h q = by (made_once subtree pieces h.0 q) h.1 (same_or_not rest q)
   where
-    by : times q (made_places pieces) ≤ cond (is_some (built pieces (λ q. None) q)) 1 0 → IsDoable subtree (built pieces (λ q. None)) (Make rest file)
-        → ((rest ≡ q) × (same_path rest q ≡ true)) ⊎ (same_path rest q ≡ false) → cond (same_path rest q) 1 0 + times q (made_places pieces) ≤ cond (is_some (made_of (Make rest file ∷ pieces) q)) 1 0
+    by : times q (made_places pieces) ≤ cond (is_some (built pieces (λ q. None) q)) 1 0 → IsDoable subtree (built pieces (λ q. None)) (Make rest what)
+        → ((rest ≡ q) × (same_path rest q ≡ true)) ⊎ (same_path rest q ≡ false) → cond (same_path rest q) 1 0 + times q (made_places pieces) ≤ cond (is_some (made_of (Make rest what ∷ pieces) q)) 1 0
     by before (b, (there, (whole, (same, (none, place))))) (inl e) =
         let here : built pieces (λ q. None) q ≡ None = ap (built pieces (λ q. None)) (sym e.0) ∙ none in
         let zero : times q (made_places pieces) ≤ 0 = subst (λ (v : Option Bare). times q (made_places pieces) ≤ cond (is_some v) 1 0) here before in
-        let after = cond-one (is_some (made_of (Make rest file ∷ pieces) q)) (ap (λ c. is_some (cond c (Some (bare_of (held_object file.what 0))) (built pieces (λ q. None) q))) e.1) in
+        let after = cond-one (is_some (made_of (Make rest what ∷ pieces) q)) (ap (λ c. is_some (cond c (Some (bare_of (held_object what 0))) (built pieces (λ q. None) q))) e.1) in
         let one = cond-one (same_path rest q) e.1 in
         omega (arith, zero, after, one)
     by before doable (inr d) =
-        let after = ap (λ c. one_if (is_some (cond c (Some (bare_of (held_object file.what 0))) (built pieces (λ q. None) q)))) d in
+        let after = ap (λ c. one_if (is_some (cond c (Some (bare_of (held_object what 0))) (built pieces (λ q. None) q)))) d in
         let none = cond-zero (same_path rest q) d in
         omega (arith, before, after, none)
 made_once subtree (Give rest dress ∷ pieces) h q =
@@ -244,7 +244,7 @@ module _ (subtree : Subtree) (names : Path → List (List ℕ)) where
               let depth = some_depth r (ap is_some e) in
               ap (λ d. pieces_below subtree names d r) depth
               ∙ ap (around r (each_below (pieces_below subtree names (deep - length r - 1)) r (names r))) e
-              ∙ ap (λ ps. Give r b.dress ∷ (ps ++ Make r (file_of b) ∷ [])) (sym (opened_backs (deep - length r - 1) r depth (names r)))
+              ∙ ap (λ ps. Give r b.dress ∷ (ps ++ Make r (what_of b.body) ∷ [])) (sym (opened_backs (deep - length r - 1) r depth (names r)))
 
       pub next_heft : (task : Task) → task_heft task ≡ 1 + hefts (tasks_left subtree names task)
       next_heft (Close piece) = refl

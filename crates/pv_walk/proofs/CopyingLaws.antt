@@ -1,5 +1,5 @@
 -- Laws of copies: pieces of work that are done one after the other, and the copy that comes to its path.
-use Rattle.std.specs.Prelude.{◌≡◌, ◌≢◌, ℕ, ◌+◌, ◌-◌, ◌*◌, ◌≤◌, Bool, true, false, cond, List, [], ◌∷◌, ◌++◌, filter, filter_map, Option, Some, None, is_some, option_map, Result, Ok}
+use Rattle.std.specs.Prelude.{◌≡◌, ◌≢◌, ℕ, ◌+◌, ◌-◌, ◌≤◌, Bool, true, false, cond, List, [], ◌∷◌, ◌++◌, filter, filter_map, Option, Some, None, is_some, option_map, Result, Ok}
 use Rattle.std.proofs.Common.{refl, sym, ap, subst, ◌∙◌, inl, inr, ◌⊎◌, arith, zero}
 use Rattle.std.proofs.lemmas.List.{append-nil}
 use Rattle.std.specs.FinMap as fin
@@ -28,21 +28,21 @@ use Rattle.pv_steps.proofs.ActingLaws.{Moves, well, acted_then, acted_weaken, ac
 use Rattle.pv_steps.proofs.StepLaws.{is_some-touched}
 use Rattle.pv_walk.specs.declared.listing.Piece.{Piece}
 use Rattle.pv_walk.specs.declared.listing.Piece.TheVariants.{Make, Give}
-use Rattle.pv_walk.specs.declared.new_file.NewFile.{NewFile}
+use Rattle.pv_walk.specs.declared.new_file.NewKind.{NewKind}
 use Rattle.pv_walk.specs.Copying.{copied_count, object_of, standing, with_subtree, GivesPart, IsStagingOf, IsCopyStep, Subtree}
 use Rattle.pv_walk.specs.Listing.{times}
 use Rattle.pv_walk.specs.Pieces.{CanDo, IsDone, GivesPiece, PieceWay, plain, piece_cost, cost_of, after_piece, built, IsDoable, AreDoable, made_of, IsPlan}
 use Rattle.pv_walk.specs.Replacing.{Replacing}
 use Rattle.pv_walk.specs.Removal.{Publishing}
-use Rattle.pv_walk.specs.Making.{held_object}
+use Rattle.pv_walk.specs.Making.{held_object, BeginsNew}
 use Rattle.pv_walk.specs.Stages.{IsStage, IsAtStage, Staging}
-use Rattle.pv_walk.specs.Staging.{IsNewFile, IsPublishing, GivesNew, most_staged, most_new}
+use Rattle.pv_walk.specs.Staging.{HasTarget, IsPublishing}
 use Rattle.pv_walk.proofs.BuildingLaws.{IsBuilt, built_start, built_outside, bares_built, built_end, not_empty, with_inside, with_outside, here_outside, here_else, room, made_built, stands_here, can_wear_here, worn_built, made_gives, dress_gives_bare}
-use Rattle.pv_walk.proofs.CountLaws.{times-filter, times-keys, length-times, same_or_not}
+use Rattle.pv_walk.proofs.CountLaws.{count_same, times-filter, times-keys, length-times, same_or_not}
 use Rattle.pv_walk.proofs.CopyListing.{rests_of, cost-push}
 use Rattle.pv_walk.proofs.ListingLaws.{cond-one, cond-zero}
 use Rattle.pv_walk.proofs.PlanLaws.{built-append, doable-last}
-use Rattle.pv_walk.proofs.PublishLaws.{staged_outside}
+use Rattle.pv_walk.proofs.PublishLaws.{staging_nonempty, staged_outside}
 use Rattle.pv_walk.proofs.PuttingLaws.{none_under}
 use Rattle.pv_walk.proofs.ReplacingLaws.{yields_same}
 use Rattle.pv_walk.proofs.StageLaws.{begun_start, begun_stage, dressing_stage}
@@ -51,7 +51,7 @@ use Rattle.pv_path.proofs.Tests.{true_not_false}
 
 -- nothing of a piece is done
 pub way_start : (stage : Path) (p : Piece) (t : Files) → CanDo stage p t → PieceWay stage p t t
-way_start stage (Make rest file) t can = begun_start (stage ++ rest) can.0 0 t can.1.0 file.what
+way_start stage (Make rest what) t can = begun_start (stage ++ rest) can.0 0 t can.1.0 what
 way_start stage (Give rest dress) t can = (zero, λ q. sym (bares-stamped (stage ++ rest) (λ o. o) (λ o. refl) (places t) q))
 
 -- some pieces of a list are done, and these are left
@@ -88,21 +88,21 @@ module _ (now : ℕ) (stage : Path) (nonempty : stage ≢ []) (t : Files) (paren
   -- the last of those that are left is done next
   module _ (left : List Piece) (u : Files) where
     can_by : (p : Piece) (s : Path → Option Bare) → IsBuilt now stage s t u → IsDoable (made_of all) s p → CanDo stage p u
-    can_by (Make rest file) s b (o, (there, (whole, (same, (none, place))))) =
-        (not_empty now stage nonempty t parent rest, (room now stage nonempty t parent s u b rest none place, subst IsNewFile (sym same) whole.new))
+    can_by (Make rest what) s b (o, (there, (whole, (same, (none, place))))) =
+        (not_empty now stage nonempty t parent rest, (room now stage nonempty t parent s u b rest none place, subst HasTarget (sym same) whole.target))
     can_by (Give rest dress) s b (o, (there, (whole, (same, here)))) = can_wear_here now stage nonempty t parent s u b rest o here dress whole same
 
     pub doing_can : (p : Piece) → Doing now stage t all (left ++ p ∷ []) u → CanDo stage p u
     doing_can p e = can_by p e.objects e.stands (doable-last (made_of all) e.objects left p e.doable).0
 
     stands_by : (p : Piece) (s : Path → Option Bare) (v : Files) → IsBuilt now stage s t u → IsDoable (made_of all) s p → IsDone now stage p u v → IsBuilt now stage (after_piece p s) t v
-    stands_by (Make rest file) s v b (o, (there, (whole, (same, (none, place))))) h = made_built now stage nonempty t parent s u b rest none place file v h
+    stands_by (Make rest what) s v b (o, (there, (whole, (same, (none, place))))) h = made_built now stage nonempty t parent s u b rest none place what v h
     stands_by (Give rest dress) s v b (o, (there, (whole, (same, here)))) h = worn_built now stage nonempty t parent s u b rest o here dress v h
 
     way_by : (p : Piece) → Doing now stage t all (left ++ p ∷ []) u → (s : Path → Option Bare) → IsBuilt now stage s t u → IsDoable (made_of all) s p → (w : Files) → PieceWay stage p u w → Staging stage (made_of all) t w
-    way_by (Make rest file) e s b (o, (there, (whole, (same, (none, place))))) w h =
-        way_staged (left ++ Make rest file ∷ []) u e rest w h.outside
-        (subst (λ (v : Option Bare). IsAtStage v (bares_of (places w) (stage ++ rest))) (sym there) (begun_stage (stage ++ rest) file.what o u w (ap (λ (f : NewFile). f.what) same) h))
+    way_by (Make rest what) e s b (o, (there, (whole, (same, (none, place))))) w h =
+        way_staged (left ++ Make rest what ∷ []) u e rest w h.outside
+        (subst (λ (v : Option Bare). IsAtStage v (bares_of (places w) (stage ++ rest))) (sym there) (begun_stage (stage ++ rest) what o u w same h))
     way_by (Give rest dress) e s b (o, (there, (whole, (same, here)))) w h =
         way_staged (left ++ Give rest dress ∷ []) u e rest w (outside_dressing (stage ++ rest) dress u w h)
         (subst (λ (v : Option Bare). IsAtStage v (bares_of (places w) (stage ++ rest))) (sym there)
@@ -113,11 +113,11 @@ module _ (now : ℕ) (stage : Path) (nonempty : stage ≢ []) (t : Files) (paren
 
     -- what a piece leaves is at its stage
     stage_by : (p : Piece) (s : Path → Option Bare) → ((r : Path) → IsAtStage (made_of all r) (s r)) → IsDoable (made_of all) s p → (r : Path) → IsAtStage (made_of all r) (after_piece p s r)
-    stage_by (Make rest file) s h (o, (there, (whole, (same, (none, place))))) r = elim (path_cases rest r) [
-      | inl e ↦ subst (λ (q : Path). IsAtStage (made_of all q) (after_piece (Make rest file) s q)) e
-          (IsAtStage.stage o (bare_of (held_object file.what 0)) there (ap (λ c. cond c (Some (bare_of (held_object file.what 0))) (s rest)) (same_path-refl rest))
-          (IsStage.begun (inr (ap (λ (f : NewFile). bare_of (held_object f.what 0)) same))))
-      | inr d ↦ at_same (h r) (after_piece (Make rest file) s r) (ap (λ c. cond c (Some (bare_of (held_object file.what 0))) (s r)) d)
+    stage_by (Make rest what) s h (o, (there, (whole, (same, (none, place))))) r = elim (path_cases rest r) [
+      | inl e ↦ subst (λ (q : Path). IsAtStage (made_of all q) (after_piece (Make rest what) s q)) e
+          (IsAtStage.stage o (bare_of (held_object what 0)) there (ap (λ c. cond c (Some (bare_of (held_object what 0))) (s rest)) (same_path-refl rest))
+          (IsStage.begun (inr (ap (λ (w : NewKind). bare_of (held_object w 0)) same))))
+      | inr d ↦ at_same (h r) (after_piece (Make rest what) s r) (ap (λ c. cond c (Some (bare_of (held_object what 0))) (s r)) d)
     ]
     stage_by (Give rest dress) s h (o, (there, (whole, (same, here)))) r = elim (path_cases rest r) [
       | inl e ↦ subst (λ (q : Path). IsAtStage (made_of all q) (after_piece (Give rest dress) s q)) e
@@ -132,14 +132,17 @@ module _ (now : ℕ) (stage : Path) (nonempty : stage ≢ []) (t : Files) (paren
         let parts = doable-last (made_of all) e.objects left p e.doable in
         record { objects = after_piece p e.objects; stands = stands_by p e.objects v e.stands parts.0 h; stages = stage_by p e.objects e.stages parts.0; doable = parts.1; whole = sym (built-append left (p ∷ []) e.objects) ∙ e.whole }
 
-    gives_by : (p : Piece) (s : Path → Option Bare) (step : Step) → IsDoable (made_of all) s p → GivesPiece stage p u step → GivesPart stage (made_of all) step
-    gives_by (Make rest file) s step (o, (there, (whole, (same, e)))) h =
-        record { rest = rest; object = o; is = there; gives = made_gives o whole (stage ++ rest) step (subst (λ (f : NewFile). GivesNew (stage ++ rest) f step) same h) }
-    gives_by (Give rest dress) s step (o, (there, (whole, (same, here)))) h =
-        record { rest = rest; object = o; is = there; gives = dress_gives_bare o (stage ++ rest) u step (subst (λ (d : Dress). GivesDress (stage ++ rest) d u step) same h) }
+    gives_by : (p : Piece) (s : Path → Option Bare) (step : Step) → IsBuilt now stage s t u → IsDoable (made_of all) s p → GivesPiece stage p u step → GivesPart stage (made_of all) step
+    gives_by (Make rest what) s step b (o, (there, (whole, (same, e)))) h =
+        let gives = made_gives o whole (stage ++ rest) step (subst (λ (w : NewKind). BeginsNew (stage ++ rest) w step) same h) in
+        record { rest = rest; object = o; is = there; gives = gives.0; needed = gives.1 }
+    gives_by (Give rest dress) s step b (o, (there, (whole, (same, here)))) h =
+        let gives =
+        dress_gives_bare o (stage ++ rest) now u (stands_here now stage nonempty t parent s u b rest o here) step (subst (λ (d : Dress). GivesDress (stage ++ rest) d u step) same h) in
+        record { rest = rest; object = o; is = there; gives = gives.0; needed = gives.1 }
 
     pub doing_gives : (p : Piece) → Doing now stage t all (left ++ p ∷ []) u → (step : Step) → GivesPiece stage p u step → GivesPart stage (made_of all) step
-    doing_gives p e step h = gives_by p e.objects step (doable-last (made_of all) e.objects left p e.doable).0 h
+    doing_gives p e step h = gives_by p e.objects step e.stands (doable-last (made_of all) e.objects left p e.doable).0 h
 
   -- when none is left, all stands
   pub doing_end : (u : Files) → Doing now stage t all [] u → is_some (made_of all []) ≡ true → places u ≡ with_subtree now stage (made_of all) (places t)
@@ -194,20 +197,19 @@ module _ (path : Path) (s : Subtree) (t : Places) where
       bares-touched now path (λ q. standing now s (t q) (rest_under path q)) q ∙ bare_standing now later (t q) (rest_under path q)
       ∙ sym (bares-touched later path (λ q. standing later s (t q) (rest_under path q)) q)
 
-module _ (now : ℕ) (path : Path) (nonempty : path ≢ []) (s : Path → Option Bare) (t : Files) (parent : IsKindIn Directory (places t) (parent_of path)) (tree : IsTree t) (free : IsAbsentIn (places t) (staging_of path))
-    (stage_nonempty : staging_of path ≢ []) (stage_parent : IsKindIn Directory (places t) (parent_of (staging_of path))) where
+module _ (now : ℕ) (path : Path) (nonempty : path ≢ []) (s : Path → Option Bare) (t : Files) (tree : IsTree t) (free : IsAbsentIn (places t) (staging_of path)) where
   abbrev staged : Places
   staged = with_subtree now (staging_of path) s (places t)
 
   carried_is : (rest : Path) → carried now (staging_of path) (with_subtree now (staging_of path) s (places t)) rest ≡ option_map (object_of now) (s rest)
   carried_is [] =
-      ap (option_map (changed now)) (ap (with_subtree now (staging_of path) s (places t)) (sym (append-nil (staging_of path))) ∙ with_inside now (staging_of path) stage_nonempty t stage_parent s [])
+      ap (option_map (changed now)) (ap (with_subtree now (staging_of path) s (places t)) (sym (append-nil (staging_of path))) ∙ with_inside now (staging_of path) (staging_nonempty path nonempty) t s [])
       ∙ again (s [])
     where
       again : (o : Option Bare) → option_map (changed now) (option_map (object_of now) o) ≡ option_map (object_of now) o
       again None = refl
       again (Some b) = refl
-  carried_is (n ∷ rest) = with_inside now (staging_of path) stage_nonempty t stage_parent s (n ∷ rest)
+  carried_is (n ∷ rest) = with_inside now (staging_of path) (staging_nonempty path nonempty) t s (n ∷ rest)
 
   same_dir : (q : Path) → same_path (parent_of (staging_of path)) q ≡ same_path (parent_of path) q
   same_dir q = ap (λ p. same_path p q) (parent_of-staging_of path)
@@ -236,7 +238,7 @@ module _ (now : ℕ) (path : Path) (nonempty : path ≢ []) (s : Path → Option
   outside_is q h (inr e) =
       ap (λ c. cond c None (touched now (staging_of path) (touched now path (with_subtree now (staging_of path) s (places t))) q)) e
       ∙ touched_of (touched now path (with_subtree now (staging_of path) s (places t))) (touched now path (touched now (staging_of path) (places t))) (staging_of path) q
-      (touched_of (with_subtree now (staging_of path) s (places t)) (touched now (staging_of path) (places t)) path q (with_outside now (staging_of path) stage_nonempty t stage_parent s q e))
+      (touched_of (with_subtree now (staging_of path) s (places t)) (touched now (staging_of path) (places t)) path q (with_outside now (staging_of path) (staging_nonempty path nonempty) t s q e))
       ∙ thrice (same_path (parent_of (staging_of path)) q) (same_path (parent_of path) q) (places t q) (same_dir q)
 
   pub copy_moved : moved now (staging_of path) path (with_subtree now (staging_of path) s (places t)) ≡ with_subtree now path s (places t)
@@ -248,15 +250,15 @@ module _ (now : ℕ) (path : Path) (nonempty : path ≢ []) (s : Path → Option
           by : (o : Option Path) → rest_under path q ≡ o → moved now (staging_of path) path (with_subtree now (staging_of path) s (places t)) q ≡ with_subtree now path s (places t) q
           by (Some rest) e =
               ap (moved_at now (staging_of path) path (with_subtree now (staging_of path) s (places t)) q) e ∙ carried_is rest
-              ∙ sym (ap (with_subtree now path s (places t)) (rest_under-Some path q rest e) ∙ with_inside now path nonempty t parent s rest)
+              ∙ sym (ap (with_subtree now path s (places t)) (rest_under-Some path q rest e) ∙ with_inside now path nonempty t s rest)
           by None e =
               let outside : is_prefix path q ≡ false = sym (is_some-rest_under path q) ∙ ap is_some e in
               ap (moved_at now (staging_of path) path (with_subtree now (staging_of path) s (places t)) q) e
-              ∙ outside_is q outside (cases_Bool (is_prefix (staging_of path) q)) ∙ sym (with_outside now path nonempty t parent s q outside)
+              ∙ outside_is q outside (cases_Bool (is_prefix (staging_of path) q)) ∙ sym (with_outside now path nonempty t s q outside)
 
   pub copy_staged : is_some (s []) ≡ true → is_some (with_subtree now (staging_of path) s (places t) (staging_of path)) ≡ true
   copy_staged top =
-      ap is_some (ap (with_subtree now (staging_of path) s (places t)) (sym (append-nil (staging_of path))) ∙ with_inside now (staging_of path) stage_nonempty t stage_parent s [])
+      ap is_some (ap (with_subtree now (staging_of path) s (places t)) (sym (append-nil (staging_of path))) ∙ with_inside now (staging_of path) (staging_nonempty path nonempty) t s [])
       ∙ still (s []) top
     where
       still : (o : Option Bare) → is_some o ≡ true → is_some (option_map (object_of now) o) ≡ true
@@ -265,8 +267,7 @@ module _ (now : ℕ) (path : Path) (nonempty : path ≢ []) (s : Path → Option
 
   -- no more has to make way than stood at and below the path before
   pub copy_count : (u : Files) → places u ≡ with_subtree now (staging_of path) s (places t) → count_at u path ≤ count_at t path
-  copy_count u is = length-times (filter (is_prefix path) (fin.keys u)) (filter (is_prefix path) (fin.keys t))
-      (λ q. omega (arith, times-filter (is_prefix path) q (fin.keys u), times-filter (is_prefix path) q (fin.keys t), same q (cases_Bool (is_prefix path q))))
+  copy_count u is = count_same path t u present
     where
       out : (q : Path) → is_prefix path q ≡ true → is_prefix (staging_of path) q ≡ false
       out q h = elim (cases_Bool (is_prefix (staging_of path) q)) [
@@ -281,13 +282,7 @@ module _ (now : ℕ) (path : Path) (nonempty : path ≢ []) (s : Path → Option
               rest_of = prefix_rest (staging_of path) q
 
       present : (q : Path) → is_prefix path q ≡ true → is_some (places u q) ≡ is_some (places t q)
-      present q h = ap (λ (x : Places). is_some (x q)) is ∙ ap is_some (with_outside now (staging_of path) stage_nonempty t stage_parent s q (out q h)) ∙ is_some-touched now (staging_of path) (places t) q
-
-      same : (q : Path) → (is_prefix path q ≡ true) ⊎ (is_prefix path q ≡ false) → cond (is_prefix path q) (times q (fin.keys u)) 0 ≤ cond (is_prefix path q) (times q (fin.keys t)) 0
-      same q (inl e) =
-          let count : times q (fin.keys u) ≡ times q (fin.keys t) = times-keys u q ∙ ap (λ b. cond b 1 0) (present q e) ∙ sym (times-keys t q) in
-          omega (arith, ap (λ b. cond b (times q (fin.keys u)) 0) e, ap (λ b. cond b (times q (fin.keys t)) 0) e, count)
-      same q (inr e) = omega (arith, ap (λ b. cond b (times q (fin.keys u)) 0) e)
+      present q h = ap (λ (x : Places). is_some (x q)) is ∙ ap is_some (with_outside now (staging_of path) (staging_nonempty path nonempty) t s q (out q h)) ∙ is_some-touched now (staging_of path) (places t) q
 
   -- ---- on the way
 
@@ -318,7 +313,7 @@ module _ (now : ℕ) (path : Path) (nonempty : path ≢ []) (s : Path → Option
 
       staged_bare : (rest : Path) → bares_of (places u) (staging_of path ++ rest) ≡ s rest
       staged_bare rest =
-          ap (λ (x : Places). bares_of x (staging_of path ++ rest)) is ∙ ap (option_map bare_of) (with_inside now (staging_of path) stage_nonempty t stage_parent s rest) ∙ again (s rest)
+          ap (λ (x : Places). bares_of x (staging_of path ++ rest)) is ∙ ap (option_map bare_of) (with_inside now (staging_of path) (staging_nonempty path nonempty) t s rest) ∙ again (s rest)
 
       staged_same : (q : Path) → bares (with_subtree 0 (staging_of path) s (places t)) q ≡ bares (places u) q
       staged_same q = bares_with (staging_of path) s (places t) 0 now q ∙ ap (λ (x : Places). bares x q) (sym is)
@@ -340,36 +335,26 @@ copied_some s source t top there =
     by q (inl e) = subst (λ (p : Path). times p ([] ∷ []) ≤ times p (filter (λ rest. is_some (s rest)) (filter_map (rest_under source) (fin.keys t)))) e.0 (omega (arith, count))
     by q (inr d) = let none = cond-zero (same_path [] q) d in omega (arith, none)
 
--- pieces that make a subtree at the staging name of a path
-pub staged_acted : {S A : Type 0} (tree : Ghosts S) (path stage : Path) (s : Path → Option Bare) (pieces : List Piece) (n : ℕ) {now : ℕ} {a b : S} {r : Result A TreeFault} → stage ≡ staging_of path → made_of pieces ≡ s → cost_of pieces ≤ n
-    → Acted tree (Staging stage (made_of pieces) (tree.state a)) (GivesPart stage (made_of pieces)) (cost_of pieces) now a b r
-    → Acted tree (Staging (staging_of path) s (tree.state a)) (IsStagingOf path s) n now a b r
-staged_acted {A = A} tree path stage s pieces n {now = now} {a = a} {b = b} {r = r} at all few acted =
-    acted_within tree (cost_of pieces) n few
-    (subst (λ (v : Path → Option Bare). Acted {A = A} tree (Staging (staging_of path) v (tree.state a)) (GivesPart (staging_of path) v) (cost_of pieces) now a b r) all
-    (subst (λ (p : Path). Acted {A = A} tree (Staging p (made_of pieces) (tree.state a)) (GivesPart p (made_of pieces)) (cost_of pieces) now a b r) at acted))
-
--- a copy that is staged and comes to its path
-module _ {S : Type 0} (tree : Ghosts S) (now : ℕ) (path : Path) (nonempty : path ≢ []) (s : Path → Option Bare) (a b : S) (parent : IsKindIn Directory (places (tree.state a)) (parent_of path)) (is_tree : IsTree (tree.state a))
-    (free : IsAbsentIn (places (tree.state a)) (staging_of path)) (stage_nonempty : staging_of path ≢ []) (stage_parent : IsKindIn Directory (places (tree.state a)) (parent_of (staging_of path))) (n : ℕ) where
-  abbrev from : Files
-  from = tree.state a
-
-  pub copy_staging : {A : Type 0} {r : Result A TreeFault} (most : ℕ) → most_staged * n ≤ most → Acted tree (SameOutside (is_prefix (staging_of path)) (tree.state a)) (IsStagingOf path s) (most_staged * n) now a b r
+-- a subtree that is staged and comes to its path
+module _ {S : Type 0} (tree : Ghosts S) (now : ℕ) (path : Path) (nonempty : path ≢ []) (s : Path → Option Bare) (a b : S) (is_tree : IsTree (tree.state a)) (free : IsAbsentIn (places (tree.state a)) (staging_of path)) where
+  pub subtree_staging : {A : Type 0} {r : Result A TreeFault} {m : ℕ} (most : ℕ) → m ≤ most → Acted tree (Staging (staging_of path) s (tree.state a)) (IsStagingOf path s) m now a b r
       → Acted tree (Replacing path s (tree.state a)) (IsCopyStep path s) most now a b r
-  copy_staging most le before =
-      acted_weaken tree (SameOutside (is_prefix (staging_of path)) (tree.state a)) (Replacing path s (tree.state a)) (IsStagingOf path s) (IsCopyStep path s) (most_staged * n) most
-      (copy_before now path nonempty s (tree.state a) parent is_tree free stage_nonempty stage_parent) (λ step g. inl g) le before
+  subtree_staging {m = m} most le before =
+      acted_weaken tree (Staging (staging_of path) s (tree.state a)) (Replacing path s (tree.state a)) (IsStagingOf path s) (IsCopyStep path s) m most
+      (λ u h. copy_before now path nonempty s (tree.state a) is_tree free u h.outside) (λ step g. inl g) le before
 
-  pub copy_acted : {A B : Type 0} {c : S} {x : A} {r : Result B TreeFault} → Moves tree → 1 ≤ n → places (tree.state b) ≡ with_subtree now (staging_of path) s (places (tree.state a))
-      → Acted tree (SameOutside (is_prefix (staging_of path)) (tree.state a)) (IsStagingOf path s) (most_staged * n) now a b (Ok x)
-      → Acted tree (Publishing now path (tree.state b)) (IsPublishing path) (1 + count_at (tree.state b) path) now b c r
-      → Acted tree (Replacing path s (tree.state a)) (IsCopyStep path s) (count_at (tree.state a) path + most_new * n) now a c r
-  copy_acted moves one is before last =
-      let fewer = copy_count now path nonempty s (tree.state a) parent is_tree free stage_nonempty stage_parent (tree.state b) is in
-      acted_within tree (most_staged * n + (1 + count_at (tree.state b) path)) (count_at (tree.state a) path + most_new * n) (omega (arith, fewer, one))
-      (acted_then tree moves (Replacing path s (tree.state a)) (IsCopyStep path s)
-      (copy_staging (most_staged * n) (omega arith) before)
-      (acted_weaken tree (Publishing now path (tree.state b)) (Replacing path s (tree.state a)) (IsPublishing path) (IsCopyStep path s) (1 + count_at (tree.state b) path) (1 + count_at (tree.state b) path)
-      (copy_published now path nonempty s (tree.state a) parent is_tree free stage_nonempty stage_parent (tree.state b) is (acted_end tree (SameOutside (is_prefix (staging_of path)) (tree.state a)) (IsStagingOf path s) before))
-      (λ step g. inr g) (omega arith) last))
+  module _ (is : places (tree.state b) ≡ with_subtree now (staging_of path) s (places (tree.state a))) where
+    pub subtree_count : count_at (tree.state b) path ≤ count_at (tree.state a) path
+    subtree_count = copy_count now path nonempty s (tree.state a) is_tree free (tree.state b) is
+
+    pub subtree_acted : {A B : Type 0} {c : S} {x : A} {r : Result B TreeFault} {m : ℕ} → Moves tree
+        → Acted tree (Staging (staging_of path) s (tree.state a)) (IsStagingOf path s) m now a b (Ok x)
+        → Acted tree (Publishing now path (tree.state b)) (IsPublishing path) (1 + count_at (tree.state b) path) now b c r
+        → Acted tree (Replacing path s (tree.state a)) (IsCopyStep path s) (m + (1 + count_at (tree.state a) path)) now a c r
+    subtree_acted {m = m} moves before last =
+        acted_within tree (m + (1 + count_at (tree.state b) path)) (m + (1 + count_at (tree.state a) path)) (omega (arith, subtree_count))
+        (acted_then tree moves (Replacing path s (tree.state a)) (IsCopyStep path s)
+        (subtree_staging m (omega arith) before)
+        (acted_weaken tree (Publishing now path (tree.state b)) (Replacing path s (tree.state a)) (IsPublishing path) (IsCopyStep path s) (1 + count_at (tree.state b) path) (1 + count_at (tree.state b) path)
+        (copy_published now path nonempty s (tree.state a) is_tree free (tree.state b) is (acted_end tree (Staging (staging_of path) s (tree.state a)) (IsStagingOf path s) before).outside)
+        (λ step g. inr g) (omega arith) last))

@@ -1,16 +1,18 @@
 -- How often paths stand in lists of paths: in the keys of a tree, among the children of a path, and what that says of lengths.
 use Rattle.std.specs.Prelude.{◌≡◌, ℕ, ◌+◌, ◌≤◌, Bool, true, false, cond, ◌&&◌, ◌||◌, T, List, [], ◌∷◌, ◌++◌, map, length, filter, filter_map, Option, Some, None, is_some}
 use Rattle.std.proofs.Common.{refl, sym, ap, subst, ◌∙◌, arith, inl, inr, ◌⊎◌, length-append}
+use Rattle.std.proofs.lemmas.Bool.{cases_Bool}
 use Rattle.std.specs.List.{list_any, cons_option}
 use Rattle.std.specs.Ordering.{eq_by_cmp, is_lt}
 use Rattle.std.specs.declared.cmp.Ordering.TheVariants.{Equal}
 use Rattle.std.specs.FinMap as fin
 use Rattle.std.specs.FinMap.Entries.{below_all, is_sorted}
-use Rattle.pv_path.specs.Paths.{Path, path_cmp, same_path, same_path-decides}
+use Rattle.pv_path.specs.Paths.{Path, is_prefix, path_cmp, same_path, same_path-decides}
 use Rattle.pv_path.proofs.PathLaws.{same_path-refl, path_cmp-refl, tied-same}
 use Rattle.pv_steps.proofs.NameLaws.{child_name-Some, child_name-push}
 use Rattle.pv_steps.specs.declared.object.Object.{Object}
 use Rattle.pv_steps.specs.Trees.{Files, places, child_name}
+use Rattle.pv_dress.specs.Edits.{count_at}
 use Rattle.pv_walk.specs.Listing.{times, is_child, children_of}
 
 pub times-append : (q : Path) (xs ys : List Path) → times q (xs ++ ys) ≡ times q xs + times q ys
@@ -154,3 +156,14 @@ times-children files path q =
     times_children path q (fin.keys files)
     ∙ ap (λ n. cond (is_child path q) n 0) (times-keys files q)
     ∙ elim (is_child path q) as (λ b. ◌≡◌ {A = ℕ} (cond b (cond (is_some (places files q)) 1 0) 0) (cond (b && is_some (places files q)) 1 0)) [ true ↦ refl | false ↦ refl ]
+
+-- of what stands at and below a path as it stood there are no more objects
+pub count_same : (path : Path) (t u : Files) → ((q : Path) → is_prefix path q ≡ true → is_some (places u q) ≡ is_some (places t q)) → count_at u path ≤ count_at t path
+count_same path t u present = length-times (filter (is_prefix path) (fin.keys u)) (filter (is_prefix path) (fin.keys t))
+    (λ q. omega (arith, times-filter (is_prefix path) q (fin.keys u), times-filter (is_prefix path) q (fin.keys t), same q (cases_Bool (is_prefix path q))))
+  where
+    same : (q : Path) → (is_prefix path q ≡ true) ⊎ (is_prefix path q ≡ false) → cond (is_prefix path q) (times q (fin.keys u)) 0 ≤ cond (is_prefix path q) (times q (fin.keys t)) 0
+    same q (inl e) =
+        let count : times q (fin.keys u) ≡ times q (fin.keys t) = times-keys u q ∙ ap (λ b. cond b 1 0) (present q e) ∙ sym (times-keys t q) in
+        omega (arith, ap (λ b. cond b (times q (fin.keys u)) 0) e, ap (λ b. cond b (times q (fin.keys t)) 0) e, count)
+    same q (inr e) = omega (arith, ap (λ b. cond b (times q (fin.keys u)) 0) e)

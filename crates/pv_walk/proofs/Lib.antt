@@ -21,4 +21,5 @@ pub mod BuildingLaws
 pub mod CopiedLaws
 pub mod CopyListing
 pub mod CopyingLaws
+pub mod NewLaws
 pub mod PreparedLaws

@@ -16,7 +16,7 @@ use Rattle.pv_steps.specs.declared.node.Kind.{Kind}
 use Rattle.pv_steps.specs.declared.node.Kind.TheVariants.{Directory}
 use Rattle.pv_walk.specs.declared.listing.Piece.{Piece}
 use Rattle.pv_walk.specs.declared.listing.Piece.TheVariants.{Make, Give}
-use Rattle.pv_walk.specs.Pieces.{file_of, plain, after_piece, built, HasPlace, IsWhole, IsDoable, AreDoable}
+use Rattle.pv_walk.specs.Pieces.{what_of, plain, after_piece, built, HasPlace, IsWhole, IsDoable, AreDoable}
 use Rattle.pv_path.proofs.Tests.{equal_of, true_not_false}
 
 abbrev pub Subtree : Type 0
@@ -162,7 +162,7 @@ module _ (subtree : Subtree) (r : Path) (f : Path → List Piece)
 
 abbrev pub around : Path → List Piece → Option Bare → List Piece
 around r inner None = []
-around r inner (Some b) = Give r b.dress ∷ (inner ++ Make r (file_of b) ∷ [])
+around r inner (Some b) = Give r b.dress ∷ (inner ++ Make r (what_of b.body) ∷ [])
 
 -- those of what stands at and below a place, as far down as a number of names
 abbrev pub pieces_below : Subtree → (Path → List (List ℕ)) → ℕ → Path → List Piece
@@ -205,7 +205,7 @@ module _ (subtree : Subtree) (names : Path → List (List ℕ)) (is : IsSubtree 
 
   module _ (r : Path) (s : Subtree) (b : Bare) (there : subtree r ≡ Some b) (empty : nothing_below s r) (place : HasPlace s r) (inner : List Piece) where
     abbrev first : Subtree
-    first = after_piece (Make r (file_of b)) s
+    first = after_piece (Make r (what_of b.body)) s
 
     whole : IsWhole b
     whole = is.fits r b there
@@ -246,13 +246,13 @@ module _ (subtree : Subtree) (names : Path → List (List ℕ)) (is : IsSubtree 
         ]
 
     abbrev pieces : List Piece
-    pieces = Give r b.dress ∷ (inner ++ Make r (file_of b) ∷ [])
+    pieces = Give r b.dress ∷ (inner ++ Make r (what_of b.body) ∷ [])
 
     module _ (ns : List (List ℕ)) (covers : (n : List ℕ) (x : Path) → is_some (subtree (r ++ n ∷ x)) ≡ true → is_in n ns ≡ true) (fills : Fills subtree first inner (is_under_child r ns)) where
-      built_first : built (inner ++ Make r (file_of b) ∷ []) s ≡ (λ q. cond (is_under_child r ns q) (subtree q) (first q))
-      built_first = built-append inner (Make r (file_of b) ∷ []) s ∙ fills.fills
+      built_first : built (inner ++ Make r (what_of b.body) ∷ []) s ≡ (λ q. cond (is_under_child r ns q) (subtree q) (first q))
+      built_first = built-append inner (Make r (what_of b.body) ∷ []) s ∙ fills.fills
 
-      built-here : built (inner ++ Make r (file_of b) ∷ []) s r ≡ Some (plain b)
+      built-here : built (inner ++ Make r (what_of b.body) ∷ []) s r ≡ Some (plain b)
       built-here = ap (λ (v : Subtree). v r) built_first ∙ ap (λ c. cond c (subtree r) (first r)) (not_under_itself r ns) ∙ first-here
 
       worn : Some (record (plain b) { dress = b.dress }) ≡ Some b
@@ -277,17 +277,17 @@ module _ (subtree : Subtree) (names : Path → List (List ℕ)) (is : IsSubtree 
 
       at_all : (q : Path) → (r ≡ q) ⊎ (same_path r q ≡ false) → built pieces s q ≡ cond (is_prefix r q) (subtree q) (s q)
       at_all q (inl e) = subst (λ (p : Path). built pieces s p ≡ cond (is_prefix r p) (subtree p) (s p)) e
-          (ap (λ c. cond c (option_map (λ (o : Bare). record o { dress = b.dress }) (built (inner ++ Make r (file_of b) ∷ []) s r)) (built (inner ++ Make r (file_of b) ∷ []) s r)) (same_path-refl r)
+          (ap (λ c. cond c (option_map (λ (o : Bare). record o { dress = b.dress }) (built (inner ++ Make r (what_of b.body) ∷ []) s r)) (built (inner ++ Make r (what_of b.body) ∷ []) s r)) (same_path-refl r)
           ∙ ap (option_map (λ (o : Bare). record o { dress = b.dress })) built-here ∙ worn ∙ sym there
           ∙ ap (λ c. cond c (subtree r) (s r)) (sym (is_prefix-refl r)))
       at_all q (inr d) =
-          ap (λ c. cond c (option_map (λ (o : Bare). record o { dress = b.dress }) (built (inner ++ Make r (file_of b) ∷ []) s q)) (built (inner ++ Make r (file_of b) ∷ []) s q)) d
+          ap (λ c. cond c (option_map (λ (o : Bare). record o { dress = b.dress }) (built (inner ++ Make r (what_of b.body) ∷ []) s q)) (built (inner ++ Make r (what_of b.body) ∷ []) s q)) d
           ∙ ap (λ (v : Subtree). v q) built_first ∙ below q d (cases_Bool (is_prefix r q))
 
       pub object_fills : Fills subtree s pieces (is_prefix r)
       object_fills = record {
         doable = (
-          doable-append subtree s inner (Make r (file_of b) ∷ []) (tt, (b, (there, (whole, (refl, (here_empty, place)))))) fills.doable,
+          doable-append subtree s inner (Make r (what_of b.body) ∷ []) (tt, (b, (there, (whole, (refl, (here_empty, place)))))) fills.doable,
           (b, (there, (whole, (refl, built-here)))),
         );
         fills = λ i q. at_all q (path_cases r q) i;
@@ -304,7 +304,7 @@ module _ (subtree : Subtree) (names : Path → List (List ℕ)) (is : IsSubtree 
       by (Some b) e =
           let here = place (ap is_some e) in
           object_fills r s b e empty here (each_below f r (names r)) (names r) (is.covers r)
-          (each_fills subtree r f one (names r) (after_piece (Make r (file_of b)) s) (is.distinct r) (first_ready r s b e empty here (each_below f r (names r)))
+          (each_fills subtree r f one (names r) (after_piece (Make r (what_of b.body)) s) (is.distinct r) (first_ready r s b e empty here (each_below f r (names r)))
           (λ n x among. first_empty r s b e empty here (each_below f r (names r)) n x))
 
   -- all at and below a place

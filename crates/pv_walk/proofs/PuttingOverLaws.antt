@@ -5,11 +5,11 @@ use Rattle.std.proofs.Common.{refl, sym, ap, ◌∙◌, arith, append-nil, lengt
 use Rattle.std.specs.FinMap as fin
 use Rattle.std.proofs.lemmas.Bool.{cases_Bool}
 use Rattle.pv_path.specs.Paths.{Path, same_path, is_prefix, parent_of, rest_under, staging_of}
-use Rattle.pv_path.proofs.PathLaws.{is_prefix-refl, is_prefix-trans, is_some-rest_under, rest_under-Some, same_path-refl, not_prefix_not_same, parent_of-is_prefix, parent_of-staging_of, has_staging-staging_of}
+use Rattle.pv_path.proofs.PathLaws.{is_some-rest_under, rest_under-Some, same_path-refl, not_prefix_not_same, has_staging-staging_of}
 use Rattle.pv_steps.specs.declared.node.Kind.TheVariants.{Directory}
 use Rattle.pv_steps.specs.declared.object.Object.{Object}
 use Rattle.pv_steps.specs.Objects.{bare, modified}
-use Rattle.pv_steps.specs.Trees.{Files, Places, places, kind_of, IsTreeIn, IsTree, IsAbsentIn, IsKindIn, IsPresentIn}
+use Rattle.pv_steps.specs.Trees.{Files, Places, places, IsTree, IsAbsentIn, IsKindIn}
 use Rattle.pv_steps.specs.Steps.{put_at, made, moved}
 use Rattle.pv_steps.specs.Same.{bares}
 use Rattle.pv_steps.specs.declared.tree.Tree.{Ghosts}
@@ -27,105 +27,11 @@ use Rattle.pv_walk.specs.Putting.{IsPutting, Putting, IsPutStep, put_over}
 use Rattle.pv_walk.specs.Replacing.{Replacing, new_subtree}
 use Rattle.pv_walk.specs.Listing.{times}
 use Rattle.pv_walk.proofs.RemovalLaws.{no_same}
-use Rattle.pv_walk.proofs.CountLaws.{times-filter, times-keys, length-times}
-use Rattle.pv_walk.proofs.CopyingLaws.{copy_published}
-use Rattle.pv_walk.proofs.PublishLaws.{IsCleared, moved_same, staging_nonempty, stage_outside}
-use Rattle.pv_walk.proofs.PuttingLaws.{moved-made, none_under, on_at-of}
+use Rattle.pv_walk.proofs.CountLaws.{count_same, times-filter, times-keys, length-times}
+use Rattle.pv_walk.proofs.CopyingLaws.{copy_moved, copy_published}
+use Rattle.pv_walk.proofs.PublishLaws.{stage_outside}
+use Rattle.pv_walk.proofs.PuttingLaws.{none_under}
 use Rattle.pv_path.proofs.Tests.{true_not_false}
-
--- ---- a tree without what stands at a path
-
-module _ (path : Path) (nonempty : path ≢ []) (t : Places) where
-  cut-outside : (q : Path) → is_prefix path q ≡ false → cut path t q ≡ t q
-  cut-outside q h = ap (λ b. cond b None (t q)) h
-
-  cut-inside : (q : Path) → is_prefix path q ≡ true → cut path t q ≡ None
-  cut-inside q h = ap (λ b. cond b None (t q)) h
-
-  cut-here : IsAbsentIn (cut path t) path
-  cut-here = cut-inside path (is_prefix-refl path)
-
-  -- what stands there stood there
-  cut-present : (q : Path) → IsPresentIn (cut path t) q → (is_prefix path q ≡ false) × (cut path t q ≡ t q)
-  cut-present q h = elim (cases_Bool (is_prefix path q)) [
-    | inl e ↦ absurd (let no : false ≡ true = sym (ap is_some (cut-inside q e)) ∙ h in cc)
-    | inr e ↦ (e, cut-outside q e)
-  ]
-
-  root_outside : is_prefix path [] ≡ false
-  root_outside = by path nonempty
-    where
-      by : (p : Path) → p ≢ [] → is_prefix p [] ≡ false
-      by [] h = absurd (h refl)
-      by (n ∷ p) h = refl
-
-  -- it is a tree
-  cut-tree : IsTreeIn t → IsTreeIn (cut path t)
-  cut-tree tree = record {
-    root = ap kind_of (cut-outside [] root_outside) ∙ tree.root;
-    parents = λ q present other.
-        let there = cut-present q present in
-        let up : is_prefix path (parent_of q) ≡ false = above q there.0 in
-        ap kind_of (cut-outside (parent_of q) up) ∙ tree.parents q (sym (ap is_some there.1) ∙ present) other;
-    names = λ q present. let there = cut-present q present in tree.names q (sym (ap is_some there.1) ∙ present);
-    objects = λ q o is. let there = cut-present q (ap is_some is) in tree.objects q o (sym there.1 ∙ is);
-  }
-    where
-      above : (q : Path) → is_prefix path q ≡ false → is_prefix path (parent_of q) ≡ false
-      above q h = elim (cases_Bool (is_prefix path (parent_of q))) [
-        | inl e ↦ absurd (true_not_false (is_prefix path q) (is_prefix-trans path (parent_of q) q e (parent_of-is_prefix q)) h)
-        | inr e ↦ e
-      ]
-
--- ---- what comes of the Rename
-
-put_at-of : (p : Path) (o : Option Object) (x y : Places) (q : Path) → x q ≡ y q → put_at p o x q ≡ put_at p o y q
-put_at-of p o x y q e = ap (λ v. cond (same_path p q) o v) e
-
-module _ (now : ℕ) (path : Path) (nonempty : path ≢ []) (file : NewFile) (t : Files) (u : Files) (is : places u ≡ made now (staging_of path) (new_object file now) (places t)) where
-  abbrev o : Object
-  o = new_object file now
-
-  staged_cleared : IsCleared now path (made now (staging_of path) (new_object file now) (places t)) (made now (staging_of path) (new_object file now) (cut path (places t)))
-  staged_cleared = record { same = λ q h d. at q h; kept = λ q h. inl (at q h) }
-    where
-      at : (q : Path) → is_prefix path q ≡ false → made now (staging_of path) (new_object file now) (cut path (places t)) q ≡ made now (staging_of path) (new_object file now) (places t) q
-      at q h =
-          on_at-of (parent_of (staging_of path)) (modified now) (put_at (staging_of path) (Some (new_object file now)) (cut path (places t))) (put_at (staging_of path) (Some (new_object file now)) (places t)) q
-          (put_at-of (staging_of path) (Some (new_object file now)) (cut path (places t)) (places t) q (cut-outside path nonempty (places t) q h))
-
-  -- what comes to the path is the new object, in the place of all that stood there
-  pub over_moved : IsTree t → IsAbsentIn (places t) (staging_of path) → moved now (staging_of path) path (places u) ≡ put_over now path file (places t)
-  over_moved tree free =
-      ap (moved now (staging_of path) path) is
-      ∙ sym (moved_same now path nonempty (made now (staging_of path) (new_object file now) (places t)) (made now (staging_of path) (new_object file now) (cut path (places t))) staged_cleared)
-      ∙ moved-made now path nonempty (cut path (places t)) (cut-tree path nonempty (places t) tree) (cut-here path nonempty (places t))
-      (cut-outside path nonempty (places t) (staging_of path) (stage_outside path nonempty) ∙ free) (new_object file now) refl
-
-  -- no more has to make way than stood at and below the path before
-  pub count_over : count_at u path ≤ count_at t path
-  count_over = length-times (filter (is_prefix path) (fin.keys u)) (filter (is_prefix path) (fin.keys t))
-      (λ q. omega (arith, times-filter (is_prefix path) q (fin.keys u), times-filter (is_prefix path) q (fin.keys t), same q))
-    where
-      some_same : (f : Object → Object) (b : Bool) (v : Option Object) → is_some (cond b (option_map f v) v) ≡ is_some v
-      some_same f true None = refl
-      some_same f true (Some x) = refl
-      some_same f false v = refl
-
-      present : (q : Path) → is_prefix path q ≡ true → is_some (places u q) ≡ is_some (places t q)
-      present q e =
-          ap (λ (x : Places). is_some (x q)) is
-          ∙ some_same (modified now) (same_path (parent_of (staging_of path)) q) (put_at (staging_of path) (Some (new_object file now)) (places t) q)
-          ∙ ap is_some (put_at-else (staging_of path) q (Some (new_object file now)) (places t)
-          (no_same (staging_of path) q (λ s. true_not_false (is_prefix path q) e (ap (is_prefix path) (sym s) ∙ stage_outside path nonempty))))
-
-      same : (q : Path) → cond (is_prefix path q) (times q (fin.keys u)) 0 ≤ cond (is_prefix path q) (times q (fin.keys t)) 0
-      same q = elim (cases_Bool (is_prefix path q)) [
-        | inl e ↦
-            let count : times q (fin.keys u) ≡ times q (fin.keys t) = times-keys u q ∙ ap (λ b. cond b 1 0) (present q e) ∙ sym (times-keys t q) in
-            omega (arith, ap (λ b. cond b (times q (fin.keys u)) 0) e, ap (λ b. cond b (times q (fin.keys t)) 0) e, count)
-        | inr e ↦ omega (arith, ap (λ b. cond b (times q (fin.keys u)) 0) e)
-      ]
 
 -- ---- where nothing stands
 
@@ -184,20 +90,42 @@ module _ (now : ℕ) (path : Path) (file : NewFile) (t : Places) where
       by (Some []) e = rw e (over (Some (new_object file now)) _ (sym (here (rest_under-Some path q [] e ∙ append-nil path))))
       by (Some (name ∷ rest)) e = rw e (over None _ (sym (below (longer name rest (rest_under-Some path q (name ∷ rest) e)) (inside (ap is_some e)))))
 
+-- ---- what is staged comes to its path
+
+module _ (now : ℕ) (path : Path) (nonempty : path ≢ []) (file : NewFile) (t u : Files) (is : places u ≡ made now (staging_of path) (new_object file now) (places t)) where
+  -- no more has to make way than stood at and below the path before
+  pub count_over : count_at u path ≤ count_at t path
+  count_over = count_same path t u present
+    where
+      some_same : (f : Object → Object) (b : Bool) (v : Option Object) → is_some (cond b (option_map f v) v) ≡ is_some v
+      some_same f true None = refl
+      some_same f true (Some x) = refl
+      some_same f false v = refl
+
+      present : (q : Path) → is_prefix path q ≡ true → is_some (places u q) ≡ is_some (places t q)
+      present q e =
+          ap (λ (x : Places). is_some (x q)) is
+          ∙ some_same (modified now) (same_path (parent_of (staging_of path)) q) (put_at (staging_of path) (Some (new_object file now)) (places t) q)
+          ∙ ap is_some (put_at-else (staging_of path) q (Some (new_object file now)) (places t)
+          (no_same (staging_of path) q (λ s. true_not_false (is_prefix path q) e (ap (is_prefix path) (sym s) ∙ stage_outside path nonempty))))
+
+  module _ (tree : IsTree t) (free : IsAbsentIn (places t) (staging_of path)) where
+    staged_single : places u ≡ with_subtree now (staging_of path) (new_subtree file) (places t)
+    staged_single =
+        is ∙ ap (made now (staging_of path) (new_object file now)) (sym (cut_absent (staging_of path) t tree free))
+        ∙ (λ i q. sym (put_single now (staging_of path) file (places t) q) i)
+
+    -- what comes to the path is the new object, in the place of all that stood there
+    pub over_moved : moved now (staging_of path) path (places u) ≡ put_over now path file (places t)
+    over_moved =
+        ap (moved now (staging_of path) path) staged_single ∙ copy_moved now path nonempty (new_subtree file) t tree free
+        ∙ (λ i q. put_single now path file (places t) q i)
+
+    -- while what stands there makes way, or the new object comes to its path
+    pub over_published : SameOutside (is_prefix (staging_of path)) t u → (w : Files) → Publishing now path u w → Replacing path (new_subtree file) t w
+    over_published = copy_published now path nonempty (new_subtree file) t tree free u staged_single
+
 -- ---- on the way
-
-module _ (now : ℕ) (path : Path) (nonempty : path ≢ []) (file : NewFile) (t : Files) (parent : IsKindIn Directory (places t) (parent_of path)) (tree : IsTree t) (free : IsAbsentIn (places t) (staging_of path)) (u : Files)
-    (is : places u ≡ made now (staging_of path) (new_object file now) (places t)) where
-  staged_single : places u ≡ with_subtree now (staging_of path) (new_subtree file) (places t)
-  staged_single =
-      is ∙ ap (made now (staging_of path) (new_object file now)) (sym (cut_absent (staging_of path) t tree free))
-      ∙ (λ i q. sym (put_single now (staging_of path) file (places t) q) i)
-
-  -- while what stands there makes way, or the new object comes to its path
-  pub over_published : SameOutside (is_prefix (staging_of path)) t u → (w : Files) → Publishing now path u w → Replacing path (new_subtree file) t w
-  over_published =
-      copy_published now path nonempty (new_subtree file) t parent tree free (staging_nonempty path nonempty)
-      (ap (λ p. kind_of (places t p)) (parent_of-staging_of path) ∙ parent) u staged_single
 
 module _ (path : Path) (t : Files) (tree : IsTree t) (none : IsAbsentIn (places t) path) where
   -- on the way the new object is put where nothing stood
@@ -237,4 +165,4 @@ module _ {S : Type 0} (tree : Ghosts S) (now : ℕ) (path : Path) (nonempty : pa
   over_acted {n = n} moves is parent standing free before last =
       acted_then tree moves (Replacing path (new_subtree file) (tree.state a)) (IsPutStep path file) (over_staged before)
       (acted_weaken tree (Publishing now path (tree.state b)) (Replacing path (new_subtree file) (tree.state a)) (IsPublishing path) (IsPutStep path file) n n
-      (over_published now path nonempty file (tree.state a) parent standing free (tree.state b) is (acted_end tree (SameOutside (is_prefix (staging_of path)) (tree.state a)) (GivesNew (staging_of path) file) before)) (λ s g. inr g) (omega arith) last)
+      (over_published now path nonempty file (tree.state a) (tree.state b) is standing free (acted_end tree (SameOutside (is_prefix (staging_of path)) (tree.state a)) (GivesNew (staging_of path) file) before)) (λ s g. inr g) (omega arith) last)

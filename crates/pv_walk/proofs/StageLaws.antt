@@ -1,45 +1,40 @@
 -- Laws of new objects that are made at a path: what each step leaves, and that no other path changes.
-use Rattle.std.specs.Prelude.{◌≡◌, ◌≢◌, ℕ, ◌+◌, ◌≤◌, ◌⊎◌, true, false, nat_le, fold, List, [], ◌∷◌, ◌++◌, length, Some, None, option_map, Result, Ok, Err, OnOk}
-use Rattle.std.proofs.Common.{refl, sym, ap, subst, ◌∙◌, inl, inr, arith, lit≤, zero, suc}
+use Rattle.std.specs.Prelude.{◌≡◌, ◌≢◌, ℕ, ◌≤◌, ◌⊎◌, true, nat_le, fold, List, [], ◌∷◌, ◌++◌, length, Some, None, option_map, Result, Ok, Err, OnOk}
+use Rattle.std.proofs.Common.{refl, sym, ap, subst, ◌∙◌, inl, inr, arith, zero, suc}
 use Rattle.std.specs.List.{list_all}
 use Rattle.std.proofs.Math.Seq.{take-nil}
 use Rattle.std.proofs.lemmas.Bool.Decides.{nat_tests}
 use Rattle.std.proofs.lemmas.List.Folds.{list_all-append}
 use Rattle.std.proofs.lemmas.Bool.{and_parts}
-use Rattle.std.proofs.lemmas.Option.{same_Some}
 use Rattle.pv_path.specs.Paths.{Path, is_prefix, same_path, last_name, parent_of, staging_of}
 use Rattle.pv_path.proofs.PathLaws.{path_parts, parent_of-staging_of, not_prefix_not_same}
-use Rattle.pv_acl.specs.Parts.{is_acl, acl_of_mode, special_of, mode_of, part_of_mode}
+use Rattle.pv_acl.specs.Parts.{special_of, mode_of, part_of_mode}
 use Rattle.pv_steps.specs.declared.node.Kind.TheVariants.{Directory, File}
 use Rattle.pv_steps.specs.declared.object.Object.{Object}
 use Rattle.pv_steps.specs.declared.step.Step.{Step}
 use Rattle.pv_steps.specs.declared.step.Step.TheVariants.{Write}
 use Rattle.pv_steps.specs.declared.tree.TreeFault.{TreeFault}
-use Rattle.pv_steps.specs.Objects.{bare, changed, with_content, AclFits}
-use Rattle.pv_steps.proofs.ObjectLaws.{IsObject-fresh, no_attrs, no_letters, small_special}
+use Rattle.pv_steps.specs.Objects.{bare, with_content}
 use Rattle.pv_steps.specs.Trees.{Files, Places, places, kind_of, IsKindIn, IsAbsentIn}
-use Rattle.pv_steps.specs.Steps.{Can, HasRoom, after, after_at, put_at, on_at, made}
+use Rattle.pv_steps.specs.Steps.{Can, HasRoom, after, after_at, on_at, made}
 use Rattle.pv_steps.proofs.StepLaws.{at_after}
 use Rattle.pv_steps.specs.Same.{bares, Differ}
 use Rattle.pv_steps.specs.Runs.{IsNotIdle}
-use Rattle.pv_steps.specs.declared.tree.Tree.{Ghosts}
-use Rattle.pv_steps.specs.Acting.{Acted}
-use Rattle.pv_steps.proofs.ActingLaws.{Moves, Asks, acted_then, acted_weaken, acted_end}
+use Rattle.pv_steps.proofs.ActingLaws.{Asks}
 use Rattle.pv_dress.specs.Edits.{SameOutside}
-use Rattle.pv_dress.specs.Dressing.{IsDress, CanDress, dress_mode, dressed, dressed_first, Dressing, GivesDress, IsChanged, ChangedAt}
+use Rattle.pv_dress.specs.Dressing.{dressed, dressed_first, Dressing}
 use Rattle.pv_dress.specs.declared.bare.Bare.{Bare}
 use Rattle.pv_dress.specs.declared.bare.Dress.{Dress}
 use Rattle.pv_dress.specs.Nodes.{bare_of, bares_of}
-use Rattle.pv_dress.proofs.DressLaws.{outside_dressing}
 use Rattle.pv_dress.proofs.OperationLaws.{bare-same, bares_of-same}
-use Rattle.pv_dress.proofs.EditLaws.{on_at-here, on_at-else, made-here, put_at-made, on_at-made, bares-made, bares-put_else}
+use Rattle.pv_dress.proofs.EditLaws.{on_at-here, on_at-else, made-here, on_at-made, bares-made, bares-put_else}
 use Rattle.pv_walk.specs.declared.new_file.NewFile.{NewFile}
 use Rattle.pv_walk.specs.declared.new_file.NewKind.{NewKind}
 use Rattle.pv_walk.specs.declared.new_file.NewKind.TheVariants as new
-use Rattle.pv_walk.specs.Staging.{new_kind, new_payload, new_major, new_minor, new_mode, new_object, IsNewFile, HasTarget, GivesNew}
-use Rattle.pv_walk.specs.Making.{make_step, content_of, first_payload, first_object, held_object, new_dress, IsBegun, Beginning}
+use Rattle.pv_walk.specs.Staging.{new_kind, IsNewFile, HasTarget, GivesNew}
+use Rattle.pv_walk.specs.Making.{make_step, content_of, first_payload, first_object, held_object, IsBegun, Beginning, BeginsNew}
 use Rattle.pv_walk.specs.Pieces.{what_of}
-use Rattle.pv_walk.specs.Stages.{IsStage, IsAtStage, Making}
+use Rattle.pv_walk.specs.Stages.{IsStage, IsAtStage}
 
 -- ---- objects
 
@@ -76,6 +71,11 @@ gives_make path file (new.File content) e = (refl, ap new_kind e)
 gives_make path file (new.Link target) e = (refl, e)
 gives_make path file new.Fifo e = (refl, e)
 gives_make path file (new.Device block major minor) e = (refl, e)
+
+-- what begins a new object gives it a part of what it is to have
+pub begins_gives : (path : Path) (file : NewFile) (step : Step) → BeginsNew path file.what step → GivesNew path file step
+begins_gives path file step (inl e) = subst (GivesNew path file) (sym e) (gives_make path file file.what refl)
+begins_gives path file step (inr (content, (e, is))) = subst (GivesNew path file) (sym e) (refl, is)
 
 module _ (path : Path) (nonempty : path ≢ []) (now : ℕ) (t : Files) (room : HasRoom (places t) path) where
   make_leaves : (what : NewKind) → after_at (places t) (make_step path what) now ≡ made now path (first_object what now) (places t)
@@ -118,40 +118,31 @@ module _ (path : Path) (nonempty : path ≢ []) (now : ℕ) (t : Files) (room : 
   can_make new.Fifo target = room
   can_make (new.Device block major minor) target = room
 
-  module _ (file : NewFile) (is_new : IsNewFile file) where
-    pub begin_asks : Asks (Beginning path file.what t) (GivesNew path file) t (make_step path file.what) now
+  module _ (what : NewKind) (target : HasTarget what) where
+    pub begin_asks : Asks (Beginning path what t) (BeginsNew path what) t (make_step path what) now
     begin_asks = record {
-      start = begun_start file.what;
-      can = can_make file.what is_new.target;
-      busy = make_busy file.what;
-      there = λ u is. begun_made file.what u (after_make file.what u is);
-      gives = gives_make path file file.what refl;
+      start = begun_start what;
+      can = can_make what target;
+      busy = make_busy what;
+      there = λ u is. begun_made what u (after_make what u is);
+      gives = inl refl;
     }
 
-    pub make_asks : Asks (SameOutside (is_prefix path) t) (GivesNew path file) t (make_step path file.what) now
-    make_asks = record {
-      start = λ q e. refl;
-      can = begin_asks.can;
-      busy = begin_asks.busy;
-      there = λ u is q e. (begin_asks.there u is).outside q (not_prefix_not_same path q e);
-      gives = begin_asks.gives;
-    }
-
-  module _ (file : NewFile) (is_new : IsNewFile file) (u : Files) where
-    pub make_holds : u ≡ after t (make_step path file.what) now → content_of file.what ≡ None → places u ≡ made now path (held_object file.what now) (places t)
-    make_holds is none = after_make file.what u is ∙ ap (λ o. made now path o (places t)) (held_empty file.what now none)
+  module _ (what : NewKind) (u : Files) where
+    pub begin_holds : u ≡ after t (make_step path what) now → content_of what ≡ None → places u ≡ made now path (held_object what now) (places t)
+    begin_holds is none = after_make what u is ∙ ap (λ o. made now path o (places t)) (held_empty what now none)
 
     -- ---- the content that is written
 
-    module _ (is : u ≡ after t (make_step path file.what) now) (content : List ℕ) (some : Some content ≡ content_of file.what) where
+    module _ (is : u ≡ after t (make_step path what) now) (content : List ℕ) (some : Some content ≡ content_of what) where
       abbrev first : Object
-      first = first_object file.what now
+      first = first_object what now
 
-      held : Held file.what now content
-      held = held_content file.what now content some
+      held : Held what now content
+      held = held_content what now content some
 
       there : places u path ≡ Some first
-      there = ap (λ p. p path) (after_make file.what u is) ∙ made-here now path (places t) nonempty first
+      there = ap (λ p. p path) (after_make what u is) ∙ made-here now path (places t) nonempty first
 
       pub can_write : Can (places u) (Write path content)
       can_write = ap kind_of there ∙ ap Some held.kind
@@ -170,28 +161,44 @@ module _ (path : Path) (nonempty : path ≢ []) (now : ℕ) (t : Files) (room : 
       written_outside : (v : Files) → v ≡ after u (Write path content) now → SameOutside (same_path path) t v
       written_outside v wrote = λ q e.
           ap (λ p. bares p q) (ap places wrote ∙ at_after u (Write path content) now) ∙ ap (option_map bare) (on_at-else path q (with_content content now) (places u) e)
-          ∙ outside_made first u (after_make file.what u is) q e
+          ∙ outside_made first u (after_make what u is) q e
 
-      written_here : (v : Files) → v ≡ after u (Write path content) now → bares_of (places v) path ≡ Some (bare_of (held_object file.what 0))
+      written_here : (v : Files) → v ≡ after u (Write path content) now → bares_of (places v) path ≡ Some (bare_of (held_object what 0))
       written_here v wrote =
           ap (λ (p : Places). bares_of p path) (ap places wrote ∙ at_after u (Write path content) now)
           ∙ ap (option_map bare_of) (on_at-here path (with_content content now) (places u) ∙ ap (option_map (with_content content now)) there ∙ ap Some held.object)
 
       -- after the step that makes the object
-      pub write_asks : Asks (Beginning path file.what t) (GivesNew path file) u (Write path content) now
+      pub write_asks : Asks (Beginning path what t) (BeginsNew path what) u (Write path content) now
       write_asks = record {
-        start = begun_made file.what u (after_make file.what u is);
+        start = begun_made what u (after_make what u is);
         can = can_write;
         busy = write_busy;
-        there = λ v wrote. record { outside = written_outside v wrote; here = inr (bare_of (held_object file.what 0), (written_here v wrote, inr refl)) };
-        gives = (refl, held.is);
+        there = λ v wrote. record { outside = written_outside v wrote; here = inr (bare_of (held_object what 0), (written_here v wrote, inr refl)) };
+        gives = inr (content, (refl, held.is));
       }
 
-      pub write_holds : (r : Result (Unit {0}) TreeFault) (v : Files) → OnOk r (v ≡ after u (Write path content) now) → OnOk r (places v ≡ made now path (held_object file.what now) (places t))
+      pub write_holds : (r : Result (Unit {0}) TreeFault) (v : Files) → OnOk r (v ≡ after u (Write path content) now) → OnOk r (places v ≡ made now path (held_object what now) (places t))
       write_holds (Err e) v done = tt
       write_holds (Ok x) v done =
-          ap places done ∙ at_after u (Write path content) now ∙ ap (on_at path (with_content content now)) (after_make file.what u is)
+          ap places done ∙ at_after u (Write path content) now ∙ ap (on_at path (with_content content now)) (after_make what u is)
           ∙ (λ j q. on_at-made now path (places t) nonempty (with_content content now) first q j) ∙ ap (λ o. made now path o (places t)) held.object
+
+  -- a new object is begun
+  module _ (file : NewFile) (is_new : IsNewFile file) where
+    pub make_asks : Asks (SameOutside (is_prefix path) t) (GivesNew path file) t (make_step path file.what) now
+    make_asks =
+        let begins = begin_asks file.what is_new.target in
+        record {
+          start = λ q e. refl;
+          can = begins.can;
+          busy = begins.busy;
+          there = λ u is q e. (begins.there u is).outside q (not_prefix_not_same path q e);
+          gives = begins_gives path file (make_step path file.what) begins.gives;
+        }
+
+    pub make_holds : (u : Files) → u ≡ after t (make_step path file.what) now → content_of file.what ≡ None → places u ≡ made now path (held_object file.what now) (places t)
+    make_holds u = begin_holds file.what u
 
 -- ---- stages
 
@@ -228,114 +235,10 @@ begun_stage path what b t u same h = by h.here
     by (inl none) = IsAtStage.none none
     by (inr (there, (is, begun))) = IsAtStage.stage b there refl is (IsStage.begun (subst (λ (w : NewKind). IsBegun w there) same begun))
 
--- the body of a new object tells what it is
-pub what_again : (what : NewKind) → what ≡ what_of (record { kind = new_kind what; payload = new_payload what; major = new_major what; minor = new_minor what })
-what_again new.Directory = refl
-what_again (new.File content) = refl
-what_again (new.Link target) = refl
-what_again new.Fifo = refl
-what_again (new.Device true major minor) = refl
-what_again (new.Device false major minor) = refl
-
--- ---- owners and mode
-
-new_mode_bound : (what : NewKind) (mode : ℕ) → mode ≤ 4095 → new_mode what mode ≤ 4095
-new_mode_bound new.Directory mode h = h
-new_mode_bound (new.File content) mode h = h
-new_mode_bound (new.Link target) mode h = lit≤ tt
-new_mode_bound new.Fifo mode h = h
-new_mode_bound (new.Device block major minor) mode h = h
+-- ---- modes
 
 pub mode_again : (mode : ℕ) → mode_of (special_of mode) (part_of_mode mode) ≡ mode
 mode_again mode = omega arith
-
-is_acl-of_mode : (mode : ℕ) → mode ≤ 4095 → is_acl (acl_of_mode mode) ≡ true
-is_acl-of_mode mode small = (IsObject-fresh Directory mode [] 0 0 0 (lit≤ tt) small refl refl (refl, refl) tt).acl
-
-fits_new : (what : NewKind) (mode : ℕ) → AclFits (new_kind what) (special_of (new_mode what mode)) (acl_of_mode (new_mode what mode))
-fits_new new.Directory mode = tt
-fits_new (new.File content) mode = refl
-fits_new (new.Link target) mode = (refl, refl)
-fits_new new.Fifo mode = refl
-fits_new (new.Device true major minor) mode = refl
-fits_new (new.Device false major minor) mode = refl
-
-module _ (path : Path) (nonempty : path ≢ []) (now : ℕ) (t : Files) (file : NewFile) (is_new : IsNewFile file) (u : Files) (is : places u ≡ made now path (held_object file.what now) (places t)) where
-  abbrev plain : Object
-  plain = held_object file.what now
-
-  there_held : places u path ≡ Some plain
-  there_held = ap (λ p. p path) is ∙ made-here now path (places t) nonempty plain
-
-  is_dress : IsDress (new_kind file.what) (new_dress file)
-  is_dress = record {
-    owner = is_new.owner;
-    special = small_special (new_mode file.what file.mode) (new_mode_bound file.what file.mode is_new.mode);
-    acl = is_acl-of_mode (new_mode file.what file.mode) (new_mode_bound file.what file.mode is_new.mode);
-    fits = fits_new file.what file.mode;
-    attrs = no_attrs (new_kind file.what);
-    letters = no_letters (new_kind file.what);
-  }
-
-  pub can_wear : CanDress u path (new_dress file)
-  can_wear = record { kind = new_kind file.what; there = ap kind_of there_held; dress = is_dress }
-
-  mode_is : dress_mode (new_dress file) ≡ new_mode file.what file.mode
-  mode_is = mode_again (new_mode file.what file.mode)
-
-  -- the mode alone gives the ACL of the dress
-  acl_given : (dressed_first 2 (new_dress file) plain).node.acl ≡ (new_dress file).acl
-  acl_given = ap acl_of_mode mode_is
-
-  pub gives_dress : (s : Step) → GivesDress path (new_dress file) u s → GivesNew path file s
-  gives_dress s (inl e) = subst (GivesNew path file) (sym e) (refl, (refl, refl))
-  gives_dress s (inr (inl e)) = subst (GivesNew path file) (sym e) (refl, mode_is)
-  gives_dress s (inr (inr (inl e))) = absurd (e.1 plain there_held acl_given)
-  gives_dress s (inr (inr (inr (inl e)))) = absurd (e.1 plain there_held refl)
-  gives_dress s (inr (inr (inr (inr e)))) = absurd (e.1 plain there_held refl)
-
-  -- the stages in which it is dressed
-  pub staged_dressed : SameOutside (same_path path) t u → (v : Files) → Dressing path (new_dress file) u v → Making path (bare_of (new_object file 0)) t v
-  staged_dressed before v h = record {
-    outside = λ q e. outside_dressing path (new_dress file) u v h q e ∙ before q e;
-    here = dressing_stage path (bare_of (new_object file 0)) (new_dress file) plain u v refl there_held (ap (λ w. bare_of (held_object w 0)) (what_again file.what)) h;
-  }
-
-  dressed_is : (old o : Object) → old ≡ plain → IsChanged (dressed (new_dress file)) now old o → o ≡ new_object file now
-  dressed_is old o e (inl h) = h.1 ∙ sym h.0 ∙ ap (dressed (new_dress file)) e
-  dressed_is old o e (inr h) = h.1 ∙ ap (λ x. changed now (dressed (new_dress file) x)) e
-
-  pub dress_gives : (v : Files) → ChangedAt (dressed (new_dress file)) path now u v → places v ≡ made now path (new_object file now) (places t)
-  dress_gives v h =
-      let old : Some h.old ≡ Some plain = sym h.there ∙ there_held in
-      let there : h.old ≡ plain = same_Some h.old plain old in
-      let same : h.object ≡ new_object file now = dressed_is h.old h.object there h.is in
-      h.left ∙ (λ i. put_at path (Some (same i)) (is i)) ∙ (λ j q. put_at-made now path (places t) nonempty plain (new_object file now) q j)
-
-  pub dress_gives_on : (r : Result (Unit {0}) TreeFault) (v : Files) → OnOk r (ChangedAt (dressed (new_dress file)) path now u v) → OnOk r (places v ≡ made now path (new_object file now) (places t))
-  dress_gives_on (Ok x) v h = dress_gives v h
-  dress_gives_on (Err e) v h = tt
-
-module _ {S : Type 0} (tree : Ghosts S) (moves : Moves tree) (path : Path) (nonempty : path ≢ []) (now : ℕ) (file : NewFile) (is_new : IsNewFile file) (a b c : S) where
-  begun_making : (u : Files) → Beginning path file.what (tree.state a) u → Making path (bare_of (new_object file 0)) (tree.state a) u
-  begun_making u h = record { outside = h.outside; here = begun_stage path file.what (bare_of (new_object file 0)) (tree.state a) u (what_again file.what) h }
-
-  pub begun_acted : {A : Type 0} {m : ℕ} {r : Result A TreeFault} (n : ℕ) → m ≤ n → Acted tree (Beginning path file.what (tree.state a)) (GivesNew path file) m now a b r
-      → Acted tree (Making path (bare_of (new_object file 0)) (tree.state a)) (GivesNew path file) n now a b r
-  begun_acted {m = m} n le before =
-      acted_weaken tree (Beginning path file.what (tree.state a)) (Making path (bare_of (new_object file 0)) (tree.state a)) (GivesNew path file) (GivesNew path file) m n begun_making (λ s g. g) le before
-
-  pub dress_acted : {A B : Type 0} {m n : ℕ} {x : A} {r : Result B TreeFault} → places (tree.state b) ≡ made now path (held_object file.what now) (places (tree.state a))
-      → Acted tree (Beginning path file.what (tree.state a)) (GivesNew path file) m now a b (Ok x)
-      → Acted tree (Dressing path (new_dress file) (tree.state b)) (GivesDress path (new_dress file) (tree.state b)) n now b c r
-      → Acted tree (Making path (bare_of (new_object file 0)) (tree.state a)) (GivesNew path file) (m + n) now a c r
-  dress_acted {m = m} {n = n} is before last =
-      let t = tree.state a in
-      let u = tree.state b in
-      acted_then tree moves (Making path (bare_of (new_object file 0)) t) (GivesNew path file) (begun_acted m (omega arith) before)
-      (acted_weaken tree (Dressing path (new_dress file) u) (Making path (bare_of (new_object file 0)) t) (GivesDress path (new_dress file) u) (GivesNew path file) n n
-      (staged_dressed path nonempty now t file is_new u is (acted_end tree (Beginning path file.what t) (GivesNew path file) before).outside)
-      (gives_dress path nonempty now t file is_new u is) (omega arith) last)
 
 -- ---- staging names
 

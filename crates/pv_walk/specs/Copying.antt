@@ -1,7 +1,8 @@
 -- Copies: what stands at and below one path comes once more to another, each object with all it has but its stamps
 -- (tmpfiles.d(5), C; cp(1), -a).
-use Rattle.std.specs.Prelude.{◌≡◌, ◌⊎◌, ℕ, ◌≤◌, false, [], ◌∷◌, ◌++◌, length, filter, filter_map, Option, Some, None, IfSome, is_some, option_map, unwrap_or, if◌then◌else◌}
+use Rattle.std.specs.Prelude.{◌≡◌, ◌≢◌, ◌⊎◌, ℕ, ◌≤◌, false, [], ◌∷◌, ◌++◌, length, filter, filter_map, Option, Some, None, IfSome, is_some, option_map, unwrap_or, if◌then◌else◌}
 use Rattle.std.specs.FinMap as fin
+use Rattle.pv_acl.specs.Parts.{acl_of_mode}
 use Rattle.pv_dress.specs.declared.bare.Bare.{Bare}
 use Rattle.pv_dress.specs.Dressing.{dress_mode}
 use Rattle.pv_dress.specs.Nodes.{is_link}
@@ -103,12 +104,20 @@ GivesBare path b (SetAttrs at attrs) = (at ≡ path) × (attrs ≡ b.dress.attrs
 GivesBare path b (SetLetters at letters) = (at ≡ path) × (letters ≡ b.dress.letters)
 GivesBare path b step = ⊥
 
+-- an ACL, extended attributes and letters are given only where owners and mode do not leave them
+abbrev pub IsNeeded : Bare → Step → Type 0
+IsNeeded b (SetAcl at acl) = acl_of_mode (dress_mode b.dress) ≢ b.dress.acl
+IsNeeded b (SetAttrs at attrs) = [] ≢ b.dress.attrs
+IsNeeded b (SetLetters at letters) = 0 ≢ b.dress.letters
+IsNeeded b step = Unit {0}
+
 -- a step gives an object of a subtree that is made at a path what it has
 pub record GivesPart (path : Path) (subtree : Path → Option Bare) (step : Step) : Type 0 where
   pub rest : Path
   pub object : Bare
   pub is : subtree rest ≡ Some object
   pub gives : GivesBare (path ++ rest) object step
+  pub needed : IsNeeded object step
 
 -- so under the staging name of a path
 abbrev pub IsStagingOf : Path → Subtree → Step → Type 0

@@ -5,7 +5,7 @@ use Rattle.pv_path.specs.Paths.{Path, same_path}
 use Rattle.pv_acl.specs.Parts.{special_of, acl_of_mode}
 use Rattle.pv_steps.specs.declared.object.Object.{Object}
 use Rattle.pv_steps.specs.declared.step.Step.{Step}
-use Rattle.pv_steps.specs.declared.step.Step.TheVariants.{MakeDir, MakeFile, MakeFifo, MakeDevice, MakeLink}
+use Rattle.pv_steps.specs.declared.step.Step.TheVariants.{MakeDir, MakeFile, MakeFifo, MakeDevice, MakeLink, Write}
 use Rattle.pv_steps.specs.Objects.{fresh}
 use Rattle.pv_steps.specs.Trees.{Files, places}
 use Rattle.pv_dress.specs.declared.bare.Bare.{Bare}
@@ -64,6 +64,10 @@ new_dress file = record {
 -- an object without stamps as its Make step leaves it, or with all it holds
 abbrev pub IsBegun : NewKind → Bare → Type 0
 IsBegun what there = (there ≡ bare_of (first_object what 0)) ⊎ (there ≡ bare_of (held_object what 0))
+
+-- a step makes an object as it is first made, or writes its content
+abbrev pub BeginsNew : Path → NewKind → Step → Type 0
+BeginsNew path what step = (step ≡ make_step path what) ⊎ ((content : List ℕ) × ((step ≡ Write path content) × (what ≡ new.File content)))
 
 -- on the way of making it where nothing stood: nothing has changed elsewhere, stamps aside, and it is not there yet, or only begun
 pub record Beginning (path : Path) (what : NewKind) (t u : Files) : Type 0 where

@@ -3,7 +3,7 @@
 use Rattle.std.specs.Prelude.{◌≡◌, ◌≢◌, ◌⊎◌, ℕ, ◌+◌, true, false, List, [], ◌∷◌, ◌++◌, map, Option, Some, None, is_some, option_map, if◌then◌else◌}
 use Rattle.pv_dress.specs.declared.bare.Bare.{Bare}
 use Rattle.pv_dress.specs.declared.bare.Body.{Body}
-use Rattle.pv_dress.specs.Dressing.{IsDress, dress_mode, CanDress, ChangedAt, Dressing, GivesDress, dressed}
+use Rattle.pv_dress.specs.Dressing.{IsDress, CanDress, ChangedAt, Dressing, GivesDress, dressed}
 use Rattle.pv_dress.specs.Nodes.{bare_of}
 use Rattle.pv_path.specs.Paths.{Path, same_path, parent_of}
 use Rattle.pv_steps.specs.declared.node.Kind.{Kind}
@@ -11,7 +11,6 @@ use Rattle.pv_steps.specs.declared.node.Kind.TheVariants.{Directory, File, Link,
 use Rattle.pv_steps.specs.declared.step.Step.{Step}
 use Rattle.pv_steps.specs.Steps.{HasRoom, made}
 use Rattle.pv_steps.specs.Trees.{Files, places, names_below}
-use Rattle.pv_walk.specs.declared.new_file.NewFile.{NewFile}
 use Rattle.pv_walk.specs.declared.new_file.NewKind.{NewKind}
 use Rattle.pv_walk.specs.declared.new_file.NewKind.TheVariants as new
 use Rattle.pv_walk.specs.declared.listing.Piece.{Piece}
@@ -19,8 +18,8 @@ use Rattle.pv_walk.specs.declared.listing.Piece.TheVariants.{Make, Give}
 use Rattle.pv_walk.specs.declared.listing.Task.{Task}
 use Rattle.pv_walk.specs.declared.listing.Task.TheVariants.{Open, Close}
 use Rattle.pv_walk.specs.Copying.{Subtree}
-use Rattle.pv_walk.specs.Making.{Beginning, held_object}
-use Rattle.pv_walk.specs.Staging.{IsNewFile, GivesNew}
+use Rattle.pv_walk.specs.Making.{Beginning, BeginsNew, held_object}
+use Rattle.pv_walk.specs.Staging.{HasTarget}
 
 -- ---- single pieces
 
@@ -36,43 +35,39 @@ what_of body = by body.kind
     by CharDevice = new.Device false body.major body.minor
     by BlockDevice = new.Device true body.major body.minor
 
--- an object as a new one
-abbrev pub file_of : Bare → NewFile
-file_of b = record { what = what_of b.body; mode = dress_mode b.dress; uid = b.dress.uid; gid = b.dress.gid }
-
 -- an object as it is first made, with what it holds
 abbrev pub plain : Bare → Bare
 plain b = bare_of (held_object (what_of b.body) 0)
 
 -- an object of which a copy can be made
 pub record IsWhole (b : Bare) : Type 0 where
-  pub new : IsNewFile (file_of b)
+  pub target : HasTarget (what_of b.body)
   pub body : (plain b).body ≡ b.body
   pub dress : IsDress b.body.kind b.dress
 
 -- what a piece needs of a tree, below a path
 abbrev pub CanDo : Path → Piece → Files → Type 0
-CanDo stage (Make rest file) t = (stage ++ rest ≢ []) × (HasRoom (places t) (stage ++ rest) × IsNewFile file)
+CanDo stage (Make rest what) t = (stage ++ rest ≢ []) × (HasRoom (places t) (stage ++ rest) × HasTarget what)
 CanDo stage (Give rest dress) t = CanDress t (stage ++ rest) dress
 
 -- what it leaves
 abbrev pub IsDone : ℕ → Path → Piece → Files → Files → Type 0
-IsDone now stage (Make rest file) t u = places u ≡ made now (stage ++ rest) (held_object file.what now) (places t)
+IsDone now stage (Make rest what) t u = places u ≡ made now (stage ++ rest) (held_object what now) (places t)
 IsDone now stage (Give rest dress) t u = ChangedAt (dressed dress) (stage ++ rest) now t u
 
 -- on the way
 abbrev pub PieceWay : Path → Piece → Files → Files → Type 0
-PieceWay stage (Make rest file) t u = Beginning (stage ++ rest) file.what t u
+PieceWay stage (Make rest what) t u = Beginning (stage ++ rest) what t u
 PieceWay stage (Give rest dress) t u = Dressing (stage ++ rest) dress t u
 
 -- a step of it
 abbrev pub GivesPiece : Path → Piece → Files → Step → Type 0
-GivesPiece stage (Make rest file) t step = GivesNew (stage ++ rest) file step
+GivesPiece stage (Make rest what) t step = BeginsNew (stage ++ rest) what step
 GivesPiece stage (Give rest dress) t step = GivesDress (stage ++ rest) dress t step
 
 -- at most how many steps it takes
 abbrev pub piece_cost : Piece → ℕ
-piece_cost (Make rest file) = 2
+piece_cost (Make rest what) = 2
 piece_cost (Give rest dress) = 5
 
 -- ---- lists of pieces, the last one first
@@ -84,7 +79,7 @@ cost_of (piece ∷ pieces) = cost_of pieces + piece_cost piece
 
 -- the objects that stand after a piece, where these stood before it
 abbrev pub after_piece : Piece → Subtree → Subtree
-after_piece (Make rest file) s q = if same_path rest q then Some (bare_of (held_object file.what 0)) else s q
+after_piece (Make rest what) s q = if same_path rest q then Some (bare_of (held_object what 0)) else s q
 after_piece (Give rest dress) s q = if same_path rest q then option_map (λ (b : Bare). record b { dress = dress }) (s q) else s q
 
 -- the objects that stand after all of them
@@ -98,7 +93,7 @@ HasPlace s rest = (rest ≡ []) ⊎ ((is_some (s []) ≡ true) × (option_map (�
 
 -- a piece of a subtree that can be done where these objects stand
 abbrev pub IsDoable : Subtree → Subtree → Piece → Type 0
-IsDoable subtree s (Make rest file) = (b : Bare) × ((subtree rest ≡ Some b) × (IsWhole b × ((file ≡ file_of b) × ((s rest ≡ None) × HasPlace s rest))))
+IsDoable subtree s (Make rest what) = (b : Bare) × ((subtree rest ≡ Some b) × (IsWhole b × ((what ≡ what_of b.body) × ((s rest ≡ None) × HasPlace s rest))))
 IsDoable subtree s (Give rest dress) = (b : Bare) × ((subtree rest ≡ Some b) × (IsWhole b × ((dress ≡ b.dress) × (s rest ≡ Some (plain b)))))
 
 -- so each of them
@@ -127,7 +122,7 @@ last_piece rest (Some b) = Give rest b.dress ∷ []
 
 abbrev pub tasks_before : Path → List (List ℕ) → Option Bare → List Task
 tasks_before rest names None = []
-tasks_before rest names (Some b) = Close (Make rest (file_of b)) ∷ map (λ name. Open (rest ++ name ∷ [])) names
+tasks_before rest names (Some b) = Close (Make rest (what_of b.body)) ∷ map (λ name. Open (rest ++ name ∷ [])) names
 
 -- a task gives the last pieces of what it stands for, and leaves tasks for those before them
 abbrev pub pieces_now : Subtree → Task → List Piece

@@ -6,7 +6,7 @@ use Rattle.pv_dress.specs.declared.bare.Bare.{Bare}
 use Rattle.pv_dress.specs.Dressing.{dressed_first}
 use Rattle.pv_dress.specs.Edits.{SameOutside}
 use Rattle.pv_dress.specs.Nodes.{bare_of, bares_of}
-use Rattle.pv_path.specs.Paths.{Path, is_prefix, same_path}
+use Rattle.pv_path.specs.Paths.{Path, is_prefix}
 use Rattle.pv_steps.specs.Trees.{Files, places}
 use Rattle.pv_walk.specs.Copying.{Subtree}
 use Rattle.pv_walk.specs.Making.{IsBegun, held_object}
@@ -21,11 +21,6 @@ pub data IsStage (object there : Bare) : Type 0 where
 pub data IsAtStage (wanted there : Option Bare) : Type 0 where
   none : there ≡ None → IsAtStage wanted there
   stage : (object found : Bare) → wanted ≡ Some object → there ≡ Some found → IsStage object found → IsAtStage wanted there
-
--- on the way of making an object at a path: nothing has changed elsewhere, stamps aside, and it is at a stage
-pub record Making (path : Path) (object : Bare) (t u : Files) : Type 0 where
-  pub outside : SameOutside (same_path path) t u
-  pub here : IsAtStage (Some object) (bares_of (places u) path)
 
 -- at and below a path stand stages of a subtree alone
 abbrev pub InStages : Path → Subtree → Files → Type 0

@@ -3,13 +3,13 @@ ghost use Rattle.std.specs.Prelude.{◌≡◌, ◌≤◌, ◌*◌, ◌++◌, ◌
 ghost use Rattle.pv_dress.specs.Nodes.{bares_of};
 ghost use Rattle.pv_steps.specs.Trees.{places, node_at, payload_at, IsTree};
 ghost use Rattle.pv_walk.specs.Copying.{copy_from, copied_count, topped, IsTopNode};
-ghost use Rattle.pv_walk.specs.Pieces.{IsPlan, made_of, cost_of, file_of, what_of, names_at, pieces_now, tasks_left};
+ghost use Rattle.pv_walk.specs.Pieces.{IsPlan, made_of, cost_of, what_of, names_at, pieces_now, tasks_left};
 ghost use Rattle.pv_walk.specs.Staging.{most_staged};
 ghost use Rattle.pv_walk.specs.declared.listing.Piece.TheVariants.{Make, Give};
 ghost use Rattle.pv_walk.specs.declared.listing.Task.TheVariants.{Open, Close};
 
 use crate::copying::TopNode;
-use crate::new_file::{NewFile, NewKind};
+use crate::new_file::NewKind;
 use pv_dress::{Bare, Body, Dress};
 use pv_path::{TreePath, child, has_staging};
 use pv_steps::{Kind, Node, Tree, is_directory, special_bits};
@@ -19,7 +19,7 @@ use std::alloc::{AllocError, Global};
 #[derive(Drop)]
 pub(crate) enum Piece {
     /// The object is made, with what it holds.
-    Make(TreePath, NewFile),
+    Make(TreePath, NewKind),
     /// It gets its dress.
     Give(TreePath, Dress),
 }
@@ -117,22 +117,20 @@ fn add_object(
     work: &mut Vec<Task>,
     pieces: &mut Vec<Piece>,
 ) -> Result<(), AllocError>
-    requires { object.dress.special ≤ 7 }
     ensures left { OnOk result (work.new.items
-        ≡ work.old.items ++ Close (Make rest.now (file_of object)) ∷ []) }
+        ≡ work.old.items ++ Close (Make rest.now (what_of object.body)) ∷ []) }
     ensures listed { OnOk result (pieces.new.items
         ≡ pieces.old.items ++ Give rest.now object.dress ∷ []) }
 {
-    let file = file_of(object.body, &object.dress);
-    leave_file(rest, file, work)?;
+    leave_kind(rest, what_of(object.body), work)?;
     list_dress(rest, object.dress, pieces)
 }
 
 /// Adds the making of an object to what is left.
-fn leave_file(rest: &TreePath, file: NewFile, work: &mut Vec<Task>) -> Result<(), AllocError>
-    ensures { OnOk result (work.new.items ≡ work.old.items ++ Close (Make rest.now file) ∷ []) }
+fn leave_kind(rest: &TreePath, what: NewKind, work: &mut Vec<Task>) -> Result<(), AllocError>
+    ensures { OnOk result (work.new.items ≡ work.old.items ++ Close (Make rest.now what) ∷ []) }
 {
-    work.push(Task::Close(Piece::Make(rest.copy()?, file)))?;
+    work.push(Task::Close(Piece::Make(rest.copy()?, what)))?;
     Ok(())
 }
 
@@ -142,19 +140,6 @@ fn list_dress(rest: &TreePath, dress: Dress, pieces: &mut Vec<Piece>) -> Result<
 {
     pieces.push(Piece::Give(rest.copy()?, dress))?;
     Ok(())
-}
-
-/// An object as a new one.
-fn file_of(body: Body, dress: &Dress) -> NewFile
-    requires { dress.now.special ≤ 7 }
-    ensures { result ≡ file_of (record { body = body; dress = dress.now }) }
-{
-    NewFile {
-        what: what_of(body),
-        mode: dress.acl.access.mode(dress.special),
-        uid: dress.uid,
-        gid: dress.gid,
-    }
 }
 
 /// What an object is, with what it holds.

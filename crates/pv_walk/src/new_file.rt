@@ -24,7 +24,7 @@ pub struct NewFile {
 }
 
 /// What a new object is, with what it holds.
-#[derive(Drop)]
+#[derive(Clone, Drop)]
 pub enum NewKind {
     /// An empty directory.
     Directory,
@@ -39,6 +39,13 @@ pub enum NewKind {
 }
 
 impl NewKind {
+    /// The same once more.
+    pub(crate) fn copy(&self) -> Result<NewKind, AllocError>
+        ensures { IfOk result (λ what. what ≡ self.now) }
+    {
+        self.clone()
+    }
+
     /// The kind of the new object.
     pub fn kind(&self) -> Kind
         ensures { result ≡ new_kind self.now }

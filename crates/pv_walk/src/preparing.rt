@@ -9,7 +9,7 @@ ghost use Rattle.pv_walk.specs.Putting.{Putting, IsPutStep};
 ghost use Rattle.pv_walk.specs.Preparing.{prepared, with_parent, with_parents, parent_file, Preparing, IsPrepareStep, parent_count, CanPass, IsSwept};
 
 use crate::new_file::{NewFile, NewKind};
-use crate::put::put_new;
+use crate::put::put_over;
 use crate::sweeping::sweep;
 use crate::walking::go_down;
 use pv_path::TreePath;
@@ -97,7 +97,7 @@ fn put_parent<T: Tree>(
     if is_present(tree, place) {
         return Ok(());
     }
-    put_new(alloc, tree, place, &parent_file(), now)
+    put_over(alloc, tree, place, &parent_file(), now)
 }
 
 /// What an absent parent becomes.

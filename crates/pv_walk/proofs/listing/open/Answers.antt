@@ -5,14 +5,8 @@ use Rattle.pv_dress.specs.declared.bare.Bare.{Bare}
 use Rattle.pv_walk.specs.declared.listing.Task.{Task}
 use Rattle.pv_walk.specs.declared.listing.Task.TheVariants.{Open, Close}
 use Rattle.pv_walk.specs.declared.listing.Piece.TheVariants.{Make}
-use Rattle.pv_walk.specs.Pieces.{names_at, file_of, last_piece, tasks_before}
-use Rattle.pv_walk.proofs.CopiedLaws.{special_fits}
+use Rattle.pv_walk.specs.Pieces.{names_at, what_of, last_piece, tasks_before}
 use Rattle.pv_walk.proofs.listing.open.Goals as goal
-
-pub add_object-requires : goal.add_object-requires
-add_object-requires g c =
-    special_fits c.args.top.now c.requires.top c.args.source.now (g.T.Tree.state c.args.tree.now) c.object_at.ensures.tree c.args.rest.now c.in-Some.object
-    (sym c.in_ok-object_at.ensures.object ∙ c.in-Some.is)
 
 pub returns-in_ok-add_object-in-Some-clause-left : goal.returns-in_ok-add_object-in-Some-clause-left
 returns-in_ok-add_object-in-Some-clause-left g c =
@@ -20,7 +14,7 @@ returns-in_ok-add_object-in-Some-clause-left g c =
     let below = map (λ name. Open (c.args.rest.now ++ name ∷ [])) names in
     on_ok c.open_children.result
     (λ e. e ∙ ap (λ (work : List Task). work ++ below) c.in_ok-add_object-in-Some.ensures.left
-    ∙ append_assoc c.args.work.now.items (Close (Make c.args.rest.now (file_of c.in-Some.object)) ∷ []) below
+    ∙ append_assoc c.args.work.now.items (Close (Make c.args.rest.now (what_of c.in-Some.object.body)) ∷ []) below
     ∙ ap (λ (object : Option Bare). c.args.work.now.items ++ tasks_before c.args.rest.now names object) (sym c.in-Some.is ∙ c.in_ok-object_at.ensures.object))
     c.open_children.ensures.left
 

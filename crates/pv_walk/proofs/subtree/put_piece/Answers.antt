@@ -1,7 +1,7 @@
 use Rattle.pv_steps.proofs.ActingLaws.{Moves, no_memory, acted_none}
 use Rattle.pv_walk.specs.Pieces.{GivesPiece, PieceWay, piece_cost}
 use Rattle.pv_walk.proofs.CopyingLaws.{way_start}
-use Rattle.pv_walk.proofs.copying.put_piece.Goals as goal
+use Rattle.pv_walk.proofs.subtree.put_piece.Goals as goal
 
 pub begin-requires-clause-not_root : goal.begin-requires-clause-not_root
 begin-requires-clause-not_root g c =
@@ -13,8 +13,8 @@ begin-requires-clause-room g c =
     let can = rw c.in-Make.is at c.requires in
     rw (c.in_ok-followed_by-in-Make.ensures, c.names.ensures.value) can.1.0
 
-pub begin-requires-clause-new : goal.begin-requires-clause-new
-begin-requires-clause-new g c =
+pub begin-requires-clause-target : goal.begin-requires-clause-target
+begin-requires-clause-target g c =
     let can = rw c.in-Make.is at c.requires in
     can.1.1
 
@@ -27,15 +27,15 @@ pub returns-in_err-followed_by-in-Make-clause-acted : goal.returns-in_err-follow
 returns-in_err-followed_by-in-Make-clause-acted g c =
     let moves : Moves g.T.Tree = record { stays = g.met.T.Tree.reaches_self; goes_on = g.met.T.Tree.reaches_on; never_falls = g.met.T.Tree.never_falls } in
     let t = g.T.Tree.state c.args.tree.now in
-    acted_none g.T.Tree moves (PieceWay c.args.stage.now c.args.piece.now t) (GivesPiece c.args.stage.now c.args.piece.now t) (piece_cost c.args.piece.now) c.args.now c.args.tree.now
-    c.from_residual.result (no_memory c.from_residual.result c.from_residual.ensures.1) (way_start c.args.stage.now c.args.piece.now t c.requires)
+    acted_none g.T.Tree moves (PieceWay c.args.stage.now c.args.piece t) (GivesPiece c.args.stage.now c.args.piece t) (piece_cost c.args.piece) c.args.now c.args.tree.now
+    c.from_residual.result (no_memory c.from_residual.result c.from_residual.ensures.1) (way_start c.args.stage.now c.args.piece t c.requires)
 
 pub returns-in_err-followed_by-in-Give-clause-acted : goal.returns-in_err-followed_by-in-Give-clause-acted
 returns-in_err-followed_by-in-Give-clause-acted g c =
     let moves : Moves g.T.Tree = record { stays = g.met.T.Tree.reaches_self; goes_on = g.met.T.Tree.reaches_on; never_falls = g.met.T.Tree.never_falls } in
     let t = g.T.Tree.state c.args.tree.now in
-    acted_none g.T.Tree moves (PieceWay c.args.stage.now c.args.piece.now t) (GivesPiece c.args.stage.now c.args.piece.now t) (piece_cost c.args.piece.now) c.args.now c.args.tree.now
-    c.from_residual-in_err-followed_by-in-Give.result (no_memory c.from_residual-in_err-followed_by-in-Give.result c.from_residual-in_err-followed_by-in-Give.ensures.1) (way_start c.args.stage.now c.args.piece.now t c.requires)
+    acted_none g.T.Tree moves (PieceWay c.args.stage.now c.args.piece t) (GivesPiece c.args.stage.now c.args.piece t) (piece_cost c.args.piece) c.args.now c.args.tree.now
+    c.from_residual-in_err-followed_by-in-Give.result (no_memory c.from_residual-in_err-followed_by-in-Give.result c.from_residual-in_err-followed_by-in-Give.ensures.1) (way_start c.args.stage.now c.args.piece t c.requires)
 
 pub returns-in_ok-followed_by-in-Make-clause-acted : goal.returns-in_ok-followed_by-in-Make-clause-acted
 returns-in_ok-followed_by-in-Make-clause-acted g c =
