@@ -66,14 +66,8 @@ module _ (now : ℕ) (stage : Path) (nonempty : stage ≢ []) (t : Files) (paren
   pub doing_start : ((r : Path) → IsAbsentIn (places t) (stage ++ r)) → IsPlan all → Doing now stage t all all t
   doing_start free plan = record { objects = λ q. None; stands = built_start now stage nonempty t parent free; stages = λ r. IsAtStage.none refl; doable = plan; whole = refl }
 
-  -- nothing has changed elsewhere, stamps aside, and what stands is at its stage
-  pub doing_staged : (left : List Piece) (u : Files) → Doing now stage t all left u → Staging stage (made_of all) t u
-  doing_staged left u e = record {
-    outside = built_outside now stage nonempty t parent e.objects u e.stands;
-    stages = λ r. at_same (e.stages r) (bares_of (places u) (stage ++ r)) (bares_built now stage e.objects t u e.stands r);
-  }
-
-  -- so it is while a piece is done: nothing has changed but at its place, and there a stage stands
+  -- while a piece is done nothing has changed elsewhere, stamps aside, and what stands is at its stage: but at its place, where a
+  -- stage stands, all is as it was
   way_staged : (left : List Piece) (u : Files) → Doing now stage t all left u → (rest : Path) (w : Files) → SameOutside (same_path (stage ++ rest)) u w → IsAtStage (made_of all rest) (bares_of (places w) (stage ++ rest)) → Staging stage (made_of all) t w
   way_staged left u e rest w h here = record {
     outside = λ q out. h q (here_outside now stage nonempty t parent e.objects u e.stands rest q out) ∙ built_outside now stage nonempty t parent e.objects u e.stands q out;

@@ -207,10 +207,6 @@ module _ (now : ℕ) (files : Files) (path : Path) where
         ap (λ (t : Places). touched now path t) (λ i q. cut-emptied q i)
         ∙ sym (ap (λ b. cond b (touched now path (cut path (places files))) (places files)) present)
 
-  -- where nothing stands, nothing is taken
-  pub absent-taken : is_some (places files path) ≡ false → places files ≡ taken now path (places files)
-  absent-taken d = sym (ap (λ b. cond b (touched now path (cut path (places files))) (places files)) d)
-
   -- what stands is taken with all below it: nothing is left at and below the path, and its directory is touched
   pub present-taken : IsPresent files path → taken now path (places files) ≡ touched now path (cut path (places files))
   present-taken present = ap (λ b. cond b (touched now path (cut path (places files))) (places files)) present

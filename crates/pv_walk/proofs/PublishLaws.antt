@@ -70,9 +70,6 @@ pub record IsCleared (now : ℕ) (path : Path) (t u : Places) : Type 0 where
   pub kept : (q : Path) → is_prefix path q ≡ false → IsKept now (t q) (u q)
 
 module _ (now : ℕ) (path : Path) where
-  pub cleared-none : (t : Places) → IsCleared now path t t
-  cleared-none t = record { same = λ q h d. refl; kept = λ q h. inl refl }
-
   pub cleared-emptied : (files : Files) → IsTree files → IsCleared now path (places files) (emptied now path files)
   cleared-emptied files tree = record { same = λ q h d. emptied-outside now files path tree q h; kept = λ q h. inl (emptied-outside now files path tree q h) }
 
@@ -184,9 +181,6 @@ moved_differs now path nonempty t v present is = (
 -- ---- the four ways in which a path yields
 
 module _ (now : ℕ) (path : Path) (nonempty : path ≢ []) (files : Files) (tree : IsTree files) where
-  pub yields_absent : IsAbsentIn (places files) path → Yields (places files) (staging_of path) path
-  yields_absent h = absent h
-
   -- an emptied directory yields to a directory
   pub yields_emptied : IsKindIn Directory (places files) (staging_of path) → IsKindIn Directory (places files) path → Yields (emptied now path files) (staging_of path) path
   yields_emptied staged old =

@@ -122,23 +122,8 @@ fn add_object(
     ensures listed { OnOk result (pieces.new.items
         ≡ pieces.old.items ++ Give rest.now object.dress ∷ []) }
 {
-    leave_kind(rest, what_of(object.body), work)?;
-    list_dress(rest, object.dress, pieces)
-}
-
-/// Adds the making of an object to what is left.
-fn leave_kind(rest: &TreePath, what: NewKind, work: &mut Vec<Task>) -> Result<(), AllocError>
-    ensures { OnOk result (work.new.items ≡ work.old.items ++ Close (Make rest.now what) ∷ []) }
-{
-    work.push(Task::Close(Piece::Make(rest.copy()?, what)))?;
-    Ok(())
-}
-
-/// Adds the giving of a dress to the pieces that are listed.
-fn list_dress(rest: &TreePath, dress: Dress, pieces: &mut Vec<Piece>) -> Result<(), AllocError>
-    ensures { OnOk result (pieces.new.items ≡ pieces.old.items ++ Give rest.now dress ∷ []) }
-{
-    pieces.push(Piece::Give(rest.copy()?, dress))?;
+    work.push(Task::Close(Piece::Make(rest.copy()?, what_of(object.body))))?;
+    pieces.push(Piece::Give(rest.copy()?, object.dress))?;
     Ok(())
 }
 
