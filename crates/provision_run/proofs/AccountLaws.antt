@@ -16,6 +16,7 @@ use Rattle.pv_steps.specs.declared.tree.Tree.{Ghosts}
 use Rattle.pv_steps.specs.declared.tree.TreeFault.{TreeFault}
 use Rattle.pv_steps.specs.declared.tree.TreeFault.TheVariants.{Failed, Memory}
 use Rattle.pv_steps.specs.Counting.{refused, faults_after}
+use Rattle.pv_steps.proofs.ActingLaws.{failed_refuses, refuses_failed}
 use Rattle.pv_steps.specs.Acting.{Acted}
 use Rattle.pv_steps.specs.Runs.{after_all}
 use Rattle.pv_steps.specs.Trees.{Files, places}
@@ -49,6 +50,7 @@ acted_as tree {a = a} q r same acted = record {
   bound = omega (arith, same, acted.bound);
   reaches = acted.reaches;
   counted = acted.counted ∙ ap (λ k. faults_after k (tree.faults a)) (sym same);
+  last = λ failed. acted.last (refuses_failed q (sym same ∙ failed_refuses r failed));
 }
 
 none_of : (xs : List Step) → length xs ≡ 0 → xs ≡ []

@@ -32,6 +32,8 @@ impl<'a, T: Tree> Tree for Lent<'a, T> {
 
     ghost faults = { λ l. l.failed };
 
+    ghost refused_at = { λ l. T.refused_at l.tree.now };
+
     ghost reaches = { λ a b. (b.tree.ghost_name ≡ a.tree.ghost_name) × (T.reaches a.tree.now b.tree.now
         × HaveCounted (T.faults a.tree.now) (T.faults b.tree.now) a.failed b.failed) };
 

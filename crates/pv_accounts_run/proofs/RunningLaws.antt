@@ -145,9 +145,9 @@ pub in_answer : {S : Type 0} (tree : Ghosts S) (P : Files → Type 0) (Q : Step 
 in_answer tree P Q {most} {now} {a} {b} r v e acted = subst (λ (w : Result Carried AccountsFault). Acted tree P Q most now a b (in_steps w)) (sym e) (by r acted)
   where
     by : (r : Result (Unit {0}) TreeFault) → Acted tree P Q most now a b r → Acted tree P Q most now a b (in_steps (run_answer r))
-    by (Ok x) acted = record { ran = acted.ran; bound = acted.bound; reaches = acted.reaches; counted = acted.counted }
-    by (Err step.Failed) acted = record { ran = acted.ran; bound = acted.bound; reaches = acted.reaches; counted = acted.counted }
-    by (Err step.Memory) acted = record { ran = acted.ran; bound = acted.bound; reaches = acted.reaches; counted = acted.counted }
+    by (Ok x) acted = record { ran = acted.ran; bound = acted.bound; reaches = acted.reaches; counted = acted.counted; last = acted.last }
+    by (Err step.Failed) acted = record { ran = acted.ran; bound = acted.bound; reaches = acted.reaches; counted = acted.counted; last = acted.last }
+    by (Err step.Memory) acted = record { ran = acted.ran; bound = acted.bound; reaches = acted.reaches; counted = acted.counted; last = acted.last }
 
 pub on_answer : (r : Result (Unit {0}) TreeFault) (v : Result Carried AccountsFault) → v ≡ run_answer r → {X Y : Type 0} → (X → Y) → OnOk r X → OnOk v Y
 on_answer r v e {X} {Y} f h = subst (λ (w : Result Carried AccountsFault). OnOk w Y) (sym e) (by r h)

@@ -329,6 +329,7 @@ module _ {S : Type 0} (tree : Ghosts S) (moves : Moves tree) (path : Path) (sets
     bound = few_writes path sets are t whole o there wanted is now r (tree.steps a) (tree.steps b) acted.bound idle;
     reaches = acted.reaches;
     counted = acted.counted;
+    last = acted.last;
   }
 
   module _ (c : S) (wrote : places (tree.state b) ≡ on_at path (written now wanted.bytes) (places t)) (x : Unit {0}) (first : Acted tree (Changing path (holding wanted.bytes) t) (GivesWanted path wanted.bytes t) 1 now a b (Ok x))
@@ -351,6 +352,7 @@ module _ {S : Type 0} (tree : Ghosts S) (moves : Moves tree) (path : Path) (sets
           bound = omega (arith, one, more, most);
           reaches = moves.goes_on a b c first.reaches last.reaches;
           counted = last.counted ∙ ap (λ n. faults_after (refused r) n) first.counted;
+          last = last.last;
         }
 
 -- ---- where a call begins

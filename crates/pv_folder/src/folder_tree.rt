@@ -1,5 +1,5 @@
 //! A tree in memory that a folder of a host has too.
-ghost use Rattle.std.specs.Prelude.{◌≡◌, ◌++◌, ◌∷◌, [], ◌≤◌, true, false, IfSome, OnOk, OnErr, IsErrOf, Err};
+ghost use Rattle.std.specs.Prelude.{◌≡◌, ◌++◌, ◌∷◌, [], ◌≤◌, true, false, length, IfSome, OnOk, OnErr, IsErrOf, Err};
 ghost use Rattle.pv_steps.specs.declared.tree.TreeFault.TheVariants.{Failed, Memory};
 ghost use Rattle.pv_steps.specs.Trees.{IsTree, places};
 ghost use Rattle.pv_steps.specs.Steps.{Can, StepFits, after};
@@ -31,6 +31,8 @@ pub struct FolderTree<'a, H: Host> {
     tree: MemTree,
     /// A step has begun that may be done on the host alone.
     pending: bool,
+    /// How many steps were done when it last refused one.
+    refused_at: usize,
     ghost ready: { IfSome (H.content host.now) (λ c. IsReady (spelled folder.items) (held c)) } by { ready_prop (spelled folder.items) (H.content host.now) },
     ghost agrees: { pending ≡ false → IfSome (H.content host.now) (λ c. Agrees (spelled folder.items) tree.files (held c)) } by { agrees_prop pending (spelled folder.items) tree.files (H.content host.now) },
 }
@@ -57,6 +59,7 @@ impl<'a, H: Host> FolderTree<'a, H> {
             folder,
             tree,
             pending: false,
+            refused_at: 0,
         }
     }
 
@@ -70,6 +73,7 @@ impl<'a, H: Host> FolderTree<'a, H> {
             folder: _,
             tree: _,
             pending: _,
+            refused_at: _,
         } = self;
         host
     }
@@ -114,6 +118,8 @@ impl<'a, H: Host> Tree for FolderTree<'a, H> {
 
     ghost faults = { λ t. H.faults t.host.now };
 
+    ghost refused_at = { λ t. t.refused_at };
+
     ghost reaches = { λ a b. (b.host.ghost_name ≡ a.host.ghost_name)
         × Moves (spelled a.folder.items) (H.content a.host.now) (H.faults a.host.now) a.pending
         (spelled b.folder.items) (H.content b.host.now) (H.faults b.host.now) b.pending };
@@ -145,6 +151,7 @@ impl<'a, H: Host> Tree for FolderTree<'a, H> {
             × Moves (spelled self.old.folder.items) (H.content self.old.host.now) (H.faults self.old.host.now) self.old.pending
             (spelled self.new.folder.items) (H.content self.new.host.now) (H.faults self.new.host.now) self.new.pending }
         ensures counted { H.faults self.new.host.now ≡ faults_after (refused result) (H.faults self.old.host.now) }
+        ensures last { IsErrOf result Failed → self.new.refused_at ≡ length self.new.tree.steps }
 
         // A step that is done has asked the host for its change; one that failed has changed nothing there.
         ensures changed { OnOk result (IsChangedBy
@@ -169,6 +176,7 @@ impl<'a, H: Host> Tree for FolderTree<'a, H> {
             Err(HostFault::Memory) => return Err(TreeFault::Memory),
             Err(HostFault::Failed) => {
                 self.pending = false;
+                self.refused_at = self.tree.step_count();
                 return Err(TreeFault::Failed);
             }
         }

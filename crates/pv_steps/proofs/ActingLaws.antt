@@ -1,6 +1,6 @@
 -- Laws of calls that go by steps: nothing asked, one step tried, one call after another, and what a call has said passed on.
 use Rattle.std.specs.Prelude.{◌≡◌, ℕ, ◌+◌, ◌≤◌, List, [], ◌∷◌, ◌++◌, length, Result, Ok, Err, IsErrOf, IsErrAnd}
-use Rattle.std.proofs.Common.{refl, sym, ap, ◌∙◌, arith, length-append}
+use Rattle.std.proofs.Common.{refl, sym, ap, subst, ◌∙◌, arith, length-append}
 use Rattle.pv_steps.specs.declared.step.Step.{Step}
 use Rattle.pv_steps.specs.declared.tree.Tree.{Ghosts}
 use Rattle.pv_steps.specs.declared.tree.TreeFault.{TreeFault}
@@ -9,7 +9,7 @@ use Rattle.pv_steps.specs.Trees.{Files, places}
 use Rattle.pv_steps.specs.Steps.{Can, after}
 use Rattle.pv_steps.specs.Runs.{IsNotIdle, Ran}
 use Rattle.pv_steps.specs.Counting.{refused, faults_after}
-use Rattle.pv_steps.specs.Acting.{Tried, Acted}
+use Rattle.pv_steps.specs.Acting.{Tried, Acted, IsLast}
 use Rattle.pv_steps.proofs.RunLaws.{ran_none, ran_one, ran_then, ran_weaken, ran_end}
 
 -- the trait's laws of how calls move a tree: reflexive, composing, and the count of faults never falls
@@ -42,6 +42,21 @@ no_memory (Ok x) h = absurd h
 no_memory (Err Failed) h = cc
 no_memory (Err Memory) h = refl
 
+-- an answer that refuses nothing is not Failed
+pub not_failed : {A : Type 0} (r : Result A TreeFault) → refused r ≡ 0 → IsErrOf r Failed → ⊥
+not_failed (Ok x) none h = h
+not_failed (Err Failed) none h = cc
+not_failed (Err Memory) none h = cc
+
+-- an answer is Failed exactly where it refuses a step
+pub failed_refuses : {A : Type 0} (r : Result A TreeFault) → IsErrOf r Failed → refused r ≡ 1
+failed_refuses {A} r failed = ap (λ (v : Result A TreeFault). refused v) failed
+
+pub refuses_failed : {A : Type 0} (r : Result A TreeFault) → refused r ≡ 1 → IsErrOf r Failed
+refuses_failed (Ok x) one = cc
+refuses_failed (Err Failed) one = refl
+refuses_failed (Err Memory) one = cc
+
 -- the answer of a call that goes well and has nothing to give
 abbrev pub well : Result (Unit {0}) TreeFault
 well = Ok tt
@@ -63,6 +78,7 @@ module _ {S : Type 0} (tree : Ghosts S) where
     bound = omega (arith, none);
     reaches = moves.stays a;
     counted = sym (none_counted r none (tree.faults a));
+    last = λ h. absurd (not_failed r none h);
   }
 
   -- one step was tried
@@ -71,12 +87,13 @@ module _ {S : Type 0} (tree : Ghosts S) where
   acted_tried P Q s now a b r done asks = by r done
     where
       same : {v : Result (Unit {0}) TreeFault} → tree.state b ≡ tree.state a → tree.steps b ≡ tree.steps a → refused v ≤ 1
-          → tree.reaches a b → tree.faults b ≡ faults_after (refused v) (tree.faults a) → Acted tree P Q 1 now a b v
-      same kept unrecorded one reaches counted = record {
+          → tree.reaches a b → tree.faults b ≡ faults_after (refused v) (tree.faults a) → IsLast tree b v → Acted tree P Q 1 now a b v
+      same kept unrecorded one reaches counted last = record {
         ran = ran_none P Q now (tree.state a) (tree.steps a) (tree.state b) (tree.steps b) asks.start kept unrecorded;
         bound = let e : length (tree.steps b) ≡ length (tree.steps a) = ap length unrecorded in omega (arith, e, one);
         reaches = reaches;
         counted = counted;
+        last = last;
       }
 
       by : (v : Result (Unit {0}) TreeFault) → Tried tree s now a b v → Acted tree P Q 1 now a b v
@@ -85,9 +102,10 @@ module _ {S : Type 0} (tree : Ghosts S) where
         bound = let e : length (tree.steps b) ≡ length (tree.steps a ++ s ∷ []) = ap length d.recorded in omega (arith, e, length-append (tree.steps a) (s ∷ []));
         reaches = d.reaches;
         counted = d.counted;
+        last = d.last;
       }
-      by (Err Failed) d = same d.kept d.unrecorded (omega arith) d.reaches d.counted
-      by (Err Memory) d = same d.kept d.unrecorded (omega arith) d.reaches d.counted
+      by (Err Failed) d = same d.kept d.unrecorded (omega arith) d.reaches d.counted d.last
+      by (Err Memory) d = same d.kept d.unrecorded (omega arith) d.reaches d.counted d.last
 
   -- one call after another that went well
   pub acted_then : {A B : Type 0} → Moves tree → (P : Files → Type 0) (Q : Step → Type 0) {m n now : ℕ} {a b c : S} {x : A} {r : Result B TreeFault}
@@ -100,6 +118,7 @@ module _ {S : Type 0} (tree : Ghosts S) where
         omega (arith, before, behind, first.bound, last.bound);
     reaches = moves.goes_on a b c first.reaches last.reaches;
     counted = last.counted ∙ ap (λ n. faults_after (refused r) n) first.counted;
+    last = last.last;
   }
 
   -- what follows from P at each moment and from Q of each step, within a greater bound
@@ -110,18 +129,25 @@ module _ {S : Type 0} (tree : Ghosts S) where
     bound = omega (arith, le, acted.bound);
     reaches = acted.reaches;
     counted = acted.counted;
+    last = acted.last;
   }
 
   -- within a greater bound
   pub acted_within : {A : Type 0} {P : Files → Type 0} {Q : Step → Type 0} (m n : ℕ) → m ≤ n
       → {now : ℕ} {a b : S} {r : Result A TreeFault} → Acted tree P Q m now a b r → Acted tree P Q n now a b r
-  acted_within m n le acted = record { ran = acted.ran; bound = omega (arith, le, acted.bound); reaches = acted.reaches; counted = acted.counted }
+  acted_within m n le acted = record { ran = acted.ran; bound = omega (arith, le, acted.bound); reaches = acted.reaches; counted = acted.counted; last = acted.last }
 
   -- the fault of a call is passed on by `?`
   pub acted_passed : {A B : Type 0} {P : Files → Type 0} {Q : Step → Type 0} {most now : ℕ} {a b : S} {e : TreeFault} (q : Result A TreeFault) (r : Result B TreeFault)
       → q ≡ Err e → IsErrAnd r (λ y. y ≡ e) → Acted tree P Q most now a b q → Acted tree P Q most now a b r
   acted_passed {A} {B} {a = a} {e = e} q r was given acted =
-      record { ran = acted.ran; bound = omega (arith, same, acted.bound); reaches = acted.reaches; counted = acted.counted ∙ ap (λ k. faults_after k (tree.faults a)) (sym same) }
+      record {
+        ran = acted.ran;
+        bound = omega (arith, same, acted.bound);
+        reaches = acted.reaches;
+        counted = acted.counted ∙ ap (λ k. faults_after k (tree.faults a)) (sym same);
+        last = λ failed. acted.last (subst (λ v. IsErrOf v Failed) (sym was) (subst (λ v. IsErrOf v Failed) is failed));
+      }
     where
       passed : (v : Result B TreeFault) → IsErrAnd v (λ y. y ≡ e) → v ≡ Err e
       passed (Ok x) h = absurd h
@@ -141,7 +167,13 @@ module _ {S : Type 0} (tree : Ghosts S) where
   pub acted_ended : {A B : Type 0} {P : Files → Type 0} {Q : Step → Type 0} {most now : ℕ} {a b : S} {x : A} (r : Result B TreeFault)
       → refused r ≡ 0 → Acted tree P Q most now a b (Ok x) → Acted tree P Q most now a b r
   acted_ended {a = a} r none acted =
-      record { ran = acted.ran; bound = omega (arith, none, acted.bound); reaches = acted.reaches; counted = acted.counted ∙ sym (none_counted r none (tree.faults a)) }
+      record {
+        ran = acted.ran;
+        bound = omega (arith, none, acted.bound);
+        reaches = acted.reaches;
+        counted = acted.counted ∙ sym (none_counted r none (tree.faults a));
+        last = λ h. absurd (not_failed r none h);
+      }
 
   -- P holds after the call
   pub acted_end : {A : Type 0} (P : Files → Type 0) (Q : Step → Type 0) {most now : ℕ} {a b : S} {r : Result A TreeFault} → Acted tree P Q most now a b r → P (tree.state b)

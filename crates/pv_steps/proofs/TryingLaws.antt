@@ -82,6 +82,7 @@ module _ {S : Type 0} (tree : Ghosts S) (moves : Moves tree) where
     short = tt;
     reaches = t.reaches;
     counted = t.counted;
+    last = λ h. absurd h;
   }
 
   -- one step is not done, and its fault is passed on by `?`
@@ -106,6 +107,7 @@ module _ {S : Type 0} (tree : Ghosts S) (moves : Moves tree) where
         short = λ none. cc;
         reaches = moves.goes_on a b c t.reaches d.reaches;
         counted = d.counted ∙ ap (λ n. faults_after (refused {A = Unit {0}} (Err e)) n) t.counted;
+        last = d.last;
       }
 
 -- what all of them leave
@@ -169,6 +171,7 @@ module _ (P : Files → Type 0) (Q : Step → Type 0) (now : ℕ) where
               omega (arith, told, all, one);
           reaches = t.reaches;
           counted = t.counted;
+          last = t.last;
         }
       where
         some : (left : List Step) → left ≢ [] → 1 ≤ length left

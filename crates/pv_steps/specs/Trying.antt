@@ -5,6 +5,7 @@ use Rattle.std.specs.List.{AllByRecursion}
 use Rattle.pv_steps.specs.declared.step.Step.{Step}
 use Rattle.pv_steps.specs.declared.tree.Tree.{Ghosts}
 use Rattle.pv_steps.specs.declared.tree.TreeFault.{TreeFault}
+use Rattle.pv_steps.specs.Acting.{IsLast}
 use Rattle.pv_steps.specs.Counting.{refused, faults_after}
 use Rattle.pv_steps.specs.Runs.{after_all}
 use Rattle.pv_steps.specs.Steps.{Can, StepFits, after}
@@ -28,3 +29,4 @@ pub record TriedAll {S : Type 0} (tree : Ghosts S) (steps : List Step) (now : �
   pub short : OnErr r (left ≢ [])
   pub reaches : tree.reaches old new
   pub counted : tree.faults new ≡ faults_after (refused r) (tree.faults old)
+  pub last : IsLast tree new r

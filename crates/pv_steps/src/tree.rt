@@ -1,8 +1,8 @@
 //! Trees that can be walked and changed: what a caller may ask of one, and why a step is not done.
-ghost use Rattle.std.specs.Prelude.{◌≡◌, ℕ, ◌∷◌, ◌++◌, [], ◌≤◌, List, Some, IfOk, OnOk, OnErr};
+ghost use Rattle.std.specs.Prelude.{◌≡◌, ℕ, ◌∷◌, ◌++◌, [], ◌≤◌, List, length, Some, IfOk, OnOk, OnErr, IsErrOf};
 ghost use Rattle.std.specs.Option.{option_copied};
 ghost use Rattle.pv_steps.specs.declared.step.Step.{Step as StepValue};
-ghost use Rattle.pv_steps.specs.declared.tree.TreeFault.TheVariants.{Memory};
+ghost use Rattle.pv_steps.specs.declared.tree.TreeFault.TheVariants.{Failed, Memory};
 ghost use Rattle.pv_steps.specs.declared.node.Kind.TheVariants.{Directory, File, Link};
 ghost use Rattle.pv_steps.specs.Trees.{Files, places, IsKind, IsTree, node_at, payload_at, names_below};
 ghost use Rattle.pv_steps.specs.Steps.{Can, StepFits, after};
@@ -50,6 +50,9 @@ pub trait Tree {
 
     ghost faults: { Self → ℕ };
 
+    /// How many steps were done when it last refused one.
+    ghost refused_at: { Self → ℕ };
+
     /// How calls move a tree: what holds between a tree and what it is after any number of them.
     ghost reaches: { Self → Self → Type 0 };
 
@@ -88,7 +91,10 @@ pub trait Tree {
         ensures reaches { reaches self.old self.new }
 
         // It counts one fault where it refuses the step, else none.
-        ensures counted { faults self.new ≡ faults_after (refused result) (faults self.old) };
+        ensures counted { faults self.new ≡ faults_after (refused result) (faults self.old) }
+
+        // A step that it refuses comes after all that were done.
+        ensures last { IsErrOf result Failed → refused_at self.new ≡ length (steps self.new) };
 
     ghost reaches_self: { (a : Self) → reaches a a };
 

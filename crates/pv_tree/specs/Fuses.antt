@@ -17,6 +17,11 @@ abbrev pub refusals_after : Option ℕ → ℕ → ℕ
 refusals_after (Some zero) refused = fault_after refused
 refusals_after left refused = refused
 
+-- how many steps were done when one was last refused: with nothing left at the present one, else by the inner tree
+abbrev pub last_refusal : Option ℕ → ℕ → ℕ → ℕ
+last_refusal (Some zero) done at = done
+last_refusal left done at = at
+
 -- the limit from the first step on: what is left, and what was done
 abbrev pub whole_limit : Option ℕ → ℕ → Option ℕ
 whole_limit None _ = None

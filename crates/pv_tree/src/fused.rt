@@ -1,12 +1,12 @@
 //! A tree that refuses each step after a number of them.
-ghost use Rattle.std.specs.Prelude.{◌≡◌, ◌≢◌, ℕ, ◌+◌, ◌<◌, ◌≤◌, ◌↔◌, IsTrue, List, [], ◌∷◌, ◌++◌, length, Some, OnOk, OnErr, IfOk};
+ghost use Rattle.std.specs.Prelude.{◌≡◌, ◌≢◌, ℕ, ◌+◌, ◌<◌, ◌≤◌, ◌↔◌, IsTrue, List, [], ◌∷◌, ◌++◌, length, Some, OnOk, OnErr, IfOk, IsErrOf};
 ghost use Rattle.std.specs.Option.{option_copied};
 ghost use Rattle.pv_steps.specs.declared.node.Kind.TheVariants.{Directory, File, Link};
 ghost use Rattle.pv_steps.specs.declared.tree.TreeFault.TheVariants.{Failed};
 ghost use Rattle.pv_steps.specs.Trees.{places, IsKind, IsTree, node_at, payload_at, names_below};
 ghost use Rattle.pv_steps.specs.Steps.{Can, StepFits, after};
 ghost use Rattle.pv_steps.specs.Counting.{refused, faults_after};
-ghost use Rattle.pv_tree.specs.Fuses.{Burnt, burnt_refl, burnt_trans, one_less, capped, refusals_after};
+ghost use Rattle.pv_tree.specs.Fuses.{Burnt, burnt_refl, burnt_trans, one_less, capped, refusals_after, last_refusal};
 ghost use Rattle.std.proofs.Common.{arith};
 
 use crate::apply::parts_fit;
@@ -71,6 +71,8 @@ impl<T: Tree> Tree for Fused<T> {
 
     ghost faults = { λ f. capped (T.faults f.inner + f.refused) };
 
+    ghost refused_at = { λ f. last_refusal f.left (length (T.steps f.inner)) (T.refused_at f.inner) };
+
     ghost reaches = { λ f g. T.reaches f.inner g.inner
         × Burnt f.left f.refused (length (T.steps f.inner)) g.left g.refused (length (T.steps g.inner)) };
 
@@ -102,6 +104,8 @@ impl<T: Tree> Tree for Fused<T> {
             self.new.left self.new.refused (length (T.steps self.new.inner)) }
         ensures counted { capped (T.faults self.new.inner + self.new.refused)
             ≡ faults_after (refused result) (capped (T.faults self.old.inner + self.old.refused)) }
+        ensures last { IsErrOf result Failed →
+            last_refusal self.new.left (length (T.steps self.new.inner)) (T.refused_at self.new.inner) ≡ length (T.steps self.new.inner) }
 
         // It refuses each step where nothing is left, and the inner tree is not asked.
         ensures refused { self.old.left ≡ Some 0 → (result ≡ Err Failed) × (self.new.inner ≡ self.old.inner) }

@@ -106,6 +106,16 @@ impl KeyedName {
 fn key_of(bytes: &[u8]) -> u64
     ensures { result ≡ key_of bytes.now }
 {
+    match bytes {
+        [a, b, c, d, e, f, g, h, ..] => u64::from_be_bytes([*a, *b, *c, *d, *e, *f, *g, *h]),
+        _ => short_key(bytes),
+    }
+}
+
+/// The key of some bytes, each place looked at by itself.
+fn short_key(bytes: &[u8]) -> u64
+    ensures { result ≡ key_of bytes.now }
+{
     u64::from_be_bytes([
         byte_at(bytes, 0),
         byte_at(bytes, 1),

@@ -174,6 +174,8 @@ impl Tree for MemTree {
 
     ghost faults = { λ t. 0 };
 
+    ghost refused_at = { λ t. 0 };
+
     ghost reaches = { λ _ _. ⊤ };
 
     fn look(&self, path: &TreePath) -> Option<&Node>

@@ -223,6 +223,7 @@ acted_still tree P Q R n {now = now} {a = a} {b = b} {r = r} none acted = record
   bound = acted.bound;
   reaches = acted.reaches;
   counted = acted.counted;
+  last = acted.last;
 }
   where
     few : length acted.ran.steps ≡ 0
