@@ -1,6 +1,6 @@
 -- Laws of calls that go by steps: nothing asked, one step tried, one call after another, and what a call has said passed on.
 use Rattle.std.specs.Prelude.{◌≡◌, ℕ, ◌+◌, ◌≤◌, List, [], ◌∷◌, ◌++◌, length, Result, Ok, Err, IsErrOf, IsErrAnd}
-use Rattle.std.proofs.Common.{refl, sym, ap, subst, ◌∙◌, arith, length-append}
+use Rattle.std.proofs.Common.{refl, sym, ap, ◌∙◌, arith, length-append}
 use Rattle.pv_steps.specs.declared.step.Step.{Step}
 use Rattle.pv_steps.specs.declared.tree.Tree.{Ghosts}
 use Rattle.pv_steps.specs.declared.tree.TreeFault.{TreeFault}
@@ -44,7 +44,7 @@ no_memory (Err Memory) h = refl
 
 -- an answer that refuses nothing is not Failed
 pub not_failed : {A : Type 0} (r : Result A TreeFault) → refused r ≡ 0 → IsErrOf r Failed → ⊥
-not_failed (Ok x) none h = h
+not_failed (Ok x) none h = cc
 not_failed (Err Failed) none h = cc
 not_failed (Err Memory) none h = cc
 
@@ -146,7 +146,7 @@ module _ {S : Type 0} (tree : Ghosts S) where
         bound = omega (arith, same, acted.bound);
         reaches = acted.reaches;
         counted = acted.counted ∙ ap (λ k. faults_after k (tree.faults a)) (sym same);
-        last = λ failed. acted.last (subst (λ v. IsErrOf v Failed) (sym was) (subst (λ v. IsErrOf v Failed) is failed));
+        last = λ failed. acted.last (refuses_failed q (sym same ∙ failed_refuses r failed));
       }
     where
       passed : (v : Result B TreeFault) → IsErrAnd v (λ y. y ≡ e) → v ≡ Err e

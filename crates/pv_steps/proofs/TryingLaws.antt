@@ -14,7 +14,7 @@ use Rattle.pv_steps.specs.Counting.{refused, faults_after}
 use Rattle.pv_steps.specs.Acting.{Tried, Acted}
 use Rattle.pv_steps.specs.Trying.{CanAll, TriedAll}
 use Rattle.pv_steps.proofs.RunLaws.{after_all-append}
-use Rattle.pv_steps.proofs.ActingLaws.{Asks, Moves, well}
+use Rattle.pv_steps.proofs.ActingLaws.{Asks, Moves, not_failed, well}
 
 -- ---- lists done from their end
 
@@ -82,7 +82,7 @@ module _ {S : Type 0} (tree : Ghosts S) (moves : Moves tree) where
     short = tt;
     reaches = t.reaches;
     counted = t.counted;
-    last = λ h. absurd h;
+    last = λ h. absurd (not_failed well refl h);
   }
 
   -- one step is not done, and its fault is passed on by `?`
