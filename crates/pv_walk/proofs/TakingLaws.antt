@@ -1,22 +1,26 @@
 -- Laws of paths that are taken away one after the other, the last one of a list first.
-use Rattle.std.specs.Prelude.{◌≡◌, ◌≢◌, ℕ, ◌+◌, ◌≤◌, Bool, true, false, cond, ◌||◌, ◌⊎◌, List, [], ◌∷◌, ◌++◌, map, reverse, None, is_some, option_map}
+use Rattle.std.specs.Prelude.{◌≡◌, ◌≢◌, ℕ, ◌+◌, ◌≤◌, Bool, true, false, cond, ◌||◌, ◌⊎◌, List, [], ◌∷◌, ◌++◌, length, map, reverse, take, None, Result, is_some, option_map}
 use Rattle.std.specs.List.{list_any}
 use Rattle.std.proofs.Common.{refl, sym, ap, subst, ◌∙◌, arith, inl, inr}
 use Rattle.pv_path.specs.Paths.{Path, same_path, same_path-decides, parent_of}
+use Rattle.std.proofs.lemmas.List.{map-append, reverse-append, take_at}
 use Rattle.std.proofs.lemmas.Bool.{cases_Bool, and_parts, or_right}
 use Rattle.pv_path.proofs.PathLaws.{path_ends, parent_of-push, same_path-refl}
 use Rattle.pv_steps.specs.declared.step.Step.{Step}
+use Rattle.pv_steps.specs.declared.tree.Tree.{Ghosts}
+use Rattle.pv_steps.specs.declared.tree.TreeFault.{TreeFault}
 use Rattle.pv_steps.specs.Objects.{modified, bare}
 use Rattle.pv_steps.specs.Trees.{Files, Places, places, names_below, IsEmptyIn, IsPresent}
 use Rattle.pv_steps.specs.Steps.{after, gone}
 use Rattle.pv_steps.specs.Runs.{after_all}
 use Rattle.pv_steps.specs.Content.{Removes}
+use Rattle.pv_steps.specs.Trying.{TriedAll}
 use Rattle.pv_steps.proofs.RunLaws.{after_all-append}
 use Rattle.pv_steps.proofs.ActingLaws.{Asks}
 use Rattle.pv_steps.proofs.TryingLaws.{AllAsk, ask_first, reverse-first}
 use Rattle.pv_steps.proofs.ContentLaws.{removes-wider}
 use Rattle.pv_dress.specs.Edits.{Pruned}
-use Rattle.pv_walk.specs.Removal.{is_below, is_one_of, loses_child, removal_at, without, MayHaveGone}
+use Rattle.pv_walk.specs.Removal.{is_below, is_one_of, loses_child, removal_at, without, DonePart, MayHaveGone}
 use Rattle.pv_walk.specs.Listing.{times, children_of, stands_below, IsListing, AreRemovable}
 use Rattle.pv_walk.proofs.CountLaws.{times-self, same_or_not, is_child-push}
 use Rattle.pv_walk.proofs.RemovalLaws.{zero_or_more, cond-true, no_same, unless, below_nonempty, all_gone, all_gone-none, all_gone-gone, all_gone-kept, all_gone-same, all_gone-touched, kept-kind, kept-present, kept-bare, IsKept}
@@ -76,6 +80,23 @@ steps_of files paths = reverse (map (removal_at files) paths)
 -- so an object goes last whose path is the first
 steps_first : (files : Files) (p : Path) (paths : List Path) → steps_of files (p ∷ paths) ≡ steps_of files paths ++ removal_at files p ∷ []
 steps_first files p paths = reverse-first (removal_at files p) (map (removal_at files) paths)
+
+-- they are the removals of the paths, the last path first
+steps_are : (files : Files) (paths : List Path) → steps_of files paths ≡ map (removal_at files) (reverse paths)
+steps_are files [] = refl
+steps_are files (p ∷ paths) =
+    steps_first files p paths ∙ ap (λ ss. ss ++ removal_at files p ∷ []) (steps_are files paths)
+    ∙ sym (map-append (removal_at files) (reverse paths) (p ∷ []))
+    ∙ ap (map (removal_at files)) (sym (reverse-append (p ∷ []) paths))
+
+-- and what was done of them is their front
+pub removals_part : {S : Type 0} (tree : Ghosts S) (files : Files) (paths : List Path) (now : ℕ) (a b : S) (r : Result (Unit {0}) TreeFault)
+    → TriedAll tree (steps_of files paths) now a b r → DonePart (map (removal_at files) (reverse paths)) (tree.steps a) (tree.steps b)
+removals_part tree files paths now a b r t =
+    (
+      length t.done,
+      t.recorded ∙ ap (λ ss. tree.steps a ++ ss) (sym (take_at t.done t.left (length t.done) refl) ∙ ap (take (length t.done)) (t.parts ∙ steps_are files paths)),
+    )
 
 module _ (now : ℕ) (files : Files) where
   -- what they leave

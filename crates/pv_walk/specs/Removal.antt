@@ -1,6 +1,6 @@
 -- Removal: what stands below a path is taken away, and what publishing a path may have done on the way
 -- (unlink(2), rmdir(2), rename(2)).
-use Rattle.std.specs.Prelude.{◌≡◌, ◌⊎◌, ℕ, Bool, false, not, ◌&&◌, List, [], ◌∷◌, ◌++◌, length, filter, None, option_map, if◌then◌else◌}
+use Rattle.std.specs.Prelude.{◌≡◌, ◌⊎◌, ℕ, Bool, false, not, ◌&&◌, List, [], ◌∷◌, ◌++◌, length, filter, take, None, option_map, if◌then◌else◌}
 use Rattle.std.specs.List.{list_any}
 use Rattle.std.specs.Option.{option_map_or}
 use Rattle.std.specs.FinMap as fin
@@ -37,6 +37,10 @@ is_one_of paths q = list_any (λ p. same_path p q) paths
 -- whether a child of a path goes
 abbrev pub loses_child : (Path → Bool) → Files → Path → Bool
 loses_child goes files q = list_any (λ name. goes (q ++ name ∷ [])) (names_below files q)
+
+-- the steps recorded since some were are the first of a list, in its order
+abbrev pub DonePart : List Step → List Step → List Step → Type 0
+DonePart all before behind = (n : ℕ) × (behind ≡ before ++ take n all)
 
 -- some paths go; a directory that stays and loses a child is changed in some way
 abbrev pub without : (Path → Bool) → (Object → Object) → Files → Places

@@ -1,5 +1,5 @@
 //! Removal of what stands below a path.
-ghost use Rattle.std.specs.Prelude.{◌≡◌, ◌≢◌, [], ◌++◌, length, map, IfOk, OnOk};
+ghost use Rattle.std.specs.Prelude.{◌≡◌, ◌≢◌, [], ◌++◌, length, map, reverse, IfOk, OnOk};
 ghost use Rattle.pv_path.specs.Paths.{same_path};
 ghost use Rattle.pv_steps.specs.Trees.{places, IsPresent, IsEmptyIn, IsTree};
 ghost use Rattle.pv_steps.specs.Steps.{gone};
@@ -7,7 +7,7 @@ ghost use Rattle.pv_steps.specs.Objects.{modified};
 ghost use Rattle.pv_steps.specs.Content.{Removes};
 ghost use Rattle.pv_dress.specs.Edits.{Pruned, emptied};
 ghost use Rattle.pv_steps.specs.Acting.{Acted};
-ghost use Rattle.pv_walk.specs.Removal.{is_below, is_one_of, without, count_below, removal_at, MayHaveGone};
+ghost use Rattle.pv_walk.specs.Removal.{is_below, is_one_of, without, count_below, removal_at, DonePart, MayHaveGone};
 ghost use Rattle.pv_walk.specs.Listing.{children_of, IsListing, AreGathered, AreRemovable};
 
 use pv_path::{TreePath, child};
@@ -101,6 +101,8 @@ pub fn remove_all<T: Tree>(
         (places (T.state tree.new) ≡ without (is_one_of paths.items) (modified now) (T.state tree.old)) }
     ensures acted { Acted T.Tree (Pruned (is_one_of paths.items) (T.state tree.old))
         (Removes (is_one_of paths.items)) (length paths.items) now tree.old tree.new result }
+    ensures order { DonePart (map (removal_at (T.state tree.old)) (reverse paths.items))
+        (T.steps tree.old) (T.steps tree.new) }
 {
     let steps = removals(alloc, tree, paths)?;
     try_all(tree, steps, now)

@@ -1,5 +1,5 @@
 use Rattle.std.proofs.Common.{◌≡◌, ℕ, sym, subst, ◌∙◌, List, length, map, reverse, Result}
-use Rattle.std.proofs.lemmas.List.{length-map, length-reverse}
+use Rattle.std.proofs.lemmas.List.{append-nil, length-map, length-reverse}
 use Rattle.pv_path.specs.Paths.{Path}
 use Rattle.pv_steps.specs.declared.step.Step.{Step}
 use Rattle.pv_steps.specs.declared.tree.Tree.{Ghosts}
@@ -13,7 +13,7 @@ use Rattle.pv_steps.proofs.TryingLaws.{acted_all, ask_can, tried_whole}
 use Rattle.pv_dress.specs.Edits.{Pruned}
 use Rattle.pv_walk.specs.Removal.{is_one_of, removal_at}
 use Rattle.pv_walk.proofs.SweepLaws.{pruned-none}
-use Rattle.pv_walk.proofs.TakingLaws.{all_without, removals_ask, steps_of}
+use Rattle.pv_walk.proofs.TakingLaws.{all_without, removals_ask, removals_part, steps_of}
 use Rattle.pv_walk.proofs.remove.remove_all.Goals as goal
 use Rattle.pv_path.proofs.Tests.{on_ok}
 
@@ -54,3 +54,13 @@ returns-clause-acted g c =
     (acted_all (Pruned inside t) (Removes inside) c.args.now g.T.Tree (steps_of t paths) c.args.tree.now c.try_all.new.tree r
     (tried g.T.Tree t paths c.in_ok-steps.steps.items c.args.now c.args.tree.now c.try_all.new.tree r c.in_ok-steps.ensures c.try_all.ensures)
     (removals_ask c.args.now t inside paths c.requires (λ q h. h)))
+
+pub returns-in_err-steps-clause-order : goal.returns-in_err-steps-clause-order
+returns-in_err-steps-clause-order g c = (0, sym (append-nil (g.T.Tree.steps c.args.tree.now)))
+
+pub returns-clause-order : goal.returns-clause-order
+returns-clause-order g c =
+    let t = g.T.Tree.state c.args.tree.now in
+    let r = c.try_all.result in
+    removals_part g.T.Tree t c.args.paths.items c.args.now c.args.tree.now c.try_all.new.tree r
+    (tried g.T.Tree t c.args.paths.items c.in_ok-steps.steps.items c.args.now c.args.tree.now c.try_all.new.tree r c.in_ok-steps.ensures c.try_all.ensures)
