@@ -25,6 +25,7 @@ use Rattle.pv_requests.specs.declared.request.Request.{Request}
 use Rattle.pv_sysusers.specs.Lines.{lines_from, said_duplicates}
 use Rattle.pv_steps.specs.declared.step.Step.{Step}
 use Rattle.pv_steps.specs.declared.tree.Tree.{Ghosts}
+use Rattle.pv_steps.proofs.ActingLaws.{not_failed}
 use Rattle.pv_steps.specs.Acting.{Acted, refused}
 use Rattle.pv_accounts_run.specs.Accounted.{accounted, accounted_unless, carried_files, edits_at, edits_by, edits_unless, lacking_at, lacking_in, lacking_unless, plan_at, said_unless, unusable_texts}
 use Rattle.pv_accounts_run.specs.Running.{in_steps, run_answer}
@@ -145,9 +146,9 @@ pub in_answer : {S : Type 0} (tree : Ghosts S) (P : Files → Type 0) (Q : Step 
 in_answer tree P Q {most} {now} {a} {b} r v e acted = subst (λ (w : Result Carried AccountsFault). Acted tree P Q most now a b (in_steps w)) (sym e) (by r acted)
   where
     by : (r : Result (Unit {0}) TreeFault) → Acted tree P Q most now a b r → Acted tree P Q most now a b (in_steps (run_answer r))
-    by (Ok x) acted = record { ran = acted.ran; bound = acted.bound; reaches = acted.reaches; counted = acted.counted; last = acted.last }
-    by (Err step.Failed) acted = record { ran = acted.ran; bound = acted.bound; reaches = acted.reaches; counted = acted.counted; last = acted.last }
-    by (Err step.Memory) acted = record { ran = acted.ran; bound = acted.bound; reaches = acted.reaches; counted = acted.counted; last = acted.last }
+    by (Ok x) acted = record { ran = acted.ran; bound = acted.bound; reaches = acted.reaches; counted = acted.counted; last = λ h. absurd (not_failed (in_steps (run_answer {A = Unit {0}} (Ok x))) refl h) }
+    by (Err step.Failed) acted = record { ran = acted.ran; bound = acted.bound; reaches = acted.reaches; counted = acted.counted; last = λ h. acted.last refl }
+    by (Err step.Memory) acted = record { ran = acted.ran; bound = acted.bound; reaches = acted.reaches; counted = acted.counted; last = λ h. absurd (not_failed (in_steps (run_answer {A = Unit {0}} (Err step.Memory))) refl h) }
 
 pub on_answer : (r : Result (Unit {0}) TreeFault) (v : Result Carried AccountsFault) → v ≡ run_answer r → {X Y : Type 0} → (X → Y) → OnOk r X → OnOk v Y
 on_answer r v e {X} {Y} f h = subst (λ (w : Result Carried AccountsFault). OnOk w Y) (sym e) (by r h)

@@ -67,11 +67,21 @@ fn has_children_in<T: Tree>(
     }
     let names = tree.list(alloc, path)?;
     for name in names.as_slice() {
-        if !is_among(whole, &child(alloc, path, name.bytes())?) {
+        if !is_soon_among(whole, &child(alloc, path, name.bytes())?) {
             return Ok(false);
         }
     }
     Ok(true)
+}
+
+/// Whether a path is among some paths, of which it is often the first.
+fn is_soon_among(paths: &BTreeSet<TreePath>, path: &TreePath) -> bool
+    ensures { result ≡ is_one_of paths.now.keys path.now }
+{
+    match paths.first() {
+        Some(first) if first == path => true,
+        _ => is_among(paths, path),
+    }
 }
 
 /// Whether a path is among some paths.

@@ -92,11 +92,10 @@ steps_are files (p ∷ paths) =
 -- and what was done of them is their front
 pub removals_part : {S : Type 0} (tree : Ghosts S) (files : Files) (paths : List Path) (now : ℕ) (a b : S) (r : Result (Unit {0}) TreeFault)
     → TriedAll tree (steps_of files paths) now a b r → DonePart (map (removal_at files) (reverse paths)) (tree.steps a) (tree.steps b)
-removals_part tree files paths now a b r t =
-    (
-      length t.done,
-      t.recorded ∙ ap (λ ss. tree.steps a ++ ss) (sym (take_at t.done t.left (length t.done) refl) ∙ ap (take (length t.done)) (t.parts ∙ steps_are files paths)),
-    )
+removals_part tree files paths now a b r t = (
+  length t.done,
+  t.recorded ∙ ap (λ ss. tree.steps a ++ ss) (sym (take_at t.done t.left (length t.done) refl) ∙ ap (take (length t.done)) (t.parts ∙ steps_are files paths)),
+)
 
 module _ (now : ℕ) (files : Files) where
   -- what they leave
