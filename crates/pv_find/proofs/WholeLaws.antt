@@ -297,12 +297,17 @@ place_in q (p ∷ ps) some = by (same_path p q) refl (place_in q ps)
         let found = more rest in
         (suc found.0, omega (arith, found.1), found.2)
 
-deepening : (ps : List Path) → IsNonDecreasingBy (λ (p : Path). length p) ps → Deepening ps
+pub deepening : (ps : List Path) → IsNonDecreasingBy (λ (p : Path). length p) ps → Deepening ps
 deepening [] rises = tt
 deepening (p ∷ ps) rises = (
   (λ q some. let found = place_in q ps some in subst (λ (r : Path). length p ≤ length r) (found.2 p) (rises zero (suc found.0) p (omega arith) (omega (arith, found.1)))),
   deepening ps (λ i j d le within. rises (suc i) (suc j) d (omega (arith, le)) (omega (arith, within))),
 )
+
+-- each behind a path has as many names or more
+pub length_behind : (p : Path) (ps : List Path) → ((q : Path) → 1 ≤ times q ps → length p ≤ length q) → AllByRecursion (λ q. length p ≤ length q) ps
+length_behind p [] deep = tt
+length_behind p (q ∷ ps) deep = (deep q (omega (arith, ap (λ b. cond {A = ℕ} b 1 0) (same_path-refl q))), length_behind p ps (λ r some. deep r (omega (arith, some))))
 
 deepest_order : (files : Files) (ps : List Path) → Deepening ps → ((p q : Path) → 1 ≤ times p ps → is_child p q ≡ true → IsPresent files q → 1 ≤ times q ps) → ParentsFirst files [] ps
 deepest_order files [] deep closed = tt
@@ -362,6 +367,10 @@ whole_removable test files keys ordered rises members moved deep = record {
 pub emptied : (q : Path) (keys : List Path) → (0 < length keys → ⊥) → times q keys ≡ 0
 emptied q [] none = refl
 emptied q (k ∷ keys) none = absurd (none (omega arith))
+
+pub empty : (keys : List Path) → (0 < length keys → ⊥) → keys ≡ []
+empty [] none = refl
+empty (k ∷ keys) none = absurd (none (omega arith))
 
 -- one path more in a set, where all its children are in the set
 pub inserted : (old new : List Path) (path q : Path) (all : Bool) → list_any (eq_by_cmp path_cmp q) new ≡ cond (is_eq (path_cmp path q)) true (list_any (eq_by_cmp path_cmp q) old)

@@ -1,5 +1,5 @@
 //! Which of some paths can be taken away, each with all that stands below it.
-ghost use Rattle.std.specs.Prelude.{◌≡◌, ◌||◌, ◌&&◌, ◌==◌, not, [], ◌∷◌, ◌++◌, ℕ, length, true, is_some, IfOk, OnOk};
+ghost use Rattle.std.specs.Prelude.{◌≡◌, ◌||◌, ◌&&◌, ◌==◌, not, [], ◌∷◌, ◌++◌, ℕ, length, reverse, true, is_some, IfOk, OnOk};
 ghost use Rattle.std.specs.List.{list_all};
 ghost use Rattle.std.specs.BTreeSet.{IsOrdered};
 ghost use Rattle.std.specs.List.Sorted.{IsNonDecreasingBy};
@@ -7,7 +7,7 @@ ghost use Rattle.pv_path.specs.Paths.{Path, path_cmp, same_path};
 ghost use Rattle.pv_steps.specs.Trees.{places, names_below, IsTree};
 ghost use Rattle.pv_walk.specs.Listing.{times};
 ghost use Rattle.pv_walk.specs.Removal.{is_one_of};
-ghost use Rattle.pv_find.specs.Whole.{goes_whole};
+ghost use Rattle.pv_find.specs.Whole.{goes_whole, AreDeepestFirst};
 
 use crate::order::in_order;
 use pv_path::{TreePath, child};
@@ -95,6 +95,7 @@ pub fn is_among(paths: &BTreeSet<TreePath>, path: &TreePath) -> bool
 pub fn deepest_last(alloc: Global, paths: BTreeSet<TreePath>) -> Result<Vec<TreePath>, AllocError>
     ensures members { IfOk result (λ ordered. (q : Path) → times q ordered.items ≡ times q paths.keys) }
     ensures deepest { IfOk result (λ ordered. IsNonDecreasingBy (λ path. length path) ordered.items) }
+    ensures order { IfOk result (λ ordered. AreDeepestFirst (reverse ordered.items)) }
     ensures once { IsOrdered path_cmp paths }
 {
     let mut left = paths;

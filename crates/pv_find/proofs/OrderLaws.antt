@@ -1,0 +1,108 @@
+-- Laws of paths in order: from the last on, and by depth after they stood in byte order.
+use Rattle.std.specs.Prelude.{◌≡◌, ℕ, ◌≤◌, ◌<◌, Bool, true, false, cond, not, ◌&&◌, ◌⊎◌, List, [], ◌∷◌, ◌++◌, length, filter, reverse}
+use Rattle.std.proofs.Common.{refl, sym, ap, subst, ◌∙◌, inl, inr, arith}
+use Rattle.std.proofs.lemmas.Bool.Decides.{nat_tests}
+use Rattle.std.proofs.lemmas.List.{reverse-append}
+use Rattle.std.proofs.lemmas.List.Kept.{IsStrictlySortedBy-filter}
+use Rattle.std.specs.List.{AllByRecursion}
+use Rattle.std.specs.List.Sorted.{IsStrictlySortedBy, IsNonDecreasingBy, IsStableByKey, ties}
+use Rattle.std.specs.Ordering.{Ordering, nat_cmp, is_lt, ordering_then}
+use Rattle.std.specs.declared.cmp.Ordering.TheVariants.{Less, Equal, Greater}
+use Rattle.pv_path.specs.Paths.{Path, path_cmp}
+use Rattle.pv_path.proofs.Tests.{all_append}
+use Rattle.pv_find.specs.Whole.{depth_cmp, AreDeepestFirst}
+use Rattle.pv_find.proofs.WholeLaws.{deepening, Deepening, length_behind}
+
+-- ---- from the last on
+
+-- the first of a list is the last of it from the last on
+reverse-cons : {A : Type 0} (x : A) (xs : List A) → reverse (x ∷ xs) ≡ reverse xs ++ x ∷ []
+reverse-cons x xs = reverse-append (x ∷ []) xs
+
+all-reverse : {A : Type 0} (P : A → Type 0) (xs : List A) → AllByRecursion P xs → AllByRecursion P (reverse xs)
+all-reverse P [] all = tt
+all-reverse P (x ∷ xs) all = subst (AllByRecursion P) (sym (reverse-cons x xs)) (all_append P (reverse xs) (x ∷ []) (all-reverse P xs all.1) (all.0, tt))
+
+module _ {K : Type 0} (c : K → K → Ordering) where
+  all-map : {P Q : K → Type 0} → ((y : K) → P y → Q y) → (xs : List K) → AllByRecursion P xs → AllByRecursion Q xs
+  all-map f [] all = tt
+  all-map f (x ∷ xs) all = (f x all.0, all-map f xs all.1)
+
+  -- one more at the end
+  sorted-push : (xs : List K) (x : K) → IsStrictlySortedBy c xs → AllByRecursion (λ y. c y x ≡ Less) xs → IsStrictlySortedBy c (xs ++ x ∷ [])
+  unfolding IsStrictlySortedBy
+  sorted-push [] x up all = (tt, tt)
+  sorted-push (y ∷ xs) x up all = (all_append (λ z. c y z ≡ Less) xs (x ∷ []) up.0 (all.0, tt), sorted-push xs x up.1 all.1)
+
+-- in order the other way round
+pub sorted-reverse : {K : Type 0} (c : K → K → Ordering) (xs : List K) → IsStrictlySortedBy c xs → IsStrictlySortedBy (λ x y. c y x) (reverse xs)
+unfolding IsStrictlySortedBy
+sorted-reverse c [] up = tt
+sorted-reverse c (x ∷ xs) up =
+    subst (IsStrictlySortedBy (λ y z. c z y)) (sym (reverse-cons x xs))
+    (sorted-push (λ y z. c z y) (reverse xs) x (sorted-reverse c xs up.1) (all-reverse (λ y. c x y ≡ Less) xs up.0))
+
+-- ---- by depth
+
+-- two paths are of one depth
+abbrev level : Path → Path → Bool
+level = ties (λ x y. is_lt (nat_cmp (length x) (length y)))
+
+-- those of one depth with a path stand in byte order, the last first
+abbrev Levels : List Path → Type 0
+Levels ps = (x : Path) → IsStrictlySortedBy (λ p q. path_cmp q p) (filter (level x) ps)
+
+filter-first : (f : Path → Bool) (p : Path) (ps : List Path) → f p ≡ true → filter f (p ∷ ps) ≡ p ∷ filter f ps
+filter-first f p ps e = ap (λ b. cond b (p ∷ filter f ps) (filter f ps)) e
+
+filter-other : (f : Path → Bool) (p : Path) (ps : List Path) → f p ≡ false → filter f (p ∷ ps) ≡ filter f ps
+filter-other f p ps e = ap (λ b. cond b (p ∷ filter f ps) (filter f ps)) e
+
+level-self : (n : ℕ) → (not (is_lt (nat_cmp n n)) && not (is_lt (nat_cmp n n))) ≡ true
+level-self n = grind (arith, nat_tests)
+
+-- the others of a list in levels
+levels-rest : (p : Path) (ps : List Path) → Levels (p ∷ ps) → Levels ps
+unfolding IsStrictlySortedBy
+levels-rest p ps all x = by (level x p) refl
+  where
+    by : (b : Bool) → level x p ≡ b → IsStrictlySortedBy (λ q r. path_cmp r q) (filter (level x) ps)
+    by true e = (subst (IsStrictlySortedBy (λ q r. path_cmp r q)) (filter-first (level x) p ps e) (all x)).1
+    by false e = subst (IsStrictlySortedBy (λ q r. path_cmp r q)) (filter-other (level x) p ps e) (all x)
+
+-- of those that stand behind a path and have as many names or more, each goes before it
+behind : (p : Path) (ps : List Path) → AllByRecursion (λ q. length p ≤ length q) ps → AllByRecursion (λ q. path_cmp q p ≡ Less) (filter (level p) ps) → AllByRecursion (λ q. depth_cmp q p ≡ Less) ps
+behind p [] deep less = tt
+behind p (q ∷ ps) deep less = by (level p q) refl (behind p ps deep.1)
+  where
+    same : level p q ≡ true → path_cmp q p ≡ Less → depth_cmp q p ≡ Less
+    same e l = ap (λ o. ordering_then o (path_cmp q p)) (equal (length p) (length q) e) ∙ l
+      where
+        equal : (m n : ℕ) → (not (is_lt (nat_cmp m n)) && not (is_lt (nat_cmp n m))) ≡ true → nat_cmp m n ≡ Equal
+        equal m n h = grind (arith, nat_tests)
+
+    deeper : level p q ≡ false → depth_cmp q p ≡ Less
+    deeper e = ap (λ o. ordering_then o (path_cmp q p)) (more (length p) (length q) deep.0 e)
+      where
+        more : (m n : ℕ) → m ≤ n → (not (is_lt (nat_cmp m n)) && not (is_lt (nat_cmp n m))) ≡ false → nat_cmp m n ≡ Less
+        more m n le h = grind (arith, nat_tests)
+
+    by : (b : Bool) → level p q ≡ b → (AllByRecursion (λ r. path_cmp r p ≡ Less) (filter (level p) ps) → AllByRecursion (λ r. depth_cmp r p ≡ Less) ps) → AllByRecursion (λ r. depth_cmp r p ≡ Less) (q ∷ ps)
+    by true e rest = let parts = subst (AllByRecursion (λ r. path_cmp r p ≡ Less)) (filter-first (level p) q ps e) less in (same e parts.0, rest parts.1)
+    by false e rest = (deeper e, rest (subst (AllByRecursion (λ r. path_cmp r p ≡ Less)) (filter-other (level p) q ps e) less))
+
+by_depth : (ps : List Path) → Deepening ps → Levels ps → IsStrictlySortedBy (λ p q. depth_cmp q p) ps
+unfolding IsStrictlySortedBy
+by_depth [] deep all = tt
+by_depth (p ∷ ps) deep all = (
+  behind p ps (length_behind p ps deep.0) (subst (IsStrictlySortedBy (λ q r. path_cmp r q)) (filter-first (level p) p ps (level-self (length p))) (all p)).0,
+  by_depth ps deep.1 (levels-rest p ps all),
+)
+
+-- a stable sort by depth of paths that stood in byte order, the last first
+pub deepest_first : (keys xs ys : List Path) → IsStrictlySortedBy path_cmp keys → xs ≡ reverse keys → IsNonDecreasingBy (λ (p : Path). length p) ys → IsStableByKey (λ (p : Path). length p) nat_cmp xs ys
+    → AreDeepestFirst (reverse ys)
+deepest_first keys xs ys up is deep stable =
+    sorted-reverse (λ p q. depth_cmp q p) ys (by_depth ys (deepening ys deep) (λ x.
+    subst (IsStrictlySortedBy (λ p q. path_cmp q p)) (sym (stable x))
+    (IsStrictlySortedBy-filter (λ p q. path_cmp q p) (level x) xs (subst (IsStrictlySortedBy (λ p q. path_cmp q p)) (sym is) (sorted-reverse path_cmp keys up)))))
