@@ -1,12 +1,13 @@
 -- Laws of paths in order: from the last on, and by depth after they stood in byte order.
 use Rattle.std.specs.Prelude.{◌≡◌, ℕ, ◌≤◌, ◌<◌, Bool, true, false, cond, not, ◌&&◌, ◌⊎◌, List, [], ◌∷◌, ◌++◌, length, filter, reverse}
 use Rattle.std.proofs.Common.{refl, sym, ap, subst, ◌∙◌, inl, inr, arith}
-use Rattle.std.proofs.lemmas.Bool.Decides.{nat_tests}
 use Rattle.std.proofs.lemmas.List.{reverse-append}
 use Rattle.std.proofs.lemmas.List.Kept.{IsStrictlySortedBy-filter}
 use Rattle.std.specs.List.{AllByRecursion}
 use Rattle.std.specs.List.Sorted.{IsStrictlySortedBy, IsNonDecreasingBy, IsStableByKey, ties}
-use Rattle.std.specs.Ordering.{Ordering, nat_cmp, is_lt, ordering_then}
+use Rattle.std.specs.Cmp.{nat_cmp_total, ranks}
+use Rattle.std.specs.Ordering.{MatchOrdering, nat_cmp, is_lt, ordering_reverse, ordering_then}
+use Rattle.std.specs.declared.cmp.Ordering.{Ordering}
 use Rattle.std.specs.declared.cmp.Ordering.TheVariants.{Less, Equal, Greater}
 use Rattle.pv_path.specs.Paths.{Path, path_cmp}
 use Rattle.pv_path.proofs.Tests.{all_append}
@@ -24,10 +25,6 @@ all-reverse P [] all = tt
 all-reverse P (x ∷ xs) all = subst (AllByRecursion P) (sym (reverse-cons x xs)) (all_append P (reverse xs) (x ∷ []) (all-reverse P xs all.1) (all.0, tt))
 
 module _ {K : Type 0} (c : K → K → Ordering) where
-  all-map : {P Q : K → Type 0} → ((y : K) → P y → Q y) → (xs : List K) → AllByRecursion P xs → AllByRecursion Q xs
-  all-map f [] all = tt
-  all-map f (x ∷ xs) all = (f x all.0, all-map f xs all.1)
-
   -- one more at the end
   sorted-push : (xs : List K) (x : K) → IsStrictlySortedBy c xs → AllByRecursion (λ y. c y x ≡ Less) xs → IsStrictlySortedBy c (xs ++ x ∷ [])
   unfolding IsStrictlySortedBy
@@ -58,8 +55,23 @@ filter-first f p ps e = ap (λ b. cond b (p ∷ filter f ps) (filter f ps)) e
 filter-other : (f : Path → Bool) (p : Path) (ps : List Path) → f p ≡ false → filter f (p ∷ ps) ≡ filter f ps
 filter-other f p ps e = ap (λ b. cond b (p ∷ filter f ps) (filter f ps)) e
 
-level-self : (n : ℕ) → (not (is_lt (nat_cmp n n)) && not (is_lt (nat_cmp n n))) ≡ true
-level-self n = grind (arith, nat_tests)
+turned : (m n : ℕ) → nat_cmp n m ≡ ordering_reverse (nat_cmp m n)
+turned m n = nat_cmp_total.antisymm n m
+
+-- neither is less
+abbrev tie : Ordering → Bool
+tie o = not (is_lt o) && not (is_lt (ordering_reverse o))
+
+level-tie : (p q : Path) → level p q ≡ tie (nat_cmp (length p) (length q))
+level-tie p q = ap (λ o. not (is_lt (nat_cmp (length p) (length q))) && not (is_lt o)) (turned (length p) (length q))
+
+level-self : (p : Path) → level p p ≡ true
+level-self p = level-tie p p ∙ by (nat_cmp (length p) (length p)) (turned (length p) (length p))
+  where
+    by : (o : Ordering) → o ≡ ordering_reverse o → tie o ≡ true
+    by Less e = absurd (let no : Less ≡ Greater = e in cc)
+    by Equal e = refl
+    by Greater e = absurd (let no : Greater ≡ Less = e in cc)
 
 -- the others of a list in levels
 levels-rest : (p : Path) (ps : List Path) → Levels (p ∷ ps) → Levels ps
@@ -75,17 +87,21 @@ behind : (p : Path) (ps : List Path) → AllByRecursion (λ q. length p ≤ leng
 behind p [] deep less = tt
 behind p (q ∷ ps) deep less = by (level p q) refl (behind p ps deep.1)
   where
+    equal : (o : Ordering) → tie o ≡ true → o ≡ Equal
+    equal Less h = absurd (let no : false ≡ true = h in cc)
+    equal Equal h = refl
+    equal Greater h = absurd (let no : false ≡ true = h in cc)
+
+    more : (o : Ordering) → MatchOrdering o (length p < length q) (length p ≡ length q) (length q < length p) → length p ≤ length q → tie o ≡ false → o ≡ Less
+    more Less rank le h = refl
+    more Equal rank le h = absurd (let no : true ≡ false = h in cc)
+    more Greater rank le h = absurd (omega (arith, rank, le))
+
     same : level p q ≡ true → path_cmp q p ≡ Less → depth_cmp q p ≡ Less
-    same e l = ap (λ o. ordering_then o (path_cmp q p)) (equal (length p) (length q) e) ∙ l
-      where
-        equal : (m n : ℕ) → (not (is_lt (nat_cmp m n)) && not (is_lt (nat_cmp n m))) ≡ true → nat_cmp m n ≡ Equal
-        equal m n h = grind (arith, nat_tests)
+    same e l = ap (λ o. ordering_then o (path_cmp q p)) (equal (nat_cmp (length p) (length q)) (sym (level-tie p q) ∙ e)) ∙ l
 
     deeper : level p q ≡ false → depth_cmp q p ≡ Less
-    deeper e = ap (λ o. ordering_then o (path_cmp q p)) (more (length p) (length q) deep.0 e)
-      where
-        more : (m n : ℕ) → m ≤ n → (not (is_lt (nat_cmp m n)) && not (is_lt (nat_cmp n m))) ≡ false → nat_cmp m n ≡ Less
-        more m n le h = grind (arith, nat_tests)
+    deeper e = ap (λ o. ordering_then o (path_cmp q p)) (more (nat_cmp (length p) (length q)) (ranks (length p) (length q)) deep.0 (sym (level-tie p q) ∙ e))
 
     by : (b : Bool) → level p q ≡ b → (AllByRecursion (λ r. path_cmp r p ≡ Less) (filter (level p) ps) → AllByRecursion (λ r. depth_cmp r p ≡ Less) ps) → AllByRecursion (λ r. depth_cmp r p ≡ Less) (q ∷ ps)
     by true e rest = let parts = subst (AllByRecursion (λ r. path_cmp r p ≡ Less)) (filter-first (level p) q ps e) less in (same e parts.0, rest parts.1)
@@ -95,7 +111,7 @@ by_depth : (ps : List Path) → Deepening ps → Levels ps → IsStrictlySortedB
 unfolding IsStrictlySortedBy
 by_depth [] deep all = tt
 by_depth (p ∷ ps) deep all = (
-  behind p ps (length_behind p ps deep.0) (subst (IsStrictlySortedBy (λ q r. path_cmp r q)) (filter-first (level p) p ps (level-self (length p))) (all p)).0,
+  behind p ps (length_behind p ps deep.0) (subst (IsStrictlySortedBy (λ q r. path_cmp r q)) (filter-first (level p) p ps (level-self p)) (all p)).0,
   by_depth ps deep.1 (levels-rest p ps all),
 )
 

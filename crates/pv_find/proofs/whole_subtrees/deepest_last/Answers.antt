@@ -37,6 +37,6 @@ returns-clause-order c =
     let none : c.loop-path.left.keys ≡ [] = empty c.loop-path.left.keys (λ h. let no : false ≡ true = c.in_default.ensures.variant.1 h in cc) in
     let were : c.loop-path.ordered.items ≡ reverse c.args.paths.keys =
     sym (append-nil c.loop-path.ordered.items) ∙ ap (λ (xs : List Path). c.loop-path.ordered.items ++ reverse xs) (sym none) ∙ c.loop-path.invariant.order in
-    deepest_first c.args.paths.keys c.loop-path.ordered.items c.sort_by_key.new.self.items c.args.paths.ok were
+    deepest_first c.args.paths.keys c.loop-path.ordered.items c.sort_by_key.new.self.items c.len.ensures.ordered were
     (IsNonDecreasingBy-from_sort_by_key (λ (p : Path). length p) _ c.in_ok-sort_by_key.ensures.sorted (λ a r q k. search rules))
     (c.in_ok-sort_by_key.ensures.stable (λ (p : Path). length p) (always_returns_same _ (λ a r. r ≡ length a.0.now) _ (λ a r q k. search rules)))
