@@ -259,7 +259,7 @@ class Document:
             return
         calls = [call for call in TOKEN.findall(head[1]) if self.code.calls(call, self.crate)]
         found = [self.code.calls(call, self.crate) for call in calls]
-        for name in re.findall(r"[(;] ?`(\w+)`(?=[:,)])", text) if found else ():
+        for name in re.findall(r"[(;,] ?`(\w+)`(?=[:;,)])", text) if found else ():
             self.checked += 1
             if not self._is_clause(found, name, set()) and name not in self.code.words:
                 self.miss(number, f"no clause `{name}` on " + ", ".join(f"`{it}`" for it in calls))
