@@ -143,6 +143,9 @@ class Examples(ToolCase):
         self.assertEqual(self.said(text.replace("0755", "755"))[0], 1)
 
 
+DOCUMENTS = ("DIFFERENCES", "FORMAT", "MESSAGES", "PROMISES", "USAGE")
+
+
 class Installing(ToolCase):
     def test_what_is_lacking_is_named(self):
         (self.room / "top/tools").mkdir(parents=True)
@@ -154,7 +157,8 @@ class Installing(ToolCase):
         self.assertEqual(done.stderr.splitlines(), [
             "install: /none is lacking", f"install: {top}/tools/tar_stream.py is lacking",
             f"install: {top}/tools/tree_folder.py is lacking",
-            f"install: {top}/man/provision.1 is lacking", f"install: {top}/man/tree-image.5 is lacking"])
+            f"install: {top}/man/provision.1 is lacking", f"install: {top}/man/tree-image.5 is lacking"]
+            + [f"install: {top}/docs/{name}.md is lacking" for name in DOCUMENTS])
         self.assertEqual(done.returncode, 1)
         self.assertFalse((self.room / "to").exists())
 
@@ -164,6 +168,9 @@ class Installing(ToolCase):
         (top / "man").mkdir()
         for page in ("provision.1", "tree-image.5"):
             (top / "man" / page).write_text(".Dd x\n")
+        (top / "docs").mkdir()
+        for name in DOCUMENTS:
+            (top / "docs" / f"{name}.md").write_text("# x\n")
         program = self.room / "program"
         program.write_text("#!/bin/sh\n")
         subprocess.run([top / "tools/install.sh", program], check=True, capture_output=True,
@@ -174,6 +181,7 @@ class Installing(ToolCase):
         self.assertEqual(again, text)
         self.assertTrue((to / "usr/bin/provision").stat().st_mode & 0o111)
         self.assertTrue((to / "usr/share/man/man5/tree-image.5").is_file())
+        self.assertTrue((to / "usr/share/doc/provision/FORMAT.md").is_file())
 
 
 if __name__ == "__main__":
