@@ -1,11 +1,13 @@
 -- Laws of paths taken away whole: what that leaves, and how many steps it takes.
-use Rattle.std.specs.Prelude.{◌≡◌, ℕ, ◌≤◌, Bool, true, false, cond, List, length, filter, Result, Ok, Err, IsErrAnd}
+use Rattle.std.specs.Prelude.{◌≡◌, ℕ, ◌≤◌, Bool, true, false, cond, List, length, filter, map, reverse, Result, Ok, Err, IsErrAnd}
 use Rattle.std.proofs.Common.{refl, sym, ap, subst, ◌∙◌, arith}
 use Rattle.std.proofs.lemmas.List.{append-nil}
+use Rattle.std.proofs.lemmas.List.Sorted.{IsPermutation-reverse, IsPermutation-sym, list_any-IsPermutation}
 use Rattle.std.specs.List.Sorted.{IsStrictlySortedBy, IsNonDecreasingBy}
 use Rattle.std.specs.FinMap as fin
 use Rattle.pv_doing.specs.declared.carried.Carried.{Carried}
-use Rattle.pv_path.specs.Paths.{Path, path_cmp}
+use Rattle.pv_path.specs.Paths.{Path, path_cmp, same_path}
+use Rattle.pv_steps.specs.declared.step.Step.{Step}
 use Rattle.pv_steps.specs.declared.tree.Tree.{Ghosts}
 use Rattle.pv_steps.specs.declared.tree.TreeFault.{TreeFault}
 use Rattle.pv_steps.specs.declared.tree.TreeFault.TheVariants.{Failed, Memory}
@@ -17,14 +19,14 @@ use Rattle.pv_steps.proofs.ActingLaws.{Moves, well, acted_none, acted_passed, ac
 use Rattle.pv_steps.proofs.StepLaws.{same_files}
 use Rattle.pv_dress.specs.Edits.{Pruned}
 use Rattle.pv_walk.specs.Listing.{times, AreRemovable}
-use Rattle.pv_walk.specs.Removal.{is_one_of, without}
+use Rattle.pv_walk.specs.Removal.{is_one_of, removal_at, without, DonePart}
 use Rattle.pv_walk.proofs.CountLaws.{length-times, times-filter, times-keys}
 use Rattle.pv_walk.proofs.TakingLaws.{one_of-some, one_of-counted}
-use Rattle.pv_find.specs.Whole.{count_of, goes_whole}
+use Rattle.pv_find.specs.Whole.{count_of, goes_whole, AreDeepestFirst}
 use Rattle.pv_find.proofs.WholeLaws.{goes_parts, times-rising, whole_removable}
 use Rattle.pv_table.specs.Removed.{files_without}
 use Rattle.pv_text.specs.Said.{SaidPart}
-use Rattle.pv_remove.specs.Ended.{TakesAway}
+use Rattle.pv_remove.specs.Ended.{TakesAway, TakesInOrder}
 use Rattle.pv_remove.proofs.StopLaws.{places-without}
 use Rattle.pv_path.proofs.Tests.{same_tests}
 use Rattle.pv_walk.proofs.SweepLaws.{pruned-none}
@@ -44,13 +46,15 @@ takes_nothing tree moves goes texts unfinished now a before (Err Memory) h = rec
   silent = λ failed. refl;
   exact = tt;
   acted = acted_none tree moves (Pruned goes (tree.state a)) (Removes goes) (count_of goes (tree.state a)) now a (Err Memory) refl (pruned-none goes (tree.state a));
+  order = TakesInOrder.nothing refl;
 }
 
 -- a fault in taking away is passed on, and nothing is said
 pub takes_failed : {S : Type 0} (tree : Ghosts S) {goes : Path → Bool} (texts : List (List ℕ)) (unfinished : Bool) {now : ℕ} {a b : S} (before : List (List ℕ)) {e : TreeFault} (q : Result (Unit {0}) TreeFault) (r : Result Carried TreeFault)
-    → q ≡ Err e → IsErrAnd r (λ y. y ≡ e) → Acted tree (Pruned goes (tree.state a)) (Removes goes) (count_of goes (tree.state a)) now a b q → TakesAway tree goes texts unfinished now a b before before r
-takes_failed tree texts unfinished before q (Ok c) was h acted = absurd h
-takes_failed tree texts unfinished before q (Err f) was h acted = record {
+    → q ≡ Err e → IsErrAnd r (λ y. y ≡ e) → Acted tree (Pruned goes (tree.state a)) (Removes goes) (count_of goes (tree.state a)) now a b q
+    → TakesInOrder goes (tree.state a) (tree.steps a) (tree.steps b) → TakesAway tree goes texts unfinished now a b before before r
+takes_failed tree texts unfinished before q (Ok c) was h acted order = absurd h
+takes_failed tree texts unfinished before q (Err f) was h acted order = record {
   ok = tt;
   said = tt;
   carried = tt;
@@ -58,14 +62,16 @@ takes_failed tree texts unfinished before q (Err f) was h acted = record {
   silent = λ failed. refl;
   exact = tt;
   acted = acted_passed tree q (Err f) was h acted;
+  order = order;
 }
 
 -- where it is whole, but memory to say a text is wanting, a part is said
 pub takes_unsaid : {S : Type 0} (tree : Ghosts S) {goes : Path → Bool} {texts : List (List ℕ)} (unfinished : Bool) {now : ℕ} {a b : S} {before behind : List (List ℕ)} (r : Result Carried TreeFault)
-    → IsErrAnd r (λ y. y ≡ Memory) → SaidPart texts before behind → Acted tree (Pruned goes (tree.state a)) (Removes goes) (count_of goes (tree.state a)) now a b well → TakesAway tree goes texts unfinished now a b before behind r
-takes_unsaid tree unfinished (Ok c) h part acted = absurd h
-takes_unsaid tree unfinished (Err Failed) h part acted = cc
-takes_unsaid tree unfinished (Err Memory) h part acted = record {
+    → IsErrAnd r (λ y. y ≡ Memory) → SaidPart texts before behind → Acted tree (Pruned goes (tree.state a)) (Removes goes) (count_of goes (tree.state a)) now a b well
+    → TakesInOrder goes (tree.state a) (tree.steps a) (tree.steps b) → TakesAway tree goes texts unfinished now a b before behind r
+takes_unsaid tree unfinished (Ok c) h part acted order = absurd h
+takes_unsaid tree unfinished (Err Failed) h part acted order = cc
+takes_unsaid tree unfinished (Err Memory) h part acted order = record {
   ok = tt;
   said = tt;
   carried = tt;
@@ -73,6 +79,7 @@ takes_unsaid tree unfinished (Err Memory) h part acted = record {
   silent = λ failed. (let no : ◌≡◌ {A = Result Carried TreeFault} (Err Memory) (Err Failed) = failed in cc);
   exact = tt;
   acted = acted_ended tree (Err Memory) refl acted;
+  order = order;
 }
 
 -- what is taken away and said is known by any name
@@ -94,6 +101,10 @@ module _ (t : Files) (keys ordered : List Path) (moved : (q : Path) → times q 
       one q = same_tests (is_one_of ordered q) (is_one_of keys q)
           (λ h. one_of-counted keys q (let some = one_of-some ordered q h in omega (arith, some, moved q)))
           (λ h. one_of-counted ordered q (let some = one_of-some keys q h in omega (arith, some, moved q)))
+
+  -- and taken away from the last on they are the removals in order
+  pub in_order : AreDeepestFirst (reverse ordered) → {before behind : List Step} → DonePart (map (removal_at t) (reverse ordered)) before behind → TakesInOrder (is_one_of keys) t before behind
+  in_order deep done = TakesInOrder.first (reverse ordered) (λ q. list_any-IsPermutation (λ p. same_path p q) (reverse ordered) ordered (IsPermutation-sym ordered (reverse ordered) (IsPermutation-reverse ordered)) ∙ (λ i. same_paths i q)) deep done
 
   -- what is left without them
   pub left_without : (now : ℕ) (u : Files) → places u ≡ without (is_one_of ordered) (modified now) t → u ≡ files_without (is_one_of keys) (modified now) t

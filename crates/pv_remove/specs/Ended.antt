@@ -1,10 +1,10 @@
 -- What a phase that takes away does, says and answers, and that one which was cut short is mended by the next
 -- (tmpfiles.d(5), r, R and D; systemd-tmpfiles(8), --purge).
-use Rattle.std.specs.Prelude.{◌≡◌, ℕ, Bool, List, ◌++◌, drop, length, take, Result, IfOk, IsErrOf, OnOk}
+use Rattle.std.specs.Prelude.{◌≡◌, ℕ, Bool, List, ◌++◌, drop, length, map, take, Result, IfOk, IsErrOf, OnOk}
 use Rattle.pv_doing.specs.declared.carried.Carried.{Carried}
 use Rattle.pv_doing.specs.Courses.{carried_of}
 use Rattle.pv_dress.specs.Edits.{Pruned}
-use Rattle.pv_find.specs.Whole.{count_of}
+use Rattle.pv_find.specs.Whole.{count_of, AreDeepestFirst}
 use Rattle.pv_path.specs.Paths.{Path}
 use Rattle.pv_steps.specs.declared.step.Step.{Step}
 use Rattle.pv_steps.specs.declared.tree.Tree.{Ghosts}
@@ -18,11 +18,18 @@ use Rattle.pv_steps.specs.Runs.{after_all}
 use Rattle.pv_steps.specs.Same.{Same}
 use Rattle.pv_table.specs.Removed.{files_without}
 use Rattle.pv_text.specs.Said.{SaidPart}
+use Rattle.pv_walk.specs.Removal.{is_one_of, removal_at, DonePart}
+
+-- nothing is done, or the first of the steps that take away all paths that go: the deepest first, those of one depth in
+-- byte order
+pub data TakesInOrder (goes : Path → Bool) (t : Files) (before behind : List Step) : Type 0 where
+  nothing : behind ≡ before → TakesInOrder goes t before behind
+  first : (paths : List Path) → ((q : Path) → is_one_of paths q ≡ goes q) → AreDeepestFirst paths → DonePart (map (removal_at t) paths) before behind → TakesInOrder goes t before behind
 
 -- a phase takes away the paths that go, and then says some texts: where it answers Ok it leaves the tree without these
 -- paths, has done one step for each path that goes, has said all the texts, and tells whether something is unfinished;
 -- whatever it answers, it has said a front part of them, or none where a step was refused, and has gone by steps each of
--- which takes away a path that goes
+-- which takes away a path that goes, the deepest first, those of one depth in byte order
 pub record TakesAway {S : Type 0} (tree : Ghosts S) (goes : Path → Bool) (texts : List (List ℕ)) (unfinished : Bool)
     (now : ℕ) (old new : S) (before behind : List (List ℕ)) (r : Result Carried TreeFault) : Type 0 where
   pub ok : OnOk r (tree.state new ≡ files_without goes (modified now) (tree.state old))
@@ -32,6 +39,7 @@ pub record TakesAway {S : Type 0} (tree : Ghosts S) (goes : Path → Bool) (text
   pub part : SaidPart texts before behind
   pub silent : IsErrOf r Failed → behind ≡ before
   pub acted : Acted tree (Pruned goes (tree.state old)) (Removes goes) (count_of goes (tree.state old)) now old new r
+  pub order : TakesInOrder goes (tree.state old) (tree.steps old) (tree.steps new)
 
 -- after each number of these steps a whole run, at whatever moment, leaves what a whole run leaves from the start;
 -- stamps and staging names aside

@@ -8,6 +8,7 @@ ghost use Rattle.pv_dress.specs.Edits.{Pruned};
 ghost use Rattle.pv_walk.specs.Removal.{is_one_of};
 ghost use Rattle.pv_find.specs.Whole.{count_of, goes_whole};
 ghost use Rattle.pv_table.specs.Removed.{files_without};
+ghost use Rattle.pv_remove.specs.Ended.{TakesInOrder};
 
 use pv_find::deepest_last;
 use pv_path::TreePath;
@@ -28,6 +29,7 @@ pub(crate) fn take_away<T: Tree>(
     ensures gone { OnOk result (T.state tree.new ≡ files_without (is_one_of paths.keys) (modified now) (T.state tree.old)) }
     ensures acted { Acted T.Tree (Pruned (is_one_of paths.keys) (T.state tree.old)) (Removes (is_one_of paths.keys))
         (count_of (is_one_of paths.keys) (T.state tree.old)) now tree.old tree.new result }
+    ensures order { TakesInOrder (is_one_of paths.keys) (T.state tree.old) (T.steps tree.old) (T.steps tree.new) }
 {
     let ordered = deepest_last(alloc, paths)?;
     remove_all(alloc, tree, ordered, now)

@@ -7,10 +7,10 @@ use Rattle.pv_remove.proofs.TakeLaws.{takes_failed, takes_unsaid}
 use Rattle.pv_remove.proofs.plan.carry_out.Goals as goal
 
 pub returns-in_err-take_away : goal.returns-in_err-take_away
-returns-in_err-take_away g c = takes_failed g.T.Tree c.args.plan.said c.args.plan.unfinished c.args.messages.now c.take_away.result c.from_residual.result c.in_err-take_away.was c.from_residual.ensures.1 c.take_away.ensures.acted
+returns-in_err-take_away g c = takes_failed g.T.Tree c.args.plan.said c.args.plan.unfinished c.args.messages.now c.take_away.result c.from_residual.result c.in_err-take_away.was c.from_residual.ensures.1 c.take_away.ensures.acted c.take_away.ensures.order
 
 pub returns-in_err-say_all : goal.returns-in_err-say_all
-returns-in_err-say_all g c = takes_unsaid g.T.Tree c.args.plan.unfinished c.from_residual-in_err-say_all.result c.from_residual-in_err-say_all.ensures.1 c.say_all.ensures.part c.in_ok-take_away.ensures.acted
+returns-in_err-say_all g c = takes_unsaid g.T.Tree c.args.plan.unfinished c.from_residual-in_err-say_all.result c.from_residual-in_err-say_all.ensures.1 c.say_all.ensures.part c.in_ok-take_away.ensures.acted c.take_away.ensures.order
 
 pub returns : goal.returns
 returns g c = record {
@@ -21,4 +21,5 @@ returns g c = record {
   silent = λ failed. cc;
   exact = one_step_each (is_one_of c.args.plan.paths.keys) (modified c.args.now) c.in_ok-take_away.ensures.acted.ran c.in_ok-take_away.ensures.gone;
   acted = acted_ended g.T.Tree _ refl c.in_ok-take_away.ensures.acted;
+  order = c.take_away.ensures.order;
 }

@@ -1,4 +1,4 @@
-use Rattle.std.proofs.Common.{subst, Bool, length}
+use Rattle.std.proofs.Common.{refl, subst, Bool, length}
 use Rattle.pv_path.specs.Paths.{Path}
 use Rattle.pv_steps.specs.Acting.{Acted}
 use Rattle.pv_steps.specs.Content.{Removes}
@@ -6,7 +6,8 @@ use Rattle.pv_steps.proofs.ActingLaws.{acted_within}
 use Rattle.pv_dress.specs.Edits.{Pruned}
 use Rattle.pv_walk.specs.Removal.{is_one_of}
 use Rattle.pv_find.specs.Whole.{count_of}
-use Rattle.pv_remove.proofs.TakeLaws.{as_many, left_without, removable, same_paths}
+use Rattle.pv_remove.specs.Ended.{TakesInOrder}
+use Rattle.pv_remove.proofs.TakeLaws.{as_many, in_order, left_without, removable, same_paths}
 use Rattle.pv_remove.proofs.taking_away.take_away.Goals as goal
 use Rattle.pv_path.proofs.Tests.{on_ok}
 
@@ -26,3 +27,9 @@ returns-clause-acted g c =
     acted_within g.T.Tree (length ordered) (count_of (is_one_of keys) t)
     (as_many t keys ordered c.in_ok-ordered.ensures.members c.in_ok-ordered.ensures.once c.requires.whole)
     (subst (λ (f : Path → Bool). Acted g.T.Tree (Pruned f t) (Removes f) (length ordered) c.args.now c.args.tree.now c.remove_all.new.tree c.remove_all.result) (same_paths t keys ordered c.in_ok-ordered.ensures.members) c.remove_all.ensures.acted)
+
+pub returns-in_err-ordered-clause-order : goal.returns-in_err-ordered-clause-order
+returns-in_err-ordered-clause-order g c = TakesInOrder.nothing refl
+
+pub returns-clause-order : goal.returns-clause-order
+returns-clause-order g c = in_order (g.T.Tree.state c.args.tree.now) c.args.paths.keys c.in_ok-ordered.ordered.items c.in_ok-ordered.ensures.members c.in_ok-ordered.ensures.order c.remove_all.ensures.order
