@@ -13,3 +13,4 @@ pub mod EntryLaws
 pub mod AgainLaws
 pub mod FinishLaws
 pub mod MemberLaws
+pub mod StockLaws

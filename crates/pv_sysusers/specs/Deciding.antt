@@ -8,7 +8,7 @@ use Rattle.std.specs.Str.{bytes_eq}
 use Rattle.pv_accounts.specs.InUse.{Ids, is_held}
 use Rattle.pv_text.specs.declared.place.Place.{Place}
 use Rattle.pv_sysusers.specs.Groups.{NewGroups, decided_groups}
-use Rattle.pv_sysusers.specs.Pools.{is_between}
+use Rattle.pv_sysusers.specs.Pools.{free_number, is_between}
 use Rattle.pv_sysusers.specs.declared.plan_fault.PlanFault.{PlanFault}
 use Rattle.pv_sysusers.specs.declared.plan_fault.PlanFault.TheVariants.{NoFreeId, Memory}
 use Rattle.pv_sysusers.specs.declared.fixed.Fixed.{Fixed}
@@ -18,6 +18,7 @@ use Rattle.pv_sysusers.specs.declared.needs.Account.{Account}
 use Rattle.pv_sysusers.specs.declared.needs.Need.{Need}
 use Rattle.pv_sysusers.specs.declared.users.NewUser.{NewUser}
 use Rattle.pv_sysusers.specs.declared.pool.Pool.{Pool}
+use Rattle.pv_sysusers.specs.declared.pool.Stock.{Stock}
 
 -- whether a number may be given by a pool
 abbrev pub pooled_by : Pool → ℕ → Bool
@@ -27,6 +28,10 @@ pooled_by pool n = list_any (is_between n) pool.ranges.items && not (n == 0) && 
 abbrev pub is_free_in : Pool → Ids → Ids → ℕ → Bool
 is_free_in pool users groups n =
     not (n == 0) && not (n == 65535) && not (set.contains nat_eq pool.fixed n) && not (is_held users n) && not (is_held groups n)
+
+-- the number that a pool gives next is the highest one that nobody has
+abbrev pub GivesNext : Stock → Ids → Ids → Type 0
+GivesNext stock users groups = stock.next ≡ free_number (pooled_by stock.pool.now) users groups
 
 -- the fixed number of a name, and where its line stands
 abbrev pub fixed_by : Fixed → List ℕ → Option (ℕ × Place)

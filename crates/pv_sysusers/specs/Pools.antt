@@ -39,6 +39,10 @@ greater None other = other
 greater (Some a) None = Some a
 greater (Some a) (Some b) = Some (max a b)
 
+-- the highest number of the pool below a bound that no user and no group has
+abbrev pub free_below : (ℕ → Bool) → Ids → Ids → ℕ → Option ℕ
+free_below pooled users groups bound = highest (λ n. pooled n && not (is_held users n) && not (is_held groups n)) bound
+
 -- the highest number of the pool that no user and no group has
 abbrev pub free_number : (ℕ → Bool) → Ids → Ids → Option ℕ
-free_number pooled users groups = highest (λ n. pooled n && not (is_held users n) && not (is_held groups n)) 4294967295
+free_number pooled users groups = free_below pooled users groups 4294967295

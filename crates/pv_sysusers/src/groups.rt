@@ -1,13 +1,13 @@
 //! The numbers of new groups.
 ghost use Rattle.std.specs.Prelude.{◌≡◌, [], ◌∷◌, ◌++◌, None, Some, IfOk, IfErr, OnOk};
 ghost use Rattle.pv_accounts.specs.InUse.{id_of};
-ghost use Rattle.pv_sysusers.specs.Deciding.{IsMade, Lacks, Told, ToldBy, fixed_by, groups_by, pooled_by};
+ghost use Rattle.pv_sysusers.specs.Deciding.{GivesNext, IsMade, Lacks, Told, ToldBy, fixed_by, groups_by, pooled_by};
 ghost use Rattle.pv_sysusers.specs.Groups.{group_choice, in_use_message};
 
 use crate::fixed::Fixed;
 use crate::needs::Need;
 use crate::plan_fault::PlanFault;
-use crate::pool::Pool;
+use crate::pool::{Pool, Stock};
 use pv_accounts::InUse;
 use pv_path::{Bytes, add_printed};
 use pv_text::{Messages, Place};
@@ -42,7 +42,7 @@ pub(crate) fn say_in_use(
 /// The number that a line fixes for a group, where the group may get it, or else one of the pool.
 fn fixed_number(
     alloc: Global,
-    pool: &Pool,
+    stock: &Stock<'_>,
     users: &InUse<'_>,
     groups: &InUse<'_>,
     name: &[u8],
@@ -50,15 +50,16 @@ fn fixed_number(
     place: &Place,
     said: &mut Messages,
 ) -> Result<Option<u32>, AllocError>
-    ensures number { let choice = group_choice (pooled_by pool.now) users.now groups.now name.now (Some (n, place.now)) in
+    requires { GivesNext stock.now users.now groups.now }
+    ensures number { let choice = group_choice (pooled_by stock.now.pool.now) users.now groups.now name.now (Some (n, place.now)) in
         IfOk result (λ found. found ≡ choice.number) }
-    ensures said { let choice = group_choice (pooled_by pool.now) users.now groups.now name.now (Some (n, place.now)) in
+    ensures said { let choice = group_choice (pooled_by stock.now.pool.now) users.now groups.now name.now (Some (n, place.now)) in
         OnOk result (said.new ≡ said.old ++ choice.said) }
 {
     let other = users.is_held_beside(n, name);
     if groups.is_held(n) || other {
         say_in_use(alloc, place, n, name, said)?;
-        Ok(pool.free_number(users, groups))
+        Ok(stock.next)
     } else {
         Ok(Some(n))
     }
@@ -67,21 +68,22 @@ fn fixed_number(
 /// The number that a group gets, if there is one.
 fn group_number(
     alloc: Global,
-    pool: &Pool,
+    stock: &Stock<'_>,
     users: &InUse<'_>,
     groups: &InUse<'_>,
     fixed: &Fixed<'_>,
     name: &[u8],
     said: &mut Messages,
 ) -> Result<Option<u32>, AllocError>
-    ensures number { let choice = group_choice (pooled_by pool.now) users.now groups.now name.now (fixed_by fixed.now name.now) in
+    requires { GivesNext stock.now users.now groups.now }
+    ensures number { let choice = group_choice (pooled_by stock.now.pool.now) users.now groups.now name.now (fixed_by fixed.now name.now) in
         IfOk result (λ found. found ≡ choice.number) }
-    ensures said { let choice = group_choice (pooled_by pool.now) users.now groups.now name.now (fixed_by fixed.now name.now) in
+    ensures said { let choice = group_choice (pooled_by stock.now.pool.now) users.now groups.now name.now (fixed_by fixed.now name.now) in
         OnOk result (said.new ≡ said.old ++ choice.said) }
 {
     match fixed.of(name) {
-        Some((n, place)) => fixed_number(alloc, pool, users, groups, name, n, place, said),
-        None => Ok(pool.free_number(users, groups)),
+        Some((n, place)) => fixed_number(alloc, stock, users, groups, name, n, place, said),
+        None => Ok(stock.next),
     }
 }
 
@@ -110,22 +112,23 @@ impl<'a> Groups<'a> {
 /// The number that a needed group gets, or the fault that there is none.
 fn needed_number(
     alloc: Global,
-    pool: &Pool,
+    stock: &Stock<'_>,
     users: &InUse<'_>,
     groups: &InUse<'_>,
     fixed: &Fixed<'_>,
     name: &Bytes,
     said: &mut Messages,
 ) -> Result<u32, PlanFault>
-    ensures number { let choice = group_choice (pooled_by pool.now) users.now groups.now name.now (fixed_by fixed.now name.now) in
+    requires { GivesNext stock.now users.now groups.now }
+    ensures number { let choice = group_choice (pooled_by stock.now.pool.now) users.now groups.now name.now (fixed_by fixed.now name.now) in
         IfOk result (λ n. Some n ≡ choice.number) }
-    ensures none { let choice = group_choice (pooled_by pool.now) users.now groups.now name.now (fixed_by fixed.now name.now) in
+    ensures none { let choice = group_choice (pooled_by stock.now.pool.now) users.now groups.now name.now (fixed_by fixed.now name.now) in
         IfErr result (λ fault. ToldBy fault (None ≡ choice.number)) }
     ensures lacking { IfErr result (Lacks (Some name.now)) }
-    ensures said { let choice = group_choice (pooled_by pool.now) users.now groups.now name.now (fixed_by fixed.now name.now) in
+    ensures said { let choice = group_choice (pooled_by stock.now.pool.now) users.now groups.now name.now (fixed_by fixed.now name.now) in
         Told result (said.new ≡ said.old ++ choice.said) }
 {
-    match group_number(alloc, pool, users, groups, fixed, name.as_slice(), said)? {
+    match group_number(alloc, stock, users, groups, fixed, name.as_slice(), said)? {
         Some(n) => Ok(n),
         None => Err(PlanFault::NoFreeId(name.copy()?)),
     }
@@ -152,12 +155,14 @@ pub(crate) fn decided_groups<'a>(
         all: groups,
         made: Vec::new(alloc),
     };
+    let mut stock = Stock::of(pool, users, &groups.all);
     for need in needs {
         if groups.all.id_of(need.name.as_slice()).is_some() {
             continue;
         }
-        let n = needed_number(alloc, pool, users, &groups.all, fixed, &need.name, said)?;
+        let n = needed_number(alloc, &stock, users, &groups.all, fixed, &need.name, said)?;
         groups = groups.with(&need.name, n)?;
+        stock = stock.further(users, &groups.all);
     }
     Ok(groups)
 }

@@ -1,9 +1,9 @@
 //! The numbers that may be given to new users and groups.
-ghost use Rattle.std.specs.Prelude.{◌≡◌, ◌==◌, ◌++◌, ℕ, nat_eq, IfOk, OnOk};
+ghost use Rattle.std.specs.Prelude.{◌≡◌, ◌+◌, ◌<◌, ◌==◌, ◌++◌, ℕ, nat_eq, None, IfOk, IfNone, IfSome, OnOk};
 ghost use Rattle.std.specs.HashSet as set;
 ghost use Rattle.std.specs.List.{flat_map, list_any};
-ghost use Rattle.pv_sysusers.specs.Deciding.{is_free_in, pooled_by};
-ghost use Rattle.pv_sysusers.specs.Pools.{free_number, greater, highest, is_between, is_pooled, last_of, range_of, ranges_or_own};
+ghost use Rattle.pv_sysusers.specs.Deciding.{GivesNext, is_free_in, pooled_by};
+ghost use Rattle.pv_sysusers.specs.Pools.{free_below, greater, highest, is_between, is_pooled, last_of, range_of, ranges_or_own};
 ghost use Rattle.std.specs.Option.{option_to_list};
 ghost use Rattle.pv_sysusers.specs.Needs.{account_numbers, fixed_numbers, main_number};
 ghost use Rattle.pv_sysusers.specs.Shown.{shown, shown_line};
@@ -193,11 +193,11 @@ impl Pool {
         n != 0 && n != 65535 && !fixed && !used && !grouped
     }
 
-    /// The highest number of the pool that no user and no group has.
-    pub(crate) fn free_number(&self, users: &InUse<'_>, groups: &InUse<'_>) -> Option<u32>
-        ensures { result ≡ free_number (pooled_by self.now) users.now groups.now }
+    /// The highest number of the pool below a bound that no user and no group has.
+    fn free_below(&self, bound: u32, users: &InUse<'_>, groups: &InUse<'_>) -> Option<u32>
+        ensures { result ≡ free_below (pooled_by self.now) users.now groups.now bound }
     {
-        let mut bound = u32::MAX;
+        let mut bound = bound;
         while let Some(n) = self.top(bound) {
             if self.is_free(n, users, groups) {
                 return Some(n);
@@ -205,5 +205,43 @@ impl Pool {
             bound = n;
         }
         None
+    }
+}
+
+/// A pool, and the number that it gives next.
+#[derive(Clone, Copy)]
+pub struct Stock<'a> {
+    /// The pool.
+    pub pool: &'a Pool,
+    /// Its highest number that no user and no group has.
+    pub next: Option<u32>,
+}
+
+impl<'a> Stock<'a> {
+    /// A pool, and the number that it gives first.
+    pub(crate) fn of(pool: &'a Pool, users: &InUse<'_>, groups: &InUse<'_>) -> Self
+        ensures next { GivesNext result users.now groups.now }
+        ensures pool { result.pool ≡ pool.entry }
+    {
+        Stock {
+            pool,
+            next: pool.free_below(u32::MAX, users, groups),
+        }
+    }
+
+    /// The same pool after a number was given, perhaps the next one. Numbers past the next one are not looked at again.
+    pub(crate) fn further(&self, users: &InUse<'_>, groups: &InUse<'_>) -> Self
+        requires { IfSome self.now.next (λ n. n < 4294967295) }
+        ensures some { IfSome self.now.next (λ n. result.next ≡ free_below (pooled_by self.now.pool.now) users.now groups.now (n + 1)) }
+        ensures none { IfNone self.now.next (result.next ≡ None) }
+        ensures pool { result.pool ≡ self.now.pool }
+    {
+        Stock {
+            pool: self.pool,
+            next: match self.next {
+                Some(n) => self.pool.free_below(n + 1, users, groups),
+                None => None,
+            },
+        }
     }
 }

@@ -1,13 +1,13 @@
 //! The numbers of new users.
 ghost use Rattle.std.specs.Prelude.{◌≡◌, [], ◌∷◌, ◌++◌, None, Some, IfOk, IfErr, OnOk};
 ghost use Rattle.pv_accounts.specs.InUse.{id_of};
-ghost use Rattle.pv_sysusers.specs.Deciding.{AreMade, Lacks, Told, ToldBy, pooled_by, users_by};
+ghost use Rattle.pv_sysusers.specs.Deciding.{AreMade, GivesNext, Lacks, Told, ToldBy, pooled_by, users_by};
 ghost use Rattle.pv_sysusers.specs.Users.{gid_of, group_or_free, is_free_for, new_user, user_choice};
 
 use crate::groups::say_in_use;
 use crate::needs::{Account, Main};
 use crate::plan_fault::PlanFault;
-use crate::pool::Pool;
+use crate::pool::{Pool, Stock};
 use pv_accounts::InUse;
 use pv_text::Messages;
 use std::alloc::{AllocError, Global};
@@ -32,38 +32,45 @@ fn is_free_for(users: &InUse<'_>, groups: &InUse<'_>, name: &[u8], n: u32) -> bo
 }
 
 /// The number of the group of the user's name, where he may get it, or else one of the pool.
-fn group_or_free(pool: &Pool, users: &InUse<'_>, groups: &InUse<'_>, name: &[u8]) -> Option<u32>
-    ensures { result ≡ group_or_free (pooled_by pool.now) users.now groups.now name.now }
+fn group_or_free(
+    stock: &Stock<'_>,
+    users: &InUse<'_>,
+    groups: &InUse<'_>,
+    name: &[u8],
+) -> Option<u32>
+    requires { GivesNext stock.now users.now groups.now }
+    ensures { result ≡ group_or_free (pooled_by stock.now.pool.now) users.now groups.now name.now }
 {
     match groups.id_of(name) {
         Some(n) if n != 0 && is_free_for(users, groups, name, n) => Some(n),
-        _ => pool.free_number(users, groups),
+        _ => stock.next,
     }
 }
 
 /// The number that a user gets, if there is one.
 fn user_number(
     alloc: Global,
-    pool: &Pool,
+    stock: &Stock<'_>,
     users: &InUse<'_>,
     groups: &InUse<'_>,
     account: &Account,
     said: &mut Messages,
 ) -> Result<Option<u32>, AllocError>
-    ensures number { let choice = user_choice (pooled_by pool.now) users.now groups.now account.now in
+    requires { GivesNext stock.now users.now groups.now }
+    ensures number { let choice = user_choice (pooled_by stock.now.pool.now) users.now groups.now account.now in
         IfOk result (λ n. n ≡ choice.number) }
-    ensures said { let choice = user_choice (pooled_by pool.now) users.now groups.now account.now in
+    ensures said { let choice = user_choice (pooled_by stock.now.pool.now) users.now groups.now account.now in
         OnOk result (said.new ≡ said.old ++ choice.said) }
 {
     let name = account.name.as_slice();
     let Some(n) = account.uid else {
-        return Ok(group_or_free(pool, users, groups, name));
+        return Ok(group_or_free(stock, users, groups, name));
     };
     if is_free_for(users, groups, name, n) {
         return Ok(Some(n));
     }
     say_in_use(alloc, &account.place, n, name, said)?;
-    Ok(group_or_free(pool, users, groups, name))
+    Ok(group_or_free(stock, users, groups, name))
 }
 
 /// The number of the primary group, which was decided before.
@@ -118,21 +125,22 @@ impl<'a> Users<'a> {
 /// The number that a needed user gets, or the fault that there is none.
 fn needed_number(
     alloc: Global,
-    pool: &Pool,
+    stock: &Stock<'_>,
     users: &InUse<'_>,
     groups: &InUse<'_>,
     account: &Account,
     said: &mut Messages,
 ) -> Result<u32, PlanFault>
-    ensures number { let choice = user_choice (pooled_by pool.now) users.now groups.now account.now in
+    requires { GivesNext stock.now users.now groups.now }
+    ensures number { let choice = user_choice (pooled_by stock.now.pool.now) users.now groups.now account.now in
         IfOk result (λ n. Some n ≡ choice.number) }
-    ensures none { let choice = user_choice (pooled_by pool.now) users.now groups.now account.now in
+    ensures none { let choice = user_choice (pooled_by stock.now.pool.now) users.now groups.now account.now in
         IfErr result (λ fault. ToldBy fault (None ≡ choice.number)) }
     ensures lacking { IfErr result (Lacks (Some account.now.name)) }
-    ensures said { let choice = user_choice (pooled_by pool.now) users.now groups.now account.now in
+    ensures said { let choice = user_choice (pooled_by stock.now.pool.now) users.now groups.now account.now in
         Told result (said.new ≡ said.old ++ choice.said) }
 {
-    match user_number(alloc, pool, users, groups, account, said)? {
+    match user_number(alloc, stock, users, groups, account, said)? {
         Some(n) => Ok(n),
         None => Err(PlanFault::NoFreeId(account.name.copy()?)),
     }
@@ -158,12 +166,14 @@ pub(crate) fn decided_users<'a>(
         all: users,
         made: Vec::new(alloc),
     };
+    let mut stock = Stock::of(pool, &users.all, groups);
     for account in accounts {
         if users.all.id_of(account.name.as_slice()).is_some() {
             continue;
         }
-        let uid = needed_number(alloc, pool, &users.all, groups, account, said)?;
+        let uid = needed_number(alloc, &stock, &users.all, groups, account, said)?;
         users = users.with(groups, account, uid)?;
+        stock = stock.further(&users.all, groups);
     }
     Ok(users.made)
 }

@@ -1,24 +1,44 @@
-use Rattle.std.proofs.Common.{◌≡◌, true, false, is_some, ap, sym, ◌∙◌}
+use Rattle.std.proofs.Common.{◌≡◌, ◌++◌, ◌∷◌, [], ℕ, true, false, Some, None, is_some, ap, subst, sym, ◌∙◌}
 use Rattle.std.proofs.lemmas.Result.{err_from_is_err_and}
-use Rattle.pv_accounts.specs.InUse.{id_of}
-use Rattle.pv_sysusers.specs.Deciding.{pooled_by, users_by}
+use Rattle.pv_accounts.specs.InUse.{Ids, id_of, is_held}
+use Rattle.pv_sysusers.specs.Deciding.{pooled_by, users_by, ToldBy}
+use Rattle.pv_sysusers.specs.Pools.{free_number}
+use Rattle.pv_sysusers.specs.Users.{user_choice}
+use Rattle.pv_sysusers.specs.declared.pool.Pool.{Pool}
+use Rattle.pv_sysusers.proofs.StockLaws.{given_next, held_more, next_below}
 use Rattle.pv_sysusers.proofs.UserLaws.{step_fault, step_new, step_there}
 use Rattle.pv_sysusers.proofs.users.decided_users.Goals as goal
+
+pub further-stock-requires : goal.further-stock-requires
+further-stock-requires c = next_below (pooled_by c.loop-account.stock.pool.now) c.loop-account.users.all c.args.groups.now 4294967295 c.loop-account.stock.next c.loop-account.invariant.1
 
 pub loop-account-preserved : goal.loop-account-preserved
 loop-account-preserved c =
     let absent : is_some (id_of c.loop-account.users.all c.account-item.result.name) ≡ false =
     ap (λ name. is_some (id_of c.loop-account.users.all name)) (sym c.as_slice.ensures) ∙ ap (λ id. is_some id) (sym c.id_of.ensures.value) ∙ sym c.is_some.ensures ∙ c.if-is_some.false in
-    rw c.in_ok-users.ensures.made (step_new (pooled_by c.args.pool.now) c.args.groups.now (users_by c.args.pool.now c.args.groups.now c.args.users c.args.accounts.now) c.loop-account.users.all c.loop-account.users.made.items
-    c.in_ok-users.users.all c.args.said.now c.loop-account.said c.needed_number.new.said c.args.accounts.now c.loop-account.account-index c.account-item.result c.in_ok-uid.uid
-    c.loop-account-test.true c.account-item.is absent c.in_ok-uid.ensures.number c.in_ok-uid.ensures.said c.in_ok-users.ensures.all c.loop-account.invariant)
+    let stock = c.loop-account.stock in
+    let old = c.loop-account.users.all in
+    let new = c.in_ok-users.users.all in
+    let more : (k : ℕ) → is_held old k ≡ true → is_held new k ≡ true = λ k h.
+    ap (λ (ids : Ids). is_held ids k) c.in_ok-users.ensures.all ∙ held_more old (c.account-item.result.name, c.in_ok-uid.uid) k h in
+    let next : c.further-stock.result.next ≡ free_number (pooled_by stock.pool.now) new c.args.groups.now =
+    given_next (pooled_by stock.pool.now) old c.args.groups.now new c.args.groups.now 4294967295 stock.next c.further-stock.result.next c.loop-account.invariant.1 more (λ k h. h) c.further-stock.ensures.some c.further-stock.ensures.none in (
+      rw c.in_ok-users.ensures.made (step_new (pooled_by c.args.pool.now) c.args.groups.now (users_by c.args.pool.now c.args.groups.now c.args.users c.args.accounts.now) c.loop-account.users.all c.loop-account.users.made.items
+          c.in_ok-users.users.all c.args.said.now c.loop-account.said c.needed_number.new.said c.args.accounts.now c.loop-account.account-index c.account-item.result c.in_ok-uid.uid
+          c.loop-account-test.true c.account-item.is absent (subst (λ (p : Pool). Some c.in_ok-uid.uid ≡ (user_choice (pooled_by p) c.loop-account.users.all c.args.groups.now c.account-item.result).number) c.loop-account.invariant.2 c.in_ok-uid.ensures.number) (subst (λ (p : Pool). c.needed_number.new.said ≡ c.loop-account.said ++ (user_choice (pooled_by p) c.loop-account.users.all c.args.groups.now c.account-item.result).said) c.loop-account.invariant.2 c.in_ok-uid.ensures.said) c.in_ok-users.ensures.all c.loop-account.invariant.0),
+      next ∙ (λ j. free_number (pooled_by (sym c.further-stock.ensures.pool j).now) new c.args.groups.now),
+      (λ j. (c.further-stock.ensures.pool j).now) ∙ c.loop-account.invariant.2,
+    )
 
 pub loop-account-preserved-then-is_some : goal.loop-account-preserved-then-is_some
 loop-account-preserved-then-is_some c =
     let there : is_some (id_of c.loop-account.users.all c.account-item.result.name) ≡ true =
-    ap (λ name. is_some (id_of c.loop-account.users.all name)) (sym c.as_slice.ensures) ∙ ap (λ id. is_some id) (sym c.id_of.ensures.value) ∙ sym c.is_some.ensures ∙ c.if-is_some.true in
-    step_there (pooled_by c.args.pool.now) c.args.groups.now (users_by c.args.pool.now c.args.groups.now c.args.users c.args.accounts.now) c.loop-account.users.all c.loop-account.users.made.items
-    c.args.said.now c.loop-account.said c.args.accounts.now c.loop-account.account-index c.account-item.result c.loop-account-test.true c.account-item.is there c.loop-account.invariant
+    ap (λ name. is_some (id_of c.loop-account.users.all name)) (sym c.as_slice.ensures) ∙ ap (λ id. is_some id) (sym c.id_of.ensures.value) ∙ sym c.is_some.ensures ∙ c.if-is_some.true in (
+      step_there (pooled_by c.args.pool.now) c.args.groups.now (users_by c.args.pool.now c.args.groups.now c.args.users c.args.accounts.now) c.loop-account.users.all c.loop-account.users.made.items
+          c.args.said.now c.loop-account.said c.args.accounts.now c.loop-account.account-index c.account-item.result c.loop-account-test.true c.account-item.is there c.loop-account.invariant.0,
+      c.loop-account.invariant.1,
+      c.loop-account.invariant.2,
+    )
 
 pub returns-in_err-uid-clause-lacking : goal.returns-in_err-uid-clause-lacking
 returns-in_err-uid-clause-lacking c =
@@ -27,7 +47,7 @@ returns-in_err-uid-clause-lacking c =
     ap (λ name. is_some (id_of c.loop-account.users.all name)) (sym c.as_slice.ensures) ∙ ap (λ id. is_some id) (sym c.id_of.ensures.value) ∙ sym c.is_some.ensures ∙ c.if-is_some.false in
     rw (p.1, p.2) (step_fault (pooled_by c.args.pool.now) c.args.groups.now (users_by c.args.pool.now c.args.groups.now c.args.users c.args.accounts.now) c.loop-account.users.all c.loop-account.users.made.items
     c.args.said.now c.loop-account.said c.needed_number.new.said c.args.accounts.now c.loop-account.account-index c.account-item.result c.in_err-uid.field-0.0
-    c.loop-account-test.true c.account-item.is absent c.in_err-uid.ensures.none c.in_err-uid.ensures.lacking c.in_err-uid.ensures.said c.loop-account.invariant).0
+    c.loop-account-test.true c.account-item.is absent (subst (λ (p : Pool). ToldBy c.in_err-uid.field-0.0 (None ≡ (user_choice (pooled_by p) c.loop-account.users.all c.args.groups.now c.account-item.result).number)) c.loop-account.invariant.2 c.in_err-uid.ensures.none) c.in_err-uid.ensures.lacking (subst (λ (p : Pool). ToldBy c.in_err-uid.field-0.0 (c.needed_number.new.said ≡ c.loop-account.said ++ (user_choice (pooled_by p) c.loop-account.users.all c.args.groups.now c.account-item.result).said)) c.loop-account.invariant.2 c.in_err-uid.ensures.said) c.loop-account.invariant.0).0
 
 pub returns-in_err-uid-clause-said : goal.returns-in_err-uid-clause-said
 returns-in_err-uid-clause-said c =
@@ -36,4 +56,4 @@ returns-in_err-uid-clause-said c =
     ap (λ name. is_some (id_of c.loop-account.users.all name)) (sym c.as_slice.ensures) ∙ ap (λ id. is_some id) (sym c.id_of.ensures.value) ∙ sym c.is_some.ensures ∙ c.if-is_some.false in
     rw (p.1, p.2) (step_fault (pooled_by c.args.pool.now) c.args.groups.now (users_by c.args.pool.now c.args.groups.now c.args.users c.args.accounts.now) c.loop-account.users.all c.loop-account.users.made.items
     c.args.said.now c.loop-account.said c.needed_number.new.said c.args.accounts.now c.loop-account.account-index c.account-item.result c.in_err-uid.field-0.0
-    c.loop-account-test.true c.account-item.is absent c.in_err-uid.ensures.none c.in_err-uid.ensures.lacking c.in_err-uid.ensures.said c.loop-account.invariant).1
+    c.loop-account-test.true c.account-item.is absent (subst (λ (p : Pool). ToldBy c.in_err-uid.field-0.0 (None ≡ (user_choice (pooled_by p) c.loop-account.users.all c.args.groups.now c.account-item.result).number)) c.loop-account.invariant.2 c.in_err-uid.ensures.none) c.in_err-uid.ensures.lacking (subst (λ (p : Pool). ToldBy c.in_err-uid.field-0.0 (c.needed_number.new.said ≡ c.loop-account.said ++ (user_choice (pooled_by p) c.loop-account.users.all c.args.groups.now c.account-item.result).said)) c.loop-account.invariant.2 c.in_err-uid.ensures.said) c.loop-account.invariant.0).1

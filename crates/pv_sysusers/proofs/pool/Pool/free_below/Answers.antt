@@ -1,6 +1,6 @@
 use Rattle.std.proofs.Common.{sym, ◌∙◌}
 use Rattle.pv_sysusers.proofs.Highest.{left_found, left_none, left_passed, top_below}
-use Rattle.pv_sysusers.proofs.pool.Pool.free_number.Goals as goal
+use Rattle.pv_sysusers.proofs.pool.Pool.free_below.Goals as goal
 
 pub returns-then-is_free : goal.returns-then-is_free
 returns-then-is_free c =
