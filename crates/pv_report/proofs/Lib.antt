@@ -6,5 +6,6 @@ pub mod MarkLaws
 pub mod MarkOrder
 pub mod OrderLaws
 pub mod AnswerLaws
+pub mod AlikeLaws
 pub mod LoopLaws
 pub mod ReportLaws

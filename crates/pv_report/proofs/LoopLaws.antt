@@ -1,16 +1,17 @@
 -- One step more of loops over lines and over what is listed.
-use Rattle.std.proofs.Common.{◌≡◌, ℕ, ◌+◌, ◌<◌, false, List, [], ◌∷◌, ◌++◌, length, map, take, get_or, All, Option, Some, None, refl, sym, ap, ◌∙◌, subst, append_assoc}
+use Rattle.std.proofs.Common.{◌≡◌, ℕ, ◌+◌, ◌<◌, false, List, [], ◌∷◌, ◌++◌, length, map, take, get_or, All, Option, Some, None, unwrap_or, slice_get, refl, sym, ap, ◌∙◌, subst, append_assoc}
 use Rattle.std.specs.List.{AllByRecursion, cons_option}
-use Rattle.std.specs.Option.{option_to_list}
+use Rattle.std.specs.Option.{option_map, option_map_or, option_to_list}
 use Rattle.std.proofs.lemmas.List.{map-append, take-map, take_more}
 use Rattle.std.proofs.lemmas.List.Elements.{All-from_get_or, All-from_recursion, filter_map-append}
-use Rattle.std.proofs.lemmas.Option.{get_or_from_slice_get, slice_get_within}
+use Rattle.std.proofs.lemmas.Option.{get_or_from_slice_get, slice_get-map, slice_get_within}
 use Rattle.pv_path.specs.Paths.{Path, has_staging}
 use Rattle.pv_text.specs.Said.{SaidPart}
 use Rattle.pv_lines.specs.declared.line.Line.{Line}
 use Rattle.pv_lines.specs.Lines.{IsLine}
 use Rattle.pv_table.specs.Asking.{asks}
 use Rattle.pv_table.specs.Turns.{copied}
+use Rattle.pv_report.specs.Said.{line_text, standing_text}
 use Rattle.pv_report.specs.Subjects.{sources_of}
 use Rattle.pv_report.proofs.CopyLaws.{source_unstaged}
 use Rattle.pv_report.proofs.MarkLaws.{source_of}
@@ -48,3 +49,11 @@ sources_clear lines are paths same = subst (All (λ path. has_staging path ≡ f
     each k l =
         let found = source_of lines k l in
         source_unstaged found.1 (subst IsLine (get_or_from_slice_get lines found.0 found.1 found.1 found.2) (All-from_recursion IsLine lines are found.0 found.1 (slice_get_within lines found.0 found.1 found.2))) (get_or (sources_of lines) k []) found.3
+
+-- where a line stands, looked up among the texts of all
+pub text_there : (lines : List Line) (i : ℕ) → unwrap_or (slice_get (map standing_text lines) i) [] ≡ line_text lines i
+text_there lines i = ap (λ (o : Option (List ℕ)). unwrap_or o []) (slice_get-map standing_text lines i) ∙ by (slice_get lines i)
+  where
+    by : (o : Option Line) → unwrap_or (option_map standing_text o) [] ≡ option_map_or standing_text o []
+    by None = refl
+    by (Some line) = refl

@@ -1,4 +1,5 @@
 pub mod Subjects
+pub mod Alike
 pub mod Marks
 pub mod Reporting
 pub mod Said

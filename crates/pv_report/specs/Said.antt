@@ -2,6 +2,7 @@
 use Rattle.std.specs.Prelude.{◌≡◌, ℕ, ◌-◌, List, [], ◌∷◌, ◌++◌, codes, length, map, Some, slice_get}
 use Rattle.std.specs.Fmt.{decimal}
 use Rattle.std.specs.Option.{option_map_or}
+use Rattle.pv_path.specs.Paths.{Path}
 use Rattle.pv_path.specs.Printing.{printed_path}
 use Rattle.pv_lines.specs.declared.line.Line.{Line}
 use Rattle.pv_overlap.specs.declared.pair.Pair.{Pair}
@@ -19,13 +20,19 @@ reason_text Input = codes "input"
 reason_text Mask = codes "mask"
 
 -- where a line stands: `FILE:N`
+abbrev pub standing_text : Line → List ℕ
+standing_text line = line.place.file ++ codes ":" ++ decimal line.place.number
+
 abbrev pub line_text : List Line → ℕ → List ℕ
-line_text lines i = option_map_or (λ line. line.place.file ++ codes ":" ++ decimal line.place.number) (slice_get lines i) []
+line_text lines i = option_map_or standing_text (slice_get lines i) []
+
+-- lines that stand at these places share a path
+abbrev pub shared_text : List ℕ → List ℕ → Path → List ℕ
+shared_text first second path = codes "overlap " ++ first ++ codes " " ++ second ++ codes " at " ++ printed_path path
 
 -- two lines share a path
 abbrev pub overlap_text : List Line → Pair → List ℕ
-overlap_text lines pair =
-    codes "overlap " ++ line_text lines pair.first ++ codes " " ++ line_text lines pair.second ++ codes " at " ++ printed_path pair.path
+overlap_text lines pair = shared_text (line_text lines pair.first) (line_text lines pair.second) pair.path
 
 -- a line has a reason
 abbrev pub unrepeatable_text : List Line → Unrepeatable → List ℕ

@@ -2,6 +2,7 @@
 //! out the lines twice may leave something else than carrying them out once.
 #![tactic(auto)]
 
+mod alike;
 mod asker;
 mod laws;
 mod listing;

@@ -1,16 +1,16 @@
 //! What is said of a report.
-ghost use Rattle.std.specs.Prelude.{◌≡◌, ◌↔◌, ◌++◌, ◌∷◌, [], codes, map, true, IfOk, OnOk};
+ghost use Rattle.std.specs.Prelude.{◌≡◌, ◌↔◌, ◌++◌, ◌∷◌, [], codes, map, true, unwrap_or, slice_get, IfOk, OnOk};
 ghost use Rattle.std.specs.Fmt.{decimal};
 ghost use Rattle.pv_text.specs.Lines.{is_line};
 ghost use Rattle.pv_text.specs.Said.{SaidPart};
 ghost use Rattle.pv_table.specs.Repeatable.{IsRepeatable};
 ghost use Rattle.pv_report.specs.Reporting.{ListsReasons};
-ghost use Rattle.pv_report.specs.Said.{line_text, overlap_text, reason_text, report_messages, SaysRepeatable, unrepeatable_text, verdict};
+ghost use Rattle.pv_report.specs.Said.{line_text, overlap_text, reason_text, report_messages, SaysRepeatable, shared_text, standing_text, unrepeatable_text, verdict};
 
 use crate::listing::{Report, Unrepeatable};
 use pv_lines::{Line, LineList};
 use pv_overlap::Pair;
-use pv_path::print_path;
+use pv_path::{TreePath, print_path};
 use pv_table::Reason;
 use pv_text::{Messages, OneLine};
 use std::alloc::{AllocError, Global};
@@ -52,18 +52,45 @@ fn line_text(alloc: Global, lines: &[Line], i: u32) -> Result<Vec<u8>, AllocErro
     }
 }
 
+/// Where lines stand, each `FILE:N`.
+fn line_texts(alloc: Global, lines: &[Line]) -> Result<Messages, AllocError>
+    ensures { IfOk result (λ texts. texts ≡ map standing_text lines.now) }
+{
+    let mut texts = Messages::new(alloc);
+    for line in lines {
+        texts.push(&place_text(alloc, &line.place.file, line.place.number)?)?;
+    }
+    Ok(texts)
+}
+
+/// The text at a place; nothing past the last.
+fn text_at(texts: &Messages, i: u32) -> &[u8]
+    ensures text { result.now ≡ unwrap_or (slice_get texts.now i) [] }
+    ensures line { is_line result.now ≡ true }
+{
+    match texts.line(i as usize) {
+        Some(text) => text,
+        None => &[],
+    }
+}
+
 /// `overlap FILE:N FILE:N at PATH`.
-fn overlap_text(alloc: Global, lines: &[Line], pair: &Pair) -> Result<Vec<u8>, AllocError>
-    ensures text { IfOk result (λ text. text.items ≡ overlap_text lines.now pair.now) }
+fn overlap_text(
+    alloc: Global,
+    first: &[u8],
+    second: &[u8],
+    path: &TreePath,
+) -> Result<Vec<u8>, AllocError>
+    requires first { is_line first.now ≡ true }
+    requires second { is_line second.now ≡ true }
+    ensures text { IfOk result (λ text. text.items ≡ shared_text first.now second.now path.now) }
     ensures line { IfOk result (λ text. is_line text.items ≡ true) }
 {
-    let first = line_text(alloc, lines, pair.first)?;
-    let second = line_text(alloc, lines, pair.second)?;
-    let path = print_path(alloc, &pair.path)?;
+    let path = print_path(alloc, path)?;
     let mut text = Vec::from_slice(alloc, b"overlap ")?;
-    text.extend_from_slice(&first)?;
+    text.extend_from_slice(first)?;
     text.extend_from_slice(b" ")?;
-    text.extend_from_slice(&second)?;
+    text.extend_from_slice(second)?;
     text.extend_from_slice(b" at ")?;
     text.extend_from_slice(&path)?;
     Ok(text)
@@ -99,7 +126,7 @@ pub fn verdict(list: &[Unrepeatable]) -> &'static [u8]
     }
 }
 
-/// Says which lines share a path.
+/// Says which lines share a path. Where a line stands is printed once.
 fn say_overlaps(
     alloc: Global,
     lines: &[Line],
@@ -109,8 +136,11 @@ fn say_overlaps(
     ensures said { OnOk result (messages.new ≡ messages.old ++ map (overlap_text lines.now) pairs.now) }
     ensures part { SaidPart (map (overlap_text lines.now) pairs.now) messages.old messages.new }
 {
+    let texts = line_texts(alloc, lines)?;
     for pair in pairs {
-        messages.push(&overlap_text(alloc, lines, pair)?)?;
+        let first = text_at(&texts, pair.first);
+        let second = text_at(&texts, pair.second);
+        messages.push(&overlap_text(alloc, first, second, &pair.path)?)?;
     }
     Ok(())
 }

@@ -5,8 +5,8 @@ use Rattle.pv_report.proofs.saying.overlap_text.Goals as goal
 
 pub returns-clause-line : goal.returns-clause-line
 returns-clause-line c =
-    let first = c.in_ok-first.first.items in
-    let second = c.in_ok-second.second.items in
+    let first = c.args.first.now in
+    let second = c.args.second.now in
     rw (
       c.in_ok-extend_from_slice-5.ensures.items,
       c.in_ok-extend_from_slice-4.ensures.items,
@@ -15,13 +15,11 @@ returns-clause-line c =
       c.in_ok-extend_from_slice.ensures.items,
       c.in_ok-text.ensures.items,
       c.deref.ensures.value,
-      c.deref-2.ensures.value,
-      c.deref-3.ensures.value,
       c.in_ok-path.ensures,
     )
-    (one_line-append (codes "overlap " ++ first ++ codes " " ++ second ++ codes " at ") (printed_path c.args.pair.now.path)
+    (one_line-append (codes "overlap " ++ first ++ codes " " ++ second ++ codes " at ") (printed_path c.args.path.now)
     (one_line-append (codes "overlap " ++ first ++ codes " " ++ second) (codes " at ")
     (one_line-append (codes "overlap " ++ first ++ codes " ") second
     (one_line-append (codes "overlap " ++ first) (codes " ")
-    (one_line-append (codes "overlap ") first refl c.in_ok-first.ensures.line) refl) c.in_ok-second.ensures.line) refl)
-    (one_line-printed_path c.args.pair.now.path))
+    (one_line-append (codes "overlap ") first refl c.requires.first) refl) c.requires.second) refl)
+    (one_line-printed_path c.args.path.now))
