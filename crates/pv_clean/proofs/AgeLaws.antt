@@ -1,12 +1,11 @@
 -- Laws of what is old enough to go.
-use Rattle.std.specs.Prelude.{◌≡◌, ◌⊎◌, ℕ, ◌+◌, ◌<◌, Bool, true, false, cond, not, ◌&&◌, ◌||◌, ◌==◌, List, [], ◌∷◌, ◌++◌, length, filter, take, Option, Some, None, is_some}
+use Rattle.std.specs.Prelude.{◌≡◌, ◌⊎◌, ℕ, ◌+◌, ◌<◌, Bool, true, false, cond, not, ◌&&◌, ◌||◌, ◌==◌, List, [], ◌∷◌, ◌++◌, length, take, Option, Some, None, is_some}
 use Rattle.std.proofs.Common.{refl, sym, ap, ◌∙◌, inl, inr, get_or}
 use Rattle.std.specs.List.{list_any}
-use Rattle.std.specs.FinMap as fin
 use Rattle.std.specs.Option.{option_map_or}
 use Rattle.std.specs.Ordering.{eq_by_cmp, is_eq}
 use Rattle.std.proofs.lemmas.List.Folds.{list_any-append}
-use Rattle.std.proofs.Math.Bool.{and-true, and-false}
+use Rattle.std.proofs.Math.Bool.{and-false}
 use Rattle.std.proofs.lemmas.Bool.{and_parts, and_from}
 use Rattle.pv_lines.specs.declared.line.Line.{Line}
 use Rattle.pv_path.specs.Paths.{Path, path_cmp, same_path, is_prefix, parent_of}
@@ -19,7 +18,7 @@ use Rattle.pv_steps.proofs.TreeLaws.{present_above}
 use Rattle.pv_dress.specs.Edits.{Pruned}
 use Rattle.pv_walk.specs.Removal.{is_one_of}
 use Rattle.pv_find.specs.Whole.{goes_whole}
-use Rattle.pv_find.proofs.FindingLaws.{one_of-tied, same_tied, keys_passing, one_above, root_no_child, none_there, any_more}
+use Rattle.pv_find.proofs.FindingLaws.{one_of-tied, same_tied, one_above, root_no_child, none_there, any_more}
 use Rattle.pv_find.proofs.WholeLaws.{goes_parts, goes_from, goes_whole-same, all_at-each, push_length}
 use Rattle.pv_table.specs.declared.scope.Scope.{Scope}
 use Rattle.pv_table.specs.Cleaned.{is_aged, is_old_by, may_go}
@@ -149,7 +148,3 @@ module _ (lines : List Line) (now : ℕ) (files : Files) where
 
   pub found_there : (found : List Path) → ((q : Path) → is_one_of found q ≡ (is_some (places files q) && may_go lines now files q)) → (q : Path) → is_one_of found q ≡ true → is_some (places files q) ≡ true
   found_there found are q h = (and_parts (is_some (places files q)) (may_go lines now files q) (sym (are q) ∙ h)).0
-
--- all paths of a tree stand at and below the root
-pub all_keys : (files : Files) (q : Path) → is_one_of (filter (is_prefix []) (fin.keys files)) q ≡ is_some (places files q)
-all_keys files q = keys_passing files (is_prefix []) q ∙ and-true (is_some (places files q))

@@ -1,4 +1,5 @@
 pub mod AgeLaws
+pub mod RootLaws
 pub mod CleanLaws
 pub mod InputLaws
 pub mod CleanSteps

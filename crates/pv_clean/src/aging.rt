@@ -9,10 +9,11 @@ ghost use Rattle.pv_table.specs.Reaching.{names};
 
 use crate::naming::all_named;
 use pv_age::is_old;
-use pv_find::{at_and_below, is_among, whole_of};
+use pv_find::{is_among, whole_of};
 use pv_path::{Name, TreePath, child};
 use pv_steps::{Tree, is_directory, is_present};
 use pv_table::{Scope, Table, scope_of};
+use pv_walk::below;
 use std::alloc::{AllocError, Global};
 use std::collections::BTreeSet;
 
@@ -30,7 +31,8 @@ pub fn aged_paths<T: Tree>(
     let root = TreePath::root(alloc);
     let _rooted = is_present(tree, &root);
     let named = all_named(alloc, tree, table.lines())?;
-    let paths = at_and_below(alloc, tree, &root)?;
+    let mut paths = below(alloc, tree, &root)?;
+    paths.push(root)?;
     let mut may_go = Vec::new(alloc);
     for path in &paths {
         add_aged(alloc, tree, table, &named, now, path, &mut may_go)?;
