@@ -93,7 +93,7 @@ module _ (edit : Edit) (is : IsEdit edit) where
   pub staged_same : (t u : Files) → SameOutside (is_prefix (staging_of edit.path)) t u → Same t u
   staged_same t u h = λ q plain. sym (h q (stage_inside q plain))
 
-  gives_new : (s : Step) → GivesNew (staging_of edit.path) (new_file edit) s → StagesEdit edit s
+  pub gives_new : (s : Step) → GivesNew (staging_of edit.path) (new_file edit) s → StagesEdit edit s
   gives_new (MakeDir at) g = g
   gives_new (MakeFile at) g = g
   gives_new (MakeFifo at) g = g
@@ -110,7 +110,7 @@ module _ (edit : Edit) (is : IsEdit edit) where
   gives_new (Unlink at) g = absurd g
   gives_new (RemoveDir at) g = absurd g
 
-  gives_dress : (u : Files) (s : Step) → GivesDress (staging_of edit.path) edit.dress u s → StagesEdit edit s
+  pub gives_dress : (u : Files) (s : Step) → GivesDress (staging_of edit.path) edit.dress u s → StagesEdit edit s
   gives_dress u s (inl e) = subst (StagesEdit edit) (sym e) (refl, (refl, refl))
   gives_dress u s (inr (inl e)) = subst (StagesEdit edit) (sym e) (refl, refl)
   gives_dress u s (inr (inr (inl e))) = subst (StagesEdit edit) (sym e.0) (refl, refl)

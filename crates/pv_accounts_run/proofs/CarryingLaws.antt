@@ -187,7 +187,7 @@ module _ (now : ℕ) where
 
 -- ---- on the way
 
-drop_edits : (k : ℕ) (cs : List Edit) → AreEdits cs → AreEdits (drop k cs)
+pub drop_edits : (k : ℕ) (cs : List Edit) → AreEdits cs → AreEdits (drop k cs)
 drop_edits zero cs are = are
 drop_edits (suc k) [] are = tt
 drop_edits (suc k) (c ∷ cs) are = drop_edits k cs are.1.1
@@ -265,7 +265,7 @@ module _ (edits : List Edit) (t : Files) where
     ),
   )
 
-none_bare : (a b : Option Object) → option_map bare a ≡ option_map bare b → a ≡ None → b ≡ None
+pub none_bare : (a b : Option Object) → option_map bare a ≡ option_map bare b → a ≡ None → b ≡ None
 none_bare a None e none = refl
 none_bare a (Some x) e none = let no : None ≡ Some (bare x) = ap (option_map bare) (sym none) ∙ e in cc
 

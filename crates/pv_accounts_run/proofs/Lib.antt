@@ -11,3 +11,4 @@ pub mod BesideLaws
 pub mod StopLaws
 pub mod MendedLaws
 pub mod SweptLaws
+pub mod TurnLaws

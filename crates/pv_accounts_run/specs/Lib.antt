@@ -4,3 +4,4 @@ pub mod Accounted
 pub mod Running
 pub mod Mended
 pub mod Swept
+pub mod Turns

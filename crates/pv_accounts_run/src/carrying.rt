@@ -12,6 +12,7 @@ ghost use Rattle.pv_walk.specs.Putting.{IsPutStep, Putting};
 ghost use Rattle.pv_walk.specs.Staging.{count_at_all, new_object, GivesNew};
 ghost use Rattle.pv_accounts_run.specs.Edits.{AreEdits, IsFree, etc, most_edited, with_edit};
 ghost use Rattle.pv_accounts_run.specs.Carrying.{AccountWay, IsAccountStep, IsEditOf, PutsDirectory, carried_out, directory_steps, most_directory, most_put, swept_names};
+ghost use Rattle.pv_accounts_run.specs.Turns.{InTurn, NoneComes, TurnWay};
 
 use crate::edit::Edit;
 use crate::paths::directory;
@@ -36,6 +37,8 @@ pub(crate) fn carry_out<T: Tree>(
     ensures ok { OnOk result (places (T.state tree.new) ≡ carried_out now edits.now (places (T.state tree.old))) }
     ensures acted { Acted T.Tree (AccountWay edits.now (T.state tree.old)) (IsAccountStep edits.now (T.state tree.old))
         (count_at_all (T.state tree.old) swept_names + most_put edits.now (places (T.state tree.old))) now tree.old tree.new result }
+    ensures turn { Acted T.Tree (TurnWay edits.now (T.state tree.old)) (IsAccountStep edits.now (T.state tree.old))
+        (count_at_all (T.state tree.old) swept_names + most_put edits.now (places (T.state tree.old))) now tree.old tree.new result }
 {
     sweep_all(alloc, tree, now)?;
     match edits {
@@ -55,6 +58,8 @@ fn put_all<T: Tree>(alloc: Global, tree: &mut T, edits: &[Edit], now: u64) -> Re
     ensures ok { OnOk result (places (T.state tree.new) ≡ fold (with_edit now) (with_parent now (places (T.state tree.old)) etc) edits.now) }
     ensures acted { Acted T.Tree (AccountWay edits.now (T.state tree.old)) (IsAccountStep edits.now (T.state tree.old))
         (directory_steps (places (T.state tree.old)) + most_edited * length edits.now) now tree.old tree.new result }
+    ensures turn { Acted T.Tree (InTurn edits.now) (IsAccountStep edits.now (T.state tree.old))
+        (directory_steps (places (T.state tree.old)) + most_edited * length edits.now) now tree.old tree.new result }
 {
     // In a tree nothing stands below a file.
     let _rooted = is_present(tree, &TreePath::root(alloc));
@@ -70,6 +75,8 @@ fn put_directory<T: Tree>(alloc: Global, tree: &mut T, now: u64) -> Result<(), T
     ensures ok { OnOk result (places (T.state tree.new) ≡ with_parent now (places (T.state tree.old)) etc) }
     ensures directory { OnOk result (IsKind Directory (T.state tree.new) etc) }
     ensures acted { Acted T.Tree (Putting etc parent_file (T.state tree.old)) (PutsDirectory (T.state tree.old))
+        (directory_steps (places (T.state tree.old))) now tree.old tree.new result }
+    ensures below { Acted T.Tree (NoneComes (T.state tree.old)) (PutsDirectory (T.state tree.old))
         (directory_steps (places (T.state tree.old))) now tree.old tree.new result }
 {
     let path = directory(alloc)?;
@@ -91,6 +98,8 @@ fn make_directory<T: Tree>(
     requires free { IsAbsentIn (places (T.state tree.old)) (staging_of etc) }
     ensures ok { OnOk result (places (T.state tree.new) ≡ made now etc (new_object parent_file now) (places (T.state tree.old))) }
     ensures acted { Acted T.Tree (Putting etc parent_file (T.state tree.old)) (IsPutStep etc parent_file)
+        most_directory now tree.old tree.new result }
+    ensures below { Acted T.Tree (NoneComes (T.state tree.old)) (IsPutStep etc parent_file)
         most_directory now tree.old tree.new result }
 {
     // In a tree the root is a directory.

@@ -15,6 +15,7 @@ ghost use Rattle.pv_accounts_run.specs.Carrying.{AccountWay, IsAccountStep, most
 ghost use Rattle.pv_accounts_run.specs.Mended.{IsMended};
 ghost use Rattle.pv_accounts_run.specs.Running.{IfLacking, Lacks, in_steps, run_answer};
 ghost use Rattle.pv_accounts_run.specs.Swept.{LeavesNoStagingName};
+ghost use Rattle.pv_accounts_run.specs.Turns.{TurnWay};
 
 use crate::accounts_fault::AccountsFault;
 use crate::carrying::carry_out;
@@ -66,6 +67,11 @@ pub fn accounts_run<T: Tree>(
         Acted T.Tree (AccountWay edits (T.state tree.old)) (IsAccountStep edits (T.state tree.old))
         (count_at_all (T.state tree.old) swept_names + most_put edits (places (T.state tree.old))) now tree.old tree.new (in_steps result) }
 
+    // Files are staged in their order, each with its text before its owners, mode and the rest.
+    ensures turn { let edits = edits_at requests.now now (places (T.state tree.old)) in
+        Acted T.Tree (TurnWay edits (T.state tree.old)) (IsAccountStep edits (T.state tree.old))
+        (count_at_all (T.state tree.old) swept_names + most_put edits (places (T.state tree.old))) now tree.old tree.new (in_steps result) }
+
     // The stop law.
     ensures mended { IsMended requests.now now (T.state tree.old) (drop (length (T.steps tree.old)) (T.steps tree.new)) }
 {
@@ -110,6 +116,9 @@ fn run_usable<T: Tree>(
         SaidPart plan.said messages.old messages.new }
     ensures acted { let edits = edits_by (places (T.state tree.old)) (plan_at requests.now now (places (T.state tree.old))).texts in
         Acted T.Tree (AccountWay edits (T.state tree.old)) (IsAccountStep edits (T.state tree.old))
+        (count_at_all (T.state tree.old) swept_names + most_put edits (places (T.state tree.old))) now tree.old tree.new (in_steps result) }
+    ensures turn { let edits = edits_by (places (T.state tree.old)) (plan_at requests.now now (places (T.state tree.old))).texts in
+        Acted T.Tree (TurnWay edits (T.state tree.old)) (IsAccountStep edits (T.state tree.old))
         (count_at_all (T.state tree.old) swept_names + most_put edits (places (T.state tree.old))) now tree.old tree.new (in_steps result) }
 {
     match planned_edits(alloc, tree, requests, now, messages) {

@@ -7,6 +7,7 @@ ghost use Rattle.pv_steps.specs.Trees.{places, IsKind};
 ghost use Rattle.pv_steps.specs.Same.{Same};
 ghost use Rattle.pv_steps.specs.Acting.{Acted};
 ghost use Rattle.pv_accounts_run.specs.Edits.{AreEdits, IsEdit, IsFree, IsOfSome, StagesEdit, etc, most_staged, new_file, with_staged};
+ghost use Rattle.pv_accounts_run.specs.Turns.{StagingOne, StagingSome};
 
 use crate::edit::Edit;
 use pv_dress::dress;
@@ -29,6 +30,8 @@ pub(crate) fn stage_all<T: Tree>(
         ≡ fold (with_staged now) (places (T.state tree.old)) edits.now) }
     ensures acted { Acted T.Tree (Same (T.state tree.old)) (IsOfSome StagesEdit edits.now)
         (most_staged * length edits.now) now tree.old tree.new result }
+    ensures turn { Acted T.Tree (StagingSome edits.now (T.state tree.old)) (IsOfSome StagesEdit edits.now)
+        (most_staged * length edits.now) now tree.old tree.new result }
 {
     match edits {
         [] => Ok(()),
@@ -46,6 +49,8 @@ fn stage<T: Tree>(alloc: Global, tree: &mut T, edit: &Edit, now: u64) -> Result<
     requires free { IsFree (places (T.state tree.old)) edit.now }
     ensures ok { OnOk result (places (T.state tree.new) ≡ with_staged now (places (T.state tree.old)) edit.now) }
     ensures acted { Acted T.Tree (Same (T.state tree.old)) (StagesEdit edit.now)
+        most_staged now tree.old tree.new result }
+    ensures stages { Acted T.Tree (StagingOne edit.now (T.state tree.old)) (StagesEdit edit.now)
         most_staged now tree.old tree.new result }
 {
     let new = new_file(edit)?;

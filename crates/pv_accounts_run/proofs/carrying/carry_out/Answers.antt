@@ -1,13 +1,15 @@
-use Rattle.std.proofs.Common.{◌+◌, ◌*◌, sym, ap, ◌∙◌, arith, fold, length}
+use Rattle.std.proofs.Common.{◌+◌, ◌*◌, inr, sym, ap, ◌∙◌, arith, fold, length}
 use Rattle.pv_steps.specs.Trees.{Places, places}
 use Rattle.pv_steps.specs.Content.{Removes}
-use Rattle.pv_steps.proofs.ActingLaws.{Moves, acted_end, acted_passed, acted_then, acted_within}
+use Rattle.pv_steps.proofs.ActingLaws.{Moves, acted_end, acted_passed, acted_then, acted_weaken, acted_within}
 use Rattle.pv_dress.specs.Edits.{Pruned, all_taken}
 use Rattle.pv_walk.specs.Preparing.{with_parent}
 use Rattle.pv_walk.specs.Staging.{count_at_all, is_under_any}
 use Rattle.pv_accounts_run.specs.Edits.{etc, most_edited, with_edit}
 use Rattle.pv_accounts_run.specs.Carrying.{AccountWay, IsAccountStep, directory_steps, most_put, swept_names}
-use Rattle.pv_accounts_run.proofs.CarryingLaws.{directory_swept, files_swept, frees_swept, most_some, pass_swept, put_after, swept_acted, swept_same, with_some}
+use Rattle.pv_accounts_run.proofs.CarryingLaws.{directory_swept, files_swept, frees_swept, most_some, pass_swept, put_after, step_after, swept_acted, swept_same, with_some}
+use Rattle.pv_accounts_run.specs.Turns.{InTurn, TurnWay}
+use Rattle.pv_accounts_run.proofs.TurnLaws.{turn_swept}
 use Rattle.pv_accounts_run.proofs.carrying.carry_out.Goals as goal
 use Rattle.pv_path.proofs.Tests.{on_ok}
 
@@ -65,3 +67,30 @@ returns-in-len1-up-clause-acted g c =
     (omega (arith, most_some edits (places t) c.in-len1-up.len_at_least, directory_swept t u (swept_same t u pruned)))
     (acted_then g.T.Tree moves (AccountWay edits t) (IsAccountStep edits t) (swept_acted g.T.Tree edits c.args.tree.now c.in_ok-sweep_all.ensures.acted)
     (put_after g.T.Tree edits c.args.tree.now (swept_same t u pruned) c.put_all.ensures.acted))
+
+pub returns-in_err-sweep_all-clause-turn : goal.returns-in_err-sweep_all-clause-turn
+returns-in_err-sweep_all-clause-turn g c =
+    let edits = c.args.edits.now in
+    let t = g.T.Tree.state c.args.tree.now in
+    acted_passed g.T.Tree c.sweep_all.result c.from_residual.result c.in_err-sweep_all.was c.from_residual.ensures.1
+    (turn_swept g.T.Tree edits c.args.tree.now (λ s q. IsAccountStep.sweeps q) (count_at_all t swept_names + most_put edits (places t)) (omega arith) c.sweep_all.ensures.acted)
+
+pub returns-in-empty-clause-turn : goal.returns-in-empty-clause-turn
+returns-in-empty-clause-turn g c =
+    let edits = c.args.edits.now in
+    let t = g.T.Tree.state c.args.tree.now in
+    turn_swept g.T.Tree edits c.args.tree.now (λ s q. IsAccountStep.sweeps q) (count_at_all t swept_names + most_put edits (places t)) (omega arith) c.in_ok-sweep_all.ensures.acted
+
+pub returns-in-len1-up-clause-turn : goal.returns-in-len1-up-clause-turn
+returns-in-len1-up-clause-turn g c =
+    let moves : Moves g.T.Tree = record { stays = g.met.T.Tree.reaches_self; goes_on = g.met.T.Tree.reaches_on; never_falls = g.met.T.Tree.never_falls } in
+    let edits = c.args.edits.now in
+    let t = g.T.Tree.state c.args.tree.now in
+    let u = g.T.Tree.state c.sweep_all.new.tree in
+    let pruned = acted_end g.T.Tree (Pruned (is_under_any swept_names) t) (Removes (is_under_any swept_names)) c.in_ok-sweep_all.ensures.acted in
+    let most = directory_steps (places u) + most_edited * length edits in
+    acted_within g.T.Tree (count_at_all t swept_names + most) (count_at_all t swept_names + most_put edits (places t))
+    (omega (arith, most_some edits (places t) c.in-len1-up.len_at_least, directory_swept t u (swept_same t u pruned)))
+    (acted_then g.T.Tree moves (TurnWay edits t) (IsAccountStep edits t)
+    (turn_swept g.T.Tree edits c.args.tree.now (λ s q. IsAccountStep.sweeps q) (count_at_all t swept_names) (omega arith) c.in_ok-sweep_all.ensures.acted)
+    (acted_weaken g.T.Tree (InTurn edits) (TurnWay edits t) (IsAccountStep edits u) (IsAccountStep edits t) most most (λ v h. inr h) (step_after edits t u (swept_same t u pruned)) (omega arith) c.put_all.ensures.turn))

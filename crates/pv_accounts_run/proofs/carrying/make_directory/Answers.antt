@@ -14,6 +14,7 @@ use Rattle.pv_walk.proofs.PuttingOverLaws.{count_absent, count_over, cut_absent,
 use Rattle.pv_accounts_run.specs.Edits.{etc}
 use Rattle.pv_accounts_run.specs.Carrying.{most_directory}
 use Rattle.pv_accounts_run.proofs.DirectoryLaws.{etc_some}
+use Rattle.pv_accounts_run.proofs.TurnLaws.{comes_put, comes_staged}
 use Rattle.pv_accounts_run.proofs.carrying.make_directory.Goals as goal
 use Rattle.pv_path.proofs.Tests.{on_ok}
 
@@ -47,3 +48,18 @@ returns-clause-acted g c =
     (over_putting etc t c.is_present-rooted.ensures.tree c.requires.absent parent_file) (λ s q. q) (omega (arith, fewer, none))
     (over_acted g.T.Tree c.args.now etc etc_some parent_file c.args.tree.now c.stage_directory.new.tree moves c.in_ok-stage_directory.ensures.ok c.is_present-rooted.ensures.tree.root c.is_present-rooted.ensures.tree c.requires.free
     c.in_ok-stage_directory.ensures.acted published)
+
+pub returns-in_err-stage_directory-clause-below : goal.returns-in_err-stage_directory-clause-below
+returns-in_err-stage_directory-clause-below g c =
+    acted_passed g.T.Tree c.stage_directory.result c.from_residual.result c.in_err-stage_directory.was c.from_residual.ensures.1
+    (comes_staged g.T.Tree most_directory (omega arith) c.stage_directory.ensures.acted)
+
+pub returns-clause-below : goal.returns-clause-below
+returns-clause-below g c =
+    let moves : Moves g.T.Tree = record { stays = g.met.T.Tree.reaches_self; goes_on = g.met.T.Tree.reaches_on; never_falls = g.met.T.Tree.never_falls } in
+    let t = g.T.Tree.state c.args.tree.now in
+    let u = g.T.Tree.state c.stage_directory.new.tree in
+    let fewer = count_over c.args.now etc etc_some parent_file t u c.in_ok-stage_directory.ensures.ok in
+    let none = count_absent etc t c.is_present-rooted.ensures.tree c.requires.absent in
+    let published = subst (λ (p : Path). Acted g.T.Tree (Publishing c.args.now p u) (IsPublishing p) (1 + count_at u p) c.args.now c.stage_directory.new.tree c.publish.new.tree c.publish.result) c.requires.path c.publish.ensures.acted in
+    comes_put g.T.Tree moves most_directory (omega (arith, fewer, none)) c.in_ok-stage_directory.ensures.ok c.is_present-rooted.ensures.tree c.requires.free c.in_ok-stage_directory.ensures.acted published

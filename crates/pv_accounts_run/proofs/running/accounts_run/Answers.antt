@@ -10,6 +10,7 @@ use Rattle.pv_doing.specs.Courses.{carried_of}
 use Rattle.pv_doing.specs.declared.carried.Carried.{Carried}
 use Rattle.pv_accounts_run.specs.Accounted.{edits_by, edits_unless, lacking_in, lacking_unless, plan_at, said_unless, unusable_texts}
 use Rattle.pv_accounts_run.specs.Carrying.{AccountWay, IsAccountStep, most_put, swept_names}
+use Rattle.pv_accounts_run.specs.Turns.{TurnWay}
 use Rattle.pv_accounts_run.specs.Running.{IfLacking, Lacks, in_steps}
 use Rattle.pv_accounts_run.proofs.MendedLaws.{none_mended, run_mended}
 use Rattle.pv_accounts_run.proofs.RunningLaws.{nil_of, ok_accounted, some_accounted, some_lacking, some_said}
@@ -150,3 +151,10 @@ returns-clause-idle g c =
     let t = g.T.Tree.state c.args.tree.now in
     let none : unusable_texts (places t) ≡ [] = nil_of (unusable_texts (places t)) (subst (λ ys. length ys ≤ 0) c.in_ok-unusable.ensures (omega (arith, c.len.ensures, c.if-len-gt0.false))) in
     λ some. absurd (some none)
+
+pub returns-clause-turn : goal.returns-clause-turn
+returns-clause-turn g c =
+    let t = g.T.Tree.state c.args.tree.now in
+    let none : unusable_texts (places t) ≡ [] = nil_of (unusable_texts (places t)) (subst (λ ys. length ys ≤ 0) c.in_ok-unusable.ensures (omega (arith, c.len.ensures, c.if-len-gt0.false))) in
+    subst (λ (es : List Edit). Acted g.T.Tree (TurnWay es t) (IsAccountStep es t) (count_at_all t swept_names + most_put es (places t)) c.args.now c.args.tree.now c.run_usable.new.tree (in_steps c.run_usable.result))
+    (sym (ap (λ xs. edits_unless xs (edits_by (places t) (plan_at c.args.requests.now c.args.now (places t)).texts)) none)) c.run_usable.ensures.turn
