@@ -207,11 +207,11 @@ module _ (now : ℕ) (c : Edit) (is : IsEdit c) where
       × IsFree (fold (with_staged now) (fold (with_edit now) (with_edit now t c) (take k cs)) (drop k cs)) c
   put_there k cs are beside t free = (
     (bares_all_staged now (drop k cs) (drop_edits k cs are) (fold (with_edit now) (with_edit now t c) (take k cs)) c.path is.plain
-    ∙ kept_edits k cs beside (with_edit now t c)
-    ∙ ap (option_map bare) (made-here now c.path t is.root (edited now c))),
+        ∙ kept_edits k cs beside (with_edit now t c)
+        ∙ ap (option_map bare) (made-here now c.path t is.root (edited now c))),
     none_staged k cs beside (fold (with_edit now) (with_edit now t c) (take k cs))
-    (none_edits k cs beside (with_edit now t c)
-    (made-none now c.path (edited now c) t (staging_of c.path) (not_prefix_not_same c.path (staging_of c.path) (stage_outside c.path is.root)) free)),
+        (none_edits k cs beside (with_edit now t c)
+        (made-none now c.path (edited now c) t (staging_of c.path) (not_prefix_not_same c.path (staging_of c.path) (stage_outside c.path is.root)) free)),
   )
 
 -- the first are at their paths, the others stand whole at their staging names
