@@ -17,12 +17,16 @@ fn add_name(path: &mut Vec<u8>, name: &[u8]) -> Result<(), AllocError>
     Ok(())
 }
 
+/// The room that a path is given at first, in which most have their place.
+const USUAL_LENGTH: usize = 256;
+
 /// The path of what has a name in a folder of a host.
 pub(crate) fn below(alloc: Global, folder: &[u8], name: &[u8]) -> Result<Vec<u8>, AllocError>
     requires { is_name name.now ≡ true }
     ensures { IfOk result (λ bytes. spelled bytes.items ≡ spelled folder.now ++ name.now ∷ []) }
 {
-    let mut path = Vec::from_slice(alloc, folder)?;
+    let mut path = Vec::with_capacity(alloc, USUAL_LENGTH)?;
+    path.extend_from_slice(folder)?;
     add_name(&mut path, name)?;
     Ok(path)
 }

@@ -48,9 +48,18 @@ pub(crate) fn bytes_at<H: Host>(
     ensures never_falls { H.faults host.old ≤ H.faults host.new }
 {
     match host.read_file(alloc, place)? {
-        Some(bytes) => Ok(Some(Bytes::from_vec(bytes))),
+        Some(bytes) => Ok(Some(without_room(bytes))),
         None => Ok(None),
     }
+}
+
+/// Bytes without the room that was left for more, which would be kept as long as they are.
+fn without_room(bytes: Vec<u8>) -> Bytes
+    ensures { result ≡ bytes.items }
+{
+    let mut bytes = bytes;
+    bytes.shrink_to_fit();
+    Bytes::from_vec(bytes)
 }
 
 /// What is seen of an object of a folder's tree, whose path is given too. It is odd where it is not what the listing says.
