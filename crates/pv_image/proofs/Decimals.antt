@@ -1,5 +1,5 @@
 -- Decimal numbers and their texts.
-use Rattle.std.proofs.Common.{◌≡◌, ℕ, zero, suc, ◌<◌, ◌^◌, ◌/◌, ◌%◌, Bool, true, false, ◌&&◌, ◌==◌, nat_lt, List, [], ◌∷◌, Some, None, sym, subst, ◌∙◌, arith, if◌then◌else◌, refl}
+use Rattle.std.proofs.Common.{◌≡◌, ℕ, zero, suc, ◌+◌, ◌<◌, ◌^◌, ◌/◌, ◌%◌, Bool, true, false, ◌&&◌, ◌==◌, nat_lt, List, [], ◌∷◌, Some, None, sym, subst, ◌∙◌, arith, if◌then◌else◌, refl}
 use Rattle.std.specs.Fmt.{decimal, digit_glyph, digits, digits_onto}
 use Rattle.std.specs.List.{list_all}
 use Rattle.std.specs.Str.{bytes_eq}
@@ -7,7 +7,7 @@ use Rattle.std.specs.Str.Parse.{digits_value}
 use Rattle.std.proofs.lemmas.Bool.Decides.{nat_tests}
 use Rattle.std.proofs.lemmas.Bool.{and_from}
 use Rattle.std.proofs.lemmas.Slice.Eq.{bytes_eq-Decides}
-use Rattle.std.proofs.lemmas.Fmt.{decimal_is_IsNumeral, decimal_injective}
+use Rattle.std.proofs.lemmas.Fmt.{decimal_digit, decimal_is_IsNumeral, decimal_injective}
 use Rattle.pv_acl.specs.Numbers.{number_of}
 use Rattle.pv_text.proofs.Characters.{is_digit}
 use Rattle.pv_image.specs.Reading.{Reads}
@@ -63,3 +63,7 @@ onto_digits (suc k) n after e = by_test (n / 10 == 0) refl (one_more n after e) 
 pub all_digits : (n : ℕ) → list_all is_digit (decimal n) ≡ true
 unfolding digits
 all_digits n = onto_digits 64 n [] refl
+
+-- a digit alone is the text of its number
+pub digit_reads : (text : List ℕ) (n : ℕ) → n < 10 → text ≡ (48 + n) ∷ [] → Reads decimal (λ m. m < 2 ^ 64) text (Some n)
+digit_reads text n small e = (omega arith, e ∙ sym (decimal_digit n small))

@@ -54,11 +54,34 @@ pub(crate) fn read_mode(text: &[u8]) -> Option<u16>
     }
 }
 
-/// The number below 2^64 that a text spells in decimal.
+/// The number that a decimal digit spells.
+fn digit_of(byte: u8) -> Option<u64>
+    ensures { Reads (λ digit. (48 + digit) ∷ []) (λ digit. digit < 10) (byte ∷ []) result }
+{
+    match byte {
+        b'0'..=b'9' => Some(u64::from(byte - b'0')),
+        _ => None,
+    }
+}
+
+/// The number that a text of one decimal digit spells.
+fn read_digit(text: &[u8]) -> Option<u64>
+    ensures { Reads (λ digit. (48 + digit) ∷ []) (λ digit. digit < 10) text.now result }
+{
+    match text {
+        [byte] => digit_of(*byte),
+        _ => None,
+    }
+}
+
+/// The number below 2^64 that a text spells in decimal. One of one digit, as most of a folder's manifest, is read at once.
 pub(crate) fn read_number(text: &[u8]) -> Option<u64>
     ensures { Reads decimal (λ n. n < 2 ^ 64) text.now result }
 {
-    number(text)
+    match read_digit(text) {
+        Some(n) => Some(n),
+        None => number(text),
+    }
 }
 
 /// The number of 32 bits that a text spells in decimal, where it is no greater than the most.

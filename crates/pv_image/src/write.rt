@@ -1,5 +1,5 @@
 //! Facts and nodes, written as an image spells them.
-ghost use Rattle.std.specs.Prelude.{◌≡◌, ◌≤◌, ◌+◌, ◌∷◌, ◌++◌, [], true, IfOk, OnOk};
+ghost use Rattle.std.specs.Prelude.{◌≡◌, ◌<◌, ◌≤◌, ◌+◌, ◌∷◌, ◌++◌, [], true, IfOk, OnOk};
 ghost use Rattle.std.specs.Fmt.{decimal};
 ghost use Rattle.std.specs.List.{flat_map};
 ghost use Rattle.base64.specs.GeneralPurpose.{encode_of};
@@ -144,10 +144,22 @@ fn add_mode(output: &mut Vec<u8>, special: u8, access: &Part) -> Result<(), Allo
     add_column(output, &digits)
 }
 
-/// Adds a separator and a decimal number.
+/// Adds a separator and a number of one digit.
+fn add_digit(output: &mut Vec<u8>, separator: u8, number: u8) -> Result<(), AllocError>
+    requires { number < 10 }
+    ensures { OnOk result (output.new.items ≡ output.old.items ++ separator ∷ decimal number) }
+{
+    output.extend_from_slice(&[separator, b'0' + number])?;
+    Ok(())
+}
+
+/// Adds a separator and a decimal number. One of one digit, as most of a folder's manifest, is added at once.
 fn add_number(output: &mut Vec<u8>, separator: u8, number: u64) -> Result<(), AllocError>
     ensures { OnOk result (output.new.items ≡ output.old.items ++ separator ∷ decimal number) }
 {
+    if number < 10 {
+        return add_digit(output, separator, number as u8);
+    }
     let mut buffer = Buffer::new();
     output.push(separator)?;
     output.extend_from_slice(buffer.format(number).as_bytes())?;
