@@ -58,7 +58,7 @@ pub fn add_member(
     add_member_in(alloc, Kind::Group, file, group, user)
 }
 
-/// The same in a file of a kind whose entries have members.
+/// Adds a user at the end of the members of a group, in a file of a kind whose entries have members.
 pub fn add_member_in(
     alloc: Global,
     kind: Kind,

@@ -152,7 +152,7 @@ fn name_beside<'a>(kind: Kind, line: &'a [u8], id: u32, but: &[u8]) -> Option<&'
     }
 }
 
-/// The same where the entry counts: it is at a place, and no earlier one has its name.
+/// The name of the entry at a place, where it has the ID, another name than `but`, and no earlier entry has its name.
 fn holder_at<'a>(
     kind: Kind,
     file: &[u8],

@@ -63,7 +63,7 @@ impl<'a> InUse<'a> {
         ids.with_line(kind, rest)
     }
 
-    /// The same with what a line names, if that is not there yet.
+    /// The names and IDs with the name and ID of a line added, where the name is not yet there.
     fn with_line(self, kind: Kind, line: &'a [u8]) -> Result<Self, AllocError>
         ensures { IfOk result (λ ids. ids ≡ with_line (test_of kind) self.entry line.entry.now) }
     {
@@ -76,7 +76,7 @@ impl<'a> InUse<'a> {
         self.with(name, id)
     }
 
-    /// The same with a name more, which has no ID yet.
+    /// Adds a name, which is not yet there, with its ID.
     pub fn with(self, name: &'a [u8], id: u32) -> Result<Self, AllocError>
         requires { id_of self name.now ≡ None }
         ensures { IfOk result (λ ids. ids ≡ self.entry ++ (name.entry.now, id) ∷ []) }

@@ -25,7 +25,7 @@ pub(crate) fn unusable_texts<T: Tree>(alloc: Global, tree: &T) -> Result<Message
     Ok(said)
 }
 
-/// The same of one file.
+/// Says of an account file by its name in /etc why it cannot be used, where it cannot.
 fn judge_file<T: Tree>(
     alloc: Global,
     tree: &T,
@@ -39,7 +39,7 @@ fn judge_file<T: Tree>(
     judge(alloc, tree, &path, said)
 }
 
-/// The same of what stands at a path.
+/// Says of a path why what stands there cannot be used, where it cannot.
 fn judge<T: Tree>(
     alloc: Global,
     tree: &T,

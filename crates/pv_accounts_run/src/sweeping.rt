@@ -29,7 +29,7 @@ pub(crate) fn sweep_all<T: Tree>(alloc: Global, tree: &mut T, now: u64) -> Resul
     sweep_files(alloc, tree, &paths, now)
 }
 
-/// The same of files in a directory whose own staging name is swept.
+/// Takes away what stands at the staging names of these files; nothing stands at that of /etc.
 fn sweep_files<T: Tree>(
     alloc: Global,
     tree: &mut T,
@@ -52,7 +52,7 @@ fn sweep_files<T: Tree>(
     }
 }
 
-/// The same of one file.
+/// Takes away what stands at the staging name of one file; nothing stands at that of /etc.
 fn sweep_file<T: Tree>(
     alloc: Global,
     tree: &mut T,

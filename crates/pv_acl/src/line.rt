@@ -31,7 +31,7 @@ pub struct AclLine {
 }
 
 impl AclLine {
-    /// The same entries once more.
+    /// A copy of the line.
     pub fn copy(&self) -> Result<AclLine, AllocError>
         ensures { IfOk result (λ line. line ≡ self.now) }
     {

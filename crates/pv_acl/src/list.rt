@@ -95,7 +95,7 @@ impl NamedList {
         self.items.as_slice()
     }
 
-    /// The same list once more.
+    /// A copy of the list.
     pub fn copy(&self) -> Result<NamedList, AllocError>
         ensures { IfOk result (λ copy. copy ≡ self.now) }
     {

@@ -90,7 +90,7 @@ impl Part {
         Ok(())
     }
 
-    /// The same part once more.
+    /// A copy of the part.
     pub fn copy(&self) -> Result<Part, AllocError>
         ensures { IfOk result (λ copy. copy ≡ self.now) }
     {
@@ -117,7 +117,7 @@ impl Acl {
         self.access.named.is_empty() && self.access.mask.is_none() && self.default_part.is_none()
     }
 
-    /// The same ACL once more.
+    /// A copy of the ACL.
     pub fn copy(&self) -> Result<Acl, AllocError>
         ensures { IfOk result (λ copy. copy ≡ self.now) }
     {

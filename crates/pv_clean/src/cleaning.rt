@@ -42,7 +42,7 @@ pub fn clean_run<T: Tree>(
     clean(alloc, tree, table, now)
 }
 
-/// The same, without the stop law.
+/// Finds the paths that go and does the steps of the clean phase.
 fn clean<T: Tree>(alloc: Global, tree: &mut T, table: &Table, now: u64) -> Result<(), TreeFault>
     ensures ok { OnOk result (T.state tree.new ≡ cleaned table.now now (T.state tree.old)) }
     ensures exact { OnOk result (length (drop (length (T.steps tree.old)) (T.steps tree.new))

@@ -29,7 +29,7 @@ pub(crate) fn carry_out<T: Tree>(
     Ok(counted(line, carried))
 }
 
-/// The same, but that each refusal counts.
+/// Carries out a line; each refusal counts.
 fn carry_out_asked<T: Tree>(
     alloc: Global,
     tree: &mut T,

@@ -68,7 +68,7 @@ pub fn create_run<T: Tree>(
     run_in_order(alloc, tree, table, now, messages)
 }
 
-/// The same, without the laws.
+/// Carries out the lines in creation order.
 fn run_in_order<T: Tree>(
     alloc: Global,
     tree: &mut T,

@@ -49,7 +49,7 @@ pub struct Bare {
 }
 
 impl Body {
-    /// The same body once more.
+    /// A copy of the body.
     pub fn copy(&self) -> Result<Body, AllocError>
         ensures { IfOk result (λ body. body ≡ self.now) }
     {
@@ -61,7 +61,7 @@ impl Body {
 }
 
 impl Dress {
-    /// The same dress once more.
+    /// A copy of the dress.
     pub fn copy(&self) -> Result<Dress, AllocError>
         ensures { IfOk result (λ dress. dress ≡ self.now) }
     {
@@ -96,7 +96,7 @@ impl Bare {
         })
     }
 
-    /// The same object once more.
+    /// A copy of the object.
     pub fn copy(&self) -> Result<Bare, AllocError>
         ensures { IfOk result (λ bare. bare ≡ self.now) }
     {

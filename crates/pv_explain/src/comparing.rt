@@ -23,7 +23,7 @@ pub(crate) fn act_between(before: Option<&Bare>, after: Option<&Bare>) -> Option
     }
 }
 
-/// The same where something stands there before and after.
+/// What is done where something stands before and after; nothing where both are the same.
 fn changed(old: &Bare, new: &Bare) -> Option<Act>
     ensures { result ≡ act_between (Some old.now) (Some new.now) }
 {

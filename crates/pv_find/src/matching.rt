@@ -89,7 +89,7 @@ fn alone(alloc: Global, component: &Component) -> Result<Plain, AllocError>
     Ok(plain)
 }
 
-/// The same component once more.
+/// A copy of the component.
 fn copied(component: &Component) -> Result<Component, AllocError>
     ensures { IfOk result (λ copy. copy ≡ component.now) }
 {

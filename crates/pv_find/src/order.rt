@@ -6,7 +6,7 @@ ghost use Rattle.pv_walk.specs.Removal.{is_one_of};
 
 use pv_path::TreePath;
 
-/// The same paths in byte order, each once.
+/// Puts paths in byte order, each once.
 pub fn in_order(paths: Vec<TreePath>) -> Vec<TreePath>
     ensures rises { IsStrictlySortedBy path_cmp result.items }
     ensures members { (q : Path) → is_one_of result.items q ≡ is_one_of paths.items q }

@@ -17,7 +17,7 @@ fn copy_fact(copy: &mut Facts, facts: &Facts, letter: u8) -> Result<(), AllocErr
     }
 }
 
-/// The same facts once more.
+/// A copy of the facts.
 pub(crate) fn copy_of(alloc: Global, facts: &Facts) -> Result<Facts, AllocError>
     ensures { IfOk result (λ copy. copy ≡ facts.now) }
 {

@@ -67,7 +67,7 @@ pub enum Element {
 pub type Component = Sequence<Element>;
 
 impl Element {
-    /// The same element once more.
+    /// A copy of the element.
     pub fn copy(&self) -> Result<Element, AllocError>
         ensures { IfOk result (λ copy. copy ≡ self.now) }
     {
@@ -75,7 +75,7 @@ impl Element {
     }
 }
 
-/// The same component once more.
+/// A copy of the component.
 pub(crate) fn copy_of(component: &Component) -> Result<Component, AllocError>
     ensures { IfOk result (λ copy. copy ≡ component.now) }
 {

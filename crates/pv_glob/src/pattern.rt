@@ -57,7 +57,7 @@ impl Pattern {
         })
     }
 
-    /// The same pattern once more.
+    /// A copy of the pattern.
     pub fn copy(&self) -> Result<Pattern, AllocError>
         ensures { IfOk result (λ copy. copy ≡ self.now) }
     {

@@ -64,7 +64,7 @@ impl Plain {
         self.components.as_slice()
     }
 
-    /// The same pattern once more.
+    /// A copy of the pattern.
     pub fn copy(&self) -> Result<Plain, AllocError>
         ensures { IfOk result (λ copy. copy ≡ self.now) }
     {

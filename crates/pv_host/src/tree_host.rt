@@ -249,7 +249,7 @@ fn object_of(alloc: Global, node: &Node, payload: &[u8]) -> Result<Object, Alloc
     })
 }
 
-/// The same tree once more, with no step recorded.
+/// A copy of the tree, with no step recorded.
 fn copy_of(alloc: Global, tree: &MemTree) -> Result<MemTree, AllocError>
     ensures { IfOk result (λ copy. copy.files ≡ tree.now.files) }
 {

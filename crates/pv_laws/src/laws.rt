@@ -34,7 +34,7 @@ pub fn a_line_leaves_what_it_asks_for()
         → bares_of (places ((by_line now).after line t)) q ≡ run (operations line q) (bares_of (places t) q) }
 {}
 
-/// The same of a whole run of lines that refuses nothing, by the operations of all lines in their order.
+/// A run of lines that refuses nothing leaves at a path what the operations of all lines in their order make of it.
 pub fn lines_leave_what_they_ask_for()
     ensures { (lines : List LineValue) (now : ℕ) (t : Files) (q : Path) → IsTree t → AllByRecursion IsLine lines
         → AllByRecursion CopiesNothing lines → IsQuiet lines now t → has_staging q ≡ false
@@ -173,7 +173,7 @@ pub fn on_the_way_each_path_is_between_two_lines()
         → PartwayOf (in_create_order lines) now t u → IsOnTheWay lines s u }
 {}
 
-/// The same with lines that copy, where no line has a reason.
+/// Where no line has a reason, that definition gives what lines leave at each path, copying lines included.
 pub fn each_path_by_itself_is_what_lines_without_reasons_leave()
     ensures some { (lines : List LineValue) (now k : ℕ) (s : Bares) (t : Files) → IsTree t → AllByRecursion IsLine lines
         → IsRepeatable lines → IsQuiet lines now t → Agree s t

@@ -180,7 +180,7 @@ fn left(rt: &impl Abort, alloc: Global, lines: &str, before: &str) -> Result<Str
 const HOME: &str =
     "d / 0755 0 0 - -\nd /home 0755 0 0 - -\nd /home/u 0755 1000 0 - -\nf /home/u/x 0644 0 0 - -\n";
 
-/// The same without the object.
+/// The directory of a user, with nothing in it.
 const EMPTY: &str = "d / 0755 0 0 - -\nd /home 0755 0 0 - -\nd /home/u 0755 1000 0 - -\n";
 
 /// Lines, what stands before, and what stands after.

@@ -98,7 +98,7 @@ fn with_lines(alloc: Global, front: &[u8], lines: &[u8]) -> Result<Vec<u8>, Allo
 /// The front of an image of version 1, with its root.
 const ROOT: &[u8] = b"tree-image 1\nd / 0755 0 0 0,0,0,0 - -\n";
 
-/// The same of version 2.
+/// The front of an image of version 2, with its root.
 const NEW_ROOT: &[u8] = b"tree-image 2\nd / 0755 0 0 0,0,0,0 - - - -\n";
 
 /// The fault of a line after the root that is spelled wrong.
@@ -212,7 +212,7 @@ fn lines_after_the_root(rt: HostRuntime) -> Result<(), Fail> {
     Ok(())
 }
 
-/// The same in version 2.
+/// Lines after the root are taken, or have their fault, in version 2.
 #[test]
 fn new_lines_after_the_root(rt: HostRuntime) -> Result<(), Fail> {
     for &(lines, want) in NEW_LINES {
@@ -333,7 +333,7 @@ fn first_printed(alloc: Global, tree: &MemTree) -> Result<Vec<u8>, Fail> {
     }
 }
 
-/// The same of an image with one line after its root.
+/// The first object after the root, as it is printed, of an image with one line after its root.
 fn printed(alloc: Global, line: &[u8]) -> Result<Vec<u8>, Fail> {
     let text = with_lines(alloc, NEW_ROOT, line)?;
     let image = image_of(alloc, &text)?;

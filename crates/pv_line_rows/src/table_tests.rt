@@ -230,7 +230,7 @@ fn deeds_of(alloc: Global, lines: &[Line]) -> Result<Vec<u8>, AllocError> {
     Ok(letters)
 }
 
-/// The same of the lines of a text.
+/// The letters of what the lines of a text ask for.
 fn letters_for(alloc: Global, text: &[u8]) -> Result<Vec<u8>, Fail> {
     let lines = lines_of(alloc, text)?;
     Ok(deeds_of(alloc, lines.as_slice())?)

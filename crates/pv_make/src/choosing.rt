@@ -37,7 +37,7 @@ pub(crate) fn choose<T: Tree>(tree: &T, path: &TreePath, making: &Making) -> Cho
     }
 }
 
-/// The same where something stands at the path.
+/// What is to be done where something stands at the path.
 fn choose_over<T: Tree>(tree: &T, path: &TreePath, node: &Node, making: &Making) -> Choice
     requires node { Some node.now ≡ node_at (T.state tree.now) path.now }
     ensures { chosen making.now result ≡ settling_turn making.now path.now (T.state tree.now) }
@@ -49,7 +49,7 @@ fn choose_over<T: Tree>(tree: &T, path: &TreePath, node: &Node, making: &Making)
     }
 }
 
-/// The same where what stands at the path stays.
+/// What is to be done where what stands at the path stays.
 fn choose_kept(wanted: Kind, kind: Kind) -> Choice
     ensures { result ≡ kept_choice wanted kind }
 {

@@ -109,7 +109,7 @@ fn choose_copy<T: Tree>(
     }
 }
 
-/// The same where something stands at the path.
+/// What is to be done where something is copied and something stands at the path.
 fn choose_kept(copying: &Copying, kind: Kind, there: Kind, empty: bool) -> Choice
     ensures { result ≡ kept_copy copying.now kind there empty }
 {

@@ -45,7 +45,7 @@ pub fn copy<T: Tree>(
     }
 }
 
-/// The same at the path of the line.
+/// Carries out a line that copies, at its path, or says that its source is refused.
 fn copy_at<T: Tree>(
     alloc: Global,
     tree: &mut T,
@@ -72,7 +72,7 @@ fn copy_at<T: Tree>(
     }
 }
 
-/// The same where there is something to copy, and the copy would have this owner.
+/// Copies where there is something to copy, or says that the path is refused to the owner of the copy.
 fn copy_here<T: Tree>(
     alloc: Global,
     tree: &mut T,

@@ -45,7 +45,7 @@ pub fn make<T: Tree>(
     }
 }
 
-/// The same at the path of the line.
+/// Carries out a line that makes something, at its path, or says that the path is refused.
 fn make_at<T: Tree>(
     alloc: Global,
     tree: &mut T,

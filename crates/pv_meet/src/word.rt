@@ -36,7 +36,7 @@ impl Word {
         self.ranks.as_slice()
     }
 
-    /// The same word once more.
+    /// A copy of the word.
     pub(crate) fn copy(&self) -> Result<Word, AllocError>
         ensures { IfOk result (λ word. word ≡ self.now) }
     {

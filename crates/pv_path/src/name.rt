@@ -77,7 +77,7 @@ impl Name {
         self.bytes.as_slice()
     }
 
-    /// The same name once more.
+    /// A copy of the name.
     pub fn copy(&self) -> Result<Name, AllocError>
         ensures { IfOk result (λ name. name ≡ self.now) }
     {

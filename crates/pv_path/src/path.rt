@@ -97,7 +97,7 @@ impl TreePath {
         Ok(())
     }
 
-    /// The same path once more.
+    /// A copy of the path.
     pub fn copy(&self) -> Result<TreePath, AllocError>
         ensures { IfOk result (λ path. path ≡ self.now) }
     {

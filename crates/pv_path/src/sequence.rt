@@ -95,7 +95,7 @@ impl Sequence<u8> {
         })
     }
 
-    /// The same bytes once more.
+    /// A copy of the bytes.
     pub fn copy(&self) -> Result<Self, AllocError>
         ensures { IfOk result (λ copy. copy ≡ self.now) }
     {

@@ -68,7 +68,7 @@ pub fn boot_run<T: Tree>(
     remove_then_create(alloc, tree, table, now, messages)
 }
 
-/// The same, without the laws.
+/// Runs the remove phase, then the create phase.
 fn remove_then_create<T: Tree>(
     alloc: Global,
     tree: &mut T,

@@ -44,7 +44,7 @@ pub(crate) fn after_copying(
     }
 }
 
-/// The same where something stands at the line's path.
+/// What a line that copies leaves at a path, where something stands at the line's path.
 fn over(
     alloc: Global,
     copying: &Copying,

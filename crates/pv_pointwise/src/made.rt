@@ -44,7 +44,7 @@ pub(crate) fn after_making(
     }
 }
 
-/// The same where something stands at the line's path.
+/// What a line that makes an object leaves at a path, where something stands at the line's path.
 fn over(
     alloc: Global,
     making: &Making,

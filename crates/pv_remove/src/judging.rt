@@ -40,7 +40,7 @@ pub(crate) fn judge<T: Tree>(
     Ok(unfinished)
 }
 
-/// The same of one line.
+/// Says of one line what is to be said, and whether it was not carried out somewhere.
 fn judge_line<T: Tree>(
     alloc: Global,
     tree: &T,
@@ -110,7 +110,7 @@ fn judge_path<T: Tree>(
     }
 }
 
-/// The same where the line is not refused.
+/// Says of a line at a path where it is not refused what is to be said, and whether something was kept.
 fn judge_unrefused<T: Tree>(
     alloc: Global,
     tree: &T,

@@ -23,7 +23,7 @@ pub fn a_removal_cut_short_is_mended()
         → Same (removed lines later u) (removed lines now t) }
 {}
 
-/// The same of purging.
+/// After a purge that was cut short a whole one leaves what it leaves from the start; stamps and staging names aside.
 pub fn a_purge_cut_short_is_mended()
     ensures { (lines : List LineValue) (now later : ℕ) (t u : Files) → IsTree u → Pruned (is_purged lines t) t u
         → Same (purged lines later u) (purged lines now t) }
@@ -37,7 +37,7 @@ pub fn a_removal_leaves_what_lines_are_read_from()
         → content_of (places u q) ≡ content_of (places t q) }
 {}
 
-/// The same of purging.
+/// Purging leaves on its way what lines are read from, where no line may change that.
 pub fn a_purge_leaves_what_lines_are_read_from()
     ensures { (lines : List LineValue) (t u : Files) (q : Path) → IsTree t → AllByRecursion IsLine lines
         → ((i : ℕ) → HasReason lines i reason.Input → ⊥) → Pruned (is_purged lines t) t u → is_input q ≡ true
@@ -64,7 +64,7 @@ pub fn what_is_removed_is_governed()
         → list_any (λ line. governs line q) lines ≡ true }
 {}
 
-/// The same of purging.
+/// What goes in purging is governed by a line.
 pub fn what_is_purged_is_governed()
     ensures { (lines : List LineValue) (t : Files) (q : Path) → AllByRecursion IsLine lines → is_purged lines t q ≡ true
         → list_any (λ line. governs line q) lines ≡ true }

@@ -216,7 +216,7 @@ fn two_texts(
     Ok((name, id))
 }
 
-/// The same where the ID may not be omitted.
+/// The name and the ID of a line whose ID may not be omitted.
 fn two_needed(
     alloc: Global,
     facts: &Facts,

@@ -19,7 +19,7 @@ pub struct Attr {
 }
 
 impl Attr {
-    /// The same attribute once more.
+    /// A copy of the attribute.
     pub fn copy(&self) -> Result<Attr, AllocError>
         ensures { IfOk result (λ attr. attr ≡ self.now) }
     {
@@ -154,7 +154,7 @@ impl AttrList {
         self.items.as_slice() == other.items.as_slice()
     }
 
-    /// The same list once more.
+    /// A copy of the list.
     pub fn copy(&self) -> Result<AttrList, AllocError>
         ensures { IfOk result (λ copy. copy ≡ self.now) }
     {

@@ -71,7 +71,7 @@ pub struct Node {
 }
 
 impl Node {
-    /// The same node once more.
+    /// A copy of the node.
     pub fn copy(&self) -> Result<Node, AllocError>
         ensures { IfOk result (λ node. node ≡ self.now) }
     {

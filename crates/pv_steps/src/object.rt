@@ -52,7 +52,7 @@ impl Object {
         }
     }
 
-    /// The same object once more.
+    /// A copy of the object.
     pub fn copy(&self) -> Result<Object, AllocError>
         ensures { IfOk result (λ object. object ≡ self.now) }
     {

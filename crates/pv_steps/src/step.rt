@@ -90,7 +90,7 @@ pub enum Step {
 }
 
 impl Step {
-    /// The same step once more.
+    /// A copy of the step.
     pub fn copy(&self) -> Result<Step, AllocError>
         ensures { IfOk result (λ step. step ≡ self.now) }
     {

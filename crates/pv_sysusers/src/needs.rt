@@ -58,7 +58,7 @@ pub struct Account {
 }
 
 impl Main {
-    /// The same primary group once more.
+    /// A copy of the primary group.
     fn copy(&self) -> Result<Main, AllocError>
         ensures { IfOk result (λ main. main ≡ self.now) }
     {
@@ -71,7 +71,7 @@ impl Main {
 }
 
 impl Account {
-    /// The same user once more.
+    /// A copy of the user.
     pub(crate) fn copy(&self) -> Result<Account, AllocError>
         ensures { IfOk result (λ account. account ≡ self.now) }
     {

@@ -21,7 +21,7 @@ pub fn scope_of(table: &Table, path: &TreePath) -> Option<Scope>
     scope_by(table.lines(), path)
 }
 
-/// The same by lines.
+/// The age for what stands in a directory, by these lines.
 fn scope_by(lines: &[Line], path: &TreePath) -> Option<Scope>
     ensures { result ≡ scope lines.now path.now }
 {

@@ -16,7 +16,7 @@ pub type OperationList = Sequence<Operation>;
 pub enum Deed {
     /// An object is made at the line's path, or what stands there is adjusted.
     Create(Making),
-    /// The same with a copy of what stands at another path.
+    /// What stands at another path is copied to the line's path, or what stands there is adjusted.
     Copy(Copying),
     /// What stands at the paths that the line names is adjusted.
     Touch(Touching),

@@ -43,7 +43,7 @@ pub fn say_refused(
     messages.push_at(place, &place_text(alloc, path, count, why)?)
 }
 
-/// The same of the path that a line copies.
+/// Says of a line that its source is refused at a place. After running out of memory the messages are as before.
 pub fn say_source_refused(
     alloc: Global,
     place: &Place,

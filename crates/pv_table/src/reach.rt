@@ -67,7 +67,7 @@ pub fn names(line: &Line, path: &TreePath) -> bool
     }
 }
 
-/// The same for the path of the first names of a path.
+/// Whether a line names the path of the first names of a path.
 pub fn names_first(line: &Line, path: &TreePath, count: usize) -> bool
     requires { count ≤ length path.now }
     ensures { result ≡ names line.now (take count path.now) }

@@ -42,7 +42,7 @@ impl OneLine {
         })
     }
 
-    /// The same text once more.
+    /// A copy of the text.
     pub fn copy(&self) -> Result<OneLine, AllocError>
         ensures { IfOk result (λ copy. copy ≡ self.now) }
     {

@@ -14,7 +14,7 @@ pub struct Place {
 }
 
 impl Place {
-    /// The same place once more.
+    /// A copy of the place.
     pub fn copy(&self) -> Result<Place, AllocError>
         ensures { IfOk result (λ place. place ≡ self.now) }
     {

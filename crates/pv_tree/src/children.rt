@@ -34,7 +34,7 @@ impl<'a> Probe for NameProbe<'a> {
     }
 }
 
-/// The same names where they lie in a row, which are asked faster.
+/// The names of children that lie in a row beside one that is sought, which are asked faster.
 #[derive(Drop)]
 struct RowProbe<'a> {
     entries: &'a [(KeyedName, usize)],

@@ -73,7 +73,7 @@ impl KeyedName {
         &self.name
     }
 
-    /// The same name, to be sought.
+    /// The name as one that is sought.
     pub(crate) fn sought(&self) -> SoughtName<'_>
         ensures { result ≡ self.now }
     {

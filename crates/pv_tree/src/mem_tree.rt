@@ -85,7 +85,7 @@ impl MemTree {
         self.add_object(path, Object { node, payload })
     }
 
-    /// The same, but that the payload is taken over.
+    /// Adds an object whose payload is taken over at an absent path in a directory.
     fn add_object(&mut self, path: &TreePath, object: Object) -> Result<(), AllocError>
         requires room { HasRoom (places self.old.files) path.now }
         requires object { IsObject object }

@@ -84,7 +84,7 @@ fn list_next<T: Tree>(
     }
 }
 
-/// The same for all at and below a place.
+/// Opens a place: adds the last piece of its object, and leaves its children and its first piece.
 fn open<T: Tree>(
     alloc: Global,
     tree: &T,

@@ -39,7 +39,7 @@ pub enum NewKind {
 }
 
 impl NewKind {
-    /// The same once more.
+    /// A copy of it.
     pub(crate) fn copy(&self) -> Result<NewKind, AllocError>
         ensures { IfOk result (λ what. what ≡ self.now) }
     {

@@ -119,7 +119,7 @@ impl<'a> Row<'a> {
         }
     }
 
-    /// The same row, for an option that needs a file word.
+    /// Makes a row one of an option that needs a file word.
     fn with_file(mut self) -> Row<'a>
         ensures { result ≡ with_file self.entry }
     {

@@ -116,7 +116,7 @@ fn cut_of(words: &[String]) -> Option<Cut<'_>>
     cut_by(before, from)
 }
 
-/// The same by the words before `--root` and those from it on.
+/// The value of `--root` and the words around it, from the words before `--root` and those from it on.
 fn cut_by<'a>(before: &'a [String], from: &'a [String]) -> Option<Cut<'a>>
     ensures { result ≡ cut_by (map string_bytes before.now) (map string_bytes from.now) }
 {
@@ -137,7 +137,7 @@ fn cut_by<'a>(before: &'a [String], from: &'a [String]) -> Option<Cut<'a>>
     }
 }
 
-/// The same where the value is the next word, if it may be one.
+/// The value of `--root` where it is the next word, if that may be a value, and the words around it.
 fn cut_next<'a>(before: &'a [String], words: &'a [String]) -> Option<Cut<'a>>
     ensures { result ≡ cut_next (map string_bytes before.now) (map string_bytes words.now) }
 {

@@ -80,7 +80,7 @@ fn read_by(alloc: Global, left: &Plain, right: &Plain) -> Result<Vec<u8>, AllocE
     Ok(told)
 }
 
-/// The same for the patterns of two texts.
+/// How many places the machine for the patterns of two texts has, and the least word that it reads.
 fn machine_told(alloc: Global, a: &[u8], b: &[u8]) -> Result<Vec<u8>, AllocError> {
     let Some(left) = plain(alloc, a)? else {
         return said(alloc, "no pattern");
@@ -349,7 +349,7 @@ fn is_same(
     Ok(found.as_ref() == first_of(names, &left.pattern, &right.pattern))
 }
 
-/// The same for the components of two texts; a text that spells no pattern is passed over.
+/// Whether the first shared name of the components of two texts is the first of all; true where one spells no pattern.
 fn is_first(
     alloc: Global,
     names: &[TreePath],

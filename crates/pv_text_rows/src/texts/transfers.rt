@@ -115,7 +115,7 @@ fn done_told(
     Ok(told)
 }
 
-/// The same for a sink that takes at most so many bytes at a call, has so much room, and fails at some calls.
+/// Writes to a sink that takes at most so many bytes at a call, has so much room, and fails at some calls.
 fn write_told(
     alloc: Global,
     text: &[u8],
