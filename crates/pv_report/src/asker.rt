@@ -38,7 +38,7 @@ impl<'a> Model for Meeting<'a> {
     ghost invariant = { λ m. AreFirsts m.reaches.now m.firsts.items × AreAnswers m.reaches.now m.known.entries };
 }
 
-/// The same answer once more.
+/// A copy of an answer.
 fn copied(found: &Option<TreePath>) -> Result<Option<TreePath>, AllocError>
     ensures { IfOk result (λ copy. copy ≡ found.now) }
 {
