@@ -229,7 +229,7 @@ impl<'a> Stock<'a> {
         }
     }
 
-    /// The same pool after a number was given, perhaps the next one. Numbers past the next one are not looked at again.
+    /// The pool after a number was given, perhaps the next one. Numbers past the next one are not looked at again.
     pub(crate) fn further(&self, users: &InUse<'_>, groups: &InUse<'_>) -> Self
         requires { IfSome self.now.next (λ n. n < 4294967295) }
         ensures some { IfSome self.now.next (λ n. result.next ≡ free_below (pooled_by self.now.pool.now) users.now groups.now (n + 1)) }
