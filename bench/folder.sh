@@ -218,18 +218,22 @@ END
   [ -x "$loop" ] || (cd "$top/crates/folder_loop" && rt run > /dev/null 2>&1) || true
   [ -x "$loop" ] || { echo "folder: $loop cannot be built: no cost is measured"; return 0; }
   local run_clock run_work loop_clock loop_work
-  read -r loop_clock loop_work < <(spent "$loop")
-  read -r run_clock run_work < <(spent "$program" systemd-tmpfiles --create --root=it)
+  for _ in 1 2 3 4 5 6 7 8 9 10 11 12; do
+    spent loop.times "$loop"
+    spent run.times "$program" systemd-tmpfiles --create --root=it
+  done
+  read -r loop_clock loop_work < <(least loop.times)
+  read -r run_clock run_work < <(least run.times)
   awk -v a="$run_clock" -v b="$loop_clock" -v c="$run_work" -v d="$loop_work" 'BEGIN {
-    printf "100,000 files: %.2f s by the clock, %.2f s of processor time; a plain loop over them and the manifest %.2f and %.2f s: %.1f and %.1f times\n", a, c, b, d, a / b, c / d
+    printf "100,000 files: %.2f s by the clock, %.2f s of processor time; a plain loop over them and the manifest %.2f and %.2f s: %.2f and %.2f times\n", a, c, b, d, a / b, c / d
     exit a > 1.5 * b }' || otherwise "a run takes more than 1.5 times what the loop takes"
 }
 
-# spent COMMAND..: the least seconds, by the clock and of processor time, of nine runs
-spent() {
-  for _ in 1 2 3 4 5 6 7 8 9; do /usr/bin/time -f '%e %U %S' "$@" < /dev/null 2>&1 > /dev/null; done |
-    awk '{ clock = $1; work = $2 + $3; if (NR == 1 || clock < a) a = clock; if (NR == 1 || work < b) b = work } END { print a, b }'
-}
+# spent FILE COMMAND..: adds the seconds of a run to a file, by the clock and of processor time
+spent() { /usr/bin/time -a -o "$1" -f '%e %U %S' "${@:2}" < /dev/null > /dev/null 2>&1; }
+
+# least FILE: the least of them
+least() { awk '{ work = $2 + $3; if (NR == 1 || $1 < a) a = $1; if (NR == 1 || work < b) b = work } END { print a, b }' "$1"; }
 
 # ---- beside systemd-tmpfiles
 
