@@ -6,6 +6,5 @@ pub mod WritingLaws
 pub mod AdjustLaws
 pub mod ReachedLaws
 pub mod AskedSets
-pub mod TouchLaws
 pub mod NamedLaws
 pub mod WearingLaws

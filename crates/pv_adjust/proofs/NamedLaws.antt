@@ -1,6 +1,6 @@
 -- Laws of a line that adjusts what is there, at each path that it names: carrying it out at one neither adds nor takes away
 -- paths, so that the list made first stays right.
-use Rattle.std.specs.Prelude.{◌≡◌, ℕ, ◌+◌, ◌≤◌, ◌<◌, ◌^◌, Bool, true, false, cond, not, ◌||◌, nat_le, List, [], ◌∷◌, ◌++◌, filter, length, take, drop, get_or, Option, Some, None, Result, Ok, Err, IsErrAnd, is_some}
+use Rattle.std.specs.Prelude.{◌≡◌, ℕ, ◌+◌, ◌≤◌, ◌<◌, ◌^◌, Bool, true, false, cond, not, ◌||◌, nat_le, List, [], ◌∷◌, ◌++◌, filter, length, take, get_or, Option, Some, None, is_some}
 use Rattle.std.specs.FinMap as fin
 use Rattle.std.specs.List.{list_all}
 use Rattle.std.specs.Cmp.Lexicographic.{pointwise}
@@ -8,11 +8,6 @@ use Rattle.std.proofs.Common.{refl, sym, ap, subst, ◌∙◌, arith}
 use Rattle.std.proofs.lemmas.Bool.Decides.{nat_tests}
 use Rattle.std.proofs.lemmas.List.{take_more}
 use Rattle.std.proofs.lemmas.Bool.{and_parts}
-use Rattle.pv_doing.specs.Courses.{Course, carried_of, each_of, CarriesOut}
-use Rattle.pv_doing.specs.declared.carried.Carried.{Carried}
-use Rattle.pv_doing.specs.declared.carried.Carried.TheVariants.{Whole}
-use Rattle.pv_doing.proofs.CarryingLaws.{carried_none, Underway, underway_start, underway_failed, underway_next, underway_end}
-use Rattle.pv_doing.proofs.CourseLaws.{cut_start, none_left, partway_start, single_start}
 use Rattle.pv_glob.specs.declared.element.Element.{Element}
 use Rattle.pv_glob.specs.Matching.{component_matches, matches, some_matches}
 use Rattle.pv_lines.specs.declared.line.Line.{Line}
@@ -21,11 +16,7 @@ use Rattle.pv_lines.specs.declared.line.LinePath.TheVariants.{Literal, Glob}
 use Rattle.pv_lines.specs.Lines.{IsLine, IsLinePath}
 use Rattle.pv_path.specs.Paths.{Path, has_staging}
 use Rattle.pv_path.proofs.PathLaws.{same_path-refl}
-use Rattle.pv_steps.specs.declared.tree.Tree.{Ghosts}
-use Rattle.pv_steps.specs.declared.tree.TreeFault.{TreeFault}
-use Rattle.pv_steps.specs.declared.tree.TreeFault.TheVariants.{Memory}
-use Rattle.pv_steps.proofs.ActingLaws.{Moves}
-use Rattle.pv_steps.specs.Trees.{Files, places, IsPresent}
+use Rattle.pv_steps.specs.Trees.{Files, places}
 use Rattle.pv_walk.specs.Listing.{times}
 use Rattle.pv_walk.proofs.CountLaws.{times-filter, times-keys, times-push, one-same}
 use Rattle.pv_table.specs.declared.deed.Deed.{Deed}
@@ -35,10 +26,7 @@ use Rattle.pv_table.specs.Asking.{asks}
 use Rattle.pv_table.specs.Effects.{carried_out, touch, turn_after, turns}
 use Rattle.pv_table.specs.Reaching.{names, names_in}
 use Rattle.pv_table.specs.Turns.{Refused, refused_at}
-use Rattle.pv_adjust.specs.Named.{touching_course}
-use Rattle.pv_adjust.specs.Reached.{IsPartSet}
 use Rattle.pv_adjust.proofs.ReachedLaws.{is_some-touched, places-touch, times-take}
-use Rattle.pv_path.proofs.Tests.{next_item}
 
 -- ---- presence
 
@@ -109,64 +97,3 @@ module _ (line : Line) (t : Files) (items : List Path) (are : items ≡ filter (
       by true true e f = (e, f)
       by true false e f = absurd (let none : ◌≡◌ {A = ℕ} (cond (names line at) (cond (is_some (places t at)) 1 0) 0) 0 = (λ j. cond (e j) (cond (f j) 1 0) 0) in omega (arith, counted, none))
       by false b e f = absurd (let none : ◌≡◌ {A = ℕ} (cond (names line at) (cond (is_some (places t at)) 1 0) 0) 0 = (λ j. cond (e j) (cond (f j) 1 0) 0) in omega (arith, counted, none))
-
--- ---- the line so far
-
--- nothing is done
-pub course_start : (now : ℕ) (line : Line) (touching : Touching) (x : Path) (t : Files) → (touching_course now line touching).way x t t
-course_start now line touching x t = λ q. IsPartSet.kept refl
-
--- some of the paths are done, and each path that was there is there
-pub record OnLine {S : Type 0} (tree : Ghosts S) (now : ℕ) (line : Line) (touching : Touching) (items left : List Path) (carried : Carried) (a b : S) (old new : List (List ℕ)) : Type 0 where
-  pub under : Underway tree (touching_course now line touching) items left now carried a b old new
-  pub standing : (q : Path) → is_some (places (tree.state b) q) ≡ is_some (places (tree.state a) q)
-
--- a call that gives up before anything is done
-pub line_none : {S : Type 0} (tree : Ghosts S) → Moves tree → (now : ℕ) (line : Line) (touching : Touching) (a : S) (old : List (List ℕ)) (r : Result Carried TreeFault) → IsErrAnd r (λ e. e ≡ Memory)
-    → CarriesOut tree (each_of (touching_course now line touching)) (turns line (tree.state a)) now a a old old r
-line_none tree moves now line touching a old r memory =
-    carried_none tree (each_of (touching_course now line touching)) (turns line (tree.state a)) now a old moves
-    (partway_start (touching_course now line touching) (course_start now line touching) (turns line (tree.state a)) (tree.state a))
-    (cut_start (touching_course now line touching) now (λ x t. single_start (touching_course now line touching) (λ moment refused y u done said work. work) now x t (course_start now line touching x t)) (turns line (tree.state a)) (tree.state a))
-    old refl r memory
-
-module _ {S : Type 0} (tree : Ghosts S) (moves : Moves tree) (now : ℕ) (line : Line) (touching : Touching) (deed : asks line ≡ Touch touching) (items : List Path) (a : S) (are : items ≡ filter (names line) (fin.keys (tree.state a))) (old : List (List ℕ)) where
-  abbrev course : Course Path
-  course = touching_course now line touching
-
-  abbrev t : Files
-  t = tree.state a
-
-  all_turns : items ≡ turns line t
-  all_turns = are ∙ named_turns line touching deed t
-
-  pub line_start : OnLine tree now line touching items items Whole a a old old
-  line_start = record { under = underway_start tree moves course (course_start now line touching) items now a old; standing = λ q. refl }
-
-  module _ (i : ℕ) (at : Path) (lt : i < length items) (is : at ≡ get_or items i at) (carried : Carried) (b : S) (mid : List (List ℕ)) (on : OnLine tree now line touching items (drop i items) carried a b old mid) where
-    pub present_now : IsPresent (tree.state b) at
-    present_now = on.standing at ∙ (stands_named line t items are i at lt is).1
-
-    pub short_now : IsLine line → length at < 2 ^ 32
-    short_now whole = named_short line whole at (stands_named line t items are i at lt is).0
-
-    -- one more path, at which it failed
-    pub line_failed : (d : S) (new : List (List ℕ)) {e : TreeFault} (q r : Result Carried TreeFault) → q ≡ Err e → IsErrAnd r (λ y. y ≡ e) → CarriesOut tree course at now b d mid new q
-        → CarriesOut tree (each_of course) (turns line t) now a d old new r
-    line_failed d new q r was passed one =
-        subst (λ (all : List Path). CarriesOut tree (each_of course) all now a d old new r) all_turns
-        (underway_failed tree moves course (course_start now line touching) items now a old (drop i items) (drop (i + 1) items) at (next_item items i at lt is) carried b mid on.under d new q r was passed one)
-
-    -- and when it is done
-    pub line_next : (d : S) (new : List (List ℕ)) (one ended : Carried) → CarriesOut tree course at now b d mid new (Ok one)
-        → ((p q : Bool) → carried ≡ carried_of p → one ≡ carried_of q → ended ≡ carried_of (p || q)) → OnLine tree now line touching items (drop (i + 1) items) ended a d old new
-    line_next d new one ended done both_ended = record {
-      under = underway_next tree moves course (course_start now line touching) items now a old (drop i items) (drop (i + 1) items) at (next_item items i at lt is) carried b mid on.under d new one ended done both_ended;
-      standing = λ q. ap (λ f. is_some (places f q)) done.ok ∙ turn_keeps now line touching deed at (tree.state b) q ∙ on.standing q;
-    }
-
-  pub line_end : (i : ℕ) → length items ≤ i → (carried : Carried) (b : S) (new : List (List ℕ)) → OnLine tree now line touching items (drop i items) carried a b old new
-      → CarriesOut tree (each_of course) (turns line t) now a b old new (Ok carried)
-  line_end i past carried b new on =
-      subst (λ (all : List Path). CarriesOut tree (each_of course) all now a b old new (Ok carried)) all_turns
-      (underway_end tree moves course (course_start now line touching) items now a old (drop i items) (none_left items i past) carried b new on.under)

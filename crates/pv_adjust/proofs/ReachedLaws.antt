@@ -156,9 +156,6 @@ module _ (touching : Touching) (path : Path) (t : Files) (paths : List Path) (re
   pub record Reaching (front : List Path) (u : Files) : Type 0 where
     pub here : places u ≡ each_at (become now sets) front (places t)
 
-  pub reaching_start : Reaching [] t
-  reaching_start = record { here = refl }
-
   pub at_most : (n : ℕ) → sum (map weight (take n paths)) ≤ touch_work touching path t
   at_most n = sum-times weight (take n paths) (filter (is_touched touching path) (fin.keys t)) counted
     where
@@ -301,7 +298,3 @@ pub unstaged : (touching : Touching) (path : Path) (t : Files) (listed paths : L
 unstaged touching path t listed paths deep is e q =
     ap (times q) e ∙ times-filter (λ q. not (has_staging q)) q listed ∙ ap (λ n. cond (not (has_staging q)) n 0) (is.once q)
     ∙ ap (λ d. cond (d && not (has_staging q)) (cond (stands_below t path q) 1 0) 0) (sym deep)
-
--- nothing where the line does not go down
-pub not_deep : (touching : Touching) (path : Path) (t : Files) → touching.deep ≡ false → AreReachedBelow touching path t []
-not_deep touching path t e q = ap {B = ℕ} (λ d. cond (d && not (has_staging q)) (cond (stands_below t path q) 1 0) 0) (sym e)

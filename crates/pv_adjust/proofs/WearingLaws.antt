@@ -3,10 +3,8 @@ use Rattle.std.proofs.Common.{◌≡◌, ℕ, Bool, true, false, cond, Option, S
 use Rattle.pv_path.specs.Paths.{Path, same_path}
 use Rattle.pv_steps.specs.declared.node.Node.{Node}
 use Rattle.pv_steps.specs.declared.object.Object.{Object}
-use Rattle.pv_steps.specs.Steps.{on_at, put_at}
 use Rattle.pv_steps.specs.Trees.{Files, node_at, places}
 use Rattle.pv_steps.specs.Objects.{bare}
-use Rattle.pv_steps.specs.Same.{bares}
 use Rattle.pv_dress.specs.declared.bare.Dress.{Dress}
 use Rattle.pv_dress.specs.Dressing.{ChangedAt, Dressing, dressed, dressed_first}
 use Rattle.pv_dress.proofs.EditLaws.{put_at-same}

@@ -1,4 +1,3 @@
 pub mod Sets
 pub mod Adjusting
 pub mod Reached
-pub mod Named

@@ -17,7 +17,7 @@ use std::alloc::{AllocError, Global};
 
 /// Adjusts what stands at a path, and with a line that goes down all below it, staging names left out: the path first,
 /// then its children in byte order, each with all below it (tmpfiles.d(5), Z, A, T and H).
-pub(crate) fn adjust_reached<T: Tree>(
+pub fn adjust_reached<T: Tree>(
     alloc: Global,
     tree: &mut T,
     touching: &Touching,
@@ -32,26 +32,7 @@ pub(crate) fn adjust_reached<T: Tree>(
         (touch_work touching.now path.now (T.state tree.old)) now tree.old tree.new result }
 {
     let paths = reached_paths(alloc, tree, touching, path)?;
-    adjust_each(alloc, tree, touching, path, &paths, now)
-}
-
-/// Adjusts what stands at each path of a list of those that a line reaches.
-fn adjust_each<T: Tree>(
-    alloc: Global,
-    tree: &mut T,
-    touching: &Touching,
-    path: &TreePath,
-    paths: &[TreePath],
-    now: u64,
-) -> Result<(), TreeFault>
-    requires paths { IsReached touching.now path.now (T.state tree.old) paths.now }
-    requires sets { AreSets touching.now.sets }
-    ensures ok { OnOk result (T.state tree.new ≡ touch now touching.now path.now (T.state tree.old)) }
-    ensures acted { Acted T.Tree (AdjustingReached touching.now path.now (T.state tree.old))
-        (GivesReached touching.now path.now (T.state tree.old))
-        (touch_work touching.now path.now (T.state tree.old)) now tree.old tree.new result }
-{
-    for at in paths {
+    for at in &paths {
         adjust(alloc, tree, at, touching.sets.as_slice(), now)?;
     }
     Ok(())

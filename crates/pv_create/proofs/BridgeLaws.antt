@@ -1,10 +1,7 @@
--- What the calls say of the way of a line is what the laws of lines say of it, so that a run of the lines of a table that
--- was cut short is mended by the next.
-use Rattle.std.specs.Prelude.{◌≡◌, ◌≢◌, ◌⊎◌, ℕ, ◌+◌, ◌-◌, ◌<◌, ◌≤◌, Bool, true, false, not, cond, ◌&&◌, ◌||◌, List, [], ◌∷◌, ◌++◌, length, take, filter, Option, Some, None, unwrap_or, is_some, if◌then◌else◌, ⊤}
+-- What the calls say of the way of a line is what the laws of lines say of it, whatever is refused.
+use Rattle.std.specs.Prelude.{⊤, ◌≡◌, ◌≢◌, ◌⊎◌, ℕ, ◌+◌, ◌≤◌, Bool, true, false, cond, ◌&&◌, ◌||◌, List, [], ◌∷◌, ◌++◌, length, take, filter, Option, Some, None, unwrap_or, is_some, if◌then◌else◌}
 use Rattle.std.proofs.Common.{zero, suc, refl, sym, ap, subst, ◌∙◌, arith, inl, inr}
-use Rattle.std.proofs.Math.Bool.{or-true}
-use Rattle.std.proofs.Math.Seq.{take-append_seam, take-length}
-use Rattle.std.proofs.lemmas.Bool.{and_parts, or_parts}
+use Rattle.std.proofs.Math.Seq.{take-length}
 use Rattle.std.specs.FinMap as fin
 use Rattle.std.specs.List.{list_any, list_all, AllByRecursion}
 use Rattle.pv_acl.specs.declared.line.AclLine.{AclLine}
@@ -15,8 +12,10 @@ use Rattle.pv_acl.specs.declared.part.Acl.{Acl}
 use Rattle.pv_acl.specs.declared.part.Part.{Part}
 use Rattle.pv_acl.specs.Applying.{part_after, default_after, acl_after}
 use Rattle.pv_path.specs.Paths.{Path, same_path, is_prefix, has_staging, same_path-decides}
-use Rattle.pv_path.proofs.PathLaws.{same_path-refl, is_prefix-antisym, prefix_parts, prefix_whole}
+use Rattle.pv_path.proofs.PathLaws.{same_path-refl, is_prefix-antisym}
+use Rattle.pv_path.proofs.Tests.{true_not_false}
 use Rattle.pv_steps.specs.Objects.{is_directory}
+use Rattle.pv_steps.specs.Same.{Same}
 use Rattle.pv_steps.specs.Trees.{Files, places}
 use Rattle.pv_dress.specs.declared.bare.Bare.{Bare}
 use Rattle.pv_dress.specs.declared.operation.Change.TheVariants.{Owner, Mode, Entries, Attrs, Letters}
@@ -31,43 +30,50 @@ use Rattle.pv_dress.specs.Operations.{admits, with_mode, changed, done, run}
 use Rattle.pv_dress.specs.Reasons.{is_base, is_make, IsRepeatable as HasNoReason}
 use Rattle.pv_dress.proofs.Dividing.{base_first, run-parts}
 use Rattle.pv_dress.proofs.EditLaws.{path_cases}
-use Rattle.pv_dress.proofs.OperationLaws.{bares_of-same, run-twice}
+use Rattle.pv_dress.proofs.OperationLaws.{bares_of-same, bares-same, run-twice}
 use Rattle.pv_dress.proofs.PartChanges.{plain_twice, plain-part_after}
 use Rattle.pv_lines.specs.declared.line.Argument.{Argument}
 use Rattle.pv_lines.specs.declared.line.Argument.TheVariants as argument
 use Rattle.pv_lines.specs.declared.line.Line.{Line}
 use Rattle.pv_lines.specs.declared.line.LineMode.{LineMode}
+use Rattle.pv_lines.specs.Lines.{IsLine}
 use Rattle.pv_walk.specs.Copying.{Subtree}
 use Rattle.pv_walk.specs.Listing.{times}
+use Rattle.pv_walk.specs.Preparing.{IsAbove}
 use Rattle.pv_walk.specs.Staging.{new_object, new_kind}
-use Rattle.pv_walk.proofs.CountLaws.{times-filter, times-keys, same_or_not}
-use Rattle.pv_walk.proofs.RemovalLaws.{zero_or_more}
+use Rattle.pv_walk.proofs.CountLaws.{same_or_not}
+use Rattle.pv_table.specs.declared.deed.Copying.{Copying}
 use Rattle.pv_table.specs.declared.deed.Deed.{Deed}
 use Rattle.pv_table.specs.declared.deed.Deed.TheVariants.{Create, Copy, Touch, Idle}
 use Rattle.pv_table.specs.declared.deed.Making.{Making}
 use Rattle.pv_table.specs.declared.deed.Touching.{Touching}
 use Rattle.pv_table.specs.Asked.{first_of, clears_below, operations}
 use Rattle.pv_table.specs.Asking.{id_to_set, without_links, mode_to_set, owners_and_mode, set_by, making as making_deed, copying as copying_deed, asks}
-use Rattle.pv_table.specs.Created.{after_each, one_is_refused, by_turn, by_line}
-use Rattle.pv_table.specs.Effects.{carried_out, is_touched, turn_after}
-use Rattle.pv_table.specs.Pointwise.{parent_bare, after_turn, touches}
-use Rattle.pv_table.specs.Reaching.{names, names_above, path_in, is_deep}
+use Rattle.pv_table.specs.Created.{after_each, by_turn, by_line}
+use Rattle.pv_table.specs.Effects.{carried_out, is_touched, turn_after, turns}
+use Rattle.pv_table.specs.Pointwise.{parent_bare, after_turn}
+use Rattle.pv_table.specs.Reaching.{names, path_in, is_deep}
 use Rattle.pv_table.specs.Repeatable.{sets_of}
 use Rattle.pv_table.specs.Saying.{found}
-use Rattle.pv_table.specs.Turns.{Turn, view_of, copied, has_something, decide, making_turn}
-use Rattle.pv_doing.specs.Courses.{Partway}
-use Rattle.pv_adjust.specs.Named.{touching_course}
+use Rattle.pv_table.specs.Turns.{Turn, View, Refused, view_of, copied, has_something, decide, making_turn, copying_turn, refused_at}
+use Rattle.pv_doing.specs.Courses.{Course, Partway}
 use Rattle.pv_adjust.specs.Reached.{IsPartSet}
-use Rattle.pv_make.specs.OnWay.{OnWay, IsMidway, IsClearing, turn_at, sets_at}
+use Rattle.pv_make.specs.OnWay.{OnWay, IsMidway, IsClearing, turn_at, sets_at, puts_parents, turn_course}
+use Rattle.pv_laws.specs.Copying.{IsCopyMidway, turn_of, OnWayOf, PartwayOf}
 use Rattle.pv_laws.specs.Stopping as stopping
 use Rattle.pv_laws.specs.Stopping.{IsRenewal}
-use Rattle.pv_laws.proofs.Lines.{IsPlain, line_point, turns_made, turns_touch, asked_made, asked_touch}
-use Rattle.pv_laws.proofs.Making.{is_dir, IsShaped, does_stay, turn_by, IsPlainDirectory, first_on_some, below_after, asked_here, asked_above, asked_else, ready_here}
+use Rattle.pv_laws.proofs.AllFrames.{each_kept}
+use Rattle.pv_laws.proofs.AllPoints.{turns_copy, copy_idle}
+use Rattle.pv_laws.proofs.Copies.{decide_some}
+use Rattle.pv_laws.proofs.CopyShapes.{IsCopyTurn, copy_turns}
+use Rattle.pv_laws.proofs.Frames.{turn_refused}
+use Rattle.pv_laws.proofs.Lines.{line_is_plain, turns_touch, asked_made, asked_touch}
+use Rattle.pv_laws.proofs.Making.{is_dir, IsShaped, does_stay, turn_by, IsPlainDirectory, first_on_some, below_after, asked_here, asked_above, asked_else, made_point, ready_here}
 use Rattle.pv_laws.proofs.Repeated.{first_makes}
 use Rattle.pv_laws.proofs.Sets.{impossible, is_adjustment, IsAsked, IsMaking, line_is_making, asked, sets_adjust, deep_repeatable}
-use Rattle.pv_laws.proofs.Touching.{turn_open, first_turn, touch_point, any_range, kept_any}
-use Rattle.pv_create.specs.Ways.{WayOf, LineWay, lines_course}
-use Rattle.pv_path.proofs.Tests.{true_not_false}
+use Rattle.pv_laws.proofs.Touching.{turn_open, touch_point, own_path, once_named, to_touches}
+use Rattle.pv_create.specs.Ways.{LineWay, lines_course}
+use Rattle.pv_create.proofs.LineWays.{WayOf, touching_course, way_of}
 
 -- ---- operations, whole and in front parts
 
@@ -255,12 +261,16 @@ deep_keeps line touching e deep = by (asked line)
 abbrev IsFront : List Operation → Option Bare → Option Bare → Type 0
 IsFront xs old new = (k : ℕ) × (new ≡ run (take k (parts xs)) old)
 
--- what is set after a turn is a front part of what is set from its start
-front_on : (xs : List Operation) (reached more : Bool) (old mid new : Option Bare) → (reached ≡ true → more ≡ true → KeepsEnd xs) → mid ≡ cond reached (run xs old) old
-    → IsFront (cond more xs []) mid new → IsFront (cond (reached || more) xs []) old new
-front_on xs false more old mid new keeps e front = (front.0, front.1 ∙ ap (run (take front.0 (parts (cond more xs [])))) e)
-front_on xs true false old mid new keeps e front = (length (parts xs), front.1 ∙ none_done front.0 mid ∙ e ∙ sym (whole_front xs old))
-front_on xs true true old mid new keeps e front = (length (parts xs), front.1 ∙ ap (run (take front.0 (parts xs))) e ∙ keeps refl refl front.0 old ∙ sym (whole_front xs old))
+-- also where one more turn may reach it
+front_more : (xs : List Operation) (reached more : Bool) (old new : Option Bare) → IsFront (cond more xs []) old new → IsFront (cond (reached || more) xs []) old new
+front_more xs false more old new front = front
+front_more xs true true old new front = front
+front_more xs true false old new front = (zero, front.1 ∙ none_done front.0 old)
+
+-- what is set after a turn that reached it is a front part of what is set from its start
+front_on : (xs : List Operation) (more : Bool) (old mid new : Option Bare) → (more ≡ true → KeepsEnd xs) → mid ≡ run xs old → IsFront (cond more xs []) mid new → IsFront xs old new
+front_on xs false old mid new keeps e front = (length (parts xs), front.1 ∙ none_done front.0 mid ∙ e ∙ sym (whole_front xs old))
+front_on xs true old mid new keeps e front = (length (parts xs), front.1 ∙ ap (run (take front.0 (parts xs))) e ∙ keeps refl front.0 old ∙ sym (whole_front xs old))
 
 module _ (now : ℕ) (line : Line) (touching : Touching) (e : asks line ≡ Touch touching) where
   adjust : list_all is_adjustment touching.sets ≡ true
@@ -270,116 +280,152 @@ module _ (now : ℕ) (line : Line) (touching : Touching) (e : asks line ≡ Touc
   abbrev is_reached : List Path → Path → Bool
   is_reached paths q = list_any (λ p. is_touched touching p q) paths
 
-  -- where a turn reaches the path, none of those after it does, or sets that were set to the end stay
-  abbrev IsOnce : Path → List Path → Type 0
-  IsOnce q [] = ⊤
-  IsOnce q (p ∷ paths) = (is_touched touching p q ≡ true → is_reached paths q ≡ true → KeepsEnd touching.sets) × IsOnce q paths
-
-  turned_point : (p : Path) (paths : List Path) (t : Files) → one_is_refused (by_turn now line) (p ∷ paths) t ≡ false → (q : Path)
-      → bares_of (places (turn_after now line p t)) q ≡ cond (is_touched touching p q) (run touching.sets (bares_of (places t) q)) (bares_of (places t) q)
-  turned_point p paths t quiet q =
-      ap (λ (u : Files). bares_of (places u) q) (turn_open now line p t (first_turn now line p paths t quiet).0 ∙ ap (λ (d : Deed). carried_out now d p t) e)
-      ∙ touch_point now touching adjust p t q
-
-  turns_front : (q : Path) → has_staging q ≡ false → (paths : List Path) (t u : Files) → IsOnce q paths → one_is_refused (by_turn now line) paths t ≡ false
-      → Partway (touching_course now line touching) paths t u → IsFront (cond (is_reached paths q) touching.sets []) (bares_of (places t) q) (bares_of (places u) q)
-  turns_front q plain [] t u once quiet same = (zero, sym (bares_of-same (places t) (places u) q (same q plain)))
-  turns_front q plain (p ∷ paths) t u once quiet (inl way) = by (way q)
+  -- a turn leaves what stood at the path, or has set it
+  turned : (p : Path) (t : Files) (q : Path) → (bares_of (places (turn_after now line p t)) q ≡ bares_of (places t) q)
+      ⊎ ((is_touched touching p q ≡ true) × (bares_of (places (turn_after now line p t)) q ≡ run touching.sets (bares_of (places t) q)))
+  turned p t q = by (refused_at line p (places t)) refl
     where
-      by : IsPartSet (is_touched touching p q) touching.sets (bares_of (places t) q) (bares_of (places u) q) → IsFront (cond (is_reached (p ∷ paths) q) touching.sets []) (bares_of (places t) q) (bares_of (places u) q)
-      by (IsPartSet.kept same) = (zero, same)
-      by (IsPartSet.set k reached part) = (k, part ∙ sym (ap (λ b. run (take k (parts (cond (b || is_reached paths q) touching.sets []))) (bares_of (places t) q)) reached))
-  turns_front q plain (p ∷ paths) t u once quiet (inr later) =
-      front_on touching.sets (is_touched touching p q) (is_reached paths q) (bares_of (places t) q) (bares_of (places (turn_after now line p t)) q) (bares_of (places u) q) once.0
-      (turned_point p paths t quiet q)
-      (turns_front q plain paths (turn_after now line p t) u once.1 (first_turn now line p paths t quiet).1 later)
+      at : (b : Bool) → is_touched touching p q ≡ b → bares_of (places (turn_after now line p t)) q ≡ cond b (run touching.sets (bares_of (places t) q)) (bares_of (places t) q)
+          → (bares_of (places (turn_after now line p t)) q ≡ bares_of (places t) q)
+          ⊎ ((is_touched touching p q ≡ true) × (bares_of (places (turn_after now line p t)) q ≡ run touching.sets (bares_of (places t) q)))
+      at true r f = inr (r, f)
+      at false r f = inl f
 
-  -- ---- what reaches what
+      by : (r : Option Refused) → refused_at line p (places t) ≡ r → (bares_of (places (turn_after now line p t)) q ≡ bares_of (places t) q)
+          ⊎ ((is_touched touching p q ≡ true) × (bares_of (places (turn_after now line p t)) q ≡ run touching.sets (bares_of (places t) q)))
+      by None free = at (is_touched touching p q) refl (
+          ap (λ (u : Files). bares_of (places u) q) (turn_open now line p t free ∙ ap (λ (d : Deed). carried_out now d p t) e)
+          ∙ touch_point now touching adjust p t q)
+      by (Some place) refused = inl (ap (λ (u : Files). bares_of (places u) q) (turn_refused now line p t place refused))
 
-  once_deep : touching.deep ≡ true → (q : Path) (paths : List Path) → IsOnce q paths
-  once_deep deep q [] = tt
-  once_deep deep q (p ∷ paths) = ((λ here there. deep_keeps line touching e deep), once_deep deep q paths)
-
-  own_path : touching.deep ≡ false → (p q : Path) → is_touched touching p q ≡ same_path p q
-  own_path shallow p q = ap (λ d. same_path p q || (d && is_prefix p q && not (has_staging q))) shallow ∙ elim (same_path p q) as (λ b. (b || false) ≡ b) [ true ↦ refl | false ↦ refl ]
-
+  -- a path that does not stand among some is reached at none, where each turn reaches its own path alone
   never_reached : touching.deep ≡ false → (q : Path) (paths : List Path) → times q paths ≡ 0 → is_reached paths q ≡ false
   never_reached shallow q [] none = refl
   never_reached shallow q (p ∷ paths) none = elim (same_or_not p q) [
     | inl s ↦ absurd (let n = ap (λ c. cond c 1 0 + times q paths) s.1 in omega (arith, none, n))
     | inr d ↦
-        ap (λ b. b || is_reached paths q) (own_path shallow p q ∙ d)
+        ap (λ b. b || is_reached paths q) (own_path now touching adjust shallow p q ∙ d)
         ∙ never_reached shallow q paths (let n = ap (λ c. cond c 1 0 + times q paths) d in omega (arith, none, n))
   ]
 
-  once_shallow : touching.deep ≡ false → (q : Path) (paths : List Path) → times q paths ≤ 1 → IsOnce q paths
-  once_shallow shallow q [] few = tt
-  once_shallow shallow q (p ∷ paths) few = (
-    (λ here there. absurd (
-        let n = ap (λ c. cond c 1 0 + times q paths) (sym (own_path shallow p q) ∙ here) in
-        true_not_false (is_reached paths q) there (never_reached shallow q paths (omega (arith, few, n))))),
-    once_shallow shallow q paths (omega (arith, few)),
-  )
+  -- each turn reaches its own path alone, and a path stands once among those left; or sets that were set to the end stay
+  abbrev IsOnce : Path → List Path → Type 0
+  IsOnce q paths = (touching.deep ≡ true) ⊎ ((touching.deep ≡ false) × (times q paths ≤ 1))
 
-  module _ (t u : Files) (q : Path) (plain : has_staging q ≡ false) where
+  once_later : (q p : Path) (paths : List Path) → IsOnce q (p ∷ paths) → IsOnce q paths
+  once_later q p paths (inl deep) = inl deep
+  once_later q p paths (inr few) = inr (few.0, (let n = few.1 in omega (arith, n)))
+
+  once_keeps : (q p : Path) (paths : List Path) → IsOnce q (p ∷ paths) → is_touched touching p q ≡ true → is_reached paths q ≡ true → KeepsEnd touching.sets
+  once_keeps q p paths (inl deep) here there = deep_keeps line touching e deep
+  once_keeps q p paths (inr few) here there = absurd (
+      let n = ap (λ c. cond c 1 0 + times q paths) (sym (own_path now touching adjust few.0 p q) ∙ here) in
+      let less = few.1 in
+      true_not_false (is_reached paths q) there (never_reached few.0 q paths (omega (arith, less, n))))
+
+  turns_front : (q : Path) → has_staging q ≡ false → (paths : List Path) (t u : Files) → IsOnce q paths
+      → Partway (touching_course now line touching) paths t u → IsFront (cond (is_reached paths q) touching.sets []) (bares_of (places t) q) (bares_of (places u) q)
+  turns_front q plain [] t u once same = (zero, sym (bares_of-same (places t) (places u) q (same q plain)))
+  turns_front q plain (p ∷ paths) t u once (inl way) = by (way q)
+    where
+      by : IsPartSet (is_touched touching p q) touching.sets (bares_of (places t) q) (bares_of (places u) q) → IsFront (cond (is_reached (p ∷ paths) q) touching.sets []) (bares_of (places t) q) (bares_of (places u) q)
+      by (IsPartSet.kept same) = (zero, same)
+      by (IsPartSet.set k reached part) = (k, part ∙ sym (ap (λ b. run (take k (parts (cond (b || is_reached paths q) touching.sets []))) (bares_of (places t) q)) reached))
+  turns_front q plain (p ∷ paths) t u once (inr later) = by (turned p t q) (turns_front q plain paths (turn_after now line p t) u (once_later q p paths once) later)
+    where
+      by : (bares_of (places (turn_after now line p t)) q ≡ bares_of (places t) q)
+          ⊎ ((is_touched touching p q ≡ true) × (bares_of (places (turn_after now line p t)) q ≡ run touching.sets (bares_of (places t) q)))
+          → IsFront (cond (is_reached paths q) touching.sets []) (bares_of (places (turn_after now line p t)) q) (bares_of (places u) q)
+          → IsFront (cond (is_touched touching p q || is_reached paths q) touching.sets []) (bares_of (places t) q) (bares_of (places u) q)
+      by (inl same) front =
+          front_more touching.sets (is_touched touching p q) (is_reached paths q) (bares_of (places t) q) (bares_of (places u) q)
+          (subst (λ (b : Option Bare). IsFront (cond (is_reached paths q) touching.sets []) b (bares_of (places u) q)) same front)
+      by (inr set) front = subst (λ b. IsFront (cond (b || is_reached paths q) touching.sets []) (bares_of (places t) q) (bares_of (places u) q)) (sym set.0) (
+          front_on touching.sets (is_reached paths q) (bares_of (places t) q) (bares_of (places (turn_after now line p t)) q) (bares_of (places u) q) (once_keeps q p paths once set.0) set.1 front)
+
+  module _ (t u : Files) (shape : IsShaped (bares_of (places t))) (q : Path) (plain : has_staging q ≡ false) where
     -- the paths at which it is carried out
     abbrev named : List Path
     named = filter (names line) (fin.keys t)
 
-    named_once : times q named ≤ 1
-    named_once = at (names line q) (is_some (places t q)) (times-filter (names line) q (fin.keys t) ∙ ap (λ n. cond (names line q) n 0) (times-keys t q))
+    once_there : IsOnce q named
+    once_there = by touching.deep refl
       where
         at : (a b : Bool) → times q named ≡ cond a (cond b 1 0) 0 → times q named ≤ 1
         at true true n = omega (arith, n)
         at true false n = omega (arith, n)
         at false b n = omega (arith, n)
 
-    once_named : IsOnce q named
-    once_named = by touching.deep refl
-      where
         by : (d : Bool) → touching.deep ≡ d → IsOnce q named
-        by true deep = once_deep deep q named
-        by false shallow = once_shallow shallow q named named_once
+        by true deep = inl deep
+        by false shallow = inr (shallow, at (names line q) (is_some (places t q)) (once_named now line touching e t shape q))
 
-    -- what a turn reaches, the line touches
-    reached_touches : is_reached named q ≡ true → touches line touching q ≡ true
-    reached_touches h = elim (path_cases p.0 q) [ inl same ↦ own (sym (ap (names line) same) ∙ p.1) | inr other ↦ below other ]
-      where
-        p : (x : Path) × (names line x ≡ true) × (is_touched touching x q ≡ true)
-        p = kept_any (λ x. is_touched touching x q) (names line) (fin.keys t) h
-
-        own : names line q ≡ true → touches line touching q ≡ true
-        own is = ap (λ b. b || (touching.deep && names_above line q && not (has_staging q))) is
-
-        below : same_path p.0 q ≡ false → touches line touching q ≡ true
-        below other =
-            ap (λ b. names line q || (b && names_above line q && not (has_staging q))) deep.0
-            ∙ ap (λ b. names line q || (b && not (has_staging q))) (any_range (λ k. names line (take k q)) 0 (length q) (length p.0) (omega arith) shorter (ap (names line) cut ∙ p.1))
-            ∙ ap (λ b. names line q || not b) plain
-            ∙ or-true (names line q)
-          where
-            reached : (touching.deep && is_prefix p.0 q && not (has_staging q)) ≡ true
-            reached = sym (ap (λ b. b || (touching.deep && is_prefix p.0 q && not (has_staging q))) other) ∙ p.2
-
-            deep : (touching.deep ≡ true) × (is_prefix p.0 q ≡ true)
-            deep = and_parts touching.deep (is_prefix p.0 q) (and_parts (touching.deep && is_prefix p.0 q) (not (has_staging q)) reached).0
-
-            cut : take (length p.0) q ≡ p.0
-            cut = let rest = prefix_parts p.0 q deep.1 in ap (take (length p.0)) rest.1 ∙ take-append_seam p.0 rest.0
-
-            shorter : length p.0 < 0 + length q
-            shorter = elim (zero_or_more (length q - length p.0)) [
-              | inl z ↦ absurd (true_not_false (same_path p.0 q) ((same_path-decides p.0 q).1 (prefix_whole p.0 q deep.1 (omega (arith, z)))) other)
-              | inr m ↦ omega (arith, m)
-            ]
-
-    touching_piece : one_is_refused (by_turn now line) named t ≡ false → Partway (touching_course now line touching) named t u → stopping.IsMidway line q (bares_of (places t) q) (bares_of (places u) q)
-    touching_piece quiet way = by (is_reached named q) refl (turns_front q plain named t u once_named quiet way)
+    touching_piece : Partway (touching_course now line touching) named t u → stopping.IsMidway line q (bares_of (places t) q) (bares_of (places u) q)
+    touching_piece way = by (is_reached named q) refl (turns_front q plain named t u once_there way)
       where
         by : (b : Bool) → is_reached named q ≡ b → IsFront (cond b touching.sets []) (bares_of (places t) q) (bares_of (places u) q) → stopping.IsMidway line q (bares_of (places t) q) (bares_of (places u) q)
         by false h front = stopping.IsMidway.piece zero (front.1 ∙ none_done front.0 (bares_of (places t) q))
         by true h front = stopping.IsMidway.piece front.0 (
-            front.1 ∙ sym (ap (λ xs. run (take front.0 (parts xs)) (bares_of (places t) q)) (asked_touch line touching q e ∙ ap (λ b. cond b touching.sets []) (reached_touches h))))
+            front.1 ∙ sym (ap (λ xs. run (take front.0 (parts xs)) (bares_of (places t) q)) (
+            asked_touch line touching q e ∙ ap (λ b. cond b touching.sets []) (to_touches now line touching e t shape q plain h))))
+
+-- ---- a line that makes or copies something
+
+-- what stands at one path while it is at work: the same, or a parent; what the first of the sets, in parts, make of it, at
+-- the path of the line; or nothing yet, where something is put
+data IsAtWork (now : ℕ) (line : Line) (t : Files) (q : Path) (old new : Option Bare) : Type 0 where
+  kept : new ≡ old → IsAtWork now line t q old new
+  parent : puts_parents (places t) (asks line) ≡ true → IsAbove q (path_in line.path) → old ≡ None → new ≡ Some parent_bare → IsAtWork now line t q old new
+  some_set : (k : ℕ) (xs : List Operation) → path_in line.path ≡ q → turn_at now line (path_in line.path) t ≡ Turn.Become xs → new ≡ run (take k (parts xs)) old → IsAtWork now line t q old new
+  gone : (subtree : Subtree) → is_prefix (path_in line.path) q ≡ true → turn_at now line (path_in line.path) t ≡ Turn.Put subtree → new ≡ None → IsAtWork now line t q old new
+
+abbrev Puts : Deed → Type 0
+Puts (Create making) = ⊤
+Puts (Copy copying) = ⊤
+Puts deed = ⊥
+
+-- it sets what stands at its path alone
+abbrev set_alone : Turn → Bool → List Operation
+set_alone (Turn.Become xs) here = if here then xs else []
+set_alone turn here = []
+
+sets_alone : (d : Deed) → Puts d → (turn : Turn) (path q : Path) → sets_at d turn path q ≡ set_alone turn (same_path path q)
+sets_alone (Create making) puts Turn.Nothing path q = refl
+sets_alone (Create making) puts (Turn.Left kind) path q = refl
+sets_alone (Create making) puts (Turn.Put subtree) path q = refl
+sets_alone (Create making) puts (Turn.Become xs) path q = refl
+sets_alone (Copy copying) puts Turn.Nothing path q = refl
+sets_alone (Copy copying) puts (Turn.Left kind) path q = refl
+sets_alone (Copy copying) puts (Turn.Put subtree) path q = refl
+sets_alone (Copy copying) puts (Turn.Become xs) path q = refl
+sets_alone (Touch touching) puts turn path q = absurd puts
+sets_alone Idle puts turn path q = absurd puts
+
+module _ (now : ℕ) (line : Line) (puts : Puts (asks line)) (t : Files) where
+  midway_work : (q : Path) (old new : Option Bare) → IsMidway now line (path_in line.path) t q old new → IsAtWork now line t q old new
+  midway_work q old new (IsMidway.parent some above none f) = parent some above none f
+  midway_work q old new (IsMidway.set k f) =
+      by (turn_at now line (path_in line.path) t) refl (same_path (path_in line.path) q) refl
+      (f ∙ ap (λ xs. run (take k (parts xs)) old) (sets_alone (asks line) puts (turn_at now line (path_in line.path) t) (path_in line.path) q))
+    where
+      by : (turn : Turn) → turn_at now line (path_in line.path) t ≡ turn → (here : Bool) → same_path (path_in line.path) q ≡ here → new ≡ run (take k (parts (set_alone turn here))) old → IsAtWork now line t q old new
+      by Turn.Nothing g here h i = kept (i ∙ none_done k old)
+      by (Turn.Left kind) g here h i = kept (i ∙ none_done k old)
+      by (Turn.Put subtree) g here h i = kept (i ∙ none_done k old)
+      by (Turn.Become xs) g true h i = some_set k xs ((same_path-decides (path_in line.path) q).0 h) g i
+      by (Turn.Become xs) g false h i = kept (i ∙ none_done k old)
+
+  clearing_work : (subtree : Subtree) → turn_at now line (path_in line.path) t ≡ Turn.Put subtree → (q : Path) (old new : Option Bare) → IsClearing now line (path_in line.path) t q old new → IsAtWork now line t q old new
+  clearing_work subtree put q old new (IsClearing.midway m) = midway_work q old new m
+  clearing_work subtree put q old new (IsClearing.gone below none) = gone subtree below put none
+
+  -- it is at work at each path, or done
+  way_work : (u : Files) → OnWay now line (path_in line.path) t u
+      → ((q : Path) → has_staging q ≡ false → IsAtWork now line t q (bares_of (places t) q) (bares_of (places u) q)) ⊎ Same (turn_after now line (path_in line.path) t) u
+  way_work u (OnWay.before same) = inl (λ q plain. kept (sym (bares_of-same (places t) (places u) q (same q plain))))
+  way_work u (OnWay.midway free at) = inl (λ q plain. midway_work q (bares_of (places t) q) (bares_of (places u) q) (at q plain))
+  way_work u (OnWay.making_way subtree free put staged needed at) = inl (λ q plain. clearing_work subtree put q (bares_of (places t) q) (bares_of (places u) q) (at q plain))
+  way_work u (OnWay.whole same) = inr same
 
 -- ---- a line that makes something
 
@@ -390,17 +436,17 @@ make_alone (Renew test new) h = refl
 make_alone Erase h = impossible h
 make_alone (Adjust guard change) h = impossible h
 
-module _ (now : ℕ) (line : Line) (making : Making) (e : asks line ≡ Create making) (is : IsPlain line) (t : Files) (shape : IsShaped (bares_of (places t))) where
+module _ (now : ℕ) (line : Line) (making : Making) (e : asks line ≡ Create making) (unstaged : has_staging (path_in line.path) ≡ false) (t : Files) (shape : IsShaped (bares_of (places t))) where
   abbrev path : Path
   path = path_in line.path
 
   made : IsMaking making
   made = line_is_making line making e
 
-  turn_is : turn_at now line path t ≡ making_turn making (bares_of (places t) path)
+  pub turn_is : turn_at now line path t ≡ making_turn making (bares_of (places t) path)
   turn_is =
       ap (λ (d : Deed). if has_something (places t) d then decide d (view_of (found now d path t)) path else Turn.Nothing) e
-      ∙ ap (making_turn making) (ready_here now path is.unstaged t shape)
+      ∙ ap (making_turn making) (ready_here now path unstaged t shape)
 
   -- ---- at the path
 
@@ -415,18 +461,17 @@ module _ (now : ℕ) (line : Line) (making : Making) (e : asks line ≡ Create m
       ap (λ xs. run (take (suc k) xs) (Some b)) asked_at_it
       ∙ ap (run (take k (parts making.sets))) (first_on_some making made b ∙ ap (λ s. Some (cond s b (bare_of (new_object making.new 0)))) stay)
 
-  none_set : (q : Path) (k : ℕ) (old new : Option Bare) → new ≡ run (take k []) old → stopping.IsMidway line q old new
-  none_set q k old new f = stopping.IsMidway.piece zero (f ∙ none_done k old)
-
-  set_here : (k : ℕ) (old new : Option Bare) → new ≡ run (take k (parts (sets_at (Create making) (making_turn making old) path path))) old → stopping.IsMidway line path old new
-  set_here k None new f = none_set path k None new f
-  set_here k (Some b) new f = by (does_stay making made making.renew b) (same_kind (new_kind making.new.what) b.body.kind) refl f
+  set_here : (k : ℕ) (xs : List Operation) (old new : Option Bare) → making_turn making old ≡ Turn.Become xs → new ≡ run (take k (parts xs)) old → stopping.IsMidway line path old new
+  set_here k xs None new becomes f = absurd (let no : Turn.Put _ ≡ Turn.Become xs = becomes in cc)
+  set_here k xs (Some b) new becomes f = by (does_stay making made making.renew b) (same_kind (new_kind making.new.what) b.body.kind) refl becomes
     where
-      by : (stay same : Bool) → does_stay making made making.renew b ≡ stay → new ≡ run (take k (parts (sets_at (Create making) (turn_by making made stay same b) path path))) (Some b) → stopping.IsMidway line path (Some b) new
-      by false same s g = none_set path k (Some b) new g
-      by true false s g = none_set path k (Some b) new g
-      by true true s g = stopping.IsMidway.piece (suc k) (
-          g ∙ ap (λ c. run (take k (parts (cond c making.sets []))) (Some b)) (same_path-refl path) ∙ sym (after_first b s k))
+      own : Turn.Become making.sets ≡ Turn.Become xs → xs ≡ making.sets
+      own g = cc
+
+      by : (stay same : Bool) → does_stay making made making.renew b ≡ stay → turn_by making made stay same b ≡ Turn.Become xs → stopping.IsMidway line path (Some b) new
+      by false same s g = absurd (let no : Turn.Put _ ≡ Turn.Become xs = g in cc)
+      by true false s g = absurd (let no : Turn.Left b.body.kind ≡ Turn.Become xs = g in cc)
+      by true true s g = stopping.IsMidway.piece (suc k) (f ∙ ap (λ ys. run (take k (parts ys)) (Some b)) (own g) ∙ sym (after_first b s k))
 
   -- what gives way to the line's own object
   renewal_of : (b : Bare) → does_stay making made making.renew b ≡ false → IsRenewal line path b
@@ -446,15 +491,6 @@ module _ (now : ℕ) (line : Line) (making : Making) (e : asks line ≡ Create m
       by true false s g = absurd (let no : Turn.Left b.body.kind ≡ Turn.Put subtree = g in cc)
 
   -- ---- elsewhere
-
-  sets_else : (turn : Turn) (q : Path) → same_path path q ≡ false → sets_at (Create making) turn path q ≡ []
-  sets_else Turn.Nothing q other = refl
-  sets_else (Turn.Left kind) q other = refl
-  sets_else (Turn.Put subtree) q other = refl
-  sets_else (Turn.Become xs) q other = ap (λ b. cond b xs []) other
-
-  asked_above_it : (q : Path) → same_path path q ≡ false → is_prefix q path ≡ true → operations line q ≡ Make parent_bare ∷ []
-  asked_above_it q other above = asked_made line making q e ∙ asked_above making path q other above
 
   -- a subtree that is put has nothing below the path
   nothing_below : (subtree : Subtree) (old b : Option Bare) → making_turn making old ≡ Turn.Put subtree → after_turn (making_turn making old) ([] ∷ []) b ≡ None
@@ -488,7 +524,7 @@ module _ (now : ℕ) (line : Line) (making : Making) (e : asks line ≡ Create m
         by (Some x) f = absurd (true_not_false (is_dir (bares_of (places t) path)) (shape.above path q plain below differ (ap is_some f)) h)
 
     plain_directory : (x : Bare) → bares_of (places t) path ≡ Some x → is_directory x.body.kind ≡ true → IsPlainDirectory making made x
-    plain_directory x f h = let numbers = shape.plain path x is.unstaged f h in (h, numbers.0, numbers.1)
+    plain_directory x f h = let numbers = shape.plain path x unstaged f h in (h, numbers.0, numbers.1)
 
     gone_below : (subtree : Subtree) (new : Option Bare) → making_turn making (bares_of (places t) path) ≡ Turn.Put subtree → new ≡ None → stopping.IsMidway line q (bares_of (places t) q) new
     gone_below subtree new put none = stopping.IsMidway.piece (length (parts (operations line q))) (
@@ -498,62 +534,140 @@ module _ (now : ℕ) (line : Line) (making : Making) (e : asks line ≡ Create m
 
   -- ---- at each path
 
-  pub making_at : (q : Path) → has_staging q ≡ false → (new : Option Bare) → IsMidway now line path t q (bares_of (places t) q) new → stopping.IsMidway line q (bares_of (places t) q) new
-  making_at q plain new (IsMidway.set k f) = elim (path_cases path q) [
-    | inl same ↦ subst (λ (p : Path). new ≡ run (take k (parts (sets_at (Create making) (making_turn making (bares_of (places t) path)) path p))) (bares_of (places t) p) → stopping.IsMidway line p (bares_of (places t) p) new) same
-        (set_here k (bares_of (places t) path) new)
-        (f ∙ ap (λ (d : Deed). run (take k (parts (sets_at d (turn_at now line path t) path q))) (bares_of (places t) q)) e
-        ∙ ap (λ (turn : Turn). run (take k (parts (sets_at (Create making) turn path q))) (bares_of (places t) q)) turn_is)
-    | inr other ↦ none_set q k (bares_of (places t) q) new (
-        f ∙ ap (λ (d : Deed). run (take k (parts (sets_at d (turn_at now line path t) path q))) (bares_of (places t) q)) e
-        ∙ ap (λ xs. run (take k (parts xs)) (bares_of (places t) q)) (sets_else (turn_at now line path t) q other))
+  pub gone_at : (subtree : Subtree) → turn_at now line path t ≡ Turn.Put subtree → (q : Path) → has_staging q ≡ false → is_prefix path q ≡ true → (new : Option Bare) → new ≡ None → stopping.IsMidway line q (bares_of (places t) q) new
+  gone_at subtree put q plain below new none = elim (path_cases path q) [
+    | inl same ↦ subst (λ (p : Path). stopping.IsMidway line p (bares_of (places t) p) new) same (gone_here subtree (bares_of (places t) path) new (sym turn_is ∙ put) none)
+    | inr other ↦ gone_below q plain below other subtree new (sym turn_is ∙ put) none
   ]
-  making_at q plain new (IsMidway.parent puts above absent is_parent) = stopping.IsMidway.piece 1 (
-      is_parent ∙ sym (
-      ap (λ xs. run (take 1 (parts xs)) (bares_of (places t) q)) (asked_above_it q (by (path_cases path q)) above.0)
+
+  making_at : (q : Path) → has_staging q ≡ false → (new : Option Bare) → IsAtWork now line t q (bares_of (places t) q) new → stopping.IsMidway line q (bares_of (places t) q) new
+  making_at q plain new (kept f) = stopping.IsMidway.piece zero f
+  making_at q plain new (parent some above absent f) = stopping.IsMidway.piece 1 (
+      f ∙ sym (
+      ap (λ xs. run (take 1 (parts xs)) (bares_of (places t) q)) (asked_made line making q e ∙ asked_above making path q (by (path_cases path q)) above.0)
       ∙ ap (run (Make parent_bare ∷ [])) absent))
     where
       by : (path ≡ q) ⊎ (same_path path q ≡ false) → same_path path q ≡ false
       by (inl same) = absurd (above.1 (sym same))
       by (inr other) = other
+  making_at q plain new (some_set k xs same becomes f) =
+      subst (λ (p : Path). new ≡ run (take k (parts xs)) (bares_of (places t) p) → stopping.IsMidway line p (bares_of (places t) p) new) same
+      (set_here k xs (bares_of (places t) path) new (sym turn_is ∙ becomes)) f
+  making_at q plain new (gone subtree below put none) = gone_at subtree put q plain below new none
 
-  -- and while what stands there makes way
-  clearing_at : (subtree : Subtree) → turn_at now line path t ≡ Turn.Put subtree → (q : Path) → has_staging q ≡ false → (new : Option Bare) → IsClearing now line path t q (bares_of (places t) q) new → stopping.IsMidway line q (bares_of (places t) q) new
-  clearing_at subtree put q plain new (IsClearing.midway m) = making_at q plain new m
-  clearing_at subtree put q plain new (IsClearing.gone below none) = elim (path_cases path q) [
-    | inl same ↦ subst (λ (p : Path). stopping.IsMidway line p (bares_of (places t) p) new) same (gone_here subtree (bares_of (places t) path) new (sym turn_is ∙ put) none)
-    | inr other ↦ gone_below q plain below other subtree new (sym turn_is ∙ put) none
-  ]
+  -- or when it is done
+  whole_at : (q : Path) → has_staging q ≡ false → (new : Option Bare) → new ≡ bares_of (places (turn_after now line path t)) q → stopping.IsMidway line q (bares_of (places t) q) new
+  whole_at q plain new f = by (refused_at line path (places t)) refl
+    where
+      by : (r : Option Refused) → refused_at line path (places t) ≡ r → stopping.IsMidway line q (bares_of (places t) q) new
+      by None free = stopping.IsMidway.piece (length (parts (operations line q))) (
+          f ∙ ap (λ (u : Files). bares_of (places u) q) (turn_open now line path t free ∙ ap (λ (d : Deed). carried_out now d path t) e)
+          ∙ made_point now making made path unstaged t shape q plain
+          ∙ ap (λ xs. run xs (bares_of (places t) q)) (sym (asked_made line making q e)) ∙ sym (whole_front (operations line q) (bares_of (places t) q)))
+      by (Some place) refused = stopping.IsMidway.piece zero (f ∙ ap (λ (u : Files). bares_of (places u) q) (turn_refused now line path t place refused))
 
-  making_piece : (u : Files) → (by_line now).is_refused line t ≡ false → OnWay now line path t u → stopping.OnWay line t u
-  making_piece u quiet (OnWay.before same) q plain = stopping.IsMidway.piece zero (sym (bares_of-same (places t) (places u) q (same q plain)))
-  making_piece u quiet (OnWay.midway free at) q plain = making_at q plain (bares_of (places u) q) (at q plain)
-  making_piece u quiet (OnWay.making_way subtree free put staged needed at) q plain = clearing_at subtree put q plain (bares_of (places u) q) (at q plain)
-  making_piece u quiet (OnWay.whole same) q plain = stopping.IsMidway.piece (length (parts (operations line q))) (
-      sym (bares_of-same (places (turn_after now line path t)) (places u) q (same q plain))
-      ∙ ap (λ paths. bares_of (places (after_each (by_turn now line) paths t)) q) (sym (turns_made line making t e))
-      ∙ (line_point now line is t shape quiet).point q plain
-      ∙ sym (whole_front (operations line q) (bares_of (places t) q)))
+  making_piece : (u : Files) → ((q : Path) → has_staging q ≡ false → IsAtWork now line t q (bares_of (places t) q) (bares_of (places u) q)) ⊎ Same (turn_after now line path t) u → stopping.OnWay line t u
+  making_piece u (inl at) q plain = making_at q plain (bares_of (places u) q) (at q plain)
+  making_piece u (inr same) q plain = whole_at q plain (bares_of (places u) q) (sym (bares_of-same (places (turn_after now line path t)) (places u) q (same q plain)))
 
--- ---- each line that copies nothing
+-- ---- a line that copies
+
+-- what a line that copies becomes of what stands there is what it sets
+become_sets : (copying : Copying) (v : View) (path : Path) (xs : List Operation) → decide (Copy copying) v path ≡ Turn.Become xs → xs ≡ copying.sets
+become_sets copying v path xs e = by (v.at copying.source) refl
+  where
+    same : (ys : List Operation) → Turn.Become xs ≡ Turn.Become ys → xs ≡ ys
+    same ys f = cc
+
+    at : (b : Bare) → v.at copying.source ≡ Some b → IsCopyTurn copying v (copying_turn copying v path b.body.kind (v.at path)) → xs ≡ copying.sets
+    at b f (IsCopyTurn.puts g) = absurd (let no : Turn.Become xs ≡ _ = sym e ∙ decide_some copying v path b f ∙ g in cc)
+    at b f (IsCopyTurn.becomes g) = same copying.sets (sym e ∙ decide_some copying v path b f ∙ g)
+    at b f (IsCopyTurn.leaves kind g) = absurd (let no : Turn.Become xs ≡ Turn.Left kind = sym e ∙ decide_some copying v path b f ∙ g in cc)
+
+    nothing : v.at copying.source ≡ None → decide (Copy copying) v path ≡ Turn.Nothing
+    nothing f = rw f
+
+    by : (b : Option Bare) → v.at copying.source ≡ b → xs ≡ copying.sets
+    by None f = absurd (let no : Turn.Become xs ≡ Turn.Nothing = sym e ∙ nothing f in cc)
+    by (Some b) f = at b f (copy_turns copying v path b.body.kind (v.at path))
+
+module _ (now : ℕ) (line : Line) (copying : Copying) (e : asks line ≡ Copy copying) (t : Files) where
+  copy_turn : turn_at now line (path_in line.path) t ≡ (if has_something (places t) (Copy copying) then turn_of line copying now t else Turn.Nothing)
+  copy_turn = ap (λ (d : Deed). if has_something (places t) d then decide d (view_of (found now d (path_in line.path) t)) (path_in line.path) else Turn.Nothing) e
+
+  -- where what it copies is there
+  module _ (there : is_some (places t copying.source) ≡ true) where
+    turn_there : turn_at now line (path_in line.path) t ≡ turn_of line copying now t
+    turn_there = copy_turn ∙ ap (λ b. if b then turn_of line copying now t else Turn.Nothing) there
+
+    copy_at : (q : Path) (old new : Option Bare) → IsAtWork now line t q old new → IsCopyMidway (path_in line.path) copying (turn_of line copying now t) q old new
+    copy_at q old new (kept f) = IsCopyMidway.kept f
+    copy_at q old new (parent some above none f) = IsCopyMidway.parent above.0 above.1 none f
+    copy_at q old new (some_set k xs same becomes f) =
+        IsCopyMidway.some_set k (sym same) (sym turn_there ∙ becomes ∙ ap (λ ys. Turn.Become ys) own) (f ∙ ap (λ ys. run (take k (parts ys)) old) own)
+      where
+        own : xs ≡ copying.sets
+        own = become_sets copying (view_of (found now (Copy copying) (path_in line.path) t)) (path_in line.path) xs (sym turn_there ∙ becomes)
+    copy_at q old new (gone subtree below put none) = IsCopyMidway.gone subtree below (sym turn_there ∙ put) none
+
+  -- where it is absent
+  module _ (none : is_some (places t copying.source) ≡ false) where
+    idle_turn : turn_at now line (path_in line.path) t ≡ Turn.Nothing
+    idle_turn = copy_turn ∙ ap (λ b. if b then turn_of line copying now t else Turn.Nothing) none
+
+    idle_at : (q : Path) (old new : Option Bare) → IsAtWork now line t q old new → new ≡ old
+    idle_at q old new (kept f) = f
+    idle_at q old new (parent some above absent f) = impossible (sym none ∙ sym (ap (puts_parents (places t)) e) ∙ some)
+    idle_at q old new (some_set k xs same becomes f) = absurd (let no : Turn.Nothing ≡ Turn.Become xs = sym idle_turn ∙ becomes in cc)
+    idle_at q old new (gone subtree below put f) = absurd (let no : Turn.Nothing ≡ Turn.Put subtree = sym idle_turn ∙ put in cc)
+
+    after_idle : turn_after now line (path_in line.path) t ≡ t
+    after_idle = by (refused_at line (path_in line.path) (places t)) refl
+      where
+        by : (r : Option Refused) → refused_at line (path_in line.path) (places t) ≡ r → turn_after now line (path_in line.path) t ≡ t
+        by None free = turn_open now line (path_in line.path) t free ∙ ap (λ (d : Deed). carried_out now d (path_in line.path) t) e ∙ copy_idle now copying (path_in line.path) t none
+        by (Some place) refused = turn_refused now line (path_in line.path) t place refused
+
+  done_way : (u : Files) → Same (turn_after now line (path_in line.path) t) u → OnWayOf line now t u
+  done_way u same = OnWayOf.copy_done copying e (subst (λ (v : Files). Same v u) (sym (ap (λ paths. after_each (by_turn now line) paths t) (turns_copy line copying t e))) same)
+
+  copy_way : (u : Files) → ((q : Path) → has_staging q ≡ false → IsAtWork now line t q (bares_of (places t) q) (bares_of (places u) q)) ⊎ Same (turn_after now line (path_in line.path) t) u → OnWayOf line now t u
+  copy_way u (inr same) = done_way u same
+  copy_way u (inl at) = by (is_some (places t copying.source)) refl
+    where
+      by : (b : Bool) → is_some (places t copying.source) ≡ b → OnWayOf line now t u
+      by true there = OnWayOf.copy_before copying e (there, λ q plain. copy_at there q (bares_of (places t) q) (bares_of (places u) q) (at q plain))
+      by false none = done_way u (subst (λ (v : Files). Same v u) (sym (after_idle none)) (λ q plain.
+          bares-same (places t) (places u) q (sym (idle_at none q (bares_of (places t) q) (bares_of (places u) q) (at q plain)))))
+
+-- ---- each line
 
 -- what a call says of its way is on the way of the line
-pub plain_bridge : (now : ℕ) (line : Line) (t u : Files) → IsPlain line → IsShaped (bares_of (places t)) → (by_line now).is_refused line t ≡ false → LineWay now line t u → stopping.OnWay line t u
-plain_bridge now line t u is shape quiet = by (asks line) refl
+pub line_way : (now : ℕ) (line : Line) (t u : Files) → IsLine line → IsShaped (bares_of (places t)) → LineWay now line t u → OnWayOf line now t u
+line_way now line t u is shape way = by (asks line) refl (way_of now line t u way)
   where
-    by : (d : Deed) → asks line ≡ d → WayOf d now line t u → stopping.OnWay line t u
-    by (Create making) e way = making_piece now line making e is t shape u quiet way
-    by (Copy copying) e way = absurd (let no : Some copying.source ≡ None = sym (ap copied e) ∙ is.no_copy in cc)
-    by (Touch touching) e way = λ q plain. touching_piece now line touching e t u q plain
-        (ap (λ paths. one_is_refused (by_turn now line) paths t) (sym (turns_touch line touching t e)) ∙ quiet)
-        (subst (λ (paths : List Path). Partway (touching_course now line touching) paths t u) (turns_touch line touching t e) way)
-    by Idle e same = λ q plain. stopping.IsMidway.piece zero (sym (bares_of-same (places t) (places u) q (same q plain)))
+    work : (d : Deed) → asks line ≡ d → Puts d → OnWay now line (path_in line.path) t u
+        → ((q : Path) → has_staging q ≡ false → IsAtWork now line t q (bares_of (places t) q) (bares_of (places u) q)) ⊎ Same (turn_after now line (path_in line.path) t) u
+    work d e puts = way_work now line (subst Puts (sym e) puts) t u
+
+    by : (d : Deed) → asks line ≡ d → WayOf d now line t u → OnWayOf line now t u
+    by (Create making) e on = OnWayOf.other (ap copied e) (making_piece now line making e (line_is_plain line is (ap copied e)).unstaged t shape u (work (Create making) e tt on))
+    by (Copy copying) e on = copy_way now line copying e t u (work (Copy copying) e tt on)
+    by (Touch touching) e on = OnWayOf.other (ap copied e) (λ q plain. touching_piece now line touching e t u shape q plain (
+        subst (λ (paths : List Path). Partway (touching_course now line touching) paths t u) (turns_touch line touching t e) on))
+    by Idle e same = OnWayOf.other (ap copied e) (λ q plain. stopping.IsMidway.piece zero (sym (bares_of-same (places t) (places u) q (same q plain))))
+
+-- what is whole is on its way
+pub partway_whole : {A : Type 0} (c : Course A) (xs : List A) (t u : Files) → Same (after_each c.whole xs t) u → Partway c xs t u
+partway_whole c [] t u same = same
+partway_whole c (x ∷ xs) t u same = inr (partway_whole c xs (c.whole.after x t) u same)
+
+pub line_whole : (now : ℕ) (line : Line) (t : Files) → IsLine line → IsShaped (bares_of (places t)) → OnWayOf line now t ((by_line now).after line t)
+line_whole now line t is shape = line_way now line t ((by_line now).after line t) is shape (
+    partway_whole (turn_course now line) (turns line t) t ((by_line now).after line t) (λ q plain. refl))
 
 -- so at each moment of lines one after the other
-pub plain_ways : (now : ℕ) (lines : List Line) (t u : Files) → AllByRecursion IsPlain lines → IsShaped (bares_of (places t)) → one_is_refused (by_line now) lines t ≡ false → Partway (lines_course now) lines t u → stopping.Partway lines now t u
-plain_ways now [] t u are shape quiet same = same
-plain_ways now (line ∷ lines) t u are shape quiet (inl way) =
-    inl (plain_bridge now line t u are.0 shape (or_parts ((by_line now).is_refused line t) (one_is_refused (by_line now) lines ((by_line now).after line t)) quiet).0 way)
-plain_ways now (line ∷ lines) t u are shape quiet (inr later) =
-    let two = or_parts ((by_line now).is_refused line t) (one_is_refused (by_line now) lines ((by_line now).after line t)) quiet in
-    inr (plain_ways now lines ((by_line now).after line t) u are.1 (line_point now line are.0 t shape two.0).shape two.1 later)
+pub run_way : (now : ℕ) (lines : List Line) (t u : Files) → AllByRecursion IsLine lines → IsShaped (bares_of (places t)) → Partway (lines_course now) lines t u → PartwayOf lines now t u
+run_way now [] t u are shape same = same
+run_way now (line ∷ lines) t u are shape (inl way) = inl (line_way now line t u are.0 shape way)
+run_way now (line ∷ lines) t u are shape (inr later) = inr (run_way now lines ((by_line now).after line t) u are.1 (each_kept now line are.0 t shape).shape later)

@@ -1,11 +1,9 @@
 -- A run of lines none of which may change what lines are read from leaves presence, kind and payload at each input path
 -- without a staging name, at every moment on its way, whatever is refused.
-use Rattle.std.specs.Prelude.{◌^◌, ◌<◌, ◌≡◌, ℕ, zero, suc, ◌+◌, ◌==◌, Bool, true, false, cond, ◌&&◌, ◌||◌, List, [], ◌∷◌, length, take, drop, filter, find, slice_get, Option, Some, None, is_some, option_map, ⊤}
+use Rattle.std.specs.Prelude.{◌≡◌, ℕ, zero, suc, ◌+◌, ◌==◌, Bool, true, false, cond, ◌&&◌, ◌||◌, List, [], ◌∷◌, take, find, slice_get, Option, Some, None, is_some, option_map, ⊤}
 use Rattle.std.proofs.Common.{refl, sym, ap, subst, ◌∙◌, arith, inl, inr}
-use Rattle.std.proofs.Math.Seq.{drop-append_seam}
 use Rattle.std.proofs.lemmas.Bool.Decides.{nat_tests}
 use Rattle.std.proofs.lemmas.List.Folds.{list_all-append}
-use Rattle.std.specs.FinMap as fin
 use Rattle.std.specs.List.{list_any, list_all, AllByRecursion}
 use Rattle.std.specs.Option.{option_map_or}
 use Rattle.std.proofs.lemmas.Bool.{and_parts}
@@ -13,11 +11,8 @@ use Rattle.pv_path.specs.Paths.{has_names, Path, has_staging}
 use Rattle.pv_steps.specs.declared.node.Kind.{Kind}
 use Rattle.pv_steps.specs.declared.node.Kind.TheVariants.{Directory}
 use Rattle.pv_steps.specs.declared.object.Object.{Object}
-use Rattle.pv_steps.specs.declared.step.Step.{Step}
 use Rattle.pv_steps.specs.Content.{content_of}
-use Rattle.pv_steps.specs.Runs.{after_all, Ran}
 use Rattle.pv_steps.specs.Trees.{Files, places, IsTree}
-use Rattle.pv_steps.proofs.RunLaws.{along_trees, along_prefix}
 use Rattle.pv_dress.specs.declared.bare.Bare.{Bare}
 use Rattle.pv_dress.specs.declared.operation.Change.{Change}
 use Rattle.pv_dress.specs.declared.operation.Change.TheVariants.{Write, Append, Owner, Mode, Entries, Attrs, Letters}
@@ -41,29 +36,26 @@ use Rattle.pv_table.specs.declared.deed.Copying.{Copying}
 use Rattle.pv_table.specs.declared.deed.Deed.{Deed}
 use Rattle.pv_table.specs.declared.deed.Deed.TheVariants.{Create, Copy, Touch, Idle}
 use Rattle.pv_table.specs.declared.deed.Making.{Making}
-use Rattle.pv_table.specs.declared.deed.Touching.{Touching}
 use Rattle.pv_table.specs.declared.reason.Reason.TheVariants as reason
 use Rattle.pv_table.specs.Active.{in_create_order}
+use Rattle.pv_table.specs.Asked.{operations}
+use Rattle.pv_table.specs.Pointwise.{touches}
 use Rattle.pv_table.specs.Asking.{asks, deeds, mode_to_set, owners_and_mode, set_by, without_links}
-use Rattle.pv_table.specs.Created.{after_each, by_turn, by_line}
-use Rattle.pv_table.specs.Effects.{carried_out, is_touched, turn_after}
+use Rattle.pv_table.specs.Created.{by_line}
 use Rattle.pv_table.specs.Reaching.{governs, is_creating, names, taking_of}
 use Rattle.pv_layers.specs.Places.{is_input}
-use Rattle.pv_table.specs.Repeatable.{HasReason, IsAt, changes_content, is_writing, sets_of, takes_named}
-use Rattle.pv_table.specs.Turns.{Refused, refused_at}
+use Rattle.pv_table.specs.Repeatable.{HasReason, IsAt, changes_content, is_writing, takes_named}
 use Rattle.pv_doing.specs.Courses.{Partway}
-use Rattle.pv_adjust.specs.Named.{touching_course}
-use Rattle.pv_adjust.specs.Reached.{IsPartSet}
-use Rattle.pv_laws.proofs.AllFrames.{each_kept}
-use Rattle.pv_laws.proofs.Frames.{turn_refused}
-use Rattle.pv_laws.proofs.Lines.{copy_literal, made_literal, turns_idle, turns_touch}
+use Rattle.pv_laws.specs.Copying.{OnWayOf, copy_before, copy_done, other}
+use Rattle.pv_laws.specs.Stopping.{IsMidway}
+use Rattle.pv_laws.proofs.AllFrames.{each_kept, way_frame}
+use Rattle.pv_laws.proofs.Lines.{copy_literal, made_literal, asked_idle, asked_touch}
 use Rattle.pv_laws.proofs.Making.{nothing_unnamed, IsShaped}
 use Rattle.pv_table.proofs.ListedLaws.{all_in_order}
-use Rattle.pv_laws.proofs.Sets.{impossible, is_adjustment, asked, sets_adjust}
+use Rattle.pv_laws.proofs.Sets.{impossible}
 use Rattle.pv_laws.proofs.Shapes.{tree_shaped}
-use Rattle.pv_laws.proofs.Touching.{touch_point, turn_open}
-use Rattle.pv_create.specs.Ways.{WayOf, LineWay, lines_course}
-use Rattle.pv_create.proofs.FrameWays.{line_stays}
+use Rattle.pv_create.specs.Ways.{lines_course}
+use Rattle.pv_create.proofs.BridgeLaws.{line_way, line_whole}
 use Rattle.pv_path.proofs.Tests.{true_not_false}
 
 -- ---- what reading can see of an object without stamps
@@ -151,13 +143,12 @@ front_keeps zero xs h = refl
 front_keeps (suc k) [] h = refl
 front_keeps (suc k) (x ∷ xs) h = let two = and_parts (keeps x) (list_all keeps xs) h in ap (λ b. b && list_all keeps (take k xs)) two.0 ∙ front_keeps k xs two.1
 
--- whole, and in front parts
-record KeepsHeld (xs : List Operation) : Type 0 where
-  pub front : (k : ℕ) (b : Option Bare) → held (run (take k (parts xs)) b) ≡ held b
-  pub whole : (b : Option Bare) → held (run xs b) ≡ held b
+-- in front parts
+abbrev KeepsHeld : List Operation → Type 0
+KeepsHeld xs = (k : ℕ) (b : Option Bare) → held (run (take k (parts xs)) b) ≡ held b
 
 keeps_held : (xs : List Operation) → list_all keeps xs ≡ true → KeepsHeld xs
-keeps_held xs h = record { front = λ k b. run_held (take k (parts xs)) (front_keeps k (parts xs) (parts_keep xs h)) b; whole = λ b. run_held xs h b }
+keeps_held xs h = λ k b. run_held (take k (parts xs)) (front_keeps k (parts xs) (parts_keep xs h)) b
 
 -- ---- lines that write nothing
 
@@ -277,79 +268,41 @@ module _ (now : ℕ) (line : Line) (is : IsLine line) where
   pub copy_changes : (copying : Copying) → asks line ≡ Copy copying → changes_content line ≡ true
   copy_changes copying e = created_changes line (ap (λ (path : LinePath). is_creating (record line { path = path })) (copy_literal line is copying e))
 
-  module _ (touching : Touching) (e : asks line ≡ Touch touching) (harmless : KeepsHeld touching.sets) (q : Path) (plain : has_staging q ≡ false) where
-    adjust : list_all is_adjustment touching.sets ≡ true
-    adjust = subst (λ d. list_all is_adjustment (sets_of d) ≡ true) e (sets_adjust line (asks line) (asked line))
-
-    turn_held : (p : Path) (t : Files) → held (bares_of (places (turn_after now line p t)) q) ≡ held (bares_of (places t) q)
-    turn_held p t = by (refused_at line p (places t)) refl
-      where
-        at : (b : Bool) → held (cond b (run touching.sets (bares_of (places t) q)) (bares_of (places t) q)) ≡ held (bares_of (places t) q)
-        at true = harmless.whole (bares_of (places t) q)
-        at false = refl
-
-        by : (r : Option Refused) → refused_at line p (places t) ≡ r → held (bares_of (places (turn_after now line p t)) q) ≡ held (bares_of (places t) q)
-        by None free =
-            ap (λ (u : Files). held (bares_of (places u) q)) (turn_open now line p t free ∙ ap (λ (d : Deed). carried_out now d p t) e)
-            ∙ ap held (touch_point now touching adjust p t q)
-            ∙ at (is_touched touching p q)
-        by (Some place) r = ap (λ (u : Files). held (bares_of (places u) q)) (turn_refused now line p t place r)
-
-    turns_held : (paths : List Path) (t : Files) → held (bares_of (places (after_each (by_turn now line) paths t)) q) ≡ held (bares_of (places t) q)
-    turns_held [] t = refl
-    turns_held (p ∷ ps) t = turns_held ps (turn_after now line p t) ∙ turn_held p t
-
-    way_held : (paths : List Path) (t u : Files) → Partway (touching_course now line touching) paths t u → held (bares_of (places u) q) ≡ held (bares_of (places t) q)
-    way_held [] t u same = ap held (sym (bares_of-same (places t) (places u) q (same q plain)))
-    way_held (p ∷ ps) t u (inl way) = by (way q)
-      where
-        by : IsPartSet (is_touched touching p q) touching.sets (bares_of (places t) q) (bares_of (places u) q) → held (bares_of (places u) q) ≡ held (bares_of (places t) q)
-        by (IsPartSet.kept same) = ap held same
-        by (IsPartSet.set k reached part) = ap held part ∙ harmless.front k (bares_of (places t) q)
-    way_held (p ∷ ps) t u (inr later) = way_held ps (turn_after now line p t) u later ∙ turn_held p t
-
   -- a line that changes nothing that is read
   module _ (still : changes_content line ≡ false) (q : Path) (plain : has_staging q ≡ false) where
-    harmless : (touching : Touching) → asks line ≡ Touch touching → KeepsHeld touching.sets
-    harmless touching e = keeps_held touching.sets (subst WritesNothing e (writes_nothing line (no_writing line still)))
-
-    still_whole : (t : Files) → held (bares_of (places ((by_line now).after line t)) q) ≡ held (bares_of (places t) q)
-    still_whole t = by (asks line) refl
+    harmless : KeepsHeld (operations line q)
+    harmless = by (asks line) refl
       where
-        by : (d : Deed) → asks line ≡ d → held (bares_of (places ((by_line now).after line t)) q) ≡ held (bares_of (places t) q)
+        at : (sets : List Operation) → list_all keeps sets ≡ true → (b : Bool) → KeepsHeld (cond b sets [])
+        at sets h true = keeps_held sets h
+        at sets h false = keeps_held [] refl
+
+        by : (d : Deed) → asks line ≡ d → KeepsHeld (operations line q)
         by (Create making) e = absurd (true_not_false (changes_content line) (made_changes making e) still)
         by (Copy copying) e = absurd (true_not_false (changes_content line) (copy_changes copying e) still)
-        by (Touch touching) e =
-            subst (λ paths. held (bares_of (places (after_each (by_turn now line) paths t)) q) ≡ held (bares_of (places t) q)) (sym (turns_touch line touching t e))
-            (turns_held touching e (harmless touching e) q plain (filter (names line) (fin.keys t)) t)
-        by Idle e = subst (λ paths. held (bares_of (places (after_each (by_turn now line) paths t)) q) ≡ held (bares_of (places t) q)) (sym (turns_idle line t e)) refl
+        by (Touch touching) e = subst KeepsHeld (sym (asked_touch line touching q e)) (at touching.sets (subst WritesNothing e (writes_nothing line (no_writing line still))) (touches line touching q))
+        by Idle e = subst KeepsHeld (sym (asked_idle line q e)) (keeps_held [] refl)
 
-    still_way : (t u : Files) → LineWay now line t u → held (bares_of (places u) q) ≡ held (bares_of (places t) q)
-    still_way t u = by (asks line) refl
+    still_way : (t u : Files) → OnWayOf line now t u → held (bares_of (places u) q) ≡ held (bares_of (places t) q)
+    still_way t u (copy_before copying e before) = absurd (true_not_false (changes_content line) (copy_changes copying e) still)
+    still_way t u (copy_done copying e whole) = absurd (true_not_false (changes_content line) (copy_changes copying e) still)
+    still_way t u (other none way) = by (way q plain)
       where
-        by : (d : Deed) → asks line ≡ d → WayOf d now line t u → held (bares_of (places u) q) ≡ held (bares_of (places t) q)
-        by (Create making) e way = absurd (true_not_false (changes_content line) (made_changes making e) still)
-        by (Copy copying) e way = absurd (true_not_false (changes_content line) (copy_changes copying e) still)
-        by (Touch touching) e way =
-            way_held touching e (harmless touching e) q plain (filter (names line) (fin.keys t)) t u
-            (subst (λ (paths : List Path). Partway (touching_course now line touching) paths t u) (turns_touch line touching t e) way)
-        by Idle e same = ap held (sym (bares_of-same (places t) (places u) q (same q plain)))
+        by : IsMidway line q (bares_of (places t) q) (bares_of (places u) q) → held (bares_of (places u) q) ≡ held (bares_of (places t) q)
+        by (IsMidway.piece k e) = ap held e ∙ harmless k (bares_of (places t) q)
+        by (IsMidway.gap b s renewal none) = absurd (true_not_false (changes_content line) (made_changes renewal.making renewal.makes) still)
 
   -- so any line: one that may change what is read governs no input path, and leaves it as it was
-  module _ (away : IsAway line) (q : Path) (input : is_input q ≡ true) (named : has_names q ≡ true) (plain : has_staging q ≡ false) where
-    pub whole_held : (t : Files) → IsShaped (bares_of (places t)) → held (bares_of (places ((by_line now).after line t)) q) ≡ held (bares_of (places t) q)
-    whole_held t shape = by (changes_content line) refl
-      where
-        by : (b : Bool) → changes_content line ≡ b → held (bares_of (places ((by_line now).after line t)) q) ≡ held (bares_of (places t) q)
-        by true c = ap held ((each_kept now line is t shape).frame q plain (away c q input named))
-        by false c = still_whole c q plain t
-
-    line_held : (t u : Files) → IsShaped (bares_of (places t)) → LineWay now line t u → held (bares_of (places u) q) ≡ held (bares_of (places t) q)
-    line_held t u shape way = by (changes_content line) refl
+  module _ (away : IsAway line) (q : Path) (input : is_input q ≡ true) (named : has_names q ≡ true) (plain : has_staging q ≡ false) (t : Files) (shape : IsShaped (bares_of (places t))) where
+    line_held : (u : Files) → OnWayOf line now t u → held (bares_of (places u) q) ≡ held (bares_of (places t) q)
+    line_held u way = by (changes_content line) refl
       where
         by : (b : Bool) → changes_content line ≡ b → held (bares_of (places u) q) ≡ held (bares_of (places t) q)
-        by true c = ap held (line_stays now line is t u shape q plain (away c q input named) way)
+        by true c = ap held (way_frame now line is t shape u q plain (away c q input named) way)
         by false c = still_way c q plain t u way
+
+    pub whole_held : held (bares_of (places ((by_line now).after line t)) q) ≡ held (bares_of (places t) q)
+    whole_held = line_held ((by_line now).after line t) (line_whole now line t is shape)
 
 -- ---- lines one after the other
 
@@ -357,7 +310,7 @@ module _ (now : ℕ) (q : Path) (input : is_input q ≡ true) (named : has_names
   pub lines_held : (lines : List Line) → AllByRecursion IsLine lines → AllByRecursion IsAway lines → (t u : Files) → IsShaped (bares_of (places t)) → Partway (lines_course now) lines t u
       → held (bares_of (places u) q) ≡ held (bares_of (places t) q)
   lines_held [] are away t u shape same = ap held (sym (bares_of-same (places t) (places u) q (same q plain)))
-  lines_held (line ∷ lines) are away t u shape (inl way) = line_held now line are.0 away.0 q input named plain t u shape way
+  lines_held (line ∷ lines) are away t u shape (inl way) = line_held now line are.0 away.0 q input named plain t shape u (line_way now line t u are.0 shape way)
   lines_held (line ∷ lines) are away t u shape (inr later) =
       lines_held lines are.1 away.1 ((by_line now).after line t) u (each_kept now line are.0 t shape).shape later
       ∙ whole_held now line are.0 away.0 q input named plain t shape
@@ -397,13 +350,3 @@ module _ (lines : List Line) (are : AllByRecursion IsLine lines) (free : (i : �
       by : (b : Bool) → has_names q ≡ b → held (bares_of (places u) q) ≡ held (bares_of (places t) q)
       by true named = lines_held now q input named plain (in_create_order lines) (all_in_order IsLine lines are) all_away t u shape way
       by false none = ap held (nothing_unnamed (bares_of (places u)) (tree_shaped (places u) there) q plain none ∙ sym (nothing_unnamed (bares_of (places t)) shape q plain none))
-
-  -- so after each number of the steps of a run
-  pub input_on_run : (Q : Step → Type 0) (now : ℕ) (t : Files) (h : List Step) (u : Files) (k : List Step) → now < 2 ^ 64 → IsTree t → Ran (Partway (lines_course now) (in_create_order lines) t) Q now t h u k
-      → (n : ℕ) (q : Path) → is_input q ≡ true → has_staging q ≡ false → content_of (places (after_all t (take n (drop (length h) k)) now) q) ≡ content_of (places t q)
-  input_on_run Q now t h u k fits tree run =
-      subst (λ (steps : List Step). (n : ℕ) (q : Path) → is_input q ≡ true → has_staging q ≡ false → content_of (places (after_all t (take n steps) now) q) ≡ content_of (places t q))
-      (sym (ap (drop (length h)) run.recorded ∙ drop-append_seam h run.steps)) (λ n.
-      input_on_way now t (after_all t (take n run.steps) now) tree
-      (along_prefix IsTree t run.steps now n (along_trees (Partway (lines_course now) (in_create_order lines) t) t run.steps now fits tree run.along))
-      (along_prefix (Partway (lines_course now) (in_create_order lines) t) t run.steps now n run.along))

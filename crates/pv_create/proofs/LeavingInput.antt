@@ -1,9 +1,8 @@
 -- A run of lines none of which may change what lines are read from leaves presence, kind and payload at each input path,
 -- staging names included: where a folder from which lines are read is there, no step of the run brings, takes away or
 -- rewrites anything below it under a staging name; where it is absent it stays so, and all below it.
-use Rattle.std.specs.Prelude.{◌≡◌, ◌≢◌, ◌⊎◌, ◌^◌, ◌<◌, ℕ, Bool, true, false, not, ◌&&◌, ◌||◌, List, [], ◌∷◌, length, take, drop, filter, Option, Some, None, is_some, option_map}
+use Rattle.std.specs.Prelude.{◌≡◌, ◌≢◌, ◌⊎◌, ℕ, Bool, true, false, not, ◌&&◌, ◌||◌, List, [], ◌∷◌, filter, Option, Some, None, is_some, option_map}
 use Rattle.std.proofs.Common.{refl, sym, ap, subst, ◌∙◌, inl, inr}
-use Rattle.std.proofs.Math.Seq.{drop-append_seam}
 use Rattle.std.specs.FinMap as fin
 use Rattle.std.specs.List.{list_any, list_all, AllByRecursion}
 use Rattle.std.proofs.lemmas.Bool.{not-true, and_parts}
@@ -12,10 +11,9 @@ use Rattle.pv_path.proofs.PathLaws.{prefix_parts}
 use Rattle.pv_steps.specs.declared.object.Object.{Object}
 use Rattle.pv_steps.specs.declared.step.Step.{Step}
 use Rattle.pv_steps.specs.Content.{content_of, alters}
-use Rattle.pv_steps.specs.Runs.{after_all, Ran}
+use Rattle.pv_steps.specs.Runs.{after_all}
 use Rattle.pv_steps.specs.Trees.{Files, places, IsTree, IsAbsentIn}
 use Rattle.pv_steps.proofs.ContentLaws.{content-after_all, removal_inside}
-use Rattle.pv_steps.proofs.RunLaws.{along_prefix, along_trees}
 use Rattle.pv_steps.proofs.TreeLaws.{present_above}
 use Rattle.pv_dress.specs.declared.bare.Bare.{Bare}
 use Rattle.pv_dress.specs.declared.operation.Operation.{Operation}
@@ -45,21 +43,21 @@ use Rattle.pv_table.specs.Saying.{found}
 use Rattle.pv_table.specs.Turns.{Turn, copied}
 use Rattle.pv_doing.specs.Courses.{Partway, IsStepOfSome}
 use Rattle.pv_adjust.specs.Adjusting.{GivesBytes, GivesSet}
-use Rattle.pv_adjust.specs.Named.{touching_course}
 use Rattle.pv_make.specs.OnWay.{IsStepOf, turn_at}
 use Rattle.pv_laws.proofs.AllFrames.{not_above, not_below, each_kept}
-use Rattle.pv_laws.proofs.Frames.{ungoverned}
+use Rattle.pv_laws.proofs.Frames.{IsFree, ungoverned, creates, midway_frame}
 use Rattle.pv_laws.proofs.Lines.{copy_path, line_is_plain, turns_touch}
 use Rattle.pv_laws.proofs.Making.{IsShaped, dir_there}
 use Rattle.pv_table.proofs.ListedLaws.{all_in_order, all_map, all_tests}
 use Rattle.pv_laws.proofs.Sets.{impossible}
 use Rattle.pv_laws.proofs.Shapes.{tree_shaped}
-use Rattle.pv_create.specs.Ways.{IsLineStep, IsStepBy, lines_course}
+use Rattle.pv_create.specs.Ways.{IsLineStep, lines_course}
+use Rattle.pv_create.proofs.LineWays.{IsStepBy, step_of, touching_course}
 use Rattle.pv_create.proofs.BesideLaws.{bare_outside, new_outside, other_plain, out_above, place_outside, published_outside, swept_outside}
-use Rattle.pv_create.proofs.FrameWays.{made_high, made_low}
+use Rattle.pv_create.proofs.BridgeLaws.{gone_at}
 use Rattle.pv_create.proofs.InputLaws.{IsAway, all_away, copy_changes, held, input_on_way, made_changes, whole_held}
 use Rattle.pv_create.proofs.StepLaws.{names_plain}
-use Rattle.pv_path.proofs.Tests.{true_not_false, all_take}
+use Rattle.pv_path.proofs.Tests.{true_not_false}
 
 -- what is there, by what reading can see of it
 pub held_some : (o : Option Bare) → is_some (held o) ≡ is_some o
@@ -132,11 +130,18 @@ module _ (f q : Path) (plain : has_staging f ≡ false) (under : is_prefix f q �
       made_outside : (making : Making) → asks line ≡ Create making → governs line f ≡ false → IsStepOf now line path t step → alters step q ≡ false
       made_outside making e away = by
         where
+          free : IsFree line f
+          free = ungoverned line f away
+
+          unstaged : has_staging path ≡ false
+          unstaged = (line_is_plain line is (ap copied e)).unstaged
+
           out : is_prefix f path ≡ false
-          out = made_high now line is t shape f plain away making e
+          out = sym (ap (λ b. b && is_prefix f path) (creates line is f free making e)) ∙ free.no_parent
 
           high : (subtree : Subtree) → turn_at now line path t ≡ Turn.Put subtree → is_prefix path f ≡ true → ⊥
-          high subtree put above = true_not_false (is_some (bares_of (places t) f)) there (ap is_some (made_low now line is t shape f plain away making e subtree put above))
+          high subtree put above = true_not_false (is_some (bares_of (places t) f)) there (ap is_some (sym (
+              midway_frame line is f plain away (bares_of (places t) f) None (gone_at now line making e unstaged t shape subtree put f plain above None refl))))
 
           by : IsStepOf now line path t step → alters step q ≡ false
           by (IsStepOf.prepares some given) = prepares_outside out given
@@ -144,7 +149,7 @@ module _ (f q : Path) (plain : has_staging f ≡ false) (under : is_prefix f q �
           by (IsStepOf.puts other subtree asked put (inr published)) =
               published_outside f q plain under staged path (not_root (high subtree put)) out (place_outside f q plain under staged path out (high subtree put)) step published
           by (IsStepOf.copies copying subtree asked put h) = absurd (let no : Copy copying ≡ Create making = sym asked ∙ e in cc)
-          by (IsStepOf.sets xs becomes given) = set_outside path (line_is_plain line is (ap copied e)).unstaged xs (found now (asks line) path t) given
+          by (IsStepOf.sets xs becomes given) = set_outside path unstaged xs (found now (asks line) path t) given
 
       copied_outside : (copying : Copying) → asks line ≡ Copy copying → governs line f ≡ false → IsStepOf now line path t step → alters step q ≡ false
       copied_outside copying e away = by
@@ -163,7 +168,7 @@ module _ (f q : Path) (plain : has_staging f ≡ false) (under : is_prefix f q �
           by (IsStepOf.sets xs becomes given) = set_outside path (copy_path line is copying e).0 xs (found now (asks line) path t) given
 
       line_outside : IsAway line → is_input f ≡ true → has_names f ≡ true → IsLineStep now line t step → alters step q ≡ false
-      line_outside away input named h = by (asks line) refl h
+      line_outside away input named h = by (asks line) refl (step_of now line t step h)
         where
           by : (d : Deed) → asks line ≡ d → IsStepBy d now line t step → alters step q ≡ false
           by (Create making) e g = made_outside making e (away (made_changes now line is making e) f input named) g
@@ -271,14 +276,3 @@ module _ (lines : List Line) (are : AllByRecursion IsLine lines) (free : (i : �
       (all_map (IsStepOfSome (lines_course now) (in_create_order lines) t) (IsOutsideFolders t)
       (λ step given f q plain under staged own named input within found. lines_outside f q plain under staged step now own named (in_create_order lines) (all_in_order IsLine lines are) (all_away lines are free) t (tree_shaped (places t) tree) found given)
       steps gives)
-
-  -- so after each number of the steps of a run
-  pub all_input_on_run : now < 2 ^ 64 → (h : List Step) (u : Files) (k : List Step) → Ran (Partway (lines_course now) (in_create_order lines) t) (IsStepOfSome (lines_course now) (in_create_order lines) t) now t h u k
-      → (n : ℕ) (q : Path) → is_input q ≡ true → content_of (places (after_all t (take n (drop (length h) k)) now) q) ≡ content_of (places t q)
-  all_input_on_run fits h u k run =
-      subst (λ (steps : List Step). (n : ℕ) (q : Path) → is_input q ≡ true → content_of (places (after_all t (take n steps) now) q) ≡ content_of (places t q))
-      (sym (ap (drop (length h)) run.recorded ∙ drop-append_seam h run.steps)) (λ n.
-      input_after (take n run.steps)
-      (along_prefix IsTree t run.steps now n (along_trees (Partway (lines_course now) (in_create_order lines) t) t run.steps now fits tree run.along))
-      (along_prefix (Partway (lines_course now) (in_create_order lines) t) t run.steps now n run.along)
-      (all_take (IsStepOfSome (lines_course now) (in_create_order lines) t) n run.steps run.gives))

@@ -1,9 +1,9 @@
+pub mod LineWays
 pub mod LineLaws
 pub mod RunLaws
 pub mod BridgeLaws
-pub mod CopyBridge
+pub mod StoppedLaws
 pub mod InputLaws
-pub mod FrameWays
 pub mod StepLaws
 pub mod BesideLaws
 pub mod LeavingInput

@@ -1,148 +1,100 @@
--- Laws of one line at its turn, by what it asks for.
-use Rattle.std.specs.Prelude.{◌≡◌, ℕ, ◌+◌, false, [], ◌∷◌, Result, List, ◌++◌, Ok, IfOk, OnOk, IsErrAnd}
-use Rattle.std.proofs.Common.{refl, sym, ap, subst, ◌∙◌, arith, append-nil}
-use Rattle.std.proofs.Math.Bool.{or-false}
-use Rattle.pv_adjust.specs.Named.{touching_course}
-use Rattle.pv_adjust.proofs.NamedLaws.{course_start}
-use Rattle.pv_doing.specs.Courses.{each_of, carried_of, CarriesOut, HasGone}
+-- Laws of one line at its turn, at each path at which it is carried out: one that adjusts what is there neither adds nor takes
+-- away paths, so that the list made first stays right.
+use Rattle.std.specs.Prelude.{◌≡◌, ℕ, ◌+◌, ◌≤◌, ◌<◌, Bool, ◌||◌, List, [], ◌∷◌, length, drop, get_or, Result, Ok, Err, IsErrAnd, is_some}
+use Rattle.std.proofs.Common.{zero, suc, refl, sym, ap, subst, ◌∙◌, arith}
+use Rattle.pv_adjust.proofs.NamedLaws.{named_turns, stands_named, turn_keeps}
+use Rattle.pv_doing.specs.Courses.{each_of, carried_of, CarriesOut}
 use Rattle.pv_doing.specs.declared.carried.Carried.{Carried}
 use Rattle.pv_doing.specs.declared.carried.Carried.TheVariants.{Whole}
-use Rattle.pv_doing.proofs.CarryingLaws.{carried_none, carried_told}
-use Rattle.pv_doing.proofs.CourseLaws.{cut_start, partway_start, single_start}
+use Rattle.pv_doing.proofs.CarryingLaws.{carried_none, Underway, underway_start, underway_failed, underway_next, underway_end}
+use Rattle.pv_doing.proofs.CourseLaws.{cut_start, none_left, partway_start, single_start}
 use Rattle.pv_lines.specs.declared.line.Line.{Line}
-use Rattle.pv_make.specs.OnWay.{OnWay, IsStepOf, making_course}
+use Rattle.pv_make.specs.Deeds.{IsTurn}
+use Rattle.pv_make.specs.OnWay.{turn_course}
+use Rattle.pv_make.proofs.TurnLaws.{turn_start}
 use Rattle.pv_path.specs.Paths.{Path}
-use Rattle.pv_steps.specs.declared.step.Step.{Step}
+use Rattle.pv_path.proofs.Tests.{next_item}
 use Rattle.pv_steps.specs.declared.tree.Tree.{Ghosts}
 use Rattle.pv_steps.specs.declared.tree.TreeFault.{TreeFault}
 use Rattle.pv_steps.specs.declared.tree.TreeFault.TheVariants.{Memory}
-use Rattle.pv_steps.specs.Acting.{refused, Acted}
-use Rattle.pv_steps.specs.Trees.{Files}
-use Rattle.pv_steps.proofs.ActingLaws.{Moves, acted_weaken}
-use Rattle.pv_text.specs.Said.{SaidPart}
-use Rattle.pv_table.specs.declared.deed.Copying.{Copying}
+use Rattle.pv_steps.specs.Trees.{Files, places}
+use Rattle.pv_steps.proofs.ActingLaws.{Moves}
 use Rattle.pv_table.specs.declared.deed.Deed.{Deed}
 use Rattle.pv_table.specs.declared.deed.Deed.TheVariants.{Create, Copy, Touch, Idle}
-use Rattle.pv_table.specs.declared.deed.Making.{Making}
 use Rattle.pv_table.specs.declared.deed.Touching.{Touching}
 use Rattle.pv_table.specs.Asking.{asks}
-use Rattle.pv_table.specs.Created.{by_turn, by_line, after_each, said_of_each, one_is_refused, taken_by_each}
 use Rattle.pv_table.specs.Effects.{turns}
 use Rattle.pv_table.specs.Reaching.{path_in}
-use Rattle.pv_create.specs.Ways.{CutBy, LineCut, WayOf, LineWay, IsStepBy, IsLineStep, line_course}
+use Rattle.pv_create.specs.Ways.{LineWay, LineCut, line_course}
+use Rattle.pv_create.proofs.LineWays.{making_turns, copying_turns, idle_turns}
 
 -- ---- nothing is done yet
 
-way_start : (deed : Deed) (now : ℕ) (line : Line) (t : Files) → WayOf deed now line t t
-way_start (Create making) now line t = OnWay.before (λ q plain. refl)
-way_start (Copy copying) now line t = OnWay.before (λ q plain. refl)
-way_start (Touch touching) now line t = partway_start (touching_course now line touching) (course_start now line touching) (turns line t) t
-way_start Idle now line t = λ q plain. refl
-
 pub line_start : (now : ℕ) (line : Line) (t : Files) → LineWay now line t t
-line_start now line t = way_start (asks line) now line t
-
--- nothing is done or said yet
-begun : (deed : Deed) (now : ℕ) (line : Line) (t : Files) → CutBy deed now 0 line t [] []
-begun (Create making) now line t = single_start (making_course now line) (λ moment refused x u done said work. work) now (path_in line.path) t (OnWay.before (λ q plain. refl))
-begun (Copy copying) now line t = single_start (making_course now line) (λ moment refused x u done said work. work) now (path_in line.path) t (OnWay.before (λ q plain. refl))
-begun (Touch touching) now line t =
-    cut_start (touching_course now line touching) now
-    (λ x u. single_start (touching_course now line touching) (λ moment refused y v done said work. work) now x u (course_start now line touching x u)) (turns line t) t
-begun Idle now line t = (refl, refl, refl)
+line_start now line t = partway_start (turn_course now line) (turn_start now line) (turns line t) t
 
 pub line_begun : (now : ℕ) (line : Line) (t : Files) → LineCut now 0 line t [] []
-line_begun now line t = begun (asks line) now line t
+line_begun now line t =
+    cut_start (turn_course now line) now
+    (λ x u. single_start (turn_course now line) (λ moment refused y v done said work. work) now x u (turn_start now line x u)) (turns line t) t
 
 -- a call that gives up before anything is done
-pub line_none : {S : Type 0} (tree : Ghosts S) → Moves tree → (now : ℕ) (line : Line) (a : S) (old : List (List ℕ)) (r : Result Carried TreeFault) → IsErrAnd r (λ e. e ≡ Memory) → CarriesOut tree (line_course now) line now a a old old r
+pub line_none : {S : Type 0} (tree : Ghosts S) → Moves tree → (now : ℕ) (line : Line) (a : S) (old : List (List ℕ)) (r : Result Carried TreeFault) → IsErrAnd r (λ e. e ≡ Memory)
+    → CarriesOut tree (line_course now) line now a a old old r
 line_none tree moves now line a old r memory = carried_none tree (line_course now) line now a old moves (line_start now line (tree.state a)) (line_begun now line (tree.state a)) old refl r memory
 
--- ---- a line that makes something or copies has one turn, at its path
+-- ---- one path after the other
 
-making_turns : (line : Line) (making : Making) → asks line ≡ Create making → (t : Files) → turns line t ≡ path_in line.path ∷ []
-making_turns line making e t = rw e refl
+one_item : (p at : Path) (i : ℕ) → i < 1 → get_or (p ∷ []) i at ≡ p
+one_item p at zero lt = refl
+one_item p at (suc i) lt = absurd (omega (arith, lt))
 
-copying_turns : (line : Line) (copying : Copying) → asks line ≡ Copy copying → (t : Files) → turns line t ≡ path_in line.path ∷ []
-copying_turns line copying e t = rw e refl
+-- some of the paths are done, and each path that was there is there where the line only adjusts
+pub record OnLine {S : Type 0} (tree : Ghosts S) (now : ℕ) (line : Line) (items left : List Path) (carried : Carried) (a b : S) (old new : List (List ℕ)) : Type 0 where
+  pub under : Underway tree (turn_course now line) items left now carried a b old new
+  pub standing : (touching : Touching) → asks line ≡ Touch touching → (q : Path) → is_some (places (tree.state b) q) ≡ is_some (places (tree.state a) q)
 
-module _ (now : ℕ) (line : Line) (t : Files) (one : turns line t ≡ path_in line.path ∷ []) where
-  abbrev path : Path
-  path = path_in line.path
+module _ {S : Type 0} (tree : Ghosts S) (moves : Moves tree) (now : ℕ) (line : Line) (items : List Path) (a : S) (are : items ≡ turns line (tree.state a)) (old : List (List ℕ)) where
+  pub turns_start : OnLine tree now line items items Whole a a old old
+  turns_start = record { under = underway_start tree moves (turn_course now line) (turn_start now line) items now a old; standing = λ touching e q. refl }
 
-  one_refused : (by_turn now line).is_refused path t ≡ (by_line now).is_refused line t
-  one_refused = sym (or-false ((by_turn now line).is_refused path t)) ∙ ap (λ paths. one_is_refused (by_turn now line) paths t) (sym one)
+  module _ (i : ℕ) (at : Path) (lt : i < length items) (is : at ≡ get_or items i at) (carried : Carried) (b : S) (mid : List (List ℕ)) (on : OnLine tree now line items (drop i items) carried a b old mid) where
+    own_path : items ≡ path_in line.path ∷ [] → at ≡ path_in line.path
+    own_path one =
+        is ∙ ap (λ (xs : List Path). get_or xs i at) one
+        ∙ one_item (path_in line.path) at i (subst (λ (xs : List Path). i < length xs) one lt)
 
-  one_takes : (by_turn now line).takes path t ≡ (by_line now).takes line t
-  one_takes =
-      (let same : (by_turn now line).takes path t ≡ (by_turn now line).takes path t + 0 = omega arith in same)
-      ∙ ap (λ paths. taken_by_each (by_turn now line) paths t) (sym one)
+    -- the next path is one at which the line is carried out
+    pub turn_now : (deed : Deed) → asks line ≡ deed → IsTurn deed line at (tree.state b)
+    turn_now (Create making) e = own_path (are ∙ making_turns line making e (tree.state a))
+    turn_now (Copy copying) e = own_path (are ∙ copying_turns line copying e (tree.state a))
+    turn_now (Touch touching) e =
+        let named = stands_named line (tree.state a) items (are ∙ sym (named_turns line touching e (tree.state a))) i at lt is in
+        (named.0, on.standing touching e at ∙ named.1)
+    turn_now Idle e = omega (arith, lt, ap length (are ∙ idle_turns line e (tree.state a)))
 
-  one_says : (by_turn now line).says path t ≡ (by_line now).says line t
-  one_says = sym (append-nil ((by_turn now line).says path t)) ∙ ap (λ paths. said_of_each (by_turn now line) paths t) (sym one)
+    -- one more path, at which it failed
+    pub turns_failed : (d : S) (new : List (List ℕ)) {e : TreeFault} (q r : Result Carried TreeFault) → q ≡ Err e → IsErrAnd r (λ y. y ≡ e) → CarriesOut tree (turn_course now line) at now b d mid new q
+        → CarriesOut tree (each_of (turn_course now line)) (turns line (tree.state a)) now a d old new r
+    turns_failed d new q r was passed one =
+        subst (λ (all : List Path). CarriesOut tree (each_of (turn_course now line)) all now a d old new r) are
+        (underway_failed tree moves (turn_course now line) (turn_start now line) items now a old (drop i items) (drop (i + 1) items) at (next_item items i at lt is) carried b mid on.under d new q r was passed one)
 
-module _ {S : Type 0} (tree : Ghosts S) (now : ℕ) (line : Line) (a b : S) (old new : List (List ℕ)) (r : Result Carried TreeFault) where
-  abbrev t : Files
-  t = tree.state a
+    -- and when it is done
+    pub turns_next : (d : S) (new : List (List ℕ)) (one ended : Carried) → CarriesOut tree (turn_course now line) at now b d mid new (Ok one)
+        → ((p q : Bool) → carried ≡ carried_of p → one ≡ carried_of q → ended ≡ carried_of (p || q)) → OnLine tree now line items (drop (i + 1) items) ended a d old new
+    turns_next d new one ended done both = record {
+      under = underway_next tree moves (turn_course now line) (turn_start now line) items now a old (drop i items) (drop (i + 1) items) at (next_item items i at lt is) carried b mid on.under d new one ended done both;
+      standing = λ touching e q. ap (λ f. is_some (places f q)) done.ok ∙ turn_keeps now line touching e at (tree.state b) q ∙ on.standing touching e q;
+    }
 
-  one_carried : turns line t ≡ path_in line.path ∷ [] → ((u : Files) → OnWay now line (path_in line.path) t u → LineWay now line t u)
-      → ((step : Step) → IsStepOf now line (path_in line.path) t step → IsLineStep now line t step)
-      → ((steps : List Step) (texts : List (List ℕ)) → (making_course now line).cut now (refused r) (path_in line.path) t steps texts → LineCut now (refused r) line t steps texts)
-      → CarriesOut tree (making_course now line) (path_in line.path) now a b old new r → CarriesOut tree (line_course now) line now a b old new r
-  one_carried one way step cut done = record {
-    ok = subst (λ (paths : List Path). OnOk r (tree.state b ≡ after_each (by_turn now line) paths t)) (sym one) done.ok;
-    said = subst (λ (says : List (List ℕ)). OnOk r (new ≡ old ++ says)) (one_says now line t one) done.said;
-    carried = subst (λ refused. IfOk r (λ ended. ended ≡ carried_of refused)) (one_refused now line t one) done.carried;
-    part = subst (λ (says : List (List ℕ)). SaidPart says old new) (one_says now line t one) done.part;
-    acted =
-        let takes = one_takes now line t one in
-        acted_weaken tree (OnWay now line (path_in line.path) t) (LineWay now line t) (IsStepOf now line (path_in line.path) t) (IsLineStep now line t)
-        ((by_turn now line).takes (path_in line.path) t) ((by_line now).takes line t) way step (omega (arith, takes)) done.acted;
-    went = record { steps = done.went.steps; texts = done.went.texts; recorded = done.went.recorded; reached = done.went.reached; said = done.went.said; is = cut done.went.steps done.went.texts done.went.is };
-  }
+  pub turns_end : (i : ℕ) → length items ≤ i → (carried : Carried) (b : S) (new : List (List ℕ)) → OnLine tree now line items (drop i items) carried a b old new
+      → CarriesOut tree (each_of (turn_course now line)) (turns line (tree.state a)) now a b old new (Ok carried)
+  turns_end i past carried b new on =
+      subst (λ (all : List Path). CarriesOut tree (each_of (turn_course now line)) all now a b old new (Ok carried)) are
+      (underway_end tree moves (turn_course now line) (turn_start now line) items now a old (drop i items) (none_left items i past) carried b new on.under)
 
-  pub making_carried : (making : Making) → asks line ≡ Create making → CarriesOut tree (making_course now line) (path_in line.path) now a b old new r → CarriesOut tree (line_course now) line now a b old new r
-  making_carried making e done =
-      one_carried (making_turns line making e t) (λ u way. subst (λ deed. WayOf deed now line t u) (sym e) way)
-      (λ step is. subst (λ deed. IsStepBy deed now line t step) (sym e) is)
-      (λ steps texts is. subst (λ deed. CutBy deed now (refused r) line t steps texts) (sym e) is) done
-
-  pub copying_carried : (copying : Copying) → asks line ≡ Copy copying → CarriesOut tree (making_course now line) (path_in line.path) now a b old new r → CarriesOut tree (line_course now) line now a b old new r
-  copying_carried copying e done =
-      one_carried (copying_turns line copying e t) (λ u way. subst (λ deed. WayOf deed now line t u) (sym e) way)
-      (λ step is. subst (λ deed. IsStepBy deed now line t step) (sym e) is)
-      (λ steps texts is. subst (λ deed. CutBy deed now (refused r) line t steps texts) (sym e) is) done
-
-  -- ---- a line that adjusts what is there
-
-  pub touching_carried : (touching : Touching) → asks line ≡ Touch touching → CarriesOut tree (each_of (touching_course now line touching)) (turns line t) now a b old new r → CarriesOut tree (line_course now) line now a b old new r
-  touching_carried touching e done = record {
-    ok = done.ok;
-    said = done.said;
-    carried = done.carried;
-    part = done.part;
-    acted = subst (λ deed. Acted tree (WayOf deed now line t) (IsStepBy deed now line t) ((by_line now).takes line t) now a b r) (sym e) done.acted;
-    went = subst (λ deed. HasGone tree (CutBy deed now (refused r) line t) now a b old new) (sym e) done.went;
-  }
-
--- ---- a line that asks for nothing has no turn
-
-module _ (now : ℕ) (line : Line) (e : asks line ≡ Idle) (t : Files) where
-  no_turn : turns line t ≡ []
-  no_turn = rw e refl
-
-  idle_after : t ≡ (by_line now).after line t
-  idle_after = ap (λ paths. after_each (by_turn now line) paths t) (sym no_turn)
-
-  idle_says : [] ≡ (by_line now).says line t
-  idle_says = ap (λ paths. said_of_each (by_turn now line) paths t) (sym no_turn)
-
-  idle_refused : false ≡ (by_line now).is_refused line t
-  idle_refused = ap (λ paths. one_is_refused (by_turn now line) paths t) (sym no_turn)
-
-pub idle_carried : {S : Type 0} (tree : Ghosts S) → Moves tree → (now : ℕ) (line : Line) (a : S) (old : List (List ℕ)) → asks line ≡ Idle → CarriesOut tree (line_course now) line now a a old old (Ok Whole)
-idle_carried tree moves now line a old e =
-    carried_told tree (line_course now) line now a old moves (line_start now line (tree.state a))
-    (subst (λ deed. CutBy deed now 0 line (tree.state a) [] ((by_line now).says line (tree.state a))) (sym e) (refl, refl, sym (idle_says now line e (tree.state a)))) old Whole (idle_after now line e (tree.state a))
-    (sym (append-nil old) ∙ ap (λ (says : List (List ℕ)). old ++ says) (idle_says now line e (tree.state a)))
-    (ap carried_of (idle_refused now line e (tree.state a)))
+-- the line at all its paths is the line
+pub by_turns : {S : Type 0} (tree : Ghosts S) (now : ℕ) (line : Line) (a b : S) (old new : List (List ℕ)) (r : Result Carried TreeFault)
+    → CarriesOut tree (each_of (turn_course now line)) (turns line (tree.state a)) now a b old new r → CarriesOut tree (line_course now) line now a b old new r
+by_turns tree now line a b old new r done = record { ok = done.ok; said = done.said; carried = done.carried; part = done.part; acted = done.acted; went = done.went }

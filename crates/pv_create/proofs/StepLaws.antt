@@ -45,7 +45,6 @@ use Rattle.pv_table.specs.Repeatable.{IsRepeatable}
 use Rattle.pv_table.specs.Saying.{found}
 use Rattle.pv_table.specs.Turns.{Turn, View, view_of, copied, copy_of, copying_turn, making_turn, has_something, decide}
 use Rattle.pv_adjust.specs.Adjusting.{GivesBytes}
-use Rattle.pv_adjust.specs.Named.{touching_course}
 use Rattle.pv_doing.specs.Courses.{IsStepOfSome}
 use Rattle.pv_make.specs.OnWay.{IsStepOf, turn_at, puts_parents}
 use Rattle.pv_walk.specs.Copying.{GivesBare, Subtree, single}
@@ -63,7 +62,8 @@ use Rattle.pv_laws.proofs.Sets.{impossible, is_adjustment, IsMaking, line_is_mak
 use Rattle.pv_laws.proofs.Shapes.{plain_prefix, tree_shaped}
 use Rattle.pv_laws.proofs.Touching.{turn_open, first_turn, touch_point, touched_all, set_if, set_by_each, set_by_any, set_never, own_path, adjusts, once_named}
 use Rattle.pv_create.specs.OnTheWay.{Gives, IsGiven, GiveWhatLinesLeave}
-use Rattle.pv_create.specs.Ways.{IsStepBy, IsLineStep, lines_course}
+use Rattle.pv_create.specs.Ways.{IsLineStep, lines_course}
+use Rattle.pv_create.proofs.LineWays.{IsStepBy, step_of, touching_course}
 
 -- ---- what single steps give
 
@@ -374,7 +374,7 @@ module _ (now : ℕ) (line : Line) (safe : IsSafe line) (t : Files) (shape : IsS
       few q = most_one (names line q) (is_some (places t q)) (times q (turns line t)) (ap (times q) (turns_touch line touching t e) ∙ once_named now line touching e t shape q)
 
   line_left : IsLineStep now line t step → IsLeft t ((by_line now).after line t) step
-  line_left h = by (asks line) refl h
+  line_left h = by (asks line) refl (step_of now line t step h)
     where
       by : (d : Deed) → asks line ≡ d → IsStepBy d now line t step → IsLeft t ((by_line now).after line t) step
       by (Create making) e g = made_left now line safe.is t shape quiet step making e g

@@ -1,17 +1,21 @@
-//! One line carried out, by what it asks for.
-ghost use Rattle.std.specs.Prelude.{◌≡◌, ◌&&◌, not, Bool};
+//! One line carried out, at each of its paths.
+ghost use Rattle.std.specs.Prelude.{◌≡◌, ◌&&◌, ◌∷◌, [], not, Bool, IfOk};
 ghost use Rattle.pv_doing.specs.Courses.{carried_of, CarriesOut};
 ghost use Rattle.pv_lines.specs.Lines.{IsLine};
+ghost use Rattle.pv_table.specs.Asking.{asks};
+ghost use Rattle.pv_table.specs.Effects.{turns};
+ghost use Rattle.pv_table.specs.Reaching.{path_in};
 ghost use Rattle.pv_create.specs.Ways.{line_course, lines_course};
 
-use pv_adjust::adjust_named;
 use pv_doing::Carried;
+use pv_find::named_paths;
 use pv_lines::Line;
-use pv_make::{copy, make};
+use pv_make::{LineAt, at_turn};
+use pv_path::TreePath;
 use pv_steps::{Tree, TreeFault};
-use pv_table::{Deed, asks};
+use pv_table::{Deed, asks, path_of};
 use pv_text::Messages;
-use std::alloc::Global;
+use std::alloc::{AllocError, Global};
 
 /// Carries out a line at its path, or at each path that it names (tmpfiles.d(5)). Whether it was refused does not count
 /// where the line has `-`.
@@ -25,12 +29,12 @@ pub(crate) fn carry_out<T: Tree>(
     requires line { IsLine line.now }
     ensures { CarriesOut T.Tree (lines_course now) line.now now tree.old tree.new messages.old messages.new result }
 {
-    let carried = carry_out_asked(alloc, tree, line, now, messages)?;
+    let carried = at_turns(alloc, tree, line, now, messages)?;
     Ok(counted(line, carried))
 }
 
-/// Carries out a line; each refusal counts.
-fn carry_out_asked<T: Tree>(
+/// Carries out a line at each of its paths; each refusal counts.
+fn at_turns<T: Tree>(
     alloc: Global,
     tree: &mut T,
     line: &Line,
@@ -40,12 +44,46 @@ fn carry_out_asked<T: Tree>(
     requires line { IsLine line.now }
     ensures { CarriesOut T.Tree (line_course now) line.now now tree.old tree.new messages.old messages.new result }
 {
-    match asks(alloc, line)? {
-        Deed::Create(making) => make(alloc, tree, line, &making, now, messages),
-        Deed::Touch(touching) => adjust_named(alloc, tree, line, &touching, now, messages),
-        Deed::Copy(copying) => copy(alloc, tree, line, &copying, now, messages),
-        Deed::Idle => Ok(Carried::Whole),
+    let deed = asks(alloc, line)?;
+    let paths = turns(alloc, tree, line, &deed)?;
+    let mut carried = Carried::Whole;
+    for path in &paths {
+        let at = LineAt {
+            line,
+            deed: &deed,
+            path,
+            now,
+        };
+        let one = at_turn(alloc, tree, &at, messages)?;
+        carried = carried.and(one);
     }
+    Ok(carried)
+}
+
+/// The paths at which a line is carried out: its own, or those that it names and at which something stands, in byte order.
+fn turns<T: Tree>(
+    alloc: Global,
+    tree: &T,
+    line: &Line,
+    deed: &Deed,
+) -> Result<Vec<TreePath>, AllocError>
+    requires { asks line.now ≡ deed.now }
+    ensures { IfOk result (λ paths. paths.items ≡ turns line.now (T.state tree.now)) }
+{
+    match deed {
+        Deed::Create(_) | Deed::Copy(_) => own_path(alloc, line),
+        Deed::Touch(_) => named_paths(alloc, tree, line),
+        Deed::Idle => Ok(Vec::new(alloc)),
+    }
+}
+
+/// The path of a line that makes something or copies, alone.
+fn own_path(alloc: Global, line: &Line) -> Result<Vec<TreePath>, AllocError>
+    ensures { IfOk result (λ paths. paths.items ≡ path_in line.now.path ∷ []) }
+{
+    let mut paths = Vec::new(alloc);
+    paths.push(path_of(alloc, line)?)?;
+    Ok(paths)
 }
 
 /// How a line ended, as far as it counts.

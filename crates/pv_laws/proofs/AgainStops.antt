@@ -11,7 +11,7 @@ use Rattle.pv_table.specs.Active.{are_distinct}
 use Rattle.pv_table.specs.Created.{created, IsQuiet}
 use Rattle.pv_table.specs.Repeatable.{IsRepeatable}
 use Rattle.pv_laws.specs.Copying.{StoppedRuns}
-use Rattle.pv_laws.proofs.CopyStops.{copies_mend}
+use Rattle.pv_laws.proofs.StateStops.{run_mends}
 use Rattle.pv_laws.proofs.Moments.{created_same}
 
 module _ (lines : List Line) (are : AllByRecursion IsLine lines) (distinct : are_distinct lines ≡ true) (repeatable : IsRepeatable lines) where
@@ -28,7 +28,7 @@ module _ (lines : List Line) (are : AllByRecursion IsLine lines) (distinct : are
   again_mended [] now later t u tree there same again = subst (λ (v : Files). Same (created lines later v) (created lines now t)) (sym same) (any_moment later now t)
   again_mended (first ∷ moments) now later t u tree there runs again = λ q plain.
       again_mended moments next.0 later v u runs.1.1 there runs.1.3 again q plain
-      ∙ copies_mend lines are distinct repeatable first next.0 t v tree runs.1.1 runs.0 next.1 runs.1.2 q plain
+      ∙ run_mends lines are distinct repeatable first next.0 t v tree runs.1.1 runs.0 next.1 runs.1.2 q plain
       ∙ any_moment first now t q plain
     where
       v : Files

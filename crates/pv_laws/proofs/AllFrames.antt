@@ -91,7 +91,7 @@ module _ (now : ℕ) (line : Line) (is : IsLine line) (t : Files) (shape : IsSha
       by Idle e = plain_line (ap copied e)
 
   -- on its way
-  way_frame : (u : Files) (q : Path) → has_staging q ≡ false → governs line q ≡ false → OnWayOf line now t u → bares_of (places u) q ≡ bares_of (places t) q
+  pub way_frame : (u : Files) (q : Path) → has_staging q ≡ false → governs line q ≡ false → OnWayOf line now t u → bares_of (places u) q ≡ bares_of (places t) q
   way_frame u q plain away way = by way
     where
       free : IsFree line q

@@ -133,9 +133,6 @@ module _ (line : Line) (safe : IsSafe line) (copying : Copying) (e : asks line �
   -- a second tree, in which the same is to be copied
   module _ (t u : Files) (present : bares_of (places t) copying.source ≡ Some b)
       (same : (rest : Path) → has_staging rest ≡ false → bares_of (places u) (copying.source ++ rest) ≡ bares_of (places t) (copying.source ++ rest)) where
-    pub also_present : bares_of (places u) copying.source ≡ Some b
-    also_present = ap (bares_of (places u)) (sym (append-nil copying.source)) ∙ same [] refl ∙ ap (bares_of (places t)) (append-nil copying.source) ∙ present
-
     copies_same : (rest : Path) → copy_of copying (view_of t) rest ≡ copy_of copying (view_of u) rest
     copies_same = same_copy copying t u plain_source same
 

@@ -1,15 +1,13 @@
 -- A run that was cut short is mended at and below a path to which a line copies what is there.
-use Rattle.pv_laws.proofs.Lines.{path_named}
-use Rattle.std.specs.Prelude.{◌≡◌, ◌⊎◌, ℕ, Bool, true, false, ◌||◌, List, [], ◌∷◌, ◌++◌, map, take, Some, None, is_some}
+use Rattle.std.specs.Prelude.{◌≡◌, ◌⊎◌, ℕ, true, false, ◌||◌, List, [], ◌∷◌, ◌++◌, take, Some, None, is_some}
 use Rattle.std.proofs.Common.{refl, sym, ap, subst, ◌∙◌, inl, inr}
 use Rattle.std.proofs.lemmas.List.{append-nil}
-use Rattle.std.specs.List.{enumerate_from, AllByRecursion}
+use Rattle.std.specs.List.{AllByRecursion}
 use Rattle.std.proofs.lemmas.Bool.{or_parts}
 use Rattle.pv_path.specs.Paths.{has_names, Path, is_prefix, has_staging}
-use Rattle.pv_path.proofs.PathLaws.{is_prefix-append, is_prefix-refl}
-use Rattle.pv_steps.specs.Trees.{Files, places, IsTree}
+use Rattle.pv_path.proofs.PathLaws.{is_prefix-append}
+use Rattle.pv_steps.specs.Trees.{Files, places}
 use Rattle.pv_dress.specs.declared.bare.Bare.{Bare}
-use Rattle.pv_dress.specs.declared.operation.Operation.{Operation}
 use Rattle.pv_dress.specs.Nodes.{bares_of}
 use Rattle.pv_dress.specs.Operations.{run}
 use Rattle.pv_dress.proofs.OperationLaws.{bares_of-same}
@@ -17,31 +15,24 @@ use Rattle.pv_lines.specs.declared.line.Line.{Line}
 use Rattle.pv_lines.specs.Lines.{IsLine}
 use Rattle.pv_table.specs.declared.deed.Copying.{Copying}
 use Rattle.pv_table.specs.declared.deed.Deed.TheVariants.{Copy}
-use Rattle.pv_table.specs.Active.{are_distinct, Listed, ordered, in_create_order}
 use Rattle.pv_table.specs.Asked.{operations_of}
 use Rattle.pv_table.specs.Asking.{asks}
-use Rattle.pv_table.specs.Created.{after_each, one_is_refused, by_turn, by_line, created, IsQuiet}
+use Rattle.pv_table.specs.Created.{after_each, one_is_refused, by_turn, by_line}
 use Rattle.pv_table.specs.Pointwise.{after_turn}
 use Rattle.pv_table.specs.Reaching.{path_in, governs}
-use Rattle.pv_table.specs.Repeatable.{IsRepeatable}
 use Rattle.pv_table.specs.Turns.{copied}
 use Rattle.pv_laws.specs.Copying.{IsCopyMidway, turn_of, OnWayOf, copy_before, copy_done, other, PartwayOf}
-use Rattle.pv_laws.proofs.AllPoints.{IsSafe, line_pointed, turns_copy, copy_passes, all_safe}
-use Rattle.pv_laws.proofs.CopyEnds.{inside, inside_is, inside_same, below_plain, plain_path, plain_source, turn_at, copy_inside, begun_before, also_present, begun_ends, done_ends}
+use Rattle.pv_laws.proofs.AllPoints.{IsSafe, line_pointed, turns_copy, copy_passes}
+use Rattle.pv_laws.proofs.CopyEnds.{inside, inside_is, inside_same, below_plain, plain_path, plain_source, turn_at, copy_inside, begun_before}
 use Rattle.pv_laws.proofs.CopyMends as mends
 use Rattle.pv_laws.proofs.CopyMends.{IsBegun}
 use Rattle.pv_laws.proofs.AllFrames.{frame_after}
-use Rattle.pv_laws.proofs.Frozen.{away_all, source_partway}
-use Rattle.pv_laws.proofs.Later.{IsAfter, all_adjust, all_shaped, later_point, later_way}
+use Rattle.pv_laws.proofs.Later.{IsAfter, all_shaped, later_point, later_way}
 use Rattle.pv_laws.proofs.Making.{same_unnamed, IsShaped}
 use Rattle.pv_laws.proofs.Orders.{Pairwise}
 use Rattle.pv_laws.proofs.Prepared.{bare_some}
 use Rattle.pv_table.proofs.ListedLaws.{all_map}
 use Rattle.pv_laws.proofs.Regions.{IsBeside, Before, region_after, region_partway, Passes}
-use Rattle.pv_laws.proofs.Sets.{impossible}
-use Rattle.pv_laws.proofs.Settings.{own_again, top_kind, later_repeatable, own_repeatable, both_repeatable}
-use Rattle.pv_laws.proofs.Shapes.{tree_shaped}
-use Rattle.pv_laws.proofs.Splits.{IsKnown, line_of, known_one, known_after, lines_whole, all_before, all_behind, all_beside, all_in_turn, all_later, later_listed}
 use Rattle.pv_laws.proofs.Touching.{first_turn}
 
 -- a run in two parts
@@ -142,145 +133,3 @@ module _ (xs ys : List Line) (line : Line) (safe : IsSafe line) (copying : Copyi
             let some = later_way p (p ++ rest) (is_prefix-append p rest) now (below_plain p rest (plain_path line safe copying e b) plain) ys safe_ys laters ((by_line now).after line middle) u (line_pointed now line safe middle middle_shaped quiet_two.0).shape quiet_two.1 later in
             (some.0, inside_is p u rest plain ∙ some.1 ∙ ap (run (take some.0 (operations_of ys (p ++ rest)))) (left_there rest plain))
             ))
-
--- ---- two runs
-
-module _ (lines : List Line) (are : AllByRecursion IsLine lines) (distinct : are_distinct lines ≡ true) (repeatable : IsRepeatable lines) (now later : ℕ) (t u : Files) (tree : IsTree t) (there : IsTree u)
-    (quiet : IsQuiet lines now t) (again : IsQuiet lines later u) (way : PartwayOf (in_create_order lines) now t u)
-    (before after : List Listed) (copier : Listed) (whole : ordered (enumerate_from 0 lines) ≡ before ++ copier ∷ after) (copying : Copying) (e : asks copier.1 ≡ Copy copying) (b : Bare) (present : bares_of (places t) copying.source ≡ Some b) where
-  abbrev line : Line
-  line = copier.1
-
-  abbrev path : Path
-  path = path_in copier.1.path
-
-  abbrev xs : List Line
-  xs = map line_of before
-
-  abbrev ys : List Line
-  ys = map line_of after
-
-  in_order : in_create_order lines ≡ xs ++ line ∷ ys
-  in_order = lines_whole lines are distinct repeatable before after copier whole copying e
-
-  known : IsKnown lines are distinct repeatable copier
-  known = known_one lines are distinct repeatable before after copier whole copying e
-
-  safe_parts : AllByRecursion IsSafe (xs ++ line ∷ ys)
-  safe_parts = subst (AllByRecursion IsSafe) in_order (all_safe lines are repeatable)
-
-  safe_two : AllByRecursion IsSafe (line ∷ ys)
-  safe_two = all_behind IsSafe xs (line ∷ ys) safe_parts
-
-  safe : IsSafe line
-  safe = safe_two.0
-
-  laters : AllByRecursion (IsAfter path) ys
-  laters = all_later lines are distinct repeatable before after copier whole copying e
-
-  under_source : (rest : Path) → is_prefix copying.source (copying.source ++ rest) ≡ true
-  under_source rest = is_prefix-append copying.source rest
-
-  away : (rest : Path) → has_staging rest ≡ false → has_names (copying.source ++ rest) ≡ true → AllByRecursion (λ (l : Line). governs l (copying.source ++ rest) ≡ false) xs
-  away rest plain named = all_before (λ (l : Line). governs l (copying.source ++ rest) ≡ false) xs (line ∷ ys) (
-      subst (AllByRecursion (λ (l : Line). governs l (copying.source ++ rest) ≡ false)) in_order (
-      away_all lines are repeatable copying.source copier.0 line known.at (ap copied e) (copying.source ++ rest) (under_source rest) named))
-
-  source_kept : (rest : Path) → has_staging rest ≡ false → bares_of (places u) (copying.source ++ rest) ≡ bares_of (places t) (copying.source ++ rest)
-  source_kept rest plain =
-      let unstaged = below_plain copying.source rest (plain_source line safe copying e b) plain in
-      same_unnamed (bares_of (places u)) (bares_of (places t)) (tree_shaped (places u) there) (tree_shaped (places t) tree) (copying.source ++ rest) unstaged (λ named.
-      source_partway lines are repeatable copying.source copier.0 line known.at (ap copied e) (copying.source ++ rest) (under_source rest) named unstaged now t tree u way)
-
-  module _ (rest : Path) (plain : has_staging rest ≡ false) (named : has_names (path ++ rest) ≡ true) where
-    abbrev safe_xs : AllByRecursion IsSafe xs
-    safe_xs = all_before IsSafe xs (line ∷ ys) safe_parts
-
-    besides : AllByRecursion (IsBeside path) xs
-    besides = all_beside lines are distinct repeatable before after copier whole copying e
-
-    in_turn : Pairwise Before xs
-    in_turn = all_in_turn lines are distinct repeatable before after copier whole copying e
-
-    quiet_here : one_is_refused (by_line now) (xs ++ line ∷ ys) t ≡ false
-    quiet_here = subst (λ ls. one_is_refused (by_line now) ls t ≡ false) in_order quiet
-
-    quiet_again : one_is_refused (by_line later) (xs ++ line ∷ ys) u ≡ false
-    quiet_again = subst (λ ls. one_is_refused (by_line later) ls u ≡ false) in_order again
-
-    way_here : PartwayOf (xs ++ line ∷ ys) now t u
-    way_here = subst (λ ls. PartwayOf ls now t u) in_order way
-
-    abbrev first : Files
-    first = after_each (by_line now) xs t
-
-    abbrev second : Files
-    second = after_each (by_line later) xs u
-
-    u_present : bares_of (places u) copying.source ≡ Some b
-    u_present = also_present line safe copying e b t u present source_kept
-
-    first_source : (r : Path) → has_staging r ≡ false → bares_of (places first) (copying.source ++ r) ≡ bares_of (places t) (copying.source ++ r)
-    first_source = middle_source xs ys line safe copying e b safe_xs safe_two.1 besides in_turn laters away now t (tree_shaped (places t) tree) quiet_here present
-
-    second_source : (r : Path) → has_staging r ≡ false → bares_of (places second) (copying.source ++ r) ≡ bares_of (places first) (copying.source ++ r)
-    second_source r h =
-        middle_source xs ys line safe copying e b safe_xs safe_two.1 besides in_turn laters away later u (tree_shaped (places u) there) quiet_again u_present r h
-        ∙ source_kept r h ∙ sym (first_source r h)
-
-    first_present : bares_of (places first) copying.source ≡ Some b
-    first_present = middle_present xs ys line safe copying e b safe_xs safe_two.1 besides in_turn laters away now t (tree_shaped (places t) tree) quiet_here present
-
-    second_inside : (r : Path) → inside path second r ≡ inside path u r
-    second_inside = inside_same path u second (plain_path line safe copying e b) (
-        middle_region xs ys line safe copying e b safe_xs safe_two.1 besides in_turn laters away later u (tree_shaped (places u) there) quiet_again u_present)
-
-    abbrev set_there : Path → List Operation
-    set_there r = operations_of ys (path ++ r)
-
-    listed_later : AllByRecursion (λ (l : Listed). IsAfter path l.1) after
-    listed_later = later_listed lines are distinct repeatable before after copier whole copying e
-
-    afters_known : AllByRecursion (IsKnown lines are distinct repeatable) after
-    afters_known = known_after lines are distinct repeatable before after copier whole copying e
-
-    abbrev IsEnded : Type 0
-    IsEnded =
-        run (set_there rest) (after_turn (turn_at line safe copying e b second) rest (inside path second rest))
-        ≡ run (set_there rest) (after_turn (turn_at line safe copying e b first) rest (inside path first rest))
-
-    from_begun : ((r : Path) → IsBegun copying.sets (turn_at line safe copying e b first) r (inside path first r) (inside path u r)) → IsEnded
-    from_begun begun = ap (run (set_there rest)) (begun_ends line safe copying e b first second first_present second_source
-        (own_repeatable lines are distinct repeatable path after afters_known listed_later copier known copying e refl path refl (is_prefix-refl path) (path_named line safe.is))
-        (λ r. subst (IsBegun copying.sets (turn_at line safe copying e b first) r (inside path first r)) (sym (second_inside r)) (begun r)) rest)
-
-    from_done : ((r : Path) → has_staging r ≡ false → (k : ℕ) × (inside path u r ≡ run (take k (set_there r)) (after_turn (turn_at line safe copying e b first) r (inside path first r)))) → IsEnded
-    from_done done = done_ends line safe copying e b first second first_present second_source
-        set_there (λ r. all_adjust path (path ++ r) (is_prefix-append path r) ys laters)
-        (both_repeatable lines are distinct repeatable path after afters_known listed_later copier known copying e refl (path ++ []) (append-nil path) (is_prefix-append path []) (ap has_names (append-nil path) ∙ path_named line safe.is))
-        (top_kind copying b) (own_again line copying b e) pieces rest plain
-        (later_repeatable lines are distinct repeatable path after afters_known listed_later (path ++ rest) (is_prefix-append path rest) named)
-      where
-        pieces : (r : Path) → (k : ℕ) × (has_staging r ≡ false → inside path second r ≡ run (take k (set_there r)) (after_turn (turn_at line safe copying e b first) r (inside path first r)))
-        pieces r = by (has_staging r) refl
-          where
-            by : (c : Bool) → has_staging r ≡ c → (k : ℕ) × (has_staging r ≡ false → inside path second r ≡ run (take k (set_there r)) (after_turn (turn_at line safe copying e b first) r (inside path first r)))
-            by true h = (0, λ g. impossible (sym g ∙ h))
-            by false h = let some = done r h in (some.0, λ g. second_inside r ∙ some.1)
-
-    ended : IsEnded
-    ended = by (way_there xs ys line safe copying e b safe_xs safe_two.1 besides in_turn laters away now t (tree_shaped (places t) tree) quiet_here present u way_here)
-      where
-        by : ((r : Path) → IsBegun copying.sets (turn_at line safe copying e b first) r (inside path first r) (inside path u r))
-            ⊎ ((r : Path) → has_staging r ≡ false → (k : ℕ) × (inside path u r ≡ run (take k (set_there r)) (after_turn (turn_at line safe copying e b first) r (inside path first r)))) → IsEnded
-        by (inl begun) = from_begun begun
-        by (inr done) = from_done done
-
-    -- so both runs leave the same there
-    pub copy_mended : bares_of (places (created lines later u)) (path ++ rest) ≡ bares_of (places (created lines now t)) (path ++ rest)
-    copy_mended =
-        ap (λ ls. bares_of (places (after_each (by_line later) ls u)) (path ++ rest)) in_order
-        ∙ run_end xs ys line safe copying e b safe_xs safe_two.1 besides in_turn laters away later u (tree_shaped (places u) there) quiet_again u_present rest plain
-        ∙ ended
-        ∙ sym (run_end xs ys line safe copying e b safe_xs safe_two.1 besides in_turn laters away now t (tree_shaped (places t) tree) quiet_here present rest plain)
-        ∙ sym (ap (λ ls. bares_of (places (after_each (by_line now) ls t)) (path ++ rest)) in_order)

@@ -200,9 +200,6 @@ module _ (now : ℕ) (copying : Copying) (adjust : list_all is_adjustment copyin
       by true e = absurd (other (is_prefix-antisym p path high e))
       by false e = e
 
-  filled_there : (c : Option Bare) → is_some (filled false c) ≡ true → is_some c ≡ true
-  filled_there c h = h
-
   over : (p q : Path) → has_staging q ≡ false → is_prefix p q ≡ true → p ≢ q → is_some (left q) ≡ true → is_dir (left p) ≡ true
   over p q plain above other there = by (rest_under path q) refl (rest_under path p) refl
     where

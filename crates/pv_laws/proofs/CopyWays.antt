@@ -32,14 +32,13 @@ use Rattle.pv_table.specs.Turns.{Turn, decide, refused_at}
 use Rattle.pv_laws.specs.Between.{IsOnTheWay}
 use Rattle.pv_laws.specs.Copying.{IsCopyMidway, kept, parent, some_set, gone, turn_of, OnWayOf, copy_before, copy_done, other, PartwayOf}
 use Rattle.pv_laws.specs.Moments.{Agree}
-use Rattle.pv_laws.specs.Stopping.{CopiesNothing, Partway}
+use Rattle.pv_laws.specs.Stopping.{CopiesNothing}
 use Rattle.pv_laws.proofs.AllPoints.{IsSafe, line_pointed, turns_copy, copy_passes, state_after, state_whole, plain_safe, all_safe}
 use Rattle.pv_laws.proofs.Copies.{left_before, decided_before, decide_agrees}
 use Rattle.pv_laws.proofs.CopyShapes.{at_outside}
 use Rattle.pv_laws.proofs.Lines.{line_is_plain, line_point, copy_path, copy_source}
 use Rattle.pv_laws.proofs.Making.{IsShaped, dir_there}
 use Rattle.pv_laws.proofs.Prepared.{bare_some, filled}
-use Rattle.pv_table.proofs.ListedLaws.{all_in_order}
 use Rattle.pv_laws.proofs.Sets.{impossible, is_adjustment, adjusted_none, asked, sets_adjust}
 use Rattle.pv_laws.proofs.Shapes.{tree_shaped}
 use Rattle.pv_laws.proofs.Touching.{turn_open, first_turn}
@@ -214,10 +213,5 @@ module _ (lines : List Line) (now : ℕ) (s : Bares) (t u : Files) (tree : IsTre
   copies_on_the_way are repeatable way = safe_on_the_way (all_safe lines are repeatable) way
 
   -- and where none copies
-  pub on_the_way : AllByRecursion IsLine lines → AllByRecursion CopiesNothing lines → Partway (in_create_order lines) now t u → IsOnTheWay lines s u
-  on_the_way are none way = safe_on_the_way (plain_safe lines are none) (partway_copies (in_create_order lines) t (all_in_order CopiesNothing lines none) way)
-    where
-      partway_copies : (ls : List Line) (v : Files) → AllByRecursion CopiesNothing ls → Partway ls now v u → PartwayOf ls now v u
-      partway_copies [] v g same = same
-      partway_copies (line ∷ ls) v g (inl one) = inl (other g.0 one)
-      partway_copies (line ∷ ls) v g (inr later) = inr (partway_copies ls ((by_line now).after line v) g.1 later)
+  pub on_the_way : AllByRecursion IsLine lines → AllByRecursion CopiesNothing lines → PartwayOf (in_create_order lines) now t u → IsOnTheWay lines s u
+  on_the_way are none way = safe_on_the_way (plain_safe lines are none) way

@@ -30,9 +30,8 @@ pub mod Settings
 pub mod CopyRuns
 pub mod Swapped
 pub mod Parents
-pub mod CopyStops
-pub mod AgainStops
 pub mod Commuting
 pub mod StateSteps
 pub mod StatePasses
 pub mod StateStops
+pub mod AgainStops

@@ -1,11 +1,11 @@
 -- A run that was cut short is mended at each path that lies neither at nor below a path to which a line copies what is there.
 use Rattle.std.specs.Prelude.{◌≡◌, ℕ, Bool, true, false, cond, List, [], ◌∷◌, map, take, Option, Some, None, is_some}
 use Rattle.std.proofs.Common.{suc, refl, sym, ap, subst, ◌∙◌, inl, inr}
-use Rattle.std.specs.List.{list_all, enumerate_from, AllByRecursion}
+use Rattle.std.specs.List.{list_all, AllByRecursion}
 use Rattle.std.proofs.lemmas.Bool.{or_parts}
-use Rattle.pv_path.specs.Paths.{has_names, Path, same_path, is_prefix, has_staging}
+use Rattle.pv_path.specs.Paths.{Path, same_path, is_prefix, has_staging}
 use Rattle.pv_path.proofs.PathLaws.{is_prefix-refl, rest_under-None, same_path-no}
-use Rattle.pv_steps.specs.Trees.{Files, places, IsTree}
+use Rattle.pv_steps.specs.Trees.{Files, places}
 use Rattle.pv_dress.specs.declared.bare.Bare.{Bare}
 use Rattle.pv_dress.specs.declared.operation.Operation.{Operation}
 use Rattle.pv_dress.specs.declared.operation.Operation.TheVariants.{Make}
@@ -15,36 +15,30 @@ use Rattle.pv_dress.specs.Operations.{run}
 use Rattle.pv_dress.proofs.Dividing.{run-parts}
 use Rattle.pv_dress.proofs.OperationLaws.{bares_of-same, run-append}
 use Rattle.pv_lines.specs.declared.line.Line.{Line}
-use Rattle.pv_lines.specs.Lines.{IsLine}
 use Rattle.pv_table.specs.declared.deed.Copying.{Copying}
 use Rattle.pv_table.specs.declared.deed.Deed.{Deed}
 use Rattle.pv_table.specs.declared.deed.Deed.TheVariants.{Create, Copy, Touch, Idle}
-use Rattle.pv_table.specs.declared.reason.Reason.TheVariants as reason
-use Rattle.pv_table.specs.Active.{are_distinct, Listed, ordered, in_create_order}
 use Rattle.pv_table.specs.Asked.{operations, operations_of}
 use Rattle.pv_table.specs.Asking.{asks}
-use Rattle.pv_table.specs.Created.{after_each, one_is_refused, by_turn, by_line, created, IsQuiet}
+use Rattle.pv_table.specs.Created.{after_each, one_is_refused, by_turn, by_line}
 use Rattle.pv_table.specs.Effects.{carried_out}
 use Rattle.pv_table.specs.Pointwise.{parent_bare}
 use Rattle.pv_table.specs.Reaching.{path_in, governs}
-use Rattle.pv_table.specs.Repeatable.{sets_of, HasReason, IsRepeatable}
+use Rattle.pv_table.specs.Repeatable.{sets_of}
 use Rattle.pv_table.specs.Turns.{copied, refused_at}
 use Rattle.pv_laws.specs.Copying.{IsCopyMidway, kept, parent, some_set, gone, turn_of, OnWayOf, copy_before, copy_done, other, PartwayOf}
 use Rattle.pv_laws.specs.Stopping.{IsMidway, IsPiece}
-use Rattle.pv_laws.proofs.AllPoints.{IsSafe, line_pointed, turns_copy, copy_idle, copy_passes, all_safe}
+use Rattle.pv_laws.proofs.AllPoints.{IsSafe, line_pointed, turns_copy, copy_idle, copy_passes}
 use Rattle.pv_laws.proofs.CopyShapes.{at_outside}
 use Rattle.pv_laws.proofs.AllFrames.{each_kept}
-use Rattle.pv_laws.proofs.Frozen.{source_partway}
-use Rattle.pv_laws.proofs.Lines.{source_named, line_is_plain, line_point, copy_path, copy_source}
+use Rattle.pv_laws.proofs.Lines.{line_is_plain, line_point, copy_path, copy_source}
 use Rattle.pv_laws.proofs.Making.{IsShaped}
 use Rattle.pv_laws.proofs.Orders.{Pairwise}
 use Rattle.pv_laws.proofs.Prepared.{bare_some, filled}
 use Rattle.pv_laws.proofs.Repeated.{asked_copy}
 use Rattle.pv_laws.proofs.Sets.{impossible, is_adjustment, asked, sets_adjust}
-use Rattle.pv_laws.proofs.Shapes.{tree_shaped}
-use Rattle.pv_laws.proofs.Splits.{IsKnown, all_known, line_of}
-use Rattle.pv_laws.proofs.Stops.{midway_piece, later_piece, piece_mends}
-use Rattle.pv_laws.proofs.Swapped.{copies_some, swapped, bare_directory, directory_asks, IsSwap, swap, all_swapped, swapped_distinct, swapped_repeatable, in_order_swapped}
+use Rattle.pv_laws.proofs.Stops.{midway_piece, later_piece}
+use Rattle.pv_laws.proofs.Swapped.{copies_some, swapped, bare_directory, directory_asks, IsSwap, swap}
 use Rattle.pv_laws.proofs.Swapped as swaps
 use Rattle.pv_laws.proofs.Touching.{turn_open, first_turn}
 use Rattle.pv_path.proofs.Tests.{true_not_false}
@@ -179,64 +173,3 @@ module _ (t : Files) (q : Path) (plain : has_staging q ≡ false) (now : ℕ) wh
       subst (λ b. IsPiece (map (swapped t) lines) q b (bares_of (places u) q)) (swap_point t q plain now line safe.0 outside.0 v shape alike.0 two.0 ∙ sym (run-parts (operations (swapped t line) q) (bares_of (places v) q)))
       (swaps_way lines safe.1 outside.1 free.1 ((by_line now).after line v) u (line_pointed now line safe.0 v shape two.0).shape
       (all_alike t q plain now line safe.0 outside.0 v shape alike.0 two.0 lines safe.1 free.0 alike.1) two.1 later))
-
--- ---- two runs
-
-module _ (lines : List Line) (are : AllByRecursion IsLine lines) (distinct : are_distinct lines ≡ true) (repeatable : IsRepeatable lines) (now later : ℕ) (t u : Files) (tree : IsTree t) (there : IsTree u)
-    (quiet : IsQuiet lines now t) (again : IsQuiet lines later u) (way : PartwayOf (in_create_order lines) now t u) where
-  abbrev Known : Listed → Type 0
-  Known l = IsKnown lines are distinct repeatable l
-
-  free_of : (l k : Listed) → Known l → Known k → IsFreeOf l.1 k.1
-  free_of l k known copies copying e = by (governs l.1 copying.source) refl
-    where
-      by : (b : Bool) → governs l.1 copying.source ≡ b → governs l.1 copying.source ≡ false
-      by true f = absurd (repeatable l.0 reason.Source (HasReason.source l.1 k.1 k.0 copying.source copying.source known.at copies.at (ap copied e) (is_prefix-refl copying.source) (source_named k.1 copies.is copying e) f))
-      by false f = f
-
-  free_each : (l : Listed) → Known l → (ls : List Listed) → AllByRecursion Known ls → AllByRecursion (IsFreeOf l.1) (map line_of ls)
-  free_each l known [] h = tt
-  free_each l known (k ∷ ls) h = (free_of l k known h.0, free_each l known ls h.1)
-
-  free_all : (ls : List Listed) → AllByRecursion Known ls → Pairwise IsFreeOf (map line_of ls)
-  free_all [] h = tt
-  free_all (l ∷ ls) h = (free_each l h.0 ls h.1, free_all ls h.1)
-
-  known : AllByRecursion Known (ordered (enumerate_from 0 lines))
-  known = all_known lines are distinct repeatable
-
-  same_alike : (ls : List Line) → AllByRecursion (IsThereAlike t t) ls
-  same_alike [] = tt
-  same_alike (l ∷ ls) = ((λ copying e. refl), same_alike ls)
-
-  -- what is copied is there for both runs
-  kept_alike : (l : Listed) → Known l → IsThereAlike t u l.1
-  kept_alike l is copying e = ap is_some (source_partway lines are repeatable copying.source l.0 l.1 is.at (ap copied e) copying.source (is_prefix-refl copying.source) (source_named l.1 is.is copying e) (copy_source l.1 is.is copying e) now t tree u way)
-
-  kept_all : (ls : List Listed) → AllByRecursion Known ls → AllByRecursion (IsThereAlike t u) (map line_of ls)
-  kept_all [] h = tt
-  kept_all (l ∷ ls) h = (kept_alike l h.0, kept_all ls h.1)
-
-  module _ (q : Path) (plain : has_staging q ≡ false) (outside : AllByRecursion (IsOutside t q) (in_create_order lines)) where
-    abbrev mapped : List Line
-    mapped = map (swapped t) lines
-
-    first_end : bares_of (places (created lines now t)) q ≡ run (operations_of (in_create_order mapped) q) (bares_of (places t) q)
-    first_end =
-        swaps_point t q plain now (in_create_order lines) (all_safe lines are repeatable) outside (free_all (ordered (enumerate_from 0 lines)) known) t (tree_shaped (places t) tree) (same_alike (in_create_order lines)) quiet
-        ∙ ap (λ ls. run (operations_of ls q) (bares_of (places t) q)) (sym (in_order_swapped t lines))
-
-    second_end : bares_of (places (created lines later u)) q ≡ run (operations_of (in_create_order mapped) q) (bares_of (places u) q)
-    second_end =
-        swaps_point t q plain later (in_create_order lines) (all_safe lines are repeatable) outside (free_all (ordered (enumerate_from 0 lines)) known) u (tree_shaped (places u) there) (kept_all (ordered (enumerate_from 0 lines)) known) again
-        ∙ ap (λ ls. run (operations_of ls q) (bares_of (places u) q)) (sym (in_order_swapped t lines))
-
-    piece_there : IsPiece (in_create_order mapped) q (bares_of (places t) q) (bares_of (places u) q)
-    piece_there = subst (λ ls. IsPiece ls q (bares_of (places t) q) (bares_of (places u) q)) (sym (in_order_swapped t lines)) (
-        swaps_way t q plain now (in_create_order lines) (all_safe lines are repeatable) outside (free_all (ordered (enumerate_from 0 lines)) known) t u (tree_shaped (places t) tree) (same_alike (in_create_order lines)) quiet way)
-
-    pub outside_mended : has_names q ≡ true → bares_of (places (created lines later u)) q ≡ bares_of (places (created lines now t)) q
-    outside_mended named =
-        second_end
-        ∙ piece_mends mapped (all_swapped t lines are) (swapped_distinct t lines ∙ distinct) (swapped_repeatable t lines repeatable) q named (bares_of (places t) q) (bares_of (places u) q) piece_there
-        ∙ sym first_end

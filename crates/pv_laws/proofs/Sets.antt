@@ -534,9 +534,6 @@ sets_masked line deed (idle e) h = impossible (ap (λ (d : Deed). list_any (is_a
 
 -- ---- lines that reach what lies below
 
-touching_is : (a b : Touching) → Touch a ≡ Touch b → a ≡ b
-touching_is a b e = cc
-
 -- what is set of all below a path may be set twice
 pub deep_repeatable : (line : Line) (touching : Touching) → asks line ≡ Touch touching → touching.deep ≡ true → IsRepeatable touching.sets
 deep_repeatable line touching e deep = adjustments_repeatable touching.sets adjust append unmixed

@@ -1,6 +1,6 @@
 -- From what a run has left on its way, each line is open when its turn comes in the definition of each path by itself: what
 -- stands above its path is a directory.
-use Rattle.std.specs.Prelude.{⊤, ◌≡◌, ◌≢◌, ◌⊎◌, ℕ, Bool, true, false, cond, not, ◌&&◌, ◌||◌, List, [], ◌∷◌, ◌++◌, length, map, fold, take, Option, Some, None, is_some}
+use Rattle.std.specs.Prelude.{◌≡◌, ◌≢◌, ◌⊎◌, ℕ, Bool, true, false, cond, not, ◌&&◌, ◌||◌, List, [], ◌∷◌, ◌++◌, length, map, fold, take, Option, Some, None, is_some}
 use Rattle.std.proofs.Common.{zero, suc, refl, sym, arith, ap, subst, ◌∙◌, inl, inr, append_assoc}
 use Rattle.std.specs.FinMap as fin
 use Rattle.std.specs.List.{list_any, list_all, enumerate_from, AllByRecursion}
@@ -8,7 +8,7 @@ use Rattle.std.proofs.lemmas.List.{map-append, take_all}
 use Rattle.std.proofs.lemmas.List.Folds.{list_any-append, list_all-append}
 use Rattle.std.proofs.lemmas.Grind.{flat_map-append}
 use Rattle.std.proofs.lemmas.Bool.{or_parts, and_parts}
-use Rattle.pv_path.specs.Paths.{Path, has_names, is_prefix, same_path, has_staging, same_path-decides}
+use Rattle.pv_path.specs.Paths.{Path, has_names, is_prefix, has_staging, same_path-decides}
 use Rattle.pv_path.proofs.PathLaws.{has_names-prefix, is_prefix-refl, is_prefix-trans, is_prefix-antisym, same_path-no}
 use Rattle.pv_path.proofs.Tests.{true_not_false}
 use Rattle.pv_steps.specs.Objects.{is_directory}
@@ -19,7 +19,7 @@ use Rattle.pv_dress.specs.declared.operation.Operation.TheVariants.{Make, Renew,
 use Rattle.pv_dress.specs.declared.operation.Test.{Test}
 use Rattle.pv_dress.specs.Dividing.{parts}
 use Rattle.pv_dress.specs.Nodes.{bare_of, bares_of}
-use Rattle.pv_dress.specs.Operations.{admits, changed, done, run}
+use Rattle.pv_dress.specs.Operations.{done, run}
 use Rattle.pv_dress.specs.Reasons as reasons
 use Rattle.pv_dress.specs.Reasons.{is_erasure}
 use Rattle.pv_dress.proofs.Dividing.{run-parts}
@@ -29,10 +29,8 @@ use Rattle.pv_lines.specs.declared.line.LinePath.{LinePath}
 use Rattle.pv_lines.specs.Lines.{IsLine}
 use Rattle.pv_walk.specs.Staging.{new_object, new_kind}
 use Rattle.pv_table.specs.declared.deed.Copying.{Copying}
-use Rattle.pv_table.specs.declared.deed.Deed.{Deed}
-use Rattle.pv_table.specs.declared.deed.Deed.TheVariants.{Create, Copy, Touch, Idle}
+use Rattle.pv_table.specs.declared.deed.Deed.TheVariants.{Create, Copy}
 use Rattle.pv_table.specs.declared.deed.Making.{Making}
-use Rattle.pv_table.specs.declared.deed.Touching.{Touching}
 use Rattle.pv_table.specs.declared.reason.Reason.TheVariants as reason
 use Rattle.pv_table.specs.Active.{are_distinct, Listed, is_touching, ordered, in_create_order}
 use Rattle.pv_table.specs.Asked.{first_of, clears_below, operations, operations_of}
@@ -42,7 +40,7 @@ use Rattle.pv_table.specs.Pointwise.{Bares, parent_bare, pointwise_after}
 use Rattle.pv_table.specs.Reaching.{path_in, is_creating, governs}
 use Rattle.pv_table.specs.Repeatable.{IsRepeatable, HasReason, below, sets_of}
 use Rattle.pv_table.specs.Turns.{copied, refused_at}
-use Rattle.pv_laws.specs.Copying.{OnWayOf, PartwayOf}
+use Rattle.pv_laws.specs.Copying.{PartwayOf}
 use Rattle.pv_laws.specs.Moments.{Agree}
 use Rattle.pv_laws.specs.Stopping.{IsRenewal, IsMidway, IsPiece}
 use Rattle.pv_laws.proofs.AllPoints.{IsSafe, line_pointed, turns_copy, copy_passes, all_safe}
@@ -265,10 +263,6 @@ module _ (lines : List Line) (are : AllByRecursion IsLine lines) (distinct : are
     start_shaped = shape_same (bares_of (places u)) (fin.get r) agree (tree_shaped (places u) there)
 
     -- what is copied is there in both
-    pub source_kept : (l : Listed) → Known l → (copying : Copying) → asks l.1 ≡ Copy copying → (rest : Path) → has_staging (copying.source ++ rest) ≡ false → has_names (copying.source ++ rest) ≡ true → is_prefix copying.source (copying.source ++ rest) ≡ true
-        → bares_of (places u) (copying.source ++ rest) ≡ bares_of (places t) (copying.source ++ rest)
-    source_kept l is copying e rest plain named under = source_partway lines are repeatable copying.source l.0 l.1 is.at (ap copied e) (copying.source ++ rest) under named plain now t tree u way
-
     alike_there : (l : Listed) → Known l → IsThereAlike t u l.1
     alike_there l is copying e = ap is_some (source_partway lines are repeatable copying.source l.0 l.1 is.at (ap copied e) copying.source (is_prefix-refl copying.source) (source_named l.1 is.is copying e) (copy_source l.1 is.is copying e) now t tree u way)
 

@@ -1,5 +1,5 @@
 -- From what a run has left on its way, the definition of each path by itself ends as from the tree of its start, whether or
--- not a whole run from there would refuse a line.
+-- not a whole run from there would refuse a line; so a whole run that refuses none mends it.
 use Rattle.std.specs.Prelude.{◌≡◌, ◌⊎◌, ℕ, Bool, true, false, ◌&&◌, List, [], ◌∷◌, ◌++◌, length, map, fold, take, Option, Some, None, is_some}
 use Rattle.std.proofs.Common.{refl, sym, arith, ap, subst, ◌∙◌, inl, inr}
 use Rattle.std.specs.FinMap as fin
@@ -9,6 +9,7 @@ use Rattle.std.proofs.lemmas.Bool.{or_parts, and_parts}
 use Rattle.pv_path.specs.Paths.{Path, has_names, is_prefix, has_staging}
 use Rattle.pv_path.proofs.PathLaws.{prefix_parts, has_staging-append, is_prefix-append, is_prefix-refl}
 use Rattle.pv_path.proofs.Tests.{true_not_false}
+use Rattle.pv_steps.specs.Same.{Same}
 use Rattle.pv_steps.specs.Trees.{Files, places, IsTree}
 use Rattle.pv_dress.specs.declared.bare.Bare.{Bare}
 use Rattle.pv_dress.specs.declared.operation.Operation.{Operation}
@@ -16,46 +17,53 @@ use Rattle.pv_dress.specs.Dividing.{parts}
 use Rattle.pv_dress.specs.Nodes.{bares_of}
 use Rattle.pv_dress.specs.Operations.{run}
 use Rattle.pv_dress.proofs.Dividing.{run-parts}
-use Rattle.pv_dress.proofs.OperationLaws.{run-append}
+use Rattle.pv_dress.proofs.OperationLaws.{bares-same, run-append}
 use Rattle.pv_lines.specs.declared.line.Line.{Line}
 use Rattle.pv_lines.specs.Lines.{IsLine}
 use Rattle.pv_table.specs.declared.deed.Copying.{Copying}
 use Rattle.pv_table.specs.declared.deed.Deed.{Deed}
 use Rattle.pv_table.specs.declared.deed.Deed.TheVariants.{Create, Copy, Touch, Idle}
-use Rattle.pv_table.specs.Active.{are_distinct, Listed, is_touching, ordered, in_create_order}
+use Rattle.pv_table.specs.Active.{are_distinct, Listed, ordered, in_create_order}
 use Rattle.pv_table.specs.Asked.{operations, operations_of}
 use Rattle.pv_table.specs.Asking.{asks}
 use Rattle.pv_table.specs.Created.{after_each, one_is_refused, by_line, created, IsQuiet}
-use Rattle.pv_table.specs.Pointwise.{Bares, after_turn, pointwise_after, state}
+use Rattle.pv_table.specs.Pointwise.{Bares, after_turn, pointwise_after, state, tabulated}
 use Rattle.pv_table.specs.Reaching.{path_in, governs}
 use Rattle.pv_table.specs.Repeatable.{IsRepeatable}
 use Rattle.pv_table.specs.Turns.{copied}
 use Rattle.pv_laws.specs.Copying.{PartwayOf}
 use Rattle.pv_laws.specs.Moments.{Agree}
 use Rattle.pv_laws.specs.Stopping.{IsPiece}
-use Rattle.pv_laws.proofs.AllFrames.{shape_after}
 use Rattle.pv_laws.proofs.AllPoints.{IsSafe, state_whole, all_safe}
-use Rattle.pv_laws.proofs.CopyEnds.{inside, inside_is, inside_same, below_plain, plain_path, plain_source, turn_at, begun_ends, done_ends}
+use Rattle.pv_laws.proofs.CopyEnds.{inside, inside_same, below_plain, plain_path, plain_source, turn_at, begun_ends, done_ends}
 use Rattle.pv_laws.proofs.CopyMends.{IsBegun}
 use Rattle.pv_laws.proofs.CopyRuns.{middle_source, middle_present as first_there, passes as line_passes, way_there, run_end, quiet_parts}
 use Rattle.pv_laws.proofs.Frozen.{away_all, source_partway}
-use Rattle.pv_laws.proofs.CopyStops.{reached_by, not_reached}
 use Rattle.pv_laws.proofs.Later.{IsAfter, adjusts, beside, asks_none, all_adjust, all_shaped}
-use Rattle.pv_laws.proofs.Lines.{path_named, copy_source}
+use Rattle.pv_laws.proofs.Lines.{path_named}
 use Rattle.pv_laws.proofs.Making.{same_unnamed, IsShaped}
 use Rattle.pv_laws.proofs.Orders.{Pairwise}
-use Rattle.pv_laws.proofs.Parents.{IsOutside, IsFreeOf, swaps_point, swaps_way}
-use Rattle.pv_laws.proofs.Prepared.{filled}
+use Rattle.pv_laws.proofs.Parents.{IsOutside, swaps_point, swaps_way}
+use Rattle.pv_laws.proofs.Points.{get-tabulated}
+use Rattle.pv_laws.proofs.Prepared.{bare_some, filled}
 use Rattle.pv_laws.proofs.Regions.{IsBeside, IsClearing, Before, Passes, asks_there, copy_outside, not_lower}
 use Rattle.pv_laws.proofs.Repeated.{copy_adjusts_not}
 use Rattle.pv_laws.proofs.Sets.{impossible}
 use Rattle.pv_laws.proofs.Settings.{own_again, top_kind, later_repeatable, own_repeatable, both_repeatable}
-use Rattle.pv_laws.proofs.Shapes.{shape_same, tree_shaped}
+use Rattle.pv_laws.proofs.Shapes.{tree_shaped}
 use Rattle.pv_laws.proofs.Splits.{IsKnown, IsSplit, all_known, known_one, known_after, lines_whole, line_of, split, all_before, all_behind, all_beside, all_in_turn, all_later, later_listed}
-use Rattle.pv_laws.proofs.StatePasses.{free_all, none_clears, start_shaped, source_kept, alike_all, same_alike, all_open}
-use Rattle.pv_laws.proofs.StateSteps.{PassesTo, IsOpen, AllOpen, tree_of, asked_after, none_after, inside_after, outside_after, open_shape, all_shape, all_frame, all_swap, fold_parts, open_parts}
+use Rattle.pv_laws.proofs.StatePasses.{free_all, none_clears, start_shaped, alike_all, same_alike, all_open}
+use Rattle.pv_laws.proofs.StateSteps.{IsOpen, AllOpen, tree_of, asked_after, none_after, inside_after, outside_after, open_shape, all_shape, all_frame, all_swap, fold_parts, open_parts}
 use Rattle.pv_laws.proofs.Stops.{piece_mends}
 use Rattle.pv_laws.proofs.Swapped.{swapped, all_swapped, swapped_distinct, swapped_repeatable, in_order_swapped}
+
+-- whether a path lies at or below the path of a line that copies what is there
+abbrev reached_by : Files → Path → Line → Deed → Bool
+reached_by t q line (Copy copying) = is_some (bares_of (places t) copying.source) && is_prefix (path_in line.path) q
+reached_by t q line deed = false
+
+not_reached : (t : Files) (q : Path) (line : Line) → reached_by t q line (asks line) ≡ false → IsOutside t q line
+not_reached t q line h copying e there = sym (ap (λ b. b && is_prefix (path_in line.path) q) there) ∙ sym (ap (reached_by t q line) e) ∙ h
 
 -- ---- lines beside a path to which a line copies, and lines after it
 
@@ -379,10 +387,28 @@ module _ (lines : List Line) (are : AllByRecursion IsLine lines) (distinct : are
   run_shaped = all_shaped now (in_create_order lines) (all_safe lines are repeatable) t (tree_shaped (places t) tree) quiet
 
   -- what the definition gives after all lines is what the first run, had it not been cut short, would have left
-  whole_state : (q : Path) → has_staging q ≡ false → fin.get (fold pointwise_after r (in_create_order lines)) q ≡ bares_of (places (created lines now t)) q
-  whole_state q plain = same_unnamed (fin.get (fold pointwise_after r (in_create_order lines))) (bares_of (places (created lines now t))) last_shaped run_shaped q plain (mended_named q plain)
+  whole_state : (q : Path) → has_staging q ≡ false → fin.get (state lines (length (in_create_order lines)) r) q ≡ bares_of (places (created lines now t)) q
+  whole_state q plain =
+      ap (λ ls. fin.get (fold pointwise_after r ls) q) (take_all (length (in_create_order lines)) (in_create_order lines) (omega arith))
+      ∙ same_unnamed (fin.get (fold pointwise_after r (in_create_order lines))) (bares_of (places (created lines now t))) last_shaped run_shaped q plain (mended_named q plain)
 
   pub states_end : (s : Bares) → Agree s t → (q : Path) → has_staging q ≡ false → fin.get (state lines (length (in_create_order lines)) r) q ≡ fin.get (state lines (length (in_create_order lines)) s) q
-  states_end s same q plain =
-      ap (λ ls. fin.get (fold pointwise_after r ls) q) (take_all (length (in_create_order lines)) (in_create_order lines) (omega arith))
-      ∙ whole_state q plain ∙ sym (state_whole lines (all_safe lines are repeatable) now s t tree quiet same q plain)
+  states_end s same q plain = whole_state q plain ∙ sym (state_whole lines (all_safe lines are repeatable) now s t tree quiet same q plain)
+
+  -- so does a whole run that refuses no line
+  state_mends : (later : ℕ) → IsQuiet lines later u → Same (created lines later u) (created lines now t)
+  state_mends later again q plain = bares-same (places (created lines later u)) (places (created lines now t)) q (
+      sym (state_whole lines (all_safe lines are repeatable) later r u there again agree q plain) ∙ whole_state q plain)
+
+-- each tree has a map of what stands in it
+map_of : (t : Files) → (s : Bares) × Agree s t
+map_of t = (
+  tabulated (fin.keys t) (bares_of (places t)),
+  λ q plain. get-tabulated (fin.keys t) (bares_of (places t)) q (λ h. sym (fin.contains_key-keys t q) ∙ sym (bare_some (places t q)) ∙ h),
+)
+
+-- a whole run from there leaves what one run that was not cut short leaves
+pub run_mends : (lines : List Line) → AllByRecursion IsLine lines → are_distinct lines ≡ true → IsRepeatable lines → (now later : ℕ) (t u : Files) → IsTree t → IsTree u
+    → IsQuiet lines now t → IsQuiet lines later u → PartwayOf (in_create_order lines) now t u → Same (created lines later u) (created lines now t)
+run_mends lines are distinct repeatable now later t u tree there quiet again way =
+    let r = map_of u in state_mends lines are distinct repeatable now t u tree there quiet way r.0 r.1 later again

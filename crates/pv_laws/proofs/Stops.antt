@@ -1,4 +1,5 @@
--- What a run of lines that copy nothing has left when it was cut short, a whole run of the same lines mends.
+-- What a run of lines that copy nothing has left when it was cut short is a piece at each path, which a whole run of the
+-- same lines mends.
 use Rattle.pv_laws.proofs.AllFrames.{shape_after, shape_after}
 use Rattle.std.specs.Prelude.{◌≡◌, ℕ, Bool, true, false, List, [], ◌∷◌, ◌++◌, map, filter, fold, take, Option, Some, None}
 use Rattle.std.proofs.Common.{zero, suc, refl, sym, ap, subst, ◌∙◌, inl, inr}
@@ -32,7 +33,8 @@ use Rattle.pv_table.specs.Created.{by_line, one_is_refused, created, IsQuiet}
 use Rattle.pv_table.specs.Reaching.{path_in, is_creating}
 use Rattle.pv_table.specs.Repeatable.{IsRepeatable}
 use Rattle.pv_table.specs.Turns.{copied}
-use Rattle.pv_laws.specs.Stopping.{IsRenewal, IsMidway, Partway, IsPiece}
+use Rattle.pv_laws.specs.Copying.{OnWayOf, copy_before, copy_done, other, PartwayOf}
+use Rattle.pv_laws.specs.Stopping.{IsRenewal, IsMidway, OnWay, IsPiece}
 use Rattle.pv_laws.proofs.Lines.{IsPlain, asked_made, line_is_plain, line_point, lines_point}
 use Rattle.pv_laws.proofs.Making.{same_unnamed, IsShaped, asked_here, first_renew}
 use Rattle.pv_laws.proofs.Orders.{Pairwise, ComesAfter, makers_ordered}
@@ -68,11 +70,18 @@ later_piece line lines q old new (IsPiece.piece k e) =
 later_piece line lines q old new (IsPiece.gap before after next b whole s renewal none) =
     IsPiece.gap (line ∷ before) after next b (ap (λ ls. line ∷ ls) whole) (run-append (parts (operations line q)) (operations_of before q) old ∙ s) renewal none
 
+-- a line that copies nothing is on its way at each path
+plain_way : (now : ℕ) (line : Line) (t u : Files) → copied (asks line) ≡ None → OnWayOf line now t u → OnWay line t u
+plain_way now line t u none (copy_before copying e before) = absurd (let no : Some copying.source ≡ None = sym (ap copied e) ∙ none in cc)
+plain_way now line t u none (copy_done copying e whole) = absurd (let no : Some copying.source ≡ None = sym (ap copied e) ∙ none in cc)
+plain_way now line t u none (other no_copy way) = way
+
 -- what a run has left on its way is a piece at each path
-pub partway_piece : (lines : List Line) (now : ℕ) (t u : Files) → AllByRecursion IsPlain lines → IsShaped (bares_of (places t)) → one_is_refused (by_line now) lines t ≡ false → Partway lines now t u
+pub partway_piece : (lines : List Line) (now : ℕ) (t u : Files) → AllByRecursion IsPlain lines → IsShaped (bares_of (places t)) → one_is_refused (by_line now) lines t ≡ false → PartwayOf lines now t u
     → (q : Path) → has_staging q ≡ false → IsPiece lines q (bares_of (places t) q) (bares_of (places u) q)
 partway_piece [] now t u are shape quiet same q plain = IsPiece.piece 0 (sym (bares_of-same (places t) (places u) q (same q plain)))
-partway_piece (line ∷ lines) now t u are shape quiet (inl way) q plain = midway_piece line lines q (bares_of (places t) q) (bares_of (places u) q) (way q plain)
+partway_piece (line ∷ lines) now t u are shape quiet (inl way) q plain =
+    midway_piece line lines q (bares_of (places t) q) (bares_of (places u) q) (plain_way now line t u are.0.no_copy way q plain)
 partway_piece (line ∷ lines) now t u are shape quiet (inr later) q plain =
     let two = or_parts ((by_line now).is_refused line t) (one_is_refused (by_line now) lines ((by_line now).after line t)) quiet in
     let one = line_point now line are.0 t shape two.0 in
@@ -232,11 +241,11 @@ module _ (lines : List Line) (are : AllByRecursion IsLine lines) (no_copies : Al
   created_point now t tree quiet q plain = lines_point now (in_create_order lines) t in_order_plain (tree_shaped (places t) tree) quiet q plain
 
   -- what it has left on its way is a piece at each path
-  pub partway_of_lines : (now : ℕ) (t u : Files) → IsTree t → IsQuiet lines now t → Partway (in_create_order lines) now t u → (q : Path) → has_staging q ≡ false
+  pub partway_of_lines : (now : ℕ) (t u : Files) → IsTree t → IsQuiet lines now t → PartwayOf (in_create_order lines) now t u → (q : Path) → has_staging q ≡ false
       → IsPiece (in_create_order lines) q (bares_of (places t) q) (bares_of (places u) q)
   partway_of_lines now t u tree quiet way = partway_piece (in_create_order lines) now t u in_order_plain (tree_shaped (places t) tree) quiet way
 
-  -- a run that was cut short is mended
+  -- from pieces a whole run leaves what it leaves from the start
   module _ (distinct : are_distinct lines ≡ true) (repeatable : IsRepeatable lines) (now later : ℕ) (t u : Files) (tree : IsTree t) (there : IsTree u) (quiet : IsQuiet lines now t) (again : IsQuiet lines later u) where
     pub pieces_mend : ((q : Path) → has_staging q ≡ false → IsPiece (in_create_order lines) q (bares_of (places t) q) (bares_of (places u) q)) → Same (created lines later u) (created lines now t)
     pieces_mend pieces q plain = bares-same (places (created lines later u)) (places (created lines now t)) q (
@@ -247,6 +256,3 @@ module _ (lines : List Line) (are : AllByRecursion IsLine lines) (no_copies : Al
       where
         left : (moment : ℕ) (v : Files) → IsTree v → IsShaped (bares_of (places (created lines moment v)))
         left moment v is = shape_after moment (in_create_order lines) (all_in_order IsLine lines are) v (tree_shaped (places v) is)
-
-    pub partway_mends : Partway (in_create_order lines) now t u → Same (created lines later u) (created lines now t)
-    partway_mends way = pieces_mend (partway_of_lines now t u tree quiet way)

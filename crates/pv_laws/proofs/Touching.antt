@@ -198,6 +198,39 @@ module _ (now : ℕ) (line : Line) (touching : Touching) (e : asks line ≡ Touc
   listed : (q : Path) → is_some (bares_of (places t) q) ≡ true → 1 ≤ times q (fin.keys t)
   listed q there = let n = times-keys t q ∙ ap (λ b. cond b 1 0) (sym (bare_some (places t q)) ∙ there) in omega (arith, n)
 
+  module _ (q : Path) (plain : has_staging q ≡ false) where
+    touches_below : touching.deep ≡ true → names_above line q ≡ true → touches line touching q ≡ true
+    touches_below deep h =
+        ap (λ d. names line q || (d && names_above line q && not (has_staging q))) deep
+        ∙ ap (λ b. names line q || (b && not (has_staging q))) h
+        ∙ ap (λ b. names line q || not b) plain
+        ∙ elim (names line q) as (λ b. (b || true) ≡ true) [ true ↦ refl | false ↦ refl ]
+
+    -- what a turn at one of them reaches, the line touches
+    pub to_touches : list_any (λ p. is_touched touching p q) named ≡ true → touches line touching q ≡ true
+    to_touches h = by (path_cases found.0 q)
+      where
+        found : (p : Path) × (names line p ≡ true) × (is_touched touching p q ≡ true)
+        found = kept_any (λ p. is_touched touching p q) (names line) (fin.keys t) h
+
+        by : (found.0 ≡ q) ⊎ (same_path found.0 q ≡ false) → touches line touching q ≡ true
+        by (inl same) = ap (λ b. b || (touching.deep && names_above line q && not (has_staging q))) (sym (ap (names line) same) ∙ found.1)
+        by (inr d) = touches_below deeper.0 (any_range (λ k. names line (take k q)) 0 (length q) (length found.0) (omega arith) shorter (ap (names line) cut ∙ found.1))
+          where
+            deeper : (touching.deep ≡ true) × (is_prefix found.0 q ≡ true)
+            deeper = and_parts touching.deep (is_prefix found.0 q) (
+                and_parts (touching.deep && is_prefix found.0 q) (not (has_staging q)) (sym (ap (λ b. b || (touching.deep && is_prefix found.0 q && not (has_staging q))) d) ∙ found.2)).0
+
+            cut : take (length found.0) q ≡ found.0
+            cut = let parts = prefix_parts found.0 q deeper.1 in ap (take (length found.0)) parts.1 ∙ take-append_seam found.0 parts.0
+
+            shorter : length found.0 < 0 + length q
+            shorter = at (zero_or_more (length q - length found.0))
+              where
+                at : (length q - length found.0 ≡ 0) ⊎ (1 ≤ length q - length found.0) → length found.0 < 0 + length q
+                at (inl z) = absurd (true_not_false (same_path found.0 q) ((same_path-decides found.0 q).1 (prefix_whole found.0 q deeper.1 (omega (arith, z)))) d)
+                at (inr m) = omega (arith, m)
+
   module _ (q : Path) (plain : has_staging q ≡ false) (there : is_some (bares_of (places t) q) ≡ true) where
     module _ (deep : touching.deep ≡ true) where
       reaches_below : (p : Path) → is_prefix p q ≡ true → is_touched touching p q ≡ true
@@ -206,39 +239,6 @@ module _ (now : ℕ) (line : Line) (touching : Touching) (e : asks line ≡ Touc
           ∙ ap (λ b. same_path p q || (b && not (has_staging q))) above
           ∙ ap (λ b. same_path p q || not b) plain
           ∙ elim (same_path p q) as (λ b. (b || true) ≡ true) [ true ↦ refl | false ↦ refl ]
-
-      touches_below : names_above line q ≡ true → touches line touching q ≡ true
-      touches_below h =
-          ap (λ d. names line q || (d && names_above line q && not (has_staging q))) deep
-          ∙ ap (λ b. names line q || (b && not (has_staging q))) h
-          ∙ ap (λ b. names line q || not b) plain
-          ∙ elim (names line q) as (λ b. (b || true) ≡ true) [ true ↦ refl | false ↦ refl ]
-
-      to_touches : list_any (λ p. is_touched touching p q) named ≡ true → touches line touching q ≡ true
-      to_touches h = by (path_cases found.0 q)
-        where
-          found : (p : Path) × (names line p ≡ true) × (is_touched touching p q ≡ true)
-          found = kept_any (λ p. is_touched touching p q) (names line) (fin.keys t) h
-
-          by : (found.0 ≡ q) ⊎ (same_path found.0 q ≡ false) → touches line touching q ≡ true
-          by (inl same) = ap (λ b. b || (touching.deep && names_above line q && not (has_staging q))) (sym (ap (names line) same) ∙ found.1)
-          by (inr d) = touches_below (any_range (λ k. names line (take k q)) 0 (length q) (length found.0) (omega arith) shorter (ap (names line) cut ∙ found.1))
-            where
-              deeper : (touching.deep && is_prefix found.0 q && not (has_staging q)) ≡ true
-              deeper = sym (ap (λ b. b || (touching.deep && is_prefix found.0 q && not (has_staging q))) d) ∙ found.2
-
-              above : is_prefix found.0 q ≡ true
-              above = (and_parts touching.deep (is_prefix found.0 q) (and_parts (touching.deep && is_prefix found.0 q) (not (has_staging q)) deeper).0).1
-
-              cut : take (length found.0) q ≡ found.0
-              cut = let parts = prefix_parts found.0 q above in ap (take (length found.0)) parts.1 ∙ take-append_seam found.0 parts.0
-
-              shorter : length found.0 < 0 + length q
-              shorter = at (zero_or_more (length q - length found.0))
-                where
-                  at : (length q - length found.0 ≡ 0) ⊎ (1 ≤ length q - length found.0) → length found.0 < 0 + length q
-                  at (inl z) = absurd (true_not_false (same_path found.0 q) ((same_path-decides found.0 q).1 (prefix_whole found.0 q above (omega (arith, z)))) d)
-                  at (inr m) = omega (arith, m)
 
       from_touches : touches line touching q ≡ true → list_any (λ p. is_touched touching p q) named ≡ true
       from_touches h = by (or_cases (names line q) (touching.deep && names_above line q && not (has_staging q)) h)
@@ -255,7 +255,7 @@ module _ (now : ℕ) (line : Line) (touching : Touching) (e : asks line ≡ Touc
                   shape.above (take found.0 q) q plain (is_prefix-take found.0 q) (λ same. (let l = ap length same in let short = found.2 in omega (arith, l, short, length-take found.0 q))) there)
 
       any_touches : list_any (λ p. is_touched touching p q) named ≡ touches line touching q
-      any_touches = same_tests (list_any (λ p. is_touched touching p q) named) (touches line touching q) to_touches from_touches
+      any_touches = same_tests (list_any (λ p. is_touched touching p q) named) (touches line touching q) (to_touches q plain) from_touches
 
     shallow_touches : touching.deep ≡ false → touches line touching q ≡ names line q
     shallow_touches shallow = ap (λ d. names line q || (d && names_above line q && not (has_staging q))) shallow ∙ elim (names line q) as (λ b. (b || false) ≡ b) [ true ↦ refl | false ↦ refl ]

@@ -1,6 +1,6 @@
 -- What a run of lines, of which some copy, may have left when it was cut short, stamps and staging names aside
 -- (tmpfiles.d(5)).
-use Rattle.std.specs.Prelude.{◌≡◌, ◌≢◌, ◌⊎◌, ℕ, true, false, List, [], ◌∷◌, take, Option, Some, None, is_some}
+use Rattle.std.specs.Prelude.{⊤, ◌≡◌, ◌≢◌, ℕ, true, false, List, [], ◌∷◌, take, Option, Some, None, is_some}
 use Rattle.pv_path.specs.Paths.{Path, is_prefix, has_staging}
 use Rattle.pv_steps.specs.Same.{Same}
 use Rattle.pv_steps.specs.Trees.{Files, places, IsTree}
@@ -8,6 +8,7 @@ use Rattle.pv_dress.specs.declared.bare.Bare.{Bare}
 use Rattle.pv_dress.specs.Dividing.{parts}
 use Rattle.pv_dress.specs.Nodes.{bares_of}
 use Rattle.pv_dress.specs.Operations.{run}
+use Rattle.pv_doing.specs.Courses.{Course, Partway}
 use Rattle.pv_lines.specs.declared.line.Line.{Line}
 use Rattle.pv_table.specs.declared.deed.Copying.{Copying}
 use Rattle.pv_table.specs.declared.deed.Deed.TheVariants.{Copy}
@@ -45,10 +46,18 @@ pub data OnWayOf (line : Line) (now : ℕ) (t u : Files) : Type 0 where
   copy_done : (copying : Copying) → asks line ≡ Copy copying → Same ((by_line now).after line t) u → OnWayOf line now t u
   other : copied (asks line) ≡ None → OnWay line t u → OnWayOf line now t u
 
+-- a line as a course, of which neither steps nor texts are told
+abbrev pub law_course : ℕ → Course Line
+law_course now = record {
+  whole = by_line now;
+  way = λ line t u. OnWayOf line now t u;
+  steps = λ line t step. ⊤;
+  cut = λ moment refused line t steps said. ⊤;
+}
+
 -- on the way of lines one after the other
 abbrev pub PartwayOf : List Line → ℕ → Files → Files → Type 0
-PartwayOf [] now t u = Same t u
-PartwayOf (line ∷ lines) now t u = OnWayOf line now t u ⊎ PartwayOf lines now ((by_line now).after line t) u
+PartwayOf lines now t u = Partway (law_course now) lines t u
 
 -- runs of lines, one at each of some moments, each begun on what the last one left, and each cut short; a whole run from
 -- each of these trees would refuse no line

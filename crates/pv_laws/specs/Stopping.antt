@@ -1,9 +1,8 @@
--- What a run of lines that copy nothing may have left when it was cut short, stamps and staging names aside
--- (tmpfiles.d(5)).
-use Rattle.std.specs.Prelude.{◌≡◌, ◌⊎◌, ℕ, false, List, [], ◌∷◌, ◌++◌, take, Option, Some, None}
+-- What a line that copies nothing may have left at each path when it was cut short, and what a run of such lines, stamps
+-- and staging names aside (tmpfiles.d(5)).
+use Rattle.std.specs.Prelude.{◌≡◌, ℕ, false, List, ◌∷◌, ◌++◌, take, Option, Some, None}
 use Rattle.pv_path.specs.Paths.{Path, has_staging}
 use Rattle.pv_steps.specs.Trees.{Files, places}
-use Rattle.pv_steps.specs.Same.{Same}
 use Rattle.pv_dress.specs.declared.bare.Bare.{Bare}
 use Rattle.pv_dress.specs.declared.operation.Test.{Test}
 use Rattle.pv_dress.specs.Dividing.{parts}
@@ -15,7 +14,6 @@ use Rattle.pv_table.specs.declared.deed.Deed.TheVariants.{Create}
 use Rattle.pv_table.specs.declared.deed.Making.{Making}
 use Rattle.pv_table.specs.Asked.{operations, operations_of}
 use Rattle.pv_table.specs.Asking.{asks}
-use Rattle.pv_table.specs.Created.{by_line}
 use Rattle.pv_table.specs.Reaching.{path_in}
 use Rattle.pv_table.specs.Turns.{copied}
 
@@ -41,11 +39,6 @@ pub data IsMidway (line : Line) (q : Path) (old new : Option Bare) : Type 0 wher
 -- so at each path without a staging name
 abbrev pub OnWay : Line → Files → Files → Type 0
 OnWay line t u = (q : Path) → has_staging q ≡ false → IsMidway line q (bares_of (places t) q) (bares_of (places u) q)
-
--- on the way of lines one after the other: some are done, the next is at work
-abbrev pub Partway : List Line → ℕ → Files → Files → Type 0
-Partway [] now t u = Same t u
-Partway (line ∷ lines) now t u = OnWay line t u ⊎ Partway lines now ((by_line now).after line t) u
 
 -- at a path, from what stood there at the start: what the first operations of all lines make of it; or nothing yet, where
 -- what the lines before left is to give way to the object of the next

@@ -23,7 +23,7 @@ ghost use Rattle.pv_laws.specs.Between.{IsOnTheWay};
 ghost use Rattle.pv_laws.specs.CarryingOut.{AreApart};
 ghost use Rattle.pv_laws.specs.Copying.{PartwayOf, StoppedRuns};
 ghost use Rattle.pv_laws.specs.Moments.{SameBares, Agree};
-ghost use Rattle.pv_laws.specs.Stopping.{CopiesNothing, IsPiece, Partway};
+ghost use Rattle.pv_laws.specs.Stopping.{CopiesNothing, IsPiece};
 ghost use Rattle.pv_laws.specs.Swept.{LeavesNoStagingName};
 
 /// What a line that is refused at no turn leaves at a path depends on what stood at this path alone: it is what the
@@ -60,7 +60,7 @@ pub fn a_piece_ends_as_the_start()
 /// What a run of lines has left on its way, with some lines done and the next at work, is such a piece at each path.
 pub fn what_is_on_the_way_is_a_piece()
     ensures { (lines : List LineValue) (now : ℕ) (t u : Files) (q : Path) → IsTree t → AllByRecursion IsLine lines
-        → AllByRecursion CopiesNothing lines → IsQuiet lines now t → Partway (in_create_order lines) now t u
+        → AllByRecursion CopiesNothing lines → IsQuiet lines now t → PartwayOf (in_create_order lines) now t u
         → has_staging q ≡ false
         → IsPiece (in_create_order lines) q (bares_of (places t) q) (bares_of (places u) q) }
 {}
@@ -76,17 +76,9 @@ pub fn a_run_from_pieces_is_mended()
         → Same (created lines later u) (created lines now t) }
 {}
 
-/// So a run of the lines that was cut short, and is then run whole, leaves what one whole run leaves.
+/// A run of lines that was cut short, and is then run whole at any moment, leaves what one whole run leaves, where no line
+/// has a reason and neither whole run refuses a line at a turn; copies included.
 pub fn a_run_cut_short_is_mended()
-    ensures { (lines : List LineValue) (now later : ℕ) (t u : Files) → IsTree t → IsTree u
-        → AllByRecursion IsLine lines → AllByRecursion CopiesNothing lines → are_distinct lines ≡ true
-        → IsRepeatable lines → IsQuiet lines now t → IsQuiet lines later u
-        → Partway (in_create_order lines) now t u → Same (created lines later u) (created lines now t) }
-{}
-
-/// So it is with lines that copy: a run that was cut short, and is then run whole at any moment, leaves what one whole
-/// run leaves, where no line has a reason and neither whole run refuses a line at a turn.
-pub fn a_run_with_copies_cut_short_is_mended()
     ensures { (lines : List LineValue) (now later : ℕ) (t u : Files) → IsTree t → IsTree u
         → AllByRecursion IsLine lines → are_distinct lines ≡ true → IsRepeatable lines → IsQuiet lines now t
         → IsQuiet lines later u → PartwayOf (in_create_order lines) now t u
@@ -167,7 +159,7 @@ pub fn active_lines_are_distinct()
 pub fn on_the_way_each_path_is_between_two_lines()
     ensures plain { (lines : List LineValue) (now : ℕ) (s : Bares) (t u : Files) → IsTree t → AllByRecursion IsLine lines
         → AllByRecursion CopiesNothing lines → IsQuiet lines now t → Agree s t
-        → Partway (in_create_order lines) now t u → IsOnTheWay lines s u }
+        → PartwayOf (in_create_order lines) now t u → IsOnTheWay lines s u }
     ensures copies { (lines : List LineValue) (now : ℕ) (s : Bares) (t u : Files) → IsTree t → AllByRecursion IsLine lines
         → IsRepeatable lines → IsQuiet lines now t → Agree s t
         → PartwayOf (in_create_order lines) now t u → IsOnTheWay lines s u }

@@ -22,7 +22,7 @@ use Rattle.pv_table.specs.declared.deed.Deed.{Deed}
 use Rattle.pv_table.specs.declared.deed.Deed.TheVariants.{Create, Copy, Touch, Idle}
 use Rattle.pv_table.specs.Asking.{asks, deeds, id_for_new, id_to_set, mode_to_set, owners_and_mode, source_of, without_links}
 use Rattle.pv_adjust.specs.Sets.{AreSets}
-use Rattle.pv_make.specs.Copies.{IsCopying}
+use Rattle.pv_make.specs.Deeds.{IsCopying}
 use Rattle.pv_make.proofs.TableLaws.{found, named, mode_set_by, root_named}
 use Rattle.pv_adjust.proofs.AskedSets.{owner_ids}
 

@@ -1,9 +1,11 @@
 pub mod TableLaws
-pub mod ChoosingLaws
-pub mod SettleLaws
-pub mod MakeLaws
 pub mod CopyTable
-pub mod CopySettleLaws
+pub mod DeedLaws
+pub mod DecidingLaws
+pub mod PuttingLaws
+pub mod SettlingLaws
 pub mod AbsentSource
-pub mod CopyLaws
+pub mod RefusingLaws
+pub mod ReadyLaws
+pub mod TurnLaws
 pub mod RefusedLaws

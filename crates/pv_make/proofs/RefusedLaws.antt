@@ -1,4 +1,4 @@
--- Laws of a line that makes something before it does anything: it is refused, and says so; or memory ran out.
+-- Laws of a line at a path before it does anything: it is refused, and says so; or memory ran out.
 use Rattle.std.specs.Prelude.{◌≡◌, ℕ, List, [], ◌∷◌, ◌++◌, Some, is_some, Result, Ok, IsErrAnd}
 use Rattle.std.proofs.Common.{refl, sym, ap, ◌∙◌}
 use Rattle.pv_doing.specs.Courses.{carried_of, CarriesOut}
@@ -16,7 +16,8 @@ use Rattle.pv_text.specs.Said.{said_at}
 use Rattle.pv_table.specs.Effects.{turn_after}
 use Rattle.pv_table.specs.Saying.{refused_text, turn_messages}
 use Rattle.pv_table.specs.Turns.{Refused, refused_at}
-use Rattle.pv_make.specs.OnWay.{OnWay, making_course}
+use Rattle.pv_make.specs.OnWay.{turn_course}
+use Rattle.pv_make.proofs.TurnLaws.{turn_start}
 
 module _ (now : ℕ) (line : Line) (path : Path) (t : Files) (place : Refused) (refused : refused_at line path (places t) ≡ Some place) where
   refused_after : t ≡ turn_after now line path t
@@ -26,13 +27,13 @@ module _ (now : ℕ) (line : Line) (path : Path) (t : Files) (place : Refused) (
   refused_says = rw refused refl
 
 module _ {S : Type 0} (tree : Ghosts S) (moves : Moves tree) (now : ℕ) (line : Line) (path : Path) (a : S) (old new : List (List ℕ)) where
-  pub making_none : new ≡ old → (r : Result Carried TreeFault) → IsErrAnd r (λ e. e ≡ Memory) → CarriesOut tree (making_course now line) path now a a old new r
-  making_none unsaid r memory = single_none tree (making_course now line) path now a old (λ moment refused x t done said work. work) moves (OnWay.before (λ q plain. refl)) new unsaid r memory
+  pub turn_none : new ≡ old → (r : Result Carried TreeFault) → IsErrAnd r (λ e. e ≡ Memory) → CarriesOut tree (turn_course now line) path now a a old new r
+  turn_none unsaid r memory = single_none tree (turn_course now line) path now a old (λ moment refused x t done said work. work) moves (turn_start now line path (tree.state a)) new unsaid r memory
 
-  pub making_refused : (place : Refused) → refused_at line path (places (tree.state a)) ≡ Some place → new ≡ old ++ said_at line.place (refused_text place) ∷ []
-      → CarriesOut tree (making_course now line) path now a a old new (Ok NotCarriedOut)
-  making_refused place refused said =
-      single_said tree (making_course now line) path now a old (λ moment refused x t done said work. work) moves (OnWay.before (λ q plain. refl)) new NotCarriedOut
+  pub turn_refused : (place : Refused) → refused_at line path (places (tree.state a)) ≡ Some place → new ≡ old ++ said_at line.place (refused_text place) ∷ []
+      → CarriesOut tree (turn_course now line) path now a a old new (Ok NotCarriedOut)
+  turn_refused place refused said =
+      single_said tree (turn_course now line) path now a old (λ moment refused x t done said work. work) moves (turn_start now line path (tree.state a)) new NotCarriedOut
       (refused_after now line path (tree.state a) place refused)
       (said ∙ ap (λ (xs : List (List ℕ)). old ++ xs) (sym (refused_says now line path (tree.state a) place refused)))
       (ap carried_of (sym (ap is_some refused)))

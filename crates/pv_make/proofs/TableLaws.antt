@@ -34,7 +34,7 @@ use Rattle.pv_table.specs.declared.deed.Making.{Making}
 use Rattle.pv_table.specs.Asking.{asks, bytes_of, contents_to_set, deeds, device, id_for_new, id_to_set, link_to, mode_for_new, mode_to_set, owners_and_mode, renewal, without_links}
 use Rattle.pv_table.specs.Asking.{making as makes}
 use Rattle.pv_adjust.specs.Sets.{AreSets, AtMostOne, SetsMode}
-use Rattle.pv_make.specs.Settling.{IsMaking}
+use Rattle.pv_make.specs.Deeds.{IsMaking}
 use Rattle.pv_adjust.proofs.AskedSets.{owner_ids, sets_contents}
 
 -- ---- rows

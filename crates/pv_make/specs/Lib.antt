@@ -1,3 +1,5 @@
+pub mod Deeds
+pub mod Refusing
+pub mod Deciding
+pub mod Turning
 pub mod OnWay
-pub mod Settling
-pub mod Copies

@@ -27,6 +27,7 @@ use Rattle.pv_table.specs.Pointwise.{parent_bare}
 use Rattle.pv_table.specs.Saying.{found}
 use Rattle.pv_table.specs.Turns.{Turn, view_of, has_something, decide, refused_at}
 use Rattle.pv_adjust.specs.Adjusting.{GivesSet}
+use Rattle.pv_adjust.specs.Reached.{AdjustingReached, GivesReached}
 
 -- ---- what is done
 
@@ -88,8 +89,18 @@ pub data IsStepOf (now : ℕ) (line : Line) (path : Path) (t : Files) (step : St
   sets : (operations : List Operation) → turn_at now line path t ≡ Turn.Become operations
       → GivesSet path operations (found now (asks line) path t) step → IsStepOf now line path t step
 
--- ---- the line at a path
+-- ---- a line at a path, whatever it asks for
+
+-- on the way, by what it asks for: one that adjusts what is there also at all that it reaches from the path
+abbrev pub TurnWay : Deed → ℕ → Line → Path → Files → Files → Type 0
+TurnWay (Touch touching) now line path t u = AdjustingReached touching path t u
+TurnWay deed now line path t u = OnWay now line path t u
+
+-- a step, by what it asks for
+abbrev pub IsStepAt : Deed → ℕ → Line → Path → Files → Step → Type 0
+IsStepAt (Touch touching) now line path t step = GivesReached touching path t step
+IsStepAt deed now line path t step = IsStepOf now line path t step
 
 -- what it does, what it may have left on its way, and its steps
-abbrev pub making_course : ℕ → Line → Course Path
-making_course now line = single (by_turn now line) (OnWay now line) (IsStepOf now line)
+abbrev pub turn_course : ℕ → Line → Course Path
+turn_course now line = single (by_turn now line) (TurnWay (asks line) now line) (IsStepAt (asks line) now line)

@@ -1,12 +1,12 @@
-//! Lines that make what is to stand at their paths: files, directories, links, FIFOs, devices and copies, so that what is cut
-//! short is mended by the next run.
+//! Lines at their turns: what a line does at a path that it names, so that what is cut short is mended by the next run.
 #![tactic(auto)]
 
-mod choosing;
-mod copy_settling;
-mod copying;
-mod making;
+mod deciding;
+mod line_at;
+mod putting;
+mod refusing;
 mod settling;
+mod turning;
 
-pub use copying::copy;
-pub use making::make;
+pub use line_at::LineAt;
+pub use turning::at_turn;

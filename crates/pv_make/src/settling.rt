@@ -1,58 +1,93 @@
-//! What a line that makes something does at its path itself.
-ghost use Rattle.std.specs.Prelude.{◌≡◌, ◌≢◌, ◌++◌, [], map, OnOk};
-ghost use Rattle.pv_lines.specs.Lines.{IsConfigured};
-ghost use Rattle.pv_path.specs.Paths.{parent_of, staging_of};
+//! What a line does at a path that is ready.
+ghost use Rattle.std.specs.Prelude.{◌≡◌, ◌++◌, map, OnOk, OnErr};
 ghost use Rattle.pv_text.specs.Said.{SaidPart, said_at};
-ghost use Rattle.pv_steps.specs.declared.node.Kind.TheVariants.{Directory};
-ghost use Rattle.pv_steps.specs.Trees.{places, IsKind, IsAbsentIn, IsTree};
-ghost use Rattle.pv_steps.specs.Acting.{Acted};
-ghost use Rattle.pv_table.specs.declared.deed.Deed.TheVariants.{Create};
-ghost use Rattle.pv_table.specs.Created.{turn_work};
-ghost use Rattle.pv_table.specs.Effects.{turned};
+ghost use Rattle.pv_steps.specs.Trees.{IsTree};
+ghost use Rattle.pv_table.specs.declared.deed.Deed.{Deed as DeedValue};
+ghost use Rattle.pv_table.specs.Repeatable.{sets_of};
 ghost use Rattle.pv_table.specs.Saying.{turn_texts};
-ghost use Rattle.pv_make.specs.Settling.{IsMaking, settling_turn, Settling, IsSettleStep};
+ghost use Rattle.pv_table.specs.Turns.{View, decide, view_of};
+ghost use Rattle.pv_make.specs.Deciding.{meant};
+ghost use Rattle.pv_make.specs.Deeds.{IsDeed, IsReady};
+ghost use Rattle.pv_make.specs.Turning.{Settles};
 
-use crate::choosing::{Choice, choose};
-use pv_adjust::adjust;
+use crate::deciding::{Turn, decide};
+use crate::line_at::{LineAt, touched};
+use crate::putting::put;
+use pv_adjust::{adjust, adjust_reached};
+use pv_dress::Operation;
 use pv_path::TreePath;
 use pv_steps::{Tree, TreeFault};
-use pv_table::{Making, say_left};
+use pv_table::{Deed, say_left};
 use pv_text::{Messages, Place};
-use pv_walk::put_over;
-use std::alloc::Global;
+use std::alloc::{AllocError, Global};
 
-/// Does what is to be done at a prepared path: puts the new object, in the place of what does not stay; adjusts what stays
-/// and is of the kind; or leaves any other object and says so.
+/// Does what is to be done at a path that is ready, and says of an object that is left that it is.
 pub(crate) fn settle<T: Tree>(
     alloc: Global,
     tree: &mut T,
-    place: &Place,
-    path: &TreePath,
-    making: &Making,
-    now: u64,
+    at: &LineAt<'_>,
     messages: &mut Messages,
 ) -> Result<(), TreeFault>
-    requires path { IsConfigured path.now }
-    requires making { IsMaking path.now making.now }
-    requires parent { path.now ≢ [] → IsKind Directory (T.state tree.old) (parent_of path.now) }
-    requires free { path.now ≢ [] → IsAbsentIn (places (T.state tree.old)) (staging_of path.now) }
-    ensures ok { OnOk result (T.state tree.new ≡ turned now (Create making.now) path.now
-        (settling_turn making.now path.now (T.state tree.old)) (T.state tree.old)) }
-    ensures said { OnOk result (messages.new ≡ messages.old ++ map (said_at place.now)
-        (turn_texts path.now (settling_turn making.now path.now (T.state tree.old)))) }
-    ensures part { SaidPart (map (said_at place.now)
-        (turn_texts path.now (settling_turn making.now path.now (T.state tree.old))))
-        messages.old messages.new }
-    ensures acted { Acted T.Tree (Settling making.now path.now (T.state tree.old))
-        (IsSettleStep making.now path.now (T.state tree.old))
-        (turn_work (Create making.now) path.now
-        (settling_turn making.now path.now (T.state tree.old)) (T.state tree.old))
-        now tree.old tree.new result }
-    ensures tree { IsTree (T.state tree.old) }
+    requires deed { IsDeed at.now.path.now at.now.deed.now }
+    requires ready { IsReady at.now.deed.now at.now.path.now (T.state tree.old) }
+    ensures settles { let turn = decide at.entry.now.deed.now (view_of (T.state tree.old)) at.entry.now.path.now in
+        Settles T.Tree at.entry.now.now at.entry.now.deed.now at.entry.now.path.now turn tree.old tree.new result }
+    ensures said { let turn = decide at.entry.now.deed.now (view_of (T.state tree.old)) at.entry.now.path.now in
+        OnOk result (messages.new ≡ messages.old ++ map (said_at at.entry.now.line.now.place) (turn_texts at.entry.now.path.now turn)) }
+    ensures part { let turn = decide at.entry.now.deed.now (view_of (T.state tree.old)) at.entry.now.path.now in
+        SaidPart (map (said_at at.entry.now.line.now.place) (turn_texts at.entry.now.path.now turn)) messages.old messages.new }
 {
-    match choose(tree, path, making) {
-        Choice::Put => put_over(alloc, tree, path, &making.new, now),
-        Choice::Become => adjust(alloc, tree, path, making.sets.as_slice(), now),
-        Choice::Left(kind) => Ok(say_left(alloc, place, path, kind, messages)?),
+    let turn = decide(alloc, tree, at.deed, at.path)?;
+    say_turn(alloc, &at.line.place, at.path, turn, messages)?;
+    apply(alloc, tree, at, turn)
+}
+
+/// Says of an object that is left that it is.
+fn say_turn(
+    alloc: Global,
+    place: &Place,
+    path: &TreePath,
+    turn: Turn,
+    messages: &mut Messages,
+) -> Result<(), AllocError>
+    ensures ok { OnOk result ((deed : DeedValue) (view : View) → messages.new
+        ≡ messages.old ++ map (said_at place.now) (turn_texts path.now (meant deed view turn))) }
+    ensures err { OnErr result (messages.new ≡ messages.old) }
+{
+    match turn {
+        Turn::Left(kind) => say_left(alloc, place, path, kind, messages),
+        Turn::Nothing | Turn::Put | Turn::Become => Ok(()),
+    }
+}
+
+/// Does what is to be done. What a line that only adjusts reaches is adjusted whatever stands at the path itself.
+fn apply<T: Tree>(alloc: Global, tree: &mut T, at: &LineAt<'_>, turn: Turn) -> Result<(), TreeFault>
+    requires deed { IsDeed at.now.path.now at.now.deed.now }
+    requires ready { IsReady at.now.deed.now at.now.path.now (T.state tree.old) }
+    requires tree { IsTree (T.state tree.old) }
+    requires turn { meant at.now.deed.now (view_of (T.state tree.old)) turn
+        ≡ decide at.now.deed.now (view_of (T.state tree.old)) at.now.path.now }
+    ensures { let done = meant at.entry.now.deed.now (view_of (T.state tree.old)) turn in
+        Settles T.Tree at.entry.now.now at.entry.now.deed.now at.entry.now.path.now done tree.old tree.new result }
+{
+    if let Some(touching) = touched(at.deed) {
+        return adjust_reached(alloc, tree, touching, at.path, at.now);
+    }
+    match turn {
+        Turn::Put => put(alloc, tree, at),
+        Turn::Become => adjust(alloc, tree, at.path, sets_of(at.deed), at.now),
+        Turn::Nothing | Turn::Left(_) => Ok(()),
+    }
+}
+
+/// What a line sets of an object that stays.
+fn sets_of(deed: &Deed) -> &[Operation]
+    ensures { result.now ≡ sets_of deed.now }
+{
+    match deed {
+        Deed::Create(making) => making.sets.as_slice(),
+        Deed::Copy(copying) => copying.sets.as_slice(),
+        Deed::Touch(touching) => touching.sets.as_slice(),
+        Deed::Idle => &[],
     }
 }

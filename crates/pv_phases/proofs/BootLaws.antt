@@ -5,10 +5,9 @@ use Rattle.std.proofs.Math.Seq.{drop-append_seam}
 use Rattle.std.specs.List.{AllByRecursion}
 use Rattle.pv_create.specs.OnTheWay.{IsGiven, GiveWhatLinesLeave}
 use Rattle.pv_create.specs.Ways.{lines_course}
-use Rattle.pv_create.proofs.BridgeLaws.{plain_ways}
-use Rattle.pv_create.proofs.CopyBridge.{run_way}
+use Rattle.pv_create.proofs.BridgeLaws.{partway_whole, run_way}
 use Rattle.pv_create.proofs.StepLaws.{removed_gives, step_given}
-use Rattle.pv_doing.specs.Courses.{Course, Partway, IsStepOfSome}
+use Rattle.pv_doing.specs.Courses.{Partway, IsStepOfSome}
 use Rattle.pv_dress.specs.declared.bare.Bare.{Bare}
 use Rattle.pv_dress.specs.Edits.{Pruned}
 use Rattle.pv_dress.specs.Nodes.{bare_of, bares_of}
@@ -16,14 +15,14 @@ use Rattle.pv_dress.specs.Operations.{run}
 use Rattle.pv_dress.proofs.OperationLaws.{bares_of-same, bares-same}
 use Rattle.pv_laws.specs.Between.{IsOnTheWay}
 use Rattle.pv_laws.specs.Moments.{Agree, SameBares}
+use Rattle.pv_laws.specs.Copying.{PartwayOf}
 use Rattle.pv_laws.specs.Stopping.{CopiesNothing, IsPiece}
-use Rattle.pv_laws.proofs.AllPoints.{all_safe}
 use Rattle.pv_laws.proofs.CopyWays.{copies_on_the_way}
 use Rattle.pv_laws.proofs.Making.{is_dir, IsShaped, same_unnamed}
 use Rattle.pv_laws.proofs.Moments.{created_same, quiet_same}
 use Rattle.pv_laws.proofs.Sets.{impossible}
 use Rattle.pv_laws.proofs.Shapes.{tree_shaped}
-use Rattle.pv_laws.proofs.Stops.{created_point, in_order_plain, partway_piece, piece_mends, pieces_mend}
+use Rattle.pv_laws.proofs.Stops.{created_point, in_order_plain, partway_piece, piece_mends}
 use Rattle.pv_lines.specs.declared.line.Line.{Line}
 use Rattle.pv_lines.specs.Lines.{IsLine}
 use Rattle.pv_path.specs.Paths.{Path, has_names, has_staging}
@@ -38,21 +37,16 @@ use Rattle.pv_steps.specs.Trees.{Files, IsTree, places}
 use Rattle.pv_steps.proofs.RunLaws.{along_prefix, along_trees}
 use Rattle.pv_table.specs.Active.{are_distinct, in_create_order}
 use Rattle.pv_table.specs.Asked.{operations_of}
-use Rattle.pv_table.specs.Created.{after_each, created, IsQuiet}
+use Rattle.pv_table.specs.Created.{created, IsQuiet}
 use Rattle.pv_table.specs.Pointwise.{Bares}
 use Rattle.pv_table.specs.Removed.{is_gone, is_unfinished, removed}
 use Rattle.pv_table.specs.Repeatable.{IsRepeatable}
-use Rattle.pv_table.proofs.ListedLaws.{all_map}
+use Rattle.pv_table.proofs.ListedLaws.{all_in_order, all_map}
 use Rattle.pv_phases.specs.Booted.{booted, IsBootBetween, IsBootMended}
 use Rattle.pv_phases.specs.BootedAgain.{IsBootMendedAgain, IsBootStoppedAgain, StoppedBoots}
 use Rattle.pv_phases.specs.Phases.{boot_phases, phases_course}
 use Rattle.pv_phases.specs.declared.phase.Phase.TheVariants.{Remove, Create}
 use Rattle.pv_phases.proofs.FrameLaws.{left_shaped}
-
--- what is whole is on its way
-pub partway_whole : {A : Type 0} (c : Course A) (xs : List A) (t u : Files) → Same (after_each c.whole xs t) u → Partway c xs t u
-partway_whole c [] t u same = same
-partway_whole c (x ∷ xs) t u same = inr (partway_whole c xs (c.whole.after x t) u same)
 
 -- a directory is there
 some_directory : (b : Option Bare) → is_dir b ≡ true → (x : Bare) × (b ≡ Some x)
@@ -100,15 +94,6 @@ module _ (lines : List Line) (are : AllByRecursion IsLine lines) where
         by false unknown true h = absent lines now t q h
         by false unknown false h = kept lines now t q h ∙ none (places t q) unknown
 
-    -- so each piece is still there, or is begun anew
-    piece_again : (now later : ℕ) (q : Path) → IsPiece (in_create_order lines) q (bares_of (places (removed lines now t)) q) (bares_of (places u) q)
-        → IsPiece (in_create_order lines) q (bares_of (places (removed lines now t)) q) (bares_of (places (removed lines later u)) q)
-    piece_again now later q one = by (is_gone lines u q) refl
-      where
-        by : (b : Bool) → is_gone lines u q ≡ b → IsPiece (in_create_order lines) q (bares_of (places (removed lines now t)) q) (bares_of (places (removed lines later u)) q)
-        by true gone = IsPiece.piece 0 (absent lines later u q gone ∙ sym (gone_absent now q gone))
-        by false stays = subst (λ b. IsPiece (in_create_order lines) q (bares_of (places (removed lines now t)) q) b) (sym (kept lines later u q stays)) one
-
   -- ---- on the way
 
   -- creating is on its way or done
@@ -116,40 +101,21 @@ module _ (lines : List Line) (are : AllByRecursion IsLine lines) where
   creating_way now r u (inl way) = way
   creating_way now r u (inr same) = partway_whole (lines_course now) (in_create_order lines) r u same
 
-  module _ (none : AllByRecursion CopiesNothing lines) (now later : ℕ) (t u : Files) (tree : IsTree t) (there : IsTree u) (whole : is_unfinished lines t ≡ false) (quiet : IsQuiet lines now (removed lines now t)) where
-    pieces : Partway (phases_course lines now) boot_phases t u → (q : Path) → has_staging q ≡ false
-        → IsPiece (in_create_order lines) q (bares_of (places (removed lines now t)) q) (bares_of (places (removed lines later u)) q)
-    pieces (inl pruned) q plain = IsPiece.piece 0 (bares_of-same (places (removed lines later u)) (places (removed lines now t)) q (removal_mends lines now later t u there pruned q plain))
-    pieces (inr way) q plain = piece_again t u tree whole now later q (
-        partway_piece (in_create_order lines) now (removed lines now t) u (in_order_plain lines are none) (shaped now t tree) quiet
-        (plain_ways now (in_create_order lines) (removed lines now t) u (in_order_plain lines are none) (shaped now t tree) quiet (creating_way now (removed lines now t) u way)) q plain)
-
-  -- ---- the law
-
-  none_past : 0 < 2 ^ 64
-  none_past = omega arith
-
-  pub boot_mends : (none : AllByRecursion CopiesNothing lines) (distinct : are_distinct lines ≡ true) (repeatable : IsRepeatable lines) (now later : ℕ) (t u : Files) → IsTree t → IsTree u → is_unfinished lines t ≡ false
-      → IsQuiet lines now (removed lines now t) → IsQuiet lines later (removed lines later u) → Partway (phases_course lines now) boot_phases t u → Same (booted lines later u) (booted lines now t)
-  boot_mends none distinct repeatable now later t u tree there whole quiet again way q plain =
-      booted_same lines later 0 u q plain
-      ∙ pieces_mend lines are none distinct repeatable 0 0 (removed lines 0 t) (removed lines 0 u) (removed_tree lines 0 t none_past tree) (removed_tree lines 0 u none_past there)
-      (quiet_same lines now 0 (removed lines now t) (removed lines 0 t) (removed_same lines now 0 t) quiet)
-      (quiet_same lines later 0 (removed lines later u) (removed lines 0 u) (removed_same lines later 0 u) again)
-      (λ p unstaged.
-      subst (λ b. IsPiece (in_create_order lines) p b (bares_of (places (removed lines 0 u)) p)) (removed_same lines now 0 t p)
-      (pieces none now 0 t u tree there whole quiet way p unstaged)) q plain
-      ∙ booted_same lines 0 now t q plain
+  -- after removing, as the laws of lines say
+  law_way : (now : ℕ) (t u : Files) → IsTree t → Partway (phases_course lines now) (Create ∷ []) (removed lines now t) u → PartwayOf (in_create_order lines) now (removed lines now t) u
+  law_way now t u tree way = run_way now (in_create_order lines) (removed lines now t) u (all_in_order IsLine lines are) (shaped now t tree) (creating_way now (removed lines now t) u way)
 
   -- on its way it removes, or each path is between two lines of creating
   pub boot_between : (now : ℕ) (t u : Files) → now < 2 ^ 64 → IsTree t → Partway (phases_course lines now) boot_phases t u
       → Pruned (is_gone lines t) t u ⊎ ((s : Bares) → IsRepeatable lines → IsQuiet lines now (removed lines now t) → Agree s (removed lines now t) → IsOnTheWay lines s u)
   boot_between now t u fits tree (inl pruned) = inl pruned
   boot_between now t u fits tree (inr way) = inr (λ s repeatable quiet agree.
-      copies_on_the_way lines now s (removed lines now t) u (removed_tree lines now t fits tree) quiet agree are repeatable
-      (run_way now (in_create_order lines) (removed lines now t) u (all_safe lines are repeatable) (shaped now t tree) quiet (creating_way now (removed lines now t) u way)))
+      copies_on_the_way lines now s (removed lines now t) u (removed_tree lines now t fits tree) quiet agree are repeatable (law_way now t u tree way))
 
   -- ---- any number of stopped runs
+
+  none_past : 0 < 2 ^ 64
+  none_past = omega arith
 
   -- from the first of these trees creating refuses no line after removing, at some moment
   quiet_first : (moments : List ℕ) (later : ℕ) (t u : Files) → StoppedBoots lines moments t u → IsQuiet lines later (removed lines later u) → (now : ℕ) × IsQuiet lines now (removed lines now t)
@@ -171,8 +137,7 @@ module _ (lines : List Line) (are : AllByRecursion IsLine lines) where
     still_alike now x v tree there quiet (inr way) ends q plain named = by (is_gone lines v q) refl
       where
         piece : IsPiece (in_create_order lines) q (bares_of (places (removed lines now x)) q) (bares_of (places v) q)
-        piece = partway_piece (in_create_order lines) now (removed lines now x) v (in_order_plain lines are none) (shaped now x tree) quiet
-            (plain_ways now (in_create_order lines) (removed lines now x) v (in_order_plain lines are none) (shaped now x tree) quiet (creating_way now (removed lines now x) v way)) q plain
+        piece = partway_piece (in_create_order lines) now (removed lines now x) v (in_order_plain lines are none) (shaped now x tree) quiet (law_way now x v tree way) q plain
 
         by : (b : Bool) → is_gone lines v q ≡ b → run (operations_of (in_create_order lines) q) (bares_of (places (removed lines 0 v)) q) ≡ run (operations_of (in_create_order lines) q) (bares_of (places (removed lines 0 s)) q)
         by true gone = ap (run (operations_of (in_create_order lines) q)) (absent lines 0 v q gone ∙ sym (gone_absent s v start whole 0 q gone))
@@ -228,7 +193,7 @@ module _ (lines : List Line) (are : AllByRecursion IsLine lines) where
 
     pub boot_mended : are_distinct lines ≡ true → IsBootMended lines now t (drop (length h) k)
     boot_mended distinct = λ n later repeatable none whole quiet again.
-        boot_mends none distinct repeatable now later t (at_moment n) tree (tree_at n) whole quiet again (way_at n)
+        boots_mend none distinct repeatable t tree whole (now ∷ []) now later (at_moment n) (tree_at n) (quiet, (at_moment n, tree_at n, way_at n, refl)) again
 
     pub boot_amid : IsBootBetween lines now t (drop (length h) k)
     boot_amid = λ n. boot_between now t (at_moment n) fits tree (way_at n)

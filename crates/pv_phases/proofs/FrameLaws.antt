@@ -6,13 +6,13 @@ use Rattle.std.specs.List.{AllByRecursion, list_any}
 use Rattle.pv_clean.proofs.AgeLaws.{goes_aged}
 use Rattle.pv_clean.proofs.InputLaws.{aged_governed}
 use Rattle.pv_create.specs.OnTheWay.{IsFramed}
-use Rattle.pv_create.proofs.FrameWays.{run_stays}
+use Rattle.pv_create.proofs.BridgeLaws.{run_way}
 use Rattle.pv_doing.specs.Courses.{Partway}
 use Rattle.pv_dress.specs.Nodes.{bares_of}
 use Rattle.pv_dress.proofs.OperationLaws.{bares_of-same}
 use Rattle.pv_find.specs.Whole.{goes_whole}
 use Rattle.pv_find.proofs.WholeLaws.{goes_parts}
-use Rattle.pv_laws.proofs.AllFrames.{all_away, frame_after, shape_after}
+use Rattle.pv_laws.proofs.AllFrames.{all_away, frame_after, frame_partway, shape_after}
 use Rattle.pv_laws.proofs.Making.{IsShaped, is_dir}
 use Rattle.pv_table.proofs.ListedLaws.{all_in_order}
 use Rattle.pv_laws.proofs.Prepared.{bare_some}
@@ -99,11 +99,15 @@ module _ (lines : List Line) (are : AllByRecursion IsLine lines) (now : ℕ) whe
     not_purged : (t : Files) → is_purged lines t q ≡ false
     not_purged t = false_from_ne_true (is_purged lines t q) (λ h. true_not_false (list_any (λ line. governs line q) lines) (purged_governed lines t q are h) free)
 
+    away : AllByRecursion (λ (line : Line). governs line q ≡ false) (in_create_order lines)
+    away = all_in_order (λ (line : Line). governs line q ≡ false) lines (all_away now q plain lines free)
+
     -- on its way
     way_stays : (phase : Phase) (t u : Files) → IsShaped (bares_of (places t)) → on_way lines now phase t u → bares_of (places u) q ≡ bares_of (places t) q
     way_stays Remove t u shape way = bares_of-same (places u) (places t) q (way.outside q (not_gone t))
     way_stays Clean t u shape way = bares_of-same (places u) (places t) q (way.outside q (not_aged t))
-    way_stays Create t u shape way = run_stays lines are now t u shape q plain free way
+    way_stays Create t u shape way =
+        frame_partway now q plain (in_create_order lines) (all_in_order IsLine lines are) away t u shape (run_way now (in_create_order lines) t u (all_in_order IsLine lines are) shape way)
     way_stays Purge t u shape way = bares_of-same (places u) (places t) q (way.outside q (not_purged t))
 
     -- when it is whole
@@ -111,7 +115,7 @@ module _ (lines : List Line) (are : AllByRecursion IsLine lines) (now : ℕ) whe
     left_stays Remove t shape = kept_bare (is_gone lines t) (modified now) (λ o. refl) t q (not_gone t)
     left_stays Clean t shape = kept_bare (is_aged lines now t) (changed now) (λ o. refl) t q (not_aged t)
     left_stays Create t shape =
-        frame_after now q plain (in_create_order lines) (all_in_order IsLine lines are) (all_in_order (λ (line : Line). governs line q ≡ false) lines (all_away now q plain lines free)) t shape
+        frame_after now q plain (in_create_order lines) (all_in_order IsLine lines are) away t shape
     left_stays Purge t shape = kept_bare (is_purged lines t) (modified now) (λ o. refl) t q (not_purged t)
 
     -- ---- phases one after the other

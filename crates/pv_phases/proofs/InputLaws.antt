@@ -5,6 +5,7 @@ use Rattle.std.proofs.Common.{refl, sym, ap, subst, ◌∙◌, inl, inr}
 use Rattle.std.proofs.Math.Seq.{drop-append_seam}
 use Rattle.std.specs.List.{AllByRecursion}
 use Rattle.pv_clean.proofs.InputLaws.{cleaning_leaves, named_unaged}
+use Rattle.pv_create.proofs.BridgeLaws.{partway_whole}
 use Rattle.pv_create.proofs.InputLaws.{all_away, held, held_of, lines_held}
 use Rattle.pv_create.proofs.LeavingInput.{all_input_left, held_some, IsOutsideFolders, lines_outside}
 use Rattle.pv_create.specs.Ways.{lines_course}
@@ -37,7 +38,6 @@ use Rattle.pv_phases.specs.Booted.{KeepsInput}
 use Rattle.pv_phases.specs.Phases.{is_step_of, left_by, on_way, phases_course}
 use Rattle.pv_phases.specs.declared.phase.Phase.{Phase}
 use Rattle.pv_phases.specs.declared.phase.Phase.TheVariants.{Remove, Clean, Create, Purge}
-use Rattle.pv_phases.proofs.BootLaws.{partway_whole}
 use Rattle.pv_phases.proofs.FrameLaws.{kept_bare, left_shaped}
 
 module _ (lines : List Line) (are : AllByRecursion IsLine lines) (free : (i : ℕ) → HasReason lines i reason.Input → ⊥) (now : ℕ) where

@@ -5,8 +5,8 @@ use Rattle.std.specs.FinMap as fin
 use Rattle.std.proofs.Common.{refl, sym, ap, subst, ◌∙◌, inl, inr}
 use Rattle.std.proofs.Math.Seq.{drop-length, take-nil}
 use Rattle.std.specs.List.{AllByRecursion}
-use Rattle.pv_create.proofs.CopyBridge.{between}
 use Rattle.pv_create.proofs.StepLaws.{given}
+use Rattle.pv_create.proofs.StoppedLaws.{between}
 use Rattle.pv_create.specs.OnTheWay.{IsGiven}
 use Rattle.pv_create.specs.Ways.{lines_course}
 use Rattle.pv_doing.specs.Courses.{Course, Partway, IsStepOfSome}
@@ -47,7 +47,7 @@ module _ (lines : List Line) (are : AllByRecursion IsLine lines) (now : ℕ) (t 
       (creating_way lines are now t) (own_step (phases_course lines now) Create t) run
 
   pub phases_between : (phases : List Phase) → RunOf phases → IsBetweenBy phases lines now t (drop (length h) k)
-  phases_between (Create ∷ []) run = between lines are (IsStepOfSome (lines_course now) (in_create_order lines) t) now t h u k tree (create_ran run)
+  phases_between (Create ∷ []) run = between lines are (IsStepOfSome (lines_course now) (in_create_order lines) t) now t h u k fits tree (create_ran run)
   phases_between (Remove ∷ Create ∷ []) run = boot_amid lines are (IsStepOfSome (phases_course lines now) boot_phases t) now t h u k fits tree run
   phases_between [] run = tt
   phases_between (Create ∷ next ∷ phases) run = tt

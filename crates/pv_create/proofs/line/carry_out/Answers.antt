@@ -7,8 +7,8 @@ use Rattle.pv_create.proofs.line.carry_out.Goals as goal
 
 pub returns-in_err-carried : goal.returns-in_err-carried
 returns-in_err-carried g c =
-    carried_failed g.T.Tree (lines_course c.args.now) c.args.line.now c.args.now c.args.tree.now c.args.messages.now c.carry_out_asked.new.tree c.carry_out_asked.new.messages
-    c.carry_out_asked.result c.from_residual.result c.in_err-carried.was c.from_residual.ensures.1 c.carry_out_asked.ensures.part c.carry_out_asked.ensures.acted c.carry_out_asked.ensures.went
+    carried_failed g.T.Tree (lines_course c.args.now) c.args.line.now c.args.now c.args.tree.now c.args.messages.now c.at_turns.new.tree c.at_turns.new.messages
+    c.at_turns.result c.from_residual.result c.in_err-carried.was c.from_residual.ensures.1 c.at_turns.ensures.part c.at_turns.ensures.acted c.at_turns.ensures.went
 
 pub returns : goal.returns
 returns g c = record {

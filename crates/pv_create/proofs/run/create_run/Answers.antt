@@ -4,10 +4,9 @@ use Rattle.pv_steps.specs.Acting.{Acted}
 use Rattle.pv_text.specs.Said.{SaidPart}
 use Rattle.pv_table.specs.Active.{in_create_order}
 use Rattle.pv_create.specs.Ways.{lines_course}
-use Rattle.pv_create.proofs.CopyBridge.{mended, mended_again, stopped, between}
-use Rattle.pv_create.proofs.FrameWays.{framed}
 use Rattle.pv_create.proofs.RunLaws.{counting_says, counting_takes, none_staged}
 use Rattle.pv_create.proofs.StepLaws.{given}
+use Rattle.pv_create.proofs.StoppedLaws.{mended, mended_again, stopped, between, framed}
 use Rattle.pv_create.proofs.run.create_run.Goals as goal
 
 -- ---- what it leaves, says and tells; a refusal of a line with `-` changes neither the texts nor the bound
@@ -51,10 +50,8 @@ returns-clause-mended g c =
     let table = c.args.table.now in
     let now = c.args.now in
     let t = g.T.Tree.state c.args.tree.now in
-    λ n later repeatable quiet again.
     mended table c.lines-lines.ensures.whole (IsStepOfSome (lines_course now) (in_create_order table) t) now t (g.T.Tree.steps c.args.tree.now)
-    (g.T.Tree.state c.run_in_order.new.tree) (g.T.Tree.steps c.run_in_order.new.tree) c.ranges.now.fits c.look-root.ensures.tree c.run_in_order.ensures.acted.ran
-    n later quiet again repeatable c.lines-lines.ensures.distinct
+    (g.T.Tree.state c.run_in_order.new.tree) (g.T.Tree.steps c.run_in_order.new.tree) c.ranges.now.fits c.look-root.ensures.tree c.run_in_order.ensures.acted.ran c.lines-lines.ensures.distinct
 
 pub returns-clause-again : goal.returns-clause-again
 returns-clause-again g c =
@@ -78,7 +75,7 @@ returns-clause-framed g c =
     let now = c.args.now in
     let t = g.T.Tree.state c.args.tree.now in
     framed table c.lines-lines.ensures.whole (IsStepOfSome (lines_course now) (in_create_order table) t) now t (g.T.Tree.steps c.args.tree.now)
-    (g.T.Tree.state c.run_in_order.new.tree) (g.T.Tree.steps c.run_in_order.new.tree) c.look-root.ensures.tree c.run_in_order.ensures.acted.ran
+    (g.T.Tree.state c.run_in_order.new.tree) (g.T.Tree.steps c.run_in_order.new.tree) c.ranges.now.fits c.look-root.ensures.tree c.run_in_order.ensures.acted.ran
 
 pub returns-clause-between : goal.returns-clause-between
 returns-clause-between g c =
@@ -86,7 +83,7 @@ returns-clause-between g c =
     let now = c.args.now in
     let t = g.T.Tree.state c.args.tree.now in
     between table c.lines-lines.ensures.whole (IsStepOfSome (lines_course now) (in_create_order table) t) now t (g.T.Tree.steps c.args.tree.now)
-    (g.T.Tree.state c.run_in_order.new.tree) (g.T.Tree.steps c.run_in_order.new.tree) c.look-root.ensures.tree c.run_in_order.ensures.acted.ran
+    (g.T.Tree.state c.run_in_order.new.tree) (g.T.Tree.steps c.run_in_order.new.tree) c.ranges.now.fits c.look-root.ensures.tree c.run_in_order.ensures.acted.ran
 
 pub returns-clause-gives : goal.returns-clause-gives
 returns-clause-gives g c =

@@ -1,60 +1,49 @@
-use Rattle.std.proofs.Common.{◌≡◌, List, sym, subst}
-use Rattle.pv_adjust.specs.Adjusting.{Adjusting, GivesSet}
-use Rattle.pv_adjust.specs.Sets.{AreSets}
-use Rattle.pv_dress.specs.declared.operation.Operation.{Operation}
-use Rattle.pv_steps.specs.Acting.{Acted}
-use Rattle.pv_steps.specs.Steps.{on_at}
-use Rattle.pv_steps.specs.Trees.{places}
-use Rattle.pv_table.specs.declared.deed.Deed.TheVariants.{Create}
-use Rattle.pv_table.specs.Created.{change_work}
-use Rattle.pv_table.specs.Effects.{become, turned}
-use Rattle.pv_table.specs.Turns.{Turn}
-use Rattle.pv_table.proofs.EffectLaws.{become_is}
-use Rattle.pv_make.proofs.SettleLaws.{stageable, put_nonroot, put_tree, put_acted, become_present, settled_by}
+use Rattle.std.proofs.Common.{◌++◌, map, ap, subst, ◌∙◌}
+use Rattle.pv_steps.proofs.ActingLaws.{Moves}
+use Rattle.pv_text.specs.Said.{said_at}
+use Rattle.pv_text.proofs.SaidLaws.{said_whole}
+use Rattle.pv_table.specs.Saying.{turn_texts}
+use Rattle.pv_table.specs.Turns.{Turn, decide, view_of}
+use Rattle.pv_make.specs.Deeds.{IsDeed}
+use Rattle.pv_make.specs.Turning.{Settles}
+use Rattle.pv_make.proofs.SettlingLaws.{on_any, settles_failed}
 use Rattle.pv_make.proofs.settling.settle.Goals as goal
-use Rattle.pv_path.proofs.Tests.{on_ok}
 
-pub put_over-requires-clause-not_root : goal.put_over-requires-clause-not_root
-put_over-requires-clause-not_root g c =
-    put_nonroot c.args.making.now c.args.path.now (g.T.Tree.state c.args.tree.now) c.choose.ensures.tree c.requires.making _ (sym c.in-Put.ensures.turn)
+-- ---- memory ran out
 
-pub put_over-requires-clause-short : goal.put_over-requires-clause-short
-put_over-requires-clause-short g c = stageable c.args.path.now c.requires.path.short
+pub returns-in_err-turn-clause-settles : goal.returns-in_err-turn-clause-settles
+returns-in_err-turn-clause-settles g c =
+    let moves : Moves g.T.Tree = record { stays = g.met.T.Tree.reaches_self; goes_on = g.met.T.Tree.reaches_on; never_falls = g.met.T.Tree.never_falls } in
+    settles_failed g.T.Tree moves c.args.at.now.now c.args.at.now.deed.now c.args.at.now.path.now _ c.args.tree.now c.from_residual.result c.from_residual.ensures.1
 
-pub adjust-requires-clause-present : goal.adjust-requires-clause-present
-adjust-requires-clause-present g c =
-    become_present c.args.making.now c.args.path.now (g.T.Tree.state c.args.tree.now) _ (sym c.in-Become.ensures.turn)
+pub returns-in_err-say_turn-clause-settles : goal.returns-in_err-say_turn-clause-settles
+returns-in_err-say_turn-clause-settles g c =
+    let moves : Moves g.T.Tree = record { stays = g.met.T.Tree.reaches_self; goes_on = g.met.T.Tree.reaches_on; never_falls = g.met.T.Tree.never_falls } in
+    settles_failed g.T.Tree moves c.args.at.now.now c.args.at.now.deed.now c.args.at.now.path.now _ c.args.tree.now c.from_residual-in_err-say_turn.result c.from_residual-in_err-say_turn.ensures.1
 
-pub adjust-requires-clause-sets : goal.adjust-requires-clause-sets
-adjust-requires-clause-sets g c = subst AreSets (sym c.as_slice.ensures) c.requires.making.sets
+-- ---- what is decided is said and done
 
-pub returns-in-Put-clause-ok : goal.returns-in-Put-clause-ok
-returns-in-Put-clause-ok g c =
-    let t = g.T.Tree.state c.args.tree.now in
-    on_ok c.put_over.result
-    (λ e. subst (λ (v : Turn). g.T.Tree.state c.put_over.new.tree ≡ turned c.args.now (Create c.args.making.now) c.args.path.now v t) c.in-Put.ensures.turn
-    (put_tree c.args.now c.args.path.now c.args.making.now t (g.T.Tree.state c.put_over.new.tree) e))
-    c.put_over.ensures.ok
+pub apply-requires-clause-tree : goal.apply-requires-clause-tree
+apply-requires-clause-tree g c =
+    c.in_ok-turn.ensures.tree (λ idle. let none : ⊥ = subst (IsDeed c.args.at.now.path.now) idle c.requires.deed in none)
 
-pub returns-in-Put-clause-acted : goal.returns-in-Put-clause-acted
-returns-in-Put-clause-acted g c =
-    put_acted c.args.making.now c.args.path.now (g.T.Tree.state c.args.tree.now) g.T.Tree c.args.now c.args.tree.now c.put_over.new.tree c.put_over.result
-    (sym c.in-Put.ensures.turn) c.put_over.ensures.acted
+pub returns-clause-settles : goal.returns-clause-settles
+returns-clause-settles g c =
+    subst (λ (turn : Turn). Settles g.T.Tree c.args.at.now.now c.args.at.now.deed.now c.args.at.now.path.now turn c.args.tree.now c.apply.new.tree c.apply.result) c.in_ok-turn.ensures.turn c.apply.ensures
 
-pub returns-in-Become-clause-ok : goal.returns-in-Become-clause-ok
-returns-in-Become-clause-ok g c =
-    let t = g.T.Tree.state c.args.tree.now in
-    let u = g.T.Tree.state c.adjust.new.tree in
-    on_ok c.adjust.result
-    (λ e. subst (λ (v : Turn). u ≡ turned c.args.now (Create c.args.making.now) c.args.path.now v t) c.in-Become.ensures.turn
-    (become_is c.args.now (Create c.args.making.now) c.args.path.now t c.args.making.now.sets u
-    (subst (λ (xs : List Operation). places u ≡ on_at c.args.path.now (become c.args.now xs) (places t)) c.as_slice.ensures e)))
-    c.adjust.ensures.ok
+pub returns-clause-said : goal.returns-clause-said
+returns-clause-said g c =
+    let deed = c.args.at.now.deed.now in
+    let view = view_of (g.T.Tree.state c.args.tree.now) in
+    on_any c.apply.result
+    (c.in_ok-say_turn.ensures.ok deed view
+    ∙ ap (λ (turn : Turn). c.args.messages.now ++ map (said_at c.args.at.now.line.now.place) (turn_texts c.args.at.now.path.now turn)) c.in_ok-turn.ensures.turn)
 
-pub returns-in-Become-clause-acted : goal.returns-in-Become-clause-acted
-returns-in-Become-clause-acted g c =
-    let t = g.T.Tree.state c.args.tree.now in
-    let path = c.args.path.now in
-    settled_by c.args.making.now path t g.T.Tree c.args.now c.args.tree.now c.adjust.new.tree c.adjust.result (Turn.Become c.args.making.now.sets) (sym c.in-Become.ensures.turn)
-    (subst (λ (xs : List Operation). Acted g.T.Tree (Adjusting path xs t) (GivesSet path xs t) (change_work xs (places t path)) c.args.now c.args.tree.now c.adjust.new.tree c.adjust.result)
-    c.as_slice.ensures c.adjust.ensures.acted)
+pub returns-clause-part : goal.returns-clause-part
+returns-clause-part g c =
+    let deed = c.args.at.now.deed.now in
+    let view = view_of (g.T.Tree.state c.args.tree.now) in
+    let turn = decide deed view c.args.at.now.path.now in
+    said_whole (map (said_at c.args.at.now.line.now.place) (turn_texts c.args.at.now.path.now turn)) c.args.messages.now c.say_turn.new.messages
+    (c.in_ok-say_turn.ensures.ok deed view
+    ∙ ap (λ (turn : Turn). c.args.messages.now ++ map (said_at c.args.at.now.line.now.place) (turn_texts c.args.at.now.path.now turn)) c.in_ok-turn.ensures.turn)
