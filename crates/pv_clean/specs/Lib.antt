@@ -1,2 +1,3 @@
+pub mod Ages
 pub mod Cleaning
 pub mod Sentences

@@ -1,10 +1,9 @@
 -- Plans by their parts.
-use Rattle.std.proofs.Common.{◌≡◌, ℕ, Bool, List, ◌++◌, Option, Some, None, Result, Ok, Err, append_assoc, refl, sym, ap, ◌∙◌}
+use Rattle.std.proofs.Common.{◌≡◌, ℕ, Bool, List, ◌++◌, Some, None, Result, Ok, Err, append_assoc, refl, sym, ap, ◌∙◌}
 use Rattle.pv_accounts.specs.Entries.{is_group, is_passwd}
 use Rattle.pv_accounts.specs.InUse.{Ids, ids_of}
-use Rattle.pv_text.specs.declared.place.Place.{Place}
-use Rattle.pv_sysusers.specs.Groups.{NewGroups, decided_groups}
-use Rattle.pv_sysusers.specs.Deciding.{Lacks, Told, ToldBy, fixed_by, groups_by, pooled_by, users_by}
+use Rattle.pv_sysusers.specs.Groups.{NewGroups}
+use Rattle.pv_sysusers.specs.Deciding.{Lacks, Told, ToldBy, pooled_by, users_by}
 use Rattle.pv_sysusers.specs.Lines.{Line}
 use Rattle.pv_sysusers.specs.Needs.{fixed_for}
 use Rattle.pv_sysusers.specs.Planning.{IsWanted, Misses, numbers_in}
@@ -13,10 +12,8 @@ use Rattle.pv_sysusers.specs.Users.{NewUsers, decided_users}
 use Rattle.pv_sysusers.specs.declared.plan_fault.PlanFault.{PlanFault}
 use Rattle.pv_sysusers.specs.declared.plan_fault.PlanFault.TheVariants.{NoFreeId, Memory}
 use Rattle.pv_sysusers.specs.declared.needs.Account.{Account}
-use Rattle.pv_sysusers.specs.declared.needs.Need.{Need}
-use Rattle.pv_sysusers.specs.declared.fixed.Fixed.{Fixed}
 use Rattle.pv_sysusers.specs.declared.planned.Texts.{Texts}
-use Rattle.pv_sysusers.specs.declared.planned.Wanted.{Wanted}
+use Rattle.pv_sysusers.specs.declared.wanted.Wanted.{Wanted}
 
 -- the numbers where all groups got one
 pub after_groups : (pooled : ℕ → Bool) (users groups : Ids) (accounts : List Account) (new : NewGroups) → new.lacking ≡ None
@@ -28,35 +25,16 @@ pub without_group : (pooled : ℕ → Bool) (users groups : Ids) (accounts : Lis
     → ((numbers_after pooled users groups accounts new).lacking ≡ Some name) × ((numbers_after pooled users groups accounts new).said ≡ new.said)
 without_group pooled users groups accounts new name none = (rw none refl, rw none refl)
 
--- the groups that are decided by what lines ask for
-pub groups_same : (wanted : Wanted) (users groups : Ids) (fixed : Fixed) (a b : List Need) → a ≡ wanted.needs.items → b ≡ wanted.needs.items → ((name : List ℕ) → fixed_by fixed name ≡ fixed_for a name)
-    → groups_by wanted.pool users fixed groups b ≡ decided_groups (pooled_by wanted.pool) users (fixed_for wanted.needs.items) groups wanted.needs.items
-groups_same wanted users groups fixed a b ea eb same =
-    let told : fixed_by fixed ≡ fixed_for a = λ j name. same name j in
-    ap (λ (f : List ℕ → Option (ℕ × Place)). decided_groups (pooled_by wanted.pool) users f groups b) (told ∙ ap fixed_for ea)
-    ∙ ap (decided_groups (pooled_by wanted.pool) users (fixed_for wanted.needs.items) groups) eb
-
 -- the users that are decided after them
-pub users_same : (wanted : Wanted) (users groups all : Ids) (decided new : NewGroups) (b : List Account) → decided ≡ new → all ≡ groups ++ decided.made → b ≡ wanted.accounts.items
-    → users_by wanted.pool all users b ≡ decided_users (pooled_by wanted.pool) (groups ++ new.made) users wanted.accounts.items
-users_same wanted users groups all decided new b same whole eb =
-    ap (λ (ids : Ids). decided_users (pooled_by wanted.pool) ids users b) (whole ∙ ap (λ (g : NewGroups). groups ++ g.made) same)
-    ∙ ap (decided_users (pooled_by wanted.pool) (groups ++ new.made) users) eb
+pub users_same : (wanted : Wanted) (users groups all : Ids) (new : NewGroups) → all ≡ groups ++ new.made
+    → users_by wanted all users ≡ decided_users (pooled_by wanted.pool) (groups ++ new.made) users wanted.accounts.items
+users_same wanted users groups all new whole = ap (λ (ids : Ids). users_by wanted ids users) whole
 
 -- where a group got no number
-pub groups_lack : (pooled : ℕ → Bool) (users groups : Ids) (accounts : List Account) (decided new : NewGroups) (fault : PlanFault) → decided ≡ new → Lacks decided.lacking fault
+pub groups_lack : (pooled : ℕ → Bool) (users groups : Ids) (accounts : List Account) (new : NewGroups) (fault : PlanFault) → Lacks new.lacking fault
     → Lacks (numbers_after pooled users groups accounts new).lacking fault
-groups_lack pooled users groups accounts decided new Memory same lacks = lacks
-groups_lack pooled users groups accounts decided new (NoFreeId name) same lacks =
-    (without_group pooled users groups accounts new name (ap (λ (g : NewGroups). g.lacking) (sym same) ∙ lacks)).0
-
--- and what was said then
-pub groups_told : (pooled : ℕ → Bool) (users groups : Ids) (accounts : List Account) (decided new : NewGroups) (fault : PlanFault) (said heard : List (List ℕ)) → decided ≡ new → Lacks decided.lacking fault
-    → ToldBy fault (heard ≡ said ++ decided.said) → ToldBy fault (heard ≡ said ++ (numbers_after pooled users groups accounts new).said)
-groups_told pooled users groups accounts decided new Memory said heard same lacks told = told
-groups_told pooled users groups accounts decided new (NoFreeId name) said heard same lacks told =
-    told ∙ ap (λ (ms : List (List ℕ)). said ++ ms)
-    (ap (λ (g : NewGroups). g.said) same ∙ sym (without_group pooled users groups accounts new name (ap (λ (g : NewGroups). g.lacking) (sym same) ∙ lacks)).1)
+groups_lack pooled users groups accounts new Memory lacks = lacks
+groups_lack pooled users groups accounts new (NoFreeId name) lacks = (without_group pooled users groups accounts new name lacks).0
 
 -- where a user got no number
 pub users_lack : (numbers : Numbers) (new : NewGroups) (decided users : NewUsers) (fault : PlanFault) → numbers ≡ with_users new users → decided ≡ users → Lacks decided.lacking fault → Lacks numbers.lacking fault

@@ -7,18 +7,20 @@ use Rattle.std.specs.Option.{option_map}
 use Rattle.std.specs.Str.{bytes_eq}
 use Rattle.pv_accounts.specs.InUse.{Ids, is_held}
 use Rattle.pv_text.specs.declared.place.Place.{Place}
-use Rattle.pv_sysusers.specs.Groups.{NewGroups, decided_groups}
+use Rattle.pv_sysusers.specs.Groups.{Choice, NewGroups, decided_groups, group_choice}
+use Rattle.pv_sysusers.specs.Needs.{fixed_for}
 use Rattle.pv_sysusers.specs.Pools.{free_number, is_between}
 use Rattle.pv_sysusers.specs.declared.plan_fault.PlanFault.{PlanFault}
 use Rattle.pv_sysusers.specs.declared.plan_fault.PlanFault.TheVariants.{NoFreeId, Memory}
 use Rattle.pv_sysusers.specs.declared.fixed.Fixed.{Fixed}
 use Rattle.pv_sysusers.specs.declared.groups.Groups.{Groups}
-use Rattle.pv_sysusers.specs.Users.{NewUsers, decided_users}
+use Rattle.pv_sysusers.specs.Users.{NewUsers, decided_users, user_choice}
 use Rattle.pv_sysusers.specs.declared.needs.Account.{Account}
-use Rattle.pv_sysusers.specs.declared.needs.Need.{Need}
 use Rattle.pv_sysusers.specs.declared.users.NewUser.{NewUser}
 use Rattle.pv_sysusers.specs.declared.pool.Pool.{Pool}
 use Rattle.pv_sysusers.specs.declared.pool.Stock.{Stock}
+use Rattle.pv_sysusers.specs.declared.pool.Supply.{Supply}
+use Rattle.pv_sysusers.specs.declared.wanted.Wanted.{Wanted}
 
 -- whether a number may be given by a pool
 abbrev pub pooled_by : Pool → ℕ → Bool
@@ -33,17 +35,29 @@ is_free_in pool users groups n =
 abbrev pub GivesNext : Stock → Ids → Ids → Type 0
 GivesNext stock users groups = stock.next ≡ free_number (pooled_by stock.pool.now) users groups
 
+-- so it is with the pool that a number is chosen by
+abbrev pub IsStocked : Supply → Type 0
+IsStocked supply = GivesNext supply.stock supply.users.now supply.groups.now
+
+-- the number that a group gets, and what is said of it
+abbrev pub group_choice_by : Supply → List ℕ → Option (ℕ × Place) → Choice
+group_choice_by supply name fixed = group_choice (pooled_by supply.stock.pool.now) supply.users.now supply.groups.now name fixed
+
+-- the number that a user gets, and what is said of it
+abbrev pub user_choice_by : Supply → Account → Choice
+user_choice_by supply account = user_choice (pooled_by supply.stock.pool.now) supply.users.now supply.groups.now account
+
 -- the fixed number of a name, and where its line stands
 abbrev pub fixed_by : Fixed → List ℕ → Option (ℕ × Place)
 fixed_by fixed name = option_map (λ f. (f.0, f.1.now)) (lookup (λ k. bytes_eq name k.now) fixed.numbers.entries)
 
--- the groups as they are decided by a pool and by what lines fix
-abbrev pub groups_by : Pool → Ids → Fixed → Ids → List Need → NewGroups
-groups_by pool users fixed groups needs = decided_groups (pooled_by pool) users (fixed_by fixed) groups needs
+-- the groups that lines ask for, as they are decided
+abbrev pub groups_by : Wanted → Ids → Ids → NewGroups
+groups_by wanted users groups = decided_groups (pooled_by wanted.pool) users (fixed_for wanted.needs.items) groups wanted.needs.items
 
--- the users as they are decided by a pool
-abbrev pub users_by : Pool → Ids → Ids → List Account → NewUsers
-users_by pool groups users accounts = decided_users (pooled_by pool) groups users accounts
+-- the users that lines ask for, as they are decided
+abbrev pub users_by : Wanted → Ids → Ids → NewUsers
+users_by wanted groups users = decided_users (pooled_by wanted.pool) groups users wanted.accounts.items
 
 -- the new users as they were decided
 pub record AreMade (decided : NewUsers) (users : List NewUser) : Type 0 where

@@ -10,7 +10,7 @@ use Rattle.pv_sysusers.specs.declared.plan_fault.PlanFault.TheVariants.{NoFreeId
 use Rattle.pv_sysusers.specs.declared.planned.AccountFiles.{AccountFiles as Slices}
 use Rattle.pv_sysusers.specs.declared.planned.Texts.{Texts}
 use Rattle.pv_sysusers.specs.declared.planned.Numbers.{Numbers as NewNumbers}
-use Rattle.pv_sysusers.specs.declared.planned.Wanted.{Wanted}
+use Rattle.pv_sysusers.specs.declared.wanted.Wanted.{Wanted}
 
 -- what lines ask for, as it was gathered
 pub record IsWanted (users : Ids) (lines : List Line) (wanted : Wanted) : Type 0 where

@@ -1,13 +1,13 @@
 //! The numbers of new groups.
 ghost use Rattle.std.specs.Prelude.{◌≡◌, [], ◌∷◌, ◌++◌, None, Some, IfOk, IfErr, OnOk};
 ghost use Rattle.pv_accounts.specs.InUse.{id_of};
-ghost use Rattle.pv_sysusers.specs.Deciding.{GivesNext, IsMade, Lacks, Told, ToldBy, fixed_by, groups_by, pooled_by};
-ghost use Rattle.pv_sysusers.specs.Groups.{group_choice, in_use_message};
+ghost use Rattle.pv_sysusers.specs.Deciding.{IsMade, IsStocked, Lacks, Told, ToldBy, fixed_by, group_choice_by, groups_by};
+ghost use Rattle.pv_sysusers.specs.Groups.{in_use_message};
 
-use crate::fixed::Fixed;
-use crate::needs::Need;
+use crate::fixed::{Fixed, fixed_in};
 use crate::plan_fault::PlanFault;
-use crate::pool::{Pool, Stock};
+use crate::pool::{Stock, Supply};
+use crate::wanted::Wanted;
 use pv_accounts::InUse;
 use pv_path::{Bytes, add_printed};
 use pv_text::{Messages, Place};
@@ -39,27 +39,25 @@ pub(crate) fn say_in_use(
     said.push_at(place, &text)
 }
 
-/// The number that a line fixes for a group, where the group may get it, or else one of the pool.
-fn fixed_number(
+/// The number that a line fixes for a group, where the group may get it, or else the next one of the pool.
+fn fixed_or_next(
     alloc: Global,
-    stock: &Stock<'_>,
-    users: &InUse<'_>,
-    groups: &InUse<'_>,
+    supply: &Supply<'_>,
     name: &[u8],
-    n: u32,
-    place: &Place,
+    fixed: (u32, &Place),
     said: &mut Messages,
 ) -> Result<Option<u32>, AllocError>
-    requires { GivesNext stock.now users.now groups.now }
-    ensures number { let choice = group_choice (pooled_by stock.now.pool.now) users.now groups.now name.now (Some (n, place.now)) in
+    requires { IsStocked supply.now }
+    ensures number { let choice = group_choice_by supply.now name.now (Some (fixed.entry.0, fixed.entry.1.now)) in
         IfOk result (λ found. found ≡ choice.number) }
-    ensures said { let choice = group_choice (pooled_by stock.now.pool.now) users.now groups.now name.now (Some (n, place.now)) in
+    ensures said { let choice = group_choice_by supply.now name.now (Some (fixed.entry.0, fixed.entry.1.now)) in
         OnOk result (said.new ≡ said.old ++ choice.said) }
 {
-    let other = users.is_held_beside(n, name);
-    if groups.is_held(n) || other {
+    let (n, place) = fixed;
+    let other = supply.users.is_held_beside(n, name);
+    if supply.groups.is_held(n) || other {
         say_in_use(alloc, place, n, name, said)?;
-        Ok(stock.next)
+        Ok(supply.stock.next)
     } else {
         Ok(Some(n))
     }
@@ -68,22 +66,20 @@ fn fixed_number(
 /// The number that a group gets, if there is one.
 fn group_number(
     alloc: Global,
-    stock: &Stock<'_>,
-    users: &InUse<'_>,
-    groups: &InUse<'_>,
+    supply: &Supply<'_>,
     fixed: &Fixed<'_>,
     name: &[u8],
     said: &mut Messages,
 ) -> Result<Option<u32>, AllocError>
-    requires { GivesNext stock.now users.now groups.now }
-    ensures number { let choice = group_choice (pooled_by stock.now.pool.now) users.now groups.now name.now (fixed_by fixed.now name.now) in
+    requires { IsStocked supply.now }
+    ensures number { let choice = group_choice_by supply.now name.now (fixed_by fixed.now name.now) in
         IfOk result (λ found. found ≡ choice.number) }
-    ensures said { let choice = group_choice (pooled_by stock.now.pool.now) users.now groups.now name.now (fixed_by fixed.now name.now) in
+    ensures said { let choice = group_choice_by supply.now name.now (fixed_by fixed.now name.now) in
         OnOk result (said.new ≡ said.old ++ choice.said) }
 {
     match fixed.of(name) {
-        Some((n, place)) => fixed_number(alloc, stock, users, groups, name, n, place, said),
-        None => Ok(stock.next),
+        Some(fixed) => fixed_or_next(alloc, supply, name, fixed, said),
+        None => Ok(supply.stock.next),
     }
 }
 
@@ -112,23 +108,21 @@ impl<'a> Groups<'a> {
 /// The number that a needed group gets, or the fault that there is none.
 fn needed_number(
     alloc: Global,
-    stock: &Stock<'_>,
-    users: &InUse<'_>,
-    groups: &InUse<'_>,
+    supply: &Supply<'_>,
     fixed: &Fixed<'_>,
     name: &Bytes,
     said: &mut Messages,
 ) -> Result<u32, PlanFault>
-    requires { GivesNext stock.now users.now groups.now }
-    ensures number { let choice = group_choice (pooled_by stock.now.pool.now) users.now groups.now name.now (fixed_by fixed.now name.now) in
+    requires { IsStocked supply.now }
+    ensures number { let choice = group_choice_by supply.now name.now (fixed_by fixed.now name.now) in
         IfOk result (λ n. Some n ≡ choice.number) }
-    ensures none { let choice = group_choice (pooled_by stock.now.pool.now) users.now groups.now name.now (fixed_by fixed.now name.now) in
+    ensures none { let choice = group_choice_by supply.now name.now (fixed_by fixed.now name.now) in
         IfErr result (λ fault. ToldBy fault (None ≡ choice.number)) }
     ensures lacking { IfErr result (Lacks (Some name.now)) }
-    ensures said { let choice = group_choice (pooled_by stock.now.pool.now) users.now groups.now name.now (fixed_by fixed.now name.now) in
+    ensures said { let choice = group_choice_by supply.now name.now (fixed_by fixed.now name.now) in
         Told result (said.new ≡ said.old ++ choice.said) }
 {
-    match group_number(alloc, stock, users, groups, fixed, name.as_slice(), said)? {
+    match group_number(alloc, supply, fixed, name.as_slice(), said)? {
         Some(n) => Ok(n),
         None => Err(PlanFault::NoFreeId(name.copy()?)),
     }
@@ -137,30 +131,34 @@ fn needed_number(
 /// The groups that lines need, decided in order: one that is there keeps its number.
 pub(crate) fn decided_groups<'a>(
     alloc: Global,
-    pool: &Pool,
+    wanted: &'a Wanted,
     users: &InUse<'_>,
-    fixed: &Fixed<'_>,
     groups: InUse<'a>,
-    needs: &'a [Need],
     said: &mut Messages,
 ) -> Result<Groups<'a>, PlanFault>
-    ensures made { let decided = groups_by pool.now users.now fixed.now groups.entry needs.entry.now in
+    ensures made { let decided = groups_by wanted.entry.now users.now groups.entry in
         IfOk result (IsMade decided groups.entry) }
-    ensures lacking { let decided = groups_by pool.now users.now fixed.now groups.entry needs.entry.now in
+    ensures lacking { let decided = groups_by wanted.entry.now users.now groups.entry in
         IfErr result (Lacks decided.lacking) }
-    ensures said { let decided = groups_by pool.now users.now fixed.now groups.entry needs.entry.now in
+    ensures said { let decided = groups_by wanted.entry.now users.now groups.entry in
         Told result (said.new ≡ said.old ++ decided.said) }
 {
+    let fixed = fixed_in(alloc, &wanted.needs)?;
     let mut groups = Groups {
         all: groups,
         made: Vec::new(alloc),
     };
-    let mut stock = Stock::of(pool, users, &groups.all);
-    for need in needs {
+    let mut stock = Stock::of(&wanted.pool, users, &groups.all);
+    for need in &wanted.needs {
         if groups.all.id_of(need.name.as_slice()).is_some() {
             continue;
         }
-        let n = needed_number(alloc, &stock, users, &groups.all, fixed, &need.name, said)?;
+        let supply = Supply {
+            stock,
+            users: &*users,
+            groups: &groups.all,
+        };
+        let n = needed_number(alloc, &supply, &fixed, &need.name, said)?;
         groups = groups.with(&need.name, n)?;
         stock = stock.further(users, &groups.all);
     }

@@ -13,6 +13,7 @@ mod planned;
 mod pool;
 mod texts;
 mod users;
+mod wanted;
 
 pub use laws::{
     a_plan_among_new_files_gives_the_same_texts, groups_that_are_there_stay,
@@ -20,4 +21,4 @@ pub use laws::{
 };
 pub use path_ids::{PathId, PathIds};
 pub use plan_fault::PlanFault;
-pub use planned::{Texts, duplicates, plan};
+pub use planned::{AccountFiles, Texts, duplicates, plan};

@@ -3,7 +3,7 @@ ghost use Rattle.std.specs.Prelude.{◌≡◌, [], ◌∷◌, ◌++◌, IfOk, On
 ghost use Rattle.std.specs.List.{flat_map};
 ghost use Rattle.std.specs.Option.{option_map};
 ghost use Rattle.pv_sysusers.specs.Lines.{first_user, is_named};
-ghost use Rattle.pv_sysusers.specs.Needs.{account_of, accounts_of, group_number, is_made, made_account, main_of, member_needs, need, needs_of, user_needs, user_number};
+ghost use Rattle.pv_sysusers.specs.Needs.{account_of, accounts_of, group_number, is_made, made_account, main_of, member_needs, need, needs_of, plain_account, user_needs, user_number};
 ghost use Rattle.pv_sysusers.specs.Shown.{IsIndexed, shown, shown_line};
 
 use crate::lines::{Line, Lines};
@@ -75,68 +75,45 @@ impl Account {
     pub(crate) fn copy(&self) -> Result<Account, AllocError>
         ensures { IfOk result (λ account. account ≡ self.now) }
     {
-        account_with(
-            &self.name,
-            self.uid,
-            self.main.copy()?,
-            self.locked,
-            &self.gecos,
-            &self.home,
-            &self.shell,
-            &self.place,
-        )
+        let mut account = Account::plain(&self.name, &self.place)?;
+        account.uid = self.uid;
+        account.main = self.main.copy()?;
+        account.locked = self.locked;
+        account.set_texts(&self.gecos, &self.home, &self.shell)?;
+        Ok(account)
     }
-}
 
-/// Three texts that may be omitted, once more.
-fn copied_texts(
-    gecos: &Option<Bytes>,
-    home: &Option<Bytes>,
-    shell: &Option<Bytes>,
-) -> Result<(Option<Bytes>, Option<Bytes>, Option<Bytes>), AllocError>
-    ensures { IfOk result (λ texts. texts ≡ (gecos.now, home.now, shell.now)) }
-{
-    let gecos = copied(gecos)?;
-    let home = copied(home)?;
-    let shell = copied(shell)?;
-    Ok((gecos, home, shell))
-}
+    /// A user of whom no more is asked than that he is there.
+    fn plain(name: &Bytes, place: &Place) -> Result<Account, AllocError>
+        ensures { IfOk result (λ account. account ≡ plain_account name.now place.now) }
+    {
+        let name = name.copy()?;
+        Ok(Account {
+            name,
+            uid: None,
+            main: Main::Own,
+            locked: false,
+            gecos: None,
+            home: None,
+            shell: None,
+            place: place.copy()?,
+        })
+    }
 
-/// The user of these, whose texts and place are copied.
-fn account_with(
-    name: &Bytes,
-    uid: Option<u32>,
-    main: Main,
-    locked: bool,
-    gecos: &Option<Bytes>,
-    home: &Option<Bytes>,
-    shell: &Option<Bytes>,
-    place: &Place,
-) -> Result<Account, AllocError>
-    ensures { IfOk result (λ account. account ≡ record {
-      name = name.now;
-      uid = uid;
-      main = main;
-      locked = locked;
-      gecos = gecos.now;
-      home = home.now;
-      shell = shell.now;
-      place = place.now;
-    }) }
-{
-    let name = name.copy()?;
-    let place = place.copy()?;
-    let (gecos, home, shell) = copied_texts(gecos, home, shell)?;
-    Ok(Account {
-        name,
-        uid,
-        main,
-        locked,
-        gecos,
-        home,
-        shell,
-        place,
-    })
+    /// Gives the user these texts.
+    fn set_texts(
+        &mut self,
+        gecos: &Option<Bytes>,
+        home: &Option<Bytes>,
+        shell: &Option<Bytes>,
+    ) -> Result<(), AllocError>
+        ensures { OnOk result (self.new ≡ record self.old { gecos = gecos.now; home = home.now; shell = shell.now }) }
+    {
+        self.gecos = copied(gecos)?;
+        self.home = copied(home)?;
+        self.shell = copied(shell)?;
+        Ok(())
+    }
 }
 
 /// Whether an m line has its user made: he has no entry, and no u line names him.
@@ -328,8 +305,7 @@ fn add_made_user(
     if !made {
         return Ok(());
     }
-    let account = account_with(name, None, Main::Own, false, &None, &None, &None, place)?;
-    accounts.push(account)?;
+    accounts.push(Account::plain(name, place)?)?;
     Ok(())
 }
 
@@ -350,16 +326,11 @@ fn account_of(line: Line<'_>) -> Result<Option<Account>, AllocError>
     else {
         return Ok(None);
     };
-    let account = account_with(
-        name,
-        user_number(owners, id),
-        main_of(id)?,
-        *locked,
-        gecos,
-        home,
-        shell,
-        place,
-    )?;
+    let mut account = Account::plain(name, place)?;
+    account.uid = user_number(owners, id);
+    account.main = main_of(id)?;
+    account.locked = *locked;
+    account.set_texts(gecos, home, shell)?;
     Ok(Some(account))
 }
 

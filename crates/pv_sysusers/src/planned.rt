@@ -6,18 +6,17 @@ ghost use Rattle.pv_sysusers.specs.Deciding.{Lacks, Told};
 ghost use Rattle.pv_sysusers.specs.Texts.{gshadow_text, membership_of};
 ghost use Rattle.pv_sysusers.specs.Lines.{lines_from, said_duplicates};
 ghost use Rattle.pv_sysusers.specs.Plans.{plan_of, planned, texts_by};
-ghost use Rattle.pv_sysusers.specs.Planning.{AreNumbers, IsWanted, Misses, files_in, files_of, numbers_in};
+ghost use Rattle.pv_sysusers.specs.Planning.{AreNumbers, Misses, files_of, numbers_in};
 ghost use Rattle.pv_sysusers.specs.Shown.{IsIndexed, shown};
 
-use crate::fixed::fixed_in;
 use crate::groups::decided_groups;
 use crate::lines::{Line, Lines, counted};
-use crate::needs::{Account, Need, all_accounts, all_needs};
+use crate::needs::Need;
 use crate::path_ids::PathIds;
 use crate::plan_fault::PlanFault;
-use crate::pool::Pool;
 use crate::texts::{group_text, gshadow_text, passwd_text, shadow_text};
 use crate::users::{NewUser, decided_users};
+use crate::wanted::{Wanted, wanted_by};
 use pv_accounts::{InUse, Kind};
 use pv_path::Bytes;
 use pv_requests::RequestList;
@@ -46,17 +45,6 @@ pub struct AccountFiles<'a> {
     pub gshadow: Option<&'a [u8]>,
 }
 
-/// What lines ask for.
-#[derive(Drop)]
-pub struct Wanted {
-    /// The groups that they need.
-    pub needs: Vec<Need>,
-    /// The users that they need.
-    pub accounts: Vec<Account>,
-    /// The numbers that may be given.
-    pub pool: Pool,
-}
-
 /// The new groups and users with their numbers.
 #[derive(Drop)]
 pub struct Numbers {
@@ -64,21 +52,6 @@ pub struct Numbers {
     pub groups: Vec<(Bytes, u32)>,
     /// The users.
     pub users: Vec<NewUser>,
-}
-
-/// What lines ask for.
-fn wanted_by(alloc: Global, users: &InUse<'_>, lines: &Lines<'_>) -> Result<Wanted, AllocError>
-    requires { IsIndexed lines.now }
-    ensures { IfOk result (IsWanted users.now (shown lines.now.kept.items)) }
-{
-    let needs = all_needs(alloc, users, lines)?;
-    let accounts = all_accounts(alloc, users, lines)?;
-    let pool = Pool::of(alloc, &lines.kept, &needs, &accounts)?;
-    Ok(Wanted {
-        needs,
-        accounts,
-        pool,
-    })
 }
 
 /// The new groups and users with their numbers: all groups first, and then the users.
@@ -93,24 +66,8 @@ fn decided_numbers(
     ensures lacking { IfErr result (Lacks (numbers_in wanted.now users.entry groups.entry).lacking) }
     ensures said { Told result (said.new ≡ said.old ++ (numbers_in wanted.now users.entry groups.entry).said) }
 {
-    let fixed = fixed_in(alloc, &wanted.needs)?;
-    let groups = decided_groups(
-        alloc,
-        &wanted.pool,
-        &users,
-        &fixed,
-        groups,
-        &wanted.needs,
-        said,
-    )?;
-    let users = decided_users(
-        alloc,
-        &wanted.pool,
-        &groups.all,
-        users,
-        &wanted.accounts,
-        said,
-    )?;
+    let groups = decided_groups(alloc, wanted, &users, groups, said)?;
+    let users = decided_users(alloc, wanted, &groups.all, users, said)?;
     Ok(Numbers {
         groups: groups.made,
         users,
@@ -213,31 +170,22 @@ pub fn duplicates(alloc: Global, requests: &RequestList) -> Result<Messages, All
 pub fn plan(
     alloc: Global,
     requests: &RequestList,
-    passwd: &[u8],
-    group: &[u8],
-    shadow: &[u8],
-    gshadow: Option<&[u8]>,
+    files: &AccountFiles<'_>,
     taken: &PathIds,
     day: u64,
     messages: &mut Messages,
 ) -> Result<Texts, PlanFault>
-    ensures texts { let plan = planned requests.now taken.now (files_in passwd.now group.now shadow.now (option_map (λ f. f.now) gshadow.entry)) day in
+    ensures texts { let plan = planned requests.now taken.now (files_of files.now) day in
         IfOk result (λ texts. plan.texts ≡ Ok texts) }
-    ensures lacking { let plan = planned requests.now taken.now (files_in passwd.now group.now shadow.now (option_map (λ f. f.now) gshadow.entry)) day in
+    ensures lacking { let plan = planned requests.now taken.now (files_of files.now) day in
         IfErr result (Misses plan.texts) }
-    ensures said { let plan = planned requests.now taken.now (files_in passwd.now group.now shadow.now (option_map (λ f. f.now) gshadow.entry)) day in
+    ensures said { let plan = planned requests.now taken.now (files_of files.now) day in
         Told result (messages.new ≡ messages.old ++ plan.said) }
-    ensures part { let plan = planned requests.now taken.now (files_in passwd.now group.now shadow.now (option_map (λ f. f.now) gshadow.entry)) day in
+    ensures part { let plan = planned requests.now taken.now (files_of files.now) day in
         SaidPart plan.said messages.old messages.new }
 {
-    let files = AccountFiles {
-        passwd,
-        group,
-        shadow,
-        gshadow,
-    };
     let mut said = Messages::new(alloc);
-    match planned_texts(alloc, requests, taken, &files, day, &mut said) {
+    match planned_texts(alloc, requests, taken, files, day, &mut said) {
         Ok(texts) => {
             say_all(&said, messages)?;
             Ok(texts)

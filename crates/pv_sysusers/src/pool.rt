@@ -245,3 +245,14 @@ impl<'a> Stock<'a> {
         }
     }
 }
+
+/// What a number for a new user or group is chosen by.
+#[derive(Clone, Copy)]
+pub struct Supply<'a> {
+    /// The numbers that may be given.
+    pub stock: Stock<'a>,
+    /// The users that are there.
+    pub users: &'a InUse<'a>,
+    /// The groups that are there.
+    pub groups: &'a InUse<'a>,
+}

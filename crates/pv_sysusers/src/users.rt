@@ -1,13 +1,14 @@
 //! The numbers of new users.
 ghost use Rattle.std.specs.Prelude.{◌≡◌, [], ◌∷◌, ◌++◌, None, Some, IfOk, IfErr, OnOk};
 ghost use Rattle.pv_accounts.specs.InUse.{id_of};
-ghost use Rattle.pv_sysusers.specs.Deciding.{AreMade, GivesNext, Lacks, Told, ToldBy, pooled_by, users_by};
-ghost use Rattle.pv_sysusers.specs.Users.{gid_of, group_or_free, is_free_for, new_user, user_choice};
+ghost use Rattle.pv_sysusers.specs.Deciding.{AreMade, IsStocked, Lacks, Told, ToldBy, pooled_by, user_choice_by, users_by};
+ghost use Rattle.pv_sysusers.specs.Users.{gid_of, group_or_free, is_free_for, new_user};
 
 use crate::groups::say_in_use;
 use crate::needs::{Account, Main};
 use crate::plan_fault::PlanFault;
-use crate::pool::{Pool, Stock};
+use crate::pool::{Stock, Supply};
+use crate::wanted::Wanted;
 use pv_accounts::InUse;
 use pv_text::Messages;
 use std::alloc::{AllocError, Global};
@@ -31,46 +32,39 @@ fn is_free_for(users: &InUse<'_>, groups: &InUse<'_>, name: &[u8], n: u32) -> bo
     !(users.is_held(n) || other)
 }
 
-/// The number of the group of the user's name, where he may get it, or else one of the pool.
-fn group_or_free(
-    stock: &Stock<'_>,
-    users: &InUse<'_>,
-    groups: &InUse<'_>,
-    name: &[u8],
-) -> Option<u32>
-    requires { GivesNext stock.now users.now groups.now }
-    ensures { result ≡ group_or_free (pooled_by stock.now.pool.now) users.now groups.now name.now }
+/// The number of the group of the user's name, where he may get it, or else the next one of the pool.
+fn group_or_next(supply: &Supply<'_>, name: &[u8]) -> Option<u32>
+    requires { IsStocked supply.now }
+    ensures { result ≡ group_or_free (pooled_by supply.now.stock.pool.now) supply.now.users.now supply.now.groups.now name.now }
 {
-    match groups.id_of(name) {
-        Some(n) if n != 0 && is_free_for(users, groups, name, n) => Some(n),
-        _ => stock.next,
+    match supply.groups.id_of(name) {
+        Some(n) if n != 0 && is_free_for(supply.users, supply.groups, name, n) => Some(n),
+        _ => supply.stock.next,
     }
 }
 
 /// The number that a user gets, if there is one.
 fn user_number(
     alloc: Global,
-    stock: &Stock<'_>,
-    users: &InUse<'_>,
-    groups: &InUse<'_>,
+    supply: &Supply<'_>,
     account: &Account,
     said: &mut Messages,
 ) -> Result<Option<u32>, AllocError>
-    requires { GivesNext stock.now users.now groups.now }
-    ensures number { let choice = user_choice (pooled_by stock.now.pool.now) users.now groups.now account.now in
+    requires { IsStocked supply.now }
+    ensures number { let choice = user_choice_by supply.now account.now in
         IfOk result (λ n. n ≡ choice.number) }
-    ensures said { let choice = user_choice (pooled_by stock.now.pool.now) users.now groups.now account.now in
+    ensures said { let choice = user_choice_by supply.now account.now in
         OnOk result (said.new ≡ said.old ++ choice.said) }
 {
     let name = account.name.as_slice();
     let Some(n) = account.uid else {
-        return Ok(group_or_free(stock, users, groups, name));
+        return Ok(group_or_next(supply, name));
     };
-    if is_free_for(users, groups, name, n) {
+    if is_free_for(supply.users, supply.groups, name, n) {
         return Ok(Some(n));
     }
     say_in_use(alloc, &account.place, n, name, said)?;
-    Ok(group_or_free(stock, users, groups, name))
+    Ok(group_or_next(supply, name))
 }
 
 /// The number of the primary group, which was decided before.
@@ -125,22 +119,20 @@ impl<'a> Users<'a> {
 /// The number that a needed user gets, or the fault that there is none.
 fn needed_number(
     alloc: Global,
-    stock: &Stock<'_>,
-    users: &InUse<'_>,
-    groups: &InUse<'_>,
+    supply: &Supply<'_>,
     account: &Account,
     said: &mut Messages,
 ) -> Result<u32, PlanFault>
-    requires { GivesNext stock.now users.now groups.now }
-    ensures number { let choice = user_choice (pooled_by stock.now.pool.now) users.now groups.now account.now in
+    requires { IsStocked supply.now }
+    ensures number { let choice = user_choice_by supply.now account.now in
         IfOk result (λ n. Some n ≡ choice.number) }
-    ensures none { let choice = user_choice (pooled_by stock.now.pool.now) users.now groups.now account.now in
+    ensures none { let choice = user_choice_by supply.now account.now in
         IfErr result (λ fault. ToldBy fault (None ≡ choice.number)) }
     ensures lacking { IfErr result (Lacks (Some account.now.name)) }
-    ensures said { let choice = user_choice (pooled_by stock.now.pool.now) users.now groups.now account.now in
+    ensures said { let choice = user_choice_by supply.now account.now in
         Told result (said.new ≡ said.old ++ choice.said) }
 {
-    match user_number(alloc, stock, users, groups, account, said)? {
+    match user_number(alloc, supply, account, said)? {
         Some(n) => Ok(n),
         None => Err(PlanFault::NoFreeId(account.name.copy()?)),
     }
@@ -149,29 +141,33 @@ fn needed_number(
 /// The users that lines need, decided in order: one that is there stays as he is.
 pub(crate) fn decided_users<'a>(
     alloc: Global,
-    pool: &Pool,
+    wanted: &'a Wanted,
     groups: &InUse<'_>,
     users: InUse<'a>,
-    accounts: &'a [Account],
     said: &mut Messages,
 ) -> Result<Vec<NewUser>, PlanFault>
-    ensures made { let decided = users_by pool.now groups.now users.entry accounts.entry.now in
+    ensures made { let decided = users_by wanted.entry.now groups.now users.entry in
         IfOk result (λ made. AreMade decided made.items) }
-    ensures lacking { let decided = users_by pool.now groups.now users.entry accounts.entry.now in
+    ensures lacking { let decided = users_by wanted.entry.now groups.now users.entry in
         IfErr result (Lacks decided.lacking) }
-    ensures said { let decided = users_by pool.now groups.now users.entry accounts.entry.now in
+    ensures said { let decided = users_by wanted.entry.now groups.now users.entry in
         Told result (said.new ≡ said.old ++ decided.said) }
 {
     let mut users = Users {
         all: users,
         made: Vec::new(alloc),
     };
-    let mut stock = Stock::of(pool, &users.all, groups);
-    for account in accounts {
+    let mut stock = Stock::of(&wanted.pool, &users.all, groups);
+    for account in &wanted.accounts {
         if users.all.id_of(account.name.as_slice()).is_some() {
             continue;
         }
-        let uid = needed_number(alloc, &stock, &users.all, groups, account, said)?;
+        let supply = Supply {
+            stock,
+            users: &users.all,
+            groups: &*groups,
+        };
+        let uid = needed_number(alloc, &supply, account, said)?;
         users = users.with(groups, account, uid)?;
         stock = stock.further(&users.all, groups);
     }

@@ -2,7 +2,7 @@
 use super::given::place_in;
 use pv_requests::{RequestList, read_request};
 use pv_sheet::ended;
-use pv_sysusers::{PathIds, PlanFault, Texts, plan};
+use pv_sysusers::{AccountFiles, PathIds, PlanFault, Texts, plan};
 use pv_text::{Facts, Messages};
 use std::alloc::{AllocError, Global};
 
@@ -67,20 +67,14 @@ pub(crate) fn planned(alloc: Global, lines: &[&str], input: &str) -> Result<Vec<
     let [passwd, group, shadow, gshadow] = files.as_slice() else {
         return ended(Vec::new(alloc), b"not four files");
     };
-    let (passwd, group, shadow) = (passwd.as_bytes(), group.as_bytes(), shadow.as_bytes());
-    let gshadow = Some(gshadow.as_bytes()).filter(|text| !text.is_empty());
+    let files = AccountFiles {
+        passwd: passwd.as_bytes(),
+        group: group.as_bytes(),
+        shadow: shadow.as_bytes(),
+        gshadow: Some(gshadow.as_bytes()).filter(|text| !text.is_empty()),
+    };
     let taken = PathIds::new(alloc);
     let mut messages = Messages::new(alloc);
-    let planned = plan(
-        alloc,
-        &requests,
-        passwd,
-        group,
-        shadow,
-        gshadow,
-        &taken,
-        11,
-        &mut messages,
-    );
+    let planned = plan(alloc, &requests, &files, &taken, 11, &mut messages);
     plan_told(alloc, planned, messages.len())
 }
