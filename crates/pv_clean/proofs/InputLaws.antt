@@ -22,12 +22,12 @@ use Rattle.pv_dress.specs.Edits.{Pruned}
 use Rattle.pv_find.proofs.WholeLaws.{all_at-each}
 use Rattle.pv_table.specs.declared.reason.Reason.TheVariants as reason
 use Rattle.pv_table.specs.declared.scope.Scope.{Scope}
-use Rattle.pv_table.specs.Asking.{asks}
+use Rattle.pv_table.specs.Asking.{asks, is_writing, sparing_of, taking_of}
 use Rattle.pv_table.specs.Cleaned.{is_aged, is_old_by, may_go}
-use Rattle.pv_table.specs.Reaching.{governs, is_creating, is_deep, names, sparing_of, spares_below, takes_below, taking_of}
+use Rattle.pv_table.specs.Reaching.{governs, is_creating, is_deep, names, spares_below, takes_below}
 use Rattle.pv_table.specs.Removed.{all_at}
 use Rattle.pv_layers.specs.Places.{is_input}
-use Rattle.pv_table.specs.Repeatable.{HasReason, is_writing, takes_named}
+use Rattle.pv_table.specs.Repeatable.{HasReason, takes_named}
 use Rattle.pv_table.specs.Scopes.{first_age, gives_age, inherited, is_exempting, is_sparing_itself, own_scope, scope_at, scope_of_first}
 use Rattle.pv_table.proofs.PlaceLaws.{first_place-none, missing}
 use Rattle.pv_clean.specs.Cleaning.{IsCleanStep}

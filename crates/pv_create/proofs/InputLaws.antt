@@ -40,11 +40,11 @@ use Rattle.pv_table.specs.declared.reason.Reason.TheVariants as reason
 use Rattle.pv_table.specs.Active.{in_create_order}
 use Rattle.pv_table.specs.Asked.{operations}
 use Rattle.pv_table.specs.Pointwise.{touches}
-use Rattle.pv_table.specs.Asking.{asks, deeds, mode_to_set, owners_and_mode, set_by, without_links}
+use Rattle.pv_table.specs.Asking.{asks, deeds, is_writing, mode_to_set, owners_and_mode, set_by, taking_of, without_links}
 use Rattle.pv_table.specs.Created.{by_line}
-use Rattle.pv_table.specs.Reaching.{governs, is_creating, names, taking_of}
+use Rattle.pv_table.specs.Reaching.{governs, is_creating, names}
 use Rattle.pv_layers.specs.Places.{is_input}
-use Rattle.pv_table.specs.Repeatable.{HasReason, IsAt, changes_content, is_writing, takes_named}
+use Rattle.pv_table.specs.Repeatable.{HasReason, IsAt, changes_content, takes_named}
 use Rattle.pv_doing.specs.Courses.{Partway}
 use Rattle.pv_laws.specs.Copying.{OnWayOf, copy_before, copy_done, other}
 use Rattle.pv_laws.specs.Stopping.{IsMidway}

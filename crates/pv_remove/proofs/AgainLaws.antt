@@ -27,7 +27,8 @@ use Rattle.pv_find.proofs.WholeLaws.{goes_parts, goes_from, all_at-each, each-al
 use Rattle.pv_walk.specs.Removal.{loses_child}
 use Rattle.pv_table.specs.declared.taking.Taking.{Taking}
 use Rattle.pv_table.specs.declared.taking.Taking.TheVariants as taking
-use Rattle.pv_table.specs.Reaching.{names, names_in, path_in, taking_of}
+use Rattle.pv_table.specs.Asking.{taking_of}
+use Rattle.pv_table.specs.Reaching.{names, names_in, path_in}
 use Rattle.pv_table.specs.Removed.{all_at, covers, files_without, is_directory_at, is_gone, is_named, is_unfinished, judged, keeps, refused_place, removed}
 use Rattle.pv_table.proofs.QuietLaws.{kind_bare, present_bare}
 use Rattle.pv_remove.proofs.CoverLaws.{at_place, from_range, in_any, in_range, key_there, take_rest_of}

@@ -28,10 +28,10 @@ use Rattle.pv_find.proofs.WholeLaws.{goes_parts, all_at-each}
 use Rattle.pv_table.specs.declared.reason.Reason.TheVariants as reason
 use Rattle.pv_table.specs.declared.taking.Taking.{Taking}
 use Rattle.pv_table.specs.declared.taking.Taking.TheVariants as taking
-use Rattle.pv_table.specs.Asking.{asks}
-use Rattle.pv_table.specs.Reaching.{governs, is_creating, is_deep, names, names_above, names_in, path_in, reaches_below, sparing_of, spares_below, takes_below, taking_of}
+use Rattle.pv_table.specs.Asking.{asks, is_writing, sparing_of, taking_of}
+use Rattle.pv_table.specs.Reaching.{governs, is_creating, is_deep, names, names_above, names_in, path_in, reaches_below, spares_below, takes_below}
 use Rattle.pv_table.specs.Removed.{covers, is_directory_at, is_gone, is_named, is_purged, purges, refused_place}
-use Rattle.pv_table.specs.Repeatable.{HasReason, IsAt, changes_content, is_writing, takes_named}
+use Rattle.pv_table.specs.Repeatable.{HasReason, IsAt, changes_content, takes_named}
 use Rattle.pv_layers.specs.Places.{is_input}
 use Rattle.pv_remove.proofs.CoverLaws.{at_place, from_range, in_range}
 use Rattle.pv_remove.proofs.StopLaws.{told_prefix}

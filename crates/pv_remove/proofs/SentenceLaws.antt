@@ -19,7 +19,7 @@ use Rattle.pv_find.proofs.FindingLaws.{no_names}
 use Rattle.pv_find.proofs.WholeLaws.{member_passes, members_pass, goes_parts, goes_from, goes_by_children, all_at-each, each-all_at}
 use Rattle.pv_table.specs.declared.taking.Taking.{Taking}
 use Rattle.pv_table.specs.declared.taking.Taking.TheVariants as taking
-use Rattle.pv_table.specs.Reaching.{taking_of}
+use Rattle.pv_table.specs.Asking.{taking_of}
 use Rattle.pv_table.specs.Removed.{covers, is_directory_at, is_gone, is_named}
 use Rattle.pv_remove.specs.Sentences.{children_go, is_gone_by, takes_by}
 use Rattle.pv_remove.proofs.CoverLaws.{from_range, in_range}

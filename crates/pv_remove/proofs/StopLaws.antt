@@ -24,7 +24,8 @@ use Rattle.pv_walk.specs.Removal.{loses_child, without}
 use Rattle.pv_find.proofs.WholeLaws.{goes_parts, goes_from, all_at-each, each-all_at}
 use Rattle.pv_table.specs.declared.taking.Taking.{Taking}
 use Rattle.pv_table.specs.declared.taking.Taking.TheVariants as taking
-use Rattle.pv_table.specs.Reaching.{names, path_in, taking_of}
+use Rattle.pv_table.specs.Asking.{taking_of}
+use Rattle.pv_table.specs.Reaching.{names, path_in}
 use Rattle.pv_table.specs.Removed.{all_at, covers, is_directory_at, is_gone, is_named, files_without, is_purged, owner_given, purges, purged, refused_place, removed}
 use Rattle.pv_remove.specs.Ended.{IsMended}
 use Rattle.pv_path.proofs.Tests.{same_tests}

@@ -14,8 +14,8 @@ use Rattle.pv_lines.specs.Lines.{IsArgument, IsConfigured, IsLine, IsLinePath}
 use Rattle.pv_lines.specs.Types.{type_of}
 use Rattle.pv_table.specs.declared.deed.Deed.{Deed}
 use Rattle.pv_table.specs.declared.deed.Deed.TheVariants.{Create, Copy, Touch, Idle}
-use Rattle.pv_table.specs.Asking.{asks, copying, deeds, source_of}
-use Rattle.pv_table.specs.Reaching.{is_deep, path_in, reaches, reaches_below, spares_below, sparing_of, takes_below, taking_of}
+use Rattle.pv_table.specs.Asking.{asks, copying, deeds, source_of, sparing_of, taking_of}
+use Rattle.pv_table.specs.Reaching.{is_deep, path_in, reaches, reaches_below, spares_below, takes_below}
 use Rattle.pv_table.specs.Turns.{copied}
 use Rattle.pv_report.specs.Subjects.{plains_of}
 use Rattle.pv_report.proofs.ReachLaws.{IsUnstaged, Named, named-reaches, under_names}

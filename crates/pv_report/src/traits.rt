@@ -9,7 +9,7 @@ ghost use Rattle.pv_report.specs.Marks.{traits_of};
 use pv_acl::{AclLine, Entry};
 use pv_dress::{Change, Operation};
 use pv_lines::Line;
-use pv_table::{Deed, Sparing, Taking, asks, is_creating, sparing_of, taking_of};
+use pv_table::{Deed, Sparing, Taking, asks, is_creating, is_writing, sparing_of, taking_of};
 use std::alloc::{AllocError, Global};
 
 /// What is asked of a line besides where it stands.
@@ -111,7 +111,7 @@ fn takes_named(taking: Taking) -> bool
 fn changes_content(line: &Line) -> bool
     ensures { result ≡ changes_content line.now }
 {
-    is_creating(line) || line.letter == b'w' || takes_named(taking_of(line)) || line.age.is_some()
+    is_creating(line) || is_writing(line) || takes_named(taking_of(line)) || line.age.is_some()
 }
 
 /// What is asked of a line besides where it stands.

@@ -17,8 +17,8 @@ use Rattle.pv_table.specs.declared.deed.Deed.{Deed}
 use Rattle.pv_table.specs.declared.deed.Deed.TheVariants.{Create, Copy, Touch, Idle}
 use Rattle.pv_table.specs.declared.taking.Taking.{Taking}
 use Rattle.pv_table.specs.declared.taking.Taking.TheVariants as taking
-use Rattle.pv_table.specs.Asking.{asks}
-use Rattle.pv_table.specs.Reaching.{path_in, is_creating, taking_of}
+use Rattle.pv_table.specs.Asking.{asks, taking_of}
+use Rattle.pv_table.specs.Reaching.{path_in, is_creating}
 
 -- ---- filters
 

@@ -1,4 +1,4 @@
--- What lines ask for in the create phase: the one table from the letter of a type to what is done (tmpfiles.d(5), "Type").
+-- What lines of each type do in each phase: no other definition looks at the letter of a type (tmpfiles.d(5), "Type").
 use Rattle.std.specs.Prelude.{ℕ, ◌%◌, Bool, true, false, not, ◌&&◌, ◌==◌, List, [], ◌∷◌, ◌++◌, Option, Some, None, option_map, unwrap_or, find, if◌then◌else◌}
 use Rattle.std.specs.Option.{option_map_or}
 use Rattle.pv_acl.specs.declared.line.How.TheVariants.{Replace, Add}
@@ -23,6 +23,10 @@ use Rattle.pv_walk.specs.declared.new_file.NewKind.TheVariants as new
 use Rattle.pv_walk.specs.Staging.{new_kind}
 use Rattle.pv_table.specs.declared.deed.Deed.{Deed}
 use Rattle.pv_table.specs.declared.deed.Deed.TheVariants.{Create, Copy, Touch, Idle}
+use Rattle.pv_table.specs.declared.taking.Sparing.{Sparing}
+use Rattle.pv_table.specs.declared.taking.Sparing.TheVariants as sparing
+use Rattle.pv_table.specs.declared.taking.Taking.{Taking}
+use Rattle.pv_table.specs.declared.taking.Taking.TheVariants as taking
 
 -- ---- owners and modes
 
@@ -170,3 +174,24 @@ deeds =
 -- what a line asks for; r R x X ask for nothing in the create phase
 abbrev pub asks : Line → Deed
 asks line = option_map_or (λ row. row.1 line) (find (λ row. row.0 == line.letter) deeds) Idle
+
+-- ---- what a line is for besides creating
+
+-- r takes the object itself, R with all below, D what is below it
+abbrev pub taking_of : Line → Taking
+taking_of line =
+    if line.letter == 114 then taking.Itself
+    else if line.letter == 82 then taking.Whole
+    else if line.letter == 68 then taking.Contents
+    else taking.Nothing
+
+-- x spares the object with all below, X the object itself
+abbrev pub sparing_of : Line → Option Sparing
+sparing_of line =
+    if line.letter == 120 then Some sparing.Whole
+    else if line.letter == 88 then Some sparing.Itself
+    else None
+
+-- whether a line writes bytes: w
+abbrev pub is_writing : Line → Bool
+is_writing line = line.letter == 119

@@ -13,24 +13,7 @@ use Rattle.pv_table.specs.declared.taking.Taking.{Taking}
 use Rattle.pv_table.specs.declared.taking.Taking.TheVariants as taking
 use Rattle.pv_table.specs.declared.taking.Sparing.{Sparing}
 use Rattle.pv_table.specs.declared.taking.Sparing.TheVariants as sparing
-use Rattle.pv_table.specs.Asking.{asks}
-
--- ---- what a line is for besides creating
-
--- r takes the object itself, R with all below, D what is below it
-abbrev pub taking_of : Line → Taking
-taking_of line =
-    if line.letter == 114 then taking.Itself
-    else if line.letter == 82 then taking.Whole
-    else if line.letter == 68 then taking.Contents
-    else taking.Nothing
-
--- x spares the object with all below, X the object itself
-abbrev pub sparing_of : Line → Option Sparing
-sparing_of line =
-    if line.letter == 120 then Some sparing.Whole
-    else if line.letter == 88 then Some sparing.Itself
-    else None
+use Rattle.pv_table.specs.Asking.{asks, sparing_of, taking_of}
 
 -- ---- names
 

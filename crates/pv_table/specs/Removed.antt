@@ -18,8 +18,8 @@ use Rattle.pv_text.specs.Said.{said_at}
 use Rattle.pv_walk.specs.Removal.{without}
 use Rattle.pv_table.specs.declared.taking.Taking.{Taking}
 use Rattle.pv_table.specs.declared.taking.Taking.TheVariants as taking
-use Rattle.pv_table.specs.Asking.{id_for_new}
-use Rattle.pv_table.specs.Reaching.{names, path_in, taking_of}
+use Rattle.pv_table.specs.Asking.{id_for_new, taking_of}
+use Rattle.pv_table.specs.Reaching.{names, path_in}
 use Rattle.pv_table.specs.Saying.{place_text, left_text}
 
 -- a tree from which some paths are gone; a directory that stays and lost a child is changed in some way

@@ -14,8 +14,8 @@ use Rattle.pv_table.specs.declared.reason.Reason.{Reason}
 use Rattle.pv_table.specs.declared.reason.Reason.TheVariants as reason
 use Rattle.pv_table.specs.declared.taking.Taking.{Taking}
 use Rattle.pv_table.specs.declared.taking.Taking.TheVariants as taking
-use Rattle.pv_table.specs.Asking.{asks}
-use Rattle.pv_table.specs.Reaching.{is_creating, path_in, reaches, governs, taking_of}
+use Rattle.pv_table.specs.Asking.{asks, is_writing, taking_of}
+use Rattle.pv_table.specs.Reaching.{is_creating, path_in, reaches, governs}
 use Rattle.pv_table.specs.Turns.{copied}
 
 -- ---- lines that share a path
@@ -63,10 +63,6 @@ has_masked_mode line = by line.mode
     by : Option LineMode → Bool
     by None = false
     by (Some mode) = mode.masked
-
--- whether a line writes bytes: w
-abbrev pub is_writing : Line → Bool
-is_writing line = line.letter == 119
 
 -- whether a line takes away what it names: r or R
 abbrev pub takes_named : Taking → Bool

@@ -1,13 +1,14 @@
-//! The table from the letter of a type to what its lines ask for.
+//! What lines of each type do: nothing else looks at the letter of a type.
 ghost use Rattle.std.specs.Prelude.{◌≡◌, ◌++◌, [], ◌∷◌, IfOk, OnOk};
 ghost use Rattle.std.specs.Option.{option_map_or};
 ghost use Rattle.pv_dress.specs.declared.operation.Guard.TheVariants.{Every, NoLink, Only};
 ghost use Rattle.pv_dress.specs.declared.operation.Operation.TheVariants.{Adjust};
 ghost use Rattle.pv_walk.specs.Staging.{new_kind};
 ghost use Rattle.pv_table.specs.Active.{is_touching};
-ghost use Rattle.pv_table.specs.Asking.{asks, bytes_of, contents_to_set, copying, device, id_for_new, id_to_set, link_to, making, mode_for_new, mode_to_set, owners_and_mode, renewal, set_by, source_of, touching, without_links, writing};
+ghost use Rattle.pv_table.specs.Asking.{asks, bytes_of, contents_to_set, copying, device, id_for_new, id_to_set, is_writing, link_to, making, mode_for_new, mode_to_set, owners_and_mode, renewal, set_by, source_of, sparing_of, taking_of, touching, without_links, writing};
 
 use crate::deed::{Copying, Deed, Making, OperationList, Touching};
+use crate::taking::{Sparing, Taking};
 use pv_acl::How;
 use pv_dress::{Change, Guard, Operation, Test};
 use pv_lines::{Argument, Line, LineId, LineMode};
@@ -47,6 +48,36 @@ pub(crate) fn is_touching(line: &Line) -> bool
         line.letter,
         b'w' | b'e' | b'z' | b'Z' | b'a' | b'A' | b't' | b'T' | b'h' | b'H'
     )
+}
+
+/// What a line takes away in the remove phase at a path that it names (tmpfiles.d(5), r, R and D).
+pub fn taking_of(line: &Line) -> Taking
+    ensures { result ≡ taking_of line.now }
+{
+    match line.letter {
+        b'r' => Taking::Itself,
+        b'R' => Taking::Whole,
+        b'D' => Taking::Contents,
+        _ => Taking::Nothing,
+    }
+}
+
+/// What a line spares in the clean phase at a path that it names (tmpfiles.d(5), x and X).
+pub fn sparing_of(line: &Line) -> Option<Sparing>
+    ensures { result ≡ sparing_of line.now }
+{
+    match line.letter {
+        b'x' => Some(Sparing::Whole),
+        b'X' => Some(Sparing::Itself),
+        _ => None,
+    }
+}
+
+/// Whether a line writes to what is there (tmpfiles.d(5), w).
+pub fn is_writing(line: &Line) -> bool
+    ensures { result ≡ is_writing line.now }
+{
+    line.letter == b'w'
 }
 
 /// The ID that a new object gets, where one is given.

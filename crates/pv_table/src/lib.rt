@@ -18,7 +18,7 @@ mod table;
 mod taking;
 
 pub use age_scope::scope_of;
-pub use asking::asks;
+pub use asking::{asks, is_writing, sparing_of, taking_of};
 pub use building::build;
 pub use deed::{Copying, Deed, Making, OperationList, Touching};
 pub use laws::{
@@ -27,7 +27,7 @@ pub use laws::{
 };
 pub use message::{left_text, place_text, say_left, say_refused, say_source_refused};
 pub use order::{create_order, remove_order};
-pub use reach::{is_creating, names, names_first, path_of, sparing_of, taking_of};
+pub use reach::{is_creating, names, names_first, path_of};
 pub use reason::Reason;
 pub use scope::Scope;
 pub use table::Table;

@@ -1,42 +1,20 @@
-//! Which paths a line names, and what it is for besides creating.
+//! Which paths a line names.
 ghost use Rattle.std.specs.Prelude.{◌≡◌, ◌≤◌, length, take, IfOk};
 ghost use Rattle.pv_table.specs.Active.{is_taking};
-ghost use Rattle.pv_table.specs.Reaching.{is_creating, names, path_in, sparing_of, taking_of};
+ghost use Rattle.pv_table.specs.Reaching.{is_creating, names, path_in};
 
-use crate::taking::{Sparing, Taking};
+use crate::asking::taking_of;
+use crate::taking::Taking;
 use pv_glob::{matches, matches_first};
 use pv_lines::{Line, LinePath};
 use pv_path::TreePath;
 use std::alloc::{AllocError, Global};
-
-/// What a line takes away in the remove phase at a path that it names (tmpfiles.d(5), r, R and D).
-pub fn taking_of(line: &Line) -> Taking
-    ensures { result ≡ taking_of line.now }
-{
-    match line.letter {
-        b'r' => Taking::Itself,
-        b'R' => Taking::Whole,
-        b'D' => Taking::Contents,
-        _ => Taking::Nothing,
-    }
-}
 
 /// Whether a line takes something away in the remove phase.
 pub(crate) fn is_taking(line: &Line) -> bool
     ensures { result ≡ is_taking line.now }
 {
     !matches!(taking_of(line), Taking::Nothing)
-}
-
-/// What a line spares in the clean phase at a path that it names (tmpfiles.d(5), x and X).
-pub fn sparing_of(line: &Line) -> Option<Sparing>
-    ensures { result ≡ sparing_of line.now }
-{
-    match line.letter {
-        b'x' => Some(Sparing::Whole),
-        b'X' => Some(Sparing::Itself),
-        _ => None,
-    }
 }
 
 /// Whether a line is of a type that makes what stands at its path: such a line has a path, any other a pattern
