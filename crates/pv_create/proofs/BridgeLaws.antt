@@ -57,8 +57,8 @@ use Rattle.pv_table.specs.Repeatable.{sets_of}
 use Rattle.pv_table.specs.Saying.{found}
 use Rattle.pv_table.specs.Turns.{Turn, View, Refused, view_of, copied, has_something, decide, making_turn, copying_turn, refused_at}
 use Rattle.pv_doing.specs.Courses.{Course, Partway}
-use Rattle.pv_adjust.specs.Reached.{IsPartSet}
-use Rattle.pv_make.specs.OnWay.{OnWay, IsMidway, IsClearing, turn_at, sets_at, puts_parents, turn_course}
+use Rattle.pv_create.specs.Reached.{IsPartSet}
+use Rattle.pv_create.specs.OnWay.{OnWay, IsMidway, IsClearing, turn_at, sets_at, puts_parents, turn_course}
 use Rattle.pv_laws.specs.Copying.{IsCopyMidway, turn_of, OnWayOf, PartwayOf}
 use Rattle.pv_laws.specs.Stopping as stopping
 use Rattle.pv_laws.specs.Stopping.{IsRenewal}

@@ -42,8 +42,8 @@ use Rattle.pv_table.specs.Repeatable.{HasReason}
 use Rattle.pv_table.specs.Saying.{found}
 use Rattle.pv_table.specs.Turns.{Turn, copied}
 use Rattle.pv_doing.specs.Courses.{Partway, IsStepOfSome}
-use Rattle.pv_adjust.specs.Adjusting.{GivesBytes, GivesSet}
-use Rattle.pv_make.specs.OnWay.{IsStepOf, turn_at}
+use Rattle.pv_create.specs.Adjusting.{GivesBytes, GivesSet}
+use Rattle.pv_create.specs.OnWay.{IsStepOf, turn_at}
 use Rattle.pv_laws.proofs.AllFrames.{not_above, not_below, each_kept}
 use Rattle.pv_laws.proofs.Frames.{IsFree, ungoverned, creates, midway_frame}
 use Rattle.pv_laws.proofs.Lines.{copy_path, line_is_plain, turns_touch}

@@ -2,16 +2,16 @@
 -- away paths, so that the list made first stays right.
 use Rattle.std.specs.Prelude.{◌≡◌, ℕ, ◌+◌, ◌≤◌, ◌<◌, Bool, ◌||◌, List, [], ◌∷◌, length, drop, get_or, Result, Ok, Err, IsErrAnd, is_some}
 use Rattle.std.proofs.Common.{zero, suc, refl, sym, ap, subst, ◌∙◌, arith}
-use Rattle.pv_adjust.proofs.NamedLaws.{named_turns, stands_named, turn_keeps}
+use Rattle.pv_create.proofs.NamedLaws.{named_turns, stands_named, turn_keeps}
 use Rattle.pv_doing.specs.Courses.{each_of, carried_of, CarriesOut}
 use Rattle.pv_doing.specs.declared.carried.Carried.{Carried}
 use Rattle.pv_doing.specs.declared.carried.Carried.TheVariants.{Whole}
 use Rattle.pv_doing.proofs.CarryingLaws.{carried_none, Underway, underway_start, underway_failed, underway_next, underway_end}
 use Rattle.pv_doing.proofs.CourseLaws.{cut_start, none_left, partway_start, single_start}
 use Rattle.pv_lines.specs.declared.line.Line.{Line}
-use Rattle.pv_make.specs.Deeds.{IsTurn}
-use Rattle.pv_make.specs.OnWay.{turn_course}
-use Rattle.pv_make.proofs.TurnLaws.{turn_start}
+use Rattle.pv_create.specs.Deeds.{IsTurn}
+use Rattle.pv_create.specs.OnWay.{turn_course}
+use Rattle.pv_create.proofs.TurnLaws.{turn_start}
 use Rattle.pv_path.specs.Paths.{Path}
 use Rattle.pv_path.proofs.Tests.{next_item}
 use Rattle.pv_steps.specs.declared.tree.Tree.{Ghosts}

@@ -1,10 +1,10 @@
 -- Laws of one line at its turn, by what it asks for: what it may have left on its way, and its steps.
 use Rattle.std.specs.Prelude.{◌≡◌, ℕ, List, [], ◌∷◌}
 use Rattle.std.proofs.Common.{refl, subst, inl, inr}
-use Rattle.pv_adjust.specs.Reached.{AdjustingReached, GivesReached}
+use Rattle.pv_create.specs.Reached.{AdjustingReached, GivesReached}
 use Rattle.pv_doing.specs.Courses.{Course, Partway, IsStepOfSome, single}
 use Rattle.pv_lines.specs.declared.line.Line.{Line}
-use Rattle.pv_make.specs.OnWay.{OnWay, IsStepOf, IsStepAt, TurnWay}
+use Rattle.pv_create.specs.OnWay.{OnWay, IsStepOf, IsStepAt, TurnWay}
 use Rattle.pv_path.specs.Paths.{Path}
 use Rattle.pv_steps.specs.declared.step.Step.{Step}
 use Rattle.pv_steps.specs.Same.{Same}

@@ -44,9 +44,9 @@ use Rattle.pv_table.specs.Reaching.{names, path_in}
 use Rattle.pv_table.specs.Repeatable.{IsRepeatable}
 use Rattle.pv_table.specs.Saying.{found}
 use Rattle.pv_table.specs.Turns.{Turn, View, view_of, copied, copy_of, copying_turn, making_turn, has_something, decide}
-use Rattle.pv_adjust.specs.Adjusting.{GivesBytes}
+use Rattle.pv_create.specs.Adjusting.{GivesBytes}
 use Rattle.pv_doing.specs.Courses.{IsStepOfSome}
-use Rattle.pv_make.specs.OnWay.{IsStepOf, turn_at, puts_parents}
+use Rattle.pv_create.specs.OnWay.{IsStepOf, turn_at, puts_parents}
 use Rattle.pv_walk.specs.Copying.{GivesBare, Subtree, single}
 use Rattle.pv_laws.specs.Copying.{turn_of}
 use Rattle.pv_laws.specs.Moments.{Agree}

@@ -1,3 +1,11 @@
+pub mod Sets
+pub mod Adjusting
+pub mod Reached
+pub mod Deeds
+pub mod Refusing
+pub mod Deciding
+pub mod Turning
+pub mod OnWay
 pub mod Ways
 pub mod Mended
 pub mod OnTheWay

@@ -3,7 +3,7 @@
 use Rattle.std.specs.Prelude.{ℕ, List}
 use Rattle.pv_doing.specs.Courses.{Course, Cut, Partway, IsStepOfSome}
 use Rattle.pv_lines.specs.declared.line.Line.{Line}
-use Rattle.pv_make.specs.OnWay.{turn_course}
+use Rattle.pv_create.specs.OnWay.{turn_course}
 use Rattle.pv_steps.specs.declared.step.Step.{Step}
 use Rattle.pv_steps.specs.Trees.{Files}
 use Rattle.pv_table.specs.Created.{by_line, by_line_that_counts}

@@ -10,7 +10,7 @@ ghost use Rattle.pv_steps.specs.declared.step.Step.{Step as StepValue};
 ghost use Rattle.pv_steps.specs.Content.{content_of};
 ghost use Rattle.pv_steps.specs.Runs.{after_all};
 ghost use Rattle.pv_steps.specs.Trees.{Files, places, IsTree};
-ghost use Rattle.pv_make.specs.OnWay.{OnWay, turn_at, puts_parents};
+ghost use Rattle.pv_create.specs.OnWay.{OnWay, turn_at, puts_parents};
 ghost use Rattle.pv_table.specs.Asking.{asks};
 ghost use Rattle.pv_table.specs.Effects.{turn_after};
 ghost use Rattle.pv_table.specs.Saying.{found};

@@ -1,0 +1,222 @@
+//! What is done at a path that a line names, by what stands there.
+ghost use Rattle.std.specs.Prelude.{◌≡◌, ◌≢◌, ◌&&◌, not, ◌||◌, true, Some, IfOk};
+ghost use Rattle.std.specs.List.{list_all};
+ghost use Rattle.std.specs.Option.{option_map_or};
+ghost use Rattle.std.specs.Str.{bytes_eq};
+ghost use Rattle.pv_path.specs.Names.{is_staging};
+ghost use Rattle.pv_dress.specs.Nodes.{bare_of, is_link, same_substance};
+ghost use Rattle.pv_dress.specs.Operations.{stays};
+ghost use Rattle.pv_steps.specs.declared.node.Kind.TheVariants.{Directory};
+ghost use Rattle.pv_steps.specs.declared.object.Object.{Object as ObjectValue};
+ghost use Rattle.pv_steps.specs.Objects.{is_directory};
+ghost use Rattle.pv_steps.specs.Trees.{places, kind_of, node_at, IsKind, IsTree};
+ghost use Rattle.pv_table.specs.declared.deed.Deed.TheVariants.{Create, Copy, Touch, Idle};
+ghost use Rattle.pv_table.specs.Turns.{view_of, is_childless, decide};
+ghost use Rattle.pv_walk.specs.Staging.{new_object};
+ghost use Rattle.pv_create.specs.Deciding.{meant, kept_turn, kept_copy};
+
+use pv_dress::admits;
+use pv_path::{Name, TreePath, is_staging};
+use pv_steps::{Kind, Node, Tree, kind_at};
+use pv_table::{Copying, Deed, Making, Touching};
+use pv_walk::NewFile;
+use std::alloc::{AllocError, Global};
+
+/// What is done at a path.
+#[derive(Clone, Copy)]
+pub(crate) enum Turn {
+    /// Nothing.
+    Nothing,
+    /// What stands there is of this kind, and is left.
+    Left(Kind),
+    /// What the line makes or copies is put there, in the place of what stands there.
+    Put,
+    /// What stands there is adjusted.
+    Become,
+}
+
+/// What a line that is not refused does at a path (tmpfiles.d(5)).
+pub(crate) fn decide<T: Tree>(
+    alloc: Global,
+    tree: &T,
+    deed: &Deed,
+    path: &TreePath,
+) -> Result<Turn, AllocError>
+    ensures turn { IfOk result (λ turn. meant deed.now (view_of (T.state tree.now)) turn
+        ≡ decide deed.now (view_of (T.state tree.now)) path.now) }
+    ensures tree { deed.now ≢ Idle → IsTree (T.state tree.now) }
+{
+    match deed {
+        Deed::Create(making) => Ok(making_turn(tree, path, making)),
+        Deed::Copy(copying) => copying_turn(alloc, tree, path, copying),
+        Deed::Touch(touching) => Ok(touching_turn(tree, path, touching)),
+        Deed::Idle => Ok(Turn::Nothing),
+    }
+}
+
+// ---- lines that adjust
+
+/// What is done by a line that adjusts what is there: what is not wanted is left.
+fn touching_turn<T: Tree>(tree: &T, path: &TreePath, touching: &Touching) -> Turn
+    ensures turn { meant (Touch touching.now) (view_of (T.state tree.now)) result
+        ≡ decide (Touch touching.now) (view_of (T.state tree.now)) path.now }
+    ensures tree { IsTree (T.state tree.now) }
+{
+    match kind_at(tree, path) {
+        None => Turn::Nothing,
+        Some(kind) if admits(touching.wanted, kind) => Turn::Become,
+        Some(kind) => Turn::Left(kind),
+    }
+}
+
+// ---- lines that make something
+
+/// What is done by a line that makes something: an object stays where its kind, or else the renewal, lets it.
+fn making_turn<T: Tree>(tree: &T, path: &TreePath, making: &Making) -> Turn
+    ensures turn { meant (Create making.now) (view_of (T.state tree.now)) result
+        ≡ decide (Create making.now) (view_of (T.state tree.now)) path.now }
+    ensures tree { IsTree (T.state tree.now) }
+{
+    match tree.look(path) {
+        None => Turn::Put,
+        Some(node) => making_over(tree, path, node, making),
+    }
+}
+
+/// What is done by a line that makes something, where something stands at the path.
+fn making_over<T: Tree>(tree: &T, path: &TreePath, node: &Node, making: &Making) -> Turn
+    requires node { Some node.now ≡ node_at (T.state tree.now) path.now }
+    ensures { meant (Create making.now) (view_of (T.state tree.now)) result
+        ≡ decide (Create making.now) (view_of (T.state tree.now)) path.now }
+{
+    if stays(tree, path, node, making) {
+        kept_turn(making.new.what.kind(), node.kind)
+    } else {
+        Turn::Put
+    }
+}
+
+/// What is done where what stands at the path stays.
+fn kept_turn(wanted: Kind, kind: Kind) -> Turn
+    ensures { result ≡ kept_turn wanted kind }
+{
+    if wanted == kind {
+        Turn::Become
+    } else {
+        Turn::Left(kind)
+    }
+}
+
+/// Whether what stands at a path stays.
+fn stays<T: Tree>(tree: &T, path: &TreePath, node: &Node, making: &Making) -> bool
+    requires node { Some node.now ≡ node_at (T.state tree.now) path.now }
+    ensures { (o : ObjectValue) → places (T.state tree.now) path.now ≡ Some o → result
+        ≡ option_map_or (λ test. stays test (bare_of (new_object making.now.new 0)).body (bare_of o).body)
+        making.now.renew true }
+{
+    match making.renew {
+        None => true,
+        Some(test) => {
+            (making.new.what.kind() == node.kind
+                && (!test.exact || has_substance(tree, path, node, &making.new)))
+                || (test.spares_directories && node.kind.is_directory())
+        }
+    }
+}
+
+/// Whether what stands at a path has the target or the numbers of a new object.
+fn has_substance<T: Tree>(tree: &T, path: &TreePath, node: &Node, new: &NewFile) -> bool
+    requires node { Some node.now ≡ node_at (T.state tree.now) path.now }
+    ensures { (o : ObjectValue) → places (T.state tree.now) path.now ≡ Some o
+        → result ≡ same_substance (bare_of (new_object new.now 0)).body (bare_of o).body }
+{
+    let (major, minor) = new.what.numbers();
+    has_target(tree, path, node.kind, new.what.payload())
+        && major == node.major
+        && minor == node.minor
+}
+
+/// Whether a link at a path has a target; what is no link needs none.
+fn has_target<T: Tree>(tree: &T, path: &TreePath, kind: Kind, target: &[u8]) -> bool
+    requires kind { Some kind ≡ kind_of (places (T.state tree.now) path.now) }
+    ensures { (o : ObjectValue) → places (T.state tree.now) path.now ≡ Some o
+        → result ≡ (not (is_link o.node.kind) || bytes_eq target.now o.payload) }
+{
+    match kind {
+        Kind::Link => target == tree.target(path),
+        _ => true,
+    }
+}
+
+// ---- lines that copy
+
+/// What is done by a line that copies: a directory is copied over one that holds nothing anew.
+fn copying_turn<T: Tree>(
+    alloc: Global,
+    tree: &T,
+    path: &TreePath,
+    copying: &Copying,
+) -> Result<Turn, AllocError>
+    ensures turn { IfOk result (λ turn. meant (Copy copying.now) (view_of (T.state tree.now)) turn
+        ≡ decide (Copy copying.now) (view_of (T.state tree.now)) path.now) }
+    ensures tree { IsTree (T.state tree.now) }
+{
+    match kind_at(tree, &copying.source) {
+        None => Ok(Turn::Nothing),
+        Some(kind) => match kind_at(tree, path) {
+            None => Ok(Turn::Put),
+            Some(there) => {
+                let empty = gives_way(alloc, tree, path, kind, there)?;
+                Ok(kept_copy(copying, kind, there, empty))
+            }
+        },
+    }
+}
+
+/// What is done where something is copied and something stands at the path.
+fn kept_copy(copying: &Copying, kind: Kind, there: Kind, empty: bool) -> Turn
+    ensures { result ≡ kept_copy copying.now kind there empty }
+{
+    if kind == there {
+        if empty { Turn::Put } else { Turn::Become }
+    } else if copying.renews {
+        Turn::Put
+    } else {
+        Turn::Left(there)
+    }
+}
+
+/// Whether what stands at a path gives way to what is copied, as one directory to another: it holds nothing.
+fn gives_way<T: Tree>(
+    alloc: Global,
+    tree: &T,
+    path: &TreePath,
+    kind: Kind,
+    there: Kind,
+) -> Result<bool, AllocError>
+    requires { kind_of (places (T.state tree.now) path.now) ≡ Some there }
+    ensures { IfOk result (λ empty. empty ≡ (is_directory kind && (is_directory there
+        && is_childless (view_of (T.state tree.now)) path.now))) }
+{
+    if kind.is_directory() && there.is_directory() {
+        is_childless(alloc, tree, path)
+    } else {
+        Ok(false)
+    }
+}
+
+/// Whether a directory holds nothing, staging names aside.
+fn is_childless<T: Tree>(alloc: Global, tree: &T, path: &TreePath) -> Result<bool, AllocError>
+    requires { IsKind Directory (T.state tree.now) path.now }
+    ensures { IfOk result (λ b. b ≡ is_childless (view_of (T.state tree.now)) path.now) }
+{
+    let names = tree.list(alloc, path)?;
+    Ok(are_staging(names.as_slice()))
+}
+
+/// Whether all names are staging names.
+fn are_staging(names: &[Name]) -> bool
+    ensures { result ≡ list_all is_staging names.now }
+{
+    names.iter().all(|name| is_staging(name.bytes()))
+}

@@ -1,0 +1,131 @@
+//! Adjusting one object.
+ghost use Rattle.std.specs.Prelude.{◌≡◌, ◌↔◌, ◌≤◌, IsTrue, None, IfSome, OnOk};
+ghost use Rattle.pv_path.specs.Names.{same_bytes};
+ghost use Rattle.pv_steps.specs.declared.node.Kind.TheVariants.{File};
+ghost use Rattle.pv_steps.specs.Acting.{asked, Acted};
+ghost use Rattle.pv_steps.specs.Steps.{on_at};
+ghost use Rattle.pv_steps.specs.Trees.{places, IsKind, IsPresent};
+ghost use Rattle.pv_dress.specs.Dressing.{CanDress, ChangedAt, Dressing, GivesDress, IsKeptBy, dressed, dressed_attrs, dressed_letters};
+ghost use Rattle.pv_dress.specs.Changing.{Changing, dressed_access};
+ghost use Rattle.pv_table.specs.Created.{change_work};
+ghost use Rattle.pv_table.specs.Effects.{become};
+ghost use Rattle.pv_create.specs.Sets.{AreSets};
+ghost use Rattle.pv_create.specs.Adjusting.{Adjusting, GivesSet, GivesWanted, HasBase, Wears, holding, written};
+
+use crate::wanted::{node_of, wanted_at};
+use pv_dress::{Dress, Operation, dress};
+use pv_path::{Bytes, TreePath};
+use pv_steps::{Node, Step, Tree, TreeFault, try_step};
+use std::alloc::Global;
+
+/// Adjusts the object at a path: its bytes, owner, mode, ACL, extended attributes and letters, in this order, each
+/// only where that changes something (tmpfiles.d(5)). The bytes of a file are read only where bytes are among what is
+/// set.
+pub(crate) fn adjust<T: Tree>(
+    alloc: Global,
+    tree: &mut T,
+    path: &TreePath,
+    sets: &[Operation],
+    now: u64,
+) -> Result<(), TreeFault>
+    requires present { IsPresent (T.state tree.old) path.now }
+    requires sets { AreSets sets.now }
+
+    // The object becomes what the sets make of it, stamps included, and nothing else changes.
+    ensures ok { OnOk result (places (T.state tree.new)
+        ≡ on_at path.now (become now sets.now) (places (T.state tree.old))) }
+
+    // What holds at each moment and of each step, whatever the answer; four steps at most, none where nothing changes.
+    ensures acted { Acted T.Tree (Adjusting path.now sets.now (T.state tree.old))
+        (GivesSet path.now sets.now (T.state tree.old))
+        (change_work sets.now (places (T.state tree.old) path.now)) now tree.old tree.new result }
+{
+    let new = wanted_at(alloc, tree, path, sets)?;
+    give_bytes(tree, path, &new.bytes, now)?;
+    give_dress(tree, path, &new.dress, now)
+}
+
+/// Gives the object at a path a dress; where it has all of it, one look at it tells.
+fn give_dress<T: Tree>(
+    tree: &mut T,
+    path: &TreePath,
+    new: &Dress,
+    now: u64,
+) -> Result<(), TreeFault>
+    requires { CanDress (T.state tree.old) path.now new.now }
+    ensures acted { Acted T.Tree (Dressing path.now new.now (T.state tree.old))
+        (GivesDress path.now new.now (T.state tree.old)) 5 now tree.old tree.new result }
+    ensures ok { OnOk result
+        (ChangedAt (dressed new.now) path.now now (T.state tree.old) (T.state tree.new)) }
+    ensures few { IsKeptBy (dressed_attrs new.now) path.now (T.state tree.old)
+        → IsKeptBy (dressed_letters new.now) path.now (T.state tree.old)
+        → asked result (T.steps tree.old) (T.steps tree.new) ≤ 3 }
+    ensures two { IsKeptBy (dressed_access new.now) path.now (T.state tree.old)
+        → asked result (T.steps tree.old) (T.steps tree.new) ≤ 2 }
+    ensures idle { IsKeptBy (dressed new.now) path.now (T.state tree.old)
+        → asked result (T.steps tree.old) (T.steps tree.new) ≡ 0 }
+{
+    if wears(node_of(tree, path), new) {
+        return Ok(());
+    }
+    dress(tree, path, new, now)
+}
+
+/// Whether an object has the owners and the special bits of a dress.
+fn has_base(node: &Node, new: &Dress) -> bool
+    ensures { IsTrue result ↔ HasBase new.now node.now }
+{
+    node.uid == new.uid && node.gid == new.gid && node.special == new.special
+}
+
+/// Whether an object has all of a dress.
+fn wears(node: &Node, new: &Dress) -> bool
+    ensures { IsTrue result → Wears new.now node.now }
+{
+    if !has_base(node, new) {
+        return false;
+    }
+    let same = node.acl == new.acl;
+    if !same {
+        return false;
+    }
+    if !node.attrs.is_same(&new.attrs) {
+        return false;
+    }
+    node.letters.is_same(new.letters)
+}
+
+/// Gives the file at a path the wanted bytes, where it has others.
+fn give_bytes<T: Tree>(
+    tree: &mut T,
+    path: &TreePath,
+    wanted: &Option<Bytes>,
+    now: u64,
+) -> Result<(), TreeFault>
+    requires { IfSome wanted.now (λ bytes. IsKind File (T.state tree.old) path.now) }
+    ensures ok { OnOk result (places (T.state tree.new)
+        ≡ on_at path.now (written now wanted.now) (places (T.state tree.old))) }
+    ensures acted { Acted T.Tree (Changing path.now (holding wanted.now) (T.state tree.old))
+        (GivesWanted path.now wanted.now (T.state tree.old)) 1 now tree.old tree.new result }
+    ensures idle { IsKeptBy (holding wanted.now) path.now (T.state tree.old)
+        → asked result (T.steps tree.old) (T.steps tree.new) ≡ 0 }
+{
+    let Some(bytes) = wanted else {
+        return Ok(());
+    };
+    if is_same(tree.bytes(path), bytes.as_slice()) {
+        return Ok(());
+    }
+    let step = Step::Write {
+        path: path.copy()?,
+        content: bytes.copy()?,
+    };
+    try_step(tree, step, now)
+}
+
+/// Whether bytes are the same.
+fn is_same(a: &[u8], b: &[u8]) -> bool
+    ensures { result ≡ same_bytes a.now b.now }
+{
+    a == b
+}

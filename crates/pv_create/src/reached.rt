@@ -1,0 +1,75 @@
+//! Adjusting all that a line reaches from a path.
+ghost use Rattle.std.specs.Prelude.{◌≡◌, IfOk, OnOk, IsSorted};
+ghost use Rattle.pv_path.specs.Paths.{path_cmp};
+ghost use Rattle.pv_steps.specs.Acting.{Acted};
+ghost use Rattle.pv_steps.specs.Trees.{IsPresent};
+ghost use Rattle.pv_table.specs.Created.{touch_work};
+ghost use Rattle.pv_table.specs.Effects.{is_touched, touch};
+ghost use Rattle.pv_create.specs.Reached.{AdjustingReached, AreReachedBelow, GivesReached, IsReached};
+ghost use Rattle.pv_create.specs.Sets.{AreSets};
+
+use crate::object::adjust;
+use pv_path::{TreePath, has_staging};
+use pv_steps::{Tree, TreeFault};
+use pv_table::Touching;
+use pv_walk::below;
+use std::alloc::{AllocError, Global};
+
+/// Adjusts what stands at a path, and with a line that goes down all below it, staging names left out: the path first,
+/// then its children in byte order, each with all below it (tmpfiles.d(5), Z, A, T and H).
+pub(crate) fn adjust_reached<T: Tree>(
+    alloc: Global,
+    tree: &mut T,
+    touching: &Touching,
+    path: &TreePath,
+    now: u64,
+) -> Result<(), TreeFault>
+    requires present { IsPresent (T.state tree.old) path.now }
+    requires sets { AreSets touching.now.sets }
+    ensures ok { OnOk result (T.state tree.new ≡ touch now touching.now path.now (T.state tree.old)) }
+    ensures acted { Acted T.Tree (AdjustingReached touching.now path.now (T.state tree.old))
+        (GivesReached touching.now path.now (T.state tree.old))
+        (touch_work touching.now path.now (T.state tree.old)) now tree.old tree.new result }
+{
+    let paths = reached_paths(alloc, tree, touching, path)?;
+    for at in &paths {
+        adjust(alloc, tree, at, touching.sets.as_slice(), now)?;
+    }
+    Ok(())
+}
+
+/// The paths that a line reaches from one where something stands, in byte order. What is below is mostly in order already,
+/// backwards in a wide directory: the path itself is put before it once it is.
+fn reached_paths<T: Tree>(
+    alloc: Global,
+    tree: &T,
+    touching: &Touching,
+    path: &TreePath,
+) -> Result<Vec<TreePath>, AllocError>
+    requires { IsPresent (T.state tree.now) path.now }
+    ensures reached { IfOk result (λ paths. IsReached touching.now path.now (T.state tree.now) paths.items) }
+    ensures order { IfOk result (λ paths. IsSorted path_cmp paths.items) }
+{
+    let mut paths = reached_below(alloc, tree, touching, path)?;
+    paths.sort_unstable();
+    paths.insert(0, path.copy()?)?;
+    paths.sort_unstable();
+    Ok(paths)
+}
+
+/// The paths below one that a line reaches: none, or all but staging names and what lies below these.
+fn reached_below<T: Tree>(
+    alloc: Global,
+    tree: &T,
+    touching: &Touching,
+    path: &TreePath,
+) -> Result<Vec<TreePath>, AllocError>
+    ensures { IfOk result (λ paths. AreReachedBelow touching.now path.now (T.state tree.now) paths.items) }
+{
+    if !touching.deep {
+        return Ok(Vec::new(alloc));
+    }
+    let mut paths = below(alloc, tree, path)?;
+    paths.retain(|at| !has_staging(at));
+    Ok(paths)
+}

@@ -1,0 +1,143 @@
+//! Whether a line is refused at a path.
+ghost use Rattle.std.specs.Prelude.{◌≡◌, ◌<◌, ◌^◌, false, ◌++◌, ◌∷◌, [], length, option_map, unwrap_or, IfOk, IfSome, OnOk, OnErr};
+ghost use Rattle.pv_steps.specs.Trees.{places, IsTree};
+ghost use Rattle.pv_text.specs.Said.{said_at};
+ghost use Rattle.pv_table.specs.Asking.{asks};
+ghost use Rattle.pv_table.specs.Saying.{refused_text};
+ghost use Rattle.pv_table.specs.Turns.{copied, has_something, named_refusal, owner_made, refused_at, source_owner};
+ghost use Rattle.pv_create.specs.Refusing.{source_refused, refused_as};
+
+use crate::line_at::{LineAt, copied};
+use pv_path::TreePath;
+use pv_steps::{Tree, Why, is_present};
+use pv_table::{Deed, say_refused, say_source_refused};
+use pv_text::{Messages, Place};
+use pv_walk::{blocked, refusal_of};
+use std::alloc::{AllocError, Global};
+
+/// A refused place, counted by the names that lead to it, and why.
+#[derive(Clone, Copy)]
+pub(crate) enum Refused<'a> {
+    /// Of the path that a line copies.
+    Source(&'a TreePath, u32, Why),
+    /// Of the path at which it is carried out.
+    Named(&'a TreePath, u32, Why),
+}
+
+/// The place at which a line is refused: of what it copies, or else, where there is something to do, of its path.
+pub(crate) fn refusal<'a, T: Tree>(
+    alloc: Global,
+    tree: &T,
+    at: &LineAt<'a>,
+) -> Result<Option<Refused<'a>>, AllocError>
+    requires asked { asks at.now.line.now ≡ at.now.deed.now }
+    requires few { length at.now.path.now < 2 ^ 32 }
+    requires source { IfSome (copied at.now.deed.now) (λ source. length source < 2 ^ 32) }
+    ensures { IfOk result (λ refused. option_map refused_as refused
+        ≡ refused_at at.entry.now.line.now at.entry.now.path.now (places (T.state tree.now))) }
+{
+    if let Some(refused) = source_refused(alloc, tree, at.deed)? {
+        return Ok(Some(refused));
+    }
+    if !has_something(tree, at.deed) {
+        return Ok(None);
+    }
+    named_refusal(alloc, tree, at)
+}
+
+/// The first place above what a line copies that cannot be passed.
+fn source_refused<'a, T: Tree>(
+    alloc: Global,
+    tree: &T,
+    deed: &'a Deed,
+) -> Result<Option<Refused<'a>>, AllocError>
+    requires { IfSome (copied deed.now) (λ source. length source < 2 ^ 32) }
+    ensures { IfOk result (λ refused. option_map refused_as refused
+        ≡ source_refused deed.now (places (T.state tree.now))) }
+{
+    match copied(deed) {
+        None => Ok(None),
+        Some(source) => match blocked(alloc, tree, source)? {
+            Some((count, why)) => Ok(Some(Refused::Source(source, count, why))),
+            None => Ok(None),
+        },
+    }
+}
+
+/// Whether there is something to do: a copy of what is absent does nothing at all.
+pub(crate) fn has_something<T: Tree>(tree: &T, deed: &Deed) -> bool
+    ensures something { result ≡ has_something (places (T.state tree.now)) deed.now }
+    ensures tree { result ≡ false → IsTree (T.state tree.now) }
+{
+    match copied(deed) {
+        None => true,
+        Some(source) => is_present(tree, source),
+    }
+}
+
+/// The place of the path itself at which a line is refused.
+fn named_refusal<'a, T: Tree>(
+    alloc: Global,
+    tree: &T,
+    at: &LineAt<'a>,
+) -> Result<Option<Refused<'a>>, AllocError>
+    requires asked { asks at.now.line.now ≡ at.now.deed.now }
+    requires few { length at.now.path.now < 2 ^ 32 }
+    ensures { IfOk result (λ refused. option_map refused_as refused
+        ≡ named_refusal at.entry.now.line.now at.entry.now.path.now (places (T.state tree.now))) }
+{
+    match refusal_of(alloc, tree, at.path, owner_made(tree, at))? {
+        Some((count, why)) => Ok(Some(Refused::Named(at.path, count, why))),
+        None => Ok(None),
+    }
+}
+
+/// The owner that an absent last place counts as: the line's user, else that of what it copies, else root.
+fn owner_made<T: Tree>(tree: &T, at: &LineAt<'_>) -> u32
+    requires { asks at.now.line.now ≡ at.now.deed.now }
+    ensures { result ≡ owner_made at.entry.now.line.now (places (T.state tree.now)) }
+{
+    match at.line.user {
+        Some(user) => user.id,
+        None => source_owner(tree, at.deed),
+    }
+}
+
+/// The owner of what a line copies, root where it copies nothing.
+fn source_owner<T: Tree>(tree: &T, deed: &Deed) -> u32
+    ensures { result ≡ unwrap_or (source_owner (places (T.state tree.now)) deed.now) 0 }
+{
+    match copied(deed) {
+        None => 0,
+        Some(source) => owner_at(tree, source),
+    }
+}
+
+/// The owner of what stands at a path, root where nothing does.
+fn owner_at<T: Tree>(tree: &T, path: &TreePath) -> u32
+    ensures { result ≡ unwrap_or (option_map (λ o. o.node.uid) (places (T.state tree.now) path.now)) 0 }
+{
+    match tree.look(path) {
+        Some(node) => node.uid,
+        None => 0,
+    }
+}
+
+/// Says of a line at which place it is refused.
+pub(crate) fn say_refusal(
+    alloc: Global,
+    place: &Place,
+    refused: &Refused<'_>,
+    messages: &mut Messages,
+) -> Result<(), AllocError>
+    ensures ok { OnOk result (messages.new
+        ≡ messages.old ++ said_at place.now (refused_text (refused_as refused.now)) ∷ []) }
+    ensures err { OnErr result (messages.new ≡ messages.old) }
+{
+    match refused {
+        Refused::Source(path, count, why) => {
+            say_source_refused(alloc, place, path, *count, *why, messages)
+        }
+        Refused::Named(path, count, why) => say_refused(alloc, place, path, *count, *why, messages),
+    }
+}

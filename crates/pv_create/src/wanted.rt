@@ -1,0 +1,93 @@
+//! What an object is to have after it is adjusted.
+ghost use Rattle.std.specs.Prelude.{◌≡◌, Some, IfOk};
+ghost use Rattle.pv_steps.specs.declared.object.Object.{Object as ObjectValue};
+ghost use Rattle.pv_steps.specs.Trees.{places, node_at, IsPresent, IsTree};
+ghost use Rattle.pv_dress.specs.Operations.{run};
+ghost use Rattle.pv_dress.specs.Reasons.{is_adjusting};
+ghost use Rattle.pv_create.specs.Sets.{is_writing, writes, AreSets};
+ghost use Rattle.pv_create.specs.Adjusting.{IsWanted};
+
+use pv_dress::{Bare, Change, Dress, Operation, run_operations};
+use pv_path::{Bytes, TreePath};
+use pv_steps::{Kind, Node, Tree};
+use std::alloc::{AllocError, Global};
+
+/// What an object is to have.
+#[derive(Drop)]
+pub(crate) struct Wanted {
+    /// The bytes of a file, where bytes are among what is set.
+    pub bytes: Option<Bytes>,
+    /// Its owner, mode, ACL, extended attributes and letters.
+    pub dress: Dress,
+}
+
+/// What the object at a path is to have. The bytes of a file are looked at only where bytes are among what is set.
+pub(crate) fn wanted_at<T: Tree>(
+    alloc: Global,
+    tree: &T,
+    path: &TreePath,
+    sets: &[Operation],
+) -> Result<Wanted, AllocError>
+    requires present { IsPresent (T.state tree.now) path.now }
+    requires sets { AreSets sets.now }
+    ensures wanted { IfOk result (λ wanted. (o : ObjectValue) → places (T.state tree.now) path.now ≡ Some o
+        → IsWanted sets.now o wanted) }
+    ensures tree { IsTree (T.state tree.now) }
+{
+    let node = node_of(tree, path);
+    if node.kind == Kind::File && writes(sets) {
+        let new = after(alloc, sets, Bare::of(alloc, node, tree.bytes(path))?)?;
+        return Ok(Wanted {
+            bytes: Some(new.body.payload),
+            dress: new.dress,
+        });
+    }
+    let new = after(alloc, sets, Bare::of(alloc, node, b"")?)?;
+    Ok(Wanted {
+        bytes: None,
+        dress: new.dress,
+    })
+}
+
+/// What is set makes of an object.
+fn after(alloc: Global, sets: &[Operation], old: Bare) -> Result<Bare, AllocError>
+    requires { AreSets sets.now }
+    ensures { IfOk result (λ new. run sets.now (Some old) ≡ Some new) }
+{
+    match run_operations(alloc, sets, Some(old))? {
+        Some(new) => Ok(new),
+        None => unreachable!(),
+    }
+}
+
+/// Whether bytes are among what is set.
+fn writes(sets: &[Operation]) -> bool
+    ensures { result ≡ writes sets.now }
+{
+    sets.iter().any(is_writing)
+}
+
+/// Whether an operation is one on a file's bytes.
+fn is_writing(operation: &Operation) -> bool
+    ensures { result ≡ is_adjusting is_writing operation.now }
+{
+    matches!(
+        operation,
+        Operation::Adjust {
+            change: Change::Write(_) | Change::Append(_),
+            ..
+        }
+    )
+}
+
+/// The node at a path where an object stands.
+pub(crate) fn node_of<'a, T: Tree>(tree: &'a T, path: &TreePath) -> &'a Node
+    requires { IsPresent (T.state tree.now) path.now }
+    ensures node { Some result.now ≡ node_at (T.state tree.now) path.now }
+    ensures tree { IsTree (T.state tree.now) }
+{
+    match tree.look(path) {
+        Some(node) => node,
+        None => unreachable!(),
+    }
+}

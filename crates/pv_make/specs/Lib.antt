@@ -1,5 +1,0 @@
-pub mod Deeds
-pub mod Refusing
-pub mod Deciding
-pub mod Turning
-pub mod OnWay
