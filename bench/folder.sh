@@ -5,7 +5,7 @@
 #
 #   answers  what it says of folders that it cannot run on, or not to the end, and what it leaves there; root runs it as
 #            nobody, so that permissions count. For a short time there are a million small files
-#   cost     a run on 100,000 files with a manifest beside a plain loop over the same host (crates/folder_loop)
+#   cost     a run on 100,000 files with a manifest beside a plain loop over the same host (crates/bench_folder)
 #   beside   where systemd-tmpfiles is installed and this is root: in which paths, kinds, links and contents its trees differ
 #            from what the program leaves, for each example
 #
@@ -214,8 +214,8 @@ for directory in range(100):
             file.write("x" * 100)
 END
   "$program" systemd-tmpfiles --create --root=it < /dev/null > /dev/null
-  local loop=$top/crates/folder_loop/out/folder_loop
-  [ -x "$loop" ] || (cd "$top/crates/folder_loop" && rt run > /dev/null 2>&1) || true
+  local loop=$top/crates/bench_folder/out/bench_folder
+  [ -x "$loop" ] || (cd "$top/crates/bench_folder" && rt run > /dev/null 2>&1) || true
   [ -x "$loop" ] || { echo "folder: $loop cannot be built: no cost is measured"; return 0; }
   local run_clock run_work loop_clock loop_work
   for _ in 1 2 3 4 5 6 7 8 9 10 11 12; do

@@ -5,11 +5,11 @@
 set -eu
 
 top=$(cd "$(dirname "$0")/.." && pwd)
-program=$top/crates/shared_path/out/shared_path
+program=$top/crates/bench_shared_path/out/bench_shared_path
 
 build() {
   rm -f "$program"
-  (cd "$top/crates/shared_path" && rt run -- '/a/*b' '/a/b*' > /dev/null) || true
+  (cd "$top/crates/bench_shared_path" && rt run -- '/a/*b' '/a/b*' > /dev/null) || true
   [ -x "$program" ] || { echo "bench: the program could not be built" >&2; exit 1; }
 }
 

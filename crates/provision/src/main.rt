@@ -7,9 +7,9 @@ mod tests;
 ghost use Rattle.std.specs.Prelude.{◌≡◌, ℕ, true, Some, None, is_some, drop, map, string_bytes};
 ghost use Rattle.std.specs.Process.{exit_status};
 ghost use Rattle.pv_io.specs.Faults.{HasRisen};
-ghost use Rattle.pv_words.specs.Asked.{asked_of};
+ghost use Rattle.pv_words.specs.Invocation.{parse_args};
 ghost use Rattle.pv_words.specs.Rooted.{rooted_of};
-ghost use Rattle.pv_words.specs.declared.asked.Asked.TheVariants.{Generate};
+ghost use Rattle.pv_words.specs.declared.invocation.Invocation.TheVariants.{Generate};
 ghost use Rattle.provision.specs.Ended.{IsStatusOf};
 
 use provision_run::{provision_all, status};
@@ -76,10 +76,10 @@ fn run<S: Source, K: Sink, H: Host>(
         (HasRisen (S.faults source.old) (S.faults source.new)) (HasRisen (K.faults sink.old) (K.faults sink.new))
         (HasRisen (H.faults host.old) (H.faults host.new)) (exit_status result) }
     // The source is not read for words without a meaning, those that name a folder, and those of a generated tree.
-    ensures unread { asked_of (map string_bytes (drop 1 arguments.now)) ≡ None → source.new ≡ source.old }
+    ensures unread { parse_args (map string_bytes (drop 1 arguments.now)) ≡ None → source.new ≡ source.old }
     ensures folder_alone { is_some (rooted_of (map string_bytes (drop 1 arguments.now))) ≡ true → source.new ≡ source.old }
-    ensures generated { (seed count : ℕ) → asked_of (map string_bytes (drop 1 arguments.now)) ≡ Some (Generate seed count) → source.new ≡ source.old }
-    ensures unasked { rooted_of (map string_bytes (drop 1 arguments.now)) ≡ None → host.new ≡ host.old }
+    ensures generated { (seed count : ℕ) → parse_args (map string_bytes (drop 1 arguments.now)) ≡ Some (Generate seed count) → source.new ≡ source.old }
+    ensures host_unused { rooted_of (map string_bytes (drop 1 arguments.now)) ≡ None → host.new ≡ host.old }
 {
     let outcome = provision_all(alloc, words_of(arguments), clock_micros, source, sink, host);
     ExitCode::from(status(&outcome))

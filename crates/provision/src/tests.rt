@@ -52,10 +52,10 @@ fn ran(rt: HostRuntime, options: &[&str]) -> Result<(Vec<u8>, u8), Fail> {
 
 /// Whether a whole run from here says nothing, and leaves the directory and the manifest.
 fn is_whole(rt: HostRuntime) -> Result<bool, Fail> {
-    let (said, status) = ran(rt, &["--create", "--root=it"])?;
+    let (new_messages, status) = ran(rt, &["--create", "--root=it"])?;
     let manifest = fs::read(&rt, "it/manifest")?;
     Ok(
-        said.is_empty()
+        new_messages.is_empty()
             && status == 0
             && manifest.as_slice() == MANIFEST
             && fs::symlink_metadata(&rt, "it/tree/run/app")?.is_dir()
@@ -69,8 +69,8 @@ fn runs_on_a_folder(rt: HostRuntime) -> Result<(), Fail> {
     prepare(rt)?;
     assert!(rt; is_whole(rt)?);
     prepare(rt)?;
-    let (said, status) = ran(rt, &["--create", "--root=it", "--stop-after=3"])?;
-    assert!(rt; said.as_slice() == b": stopped after 3 steps\n".as_slice());
+    let (new_messages, status) = ran(rt, &["--create", "--root=it", "--stop-after=3"])?;
+    assert!(rt; new_messages.as_slice() == b": stopped after 3 steps\n".as_slice());
     assert_eq!(rt; status, 75);
     assert!(rt; fs::symlink_metadata(&rt, "it/tree/run")?.is_dir());
     assert!(rt; is_whole(rt)?);

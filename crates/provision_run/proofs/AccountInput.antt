@@ -9,12 +9,12 @@ use Rattle.pv_path.proofs.PathLaws.{is_prefix-refl, prefix_parts}
 use Rattle.pv_text.specs.declared.tool.Tool.TheVariants.{Sysusers}
 use Rattle.pv_layers.specs.Folders.{folders}
 use Rattle.pv_layers.specs.Inputs.{is_within}
-use Rattle.pv_conf.specs.Inputs.{is_request_input}
+use Rattle.pv_read_config.specs.Inputs.{is_request_input}
 use Rattle.pv_steps.specs.declared.object.Object.{Object}
 use Rattle.pv_steps.specs.declared.step.Step.{Step}
 use Rattle.pv_steps.specs.declared.step.Step.TheVariants.{MakeDir, MakeFile, MakeFifo, MakeDevice, MakeLink, Write, SetMode, SetOwner, SetAcl, SetAttrs, SetLetters, SetStamps, Rename, Unlink, RemoveDir}
 use Rattle.pv_steps.specs.Content.{content_of, alters}
-use Rattle.pv_steps.specs.Objects.{bare}
+use Rattle.pv_steps.specs.Objects.{object_state}
 use Rattle.pv_steps.specs.Runs.{after_all}
 use Rattle.pv_steps.specs.Trees.{Files, places, IsAbsentIn, IsTree}
 use Rattle.pv_steps.proofs.ContentLaws.{content-after_all, removal_inside}
@@ -28,7 +28,7 @@ use Rattle.pv_walk.proofs.RemovalLaws.{no_same}
 use Rattle.pv_create.proofs.BesideLaws.{new_outside, place_outside, published_outside, stage_outside}
 use Rattle.pv_accounts_run.specs.declared.edit.Edit.{Edit}
 use Rattle.pv_accounts_run.specs.Edits.{IsOfSome, PublishesEdit, StagesEdit, etc, new_file}
-use Rattle.pv_accounts_run.specs.Carrying.{AccountWay, IsAccountStep, IsEditOf, account_paths, swept_names}
+use Rattle.pv_accounts_run.specs.FileWriting.{AccountWay, IsAccountStep, IsEditOf, account_paths, swept_names}
 use Rattle.pv_accounts_run.proofs.BesideLaws.{way_beside}
 use Rattle.pv_accounts_run.proofs.SameLaws.{seen}
 use Rattle.pv_path.proofs.Tests.{true_not_false}
@@ -155,7 +155,7 @@ module _ (f q : Path) (folder : IsFolder f) (under : is_prefix f q ≡ true) (st
 -- ---- runs
 
 -- what stands at two places alike but for stamps has one content
-same_content : (a b : Option Object) → option_map bare a ≡ option_map bare b → content_of a ≡ content_of b
+same_content : (a b : Option Object) → option_map object_state a ≡ option_map object_state b → content_of a ≡ content_of b
 same_content a b e = seen (λ x. (x.node.kind, x.payload)) (λ o. refl) a b e
 
 -- where a folder is absent, so is all that lies in it

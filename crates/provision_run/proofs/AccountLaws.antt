@@ -3,11 +3,11 @@ use Rattle.std.specs.Prelude.{◌≡◌, ℕ, ◌+◌, Bool, List, [], ◌∷◌
 use Rattle.std.specs.Option.{option_map_or}
 use Rattle.std.proofs.Common.{refl, sym, ap, subst, ◌∙◌, append-nil, append_assoc, arith, inl, inr, length-append}
 use Rattle.pv_accounts_run.specs.Accounted.{accounted, accounted_unless, accounts_messages, carried_files, edits_at, is_unusable, lacking_at, unusable_texts}
-use Rattle.pv_accounts_run.specs.Carrying.{AccountWay, IsAccountStep, most_put, swept_names}
+use Rattle.pv_accounts_run.specs.FileWriting.{AccountWay, IsAccountStep, most_put, swept_names}
 use Rattle.pv_accounts_run.specs.Running.{IfLacking, Lacks, in_steps}
 use Rattle.pv_accounts_run.specs.declared.accounts_fault.AccountsFault.{AccountsFault}
 use Rattle.pv_accounts_run.specs.declared.accounts_fault.AccountsFault.TheVariants as fault
-use Rattle.pv_conf.specs.Requested.{requested}
+use Rattle.pv_read_config.specs.Requested.{requested}
 use Rattle.pv_doing.specs.Courses.{carried_of}
 use Rattle.pv_doing.specs.declared.carried.Carried.{Carried}
 use Rattle.pv_requests.specs.declared.request.Request.{Request}
@@ -21,14 +21,14 @@ use Rattle.pv_steps.specs.Acting.{Acted}
 use Rattle.pv_steps.specs.Runs.{after_all}
 use Rattle.pv_steps.specs.Trees.{Files, places}
 use Rattle.pv_text.specs.Facts.{Values}
-use Rattle.pv_text.specs.Said.{SaidPart}
+use Rattle.pv_text.specs.GivenMessages.{MessagesPart}
 use Rattle.pv_walk.specs.Staging.{count_at_all}
 use Rattle.pv_words.specs.declared.options.Options.{Options}
 use Rattle.provision_run.specs.declared.ending.RunEnd.{RunEnd}
 use Rattle.provision_run.specs.declared.ending.RunEnd.TheVariants.{NoFreeId}
 use Rattle.provision_run.specs.Ending.{end_of, is_uncarried}
 use Rattle.provision_run.specs.Accounts.{account_messages, accounts_end, accounts_end_by, IsEnded, lacking_text, run_lacking, run_requests}
-use Rattle.pv_text.proofs.SaidLaws.{said_first, said_then, said_whole}
+use Rattle.pv_text.proofs.MessagesLaws.{messages_first, messages_then, messages_whole}
 
 -- ---- answers
 
@@ -61,15 +61,15 @@ none_of (x ∷ xs) e = absurd (omega (arith, e))
 
 pub record Finished {S : Type 0} (tree : Ghosts S) (requests : List Request) (now : ℕ) (a b : S) (old new : List (List ℕ)) (answer : Result Carried AccountsFault) : Type 0 where
   pub ok : OnOk answer (tree.state b ≡ accounted requests now (tree.state a))
-  pub said : OnOk answer (new ≡ old ++ accounts_messages requests now (places (tree.state a)))
+  pub new_messages : OnOk answer (new ≡ old ++ accounts_messages requests now (places (tree.state a)))
   pub carried : IfOk answer (λ c. c ≡ carried_of (is_unusable (places (tree.state a))))
   pub enough : OnOk answer (lacking_at requests now (places (tree.state a)) ≡ None)
   pub lacking : IfErr answer (Lacks (lacking_at requests now (places (tree.state a))))
-  pub lacking_said : IfLacking answer (new ≡ old ++ accounts_messages requests now (places (tree.state a)))
+  pub lacking_messages : IfLacking answer (new ≡ old ++ accounts_messages requests now (places (tree.state a)))
   pub lacking_idle : IfLacking answer (tree.steps b ≡ tree.steps a)
   pub failed_enough : IsErrOf answer fault.Failed → lacking_at requests now (places (tree.state a)) ≡ None
-  pub failed_said : IsErrOf answer fault.Failed → new ≡ old ++ accounts_messages requests now (places (tree.state a))
-  pub part : SaidPart (accounts_messages requests now (places (tree.state a))) old new
+  pub failed_messages : IsErrOf answer fault.Failed → new ≡ old ++ accounts_messages requests now (places (tree.state a))
+  pub part : MessagesPart (accounts_messages requests now (places (tree.state a))) old new
   pub acted : Acted tree (AccountWay (edits_at requests now (places (tree.state a))) (tree.state a)) (IsAccountStep (edits_at requests now (places (tree.state a))) (tree.state a))
       (count_at_all (tree.state a) swept_names + most_put (edits_at requests now (places (tree.state a))) (places (tree.state a))) now a b (in_steps answer)
 
@@ -77,8 +77,8 @@ module _ (options : Options) (facts : Values) (moment : ℕ) (t : Files) where
   -- where a number is left for each name, no more is said than of lines and files
   none_lacks : run_lacking options facts moment t ≡ None → accounts_messages (run_requests options facts t) moment (places t) ≡ account_messages options facts moment t
   none_lacks none =
-      let said = accounts_messages (run_requests options facts t) moment (places t) in
-      sym (ap (λ (o : Option (List ℕ)). said ++ option_map_or (λ name. lacking_text name ∷ []) o []) none ∙ append-nil said)
+      let new_messages = accounts_messages (run_requests options facts t) moment (places t) in
+      sym (ap (λ (o : Option (List ℕ)). new_messages ++ option_map_or (λ name. lacking_text name ∷ []) o []) none ∙ append-nil new_messages)
 
   none_ends : run_lacking options facts moment t ≡ None
       → end_of (is_uncarried (carried_of (is_unusable (places t))) (requested t facts options.words).missing) (requested t facts options.words).invalid ≡ accounts_end options facts moment t
@@ -92,8 +92,8 @@ module _ (options : Options) (facts : Values) (moment : ℕ) (t : Files) where
     -- else the name is told last
     one_lacks : accounts_messages (run_requests options facts t) moment (places t) ++ lacking_text name ∷ [] ≡ account_messages options facts moment t
     one_lacks =
-        let said = accounts_messages (run_requests options facts t) moment (places t) in
-        sym (ap (λ (o : Option (List ℕ)). said ++ option_map_or (λ n. lacking_text n ∷ []) o []) lacks)
+        let new_messages = accounts_messages (run_requests options facts t) moment (places t) in
+        sym (ap (λ (o : Option (List ℕ)). new_messages ++ option_map_or (λ n. lacking_text n ∷ []) o []) lacks)
 
     one_ends : NoFreeId name ≡ accounts_end options facts moment t
     one_ends =
@@ -123,8 +123,8 @@ module _ {S : Type 0} (tree : Ghosts S) (options : Options) (facts : Values) (mo
     ended_ok (Ok c) r f e = on_any r f.ok
     ended_ok (Err (fault.NoFreeId name)) r f e =
         let ran = f.acted.ran in
-        let told : tree.steps b ≡ tree.steps a ++ ran.steps = ran.recorded in
-        let count : length (tree.steps b) ≡ length (tree.steps a ++ ran.steps) = ap length told in
+        let stated : tree.steps b ≡ tree.steps a ++ ran.steps = ran.recorded in
+        let count : length (tree.steps b) ≡ length (tree.steps a ++ ran.steps) = ap length stated in
         let idle : length (tree.steps b) ≡ length (tree.steps a) = ap length f.lacking_idle in
         let none : ran.steps ≡ [] = none_of ran.steps (omega (arith, count, idle, length-append (tree.steps a) ran.steps)) in
         on_any r (ran.reached ∙ ap (λ (steps : List Step). after_all (tree.state a) steps moment) none ∙ one_left options facts moment (tree.state a) name f.lacking)
@@ -132,34 +132,34 @@ module _ {S : Type 0} (tree : Ghosts S) (options : Options) (facts : Values) (mo
     ended_ok (Err fault.Memory) r f e = on_err (tree.state b ≡ accounted (run_requests options facts (tree.state a)) moment (tree.state a)) r Memory e.0
 
     -- what it says
-    pub ended_said : (answer : Result Carried AccountsFault) (r : Result RunEnd TreeFault) → Finished tree (run_requests options facts (tree.state a)) moment a b mid v answer → IsEnded answer missing invalid r v new
+    pub ended_messages : (answer : Result Carried AccountsFault) (r : Result RunEnd TreeFault) → Finished tree (run_requests options facts (tree.state a)) moment a b mid v answer → IsEnded answer missing invalid r v new
         → OnOk r (new ≡ old ++ (requested (tree.state a) facts options.words).messages ++ account_messages options facts moment (tree.state a))
-    ended_said (Ok c) r f e =
+    ended_messages (Ok c) r f e =
         on_any r
-        (e.1 ∙ f.said ∙ ap (λ (m : List (List ℕ)). m ++ accounts_messages (run_requests options facts (tree.state a)) moment (places (tree.state a))) read
+        (e.1 ∙ f.new_messages ∙ ap (λ (m : List (List ℕ)). m ++ accounts_messages (run_requests options facts (tree.state a)) moment (places (tree.state a))) read
         ∙ ap (λ (m : List (List ℕ)). old ++ (requested (tree.state a) facts options.words).messages ++ m) (none_lacks options facts moment (tree.state a) f.enough))
-    ended_said (Err (fault.NoFreeId name)) r f (inl e) =
+    ended_messages (Err (fault.NoFreeId name)) r f (inl e) =
         on_any r
-        (e.1 ∙ ap (λ (m : List (List ℕ)). m ++ lacking_text name ∷ []) f.lacking_said
+        (e.1 ∙ ap (λ (m : List (List ℕ)). m ++ lacking_text name ∷ []) f.lacking_messages
         ∙ append_assoc mid (accounts_messages (run_requests options facts (tree.state a)) moment (places (tree.state a))) (lacking_text name ∷ [])
         ∙ ap (λ (m : List (List ℕ)). mid ++ m) (one_lacks options facts moment (tree.state a) name f.lacking)
         ∙ ap (λ (m : List (List ℕ)). m ++ account_messages options facts moment (tree.state a)) read)
-    ended_said (Err (fault.NoFreeId name)) r f (inr e) = on_err (new ≡ old ++ (requested (tree.state a) facts options.words).messages ++ account_messages options facts moment (tree.state a)) r Memory e.0
-    ended_said (Err fault.Failed) r f e = on_err (new ≡ old ++ (requested (tree.state a) facts options.words).messages ++ account_messages options facts moment (tree.state a)) r Failed e.0
-    ended_said (Err fault.Memory) r f e = on_err (new ≡ old ++ (requested (tree.state a) facts options.words).messages ++ account_messages options facts moment (tree.state a)) r Memory e.0
+    ended_messages (Err (fault.NoFreeId name)) r f (inr e) = on_err (new ≡ old ++ (requested (tree.state a) facts options.words).messages ++ account_messages options facts moment (tree.state a)) r Memory e.0
+    ended_messages (Err fault.Failed) r f e = on_err (new ≡ old ++ (requested (tree.state a) facts options.words).messages ++ account_messages options facts moment (tree.state a)) r Failed e.0
+    ended_messages (Err fault.Memory) r f e = on_err (new ≡ old ++ (requested (tree.state a) facts options.words).messages ++ account_messages options facts moment (tree.state a)) r Memory e.0
 
-    first_part : SaidPart (accounts_messages (run_requests options facts (tree.state a)) moment (places (tree.state a))) mid v → new ≡ v → SaidPart (account_messages options facts moment (tree.state a)) mid new
+    first_part : MessagesPart (accounts_messages (run_requests options facts (tree.state a)) moment (places (tree.state a))) mid v → new ≡ v → MessagesPart (account_messages options facts moment (tree.state a)) mid new
     first_part part same =
-        subst (λ (m : List (List ℕ)). SaidPart (account_messages options facts moment (tree.state a)) mid m) (sym same)
-        (said_first (accounts_messages (run_requests options facts (tree.state a)) moment (places (tree.state a)))
+        subst (λ (m : List (List ℕ)). MessagesPart (account_messages options facts moment (tree.state a)) mid m) (sym same)
+        (messages_first (accounts_messages (run_requests options facts (tree.state a)) moment (places (tree.state a)))
         (option_map_or (λ name. lacking_text name ∷ []) (run_lacking options facts moment (tree.state a)) []) mid v part)
 
     ended_front : (answer : Result Carried AccountsFault) (r : Result RunEnd TreeFault) → Finished tree (run_requests options facts (tree.state a)) moment a b mid v answer → IsEnded answer missing invalid r v new
-        → SaidPart (account_messages options facts moment (tree.state a)) mid new
+        → MessagesPart (account_messages options facts moment (tree.state a)) mid new
     ended_front (Ok c) r f e = first_part f.part e.1
     ended_front (Err (fault.NoFreeId name)) r f (inl e) =
-        said_whole (account_messages options facts moment (tree.state a)) mid new
-        (e.1 ∙ ap (λ (m : List (List ℕ)). m ++ lacking_text name ∷ []) f.lacking_said
+        messages_whole (account_messages options facts moment (tree.state a)) mid new
+        (e.1 ∙ ap (λ (m : List (List ℕ)). m ++ lacking_text name ∷ []) f.lacking_messages
         ∙ append_assoc mid (accounts_messages (run_requests options facts (tree.state a)) moment (places (tree.state a))) (lacking_text name ∷ [])
         ∙ ap (λ (m : List (List ℕ)). mid ++ m) (one_lacks options facts moment (tree.state a) name f.lacking))
     ended_front (Err (fault.NoFreeId name)) r f (inr e) = first_part f.part e.1
@@ -167,9 +167,9 @@ module _ {S : Type 0} (tree : Ghosts S) (options : Options) (facts : Values) (mo
     ended_front (Err fault.Memory) r f e = first_part f.part e.1
 
     pub ended_part : (answer : Result Carried AccountsFault) (r : Result RunEnd TreeFault) → Finished tree (run_requests options facts (tree.state a)) moment a b mid v answer → IsEnded answer missing invalid r v new
-        → SaidPart ((requested (tree.state a) facts options.words).messages ++ account_messages options facts moment (tree.state a)) old new
+        → MessagesPart ((requested (tree.state a) facts options.words).messages ++ account_messages options facts moment (tree.state a)) old new
     ended_part answer r f e =
-        said_then (requested (tree.state a) facts options.words).messages (account_messages options facts moment (tree.state a)) old mid new read (ended_front answer r f e)
+        messages_then (requested (tree.state a) facts options.words).messages (account_messages options facts moment (tree.state a)) old mid new read (ended_front answer r f e)
 
     -- where a step was refused all is said
     pub ended_stopped : (answer : Result Carried AccountsFault) (r : Result RunEnd TreeFault) → Finished tree (run_requests options facts (tree.state a)) moment a b mid v answer → IsEnded answer missing invalid r v new
@@ -178,7 +178,7 @@ module _ {S : Type 0} (tree : Ghosts S) (options : Options) (facts : Values) (mo
     ended_stopped (Err (fault.NoFreeId name)) r f (inl e) failed = absurd (let no : Ok (NoFreeId name) ≡ Err Failed = sym e.0 ∙ failed in cc)
     ended_stopped (Err (fault.NoFreeId name)) r f (inr e) failed = absurd (let no : ◌≡◌ {A = Result RunEnd TreeFault} (Err Memory) (Err Failed) = sym e.0 ∙ failed in cc)
     ended_stopped (Err fault.Failed) r f e failed =
-        e.1 ∙ f.failed_said refl ∙ ap (λ (m : List (List ℕ)). m ++ accounts_messages (run_requests options facts (tree.state a)) moment (places (tree.state a))) read
+        e.1 ∙ f.failed_messages refl ∙ ap (λ (m : List (List ℕ)). m ++ accounts_messages (run_requests options facts (tree.state a)) moment (places (tree.state a))) read
         ∙ ap (λ (m : List (List ℕ)). old ++ (requested (tree.state a) facts options.words).messages ++ m) (none_lacks options facts moment (tree.state a) (f.failed_enough refl))
     ended_stopped (Err fault.Memory) r f e failed = absurd (let no : ◌≡◌ {A = Result RunEnd TreeFault} (Err Memory) (Err Failed) = sym e.0 ∙ failed in cc)
 

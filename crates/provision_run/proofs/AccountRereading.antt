@@ -4,13 +4,13 @@ use Rattle.std.specs.Prelude.{◌^◌, ◌<◌, ◌≡◌, ℕ, List, length, ta
 use Rattle.std.proofs.Common.{sym, ap, subst, ◌∙◌}
 use Rattle.std.proofs.Math.Seq.{drop-append_seam, drop-length, take-nil}
 use Rattle.pv_accounts_run.specs.Accounted.{accounted}
-use Rattle.pv_accounts_run.specs.Carrying.{AccountWay, IsAccountStep}
+use Rattle.pv_accounts_run.specs.FileWriting.{AccountWay, IsAccountStep}
 use Rattle.pv_accounts_run.specs.Mended.{EndAlike, IsMended}
 use Rattle.pv_accounts_run.proofs.BesideLaws.{edits_of_run}
-use Rattle.pv_conf.specs.Configuration.{Configured}
-use Rattle.pv_conf.specs.Requested.{requested}
-use Rattle.pv_conf.proofs.AllowedLaws.{requested_allowed}
-use Rattle.pv_conf.proofs.InputLaws.{requested-same}
+use Rattle.pv_read_config.specs.Configuration.{Configured}
+use Rattle.pv_read_config.specs.Requested.{requested}
+use Rattle.pv_read_config.proofs.AllowedLaws.{requested_allowed}
+use Rattle.pv_read_config.proofs.InputLaws.{requested-same}
 use Rattle.pv_requests.specs.declared.request.Request.{Request}
 use Rattle.pv_steps.specs.declared.step.Step.{Step}
 use Rattle.pv_steps.specs.Runs.{after_all, Ran}

@@ -29,7 +29,7 @@ use Rattle.provision_run.specs.OnTheWay.{IsOnTheWayIn}
 use Rattle.provision_run.specs.Lending.{HaveCounted}
 use Rattle.provision_run.specs.OverTree.{HasFailed, HasLeft, HasRun, IsCut, IsStopped, IsWhole, outcome_of, stopped_text}
 use Rattle.provision_run.specs.Swept.{IsSweptIn}
-use Rattle.provision_run.specs.Whole.{final, HasSaidBy, HasSaidPartBy, HasGoneBy, IsCutBy, IsMendedAnewIn, IsMendedIn, is_run_step, read_messages, run_end, run_way, run_work}
+use Rattle.provision_run.specs.Whole.{final, HasMessagesBy, HasMessagesPartBy, HasGoneBy, IsCutBy, IsMendedAnewIn, IsMendedIn, is_run_step, read_messages, run_end, run_way, run_work}
 use Rattle.provision_run.specs.Answers.{IsAnswer, IsAnswered, IsRun, IsOwn, most_bytes}
 use Rattle.provision_run.specs.Messages.{messages_text}
 
@@ -181,11 +181,11 @@ module _ (options : Options) (facts : Values) (moment : ℕ) (t u : Files) (h k 
 
   pub whole_run : (e : RunEnd) (found : Outcome) (messages : List (List ℕ)) → found ≡ outcome_of e → e ≡ run_end options facts moment t
       → u ≡ final options facts moment t → IsSweptIn (task_of options) options facts moment t u
-      → HasSaidBy (task_of options) options facts moment t [] messages → HasGoneBy (task_of options) options facts moment 0 t (drop (length h) k) [] messages
+      → HasMessagesBy (task_of options) options facts moment t [] messages → HasGoneBy (task_of options) options facts moment 0 t (drop (length h) k) [] messages
       → IfSome options.stop_after (λ n. length k ≤ n) → HasRun options facts moment t found messages u
   whole_run e found messages is ended final_is staged all in_turn few = run_whole options facts moment t e found messages u is (record {
     end = is ∙ ap outcome_of ended;
-    said = all.0;
+    new_messages = all.0;
     is_said = all.1.0;
     messages_are = all.1.1;
     final_is = final_is;
@@ -199,7 +199,7 @@ module _ (options : Options) (facts : Values) (moment : ℕ) (t u : Files) (h k 
 
   -- one of which a step was refused
   module _ (messages : List (List ℕ)) (bound : (length k - length h) + 1 ≤ run_work options facts moment t)
-      (part : HasSaidPartBy (task_of options) options facts moment t [] messages)
+      (part : HasMessagesPartBy (task_of options) options facts moment t [] messages)
       (stopped : HasGoneBy (task_of options) options facts moment 1 t (drop (length h) k) [] messages) where
     abbrev cut_here : IsCut options facts moment t stopped.0 u
     cut_here = record {
@@ -219,7 +219,7 @@ module _ (options : Options) (facts : Values) (moment : ℕ) (t u : Files) (h k 
         → IsStopped options facts moment t n all u
     stopped_run n all limit count is = record {
       limit = limit;
-      said = stopped.0;
+      new_messages = stopped.0;
       cut = cut_here;
       count = ap length (sym all_told) ∙ count;
       messages_are = is ∙ ap (λ x. x ++ stopped_text n ∷ []) stopped.1.0;
@@ -246,7 +246,7 @@ limited (Some n) left refused done b = burnt_within n left refused done b
 -- and as many, once one was refused for it
 pub burnt_stopped : (limit : ℕ) (left : Option ℕ) (refused done : ℕ) → Burnt (Some limit) 0 0 left refused done → 0 < refused → done ≡ limit
 burnt_stopped limit left refused done b some =
-    let none : left ≡ Some 0 = b.spent (λ h. absurd (let no : 0 < 0 = h in omega arith)) some in
+    let none : left ≡ Some 0 = b.used_up (λ h. absurd (let no : 0 < 0 = h in omega arith)) some in
     let same : whole_limit (Some 0) done ≡ Some (limit + 0) = rw none at b.limit in
     grind arith
 
@@ -254,7 +254,7 @@ burnt_stopped limit left refused done b some =
 pub unlimited : (left : Option ℕ) (refused done : ℕ) → Burnt None 0 0 left refused done → refused ≡ 0
 unlimited left zero done b = refl
 unlimited left (suc refused) done b =
-    let none : left ≡ Some 0 = b.spent (λ h. absurd (let no : 0 < 0 = h in omega arith)) (omega arith) in
+    let none : left ≡ Some 0 = b.used_up (λ h. absurd (let no : 0 < 0 = h in omega arith)) (omega arith) in
     absurd (let no : whole_limit (Some 0) done ≡ whole_limit None 0 = rw none at b.limit in cc)
 
 -- few faults that were counted from none are as many

@@ -141,21 +141,21 @@ blames_from old mid new up outcome (Err e) blames = tt
 -- ---- an outcome with its messages
 
 -- an answer to a folder by its other name, and to what the host held and holds by other names
-pub told_output : (options : Options) (clock : ℕ) (own folder : Path) (told old left new : Option Content) (found : Outcome) (messages : List (List ℕ)) → own ≡ folder → told ≡ old → left ≡ new
-    → IsAnswerOn own options clock told left found messages → {E : Type 0} (r : Result Answer E) → IfOk r (λ a. a.outcome ≡ found)
+pub told_output : (options : Options) (clock : ℕ) (own folder : Path) (stated old left new : Option Content) (found : Outcome) (messages : List (List ℕ)) → own ≡ folder → stated ≡ old → left ≡ new
+    → IsAnswerOn own options clock stated left found messages → {E : Type 0} (r : Result Answer E) → IfOk r (λ a. a.outcome ≡ found)
     → IfOk r (λ a. a.output.items ≡ messages_text messages) → IfOk r (λ a. HasOutputOn folder options clock old new a.outcome a.output.items)
-told_output options clock own folder told old left new found messages at same last answer (Ok a) is text =
-    let here = subst (λ (p : Path). IsAnswerOn p options clock told left found messages) at answer in
+told_output options clock own folder stated old left new found messages at same last answer (Ok a) is text =
+    let here = subst (λ (p : Path). IsAnswerOn p options clock stated left found messages) at answer in
     let first = subst (λ (c : Option Content). IsAnswerOn folder options clock c left found messages) same here in
     let whole = subst (λ (c : Option Content). IsAnswerOn folder options clock old c found messages) last first in
     (messages, (subst (λ (o : Outcome). IsAnswerOn folder options clock old new o messages) (sym is) whole, text))
-told_output options clock own folder told old left new found messages at same last answer (Err e) is text = tt
+told_output options clock own folder stated old left new found messages at same last answer (Err e) is text = tt
 
-pub told_blames : (told old left new : ℕ) (found : Outcome) → told ≡ old → left ≡ new → (found ≡ FolderFailed → HasRisen told left) → {E : Type 0} (r : Result Answer E)
+pub told_blames : (stated old left new : ℕ) (found : Outcome) → stated ≡ old → left ≡ new → (found ≡ FolderFailed → HasRisen stated left) → {E : Type 0} (r : Result Answer E)
     → IfOk r (λ a. a.outcome ≡ found) → IfOk r (λ a. a.outcome ≡ FolderFailed → HasRisen old new)
-told_blames told old left new found same last blames (Ok a) is = λ e.
+told_blames stated old left new found same last blames (Ok a) is = λ e.
     subst (λ (n : ℕ). HasRisen old n) last (subst (λ (n : ℕ). HasRisen n left) same (blames (sym is ∙ e)))
-told_blames told old left new found same last blames (Err e) is = tt
+told_blames stated old left new found same last blames (Err e) is = tt
 
 -- ---- what belongs to an outcome
 
@@ -273,8 +273,8 @@ module _ (folder : Path) (options : Options) (clock : ℕ) (old new : Option Con
   pub folder_not_usage : (found : Outcome) (before after : Option (List ℕ)) → HasWrittenOn folder options clock old new found before after → found ≡ Usage → ⊥
   unfolding HasWrittenOn
   folder_not_usage found before after h e =
-      let told = subst (λ (o : Outcome). HasWrittenOn folder options clock old new o before after) e h in
-      subst IsEnd (sym told.1.1.0.run.end) (ends _)
+      let stated = subst (λ (o : Outcome). HasWrittenOn folder options clock old new o before after) e h in
+      subst IsEnd (sym stated.1.1.0.run.end) (ends _)
 
   pub folder_not_read : (found : Outcome) (before after : Option (List ℕ)) → HasWrittenOn folder options clock old new found before after → found ≡ ReadFault → ⊥
   unfolding HasWrittenOn

@@ -1,10 +1,10 @@
 -- Laws of a run over a generated tree: the lines that are read, and the three messages.
 use Rattle.std.proofs.Common.{◌≡◌, ◌↔◌, ◌∙◌, ℕ, List, [], ◌∷◌, ◌++◌, length, ap, sym, append_assoc, append-nil}
 use Rattle.std.specs.FinMap as fin
-use Rattle.pv_conf.specs.Known.{configured}
+use Rattle.pv_read_config.specs.Known.{configured}
 use Rattle.pv_lines.specs.declared.line.Line.{Line}
 use Rattle.pv_report.specs.Reporting.{ListsOverlaps, ListsReasons}
-use Rattle.pv_report.specs.Said.{verdict}
+use Rattle.pv_report.specs.GivenMessages.{verdict}
 use Rattle.pv_report.specs.declared.listing.Report.{Report}
 use Rattle.pv_steps.specs.Trees.{Files}
 use Rattle.pv_table.specs.Repeatable.{IsRepeatable}
@@ -13,7 +13,7 @@ use Rattle.pv_words.specs.declared.options.Options.{Options}
 use Rattle.provision_run.specs.Generated.{IsToldOf, create_alone, created, created_text, generated_moment, generated_text, lines_in, no_facts, overlaps_text}
 use Rattle.provision_run.specs.Messages.{message, messages_text}
 use Rattle.provision_run.specs.Tasks.{task_of}
-use Rattle.provision_run.specs.Whole.{HasSaidBy, final}
+use Rattle.provision_run.specs.Whole.{HasMessagesBy, final}
 
 -- the lines that are read without facts and file words
 pub read_lines : (t : Files) (facts : Values) (words : List (List ℕ)) (lines : List Line) → lines ≡ (configured t facts words).lines → facts ≡ no_facts → words ≡ [] → lines ≡ lines_in t
@@ -42,17 +42,17 @@ messages_of a b c first second third one two three is_a is_b is_c add_a add_b ad
     ∙ ap (λ (x : List ℕ). messages_text (a ∷ b ∷ x ∷ [])) is_c
 
 -- what they tell
-pub told : (lines : ℕ) (t u : Files) (before after count : ℕ) (messages : List (List ℕ)) (report : Report) (text : List ℕ)
+pub stated : (lines : ℕ) (t u : Files) (before after count : ℕ) (messages : List (List ℕ)) (report : Report) (text : List ℕ)
     → before ≡ fin.len t → after ≡ fin.len u → u ≡ created t → count ≡ length messages
-    → HasSaidBy (task_of create_alone) create_alone no_facts generated_moment t [] messages
+    → HasMessagesBy (task_of create_alone) create_alone no_facts generated_moment t [] messages
     → ListsOverlaps (lines_in t) report.pairs → ListsReasons (lines_in t) report.unrepeatable → (report.unrepeatable ≡ []) ↔ IsRepeatable (lines_in t)
     → text ≡ messages_text (generated_text lines before ∷ created_text after count ∷ overlaps_text (length report.pairs) (verdict report.unrepeatable) ∷ [])
     → IsToldOf lines t text
-told lines t u before after count messages report text nodes left run many said overlaps reasons verdict_is is =
+stated lines t u before after count messages report text nodes left run many new_messages overlaps reasons verdict_is is =
     let third : List ℕ = overlaps_text (length report.pairs) (verdict report.unrepeatable) in
     record {
-      said = said.0;
-      is_said = said.1.0;
+      new_messages = new_messages.0;
+      is_said = new_messages.1.0;
       report = report;
       overlaps = overlaps;
       reasons = reasons;
@@ -61,5 +61,5 @@ told lines t u before after count messages report text nodes left run many said 
           ∙ ap (λ (n : ℕ). messages_text (generated_text lines n ∷ created_text after count ∷ third ∷ [])) nodes
           ∙ ap (λ (x : List ℕ). messages_text (generated_text lines (fin.len t) ∷ x ∷ third ∷ []))
           (ap (λ (n : ℕ). created_text n count) (left ∙ ap (λ (f : Files). fin.len f) run)
-          ∙ ap (created_text (fin.len (created t))) (many ∙ ap (λ (x : List (List ℕ)). length x) said.1.1));
+          ∙ ap (created_text (fin.len (created t))) (many ∙ ap (λ (x : List (List ℕ)). length x) new_messages.1.1));
     }

@@ -24,25 +24,25 @@ messages_more texts i within =
 abbrev note : List ℕ → List ℕ
 note text = codes ": " ++ text
 
-notes_are : (said : List (List ℕ)) → are_lines said ≡ true → list_all (λ text. is_note text && is_line text) (map note said) ≡ true
+notes_are : (new_messages : List (List ℕ)) → are_lines new_messages ≡ true → list_all (λ text. is_note text && is_line text) (map note new_messages) ≡ true
 notes_are [] lines = refl
-notes_are (text ∷ said) lines =
-    let parts = and_parts (is_line text) (are_lines said) lines in
-    and_from (is_note (note text) && is_line (note text)) (list_all (λ t. is_note t && is_line t) (map note said))
-    (and_from (is_note (note text)) (is_line (note text)) refl (one_line-append (codes ": ") text refl parts.0)) (notes_are said parts.1)
+notes_are (text ∷ new_messages) lines =
+    let parts = and_parts (is_line text) (are_lines new_messages) lines in
+    and_from (is_note (note text) && is_line (note text)) (list_all (λ t. is_note t && is_line t) (map note new_messages))
+    (and_from (is_note (note text)) (is_line (note text)) refl (one_line-append (codes ": ") text refl parts.0)) (notes_are new_messages parts.1)
 
-notes_text : (said notes : List (List ℕ)) → messages_text said ++ flat_map line notes ≡ flat_map line (map note said ++ notes)
+notes_text : (new_messages notes : List (List ℕ)) → messages_text new_messages ++ flat_map line notes ≡ flat_map line (map note new_messages ++ notes)
 notes_text [] notes = refl
-notes_text (text ∷ said) notes = append_assoc (message text) (messages_text said) (flat_map line notes) ∙ ap (λ (t : List ℕ). message text ++ t) (notes_text said notes)
+notes_text (text ∷ new_messages) notes = append_assoc (message text) (messages_text new_messages) (flat_map line notes) ∙ ap (λ (t : List ℕ). message text ++ t) (notes_text new_messages notes)
 
 -- messages before an image are notes of it, so that the whole is an image again
-pub noted : (said : List (List ℕ)) (bytes : List ℕ) (facts : Values) (files : Files) → are_lines said ≡ true → IsImage bytes facts files → IsImage (messages_text said ++ bytes) facts files
-noted said bytes facts files lines image = record {
+pub noted : (new_messages : List (List ℕ)) (bytes : List ℕ) (facts : Values) (files : Files) → are_lines new_messages ≡ true → IsImage bytes facts files → IsImage (messages_text new_messages ++ bytes) facts files
+noted new_messages bytes facts files lines image = record {
   version = image.version;
-  notes = map note said ++ image.notes;
-  are_notes = all_append (λ text. is_note text && is_line text) (map note said) image.notes (notes_are said lines) image.are_notes;
+  notes = map note new_messages ++ image.notes;
+  are_notes = all_append (λ text. is_note text && is_line text) (map note new_messages) image.notes (notes_are new_messages lines) image.are_notes;
   fit = image.fit;
-  text = ap (λ (t : List ℕ). messages_text said ++ t) image.text
-      ∙ sym (append_assoc (messages_text said) (flat_map line image.notes) (text_in image.version facts files))
-      ∙ ap (λ (t : List ℕ). t ++ text_in image.version facts files) (notes_text said image.notes);
+  text = ap (λ (t : List ℕ). messages_text new_messages ++ t) image.text
+      ∙ sym (append_assoc (messages_text new_messages) (flat_map line image.notes) (text_in image.version facts files))
+      ∙ ap (λ (t : List ℕ). t ++ text_in image.version facts files) (notes_text new_messages image.notes);
 }

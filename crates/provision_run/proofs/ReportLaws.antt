@@ -1,14 +1,14 @@
 -- Laws of reports: there are no more lines than were counted, and what is said of lines that were read is a report of them.
 use Rattle.std.specs.Prelude.{◌≡◌, ◌↔◌, ℕ, ◌+◌, ◌<◌, ◌≤◌, ◌^◌, Bool, true, false, List, [], ◌∷◌, ◌++◌, length, Option, Some, None, if◌then◌else◌}
 use Rattle.std.proofs.Common.{refl, ap, subst, ◌∙◌, arith, length-append}
-use Rattle.pv_conf.specs.Configuration.{Reader, Reading, content_at, followed, is_skipped, lines_in, nothing, reading_by, reading_of, reading_of_file, reading_of_files, reading_of_lines}
-use Rattle.pv_conf.specs.Known.{configured, known_of, tmpfiles_reader}
+use Rattle.pv_read_config.specs.Configuration.{Reader, Reading, content_at, followed, is_skipped, lines_in, nothing, reading_by, reading_of, reading_of_file, reading_of_files, reading_of_lines}
+use Rattle.pv_read_config.specs.Known.{configured, known_of, tmpfiles_reader}
 use Rattle.pv_layers.specs.Choices.{chosen}
 use Rattle.pv_lines.specs.declared.line.Line.{Line}
 use Rattle.pv_path.specs.Paths.{Path}
 use Rattle.pv_path.specs.Printing.{printed_path}
 use Rattle.pv_report.specs.Reporting.{ListsOverlaps, ListsReasons}
-use Rattle.pv_report.specs.Said.{SaysRepeatable, report_messages}
+use Rattle.pv_report.specs.GivenMessages.{SaysRepeatable, report_messages}
 use Rattle.pv_report.specs.declared.listing.Report.{Report}
 use Rattle.pv_steps.specs.Trees.{Files}
 use Rattle.pv_table.specs.Repeatable.{IsRepeatable}
@@ -36,17 +36,17 @@ module _ {L : Type 0} where
       let most : length (a.lines ++ b.lines) ≤ a.count + b.count = omega (arith, one, other, all) in
       most
 
-  read_counted : (read : Option L) (said : List (List ℕ)) → AreCounted (reading_by read said)
-  read_counted (Some line) said = at_most (reading_by (Some line) said) 1 1 refl refl (omega arith)
-  read_counted None said = at_most (reading_by None said) 0 1 refl refl (omega arith)
+  read_counted : (read : Option L) (new_messages : List (List ℕ)) → AreCounted (reading_by read new_messages)
+  read_counted (Some line) new_messages = at_most (reading_by (Some line) new_messages) 1 1 refl refl (omega arith)
+  read_counted None new_messages = at_most (reading_by None new_messages) 0 1 refl refl (omega arith)
 
   module _ (reader : Reader L) where
     line_counted : (place : Place) (line : List ℕ) → AreCounted (reading_of reader place line)
     line_counted place line = by (is_skipped line)
       where
-        by : (skipped : Bool) → AreCounted (if skipped then record { lines = []; invalid = false; messages = []; count = 1 } else reading_by (reader.line_read place line) (reader.said_of place line))
+        by : (skipped : Bool) → AreCounted (if skipped then record { lines = []; invalid = false; messages = []; count = 1 } else reading_by (reader.line_read place line) (reader.messages_for place line))
         by true = at_most (record { lines = []; invalid = false; messages = []; count = 1 }) 0 1 refl refl (omega arith)
-        by false = read_counted (reader.line_read place line) (reader.said_of place line)
+        by false = read_counted (reader.line_read place line) (reader.messages_for place line)
 
     lines_counted : (file : List ℕ) (number : ℕ) (lines : List (List ℕ)) → AreCounted (reading_of_lines reader file number lines)
     lines_counted file number [] = at_most nothing 0 0 refl refl (omega arith)
@@ -72,11 +72,11 @@ few_lines t facts words lines is few =
 
 -- a report of lines that were read
 pub reported : (wanted lines : List Line) → lines ≡ wanted → (found : Report) → ListsOverlaps lines found.pairs → ListsReasons lines found.unrepeatable
-    → (said : List (List ℕ)) → said ≡ report_messages lines found → SaysRepeatable said ↔ IsRepeatable lines → IsReportOf wanted said
-reported wanted lines is found overlaps reasons said told last = record {
+    → (new_messages : List (List ℕ)) → new_messages ≡ report_messages lines found → SaysRepeatable new_messages ↔ IsRepeatable lines → IsReportOf wanted new_messages
+reported wanted lines is found overlaps reasons new_messages stated last = record {
   report = found;
   overlaps = subst (λ (ls : List Line). ListsOverlaps ls found.pairs) is overlaps;
   reasons = subst (λ (ls : List Line). ListsReasons ls found.unrepeatable) is reasons;
-  text = told ∙ ap (λ (ls : List Line). report_messages ls found) is;
-  verdict = subst (λ (ls : List Line). SaysRepeatable said ↔ IsRepeatable ls) is last;
+  text = stated ∙ ap (λ (ls : List Line). report_messages ls found) is;
+  verdict = subst (λ (ls : List Line). SaysRepeatable new_messages ↔ IsRepeatable ls) is last;
 }

@@ -4,9 +4,9 @@ use Rattle.std.specs.Prelude.{◌^◌, ◌<◌, ◌≡◌, ℕ, List, [], ◌∷
 use Rattle.std.proofs.Common.{sym, ap, subst, ◌∙◌}
 use Rattle.std.proofs.Math.Seq.{drop-append_seam, drop-length, take-nil}
 use Rattle.std.specs.List.{AllByRecursion}
-use Rattle.pv_conf.specs.Configuration.{Configured}
-use Rattle.pv_conf.specs.Known.{configured}
-use Rattle.pv_conf.proofs.InputLaws.{configured-same}
+use Rattle.pv_read_config.specs.Configuration.{Configured}
+use Rattle.pv_read_config.specs.Known.{configured}
+use Rattle.pv_read_config.proofs.InputLaws.{configured-same}
 use Rattle.pv_doing.specs.Courses.{Partway, IsStepOfSome}
 use Rattle.pv_lines.specs.declared.line.Line.{Line}
 use Rattle.pv_lines.specs.Lines.{IsLine}

@@ -4,11 +4,11 @@ use Rattle.std.specs.Option.{option_map}
 use Rattle.std.proofs.Common.{refl, sym, subst}
 use Rattle.pv_path.specs.Names.{same_bytes}
 use Rattle.pv_path.proofs.PathLaws.{same_bytes-decides}
-use Rattle.pv_words.specs.Asked.{asked_of, generate_of}
+use Rattle.pv_words.specs.Invocation.{parse_args, generate_of}
 use Rattle.pv_words.specs.Cut.{Cut}
 use Rattle.pv_words.specs.Meaning.{options_of}
 use Rattle.pv_words.specs.Rooted.{cut_of, is_folder, rooted_of, rooted_with}
-use Rattle.pv_words.specs.declared.asked.Asked.TheVariants.{Run, Generate}
+use Rattle.pv_words.specs.declared.invocation.Invocation.TheVariants.{Run, Generate}
 use Rattle.pv_words.specs.declared.options.Options.{Options}
 use Rattle.pv_words.specs.declared.rooted.Rooted.{Rooted}
 
@@ -33,7 +33,7 @@ not_run : (o : Option Options) (seed count : ℕ) → option_map Run o ≡ Some 
 not_run None seed count e = cc
 not_run (Some o) seed count e = cc
 
-pub generate_unrooted : (words : List (List ℕ)) (seed count : ℕ) → asked_of words ≡ Some (Generate seed count) → rooted_of words ≡ None
+pub generate_unrooted : (words : List (List ℕ)) (seed count : ℕ) → parse_args words ≡ Some (Generate seed count) → rooted_of words ≡ None
 generate_unrooted [] seed count e = refl
 generate_unrooted (word ∷ words) seed count e = by (same_bytes word (codes "generate")) refl e
   where

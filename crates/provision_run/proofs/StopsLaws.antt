@@ -19,7 +19,7 @@ use Rattle.pv_steps.specs.Same.{Same}
 use Rattle.pv_steps.specs.Trees.{Files}
 use Rattle.pv_table.specs.Removed.{removed}
 use Rattle.pv_text.specs.Facts.{Values}
-use Rattle.pv_words.specs.declared.asked.Asked.{Asked}
+use Rattle.pv_words.specs.declared.invocation.Invocation.{Invocation}
 use Rattle.pv_words.specs.declared.options.Options.{Options}
 use Rattle.provision_run.specs.declared.ending.RunEnd.{RunEnd}
 use Rattle.provision_run.specs.declared.ending.RunEnd.TheVariants as end
@@ -75,12 +75,12 @@ module _ (options : Options) (facts : Values) where
 
   module _ (plain : ArePlain options) (is : task_of options ≡ Phases) where
     module _ (moment : ℕ) (t v : Files) (may : MayRepeat (phases_of options) (run_lines options facts t)) (stop : HasStopped options facts moment t v) where
-      told : IsReread options facts moment t stop.steps × IsMendedAnew options facts moment t stop.steps
+      stated : IsReread options facts moment t stop.steps × IsMendedAnew options facts moment t stop.steps
       unfolding IsMendedAnewIn
-      told = subst (λ (task : Task). IsMendedAnewIn task options facts moment t stop.steps) is stop.anew
+      stated = subst (λ (task : Task). IsMendedAnewIn task options facts moment t stop.steps) is stop.anew
 
       kept_at : (n : ℕ) → run_lines options facts (after_all t (take n stop.steps) moment) ≡ run_lines options facts t
-      kept_at n = lines_reread options facts t (after_all t (take n stop.steps) moment) (told.0 n plain (leaves_input (phases_of options) (run_lines options facts t) may))
+      kept_at n = lines_reread options facts t (after_all t (take n stop.steps) moment) (stated.0 n plain (leaves_input (phases_of options) (run_lines options facts t) may))
 
       lines_kept : run_lines options facts v ≡ run_lines options facts t
       lines_kept = ap (λ (w : Files). run_lines options facts w) stop.left ∙ kept_at stop.count
@@ -88,7 +88,7 @@ module _ (options : Options) (facts : Values) where
       one_mended : IsCalm options facts t → IsCalm options facts v → (later : ℕ) → Same (phased options facts later v) (phased options facts moment t)
       one_mended calm still later =
           subst (λ (w : Files). Same (phased options facts later w) (phased options facts moment t)) (sym stop.left)
-          (told.1 stop.count later plain
+          (stated.1 stop.count later plain
           (may_mend moment later t (after_all t (take stop.count stop.steps) moment) (kept_at stop.count) may calm (subst (IsCalm options facts) stop.left still)))
 
       -- a run needs no moment
@@ -96,16 +96,16 @@ module _ (options : Options) (facts : Values) where
       any_moment calm first =
           let none = none_done t stop.steps moment in
           subst (λ (w : Files). Same (phased options facts first w) (phased options facts moment t)) none
-          (told.1 0 first plain (may_mend moment first t (after_all t (take 0 stop.steps) moment) (kept_at 0) may calm (subst (IsCalm options facts) (sym none) calm)))
+          (stated.1 0 first plain (may_mend moment first t (after_all t (take 0 stop.steps) moment) (kept_at 0) may calm (subst (IsCalm options facts) (sym none) calm)))
 
     pub phases_mended : (moments : List ℕ) (moment first later : ℕ) (t u : Files) → MayRepeat (phases_of options) (run_lines options facts t) → HaveStopped options facts (moment ∷ moments) t u → IsCalm options facts u
         → Same (phased options facts later u) (phased options facts first t)
     phases_mended [] moment first later t u may (calm, (v, (stop, is_v))) still =
-        subst (λ (w : Files). Same (phased options facts later w) (phased options facts first t)) (sym is_v) (λ q bare.
-        one_mended moment t v may stop calm (subst (IsCalm options facts) is_v still) later q bare ∙ sym (any_moment moment t v may stop calm first q bare))
-    phases_mended (next ∷ moments) moment first later t u may (calm, (v, (stop, more))) still = λ q bare.
-        phases_mended moments next next later v u (subst (MayRepeat (phases_of options)) (sym (lines_kept moment t v may stop)) may) more still q bare
-        ∙ one_mended moment t v may stop calm more.0 next q bare ∙ sym (any_moment moment t v may stop calm first q bare)
+        subst (λ (w : Files). Same (phased options facts later w) (phased options facts first t)) (sym is_v) (λ q object_state.
+        one_mended moment t v may stop calm (subst (IsCalm options facts) is_v still) later q object_state ∙ sym (any_moment moment t v may stop calm first q object_state))
+    phases_mended (next ∷ moments) moment first later t u may (calm, (v, (stop, more))) still = λ q object_state.
+        phases_mended moments next next later v u (subst (MayRepeat (phases_of options)) (sym (lines_kept moment t v may stop)) may) more still q object_state
+        ∙ one_mended moment t v may stop calm more.0 next q object_state ∙ sym (any_moment moment t v may stop calm first q object_state)
 
 -- ---- accounts, over trees
 
@@ -134,7 +134,7 @@ module _ (options : Options) (facts : Values) (plain : ArePlainRequests options)
         group = one.group ∙ sym none.group;
         gshadow = one.gshadow ∙ sym none.gshadow;
         passwd = one.passwd ∙ sym none.passwd;
-        same = λ days q bare. one.same (days.0 ∙ sym days.1.0) q bare ∙ sym (none.same (sym days.1.0) q bare);
+        same = λ days q object_state. one.same (days.0 ∙ sym days.1.0) q object_state ∙ sym (none.same (sym days.1.0) q object_state);
       })
   accounts_alike (next ∷ moments) moment first later t u (calm, (v, (stop, more))) =
       let rest = accounts_alike moments next next later v u more in
@@ -144,10 +144,10 @@ module _ (options : Options) (facts : Values) (plain : ArePlainRequests options)
         group = rest.group ∙ one.group ∙ sym none.group;
         gshadow = rest.gshadow ∙ one.gshadow ∙ sym none.gshadow;
         passwd = rest.passwd ∙ one.passwd ∙ sym none.passwd;
-        same = λ days q bare.
+        same = λ days q object_state.
             let own : day_of next ≡ day_of first = days.1.1.0 in
-            rest.same (days.0 ∙ sym own, all_map (λ m. day_of m ≡ day_of first) (λ m. day_of m ≡ day_of next) (λ m e. e ∙ sym own) (next ∷ moments) days.1.1) q bare
-            ∙ one.same (own ∙ sym days.1.0) q bare ∙ sym (none.same (sym days.1.0) q bare);
+            rest.same (days.0 ∙ sym own, all_map (λ m. day_of m ≡ day_of first) (λ m. day_of m ≡ day_of next) (λ m e. e ∙ sym own) (next ∷ moments) days.1.1) q object_state
+            ∙ one.same (own ∙ sym days.1.0) q object_state ∙ sym (none.same (sym days.1.0) q object_state);
       }
 
 -- ---- over bytes
@@ -200,7 +200,7 @@ module _ (options : Options) where
     -- one that was stopped has left a tree of which its output is an image
     module _ (out : List ℕ) (over : HasStoppedOver options moment input out) where
       stopped_run : IsRun over.like.own over.clock input (Stopped over.count) out
-      stopped_run = subst (λ (o : Option Asked). HasOutputBy o over.clock input (Stopped over.count) out) over.like.meaning over.output.1
+      stopped_run = subst (λ (o : Option Invocation). HasOutputBy o over.clock input (Stopped over.count) out) over.like.meaning over.output.1
 
       answered_here : IsAnswered over.like.own facts moment t (Stopped over.count) out
       answered_here =
@@ -227,7 +227,7 @@ module _ (options : Options) where
         run_of (end.NoFreeId name) h = h
 
         run : IsRun over.like.own over.clock input (outcome_of over.end) out
-        run = run_of over.end (subst (λ (o : Option Asked). HasOutputBy o over.clock input (outcome_of over.end) out) over.like.meaning over.output.1)
+        run = run_of over.end (subst (λ (o : Option Invocation). HasOutputBy o over.clock input (outcome_of over.end) out) over.like.meaning over.output.1)
 
         here : IsAnswered over.like.own facts moment t (outcome_of over.end) out
         here =

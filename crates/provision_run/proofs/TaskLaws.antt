@@ -3,7 +3,7 @@ use Rattle.std.specs.Prelude.{◌≡◌, ℕ, Bool, true, false, List, [], ◌�
 use Rattle.std.proofs.Common.{zero, suc, refl, sym, ap, subst, ◌∙◌, inl, inr, arith}
 use Rattle.std.proofs.Math.Seq.{drop-append_seam, drop-length, take-length}
 use Rattle.pv_accounts_run.specs.Accounted.{accounted}
-use Rattle.pv_accounts_run.specs.Carrying.{AccountWay, IsAccountStep}
+use Rattle.pv_accounts_run.specs.FileWriting.{AccountWay, IsAccountStep}
 use Rattle.pv_accounts_run.specs.Mended as accounts
 use Rattle.pv_accounts_run.specs.Swept as swept
 use Rattle.pv_create.specs.OnTheWay.{IsFramed}
@@ -18,7 +18,7 @@ use Rattle.pv_steps.specs.declared.tree.TreeFault.{TreeFault}
 use Rattle.pv_steps.proofs.ActingLaws.{Moves, acted_none}
 use Rattle.pv_steps.specs.Trees.{Files}
 use Rattle.pv_text.specs.Facts.{Values}
-use Rattle.pv_text.specs.Said.{SaidPart}
+use Rattle.pv_text.specs.GivenMessages.{MessagesPart}
 use Rattle.pv_text.specs.declared.tool.Tool.{Tool}
 use Rattle.pv_text.specs.declared.tool.Tool.TheVariants.{Tmpfiles, Sysusers}
 use Rattle.pv_words.specs.declared.options.Options.{Options}
@@ -34,9 +34,9 @@ use Rattle.provision_run.specs.Reported.{HasReported, HasReportedPart, report_en
 use Rattle.provision_run.specs.Rereading.{AreAccountsMendedAnew, AreRequestsReread, IsMendedAnew, IsReread}
 use Rattle.provision_run.specs.Swept.{IsSweptIn}
 use Rattle.provision_run.specs.Tasks.{task_by, task_of}
-use Rattle.provision_run.specs.Whole.{end_by, final_by, HasSaidBy, HasSaidPartBy, HasGoneBy, IsMendedAnewIn, IsMendedIn, IsSaidBy, IsCutBy, is_step_by, read_by, way_by, work_by}
+use Rattle.provision_run.specs.Whole.{end_by, final_by, HasMessagesBy, HasMessagesPartBy, HasGoneBy, IsMendedAnewIn, IsMendedIn, AreMessagesBy, IsCutBy, is_step_by, read_by, way_by, work_by}
 use Rattle.pv_path.proofs.Tests.{on_ok}
-use Rattle.pv_text.proofs.SaidLaws.{front_of}
+use Rattle.pv_text.proofs.MessagesLaws.{front_of}
 
 -- what follows a part of a list in a front part of the whole is a front part of the rest
 after_front : (a b s : List (List ℕ)) (n : ℕ) → a ++ s ≡ take n (a ++ b) → (k : ℕ) × (s ≡ take k b)
@@ -45,19 +45,19 @@ after_front (x ∷ a) b s zero e = absurd cc
 after_front (x ∷ a) b s (suc n) e = let rest : a ++ s ≡ take n (a ++ b) = cc in after_front a b s n rest
 
 -- what is said where a step was refused is a front part of what is said in all
-pub front_by : (asked : Task) (options : Options) (facts : Values) (moment : ℕ) (t : Files) (steps : List Step) (said new : List (List ℕ)) → IsCutBy asked options facts moment 1 t steps said
-    → new ≡ read_by asked options facts t ++ said → HasSaidPartBy asked options facts moment t [] new
-    → (whole : List (List ℕ)) × (IsSaidBy asked options facts moment t whole × ((k : ℕ) × (said ≡ take k whole)))
-unfolding IsSaidBy IsCutBy
-front_by Phases options facts moment t steps said new cut is (inl part) =
+pub front_by : (asked : Task) (options : Options) (facts : Values) (moment : ℕ) (t : Files) (steps : List Step) (new_messages new : List (List ℕ)) → IsCutBy asked options facts moment 1 t steps new_messages
+    → new ≡ read_by asked options facts t ++ new_messages → HasMessagesPartBy asked options facts moment t [] new
+    → (whole : List (List ℕ)) × (AreMessagesBy asked options facts moment t whole × ((k : ℕ) × (new_messages ≡ take k whole)))
+unfolding AreMessagesBy IsCutBy
+front_by Phases options facts moment t steps new_messages new cut is (inl part) =
     let whole = phase_messages options facts moment t in
     let front = front_of (read_by Phases options facts t) whole part.0 in
-    (whole, (refl, after_front (read_by Phases options facts t) whole said front.0 (sym is ∙ part.1 ∙ front.1)))
-front_by Phases options facts moment t steps said new cut is (inr part) =
-    (part.0, (part.1.0, after_front (read_by Phases options facts t) part.0 said part.1.1.0 (sym is ∙ part.1.1.1)))
-front_by Report options facts moment t steps said new cut is part = absurd (let no : ◌≡◌ {A = ℕ} 1 0 = cut.0 in omega (arith, no))
-front_by Explain options facts moment t steps said new cut is part = absurd (let no : ◌≡◌ {A = ℕ} 1 0 = cut.0 in omega (arith, no))
-front_by Accounts options facts moment t steps said new cut is part =
+    (whole, (refl, after_front (read_by Phases options facts t) whole new_messages front.0 (sym is ∙ part.1 ∙ front.1)))
+front_by Phases options facts moment t steps new_messages new cut is (inr part) =
+    (part.0, (part.1.0, after_front (read_by Phases options facts t) part.0 new_messages part.1.1.0 (sym is ∙ part.1.1.1)))
+front_by Report options facts moment t steps new_messages new cut is part = absurd (let no : ◌≡◌ {A = ℕ} 1 0 = cut.0 in omega (arith, no))
+front_by Explain options facts moment t steps new_messages new cut is part = absurd (let no : ◌≡◌ {A = ℕ} 1 0 = cut.0 in omega (arith, no))
+front_by Accounts options facts moment t steps new_messages new cut is part =
     let whole = account_messages options facts moment t in
     (whole, (refl, (length whole, cut ∙ sym (take-length whole))))
 
@@ -68,12 +68,12 @@ module _ (options : Options) (facts : Values) (moment : ℕ) (t : Files) where
   unfolding final_by
   phases_left k is r u h = subst (λ (j : Task). OnOk r (u ≡ final_by j options facts moment t)) is h
 
-  pub phases_said : (k : Task) → Phases ≡ k → (r : Result RunEnd TreeFault) (old new : List (List ℕ))
-      → OnOk r (new ≡ old ++ lines_messages options facts t ++ phase_messages options facts moment t) → OnOk r (HasSaidBy k options facts moment t old new)
-  unfolding IsSaidBy read_by
-  phases_said k is r old new h =
-      subst (λ (j : Task). OnOk r (HasSaidBy j options facts moment t old new)) is
-      (on_ok r {Y = HasSaidBy Phases options facts moment t old new} (λ e. (phase_messages options facts moment t, (refl, e))) h)
+  pub phases_messages : (k : Task) → Phases ≡ k → (r : Result RunEnd TreeFault) (old new : List (List ℕ))
+      → OnOk r (new ≡ old ++ lines_messages options facts t ++ phase_messages options facts moment t) → OnOk r (HasMessagesBy k options facts moment t old new)
+  unfolding AreMessagesBy read_by
+  phases_messages k is r old new h =
+      subst (λ (j : Task). OnOk r (HasMessagesBy j options facts moment t old new)) is
+      (on_ok r {Y = HasMessagesBy Phases options facts moment t old new} (λ e. (phase_messages options facts moment t, (refl, e))) h)
 
   pub phases_ended : (k : Task) → Phases ≡ k → (r : Result RunEnd TreeFault) → IfOk r (λ end. end ≡ phases_end options facts moment t) → IfOk r (λ end. end ≡ end_by k options facts moment t)
   unfolding end_by
@@ -83,10 +83,10 @@ module _ (options : Options) (facts : Values) (moment : ℕ) (t : Files) where
   unfolding IsSweptIn
   phases_staged k is r u h = subst (λ (j : Task). OnOk r (IsSweptIn j options facts moment t u)) is h
 
-  pub phases_part : (k : Task) → Phases ≡ k → (old new : List (List ℕ)) → SaidPart (lines_messages options facts t ++ phase_messages options facts moment t) old new → HasSaidPartBy k options facts moment t old new
-  unfolding IsSaidBy read_by
+  pub phases_part : (k : Task) → Phases ≡ k → (old new : List (List ℕ)) → MessagesPart (lines_messages options facts t ++ phase_messages options facts moment t) old new → HasMessagesPartBy k options facts moment t old new
+  unfolding AreMessagesBy read_by
   phases_part k is old new h =
-      subst (λ (j : Task). HasSaidPartBy j options facts moment t old new) is (inr (phase_messages options facts moment t, (refl, h)))
+      subst (λ (j : Task). HasMessagesPartBy j options facts moment t old new) is (inr (phase_messages options facts moment t, (refl, h)))
 
   pub phases_gone : {S : Type 0} (tree : Ghosts S) (k : Task) → Phases ≡ k → (n : ℕ) (a b : S) (old new : List (List ℕ)) → HasGone tree (phases_cut options facts moment n t) moment a b (old ++ lines_messages options facts t) new
       → HasGoneBy k options facts moment n t (drop (length (tree.steps a)) (tree.steps b)) old new
@@ -94,7 +94,7 @@ module _ (options : Options) (facts : Values) (moment : ℕ) (t : Files) where
   phases_gone tree k is n a b old new gone =
       let steps : drop (length (tree.steps a)) (tree.steps b) ≡ gone.steps = ap (drop (length (tree.steps a))) gone.recorded ∙ drop-append_seam (tree.steps a) gone.steps in
       subst (λ (j : Task). HasGoneBy j options facts moment n t (drop (length (tree.steps a)) (tree.steps b)) old new) is
-      (gone.texts, (gone.said, subst (λ (v : List Step). phases_cut options facts moment n t v gone.texts) (sym steps) gone.is))
+      (gone.texts, (gone.new_messages, subst (λ (v : List Step). phases_cut options facts moment n t v gone.texts) (sym steps) gone.is))
 
   pub phases_gone_ok : {S : Type 0} (tree : Ghosts S) (k : Task) → Phases ≡ k → (r : Result RunEnd TreeFault) (a b : S) (old new : List (List ℕ)) → OnOk r (HasGone tree (phases_cut options facts moment 0 t) moment a b (old ++ lines_messages options facts t) new)
       → OnOk r (HasGoneBy k options facts moment 0 t (drop (length (tree.steps a)) (tree.steps b)) old new)
@@ -123,12 +123,12 @@ module _ (options : Options) (facts : Values) (moment : ℕ) (t : Files) where
   unfolding final_by
   accounts_left k is r u h = subst (λ (j : Task). OnOk r (u ≡ final_by j options facts moment t)) is h
 
-  pub accounts_said : (k : Task) → Accounts ≡ k → (r : Result RunEnd TreeFault) (old new : List (List ℕ))
-      → OnOk r (new ≡ old ++ requests_messages options facts t ++ account_messages options facts moment t) → OnOk r (HasSaidBy k options facts moment t old new)
-  unfolding IsSaidBy read_by
-  accounts_said k is r old new h =
-      subst (λ (j : Task). OnOk r (HasSaidBy j options facts moment t old new)) is
-      (on_ok r {Y = HasSaidBy Accounts options facts moment t old new} (λ e. (account_messages options facts moment t, (refl, e))) h)
+  pub accounts_new_messages : (k : Task) → Accounts ≡ k → (r : Result RunEnd TreeFault) (old new : List (List ℕ))
+      → OnOk r (new ≡ old ++ requests_messages options facts t ++ account_messages options facts moment t) → OnOk r (HasMessagesBy k options facts moment t old new)
+  unfolding AreMessagesBy read_by
+  accounts_new_messages k is r old new h =
+      subst (λ (j : Task). OnOk r (HasMessagesBy j options facts moment t old new)) is
+      (on_ok r {Y = HasMessagesBy Accounts options facts moment t old new} (λ e. (account_messages options facts moment t, (refl, e))) h)
 
   pub accounts_ended : (k : Task) → Accounts ≡ k → (r : Result RunEnd TreeFault) → IfOk r (λ end. end ≡ accounts_end options facts moment t) → IfOk r (λ end. end ≡ end_by k options facts moment t)
   unfolding end_by
@@ -138,11 +138,11 @@ module _ (options : Options) (facts : Values) (moment : ℕ) (t : Files) where
   unfolding IsSweptIn
   accounts_staged k is r u h = subst (λ (j : Task). OnOk r (IsSweptIn j options facts moment t u)) is h
 
-  pub accounts_part : (k : Task) → Accounts ≡ k → (old new : List (List ℕ)) → SaidPart (requests_messages options facts t ++ account_messages options facts moment t) old new
-      → HasSaidPartBy k options facts moment t old new
-  unfolding IsSaidBy read_by
+  pub accounts_part : (k : Task) → Accounts ≡ k → (old new : List (List ℕ)) → MessagesPart (requests_messages options facts t ++ account_messages options facts moment t) old new
+      → HasMessagesPartBy k options facts moment t old new
+  unfolding AreMessagesBy read_by
   accounts_part k is old new h =
-      subst (λ (j : Task). HasSaidPartBy j options facts moment t old new) is (inr (account_messages options facts moment t, (refl, h)))
+      subst (λ (j : Task). HasMessagesPartBy j options facts moment t old new) is (inr (account_messages options facts moment t, (refl, h)))
 
   pub accounts_gone : (k : Task) → Accounts ≡ k → (n : ℕ) (steps : List Step) (old new : List (List ℕ)) → new ≡ old ++ requests_messages options facts t ++ account_messages options facts moment t
       → HasGoneBy k options facts moment n t steps old new
@@ -176,14 +176,14 @@ module _ (options : Options) (facts : Values) (moment : ℕ) (t : Files) where
   unfolding final_by
   report_left k is = subst (λ (j : Task). t ≡ final_by j options facts moment t) is refl
 
-  pub report_said : (k : Task) → Report ≡ k → (old new : List (List ℕ)) → HasReported options facts t old new → HasSaidBy k options facts moment t old new
-  unfolding IsSaidBy read_by
-  report_said k is old new h = subst (λ (j : Task). HasSaidBy j options facts moment t old new) is h
+  pub report_new_messages : (k : Task) → Report ≡ k → (old new : List (List ℕ)) → HasReported options facts t old new → HasMessagesBy k options facts moment t old new
+  unfolding AreMessagesBy read_by
+  report_new_messages k is old new h = subst (λ (j : Task). HasMessagesBy j options facts moment t old new) is h
 
-  pub report_gone : (k : Task) → Report ≡ k → (told : List Step) (old new : List (List ℕ)) → HasReported options facts t old new → HasGoneBy k options facts moment 0 t (drop (length told) told) old new
+  pub report_gone : (k : Task) → Report ≡ k → (stated : List Step) (old new : List (List ℕ)) → HasReported options facts t old new → HasGoneBy k options facts moment 0 t (drop (length stated) stated) old new
   unfolding IsCutBy read_by
-  report_gone k is told old new h =
-      subst (λ (j : Task). HasGoneBy j options facts moment 0 t (drop (length told) told) old new) is (h.0, (h.1.1, (refl, drop-length told)))
+  report_gone k is stated old new h =
+      subst (λ (j : Task). HasGoneBy j options facts moment 0 t (drop (length stated) stated) old new) is (h.0, (h.1.1, (refl, drop-length stated)))
 
   pub report_ended : (k : Task) → Report ≡ k → (end : RunEnd) → end ≡ report_end options facts t → end ≡ end_by k options facts moment t
   unfolding end_by
@@ -193,21 +193,21 @@ module _ (options : Options) (facts : Values) (moment : ℕ) (t : Files) where
   unfolding IsSweptIn
   report_staged k is u = subst (λ (j : Task). IsSweptIn j options facts moment t u) is tt
 
-  pub report_part : (k : Task) → Report ≡ k → (old new : List (List ℕ)) → HasReportedPart options facts t old new → HasSaidPartBy k options facts moment t old new
-  unfolding IsSaidBy read_by
-  report_part k is old new h = subst (λ (j : Task). HasSaidPartBy j options facts moment t old new) is h
+  pub report_part : (k : Task) → Report ≡ k → (old new : List (List ℕ)) → HasReportedPart options facts t old new → HasMessagesPartBy k options facts moment t old new
+  unfolding AreMessagesBy read_by
+  report_part k is old new h = subst (λ (j : Task). HasMessagesPartBy j options facts moment t old new) is h
 
-  pub report_mended : (k : Task) → Report ≡ k → (told : List Step) → IsMendedIn k options facts moment t (drop (length told) told)
+  pub report_mended : (k : Task) → Report ≡ k → (stated : List Step) → IsMendedIn k options facts moment t (drop (length stated) stated)
   unfolding IsMendedIn
-  report_mended k is told = subst (λ (j : Task). IsMendedIn j options facts moment t (drop (length told) told)) is (drop-length told)
+  report_mended k is stated = subst (λ (j : Task). IsMendedIn j options facts moment t (drop (length stated) stated)) is (drop-length stated)
 
   pub report_anew : (k : Task) → Report ≡ k → (steps : List Step) → IsMendedAnewIn k options facts moment t steps
   unfolding IsMendedAnewIn
   report_anew k is steps = subst (λ (j : Task). IsMendedAnewIn j options facts moment t steps) is tt
 
-  pub report_framed : (k : Task) → Report ≡ k → (told : List Step) → IsFramedIn k options facts moment t (drop (length told) told)
+  pub report_framed : (k : Task) → Report ≡ k → (stated : List Step) → IsFramedIn k options facts moment t (drop (length stated) stated)
   unfolding IsFramedIn
-  report_framed k is told = subst (λ (j : Task). IsFramedIn j options facts moment t (drop (length told) told)) is (drop-length told)
+  report_framed k is stated = subst (λ (j : Task). IsFramedIn j options facts moment t (drop (length stated) stated)) is (drop-length stated)
 
   pub report_between : (k : Task) → Report ≡ k → (steps : List Step) → IsOnTheWayIn k options facts moment t steps
   unfolding IsOnTheWayIn
@@ -219,14 +219,14 @@ module _ (options : Options) (facts : Values) (moment : ℕ) (t : Files) where
   unfolding final_by
   explain_left k is = subst (λ (j : Task). t ≡ final_by j options facts moment t) is refl
 
-  pub explain_said : (k : Task) → Explain ≡ k → (old new : List (List ℕ)) → HasExplained options facts t old new → HasSaidBy k options facts moment t old new
-  unfolding IsSaidBy read_by
-  explain_said k is old new h = subst (λ (j : Task). HasSaidBy j options facts moment t old new) is h
+  pub explain_messages : (k : Task) → Explain ≡ k → (old new : List (List ℕ)) → HasExplained options facts t old new → HasMessagesBy k options facts moment t old new
+  unfolding AreMessagesBy read_by
+  explain_messages k is old new h = subst (λ (j : Task). HasMessagesBy j options facts moment t old new) is h
 
-  pub explain_gone : (k : Task) → Explain ≡ k → (told : List Step) (old new : List (List ℕ)) → HasExplained options facts t old new → HasGoneBy k options facts moment 0 t (drop (length told) told) old new
+  pub explain_gone : (k : Task) → Explain ≡ k → (stated : List Step) (old new : List (List ℕ)) → HasExplained options facts t old new → HasGoneBy k options facts moment 0 t (drop (length stated) stated) old new
   unfolding IsCutBy read_by
-  explain_gone k is told old new h =
-      subst (λ (j : Task). HasGoneBy j options facts moment 0 t (drop (length told) told) old new) is (h.0, (h.1.1, (refl, drop-length told)))
+  explain_gone k is stated old new h =
+      subst (λ (j : Task). HasGoneBy j options facts moment 0 t (drop (length stated) stated) old new) is (h.0, (h.1.1, (refl, drop-length stated)))
 
   pub explain_ended : (k : Task) → Explain ≡ k → (end : RunEnd) → end ≡ report_end options facts t → end ≡ end_by k options facts moment t
   unfolding end_by
@@ -236,13 +236,13 @@ module _ (options : Options) (facts : Values) (moment : ℕ) (t : Files) where
   unfolding IsSweptIn
   explain_staged k is u = subst (λ (j : Task). IsSweptIn j options facts moment t u) is tt
 
-  pub explain_part : (k : Task) → Explain ≡ k → (old new : List (List ℕ)) → HasExplainedPart options facts t old new → HasSaidPartBy k options facts moment t old new
-  unfolding IsSaidBy read_by
-  explain_part k is old new h = subst (λ (j : Task). HasSaidPartBy j options facts moment t old new) is h
+  pub explain_part : (k : Task) → Explain ≡ k → (old new : List (List ℕ)) → HasExplainedPart options facts t old new → HasMessagesPartBy k options facts moment t old new
+  unfolding AreMessagesBy read_by
+  explain_part k is old new h = subst (λ (j : Task). HasMessagesPartBy j options facts moment t old new) is h
 
-  pub explain_mended : (k : Task) → Explain ≡ k → (told : List Step) → IsMendedIn k options facts moment t (drop (length told) told)
+  pub explain_mended : (k : Task) → Explain ≡ k → (stated : List Step) → IsMendedIn k options facts moment t (drop (length stated) stated)
   unfolding IsMendedIn
-  explain_mended k is told = subst (λ (j : Task). IsMendedIn j options facts moment t (drop (length told) told)) is (drop-length told)
+  explain_mended k is stated = subst (λ (j : Task). IsMendedIn j options facts moment t (drop (length stated) stated)) is (drop-length stated)
 
   pub explain_anew : (k : Task) → Explain ≡ k → (steps : List Step) → IsMendedAnewIn k options facts moment t steps
   unfolding IsMendedAnewIn
@@ -252,9 +252,9 @@ module _ (options : Options) (facts : Values) (moment : ℕ) (t : Files) where
   unfolding IsOnTheWayIn
   explain_between k is steps = subst (λ (j : Task). IsOnTheWayIn j options facts moment t steps) is tt
 
-  pub explain_framed : (k : Task) → Explain ≡ k → (told : List Step) → IsFramedIn k options facts moment t (drop (length told) told)
+  pub explain_framed : (k : Task) → Explain ≡ k → (stated : List Step) → IsFramedIn k options facts moment t (drop (length stated) stated)
   unfolding IsFramedIn
-  explain_framed k is told = subst (λ (j : Task). IsFramedIn j options facts moment t (drop (length told) told)) is (drop-length told)
+  explain_framed k is stated = subst (λ (j : Task). IsFramedIn j options facts moment t (drop (length stated) stated)) is (drop-length stated)
 
 module _ {S : Type 0} (tree : Ghosts S) (options : Options) (facts : Values) (moment : ℕ) (t : Files) where
   pub phases_acted : (k : Task) → Phases ≡ k → (a b : S) (r : Result RunEnd TreeFault)

@@ -3,8 +3,8 @@ use Rattle.std.specs.Prelude.{◌≡◌, ℕ, true, false, List, [], take, Optio
 use Rattle.std.proofs.Common.{refl, subst, sym, ap, ◌∙◌}
 use Rattle.std.specs.Io.KnownBytes.{Appends}
 use Rattle.pv_io.specs.Transfers.{AppendsFront}
-use Rattle.pv_words.specs.declared.asked.Asked.{Asked}
-use Rattle.pv_words.specs.declared.asked.Asked.TheVariants.{Generate}
+use Rattle.pv_words.specs.declared.invocation.Invocation.{Invocation}
+use Rattle.pv_words.specs.declared.invocation.Invocation.TheVariants.{Generate}
 use Rattle.provision_run.specs.declared.outcome.Outcome.{Outcome}
 use Rattle.provision_run.specs.declared.outcome.Outcome.TheVariants.{Done, ConfigInvalid, NotCarriedOut, Usage, BadImage, NoFreeId, Memory, ReadFault, WriteFault, Stopped, BadFolder, FolderFailed}
 use Rattle.provision_run.specs.Answers.{HasOutput, HasWritten, HasWrittenGenerated, IsGeneratedBy, IsOwn, reads_input}
@@ -35,17 +35,17 @@ front_written words clock (Some input) found out bytes old new is h front =
 
 -- ---- of a run over a generated tree
 
-module _ (asked : Option Asked) (seed count : ℕ) (is : asked ≡ Some (Generate seed count)) where
+module _ (asked : Option Invocation) (seed count : ℕ) (is : asked ≡ Some (Generate seed count)) where
   by_definition : (found : Outcome) (out : List ℕ) → IsGeneratedBy asked found out → IsGeneratedBy (Some (Generate seed count)) found out
-  by_definition found out h = subst (λ (a : Option Asked). IsGeneratedBy a found out) is h
+  by_definition found out h = subst (λ (a : Option Invocation). IsGeneratedBy a found out) is h
 
   -- the three messages were taken
   pub generated_wholly : (found : Outcome) (out bytes : List ℕ) (old new : Option (List ℕ)) → bytes ≡ out → IsGeneratedBy asked found out → Appends old new bytes
       → HasWrittenGenerated seed count found old new
   unfolding HasWrittenGenerated
   generated_wholly found out bytes old new same h taken =
-      let told = by_definition found out h in
-      subst (λ (o : Outcome). HasWrittenGenerated seed count o old new) (sym told.0) (out, told.1, subst (λ (b : List ℕ). Appends old new b) same taken)
+      let stated = by_definition found out h in
+      subst (λ (o : Outcome). HasWrittenGenerated seed count o old new) (sym stated.0) (out, stated.1, subst (λ (b : List ℕ). Appends old new b) same taken)
 
   -- a front part of them was
   pub generated_front : (found : Outcome) (out bytes : List ℕ) (old new : Option (List ℕ)) → bytes ≡ out → IsGeneratedBy asked found out → AppendsFront old new bytes

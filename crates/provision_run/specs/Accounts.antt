@@ -4,10 +4,10 @@ use Rattle.std.specs.Prelude.{◌≡◌, ◌⊎◌, ℕ, ◌+◌, Bool, List, []
 use Rattle.std.specs.Option.{option_map_or}
 use Rattle.pv_accounts_run.specs.declared.edit.Edit.{Edit}
 use Rattle.pv_accounts_run.specs.Accounted.{accounts_messages, edits_at, is_unusable, lacking_at}
-use Rattle.pv_accounts_run.specs.Carrying.{most_put, swept_names}
+use Rattle.pv_accounts_run.specs.FileWriting.{most_put, swept_names}
 use Rattle.pv_accounts_run.specs.declared.accounts_fault.AccountsFault.{AccountsFault}
 use Rattle.pv_accounts_run.specs.declared.accounts_fault.AccountsFault.TheVariants as fault
-use Rattle.pv_conf.specs.Requested.{requested}
+use Rattle.pv_read_config.specs.Requested.{requested}
 use Rattle.pv_doing.specs.declared.carried.Carried.{Carried}
 use Rattle.pv_steps.specs.declared.tree.TreeFault.{TreeFault}
 use Rattle.pv_steps.specs.declared.tree.TreeFault.TheVariants as step

@@ -13,9 +13,9 @@ use Rattle.provision_run.specs.declared.outcome.Outcome.{Outcome}
 use Rattle.provision_run.specs.declared.outcome.Outcome.TheVariants.{Done, ConfigInvalid, NotCarriedOut, Usage, BadImage, NoFreeId, Memory, ReadFault, WriteFault, Stopped, BadFolder, FolderFailed}
 use Rattle.provision_run.specs.OverTree.{HasRun}
 use Rattle.provision_run.specs.Words.{moment_of}
-use Rattle.pv_words.specs.Asked.{asked_of}
-use Rattle.pv_words.specs.declared.asked.Asked.{Asked}
-use Rattle.pv_words.specs.declared.asked.Asked.TheVariants.{Run, Generate}
+use Rattle.pv_words.specs.Invocation.{parse_args}
+use Rattle.pv_words.specs.declared.invocation.Invocation.{Invocation}
+use Rattle.pv_words.specs.declared.invocation.Invocation.TheVariants.{Run, Generate}
 use Rattle.provision_run.specs.Generated.{IsGenerated}
 use Rattle.provision_run.specs.Messages.{message, messages_text}
 
@@ -96,23 +96,23 @@ IsAnswer options clock input Usage out = ⊥
 IsAnswer options clock input found out = IsRun options clock input found out
 
 -- by what the words ask for: those without a meaning have the one message, and a run over a generated tree its three
-abbrev pub HasOutputBy : Option Asked → ℕ → List ℕ → Outcome → List ℕ → Type 0
+abbrev pub HasOutputBy : Option Invocation → ℕ → List ℕ → Outcome → List ℕ → Type 0
 HasOutputBy None clock input found out = (found ≡ Usage) × (out ≡ message (codes "usage"))
 HasOutputBy (Some (Run options)) clock input found out = IsAnswer options clock input found out
 HasOutputBy (Some (Generate seed count)) clock input found out = (found ≡ Done) × IsGenerated seed count out
 
 -- the whole output that belongs to words, the clock, an input and an outcome
 abbrev pub HasOutput : List (List ℕ) → ℕ → List ℕ → Outcome → List ℕ → Type 0
-HasOutput words clock input found out = IsOwn found × HasOutputBy (asked_of words) clock input found out
+HasOutput words clock input found out = IsOwn found × HasOutputBy (parse_args words) clock input found out
 
 -- whether the input is read: only a run of a tool is over an image
-abbrev pub reads_input : Option Asked → Bool
+abbrev pub reads_input : Option Invocation → Bool
 reads_input None = false
 reads_input (Some (Run options)) = true
 reads_input (Some (Generate seed count)) = false
 
 -- the output of words that ask for a run over a generated tree, which belongs to no input; of others this says nothing
-abbrev pub IsGeneratedBy : Option Asked → Outcome → List ℕ → Type 0
+abbrev pub IsGeneratedBy : Option Invocation → Outcome → List ℕ → Type 0
 IsGeneratedBy (Some (Generate seed count)) found out = (found ≡ Done) × IsGenerated seed count out
 IsGeneratedBy asked found out = Unit {0}
 

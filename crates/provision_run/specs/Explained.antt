@@ -2,8 +2,8 @@
 -- after them, each path judged by itself (tmpfiles.d(5)). The texts are this project's own.
 use Rattle.std.specs.Prelude.{◌≡◌, ◌⊎◌, ℕ, true, false, List, [], ◌∷◌, ◌++◌, codes, map, Option, Some, None, option_map}
 use Rattle.std.specs.Fmt.{decimal}
-use Rattle.pv_dress.specs.Nodes.{bares_of}
-use Rattle.pv_explain.specs.Acts.{acts, bare_in, last, standing}
+use Rattle.pv_metadata.specs.Nodes.{object_states_of}
+use Rattle.pv_explain.specs.Acts.{acts, object_state_in, last, standing}
 use Rattle.pv_explain.specs.declared.explained.Act.{Act}
 use Rattle.pv_explain.specs.declared.explained.Act.TheVariants.{Makes, Removes, Changes}
 use Rattle.pv_explain.specs.declared.explained.Explained.{Explained}
@@ -16,7 +16,7 @@ use Rattle.pv_steps.specs.Trees.{Files, places}
 use Rattle.pv_table.specs.Created.{IsQuiet}
 use Rattle.pv_table.specs.Repeatable.{IsRepeatable}
 use Rattle.pv_text.specs.Facts.{Values}
-use Rattle.pv_text.specs.Said.{SaidPart}
+use Rattle.pv_text.specs.GivenMessages.{MessagesPart}
 use Rattle.pv_words.specs.declared.options.Options.{Options}
 use Rattle.provision_run.specs.Phased.{lines_messages, phased, run_lines}
 
@@ -40,7 +40,7 @@ last_text path (Some object) = codes "explain " ++ printed_path path ++ codes " 
 
 -- all that is said of a path
 abbrev pub explained_messages : Path → Explained → List (List ℕ)
-explained_messages path told = map (act_text path) told.acts ++ last_text path told.node ∷ []
+explained_messages path stated = map (act_text path) stated.acts ++ last_text path stated.node ∷ []
 
 -- ---- an explanation
 
@@ -51,23 +51,23 @@ creating options = record options { create = true; remove = false; clean = false
 -- what is said of the path that is asked for: exactly the active lines that act on it, in the order of creating, and what
 -- stands there after all lines. Where no line has a reason, a run that creates refuses no line, and the path has no staging
 -- name, this is what such a run leaves there, stamps aside
-pub record IsExplanationOf (options : Options) (facts : Values) (t : Files) (said : List (List ℕ)) : Type 0 where
+pub record IsExplanationOf (options : Options) (facts : Values) (t : Files) (new_messages : List (List ℕ)) : Type 0 where
   pub path : Path
   pub asked : options.explain ≡ Some path
-  pub told : Explained
-  pub by_lines : told.acts ≡ acts (run_lines options facts t) (standing t) path
-  pub at_last : option_map bare_in told.node ≡ last (run_lines options facts t) (standing t) path
-  pub text : said ≡ explained_messages path told
+  pub stated : Explained
+  pub by_lines : stated.acts ≡ acts (run_lines options facts t) (standing t) path
+  pub at_last : option_map object_state_in stated.node ≡ last (run_lines options facts t) (standing t) path
+  pub text : new_messages ≡ explained_messages path stated
   pub left : (moment : ℕ) → IsRepeatable (run_lines options facts t) → IsQuiet (run_lines options facts t) moment t → has_staging path ≡ false
-      → option_map bare_in told.node ≡ bares_of (places (phased (creating options) facts moment t)) path
+      → option_map object_state_in stated.node ≡ object_states_of (places (phased (creating options) facts moment t)) path
 
 -- what is said in reading the configuration and in explaining the path, after messages that were there before
 abbrev pub HasExplained : Options → Values → Files → List (List ℕ) → List (List ℕ) → Type 0
 HasExplained options facts t old new =
-    (said : List (List ℕ)) × (IsExplanationOf options facts t said × (new ≡ old ++ lines_messages options facts t ++ said))
+    (new_messages : List (List ℕ)) × (IsExplanationOf options facts t new_messages × (new ≡ old ++ lines_messages options facts t ++ new_messages))
 
 -- a front part of what is said in reading, or of all of it
 abbrev pub HasExplainedPart : Options → Values → Files → List (List ℕ) → List (List ℕ) → Type 0
 HasExplainedPart options facts t old new =
-    SaidPart (lines_messages options facts t) old new
-    ⊎ ((said : List (List ℕ)) × (IsExplanationOf options facts t said × SaidPart (lines_messages options facts t ++ said) old new))
+    MessagesPart (lines_messages options facts t) old new
+    ⊎ ((new_messages : List (List ℕ)) × (IsExplanationOf options facts t new_messages × MessagesPart (lines_messages options facts t ++ new_messages) old new))

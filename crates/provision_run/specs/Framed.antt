@@ -1,9 +1,9 @@
 -- What a run leaves as it was at each moment, whatever it answers (systemd-tmpfiles(8), systemd-sysusers(8)).
 use Rattle.std.specs.Prelude.{◌≡◌, ℕ, false, List, [], take}
-use Rattle.pv_accounts_run.specs.Carrying.{account_paths}
+use Rattle.pv_accounts_run.specs.FileWriting.{account_paths}
 use Rattle.pv_accounts_run.specs.Edits.{etc}
 use Rattle.pv_create.specs.OnTheWay.{IsFramed}
-use Rattle.pv_dress.specs.Nodes.{bares_of}
+use Rattle.pv_metadata.specs.Nodes.{object_states_of}
 use Rattle.pv_path.specs.Paths.{Path, has_staging, same_path}
 use Rattle.pv_steps.specs.declared.step.Step.{Step}
 use Rattle.pv_steps.specs.Runs.{after_all}
@@ -19,7 +19,7 @@ use Rattle.provision_run.specs.Phased.{run_lines}
 -- stamps and staging names aside
 abbrev pub AreAccountsFramed : ℕ → Files → List Step → Type 0
 AreAccountsFramed moment t steps = (n : ℕ) (q : Path) → has_staging q ≡ false → same_path etc q ≡ false → is_one_of account_paths q ≡ false →
-    bares_of (places (after_all t (take n steps) moment)) q ≡ bares_of (places t) q
+    object_states_of (places (after_all t (take n steps) moment)) q ≡ object_states_of (places t) q
 
 -- by the task: a run of phases, whatever these are, has left each path that no active line governs; a report and an explanation do no
 -- step

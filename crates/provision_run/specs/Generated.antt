@@ -2,11 +2,11 @@
 use Rattle.std.specs.Prelude.{◌≡◌, ◌↔◌, ℕ, true, false, List, [], ◌∷◌, ◌++◌, codes, length, None}
 use Rattle.std.specs.FinMap as fin
 use Rattle.std.specs.Fmt.{decimal}
-use Rattle.pv_conf.specs.Known.{configured}
+use Rattle.pv_read_config.specs.Known.{configured}
 use Rattle.pv_generate.specs.Trees.{generated}
 use Rattle.pv_lines.specs.declared.line.Line.{Line}
 use Rattle.pv_report.specs.Reporting.{ListsOverlaps, ListsReasons}
-use Rattle.pv_report.specs.Said.{verdict}
+use Rattle.pv_report.specs.GivenMessages.{verdict}
 use Rattle.pv_report.specs.declared.listing.Report.{Report}
 use Rattle.pv_steps.specs.Trees.{Files}
 use Rattle.pv_table.specs.Repeatable.{IsRepeatable}
@@ -14,7 +14,7 @@ use Rattle.pv_text.specs.Facts.{Values}
 use Rattle.pv_text.specs.declared.tool.Tool.TheVariants.{Tmpfiles}
 use Rattle.pv_words.specs.declared.options.Options.{Options}
 use Rattle.provision_run.specs.Messages.{messages_text}
-use Rattle.provision_run.specs.Whole.{final, IsSaid, read_messages}
+use Rattle.provision_run.specs.Whole.{final, AreMessages, read_messages}
 
 -- ---- the run
 
@@ -66,15 +66,15 @@ overlaps_text pairs last = decimal pairs ++ codes " overlaps, " ++ last
 -- what is written of a tree with so many lines: its nodes; the nodes that the run leaves, and how many messages it has; how
 -- many pairs of lines overlap, and the verdict on the lines, which is `repeatable` exactly where no line has a reason
 pub record IsToldOf (lines : ℕ) (t : Files) (out : List ℕ) : Type 0 where
-  pub said : List (List ℕ)
-  pub is_said : IsSaid create_alone no_facts generated_moment t said
+  pub new_messages : List (List ℕ)
+  pub is_said : AreMessages create_alone no_facts generated_moment t new_messages
   pub report : Report
   pub overlaps : ListsOverlaps (lines_in t) report.pairs
   pub reasons : ListsReasons (lines_in t) report.unrepeatable
   pub verdict_is : (report.unrepeatable ≡ []) ↔ IsRepeatable (lines_in t)
   pub text : out ≡ messages_text (
       generated_text lines (fin.len t)
-      ∷ created_text (fin.len (created t)) (length (read_messages create_alone no_facts t ++ said))
+      ∷ created_text (fin.len (created t)) (length (read_messages create_alone no_facts t ++ new_messages))
       ∷ overlaps_text (length report.pairs) (verdict report.unrepeatable)
       ∷ [])
 

@@ -16,7 +16,7 @@ use Rattle.provision_run.specs.Framed.{IsFramedIn}
 use Rattle.provision_run.specs.OnTheWay.{IsOnTheWayIn}
 use Rattle.provision_run.specs.Swept.{IsSweptIn}
 use Rattle.provision_run.specs.Tasks.{task_of}
-use Rattle.provision_run.specs.Whole.{run_way, final, IsMendedAnewIn, IsMendedIn, is_run_step, IsSaid, IsCutBy, read_messages, run_end, run_work}
+use Rattle.provision_run.specs.Whole.{run_way, final, IsMendedAnewIn, IsMendedIn, is_run_step, AreMessages, IsCutBy, read_messages, run_end, run_work}
 
 -- ---- any run
 
@@ -50,12 +50,12 @@ outcome options facts moment t = outcome_of (run_end options facts moment t)
 -- names of what it made
 pub record IsWhole (options : Options) (facts : Values) (moment : ℕ) (t : Files) (found : Outcome) (messages : List (List ℕ)) (left : Files) : Type 0 where
   pub end : found ≡ outcome options facts moment t
-  pub said : List (List ℕ)
-  pub is_said : IsSaid options facts moment t said
-  pub messages_are : messages ≡ read_messages options facts t ++ said
+  pub new_messages : List (List ℕ)
+  pub is_said : AreMessages options facts moment t new_messages
+  pub messages_are : messages ≡ read_messages options facts t ++ new_messages
   pub final_is : left ≡ final options facts moment t
   pub gone : HasLeft options facts moment t left
-  pub in_turn : IsCutBy (task_of options) options facts moment 0 t gone.steps said
+  pub in_turn : IsCutBy (task_of options) options facts moment 0 t gone.steps new_messages
   pub within : IfSome options.stop_after (λ n. length gone.steps ≤ n)
   pub staged : IsSweptIn (task_of options) options facts moment t left
 
@@ -63,16 +63,16 @@ pub record IsWhole (options : Options) (facts : Values) (moment : ℕ) (t : File
 
 -- a front part of what a whole run says after reading
 abbrev pub IsFront : Options → Values → ℕ → Files → List (List ℕ) → Type 0
-IsFront options facts moment t said = (whole : List (List ℕ)) × (IsSaid options facts moment t whole × ((k : ℕ) × (said ≡ take k whole)))
+IsFront options facts moment t new_messages = (whole : List (List ℕ)) × (AreMessages options facts moment t whole × ((k : ℕ) × (new_messages ≡ take k whole)))
 
 -- a run of which a step was refused, after fewer than the most that it takes: the first of what is said after reading, and the
 -- tree after the steps that were done. Steps and messages are those of one choice: the phases and the lines before the one at
 -- work have done and said all, those after it nothing, and the one at work had a step left
-pub record IsCut (options : Options) (facts : Values) (moment : ℕ) (t : Files) (said : List (List ℕ)) (left : Files) : Type 0 where
+pub record IsCut (options : Options) (facts : Values) (moment : ℕ) (t : Files) (new_messages : List (List ℕ)) (left : Files) : Type 0 where
   pub gone : HasLeft options facts moment t left
   pub fewer : length gone.steps < run_work options facts moment t
-  pub front : IsFront options facts moment t said
-  pub at_work : IsCutBy (task_of options) options facts moment 1 t gone.steps said
+  pub front : IsFront options facts moment t new_messages
+  pub at_work : IsCutBy (task_of options) options facts moment 1 t gone.steps new_messages
 
 -- what is said of a run that was stopped after n steps
 abbrev pub stopped_text : ℕ → List ℕ
@@ -82,10 +82,10 @@ stopped_text n = codes "stopped after " ++ decimal n ++ codes " steps"
 -- stopped
 pub record IsStopped (options : Options) (facts : Values) (moment : ℕ) (t : Files) (n : ℕ) (messages : List (List ℕ)) (left : Files) : Type 0 where
   pub limit : options.stop_after ≡ Some n
-  pub said : List (List ℕ)
-  pub cut : IsCut options facts moment t said left
+  pub new_messages : List (List ℕ)
+  pub cut : IsCut options facts moment t new_messages left
   pub count : length cut.gone.steps ≡ n
-  pub messages_are : messages ≡ read_messages options facts t ++ said ++ stopped_text n ∷ []
+  pub messages_are : messages ≡ read_messages options facts t ++ new_messages ++ stopped_text n ∷ []
 
 -- ---- by the outcome
 
@@ -97,4 +97,4 @@ HasRun options facts moment t found messages left = IsWhole options facts moment
 -- what a run has said of which a step failed, and the tree that it has left
 abbrev pub HasFailed : Options → Values → ℕ → Files → List (List ℕ) → Files → Type 0
 HasFailed options facts moment t messages left =
-    (said : List (List ℕ)) × ((messages ≡ read_messages options facts t ++ said) × IsCut options facts moment t said left)
+    (new_messages : List (List ℕ)) × ((messages ≡ read_messages options facts t ++ new_messages) × IsCut options facts moment t new_messages left)

@@ -6,9 +6,9 @@ use Rattle.pv_lines.specs.declared.line.Line.{Line}
 use Rattle.pv_text.specs.Facts.{Values}
 use Rattle.pv_steps.specs.declared.step.Step.{Step}
 use Rattle.pv_steps.specs.Trees.{Files}
-use Rattle.pv_conf.specs.Known.{configured}
+use Rattle.pv_read_config.specs.Known.{configured}
 use Rattle.pv_table.specs.Active.{active, duplicates}
-use Rattle.pv_table.specs.Created.{after_each, said_of_each, one_is_refused, taken_by_each}
+use Rattle.pv_table.specs.Created.{after_each, messages_for_each, one_is_refused, taken_by_each}
 use Rattle.pv_words.specs.declared.options.Options.{Options}
 use Rattle.pv_phases.specs.Phases.{phases_course, phases_of}
 use Rattle.provision_run.specs.declared.ending.RunEnd.{RunEnd}
@@ -32,7 +32,7 @@ lines_messages options facts t = (configured t facts options.words).messages ++ 
 
 -- what is said of the lines of the configuration in the phases
 abbrev pub phase_messages : Options → Values → ℕ → Files → List (List ℕ)
-phase_messages options facts moment t = said_of_each (phases_course (run_lines options facts t) moment).whole (phases_of options) t
+phase_messages options facts moment t = messages_for_each (phases_course (run_lines options facts t) moment).whole (phases_of options) t
 
 -- on the way: some phases are done, the next is at work
 abbrev pub phases_way : Options → Values → ℕ → Files → Files → Type 0
@@ -45,7 +45,7 @@ is_phases_step options facts moment t step = IsStepOfSome (phases_course (run_li
 -- the steps that were done and what was said in the phases, by so many refused steps: the phases before the one at work
 -- are done, those after it not begun, and so it is with the lines of creating
 abbrev pub phases_cut : Options → Values → ℕ → ℕ → Files → List Step → List (List ℕ) → Type 0
-phases_cut options facts moment refused t steps said = Cut (phases_course (run_lines options facts t) moment) moment refused (phases_of options) t steps said
+phases_cut options facts moment refused t steps new_messages = Cut (phases_course (run_lines options facts t) moment) moment refused (phases_of options) t steps new_messages
 
 -- whether a line was refused in reading
 abbrev pub is_invalid : Options → Values → Files → Bool

@@ -1,38 +1,38 @@
 -- A report on the lines of a configuration, which does no step (this project's own). It tells of all lines that were read,
 -- whatever the filters of the options.
 use Rattle.std.specs.Prelude.{◌≡◌, ◌↔◌, ◌⊎◌, ℕ, List, ◌++◌}
-use Rattle.pv_conf.specs.Known.{configured}
+use Rattle.pv_read_config.specs.Known.{configured}
 use Rattle.pv_lines.specs.declared.line.Line.{Line}
 use Rattle.pv_report.specs.Reporting.{ListsOverlaps, ListsReasons}
-use Rattle.pv_report.specs.Said.{SaysRepeatable, report_messages}
+use Rattle.pv_report.specs.GivenMessages.{SaysRepeatable, report_messages}
 use Rattle.pv_report.specs.declared.listing.Report.{Report}
 use Rattle.pv_steps.specs.Trees.{Files}
 use Rattle.pv_table.specs.Repeatable.{IsRepeatable}
 use Rattle.pv_text.specs.Facts.{Values}
-use Rattle.pv_text.specs.Said.{SaidPart}
+use Rattle.pv_text.specs.GivenMessages.{MessagesPart}
 use Rattle.pv_words.specs.declared.options.Options.{Options}
 use Rattle.provision_run.specs.declared.ending.RunEnd.{RunEnd}
 use Rattle.provision_run.specs.Ending.{end_of}
 
 -- what is said in a report of lines: exactly their overlaps and their reasons against repeating, and last the verdict, which
 -- is `repeatable` exactly where no line has a reason
-pub record IsReportOf (lines : List Line) (said : List (List ℕ)) : Type 0 where
+pub record IsReportOf (lines : List Line) (new_messages : List (List ℕ)) : Type 0 where
   pub report : Report
   pub overlaps : ListsOverlaps lines report.pairs
   pub reasons : ListsReasons lines report.unrepeatable
-  pub text : said ≡ report_messages lines report
-  pub verdict : SaysRepeatable said ↔ IsRepeatable lines
+  pub text : new_messages ≡ report_messages lines report
+  pub verdict : SaysRepeatable new_messages ↔ IsRepeatable lines
 
 -- what is said in reading the configuration and in a report of its lines, after messages that were there before
 abbrev pub HasReported : Options → Values → Files → List (List ℕ) → List (List ℕ) → Type 0
 HasReported options facts t old new =
-    (said : List (List ℕ)) × (IsReportOf (configured t facts options.words).lines said × (new ≡ old ++ (configured t facts options.words).messages ++ said))
+    (new_messages : List (List ℕ)) × (IsReportOf (configured t facts options.words).lines new_messages × (new ≡ old ++ (configured t facts options.words).messages ++ new_messages))
 
 -- a front part of what is said in reading, or of all of it
 abbrev pub HasReportedPart : Options → Values → Files → List (List ℕ) → List (List ℕ) → Type 0
 HasReportedPart options facts t old new =
-    SaidPart (configured t facts options.words).messages old new
-    ⊎ ((said : List (List ℕ)) × (IsReportOf (configured t facts options.words).lines said × SaidPart ((configured t facts options.words).messages ++ said) old new))
+    MessagesPart (configured t facts options.words).messages old new
+    ⊎ ((new_messages : List (List ℕ)) × (IsReportOf (configured t facts options.words).lines new_messages × MessagesPart ((configured t facts options.words).messages ++ new_messages) old new))
 
 -- how it ends
 abbrev pub report_end : Options → Values → Files → RunEnd

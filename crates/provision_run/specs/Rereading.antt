@@ -3,9 +3,9 @@ use Rattle.std.specs.Prelude.{◌≡◌, ℕ, false, List, [], ◌∷◌, take, 
 use Rattle.std.specs.List.{AllByRecursion}
 use Rattle.pv_accounts_run.specs.Accounted.{accounted}
 use Rattle.pv_accounts_run.specs.Mended.{EndAlike}
-use Rattle.pv_conf.specs.Inputs.{is_request_input}
-use Rattle.pv_conf.specs.Known.{configured}
-use Rattle.pv_conf.specs.Requested.{requested}
+use Rattle.pv_read_config.specs.Inputs.{is_request_input}
+use Rattle.pv_read_config.specs.Known.{configured}
+use Rattle.pv_read_config.specs.Requested.{requested}
 use Rattle.pv_layers.specs.Places.{is_input}
 use Rattle.pv_layers.specs.Inputs.{IsPlain}
 use Rattle.pv_laws.specs.Stopping.{CopiesNothing}

@@ -3,7 +3,7 @@
 use Rattle.std.specs.Prelude.{◌≡◌, ℕ, List, [], ◌∷◌, take, Some, None}
 use Rattle.std.specs.List.{AllByRecursion}
 use Rattle.pv_accounts_run.specs.Accounted.{day_of, text_at}
-use Rattle.pv_accounts_run.specs.Carrying.{gshadow_path}
+use Rattle.pv_accounts_run.specs.FileWriting.{gshadow_path}
 use Rattle.pv_image.specs.Images.{IsImage}
 use Rattle.pv_layers.specs.Places.{group_path, passwd_path}
 use Rattle.pv_phases.specs.Phases.{phases_of}
@@ -13,8 +13,8 @@ use Rattle.pv_steps.specs.Same.{Same}
 use Rattle.pv_steps.specs.Trees.{Files, places}
 use Rattle.pv_text.specs.Facts.{Values}
 use Rattle.pv_words.specs.declared.options.Options.{Options}
-use Rattle.pv_words.specs.Asked.{asked_of}
-use Rattle.pv_words.specs.declared.asked.Asked.TheVariants.{Run}
+use Rattle.pv_words.specs.Invocation.{parse_args}
+use Rattle.pv_words.specs.declared.invocation.Invocation.TheVariants.{Run}
 use Rattle.provision_run.specs.declared.ending.RunEnd.{RunEnd}
 use Rattle.provision_run.specs.declared.outcome.Outcome.TheVariants.{Stopped}
 use Rattle.provision_run.specs.Answers.{HasOutput}
@@ -66,7 +66,7 @@ unlimited options = record options { stop_after = None; now = None }
 -- words that mean these options, but for the limit and the moment, and the moment of a run by them
 pub record AreLike (options : Options) (words : List (List ℕ)) (clock moment : ℕ) : Type 0 where
   pub own : Options
-  pub meaning : asked_of words ≡ Some (Run own)
+  pub meaning : parse_args words ≡ Some (Run own)
   pub alike : unlimited own ≡ unlimited options
   pub when : moment ≡ moment_of own clock
 

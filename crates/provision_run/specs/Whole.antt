@@ -2,14 +2,14 @@
 -- steps that it takes (systemd-tmpfiles(8), systemd-sysusers(8)).
 use Rattle.std.specs.Prelude.{◌≡◌, ◌⊎◌, ℕ, List, [], ◌++◌, ⊤}
 use Rattle.pv_accounts_run.specs.Accounted.{accounted}
-use Rattle.pv_accounts_run.specs.Carrying.{AccountWay, IsAccountStep}
+use Rattle.pv_accounts_run.specs.FileWriting.{AccountWay, IsAccountStep}
 use Rattle.pv_accounts_run.specs.Mended as accounts
-use Rattle.pv_conf.specs.Known.{configured}
+use Rattle.pv_read_config.specs.Known.{configured}
 use Rattle.pv_phases.specs.Phases.{IsMendedBy, phases_of}
 use Rattle.pv_steps.specs.declared.step.Step.{Step}
 use Rattle.pv_steps.specs.Trees.{Files}
 use Rattle.pv_text.specs.Facts.{Values}
-use Rattle.pv_text.specs.Said.{SaidPart}
+use Rattle.pv_text.specs.GivenMessages.{MessagesPart}
 use Rattle.pv_words.specs.declared.options.Options.{Options}
 use Rattle.provision_run.specs.declared.ending.RunEnd.{RunEnd}
 use Rattle.provision_run.specs.declared.task.Task.{Task}
@@ -38,11 +38,11 @@ read_by Explain options facts t = lines_messages options facts t
 read_by Accounts options facts t = requests_messages options facts t
 
 -- what is said then
-unfoldable pub IsSaidBy : Task → Options → Values → ℕ → Files → List (List ℕ) → Type 0
-IsSaidBy Phases options facts moment t said = said ≡ phase_messages options facts moment t
-IsSaidBy Report options facts moment t said = IsReportOf (configured t facts options.words).lines said
-IsSaidBy Explain options facts moment t said = IsExplanationOf options facts t said
-IsSaidBy Accounts options facts moment t said = said ≡ account_messages options facts moment t
+unfoldable pub AreMessagesBy : Task → Options → Values → ℕ → Files → List (List ℕ) → Type 0
+AreMessagesBy Phases options facts moment t new_messages = new_messages ≡ phase_messages options facts moment t
+AreMessagesBy Report options facts moment t new_messages = IsReportOf (configured t facts options.words).lines new_messages
+AreMessagesBy Explain options facts moment t new_messages = IsExplanationOf options facts t new_messages
+AreMessagesBy Accounts options facts moment t new_messages = new_messages ≡ account_messages options facts moment t
 
 -- how it ends
 unfoldable pub end_by : Task → Options → Values → ℕ → Files → RunEnd
@@ -76,15 +76,15 @@ work_by Accounts options facts moment t = accounts_work options facts moment t
 -- ---- what is said
 
 -- what a whole run has said after messages that were there before
-abbrev pub HasSaidBy : Task → Options → Values → ℕ → Files → List (List ℕ) → List (List ℕ) → Type 0
-HasSaidBy task options facts moment t old new =
-    (said : List (List ℕ)) × (IsSaidBy task options facts moment t said × (new ≡ old ++ read_by task options facts t ++ said))
+abbrev pub HasMessagesBy : Task → Options → Values → ℕ → Files → List (List ℕ) → List (List ℕ) → Type 0
+HasMessagesBy task options facts moment t old new =
+    (new_messages : List (List ℕ)) × (AreMessagesBy task options facts moment t new_messages × (new ≡ old ++ read_by task options facts t ++ new_messages))
 
 -- what any run has said: a front part of what is said in reading, or of all that a whole run says
-abbrev pub HasSaidPartBy : Task → Options → Values → ℕ → Files → List (List ℕ) → List (List ℕ) → Type 0
-HasSaidPartBy task options facts moment t old new =
-    SaidPart (read_by task options facts t) old new
-    ⊎ ((said : List (List ℕ)) × (IsSaidBy task options facts moment t said × SaidPart (read_by task options facts t ++ said) old new))
+abbrev pub HasMessagesPartBy : Task → Options → Values → ℕ → Files → List (List ℕ) → List (List ℕ) → Type 0
+HasMessagesPartBy task options facts moment t old new =
+    MessagesPart (read_by task options facts t) old new
+    ⊎ ((new_messages : List (List ℕ)) × (AreMessagesBy task options facts moment t new_messages × MessagesPart (read_by task options facts t ++ new_messages) old new))
 
 -- ---- steps and messages together
 
@@ -92,15 +92,15 @@ HasSaidPartBy task options facts moment t old new =
 -- and those after it not begun, and so it is with the lines of creating; of accounts all is said, since that comes before
 -- the first step; a report and an explanation do no step
 unfoldable pub IsCutBy : Task → Options → Values → ℕ → ℕ → Files → List Step → List (List ℕ) → Type 0
-IsCutBy Phases options facts moment refused t steps said = phases_cut options facts moment refused t steps said
-IsCutBy Report options facts moment refused t steps said = (refused ≡ 0) × (steps ≡ [])
-IsCutBy Explain options facts moment refused t steps said = (refused ≡ 0) × (steps ≡ [])
-IsCutBy Accounts options facts moment refused t steps said = said ≡ account_messages options facts moment t
+IsCutBy Phases options facts moment refused t steps new_messages = phases_cut options facts moment refused t steps new_messages
+IsCutBy Report options facts moment refused t steps new_messages = (refused ≡ 0) × (steps ≡ [])
+IsCutBy Explain options facts moment refused t steps new_messages = (refused ≡ 0) × (steps ≡ [])
+IsCutBy Accounts options facts moment refused t steps new_messages = new_messages ≡ account_messages options facts moment t
 
 -- what a run has said that has read its configuration and done these steps
 abbrev pub HasGoneBy : Task → Options → Values → ℕ → ℕ → Files → List Step → List (List ℕ) → List (List ℕ) → Type 0
 HasGoneBy task options facts moment refused t steps old new =
-    (said : List (List ℕ)) × ((new ≡ old ++ read_by task options facts t ++ said) × IsCutBy task options facts moment refused t steps said)
+    (new_messages : List (List ℕ)) × ((new ≡ old ++ read_by task options facts t ++ new_messages) × IsCutBy task options facts moment refused t steps new_messages)
 
 -- ---- the stop laws
 
@@ -127,8 +127,8 @@ final options facts moment t = final_by (task_of options) options facts moment t
 abbrev pub read_messages : Options → Values → Files → List (List ℕ)
 read_messages options facts t = read_by (task_of options) options facts t
 
-abbrev pub IsSaid : Options → Values → ℕ → Files → List (List ℕ) → Type 0
-IsSaid options facts moment t said = IsSaidBy (task_of options) options facts moment t said
+abbrev pub AreMessages : Options → Values → ℕ → Files → List (List ℕ) → Type 0
+AreMessages options facts moment t new_messages = AreMessagesBy (task_of options) options facts moment t new_messages
 
 abbrev pub run_end : Options → Values → ℕ → Files → RunEnd
 run_end options facts moment t = end_by (task_of options) options facts moment t

@@ -1,11 +1,11 @@
 //! A run that makes users and groups.
 ghost use Rattle.std.specs.Prelude.{◌≡◌, ◌∷◌, [], ◌++◌, true, drop, length, IfOk, IsErrOf, OnOk, OnErr};
 ghost use Rattle.pv_text.specs.Lines.{is_line};
-ghost use Rattle.pv_text.specs.Said.{SaidPart};
+ghost use Rattle.pv_text.specs.GivenMessages.{MessagesPart};
 ghost use Rattle.pv_steps.specs.declared.tree.TreeFault.TheVariants.{Failed};
 ghost use Rattle.pv_steps.specs.Acting.{Acted};
 ghost use Rattle.pv_accounts_run.specs.Accounted.{accounted};
-ghost use Rattle.pv_accounts_run.specs.Carrying.{AccountWay, IsAccountStep};
+ghost use Rattle.pv_accounts_run.specs.FileWriting.{AccountWay, IsAccountStep};
 ghost use Rattle.pv_accounts_run.specs.Mended.{IsMended};
 ghost use Rattle.pv_accounts_run.specs.Swept.{LeavesNoStagingName};
 ghost use Rattle.provision_run.specs.Framed.{AreAccountsFramed};
@@ -14,8 +14,8 @@ ghost use Rattle.provision_run.specs.Accounts.{account_messages, accounts_end, a
 
 use crate::ending::{RunEnd, end_of};
 use pv_accounts_run::{AccountsFault, Carried, accounts_run};
-use pv_conf::read_requests;
 use pv_path::{TreePath, print_bytes};
+use pv_read_config::read_requests;
 use pv_steps::{Tree, TreeFault};
 use pv_text::{Facts, Messages};
 use pv_words::Options;
@@ -31,12 +31,12 @@ pub(crate) fn make_accounts<T: Tree>(
     messages: &mut Messages,
 ) -> Result<RunEnd, TreeFault>
     ensures ok { OnOk result (T.state tree.new ≡ accounted (run_requests options.entry.now facts.now (T.state tree.old)) moment (T.state tree.old)) }
-    ensures said { OnOk result (messages.new
+    ensures new_messages { OnOk result (messages.new
         ≡ messages.old ++ requests_messages options.entry.now facts.now (T.state tree.old) ++ account_messages options.entry.now facts.now moment (T.state tree.old)) }
     ensures end { IfOk result (λ end. end ≡ accounts_end options.entry.now facts.now moment (T.state tree.old)) }
     ensures staged { OnOk result (LeavesNoStagingName (run_requests options.entry.now facts.now (T.state tree.old)) moment
         (T.state tree.old) (T.state tree.new)) }
-    ensures part { SaidPart
+    ensures part { MessagesPart
         (requests_messages options.entry.now facts.now (T.state tree.old) ++ account_messages options.entry.now facts.now moment (T.state tree.old))
         messages.old messages.new }
     ensures stopped { IsErrOf result Failed → messages.new

@@ -3,7 +3,7 @@ ghost use Rattle.std.specs.Prelude.{◌≡◌, ◌≢◌, ◌≤◌, ◌↔◌, 
 ghost use Rattle.pv_image.specs.Images.{HasImageFault, IsImage};
 ghost use Rattle.pv_image.specs.Spelling.{text_of};
 ghost use Rattle.pv_io.specs.Faults.{HasRisen};
-ghost use Rattle.pv_words.specs.Asked.{asked_of};
+ghost use Rattle.pv_words.specs.Invocation.{parse_args};
 ghost use Rattle.provision_run.specs.Words.{moment_of};
 ghost use Rattle.provision_run.specs.Answers.{HasOutput, IsAnswer, IsAnswered, IsGeneratedBy, IsOwn, reads_input, IsRefused, bad_image_text, most_bytes};
 ghost use Rattle.provision_run.specs.Generated.{IsGenerated};
@@ -19,7 +19,7 @@ use pv_io::{ReadAllFault, Source, read_all};
 use pv_steps::TreeFault;
 use pv_text::{Facts, Messages};
 use pv_tree::MemTree;
-use pv_words::{Asked, Options, WordsFault, asked_of};
+use pv_words::{Invocation, Options, WordsFault, parse_args};
 use std::alloc::{AllocError, AllocFailed, Global};
 
 /// How a run ends, with its whole output.
@@ -182,19 +182,19 @@ pub fn respond<S: Source>(
     ensures output { IfOk result (λ answer. IfSome (S.left source.old)
         (λ input. HasOutput (map string_bytes words.now) clock input answer.outcome answer.output.items)) }
     ensures own { IfOk result (λ answer. IsOwn answer.outcome) }
-    ensures usage { IfOk result (λ answer. (answer.outcome ≡ Outcome.Usage) ↔ (asked_of (map string_bytes words.now) ≡ None)) }
-    ensures known { IsErrOf result NoAnswer.ReadFault → asked_of (map string_bytes words.now) ≢ None }
+    ensures usage { IfOk result (λ answer. (answer.outcome ≡ Outcome.Usage) ↔ (parse_args (map string_bytes words.now) ≡ None)) }
+    ensures known { IsErrOf result NoAnswer.ReadFault → parse_args (map string_bytes words.now) ≢ None }
     ensures cause { IsErrOf result NoAnswer.ReadFault → HasRisen (S.faults source.old) (S.faults source.new) }
-    ensures unread { asked_of (map string_bytes words.now) ≡ None → source.new ≡ source.old }
+    ensures unread { parse_args (map string_bytes words.now) ≡ None → source.new ≡ source.old }
 
     // Only a run of a tool reads the source; one over a generated tree says the same whatever the source.
-    ensures unasked { reads_input (asked_of (map string_bytes words.now)) ≡ false → source.new ≡ source.old }
-    ensures asked { IsErrOf result NoAnswer.ReadFault → reads_input (asked_of (map string_bytes words.now)) ≡ true }
-    ensures generated { IfOk result (λ answer. IsGeneratedBy (asked_of (map string_bytes words.now)) answer.outcome answer.output.items) }
+    ensures input_unread { reads_input (parse_args (map string_bytes words.now)) ≡ false → source.new ≡ source.old }
+    ensures asked { IsErrOf result NoAnswer.ReadFault → reads_input (parse_args (map string_bytes words.now)) ≡ true }
+    ensures generated { IfOk result (λ answer. IsGeneratedBy (parse_args (map string_bytes words.now)) answer.outcome answer.output.items) }
 {
-    match asked_of(alloc, words) {
-        Ok(Asked::Run(options)) => answer_source(alloc, &options, clock, source),
-        Ok(Asked::Generate { seed, count }) => Ok(answer_generated(alloc, seed, count)?),
+    match parse_args(alloc, words) {
+        Ok(Invocation::Run(options)) => answer_source(alloc, &options, clock, source),
+        Ok(Invocation::Generate { seed, count }) => Ok(answer_generated(alloc, seed, count)?),
         Err(WordsFault::Usage) => Ok(one_message(alloc, Outcome::Usage, b"usage")?),
         Err(WordsFault::Memory) => Err(NoAnswer::Memory),
     }

@@ -26,16 +26,16 @@ pub(crate) fn explain_run<T: Tree>(
     messages: &mut Messages,
 ) -> Result<RunEnd, AllocError>
     requires asked { is_some options.now.explain ≡ true }
-    ensures said { OnOk result (HasExplained options.entry.now facts.now (T.state tree.now) messages.old messages.new) }
+    ensures new_messages { OnOk result (HasExplained options.entry.now facts.now (T.state tree.now) messages.old messages.new) }
     ensures end { IfOk result (λ end. end ≡ report_end options.entry.now facts.now (T.state tree.now)) }
     ensures part { HasExplainedPart options.entry.now facts.now (T.state tree.now) messages.old messages.new }
 {
     let read = read_run(alloc, options, facts, tree, messages)?;
     let path = options.explain.as_ref().unwrap();
-    let told = explain(alloc, tree, &read.table, path)?;
-    let mut said = Messages::new(alloc);
-    say_explained(alloc, path, &told, &mut said)?;
-    say_all(&said, messages)?;
+    let stated = explain(alloc, tree, &read.table, path)?;
+    let mut new_messages = Messages::new(alloc);
+    say_explained(alloc, path, &stated, &mut new_messages)?;
+    say_all(&new_messages, messages)?;
     Ok(end_of(Carried::Whole, read.missing, read.invalid))
 }
 
@@ -79,7 +79,7 @@ fn absent_text(alloc: Global, path: &TreePath) -> Result<Vec<u8>, AllocError>
     Ok(text)
 }
 
-/// `explain PATH is`, a space and an object as an image has it, without its path and its stamps.
+/// `explain PATH is`, a space and an object as an image has it, without its path and its timestamps.
 fn object_text(
     alloc: Global,
     path: &TreePath,
@@ -132,11 +132,11 @@ fn say_acts(
 fn say_explained(
     alloc: Global,
     path: &TreePath,
-    told: &Explained,
+    stated: &Explained,
     messages: &mut Messages,
 ) -> Result<(), AllocError>
-    ensures { OnOk result (messages.new ≡ messages.old ++ explained_messages path.now told.now) }
+    ensures { OnOk result (messages.new ≡ messages.old ++ explained_messages path.now stated.now) }
 {
-    say_acts(alloc, path, told.acts.as_slice(), messages)?;
-    messages.push(&last_text(alloc, path, &told.node)?)
+    say_acts(alloc, path, stated.acts.as_slice(), messages)?;
+    messages.push(&last_text(alloc, path, &stated.node)?)
 }

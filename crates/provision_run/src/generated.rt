@@ -2,19 +2,19 @@
 ghost use Rattle.std.specs.Prelude.{◌≡◌, ◌↔◌, [], ◌∷◌, length, IfOk, OnOk};
 ghost use Rattle.std.specs.FinMap as fin;
 ghost use Rattle.pv_report.specs.Reporting.{ListsOverlaps, ListsReasons};
-ghost use Rattle.pv_report.specs.Said.{verdict};
+ghost use Rattle.pv_report.specs.GivenMessages.{verdict};
 ghost use Rattle.pv_table.specs.Repeatable.{IsRepeatable};
 ghost use Rattle.provision_run.specs.Generated.{create_alone, created, created_text, generated_moment, generated_text, IsGenerated, IsToldOf, lines_in, no_facts, overlaps_text};
 ghost use Rattle.provision_run.specs.Messages.{messages_text};
 ghost use Rattle.provision_run.specs.Tasks.{task_of};
-ghost use Rattle.provision_run.specs.Whole.{HasSaidBy};
+ghost use Rattle.provision_run.specs.Whole.{HasMessagesBy};
 
 use crate::message::add_message;
 use crate::run::run_on_tree;
-use pv_conf::read_configuration;
 use pv_generate::{generated_tree, node_count};
 use pv_lines::LineList;
 use pv_path::WordList;
+use pv_read_config::read_configuration;
 use pv_report::{Report, report, verdict};
 use pv_steps::TreeFault;
 use pv_text::{Facts, Messages, Tool};
@@ -53,15 +53,15 @@ fn three_messages(
     lines: u32,
     before: u64,
     after: u64,
-    said: usize,
+    new_messages: usize,
     report: &Report,
 ) -> Result<Vec<u8>, AllocError>
     ensures { let overlaps = overlaps_text (length report.now.pairs) (verdict report.now.unrepeatable) in
-        IfOk result (λ text. text.items ≡ messages_text (generated_text lines before ∷ created_text after said ∷ overlaps ∷ [])) }
+        IfOk result (λ text. text.items ≡ messages_text (generated_text lines before ∷ created_text after new_messages ∷ overlaps ∷ [])) }
 {
     let mut output = Vec::new(alloc);
     add_message(&mut output, &generated_text(alloc, lines, before)?)?;
-    add_message(&mut output, &created_text(alloc, after, said)?)?;
+    add_message(&mut output, &created_text(alloc, after, new_messages)?)?;
     add_message(&mut output, &overlaps_text(alloc, report)?)?;
     Ok(output)
 }
@@ -104,7 +104,7 @@ fn create_alone(alloc: Global) -> Options
 /// Creates in a tree what its configuration asks for, and gives the messages.
 fn create(alloc: Global, tree: &mut MemTree) -> Result<Messages, AllocError>
     ensures tree { OnOk result (tree.new.files ≡ created tree.old.files) }
-    ensures said { IfOk result (HasSaidBy (task_of create_alone) create_alone no_facts generated_moment tree.old.files []) }
+    ensures new_messages { IfOk result (HasMessagesBy (task_of create_alone) create_alone no_facts generated_moment tree.old.files []) }
 {
     let options = create_alone(alloc);
     let facts = Facts::new(alloc);

@@ -19,9 +19,10 @@ ghost use Rattle.provision_run.specs.Stops.{AreImages, EndAlikeAfter, HasEndedOv
 ghost use Rattle.provision_run.specs.Tasks.{task_of};
 
 /// After one run or more that were stopped, each from the tree that the last one left, a whole run leaves the tree of one
-/// whole run from the first tree, stamps and staging names aside, at whatever moments; each reads its lines of its own tree.
-/// So it is with creating, removing and purging, each alone, and with removing and creating. Of accounts `/etc/group`, `/etc/gshadow` and `/etc/passwd` have
-/// the same texts, and the trees are the same where all runs were on one day.
+/// whole run from the first tree, timestamps and staging names aside, at whatever moments; each reads its lines of its
+/// own tree. So it is with creating, removing and purging, each alone, and with removing and creating. Of accounts
+/// `/etc/group`, `/etc/gshadow` and `/etc/passwd` have the same texts, and the trees are the same where all runs were
+/// on one day.
 pub fn trees_of_stopped_runs_are_mended()
     ensures phases { (options : OptionsValue) (facts : Values) (moments : List ℕ) (moment first later : ℕ) (t u : Files)
         → task_of options ≡ Phases → ArePlain options → MayRepeat (phases_of options) (run_lines options facts t)
@@ -35,7 +36,8 @@ pub fn trees_of_stopped_runs_are_mended()
 
 /// So it is with what `provision` writes: after one run or more that were stopped, each over the output of the last, by words
 /// that mean the same but for the limit and the moment, the output of a whole run over the last output and that of a whole
-/// run over the first input are images of the same tree, stamps and staging names aside, or of trees with such texts.
+/// run over the first input are images of the same tree, timestamps and staging names aside, or of trees with such
+/// texts.
 pub fn outputs_of_stopped_runs_are_mended()
     ensures phases { (options : OptionsValue) (moments : List ℕ) (moment first later : ℕ) (input last out again : List ℕ)
         (facts : Values) (t : Files) → IsImage input facts t
@@ -53,7 +55,7 @@ pub fn outputs_of_stopped_runs_are_mended()
 
 /// So it is with a folder of a host that tells what it holds: after one run or more on it that were stopped, each on what the last
 /// one left there, by words that mean the same but for the limit and the moment, a whole run leaves there the facts that a whole
-/// run leaves that was not stopped, and the same tree, stamps and staging names aside, or a tree with such texts.
+/// run leaves that was not stopped, and the same tree, timestamps and staging names aside, or a tree with such texts.
 pub fn folders_of_stopped_runs_are_mended()
     ensures phases { (options : OptionsValue) (folder : Path) (moments : List ℕ) (moment first later : ℕ)
         (old last one again : Content) (facts : Values) (t : Files) → IsOpened folder old facts t

@@ -3,7 +3,7 @@
 
 mod accounting;
 mod answer;
-mod carrying;
+mod configured_phases;
 mod ending;
 mod explaining;
 mod generated;

@@ -103,7 +103,7 @@ fn run_kept<H: Host>(
     messages: &mut Messages,
 ) -> Result<Outcome, AllocError>
     requires fresh { tree.old.tree.steps ≡ [] }
-    requires unsaid { messages.old ≡ [] }
+    requires messages_kept { messages.old ≡ [] }
     requires opened { WasOpened (spelled tree.old.folder.items) (H.content tree.old.host.now) facts.now tree.old.tree.files }
     ensures answer { IfOk result (λ found. IsAnswerOn (spelled tree.old.folder.items) options.entry.now clock
         (H.content tree.old.host.now) (H.content tree.new.host.now) found messages.new) }

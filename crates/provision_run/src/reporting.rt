@@ -3,9 +3,9 @@ ghost use Rattle.std.specs.Prelude.{◌≡◌, IfOk, OnOk};
 ghost use Rattle.provision_run.specs.Reported.{HasReported, HasReportedPart, report_end};
 
 use crate::ending::{RunEnd, end_of};
-use pv_conf::read_configuration;
 use pv_doing::Carried;
 use pv_lines::LineList;
+use pv_read_config::read_configuration;
 use pv_report::{report, say_report};
 use pv_steps::Tree;
 use pv_text::{Facts, Messages, say_all};
@@ -21,15 +21,15 @@ pub(crate) fn report_run<T: Tree>(
     tree: &T,
     messages: &mut Messages,
 ) -> Result<RunEnd, AllocError>
-    ensures said { OnOk result (HasReported options.entry.now facts.now (T.state tree.now) messages.old messages.new) }
+    ensures new_messages { OnOk result (HasReported options.entry.now facts.now (T.state tree.now) messages.old messages.new) }
     ensures end { IfOk result (λ end. end ≡ report_end options.entry.now facts.now (T.state tree.now)) }
     ensures part { HasReportedPart options.entry.now facts.now (T.state tree.now) messages.old messages.new }
 {
     let read = read_configuration(alloc, tree, &options.words, facts, messages)?;
     let lines = LineList::of(read.lines);
     let found = report(alloc, &lines)?;
-    let mut said = Messages::new(alloc);
-    say_report(alloc, &lines, &found, &mut said)?;
-    say_all(&said, messages)?;
+    let mut new_messages = Messages::new(alloc);
+    say_report(alloc, &lines, &found, &mut new_messages)?;
+    say_all(&new_messages, messages)?;
     Ok(end_of(Carried::Whole, read.missing, read.invalid))
 }

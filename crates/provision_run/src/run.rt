@@ -6,10 +6,10 @@ ghost use Rattle.provision_run.specs.Tasks.{task_of};
 ghost use Rattle.provision_run.specs.Framed.{IsFramedIn};
 ghost use Rattle.provision_run.specs.OnTheWay.{IsOnTheWayIn};
 ghost use Rattle.provision_run.specs.Swept.{IsSweptIn};
-ghost use Rattle.provision_run.specs.Whole.{end_by, final, final_by, HasSaidBy, HasSaidPartBy, HasGoneBy, IsMendedAnewIn, IsMendedIn, is_run_step, is_step_by, run_end, run_way, run_work, way_by, work_by};
+ghost use Rattle.provision_run.specs.Whole.{end_by, final, final_by, HasMessagesBy, HasMessagesPartBy, HasGoneBy, IsMendedAnewIn, IsMendedIn, is_run_step, is_step_by, run_end, run_way, run_work, way_by, work_by};
 
 use crate::accounting::make_accounts;
-use crate::carrying::carry_out;
+use crate::configured_phases::run_configured_phases;
 use crate::ending::RunEnd;
 use crate::explaining::explain_run;
 use crate::reporting::report_run;
@@ -32,13 +32,13 @@ pub fn run_on_tree<T: Tree>(
 ) -> Result<RunEnd, TreeFault>
     // What a whole run leaves, stamps and staging names included, what it says and how it ends.
     ensures ok { OnOk result (T.state tree.new ≡ final options.entry.now facts.now moment (T.state tree.old)) }
-    ensures said { OnOk result (HasSaidBy (task_of options.entry.now) options.entry.now facts.now moment (T.state tree.old) messages.old messages.new) }
+    ensures new_messages { OnOk result (HasMessagesBy (task_of options.entry.now) options.entry.now facts.now moment (T.state tree.old) messages.old messages.new) }
     ensures end { IfOk result (λ end. end ≡ run_end options.entry.now facts.now moment (T.state tree.old)) }
     // Nothing is left at the staging names of what it made, whatever earlier runs have left there.
     ensures staged { OnOk result (IsSweptIn (task_of options.entry.now) options.entry.now facts.now moment (T.state tree.old) (T.state tree.new)) }
 
     // What any run has said and done, whatever it answers.
-    ensures part { HasSaidPartBy (task_of options.entry.now) options.entry.now facts.now moment (T.state tree.old) messages.old messages.new }
+    ensures part { HasMessagesPartBy (task_of options.entry.now) options.entry.now facts.now moment (T.state tree.old) messages.old messages.new }
     // Where a step was refused, the configuration was read and all was said of it; the phases and the lines before the one
     // at work have done and said all, those after it nothing. So it is where it answers Ok, with no step refused.
     ensures read { IsErrOf result Failed → HasGoneBy (task_of options.entry.now) options.entry.now facts.now moment 1 (T.state tree.old)
@@ -88,10 +88,10 @@ fn do_task<T: Tree>(
 ) -> Result<RunEnd, TreeFault>
     requires asked { task ≡ task_of options.now }
     ensures ok { OnOk result (T.state tree.new ≡ final_by task options.entry.now facts.now moment (T.state tree.old)) }
-    ensures said { OnOk result (HasSaidBy task options.entry.now facts.now moment (T.state tree.old) messages.old messages.new) }
+    ensures new_messages { OnOk result (HasMessagesBy task options.entry.now facts.now moment (T.state tree.old) messages.old messages.new) }
     ensures end { IfOk result (λ end. end ≡ end_by task options.entry.now facts.now moment (T.state tree.old)) }
     ensures staged { OnOk result (IsSweptIn task options.entry.now facts.now moment (T.state tree.old) (T.state tree.new)) }
-    ensures part { HasSaidPartBy task options.entry.now facts.now moment (T.state tree.old) messages.old messages.new }
+    ensures part { HasMessagesPartBy task options.entry.now facts.now moment (T.state tree.old) messages.old messages.new }
     ensures stopped { IsErrOf result Failed → HasGoneBy task options.entry.now facts.now moment 1 (T.state tree.old)
         (drop (length (T.steps tree.old)) (T.steps tree.new)) messages.old messages.new }
     ensures in_turn { OnOk result (HasGoneBy task options.entry.now facts.now moment 0 (T.state tree.old)
@@ -111,7 +111,7 @@ fn do_task<T: Tree>(
         (drop (length (T.steps tree.old)) (T.steps tree.new)) }
 {
     match task {
-        Task::Phases => carry_out(alloc, options, facts, moment, tree, messages),
+        Task::Phases => run_configured_phases(alloc, options, facts, moment, tree, messages),
         Task::Report => Ok(report_run(alloc, options, facts, tree, messages)?),
         Task::Explain => Ok(explain_run(alloc, options, facts, tree, messages)?),
         Task::Accounts => make_accounts(alloc, options, facts, moment, tree, messages),

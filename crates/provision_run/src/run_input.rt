@@ -1,14 +1,14 @@
 //! What a run reads before it carries out lines.
 ghost use Rattle.std.specs.Prelude.{◌≡◌, ◌++◌, IfOk, OnOk};
 ghost use Rattle.std.specs.List.{AllByRecursion};
-ghost use Rattle.pv_text.specs.Said.{SaidPart};
+ghost use Rattle.pv_text.specs.GivenMessages.{MessagesPart};
 ghost use Rattle.pv_lines.specs.Lines.{IsLine};
-ghost use Rattle.pv_conf.specs.Known.{configured};
+ghost use Rattle.pv_read_config.specs.Known.{configured};
 ghost use Rattle.pv_table.specs.Active.{active, duplicates};
 ghost use Rattle.provision_run.specs.Phased.{is_invalid, lines_messages, run_lines};
 
-use pv_conf::read_configuration;
 use pv_lines::LineList;
+use pv_read_config::read_configuration;
 use pv_steps::Tree;
 use pv_table::{Table, build};
 use pv_text::{Facts, Messages};
@@ -39,8 +39,8 @@ pub(crate) fn read_run<T: Tree>(
     ensures invalid { IfOk result (λ run. run.invalid ≡ is_invalid options.entry.now facts.now (T.state tree.now)) }
     ensures missing { IfOk result (λ run. run.missing ≡ (configured (T.state tree.now) facts.now options.entry.now.words).missing) }
     ensures whole { IfOk result (λ run. AllByRecursion IsLine run.table) }
-    ensures said { OnOk result (messages.new ≡ messages.old ++ lines_messages options.entry.now facts.now (T.state tree.now)) }
-    ensures part { SaidPart (lines_messages options.entry.now facts.now (T.state tree.now)) messages.old messages.new }
+    ensures new_messages { OnOk result (messages.new ≡ messages.old ++ lines_messages options.entry.now facts.now (T.state tree.now)) }
+    ensures part { MessagesPart (lines_messages options.entry.now facts.now (T.state tree.now)) messages.old messages.new }
 {
     let read = read_configuration(alloc, tree, &options.words, facts, messages)?;
     let table = build_active(alloc, LineList::of(read.lines), options, messages)?;
@@ -60,9 +60,9 @@ fn build_active(
 ) -> Result<Table, AllocError>
     ensures table { IfOk result (λ table. table
         ≡ active options.entry.now.boot options.entry.now.prefix options.entry.now.exclude_prefix lines) }
-    ensures said { OnOk result (messages.new
+    ensures new_messages { OnOk result (messages.new
         ≡ messages.old ++ duplicates options.entry.now.boot options.entry.now.prefix options.entry.now.exclude_prefix lines) }
-    ensures part { SaidPart (duplicates options.entry.now.boot options.entry.now.prefix options.entry.now.exclude_prefix lines)
+    ensures part { MessagesPart (duplicates options.entry.now.boot options.entry.now.prefix options.entry.now.exclude_prefix lines)
         messages.old messages.new }
 {
     build(

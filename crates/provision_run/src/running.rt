@@ -25,7 +25,7 @@ pub(crate) fn run_limited<T: Tree>(
     messages: &mut Messages,
 ) -> Result<Outcome, TreeFault>
     requires fresh { T.steps tree.old ≡ [] }
-    requires unsaid { messages.old ≡ [] }
+    requires messages_kept { messages.old ≡ [] }
     ensures run { IfOk result (λ found. HasRun options.entry.now facts.now moment (T.state tree.old) found messages.new (T.state tree.new)) }
 
     // A step failed, and not for the limit.

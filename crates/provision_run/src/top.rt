@@ -1,8 +1,8 @@
 //! The top call: words, clock, source and sink.
 ghost use Rattle.std.specs.Prelude.{◌≡◌, ◌⊎◌, ℕ, None, Some, true, false, is_some, map, string_bytes, IfSome};
 ghost use Rattle.pv_io.specs.Faults.{HasRisen};
-ghost use Rattle.pv_words.specs.Asked.{asked_of};
-ghost use Rattle.pv_words.specs.declared.asked.Asked.TheVariants.{Generate};
+ghost use Rattle.pv_words.specs.Invocation.{parse_args};
+ghost use Rattle.pv_words.specs.declared.invocation.Invocation.TheVariants.{Generate};
 ghost use Rattle.pv_host.specs.Content.{spelled};
 ghost use Rattle.pv_words.specs.Rooted.{rooted_of};
 ghost use Rattle.provision_run.specs.Answers.{HasWritten, HasWrittenGenerated};
@@ -31,15 +31,15 @@ pub fn provision<S: Source, K: Sink>(
         (λ input. HasWritten (map string_bytes words.now) clock_micros input result (K.written sink.old) (K.written sink.new)) }
 
     // Usage comes exactly for words without a meaning, and then the source is not read.
-    ensures usage { result ≡ Outcome.Usage → asked_of (map string_bytes words.now) ≡ None }
-    ensures known { asked_of (map string_bytes words.now) ≡ None →
+    ensures usage { result ≡ Outcome.Usage → parse_args (map string_bytes words.now) ≡ None }
+    ensures known { parse_args (map string_bytes words.now) ≡ None →
         (result ≡ Outcome.Usage) ⊎ ((result ≡ Outcome.WriteFault) ⊎ (result ≡ Outcome.Memory)) }
-    ensures unread { asked_of (map string_bytes words.now) ≡ None → source.new ≡ source.old }
+    ensures unread { parse_args (map string_bytes words.now) ≡ None → source.new ≡ source.old }
 
     // Words that ask for a run over a generated tree: its messages are written, whatever the source, which is not read.
-    ensures generated { (seed count : ℕ) → asked_of (map string_bytes words.now) ≡ Some (Generate seed count) →
+    ensures generated { (seed count : ℕ) → parse_args (map string_bytes words.now) ≡ Some (Generate seed count) →
         HasWrittenGenerated seed count result (K.written sink.old) (K.written sink.new) }
-    ensures unasked { (seed count : ℕ) → asked_of (map string_bytes words.now) ≡ Some (Generate seed count) → source.new ≡ source.old }
+    ensures input_unread { (seed count : ℕ) → parse_args (map string_bytes words.now) ≡ Some (Generate seed count) → source.new ≡ source.old }
 
     // It is on no folder.
     ensures unfolded { is_of_folder result ≡ false }
@@ -80,16 +80,16 @@ pub fn provision_all<S: Source, K: Sink, H: Host>(
     ensures rooted { is_of_folder result ≡ true → is_some (rooted_of (map string_bytes words.now)) ≡ true }
 
     // Other words: all that `provision` says, and the host is not asked.
-    ensures host_unasked { rooted_of (map string_bytes words.now) ≡ None → host.new ≡ host.old }
+    ensures host_unused { rooted_of (map string_bytes words.now) ≡ None → host.new ≡ host.old }
     ensures written { rooted_of (map string_bytes words.now) ≡ None → IfSome (S.left source.old)
         (λ input. HasWritten (map string_bytes words.now) clock_micros input result (K.written sink.old) (K.written sink.new)) }
-    ensures usage { result ≡ Outcome.Usage → asked_of (map string_bytes words.now) ≡ None }
-    ensures known { rooted_of (map string_bytes words.now) ≡ None → asked_of (map string_bytes words.now) ≡ None →
+    ensures usage { result ≡ Outcome.Usage → parse_args (map string_bytes words.now) ≡ None }
+    ensures known { rooted_of (map string_bytes words.now) ≡ None → parse_args (map string_bytes words.now) ≡ None →
         (result ≡ Outcome.Usage) ⊎ ((result ≡ Outcome.WriteFault) ⊎ (result ≡ Outcome.Memory)) }
-    ensures unread { asked_of (map string_bytes words.now) ≡ None → source.new ≡ source.old }
-    ensures generated { (seed count : ℕ) → asked_of (map string_bytes words.now) ≡ Some (Generate seed count) →
+    ensures unread { parse_args (map string_bytes words.now) ≡ None → source.new ≡ source.old }
+    ensures generated { (seed count : ℕ) → parse_args (map string_bytes words.now) ≡ Some (Generate seed count) →
         HasWrittenGenerated seed count result (K.written sink.old) (K.written sink.new) }
-    ensures unasked { (seed count : ℕ) → asked_of (map string_bytes words.now) ≡ Some (Generate seed count) → source.new ≡ source.old }
+    ensures input_unread { (seed count : ℕ) → parse_args (map string_bytes words.now) ≡ Some (Generate seed count) → source.new ≡ source.old }
 
     // The two ends are blamed only where their counts of faults rose.
     ensures read_fault { result ≡ Outcome.ReadFault → HasRisen (S.faults source.old) (S.faults source.new) }

@@ -17,10 +17,10 @@ use Rattle.pv_steps.specs.Steps.{made, put_at}
 use Rattle.pv_steps.specs.Same.{Same}
 use Rattle.pv_steps.specs.Acting.{Acted}
 use Rattle.pv_steps.proofs.ActingLaws.{Moves, acted_then, acted_weaken, acted_within, acted_end}
-use Rattle.pv_dress.specs.Edits.{SameOutside}
-use Rattle.pv_dress.specs.Dressing.{CanDress, ChangedAt, Dressing, GivesDress, IsChanged, dressed}
-use Rattle.pv_dress.proofs.DressLaws.{outside_dressing}
-use Rattle.pv_dress.proofs.EditLaws.{made-here, put_at-made, same-trans, staging_outside}
+use Rattle.pv_metadata.specs.Edits.{SameOutside}
+use Rattle.pv_metadata.specs.SettingMetadata.{CanSetMetadata, ChangedAt, SettingMetadata, GivesMetadata, IsChanged, with_metadata}
+use Rattle.pv_metadata.proofs.MetadataLaws.{outside_setting_metadata}
+use Rattle.pv_metadata.proofs.EditLaws.{made-here, put_at-made, same-trans, staging_outside}
 use Rattle.pv_walk.specs.Removal.{MayHaveMoved}
 use Rattle.pv_walk.specs.Making.{held_object}
 use Rattle.pv_walk.specs.Staging.{GivesNew}
@@ -110,12 +110,12 @@ module _ (edit : Edit) (is : IsEdit edit) where
   gives_new (Unlink at) g = absurd g
   gives_new (RemoveDir at) g = absurd g
 
-  pub gives_dress : (u : Files) (s : Step) → GivesDress (staging_of edit.path) edit.dress u s → StagesEdit edit s
-  gives_dress u s (inl e) = subst (StagesEdit edit) (sym e) (refl, (refl, refl))
-  gives_dress u s (inr (inl e)) = subst (StagesEdit edit) (sym e) (refl, refl)
-  gives_dress u s (inr (inr (inl e))) = subst (StagesEdit edit) (sym e.0) (refl, refl)
-  gives_dress u s (inr (inr (inr (inl e)))) = subst (StagesEdit edit) (sym e.0) (refl, refl)
-  gives_dress u s (inr (inr (inr (inr e)))) = subst (StagesEdit edit) (sym e.0) (refl, refl)
+  pub gives_metadata : (u : Files) (s : Step) → GivesMetadata (staging_of edit.path) edit.metadata u s → StagesEdit edit s
+  gives_metadata u s (inl e) = subst (StagesEdit edit) (sym e) (refl, (refl, refl))
+  gives_metadata u s (inr (inl e)) = subst (StagesEdit edit) (sym e) (refl, refl)
+  gives_metadata u s (inr (inr (inl e))) = subst (StagesEdit edit) (sym e.0) (refl, refl)
+  gives_metadata u s (inr (inr (inr (inl e)))) = subst (StagesEdit edit) (sym e.0) (refl, refl)
+  gives_metadata u s (inr (inr (inr (inr e)))) = subst (StagesEdit edit) (sym e.0) (refl, refl)
 
   module _ (now : ℕ) (t u : Files) (made : places u ≡ made now (staging_of edit.path) (held_object (new_file edit).what now) (places t)) where
     abbrev plain : Object
@@ -124,17 +124,17 @@ module _ (edit : Edit) (is : IsEdit edit) where
     there_staged : places u (staging_of edit.path) ≡ Some plain
     there_staged = ap (λ (x : Places). x (staging_of edit.path)) made ∙ made-here now (staging_of edit.path) (places t) (stage_some edit is) plain
 
-    pub can_dress : CanDress u (staging_of edit.path) edit.dress
-    can_dress = record { kind = File; there = ap kind_of there_staged; dress = is.dress }
+    pub can_set_metadata : CanSetMetadata u (staging_of edit.path) edit.metadata
+    can_set_metadata = record { kind = File; there = ap kind_of there_staged; metadata = is.metadata }
 
-    dressed_is : (old o : Object) → old ≡ plain → IsChanged (dressed edit.dress) now old o → o ≡ edited now edit
-    dressed_is old o e (inl h) = h.1 ∙ sym h.0 ∙ ap (dressed edit.dress) e
-    dressed_is old o e (inr h) = h.1 ∙ ap (λ x. changed now (dressed edit.dress x)) e
+    with_metadata_is : (old o : Object) → old ≡ plain → IsChanged (with_metadata edit.metadata) now old o → o ≡ edited now edit
+    with_metadata_is old o e (inl h) = h.1 ∙ sym h.0 ∙ ap (with_metadata edit.metadata) e
+    with_metadata_is old o e (inr h) = h.1 ∙ ap (λ x. changed now (with_metadata edit.metadata x)) e
 
-    pub staged_gives : (v : Files) → ChangedAt (dressed edit.dress) (staging_of edit.path) now u v → places v ≡ with_staged now (places t) edit
+    pub staged_gives : (v : Files) → ChangedAt (with_metadata edit.metadata) (staging_of edit.path) now u v → places v ≡ with_staged now (places t) edit
     staged_gives v h =
         let old : h.old ≡ plain = same_Some h.old plain (sym h.there ∙ there_staged) in
-        let same : h.object ≡ edited now edit = dressed_is h.old h.object old h.is in
+        let same : h.object ≡ edited now edit = with_metadata_is h.old h.object old h.is in
         h.left ∙ (λ i. put_at (staging_of edit.path) (Some (same i)) (made i)) ∙ (λ j q. put_at-made now (staging_of edit.path) (places t) (stage_some edit is) plain (edited now edit) q j)
 
 module _ {S : Type 0} (tree : Ghosts S) (edit : Edit) (is : IsEdit edit) {now : ℕ} {a b : S} where
@@ -144,16 +144,16 @@ module _ {S : Type 0} (tree : Ghosts S) (edit : Edit) (is : IsEdit edit) {now : 
       acted_weaken tree (SameOutside (is_prefix (staging_of edit.path)) (tree.state a)) (Same (tree.state a)) (GivesNew (staging_of edit.path) (new_file edit)) (StagesEdit edit) 2 2
       (staged_same edit is (tree.state a)) (gives_new edit is) (omega arith) one
 
-  pub dressed_acted : {A B : Type 0} {c : S} {x : A} {r : Result B TreeFault} → Moves tree
+  pub with_metadata_acted : {A B : Type 0} {c : S} {x : A} {r : Result B TreeFault} → Moves tree
       → Acted tree (SameOutside (is_prefix (staging_of edit.path)) (tree.state a)) (GivesNew (staging_of edit.path) (new_file edit)) 2 now a b (Ok x)
-      → Acted tree (Dressing (staging_of edit.path) edit.dress (tree.state b)) (GivesDress (staging_of edit.path) edit.dress (tree.state b)) 5 now b c r
+      → Acted tree (SettingMetadata (staging_of edit.path) edit.metadata (tree.state b)) (GivesMetadata (staging_of edit.path) edit.metadata (tree.state b)) 5 now b c r
       → Acted tree (Same (tree.state a)) (StagesEdit edit) most_staged now a c r
-  dressed_acted moves one more =
+  with_metadata_acted moves one more =
       let before = made_acted one in
       let same = acted_end tree (Same (tree.state a)) (StagesEdit edit) before in
       acted_within tree (2 + 5) most_staged (omega arith)
       (acted_then tree moves (Same (tree.state a)) (StagesEdit edit) before
-      (acted_weaken tree (Dressing (staging_of edit.path) edit.dress (tree.state b)) (Same (tree.state a)) (GivesDress (staging_of edit.path) edit.dress (tree.state b)) (StagesEdit edit) 5 5
+      (acted_weaken tree (SettingMetadata (staging_of edit.path) edit.metadata (tree.state b)) (Same (tree.state a)) (GivesMetadata (staging_of edit.path) edit.metadata (tree.state b)) (StagesEdit edit) 5 5
       (λ u h. same-trans (tree.state a) (tree.state b) u same
-      (λ q plain. sym (outside_dressing (staging_of edit.path) edit.dress (tree.state b) u h q (not_prefix_not_same (staging_of edit.path) q (stage_inside edit is q plain)))))
-      (gives_dress edit is (tree.state b)) (omega arith) more))
+      (λ q plain. sym (outside_setting_metadata (staging_of edit.path) edit.metadata (tree.state b) u h q (not_prefix_not_same (staging_of edit.path) q (stage_inside edit is q plain)))))
+      (gives_metadata edit is (tree.state b)) (omega arith) more))

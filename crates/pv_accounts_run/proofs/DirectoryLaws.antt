@@ -8,15 +8,15 @@ use Rattle.pv_steps.specs.declared.object.Object.{Object}
 use Rattle.pv_steps.specs.declared.step.Step.TheVariants.{MakeDir, SetMode}
 use Rattle.pv_steps.specs.declared.tree.Tree.{Ghosts}
 use Rattle.pv_steps.specs.declared.tree.TreeFault.{TreeFault}
-use Rattle.pv_steps.specs.Objects.{bare, with_mode}
+use Rattle.pv_steps.specs.Objects.{object_state, with_mode}
 use Rattle.pv_steps.specs.Steps.{after, made, on_at, Can}
 use Rattle.pv_steps.specs.Trees.{Files, Places, places, kind_of, IsAbsentIn, IsKind}
-use Rattle.pv_steps.specs.Same.{bares, Differ}
+use Rattle.pv_steps.specs.Same.{object_states, Differ}
 use Rattle.pv_steps.specs.Acting.{Acted, Tried}
 use Rattle.pv_steps.proofs.ActingLaws.{Asks, Moves, acted_then, acted_tried, well}
 use Rattle.pv_steps.proofs.StepLaws.{at_after}
-use Rattle.pv_dress.specs.Edits.{SameOutside}
-use Rattle.pv_dress.proofs.EditLaws.{bares-made, bares-put_else, made-here, on_at-else, on_at-here, on_at-made}
+use Rattle.pv_metadata.specs.Edits.{SameOutside}
+use Rattle.pv_metadata.proofs.EditLaws.{object_states-made, object_states-put_else, made-here, on_at-else, on_at-here, on_at-made}
 use Rattle.pv_walk.specs.Making.{held_object}
 use Rattle.pv_walk.specs.Preparing.{parent_file}
 use Rattle.pv_walk.specs.declared.new_file.NewKind.TheVariants as new
@@ -49,18 +49,18 @@ module _ (now : ℕ) (t u : Files) (is : places u ≡ made now (staging_of etc) 
   mode_busy = (
     staging_of etc,
     λ e.
-        (let both : Some (bare (held_object new.Directory now)) ≡ Some (bare (with_mode 0o755 now (held_object new.Directory now))) =
-        sym (ap (option_map bare) there) ∙ e ∙ ap (λ (p : Places). bares p (staging_of etc)) (at_after u (SetMode (staging_of etc) 0o755) now)
-        ∙ ap (option_map bare) (on_at-here (staging_of etc) (with_mode 0o755 now) (places u) ∙ ap (option_map (with_mode 0o755 now)) there) in
-        let same : bare (held_object new.Directory now) ≡ bare (with_mode 0o755 now (held_object new.Directory now)) = cc in
+        (let both : Some (object_state (held_object new.Directory now)) ≡ Some (object_state (with_mode 0o755 now (held_object new.Directory now))) =
+        sym (ap (option_map object_state) there) ∙ e ∙ ap (λ (p : Places). object_states p (staging_of etc)) (at_after u (SetMode (staging_of etc) 0o755) now)
+        ∙ ap (option_map object_state) (on_at-here (staging_of etc) (with_mode 0o755 now) (places u) ∙ ap (option_map (with_mode 0o755 now)) there) in
+        let same : object_state (held_object new.Directory now) ≡ object_state (with_mode 0o755 now (held_object new.Directory now)) = cc in
         let others : ◌≡◌ {A = ℕ} 0 5 = ap (λ (o : Object). o.node.acl.access.other) same in
         omega (arith, others)),
   )
 
   outside_made : SameOutside (is_prefix (staging_of etc)) t u
   outside_made = λ q e.
-      ap (λ (p : Places). bares p q) is ∙ bares-made now (staging_of etc) (held_object new.Directory now) (places t) q
-      ∙ bares-put_else (staging_of etc) q (Some (held_object new.Directory now)) (places t) (not_prefix_not_same (staging_of etc) q e)
+      ap (λ (p : Places). object_states p q) is ∙ object_states-made now (staging_of etc) (held_object new.Directory now) (places t) q
+      ∙ object_states-put_else (staging_of etc) q (Some (held_object new.Directory now)) (places t) (not_prefix_not_same (staging_of etc) q e)
 
   pub mode_asks : Asks (SameOutside (is_prefix (staging_of etc)) t) (GivesNew (staging_of etc) parent_file) u (SetMode (staging_of etc) 0o755) now
   mode_asks = record {
@@ -68,8 +68,8 @@ module _ (now : ℕ) (t u : Files) (is : places u ≡ made now (staging_of etc) 
     can = can_mode;
     busy = mode_busy;
     there = λ v done q e.
-        ap (λ (p : Places). bares p q) (ap places done ∙ at_after u (SetMode (staging_of etc) 0o755) now)
-        ∙ ap (option_map bare) (on_at-else (staging_of etc) q (with_mode 0o755 now) (places u) (not_prefix_not_same (staging_of etc) q e))
+        ap (λ (p : Places). object_states p q) (ap places done ∙ at_after u (SetMode (staging_of etc) 0o755) now)
+        ∙ ap (option_map object_state) (on_at-else (staging_of etc) q (with_mode 0o755 now) (places u) (not_prefix_not_same (staging_of etc) q e))
         ∙ outside_made q e;
     gives = (refl, refl);
   }

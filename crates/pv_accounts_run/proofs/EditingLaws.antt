@@ -12,15 +12,15 @@ use Rattle.pv_steps.specs.declared.why.Why.{Why}
 use Rattle.pv_steps.specs.Objects.{AclFits, AttrsFit, LettersFit}
 use Rattle.pv_steps.specs.Refusal.{refusal}
 use Rattle.pv_steps.specs.Trees.{Files, Places, places, kind_of, IsKind, IsPresent, IsTreeIn}
-use Rattle.pv_dress.specs.Dressing.{IsDress}
-use Rattle.pv_dress.specs.Nodes.{bare_of}
+use Rattle.pv_metadata.specs.SettingMetadata.{IsMetadata}
+use Rattle.pv_metadata.specs.Nodes.{object_state_of}
 use Rattle.pv_walk.proofs.PreparingSweep.{unrefused_pass}
 use Rattle.pv_sysusers.specs.declared.planned.Texts.{Texts}
 use Rattle.pv_accounts_run.specs.declared.edit.Edit.{Edit}
 use Rattle.pv_accounts_run.specs.Edits.{AreEdits, IsBeside, IsEdit, etc}
 use Rattle.pv_layers.specs.Places.{group_path, passwd_path}
-use Rattle.pv_accounts_run.specs.Carrying.{IsEditOf, account_paths, gshadow_path, shadow_path}
-use Rattle.pv_accounts_run.specs.Accounted.{IsUsable, dress_at, edit_at, edit_to, edits_by, edits_to, plain_dress, text_at, unusable_by, unusable_text, unusable_texts}
+use Rattle.pv_accounts_run.specs.FileWriting.{IsEditOf, account_paths, gshadow_path, shadow_path}
+use Rattle.pv_accounts_run.specs.Accounted.{IsUsable, metadata_at, edit_at, edit_to, edits_by, edits_to, plain_metadata, text_at, unusable_by, unusable_text, unusable_texts}
 use Rattle.std.specs.Prelude.{Result, Ok, Err}
 
 -- ---- files that can be used
@@ -66,23 +66,23 @@ can_pass t e = unrefused_pass group_path 0 t (all_well (places t) e).0.unrefused
 -- ---- what a file is to have
 
 module _ (t : Places) (tree : IsTreeIn t) where
-  plain_fits : (mode : ℕ) → (mode ≡ 420) ⊎ (mode ≡ 0) → IsDress File (plain_dress mode)
-  plain_fits mode (inl e) = subst (λ m. IsDress File (plain_dress m)) (sym e) (record { owner = (lit≤ tt, lit≤ tt); special = lit≤ tt; acl = refl; fits = refl; attrs = refl; letters = lit≤ tt })
-  plain_fits mode (inr e) = subst (λ m. IsDress File (plain_dress m)) (sym e) (record { owner = (lit≤ tt, lit≤ tt); special = lit≤ tt; acl = refl; fits = refl; attrs = refl; letters = lit≤ tt })
+  plain_fits : (mode : ℕ) → (mode ≡ 420) ⊎ (mode ≡ 0) → IsMetadata File (plain_metadata mode)
+  plain_fits mode (inl e) = subst (λ m. IsMetadata File (plain_metadata m)) (sym e) (record { owner = (lit≤ tt, lit≤ tt); special = lit≤ tt; acl = refl; fits = refl; attrs = refl; letters = lit≤ tt })
+  plain_fits mode (inr e) = subst (λ m. IsMetadata File (plain_metadata m)) (sym e) (record { owner = (lit≤ tt, lit≤ tt); special = lit≤ tt; acl = refl; fits = refl; attrs = refl; letters = lit≤ tt })
 
-  dress_fits : (path : Path) (mode : ℕ) → IsUsable t path → (mode ≡ 420) ⊎ (mode ≡ 0) → IsDress File (dress_at t path mode)
-  dress_fits path mode usable plain = by (t path) refl usable
+  metadata_fits : (path : Path) (mode : ℕ) → IsUsable t path → (mode ≡ 420) ⊎ (mode ≡ 0) → IsMetadata File (metadata_at t path mode)
+  metadata_fits path mode usable plain = by (t path) refl usable
     where
       some : (o : Object) → kind_of (Some o) ≡ Some File → o.node.kind ≡ File
       some o e = cc
 
-      by : (o : Option Object) → t path ≡ o → (kind_of (t path) ≡ None) ⊎ (kind_of (t path) ≡ Some File) → IsDress File (dress_at t path mode)
-      by None is u = subst (λ o. IsDress File (option_map_or (λ (x : Object). (bare_of x).dress) o (plain_dress mode))) (sym is) (plain_fits mode plain)
+      by : (o : Option Object) → t path ≡ o → (kind_of (t path) ≡ None) ⊎ (kind_of (t path) ≡ Some File) → IsMetadata File (metadata_at t path mode)
+      by None is u = subst (λ o. IsMetadata File (option_map_or (λ (x : Object). (object_state_of x).metadata) o (plain_metadata mode))) (sym is) (plain_fits mode plain)
       by (Some x) is (inl none) = absurd (let wrong : Some x.node.kind ≡ None = sym (ap kind_of is) ∙ none in cc)
       by (Some x) is (inr file) =
           let o = tree.objects path x is in
           let kind : x.node.kind ≡ File = some x (sym (ap kind_of is) ∙ file) in
-          subst (λ o. IsDress File (option_map_or (λ (x : Object). (bare_of x).dress) o (plain_dress mode))) (sym is) (record {
+          subst (λ o. IsMetadata File (option_map_or (λ (x : Object). (object_state_of x).metadata) o (plain_metadata mode))) (sym is) (record {
             owner = o.owner;
             special = o.special;
             acl = o.acl;
@@ -110,16 +110,16 @@ module _ (t : Places) where
 
 module _ (t : Places) (tree : IsTreeIn t) (usable : AllByRecursion (IsUsable t) account_paths) where
   is_group : (text : List ℕ) → IsEditOf t (edit_to t group_path 420 text)
-  is_group text = record { is = record { parent = refl; root = λ h. cc; plain = refl; short = refl; dress = dress_fits t tree group_path 420 usable.0 (inl refl) }; listed = refl; file = usable.0 }
+  is_group text = record { is = record { parent = refl; root = λ h. cc; plain = refl; short = refl; metadata = metadata_fits t tree group_path 420 usable.0 (inl refl) }; listed = refl; file = usable.0 }
 
   is_gshadow : (text : List ℕ) → IsEditOf t (edit_to t gshadow_path 0 text)
-  is_gshadow text = record { is = record { parent = refl; root = λ h. cc; plain = refl; short = refl; dress = dress_fits t tree gshadow_path 0 usable.1.0 (inr refl) }; listed = refl; file = usable.1.0 }
+  is_gshadow text = record { is = record { parent = refl; root = λ h. cc; plain = refl; short = refl; metadata = metadata_fits t tree gshadow_path 0 usable.1.0 (inr refl) }; listed = refl; file = usable.1.0 }
 
   is_shadow : (text : List ℕ) → IsEditOf t (edit_to t shadow_path 0 text)
-  is_shadow text = record { is = record { parent = refl; root = λ h. cc; plain = refl; short = refl; dress = dress_fits t tree shadow_path 0 usable.1.1.0 (inr refl) }; listed = refl; file = usable.1.1.0 }
+  is_shadow text = record { is = record { parent = refl; root = λ h. cc; plain = refl; short = refl; metadata = metadata_fits t tree shadow_path 0 usable.1.1.0 (inr refl) }; listed = refl; file = usable.1.1.0 }
 
   is_passwd : (text : List ℕ) → IsEditOf t (edit_to t passwd_path 420 text)
-  is_passwd text = record { is = record { parent = refl; root = λ h. cc; plain = refl; short = refl; dress = dress_fits t tree passwd_path 420 usable.1.1.1.0 (inl refl) }; listed = refl; file = usable.1.1.1.0 }
+  is_passwd text = record { is = record { parent = refl; root = λ h. cc; plain = refl; short = refl; metadata = metadata_fits t tree passwd_path 420 usable.1.1.1.0 (inl refl) }; listed = refl; file = usable.1.1.1.0 }
 
   module _ (texts : Texts) where
     abbrev group : Edit

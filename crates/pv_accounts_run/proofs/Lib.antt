@@ -1,7 +1,7 @@
 pub mod MovingLaws
 pub mod StagingLaws
 pub mod SweepingLaws
-pub mod CarryingLaws
+pub mod FileWritingLaws
 pub mod ActedLaws
 pub mod DirectoryLaws
 pub mod EditingLaws

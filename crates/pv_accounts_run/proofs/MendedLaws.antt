@@ -14,16 +14,16 @@ use Rattle.pv_path.specs.Paths.{Path, has_staging, same_path}
 use Rattle.pv_steps.specs.declared.node.Kind.TheVariants.{File}
 use Rattle.pv_steps.specs.declared.object.Object.{Object}
 use Rattle.pv_steps.specs.declared.step.Step.{Step}
-use Rattle.pv_steps.specs.Objects.{bare}
-use Rattle.pv_steps.specs.Refusal.{owner_at, refusal, why_blocked}
+use Rattle.pv_steps.specs.Objects.{object_state}
+use Rattle.pv_steps.specs.Refusal.{owner_at, refusal, why_unsafe}
 use Rattle.pv_steps.specs.Runs.{Ran, after_all}
-use Rattle.pv_steps.specs.Same.{Same, bares}
+use Rattle.pv_steps.specs.Same.{Same, object_states}
 use Rattle.pv_steps.specs.Trees.{Files, IsTree, IsTreeIn, Places, places, kind_of}
 use Rattle.pv_steps.proofs.RunLaws.{along_prefix}
 use Rattle.pv_steps.proofs.TreeLaws.{directory_above}
-use Rattle.pv_dress.specs.Edits.{all_taken}
+use Rattle.pv_metadata.specs.Edits.{all_taken}
 use Rattle.pv_steps.specs.Steps.{made}
-use Rattle.pv_dress.proofs.EditLaws.{path_cases}
+use Rattle.pv_metadata.proofs.EditLaws.{path_cases}
 use Rattle.pv_path.specs.Names.{same_bytes}
 use Rattle.pv_walk.specs.Preparing.{parent_file, with_parent}
 use Rattle.pv_walk.specs.Staging.{new_object}
@@ -44,18 +44,18 @@ use Rattle.pv_sysusers.specs.declared.planned.Texts.{Texts}
 use Rattle.pv_sysusers.proofs.FinishLaws.{plan_finishes, plan_lacks, plan_own}
 use Rattle.pv_accounts_run.specs.declared.edit.Edit.{Edit}
 use Rattle.pv_accounts_run.specs.Edits.{etc, with_edit}
-use Rattle.pv_accounts_run.specs.Carrying.{AccountWay, account_paths, gshadow_path, shadow_path, swept_names, with_directory}
+use Rattle.pv_accounts_run.specs.FileWriting.{AccountWay, account_paths, gshadow_path, shadow_path, swept_names, with_directory}
 use Rattle.pv_layers.specs.Places.{group_path, passwd_path}
 use Rattle.pv_accounts_run.specs.Accounted.{HasPlainPath, IsUsable, accounted, accounted_unless, carried_files, day_of, edit_at, edit_to, edits_at, edits_by, edits_to, edits_unless, files_at, ids_at, ids_of, lacking_at, lacking_in, lacking_unless, other_text, plan_at, text_at, unusable_by, unusable_text, unusable_texts}
 use Rattle.pv_accounts_run.specs.Mended.{EndAlike, IsMended}
 use Rattle.pv_accounts_run.proofs.BesideLaws.{AreElse, edits_left, first_all}
-use Rattle.pv_accounts_run.proofs.CarryingLaws.{directory_bares, no_directory, parent_bares, with_some}
+use Rattle.pv_accounts_run.proofs.FileWritingLaws.{directory_object_states, no_directory, parent_object_states, with_some}
 use Rattle.pv_accounts_run.proofs.EditingLaws.{IsWell, all_usable, all_well}
 use Rattle.pv_accounts_run.proofs.RunningLaws.{usable_accounted}
-use Rattle.pv_accounts_run.proofs.SameLaws.{all_ids, all_taken_bares, beside, blocked, files_same, no_owner, owner, owners_of, places_carried, refusal_by, same_accounted, seen, seen_or, some_put, there_put, uid_in, unusables_same}
-use Rattle.pv_accounts_run.proofs.StopLaws.{AreNew, HasCome, IsAs, after_all_edits, all_beside, bares_all, beside_all, come, kind_as, own_again, own_new, own_text_new, owner_as, text_new, there_text_new}
+use Rattle.pv_accounts_run.proofs.SameLaws.{all_ids, all_taken_object_states, beside, unsafe_component, files_same, no_owner, owner, owners_of, places_carried, refusal_by, same_accounted, seen, seen_or, some_put, there_put, uid_in, unusables_same}
+use Rattle.pv_accounts_run.proofs.StopLaws.{AreNew, HasCome, IsAs, after_all_edits, all_beside, object_states_all, beside_all, come, kind_as, own_again, own_new, own_text_new, owner_as, text_new, there_text_new}
 use Rattle.pv_path.proofs.PathLaws.{has_staging-take}
-use Rattle.pv_steps.proofs.ObjectLaws.{kind_of-same, is_some-same, none_from_bare}
+use Rattle.pv_steps.proofs.ObjectLaws.{kind_of-same, is_some-same, none_from_object_state}
 
 -- ---- the paths of the account files
 
@@ -182,14 +182,14 @@ good_text t path e usable = ap (λ r. unusable_by path r (kind_of (t path))) e �
 -- ---- among files of which some are new
 
 module _ (t u : Places) (texts : Texts) (has : HasCome t u texts) (tree : IsTreeIn t) (well : unusable_texts t ≡ [])
-    (etc_owner : uid_in (u etc) ≡ uid_in (t etc)) (etc_blocked : why_blocked (kind_of (u etc)) ≡ why_blocked (kind_of (t etc))) where
+    (etc_owner : uid_in (u etc) ≡ uid_in (t etc)) (etc_unsafe_component : why_unsafe (kind_of (u etc)) ≡ why_unsafe (kind_of (t etc))) where
   usable : AllByRecursion (IsUsable t) account_paths
   usable = all_usable t well
 
   as_passwd : IsAs t u passwd_path 420 (Some texts.passwd)
   as_passwd = by has.passwd
     where
-      by : (bares u passwd_path ≡ bares t passwd_path) ⊎ AreNew t u texts → IsAs t u passwd_path 420 (Some texts.passwd)
+      by : (object_states u passwd_path ≡ object_states t passwd_path) ⊎ AreNew t u texts → IsAs t u passwd_path 420 (Some texts.passwd)
       by (inl e) = inl e
       by (inr new) = inr new.passwd
 
@@ -208,12 +208,12 @@ module _ (t u : Places) (texts : Texts) (has : HasCome t u texts) (tree : IsTree
       by (inl e) = subst (λ (p : Path). uid_in (u p) ≡ uid_in (t p)) e etc_owner
       by (inr d) = account (is_one_of account_paths q) refl d
 
-  blocked_all : (q : Path) → has_staging q ≡ false → is_one_of account_paths q ≡ false → why_blocked (kind_of (u q)) ≡ why_blocked (kind_of (t q))
-  blocked_all q plain far = by (path_cases etc q)
+  unsafe_component_all : (q : Path) → has_staging q ≡ false → is_one_of account_paths q ≡ false → why_unsafe (kind_of (u q)) ≡ why_unsafe (kind_of (t q))
+  unsafe_component_all q plain far = by (path_cases etc q)
     where
-      by : (etc ≡ q) ⊎ (same_path etc q ≡ false) → why_blocked (kind_of (u q)) ≡ why_blocked (kind_of (t q))
-      by (inl e) = subst (λ (p : Path). why_blocked (kind_of (u p)) ≡ why_blocked (kind_of (t p))) e etc_blocked
-      by (inr d) = ap why_blocked (kind_of-same (u q) (t q) (has.beside q plain d far))
+      by : (etc ≡ q) ⊎ (same_path etc q ≡ false) → why_unsafe (kind_of (u q)) ≡ why_unsafe (kind_of (t q))
+      by (inl e) = subst (λ (p : Path). why_unsafe (kind_of (u p)) ≡ why_unsafe (kind_of (t p))) e etc_unsafe_component
+      by (inr d) = ap why_unsafe (kind_of-same (u q) (t q) (has.beside q plain d far))
 
   owners : (path : Path) → has_staging path ≡ false → (k : ℕ) → owner_at u path 0 k ≡ owner_at t path 0 k
   owners path plain k =
@@ -226,9 +226,9 @@ module _ (t u : Places) (texts : Texts) (has : HasCome t u texts) (tree : IsTree
   account_refusal : (name : List ℕ) → has_staging (codes "etc" ∷ name ∷ []) ≡ false → refusal u (codes "etc" ∷ name ∷ []) 0 ≡ refusal t (codes "etc" ∷ name ∷ []) 0
   account_refusal name plain = refusal_by t u (codes "etc" ∷ name ∷ []) (owners (codes "etc" ∷ name ∷ []) plain) on_way
     where
-      on_way : (k : ℕ) → nat_lt k 2 ≡ true → why_blocked (kind_of (u (take k (codes "etc" ∷ name ∷ [])))) ≡ why_blocked (kind_of (t (take k (codes "etc" ∷ name ∷ []))))
-      on_way zero h = blocked_all [] refl refl
-      on_way (suc zero) h = blocked_all etc refl refl
+      on_way : (k : ℕ) → nat_lt k 2 ≡ true → why_unsafe (kind_of (u (take k (codes "etc" ∷ name ∷ [])))) ≡ why_unsafe (kind_of (t (take k (codes "etc" ∷ name ∷ []))))
+      on_way zero h = unsafe_component_all [] refl refl
+      on_way (suc zero) h = unsafe_component_all etc refl refl
       on_way (suc (suc k)) h = absurd (let below : suc (suc k) < 2 = below_two (suc (suc k)) h in omega (arith, below))
 
   usable_kept : (path : Path) → IsUsable t path → (kind_of (u path) ≡ kind_of (t path)) ⊎ (kind_of (u path) ≡ Some File) → IsUsable u path
@@ -281,15 +281,15 @@ module _ (t u : Places) (texts : Texts) (has : HasCome t u texts) (tree : IsTree
     not_etc : same_path etc q ≡ false
     not_etc = not_directory q place
 
-    same_there : bares u q ≡ bares t q
+    same_there : object_states u q ≡ object_states t q
     same_there = has.beside q plain not_etc not_one
 
     -- where no account file is on the way
     ids_apart : is_one_of account_paths (take 2 q) ≡ false → ids_at u q ≡ ids_at t q
     ids_apart far = λ i. if is_some (refused i) then None else seen owners_of (λ o. refl) (u q) (t q) same_there i
       where
-        on_way : (k : ℕ) → nat_lt k (length q) ≡ true → why_blocked (kind_of (u (take k q))) ≡ why_blocked (kind_of (t (take k q)))
-        on_way k below = blocked_all (take k q) (has_staging-take k q plain) (by (is_one_of account_paths (take k q)) refl)
+        on_way : (k : ℕ) → nat_lt k (length q) ≡ true → why_unsafe (kind_of (u (take k q))) ≡ why_unsafe (kind_of (t (take k q)))
+        on_way k below = unsafe_component_all (take k q) (has_staging-take k q plain) (by (is_one_of account_paths (take k q)) refl)
           where
             by : (b : Bool) → is_one_of account_paths (take k q) ≡ b → b ≡ false
             by false e = refl
@@ -315,7 +315,7 @@ module _ (t u : Places) (texts : Texts) (has : HasCome t u texts) (tree : IsTree
         by false e = ids_apart e
         by true e =
             let none : t q ≡ None = none_there e in
-            let gone : u q ≡ None = none_from_bare (u q) (same_there ∙ ap (option_map bare) none) in
+            let gone : u q ≡ None = none_from_object_state (u q) (same_there ∙ ap (option_map object_state) none) in
             ids_none u q gone ∙ sym (ids_none t q none)
 
   line_same : (line : Request) → IsAllowed line → HasPlainPath line → ids_of u line ≡ ids_of t line
@@ -340,7 +340,7 @@ module _ (t u : Places) (texts : Texts) (has : HasCome t u texts) (tree : IsTree
   own_as path mode None (inr e) = inl (seen (λ o. o.payload) (λ o. refl) (u path) (t path) e)
   own_as path mode (Some text) (inr e) = own_text_new t u path mode text e
 
-  own_there : (path : Path) (mode : ℕ) (text : Option (List ℕ)) → is_some text ≡ is_some (text_at t path) → bares u path ≡ own_new t path mode text (bares t path) → text_at u path ≡ text
+  own_there : (path : Path) (mode : ℕ) (text : Option (List ℕ)) → is_some text ≡ is_some (text_at t path) → object_states u path ≡ own_new t path mode text (object_states t path) → text_at u path ≡ text
   own_there path mode None some e = seen (λ o. o.payload) (λ o. refl) (u path) (t path) e ∙ none (text_at t path) (sym some)
     where
       none : (o : Option (List ℕ)) → is_some o ≡ false → o ≡ None
@@ -360,7 +360,7 @@ module _ (t u : Places) (texts : Texts) (has : HasCome t u texts) (tree : IsTree
     passwd = by has.passwd;
   }
     where
-      by : (bares u passwd_path ≡ bares t passwd_path) ⊎ AreNew t u texts → ((files_at u).passwd ≡ (files_at t).passwd) ⊎ (files_at u ≡ files_with texts)
+      by : (object_states u passwd_path ≡ object_states t passwd_path) ⊎ AreNew t u texts → ((files_at u).passwd ≡ (files_at t).passwd) ⊎ (files_at u ≡ files_with texts)
       by (inl e) = inl (ap (λ o. unwrap_or o []) (seen (λ o. o.payload) (λ o. refl) (u passwd_path) (t passwd_path) e))
       by (inr new) = inr (λ i. record {
         passwd = text_new t u passwd_path 420 texts.passwd new.passwd i;
@@ -372,10 +372,10 @@ module _ (t u : Places) (texts : Texts) (has : HasCome t u texts) (tree : IsTree
 -- ---- what runs leave
 
 -- what is swept, and /etc put, changes nothing else
-base_bares : (now : ℕ) (cs : List Edit) (t : Places) (q : Path) → has_staging q ≡ false → same_path etc q ≡ false → bares (with_directory now cs (all_taken now swept_names t)) q ≡ bares t q
-base_bares now [] t q plain apart = all_taken_bares now swept_names (refl, (refl, (refl, (refl, (refl, tt))))) t q plain
-base_bares now (c ∷ cs) t q plain apart =
-    directory_bares now (all_taken now swept_names t) q apart ∙ all_taken_bares now swept_names (refl, (refl, (refl, (refl, (refl, tt))))) t q plain
+base_object_states : (now : ℕ) (cs : List Edit) (t : Places) (q : Path) → has_staging q ≡ false → same_path etc q ≡ false → object_states (with_directory now cs (all_taken now swept_names t)) q ≡ object_states t q
+base_object_states now [] t q plain apart = all_taken_object_states now swept_names (refl, (refl, (refl, (refl, (refl, tt))))) t q plain
+base_object_states now (c ∷ cs) t q plain apart =
+    directory_object_states now (all_taken now swept_names t) q apart ∙ all_taken_object_states now swept_names (refl, (refl, (refl, (refl, (refl, tt))))) t q plain
 
 -- a run whose texts are known
 module _ (requests : List Request) (now : ℕ) (t : Files) (texts : Texts) (well : unusable_texts (places t) ≡ []) (is : (plan_at requests now (places t)).texts ≡ Ok texts) where
@@ -385,15 +385,15 @@ module _ (requests : List Request) (now : ℕ) (t : Files) (texts : Texts) (well
       ∙ ap (λ r. carried_files now (edits_by (places t) r) t) is
 
   -- what stands at a path, by what stood there when the texts were put
-  leaves_at : (q : Path) → bares (places (accounted requests now t)) q
-      ≡ after_all_edits (places t) texts q (bares (with_directory now (edits_to (places t) texts) (all_taken now swept_names (places t))) q)
+  leaves_at : (q : Path) → object_states (places (accounted requests now t)) q
+      ≡ after_all_edits (places t) texts q (object_states (with_directory now (edits_to (places t) texts) (all_taken now swept_names (places t))) q)
   leaves_at q =
-      ap (λ (f : Files). bares (places f) q) run_leaves
-      ∙ ap (option_map bare) (places_carried now (edits_to (places t) texts) t q)
-      ∙ bares_all (places t) texts now (with_directory now (edits_to (places t) texts) (all_taken now swept_names (places t))) q
+      ap (λ (f : Files). object_states (places f) q) run_leaves
+      ∙ ap (option_map object_state) (places_carried now (edits_to (places t) texts) t q)
+      ∙ object_states_all (places t) texts now (with_directory now (edits_to (places t) texts) (all_taken now swept_names (places t))) q
 
-  leaves : (q : Path) → has_staging q ≡ false → same_path etc q ≡ false → bares (places (accounted requests now t)) q ≡ after_all_edits (places t) texts q (bares (places t) q)
-  leaves q plain apart = leaves_at q ∙ ap (after_all_edits (places t) texts q) (base_bares now (edits_to (places t) texts) (places t) q plain apart)
+  leaves : (q : Path) → has_staging q ≡ false → same_path etc q ≡ false → object_states (places (accounted requests now t)) q ≡ after_all_edits (places t) texts q (object_states (places t) q)
+  leaves q plain apart = leaves_at q ∙ ap (after_all_edits (places t) texts q) (base_object_states now (edits_to (places t) texts) (places t) q plain apart)
 
   edits_are : edits_at requests now (places t) ≡ edits_to (places t) texts
   edits_are =
@@ -412,7 +412,7 @@ finished new day later files (Err name) h = absurd h
 day_below : (now : ℕ) → now < 2 ^ 64 → day_of now < 2 ^ 64
 day_below now h = let less : now / 86400000000 ≤ now = div-le_self now 86400000000 in omega (arith, h, less)
 
-text_alike : (t u : Files) (path : Path) → bares (places u) path ≡ bares (places t) path → text_at (places u) path ≡ text_at (places t) path
+text_alike : (t u : Files) (path : Path) → object_states (places u) path ≡ object_states (places t) path → text_at (places u) path ≡ text_at (places t) path
 text_alike t u path e = seen (λ o. o.payload) (λ o. refl) (places u path) (places t path) e
 
 -- trees that are the same
@@ -428,62 +428,62 @@ same_alike now later t u same = record {
 
 module _ (requests : List Request) (allowed : AllByRecursion IsAllowed requests) (plain : AllByRecursion HasPlainPath requests) (now later : ℕ) (small : now < 2 ^ 64) (t u : Files) (tree : IsTree t)
     (texts : Texts) (well : unusable_texts (places t) ≡ []) (is : (plan_at requests now (places t)).texts ≡ Ok texts) (has : HasCome (places t) (places u) texts)
-    (etc_owner : uid_in (places u etc) ≡ uid_in (places t etc)) (etc_blocked : why_blocked (kind_of (places u etc)) ≡ why_blocked (kind_of (places t etc))) where
+    (etc_owner : uid_in (places u etc) ≡ uid_in (places t etc)) (etc_unsafe_component : why_unsafe (kind_of (places u etc)) ≡ why_unsafe (kind_of (places t etc))) where
   plan_then : Finishes texts (day_of now) (day_of later) (files_at (places u)) (plan_at requests later (places u)).texts
   plan_then = subst (λ (ids : List (Option PathId)). Finishes texts (day_of now) (day_of later) (files_at (places u)) (planned requests ids (files_at (places u)) (day_of later)).texts)
-      (sym (lines_same (places t) (places u) texts has tree well etc_owner etc_blocked requests allowed plain))
+      (sym (lines_same (places t) (places u) texts has tree well etc_owner etc_unsafe_component requests allowed plain))
       (plan_finishes requests allowed (map (ids_of (places t)) requests) (owners_of_lines (places t) tree requests) (files_at (places t)) (files_at (places u)) (day_of now) (day_of later) (day_below now small) texts is
-      (part_written (places t) (places u) texts has tree well etc_owner etc_blocked (plan_own requests (map (ids_of (places t)) requests) (files_at (places t)) (day_of now) texts is)))
+      (part_written (places t) (places u) texts has tree well etc_owner etc_unsafe_component (plan_own requests (map (ids_of (places t)) requests) (files_at (places t)) (day_of now) texts is)))
 
   found : Finished texts (day_of now) (day_of later) (files_at (places u)) (plan_at requests later (places u)).texts
   found = finished texts (day_of now) (day_of later) (files_at (places u)) (plan_at requests later (places u)).texts plan_then
 
   well_u : unusable_texts (places u) ≡ []
-  well_u = well_then (places t) (places u) texts has tree well etc_owner etc_blocked
+  well_u = well_then (places t) (places u) texts has tree well etc_owner etc_unsafe_component
 
-  first : (q : Path) → has_staging q ≡ false → same_path etc q ≡ false → bares (places (accounted requests now t)) q ≡ after_all_edits (places t) texts q (bares (places t) q)
+  first : (q : Path) → has_staging q ≡ false → same_path etc q ≡ false → object_states (places (accounted requests now t)) q ≡ after_all_edits (places t) texts q (object_states (places t) q)
   first = leaves requests now t texts well is
 
-  second : (q : Path) → has_staging q ≡ false → same_path etc q ≡ false → bares (places (accounted requests later u)) q ≡ after_all_edits (places u) found.texts q (bares (places u) q)
+  second : (q : Path) → has_staging q ≡ false → same_path etc q ≡ false → object_states (places (accounted requests later u)) q ≡ after_all_edits (places u) found.texts q (object_states (places u) q)
   second = leaves requests later u found.texts well_u found.gives
 
-  at_group : bares (places (accounted requests later u)) group_path ≡ bares (places (accounted requests now t)) group_path
+  at_group : object_states (places (accounted requests later u)) group_path ≡ object_states (places (accounted requests now t)) group_path
   at_group =
       second group_path refl refl
-      ∙ ap (λ (x : List ℕ). own_new (places u) group_path 420 (Some x) (bares (places u) group_path)) found.are.group
+      ∙ ap (λ (x : List ℕ). own_new (places u) group_path 420 (Some x) (object_states (places u) group_path)) found.are.group
       ∙ own_again (places t) (places u) group_path 420 (Some texts.group) has.group ∙ sym (first group_path refl refl)
 
-  at_gshadow : bares (places (accounted requests later u)) gshadow_path ≡ bares (places (accounted requests now t)) gshadow_path
+  at_gshadow : object_states (places (accounted requests later u)) gshadow_path ≡ object_states (places (accounted requests now t)) gshadow_path
   at_gshadow =
       second gshadow_path refl refl
-      ∙ ap (λ (x : Option (List ℕ)). own_new (places u) gshadow_path 0 x (bares (places u) gshadow_path)) found.are.gshadow
+      ∙ ap (λ (x : Option (List ℕ)). own_new (places u) gshadow_path 0 x (object_states (places u) gshadow_path)) found.are.gshadow
       ∙ own_again (places t) (places u) gshadow_path 0 texts.gshadow has.gshadow ∙ sym (first gshadow_path refl refl)
 
-  at_passwd : bares (places (accounted requests later u)) passwd_path ≡ bares (places (accounted requests now t)) passwd_path
+  at_passwd : object_states (places (accounted requests later u)) passwd_path ≡ object_states (places (accounted requests now t)) passwd_path
   at_passwd =
       second passwd_path refl refl
-      ∙ ap (λ (x : List ℕ). own_new (places u) passwd_path 420 (Some x) (bares (places u) passwd_path)) found.are.passwd
-      ∙ own_again (places t) (places u) passwd_path 420 (Some texts.passwd) (as_passwd (places t) (places u) texts has tree well etc_owner etc_blocked) ∙ sym (first passwd_path refl refl)
+      ∙ ap (λ (x : List ℕ). own_new (places u) passwd_path 420 (Some x) (object_states (places u) passwd_path)) found.are.passwd
+      ∙ own_again (places t) (places u) passwd_path 420 (Some texts.passwd) (as_passwd (places t) (places u) texts has tree well etc_owner etc_unsafe_component) ∙ sym (first passwd_path refl refl)
 
-  at_shadow : day_of later ≡ day_of now → bares (places (accounted requests later u)) shadow_path ≡ bares (places (accounted requests now t)) shadow_path
+  at_shadow : day_of later ≡ day_of now → object_states (places (accounted requests later u)) shadow_path ≡ object_states (places (accounted requests now t)) shadow_path
   at_shadow day =
       second shadow_path refl refl
-      ∙ ap (λ (x : List ℕ). own_new (places u) shadow_path 0 (Some x) (bares (places u) shadow_path)) (found.are.shadow (inl day))
+      ∙ ap (λ (x : List ℕ). own_new (places u) shadow_path 0 (Some x) (object_states (places u) shadow_path)) (found.are.shadow (inl day))
       ∙ own_again (places t) (places u) shadow_path 0 (Some texts.shadow) has.shadow ∙ sym (first shadow_path refl refl)
 
   -- on the same day, also beside the account files, where /etc is the same
-  same_day : bares (places (accounted requests later u)) etc ≡ bares (places (accounted requests now t)) etc → day_of later ≡ day_of now → Same (accounted requests later u) (accounted requests now t)
+  same_day : object_states (places (accounted requests later u)) etc ≡ object_states (places (accounted requests now t)) etc → day_of later ≡ day_of now → Same (accounted requests later u) (accounted requests now t)
   same_day at_etc day q plain = by (path_cases etc q)
     where
-      account : (b : Bool) → is_one_of account_paths q ≡ b → same_path etc q ≡ false → bares (places (accounted requests later u)) q ≡ bares (places (accounted requests now t)) q
+      account : (b : Bool) → is_one_of account_paths q ≡ b → same_path etc q ≡ false → object_states (places (accounted requests later u)) q ≡ object_states (places (accounted requests now t)) q
       account true e d =
-          account_in (λ q. bares (places (accounted requests later u)) q ≡ bares (places (accounted requests now t)) q) at_group at_gshadow (at_shadow day) at_passwd q e
+          account_in (λ q. object_states (places (accounted requests later u)) q ≡ object_states (places (accounted requests now t)) q) at_group at_gshadow (at_shadow day) at_passwd q e
       account false e d =
-          second q plain d ∙ all_beside (places u) found.texts q (beside_all q e) (bares (places u) q) ∙ has.beside q plain d e
-          ∙ sym (first q plain d ∙ all_beside (places t) texts q (beside_all q e) (bares (places t) q))
+          second q plain d ∙ all_beside (places u) found.texts q (beside_all q e) (object_states (places u) q) ∙ has.beside q plain d e
+          ∙ sym (first q plain d ∙ all_beside (places t) texts q (beside_all q e) (object_states (places t) q))
 
-      by : (etc ≡ q) ⊎ (same_path etc q ≡ false) → bares (places (accounted requests later u)) q ≡ bares (places (accounted requests now t)) q
-      by (inl e) = subst (λ (p : Path). bares (places (accounted requests later u)) p ≡ bares (places (accounted requests now t)) p) e at_etc
+      by : (etc ≡ q) ⊎ (same_path etc q ≡ false) → object_states (places (accounted requests later u)) q ≡ object_states (places (accounted requests now t)) q
+      by (inl e) = subst (λ (p : Path). object_states (places (accounted requests later u)) p ≡ object_states (places (accounted requests now t)) p) e at_etc
       by (inr d) = account (is_one_of account_paths q) refl d
 
   alike : (day_of later ≡ day_of now → Same (accounted requests later u) (accounted requests now t)) → EndAlike now later (accounted requests now t) (accounted requests later u)
@@ -496,29 +496,29 @@ module _ (requests : List Request) (allowed : AllByRecursion IsAllowed requests)
 
   -- where some text changes and /etc was put
   etc_put : (k : ℕ) → 1 ≤ length (edits_to (places t) texts)
-      → ((q : Path) → has_staging q ≡ false → bares (places u) q ≡ bares (fold (with_edit 0) (with_parent 0 (places t) etc) (take k (edits_to (places t) texts))) q)
-      → bares (places u) etc ≡ bares (with_parent 0 (places t) etc) etc
-      → bares (places (accounted requests later u)) etc ≡ bares (places (accounted requests now t)) etc
+      → ((q : Path) → has_staging q ≡ false → object_states (places u) q ≡ object_states (fold (with_edit 0) (with_parent 0 (places t) etc) (take k (edits_to (places t) texts))) q)
+      → object_states (places u) etc ≡ object_states (with_parent 0 (places t) etc) etc
+      → object_states (places (accounted requests later u)) etc ≡ object_states (places (accounted requests now t)) etc
   etc_put k some at there =
       leaves_at requests later u found.texts well_u found.gives etc
-      ∙ all_beside (places u) found.texts etc (beside_all etc refl) (bares (with_directory later (edits_to (places u) found.texts) (all_taken later swept_names (places u))) etc)
+      ∙ all_beside (places u) found.texts etc (beside_all etc refl) (object_states (with_directory later (edits_to (places u) found.texts) (all_taken later swept_names (places u))) etc)
       ∙ again (edits_to (places u) found.texts) ∙ there
-      ∙ parent_bares 0 now (places t) (all_taken now swept_names (places t)) (λ r bare. sym (all_taken_bares now swept_names (refl, (refl, (refl, (refl, (refl, tt))))) (places t) r bare)) etc refl
-      ∙ sym (ap (λ (x : Places). bares x etc) (with_some now (edits_to (places t) texts) (all_taken now swept_names (places t)) some))
-      ∙ sym (all_beside (places t) texts etc (beside_all etc refl) (bares (with_directory now (edits_to (places t) texts) (all_taken now swept_names (places t))) etc))
+      ∙ parent_object_states 0 now (places t) (all_taken now swept_names (places t)) (λ r object_state. sym (all_taken_object_states now swept_names (refl, (refl, (refl, (refl, (refl, tt))))) (places t) r object_state)) etc refl
+      ∙ sym (ap (λ (x : Places). object_states x etc) (with_some now (edits_to (places t) texts) (all_taken now swept_names (places t)) some))
+      ∙ sym (all_beside (places t) texts etc (beside_all etc refl) (object_states (with_directory now (edits_to (places t) texts) (all_taken now swept_names (places t))) etc))
       ∙ sym (leaves_at requests now t texts well is etc)
     where
-      swept : bares (all_taken later swept_names (places u)) etc ≡ bares (places u) etc
-      swept = all_taken_bares later swept_names (refl, (refl, (refl, (refl, (refl, tt))))) (places u) etc refl
+      swept : object_states (all_taken later swept_names (places u)) etc ≡ object_states (places u) etc
+      swept = all_taken_object_states later swept_names (refl, (refl, (refl, (refl, (refl, tt))))) (places u) etc refl
 
       stands : is_some (all_taken later swept_names (places u) etc) ≡ true
       stands =
           is_some-same (all_taken later swept_names (places u) etc) (with_parent 0 (places t) etc etc) (swept ∙ there)
           ∙ some_put (places t)
 
-      again : (cs : List Edit) → bares (with_directory later cs (all_taken later swept_names (places u))) etc ≡ bares (places u) etc
+      again : (cs : List Edit) → object_states (with_directory later cs (all_taken later swept_names (places u))) etc ≡ object_states (places u) etc
       again [] = swept
-      again (c ∷ cs) = ap (λ b. bares (cond b (all_taken later swept_names (places u)) (made later etc (new_object parent_file later) (all_taken later swept_names (places u)))) etc) stands ∙ swept
+      again (c ∷ cs) = ap (λ b. object_states (cond b (all_taken later swept_names (places u)) (made later etc (new_object parent_file later) (all_taken later swept_names (places u)))) etc) stands ∙ swept
 
 -- ---- /etc
 
@@ -537,7 +537,7 @@ else_own : (t : Places) (path : Path) (mode : ℕ) (text : Option (List ℕ)) �
 else_own t path mode None far = tt
 else_own t path mode (Some text) far = else_edit t path mode text far
 
-etc_kept : (t : Places) (texts : Texts) (base : Places) (k : ℕ) → bares (fold (with_edit 0) base (take k (edits_to t texts))) etc ≡ bares base etc
+etc_kept : (t : Places) (texts : Texts) (base : Places) (k : ℕ) → object_states (fold (with_edit 0) base (take k (edits_to t texts))) etc ≡ object_states base etc
 etc_kept t texts base k = edits_left etc (take k (edits_to t texts)) (first_all (λ c. same_path c.path etc ≡ false) k (edits_to t texts) all) base
   where
     one : AreElse etc (edit_at t group_path 420 texts.group)
@@ -562,12 +562,12 @@ module _ (t : Places) where
       by None is = ap uid_in (there_put t is) ∙ sym (ap uid_in is)
       by (Some x) is = ap (λ (o : Option Object). uid_in (cond (is_some o) t (made 0 etc (new_object parent_file 0) t) etc)) is
 
-  put_way : why_blocked (kind_of (with_parent 0 t etc etc)) ≡ why_blocked (kind_of (t etc))
+  put_way : why_unsafe (kind_of (with_parent 0 t etc etc)) ≡ why_unsafe (kind_of (t etc))
   put_way = by (t etc) refl
     where
-      by : (o : Option Object) → t etc ≡ o → why_blocked (kind_of (with_parent 0 t etc etc)) ≡ why_blocked (kind_of (t etc))
-      by None is = ap (λ (o : Option Object). why_blocked (kind_of o)) (there_put t is) ∙ sym (ap (λ (o : Option Object). why_blocked (kind_of o)) is)
-      by (Some x) is = ap (λ (o : Option Object). why_blocked (kind_of (cond (is_some o) t (made 0 etc (new_object parent_file 0) t) etc))) is
+      by : (o : Option Object) → t etc ≡ o → why_unsafe (kind_of (with_parent 0 t etc etc)) ≡ why_unsafe (kind_of (t etc))
+      by None is = ap (λ (o : Option Object). why_unsafe (kind_of o)) (there_put t is) ∙ sym (ap (λ (o : Option Object). why_unsafe (kind_of o)) is)
+      by (Some x) is = ap (λ (o : Option Object). why_unsafe (kind_of (cond (is_some o) t (made 0 etc (new_object parent_file 0) t) etc))) is
 
 -- ---- all stops
 
@@ -597,12 +597,12 @@ way_mended requests allowed plain now later small t u tree way = by (unusable_te
     both_stay same e d = subst (λ (x : Files). EndAlike now later x (accounted requests later u)) (sym e) (subst (λ (y : Files). EndAlike now later t y) (sym d) (same_alike now later t u same))
 
     unusable_same : Same u t → unusable_texts (places u) ≡ unusable_texts (places t)
-    unusable_same same = unusables_same (places t) (places u) (beside t u same) (owner t u same) (blocked t u same)
+    unusable_same same = unusables_same (places t) (places u) (beside t u same) (owner t u same) (unsafe_component t u same)
 
     lacks_then : Same u t → (name : List ℕ) → (plan_at requests now (places t)).texts ≡ Err name → (plan_at requests later (places u)).texts ≡ Err name
     lacks_then same name e =
-        (λ i. (planned requests (all_ids (places t) (places u) (beside t u same) (owner t u same) (blocked t u same) requests plain i)
-        (files_same (places t) (places u) (beside t u same) (owner t u same) (blocked t u same) i) (day_of later)).texts)
+        (λ i. (planned requests (all_ids (places t) (places u) (beside t u same) (owner t u same) (unsafe_component t u same) requests plain i)
+        (files_same (places t) (places u) (beside t u same) (owner t u same) (unsafe_component t u same) i) (day_of later)).texts)
         ∙ plan_lacks requests (map (ids_of (places t)) requests) (files_at (places t)) (day_of now) (day_of later) name e
 
     same_come : (texts : Texts) → Same u t → HasCome (places t) (places u) texts
@@ -611,7 +611,7 @@ way_mended requests allowed plain now later small t u tree way = by (unusable_te
       gshadow = inl (same gshadow_path refl);
       shadow = inl (same shadow_path refl);
       passwd = inl (same passwd_path refl);
-      beside = λ q bare apart far. same q bare;
+      beside = λ q object_state apart far. same q object_state;
     }
 
     with_texts : (texts : Texts) → (plan_at requests now (places t)).texts ≡ Ok texts → unusable_texts (places t) ≡ [] → EndAlike now later (accounted requests now t) (accounted requests later u)
@@ -621,34 +621,34 @@ way_mended requests allowed plain now later small t u tree way = by (unusable_te
         are = edits_are requests now t texts well e
 
         from : AccountWay (edits_at requests now (places t)) t u → EndAlike now later (accounted requests now t) (accounted requests later u)
-        from (inl same) = alike requests allowed plain now later small t u tree texts well e (same_come texts same) (owner t u same) (blocked t u same)
+        from (inl same) = alike requests allowed plain now later small t u tree texts well e (same_come texts same) (owner t u same) (unsafe_component t u same)
             (λ day. same_accounted t u same requests now later plain day)
         from (inr h) =
             let some : 1 ≤ length (edits_to (places t) texts) = subst (λ (es : List Edit). 1 ≤ length es) are h.0 in
             let k : ℕ = h.1.0 in
-            let at : (q : Path) → has_staging q ≡ false → bares (places u) q ≡ bares (fold (with_edit 0) (with_parent 0 (places t) etc) (take k (edits_to (places t) texts))) q =
-            λ q bare. h.1.1.0 q bare ∙ ap (λ (es : List Edit). bares (fold (with_edit 0) (with_parent 0 (places t) etc) (take k es)) q) are in
+            let at : (q : Path) → has_staging q ≡ false → object_states (places u) q ≡ object_states (fold (with_edit 0) (with_parent 0 (places t) etc) (take k (edits_to (places t) texts))) q =
+            λ q object_state. h.1.1.0 q object_state ∙ ap (λ (es : List Edit). object_states (fold (with_edit 0) (with_parent 0 (places t) etc) (take k es)) q) are in
             put_first k some at
           where
             put_first : (k : ℕ) → 1 ≤ length (edits_to (places t) texts)
-                → ((q : Path) → has_staging q ≡ false → bares (places u) q ≡ bares (fold (with_edit 0) (with_parent 0 (places t) etc) (take k (edits_to (places t) texts))) q)
+                → ((q : Path) → has_staging q ≡ false → object_states (places u) q ≡ object_states (fold (with_edit 0) (with_parent 0 (places t) etc) (take k (edits_to (places t) texts))) q)
                 → EndAlike now later (accounted requests now t) (accounted requests later u)
             put_first k some at =
-                let has : HasCome (places t) (places u) texts = come (places t) (places u) (with_parent 0 (places t) etc) texts (directory_bares 0 (places t)) k at in
-                let there : bares (places u) etc ≡ bares (with_parent 0 (places t) etc) etc = at_directory k at in
-                alike requests allowed plain now later small t u tree texts well e has (uid_put there) (blocked_put there)
-                (same_day requests allowed plain now later small t u tree texts well e has (uid_put there) (blocked_put there)
-                (etc_put requests allowed plain now later small t u tree texts well e has (uid_put there) (blocked_put there) k some at there))
+                let has : HasCome (places t) (places u) texts = come (places t) (places u) (with_parent 0 (places t) etc) texts (directory_object_states 0 (places t)) k at in
+                let there : object_states (places u) etc ≡ object_states (with_parent 0 (places t) etc) etc = at_directory k at in
+                alike requests allowed plain now later small t u tree texts well e has (uid_put there) (unsafe_component_put there)
+                (same_day requests allowed plain now later small t u tree texts well e has (uid_put there) (unsafe_component_put there)
+                (etc_put requests allowed plain now later small t u tree texts well e has (uid_put there) (unsafe_component_put there) k some at there))
               where
-                at_directory : (k : ℕ) → ((q : Path) → has_staging q ≡ false → bares (places u) q ≡ bares (fold (with_edit 0) (with_parent 0 (places t) etc) (take k (edits_to (places t) texts))) q)
-                    → bares (places u) etc ≡ bares (with_parent 0 (places t) etc) etc
+                at_directory : (k : ℕ) → ((q : Path) → has_staging q ≡ false → object_states (places u) q ≡ object_states (fold (with_edit 0) (with_parent 0 (places t) etc) (take k (edits_to (places t) texts))) q)
+                    → object_states (places u) etc ≡ object_states (with_parent 0 (places t) etc) etc
                 at_directory k at = at etc refl ∙ etc_kept (places t) texts (with_parent 0 (places t) etc) k
 
-                uid_put : bares (places u) etc ≡ bares (with_parent 0 (places t) etc) etc → uid_in (places u etc) ≡ uid_in (places t etc)
+                uid_put : object_states (places u) etc ≡ object_states (with_parent 0 (places t) etc) etc → uid_in (places u etc) ≡ uid_in (places t etc)
                 uid_put there = seen_or (λ o. o.node.uid) 0 (λ o. refl) (places u etc) (with_parent 0 (places t) etc etc) there ∙ put_uid (places t)
 
-                blocked_put : bares (places u) etc ≡ bares (with_parent 0 (places t) etc) etc → why_blocked (kind_of (places u etc)) ≡ why_blocked (kind_of (places t etc))
-                blocked_put there = ap why_blocked (kind_of-same (places u etc) (with_parent 0 (places t) etc etc) there) ∙ put_way (places t)
+                unsafe_component_put : object_states (places u) etc ≡ object_states (with_parent 0 (places t) etc) etc → why_unsafe (kind_of (places u etc)) ≡ why_unsafe (kind_of (places t etc))
+                unsafe_component_put there = ap why_unsafe (kind_of-same (places u etc) (with_parent 0 (places t) etc etc) there) ∙ put_way (places t)
 
     by : (xs : List (List ℕ)) → unusable_texts (places t) ≡ xs → (r : Result Texts (List ℕ)) → (plan_at requests now (places t)).texts ≡ r → EndAlike now later (accounted requests now t) (accounted requests later u)
     by (x ∷ xs) e r d =
@@ -673,7 +673,7 @@ run_mended requests now small edits Q t h u k tree are run n later allowed =
 pub none_mended : (requests : List Request) (now : ℕ) → now < 2 ^ 64 → (t : Files) (h : List Step) → IsTree t → IsMended requests now t (drop (length h) h)
 none_mended requests now small t h tree n later allowed =
     way_mended requests allowed (plain_lines requests allowed) now later small t (after_all t (take n (drop (length h) h)) now) tree
-    (inl (subst (λ (steps : List Step). Same (after_all t (take n steps) now) t) (sym (drop-length h)) (λ q bare. ap (λ (steps : List Step). bares (places (after_all t steps now)) q) (none_taken n))))
+    (inl (subst (λ (steps : List Step). Same (after_all t (take n steps) now) t) (sym (drop-length h)) (λ q object_state. ap (λ (steps : List Step). object_states (places (after_all t steps now)) q) (none_taken n))))
   where
     none_taken : (j : ℕ) → ◌≡◌ {A = List Step} (take j []) []
     none_taken zero = refl

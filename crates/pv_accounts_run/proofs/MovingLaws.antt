@@ -7,7 +7,7 @@ use Rattle.pv_steps.specs.declared.object.Object.{Object}
 use Rattle.pv_steps.specs.Objects.{changed, modified}
 use Rattle.pv_steps.specs.Trees.{Places}
 use Rattle.pv_steps.specs.Steps.{put_at, on_at, touched, made, moved, moved_at, carried}
-use Rattle.pv_dress.proofs.EditLaws.{path_cases, put_at-else, on_at-else, moved_away, made-here}
+use Rattle.pv_metadata.proofs.EditLaws.{path_cases, put_at-else, on_at-else, moved_away, made-here}
 use Rattle.pv_walk.proofs.RemovalLaws.{no_same}
 use Rattle.pv_path.proofs.Tests.{true_not_false}
 

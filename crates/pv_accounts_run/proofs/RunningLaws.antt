@@ -11,8 +11,8 @@ use Rattle.pv_steps.specs.declared.tree.TreeFault.TheVariants as step
 use Rattle.pv_steps.specs.Trees.{Files, Places, places}
 use Rattle.pv_steps.specs.Steps.{made, put_at, touched}
 use Rattle.pv_steps.proofs.StepLaws.{same_files, is_among, places-tabulate, among_keys, is_some-touched}
-use Rattle.pv_dress.specs.Edits.{all_taken, cut, taken}
-use Rattle.pv_dress.proofs.EditLaws.{path_cases, put_at-else}
+use Rattle.pv_metadata.specs.Edits.{all_taken, cut, taken}
+use Rattle.pv_metadata.proofs.EditLaws.{path_cases, put_at-else}
 use Rattle.pv_walk.specs.Preparing.{parent_file}
 use Rattle.pv_walk.specs.Staging.{new_object}
 use Rattle.pv_doing.specs.declared.carried.Carried.{Carried}
@@ -20,14 +20,14 @@ use Rattle.pv_accounts_run.specs.declared.edit.Edit.{Edit}
 use Rattle.pv_accounts_run.specs.declared.accounts_fault.AccountsFault.{AccountsFault}
 use Rattle.pv_accounts_run.specs.declared.accounts_fault.AccountsFault.TheVariants.{NoFreeId, Failed, Memory}
 use Rattle.pv_accounts_run.specs.Edits.{edited, etc, with_edit}
-use Rattle.pv_accounts_run.specs.Carrying.{carried_out, swept_names, with_directory}
+use Rattle.pv_accounts_run.specs.FileWriting.{carried_out, swept_names, with_directory}
 use Rattle.pv_requests.specs.declared.request.Request.{Request}
-use Rattle.pv_sysusers.specs.Lines.{lines_from, said_duplicates}
+use Rattle.pv_sysusers.specs.Lines.{lines_from, duplicate_messages}
 use Rattle.pv_steps.specs.declared.step.Step.{Step}
 use Rattle.pv_steps.specs.declared.tree.Tree.{Ghosts}
 use Rattle.pv_steps.proofs.ActingLaws.{not_failed}
 use Rattle.pv_steps.specs.Acting.{Acted, refused}
-use Rattle.pv_accounts_run.specs.Accounted.{accounted, accounted_unless, carried_files, edits_at, edits_by, edits_unless, lacking_at, lacking_in, lacking_unless, plan_at, said_unless, unusable_texts}
+use Rattle.pv_accounts_run.specs.Accounted.{accounted, accounted_unless, carried_files, edits_at, edits_by, edits_unless, lacking_at, lacking_in, lacking_unless, plan_at, messages_unless, unusable_texts}
 use Rattle.pv_accounts_run.specs.Running.{in_steps, run_answer}
 use Rattle.pv_walk.proofs.PreparedLaws.{among_first}
 
@@ -121,9 +121,9 @@ pub some_accounted : (requests : List Request) (now : ℕ) (t : Files) → 1 ≤
 some_accounted requests now t h =
     sym (some_unless (unusable_texts (places t)) (lacking_at requests now (places t)) t (carried_files now (edits_at requests now (places t)) t) h)
 
-pub some_said : (requests : List Request) (xs said : List (List ℕ)) → 1 ≤ length xs → said_unless requests xs said ≡ said_duplicates [] (lines_from [] 0 requests) ++ xs
-some_said requests [] said h = absurd (omega (arith, h))
-some_said requests (x ∷ xs) said h = refl
+pub some_messages : (requests : List Request) (xs new_messages : List (List ℕ)) → 1 ≤ length xs → messages_unless requests xs new_messages ≡ duplicate_messages [] (lines_from [] 0 requests) ++ xs
+some_messages requests [] new_messages h = absurd (omega (arith, h))
+some_messages requests (x ∷ xs) new_messages h = refl
 
 pub some_lacking : (xs : List (List ℕ)) (lacking : Option (List ℕ)) → 1 ≤ length xs → lacking_unless xs lacking ≡ None
 some_lacking [] lacking h = absurd (omega (arith, h))

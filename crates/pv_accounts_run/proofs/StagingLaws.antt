@@ -7,12 +7,12 @@ use Rattle.pv_path.specs.Paths.{Path, same_path, is_prefix, parent_of, has_stagi
 use Rattle.pv_path.proofs.PathLaws.{is_prefix-append, rest_under-None, parent_of-staging_of, has_staging-staging_of, same_path-refl, not_prefix_not_same}
 use Rattle.pv_steps.specs.declared.node.Kind.TheVariants.{Directory, File}
 use Rattle.pv_steps.specs.declared.object.Object.{Object}
-use Rattle.pv_steps.specs.Objects.{bare}
+use Rattle.pv_steps.specs.Objects.{object_state}
 use Rattle.pv_steps.specs.Trees.{Places, kind_of, IsKindIn}
 use Rattle.pv_steps.proofs.TreeLaws.{present_of_kind, kind_of-touched}
 use Rattle.pv_steps.specs.Steps.{moved_at, touched, put_at, Movable, Yields, absent, objects}
-use Rattle.pv_steps.specs.Same.{bares}
-use Rattle.pv_dress.proofs.EditLaws.{put_at-else, bares-made, bares-put_else, staging_outside}
+use Rattle.pv_steps.specs.Same.{object_states}
+use Rattle.pv_metadata.proofs.EditLaws.{put_at-else, object_states-made, object_states-put_else, staging_outside}
 use Rattle.pv_walk.proofs.PublishLaws.{staging_nonempty, stage_outside, path_outside}
 use Rattle.pv_walk.proofs.PuttingLaws.{made-none}
 use Rattle.pv_accounts_run.specs.declared.edit.Edit.{Edit}
@@ -44,10 +44,10 @@ module _ (c : Edit) (is : IsEdit c) where
 
   -- ---- stamps aside, staging changes nothing that has no staging name
 
-  pub bares_staged : (now : ℕ) (t : Places) (q : Path) → has_staging q ≡ false → bares (with_staged now t c) q ≡ bares t q
-  bares_staged now t q plain =
-      bares-made now (staging_of c.path) (edited now c) t q
-      ∙ bares-put_else (staging_of c.path) q (Some (edited now c)) t (not_prefix_not_same (staging_of c.path) q (stage_plain q plain))
+  pub object_states_staged : (now : ℕ) (t : Places) (q : Path) → has_staging q ≡ false → object_states (with_staged now t c) q ≡ object_states t q
+  object_states_staged now t q plain =
+      object_states-made now (staging_of c.path) (edited now c) t q
+      ∙ object_states-put_else (staging_of c.path) q (Some (edited now c)) t (not_prefix_not_same (staging_of c.path) q (stage_plain q plain))
 
   -- ---- kinds
 
@@ -153,22 +153,22 @@ module _ (now : ℕ) where
       (pushed c cs are.0 are.1.0 are.1.1 (with_staged now t c) ∙ ap (λ (x : Places). fold (with_staged now) x cs) (published_here now c are.0 t rooms.0))
       ∙ published_all cs are.1.1 (with_edit now t c) (rooms_after c cs are.0 are.1.0 are.1.1 t rooms.1)
 
-  pub bares_all_staged : (cs : List Edit) → AreEdits cs → (t : Places) (q : Path) → has_staging q ≡ false → bares (fold (with_staged now) t cs) q ≡ bares t q
-  bares_all_staged [] are t q plain = refl
-  bares_all_staged (c ∷ cs) are t q plain = bares_all_staged cs are.1.1 (with_staged now t c) q plain ∙ bares_staged c are.0 now t q plain
+  pub object_states_all_staged : (cs : List Edit) → AreEdits cs → (t : Places) (q : Path) → has_staging q ≡ false → object_states (fold (with_staged now) t cs) q ≡ object_states t q
+  object_states_all_staged [] are t q plain = refl
+  object_states_all_staged (c ∷ cs) are t q plain = object_states_all_staged cs are.1.1 (with_staged now t c) q plain ∙ object_states_staged c are.0 now t q plain
 
   -- stamps aside, the moment does not count
-  pub bares_edits : (later : ℕ) (cs : List Edit) (t u : Places) → ((q : Path) → has_staging q ≡ false → bares t q ≡ bares u q)
-      → (q : Path) → has_staging q ≡ false → bares (fold (with_edit now) t cs) q ≡ bares (fold (with_edit later) u cs) q
-  bares_edits later [] t u same q plain = same q plain
-  bares_edits later (c ∷ cs) t u same q plain = bares_edits later cs (with_edit now t c) (with_edit later u c) one q plain
+  pub object_states_edits : (later : ℕ) (cs : List Edit) (t u : Places) → ((q : Path) → has_staging q ≡ false → object_states t q ≡ object_states u q)
+      → (q : Path) → has_staging q ≡ false → object_states (fold (with_edit now) t cs) q ≡ object_states (fold (with_edit later) u cs) q
+  object_states_edits later [] t u same q plain = same q plain
+  object_states_edits later (c ∷ cs) t u same q plain = object_states_edits later cs (with_edit now t c) (with_edit later u c) one q plain
     where
-      by : (b : Bool) (x y : Option Object) → option_map bare x ≡ option_map bare y
-          → option_map bare (cond b (Some (edited now c)) x) ≡ option_map bare (cond b (Some (edited later c)) y)
+      by : (b : Bool) (x y : Option Object) → option_map object_state x ≡ option_map object_state y
+          → option_map object_state (cond b (Some (edited now c)) x) ≡ option_map object_state (cond b (Some (edited later c)) y)
       by true x y e = refl
       by false x y e = e
 
-      one : (q : Path) → has_staging q ≡ false → bares (with_edit now t c) q ≡ bares (with_edit later u c) q
+      one : (q : Path) → has_staging q ≡ false → object_states (with_edit now t c) q ≡ object_states (with_edit later u c) q
       one q plain =
-          bares-made now c.path (edited now c) t q ∙ by (same_path c.path q) (t q) (u q) (same q plain)
-          ∙ sym (bares-made later c.path (edited later c) u q)
+          object_states-made now c.path (edited now c) t q ∙ by (same_path c.path q) (t q) (u q) (same q plain)
+          ∙ sym (object_states-made later c.path (edited later c) u q)

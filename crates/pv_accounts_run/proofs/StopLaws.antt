@@ -9,17 +9,17 @@ use Rattle.pv_path.specs.Paths.{Path, has_staging, same_path}
 use Rattle.pv_path.proofs.PathLaws.{same_bytes-decides, same_bytes-refl}
 use Rattle.pv_steps.specs.declared.node.Kind.TheVariants.{File}
 use Rattle.pv_steps.specs.declared.object.Object.{Object}
-use Rattle.pv_steps.specs.Objects.{bare}
-use Rattle.pv_steps.specs.Same.{bares}
+use Rattle.pv_steps.specs.Objects.{object_state}
+use Rattle.pv_steps.specs.Same.{object_states}
 use Rattle.pv_steps.specs.Trees.{Places, kind_of}
-use Rattle.pv_dress.specs.Nodes.{bare_of}
-use Rattle.pv_dress.proofs.EditLaws.{bares-made}
+use Rattle.pv_metadata.specs.Nodes.{object_state_of}
+use Rattle.pv_metadata.proofs.EditLaws.{object_states-made}
 use Rattle.pv_walk.specs.Removal.{is_one_of}
 use Rattle.pv_sysusers.specs.declared.planned.Texts.{Texts}
 use Rattle.pv_accounts_run.specs.declared.edit.Edit.{Edit}
 use Rattle.pv_accounts_run.specs.Edits.{edited, etc, with_edit}
-use Rattle.pv_accounts_run.specs.Carrying.{account_paths, gshadow_path, shadow_path}
-use Rattle.pv_accounts_run.specs.Accounted.{edit_at, edit_to, edits_to, plain_dress, text_at}
+use Rattle.pv_accounts_run.specs.FileWriting.{account_paths, gshadow_path, shadow_path}
+use Rattle.pv_accounts_run.specs.Accounted.{edit_at, edit_to, edits_to, plain_metadata, text_at}
 use Rattle.pv_layers.specs.Places.{group_path, passwd_path}
 use Rattle.pv_accounts_run.proofs.SameLaws.{seen, seen_or, uid_in}
 use Rattle.pv_steps.proofs.ObjectLaws.{kind_of-same}
@@ -27,13 +27,13 @@ use Rattle.pv_steps.proofs.ObjectLaws.{kind_of-same}
 -- ---- what edits leave at a path, stamps aside
 
 -- the new file at a path, stamps aside
-abbrev pub new_bare : Places → Path → ℕ → List ℕ → Option Object
-new_bare t path mode text = option_map bare (Some (edited 0 (edit_to t path mode text)))
+abbrev pub new_object_state : Places → Path → ℕ → List ℕ → Option Object
+new_object_state t path mode text = option_map object_state (Some (edited 0 (edit_to t path mode text)))
 
 -- what stands at a path of which a text is told, where it is not that of the file
 abbrev pub own_new : Places → Path → ℕ → Option (List ℕ) → Option Object → Option Object
 own_new t path mode None o = o
-own_new t path mode (Some text) o = if same_bytes text (unwrap_or (text_at t path) []) then o else new_bare t path mode text
+own_new t path mode (Some text) o = if same_bytes text (unwrap_or (text_at t path) []) then o else new_object_state t path mode text
 
 -- what stands at another path, or at that one
 abbrev pub after : Places → Path → ℕ → Option (List ℕ) → Path → Option Object → Option Object
@@ -47,17 +47,17 @@ abbrev own_edits : Places → Path → ℕ → Option (List ℕ) → List Edit
 own_edits t path mode text = option_map_or (edit_at t path mode) text []
 
 after_edit : (now : ℕ) (t base : Places) (path : Path) (mode : ℕ) (text : Option (List ℕ)) (q : Path)
-    → bares (fold (with_edit now) base (own_edits t path mode text)) q ≡ after t path mode text q (bares base q)
-after_edit now t base path mode None q = either_way (same_path path q) (bares base q)
+    → object_states (fold (with_edit now) base (own_edits t path mode text)) q ≡ after t path mode text q (object_states base q)
+after_edit now t base path mode None q = either_way (same_path path q) (object_states base q)
 after_edit now t base path mode (Some text) q = by (same_bytes text (unwrap_or (text_at t path) []))
   where
-    put : (b : Bool) → option_map bare (cond b (Some (edited now (edit_to t path mode text))) (base q)) ≡ (if b then new_bare t path mode text else bares base q)
+    put : (b : Bool) → option_map object_state (cond b (Some (edited now (edit_to t path mode text))) (base q)) ≡ (if b then new_object_state t path mode text else object_states base q)
     put true = refl
     put false = refl
 
-    by : (b : Bool) → bares (fold (with_edit now) base (if b then [] else edit_to t path mode text ∷ [])) q ≡ (if same_path path q then (if b then bares base q else new_bare t path mode text) else bares base q)
-    by true = either_way (same_path path q) (bares base q)
-    by false = bares-made now path (edited now (edit_to t path mode text)) base q ∙ put (same_path path q)
+    by : (b : Bool) → object_states (fold (with_edit now) base (if b then [] else edit_to t path mode text ∷ [])) q ≡ (if same_path path q then (if b then object_states base q else new_object_state t path mode text) else object_states base q)
+    by true = either_way (same_path path q) (object_states base q)
+    by false = object_states-made now path (edited now (edit_to t path mode text)) base q ∙ put (same_path path q)
 
 -- the same of the edits of one file after another
 module _ (t : Places) (texts : Texts) where
@@ -83,26 +83,26 @@ module _ (t : Places) (texts : Texts) where
   after_all_edits q o = after t passwd_path 420 (Some texts.passwd) q (after_three q o)
 
   module _ (now : ℕ) (base : Places) (q : Path) where
-    bares_one : bares (fold (with_edit now) base one) q ≡ after_one q (bares base q)
-    bares_one = after_edit now t base group_path 420 (Some texts.group) q
+    object_states_one : object_states (fold (with_edit now) base one) q ≡ after_one q (object_states base q)
+    object_states_one = after_edit now t base group_path 420 (Some texts.group) q
 
-    bares_two : bares (fold (with_edit now) base two) q ≡ after_two q (bares base q)
-    bares_two =
-        ap (λ (x : Places). bares x q) (fold-append (with_edit now) base one (own_edits t gshadow_path 0 texts.gshadow))
+    object_states_two : object_states (fold (with_edit now) base two) q ≡ after_two q (object_states base q)
+    object_states_two =
+        ap (λ (x : Places). object_states x q) (fold-append (with_edit now) base one (own_edits t gshadow_path 0 texts.gshadow))
         ∙ after_edit now t (fold (with_edit now) base one) gshadow_path 0 texts.gshadow q
-        ∙ ap (after t gshadow_path 0 texts.gshadow q) bares_one
+        ∙ ap (after t gshadow_path 0 texts.gshadow q) object_states_one
 
-    bares_three : bares (fold (with_edit now) base three) q ≡ after_three q (bares base q)
-    bares_three =
-        ap (λ (x : Places). bares x q) (fold-append (with_edit now) base two (edit_at t shadow_path 0 texts.shadow))
+    object_states_three : object_states (fold (with_edit now) base three) q ≡ after_three q (object_states base q)
+    object_states_three =
+        ap (λ (x : Places). object_states x q) (fold-append (with_edit now) base two (edit_at t shadow_path 0 texts.shadow))
         ∙ after_edit now t (fold (with_edit now) base two) shadow_path 0 (Some texts.shadow) q
-        ∙ ap (after t shadow_path 0 (Some texts.shadow) q) bares_two
+        ∙ ap (after t shadow_path 0 (Some texts.shadow) q) object_states_two
 
-    pub bares_all : bares (fold (with_edit now) base (edits_to t texts)) q ≡ after_all_edits q (bares base q)
-    bares_all =
-        ap (λ (x : Places). bares x q) (fold-append (with_edit now) base three (edit_at t passwd_path 420 texts.passwd))
+    pub object_states_all : object_states (fold (with_edit now) base (edits_to t texts)) q ≡ after_all_edits q (object_states base q)
+    object_states_all =
+        ap (λ (x : Places). object_states x q) (fold-append (with_edit now) base three (edit_at t passwd_path 420 texts.passwd))
         ∙ after_edit now t (fold (with_edit now) base three) passwd_path 420 (Some texts.passwd) q
-        ∙ ap (after t passwd_path 420 (Some texts.passwd) q) bares_three
+        ∙ ap (after t passwd_path 420 (Some texts.passwd) q) object_states_three
 
 -- ---- how far a run has come
 
@@ -139,22 +139,22 @@ take_cases (suc k) (x ∷ xs) ys short = by (take_cases k xs ys short)
 
 -- a file is as it was, or new
 abbrev pub IsAs : Places → Places → Path → ℕ → Option (List ℕ) → Type 0
-IsAs t u path mode text = (bares u path ≡ bares t path) ⊎ (bares u path ≡ own_new t path mode text (bares t path))
+IsAs t u path mode text = (object_states u path ≡ object_states t path) ⊎ (object_states u path ≡ own_new t path mode text (object_states t path))
 
 -- all are new
 pub record AreNew (t u : Places) (texts : Texts) : Type 0 where
-  pub group : bares u group_path ≡ own_new t group_path 420 (Some texts.group) (bares t group_path)
-  pub gshadow : bares u gshadow_path ≡ own_new t gshadow_path 0 texts.gshadow (bares t gshadow_path)
-  pub shadow : bares u shadow_path ≡ own_new t shadow_path 0 (Some texts.shadow) (bares t shadow_path)
-  pub passwd : bares u passwd_path ≡ own_new t passwd_path 420 (Some texts.passwd) (bares t passwd_path)
+  pub group : object_states u group_path ≡ own_new t group_path 420 (Some texts.group) (object_states t group_path)
+  pub gshadow : object_states u gshadow_path ≡ own_new t gshadow_path 0 texts.gshadow (object_states t gshadow_path)
+  pub shadow : object_states u shadow_path ≡ own_new t shadow_path 0 (Some texts.shadow) (object_states t shadow_path)
+  pub passwd : object_states u passwd_path ≡ own_new t passwd_path 420 (Some texts.passwd) (object_states t passwd_path)
 
 -- what a run that came so far has left, stamps and staging names aside
 pub record HasCome (t u : Places) (texts : Texts) : Type 0 where
   pub group : IsAs t u group_path 420 (Some texts.group)
   pub gshadow : IsAs t u gshadow_path 0 texts.gshadow
   pub shadow : IsAs t u shadow_path 0 (Some texts.shadow)
-  pub passwd : (bares u passwd_path ≡ bares t passwd_path) ⊎ AreNew t u texts
-  pub beside : (q : Path) → has_staging q ≡ false → same_path etc q ≡ false → is_one_of account_paths q ≡ false → bares u q ≡ bares t q
+  pub passwd : (object_states u passwd_path ≡ object_states t passwd_path) ⊎ AreNew t u texts
+  pub beside : (q : Path) → has_staging q ≡ false → same_path etc q ≡ false → is_one_of account_paths q ≡ false → object_states u q ≡ object_states t q
 
 -- a path that is none of the account files
 pub record IsBesideAll (q : Path) : Type 0 where
@@ -185,19 +185,19 @@ module _ (t : Places) (texts : Texts) (q : Path) (far : IsBesideAll q) (o : Opti
   all_beside = ap (λ b. if b then own_new t passwd_path 420 (Some texts.passwd) (after_three t texts q o) else after_three t texts q o) far.passwd ∙ three_beside
 
 -- from where nothing but /etc has been put, after the first edits
-module _ (t u base : Places) (texts : Texts) (start : (q : Path) → same_path etc q ≡ false → bares base q ≡ bares t q) (k : ℕ)
-    (at : (q : Path) → has_staging q ≡ false → bares u q ≡ bares (fold (with_edit 0) base (take k (edits_to t texts))) q) where
-  step : (es : List Edit) → take k (edits_to t texts) ≡ es → (q : Path) → has_staging q ≡ false → bares u q ≡ bares (fold (with_edit 0) base es) q
-  step es e q plain = at q plain ∙ ap (λ (xs : List Edit). bares (fold (with_edit 0) base xs) q) e
+module _ (t u base : Places) (texts : Texts) (start : (q : Path) → same_path etc q ≡ false → object_states base q ≡ object_states t q) (k : ℕ)
+    (at : (q : Path) → has_staging q ≡ false → object_states u q ≡ object_states (fold (with_edit 0) base (take k (edits_to t texts))) q) where
+  step : (es : List Edit) → take k (edits_to t texts) ≡ es → (q : Path) → has_staging q ≡ false → object_states u q ≡ object_states (fold (with_edit 0) base es) q
+  step es e q plain = at q plain ∙ ap (λ (xs : List Edit). object_states (fold (with_edit 0) base xs) q) e
 
   abbrev all : List Edit
   all = edits_to t texts
 
   come_all : take k all ≡ all → HasCome t u texts
-  come_all e = record { group = inr new.group; gshadow = inr new.gshadow; shadow = inr new.shadow; passwd = inr new; beside = λ q plain apart far. went q plain ∙ all_beside t texts q (beside_all q far) (bares base q) ∙ start q apart }
+  come_all e = record { group = inr new.group; gshadow = inr new.gshadow; shadow = inr new.shadow; passwd = inr new; beside = λ q plain apart far. went q plain ∙ all_beside t texts q (beside_all q far) (object_states base q) ∙ start q apart }
     where
-      went : (q : Path) → has_staging q ≡ false → bares u q ≡ after_all_edits t texts q (bares base q)
-      went q plain = step all e q plain ∙ bares_all t texts 0 base q
+      went : (q : Path) → has_staging q ≡ false → object_states u q ≡ after_all_edits t texts q (object_states base q)
+      went q plain = step all e q plain ∙ object_states_all t texts 0 base q
 
       new : AreNew t u texts
       new = record {
@@ -213,11 +213,11 @@ module _ (t u base : Places) (texts : Texts) (start : (q : Path) → same_path e
     gshadow = inr (went gshadow_path refl ∙ ap (own_new t gshadow_path 0 texts.gshadow) (start gshadow_path refl));
     shadow = inr (went shadow_path refl ∙ ap (own_new t shadow_path 0 (Some texts.shadow)) (start shadow_path refl));
     passwd = inl (went passwd_path refl ∙ start passwd_path refl);
-    beside = λ q plain apart far. went q plain ∙ three_beside t texts q (beside_all q far) (bares base q) ∙ start q apart;
+    beside = λ q plain apart far. went q plain ∙ three_beside t texts q (beside_all q far) (object_states base q) ∙ start q apart;
   }
     where
-      went : (q : Path) → has_staging q ≡ false → bares u q ≡ after_three t texts q (bares base q)
-      went q plain = step (three t texts) e q plain ∙ bares_three t texts 0 base q
+      went : (q : Path) → has_staging q ≡ false → object_states u q ≡ after_three t texts q (object_states base q)
+      went q plain = step (three t texts) e q plain ∙ object_states_three t texts 0 base q
 
   come_two : take k all ≡ two t texts → HasCome t u texts
   come_two e = record {
@@ -225,11 +225,11 @@ module _ (t u base : Places) (texts : Texts) (start : (q : Path) → same_path e
     gshadow = inr (went gshadow_path refl ∙ ap (own_new t gshadow_path 0 texts.gshadow) (start gshadow_path refl));
     shadow = inl (went shadow_path refl ∙ start shadow_path refl);
     passwd = inl (went passwd_path refl ∙ start passwd_path refl);
-    beside = λ q plain apart far. went q plain ∙ two_beside t texts q (beside_all q far) (bares base q) ∙ start q apart;
+    beside = λ q plain apart far. went q plain ∙ two_beside t texts q (beside_all q far) (object_states base q) ∙ start q apart;
   }
     where
-      went : (q : Path) → has_staging q ≡ false → bares u q ≡ after_two t texts q (bares base q)
-      went q plain = step (two t texts) e q plain ∙ bares_two t texts 0 base q
+      went : (q : Path) → has_staging q ≡ false → object_states u q ≡ after_two t texts q (object_states base q)
+      went q plain = step (two t texts) e q plain ∙ object_states_two t texts 0 base q
 
   come_one : take k all ≡ one t texts → HasCome t u texts
   come_one e = record {
@@ -237,11 +237,11 @@ module _ (t u base : Places) (texts : Texts) (start : (q : Path) → same_path e
     gshadow = inl (went gshadow_path refl ∙ start gshadow_path refl);
     shadow = inl (went shadow_path refl ∙ start shadow_path refl);
     passwd = inl (went passwd_path refl ∙ start passwd_path refl);
-    beside = λ q plain apart far. went q plain ∙ one_beside t texts q (beside_all q far) (bares base q) ∙ start q apart;
+    beside = λ q plain apart far. went q plain ∙ one_beside t texts q (beside_all q far) (object_states base q) ∙ start q apart;
   }
     where
-      went : (q : Path) → has_staging q ≡ false → bares u q ≡ after_one t texts q (bares base q)
-      went q plain = step (one t texts) e q plain ∙ bares_one t texts 0 base q
+      went : (q : Path) → has_staging q ≡ false → object_states u q ≡ after_one t texts q (object_states base q)
+      went q plain = step (one t texts) e q plain ∙ object_states_one t texts 0 base q
 
   come_none : take k all ≡ [] → HasCome t u texts
   come_none e = record {
@@ -278,16 +278,16 @@ kind_new : (o : Object) → o.node.kind ≡ File → kind_of (Some o) ≡ Some F
 kind_new o e = ap (λ k. Some k) e
 
 module _ (t u : Places) (path : Path) (mode : ℕ) where
-  text_seen : (a : Option Object) → bares u path ≡ option_map bare a → text_at u path ≡ option_map (λ o. o.payload) a
+  text_seen : (a : Option Object) → object_states u path ≡ option_map object_state a → text_at u path ≡ option_map (λ o. o.payload) a
   text_seen a e = seen (λ o. o.payload) (λ o. refl) (u path) a e
 
-  uid_seen : (a : Option Object) → bares u path ≡ option_map bare a → uid_in (u path) ≡ uid_in a
+  uid_seen : (a : Option Object) → object_states u path ≡ option_map object_state a → uid_in (u path) ≡ uid_in a
   uid_seen a e = seen_or (λ o. o.node.uid) 0 (λ o. refl) (u path) a e
 
   new_uid : (text : List ℕ) → uid_in (Some (edited 0 (edit_to t path mode text))) ≡ uid_in (t path)
   new_uid text = by (t path)
     where
-      by : (o : Option Object) → (option_map_or (λ x. (bare_of x).dress) o (plain_dress mode)).uid ≡ uid_in o
+      by : (o : Option Object) → (option_map_or (λ x. (object_state_of x).metadata) o (plain_metadata mode)).uid ≡ uid_in o
       by None = refl
       by (Some x) = refl
 
@@ -297,11 +297,11 @@ module _ (t u : Places) (path : Path) (mode : ℕ) where
   owner_as None (inr e) = uid_seen (t path) e
   owner_as (Some text) (inr e) = by (same_bytes text (unwrap_or (text_at t path) [])) e
     where
-      by : (b : Bool) → bares u path ≡ (if b then bares t path else new_bare t path mode text) → uid_in (u path) ≡ uid_in (t path)
+      by : (b : Bool) → object_states u path ≡ (if b then object_states t path else new_object_state t path mode text) → uid_in (u path) ≡ uid_in (t path)
       by true k = uid_seen (t path) k
       by false k = uid_seen (Some (edited 0 (edit_to t path mode text))) k ∙ new_uid text
 
-  kind_seen : (a : Option Object) → bares u path ≡ option_map bare a → kind_of (u path) ≡ kind_of a
+  kind_seen : (a : Option Object) → object_states u path ≡ option_map object_state a → kind_of (u path) ≡ kind_of a
   kind_seen a e = kind_of-same (u path) a e
 
   -- its kind stays, or it is a file
@@ -310,53 +310,53 @@ module _ (t u : Places) (path : Path) (mode : ℕ) where
   kind_as None (inr e) = inl (kind_seen (t path) e)
   kind_as (Some text) (inr e) = by (same_bytes text (unwrap_or (text_at t path) [])) e
     where
-      by : (b : Bool) → bares u path ≡ (if b then bares t path else new_bare t path mode text) → (kind_of (u path) ≡ kind_of (t path)) ⊎ (kind_of (u path) ≡ Some File)
+      by : (b : Bool) → object_states u path ≡ (if b then object_states t path else new_object_state t path mode text) → (kind_of (u path) ≡ kind_of (t path)) ⊎ (kind_of (u path) ≡ Some File)
       by true k = inl (kind_seen (t path) k)
       by false k = inr (kind_seen (Some (edited 0 (edit_to t path mode text))) k)
 
   -- a new file has the new text
-  pub text_new : (text : List ℕ) → bares u path ≡ own_new t path mode (Some text) (bares t path) → unwrap_or (text_at u path) [] ≡ text
+  pub text_new : (text : List ℕ) → object_states u path ≡ own_new t path mode (Some text) (object_states t path) → unwrap_or (text_at u path) [] ≡ text
   text_new text e = by (same_bytes text (unwrap_or (text_at t path) [])) refl e
     where
-      by : (b : Bool) → same_bytes text (unwrap_or (text_at t path) []) ≡ b → bares u path ≡ (if b then bares t path else new_bare t path mode text) → unwrap_or (text_at u path) [] ≡ text
+      by : (b : Bool) → same_bytes text (unwrap_or (text_at t path) []) ≡ b → object_states u path ≡ (if b then object_states t path else new_object_state t path mode text) → unwrap_or (text_at u path) [] ≡ text
       by true d k = ap (λ o. unwrap_or o []) (text_seen (t path) k) ∙ sym ((same_bytes-decides text (unwrap_or (text_at t path) [])).0 d)
       by false d k = ap (λ o. unwrap_or o []) (text_seen (Some (edited 0 (edit_to t path mode text))) k)
 
   -- one that may be absent is as it was, or has it
-  pub own_text_new : (text : List ℕ) → bares u path ≡ own_new t path mode (Some text) (bares t path) → (text_at u path ≡ text_at t path) ⊎ (text_at u path ≡ Some text)
+  pub own_text_new : (text : List ℕ) → object_states u path ≡ own_new t path mode (Some text) (object_states t path) → (text_at u path ≡ text_at t path) ⊎ (text_at u path ≡ Some text)
   own_text_new text e = by (same_bytes text (unwrap_or (text_at t path) [])) e
     where
-      by : (b : Bool) → bares u path ≡ (if b then bares t path else new_bare t path mode text) → (text_at u path ≡ text_at t path) ⊎ (text_at u path ≡ Some text)
+      by : (b : Bool) → object_states u path ≡ (if b then object_states t path else new_object_state t path mode text) → (text_at u path ≡ text_at t path) ⊎ (text_at u path ≡ Some text)
       by true k = inl (text_seen (t path) k)
       by false k = inr (text_seen (Some (edited 0 (edit_to t path mode text))) k)
 
   -- and where it was there, it has it
-  pub there_text_new : (old text : List ℕ) → text_at t path ≡ Some old → bares u path ≡ own_new t path mode (Some text) (bares t path) → text_at u path ≡ Some text
+  pub there_text_new : (old text : List ℕ) → text_at t path ≡ Some old → object_states u path ≡ own_new t path mode (Some text) (object_states t path) → text_at u path ≡ Some text
   there_text_new old text was e = by (same_bytes text (unwrap_or (text_at t path) [])) refl e
     where
-      by : (b : Bool) → same_bytes text (unwrap_or (text_at t path) []) ≡ b → bares u path ≡ (if b then bares t path else new_bare t path mode text) → text_at u path ≡ Some text
+      by : (b : Bool) → same_bytes text (unwrap_or (text_at t path) []) ≡ b → object_states u path ≡ (if b then object_states t path else new_object_state t path mode text) → text_at u path ≡ Some text
       by true d k =
           text_seen (t path) k ∙ was
           ∙ ap (λ (x : List ℕ). Some x) (sym ((same_bytes-decides text (unwrap_or (text_at t path) [])).0 d ∙ ap (λ o. unwrap_or o []) was))
       by false d k = text_seen (Some (edited 0 (edit_to t path mode text))) k
 
   -- an edit made of what is the same leaves the same
-  own_same : (text : Option (List ℕ)) → bares u path ≡ bares t path → own_new u path mode text (bares u path) ≡ own_new t path mode text (bares t path)
+  own_same : (text : Option (List ℕ)) → object_states u path ≡ object_states t path → own_new u path mode text (object_states u path) ≡ own_new t path mode text (object_states t path)
   own_same None e = e
   own_same (Some text) e = λ i.
       if same_bytes text (unwrap_or (text_seen (t path) e i) []) then e i
-      else option_map bare (Some (edited 0 (record { path = path; text = text; dress = seen_or (λ o. (bare_of o).dress) (plain_dress mode) (λ o. refl) (u path) (t path) e i })))
+      else option_map object_state (Some (edited 0 (record { path = path; text = text; metadata = seen_or (λ o. (object_state_of o).metadata) (plain_metadata mode) (λ o. refl) (u path) (t path) e i })))
 
   -- and so does one that is made again
-  pub own_again : (text : Option (List ℕ)) → IsAs t u path mode text → own_new u path mode text (bares u path) ≡ own_new t path mode text (bares t path)
+  pub own_again : (text : Option (List ℕ)) → IsAs t u path mode text → own_new u path mode text (object_states u path) ≡ own_new t path mode text (object_states t path)
   own_again text (inl e) = own_same text e
   own_again None (inr e) = e
   own_again (Some text) (inr e) = by (same_bytes text (unwrap_or (text_at t path) [])) refl e
     where
-      by : (b : Bool) → same_bytes text (unwrap_or (text_at t path) []) ≡ b → bares u path ≡ (if b then bares t path else new_bare t path mode text)
-          → own_new u path mode (Some text) (bares u path) ≡ own_new t path mode (Some text) (bares t path)
+      by : (b : Bool) → same_bytes text (unwrap_or (text_at t path) []) ≡ b → object_states u path ≡ (if b then object_states t path else new_object_state t path mode text)
+          → own_new u path mode (Some text) (object_states u path) ≡ own_new t path mode (Some text) (object_states t path)
       by true d k = own_same (Some text) k
       by false d k =
-          ap (λ b. if b then bares u path else new_bare u path mode text)
+          ap (λ b. if b then object_states u path else new_object_state u path mode text)
           (ap (λ o. same_bytes text (unwrap_or o [])) (text_seen (Some (edited 0 (edit_to t path mode text))) k) ∙ same_bytes-refl text)
-          ∙ k ∙ sym (ap (λ b. if b then bares t path else new_bare t path mode text) d)
+          ∙ k ∙ sym (ap (λ b. if b then object_states t path else new_object_state t path mode text) d)

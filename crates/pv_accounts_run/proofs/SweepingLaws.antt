@@ -7,7 +7,7 @@ use Rattle.std.proofs.Math.Bool.{or-true}
 use Rattle.std.proofs.lemmas.Bool.{cases_Bool}
 use Rattle.pv_path.specs.Paths.{Path, is_prefix, staging_of}
 use Rattle.pv_path.proofs.PathLaws.{is_prefix-refl}
-use Rattle.pv_steps.specs.Objects.{bare}
+use Rattle.pv_steps.specs.Objects.{object_state}
 use Rattle.pv_steps.specs.Trees.{Files, Places, places, IsAbsentIn, IsTree}
 use Rattle.pv_steps.specs.Steps.{touched}
 use Rattle.pv_steps.specs.Content.{Removes}
@@ -16,7 +16,7 @@ use Rattle.pv_steps.specs.declared.tree.Tree.{Ghosts}
 use Rattle.pv_steps.specs.declared.tree.TreeFault.{TreeFault}
 use Rattle.pv_steps.specs.Acting.{Acted}
 use Rattle.pv_steps.proofs.ActingLaws.{Moves, well, acted_none, acted_within}
-use Rattle.pv_dress.specs.Edits.{Pruned, cut, taken, all_taken, count_at}
+use Rattle.pv_metadata.specs.Edits.{Pruned, cut, taken, all_taken, count_at}
 use Rattle.pv_walk.specs.Staging.{count_at_all, is_under_any, staging_names}
 use Rattle.pv_walk.proofs.Removing.{prune_then}
 use Rattle.pv_walk.proofs.SweepLaws.{pruned-none, pruned_count}
@@ -24,7 +24,7 @@ use Rattle.pv_walk.proofs.PreparingSweep.{swept_along}
 use Rattle.pv_walk.proofs.PuttingOverLaws.{count_absent}
 use Rattle.pv_accounts_run.specs.Edits.{etc}
 use Rattle.pv_layers.specs.Places.{group_path, passwd_path}
-use Rattle.pv_accounts_run.specs.Carrying.{IsSweptPath, account_paths, gshadow_path, shadow_path, swept_names}
+use Rattle.pv_accounts_run.specs.FileWriting.{IsSweptPath, account_paths, gshadow_path, shadow_path, swept_names}
 
 -- where nothing stands nothing is taken
 taken_absent : (now : ℕ) (x : Path) (t : Places) → IsAbsentIn t x → taken now x t ≡ t
@@ -90,11 +90,11 @@ module _ (path : Path) (is : IsSweptPath path) where
 pub absent_stays : (inside : Path → Bool) (t u : Files) → Pruned inside t u → (q : Path) → IsAbsentIn (places t) q → IsAbsentIn (places u) q
 absent_stays inside t u p q none = by (cases_Bool (inside q))
   where
-    absent : (x y : Option Object) → option_map bare y ≡ option_map bare x → x ≡ None → y ≡ None
+    absent : (x y : Option Object) → option_map object_state y ≡ option_map object_state x → x ≡ None → y ≡ None
     absent x None same gone = refl
-    absent x (Some y) same gone = let no : Some (bare y) ≡ None = same ∙ ap (option_map bare) gone in cc
+    absent x (Some y) same gone = let no : Some (object_state y) ≡ None = same ∙ ap (option_map object_state) gone in cc
 
-    within : IsAbsentIn (places u) q ⊎ (option_map bare (places u q) ≡ option_map bare (places t q)) → IsAbsentIn (places u) q
+    within : IsAbsentIn (places u) q ⊎ (option_map object_state (places u q) ≡ option_map object_state (places t q)) → IsAbsentIn (places u) q
     within (inl gone) = gone
     within (inr same) = absent (places t q) (places u q) same none
 

@@ -8,14 +8,14 @@ use Rattle.pv_path.proofs.Tests.{true_not_false, on_ok}
 use Rattle.pv_requests.specs.declared.request.Request.{Request}
 use Rattle.pv_steps.specs.Steps.{made}
 use Rattle.pv_steps.specs.Trees.{Files, IsAbsentIn, IsTree, Places, places}
-use Rattle.pv_dress.specs.Edits.{all_taken}
+use Rattle.pv_metadata.specs.Edits.{all_taken}
 use Rattle.pv_walk.specs.Preparing.{parent_file, with_parent}
 use Rattle.pv_walk.specs.Staging.{new_object}
 use Rattle.pv_walk.proofs.PreparedLaws.{all_taken-stage, stands_in}
 use Rattle.pv_walk.proofs.RemovalLaws.{no_same}
 use Rattle.pv_accounts_run.specs.declared.edit.Edit.{Edit}
 use Rattle.pv_accounts_run.specs.Accounted.{accounted, accounted_unless, carried_files, edits_at, lacking_at, unusable_texts}
-use Rattle.pv_accounts_run.specs.Carrying.{IsEditOf, account_paths, gshadow_path, shadow_path, swept_names, with_directory}
+use Rattle.pv_accounts_run.specs.FileWriting.{IsEditOf, account_paths, gshadow_path, shadow_path, swept_names, with_directory}
 use Rattle.pv_accounts_run.specs.Edits.{IsEdit, edited, etc, with_edit}
 use Rattle.pv_accounts_run.specs.Swept.{LeavesNoStagingName}
 use Rattle.pv_accounts_run.proofs.BesideLaws.{edits_of_run}

@@ -10,16 +10,16 @@ use Rattle.pv_steps.specs.declared.step.Step.{Step}
 use Rattle.pv_steps.specs.declared.tree.Tree.{Ghosts}
 use Rattle.pv_steps.specs.declared.tree.TreeFault.{TreeFault}
 use Rattle.pv_steps.specs.Acting.{Acted}
-use Rattle.pv_steps.specs.Objects.{bare}
-use Rattle.pv_steps.specs.Same.{bares}
+use Rattle.pv_steps.specs.Objects.{object_state}
+use Rattle.pv_steps.specs.Same.{object_states}
 use Rattle.pv_steps.specs.Steps.{made, moved}
 use Rattle.pv_steps.specs.Trees.{Files, Places, places, IsAbsentIn, IsTree}
 use Rattle.pv_steps.proofs.ActingLaws.{Moves, acted_end, acted_then, acted_weaken, acted_within}
-use Rattle.pv_dress.specs.Dressing.{Dressing, GivesDress}
-use Rattle.pv_dress.specs.Edits.{Pruned, SameOutside, cut}
-use Rattle.pv_dress.specs.Nodes.{bare_of}
-use Rattle.pv_dress.proofs.DressLaws.{outside_dressing}
-use Rattle.pv_dress.proofs.EditLaws.{bares-made, bares-put_else, made-here}
+use Rattle.pv_metadata.specs.SettingMetadata.{SettingMetadata, GivesMetadata}
+use Rattle.pv_metadata.specs.Edits.{Pruned, SameOutside, cut}
+use Rattle.pv_metadata.specs.Nodes.{object_state_of}
+use Rattle.pv_metadata.proofs.MetadataLaws.{outside_setting_metadata}
+use Rattle.pv_metadata.proofs.EditLaws.{object_states-made, object_states-put_else, made-here}
 use Rattle.pv_walk.specs.Making.{Beginning, held_object}
 use Rattle.pv_walk.specs.Preparing.{parent_file}
 use Rattle.pv_walk.specs.Putting.{IsPutStep}
@@ -32,15 +32,15 @@ use Rattle.pv_walk.proofs.PublishLaws.{stage_outside}
 use Rattle.pv_walk.proofs.PuttingLaws.{made-none, none_under}
 use Rattle.pv_walk.proofs.PuttingOverLaws.{over_moved}
 use Rattle.pv_walk.proofs.RemovalLaws.{is_below-child}
-use Rattle.pv_walk.proofs.StageLaws.{begun_stage, dressing_stage}
+use Rattle.pv_walk.proofs.StageLaws.{begun_stage, setting_metadata_stage}
 use Rattle.pv_accounts_run.specs.declared.edit.Edit.{Edit}
-use Rattle.pv_accounts_run.specs.Carrying.{IsAccountStep, IsStagedWhole, PutsDirectory, swept_names}
+use Rattle.pv_accounts_run.specs.FileWriting.{IsAccountStep, IsStagedWhole, PutsDirectory, swept_names}
 use Rattle.pv_accounts_run.specs.Edits.{AreEdits, IsBeside, IsEdit, IsFree, IsOfSome, Published, PublishesEdit, StagesEdit, edited, etc, most_staged, new_file, with_edit, with_published, with_staged}
 use Rattle.pv_accounts_run.specs.Turns.{AreInTurn, InTurn, IsInStages, NoneComes, StagingOne, StagingSome, TurnWay, stages_of}
-use Rattle.pv_accounts_run.proofs.ActedLaws.{gives_dress, gives_new}
-use Rattle.pv_accounts_run.proofs.CarryingLaws.{all_whole, drop_edits, none_bare}
+use Rattle.pv_accounts_run.proofs.ActedLaws.{gives_metadata, gives_new}
+use Rattle.pv_accounts_run.proofs.FileWritingLaws.{all_whole, drop_edits, none_object_state}
 use Rattle.pv_accounts_run.proofs.DirectoryLaws.{etc_some}
-use Rattle.pv_accounts_run.proofs.StagingLaws.{HasRoom, bares_all_staged, published_first, stage_some, stage_up}
+use Rattle.pv_accounts_run.proofs.StagingLaws.{HasRoom, object_states_all_staged, published_first, stage_some, stage_up}
 
 -- ---- tests
 
@@ -61,7 +61,7 @@ no_of false h = refl
 -- where none is begun
 pub free_turn : (u : Places) (cs : List Edit) → AllByRecursion (IsFree u) cs → AreInTurn cs u
 free_turn u [] free = tt
-free_turn u (c ∷ cs) free = inr (IsAtStage.none (ap (option_map bare_of) free.0), free.1)
+free_turn u (c ∷ cs) free = inr (IsAtStage.none (ap (option_map object_state_of) free.0), free.1)
 
 -- where all stand whole
 pub whole_turn : (u : Places) (cs : List Edit) → AllByRecursion (IsStagedWhole u) cs → AreInTurn cs u
@@ -74,21 +74,21 @@ module _ (edit : Edit) (is : IsEdit edit) where
   one_begun : (t u : Files) → Beginning (staging_of edit.path) (new_file edit).what t u → StagingOne edit t u
   one_begun t u h = record {
     outside = λ q e. h.outside q (not_prefix_not_same (staging_of edit.path) q e);
-    stages = begun_stage (staging_of edit.path) (new_file edit).what (bare_of (edited 0 edit)) t u refl h;
+    stages = begun_stage (staging_of edit.path) (new_file edit).what (object_state_of (edited 0 edit)) t u refl h;
   }
 
-  one_dressed : (now : ℕ) (t u v : Files) → places u ≡ made now (staging_of edit.path) (held_object (new_file edit).what now) (places t) → StagingOne edit t u
-      → Dressing (staging_of edit.path) edit.dress u v → StagingOne edit t v
-  one_dressed now t u v held before h = record {
-    outside = λ q e. outside_dressing (staging_of edit.path) edit.dress u v h q (not_prefix_not_same (staging_of edit.path) q e) ∙ before.outside q e;
+  one_with_metadata : (now : ℕ) (t u v : Files) → places u ≡ made now (staging_of edit.path) (held_object (new_file edit).what now) (places t) → StagingOne edit t u
+      → SettingMetadata (staging_of edit.path) edit.metadata u v → StagingOne edit t v
+  one_with_metadata now t u v held before h = record {
+    outside = λ q e. outside_setting_metadata (staging_of edit.path) edit.metadata u v h q (not_prefix_not_same (staging_of edit.path) q e) ∙ before.outside q e;
     stages =
-        dressing_stage (staging_of edit.path) (bare_of (edited 0 edit)) edit.dress (held_object (new_file edit).what now) u v refl
+        setting_metadata_stage (staging_of edit.path) (object_state_of (edited 0 edit)) edit.metadata (held_object (new_file edit).what now) u v refl
         (ap (λ (x : Places). x (staging_of edit.path)) held ∙ made-here now (staging_of edit.path) (places t) (stage_some edit is) (held_object (new_file edit).what now)) refl h;
   }
 
 -- nothing is done yet
 pub one_start : (edit : Edit) (t : Files) → IsFree (places t) edit → StagingOne edit t t
-one_start edit t free = record { outside = λ q e. refl; stages = IsAtStage.none (ap (option_map bare_of) free) }
+one_start edit t free = record { outside = λ q e. refl; stages = IsAtStage.none (ap (option_map object_state_of) free) }
 
 module _ {S : Type 0} (tree : Ghosts S) (edit : Edit) (is : IsEdit edit) {now : ℕ} {a b : S} where
   pub begun_acted : {A : Type 0} {r : Result A TreeFault} → Acted tree (Beginning (staging_of edit.path) (new_file edit).what (tree.state a)) (GivesNew (staging_of edit.path) (new_file edit)) 2 now a b r
@@ -100,15 +100,15 @@ module _ {S : Type 0} (tree : Ghosts S) (edit : Edit) (is : IsEdit edit) {now : 
   pub one_acted : {A B : Type 0} {c : S} {x : A} {r : Result B TreeFault} → Moves tree
       → places (tree.state b) ≡ made now (staging_of edit.path) (held_object (new_file edit).what now) (places (tree.state a))
       → Acted tree (Beginning (staging_of edit.path) (new_file edit).what (tree.state a)) (GivesNew (staging_of edit.path) (new_file edit)) 2 now a b (Ok x)
-      → Acted tree (Dressing (staging_of edit.path) edit.dress (tree.state b)) (GivesDress (staging_of edit.path) edit.dress (tree.state b)) 5 now b c r
+      → Acted tree (SettingMetadata (staging_of edit.path) edit.metadata (tree.state b)) (GivesMetadata (staging_of edit.path) edit.metadata (tree.state b)) 5 now b c r
       → Acted tree (StagingOne edit (tree.state a)) (StagesEdit edit) most_staged now a c r
   one_acted moves held one more =
       let before = begun_acted one in
       acted_within tree (2 + 5) most_staged (omega arith)
       (acted_then tree moves (StagingOne edit (tree.state a)) (StagesEdit edit) before
-      (acted_weaken tree (Dressing (staging_of edit.path) edit.dress (tree.state b)) (StagingOne edit (tree.state a)) (GivesDress (staging_of edit.path) edit.dress (tree.state b)) (StagesEdit edit) 5 5
-      (λ u h. one_dressed edit is now (tree.state a) (tree.state b) u held (acted_end tree (StagingOne edit (tree.state a)) (StagesEdit edit) before) h)
-      (gives_dress edit is (tree.state b)) (omega arith) more))
+      (acted_weaken tree (SettingMetadata (staging_of edit.path) edit.metadata (tree.state b)) (StagingOne edit (tree.state a)) (GivesMetadata (staging_of edit.path) edit.metadata (tree.state b)) (StagesEdit edit) 5 5
+      (λ u h. one_with_metadata edit is now (tree.state a) (tree.state b) u held (acted_end tree (StagingOne edit (tree.state a)) (StagesEdit edit) before) h)
+      (gives_metadata edit is (tree.state b)) (omega arith) more))
 
 -- ---- some files
 
@@ -121,7 +121,7 @@ frees_kept : (c : Edit) (cs : List Edit) → AllByRecursion (IsBeside c) cs → 
     → AllByRecursion (IsFree (places t)) cs → AllByRecursion (IsFree (places u)) cs
 frees_kept c [] beside t u same free = tt
 frees_kept c (d ∷ cs) beside t u same free = (
-  none_bare (places t (staging_of d.path)) (places u (staging_of d.path)) (sym (same (staging_of d.path) beside.0.stages)) free.0,
+  none_object_state (places t (staging_of d.path)) (places u (staging_of d.path)) (sym (same (staging_of d.path) beside.0.stages)) free.0,
   frees_kept c cs beside.1 t u same free.1,
 )
 
@@ -157,7 +157,7 @@ module _ (c : Edit) (cs : List Edit) (beside : AllByRecursion (IsBeside c) cs) w
         → Acted tree (StagingSome (c ∷ cs) (tree.state a)) (IsOfSome StagesEdit (c ∷ cs)) (most_staged * length (c ∷ cs)) now a d r
     some_more_acted moves is free staged one more =
         let whole : IsStagedWhole (places (tree.state b)) c =
-        ap (λ (x : Places). bares x (staging_of c.path)) staged ∙ ap (option_map bare) (made-here now (staging_of c.path) (places (tree.state a)) (stage_some c is) (edited now c)) in
+        ap (λ (x : Places). object_states x (staging_of c.path)) staged ∙ ap (option_map object_state) (made-here now (staging_of c.path) (places (tree.state a)) (stage_some c is) (edited now c)) in
         let first = acted_end tree (StagingOne c (tree.state a)) (StagesEdit c) one in
         acted_within tree (most_staged + most_staged * length cs) (most_staged * length (c ∷ cs)) (omega arith)
         (acted_then tree moves (StagingSome (c ∷ cs) (tree.state a)) (IsOfSome StagesEdit (c ∷ cs)) (some_one_acted free one)
@@ -168,12 +168,12 @@ module _ (c : Edit) (cs : List Edit) (beside : AllByRecursion (IsBeside c) cs) w
 
 module _ (now : ℕ) (c : Edit) (is : IsEdit c) where
   -- the first of others are put
-  kept_edits : (k : ℕ) (cs : List Edit) → AllByRecursion (IsBeside c) cs → (t : Places) → bares (fold (with_edit now) t (take k cs)) c.path ≡ bares t c.path
+  kept_edits : (k : ℕ) (cs : List Edit) → AllByRecursion (IsBeside c) cs → (t : Places) → object_states (fold (with_edit now) t (take k cs)) c.path ≡ object_states t c.path
   kept_edits zero cs beside t = refl
   kept_edits (suc k) [] beside t = refl
   kept_edits (suc k) (d ∷ cs) beside t =
-      kept_edits k cs beside.1 (with_edit now t d) ∙ bares-made now d.path (edited now d) t c.path
-      ∙ bares-put_else d.path c.path (Some (edited now d)) t (not_prefix_not_same d.path c.path beside.0.paths_back)
+      kept_edits k cs beside.1 (with_edit now t d) ∙ object_states-made now d.path (edited now d) t c.path
+      ∙ object_states-put_else d.path c.path (Some (edited now d)) t (not_prefix_not_same d.path c.path beside.0.paths_back)
 
   none_edits : (k : ℕ) (cs : List Edit) → AllByRecursion (IsBeside c) cs → (t : Places) → IsFree t c → IsFree (fold (with_edit now) t (take k cs)) c
   none_edits zero cs beside t free = free
@@ -203,12 +203,12 @@ module _ (now : ℕ) (c : Edit) (is : IsEdit c) where
 
   -- so it is there
   put_there : (k : ℕ) (cs : List Edit) → AreEdits cs → AllByRecursion (IsBeside c) cs → (t : Places) → IsFree t c
-      → (bares (fold (with_staged now) (fold (with_edit now) (with_edit now t c) (take k cs)) (drop k cs)) c.path ≡ Some (bare (edited 0 c)))
+      → (object_states (fold (with_staged now) (fold (with_edit now) (with_edit now t c) (take k cs)) (drop k cs)) c.path ≡ Some (object_state (edited 0 c)))
       × IsFree (fold (with_staged now) (fold (with_edit now) (with_edit now t c) (take k cs)) (drop k cs)) c
   put_there k cs are beside t free = (
-    (bares_all_staged now (drop k cs) (drop_edits k cs are) (fold (with_edit now) (with_edit now t c) (take k cs)) c.path is.plain
+    (object_states_all_staged now (drop k cs) (drop_edits k cs are) (fold (with_edit now) (with_edit now t c) (take k cs)) c.path is.plain
         ∙ kept_edits k cs beside (with_edit now t c)
-        ∙ ap (option_map bare) (made-here now c.path t is.root (edited now c))),
+        ∙ ap (option_map object_state) (made-here now c.path t is.root (edited now c))),
     none_staged k cs beside (fold (with_edit now) (with_edit now t c) (take k cs))
         (none_edits k cs beside (with_edit now t c)
         (made-none now c.path (edited now c) t (staging_of c.path) (not_prefix_not_same c.path (staging_of c.path) (stage_outside c.path is.root)) free)),
@@ -245,21 +245,21 @@ below_etc q below =
 
 module _ (t : Files) where
   comes_outside : (u : Files) → SameOutside (is_prefix (staging_of etc)) t u → NoneComes t u
-  comes_outside u h = λ q below none. none_bare (places t q) (places u q) (sym (h q (below_etc q below).1.1)) none
+  comes_outside u h = λ q below none. none_object_state (places t q) (places u q) (sym (h q (below_etc q below).1.1)) none
 
   -- the directory comes to its path
   comes_published : (now : ℕ) (b u : Files) → places b ≡ made now (staging_of etc) (new_object parent_file now) (places t) → IsTree t → IsAbsentIn (places t) (staging_of etc)
       → NoneComes t b → Publishing now etc b u → NoneComes t u
   comes_published now b u is tree free before (inl c) = λ q below none. by q below none (c.pruned.within q (below_etc q below).0)
     where
-      by : (q : Path) → is_below etc q ≡ true → IsAbsentIn (places t) q → IsAbsentIn (places u) q ⊎ (bares (places u) q ≡ bares (places b) q) → IsAbsentIn (places u) q
+      by : (q : Path) → is_below etc q ≡ true → IsAbsentIn (places t) q → IsAbsentIn (places u) q ⊎ (object_states (places u) q ≡ object_states (places b) q) → IsAbsentIn (places u) q
       by q below none (inl gone) = gone
-      by q below none (inr same) = none_bare (places b q) (places u q) (sym same) (before q below none)
+      by q below none (inr same) = none_object_state (places b q) (places u q) (sym same) (before q below none)
   comes_published now b u is tree free before (inr e) = λ q below none.
       let parts = below_etc q below in
       let cuts : cut etc (places t) q ≡ None = ap (λ b. cond b None (places t q)) parts.0 in
-      none_bare (made now etc (new_object parent_file now) (cut etc (places t)) q) (places u q)
-      (sym (e q ∙ ap (λ (x : Places). bares x q) (over_moved now etc etc_some parent_file t b is tree free)))
+      none_object_state (made now etc (new_object parent_file now) (cut etc (places t)) q) (places u q)
+      (sym (e q ∙ ap (λ (x : Places). object_states x q) (over_moved now etc etc_some parent_file t b is tree free)))
       (made-none now etc (new_object parent_file now) (cut etc (places t)) q parts.1.0 cuts)
 
   -- so none of the files is begun

@@ -11,20 +11,20 @@ use Rattle.pv_steps.specs.declared.node.Kind.TheVariants.{File}
 use Rattle.pv_steps.specs.declared.why.Why.{Why}
 use Rattle.pv_steps.specs.Refusal.{refusal}
 use Rattle.pv_steps.specs.Trees.{Files, Places, places, kind_of, tabulate}
-use Rattle.pv_dress.specs.declared.bare.Dress.{Dress}
-use Rattle.pv_dress.specs.Nodes.{bare_of}
+use Rattle.pv_metadata.specs.declared.object_state.Metadata.{Metadata}
+use Rattle.pv_metadata.specs.Nodes.{object_state_of}
 use Rattle.pv_requests.specs.declared.request.Request.{Request}
 use Rattle.pv_requests.specs.Paths.{number_path}
 use Rattle.pv_sysusers.specs.declared.path_ids.PathId.{PathId}
 use Rattle.pv_sysusers.specs.declared.planned.Texts.{Texts}
-use Rattle.pv_sysusers.specs.Lines.{lines_from, said_duplicates}
+use Rattle.pv_sysusers.specs.Lines.{lines_from, duplicate_messages}
 use Rattle.pv_sysusers.specs.Planning.{files_in}
 use Rattle.pv_sysusers.specs.Plans.{AccountFiles, Planned, planned}
 use Rattle.pv_table.specs.Saying.{left_text, place_text}
 use Rattle.pv_accounts_run.specs.declared.edit.Edit.{Edit}
 use Rattle.pv_accounts_run.specs.Edits.{etc}
 use Rattle.pv_layers.specs.Places.{group_path, passwd_path}
-use Rattle.pv_accounts_run.specs.Carrying.{carried_out, gshadow_path, shadow_path}
+use Rattle.pv_accounts_run.specs.FileWriting.{carried_out, gshadow_path, shadow_path}
 
 -- ---- files that cannot be used
 
@@ -79,16 +79,16 @@ plan_at requests now t = planned requests (map (ids_of t) requests) (files_at t)
 -- ---- what it does
 
 -- what a new file of root's with a mode is to have
-abbrev pub plain_dress : ℕ → Dress
-plain_dress mode = record { uid = 0; gid = 0; special = special_of mode; acl = acl_of_mode mode; attrs = []; letters = 0 }
+abbrev pub plain_metadata : ℕ → Metadata
+plain_metadata mode = record { uid = 0; gid = 0; special = special_of mode; acl = acl_of_mode mode; attrs = []; letters = 0 }
 
 -- what the file at a path has, or a new one is to have
-abbrev pub dress_at : Places → Path → ℕ → Dress
-dress_at t path mode = option_map_or (λ o. (bare_of o).dress) (t path) (plain_dress mode)
+abbrev pub metadata_at : Places → Path → ℕ → Metadata
+metadata_at t path mode = option_map_or (λ o. (object_state_of o).metadata) (t path) (plain_metadata mode)
 
 -- the edit of a file whose text changes, with what it has, or the mode of a new one
 abbrev pub edit_to : Places → Path → ℕ → List ℕ → Edit
-edit_to t path mode text = record { path = path; text = text; dress = dress_at t path mode }
+edit_to t path mode text = record { path = path; text = text; metadata = metadata_at t path mode }
 
 abbrev pub edit_at : Places → Path → ℕ → List ℕ → List Edit
 edit_at t path mode text = if same_bytes text (unwrap_or (text_at t path) []) then [] else edit_to t path mode text ∷ []
@@ -113,12 +113,12 @@ abbrev pub edits_at : List Request → ℕ → Places → List Edit
 edits_at requests now t = edits_unless (unusable_texts t) (edits_by t (plan_at requests now t).texts)
 
 -- what is said: where some file cannot be used, this after the messages on lines that come again, and nothing of numbers
-abbrev pub said_unless : List Request → List (List ℕ) → List (List ℕ) → List (List ℕ)
-said_unless requests [] said = said
-said_unless requests (text ∷ texts) said = said_duplicates [] (lines_from [] 0 requests) ++ text ∷ texts
+abbrev pub messages_unless : List Request → List (List ℕ) → List (List ℕ) → List (List ℕ)
+messages_unless requests [] new_messages = new_messages
+messages_unless requests (text ∷ texts) new_messages = duplicate_messages [] (lines_from [] 0 requests) ++ text ∷ texts
 
 abbrev pub accounts_messages : List Request → ℕ → Places → List (List ℕ)
-accounts_messages requests now t = said_unless requests (unusable_texts t) (plan_at requests now t).said
+accounts_messages requests now t = messages_unless requests (unusable_texts t) (plan_at requests now t).new_messages
 
 -- the name for which no number was left
 abbrev pub lacking_in : Result Texts (List ℕ) → Option (List ℕ)

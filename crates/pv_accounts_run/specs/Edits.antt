@@ -9,7 +9,7 @@ use Rattle.pv_steps.specs.declared.step.Step.TheVariants.{SetAcl, SetAttrs, SetL
 use Rattle.pv_steps.specs.Objects.{stamped}
 use Rattle.pv_steps.specs.Trees.{Files, Places, places, kind_of, IsKindIn, IsAbsentIn}
 use Rattle.pv_steps.specs.Steps.{made, moved}
-use Rattle.pv_dress.specs.Dressing.{IsDress, dress_mode}
+use Rattle.pv_metadata.specs.SettingMetadata.{IsMetadata, metadata_mode}
 use Rattle.pv_walk.specs.declared.new_file.NewFile.{NewFile}
 use Rattle.pv_walk.specs.declared.new_file.NewKind.TheVariants as new
 use Rattle.pv_walk.specs.Staging.{GivesNew, can_stage}
@@ -26,15 +26,15 @@ abbrev pub edited : ℕ → Edit → Object
 edited now edit = record {
   node = record {
     kind = File;
-    special = edit.dress.special;
-    uid = edit.dress.uid;
-    gid = edit.dress.gid;
-    acl = edit.dress.acl;
+    special = edit.metadata.special;
+    uid = edit.metadata.uid;
+    gid = edit.metadata.gid;
+    acl = edit.metadata.acl;
     stamps = stamped now;
     major = 0;
     minor = 0;
-    attrs = edit.dress.attrs;
-    letters = edit.dress.letters;
+    attrs = edit.metadata.attrs;
+    letters = edit.metadata.letters;
   };
   payload = edit.text;
 }
@@ -53,13 +53,13 @@ with_published now t edit = moved now (staging_of edit.path) edit.path t
 
 -- ---- what staging and publishing need
 
--- a file in the directory of the account files, with a dress that a file can have
+-- a file in the directory of the account files, with metadata that a file can have
 pub record IsEdit (edit : Edit) : Type 0 where
   pub parent : parent_of edit.path ≡ etc
   pub root : edit.path ≢ []
   pub plain : has_staging edit.path ≡ false
   pub short : can_stage edit.path ≡ true
-  pub dress : IsDress File edit.dress
+  pub metadata : IsMetadata File edit.metadata
 
 -- two edits are of different files
 pub record IsBeside (a b : Edit) : Type 0 where
@@ -99,13 +99,13 @@ Published now edits t u = (k : ℕ) × (places u ≡ fold (with_published now) (
 
 -- what is made under the staging name: the new file, in the mode and with the owners that it is to have
 abbrev pub new_file : Edit → NewFile
-new_file edit = record { what = new.File edit.text; mode = dress_mode edit.dress; uid = edit.dress.uid; gid = edit.dress.gid }
+new_file edit = record { what = new.File edit.text; mode = metadata_mode edit.metadata; uid = edit.metadata.uid; gid = edit.metadata.gid }
 
 -- a step makes the new file under its staging name, or gives it what it is to have
 abbrev pub StagesEdit : Edit → Step → Type 0
-StagesEdit edit (SetAcl at acl) = (at ≡ staging_of edit.path) × (acl ≡ edit.dress.acl)
-StagesEdit edit (SetAttrs at attrs) = (at ≡ staging_of edit.path) × (attrs ≡ edit.dress.attrs)
-StagesEdit edit (SetLetters at letters) = (at ≡ staging_of edit.path) × (letters ≡ edit.dress.letters)
+StagesEdit edit (SetAcl at acl) = (at ≡ staging_of edit.path) × (acl ≡ edit.metadata.acl)
+StagesEdit edit (SetAttrs at attrs) = (at ≡ staging_of edit.path) × (attrs ≡ edit.metadata.attrs)
+StagesEdit edit (SetLetters at letters) = (at ≡ staging_of edit.path) × (letters ≡ edit.metadata.letters)
 StagesEdit edit step = GivesNew (staging_of edit.path) (new_file edit) step
 
 -- a step brings what is staged to its path

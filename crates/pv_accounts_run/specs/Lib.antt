@@ -1,5 +1,5 @@
 pub mod Edits
-pub mod Carrying
+pub mod FileWriting
 pub mod Accounted
 pub mod Running
 pub mod Mended

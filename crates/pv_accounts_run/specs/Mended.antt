@@ -9,7 +9,7 @@ use Rattle.pv_steps.specs.Same.{Same}
 use Rattle.pv_steps.specs.Trees.{Files, places}
 use Rattle.pv_accounts_run.specs.Accounted.{accounted, day_of, text_at}
 use Rattle.pv_layers.specs.Places.{group_path, passwd_path}
-use Rattle.pv_accounts_run.specs.Carrying.{gshadow_path}
+use Rattle.pv_accounts_run.specs.FileWriting.{gshadow_path}
 
 -- a tree that a run at a moment leaves, and that of a run at an earlier one: /etc/group, /etc/gshadow and /etc/passwd have
 -- the same texts, and on one day the trees are the same, stamps and staging names aside; the day stands in /etc/shadow

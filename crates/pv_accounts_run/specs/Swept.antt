@@ -4,7 +4,7 @@ use Rattle.std.specs.List.{AllByRecursion}
 use Rattle.pv_requests.specs.declared.request.Request.{Request}
 use Rattle.pv_steps.specs.Trees.{Files, places, IsAbsentIn}
 use Rattle.pv_accounts_run.specs.Accounted.{lacking_at, unusable_texts}
-use Rattle.pv_accounts_run.specs.Carrying.{swept_names}
+use Rattle.pv_accounts_run.specs.FileWriting.{swept_names}
 
 -- a run that began with one tree has left another: where each account file could be used and a number was left for each
 -- name, nothing stands at the staging names of /etc and of the account files

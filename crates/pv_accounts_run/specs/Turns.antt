@@ -2,26 +2,26 @@
 -- extended attributes and letters (`IsStage` of pv_walk).
 use Rattle.std.specs.Prelude.{◌≡◌, ◌⊎◌, true, List, [], ◌∷◌, map, Some, ⊤}
 use Rattle.std.specs.List.{AllByRecursion}
-use Rattle.pv_dress.specs.Edits.{Pruned, SameOutside}
-use Rattle.pv_dress.specs.Nodes.{bare_of, bares_of}
+use Rattle.pv_metadata.specs.Edits.{Pruned, SameOutside}
+use Rattle.pv_metadata.specs.Nodes.{object_state_of, object_states_of}
 use Rattle.pv_path.specs.Paths.{Path, is_prefix, staging_of}
-use Rattle.pv_steps.specs.Objects.{bare}
-use Rattle.pv_steps.specs.Same.{bares}
+use Rattle.pv_steps.specs.Objects.{object_state}
+use Rattle.pv_steps.specs.Same.{object_states}
 use Rattle.pv_steps.specs.Trees.{Files, Places, places, IsAbsentIn}
 use Rattle.pv_walk.specs.Removal.{is_below}
 use Rattle.pv_walk.specs.Stages.{IsAtStage}
 use Rattle.pv_walk.specs.Staging.{is_under_any}
 use Rattle.pv_accounts_run.specs.declared.edit.Edit.{Edit}
-use Rattle.pv_accounts_run.specs.Carrying.{IsStagedWhole, swept_names}
+use Rattle.pv_accounts_run.specs.FileWriting.{IsStagedWhole, swept_names}
 use Rattle.pv_accounts_run.specs.Edits.{IsFree, edited, etc}
 
 -- at its staging name nothing stands, or a stage of the new file
 abbrev pub IsInStages : Edit → Places → Type 0
-IsInStages edit u = IsAtStage (Some (bare_of (edited 0 edit))) (bares_of u (staging_of edit.path))
+IsInStages edit u = IsAtStage (Some (object_state_of (edited 0 edit))) (object_states_of u (staging_of edit.path))
 
 -- the new file stands whole at its staging name, or at its path and nothing at its staging name
 abbrev pub IsThere : Edit → Places → Type 0
-IsThere edit u = IsStagedWhole u edit ⊎ ((bares u edit.path ≡ Some (bare (edited 0 edit))) × IsFree u edit)
+IsThere edit u = IsStagedWhole u edit ⊎ ((object_states u edit.path ≡ Some (object_state (edited 0 edit))) × IsFree u edit)
 
 -- the first new files are there whole, the next may stand in stages, and nothing stands at the staging names of the others
 abbrev pub AreInTurn : List Edit → Places → Type 0

@@ -1,5 +1,5 @@
 //! One account file whose text changes.
-use pv_dress::Dress;
+use pv_metadata::Metadata;
 use pv_path::{Bytes, TreePath};
 
 /// The new text of an account file, with all that the file is to have.
@@ -10,5 +10,5 @@ pub struct Edit {
     /// The new text.
     pub text: Bytes,
     /// Owner, mode, ACL, extended attributes and letters.
-    pub dress: Dress,
+    pub metadata: Metadata,
 }

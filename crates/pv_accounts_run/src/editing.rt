@@ -6,14 +6,14 @@ ghost use Rattle.pv_path.specs.Names.{is_name};
 ghost use Rattle.pv_steps.specs.declared.node.Kind.TheVariants.{File};
 ghost use Rattle.pv_steps.specs.Trees.{kind_of, places};
 ghost use Rattle.pv_accounts_run.specs.Edits.{etc};
-ghost use Rattle.pv_accounts_run.specs.Accounted.{IsUsable, dress_at, edit_at, edit_to, edits_to, plain_dress, text_at};
-ghost use Rattle.pv_accounts_run.specs.Carrying.{account_paths};
+ghost use Rattle.pv_accounts_run.specs.Accounted.{IsUsable, metadata_at, edit_at, edit_to, edits_to, plain_metadata, text_at};
+ghost use Rattle.pv_accounts_run.specs.FileWriting.{account_paths};
 ghost use Rattle.std.specs.List.{AllByRecursion};
 
 use crate::edit::Edit;
 use crate::paths::file_path;
 use pv_acl::Acl;
-use pv_dress::Dress;
+use pv_metadata::Metadata;
 use pv_path::{Bytes, TreePath};
 use pv_steps::{AttrList, LetterSet, Tree, is_present, special_bits};
 use pv_sysusers::Texts;
@@ -94,7 +94,7 @@ fn edit_to<T: Tree>(
 {
     Ok(Edit {
         text: text.copy()?,
-        dress: dress_at(alloc, tree, &path, mode)?,
+        metadata: metadata_at(alloc, tree, &path, mode)?,
         path,
     })
 }
@@ -123,17 +123,17 @@ pub(crate) fn own_text<'a, T: Tree>(tree: &'a T, path: &TreePath) -> Option<&'a 
 }
 
 /// What the file at a path has, or a new one is to have.
-fn dress_at<T: Tree>(
+fn metadata_at<T: Tree>(
     alloc: Global,
     tree: &T,
     path: &TreePath,
     mode: u16,
-) -> Result<Dress, AllocError>
+) -> Result<Metadata, AllocError>
     requires { mode ≤ 4095 }
-    ensures { IfOk result (λ dress. dress ≡ dress_at (places (T.state tree.now)) path.now mode) }
+    ensures { IfOk result (λ metadata. metadata ≡ metadata_at (places (T.state tree.now)) path.now mode) }
 {
     match tree.look(path) {
-        Some(node) => Ok(Dress {
+        Some(node) => Ok(Metadata {
             uid: node.uid,
             gid: node.gid,
             special: node.special,
@@ -141,16 +141,16 @@ fn dress_at<T: Tree>(
             attrs: node.attrs.copy()?,
             letters: node.letters,
         }),
-        None => Ok(plain_dress(alloc, mode)),
+        None => Ok(plain_metadata(alloc, mode)),
     }
 }
 
 /// What a new file of root's with a mode is to have.
-fn plain_dress(alloc: Global, mode: u16) -> Dress
+fn plain_metadata(alloc: Global, mode: u16) -> Metadata
     requires { mode ≤ 4095 }
-    ensures { result ≡ plain_dress mode }
+    ensures { result ≡ plain_metadata mode }
 {
-    Dress {
+    Metadata {
         uid: 0,
         gid: 0,
         special: special_bits(mode),

@@ -15,14 +15,14 @@ use std::alloc::{AllocError, Global};
 
 /// What is said of account files that cannot be used, in the order in which they are staged.
 pub(crate) fn unusable_texts<T: Tree>(alloc: Global, tree: &T) -> Result<Messages, AllocError>
-    ensures { IfOk result (λ said. said ≡ unusable_texts (places (T.state tree.now))) }
+    ensures { IfOk result (λ new_messages. new_messages ≡ unusable_texts (places (T.state tree.now))) }
 {
-    let mut said = Messages::new(alloc);
-    judge_file(alloc, tree, b"group", &mut said)?;
-    judge_file(alloc, tree, b"gshadow", &mut said)?;
-    judge_file(alloc, tree, b"shadow", &mut said)?;
-    judge_file(alloc, tree, b"passwd", &mut said)?;
-    Ok(said)
+    let mut new_messages = Messages::new(alloc);
+    judge_file(alloc, tree, b"group", &mut new_messages)?;
+    judge_file(alloc, tree, b"gshadow", &mut new_messages)?;
+    judge_file(alloc, tree, b"shadow", &mut new_messages)?;
+    judge_file(alloc, tree, b"passwd", &mut new_messages)?;
+    Ok(new_messages)
 }
 
 /// Says of an account file by its name in /etc why it cannot be used, where it cannot.
@@ -30,13 +30,13 @@ fn judge_file<T: Tree>(
     alloc: Global,
     tree: &T,
     name: &[u8],
-    said: &mut Messages,
+    new_messages: &mut Messages,
 ) -> Result<(), AllocError>
     requires { is_name name.now ≡ true }
-    ensures { OnOk result (said.new ≡ said.old ++ unusable_text (places (T.state tree.now)) (etc ++ name.now ∷ [])) }
+    ensures { OnOk result (new_messages.new ≡ new_messages.old ++ unusable_text (places (T.state tree.now)) (etc ++ name.now ∷ [])) }
 {
     let path = file_path(alloc, name)?;
-    judge(alloc, tree, &path, said)
+    judge(alloc, tree, &path, new_messages)
 }
 
 /// Says of a path why what stands there cannot be used, where it cannot.
@@ -44,14 +44,14 @@ fn judge<T: Tree>(
     alloc: Global,
     tree: &T,
     path: &TreePath,
-    said: &mut Messages,
+    new_messages: &mut Messages,
 ) -> Result<(), AllocError>
     requires { length path.now < 2 ^ 32 }
-    ensures { OnOk result (said.new ≡ said.old ++ unusable_text (places (T.state tree.now)) path.now) }
+    ensures { OnOk result (new_messages.new ≡ new_messages.old ++ unusable_text (places (T.state tree.now)) path.now) }
 {
     match walk(alloc, tree, path, 0)? {
-        Walked::Refused(place, why) => said.push(&place_text(alloc, path, place, why)?),
-        Walked::Present | Walked::Absent(_) => say_other(alloc, tree, path, said),
+        Walked::Refused(place, why) => new_messages.push(&place_text(alloc, path, place, why)?),
+        Walked::Present | Walked::Absent(_) => say_other(alloc, tree, path, new_messages),
     }
 }
 
@@ -60,12 +60,12 @@ fn say_other<T: Tree>(
     alloc: Global,
     tree: &T,
     path: &TreePath,
-    said: &mut Messages,
+    new_messages: &mut Messages,
 ) -> Result<(), AllocError>
-    ensures { OnOk result (said.new ≡ said.old ++ other_text path.now (kind_of (places (T.state tree.now) path.now))) }
+    ensures { OnOk result (new_messages.new ≡ new_messages.old ++ other_text path.now (kind_of (places (T.state tree.now) path.now))) }
 {
     match kind_at(tree, path) {
         None | Some(Kind::File) => Ok(()),
-        Some(kind) => said.push(&left_text(alloc, path, kind)?),
+        Some(kind) => new_messages.push(&left_text(alloc, path, kind)?),
     }
 }

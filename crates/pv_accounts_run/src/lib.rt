@@ -2,9 +2,9 @@
 #![tactic(auto)]
 
 mod accounts_fault;
-mod carrying;
 mod edit;
 mod editing;
+mod file_writing;
 mod judging;
 mod laws;
 mod owners;

@@ -3,7 +3,7 @@ ghost use Rattle.std.specs.Prelude.{◌≡◌, true, IfOk};
 ghost use Rattle.std.specs.Prelude.{◌∷◌, ◌++◌, []};
 ghost use Rattle.pv_path.specs.Names.{is_name};
 ghost use Rattle.pv_accounts_run.specs.Edits.{etc};
-ghost use Rattle.pv_accounts_run.specs.Carrying.{account_paths};
+ghost use Rattle.pv_accounts_run.specs.FileWriting.{account_paths};
 
 use pv_path::{Name, TreePath};
 use std::alloc::{AllocError, Global};

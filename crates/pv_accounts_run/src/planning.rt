@@ -2,13 +2,13 @@
 ghost use Rattle.std.specs.Prelude.{◌≡◌, ◌++◌, None, option_map, IfOk, IfErr, OnOk};
 ghost use Rattle.std.specs.List.{AllByRecursion};
 ghost use Rattle.pv_steps.specs.Trees.{places};
-ghost use Rattle.pv_text.specs.Said.{SaidPart};
+ghost use Rattle.pv_text.specs.GivenMessages.{MessagesPart};
 ghost use Rattle.pv_requests.specs.Paths.{HasFewNames};
-ghost use Rattle.pv_sysusers.specs.Deciding.{Told};
+ghost use Rattle.pv_sysusers.specs.Deciding.{UnlessMemory};
 ghost use Rattle.pv_sysusers.specs.Planning.{Misses};
 ghost use Rattle.pv_sysusers.specs.Plans.{planned};
 ghost use Rattle.pv_accounts_run.specs.Accounted.{IsUsable, edits_by, files_at, lacking_in, plan_at, text_at};
-ghost use Rattle.pv_accounts_run.specs.Carrying.{account_paths};
+ghost use Rattle.pv_accounts_run.specs.FileWriting.{account_paths};
 ghost use Rattle.std.specs.Prelude.{Ok};
 
 use crate::edit::Edit;
@@ -38,10 +38,10 @@ pub(crate) fn planned_edits<T: Tree>(
         OnOk result (lacking_in plan.texts ≡ None) }
     ensures lacking { let plan = plan_at requests.now now (places (T.state tree.now)) in
         IfErr result (Misses plan.texts) }
-    ensures said { let plan = plan_at requests.now now (places (T.state tree.now)) in
-        Told result (messages.new ≡ messages.old ++ plan.said) }
+    ensures new_messages { let plan = plan_at requests.now now (places (T.state tree.now)) in
+        UnlessMemory result (messages.new ≡ messages.old ++ plan.new_messages) }
     ensures part { let plan = plan_at requests.now now (places (T.state tree.now)) in
-        SaidPart plan.said messages.old messages.new }
+        MessagesPart plan.new_messages messages.old messages.new }
 {
     let taken = owners(alloc, tree, requests)?;
     let texts = planned_texts(
@@ -70,10 +70,10 @@ fn planned_texts<T: Tree>(
         IfOk result (λ texts. plan.texts ≡ Ok texts) }
     ensures lacking { let plan = planned requests.now taken.now (files_at (places (T.state tree.now))) day in
         IfErr result (Misses plan.texts) }
-    ensures said { let plan = planned requests.now taken.now (files_at (places (T.state tree.now))) day in
-        Told result (messages.new ≡ messages.old ++ plan.said) }
+    ensures new_messages { let plan = planned requests.now taken.now (files_at (places (T.state tree.now))) day in
+        UnlessMemory result (messages.new ≡ messages.old ++ plan.new_messages) }
     ensures part { let plan = planned requests.now taken.now (files_at (places (T.state tree.now))) day in
-        SaidPart plan.said messages.old messages.new }
+        MessagesPart plan.new_messages messages.old messages.new }
 {
     let passwd = file_path(alloc, b"passwd")?;
     let group = file_path(alloc, b"group")?;

@@ -3,22 +3,22 @@ ghost use Rattle.std.specs.Prelude.{◌≡◌, ◌≢◌, ◌++◌, ◌+◌, [],
 ghost use Rattle.std.specs.List.{AllByRecursion};
 ghost use Rattle.pv_steps.specs.Trees.{places, IsTree};
 ghost use Rattle.pv_requests.specs.Paths.{HasFewNames};
-ghost use Rattle.pv_sysusers.specs.Lines.{lines_from, said_duplicates};
+ghost use Rattle.pv_sysusers.specs.Lines.{lines_from, duplicate_messages};
 ghost use Rattle.pv_steps.specs.Acting.{Acted};
-ghost use Rattle.pv_text.specs.Said.{SaidPart};
+ghost use Rattle.pv_text.specs.GivenMessages.{MessagesPart};
 ghost use Rattle.pv_doing.specs.Courses.{carried_of};
 ghost use Rattle.pv_doing.specs.declared.carried.Carried.TheVariants.{Whole};
 ghost use Rattle.pv_walk.specs.Staging.{count_at_all};
 ghost use Rattle.pv_accounts_run.specs.declared.accounts_fault.AccountsFault.TheVariants.{Failed};
 ghost use Rattle.pv_accounts_run.specs.Accounted.{accounted, accounts_messages, carried_files, edits_at, edits_by, is_unusable, lacking_at, lacking_in, plan_at, unusable_texts};
-ghost use Rattle.pv_accounts_run.specs.Carrying.{AccountWay, IsAccountStep, most_put, swept_names};
+ghost use Rattle.pv_accounts_run.specs.FileWriting.{AccountWay, IsAccountStep, most_put, swept_names};
 ghost use Rattle.pv_accounts_run.specs.Mended.{IsMended};
 ghost use Rattle.pv_accounts_run.specs.Running.{IfLacking, Lacks, in_steps, run_answer};
 ghost use Rattle.pv_accounts_run.specs.Swept.{LeavesNoStagingName};
 ghost use Rattle.pv_accounts_run.specs.Turns.{TurnWay};
 
 use crate::accounts_fault::AccountsFault;
-use crate::carrying::carry_out;
+use crate::file_writing::write_account_files;
 use crate::judging::unusable_texts;
 use crate::planning::planned_edits;
 use pv_doing::Carried;
@@ -44,25 +44,25 @@ pub fn accounts_run<T: Tree>(
 
     // What a whole run leaves, stamps included, what it says and how it ends.
     ensures ok { OnOk result (T.state tree.new ≡ accounted requests.now now (T.state tree.old)) }
-    ensures said { OnOk result (messages.new ≡ messages.old ++ accounts_messages requests.now now (places (T.state tree.old))) }
+    ensures new_messages { OnOk result (messages.new ≡ messages.old ++ accounts_messages requests.now now (places (T.state tree.old))) }
     ensures carried { IfOk result (λ c. c ≡ carried_of (is_unusable (places (T.state tree.old)))) }
     ensures enough { OnOk result (lacking_at requests.now now (places (T.state tree.old)) ≡ None) }
     ensures staged { OnOk result (LeavesNoStagingName requests.now now (T.state tree.old) (T.state tree.new)) }
 
     // Where no number is left for a name, what is said, and that nothing is done.
     ensures lacking { IfErr result (Lacks (lacking_at requests.now now (places (T.state tree.old)))) }
-    ensures lacking_said { IfLacking result (messages.new ≡ messages.old ++ accounts_messages requests.now now (places (T.state tree.old))) }
+    ensures lacking_messages { IfLacking result (messages.new ≡ messages.old ++ accounts_messages requests.now now (places (T.state tree.old))) }
     ensures lacking_idle { IfLacking result (T.steps tree.new ≡ T.steps tree.old) }
 
     // All is said before the first step, and no step is done where a number lacks: where a step failed, all has been said.
     ensures failed_enough { IsErrOf result Failed → lacking_at requests.now now (places (T.state tree.old)) ≡ None }
-    ensures failed_said { IsErrOf result Failed → messages.new ≡ messages.old ++ accounts_messages requests.now now (places (T.state tree.old)) }
+    ensures failed_messages { IsErrOf result Failed → messages.new ≡ messages.old ++ accounts_messages requests.now now (places (T.state tree.old)) }
 
     // Nothing is done where a file cannot be used.
     ensures idle { unusable_texts (places (T.state tree.old)) ≢ [] → T.steps tree.new ≡ T.steps tree.old }
 
     // What any run has said and done, whatever it answers.
-    ensures part { SaidPart (accounts_messages requests.now now (places (T.state tree.old))) messages.old messages.new }
+    ensures part { MessagesPart (accounts_messages requests.now now (places (T.state tree.old))) messages.old messages.new }
     ensures acted { let edits = edits_at requests.now now (places (T.state tree.old)) in
         Acted T.Tree (AccountWay edits (T.state tree.old)) (IsAccountStep edits (T.state tree.old))
         (count_at_all (T.state tree.old) swept_names + most_put edits (places (T.state tree.old))) now tree.old tree.new (in_steps result) }
@@ -104,16 +104,16 @@ fn run_usable<T: Tree>(
     ensures lacking { let plan = plan_at requests.now now (places (T.state tree.old)) in
         IfErr result (Lacks (lacking_in plan.texts)) }
     ensures lacking_idle { IfLacking result (T.steps tree.new ≡ T.steps tree.old) }
-    ensures said { let plan = plan_at requests.now now (places (T.state tree.old)) in
-        OnOk result (messages.new ≡ messages.old ++ plan.said) }
-    ensures lacking_said { let plan = plan_at requests.now now (places (T.state tree.old)) in
-        IfLacking result (messages.new ≡ messages.old ++ plan.said) }
+    ensures new_messages { let plan = plan_at requests.now now (places (T.state tree.old)) in
+        OnOk result (messages.new ≡ messages.old ++ plan.new_messages) }
+    ensures lacking_messages { let plan = plan_at requests.now now (places (T.state tree.old)) in
+        IfLacking result (messages.new ≡ messages.old ++ plan.new_messages) }
     ensures failed_enough { let plan = plan_at requests.now now (places (T.state tree.old)) in
         IsErrOf result Failed → lacking_in plan.texts ≡ None }
-    ensures failed_said { let plan = plan_at requests.now now (places (T.state tree.old)) in
-        IsErrOf result Failed → messages.new ≡ messages.old ++ plan.said }
+    ensures failed_messages { let plan = plan_at requests.now now (places (T.state tree.old)) in
+        IsErrOf result Failed → messages.new ≡ messages.old ++ plan.new_messages }
     ensures part { let plan = plan_at requests.now now (places (T.state tree.old)) in
-        SaidPart plan.said messages.old messages.new }
+        MessagesPart plan.new_messages messages.old messages.new }
     ensures acted { let edits = edits_by (places (T.state tree.old)) (plan_at requests.now now (places (T.state tree.old))).texts in
         Acted T.Tree (AccountWay edits (T.state tree.old)) (IsAccountStep edits (T.state tree.old))
         (count_at_all (T.state tree.old) swept_names + most_put edits (places (T.state tree.old))) now tree.old tree.new (in_steps result) }
@@ -122,7 +122,7 @@ fn run_usable<T: Tree>(
         (count_at_all (T.state tree.old) swept_names + most_put edits (places (T.state tree.old))) now tree.old tree.new (in_steps result) }
 {
     match planned_edits(alloc, tree, requests, now, messages) {
-        Ok(edits) => run_answer(carry_out(alloc, tree, &edits, now)),
+        Ok(edits) => run_answer(write_account_files(alloc, tree, &edits, now)),
         Err(PlanFault::NoFreeId(name)) => Err(AccountsFault::NoFreeId(name)),
         Err(PlanFault::Memory) => Err(AccountsFault::Memory),
     }
@@ -147,10 +147,10 @@ fn say_unusable(
     unusable: &Messages,
     messages: &mut Messages,
 ) -> Result<(), AllocError>
-    ensures ok { OnOk result (messages.new ≡ messages.old ++ said_duplicates [] (lines_from [] 0 requests.now) ++ unusable.now) }
-    ensures part { SaidPart (said_duplicates [] (lines_from [] 0 requests.now) ++ unusable.now) messages.old messages.new }
+    ensures ok { OnOk result (messages.new ≡ messages.old ++ duplicate_messages [] (lines_from [] 0 requests.now) ++ unusable.now) }
+    ensures part { MessagesPart (duplicate_messages [] (lines_from [] 0 requests.now) ++ unusable.now) messages.old messages.new }
 {
-    let mut said = duplicates(alloc, requests)?;
-    say_all(unusable, &mut said)?;
-    say_all(&said, messages)
+    let mut new_messages = duplicates(alloc, requests)?;
+    say_all(unusable, &mut new_messages)?;
+    say_all(&new_messages, messages)
 }

@@ -10,7 +10,7 @@ ghost use Rattle.pv_accounts_run.specs.Edits.{AreEdits, IsEdit, IsFree, IsOfSome
 ghost use Rattle.pv_accounts_run.specs.Turns.{StagingOne, StagingSome};
 
 use crate::edit::Edit;
-use pv_dress::dress;
+use pv_metadata::set_metadata;
 use pv_path::staging;
 use pv_steps::{Tree, TreeFault};
 use pv_walk::{NewFile, NewKind, put_held};
@@ -56,7 +56,7 @@ fn stage<T: Tree>(alloc: Global, tree: &mut T, edit: &Edit, now: u64) -> Result<
     let new = new_file(edit)?;
     let stage = staging(alloc, &edit.path)?;
     put_held(tree, &stage, &new, now)?;
-    dress(tree, &stage, &edit.dress, now)
+    set_metadata(tree, &stage, &edit.metadata, now)
 }
 
 /// The new file, in the mode and with the owners that it is to have.
@@ -66,8 +66,8 @@ fn new_file(edit: &Edit) -> Result<NewFile, AllocError>
 {
     Ok(NewFile {
         what: NewKind::File(edit.text.copy()?),
-        mode: edit.dress.acl.access.mode(edit.dress.special),
-        uid: edit.dress.uid,
-        gid: edit.dress.gid,
+        mode: edit.metadata.acl.access.mode(edit.metadata.special),
+        uid: edit.metadata.uid,
+        gid: edit.metadata.gid,
     })
 }

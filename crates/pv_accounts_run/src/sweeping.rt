@@ -5,10 +5,10 @@ ghost use Rattle.pv_path.specs.Paths.{staging_of};
 ghost use Rattle.pv_steps.specs.Trees.{places, IsAbsentIn};
 ghost use Rattle.pv_steps.specs.Acting.{Acted};
 ghost use Rattle.pv_steps.specs.Content.{Removes};
-ghost use Rattle.pv_dress.specs.Edits.{Pruned, all_taken, count_at, taken};
+ghost use Rattle.pv_metadata.specs.Edits.{Pruned, all_taken, count_at, taken};
 ghost use Rattle.pv_walk.specs.Staging.{count_at_all, is_under_any};
 ghost use Rattle.pv_accounts_run.specs.Edits.{etc};
-ghost use Rattle.pv_accounts_run.specs.Carrying.{IsSweptPath, account_paths, swept_names};
+ghost use Rattle.pv_accounts_run.specs.FileWriting.{IsSweptPath, account_paths, swept_names};
 
 use crate::paths::{account_paths, directory};
 use pv_path::TreePath;

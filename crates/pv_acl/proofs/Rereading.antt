@@ -9,13 +9,13 @@ use Rattle.std.proofs.lemmas.List.Folds.{list_all-append}
 use Rattle.std.proofs.lemmas.Bool.{and_parts}
 use Rattle.pv_acl.specs.declared.line.Entry.{Entry}
 use Rattle.pv_acl.specs.declared.line.Entry.TheVariants as entry
-use Rattle.pv_acl.specs.declared.parse.Place.{Place}
-use Rattle.pv_acl.specs.declared.parse.Place.TheVariants as place
+use Rattle.pv_acl.specs.declared.parse.EntryTag.{EntryTag}
+use Rattle.pv_acl.specs.declared.parse.EntryTag.TheVariants as place
 use Rattle.pv_acl.specs.declared.parse.PartEntry.{PartEntry}
 use Rattle.pv_acl.specs.declared.perm.Who.{Who}
 use Rattle.pv_acl.specs.declared.perm.Who.TheVariants.{User, Group}
 use Rattle.pv_acl.specs.declared.perm.Named.{Named}
-use Rattle.pv_acl.specs.Entries.{id_or_name, named_place, entry_of, text_entry_of, line_of}
+use Rattle.pv_acl.specs.Entries.{id_or_name, named_tag, entry_of, text_entry_of, line_of}
 use Rattle.pv_acl.specs.NamedEntries.{is_id, id_of, is_perm, is_named}
 use Rattle.pv_acl.specs.Numbers.{may_be_written}
 use Rattle.pv_acl.specs.Spelling.{decimal_id}
@@ -34,11 +34,11 @@ id_or_name-decimal id h = rw (number_of-decimal id (decimal id) (id_fits id h) r
     by_test true = refl
     by_test false = rw h refl
 
-named_place_is : (base : Place) (who : ℕ → Who) (name : List ℕ) (id : ℕ) → 0 < length name → id_or_name decimal_id name ≡ Some id → named_place base who decimal_id name ≡ Ok (place.Named (who id))
+named_place_is : (base : EntryTag) (who : ℕ → Who) (name : List ℕ) (id : ℕ) → 0 < length name → id_or_name decimal_id name ≡ Some id → named_tag base who decimal_id name ≡ Ok (place.Named (who id))
 named_place_is base who [] id long h = absurd (omega arith)
 named_place_is base who (b ∷ bs) id long h = rw h refl
 
-place_is : (base : Place) (who : ℕ → Who) (id : ℕ) → is_id id ≡ true → named_place base who decimal_id (decimal id) ≡ Ok (place.Named (who id))
+place_is : (base : EntryTag) (who : ℕ → Who) (id : ℕ) → is_id id ≡ true → named_tag base who decimal_id (decimal id) ≡ Ok (place.Named (who id))
 place_is base who id h = named_place_is base who (decimal id) id (decimal_nonempty id (id_fits id h)) (id_or_name-decimal id h)
 
 -- the first letter of a tag

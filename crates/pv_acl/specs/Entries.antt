@@ -10,8 +10,8 @@ use Rattle.pv_acl.specs.declared.line.Entry.TheVariants as entry
 use Rattle.pv_acl.specs.declared.line.AclLine.{AclLine}
 use Rattle.pv_acl.specs.declared.perm.Who.{Who}
 use Rattle.pv_acl.specs.declared.perm.Who.TheVariants.{User, Group}
-use Rattle.pv_acl.specs.declared.parse.Place.{Place}
-use Rattle.pv_acl.specs.declared.parse.Place.TheVariants as place
+use Rattle.pv_acl.specs.declared.parse.EntryTag.{EntryTag}
+use Rattle.pv_acl.specs.declared.parse.EntryTag.TheVariants as place
 use Rattle.pv_acl.specs.declared.parse.PartEntry.{PartEntry}
 use Rattle.pv_acl.specs.NamedEntries.{is_id, id_of}
 use Rattle.pv_acl.specs.Numbers.{written_id}
@@ -46,30 +46,30 @@ abbrev pub id_or_name : (List ℕ → Option ℕ) → List ℕ → Option ℕ
 id_or_name lookup text = option_or (written_id text) (lookup text)
 
 -- the place of a base entry where the name is empty, else that of a named one
-abbrev pub named_place : Place → (ℕ → Who) → (List ℕ → Option ℕ) → List ℕ → Result Place AclFault
-named_place base who lookup [] = Ok base
-named_place base who lookup (b ∷ bs) = place_for (id_or_name lookup (b ∷ bs))
+abbrev pub named_tag : EntryTag → (ℕ → Who) → (List ℕ → Option ℕ) → List ℕ → Result EntryTag AclFault
+named_tag base who lookup [] = Ok base
+named_tag base who lookup (b ∷ bs) = place_for (id_or_name lookup (b ∷ bs))
   where
-    place_for : Option ℕ → Result Place AclFault
+    place_for : Option ℕ → Result EntryTag AclFault
     place_for (Some id) = Ok (place.Named (who id))
     place_for None = Err fault.UnknownName
 
 -- a place that takes no name
-abbrev pub nameless_place : Place → List ℕ → Result Place AclFault
-nameless_place p [] = Ok p
-nameless_place p (b ∷ bs) = Err fault.BadTag
+abbrev pub nameless_tag : EntryTag → List ℕ → Result EntryTag AclFault
+nameless_tag p [] = Ok p
+nameless_tag p (b ∷ bs) = Err fault.BadTag
 
 -- the place that a tag and a name speak of
-abbrev pub place_of : (List ℕ → Option ℕ) → (List ℕ → Option ℕ) → List ℕ → List ℕ → Result Place AclFault
-place_of uid_named gid_named tag name =
-    if is_word tag (codes "user") (codes "u") then named_place place.Owner (λ id. User id) uid_named name
-    else if is_word tag (codes "group") (codes "g") then named_place place.Group (λ id. Group id) gid_named name
-    else if is_word tag (codes "mask") (codes "m") then nameless_place place.Mask name
-    else if is_word tag (codes "other") (codes "o") then nameless_place place.Other name
+abbrev pub entry_tag_of : (List ℕ → Option ℕ) → (List ℕ → Option ℕ) → List ℕ → List ℕ → Result EntryTag AclFault
+entry_tag_of uid_named gid_named tag name =
+    if is_word tag (codes "user") (codes "u") then named_tag place.Owner (λ id. User id) uid_named name
+    else if is_word tag (codes "group") (codes "g") then named_tag place.Group (λ id. Group id) gid_named name
+    else if is_word tag (codes "mask") (codes "m") then nameless_tag place.Mask name
+    else if is_word tag (codes "other") (codes "o") then nameless_tag place.Other name
     else Err fault.BadTag
 
 -- the entry that sets a permission at a place
-abbrev pub entry_at : Place → ℕ → Entry
+abbrev pub entry_at : EntryTag → ℕ → Entry
 entry_at place.Owner perm = entry.Owner perm
 entry_at place.Group perm = entry.Group perm
 entry_at place.Other perm = entry.Other perm
@@ -79,9 +79,9 @@ entry_at (place.Named who) perm = entry.Named (record { who = who; perm = perm }
 -- the entry of the parts TAG, NAME and PERM, or the first fault: the tag, then the name, then the
 -- permissions
 abbrev pub entry_of : (List ℕ → Option ℕ) → (List ℕ → Option ℕ) → List (List ℕ) → Result Entry AclFault
-entry_of uid_named gid_named (tag ∷ name ∷ perm ∷ []) = with_perm (place_of uid_named gid_named tag name) (perm_of perm)
+entry_of uid_named gid_named (tag ∷ name ∷ perm ∷ []) = with_perm (entry_tag_of uid_named gid_named tag name) (perm_of perm)
   where
-    with_perm : Result Place AclFault → Option ℕ → Result Entry AclFault
+    with_perm : Result EntryTag AclFault → Option ℕ → Result Entry AclFault
     with_perm (Err f) perm = Err f
     with_perm (Ok p) None = Err fault.BadPerm
     with_perm (Ok p) (Some perm) = Ok (entry_at p perm)
@@ -132,9 +132,9 @@ Gives (Err fault.Memory) read = Unit {0}
 Gives (Err f) read = read ≡ Err f
 
 -- a place that a line may speak of
-abbrev pub is_place : Place → Bool
-is_place (place.Named who) = is_id (id_of who)
-is_place p = true
+abbrev pub is_entry_tag : EntryTag → Bool
+is_entry_tag (place.Named who) = is_id (id_of who)
+is_entry_tag p = true
 
 -- a line with one more entry at its end
 abbrev pub with_back : AclLine → PartEntry → AclLine

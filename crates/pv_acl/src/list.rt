@@ -57,7 +57,7 @@ impl NamedList {
         ensures ok { OnOk result (self.new ≡ put_named item self.old) }
         ensures err { OnErr result (self.new ≡ self.old) }
     {
-        let at = place_of(self.items.as_slice(), &item);
+        let at = entry_tag_of(self.items.as_slice(), &item);
         if speaks_of(self.items.as_slice(), at, &item) {
             self.items[at] = item;
             return Ok(());
@@ -118,7 +118,7 @@ impl Eq for NamedList {
 }
 
 /// How many of the first entries stand before one.
-fn place_of(items: &[Named], item: &Named) -> usize
+fn entry_tag_of(items: &[Named], item: &Named) -> usize
     ensures place { result ≡ prefix_len (λ x. is_before x item.now) items.now }
     ensures within { result ≤ length items.now }
 {

@@ -4,7 +4,7 @@ ghost use Rattle.std.specs.List.{list_all, slice_split};
 ghost use Rattle.std.specs.Option.{option_map};
 ghost use Rattle.pv_acl.specs.Applying.{is_entry, is_line};
 ghost use Rattle.pv_acl.specs.Entries.{is_word, times, perm_of, is_perm_text, has_letters_once, is_perm_byte};
-ghost use Rattle.pv_acl.specs.Entries.{named_place, nameless_place, is_place, place_of, entry_at};
+ghost use Rattle.pv_acl.specs.Entries.{named_tag, nameless_tag, is_entry_tag, entry_tag_of, entry_at};
 ghost use Rattle.pv_acl.specs.declared.perm.Who.TheVariants as who;
 ghost use Rattle.pv_acl.specs.Entries.{entry_of, part_entry_of, text_entry_of, acl_line_of, added, Gives};
 
@@ -17,7 +17,7 @@ use std::alloc::{AllocError, Global};
 
 /// Where an entry puts its permission.
 #[derive(Clone, Copy)]
-pub enum Place {
+pub enum EntryTag {
     Owner,
     Group,
     Other,
@@ -134,44 +134,44 @@ fn perm_of(text: &[u8]) -> Option<Perm>
 }
 
 /// The place of a user's entry: the owner's where there is no name.
-fn user_place<N: Names>(name: &[u8], names: &N) -> Result<Place, AclFault>
-    ensures value { result ≡ named_place Place.Owner (λ id. who.User id) (N.uid_named names.now) name.now }
-    ensures allowed { IfOk result (λ place. is_place place ≡ true) }
+fn user_tag<N: Names>(name: &[u8], names: &N) -> Result<EntryTag, AclFault>
+    ensures value { result ≡ named_tag EntryTag.Owner (λ id. who.User id) (N.uid_named names.now) name.now }
+    ensures allowed { IfOk result (λ place. is_entry_tag place ≡ true) }
 {
     if name.is_empty() {
-        return Ok(Place::Owner);
+        return Ok(EntryTag::Owner);
     }
     if let Some(id) = written_id(name) {
-        return Ok(Place::Named(Who::User(id)));
+        return Ok(EntryTag::Named(Who::User(id)));
     }
     match names.uid_of(name) {
-        Some(id) => Ok(Place::Named(Who::User(id))),
+        Some(id) => Ok(EntryTag::Named(Who::User(id))),
         None => Err(AclFault::UnknownName),
     }
 }
 
 /// The place of a group's entry: the owning group's where there is no name.
-fn group_place<N: Names>(name: &[u8], names: &N) -> Result<Place, AclFault>
-    ensures value { result ≡ named_place Place.Group (λ id. who.Group id) (N.gid_named names.now) name.now }
-    ensures allowed { IfOk result (λ place. is_place place ≡ true) }
+fn group_tag<N: Names>(name: &[u8], names: &N) -> Result<EntryTag, AclFault>
+    ensures value { result ≡ named_tag EntryTag.Group (λ id. who.Group id) (N.gid_named names.now) name.now }
+    ensures allowed { IfOk result (λ place. is_entry_tag place ≡ true) }
 {
     if name.is_empty() {
-        return Ok(Place::Group);
+        return Ok(EntryTag::Group);
     }
     if let Some(id) = written_id(name) {
-        return Ok(Place::Named(Who::Group(id)));
+        return Ok(EntryTag::Named(Who::Group(id)));
     }
     match names.gid_of(name) {
-        Some(id) => Ok(Place::Named(Who::Group(id))),
+        Some(id) => Ok(EntryTag::Named(Who::Group(id))),
         None => Err(AclFault::UnknownName),
     }
 }
 
 /// A place that takes no name.
-fn nameless_place(place: Place, name: &[u8]) -> Result<Place, AclFault>
-    requires { is_place place ≡ true }
-    ensures value { result ≡ nameless_place place name.now }
-    ensures allowed { IfOk result (λ place. is_place place ≡ true) }
+fn nameless_tag(place: EntryTag, name: &[u8]) -> Result<EntryTag, AclFault>
+    requires { is_entry_tag place ≡ true }
+    ensures value { result ≡ nameless_tag place name.now }
+    ensures allowed { IfOk result (λ place. is_entry_tag place ≡ true) }
 {
     if name.is_empty() {
         Ok(place)
@@ -181,35 +181,35 @@ fn nameless_place(place: Place, name: &[u8]) -> Result<Place, AclFault>
 }
 
 /// The place that a tag and a name speak of.
-fn place_of<N: Names>(tag: &[u8], name: &[u8], names: &N) -> Result<Place, AclFault>
-    ensures value { result ≡ place_of (N.uid_named names.now) (N.gid_named names.now) tag.now name.now }
-    ensures allowed { IfOk result (λ place. is_place place ≡ true) }
+fn entry_tag_of<N: Names>(tag: &[u8], name: &[u8], names: &N) -> Result<EntryTag, AclFault>
+    ensures value { result ≡ entry_tag_of (N.uid_named names.now) (N.gid_named names.now) tag.now name.now }
+    ensures allowed { IfOk result (λ place. is_entry_tag place ≡ true) }
 {
     if is_word(tag, b"user", b"u") {
-        user_place(name, names)
+        user_tag(name, names)
     } else if is_word(tag, b"group", b"g") {
-        group_place(name, names)
+        group_tag(name, names)
     } else if is_word(tag, b"mask", b"m") {
-        nameless_place(Place::Mask, name)
+        nameless_tag(EntryTag::Mask, name)
     } else if is_word(tag, b"other", b"o") {
-        nameless_place(Place::Other, name)
+        nameless_tag(EntryTag::Other, name)
     } else {
         Err(AclFault::BadTag)
     }
 }
 
 /// The entry that sets a permission at a place.
-fn entry_at(place: Place, perm: Perm) -> Entry
-    requires { is_place place ≡ true }
+fn entry_at(place: EntryTag, perm: Perm) -> Entry
+    requires { is_entry_tag place ≡ true }
     ensures value { result ≡ entry_at place perm }
     ensures allowed { is_entry result ≡ true }
 {
     match place {
-        Place::Owner => Entry::Owner(perm),
-        Place::Group => Entry::Group(perm),
-        Place::Other => Entry::Other(perm),
-        Place::Mask => Entry::Mask(perm),
-        Place::Named(who) => Entry::Named(Named { who, perm }),
+        EntryTag::Owner => Entry::Owner(perm),
+        EntryTag::Group => Entry::Group(perm),
+        EntryTag::Other => Entry::Other(perm),
+        EntryTag::Mask => Entry::Mask(perm),
+        EntryTag::Named(who) => Entry::Named(Named { who, perm }),
     }
 }
 
@@ -220,7 +220,7 @@ fn three_parts<N: Names>(tag: &[u8], name: &[u8], perm: &[u8], names: &N) -> Res
         result ≡ entry_of (N.uid_named names.now) (N.gid_named names.now) parts }
     ensures allowed { IfOk result (λ entry. is_entry entry ≡ true) }
 {
-    let place = place_of(tag, name, names)?;
+    let place = entry_tag_of(tag, name, names)?;
     match perm_of(perm) {
         Some(perm) => Ok(entry_at(place, perm)),
         None => Err(AclFault::BadPerm),

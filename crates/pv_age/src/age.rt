@@ -14,14 +14,14 @@ const DEFAULT_LETTERS: &[u8] = b"abcmABM";
 pub struct Age {
     /// The age in microseconds. By the age 0 every object is old.
     pub micros: u64,
-    /// The stamps that it looks at.
+    /// The timestamps that it looks at.
     pub by: StampSet,
     /// Whether what stands directly in the directory is spared.
     pub spare_first: bool,
 }
 
 /// The age that a text spells, or its first fault in the order of `AgeFault`: an optional `~` that
-/// spares the first level, an optional list of stamp letters ended by `:`, and one or more decimal
+/// spares the first level, an optional list of timestamp letters ended by `:`, and one or more decimal
 /// numbers with units, which are added. A number without a unit counts seconds (tmpfiles.d(5), Age).
 pub fn parse_age(text: &[u8]) -> Result<Age, AgeFault>
     ensures { result ≡ age_of text.now }

@@ -10,8 +10,8 @@ use bitflags::Flags;
 use pv_steps::{Kind, Node};
 
 /// Whether an object is old by an age at a moment in microseconds since 1970: by the age 0 always, else
-/// where the age is not above the moment and every stamp that the age looks at for this kind of object
-/// lies before the moment minus the age. An age that looks at no stamp of this kind finds it old.
+/// where the age is not above the moment and every timestamp that the age looks at for this kind of object
+/// lies before the moment minus the age. An age that looks at no timestamp of this kind finds it old.
 pub fn is_old(node: &Node, age: &Age, now: u64) -> bool
     ensures { result ≡ is_old node.now age.now now }
 {
@@ -24,7 +24,7 @@ pub fn is_old(node: &Node, age: &Age, now: u64) -> bool
     }
 }
 
-/// Whether every stamp that is looked at for the kind of an object lies before a moment.
+/// Whether every timestamp that is looked at for the kind of an object lies before a moment.
 fn is_before(node: &Node, by: StampSet, limit: u64) -> bool
     ensures { result ≡ list_all (is_before by limit) (stamps_of_kind node.now.kind node.now.stamps) }
 {
@@ -45,7 +45,7 @@ fn is_before(node: &Node, by: StampSet, limit: u64) -> bool
     }
 }
 
-/// Whether a stamp is not looked at, or lies before a moment.
+/// Whether a timestamp is not looked at, or lies before a moment.
 fn is_stamp_before(by: StampSet, letter: StampSet, stamp: u64, limit: u64) -> bool
     ensures { result ≡ (not (has by letter.0) || nat_lt stamp limit) }
 {

@@ -1,4 +1,4 @@
-//! The stamps that an age looks at, by their letters.
+//! The timestamps that an age looks at, by their letters.
 ghost use Rattle.std.specs.Prelude.{⊤, ◌≡◌, ◌==◌, [], ◌∷◌, codes, option_map};
 ghost use Rattle.std.specs.Int.RustNames.{bit_and};
 ghost use Rattle.pv_age.specs.Stamps.{letter_bit, stamps_of, stamps_with};
@@ -6,7 +6,7 @@ ghost use Rattle.pv_age.specs.Stamps.{letter_bit, stamps_of, stamps_with};
 use crate::age_fault::AgeFault;
 use bitflags::{Flag, Flags, bitflag_items};
 
-/// The stamps that an age looks at, one for each letter: access, birth, change and modify, of objects
+/// The timestamps that an age looks at, one for each letter: access, birth, change and modify, of objects
 /// that are no directories by the lower case letter, and of directories by the upper case letter.
 #[derive(Clone, Copy, PartialEq, Eq)]
 pub struct StampSet(u8);
@@ -46,7 +46,7 @@ impl Flags for StampSet {
     }
 }
 
-/// The stamps that a list of letters chooses. A repeated letter has no further effect.
+/// The timestamps that a list of letters chooses. A repeated letter has no further effect.
 pub(crate) fn stamps_of(list: &[u8]) -> Result<StampSet, AgeFault>
     ensures { result ≡ stamps_of list.now }
 {
@@ -61,7 +61,7 @@ pub(crate) fn stamps_of(list: &[u8]) -> Result<StampSet, AgeFault>
     Ok(stamps)
 }
 
-/// The stamp of a letter.
+/// The timestamp of a letter.
 fn stamp_of(letter: u8) -> Option<StampSet>
     ensures { option_map (λ s. s.0) result ≡ letter_bit letter }
 {

@@ -11,9 +11,9 @@ use Rattle.pv_lines.specs.declared.line.Line.{Line}
 use Rattle.pv_path.specs.Paths.{Path, path_cmp, same_path, same_path-decides, parent_of}
 use Rattle.pv_path.proofs.PathLaws.{is_prefix-refl}
 use Rattle.pv_steps.specs.declared.object.Object.{Object}
-use Rattle.pv_steps.specs.Same.{bares}
+use Rattle.pv_steps.specs.Same.{object_states}
 use Rattle.pv_steps.specs.Trees.{Files, places, IsAbsentIn}
-use Rattle.pv_dress.specs.Edits.{Pruned}
+use Rattle.pv_metadata.specs.Edits.{Pruned}
 use Rattle.pv_walk.specs.Listing.{IsListing}
 use Rattle.pv_walk.specs.Removal.{is_one_of}
 use Rattle.pv_find.specs.Whole.{goes_whole}
@@ -28,15 +28,15 @@ use Rattle.pv_clean.specs.Ages.{scope_around}
 use Rattle.pv_path.proofs.Tests.{same_tests}
 
 -- what was pruned goes and is gone, or is there as it was, stamps aside
-pub took : (goes : Path → Bool) (t u : Files) (q : Path) → Pruned goes t u → ((goes q ≡ true) × IsAbsentIn (places u) q) ⊎ (bares (places u) q ≡ bares (places t) q)
+pub took : (goes : Path → Bool) (t u : Files) (q : Path) → Pruned goes t u → ((goes q ≡ true) × IsAbsentIn (places u) q) ⊎ (object_states (places u) q ≡ object_states (places t) q)
 took goes t u q pruned = by (goes q) refl
   where
-    by : (b : Bool) → goes q ≡ b → ((goes q ≡ true) × IsAbsentIn (places u) q) ⊎ (bares (places u) q ≡ bares (places t) q)
+    by : (b : Bool) → goes q ≡ b → ((goes q ≡ true) × IsAbsentIn (places u) q) ⊎ (object_states (places u) q ≡ object_states (places t) q)
     by true e = elim (pruned.within q e) [ inl gone ↦ inl (e, gone) | inr same ↦ inr same ]
     by false e = inr (pruned.outside q e)
 
 -- what a cleaning on its way has taken
-pub took_aged : (lines : List Line) (now : ℕ) (t u : Files) (q : Path) → Pruned (is_aged lines now t) t u → ((is_aged lines now t q ≡ true) × IsAbsentIn (places u) q) ⊎ (bares (places u) q ≡ bares (places t) q)
+pub took_aged : (lines : List Line) (now : ℕ) (t u : Files) (q : Path) → Pruned (is_aged lines now t) t u → ((is_aged lines now t q ≡ true) × IsAbsentIn (places u) q) ⊎ (object_states (places u) q ≡ object_states (places t) q)
 took_aged lines now t u q pruned = took (is_aged lines now t) t u q pruned
 
 -- ---- paths in a set

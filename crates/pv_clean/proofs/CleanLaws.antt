@@ -11,7 +11,7 @@ use Rattle.pv_steps.specs.declared.tree.TreeFault.{TreeFault}
 use Rattle.pv_steps.specs.Runs.{Ran, after_all}
 use Rattle.pv_steps.specs.Trees.{Files}
 use Rattle.pv_steps.specs.Trying.{TriedAll}
-use Rattle.pv_dress.specs.Edits.{Pruned}
+use Rattle.pv_metadata.specs.Edits.{Pruned}
 use Rattle.pv_walk.specs.Removal.{is_one_of}
 use Rattle.pv_find.specs.Whole.{goes_whole}
 use Rattle.pv_table.specs.Cleaned.{is_aged, may_go}

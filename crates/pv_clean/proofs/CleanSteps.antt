@@ -11,7 +11,7 @@ use Rattle.pv_path.proofs.PathLaws.{is_prefix-append, path_ends, parent_of-push,
 use Rattle.pv_steps.specs.declared.node.Kind.TheVariants.{Directory}
 use Rattle.pv_steps.specs.declared.object.Object.{Object}
 use Rattle.pv_steps.specs.declared.step.Step.{Step}
-use Rattle.pv_steps.specs.Objects.{bare, changed, with_stamps}
+use Rattle.pv_steps.specs.Objects.{object_state, changed, with_stamps}
 use Rattle.pv_steps.specs.Runs.{after_all, IsNotIdle}
 use Rattle.pv_steps.specs.Steps.{Can, after, gone, on_at}
 use Rattle.pv_steps.specs.Trees.{Files, Places, places, child_name, names_below, IsEmptyIn, IsPresent, IsTree}
@@ -21,11 +21,11 @@ use Rattle.pv_steps.proofs.RunLaws.{after_all-append}
 use Rattle.pv_steps.proofs.StepLaws.{at_after, same_files}
 use Rattle.pv_steps.proofs.NameLaws.{child_name-push}
 use Rattle.pv_steps.proofs.TreeLaws.{present_of_kind}
-use Rattle.pv_dress.specs.Edits.{Pruned}
+use Rattle.pv_metadata.specs.Edits.{Pruned}
 use Rattle.pv_walk.specs.Listing.{times, is_child, AreGathered, IsGatheredBelow, IsListing, ParentsFirst}
 use Rattle.pv_walk.specs.Removal.{is_below, is_one_of, loses_child, removal, removal_at}
 use Rattle.pv_walk.proofs.CountLaws.{is_child-push, length-times, same_or_not, taken_out, times-append, times-filter, times-keys, times-self}
-use Rattle.pv_walk.proofs.RemovalLaws.{cond-true, is_below-child, kept-bare, kept-kind, kept-present, modified_kept, no_same, not_first, zero_or_more, gone-here, gone-none, gone-other, gone-parent, IsKept}
+use Rattle.pv_walk.proofs.RemovalLaws.{cond-true, is_below-child, kept-object_state, kept-kind, kept-present, modified_kept, no_same, not_first, zero_or_more, gone-here, gone-none, gone-other, gone-parent, IsKept}
 use Rattle.pv_walk.proofs.GatheredLaws.{gathered_filter}
 use Rattle.pv_walk.proofs.ListingLaws.{cond-le}
 use Rattle.pv_walk.proofs.Removing.{after_removal, removal_asks}
@@ -93,13 +93,13 @@ module _ (goes : Path → Bool) (t : Files) (now : ℕ) (p : Path) (y : Places) 
       ∙ ap (λ b. cond b (option_map (with_own t p now) (y q)) (y q)) (ap (λ (r : Path). same_path r q) is ∙ same_path-refl q)
 
   -- and is the same, stamps aside
-  pub one-bare : (q : Path) → goes q ≡ false → option_map bare (worked_one goes t now p y q) ≡ option_map bare (y q)
-  one-bare q h = elim (same_or_not p q) [
-    | inl e ↦ ap (option_map bare) (one-set q e.0 h) ∙ by (y q)
-    | inr d ↦ kept-bare now (y q) (worked_one goes t now p y q) (one-other q d)
+  pub one-object_state : (q : Path) → goes q ≡ false → option_map object_state (worked_one goes t now p y q) ≡ option_map object_state (y q)
+  one-object_state q h = elim (same_or_not p q) [
+    | inl e ↦ ap (option_map object_state) (one-set q e.0 h) ∙ by (y q)
+    | inr d ↦ kept-object_state now (y q) (worked_one goes t now p y q) (one-other q d)
   ]
     where
-      by : (o : Option Object) → option_map bare (option_map (with_own t p now) o) ≡ option_map bare o
+      by : (o : Option Object) → option_map object_state (option_map (with_own t p now) o) ≡ option_map object_state o
       by None = refl
       by (Some o) = refl
 
@@ -141,9 +141,9 @@ module _ (goes : Path → Bool) (t : Files) (now : ℕ) where
         let first = not_first p q ps none in
         kept_on now (x q) (worked goes t now ps x q) (worked goes t now (p ∷ ps) x q) (worked-kept ps first.1) (one-other goes t now p (worked goes t now ps x) q first.0)
 
-    pub worked-bare : (ps : List Path) → goes q ≡ false → option_map bare (worked goes t now ps x q) ≡ option_map bare (x q)
-    worked-bare [] h = refl
-    worked-bare (p ∷ ps) h = one-bare goes t now p (worked goes t now ps x) q h ∙ worked-bare ps h
+    pub worked-object_state : (ps : List Path) → goes q ≡ false → option_map object_state (worked goes t now ps x q) ≡ option_map object_state (x q)
+    worked-object_state [] h = refl
+    worked-object_state (p ∷ ps) h = one-object_state goes t now p (worked goes t now ps x) q h ∙ worked-object_state ps h
 
     pub worked-same : (ps : List Path) → times q ps ≡ 0 → ((r : Path) → 1 ≤ times r ps → goes r ≡ true → same_path (parent_of r) q ≡ false) → worked goes t now ps x q ≡ x q
     worked-same [] none other = refl
@@ -217,9 +217,9 @@ module _ (goes : Path → Bool) (t : Files) (now : ℕ) where
   worked_pruned ps u is =
       let at : (q : Path) → places u q ≡ worked goes t now ps (places t) q = λ q. ap (λ (x : Places). x q) is in
       record {
-        outside = λ q h. ap (option_map bare) (at q) ∙ worked-bare goes t now (places t) q ps h;
+        outside = λ q h. ap (option_map object_state) (at q) ∙ worked-object_state goes t now (places t) q ps h;
         within = λ q h. elim (zero_or_more (times q ps)) [
-          | inl z ↦ inr (ap (option_map bare) (at q) ∙ kept-bare now (places t q) (worked goes t now ps (places t) q) (worked-kept goes t now (places t) q ps z))
+          | inl z ↦ inr (ap (option_map object_state) (at q) ∙ kept-object_state now (places t q) (worked goes t now ps (places t) q) (worked-kept goes t now (places t) q ps z))
           | inr m ↦ inl (at q ∙ worked-gone goes t now (places t) q ps h m)
         ];
       }
@@ -263,11 +263,11 @@ module _ (goes : Path → Bool) (t : Files) (now : ℕ) (whole : (q : Path) → 
 
     first_asks : Asks (Pruned goes t) (IsCleanStep goes t) u (clean_step goes t p) now
     first_asks =
-        let asks = by (goes p) refl in
+        let action_of = by (goes p) refl in
         record {
           start = worked_pruned goes t now ps u is;
-          can = asks.0;
-          busy = asks.1;
+          can = action_of.0;
+          busy = action_of.1;
           there = λ v e. worked_pruned goes t now (p ∷ ps) v (step_works goes t now p u v e ∙ ap (worked_one goes t now p) is);
           gives = step_clean goes t now p first_there.0 first_there.1;
         }

@@ -18,11 +18,11 @@ use Rattle.pv_steps.specs.Content.{alters, content_of}
 use Rattle.pv_steps.proofs.ContentLaws.{removal_inside}
 use Rattle.pv_steps.specs.Runs.{after_all, Ran}
 use Rattle.pv_steps.specs.Trees.{IsTree, Files, places}
-use Rattle.pv_dress.specs.Edits.{Pruned}
+use Rattle.pv_metadata.specs.Edits.{Pruned}
 use Rattle.pv_find.proofs.WholeLaws.{all_at-each}
 use Rattle.pv_table.specs.declared.reason.Reason.TheVariants as reason
 use Rattle.pv_table.specs.declared.scope.Scope.{Scope}
-use Rattle.pv_table.specs.Asking.{asks, is_writing, sparing_of, taking_of}
+use Rattle.pv_table.specs.ActionTable.{action_of, is_writing, sparing_of, taking_of}
 use Rattle.pv_table.specs.Cleaned.{is_aged, is_old_by, may_go}
 use Rattle.pv_table.specs.Reaching.{governs, is_creating, is_deep, names, spares_below, takes_below}
 use Rattle.pv_table.specs.Removed.{all_at}
@@ -63,7 +63,7 @@ aging_may : (line : Line) (q : Path) (k : ℕ) → k < length q + 1 → names li
 aging_may line q k within named aged = record {
   changes = or_right (is_creating line || is_writing line || takes_named (taking_of line)) (is_some line.age) aged;
   governs = governs_below line q k within named (ap (λ b. b || line.purge)
-      (or_right (is_deep (asks line) || takes_below (taking_of line) || option_map_or spares_below (sparing_of line) false) (is_some line.age) aged));
+      (or_right (is_deep (action_of line) || takes_below (taking_of line) || option_map_or spares_below (sparing_of line) false) (is_some line.age) aged));
 }
 
 -- a step of a clean phase leaves what does not go

@@ -56,5 +56,5 @@ module _ (lines : List Line) (now : ℕ) (t : Files) (tree : IsTree t) (q : Path
 -- a predicate that the sentence says is what is aged
 pub aged_alone : (lines : List Line) (now : ℕ) (t : Files) (aged : Path → Bool) → IsTree t → ((q : Path) → is_some (places t q) ≡ true → aged q ≡ is_aged_by aged lines now t q)
     → (q : Path) → is_some (places t q) ≡ true → aged q ≡ is_aged lines now t q
-aged_alone lines now t aged tree said q there =
-    one_alone t (λ f p. is_aged_by f lines now t p) (λ f g p same. ap (λ b. may_go lines now t p && b) (children_go-same t f g p same)) aged (is_aged lines now t) said (λ p at. aged_by lines now t tree p) q there
+aged_alone lines now t aged tree new_messages q there =
+    one_alone t (λ f p. is_aged_by f lines now t p) (λ f g p same. ap (λ b. may_go lines now t p && b) (children_go-same t f g p same)) aged (is_aged lines now t) new_messages (λ p at. aged_by lines now t tree p) q there

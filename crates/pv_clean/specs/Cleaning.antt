@@ -7,7 +7,7 @@ use Rattle.pv_steps.specs.declared.object.Object.{Object}
 use Rattle.pv_steps.specs.declared.step.Step.{Step}
 use Rattle.pv_steps.specs.declared.step.Step.TheVariants.{SetStamps, Unlink, RemoveDir}
 use Rattle.pv_steps.specs.Runs.{after_all}
-use Rattle.pv_steps.specs.Same.{bares}
+use Rattle.pv_steps.specs.Same.{object_states}
 use Rattle.pv_steps.specs.Trees.{Files, places, IsAbsentIn, IsPresent}
 use Rattle.pv_walk.specs.Listing.{times, is_child, AreGathered}
 use Rattle.pv_walk.specs.Removal.{loses_child, removal_at}
@@ -78,4 +78,4 @@ IsCleanedInTurn now t steps = (n : ℕ) → AreOnOneWay t (after_all t (take n s
 abbrev pub TakesOnly : (Path → Bool) → ℕ → Files → List Step → Type 0
 TakesOnly goes now t steps = (n : ℕ) (q : Path) →
     ((goes q ≡ true) × IsAbsentIn (places (after_all t (take n steps) now)) q)
-    ⊎ (bares (places (after_all t (take n steps) now)) q ≡ bares (places t) q)
+    ⊎ (object_states (places (after_all t (take n steps) now)) q ≡ object_states (places t) q)

@@ -33,8 +33,8 @@ struct Aging<'a, T: Tree> {
     moment: u64,
 }
 
-/// The paths that the clean phase takes away (tmpfiles.d(5), "Age", x and X), as all of it is judged by the stamps that
-/// stand when the phase begins. The age of a directory is looked for once.
+/// The paths that the clean phase takes away (tmpfiles.d(5), "Age", x and X), as all of it is judged by the timestamps
+/// that stand when the phase begins. The age of a directory is looked for once.
 pub fn aged_paths<T: Tree>(
     alloc: Global,
     tree: &T,

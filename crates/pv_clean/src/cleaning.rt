@@ -1,7 +1,7 @@
 //! The clean phase.
 ghost use Rattle.std.specs.Prelude.{◌≡◌, drop, length, OnOk};
 ghost use Rattle.pv_steps.specs.Acting.{Acted};
-ghost use Rattle.pv_dress.specs.Edits.{Pruned};
+ghost use Rattle.pv_metadata.specs.Edits.{Pruned};
 ghost use Rattle.pv_table.specs.Cleaned.{cleaned, is_aged};
 ghost use Rattle.pv_clean.specs.Cleaning.{most_steps, IsCleanStep, IsCleanedInTurn, TakesOnly};
 
@@ -13,9 +13,9 @@ use pv_table::Table;
 use pv_walk::below;
 use std::alloc::Global;
 
-/// Takes away what is old enough (tmpfiles.d(5), "Age", x and X), as all of it is judged by the stamps that stand when the
-/// phase begins: from the root, children in byte order, each directory after what is in it. After its children a directory
-/// that stays and lost one gets its stamps of access and modification back.
+/// Takes away what is old enough (tmpfiles.d(5), "Age", x and X), as all of it is judged by the timestamps that stand
+/// when the phase begins: from the root, children in byte order, each directory after what is in it. After its children
+/// a directory that stays and lost one gets its timestamps of access and modification back.
 pub fn clean_run<T: Tree>(
     alloc: Global,
     tree: &mut T,

@@ -4,9 +4,9 @@ ghost use Rattle.std.specs.List.{list_any};
 ghost use Rattle.pv_lines.specs.declared.line.Line.{Line as LineValue};
 ghost use Rattle.pv_path.specs.Paths.{Path};
 ghost use Rattle.pv_steps.specs.Content.{content_of};
-ghost use Rattle.pv_steps.specs.Same.{bares};
+ghost use Rattle.pv_steps.specs.Same.{object_states};
 ghost use Rattle.pv_steps.specs.Trees.{Files, places, IsAbsentIn, IsTree};
-ghost use Rattle.pv_dress.specs.Edits.{Pruned};
+ghost use Rattle.pv_metadata.specs.Edits.{Pruned};
 ghost use Rattle.pv_table.specs.declared.reason.Reason.TheVariants as reason;
 ghost use Rattle.pv_table.specs.Cleaned.{is_aged};
 ghost use Rattle.pv_layers.specs.Places.{is_input};
@@ -15,10 +15,10 @@ ghost use Rattle.pv_table.specs.Repeatable.{HasReason};
 ghost use Rattle.pv_clean.specs.Sentences.{is_aged_by};
 
 /// Whatever a cleaning on its way has taken away is aged in the tree in which it began, and all else stands as it stood,
-/// stamps aside.
+/// timestamps aside.
 pub fn a_stopped_clean_took_what_is_aged()
     ensures { (lines : List LineValue) (now : ℕ) (t u : Files) (q : Path) → Pruned (is_aged lines now t) t u
-        → ((is_aged lines now t q ≡ true) × IsAbsentIn (places u) q) ⊎ (bares (places u) q ≡ bares (places t) q) }
+        → ((is_aged lines now t q ≡ true) × IsAbsentIn (places u) q) ⊎ (object_states (places u) q ≡ object_states (places t) q) }
 {}
 
 /// Lines none of which may change what lines are read from leave, at each moment on the way of a cleaning, presence, kind

@@ -16,8 +16,8 @@ use std::alloc::{AllocError, Global};
 use std::collections::BTreeSet;
 
 /// The steps of a clean phase in which some paths go: each is taken away, and a directory that stays and loses a child gets
-/// its stamps back. From its end on the list has the steps of the children of a directory in byte order, each after those
-/// of all below it, and then that of the directory. All that stands below the root is listed already.
+/// its timestamps back. From its end on the list has the steps of the children of a directory in byte order, each after
+/// those of all below it, and then that of the directory. All that stands below the root is listed already.
 pub(crate) fn clean_steps<T: Tree>(
     alloc: Global,
     tree: &T,
@@ -102,7 +102,7 @@ fn add_step<T: Tree>(
     Ok(())
 }
 
-/// The step that gives a path the stamps of access and modification that stand there now, 0 where nothing does
+/// The step that gives a path the timestamps of access and modification that stand there now, 0 where nothing does
 /// (utimensat(2)). It takes no memory.
 fn giving_back<T: Tree>(tree: &T, path: TreePath) -> Step
     ensures { result ≡ giving_back (T.state tree.now) path }

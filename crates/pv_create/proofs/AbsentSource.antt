@@ -8,13 +8,13 @@ use Rattle.pv_path.proofs.PathLaws.{length-parent_of}
 use Rattle.pv_steps.specs.declared.object.Object.{Object}
 use Rattle.pv_steps.specs.Trees.{Files, places, IsTree}
 use Rattle.pv_steps.proofs.StepLaws.{is_among}
-use Rattle.pv_dress.proofs.EditLaws.{path_cases}
+use Rattle.pv_metadata.proofs.EditLaws.{path_cases}
 use Rattle.pv_walk.specs.Preparing.{IsAbove, parents_of}
 use Rattle.pv_walk.proofs.PreparedLaws.{among_others, prepared_present}
 use Rattle.pv_walk.proofs.PreparingLaws.{above_take, take_parent}
 use Rattle.pv_walk.proofs.PuttingLaws.{none_under}
-use Rattle.pv_table.specs.declared.deed.Copying.{Copying}
-use Rattle.pv_table.specs.declared.deed.Deed.TheVariants.{Copy}
+use Rattle.pv_table.specs.declared.action.Copying.{Copying}
+use Rattle.pv_table.specs.declared.action.Action.TheVariants.{Copy}
 use Rattle.pv_table.specs.Effects.{prepare}
 use Rattle.pv_table.specs.Saying.{turn_texts}
 use Rattle.pv_table.specs.Turns.{decide, view_of}

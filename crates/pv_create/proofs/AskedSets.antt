@@ -12,19 +12,19 @@ use Rattle.pv_lines.proofs.ArgumentLaws.{entries_are, attrs_are, letters_are}
 use Rattle.pv_steps.specs.declared.node.Kind.{Kind}
 use Rattle.pv_steps.specs.declared.node.Kind.TheVariants.{Directory, File, Link, Fifo, CharDevice, BlockDevice}
 use Rattle.pv_steps.specs.Objects.{IsId}
-use Rattle.pv_dress.specs.declared.operation.Change.TheVariants.{Write, Append, Owner}
-use Rattle.pv_dress.specs.declared.operation.Guard.{Guard}
-use Rattle.pv_dress.specs.declared.operation.Guard.TheVariants.{Every, NoLink, Only}
-use Rattle.pv_dress.specs.declared.operation.Operation.{Operation}
-use Rattle.pv_dress.specs.declared.operation.Operation.TheVariants.{Adjust}
-use Rattle.pv_dress.specs.Nodes.{is_file}
-use Rattle.pv_dress.specs.Operations.{admits}
+use Rattle.pv_metadata.specs.declared.operation.Change.TheVariants.{Write, Append, Owner}
+use Rattle.pv_metadata.specs.declared.operation.Guard.{Guard}
+use Rattle.pv_metadata.specs.declared.operation.Guard.TheVariants.{Every, NoLink, Only}
+use Rattle.pv_metadata.specs.declared.operation.Operation.{Operation}
+use Rattle.pv_metadata.specs.declared.operation.Operation.TheVariants.{Apply}
+use Rattle.pv_metadata.specs.Nodes.{is_file}
+use Rattle.pv_metadata.specs.Operations.{admits}
 use Rattle.pv_walk.specs.declared.new_file.NewKind.{NewKind}
 use Rattle.pv_walk.specs.declared.new_file.NewKind.TheVariants as new
 use Rattle.pv_walk.specs.Staging.{new_kind}
-use Rattle.pv_table.specs.declared.deed.Deed.{Deed}
-use Rattle.pv_table.specs.declared.deed.Deed.TheVariants.{Idle}
-use Rattle.pv_table.specs.Asking.{asks, bytes_of, contents_to_set, deeds, device, id_to_set, link_to, making, mode_to_set, owners_and_mode, set_by, touching, without_links, writing}
+use Rattle.pv_table.specs.declared.action.Action.{Action}
+use Rattle.pv_table.specs.declared.action.Action.TheVariants.{Idle}
+use Rattle.pv_table.specs.ActionTable.{action_of, bytes_of, contents_to_set, actions, device, id_to_set, link_to, making, mode_to_set, owners_and_mode, set_by, adjustment, without_links, writing}
 use Rattle.pv_create.specs.Sets.{AreSets, AtMostOne, SetsBytes, SetsMode, SetsOther}
 use Rattle.pv_table.specs.Repeatable.{sets_of}
 
@@ -64,14 +64,14 @@ sets_mode (Some mode) (Some guard) h real = by mode.new_only
 pub sets_contents : (line : Line) (kind : Kind) → AtMostOne SetsBytes (contents_to_set line kind)
 sets_contents line kind = by (line.plus && is_file kind)
   where
-    by : (s : Bool) → AtMostOne SetsBytes (if s then Adjust (Only File) (Write (bytes_of line.argument)) ∷ [] else [])
+    by : (s : Bool) → AtMostOne SetsBytes (if s then Apply (Only File) (Write (bytes_of line.argument)) ∷ [] else [])
     by true = tt
     by false = tt
 
 module _ (line : Line) (is : IsLine line) where
   sets_owners : (guard : Guard) (before : List Operation) → AtMostOne SetsBytes before → AreSets (before ++ owners_and_mode guard line)
   sets_owners guard before one =
-      AreSets.several before (Adjust guard (Owner (id_to_set line.user) (id_to_set line.group)) ∷ []) (mode_to_set line.mode (without_links guard)) refl one
+      AreSets.several before (Apply guard (Owner (id_to_set line.user) (id_to_set line.group)) ∷ []) (mode_to_set line.mode (without_links guard)) refl one
       (owner_ids line.user is.fits.user, owner_ids line.group is.fits.group)
       (sets_mode line.mode (without_links guard) is.fits.mode (no_links guard))
 
@@ -84,27 +84,27 @@ module _ (line : Line) (is : IsLine line) where
   sets_writing : AreSets (sets_of (writing line))
   sets_writing = by line.plus
     where
-      by : (s : Bool) → AreSets (Adjust (Only File) (if s then Append (bytes_of line.argument) else Write (bytes_of line.argument)) ∷ [])
-      by true = AreSets.several (Adjust (Only File) (Append (bytes_of line.argument)) ∷ []) [] [] refl tt tt tt
-      by false = AreSets.several (Adjust (Only File) (Write (bytes_of line.argument)) ∷ []) [] [] refl tt tt tt
+      by : (s : Bool) → AreSets (Apply (Only File) (if s then Append (bytes_of line.argument) else Write (bytes_of line.argument)) ∷ [])
+      by true = AreSets.several (Apply (Only File) (Append (bytes_of line.argument)) ∷ []) [] [] refl tt tt tt
+      by false = AreSets.several (Apply (Only File) (Write (bytes_of line.argument)) ∷ []) [] [] refl tt tt tt
 
   -- ---- the rows of the table
 
   sets_making : (what : NewKind) → AreSets (sets_of (making what line))
   sets_making what = sets_owners (Only (new_kind what)) (contents_to_set line (new_kind what)) (sets_contents line (new_kind what))
 
-  sets_setting : (deep : Bool) → AreSets (sets_of (touching deep Every (set_by line.plus line.argument)))
+  sets_setting : (deep : Bool) → AreSets (sets_of (adjustment deep Every (set_by line.plus line.argument)))
   sets_setting deep = AreSets.alone (sets_argument line.argument refl)
 
-  sets_adjusting : (deep : Bool) (guard : Guard) → AreSets (sets_of (touching deep guard (owners_and_mode guard line)))
+  sets_adjusting : (deep : Bool) (guard : Guard) → AreSets (sets_of (adjustment deep guard (owners_and_mode guard line)))
   sets_adjusting deep guard = sets_owners guard [] tt
 
   -- each row of a table asks for such sets
-  abbrev RowsSet : List (ℕ × (Line → Deed)) → Type 0
+  abbrev RowsSet : List (ℕ × (Line → Action)) → Type 0
   RowsSet [] = Unit {0}
   RowsSet (row ∷ rows) = AreSets (sets_of (row.1 line)) × RowsSet rows
 
-  rows_set : RowsSet deeds
+  rows_set : RowsSet actions
   rows_set = (
     sets_making (new.File (bytes_of line.argument)),
     (
@@ -152,7 +152,7 @@ module _ (line : Line) (is : IsLine line) where
     ),
   )
 
-  found_sets : (rows : List (ℕ × (Line → Deed))) → RowsSet rows → AreSets (sets_of (option_map_or (λ row. row.1 line) (find (λ row. row.0 == line.letter) rows) Idle))
+  found_sets : (rows : List (ℕ × (Line → Action))) → RowsSet rows → AreSets (sets_of (option_map_or (λ row. row.1 line) (find (λ row. row.0 == line.letter) rows) Idle))
   found_sets [] h = AreSets.alone tt
   found_sets (row ∷ rows) h = by (row.0 == line.letter) (found_sets rows h.1)
     where
@@ -162,5 +162,5 @@ module _ (line : Line) (is : IsLine line) where
       by false rest = rest
 
   -- what a line sets of an object that is there
-  pub asked_sets : AreSets (sets_of (asks line))
-  asked_sets = found_sets deeds rows_set
+  pub asked_sets : AreSets (sets_of (action_of line))
+  asked_sets = found_sets actions rows_set

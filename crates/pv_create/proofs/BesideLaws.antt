@@ -9,9 +9,9 @@ use Rattle.pv_steps.specs.declared.step.Step.{Step}
 use Rattle.pv_steps.specs.declared.step.Step.TheVariants.{MakeDir, MakeFile, MakeFifo, MakeDevice, MakeLink, Write, SetMode, SetOwner, SetAcl, SetAttrs, SetLetters, Rename, Unlink, RemoveDir}
 use Rattle.pv_steps.specs.Content.{alters}
 use Rattle.pv_steps.proofs.ContentLaws.{removal_inside}
-use Rattle.pv_dress.specs.declared.bare.Bare.{Bare}
+use Rattle.pv_metadata.specs.declared.object_state.ObjectState.{ObjectState}
 use Rattle.pv_walk.specs.declared.new_file.NewFile.{NewFile}
-use Rattle.pv_walk.specs.Copying.{GivesBare}
+use Rattle.pv_walk.specs.Copying.{GivesObjectState}
 use Rattle.pv_walk.specs.Staging.{staging_names, is_under_any, GivesNew, IsPublishing}
 use Rattle.pv_walk.proofs.PreparingLaws.{nonempty_take}
 use Rattle.pv_path.proofs.Tests.{true_not_false}
@@ -83,19 +83,19 @@ module _ (f q : Path) (plain : has_staging f ≡ false) (under : is_prefix f q �
     below_own rest at e = ap (λ (p : Path). same_path p q) e ∙ at_stage rest
 
     -- or below it
-    pub bare_outside : (rest : Path) (b : Bare) (step : Step) → GivesBare (staging_of place ++ rest) b step → alters step q ≡ false
-    bare_outside rest b (Write at content) h = below_own rest at h.0
-    bare_outside rest b (MakeLink at target) h = below_own rest at h.0
-    bare_outside rest b (SetOwner at uid gid) h = refl
-    bare_outside rest b (SetMode at mode) h = refl
-    bare_outside rest b (SetAcl at acl) h = refl
-    bare_outside rest b (SetAttrs at attrs) h = refl
-    bare_outside rest b (SetLetters at letters) h = refl
-    bare_outside rest b (MakeDir at) h = below_own rest at h.0
-    bare_outside rest b (MakeFile at) h = below_own rest at h.0
-    bare_outside rest b (MakeFifo at) h = below_own rest at h.0
-    bare_outside rest b (MakeDevice at block major minor) h = below_own rest at h.0
-    bare_outside rest b step h = absurd h
+    pub object_state_outside : (rest : Path) (b : ObjectState) (step : Step) → GivesObjectState (staging_of place ++ rest) b step → alters step q ≡ false
+    object_state_outside rest b (Write at content) h = below_own rest at h.0
+    object_state_outside rest b (MakeLink at target) h = below_own rest at h.0
+    object_state_outside rest b (SetOwner at uid gid) h = refl
+    object_state_outside rest b (SetMode at mode) h = refl
+    object_state_outside rest b (SetAcl at acl) h = refl
+    object_state_outside rest b (SetAttrs at attrs) h = refl
+    object_state_outside rest b (SetLetters at letters) h = refl
+    object_state_outside rest b (MakeDir at) h = below_own rest at h.0
+    object_state_outside rest b (MakeFile at) h = below_own rest at h.0
+    object_state_outside rest b (MakeFifo at) h = below_own rest at h.0
+    object_state_outside rest b (MakeDevice at block major minor) h = below_own rest at h.0
+    object_state_outside rest b step h = absurd h
 
     -- or one that publishes the place
     pub published_outside : is_prefix place q ≡ false → (step : Step) → IsPublishing place step → alters step q ≡ false

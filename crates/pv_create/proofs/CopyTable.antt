@@ -4,9 +4,9 @@ use Rattle.std.specs.List.{AllByRecursion}
 use Rattle.std.specs.Option.{option_map_or}
 use Rattle.std.proofs.Common.{refl, sym, ap, subst, ◌∙◌, arith}
 use Rattle.std.proofs.lemmas.Bool.Decides.{nat_tests}
-use Rattle.pv_dress.specs.declared.operation.Guard.TheVariants.{Every, NoLink}
-use Rattle.pv_dress.specs.declared.operation.Change.TheVariants.{Owner}
-use Rattle.pv_dress.specs.declared.operation.Operation.TheVariants.{Adjust}
+use Rattle.pv_metadata.specs.declared.operation.Guard.TheVariants.{Every, NoLink}
+use Rattle.pv_metadata.specs.declared.operation.Change.TheVariants.{Owner}
+use Rattle.pv_metadata.specs.declared.operation.Operation.TheVariants.{Apply}
 use Rattle.pv_lines.specs.declared.line.Argument.{Argument}
 use Rattle.pv_lines.specs.declared.line.Argument.TheVariants as argument
 use Rattle.pv_lines.specs.declared.line.Line.{Line}
@@ -17,12 +17,12 @@ use Rattle.pv_lines.specs.Lines.{AreIds, IsArgument, IsConfigured, IsLine, IsLin
 use Rattle.pv_lines.specs.Types.{type_of}
 use Rattle.pv_path.specs.Paths.{Path}
 use Rattle.pv_steps.specs.Objects.{IsId}
-use Rattle.pv_table.specs.declared.deed.Copying.{Copying}
-use Rattle.pv_table.specs.declared.deed.Deed.{Deed}
-use Rattle.pv_table.specs.declared.deed.Deed.TheVariants.{Create, Copy, Touch, Idle}
-use Rattle.pv_table.specs.Asking.{asks, deeds, id_for_new, id_to_set, mode_to_set, owners_and_mode, source_of, without_links}
+use Rattle.pv_table.specs.declared.action.Copying.{Copying}
+use Rattle.pv_table.specs.declared.action.Action.{Action}
+use Rattle.pv_table.specs.declared.action.Action.TheVariants.{Create, Copy, Adjust, Idle}
+use Rattle.pv_table.specs.ActionTable.{action_of, actions, id_for_new, id_to_set, mode_to_set, owners_and_mode, source_of, without_links}
 use Rattle.pv_create.specs.Sets.{AreSets}
-use Rattle.pv_create.specs.Deeds.{IsCopying}
+use Rattle.pv_create.specs.Actions.{IsCopying}
 use Rattle.pv_create.proofs.TableLaws.{found, named, mode_set_by, root_named}
 use Rattle.pv_create.proofs.AskedSets.{owner_ids}
 
@@ -45,25 +45,25 @@ record IsCopier (line : Line) (copying : Copying) : Type 0 where
 copier : (line : Line) (copying : Copying) → (67 == line.letter) ≡ true → Copy (copying_of line) ≡ Copy copying → IsCopier line copying
 copier line copying same e = record { is = (let it : copying ≡ copying_of line = cc in it); letter = grind (arith, nat_tests, same) }
 
--- no other deed is one that copies
+-- no other action is one that copies
 no_making : (line : Line) (copying : Copying) (x : _) → Create x ≡ Copy copying → IsCopier line copying
 no_making line copying x e = absurd (let no : Create x ≡ Copy copying = e in cc)
 
-no_touching : (line : Line) (copying : Copying) (x : _) → Touch x ≡ Copy copying → IsCopier line copying
-no_touching line copying x e = absurd (let no : Touch x ≡ Copy copying = e in cc)
+no_adjustment : (line : Line) (copying : Copying) (x : _) → Adjust x ≡ Copy copying → IsCopier line copying
+no_adjustment line copying x e = absurd (let no : Adjust x ≡ Copy copying = e in cc)
 
 module _ (line : Line) (copying : Copying) where
-  rows : AllByRecursion (λ (row : ℕ × (Line → Deed)). (row.0 == line.letter) ≡ true → row.1 line ≡ Copy copying → IsCopier line copying) deeds
-  rows = (λ same e. no_making line copying _ e, (λ same e. no_making line copying _ e, (λ same e. no_making line copying _ e, (λ same e. no_making line copying _ e, (λ same e. no_making line copying _ e, (λ same e. no_making line copying _ e, (λ same e. no_making line copying _ e, (λ same e. no_making line copying _ e, (λ same e. no_making line copying _ e, (λ same e. no_making line copying _ e, (λ same e. copier line copying same e, (λ same e. no_touching line copying _ e, (λ same e. no_touching line copying _ e, (λ same e. no_touching line copying _ e, (λ same e. no_touching line copying _ e, (λ same e. no_touching line copying _ e, (λ same e. no_touching line copying _ e, (λ same e. no_touching line copying _ e, (λ same e. no_touching line copying _ e, (λ same e. no_touching line copying _ e, (λ same e. no_touching line copying _ e, tt)))))))))))))))))))))
+  rows : AllByRecursion (λ (row : ℕ × (Line → Action)). (row.0 == line.letter) ≡ true → row.1 line ≡ Copy copying → IsCopier line copying) actions
+  rows = (λ same e. no_making line copying _ e, (λ same e. no_making line copying _ e, (λ same e. no_making line copying _ e, (λ same e. no_making line copying _ e, (λ same e. no_making line copying _ e, (λ same e. no_making line copying _ e, (λ same e. no_making line copying _ e, (λ same e. no_making line copying _ e, (λ same e. no_making line copying _ e, (λ same e. no_making line copying _ e, (λ same e. copier line copying same e, (λ same e. no_adjustment line copying _ e, (λ same e. no_adjustment line copying _ e, (λ same e. no_adjustment line copying _ e, (λ same e. no_adjustment line copying _ e, (λ same e. no_adjustment line copying _ e, (λ same e. no_adjustment line copying _ e, (λ same e. no_adjustment line copying _ e, (λ same e. no_adjustment line copying _ e, (λ same e. no_adjustment line copying _ e, (λ same e. no_adjustment line copying _ e, tt)))))))))))))))))))))
 
-  line_copier : asks line ≡ Copy copying → IsCopier line copying
-  line_copier asked = by (find (λ (row : ℕ × (Line → Deed)). row.0 == line.letter) deeds) refl asked
+  line_copier : action_of line ≡ Copy copying → IsCopier line copying
+  line_copier asked = by (find (λ (row : ℕ × (Line → Action)). row.0 == line.letter) actions) refl asked
     where
-      by : (r : Option (ℕ × (Line → Deed))) → find (λ (row : ℕ × (Line → Deed)). row.0 == line.letter) deeds ≡ r
-          → option_map_or (λ (row : ℕ × (Line → Deed)). row.1 line) r Idle ≡ Copy copying → IsCopier line copying
+      by : (r : Option (ℕ × (Line → Action))) → find (λ (row : ℕ × (Line → Action)). row.0 == line.letter) actions ≡ r
+          → option_map_or (λ (row : ℕ × (Line → Action)). row.1 line) r Idle ≡ Copy copying → IsCopier line copying
       by None is e = absurd (let no : Idle ≡ Copy copying = e in cc)
       by (Some row) is e =
-          found (λ (r : ℕ × (Line → Deed)). r.0 == line.letter) (λ (r : ℕ × (Line → Deed)). r.1 line ≡ Copy copying → IsCopier line copying) deeds rows row is e
+          found (λ (r : ℕ × (Line → Action)). r.0 == line.letter) (λ (r : ℕ × (Line → Action)). r.1 line ≡ Copy copying → IsCopier line copying) actions rows row is e
 
 -- ---- what is copied
 
@@ -89,7 +89,7 @@ pub record IsCopyingLine (line : Line) (copying : Copying) : Type 0 where
   pub configured : IsConfigured path
   pub copied : IsCopying path copying
 
-pub line_copying : (line : Line) (copying : Copying) → IsLine line → asks line ≡ Copy copying → IsCopyingLine line copying
+pub line_copying : (line : Line) (copying : Copying) → IsLine line → action_of line ≡ Copy copying → IsCopyingLine line copying
 line_copying line copying is asked = by line.path refl is.fits.path
   where
     one : IsCopier line copying
@@ -111,7 +111,7 @@ line_copying line copying is asked = by line.path refl is.fits.path
       mode = is.fits.mode;
       uid = new_id_fits line.user is.fits.user;
       gid = new_id_fits line.group is.fits.group;
-      sets = AreSets.several [] (Adjust Every (Owner (id_to_set line.user) (id_to_set line.group)) ∷ []) (mode_to_set line.mode (without_links Every))
+      sets = AreSets.several [] (Apply Every (Owner (id_to_set line.user) (id_to_set line.group)) ∷ []) (mode_to_set line.mode (without_links Every))
           refl tt (owner_ids line.user is.fits.user, owner_ids line.group is.fits.group) (mode_set_by NoLink refl line.mode is.fits.mode);
     }
 

@@ -4,9 +4,9 @@ use Rattle.std.specs.List.{cons_option, list_all}
 use Rattle.std.specs.Option.{option_map_or}
 use Rattle.std.proofs.Common.{refl, sym, ap, ◌∙◌}
 use Rattle.std.proofs.Math.Bool.{not-not}
-use Rattle.pv_dress.specs.declared.operation.Test.{Test}
-use Rattle.pv_dress.specs.Nodes.{bare_of, bares_of, same_kind}
-use Rattle.pv_dress.specs.Operations.{stays}
+use Rattle.pv_metadata.specs.declared.operation.Test.{Test}
+use Rattle.pv_metadata.specs.Nodes.{object_state_of, object_states_of, same_kind}
+use Rattle.pv_metadata.specs.Operations.{stays}
 use Rattle.pv_path.specs.Names.{is_staging}
 use Rattle.pv_path.specs.Paths.{Path}
 use Rattle.pv_steps.specs.declared.node.Kind.{Kind}
@@ -15,13 +15,13 @@ use Rattle.pv_steps.specs.declared.node.Node.{Node}
 use Rattle.pv_steps.specs.declared.object.Object.{Object}
 use Rattle.pv_steps.specs.Objects.{is_directory}
 use Rattle.pv_steps.specs.Trees.{Files, places, node_at, kind_of, child_name}
-use Rattle.pv_table.specs.declared.deed.Copying.{Copying}
-use Rattle.pv_table.specs.declared.deed.Deed.TheVariants.{Create, Copy}
-use Rattle.pv_table.specs.declared.deed.Making.{Making}
+use Rattle.pv_table.specs.declared.action.Copying.{Copying}
+use Rattle.pv_table.specs.declared.action.Action.TheVariants.{Create, Copy}
+use Rattle.pv_table.specs.declared.action.Making.{Making}
 use Rattle.pv_table.specs.Turns.{Turn, copy_of, copying_turn, decide, is_childless, is_visible_child, making_turn, view_of}
 use Rattle.pv_walk.specs.Copying.{single}
 use Rattle.pv_walk.specs.Staging.{new_kind, new_object}
-use Rattle.pv_create.specs.declared.deciding.Turn.TheVariants as told
+use Rattle.pv_create.specs.declared.deciding.Turn.TheVariants as answer
 use Rattle.pv_create.specs.Deciding.{meant, kept_turn, kept_copy}
 
 -- ---- a line that makes something
@@ -43,27 +43,27 @@ node_there t path node e = by (places t path) refl
     by (Some x) is = record { object = x; is = is; same = some_node x (e ∙ ap (λ (v : Option Object). option_map (λ (x : Object). x.node) v) is) }
 
 module _ (making : Making) (path : Path) (t : Files) (node : Node) (there : Some node ≡ node_at t path) (stay : Bool)
-    (is : (o : Object) → places t path ≡ Some o → stay ≡ option_map_or (λ (test : Test). stays test (bare_of (new_object making.new 0)).body (bare_of o).body) making.renew true) where
+    (is : (o : Object) → places t path ≡ Some o → stay ≡ option_map_or (λ (test : Test). stays test (object_state_of (new_object making.new 0)).body (object_state_of o).body) making.renew true) where
   abbrev by_flags : Bool → Kind → Turn
   by_flags stays kind =
-      if not stays then Turn.Put (single (bare_of (new_object making.new 0)))
+      if not stays then Turn.Put (single (object_state_of (new_object making.new 0)))
       else if same_kind (new_kind making.new.what) kind then Turn.Become making.sets
       else Turn.Left kind
 
   turn_by : decide (Create making) (view_of t) path ≡ by_flags stay node.kind
   turn_by =
       let o = node_there t path node there in
-      ap (λ (v : Option Object). making_turn making (option_map bare_of v)) o.is
+      ap (λ (v : Option Object). making_turn making (option_map object_state_of v)) o.is
       ∙ ap (λ b. by_flags b o.object.node.kind) (sym (is o.object o.is))
       ∙ ap (λ (n : Node). by_flags stay n.kind) o.same
 
-  pub decided_put : stay ≡ false → meant (Create making) (view_of t) told.Put ≡ decide (Create making) (view_of t) path
+  pub decided_put : stay ≡ false → meant (Create making) (view_of t) answer.Put ≡ decide (Create making) (view_of t) path
   decided_put e = sym (turn_by ∙ ap (λ b. by_flags b node.kind) e)
 
   pub decided_kept : stay ≡ true → meant (Create making) (view_of t) (kept_turn (new_kind making.new.what) node.kind) ≡ decide (Create making) (view_of t) path
   decided_kept e = by (same_kind (new_kind making.new.what) node.kind) ∙ sym (turn_by ∙ ap (λ b. by_flags b node.kind) e)
     where
-      by : (b : Bool) → meant (Create making) (view_of t) (if b then told.Become else told.Left node.kind) ≡ (if b then Turn.Become making.sets else Turn.Left node.kind)
+      by : (b : Bool) → meant (Create making) (view_of t) (if b then answer.Become else answer.Left node.kind) ≡ (if b then Turn.Become making.sets else Turn.Left node.kind)
       by true = refl
       by false = refl
 
@@ -83,7 +83,7 @@ childless path (k ∷ ks) = by (child_name path k) (childless path ks)
 module _ (copying : Copying) (path : Path) (u : Files) where
   abbrev pub decided : Option Object → Turn
   decided None = Turn.Nothing
-  decided (Some x) = copying_turn copying (view_of u) path x.node.kind (bares_of (places u) path)
+  decided (Some x) = copying_turn copying (view_of u) path x.node.kind (object_states_of (places u) path)
 
   pub turn_is : decide (Copy copying) (view_of u) path ≡ decided (places u copying.source)
   turn_is = by (places u copying.source) refl
@@ -115,14 +115,14 @@ module _ (copying : Copying) (path : Path) (u : Files) where
       let x = some_object' (places u copying.source) kind e in
       let y = some_object' (places u path) there f in
       by (same_kind kind there) refl
-      ∙ sym (turn_is ∙ ap decided x.1.0 ∙ ap (λ (o : Option Object). copying_turn copying (view_of u) path x.0.node.kind (option_map bare_of o)) y.1.0
-      ∙ ap (λ (k : Kind). copying_turn copying (view_of u) path k (Some (bare_of y.0))) x.1.1
+      ∙ sym (turn_is ∙ ap decided x.1.0 ∙ ap (λ (o : Option Object). copying_turn copying (view_of u) path x.0.node.kind (option_map object_state_of o)) y.1.0
+      ∙ ap (λ (k : Kind). copying_turn copying (view_of u) path k (Some (object_state_of y.0))) x.1.1
       ∙ ap (λ (k : Kind). over kind k (is_directory kind && is_childless (view_of u) path)) y.1.1)
     where
       over : Kind → Kind → Bool → Turn
       over kind there empty = if same_kind kind there then (if empty then Turn.Put (copy_of copying (view_of u)) else Turn.Become copying.sets) else if copying.renews then Turn.Put (copy_of copying (view_of u)) else Turn.Left there
 
-      pushed : (same empty renews : Bool) → meant (Copy copying) (view_of u) (if same then (if empty then told.Put else told.Become) else if renews then told.Put else told.Left there)
+      pushed : (same empty renews : Bool) → meant (Copy copying) (view_of u) (if same then (if empty then answer.Put else answer.Become) else if renews then answer.Put else answer.Left there)
           ≡ (if same then (if empty then Turn.Put (copy_of copying (view_of u)) else Turn.Become copying.sets) else if renews then Turn.Put (copy_of copying (view_of u)) else Turn.Left there)
       pushed true true renews = refl
       pushed true false renews = refl

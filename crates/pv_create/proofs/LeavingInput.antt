@@ -15,10 +15,10 @@ use Rattle.pv_steps.specs.Runs.{after_all}
 use Rattle.pv_steps.specs.Trees.{Files, places, IsTree, IsAbsentIn}
 use Rattle.pv_steps.proofs.ContentLaws.{content-after_all, removal_inside}
 use Rattle.pv_steps.proofs.TreeLaws.{present_above}
-use Rattle.pv_dress.specs.declared.bare.Bare.{Bare}
-use Rattle.pv_dress.specs.declared.operation.Operation.{Operation}
-use Rattle.pv_dress.specs.Dressing.{GivesDress}
-use Rattle.pv_dress.specs.Nodes.{bare_of, bares_of}
+use Rattle.pv_metadata.specs.declared.object_state.ObjectState.{ObjectState}
+use Rattle.pv_metadata.specs.declared.operation.Operation.{Operation}
+use Rattle.pv_metadata.specs.SettingMetadata.{GivesMetadata}
+use Rattle.pv_metadata.specs.Nodes.{object_state_of, object_states_of}
 use Rattle.pv_lines.specs.declared.line.Line.{Line}
 use Rattle.pv_lines.specs.Lines.{IsLine}
 use Rattle.pv_walk.specs.Copying.{Subtree}
@@ -26,16 +26,16 @@ use Rattle.pv_walk.specs.Preparing.{IsPrepareStep, parent_file}
 use Rattle.pv_walk.specs.Preparing as preparing
 use Rattle.pv_walk.specs.Putting.{IsPutStep}
 use Rattle.pv_walk.specs.Staging.{staging_names, is_under_any}
-use Rattle.pv_table.specs.declared.deed.Copying.{Copying}
-use Rattle.pv_table.specs.declared.deed.Deed.{Deed}
-use Rattle.pv_table.specs.declared.deed.Deed.TheVariants.{Create, Copy, Touch, Idle}
-use Rattle.pv_table.specs.declared.deed.Making.{Making}
-use Rattle.pv_table.specs.declared.deed.Touching.{Touching}
+use Rattle.pv_table.specs.declared.action.Copying.{Copying}
+use Rattle.pv_table.specs.declared.action.Action.{Action}
+use Rattle.pv_table.specs.declared.action.Action.TheVariants.{Create, Copy, Adjust, Idle}
+use Rattle.pv_table.specs.declared.action.Making.{Making}
+use Rattle.pv_table.specs.declared.action.Adjustment.{Adjustment}
 use Rattle.pv_table.specs.declared.reason.Reason.TheVariants as reason
 use Rattle.pv_table.specs.Active.{in_create_order}
-use Rattle.pv_table.specs.Asking.{asks}
+use Rattle.pv_table.specs.ActionTable.{action_of}
 use Rattle.pv_table.specs.Created.{by_line}
-use Rattle.pv_table.specs.Effects.{is_touched, turn_after}
+use Rattle.pv_table.specs.Effects.{is_adjusted, turn_after}
 use Rattle.pv_table.specs.Reaching.{governs, names, path_in}
 use Rattle.pv_layers.specs.Places.{inputs, is_input}
 use Rattle.pv_table.specs.Repeatable.{HasReason}
@@ -46,21 +46,21 @@ use Rattle.pv_create.specs.Adjusting.{GivesBytes, GivesSet}
 use Rattle.pv_create.specs.OnWay.{IsStepOf, turn_at}
 use Rattle.pv_laws.proofs.AllFrames.{not_above, not_below, each_kept}
 use Rattle.pv_laws.proofs.Frames.{IsFree, ungoverned, creates, midway_frame}
-use Rattle.pv_laws.proofs.Lines.{copy_path, line_is_plain, turns_touch}
+use Rattle.pv_laws.proofs.Lines.{copy_path, line_is_plain, turns_adjust}
 use Rattle.pv_laws.proofs.Making.{IsShaped, dir_there}
 use Rattle.pv_table.proofs.ListedLaws.{all_in_order, all_map, all_tests}
 use Rattle.pv_laws.proofs.Sets.{impossible}
 use Rattle.pv_laws.proofs.Shapes.{tree_shaped}
 use Rattle.pv_create.specs.Ways.{IsLineStep, lines_course}
-use Rattle.pv_create.proofs.LineWays.{IsStepBy, step_of, touching_course}
-use Rattle.pv_create.proofs.BesideLaws.{bare_outside, new_outside, other_plain, out_above, place_outside, published_outside, swept_outside}
+use Rattle.pv_create.proofs.LineWays.{IsStepBy, step_of, adjustment_course}
+use Rattle.pv_create.proofs.BesideLaws.{object_state_outside, new_outside, other_plain, out_above, place_outside, published_outside, swept_outside}
 use Rattle.pv_create.proofs.BridgeLaws.{gone_at}
 use Rattle.pv_create.proofs.InputLaws.{IsAway, all_away, copy_changes, held, input_on_way, made_changes, whole_held}
 use Rattle.pv_create.proofs.StepLaws.{names_plain}
 use Rattle.pv_path.proofs.Tests.{true_not_false}
 
 -- what is there, by what reading can see of it
-pub held_some : (o : Option Bare) → is_some (held o) ≡ is_some o
+pub held_some : (o : Option ObjectState) → is_some (held o) ≡ is_some o
 held_some None = refl
 held_some (Some b) = refl
 
@@ -71,7 +71,7 @@ module _ (f q : Path) (plain : has_staging f ≡ false) (under : is_prefix f q �
   set_outside : (at : Path) → has_staging at ≡ false → (xs : List Operation) (t : Files) → GivesSet at xs t step → alters step q ≡ false
   set_outside at own xs t given = by given.gives
     where
-      by : GivesBytes at given.new.body.payload t step ⊎ GivesDress at given.new.dress t step → alters step q ≡ false
+      by : GivesBytes at given.new.body.payload t step ⊎ GivesMetadata at given.new.metadata t step → alters step q ≡ false
       by (inl h) = subst (λ (x : Step). alters x q ≡ false) (sym h.0) (other_plain f q plain under staged at own)
       by (inr (inl e)) = subst (λ (x : Step). alters x q ≡ false) (sym e) refl
       by (inr (inr (inl e))) = subst (λ (x : Step). alters x q ≡ false) (sym e) refl
@@ -81,19 +81,19 @@ module _ (f q : Path) (plain : has_staging f ≡ false) (under : is_prefix f q �
 
   module _ (now : ℕ) (line : Line) (is : IsLine line) where
     -- a line that adjusts what is there reaches no staging name
-    reached_plain : (touching : Touching) (p at : Path) → names line p ≡ true → is_touched touching p at ≡ true → has_staging at ≡ false
-    reached_plain touching p at named h = by (same_path p at) refl h
+    reached_plain : (adjustment : Adjustment) (p at : Path) → names line p ≡ true → is_adjusted adjustment p at ≡ true → has_staging at ≡ false
+    reached_plain adjustment p at named h = by (same_path p at) refl h
       where
-        by : (c : Bool) → same_path p at ≡ c → (c || (touching.deep && is_prefix p at && not (has_staging at))) ≡ true → has_staging at ≡ false
+        by : (c : Bool) → same_path p at ≡ c → (c || (adjustment.deep && is_prefix p at && not (has_staging at))) ≡ true → has_staging at ≡ false
         by true e g = ap has_staging (sym ((same_path-decides p at).0 e)) ∙ names_plain line is p named
-        by false e g = not-true (has_staging at) (and_parts (touching.deep && is_prefix p at) (not (has_staging at)) g).1
+        by false e g = not-true (has_staging at) (and_parts (adjustment.deep && is_prefix p at) (not (has_staging at)) g).1
 
-    touched_outside : (touching : Touching) (paths : List Path) → AllByRecursion (λ p. names line p ≡ true) paths → (t : Files) → IsStepOfSome (touching_course now line touching) paths t step → alters step q ≡ false
-    touched_outside touching [] named t h = absurd h
-    touched_outside touching (p ∷ paths) named t (inl given) = set_outside given.at (reached_plain touching p given.at named.0 given.reached) touching.sets t given.gives
-    touched_outside touching (p ∷ paths) named t (inr later) = touched_outside touching paths named.1 (turn_after now line p t) later
+    touched_outside : (adjustment : Adjustment) (paths : List Path) → AllByRecursion (λ p. names line p ≡ true) paths → (t : Files) → IsStepOfSome (adjustment_course now line adjustment) paths t step → alters step q ≡ false
+    touched_outside adjustment [] named t h = absurd h
+    touched_outside adjustment (p ∷ paths) named t (inl given) = set_outside given.at (reached_plain adjustment p given.at named.0 given.reached) adjustment.sets t given.gives
+    touched_outside adjustment (p ∷ paths) named t (inr later) = touched_outside adjustment paths named.1 (turn_after now line p t) later
 
-    module _ (t : Files) (shape : IsShaped (bares_of (places t))) (there : is_some (bares_of (places t) f) ≡ true) where
+    module _ (t : Files) (shape : IsShaped (object_states_of (places t))) (there : is_some (object_states_of (places t) f) ≡ true) where
       abbrev path : Path
       path = path_in line.path
 
@@ -101,13 +101,13 @@ module _ (f q : Path) (plain : has_staging f ≡ false) (under : is_prefix f q �
       absent_outside : (place : Path) → IsAbsentIn (places t) place → is_prefix place f ≡ true → ⊥
       absent_outside place none high = by (same_path place f) refl
         where
-          gone : is_some (bares_of (places t) place) ≡ false
-          gone = ap (λ (o : Option Object). is_some (option_map bare_of o)) none
+          gone : is_some (object_states_of (places t) place) ≡ false
+          gone = ap (λ (o : Option Object). is_some (option_map object_state_of o)) none
 
           by : (b : Bool) → same_path place f ≡ b → ⊥
-          by true e = true_not_false (is_some (bares_of (places t) f)) there (subst (λ (p : Path). is_some (bares_of (places t) p) ≡ false) ((same_path-decides place f).0 e) gone)
-          by false e = true_not_false (is_some (bares_of (places t) place))
-              (dir_there (bares_of (places t) place) (shape.above place f plain high (λ same. true_not_false (same_path place f) ((same_path-decides place f).1 same) e) there)) gone
+          by true e = true_not_false (is_some (object_states_of (places t) f)) there (subst (λ (p : Path). is_some (object_states_of (places t) p) ≡ false) ((same_path-decides place f).0 e) gone)
+          by false e = true_not_false (is_some (object_states_of (places t) place))
+              (dir_there (object_states_of (places t) place) (shape.above place f plain high (λ same. true_not_false (same_path place f) ((same_path-decides place f).1 same) e) there)) gone
 
       prepares_outside : is_prefix f path ≡ false → IsPrepareStep path t step → alters step q ≡ false
       prepares_outside out (preparing.sweeps removes) = removal_inside (is_under_any (staging_names path)) step q removes (swept_outside f q plain under staged path out)
@@ -127,7 +127,7 @@ module _ (f q : Path) (plain : has_staging f ≡ false) (under : is_prefix f q �
       not_root : (is_prefix path f ≡ true → ⊥) → path ≢ []
       not_root high e = high (subst (λ (p : Path). is_prefix p f ≡ true) (sym e) refl)
 
-      made_outside : (making : Making) → asks line ≡ Create making → governs line f ≡ false → IsStepOf now line path t step → alters step q ≡ false
+      made_outside : (making : Making) → action_of line ≡ Create making → governs line f ≡ false → IsStepOf now line path t step → alters step q ≡ false
       made_outside making e away = by
         where
           free : IsFree line f
@@ -140,8 +140,8 @@ module _ (f q : Path) (plain : has_staging f ≡ false) (under : is_prefix f q �
           out = sym (ap (λ b. b && is_prefix f path) (creates line is f free making e)) ∙ free.no_parent
 
           high : (subtree : Subtree) → turn_at now line path t ≡ Turn.Put subtree → is_prefix path f ≡ true → ⊥
-          high subtree put above = true_not_false (is_some (bares_of (places t) f)) there (ap is_some (sym (
-              midway_frame line is f plain away (bares_of (places t) f) None (gone_at now line making e unstaged t shape subtree put f plain above None refl))))
+          high subtree put above = true_not_false (is_some (object_states_of (places t) f)) there (ap is_some (sym (
+              midway_frame line is f plain away (object_states_of (places t) f) None (gone_at now line making e unstaged t shape subtree put f plain above None refl))))
 
           by : IsStepOf now line path t step → alters step q ≡ false
           by (IsStepOf.prepares some given) = prepares_outside out given
@@ -149,9 +149,9 @@ module _ (f q : Path) (plain : has_staging f ≡ false) (under : is_prefix f q �
           by (IsStepOf.puts other subtree asked put (inr published)) =
               published_outside f q plain under staged path (not_root (high subtree put)) out (place_outside f q plain under staged path out (high subtree put)) step published
           by (IsStepOf.copies copying subtree asked put h) = absurd (let no : Copy copying ≡ Create making = sym asked ∙ e in cc)
-          by (IsStepOf.sets xs becomes given) = set_outside path unstaged xs (found now (asks line) path t) given
+          by (IsStepOf.sets xs becomes given) = set_outside path unstaged xs (found now (action_of line) path t) given
 
-      copied_outside : (copying : Copying) → asks line ≡ Copy copying → governs line f ≡ false → IsStepOf now line path t step → alters step q ≡ false
+      copied_outside : (copying : Copying) → action_of line ≡ Copy copying → governs line f ≡ false → IsStepOf now line path t step → alters step q ≡ false
       copied_outside copying e away = by
         where
           out : is_prefix f path ≡ false
@@ -163,31 +163,31 @@ module _ (f q : Path) (plain : has_staging f ≡ false) (under : is_prefix f q �
           by : IsStepOf now line path t step → alters step q ≡ false
           by (IsStepOf.prepares some given) = prepares_outside out given
           by (IsStepOf.puts making subtree asked put h) = absurd (let no : Create making ≡ Copy copying = sym asked ∙ e in cc)
-          by (IsStepOf.copies other subtree asked put (inl part)) = bare_outside f q plain under staged path (not_root high) out part.rest part.object step part.gives
+          by (IsStepOf.copies other subtree asked put (inl part)) = object_state_outside f q plain under staged path (not_root high) out part.rest part.object step part.gives
           by (IsStepOf.copies other subtree asked put (inr published)) = published_outside f q plain under staged path (not_root high) out (place_outside f q plain under staged path out high) step published
-          by (IsStepOf.sets xs becomes given) = set_outside path (copy_path line is copying e).0 xs (found now (asks line) path t) given
+          by (IsStepOf.sets xs becomes given) = set_outside path (copy_path line is copying e).0 xs (found now (action_of line) path t) given
 
       line_outside : IsAway line → is_input f ≡ true → has_names f ≡ true → IsLineStep now line t step → alters step q ≡ false
-      line_outside away input named h = by (asks line) refl (step_of now line t step h)
+      line_outside away input named h = by (action_of line) refl (step_of now line t step h)
         where
-          by : (d : Deed) → asks line ≡ d → IsStepBy d now line t step → alters step q ≡ false
+          by : (d : Action) → action_of line ≡ d → IsStepBy d now line t step → alters step q ≡ false
           by (Create making) e g = made_outside making e (away (made_changes now line is making e) f input named) g
           by (Copy copying) e g = copied_outside copying e (away (copy_changes now line is copying e) f input named) g
-          by (Touch touching) e g =
-              touched_outside touching (filter (names line) (fin.keys t)) (all_tests (names line) (fin.keys t)) t
-              (subst (λ (paths : List Path). IsStepOfSome (touching_course now line touching) paths t step) (turns_touch line touching t e) g)
+          by (Adjust adjustment) e g =
+              touched_outside adjustment (filter (names line) (fin.keys t)) (all_tests (names line) (fin.keys t)) t
+              (subst (λ (paths : List Path). IsStepOfSome (adjustment_course now line adjustment) paths t step) (turns_adjust line adjustment t e) g)
           by Idle e g = absurd g
 
   -- ---- lines one after the other
 
   module _ (now : ℕ) (input : is_input f ≡ true) (named : has_names f ≡ true) where
-    pub lines_outside : (lines : List Line) → AllByRecursion IsLine lines → AllByRecursion IsAway lines → (t : Files) → IsShaped (bares_of (places t)) → is_some (bares_of (places t) f) ≡ true
+    pub lines_outside : (lines : List Line) → AllByRecursion IsLine lines → AllByRecursion IsAway lines → (t : Files) → IsShaped (object_states_of (places t)) → is_some (object_states_of (places t) f) ≡ true
         → IsStepOfSome (lines_course now) lines t step → alters step q ≡ false
     lines_outside [] are away t shape there h = absurd h
     lines_outside (line ∷ lines) are away t shape there (inl own) = line_outside now line are.0 t shape there away.0 input named own
     lines_outside (line ∷ lines) are away t shape there (inr later) =
         lines_outside lines are.1 away.1 ((by_line now).after line t) (each_kept now line are.0 t shape).shape
-        (sym (held_some (bares_of (places ((by_line now).after line t)) f)) ∙ ap is_some (whole_held now line are.0 away.0 f input named plain t shape) ∙ held_some (bares_of (places t) f) ∙ there)
+        (sym (held_some (object_states_of (places ((by_line now).after line t)) f)) ∙ ap is_some (whole_held now line are.0 away.0 f input named plain t shape) ∙ held_some (object_states_of (places t) f) ∙ there)
         later
 
 -- ---- runs
@@ -212,7 +212,7 @@ is_folder f = is_input f && (has_names f && not (has_staging f))
 -- a step alters nothing under a staging name below a folder that is there, and from which lines are read
 abbrev pub IsOutsideFolders : Files → Step → Type 0
 IsOutsideFolders t step = (f q : Path) → has_staging f ≡ false → is_prefix f q ≡ true → has_staging q ≡ true → is_input f ≡ true → has_names f ≡ true → is_input q ≡ true → has_names q ≡ true
-    → is_some (bares_of (places t) f) ≡ true → alters step q ≡ false
+    → is_some (object_states_of (places t) f) ≡ true → alters step q ≡ false
 
 -- steps that leave what lines are read from where there is no staging name, and alter nothing under one below folders, leave
 -- it everywhere
@@ -256,7 +256,7 @@ module _ (now : ℕ) (t : Files) (tree : IsTree t) (steps : List Step) (there : 
         at None e = nothing (after_all t steps now) there f q under (leaves f own plain ∙ ap content_of e) ∙ sym (nothing t tree f q under (ap content_of e))
         at (Some x) e = content-after_all t steps now q
             (all_map (IsOutsideFolders t) (λ step. alters step q ≡ false)
-            (λ step outside. outside f q plain under staged own rest.0 input named (ap (λ (o : Option Object). is_some (option_map bare_of o)) e))
+            (λ step outside. outside f q plain under staged own rest.0 input named (ap (λ (o : Option Object). is_some (option_map object_state_of o)) e))
             steps out)
 
     pub all_input_left : (q : Path) → is_input q ≡ true → content_of (places (after_all t steps now) q) ≡ content_of (places t q)

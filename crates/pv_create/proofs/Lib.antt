@@ -10,7 +10,7 @@ pub mod NamedLaws
 pub mod WearingLaws
 pub mod TableLaws
 pub mod CopyTable
-pub mod DeedLaws
+pub mod ActionLaws
 pub mod DecidingLaws
 pub mod PuttingLaws
 pub mod SettlingLaws

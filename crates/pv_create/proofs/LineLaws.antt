@@ -9,7 +9,7 @@ use Rattle.pv_doing.specs.declared.carried.Carried.TheVariants.{Whole}
 use Rattle.pv_doing.proofs.CarryingLaws.{carried_none, Underway, underway_start, underway_failed, underway_next, underway_end}
 use Rattle.pv_doing.proofs.CourseLaws.{cut_start, none_left, partway_start, single_start}
 use Rattle.pv_lines.specs.declared.line.Line.{Line}
-use Rattle.pv_create.specs.Deeds.{IsTurn}
+use Rattle.pv_create.specs.Actions.{IsTurn}
 use Rattle.pv_create.specs.OnWay.{turn_course}
 use Rattle.pv_create.proofs.TurnLaws.{turn_start}
 use Rattle.pv_path.specs.Paths.{Path}
@@ -19,10 +19,10 @@ use Rattle.pv_steps.specs.declared.tree.TreeFault.{TreeFault}
 use Rattle.pv_steps.specs.declared.tree.TreeFault.TheVariants.{Memory}
 use Rattle.pv_steps.specs.Trees.{Files, places}
 use Rattle.pv_steps.proofs.ActingLaws.{Moves}
-use Rattle.pv_table.specs.declared.deed.Deed.{Deed}
-use Rattle.pv_table.specs.declared.deed.Deed.TheVariants.{Create, Copy, Touch, Idle}
-use Rattle.pv_table.specs.declared.deed.Touching.{Touching}
-use Rattle.pv_table.specs.Asking.{asks}
+use Rattle.pv_table.specs.declared.action.Action.{Action}
+use Rattle.pv_table.specs.declared.action.Action.TheVariants.{Create, Copy, Adjust, Idle}
+use Rattle.pv_table.specs.declared.action.Adjustment.{Adjustment}
+use Rattle.pv_table.specs.ActionTable.{action_of}
 use Rattle.pv_table.specs.Effects.{turns}
 use Rattle.pv_table.specs.Reaching.{path_in}
 use Rattle.pv_create.specs.Ways.{LineWay, LineCut, line_course}
@@ -36,7 +36,7 @@ line_start now line t = partway_start (turn_course now line) (turn_start now lin
 pub line_begun : (now : ℕ) (line : Line) (t : Files) → LineCut now 0 line t [] []
 line_begun now line t =
     cut_start (turn_course now line) now
-    (λ x u. single_start (turn_course now line) (λ moment refused y v done said work. work) now x u (turn_start now line x u)) (turns line t) t
+    (λ x u. single_start (turn_course now line) (λ moment refused y v done new_messages work. work) now x u (turn_start now line x u)) (turns line t) t
 
 -- a call that gives up before anything is done
 pub line_none : {S : Type 0} (tree : Ghosts S) → Moves tree → (now : ℕ) (line : Line) (a : S) (old : List (List ℕ)) (r : Result Carried TreeFault) → IsErrAnd r (λ e. e ≡ Memory)
@@ -52,11 +52,11 @@ one_item p at (suc i) lt = absurd (omega (arith, lt))
 -- some of the paths are done, and each path that was there is there where the line only adjusts
 pub record OnLine {S : Type 0} (tree : Ghosts S) (now : ℕ) (line : Line) (items left : List Path) (carried : Carried) (a b : S) (old new : List (List ℕ)) : Type 0 where
   pub under : Underway tree (turn_course now line) items left now carried a b old new
-  pub standing : (touching : Touching) → asks line ≡ Touch touching → (q : Path) → is_some (places (tree.state b) q) ≡ is_some (places (tree.state a) q)
+  pub standing : (adjustment : Adjustment) → action_of line ≡ Adjust adjustment → (q : Path) → is_some (places (tree.state b) q) ≡ is_some (places (tree.state a) q)
 
 module _ {S : Type 0} (tree : Ghosts S) (moves : Moves tree) (now : ℕ) (line : Line) (items : List Path) (a : S) (are : items ≡ turns line (tree.state a)) (old : List (List ℕ)) where
   pub turns_start : OnLine tree now line items items Whole a a old old
-  turns_start = record { under = underway_start tree moves (turn_course now line) (turn_start now line) items now a old; standing = λ touching e q. refl }
+  turns_start = record { under = underway_start tree moves (turn_course now line) (turn_start now line) items now a old; standing = λ adjustment e q. refl }
 
   module _ (i : ℕ) (at : Path) (lt : i < length items) (is : at ≡ get_or items i at) (carried : Carried) (b : S) (mid : List (List ℕ)) (on : OnLine tree now line items (drop i items) carried a b old mid) where
     own_path : items ≡ path_in line.path ∷ [] → at ≡ path_in line.path
@@ -65,12 +65,12 @@ module _ {S : Type 0} (tree : Ghosts S) (moves : Moves tree) (now : ℕ) (line :
         ∙ one_item (path_in line.path) at i (subst (λ (xs : List Path). i < length xs) one lt)
 
     -- the next path is one at which the line is carried out
-    pub turn_now : (deed : Deed) → asks line ≡ deed → IsTurn deed line at (tree.state b)
+    pub turn_now : (action : Action) → action_of line ≡ action → IsTurn action line at (tree.state b)
     turn_now (Create making) e = own_path (are ∙ making_turns line making e (tree.state a))
     turn_now (Copy copying) e = own_path (are ∙ copying_turns line copying e (tree.state a))
-    turn_now (Touch touching) e =
-        let named = stands_named line (tree.state a) items (are ∙ sym (named_turns line touching e (tree.state a))) i at lt is in
-        (named.0, on.standing touching e at ∙ named.1)
+    turn_now (Adjust adjustment) e =
+        let named = stands_named line (tree.state a) items (are ∙ sym (named_turns line adjustment e (tree.state a))) i at lt is in
+        (named.0, on.standing adjustment e at ∙ named.1)
     turn_now Idle e = omega (arith, lt, ap length (are ∙ idle_turns line e (tree.state a)))
 
     -- one more path, at which it failed
@@ -85,7 +85,7 @@ module _ {S : Type 0} (tree : Ghosts S) (moves : Moves tree) (now : ℕ) (line :
         → ((p q : Bool) → carried ≡ carried_of p → one ≡ carried_of q → ended ≡ carried_of (p || q)) → OnLine tree now line items (drop (i + 1) items) ended a d old new
     turns_next d new one ended done both = record {
       under = underway_next tree moves (turn_course now line) (turn_start now line) items now a old (drop i items) (drop (i + 1) items) at (next_item items i at lt is) carried b mid on.under d new one ended done both;
-      standing = λ touching e q. ap (λ f. is_some (places f q)) done.ok ∙ turn_keeps now line touching e at (tree.state b) q ∙ on.standing touching e q;
+      standing = λ adjustment e q. ap (λ f. is_some (places f q)) done.ok ∙ turn_keeps now line adjustment e at (tree.state b) q ∙ on.standing adjustment e q;
     }
 
   pub turns_end : (i : ℕ) → length items ≤ i → (carried : Carried) (b : S) (new : List (List ℕ)) → OnLine tree now line items (drop i items) carried a b old new
@@ -97,4 +97,4 @@ module _ {S : Type 0} (tree : Ghosts S) (moves : Moves tree) (now : ℕ) (line :
 -- the line at all its paths is the line
 pub by_turns : {S : Type 0} (tree : Ghosts S) (now : ℕ) (line : Line) (a b : S) (old new : List (List ℕ)) (r : Result Carried TreeFault)
     → CarriesOut tree (each_of (turn_course now line)) (turns line (tree.state a)) now a b old new r → CarriesOut tree (line_course now) line now a b old new r
-by_turns tree now line a b old new r done = record { ok = done.ok; said = done.said; carried = done.carried; part = done.part; acted = done.acted; went = done.went }
+by_turns tree now line a b old new r done = record { ok = done.ok; new_messages = done.new_messages; carried = done.carried; part = done.part; acted = done.acted; went = done.went }

@@ -9,79 +9,79 @@ use Rattle.pv_path.specs.Paths.{Path}
 use Rattle.pv_steps.specs.declared.step.Step.{Step}
 use Rattle.pv_steps.specs.Same.{Same}
 use Rattle.pv_steps.specs.Trees.{Files}
-use Rattle.pv_table.specs.declared.deed.Copying.{Copying}
-use Rattle.pv_table.specs.declared.deed.Deed.{Deed}
-use Rattle.pv_table.specs.declared.deed.Deed.TheVariants.{Create, Copy, Touch, Idle}
-use Rattle.pv_table.specs.declared.deed.Making.{Making}
-use Rattle.pv_table.specs.declared.deed.Touching.{Touching}
-use Rattle.pv_table.specs.Asking.{asks}
+use Rattle.pv_table.specs.declared.action.Copying.{Copying}
+use Rattle.pv_table.specs.declared.action.Action.{Action}
+use Rattle.pv_table.specs.declared.action.Action.TheVariants.{Create, Copy, Adjust, Idle}
+use Rattle.pv_table.specs.declared.action.Making.{Making}
+use Rattle.pv_table.specs.declared.action.Adjustment.{Adjustment}
+use Rattle.pv_table.specs.ActionTable.{action_of}
 use Rattle.pv_table.specs.Created.{by_turn}
 use Rattle.pv_table.specs.Effects.{turns}
 use Rattle.pv_table.specs.Reaching.{path_in}
 use Rattle.pv_create.specs.Ways.{LineWay, IsLineStep}
 
 -- a line that adjusts what is there, at one path
-abbrev pub touching_course : ℕ → Line → Touching → Course Path
-touching_course now line touching = single (by_turn now line) (AdjustingReached touching) (GivesReached touching)
+abbrev pub adjustment_course : ℕ → Line → Adjustment → Course Path
+adjustment_course now line adjustment = single (by_turn now line) (AdjustingReached adjustment) (GivesReached adjustment)
 
 -- on the way, and a step, by what a line asks for
-abbrev pub WayOf : Deed → ℕ → Line → Files → Files → Type 0
+abbrev pub WayOf : Action → ℕ → Line → Files → Files → Type 0
 WayOf (Create making) now line t u = OnWay now line (path_in line.path) t u
 WayOf (Copy copying) now line t u = OnWay now line (path_in line.path) t u
-WayOf (Touch touching) now line t u = Partway (touching_course now line touching) (turns line t) t u
+WayOf (Adjust adjustment) now line t u = Partway (adjustment_course now line adjustment) (turns line t) t u
 WayOf Idle now line t u = Same t u
 
-abbrev pub IsStepBy : Deed → ℕ → Line → Files → Step → Type 0
+abbrev pub IsStepBy : Action → ℕ → Line → Files → Step → Type 0
 IsStepBy (Create making) now line t step = IsStepOf now line (path_in line.path) t step
 IsStepBy (Copy copying) now line t step = IsStepOf now line (path_in line.path) t step
-IsStepBy (Touch touching) now line t step = IsStepOfSome (touching_course now line touching) (turns line t) t step
+IsStepBy (Adjust adjustment) now line t step = IsStepOfSome (adjustment_course now line adjustment) (turns line t) t step
 IsStepBy Idle now line t step = ⊥
 
 -- ---- the paths at which it is carried out
 
-pub making_turns : (line : Line) (making : Making) → asks line ≡ Create making → (t : Files) → turns line t ≡ path_in line.path ∷ []
+pub making_turns : (line : Line) (making : Making) → action_of line ≡ Create making → (t : Files) → turns line t ≡ path_in line.path ∷ []
 making_turns line making e t = rw e refl
 
-pub copying_turns : (line : Line) (copying : Copying) → asks line ≡ Copy copying → (t : Files) → turns line t ≡ path_in line.path ∷ []
+pub copying_turns : (line : Line) (copying : Copying) → action_of line ≡ Copy copying → (t : Files) → turns line t ≡ path_in line.path ∷ []
 copying_turns line copying e t = rw e refl
 
-pub idle_turns : (line : Line) → asks line ≡ Idle → (t : Files) → turns line t ≡ []
+pub idle_turns : (line : Line) → action_of line ≡ Idle → (t : Files) → turns line t ≡ []
 idle_turns line e t = rw e refl
 
 -- ---- by what it asks for
 
 module _ (now : ℕ) (line : Line) (t : Files) where
-  abbrev course : Deed → Course Path
+  abbrev course : Action → Course Path
   course d = single (by_turn now line) (TurnWay d now line) (IsStepAt d now line)
 
-  abbrev Way : Deed → List Path → Files → Type 0
+  abbrev Way : Action → List Path → Files → Type 0
   Way d paths u = Partway (course d) paths t u
 
-  abbrev Steps : Deed → List Path → Step → Type 0
+  abbrev Steps : Action → List Path → Step → Type 0
   Steps d paths step = IsStepOfSome (course d) paths t step
 
-  one_way : (d : Deed) (u : Files) → ((path : Path) → TurnWay d now line path t u → OnWay now line path t u) → (path : Path) → Way d (path ∷ []) u → OnWay now line path t u
+  one_way : (d : Action) (u : Files) → ((path : Path) → TurnWay d now line path t u → OnWay now line path t u) → (path : Path) → Way d (path ∷ []) u → OnWay now line path t u
   one_way d u on path (inl way) = on path way
   one_way d u on path (inr same) = OnWay.whole same
 
-  one_step : (d : Deed) (step : Step) → ((path : Path) → IsStepAt d now line path t step → IsStepOf now line path t step) → (path : Path) → Steps d (path ∷ []) step → IsStepOf now line path t step
+  one_step : (d : Action) (step : Step) → ((path : Path) → IsStepAt d now line path t step → IsStepOf now line path t step) → (path : Path) → Steps d (path ∷ []) step → IsStepOf now line path t step
   one_step d step on path (inl own) = on path own
   one_step d step on path (inr none) = absurd none
 
-  pub way_of : (u : Files) → LineWay now line t u → WayOf (asks line) now line t u
-  way_of u way = by (asks line) refl way
+  pub way_of : (u : Files) → LineWay now line t u → WayOf (action_of line) now line t u
+  way_of u way = by (action_of line) refl way
     where
-      by : (d : Deed) → asks line ≡ d → Way d (turns line t) u → WayOf d now line t u
+      by : (d : Action) → action_of line ≡ d → Way d (turns line t) u → WayOf d now line t u
       by (Create making) e h = one_way (Create making) u (λ path on. on) (path_in line.path) (subst (λ (paths : List Path). Way (Create making) paths u) (making_turns line making e t) h)
       by (Copy copying) e h = one_way (Copy copying) u (λ path on. on) (path_in line.path) (subst (λ (paths : List Path). Way (Copy copying) paths u) (copying_turns line copying e t) h)
-      by (Touch touching) e h = h
+      by (Adjust adjustment) e h = h
       by Idle e h = subst (λ (paths : List Path). Way Idle paths u) (idle_turns line e t) h
 
-  pub step_of : (step : Step) → IsLineStep now line t step → IsStepBy (asks line) now line t step
-  step_of step own = by (asks line) refl own
+  pub step_of : (step : Step) → IsLineStep now line t step → IsStepBy (action_of line) now line t step
+  step_of step own = by (action_of line) refl own
     where
-      by : (d : Deed) → asks line ≡ d → Steps d (turns line t) step → IsStepBy d now line t step
+      by : (d : Action) → action_of line ≡ d → Steps d (turns line t) step → IsStepBy d now line t step
       by (Create making) e h = one_step (Create making) step (λ path on. on) (path_in line.path) (subst (λ (paths : List Path). Steps (Create making) paths step) (making_turns line making e t) h)
       by (Copy copying) e h = one_step (Copy copying) step (λ path on. on) (path_in line.path) (subst (λ (paths : List Path). Steps (Copy copying) paths step) (copying_turns line copying e t) h)
-      by (Touch touching) e h = h
+      by (Adjust adjustment) e h = h
       by Idle e h = subst (λ (paths : List Path). Steps Idle paths step) (idle_turns line e t) h

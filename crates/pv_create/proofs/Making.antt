@@ -25,31 +25,31 @@ use Rattle.pv_steps.specs.declared.node.Kind.TheVariants.{Directory, File, Link,
 use Rattle.pv_steps.specs.Objects.{IsId, AclFits, AttrsFit, LettersFit, is_directory}
 use Rattle.pv_steps.proofs.ObjectLaws.{is_acl-with_mode, small_special}
 use Rattle.pv_steps.proofs.AttrPutting.{are_attrs-put_attr}
-use Rattle.pv_dress.specs.declared.bare.Bare.{Bare}
-use Rattle.pv_dress.specs.declared.operation.Change.TheVariants.{Write, Append, Owner, Mode}
-use Rattle.pv_dress.specs.declared.operation.Guard.{Guard}
-use Rattle.pv_dress.specs.declared.operation.Operation.{Operation}
-use Rattle.pv_dress.specs.declared.operation.Operation.TheVariants.{Adjust}
-use Rattle.pv_dress.specs.Dividing.{parts}
-use Rattle.pv_dress.specs.Dressing.{IsDress}
-use Rattle.pv_dress.specs.Masks.{granted, with_masked, masked_special}
-use Rattle.pv_dress.specs.Nodes.{carries_letters, is_file, is_link}
-use Rattle.pv_dress.specs.Operations.{admits, changed, run}
+use Rattle.pv_metadata.specs.declared.object_state.ObjectState.{ObjectState}
+use Rattle.pv_metadata.specs.declared.operation.Change.TheVariants.{Write, Append, Owner, Mode}
+use Rattle.pv_metadata.specs.declared.operation.Guard.{Guard}
+use Rattle.pv_metadata.specs.declared.operation.Operation.{Operation}
+use Rattle.pv_metadata.specs.declared.operation.Operation.TheVariants.{Apply}
+use Rattle.pv_metadata.specs.Dividing.{parts}
+use Rattle.pv_metadata.specs.SettingMetadata.{IsMetadata}
+use Rattle.pv_metadata.specs.Masks.{granted, with_masked, masked_special}
+use Rattle.pv_metadata.specs.Nodes.{carries_letters, is_file, is_link}
+use Rattle.pv_metadata.specs.Operations.{admits, changed, run}
 use Rattle.pv_create.specs.Sets.{AtMostOne, SetsBytes, SetsOwners, SetsMode}
 use Rattle.pv_walk.proofs.CopiedLaws.{id_is}
 
 -- an object with other bytes
-abbrev pub with_payload : List ℕ → Bare → Bare
+abbrev pub with_payload : List ℕ → ObjectState → ObjectState
 with_payload payload b = record b { body = record b.body { payload = payload } }
 
 -- ---- bytes
 
-pub record BytesMade (xs : List Operation) (b : Bare) : Type 0 where
+pub record BytesMade (xs : List Operation) (b : ObjectState) : Type 0 where
   pub payload : List ℕ
   pub is : run xs (Some b) ≡ Some (with_payload payload b)
   pub plain : parts xs ≡ xs
 
-module _ (b : Bare) (guard : Guard) (bytes : List ℕ) where
+module _ (b : ObjectState) (guard : Guard) (bytes : List ℕ) where
   abbrev payload_after : List ℕ
   payload_after = if admits guard b.body.kind then (if is_file b.body.kind then bytes else b.body.payload) else b.body.payload
 
@@ -61,37 +61,37 @@ module _ (b : Bare) (guard : Guard) (bytes : List ℕ) where
       by true false = refl
       by false t = refl
 
-pub bytes_made : (xs : List Operation) → AtMostOne SetsBytes xs → (b : Bare) → BytesMade xs b
+pub bytes_made : (xs : List Operation) → AtMostOne SetsBytes xs → (b : ObjectState) → BytesMade xs b
 bytes_made [] h b = record { payload = b.body.payload; is = refl; plain = refl }
-bytes_made (Adjust guard (Write bytes) ∷ []) h b = record { payload = payload_after b guard bytes; is = payload_is b guard bytes; plain = refl }
-bytes_made (Adjust guard (Append bytes) ∷ []) h b = record { payload = payload_after b guard (b.body.payload ++ bytes); is = payload_is b guard (b.body.payload ++ bytes); plain = refl }
+bytes_made (Apply guard (Write bytes) ∷ []) h b = record { payload = payload_after b guard bytes; is = payload_is b guard bytes; plain = refl }
+bytes_made (Apply guard (Append bytes) ∷ []) h b = record { payload = payload_after b guard (b.body.payload ++ bytes); is = payload_is b guard (b.body.payload ++ bytes); plain = refl }
 bytes_made (x ∷ []) h b = absurd h
 bytes_made (x ∷ y ∷ xs) h b = absurd h
 
 -- ---- owners
 
-pub record OwnersMade (xs : List Operation) (b : Bare) : Type 0 where
+pub record OwnersMade (xs : List Operation) (b : ObjectState) : Type 0 where
   pub uid : ℕ
   pub gid : ℕ
-  pub is : run xs (Some b) ≡ Some (record b { dress = record b.dress { uid = uid; gid = gid } })
-  pub ids : IsId b.dress.uid × IsId b.dress.gid → IsId uid × IsId gid
+  pub is : run xs (Some b) ≡ Some (record b { metadata = record b.metadata { uid = uid; gid = gid } })
+  pub ids : IsId b.metadata.uid × IsId b.metadata.gid → IsId uid × IsId gid
   pub plain : parts xs ≡ xs
 
-pub owners_made : (xs : List Operation) → AtMostOne SetsOwners xs → (b : Bare) → OwnersMade xs b
-owners_made [] h b = record { uid = b.dress.uid; gid = b.dress.gid; is = refl; ids = λ k. k; plain = refl }
-owners_made (Adjust guard (Owner uid gid) ∷ []) h b = by (admits guard b.body.kind) refl
+pub owners_made : (xs : List Operation) → AtMostOne SetsOwners xs → (b : ObjectState) → OwnersMade xs b
+owners_made [] h b = record { uid = b.metadata.uid; gid = b.metadata.gid; is = refl; ids = λ k. k; plain = refl }
+owners_made (Apply guard (Owner uid gid) ∷ []) h b = by (admits guard b.body.kind) refl
   where
-    by : (s : Bool) → admits guard b.body.kind ≡ s → OwnersMade (Adjust guard (Owner uid gid) ∷ []) b
+    by : (s : Bool) → admits guard b.body.kind ≡ s → OwnersMade (Apply guard (Owner uid gid) ∷ []) b
     by true e = record {
-      uid = unwrap_or uid b.dress.uid;
-      gid = unwrap_or gid b.dress.gid;
+      uid = unwrap_or uid b.metadata.uid;
+      gid = unwrap_or gid b.metadata.gid;
       is = ap (λ s. Some (if s then changed b.body.kind (Owner uid gid) b else b)) e;
-      ids = λ k. (id_is uid b.dress.uid h.0 k.0, id_is gid b.dress.gid h.1 k.1);
+      ids = λ k. (id_is uid b.metadata.uid h.0 k.0, id_is gid b.metadata.gid h.1 k.1);
       plain = refl;
     }
     by false e = record {
-      uid = b.dress.uid;
-      gid = b.dress.gid;
+      uid = b.metadata.uid;
+      gid = b.metadata.gid;
       is = ap (λ s. Some (if s then changed b.body.kind (Owner uid gid) b else b)) e;
       ids = λ k. k;
       plain = refl;
@@ -101,12 +101,12 @@ owners_made (x ∷ y ∷ xs) h b = absurd h
 
 -- ---- modes
 
-pub record ModeMade (xs : List Operation) (b : Bare) : Type 0 where
+pub record ModeMade (xs : List Operation) (b : ObjectState) : Type 0 where
   pub special : ℕ
   pub access : Part
-  pub is : run xs (Some b) ≡ Some (record b { dress = record b.dress { special = special; acl = record b.dress.acl { access = access } } })
-  pub rest : access ≡ record b.dress.acl.access { owner = access.owner; group = access.group; other = access.other }
-  pub fits : IsDress b.body.kind b.dress → IsDress b.body.kind (record b.dress { special = special; acl = record b.dress.acl { access = access } })
+  pub is : run xs (Some b) ≡ Some (record b { metadata = record b.metadata { special = special; acl = record b.metadata.acl { access = access } } })
+  pub rest : access ≡ record b.metadata.acl.access { owner = access.owner; group = access.group; other = access.other }
+  pub fits : IsMetadata b.body.kind b.metadata → IsMetadata b.body.kind (record b.metadata { special = special; acl = record b.metadata.acl { access = access } })
   pub plain : parts xs ≡ xs
 
 -- what is no link takes other base entries and other special bits
@@ -142,24 +142,24 @@ is_acl-with_masked mode acl h =
     }) in
     (λ i. part i && two.1 i)
 
-module _ (b : Bare) (guard : Guard) (mode : ℕ) (small : mode ≤ 4095) (real : admits guard Link ≡ false) where
-  mode_with : (masked : Bool) → admits guard b.body.kind ≡ true → ModeMade (Adjust guard (Mode mode masked) ∷ []) b
+module _ (b : ObjectState) (guard : Guard) (mode : ℕ) (small : mode ≤ 4095) (real : admits guard Link ≡ false) where
+  mode_with : (masked : Bool) → admits guard b.body.kind ≡ true → ModeMade (Apply guard (Mode mode masked) ∷ []) b
   mode_with masked e = by masked
     where
       no_link : b.body.kind ≡ Link → ⊥
       no_link k = let wrong : true ≡ false = sym e ∙ ap (admits guard) k ∙ real in cc
 
-      by : (masked : Bool) → ModeMade (Adjust guard (Mode mode masked) ∷ []) b
+      by : (masked : Bool) → ModeMade (Apply guard (Mode mode masked) ∷ []) b
       by false = record {
         special = special_of mode;
-        access = parts.with_mode mode b.dress.acl.access;
+        access = parts.with_mode mode b.metadata.acl.access;
         is = ap (λ s. Some (if s then changed b.body.kind (Mode mode false) b else b)) e;
         rest = refl;
         fits = λ d. record {
           owner = d.owner;
           special = small_special mode small;
-          acl = is_acl-with_mode mode b.dress.acl d.acl;
-          fits = other_mode b.body.kind b.dress.special (special_of mode) b.dress.acl (parts.with_mode mode b.dress.acl.access) no_link d.fits;
+          acl = is_acl-with_mode mode b.metadata.acl d.acl;
+          fits = other_mode b.body.kind b.metadata.special (special_of mode) b.metadata.acl (parts.with_mode mode b.metadata.acl.access) no_link d.fits;
           attrs = d.attrs;
           letters = d.letters;
         };
@@ -167,37 +167,37 @@ module _ (b : Bare) (guard : Guard) (mode : ℕ) (small : mode ≤ 4095) (real :
       }
       by true = record {
         special = masked_special b.body.kind mode;
-        access = with_masked mode b.dress.acl.access;
+        access = with_masked mode b.metadata.acl.access;
         is = ap (λ s. Some (if s then changed b.body.kind (Mode mode true) b else b)) e;
         rest = refl;
         fits = λ d. record {
           owner = d.owner;
           special = small_masked b.body.kind mode small;
-          acl = is_acl-with_masked mode b.dress.acl d.acl;
-          fits = other_mode b.body.kind b.dress.special (masked_special b.body.kind mode) b.dress.acl (with_masked mode b.dress.acl.access) no_link d.fits;
+          acl = is_acl-with_masked mode b.metadata.acl d.acl;
+          fits = other_mode b.body.kind b.metadata.special (masked_special b.body.kind mode) b.metadata.acl (with_masked mode b.metadata.acl.access) no_link d.fits;
           attrs = d.attrs;
           letters = d.letters;
         };
         plain = refl;
       }
 
-  mode_without : (masked : Bool) → admits guard b.body.kind ≡ false → ModeMade (Adjust guard (Mode mode masked) ∷ []) b
+  mode_without : (masked : Bool) → admits guard b.body.kind ≡ false → ModeMade (Apply guard (Mode mode masked) ∷ []) b
   mode_without masked e = record {
-    special = b.dress.special;
-    access = b.dress.acl.access;
+    special = b.metadata.special;
+    access = b.metadata.acl.access;
     is = ap (λ s. Some (if s then changed b.body.kind (Mode mode masked) b else b)) e;
     rest = refl;
     fits = λ d. d;
     plain = refl;
   }
 
-  mode_either : (masked s : Bool) → admits guard b.body.kind ≡ s → ModeMade (Adjust guard (Mode mode masked) ∷ []) b
+  mode_either : (masked s : Bool) → admits guard b.body.kind ≡ s → ModeMade (Apply guard (Mode mode masked) ∷ []) b
   mode_either masked true e = mode_with masked e
   mode_either masked false e = mode_without masked e
 
-pub mode_made : (xs : List Operation) → AtMostOne SetsMode xs → (b : Bare) → ModeMade xs b
-mode_made [] h b = record { special = b.dress.special; access = b.dress.acl.access; is = refl; rest = refl; fits = λ d. d; plain = refl }
-mode_made (Adjust guard (Mode mode masked) ∷ []) h b = mode_either b guard mode h.1 h.0 masked (admits guard b.body.kind) refl
+pub mode_made : (xs : List Operation) → AtMostOne SetsMode xs → (b : ObjectState) → ModeMade xs b
+mode_made [] h b = record { special = b.metadata.special; access = b.metadata.acl.access; is = refl; rest = refl; fits = λ d. d; plain = refl }
+mode_made (Apply guard (Mode mode masked) ∷ []) h b = mode_either b guard mode h.1 h.0 masked (admits guard b.body.kind) refl
 mode_made (x ∷ []) h b = absurd h
 mode_made (x ∷ y ∷ xs) h b = absurd h
 

@@ -19,31 +19,31 @@ use Rattle.pv_path.proofs.PathLaws.{same_path-refl}
 use Rattle.pv_steps.specs.Trees.{Files, places}
 use Rattle.pv_walk.specs.Listing.{times}
 use Rattle.pv_walk.proofs.CountLaws.{times-filter, times-keys, times-push, one-same}
-use Rattle.pv_table.specs.declared.deed.Deed.{Deed}
-use Rattle.pv_table.specs.declared.deed.Deed.TheVariants.{Touch}
-use Rattle.pv_table.specs.declared.deed.Touching.{Touching}
-use Rattle.pv_table.specs.Asking.{asks}
-use Rattle.pv_table.specs.Effects.{carried_out, touch, turn_after, turns}
+use Rattle.pv_table.specs.declared.action.Action.{Action}
+use Rattle.pv_table.specs.declared.action.Action.TheVariants.{Adjust}
+use Rattle.pv_table.specs.declared.action.Adjustment.{Adjustment}
+use Rattle.pv_table.specs.ActionTable.{action_of}
+use Rattle.pv_table.specs.Effects.{carried_out, adjust_at, turn_after, turns}
 use Rattle.pv_table.specs.Reaching.{names, names_in}
 use Rattle.pv_table.specs.Turns.{Refused, refused_at}
-use Rattle.pv_create.proofs.ReachedLaws.{is_some-touched, places-touch, times-take}
+use Rattle.pv_create.proofs.ReachedLaws.{is_some-touched, places-adjust_at, times-take}
 
 -- ---- presence
 
-touch_keeps : (now : ℕ) (touching : Touching) (path : Path) (t : Files) (q : Path) → is_some (places (touch now touching path t) q) ≡ is_some (places t q)
-touch_keeps now touching path t q = ap is_some (places-touch now touching path t q) ∙ is_some-touched now touching path t q
+adjust_keeps : (now : ℕ) (adjustment : Adjustment) (path : Path) (t : Files) (q : Path) → is_some (places (adjust_at now adjustment path t) q) ≡ is_some (places t q)
+adjust_keeps now adjustment path t q = ap is_some (places-adjust_at now adjustment path t q) ∙ is_some-touched now adjustment path t q
 
 -- a line that adjusts neither adds nor takes away paths
-pub turn_keeps : (now : ℕ) (line : Line) (touching : Touching) → asks line ≡ Touch touching → (path : Path) (t : Files) (q : Path) → is_some (places (turn_after now line path t) q) ≡ is_some (places t q)
-turn_keeps now line touching deed path t q = by (refused_at line path (places t)) refl
+pub turn_keeps : (now : ℕ) (line : Line) (adjustment : Adjustment) → action_of line ≡ Adjust adjustment → (path : Path) (t : Files) (q : Path) → is_some (places (turn_after now line path t) q) ≡ is_some (places t q)
+turn_keeps now line adjustment action path t q = by (refused_at line path (places t)) refl
   where
     by : (r : Option Refused) → refused_at line path (places t) ≡ r → is_some (places (turn_after now line path t) q) ≡ is_some (places t q)
     by (Some place) e = rw e refl
-    by None e = rw e (ap (λ (d : Deed). is_some (places (carried_out now d path t) q)) deed ∙ touch_keeps now touching path t q)
+    by None e = rw e (ap (λ (d : Action). is_some (places (carried_out now d path t) q)) action ∙ adjust_keeps now adjustment path t q)
 
 -- the paths of its turns are those present that it names
-pub named_turns : (line : Line) (touching : Touching) → asks line ≡ Touch touching → (t : Files) → filter (names line) (fin.keys t) ≡ turns line t
-named_turns line touching deed t = sym (rw deed refl)
+pub named_turns : (line : Line) (adjustment : Adjustment) → action_of line ≡ Adjust adjustment → (t : Files) → filter (names line) (fin.keys t) ≡ turns line t
+named_turns line adjustment action t = sym (rw action refl)
 
 -- ---- lengths
 

@@ -17,18 +17,18 @@ use Rattle.pv_steps.specs.Steps.{on_at}
 use Rattle.pv_steps.specs.Trees.{Files, Places, places, IsPresent}
 use Rattle.pv_steps.proofs.ActingLaws.{Moves, well, acted_then, acted_weaken, acted_end}
 use Rattle.pv_steps.proofs.StepLaws.{same_files, places-tabulate, among_keys}
-use Rattle.pv_dress.specs.declared.operation.Operation.{Operation}
-use Rattle.pv_dress.specs.declared.bare.Bare.{Bare}
-use Rattle.pv_dress.specs.Dividing.{parts}
-use Rattle.pv_dress.specs.Dressing.{Lacks, GivesDress}
-use Rattle.pv_dress.specs.Nodes.{bare_of, bares_of}
-use Rattle.pv_dress.specs.Operations.{run}
-use Rattle.pv_dress.proofs.EditLaws.{path_cases, on_at-else}
+use Rattle.pv_metadata.specs.declared.operation.Operation.{Operation}
+use Rattle.pv_metadata.specs.declared.object_state.ObjectState.{ObjectState}
+use Rattle.pv_metadata.specs.Dividing.{parts}
+use Rattle.pv_metadata.specs.SettingMetadata.{Lacks, GivesMetadata}
+use Rattle.pv_metadata.specs.Nodes.{object_state_of, object_states_of}
+use Rattle.pv_metadata.specs.Operations.{run}
+use Rattle.pv_metadata.proofs.EditLaws.{path_cases, on_at-else}
 use Rattle.pv_walk.specs.Listing.{times, stands_below, IsListing}
 use Rattle.pv_walk.proofs.CountLaws.{times-append, times-push, times-filter, times-keys, times-self, taken_out, one-same}
-use Rattle.pv_table.specs.declared.deed.Touching.{Touching}
-use Rattle.pv_table.specs.Created.{change_work, touch_work}
-use Rattle.pv_table.specs.Effects.{become, is_touched, touch}
+use Rattle.pv_table.specs.declared.action.Adjustment.{Adjustment}
+use Rattle.pv_table.specs.Created.{change_work, adjust_work}
+use Rattle.pv_table.specs.Effects.{become, is_adjusted, adjust_at}
 use Rattle.pv_create.specs.Adjusting.{Adjusting, GivesBytes, GivesSet}
 use Rattle.pv_create.specs.Reached.{AdjustingReached, AreReachedBelow, GivesReached, IsPartSet, IsReached}
 use Rattle.pv_find.proofs.WholeLaws.{times-sum}
@@ -109,45 +109,45 @@ times-permuted xs ys h q = times-sum q ys ∙ sum_by-IsPermutation (λ p. cond (
 
 -- what a step gives is told by what stands at the path
 gives_same : (q : Path) (sets : List Operation) (u t : Files) → places u q ≡ places t q → (s : Step) → GivesSet q sets u s → GivesSet q sets t s
-gives_same q sets u t e s h = record { new = h.new; is = ap (λ v. run sets (option_map bare_of v)) (sym e) ∙ h.is; gives = by h.gives }
+gives_same q sets u t e s h = record { new = h.new; is = ap (λ v. run sets (option_map object_state_of v)) (sym e) ∙ h.is; gives = by h.gives }
   where
     lacks : {A : Type 0} (part : Object → A) (given : A) → Lacks part given q u → Lacks part given q t
     lacks part given other x at = other x (e ∙ at)
 
-    dress : GivesDress q h.new.dress u s → GivesDress q h.new.dress t s
-    dress (inl d) = inl d
-    dress (inr (inl d)) = inr (inl d)
-    dress (inr (inr (inl d))) = inr (inr (inl (d.0, lacks _ _ d.1)))
-    dress (inr (inr (inr (inl d)))) = inr (inr (inr (inl (d.0, lacks _ _ d.1))))
-    dress (inr (inr (inr (inr d)))) = inr (inr (inr (inr (d.0, lacks _ _ d.1))))
+    metadata : GivesMetadata q h.new.metadata u s → GivesMetadata q h.new.metadata t s
+    metadata (inl d) = inl d
+    metadata (inr (inl d)) = inr (inl d)
+    metadata (inr (inr (inl d))) = inr (inr (inl (d.0, lacks _ _ d.1)))
+    metadata (inr (inr (inr (inl d)))) = inr (inr (inr (inl (d.0, lacks _ _ d.1))))
+    metadata (inr (inr (inr (inr d)))) = inr (inr (inr (inr (d.0, lacks _ _ d.1))))
 
-    by : GivesBytes q h.new.body.payload u s ⊎ GivesDress q h.new.dress u s → GivesBytes q h.new.body.payload t s ⊎ GivesDress q h.new.dress t s
+    by : GivesBytes q h.new.body.payload u s ⊎ GivesMetadata q h.new.metadata u s → GivesBytes q h.new.body.payload t s ⊎ GivesMetadata q h.new.metadata t s
     by (inl b) = inl (b.0, lacks (λ o. o.payload) h.new.body.payload b.1)
-    by (inr d) = inr (dress d)
+    by (inr d) = inr (metadata d)
 
 -- ---- all that a line reaches
 
-module _ (now : ℕ) (touching : Touching) (path : Path) (t : Files) where
+module _ (now : ℕ) (adjustment : Adjustment) (path : Path) (t : Files) where
   -- what stands at each path when all is adjusted
   abbrev pub touched_at : Path → Option Object
-  touched_at q = if is_touched touching path q then option_map (become now touching.sets) (places t q) else places t q
+  touched_at q = if is_adjusted adjustment path q then option_map (become now adjustment.sets) (places t q) else places t q
 
   pub is_some-touched : (q : Path) → is_some (touched_at q) ≡ is_some (places t q)
-  is_some-touched q = by (is_touched touching path q) (places t q)
+  is_some-touched q = by (is_adjusted adjustment path q) (places t q)
     where
-      by : (s : Bool) (v : Option Object) → is_some (if s then option_map (become now touching.sets) v else v) ≡ is_some v
+      by : (s : Bool) (v : Option Object) → is_some (if s then option_map (become now adjustment.sets) v else v) ≡ is_some v
       by true None = refl
       by true (Some o) = refl
       by false v = refl
 
-  pub places-touch : (q : Path) → places (touch now touching path t) q ≡ touched_at q
-  places-touch q = places-tabulate (fin.keys t) touched_at q (λ some. among_keys t q ∙ sym (is_some-touched q) ∙ some)
+  pub places-adjust_at : (q : Path) → places (adjust_at now adjustment path t) q ≡ touched_at q
+  places-adjust_at q = places-tabulate (fin.keys t) touched_at q (λ some. among_keys t q ∙ sym (is_some-touched q) ∙ some)
 
 -- ---- the loop
 
-module _ (touching : Touching) (path : Path) (t : Files) (paths : List Path) (reached : IsReached touching path t paths) (now : ℕ) where
+module _ (adjustment : Adjustment) (path : Path) (t : Files) (paths : List Path) (reached : IsReached adjustment path t paths) (now : ℕ) where
   abbrev sets : List Operation
-  sets = touching.sets
+  sets = adjustment.sets
 
   abbrev pub weight : Path → ℕ
   weight = λ q. change_work sets (places t q)
@@ -156,15 +156,15 @@ module _ (touching : Touching) (path : Path) (t : Files) (paths : List Path) (re
   pub record Reaching (front : List Path) (u : Files) : Type 0 where
     pub here : places u ≡ each_at (become now sets) front (places t)
 
-  pub at_most : (n : ℕ) → sum (map weight (take n paths)) ≤ touch_work touching path t
-  at_most n = sum-times weight (take n paths) (filter (is_touched touching path) (fin.keys t)) counted
+  pub at_most : (n : ℕ) → sum (map weight (take n paths)) ≤ adjust_work adjustment path t
+  at_most n = sum-times weight (take n paths) (filter (is_adjusted adjustment path) (fin.keys t)) counted
     where
       both_or_none : (a b : Bool) → ◌≡◌ {A = ℕ} (cond (a && b) 1 0) (cond a (cond b 1 0) 0)
       both_or_none true b = refl
       both_or_none false b = refl
 
-      counted : (q : Path) → times q (take n paths) ≤ times q (filter (is_touched touching path) (fin.keys t))
-      counted q = omega (arith, times-take n paths q, reached q, times-filter (is_touched touching path) q (fin.keys t), ap {B = ℕ} (λ m. cond (is_touched touching path q) m 0) (times-keys t q), both_or_none (is_touched touching path q) (is_some (places t q)))
+      counted : (q : Path) → times q (take n paths) ≤ times q (filter (is_adjusted adjustment path) (fin.keys t))
+      counted q = omega (arith, times-take n paths q, reached q, times-filter (is_adjusted adjustment path) q (fin.keys t), ap {B = ℕ} (λ m. cond (is_adjusted adjustment path q) m 0) (times-keys t q), both_or_none (is_adjusted adjustment path q) (is_some (places t q)))
 
   module _ (i : ℕ) (at : Path) (lt : i < length paths) (is : at ≡ get_or paths i at) where
     abbrev front : List Path
@@ -173,19 +173,19 @@ module _ (touching : Touching) (path : Path) (t : Files) (paths : List Path) (re
     more : take (i + 1) paths ≡ front ++ at ∷ []
     more = take_more paths i at lt ∙ ap (λ q. front ++ q ∷ []) (sym is)
 
-    counts : times at front + 1 ≤ cond (is_touched touching path at && is_some (places t at)) 1 0
+    counts : times at front + 1 ≤ cond (is_adjusted adjustment path at && is_some (places t at)) 1 0
     counts = omega (arith, ap (times at) more, times-push at front at, ap {B = ℕ} (λ b. cond b 1 0) (same_path-refl at), times-take (i + 1) paths at, reached at)
 
-    stands : (is_touched touching path at ≡ true) × (is_some (places t at) ≡ true)
-    stands = by (is_touched touching path at) (is_some (places t at)) refl refl
+    stands : (is_adjusted adjustment path at ≡ true) × (is_some (places t at) ≡ true)
+    stands = by (is_adjusted adjustment path at) (is_some (places t at)) refl refl
       where
-        by : (a b : Bool) → is_touched touching path at ≡ a → is_some (places t at) ≡ b → (is_touched touching path at ≡ true) × (is_some (places t at) ≡ true)
+        by : (a b : Bool) → is_adjusted adjustment path at ≡ a → is_some (places t at) ≡ b → (is_adjusted adjustment path at ≡ true) × (is_some (places t at) ≡ true)
         by true true e f = (e, f)
-        by true false e f = absurd (let none : ◌≡◌ {A = ℕ} (cond (is_touched touching path at && is_some (places t at)) 1 0) 0 = (λ j. cond (e j && f j) 1 0) in omega (arith, counts, none))
-        by false b e f = absurd (let none : ◌≡◌ {A = ℕ} (cond (is_touched touching path at && is_some (places t at)) 1 0) 0 = (λ j. cond (e j && f j) 1 0) in omega (arith, counts, none))
+        by true false e f = absurd (let none : ◌≡◌ {A = ℕ} (cond (is_adjusted adjustment path at && is_some (places t at)) 1 0) 0 = (λ j. cond (e j && f j) 1 0) in omega (arith, counts, none))
+        by false b e f = absurd (let none : ◌≡◌ {A = ℕ} (cond (is_adjusted adjustment path at && is_some (places t at)) 1 0) 0 = (λ j. cond (e j && f j) 1 0) in omega (arith, counts, none))
 
     not_yet : times at front ≡ 0
-    not_yet = let one : ◌≡◌ {A = ℕ} (cond (is_touched touching path at && is_some (places t at)) 1 0) 1 = (λ j. cond (stands.0 j && stands.1 j) 1 0) in omega (arith, counts, one)
+    not_yet = let one : ◌≡◌ {A = ℕ} (cond (is_adjusted adjustment path at && is_some (places t at)) 1 0) 1 = (λ j. cond (stands.0 j && stands.1 j) 1 0) in omega (arith, counts, one)
 
     module _ (u : Files) (here : places u ≡ each_at (become now sets) front (places t)) where
       pub same_here : places u at ≡ places t at
@@ -199,57 +199,57 @@ module _ (touching : Touching) (path : Path) (t : Files) (paths : List Path) (re
           e ∙ ap (on_at at (become now sets)) here ∙ sym (fold-append (λ u q. on_at q (become now sets) u) (places t) front (at ∷ []))
           ∙ ap (λ xs. each_at (become now sets) xs (places t)) (sym more)
 
-      way : AdjustingReached touching path t u → (w : Files) → Adjusting at sets u w → AdjustingReached touching path t w
+      way : AdjustingReached adjustment path t u → (w : Files) → Adjusting at sets u w → AdjustingReached adjustment path t w
       way before w h q = elim (path_cases at q) [
-        | inl e ↦ subst (λ q. IsPartSet (is_touched touching path q) sets (bares_of (places t) q) (bares_of (places w) q)) e
+        | inl e ↦ subst (λ q. IsPartSet (is_adjusted adjustment path q) sets (object_states_of (places t) q) (object_states_of (places w) q)) e
             (IsPartSet.set h.0 stands.0
-            (h.1 at ∙ ap (λ s. if s then run (take h.0 (parts sets)) (bares_of (places u) at) else bares_of (places u) at) (same_path-refl at)
-            ∙ ap (λ v. run (take h.0 (parts sets)) (option_map bare_of v)) same_here))
-        | inr e ↦ moved (bares_of (places w) q) (h.1 q ∙ ap (λ s. if s then run (take h.0 (parts sets)) (bares_of (places u) q) else bares_of (places u) q) e) (before q)
+            (h.1 at ∙ ap (λ s. if s then run (take h.0 (parts sets)) (object_states_of (places u) at) else object_states_of (places u) at) (same_path-refl at)
+            ∙ ap (λ v. run (take h.0 (parts sets)) (option_map object_state_of v)) same_here))
+        | inr e ↦ moved (object_states_of (places w) q) (h.1 q ∙ ap (λ s. if s then run (take h.0 (parts sets)) (object_states_of (places u) q) else object_states_of (places u) q) e) (before q)
       ]
         where
-          moved : (b : Option Bare) → b ≡ bares_of (places u) q → IsPartSet (is_touched touching path q) sets (bares_of (places t) q) (bares_of (places u) q) → IsPartSet (is_touched touching path q) sets (bares_of (places t) q) b
-          moved b same h = subst (λ b. IsPartSet (is_touched touching path q) sets (bares_of (places t) q) b) (sym same) h
+          moved : (b : Option ObjectState) → b ≡ object_states_of (places u) q → IsPartSet (is_adjusted adjustment path q) sets (object_states_of (places t) q) (object_states_of (places u) q) → IsPartSet (is_adjusted adjustment path q) sets (object_states_of (places t) q) b
+          moved b same h = subst (λ b. IsPartSet (is_adjusted adjustment path q) sets (object_states_of (places t) q) b) (sym same) h
 
-      gives : (s : Step) → GivesSet at sets u s → GivesReached touching path t s
+      gives : (s : Step) → GivesSet at sets u s → GivesReached adjustment path t s
       gives s h = record { at = at; reached = stands.0; gives = gives_same at sets u t same_here s h }
 
       work_more : sum (map weight front) + change_work sets (places u at) ≡ sum (map weight (take (i + 1) paths))
       work_more = ap (λ v. sum (map weight front) + change_work sets v) same_here ∙ sym (sum-push weight front at) ∙ ap (λ xs. sum (map weight xs)) (sym more)
 
       pub acted_more : {S : Type 0} (tree : Ghosts S) → Moves tree → (a b c : S) → tree.state a ≡ t → tree.state b ≡ u → (r : Result (Unit {0}) TreeFault)
-          → Acted tree (AdjustingReached touching path t) (GivesReached touching path t) (sum (map weight front)) now a b well
+          → Acted tree (AdjustingReached adjustment path t) (GivesReached adjustment path t) (sum (map weight front)) now a b well
           → Acted tree (Adjusting at sets u) (GivesSet at sets u) (change_work sets (places u at)) now b c r
-          → Acted tree (AdjustingReached touching path t) (GivesReached touching path t) (sum (map weight (take (i + 1) paths))) now a c r
+          → Acted tree (AdjustingReached adjustment path t) (GivesReached adjustment path t) (sum (map weight (take (i + 1) paths))) now a c r
       acted_more tree moves a b c is_t is_u r before last =
-          let reached_u : AdjustingReached touching path t u = subst (λ f. AdjustingReached touching path t f) is_u (acted_end tree (AdjustingReached touching path t) (GivesReached touching path t) before) in
-          subst (λ n. Acted tree (AdjustingReached touching path t) (GivesReached touching path t) n now a c r) work_more
-          (acted_then tree moves (AdjustingReached touching path t) (GivesReached touching path t) before
-          (acted_weaken tree (Adjusting at sets u) (AdjustingReached touching path t) (GivesSet at sets u) (GivesReached touching path t) (change_work sets (places u at)) (change_work sets (places u at))
+          let reached_u : AdjustingReached adjustment path t u = subst (λ f. AdjustingReached adjustment path t f) is_u (acted_end tree (AdjustingReached adjustment path t) (GivesReached adjustment path t) before) in
+          subst (λ n. Acted tree (AdjustingReached adjustment path t) (GivesReached adjustment path t) n now a c r) work_more
+          (acted_then tree moves (AdjustingReached adjustment path t) (GivesReached adjustment path t) before
+          (acted_weaken tree (Adjusting at sets u) (AdjustingReached adjustment path t) (GivesSet at sets u) (GivesReached adjustment path t) (change_work sets (places u at)) (change_work sets (places u at))
           (way reached_u) gives (omega arith) last))
 
   -- ---- when all is done
 
-  all_at : (q : Path) → each_at (become now sets) paths (places t) q ≡ touched_at now touching path t q
-  all_at q = by (is_touched touching path q) (places t q) refl refl
+  all_at : (q : Path) → each_at (become now sets) paths (places t) q ≡ touched_at now adjustment path t q
+  all_at q = by (is_adjusted adjustment path q) (places t q) refl refl
     where
-      by : (s : Bool) (v : Option Object) → is_touched touching path q ≡ s → places t q ≡ v → each_at (become now sets) paths (places t) q ≡ (if s then option_map (become now sets) (places t q) else places t q)
+      by : (s : Bool) (v : Option Object) → is_adjusted adjustment path q ≡ s → places t q ≡ v → each_at (become now sets) paths (places t) q ≡ (if s then option_map (become now sets) (places t q) else places t q)
       by true None e f =
           each_at-none (become now sets) paths (places t) q (reached q ∙ (λ j. cond (e j && is_some (f j)) 1 0)) ∙ f ∙ ap (option_map (become now sets)) (sym f)
       by true (Some o) e f = each_at-one (become now sets) paths (places t) q (reached q ∙ (λ j. cond (e j && is_some (f j)) 1 0))
       by false v e f = each_at-none (become now sets) paths (places t) q (reached q ∙ (λ j. cond (e j && is_some (places t q)) 1 0))
 
-  all_by : (u : Files) → places u ≡ each_at (become now sets) paths (places t) → u ≡ touch now touching path t
-  all_by u here = same_files u (touch now touching path t) (λ q. ap (λ p. p q) here ∙ all_at q ∙ sym (places-touch now touching path t q))
+  all_by : (u : Files) → places u ≡ each_at (become now sets) paths (places t) → u ≡ adjust_at now adjustment path t
+  all_by u here = same_files u (adjust_at now adjustment path t) (λ q. ap (λ p. p q) here ∙ all_at q ∙ sym (places-adjust_at now adjustment path t q))
 
-  pub all_done : (i : ℕ) → length paths ≤ i → (u : Files) → places u ≡ each_at (become now sets) (take i paths) (places t) → u ≡ touch now touching path t
+  pub all_done : (i : ℕ) → length paths ≤ i → (u : Files) → places u ≡ each_at (become now sets) (take i paths) (places t) → u ≡ adjust_at now adjustment path t
   all_done i past u here = all_by u (here ∙ ap (λ (xs : List Path). each_at (become now sets) xs (places t)) (take_all i paths past))
 
 -- ---- the list
 
 -- below a path, with it
-reached_with : (touching : Touching) (path : Path) (t : Files) → IsPresent t path → (paths all : List Path) → AreReachedBelow touching path t paths → ((q : Path) → times q all ≡ times q paths + cond (same_path path q) 1 0) → IsReached touching path t all
-reached_with touching path t present paths all are longer q = longer q ∙ by (same_path path q) refl
+reached_with : (adjustment : Adjustment) (path : Path) (t : Files) → IsPresent t path → (paths all : List Path) → AreReachedBelow adjustment path t paths → ((q : Path) → times q all ≡ times q paths + cond (same_path path q) 1 0) → IsReached adjustment path t all
+reached_with adjustment path t present paths all are longer q = longer q ∙ by (same_path path q) refl
   where
     here : same_path path q ≡ true → is_some (places t q) ≡ true
     here e = ap (λ p. is_some (places t p)) (sym (one-same path q e)) ∙ present
@@ -271,30 +271,30 @@ reached_with touching path t present paths all are longer q = longer q ∙ by (s
     same false true false = refl
     same false false s = refl
 
-    by : (e : Bool) → same_path path q ≡ e → times q paths + cond (same_path path q) 1 0 ≡ cond (is_touched touching path q && is_some (places t q)) 1 0
+    by : (e : Bool) → same_path path q ≡ e → times q paths + cond (same_path path q) 1 0 ≡ cond (is_adjusted adjustment path q && is_some (places t q)) 1 0
     by true e =
         ap (λ n. n + cond (same_path path q) 1 0) (are q)
-        ∙ (λ j. cond (touching.deep && not (has_staging q)) (cond ((is_prefix path q && not (e j)) && here e j) 1 0) 0 + cond (e j) 1 0)
-        ∙ same (is_prefix path q) touching.deep (has_staging q)
-        ∙ sym (ap {B = ℕ} (λ b. cond b 1 0) (λ j. (e j || touching.deep && is_prefix path q && not (has_staging q)) && here e j))
+        ∙ (λ j. cond (adjustment.deep && not (has_staging q)) (cond ((is_prefix path q && not (e j)) && here e j) 1 0) 0 + cond (e j) 1 0)
+        ∙ same (is_prefix path q) adjustment.deep (has_staging q)
+        ∙ sym (ap {B = ℕ} (λ b. cond b 1 0) (λ j. (e j || adjustment.deep && is_prefix path q && not (has_staging q)) && here e j))
     by false e =
         ap (λ n. n + cond (same_path path q) 1 0) (are q)
-        ∙ (λ j. cond (touching.deep && not (has_staging q)) (cond ((is_prefix path q && not (e j)) && is_some (places t q)) 1 0) 0 + cond (e j) 1 0)
-        ∙ plain (is_prefix path q) touching.deep (has_staging q) (is_some (places t q))
-        ∙ sym (ap {B = ℕ} (λ b. cond b 1 0) (λ j. (e j || touching.deep && is_prefix path q && not (has_staging q)) && is_some (places t q)))
+        ∙ (λ j. cond (adjustment.deep && not (has_staging q)) (cond ((is_prefix path q && not (e j)) && is_some (places t q)) 1 0) 0 + cond (e j) 1 0)
+        ∙ plain (is_prefix path q) adjustment.deep (has_staging q) (is_some (places t q))
+        ∙ sym (ap {B = ℕ} (λ b. cond b 1 0) (λ j. (e j || adjustment.deep && is_prefix path q && not (has_staging q)) && is_some (places t q)))
 
 -- and so where the path comes first, and in another order
-pub reached_first : (touching : Touching) (path : Path) (t : Files) → IsPresent t path → (paths ordered more all : List Path) (copy : Path) → AreReachedBelow touching path t paths → IsPermutation paths ordered → more ≡ copy ∷ ordered
-    → copy ≡ path → IsPermutation more all → IsReached touching path t all
-reached_first touching path t present paths ordered more all copy are turned put same sorted =
-    reached_with touching path t present paths all are (λ q.
+pub reached_first : (adjustment : Adjustment) (path : Path) (t : Files) → IsPresent t path → (paths ordered more all : List Path) (copy : Path) → AreReachedBelow adjustment path t paths → IsPermutation paths ordered → more ≡ copy ∷ ordered
+    → copy ≡ path → IsPermutation more all → IsReached adjustment path t all
+reached_first adjustment path t present paths ordered more all copy are turned put same sorted =
+    reached_with adjustment path t present paths all are (λ q.
     let whole : times q more ≡ cond {A = ℕ} (same_path path q) 1 0 + times q ordered = ap (times q) (put ∙ ap (λ (x : Path). x ∷ ordered) same) in
     let old : times q ordered ≡ times q paths = times-permuted paths ordered turned q in
     let new : times q all ≡ times q more = times-permuted more all sorted q in
     omega (arith, new, whole, old))
 
 -- a listing without staging names
-pub unstaged : (touching : Touching) (path : Path) (t : Files) (listed paths : List Path) → touching.deep ≡ true → IsListing t path listed → paths ≡ filter (λ q. not (has_staging q)) listed → AreReachedBelow touching path t paths
-unstaged touching path t listed paths deep is e q =
+pub unstaged : (adjustment : Adjustment) (path : Path) (t : Files) (listed paths : List Path) → adjustment.deep ≡ true → IsListing t path listed → paths ≡ filter (λ q. not (has_staging q)) listed → AreReachedBelow adjustment path t paths
+unstaged adjustment path t listed paths deep is e q =
     ap (times q) e ∙ times-filter (λ q. not (has_staging q)) q listed ∙ ap (λ n. cond (not (has_staging q)) n 0) (is.once q)
     ∙ ap (λ d. cond (d && not (has_staging q)) (cond (stands_below t path q) 1 0) 0) (sym deep)

@@ -4,7 +4,7 @@ use Rattle.std.proofs.Common.{refl, sym, ap, ◌∙◌}
 use Rattle.pv_doing.specs.Courses.{carried_of, CarriesOut}
 use Rattle.pv_doing.specs.declared.carried.Carried.{Carried}
 use Rattle.pv_doing.specs.declared.carried.Carried.TheVariants.{NotCarriedOut}
-use Rattle.pv_doing.proofs.CarryingLaws.{single_none, single_said}
+use Rattle.pv_doing.proofs.CarryingLaws.{single_none, single_messages}
 use Rattle.pv_lines.specs.declared.line.Line.{Line}
 use Rattle.pv_path.specs.Paths.{Path}
 use Rattle.pv_steps.specs.declared.tree.Tree.{Ghosts}
@@ -12,7 +12,7 @@ use Rattle.pv_steps.specs.declared.tree.TreeFault.{TreeFault}
 use Rattle.pv_steps.specs.declared.tree.TreeFault.TheVariants.{Memory}
 use Rattle.pv_steps.specs.Trees.{Files, places}
 use Rattle.pv_steps.proofs.ActingLaws.{Moves}
-use Rattle.pv_text.specs.Said.{said_at}
+use Rattle.pv_text.specs.GivenMessages.{message_text_at}
 use Rattle.pv_table.specs.Effects.{turn_after}
 use Rattle.pv_table.specs.Saying.{refused_text, turn_messages}
 use Rattle.pv_table.specs.Turns.{Refused, refused_at}
@@ -23,17 +23,17 @@ module _ (now : ℕ) (line : Line) (path : Path) (t : Files) (place : Refused) (
   refused_after : t ≡ turn_after now line path t
   refused_after = rw refused refl
 
-  refused_says : turn_messages now line path t ≡ said_at line.place (refused_text place) ∷ []
+  refused_says : turn_messages now line path t ≡ message_text_at line.place (refused_text place) ∷ []
   refused_says = rw refused refl
 
 module _ {S : Type 0} (tree : Ghosts S) (moves : Moves tree) (now : ℕ) (line : Line) (path : Path) (a : S) (old new : List (List ℕ)) where
   pub turn_none : new ≡ old → (r : Result Carried TreeFault) → IsErrAnd r (λ e. e ≡ Memory) → CarriesOut tree (turn_course now line) path now a a old new r
-  turn_none unsaid r memory = single_none tree (turn_course now line) path now a old (λ moment refused x t done said work. work) moves (turn_start now line path (tree.state a)) new unsaid r memory
+  turn_none messages_kept r memory = single_none tree (turn_course now line) path now a old (λ moment refused x t done new_messages work. work) moves (turn_start now line path (tree.state a)) new messages_kept r memory
 
-  pub turn_refused : (place : Refused) → refused_at line path (places (tree.state a)) ≡ Some place → new ≡ old ++ said_at line.place (refused_text place) ∷ []
+  pub turn_refused : (place : Refused) → refused_at line path (places (tree.state a)) ≡ Some place → new ≡ old ++ message_text_at line.place (refused_text place) ∷ []
       → CarriesOut tree (turn_course now line) path now a a old new (Ok NotCarriedOut)
-  turn_refused place refused said =
-      single_said tree (turn_course now line) path now a old (λ moment refused x t done said work. work) moves (turn_start now line path (tree.state a)) new NotCarriedOut
+  turn_refused place refused new_messages =
+      single_messages tree (turn_course now line) path now a old (λ moment refused x t done new_messages work. work) moves (turn_start now line path (tree.state a)) new NotCarriedOut
       (refused_after now line path (tree.state a) place refused)
-      (said ∙ ap (λ (xs : List (List ℕ)). old ++ xs) (sym (refused_says now line path (tree.state a) place refused)))
+      (new_messages ∙ ap (λ (xs : List (List ℕ)). old ++ xs) (sym (refused_says now line path (tree.state a) place refused)))
       (ap carried_of (sym (ap is_some refused)))

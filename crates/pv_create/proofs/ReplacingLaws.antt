@@ -1,17 +1,17 @@
 -- What one Rename can replace stands at the path of a line until what is put there comes.
 use Rattle.std.specs.Prelude.{◌≡◌, ◌⊎◌, ℕ, true, false, List, [], take}
 use Rattle.std.proofs.Common.{refl, sym, ap, subst, ◌∙◌, inl, inr}
-use Rattle.pv_dress.specs.declared.operation.Operation.{Operation}
-use Rattle.pv_dress.specs.Dividing.{parts}
-use Rattle.pv_dress.specs.Nodes.{bares_of}
-use Rattle.pv_dress.specs.Operations.{run}
-use Rattle.pv_dress.proofs.OperationLaws.{bares_of-same}
+use Rattle.pv_metadata.specs.declared.operation.Operation.{Operation}
+use Rattle.pv_metadata.specs.Dividing.{parts}
+use Rattle.pv_metadata.specs.Nodes.{object_states_of}
+use Rattle.pv_metadata.specs.Operations.{run}
+use Rattle.pv_metadata.proofs.OperationLaws.{object_states_of-same}
 use Rattle.pv_lines.specs.declared.line.Line.{Line}
 use Rattle.pv_path.specs.Paths.{Path, has_staging}
 use Rattle.pv_steps.specs.Trees.{Files, places, IsTree}
-use Rattle.pv_table.specs.declared.deed.Deed.{Deed}
-use Rattle.pv_table.specs.declared.deed.Deed.TheVariants.{Create, Copy, Touch, Idle}
-use Rattle.pv_table.specs.Asking.{asks}
+use Rattle.pv_table.specs.declared.action.Action.{Action}
+use Rattle.pv_table.specs.declared.action.Action.TheVariants.{Create, Copy, Adjust, Idle}
+use Rattle.pv_table.specs.ActionTable.{action_of}
 use Rattle.pv_table.specs.Effects.{turn_after}
 use Rattle.pv_table.specs.Saying.{found}
 use Rattle.pv_table.specs.Turns.{Turn}
@@ -23,32 +23,32 @@ use Rattle.pv_laws.proofs.Sets.{impossible}
 use Rattle.pv_laws.proofs.Shapes.{tree_shaped}
 use Rattle.pv_create.proofs.BridgeLaws.{none_done}
 
-module _ (now : ℕ) (line : Line) (path : Path) (plain : has_staging path ≡ false) (t u : Files) (tree : IsTree t) (puts : puts_parents (places t) (asks line) ≡ true) (subtree : Subtree)
-    (put : turn_at now line path t ≡ Turn.Put subtree) (can : CanReplace path subtree (found now (asks line) path t)) where
+module _ (now : ℕ) (line : Line) (path : Path) (plain : has_staging path ≡ false) (t u : Files) (tree : IsTree t) (puts : puts_parents (places t) (action_of line) ≡ true) (subtree : Subtree)
+    (put : turn_at now line path t ≡ Turn.Put subtree) (can : CanReplace path subtree (found now (action_of line) path t)) where
   -- nothing is set where something is put
-  unset : (d : Deed) → puts_parents (places t) d ≡ true → sets_at d (Turn.Put subtree) path path ≡ []
+  unset : (d : Action) → puts_parents (places t) d ≡ true → sets_at d (Turn.Put subtree) path path ≡ []
   unset (Create making) h = refl
   unset (Copy copying) h = refl
-  unset (Touch touching) h = impossible h
+  unset (Adjust adjustment) h = impossible h
   unset Idle h = impossible h
 
   -- preparing the path leaves what stands there
-  found_here : (d : Deed) → puts_parents (places t) d ≡ true → bares_of (places (found now d path t)) path ≡ bares_of (places t) path
+  found_here : (d : Action) → puts_parents (places t) d ≡ true → object_states_of (places (found now d path t)) path ≡ object_states_of (places t) path
   found_here (Create making) h = ready_here now path plain t (tree_shaped (places t) tree)
   found_here (Copy copying) h = ready_here now path plain t (tree_shaped (places t) tree)
-  found_here (Touch touching) h = impossible h
+  found_here (Adjust adjustment) h = impossible h
   found_here Idle h = impossible h
 
-  midway_here : IsMidway now line path t path (bares_of (places t) path) (bares_of (places u) path) → bares_of (places u) path ≡ bares_of (places t) path
+  midway_here : IsMidway now line path t path (object_states_of (places t) path) (object_states_of (places u) path) → object_states_of (places u) path ≡ object_states_of (places t) path
   midway_here (IsMidway.set k f) =
-      f ∙ ap (λ (turn : Turn). run (take k (parts (sets_at (asks line) turn path path))) (bares_of (places t) path)) put
-      ∙ ap (λ (xs : List Operation). run (take k (parts xs)) (bares_of (places t) path)) (unset (asks line) puts) ∙ none_done k (bares_of (places t) path)
+      f ∙ ap (λ (turn : Turn). run (take k (parts (sets_at (action_of line) turn path path))) (object_states_of (places t) path)) put
+      ∙ ap (λ (xs : List Operation). run (take k (parts xs)) (object_states_of (places t) path)) (unset (action_of line) puts) ∙ none_done k (object_states_of (places t) path)
   midway_here (IsMidway.parent h above none e) = absurd (above.1 refl)
 
-  pub stands_until : OnWay now line path t u → (bares_of (places u) path ≡ bares_of (places t) path) ⊎ (bares_of (places u) path ≡ bares_of (places (turn_after now line path t)) path)
-  stands_until (OnWay.before same) = inl (sym (bares_of-same (places t) (places u) path (same path plain)))
+  pub stands_until : OnWay now line path t u → (object_states_of (places u) path ≡ object_states_of (places t) path) ⊎ (object_states_of (places u) path ≡ object_states_of (places (turn_after now line path t)) path)
+  stands_until (OnWay.before same) = inl (sym (object_states_of-same (places t) (places u) path (same path plain)))
   stands_until (OnWay.midway free at) = inl (midway_here (at path plain))
   stands_until (OnWay.making_way s free other staged needed at) =
       let same : subtree ≡ s = (let both : Turn.Put subtree ≡ Turn.Put s = sym put ∙ other in cc) in
-      inl (sym (bares_of-same (places (found now (asks line) path t)) (places u) path (needed (subst (λ (x : Subtree). CanReplace path x (found now (asks line) path t)) same can) path plain)) ∙ found_here (asks line) puts)
-  stands_until (OnWay.whole same) = inr (sym (bares_of-same (places (turn_after now line path t)) (places u) path (same path plain)))
+      inl (sym (object_states_of-same (places (found now (action_of line) path t)) (places u) path (needed (subst (λ (x : Subtree). CanReplace path x (found now (action_of line) path t)) same can) path plain)) ∙ found_here (action_of line) puts)
+  stands_until (OnWay.whole same) = inr (sym (object_states_of-same (places (turn_after now line path t)) (places u) path (same path plain)))

@@ -9,15 +9,15 @@ use Rattle.pv_table.proofs.ListedLaws.{left_of, order_at, same_length, there_of}
 use Rattle.pv_lines.specs.declared.line.Line.{Line}
 use Rattle.pv_steps.specs.Trees.{Files}
 use Rattle.pv_table.specs.Active.{ordered, create_order, in_create_order}
-use Rattle.pv_table.specs.Created.{by_line, by_line_that_counts, created, said_of_each, taken_by_each}
+use Rattle.pv_table.specs.Created.{by_line, by_line_that_counts, created, messages_for_each, taken_by_each}
 use Rattle.pv_path.proofs.Tests.{on_ok}
 
 -- ---- a refusal that does not count changes nothing else
 
 module _ (now : ℕ) where
-  pub counting_says : (lines : List Line) (t : Files) → said_of_each (by_line_that_counts now) lines t ≡ said_of_each (by_line now) lines t
+  pub counting_says : (lines : List Line) (t : Files) → messages_for_each (by_line_that_counts now) lines t ≡ messages_for_each (by_line now) lines t
   counting_says [] t = refl
-  counting_says (line ∷ lines) t = ap (λ said. (by_line now).says line t ++ said) (counting_says lines ((by_line now).after line t))
+  counting_says (line ∷ lines) t = ap (λ new_messages. (by_line now).says line t ++ new_messages) (counting_says lines ((by_line now).after line t))
 
   pub counting_takes : (lines : List Line) (t : Files) → taken_by_each (by_line_that_counts now) lines t ≡ taken_by_each (by_line now) lines t
   counting_takes [] t = refl

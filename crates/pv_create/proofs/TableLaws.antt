@@ -4,13 +4,13 @@ use Rattle.std.specs.List.{AllByRecursion}
 use Rattle.std.specs.Option.{option_map_or}
 use Rattle.std.proofs.Common.{refl, sym, ap, subst, ◌∙◌, arith}
 use Rattle.std.proofs.lemmas.Bool.Decides.{nat_tests}
-use Rattle.pv_dress.specs.declared.operation.Guard.{Guard}
-use Rattle.pv_dress.specs.declared.operation.Guard.TheVariants.{Only}
-use Rattle.pv_dress.specs.declared.operation.Change.TheVariants.{Mode, Owner}
-use Rattle.pv_dress.specs.declared.operation.Operation.TheVariants.{Adjust}
-use Rattle.pv_dress.specs.declared.operation.Test.{Test}
-use Rattle.pv_dress.specs.Nodes.{is_file, is_link}
-use Rattle.pv_dress.specs.Operations.{admits}
+use Rattle.pv_metadata.specs.declared.operation.Guard.{Guard}
+use Rattle.pv_metadata.specs.declared.operation.Guard.TheVariants.{Only}
+use Rattle.pv_metadata.specs.declared.operation.Change.TheVariants.{Mode, Owner}
+use Rattle.pv_metadata.specs.declared.operation.Operation.TheVariants.{Apply}
+use Rattle.pv_metadata.specs.declared.operation.Test.{Test}
+use Rattle.pv_metadata.specs.Nodes.{is_file, is_link}
+use Rattle.pv_metadata.specs.Operations.{admits}
 use Rattle.pv_lines.specs.declared.line.Argument.{Argument}
 use Rattle.pv_lines.specs.declared.line.Argument.TheVariants as argument
 use Rattle.pv_lines.specs.declared.line.Line.{Line}
@@ -28,13 +28,13 @@ use Rattle.pv_steps.specs.Objects.{IsId, is_directory}
 use Rattle.pv_walk.specs.declared.new_file.NewKind.{NewKind}
 use Rattle.pv_walk.specs.declared.new_file.NewKind.TheVariants as new
 use Rattle.pv_walk.specs.Staging.{HasTarget, new_kind}
-use Rattle.pv_table.specs.declared.deed.Deed.{Deed}
-use Rattle.pv_table.specs.declared.deed.Deed.TheVariants.{Create, Copy, Touch, Idle}
-use Rattle.pv_table.specs.declared.deed.Making.{Making}
-use Rattle.pv_table.specs.Asking.{asks, bytes_of, contents_to_set, deeds, device, id_for_new, id_to_set, link_to, mode_for_new, mode_to_set, owners_and_mode, renewal, without_links}
-use Rattle.pv_table.specs.Asking.{making as makes}
+use Rattle.pv_table.specs.declared.action.Action.{Action}
+use Rattle.pv_table.specs.declared.action.Action.TheVariants.{Create, Copy, Adjust, Idle}
+use Rattle.pv_table.specs.declared.action.Making.{Making}
+use Rattle.pv_table.specs.ActionTable.{action_of, bytes_of, contents_to_set, actions, device, id_for_new, id_to_set, link_to, mode_for_new, mode_to_set, owners_and_mode, renewal, without_links}
+use Rattle.pv_table.specs.ActionTable.{making as makes}
 use Rattle.pv_create.specs.Sets.{AreSets, AtMostOne, SetsMode}
-use Rattle.pv_create.specs.Deeds.{IsMaking}
+use Rattle.pv_create.specs.Actions.{IsMaking}
 use Rattle.pv_create.proofs.AskedSets.{owner_ids, sets_contents}
 
 -- ---- rows
@@ -88,12 +88,12 @@ pub named : {A : Type 0} (o : Option A) (P : A → Type 0) → IfSome o P → (x
 named None P h x e = absurd (let clash : None ≡ Some x = e in cc)
 named (Some y) P h x e = subst P (let same : Some y ≡ Some x = e in let it : y ≡ x = cc in it) h
 
--- no other deed is one that makes
+-- no other action is one that makes
 no_copy : (line : Line) (making : Making) (x : _) → Copy x ≡ Create making → IsMaker line making
 no_copy line making x e = absurd (let no : Copy x ≡ Create making = e in cc)
 
-no_touch : (line : Line) (making : Making) (x : _) → Touch x ≡ Create making → IsMaker line making
-no_touch line making x e = absurd (let no : Touch x ≡ Create making = e in cc)
+no_adjust : (line : Line) (making : Making) (x : _) → Adjust x ≡ Create making → IsMaker line making
+no_adjust line making x e = absurd (let no : Adjust x ≡ Create making = e in cc)
 
 link_target : (a : Argument) → IfSome (type_of 76) (λ row. IsArgument row.wanted a → HasTarget (link_to a))
 link_target (argument.Target target) = λ h. h
@@ -122,7 +122,7 @@ no_root e = absurd (let no : false ≡ true = e in cc)
 
 module _ (line : Line) (making : Making) where
   -- files, directories, FIFOs, links and devices are made
-  rows : AllByRecursion (λ (row : ℕ × (Line → Deed)). (row.0 == line.letter) ≡ true → row.1 line ≡ Create making → IsMaker line making) deeds
+  rows : AllByRecursion (λ (row : ℕ × (Line → Action)). (row.0 == line.letter) ≡ true → row.1 line ≡ Create making → IsMaker line making) actions
   rows = (
     maker line making 102 (new.File (bytes_of line.argument)) (refl, (λ a. tt, λ e. no_root e)),
     (
@@ -146,25 +146,25 @@ module _ (line : Line) (making : Making) where
                       (
                         λ same e. no_copy line making _ e,
                         (
-                          λ same e. no_touch line making _ e,
+                          λ same e. no_adjust line making _ e,
                           (
-                            λ same e. no_touch line making _ e,
+                            λ same e. no_adjust line making _ e,
                             (
-                              λ same e. no_touch line making _ e,
+                              λ same e. no_adjust line making _ e,
                               (
-                                λ same e. no_touch line making _ e,
+                                λ same e. no_adjust line making _ e,
                                 (
-                                  λ same e. no_touch line making _ e,
+                                  λ same e. no_adjust line making _ e,
                                   (
-                                    λ same e. no_touch line making _ e,
+                                    λ same e. no_adjust line making _ e,
                                     (
-                                      λ same e. no_touch line making _ e,
+                                      λ same e. no_adjust line making _ e,
                                       (
-                                        λ same e. no_touch line making _ e,
+                                        λ same e. no_adjust line making _ e,
                                         (
-                                          λ same e. no_touch line making _ e,
+                                          λ same e. no_adjust line making _ e,
                                           (
-                                            λ same e. no_touch line making _ e,
+                                            λ same e. no_adjust line making _ e,
                                             tt,
                                           ),
                                         ),
@@ -188,14 +188,14 @@ module _ (line : Line) (making : Making) where
     ),
   )
 
-  line_maker : asks line ≡ Create making → IsMaker line making
-  line_maker asked = by (find (λ (row : ℕ × (Line → Deed)). row.0 == line.letter) deeds) refl asked
+  line_maker : action_of line ≡ Create making → IsMaker line making
+  line_maker asked = by (find (λ (row : ℕ × (Line → Action)). row.0 == line.letter) actions) refl asked
     where
-      by : (r : Option (ℕ × (Line → Deed))) → find (λ (row : ℕ × (Line → Deed)). row.0 == line.letter) deeds ≡ r
-          → option_map_or (λ (row : ℕ × (Line → Deed)). row.1 line) r Idle ≡ Create making → IsMaker line making
+      by : (r : Option (ℕ × (Line → Action))) → find (λ (row : ℕ × (Line → Action)). row.0 == line.letter) actions ≡ r
+          → option_map_or (λ (row : ℕ × (Line → Action)). row.1 line) r Idle ≡ Create making → IsMaker line making
       by None is e = absurd (let no : Idle ≡ Create making = e in cc)
       by (Some row) is e =
-          found (λ (r : ℕ × (Line → Deed)). r.0 == line.letter) (λ (r : ℕ × (Line → Deed)). r.1 line ≡ Create making → IsMaker line making) deeds rows row is e
+          found (λ (r : ℕ × (Line → Action)). r.0 == line.letter) (λ (r : ℕ × (Line → Action)). r.1 line ≡ Create making → IsMaker line making) actions rows row is e
 
 -- ---- what is made
 
@@ -216,7 +216,7 @@ pub mode_set_by : (guard : Guard) → admits guard Link ≡ false → (field : O
 mode_set_by guard unlinked None h = tt
 mode_set_by guard unlinked (Some mode) h = by mode.new_only
   where
-    by : (b : Bool) → AtMostOne SetsMode (if b then [] else Adjust guard (Mode mode.value mode.masked) ∷ [])
+    by : (b : Bool) → AtMostOne SetsMode (if b then [] else Apply guard (Mode mode.value mode.masked) ∷ [])
     by true = tt
     by false = (unlinked, h)
 
@@ -233,7 +233,7 @@ mode_set_fits BlockDevice field h = mode_set_by (Only BlockDevice) refl field h
 sets_fit : (line : Line) (kind : Kind) → AreIds line.user → AreIds line.group → IfSome line.mode (λ mode. mode.value ≤ 0o7777)
     → AreSets (contents_to_set line kind ++ owners_and_mode (Only kind) line)
 sets_fit line kind user group mode =
-    AreSets.several (contents_to_set line kind) (Adjust (Only kind) (Owner (id_to_set line.user) (id_to_set line.group)) ∷ []) (mode_to_set line.mode (without_links (Only kind)))
+    AreSets.several (contents_to_set line kind) (Apply (Only kind) (Owner (id_to_set line.user) (id_to_set line.group)) ∷ []) (mode_to_set line.mode (without_links (Only kind)))
     refl (sets_contents line kind) (owner_ids line.user user, owner_ids line.group group) (mode_set_fits kind line.mode mode)
 
 renewal_plain : (line : Line) (kind : Kind) → line.plus ≡ false → option_map_or (λ (test : Test). test.exact) (renewal line kind) false ≡ false
@@ -259,7 +259,7 @@ pub record IsMakingLine (line : Line) (making : Making) : Type 0 where
   pub configured : IsConfigured path
   pub made : IsMaking path making
 
-pub line_making : (line : Line) (making : Making) → IsLine line → asks line ≡ Create making → IsMakingLine line making
+pub line_making : (line : Line) (making : Making) → IsLine line → action_of line ≡ Create making → IsMakingLine line making
 line_making line making is asked = by line.path refl is.fits.path
   where
     one : IsMaker line making

@@ -6,27 +6,27 @@ use Rattle.std.proofs.lemmas.Option.{same_Some}
 use Rattle.std.proofs.lemmas.Bool.{or_parts}
 use Rattle.pv_steps.specs.Attributes.{put_attrs}
 use Rattle.pv_steps.specs.Letters.{letters_after}
-use Rattle.pv_dress.specs.declared.bare.Bare.{Bare}
-use Rattle.pv_dress.specs.declared.operation.Change.{Change}
-use Rattle.pv_dress.specs.declared.operation.Change.TheVariants.{Write, Append, Owner, Mode, Entries, Attrs, Letters}
-use Rattle.pv_dress.specs.declared.operation.Guard.{Guard}
-use Rattle.pv_dress.specs.declared.operation.Operation.{Operation}
-use Rattle.pv_dress.specs.declared.operation.Operation.TheVariants.{Adjust}
-use Rattle.pv_dress.specs.Nodes.{carries_letters, is_file, is_link}
-use Rattle.pv_dress.specs.Operations.{admits, changed, run}
-use Rattle.pv_dress.specs.Reasons.{is_adjusting}
-use Rattle.pv_dress.proofs.OperationLaws.{run-append}
+use Rattle.pv_metadata.specs.declared.object_state.ObjectState.{ObjectState}
+use Rattle.pv_metadata.specs.declared.operation.Change.{Change}
+use Rattle.pv_metadata.specs.declared.operation.Change.TheVariants.{Write, Append, Owner, Mode, Entries, Attrs, Letters}
+use Rattle.pv_metadata.specs.declared.operation.Guard.{Guard}
+use Rattle.pv_metadata.specs.declared.operation.Operation.{Operation}
+use Rattle.pv_metadata.specs.declared.operation.Operation.TheVariants.{Apply}
+use Rattle.pv_metadata.specs.Nodes.{carries_letters, is_file, is_link}
+use Rattle.pv_metadata.specs.Operations.{admits, changed, run}
+use Rattle.pv_metadata.specs.Reasons.{is_adjusting}
+use Rattle.pv_metadata.proofs.OperationLaws.{run-append}
 use Rattle.pv_create.specs.Sets.{is_writing, writes, AreSets, AtMostOne, SetsBytes, SetsOwners, SetsMode}
 use Rattle.pv_create.proofs.Making.{with_payload, BytesMade, OwnersMade, bytes_made, owners_made, mode_made}
 
 -- ---- one operation
 
 -- what a list makes of an object with other bytes is what it makes of the object, with these bytes
-abbrev pub Blind : List Operation → Bare → Type 0
+abbrev pub Blind : List Operation → ObjectState → Type 0
 Blind xs b = (p : List ℕ) → run xs (Some (with_payload p b)) ≡ option_map (with_payload p) (run xs (Some b))
 
-module _ (guard : Guard) (b : Bare) where
-  by_guard : (f : Bare → Bare) → ((p : List ℕ) → f (with_payload p b) ≡ with_payload p (f b)) → (p : List ℕ)
+module _ (guard : Guard) (b : ObjectState) where
+  by_guard : (f : ObjectState → ObjectState) → ((p : List ℕ) → f (with_payload p b) ≡ with_payload p (f b)) → (p : List ℕ)
       → Some (if admits guard b.body.kind then f (with_payload p b) else with_payload p b) ≡ Some (with_payload p (if admits guard b.body.kind then f b else b))
   by_guard f past p = by (admits guard b.body.kind)
     where
@@ -46,19 +46,19 @@ module _ (guard : Guard) (b : Bare) where
   blind_attrs : (attrs : _) → (p : List ℕ) → changed b.body.kind (Attrs attrs) (with_payload p b) ≡ with_payload p (changed b.body.kind (Attrs attrs) b)
   blind_attrs attrs p = by (is_link b.body.kind)
     where
-      by : (t : Bool) → (if t then with_payload p b else record (with_payload p b) { dress = record b.dress { attrs = put_attrs attrs b.dress.attrs } }) ≡ with_payload p (if t then b else record b { dress = record b.dress { attrs = put_attrs attrs b.dress.attrs } })
+      by : (t : Bool) → (if t then with_payload p b else record (with_payload p b) { metadata = record b.metadata { attrs = put_attrs attrs b.metadata.attrs } }) ≡ with_payload p (if t then b else record b { metadata = record b.metadata { attrs = put_attrs attrs b.metadata.attrs } })
       by true = refl
       by false = refl
 
   blind_letters : (how : _) (letters : ℕ) → (p : List ℕ) → changed b.body.kind (Letters how letters) (with_payload p b) ≡ with_payload p (changed b.body.kind (Letters how letters) b)
   blind_letters how letters p = by (carries_letters b.body.kind)
     where
-      by : (t : Bool) → (if t then record (with_payload p b) { dress = record b.dress { letters = letters_after how letters b.dress.letters } } else with_payload p b)
-          ≡ with_payload p (if t then record b { dress = record b.dress { letters = letters_after how letters b.dress.letters } } else b)
+      by : (t : Bool) → (if t then record (with_payload p b) { metadata = record b.metadata { letters = letters_after how letters b.metadata.letters } } else with_payload p b)
+          ≡ with_payload p (if t then record b { metadata = record b.metadata { letters = letters_after how letters b.metadata.letters } } else b)
       by true = refl
       by false = refl
 
-  blind_change : (change : Change) → (is_writing change ≡ false) ⊎ (is_file b.body.kind ≡ false) → Blind (Adjust guard change ∷ []) b
+  blind_change : (change : Change) → (is_writing change ≡ false) ⊎ (is_file b.body.kind ≡ false) → Blind (Apply guard change ∷ []) b
   blind_change (Write bytes) (inl e) = absurd (let wrong : true ≡ false = e in cc)
   blind_change (Write bytes) (inr e) = by_guard (changed b.body.kind (Write bytes)) (no_file (λ p. bytes) e)
   blind_change (Append bytes) (inl e) = absurd (let wrong : true ≡ false = e in cc)
@@ -76,30 +76,30 @@ or_false : (a : Bool) → (a || false) ≡ false → a ≡ false
 or_false true e = e
 or_false false e = e
 
-blind_most : (is : Guard → Change → Type 0) (xs : List Operation) → AtMostOne is xs → (b : Bare) → (writes xs ≡ false) ⊎ (is_file b.body.kind ≡ false) → Blind xs b
+blind_most : (is : Guard → Change → Type 0) (xs : List Operation) → AtMostOne is xs → (b : ObjectState) → (writes xs ≡ false) ⊎ (is_file b.body.kind ≡ false) → Blind xs b
 blind_most is [] h b none = λ p. refl
-blind_most is (Adjust guard change ∷ []) h b (inl e) = blind_change guard b change (inl (or_false (is_writing change) e))
-blind_most is (Adjust guard change ∷ []) h b (inr e) = blind_change guard b change (inr e)
+blind_most is (Apply guard change ∷ []) h b (inl e) = blind_change guard b change (inl (or_false (is_writing change) e))
+blind_most is (Apply guard change ∷ []) h b (inr e) = blind_change guard b change (inr e)
 blind_most is (x ∷ []) h b none = absurd h
 blind_most is (x ∷ y ∷ xs) h b none = absurd h
 
-blind_append : (xs ys : List Operation) (b n : Bare) → run xs (Some b) ≡ Some n → Blind xs b → Blind ys n → Blind (xs ++ ys) b
+blind_append : (xs ys : List Operation) (b n : ObjectState) → run xs (Some b) ≡ Some n → Blind xs b → Blind ys n → Blind (xs ++ ys) b
 blind_append xs ys b n e f g = λ p.
-    run-append xs ys (Some (with_payload p b)) ∙ ap (λ (o : Option Bare). run ys o) (f p ∙ ap (option_map (with_payload p)) e) ∙ g p
-    ∙ ap (option_map (with_payload p)) (ap (λ (o : Option Bare). run ys o) (sym e) ∙ sym (run-append xs ys (Some b)))
+    run-append xs ys (Some (with_payload p b)) ∙ ap (λ (o : Option ObjectState). run ys o) (f p ∙ ap (option_map (with_payload p)) e) ∙ g p
+    ∙ ap (option_map (with_payload p)) (ap (λ (o : Option ObjectState). run ys o) (sym e) ∙ sym (run-append xs ys (Some b)))
 
-module _ (bytes owners mode : List Operation) (first : AtMostOne SetsBytes bytes) (second : AtMostOne SetsOwners owners) (third : AtMostOne SetsMode mode) (b : Bare) where
+module _ (bytes owners mode : List Operation) (first : AtMostOne SetsBytes bytes) (second : AtMostOne SetsOwners owners) (third : AtMostOne SetsMode mode) (b : ObjectState) where
   abbrev made : BytesMade bytes b
   made = bytes_made bytes first b
 
-  abbrev with_bytes : Bare
+  abbrev with_bytes : ObjectState
   with_bytes = with_payload made.payload b
 
   abbrev owned : OwnersMade owners with_bytes
   owned = owners_made owners second with_bytes
 
-  abbrev with_owners : Bare
-  with_owners = record with_bytes { dress = record with_bytes.dress { uid = owned.uid; gid = owned.gid } }
+  abbrev with_owners : ObjectState
+  with_owners = record with_bytes { metadata = record with_bytes.metadata { uid = owned.uid; gid = owned.gid } }
 
   parts_unwritten : writes (bytes ++ (owners ++ mode)) ≡ false → (writes bytes ≡ false) × ((writes owners ≡ false) × (writes mode ≡ false))
   parts_unwritten e =
@@ -116,34 +116,34 @@ module _ (bytes owners mode : List Operation) (first : AtMostOne SetsBytes bytes
       blind_append bytes (owners ++ mode) b with_bytes made.is (blind_most SetsBytes bytes first b (inr e))
       (blind_append owners mode with_bytes with_owners owned.is (blind_most SetsOwners owners second with_bytes (inr e)) (blind_most SetsMode mode third with_owners (inr e)))
 
-  some_several : (new : Bare) × (run (bytes ++ (owners ++ mode)) (Some b) ≡ Some new)
+  some_several : (new : ObjectState) × (run (bytes ++ (owners ++ mode)) (Some b) ≡ Some new)
   some_several =
       let moded = mode_made mode third with_owners in (
-        record with_owners { dress = record with_owners.dress { special = moded.special; acl = record with_owners.dress.acl { access = moded.access } } },
-        run-append bytes (owners ++ mode) (Some b) ∙ ap (λ (o : Option Bare). run (owners ++ mode) o) made.is
-            ∙ run-append owners mode (Some with_bytes) ∙ ap (λ (o : Option Bare). run mode o) owned.is ∙ moded.is,
+        record with_owners { metadata = record with_owners.metadata { special = moded.special; acl = record with_owners.metadata.acl { access = moded.access } } },
+        run-append bytes (owners ++ mode) (Some b) ∙ ap (λ (o : Option ObjectState). run (owners ++ mode) o) made.is
+            ∙ run-append owners mode (Some with_bytes) ∙ ap (λ (o : Option ObjectState). run mode o) owned.is ∙ moded.is,
       )
 
-blind_sets : (sets : List Operation) → AreSets sets → (b : Bare) → (writes sets ≡ false) ⊎ (is_file b.body.kind ≡ false) → Blind sets b
+blind_sets : (sets : List Operation) → AreSets sets → (b : ObjectState) → (writes sets ≡ false) ⊎ (is_file b.body.kind ≡ false) → Blind sets b
 blind_sets sets (AreSets.several bytes owners mode e one two three) b none =
     subst (λ (xs : List Operation). Blind xs b) (sym e) (blind_several bytes owners mode one two three b (subst (λ (xs : List Operation). (writes xs ≡ false) ⊎ (is_file b.body.kind ≡ false)) e none))
 blind_sets sets (AreSets.alone h) b none = blind_most _ sets h b none
 
-some_most : (is : Guard → Change → Type 0) (xs : List Operation) → AtMostOne is xs → (b : Bare) → (new : Bare) × (run xs (Some b) ≡ Some new)
+some_most : (is : Guard → Change → Type 0) (xs : List Operation) → AtMostOne is xs → (b : ObjectState) → (new : ObjectState) × (run xs (Some b) ≡ Some new)
 some_most is [] h b = (b, refl)
-some_most is (Adjust guard change ∷ []) h b = (if admits guard b.body.kind then changed b.body.kind change b else b, refl)
+some_most is (Apply guard change ∷ []) h b = (if admits guard b.body.kind then changed b.body.kind change b else b, refl)
 some_most is (x ∷ []) h b = absurd h
 some_most is (x ∷ y ∷ xs) h b = absurd h
 
 -- what is set of an object leaves an object
-pub set_stays : (sets : List Operation) → AreSets sets → (b : Bare) → (new : Bare) × (run sets (Some b) ≡ Some new)
+pub set_stays : (sets : List Operation) → AreSets sets → (b : ObjectState) → (new : ObjectState) × (run sets (Some b) ≡ Some new)
 set_stays sets (AreSets.several bytes owners mode e one two three) b =
     let some = some_several bytes owners mode one two three b in
     (some.0, ap (λ (xs : List Operation). run xs (Some b)) e ∙ some.1)
 set_stays sets (AreSets.alone h) b = some_most _ sets h b
 
 -- what sets that write no bytes make of an object is told by one with other bytes
-pub unwritten : (sets : List Operation) → AreSets sets → (b : Bare) (p : List ℕ) → (writes sets ≡ false) ⊎ (is_file b.body.kind ≡ false) → (new : Bare) → run sets (Some (with_payload p b)) ≡ Some new
+pub unwritten : (sets : List Operation) → AreSets sets → (b : ObjectState) (p : List ℕ) → (writes sets ≡ false) ⊎ (is_file b.body.kind ≡ false) → (new : ObjectState) → run sets (Some (with_payload p b)) ≡ Some new
     → run sets (Some b) ≡ Some (with_payload b.body.payload new)
 unwritten sets are b p none new e =
     let blind = blind_sets sets are b none in

@@ -9,15 +9,15 @@ use Rattle.pv_steps.specs.declared.node.Kind.TheVariants.{File}
 use Rattle.pv_steps.specs.declared.object.Object.{Object}
 use Rattle.pv_steps.specs.declared.step.Step.TheVariants.{Write}
 use Rattle.pv_steps.specs.declared.tree.TreeFault.{TreeFault}
-use Rattle.pv_steps.specs.Objects.{bare, with_content}
-use Rattle.pv_steps.specs.Same.{bares, Differ}
+use Rattle.pv_steps.specs.Objects.{object_state, with_content}
+use Rattle.pv_steps.specs.Same.{object_states, Differ}
 use Rattle.pv_steps.specs.Steps.{on_at, after}
 use Rattle.pv_steps.specs.Trees.{Files, Places, places, kind_of, payload_at, IsKind}
 use Rattle.pv_steps.proofs.ActingLaws.{Asks}
 use Rattle.pv_steps.proofs.StepLaws.{at_after}
-use Rattle.pv_dress.specs.Dressing.{IsKeptBy, Lacks}
-use Rattle.pv_dress.specs.Changing.{Changing}
-use Rattle.pv_dress.proofs.EditLaws.{path_cases, bares-on_at, on_at-else, on_at-here}
+use Rattle.pv_metadata.specs.SettingMetadata.{IsKeptBy, Lacks}
+use Rattle.pv_metadata.specs.Changing.{Changing}
+use Rattle.pv_metadata.proofs.EditLaws.{path_cases, object_states-on_at, on_at-else, on_at-here}
 use Rattle.pv_create.specs.Adjusting.{GivesBytes, holding, written}
 
 -- ---- nothing to write
@@ -79,17 +79,17 @@ module _ (path : Path) (t : Files) (file : IsKind File t path) (own bytes : List
     not_kept kept = others (sym (ap (λ (y : Object). y.payload) (kept o there)))
 
     busy : Differ t (after t (Write path bytes) now)
-    busy = (path, λ e. others (ap (λ (y : Object). y.payload) (same_Some (bare o) (bare (with_content bytes now o)) (sym (ap (option_map bare) there) ∙ e ∙ after_is))))
+    busy = (path, λ e. others (ap (λ (y : Object). y.payload) (same_Some (object_state o) (object_state (with_content bytes now o)) (sym (ap (option_map object_state) there) ∙ e ∙ after_is))))
       where
-        after_is : bares (places (after t (Write path bytes) now)) path ≡ Some (bare (with_content bytes now o))
-        after_is = ap (λ p. bares p path) (at_after t (Write path bytes) now) ∙ ap (option_map bare) (on_at-here path (with_content bytes now) (places t) ∙ ap (option_map (with_content bytes now)) there)
+        after_is : object_states (places (after t (Write path bytes) now)) path ≡ Some (object_state (with_content bytes now o))
+        after_is = ap (λ p. object_states p path) (at_after t (Write path bytes) now) ∙ ap (option_map object_state) (on_at-here path (with_content bytes now) (places t) ∙ ap (option_map (with_content bytes now)) there)
 
     pub asks_bytes : Asks (Changing path (holding (Some bytes)) t) (GivesBytes path bytes t) t (Write path bytes) now
     asks_bytes = record {
       start = inl (λ q. refl);
       can = file;
       busy = busy;
-      there = λ u is. inr (λ q. ap (λ p. bares p q) (ap places is ∙ at_after t (Write path bytes) now) ∙ bares-on_at path (with_content bytes now) (holding (Some bytes)) (λ x. refl) (places t) q);
+      there = λ u is. inr (λ q. ap (λ p. object_states p q) (ap places is ∙ at_after t (Write path bytes) now) ∙ object_states-on_at path (with_content bytes now) (holding (Some bytes)) (λ x. refl) (places t) q);
       gives = (refl, lacks_bytes);
     }
 

@@ -10,20 +10,20 @@ use Rattle.pv_steps.specs.declared.step.Step.{Step}
 use Rattle.pv_steps.specs.declared.step.Step.TheVariants.{Write}
 use Rattle.pv_steps.specs.Objects.{with_content}
 use Rattle.pv_steps.specs.Trees.{Files, places}
-use Rattle.pv_dress.specs.declared.bare.Bare.{Bare}
-use Rattle.pv_dress.specs.declared.bare.Dress.{Dress}
-use Rattle.pv_dress.specs.declared.operation.Operation.{Operation}
-use Rattle.pv_dress.specs.Dividing.{parts}
-use Rattle.pv_dress.specs.Dressing.{Lacks, GivesDress}
-use Rattle.pv_dress.specs.Nodes.{bare_of, bares_of}
-use Rattle.pv_dress.specs.Operations.{run}
+use Rattle.pv_metadata.specs.declared.object_state.ObjectState.{ObjectState}
+use Rattle.pv_metadata.specs.declared.object_state.Metadata.{Metadata}
+use Rattle.pv_metadata.specs.declared.operation.Operation.{Operation}
+use Rattle.pv_metadata.specs.Dividing.{parts}
+use Rattle.pv_metadata.specs.SettingMetadata.{Lacks, GivesMetadata}
+use Rattle.pv_metadata.specs.Nodes.{object_state_of, object_states_of}
+use Rattle.pv_metadata.specs.Operations.{run}
 use Rattle.pv_create.specs.declared.wanted.Wanted.{Wanted}
 
 -- on the way, stamps aside: the first of the sets, in parts, are done to the object at the path, and nothing else has
 -- changed
 abbrev pub Adjusting : Path → List Operation → Files → Files → Type 0
 Adjusting path sets t u =
-    (k : ℕ) × ((q : Path) → bares_of (places u) q ≡ (if same_path path q then run (take k (parts sets)) (bares_of (places t) q) else bares_of (places t) q))
+    (k : ℕ) × ((q : Path) → object_states_of (places u) q ≡ (if same_path path q then run (take k (parts sets)) (object_states_of (places t) q) else object_states_of (places t) q))
 
 -- a step gives the file at the path bytes that it lacks
 abbrev pub GivesBytes : Path → List ℕ → Files → Step → Type 0
@@ -32,16 +32,16 @@ GivesBytes path bytes t step = (step ≡ Write path bytes) × Lacks (λ o. o.pay
 -- a step gives the object at the path a part of what it is to be when all is set: bytes, owners, mode, ACL, extended
 -- attributes or letters
 pub record GivesSet (path : Path) (sets : List Operation) (t : Files) (step : Step) : Type 0 where
-  pub new : Bare
-  pub is : run sets (bares_of (places t) path) ≡ Some new
-  pub gives : GivesBytes path new.body.payload t step ⊎ GivesDress path new.dress t step
+  pub new : ObjectState
+  pub is : run sets (object_states_of (places t) path) ≡ Some new
+  pub gives : GivesBytes path new.body.payload t step ⊎ GivesMetadata path new.metadata t step
 
--- an object has the owners and the special bits of a dress
-abbrev pub HasBase : Dress → Node → Type 0
+-- an object has the owners and the special bits of metadata
+abbrev pub HasBase : Metadata → Node → Type 0
 HasBase new node = (node.uid ≡ new.uid) × ((node.gid ≡ new.gid) × (node.special ≡ new.special))
 
--- an object has all of a dress
-pub record Wears (new : Dress) (node : Node) : Type 0 where
+-- an object has all of metadata
+pub record Wears (new : Metadata) (node : Node) : Type 0 where
   pub base : HasBase new node
   pub acl : node.acl ≡ new.acl
   pub attrs : node.attrs ≡ new.attrs
@@ -64,10 +64,10 @@ abbrev pub GivesWanted : Path → Option (List ℕ) → Files → Step → Type 
 GivesWanted path None t step = ⊥
 GivesWanted path (Some bytes) t step = GivesBytes path bytes t step
 
--- what an object is to have when all is set: its dress, and the bytes of a file where bytes are among it
+-- what an object is to have when all is set: its metadata, and the bytes of a file where bytes are among it
 pub record IsWanted (sets : List Operation) (o : Object) (wanted : Wanted) : Type 0 where
-  pub new : Bare
-  pub is : run sets (Some (bare_of o)) ≡ Some new
-  pub dress : wanted.dress ≡ new.dress
+  pub new : ObjectState
+  pub is : run sets (Some (object_state_of o)) ≡ Some new
+  pub metadata : wanted.metadata ≡ new.metadata
   pub bytes : (holding wanted.bytes o).payload ≡ new.body.payload
   pub file : (wanted.bytes ≡ None) ⊎ (o.node.kind ≡ File)

@@ -1,7 +1,7 @@
 pub mod Sets
 pub mod Adjusting
 pub mod Reached
-pub mod Deeds
+pub mod Actions
 pub mod Refusing
 pub mod Deciding
 pub mod Turning

@@ -3,9 +3,9 @@
 use Rattle.std.specs.Prelude.{◌≡◌, ℕ, false, List, take, Some}
 use Rattle.std.specs.FinMap as fin
 use Rattle.std.specs.List.{list_any, AllByRecursion}
-use Rattle.pv_dress.specs.declared.bare.Bare.{Bare}
-use Rattle.pv_dress.specs.Dressing.{dress_mode}
-use Rattle.pv_dress.specs.Nodes.{bares_of}
+use Rattle.pv_metadata.specs.declared.object_state.ObjectState.{ObjectState}
+use Rattle.pv_metadata.specs.SettingMetadata.{metadata_mode}
+use Rattle.pv_metadata.specs.Nodes.{object_states_of}
 use Rattle.pv_lines.specs.declared.line.Line.{Line}
 use Rattle.pv_path.specs.Paths.{Path, has_staging}
 use Rattle.pv_steps.specs.declared.node.Kind.TheVariants.{Directory, File, Link, Fifo}
@@ -17,7 +17,7 @@ use Rattle.pv_steps.specs.Trees.{Files, places}
 use Rattle.pv_laws.specs.Between.{IsOnTheWay}
 use Rattle.pv_laws.specs.Moments.{Agree}
 use Rattle.pv_table.specs.Created.{IsQuiet}
-use Rattle.pv_table.specs.Pointwise.{Bares, state}
+use Rattle.pv_table.specs.Pointwise.{ObjectStates, state}
 use Rattle.pv_table.specs.Reaching.{governs}
 use Rattle.pv_table.specs.Repeatable.{IsRepeatable}
 
@@ -25,43 +25,43 @@ use Rattle.pv_table.specs.Repeatable.{IsRepeatable}
 -- was refused; stamps and staging names aside
 abbrev pub IsFramed : List Line → ℕ → Files → List Step → Type 0
 IsFramed lines now t steps = (n : ℕ) (q : Path) → has_staging q ≡ false → list_any (λ line. governs line q) lines ≡ false →
-    bares_of (places (after_all t (take n steps) now)) q ≡ bares_of (places t) q
+    object_states_of (places (after_all t (take n steps) now)) q ≡ object_states_of (places t) q
 
 -- where no line has a reason, and a whole run refuses none at a turn, each path is there as after some lines or after one
 -- more, as far as walks look at it
 abbrev pub IsStoppedBetween : List Line → ℕ → Files → List Step → Type 0
-IsStoppedBetween lines now t steps = (n : ℕ) (s : Bares) → IsRepeatable lines → IsQuiet lines now t → Agree s t →
+IsStoppedBetween lines now t steps = (n : ℕ) (s : ObjectStates) → IsRepeatable lines → IsQuiet lines now t → Agree s t →
     IsOnTheWay lines s (after_all t (take n steps) now)
 
 -- ---- single steps
 
 -- a Make step makes an object of the kind, the target and the numbers that an object has; a Write or Set step gives its node
 -- what the object has; no step sets stamps, and any other gives nothing
-abbrev pub Gives : Bare → Step → Type 0
+abbrev pub Gives : ObjectState → Step → Type 0
 Gives b (MakeDir at) = b.body.kind ≡ Directory
 Gives b (MakeFile at) = b.body.kind ≡ File
 Gives b (MakeFifo at) = b.body.kind ≡ Fifo
 Gives b (MakeDevice at block major minor) = (b.body.kind ≡ device_kind block) × ((b.body.major ≡ major) × (b.body.minor ≡ minor))
 Gives b (MakeLink at target) = (b.body.kind ≡ Link) × (b.body.payload ≡ target)
 Gives b (Write at content) = b.body.payload ≡ content
-Gives b (SetOwner at uid gid) = (uid ≡ b.dress.uid) × (gid ≡ b.dress.gid)
-Gives b (SetMode at mode) = mode ≡ dress_mode b.dress
-Gives b (SetAcl at acl) = acl ≡ b.dress.acl
-Gives b (SetAttrs at attrs) = attrs ≡ b.dress.attrs
-Gives b (SetLetters at letters) = letters ≡ b.dress.letters
+Gives b (SetOwner at uid gid) = (uid ≡ b.metadata.uid) × (gid ≡ b.metadata.gid)
+Gives b (SetMode at mode) = mode ≡ metadata_mode b.metadata
+Gives b (SetAcl at acl) = acl ≡ b.metadata.acl
+Gives b (SetAttrs at attrs) = attrs ≡ b.metadata.attrs
+Gives b (SetLetters at letters) = letters ≡ b.metadata.letters
 Gives b (SetStamps at access modify) = ⊥
 Gives b step = Unit {0}
 
 -- what stands at one path after some of the lines
-pub record IsGiven (lines : List Line) (s : Bares) (step : Step) : Type 0 where
+pub record IsGiven (lines : List Line) (s : ObjectStates) (step : Step) : Type 0 where
   pub k : ℕ
   pub path : Path
-  pub object : Bare
+  pub object : ObjectState
   pub there : fin.get (state lines k s) path ≡ Some object
   pub gives : Gives object step
 
 -- where no line has a reason, and a whole run refuses none at a turn, each step gives its node what stands at one path
 -- after some of the lines
 abbrev pub GiveWhatLinesLeave : List Line → ℕ → Files → List Step → Type 0
-GiveWhatLinesLeave lines now t steps = (s : Bares) → IsRepeatable lines → IsQuiet lines now t → Agree s t →
+GiveWhatLinesLeave lines now t steps = (s : ObjectStates) → IsRepeatable lines → IsQuiet lines now t → Agree s t →
     AllByRecursion (IsGiven lines s) steps

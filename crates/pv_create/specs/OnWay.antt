@@ -1,11 +1,11 @@
 -- What a line may have left on its way at a path, stamps and staging names aside, and which steps it may do
 -- (tmpfiles.d(5)).
 use Rattle.std.specs.Prelude.{◌≡◌, ℕ, Bool, true, false, List, [], take, Option, Some, None, if◌then◌else◌}
-use Rattle.pv_dress.specs.declared.bare.Bare.{Bare}
-use Rattle.pv_dress.specs.declared.operation.Operation.{Operation}
-use Rattle.pv_dress.specs.Dividing.{parts}
-use Rattle.pv_dress.specs.Nodes.{bares_of}
-use Rattle.pv_dress.specs.Operations.{run}
+use Rattle.pv_metadata.specs.declared.object_state.ObjectState.{ObjectState}
+use Rattle.pv_metadata.specs.declared.operation.Operation.{Operation}
+use Rattle.pv_metadata.specs.Dividing.{parts}
+use Rattle.pv_metadata.specs.Nodes.{object_states_of}
+use Rattle.pv_metadata.specs.Operations.{run}
 use Rattle.pv_doing.specs.Courses.{Course, single}
 use Rattle.pv_lines.specs.declared.line.Line.{Line}
 use Rattle.pv_path.specs.Paths.{Path, same_path, is_prefix, has_staging}
@@ -16,14 +16,14 @@ use Rattle.pv_walk.specs.Preparing.{IsAbove, IsPrepareStep}
 use Rattle.pv_walk.specs.Putting.{IsPutStep}
 use Rattle.pv_walk.specs.Copying.{IsCopyStep, Subtree}
 use Rattle.pv_walk.specs.Replacing.{IsStaged, CanReplace}
-use Rattle.pv_table.specs.declared.deed.Copying.{Copying}
-use Rattle.pv_table.specs.declared.deed.Deed.{Deed}
-use Rattle.pv_table.specs.declared.deed.Deed.TheVariants.{Create, Copy, Touch}
-use Rattle.pv_table.specs.declared.deed.Making.{Making}
-use Rattle.pv_table.specs.Asking.{asks}
+use Rattle.pv_table.specs.declared.action.Copying.{Copying}
+use Rattle.pv_table.specs.declared.action.Action.{Action}
+use Rattle.pv_table.specs.declared.action.Action.TheVariants.{Create, Copy, Adjust}
+use Rattle.pv_table.specs.declared.action.Making.{Making}
+use Rattle.pv_table.specs.ActionTable.{action_of}
 use Rattle.pv_table.specs.Created.{by_turn}
-use Rattle.pv_table.specs.Effects.{is_touched, turn_after}
-use Rattle.pv_table.specs.Pointwise.{parent_bare}
+use Rattle.pv_table.specs.Effects.{is_adjusted, turn_after}
+use Rattle.pv_table.specs.Pointwise.{parent_object_state}
 use Rattle.pv_table.specs.Saying.{found}
 use Rattle.pv_table.specs.Turns.{Turn, view_of, has_something, decide, refused_at}
 use Rattle.pv_create.specs.Adjusting.{GivesSet}
@@ -34,31 +34,31 @@ use Rattle.pv_create.specs.Reached.{AdjustingReached, GivesReached}
 -- what a line that is not refused does at a path: nothing where there is nothing to copy
 abbrev pub turn_at : ℕ → Line → Path → Files → Turn
 turn_at now line path t =
-    if has_something (places t) (asks line) then decide (asks line) (view_of (found now (asks line) path t)) path
+    if has_something (places t) (action_of line) then decide (action_of line) (view_of (found now (action_of line) path t)) path
     else Turn.Nothing
 
 -- whether absent parents are put: by a line that makes something
-abbrev pub puts_parents : Places → Deed → Bool
+abbrev pub puts_parents : Places → Action → Bool
 puts_parents t (Create making) = true
 puts_parents t (Copy copying) = has_something t (Copy copying)
-puts_parents t deed = false
+puts_parents t action = false
 
 -- what is set of what stands at a path, by a line that is carried out at the same path or above it
-abbrev pub sets_at : Deed → Turn → Path → Path → List Operation
-sets_at (Touch touching) turn path q = if is_touched touching path q then touching.sets else []
-sets_at deed (Turn.Become operations) path q = if same_path path q then operations else []
-sets_at deed turn path q = []
+abbrev pub sets_at : Action → Turn → Path → Path → List Operation
+sets_at (Adjust adjustment) turn path q = if is_adjusted adjustment path q then adjustment.sets else []
+sets_at action (Turn.Become operations) path q = if same_path path q then operations else []
+sets_at action turn path q = []
 
 -- ---- on the way
 
 -- what stands at one path while a line is at work, from what stood there: what the first of the sets, in parts, make of
 -- it; or above the path of the line a parent where nothing stood
-pub data IsMidway (now : ℕ) (line : Line) (path : Path) (t : Files) (q : Path) (old new : Option Bare) : Type 0 where
-  set : (k : ℕ) → new ≡ run (take k (parts (sets_at (asks line) (turn_at now line path t) path q))) old → IsMidway now line path t q old new
-  parent : puts_parents (places t) (asks line) ≡ true → IsAbove q path → old ≡ None → new ≡ Some parent_bare → IsMidway now line path t q old new
+pub data IsMidway (now : ℕ) (line : Line) (path : Path) (t : Files) (q : Path) (old new : Option ObjectState) : Type 0 where
+  set : (k : ℕ) → new ≡ run (take k (parts (sets_at (action_of line) (turn_at now line path t) path q))) old → IsMidway now line path t q old new
+  parent : puts_parents (places t) (action_of line) ≡ true → IsAbove q path → old ≡ None → new ≡ Some parent_object_state → IsMidway now line path t q old new
 
 -- the same while what stood at the path of the line makes way: nothing may be left at and below it
-pub data IsClearing (now : ℕ) (line : Line) (path : Path) (t : Files) (q : Path) (old new : Option Bare) : Type 0 where
+pub data IsClearing (now : ℕ) (line : Line) (path : Path) (t : Files) (q : Path) (old new : Option ObjectState) : Type 0 where
   midway : IsMidway now line path t q old new → IsClearing now line path t q old new
   gone : is_prefix path q ≡ true → new ≡ None → IsClearing now line path t q old new
 
@@ -68,11 +68,11 @@ pub data IsClearing (now : ℕ) (line : Line) (path : Path) (t : Files) (q : Pat
 pub data OnWay (now : ℕ) (line : Line) (path : Path) (t u : Files) : Type 0 where
   before : Same t u → OnWay now line path t u
   midway : refused_at line path (places t) ≡ None
-      → ((q : Path) → has_staging q ≡ false → IsMidway now line path t q (bares_of (places t) q) (bares_of (places u) q))
+      → ((q : Path) → has_staging q ≡ false → IsMidway now line path t q (object_states_of (places t) q) (object_states_of (places u) q))
       → OnWay now line path t u
   making_way : (subtree : Subtree) → refused_at line path (places t) ≡ None → turn_at now line path t ≡ Turn.Put subtree → IsStaged path subtree u
-      → (CanReplace path subtree (found now (asks line) path t) → Same (found now (asks line) path t) u)
-      → ((q : Path) → has_staging q ≡ false → IsClearing now line path t q (bares_of (places t) q) (bares_of (places u) q))
+      → (CanReplace path subtree (found now (action_of line) path t) → Same (found now (action_of line) path t) u)
+      → ((q : Path) → has_staging q ≡ false → IsClearing now line path t q (object_states_of (places t) q) (object_states_of (places u) q))
       → OnWay now line path t u
   whole : Same (turn_after now line path t) u → OnWay now line path t u
 
@@ -81,26 +81,26 @@ pub data OnWay (now : ℕ) (line : Line) (path : Path) (t u : Files) : Type 0 wh
 -- a step of a line that makes or copies something, at a path: it prepares the path; it stages or publishes the new object,
 -- or the copy; or it gives what stands there what it has when all is set
 pub data IsStepOf (now : ℕ) (line : Line) (path : Path) (t : Files) (step : Step) : Type 0 where
-  prepares : puts_parents (places t) (asks line) ≡ true → IsPrepareStep path t step → IsStepOf now line path t step
-  puts : (making : Making) (subtree : Subtree) → asks line ≡ Create making → turn_at now line path t ≡ Turn.Put subtree
+  prepares : puts_parents (places t) (action_of line) ≡ true → IsPrepareStep path t step → IsStepOf now line path t step
+  puts : (making : Making) (subtree : Subtree) → action_of line ≡ Create making → turn_at now line path t ≡ Turn.Put subtree
       → IsPutStep path making.new step → IsStepOf now line path t step
-  copies : (copying : Copying) (subtree : Subtree) → asks line ≡ Copy copying → turn_at now line path t ≡ Turn.Put subtree
+  copies : (copying : Copying) (subtree : Subtree) → action_of line ≡ Copy copying → turn_at now line path t ≡ Turn.Put subtree
       → IsCopyStep path subtree step → IsStepOf now line path t step
   sets : (operations : List Operation) → turn_at now line path t ≡ Turn.Become operations
-      → GivesSet path operations (found now (asks line) path t) step → IsStepOf now line path t step
+      → GivesSet path operations (found now (action_of line) path t) step → IsStepOf now line path t step
 
 -- ---- a line at a path, whatever it asks for
 
 -- on the way, by what it asks for: one that adjusts what is there also at all that it reaches from the path
-abbrev pub TurnWay : Deed → ℕ → Line → Path → Files → Files → Type 0
-TurnWay (Touch touching) now line path t u = AdjustingReached touching path t u
-TurnWay deed now line path t u = OnWay now line path t u
+abbrev pub TurnWay : Action → ℕ → Line → Path → Files → Files → Type 0
+TurnWay (Adjust adjustment) now line path t u = AdjustingReached adjustment path t u
+TurnWay action now line path t u = OnWay now line path t u
 
 -- a step, by what it asks for
-abbrev pub IsStepAt : Deed → ℕ → Line → Path → Files → Step → Type 0
-IsStepAt (Touch touching) now line path t step = GivesReached touching path t step
-IsStepAt deed now line path t step = IsStepOf now line path t step
+abbrev pub IsStepAt : Action → ℕ → Line → Path → Files → Step → Type 0
+IsStepAt (Adjust adjustment) now line path t step = GivesReached adjustment path t step
+IsStepAt action now line path t step = IsStepOf now line path t step
 
 -- what it does, what it may have left on its way, and its steps
 abbrev pub turn_course : ℕ → Line → Course Path
-turn_course now line = single (by_turn now line) (TurnWay (asks line) now line) (IsStepAt (asks line) now line)
+turn_course now line = single (by_turn now line) (TurnWay (action_of line) now line) (IsStepAt (action_of line) now line)

@@ -5,13 +5,13 @@ use Rattle.pv_acl.specs.Applying.{is_line}
 use Rattle.pv_steps.specs.Attributes.{are_attrs}
 use Rattle.pv_steps.specs.Objects.{IsId}
 use Rattle.pv_steps.specs.declared.node.Kind.TheVariants.{Link}
-use Rattle.pv_dress.specs.declared.operation.Change.{Change}
-use Rattle.pv_dress.specs.declared.operation.Change.TheVariants.{Write, Append, Owner, Mode, Entries, Attrs, Letters}
-use Rattle.pv_dress.specs.declared.operation.Guard.{Guard}
-use Rattle.pv_dress.specs.declared.operation.Operation.{Operation}
-use Rattle.pv_dress.specs.declared.operation.Operation.TheVariants.{Adjust}
-use Rattle.pv_dress.specs.Operations.{admits}
-use Rattle.pv_dress.specs.Reasons.{is_adjusting}
+use Rattle.pv_metadata.specs.declared.operation.Change.{Change}
+use Rattle.pv_metadata.specs.declared.operation.Change.TheVariants.{Write, Append, Owner, Mode, Entries, Attrs, Letters}
+use Rattle.pv_metadata.specs.declared.operation.Guard.{Guard}
+use Rattle.pv_metadata.specs.declared.operation.Operation.{Operation}
+use Rattle.pv_metadata.specs.declared.operation.Operation.TheVariants.{Apply}
+use Rattle.pv_metadata.specs.Operations.{admits}
+use Rattle.pv_metadata.specs.Reasons.{is_adjusting}
 
 -- whether a change is one of a file's bytes
 abbrev pub is_writing : Change → Bool
@@ -52,7 +52,7 @@ SetsOther guard change = ⊥
 
 -- an operation that changes what is there, and how
 abbrev pub Changes : (Guard → Change → Type 0) → Operation → Type 0
-Changes how (Adjust guard change) = how guard change
+Changes how (Apply guard change) = how guard change
 Changes how operation = ⊥
 
 -- nothing, or one such operation

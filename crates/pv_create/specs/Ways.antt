@@ -18,7 +18,7 @@ IsLineStep now line t step = IsStepOfSome (turn_course now line) (turns line t) 
 
 -- where it was cut short, all is done and said at the paths before the one at work, and nothing at those after it
 abbrev pub LineCut : ℕ → ℕ → Line → Files → List Step → List (List ℕ) → Type 0
-LineCut now refused line t steps said = Cut (turn_course now line) now refused (turns line t) t steps said
+LineCut now refused line t steps new_messages = Cut (turn_course now line) now refused (turns line t) t steps new_messages
 
 -- a line, of which each refusal counts
 abbrev pub line_course : ℕ → Course Line

@@ -4,21 +4,21 @@ ghost use Rattle.std.specs.List.{list_all};
 ghost use Rattle.std.specs.Option.{option_map_or};
 ghost use Rattle.std.specs.Str.{bytes_eq};
 ghost use Rattle.pv_path.specs.Names.{is_staging};
-ghost use Rattle.pv_dress.specs.Nodes.{bare_of, is_link, same_substance};
-ghost use Rattle.pv_dress.specs.Operations.{stays};
+ghost use Rattle.pv_metadata.specs.Nodes.{object_state_of, is_link, same_substance};
+ghost use Rattle.pv_metadata.specs.Operations.{stays};
 ghost use Rattle.pv_steps.specs.declared.node.Kind.TheVariants.{Directory};
 ghost use Rattle.pv_steps.specs.declared.object.Object.{Object as ObjectValue};
 ghost use Rattle.pv_steps.specs.Objects.{is_directory};
 ghost use Rattle.pv_steps.specs.Trees.{places, kind_of, node_at, IsKind, IsTree};
-ghost use Rattle.pv_table.specs.declared.deed.Deed.TheVariants.{Create, Copy, Touch, Idle};
+ghost use Rattle.pv_table.specs.declared.action.Action.TheVariants.{Create, Copy, Adjust, Idle};
 ghost use Rattle.pv_table.specs.Turns.{view_of, is_childless, decide};
 ghost use Rattle.pv_walk.specs.Staging.{new_object};
 ghost use Rattle.pv_create.specs.Deciding.{meant, kept_turn, kept_copy};
 
-use pv_dress::admits;
+use pv_metadata::admits;
 use pv_path::{Name, TreePath, is_staging};
 use pv_steps::{Kind, Node, Tree, kind_at};
-use pv_table::{Copying, Deed, Making, Touching};
+use pv_table::{Action, Adjustment, Copying, Making};
 use pv_walk::NewFile;
 use std::alloc::{AllocError, Global};
 
@@ -39,32 +39,32 @@ pub(crate) enum Turn {
 pub(crate) fn decide<T: Tree>(
     alloc: Global,
     tree: &T,
-    deed: &Deed,
+    action: &Action,
     path: &TreePath,
 ) -> Result<Turn, AllocError>
-    ensures turn { IfOk result (λ turn. meant deed.now (view_of (T.state tree.now)) turn
-        ≡ decide deed.now (view_of (T.state tree.now)) path.now) }
-    ensures tree { deed.now ≢ Idle → IsTree (T.state tree.now) }
+    ensures turn { IfOk result (λ turn. meant action.now (view_of (T.state tree.now)) turn
+        ≡ decide action.now (view_of (T.state tree.now)) path.now) }
+    ensures tree { action.now ≢ Idle → IsTree (T.state tree.now) }
 {
-    match deed {
-        Deed::Create(making) => Ok(making_turn(tree, path, making)),
-        Deed::Copy(copying) => copying_turn(alloc, tree, path, copying),
-        Deed::Touch(touching) => Ok(touching_turn(tree, path, touching)),
-        Deed::Idle => Ok(Turn::Nothing),
+    match action {
+        Action::Create(making) => Ok(making_turn(tree, path, making)),
+        Action::Copy(copying) => copying_turn(alloc, tree, path, copying),
+        Action::Adjust(adjustment) => Ok(adjustment_turn(tree, path, adjustment)),
+        Action::Idle => Ok(Turn::Nothing),
     }
 }
 
 // ---- lines that adjust
 
 /// What is done by a line that adjusts what is there: what is not wanted is left.
-fn touching_turn<T: Tree>(tree: &T, path: &TreePath, touching: &Touching) -> Turn
-    ensures turn { meant (Touch touching.now) (view_of (T.state tree.now)) result
-        ≡ decide (Touch touching.now) (view_of (T.state tree.now)) path.now }
+fn adjustment_turn<T: Tree>(tree: &T, path: &TreePath, adjustment: &Adjustment) -> Turn
+    ensures turn { meant (Adjust adjustment.now) (view_of (T.state tree.now)) result
+        ≡ decide (Adjust adjustment.now) (view_of (T.state tree.now)) path.now }
     ensures tree { IsTree (T.state tree.now) }
 {
     match kind_at(tree, path) {
         None => Turn::Nothing,
-        Some(kind) if admits(touching.wanted, kind) => Turn::Become,
+        Some(kind) if admits(adjustment.wanted, kind) => Turn::Become,
         Some(kind) => Turn::Left(kind),
     }
 }
@@ -111,7 +111,7 @@ fn kept_turn(wanted: Kind, kind: Kind) -> Turn
 fn stays<T: Tree>(tree: &T, path: &TreePath, node: &Node, making: &Making) -> bool
     requires node { Some node.now ≡ node_at (T.state tree.now) path.now }
     ensures { (o : ObjectValue) → places (T.state tree.now) path.now ≡ Some o → result
-        ≡ option_map_or (λ test. stays test (bare_of (new_object making.now.new 0)).body (bare_of o).body)
+        ≡ option_map_or (λ test. stays test (object_state_of (new_object making.now.new 0)).body (object_state_of o).body)
         making.now.renew true }
 {
     match making.renew {
@@ -128,7 +128,7 @@ fn stays<T: Tree>(tree: &T, path: &TreePath, node: &Node, making: &Making) -> bo
 fn has_substance<T: Tree>(tree: &T, path: &TreePath, node: &Node, new: &NewFile) -> bool
     requires node { Some node.now ≡ node_at (T.state tree.now) path.now }
     ensures { (o : ObjectValue) → places (T.state tree.now) path.now ≡ Some o
-        → result ≡ same_substance (bare_of (new_object new.now 0)).body (bare_of o).body }
+        → result ≡ same_substance (object_state_of (new_object new.now 0)).body (object_state_of o).body }
 {
     let (major, minor) = new.what.numbers();
     has_target(tree, path, node.kind, new.what.payload())

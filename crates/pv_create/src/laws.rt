@@ -1,7 +1,7 @@
 //! Laws of what a run of lines leaves on its way. Each function does nothing; its contract is the law.
 ghost use Rattle.std.specs.Prelude.{◌≡◌, ◌⊎◌, ℕ, List, true, false};
 ghost use Rattle.std.specs.List.{AllByRecursion};
-ghost use Rattle.pv_dress.specs.Nodes.{bares_of};
+ghost use Rattle.pv_metadata.specs.Nodes.{object_states_of};
 ghost use Rattle.pv_doing.specs.Courses.{Partway, IsStepOfSome};
 ghost use Rattle.pv_lines.specs.declared.line.Line.{Line as LineValue};
 ghost use Rattle.pv_lines.specs.Lines.{IsLine};
@@ -11,7 +11,7 @@ ghost use Rattle.pv_steps.specs.Content.{content_of};
 ghost use Rattle.pv_steps.specs.Runs.{after_all};
 ghost use Rattle.pv_steps.specs.Trees.{Files, places, IsTree};
 ghost use Rattle.pv_create.specs.OnWay.{OnWay, turn_at, puts_parents};
-ghost use Rattle.pv_table.specs.Asking.{asks};
+ghost use Rattle.pv_table.specs.ActionTable.{action_of};
 ghost use Rattle.pv_table.specs.Effects.{turn_after};
 ghost use Rattle.pv_table.specs.Saying.{found};
 ghost use Rattle.pv_table.specs.Turns.{Turn};
@@ -42,12 +42,12 @@ pub fn the_steps_of_a_run_leave_what_lines_are_read_from()
 {}
 
 /// Where one Rename can put what a line makes or copies in the place of what stands at its path, the path has at each moment
-/// on the way of the line what stood there or what the line leaves there, stamps aside: so a link or a file that another
-/// link or file replaces is never absent.
+/// on the way of the line what stood there or what the line leaves there, timestamps aside: so a link or a file that
+/// another link or file replaces is never absent.
 pub fn what_one_rename_can_replace_is_never_absent()
     ensures { (now : ℕ) (line : LineValue) (path : Path) (t u : Files) (subtree : Subtree) → IsTree t → has_staging path ≡ false
-        → puts_parents (places t) (asks line) ≡ true → turn_at now line path t ≡ Turn.Put subtree
-        → CanReplace path subtree (found now (asks line) path t) → OnWay now line path t u
-        → (bares_of (places u) path ≡ bares_of (places t) path)
-        ⊎ (bares_of (places u) path ≡ bares_of (places (turn_after now line path t)) path) }
+        → puts_parents (places t) (action_of line) ≡ true → turn_at now line path t ≡ Turn.Put subtree
+        → CanReplace path subtree (found now (action_of line) path t) → OnWay now line path t u
+        → (object_states_of (places u) path ≡ object_states_of (places t) path)
+        ⊎ (object_states_of (places u) path ≡ object_states_of (places (turn_after now line path t)) path) }
 {}

@@ -2,25 +2,25 @@
 ghost use Rattle.std.specs.Prelude.{◌≡◌, ◌&&◌, ◌∷◌, [], not, Bool, IfOk};
 ghost use Rattle.pv_doing.specs.Courses.{carried_of, CarriesOut};
 ghost use Rattle.pv_lines.specs.Lines.{IsLine};
-ghost use Rattle.pv_table.specs.Asking.{asks};
+ghost use Rattle.pv_table.specs.ActionTable.{action_of};
 ghost use Rattle.pv_table.specs.Effects.{turns};
 ghost use Rattle.pv_table.specs.Reaching.{path_in};
 ghost use Rattle.pv_create.specs.Ways.{line_course, lines_course};
 
+use crate::line_at::LineAt;
+use crate::turning::at_turn;
 use pv_doing::Carried;
 use pv_find::named_paths;
 use pv_lines::Line;
-use crate::line_at::LineAt;
-use crate::turning::at_turn;
 use pv_path::TreePath;
 use pv_steps::{Tree, TreeFault};
-use pv_table::{Deed, asks, path_of};
+use pv_table::{Action, action_of, path_of};
 use pv_text::Messages;
 use std::alloc::{AllocError, Global};
 
 /// Carries out a line at its path, or at each path that it names (tmpfiles.d(5)). Whether it was refused does not count
 /// where the line has `-`.
-pub(crate) fn carry_out<T: Tree>(
+pub(crate) fn create_line<T: Tree>(
     alloc: Global,
     tree: &mut T,
     line: &Line,
@@ -31,7 +31,7 @@ pub(crate) fn carry_out<T: Tree>(
     ensures { CarriesOut T.Tree (lines_course now) line.now now tree.old tree.new messages.old messages.new result }
 {
     let carried = at_turns(alloc, tree, line, now, messages)?;
-    Ok(counted(line, carried))
+    Ok(outcome_with_minus(line, carried))
 }
 
 /// Carries out a line at each of its paths; each refusal counts.
@@ -45,13 +45,13 @@ fn at_turns<T: Tree>(
     requires line { IsLine line.now }
     ensures { CarriesOut T.Tree (line_course now) line.now now tree.old tree.new messages.old messages.new result }
 {
-    let deed = asks(alloc, line)?;
-    let paths = turns(alloc, tree, line, &deed)?;
+    let action = action_of(alloc, line)?;
+    let paths = turns(alloc, tree, line, &action)?;
     let mut carried = Carried::Whole;
     for path in &paths {
         let at = LineAt {
             line,
-            deed: &deed,
+            action: &action,
             path,
             now,
         };
@@ -66,15 +66,15 @@ fn turns<T: Tree>(
     alloc: Global,
     tree: &T,
     line: &Line,
-    deed: &Deed,
+    action: &Action,
 ) -> Result<Vec<TreePath>, AllocError>
-    requires { asks line.now ≡ deed.now }
+    requires { action_of line.now ≡ action.now }
     ensures { IfOk result (λ paths. paths.items ≡ turns line.now (T.state tree.now)) }
 {
-    match deed {
-        Deed::Create(_) | Deed::Copy(_) => own_path(alloc, line),
-        Deed::Touch(_) => named_paths(alloc, tree, line),
-        Deed::Idle => Ok(Vec::new(alloc)),
+    match action {
+        Action::Create(_) | Action::Copy(_) => own_path(alloc, line),
+        Action::Adjust(_) => named_paths(alloc, tree, line),
+        Action::Idle => Ok(Vec::new(alloc)),
     }
 }
 
@@ -88,7 +88,7 @@ fn own_path(alloc: Global, line: &Line) -> Result<Vec<TreePath>, AllocError>
 }
 
 /// How a line ended, as far as it counts.
-fn counted(line: &Line, carried: Carried) -> Carried
+fn outcome_with_minus(line: &Line, carried: Carried) -> Carried
     ensures { (refused : Bool) → carried ≡ carried_of refused
         → result ≡ carried_of (not line.now.minus && refused) }
 {

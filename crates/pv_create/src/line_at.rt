@@ -2,11 +2,11 @@
 ghost use Rattle.std.specs.Prelude.{◌≡◌};
 ghost use Rattle.std.specs.Option.{option_copied};
 ghost use Rattle.pv_table.specs.Turns.{copied};
-ghost use Rattle.pv_create.specs.Deeds.{makes, touched};
+ghost use Rattle.pv_create.specs.Actions.{makes, adjustment_of};
 
 use pv_lines::Line;
 use pv_path::TreePath;
-use pv_table::{Deed, Touching};
+use pv_table::{Action, Adjustment};
 
 /// A line at a path at which it is carried out.
 #[derive(Clone, Copy)]
@@ -14,7 +14,7 @@ pub(crate) struct LineAt<'a> {
     /// The line.
     pub line: &'a Line,
     /// What it asks for.
-    pub deed: &'a Deed,
+    pub action: &'a Action,
     /// The path: its own, or one that it names and at which something stands.
     pub path: &'a TreePath,
     /// The moment at which it is carried out, in microseconds since 1970.
@@ -22,28 +22,28 @@ pub(crate) struct LineAt<'a> {
 }
 
 /// What a line copies.
-pub(crate) fn copied(deed: &Deed) -> Option<&TreePath>
-    ensures { option_copied result ≡ copied deed.now }
+pub(crate) fn copied(action: &Action) -> Option<&TreePath>
+    ensures { option_copied result ≡ copied action.now }
 {
-    match deed {
-        Deed::Copy(copying) => Some(&copying.source),
-        Deed::Create(_) | Deed::Touch(_) | Deed::Idle => None,
+    match action {
+        Action::Copy(copying) => Some(&copying.source),
+        Action::Create(_) | Action::Adjust(_) | Action::Idle => None,
     }
 }
 
 /// Whether a line makes something or copies.
-pub(crate) fn makes(deed: &Deed) -> bool
-    ensures { result ≡ makes deed.now }
+pub(crate) fn makes(action: &Action) -> bool
+    ensures { result ≡ makes action.now }
 {
-    matches!(deed, Deed::Create(_) | Deed::Copy(_))
+    matches!(action, Action::Create(_) | Action::Copy(_))
 }
 
 /// What a line that only adjusts what is there sets.
-pub(crate) fn touched(deed: &Deed) -> Option<&Touching>
-    ensures { option_copied result ≡ touched deed.now }
+pub(crate) fn adjustment_of(action: &Action) -> Option<&Adjustment>
+    ensures { option_copied result ≡ adjustment_of action.now }
 {
-    match deed {
-        Deed::Touch(touching) => Some(touching),
-        Deed::Create(_) | Deed::Copy(_) | Deed::Idle => None,
+    match action {
+        Action::Adjust(adjustment) => Some(adjustment),
+        Action::Create(_) | Action::Copy(_) | Action::Idle => None,
     }
 }

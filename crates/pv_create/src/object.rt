@@ -5,15 +5,15 @@ ghost use Rattle.pv_steps.specs.declared.node.Kind.TheVariants.{File};
 ghost use Rattle.pv_steps.specs.Acting.{asked, Acted};
 ghost use Rattle.pv_steps.specs.Steps.{on_at};
 ghost use Rattle.pv_steps.specs.Trees.{places, IsKind, IsPresent};
-ghost use Rattle.pv_dress.specs.Dressing.{CanDress, ChangedAt, Dressing, GivesDress, IsKeptBy, dressed, dressed_attrs, dressed_letters};
-ghost use Rattle.pv_dress.specs.Changing.{Changing, dressed_access};
+ghost use Rattle.pv_metadata.specs.SettingMetadata.{CanSetMetadata, ChangedAt, SettingMetadata, GivesMetadata, IsKeptBy, with_metadata, with_attrs_of, with_letters_of};
+ghost use Rattle.pv_metadata.specs.Changing.{Changing, with_access_of};
 ghost use Rattle.pv_table.specs.Created.{change_work};
 ghost use Rattle.pv_table.specs.Effects.{become};
 ghost use Rattle.pv_create.specs.Sets.{AreSets};
 ghost use Rattle.pv_create.specs.Adjusting.{Adjusting, GivesSet, GivesWanted, HasBase, Wears, holding, written};
 
 use crate::wanted::{node_of, wanted_at};
-use pv_dress::{Dress, Operation, dress};
+use pv_metadata::{Metadata, Operation, set_metadata};
 use pv_path::{Bytes, TreePath};
 use pv_steps::{Node, Step, Tree, TreeFault, try_step};
 use std::alloc::Global;
@@ -42,44 +42,44 @@ pub(crate) fn adjust<T: Tree>(
 {
     let new = wanted_at(alloc, tree, path, sets)?;
     give_bytes(tree, path, &new.bytes, now)?;
-    give_dress(tree, path, &new.dress, now)
+    give_metadata(tree, path, &new.metadata, now)
 }
 
-/// Gives the object at a path a dress; where it has all of it, one look at it tells.
-fn give_dress<T: Tree>(
+/// Gives the object at a path metadata; where it has all of it, one look at it tells.
+fn give_metadata<T: Tree>(
     tree: &mut T,
     path: &TreePath,
-    new: &Dress,
+    new: &Metadata,
     now: u64,
 ) -> Result<(), TreeFault>
-    requires { CanDress (T.state tree.old) path.now new.now }
-    ensures acted { Acted T.Tree (Dressing path.now new.now (T.state tree.old))
-        (GivesDress path.now new.now (T.state tree.old)) 5 now tree.old tree.new result }
+    requires { CanSetMetadata (T.state tree.old) path.now new.now }
+    ensures acted { Acted T.Tree (SettingMetadata path.now new.now (T.state tree.old))
+        (GivesMetadata path.now new.now (T.state tree.old)) 5 now tree.old tree.new result }
     ensures ok { OnOk result
-        (ChangedAt (dressed new.now) path.now now (T.state tree.old) (T.state tree.new)) }
-    ensures few { IsKeptBy (dressed_attrs new.now) path.now (T.state tree.old)
-        → IsKeptBy (dressed_letters new.now) path.now (T.state tree.old)
+        (ChangedAt (with_metadata new.now) path.now now (T.state tree.old) (T.state tree.new)) }
+    ensures few { IsKeptBy (with_attrs_of new.now) path.now (T.state tree.old)
+        → IsKeptBy (with_letters_of new.now) path.now (T.state tree.old)
         → asked result (T.steps tree.old) (T.steps tree.new) ≤ 3 }
-    ensures two { IsKeptBy (dressed_access new.now) path.now (T.state tree.old)
+    ensures two { IsKeptBy (with_access_of new.now) path.now (T.state tree.old)
         → asked result (T.steps tree.old) (T.steps tree.new) ≤ 2 }
-    ensures idle { IsKeptBy (dressed new.now) path.now (T.state tree.old)
+    ensures idle { IsKeptBy (with_metadata new.now) path.now (T.state tree.old)
         → asked result (T.steps tree.old) (T.steps tree.new) ≡ 0 }
 {
     if wears(node_of(tree, path), new) {
         return Ok(());
     }
-    dress(tree, path, new, now)
+    set_metadata(tree, path, new, now)
 }
 
-/// Whether an object has the owners and the special bits of a dress.
-fn has_base(node: &Node, new: &Dress) -> bool
+/// Whether an object has the owners and the special bits of metadata.
+fn has_base(node: &Node, new: &Metadata) -> bool
     ensures { IsTrue result ↔ HasBase new.now node.now }
 {
     node.uid == new.uid && node.gid == new.gid && node.special == new.special
 }
 
-/// Whether an object has all of a dress.
-fn wears(node: &Node, new: &Dress) -> bool
+/// Whether an object has all of metadata.
+fn wears(node: &Node, new: &Metadata) -> bool
     ensures { IsTrue result → Wears new.now node.now }
 {
     if !has_base(node, new) {

@@ -3,15 +3,15 @@ ghost use Rattle.std.specs.Prelude.{◌≡◌, IfOk, OnOk, IsSorted};
 ghost use Rattle.pv_path.specs.Paths.{path_cmp};
 ghost use Rattle.pv_steps.specs.Acting.{Acted};
 ghost use Rattle.pv_steps.specs.Trees.{IsPresent};
-ghost use Rattle.pv_table.specs.Created.{touch_work};
-ghost use Rattle.pv_table.specs.Effects.{is_touched, touch};
+ghost use Rattle.pv_table.specs.Created.{adjust_work};
+ghost use Rattle.pv_table.specs.Effects.{is_adjusted, adjust_at};
 ghost use Rattle.pv_create.specs.Reached.{AdjustingReached, AreReachedBelow, GivesReached, IsReached};
 ghost use Rattle.pv_create.specs.Sets.{AreSets};
 
 use crate::object::adjust;
 use pv_path::{TreePath, has_staging};
 use pv_steps::{Tree, TreeFault};
-use pv_table::Touching;
+use pv_table::Adjustment;
 use pv_walk::below;
 use std::alloc::{AllocError, Global};
 
@@ -20,20 +20,20 @@ use std::alloc::{AllocError, Global};
 pub(crate) fn adjust_reached<T: Tree>(
     alloc: Global,
     tree: &mut T,
-    touching: &Touching,
+    adjustment: &Adjustment,
     path: &TreePath,
     now: u64,
 ) -> Result<(), TreeFault>
     requires present { IsPresent (T.state tree.old) path.now }
-    requires sets { AreSets touching.now.sets }
-    ensures ok { OnOk result (T.state tree.new ≡ touch now touching.now path.now (T.state tree.old)) }
-    ensures acted { Acted T.Tree (AdjustingReached touching.now path.now (T.state tree.old))
-        (GivesReached touching.now path.now (T.state tree.old))
-        (touch_work touching.now path.now (T.state tree.old)) now tree.old tree.new result }
+    requires sets { AreSets adjustment.now.sets }
+    ensures ok { OnOk result (T.state tree.new ≡ adjust_at now adjustment.now path.now (T.state tree.old)) }
+    ensures acted { Acted T.Tree (AdjustingReached adjustment.now path.now (T.state tree.old))
+        (GivesReached adjustment.now path.now (T.state tree.old))
+        (adjust_work adjustment.now path.now (T.state tree.old)) now tree.old tree.new result }
 {
-    let paths = reached_paths(alloc, tree, touching, path)?;
+    let paths = reached_paths(alloc, tree, adjustment, path)?;
     for at in &paths {
-        adjust(alloc, tree, at, touching.sets.as_slice(), now)?;
+        adjust(alloc, tree, at, adjustment.sets.as_slice(), now)?;
     }
     Ok(())
 }
@@ -43,14 +43,14 @@ pub(crate) fn adjust_reached<T: Tree>(
 fn reached_paths<T: Tree>(
     alloc: Global,
     tree: &T,
-    touching: &Touching,
+    adjustment: &Adjustment,
     path: &TreePath,
 ) -> Result<Vec<TreePath>, AllocError>
     requires { IsPresent (T.state tree.now) path.now }
-    ensures reached { IfOk result (λ paths. IsReached touching.now path.now (T.state tree.now) paths.items) }
+    ensures reached { IfOk result (λ paths. IsReached adjustment.now path.now (T.state tree.now) paths.items) }
     ensures order { IfOk result (λ paths. IsSorted path_cmp paths.items) }
 {
-    let mut paths = reached_below(alloc, tree, touching, path)?;
+    let mut paths = reached_below(alloc, tree, adjustment, path)?;
     paths.sort_unstable();
     paths.insert(0, path.copy()?)?;
     paths.sort_unstable();
@@ -61,12 +61,12 @@ fn reached_paths<T: Tree>(
 fn reached_below<T: Tree>(
     alloc: Global,
     tree: &T,
-    touching: &Touching,
+    adjustment: &Adjustment,
     path: &TreePath,
 ) -> Result<Vec<TreePath>, AllocError>
-    ensures { IfOk result (λ paths. AreReachedBelow touching.now path.now (T.state tree.now) paths.items) }
+    ensures { IfOk result (λ paths. AreReachedBelow adjustment.now path.now (T.state tree.now) paths.items) }
 {
-    if !touching.deep {
+    if !adjustment.deep {
         return Ok(Vec::new(alloc));
     }
     let mut paths = below(alloc, tree, path)?;

@@ -1,8 +1,8 @@
 //! Whether a line is refused at a path.
 ghost use Rattle.std.specs.Prelude.{◌≡◌, ◌<◌, ◌^◌, false, ◌++◌, ◌∷◌, [], length, option_map, unwrap_or, IfOk, IfSome, OnOk, OnErr};
 ghost use Rattle.pv_steps.specs.Trees.{places, IsTree};
-ghost use Rattle.pv_text.specs.Said.{said_at};
-ghost use Rattle.pv_table.specs.Asking.{asks};
+ghost use Rattle.pv_text.specs.GivenMessages.{message_text_at};
+ghost use Rattle.pv_table.specs.ActionTable.{action_of};
 ghost use Rattle.pv_table.specs.Saying.{refused_text};
 ghost use Rattle.pv_table.specs.Turns.{copied, has_something, named_refusal, owner_made, refused_at, source_owner};
 ghost use Rattle.pv_create.specs.Refusing.{source_refused, refused_as};
@@ -10,9 +10,9 @@ ghost use Rattle.pv_create.specs.Refusing.{source_refused, refused_as};
 use crate::line_at::{LineAt, copied};
 use pv_path::TreePath;
 use pv_steps::{Tree, Why, is_present};
-use pv_table::{Deed, say_refused, say_source_refused};
+use pv_table::{Action, say_refused, say_source_refused};
 use pv_text::{Messages, Place};
-use pv_walk::{blocked, refusal_of};
+use pv_walk::{refusal_of, unsafe_component};
 use std::alloc::{AllocError, Global};
 
 /// A refused place, counted by the names that lead to it, and why.
@@ -30,16 +30,16 @@ pub(crate) fn refusal<'a, T: Tree>(
     tree: &T,
     at: &LineAt<'a>,
 ) -> Result<Option<Refused<'a>>, AllocError>
-    requires asked { asks at.now.line.now ≡ at.now.deed.now }
+    requires asked { action_of at.now.line.now ≡ at.now.action.now }
     requires few { length at.now.path.now < 2 ^ 32 }
-    requires source { IfSome (copied at.now.deed.now) (λ source. length source < 2 ^ 32) }
+    requires source { IfSome (copied at.now.action.now) (λ source. length source < 2 ^ 32) }
     ensures { IfOk result (λ refused. option_map refused_as refused
         ≡ refused_at at.entry.now.line.now at.entry.now.path.now (places (T.state tree.now))) }
 {
-    if let Some(refused) = source_refused(alloc, tree, at.deed)? {
+    if let Some(refused) = source_refused(alloc, tree, at.action)? {
         return Ok(Some(refused));
     }
-    if !has_something(tree, at.deed) {
+    if !has_something(tree, at.action) {
         return Ok(None);
     }
     named_refusal(alloc, tree, at)
@@ -49,15 +49,15 @@ pub(crate) fn refusal<'a, T: Tree>(
 fn source_refused<'a, T: Tree>(
     alloc: Global,
     tree: &T,
-    deed: &'a Deed,
+    action: &'a Action,
 ) -> Result<Option<Refused<'a>>, AllocError>
-    requires { IfSome (copied deed.now) (λ source. length source < 2 ^ 32) }
+    requires { IfSome (copied action.now) (λ source. length source < 2 ^ 32) }
     ensures { IfOk result (λ refused. option_map refused_as refused
-        ≡ source_refused deed.now (places (T.state tree.now))) }
+        ≡ source_refused action.now (places (T.state tree.now))) }
 {
-    match copied(deed) {
+    match copied(action) {
         None => Ok(None),
-        Some(source) => match blocked(alloc, tree, source)? {
+        Some(source) => match unsafe_component(alloc, tree, source)? {
             Some((count, why)) => Ok(Some(Refused::Source(source, count, why))),
             None => Ok(None),
         },
@@ -65,11 +65,11 @@ fn source_refused<'a, T: Tree>(
 }
 
 /// Whether there is something to do: a copy of what is absent does nothing at all.
-pub(crate) fn has_something<T: Tree>(tree: &T, deed: &Deed) -> bool
-    ensures something { result ≡ has_something (places (T.state tree.now)) deed.now }
+pub(crate) fn has_something<T: Tree>(tree: &T, action: &Action) -> bool
+    ensures something { result ≡ has_something (places (T.state tree.now)) action.now }
     ensures tree { result ≡ false → IsTree (T.state tree.now) }
 {
-    match copied(deed) {
+    match copied(action) {
         None => true,
         Some(source) => is_present(tree, source),
     }
@@ -81,7 +81,7 @@ fn named_refusal<'a, T: Tree>(
     tree: &T,
     at: &LineAt<'a>,
 ) -> Result<Option<Refused<'a>>, AllocError>
-    requires asked { asks at.now.line.now ≡ at.now.deed.now }
+    requires asked { action_of at.now.line.now ≡ at.now.action.now }
     requires few { length at.now.path.now < 2 ^ 32 }
     ensures { IfOk result (λ refused. option_map refused_as refused
         ≡ named_refusal at.entry.now.line.now at.entry.now.path.now (places (T.state tree.now))) }
@@ -94,20 +94,20 @@ fn named_refusal<'a, T: Tree>(
 
 /// The owner that an absent last place counts as: the line's user, else that of what it copies, else root.
 fn owner_made<T: Tree>(tree: &T, at: &LineAt<'_>) -> u32
-    requires { asks at.now.line.now ≡ at.now.deed.now }
+    requires { action_of at.now.line.now ≡ at.now.action.now }
     ensures { result ≡ owner_made at.entry.now.line.now (places (T.state tree.now)) }
 {
     match at.line.user {
         Some(user) => user.id,
-        None => source_owner(tree, at.deed),
+        None => source_owner(tree, at.action),
     }
 }
 
 /// The owner of what a line copies, root where it copies nothing.
-fn source_owner<T: Tree>(tree: &T, deed: &Deed) -> u32
-    ensures { result ≡ unwrap_or (source_owner (places (T.state tree.now)) deed.now) 0 }
+fn source_owner<T: Tree>(tree: &T, action: &Action) -> u32
+    ensures { result ≡ unwrap_or (source_owner (places (T.state tree.now)) action.now) 0 }
 {
-    match copied(deed) {
+    match copied(action) {
         None => 0,
         Some(source) => owner_at(tree, source),
     }
@@ -131,7 +131,7 @@ pub(crate) fn say_refusal(
     messages: &mut Messages,
 ) -> Result<(), AllocError>
     ensures ok { OnOk result (messages.new
-        ≡ messages.old ++ said_at place.now (refused_text (refused_as refused.now)) ∷ []) }
+        ≡ messages.old ++ message_text_at place.now (refused_text (refused_as refused.now)) ∷ []) }
     ensures err { OnErr result (messages.new ≡ messages.old) }
 {
     match refused {

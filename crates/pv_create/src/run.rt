@@ -3,14 +3,14 @@ ghost use Rattle.std.specs.Prelude.{◌≡◌, ◌++◌, true, Some, is_some, sl
 ghost use Rattle.pv_doing.specs.Courses.{Partway, IsStepOfSome, carried_of, each_of, CarriesOut, Cut, HasGone};
 ghost use Rattle.pv_laws.specs.Swept.{LeavesNoStagingName};
 ghost use Rattle.pv_steps.specs.Acting.{refused, Acted};
-ghost use Rattle.pv_text.specs.Said.{SaidPart};
+ghost use Rattle.pv_text.specs.GivenMessages.{MessagesPart};
 ghost use Rattle.pv_table.specs.Active.{in_create_order};
 ghost use Rattle.pv_table.specs.Created.{created, created_messages, some_refusal_counts, work};
 ghost use Rattle.pv_create.specs.Mended.{IsMended, IsMendedAgain, IsStoppedAgain};
 ghost use Rattle.pv_create.specs.OnTheWay.{IsFramed, IsStoppedBetween, GiveWhatLinesLeave};
 ghost use Rattle.pv_create.specs.Ways.{lines_course};
 
-use crate::line::carry_out;
+use crate::line::create_line;
 use pv_doing::Carried;
 use pv_lines::Line;
 use pv_path::TreePath;
@@ -30,14 +30,14 @@ pub fn create_run<T: Tree>(
 ) -> Result<Carried, TreeFault>
     // What a whole run leaves, stamps and staging names included, what it says and how it ends.
     ensures ok { OnOk result (T.state tree.new ≡ created table.now now (T.state tree.old)) }
-    ensures said { OnOk result (messages.new
+    ensures new_messages { OnOk result (messages.new
         ≡ messages.old ++ created_messages table.now now (T.state tree.old)) }
     ensures carried { IfOk result (λ c. c ≡ carried_of (some_refusal_counts table.now now (T.state tree.old))) }
     // Nothing is left at the staging names of what it made or copied, whatever earlier runs have left there.
     ensures staged { OnOk result (LeavesNoStagingName table.now now (T.state tree.old) (T.state tree.new)) }
 
     // What any run has said and done, whatever it answers.
-    ensures part { SaidPart (created_messages table.now now (T.state tree.old)) messages.old messages.new }
+    ensures part { MessagesPart (created_messages table.now now (T.state tree.old)) messages.old messages.new }
     ensures acted { Acted T.Tree (Partway (lines_course now) (in_create_order table.now) (T.state tree.old))
         (IsStepOfSome (lines_course now) (in_create_order table.now) (T.state tree.old))
         (work table.now now (T.state tree.old)) now tree.old tree.new result }
@@ -84,7 +84,7 @@ fn run_in_order<T: Tree>(
     let order = create_order(alloc, table)?;
     let mut carried = Carried::Whole;
     for place in order.as_slice() {
-        let one = carry_out(alloc, tree, line_at(table, *place), now, messages)?;
+        let one = create_line(alloc, tree, line_at(table, *place), now, messages)?;
         carried = carried.and(one);
     }
     Ok(carried)

@@ -1,24 +1,24 @@
 //! What a line does at a path that is ready.
 ghost use Rattle.std.specs.Prelude.{◌≡◌, ◌++◌, map, OnOk, OnErr};
-ghost use Rattle.pv_text.specs.Said.{SaidPart, said_at};
+ghost use Rattle.pv_text.specs.GivenMessages.{MessagesPart, message_text_at};
 ghost use Rattle.pv_steps.specs.Trees.{IsTree};
-ghost use Rattle.pv_table.specs.declared.deed.Deed.{Deed as DeedValue};
+ghost use Rattle.pv_table.specs.declared.action.Action.{Action as ActionValue};
 ghost use Rattle.pv_table.specs.Repeatable.{sets_of};
 ghost use Rattle.pv_table.specs.Saying.{turn_texts};
 ghost use Rattle.pv_table.specs.Turns.{View, decide, view_of};
 ghost use Rattle.pv_create.specs.Deciding.{meant};
-ghost use Rattle.pv_create.specs.Deeds.{IsDeed, IsReady};
+ghost use Rattle.pv_create.specs.Actions.{IsAction, IsReady};
 ghost use Rattle.pv_create.specs.Turning.{Settles};
 
 use crate::deciding::{Turn, decide};
-use crate::line_at::{LineAt, touched};
-use crate::putting::put;
+use crate::line_at::{LineAt, adjustment_of};
 use crate::object::adjust;
+use crate::putting::put;
 use crate::reached::adjust_reached;
-use pv_dress::Operation;
+use pv_metadata::Operation;
 use pv_path::TreePath;
 use pv_steps::{Tree, TreeFault};
-use pv_table::{Deed, say_left};
+use pv_table::{Action, say_left};
 use pv_text::{Messages, Place};
 use std::alloc::{AllocError, Global};
 
@@ -29,16 +29,16 @@ pub(crate) fn settle<T: Tree>(
     at: &LineAt<'_>,
     messages: &mut Messages,
 ) -> Result<(), TreeFault>
-    requires deed { IsDeed at.now.path.now at.now.deed.now }
-    requires ready { IsReady at.now.deed.now at.now.path.now (T.state tree.old) }
-    ensures settles { let turn = decide at.entry.now.deed.now (view_of (T.state tree.old)) at.entry.now.path.now in
-        Settles T.Tree at.entry.now.now at.entry.now.deed.now at.entry.now.path.now turn tree.old tree.new result }
-    ensures said { let turn = decide at.entry.now.deed.now (view_of (T.state tree.old)) at.entry.now.path.now in
-        OnOk result (messages.new ≡ messages.old ++ map (said_at at.entry.now.line.now.place) (turn_texts at.entry.now.path.now turn)) }
-    ensures part { let turn = decide at.entry.now.deed.now (view_of (T.state tree.old)) at.entry.now.path.now in
-        SaidPart (map (said_at at.entry.now.line.now.place) (turn_texts at.entry.now.path.now turn)) messages.old messages.new }
+    requires action { IsAction at.now.path.now at.now.action.now }
+    requires ready { IsReady at.now.action.now at.now.path.now (T.state tree.old) }
+    ensures settles { let turn = decide at.entry.now.action.now (view_of (T.state tree.old)) at.entry.now.path.now in
+        Settles T.Tree at.entry.now.now at.entry.now.action.now at.entry.now.path.now turn tree.old tree.new result }
+    ensures new_messages { let turn = decide at.entry.now.action.now (view_of (T.state tree.old)) at.entry.now.path.now in
+        OnOk result (messages.new ≡ messages.old ++ map (message_text_at at.entry.now.line.now.place) (turn_texts at.entry.now.path.now turn)) }
+    ensures part { let turn = decide at.entry.now.action.now (view_of (T.state tree.old)) at.entry.now.path.now in
+        MessagesPart (map (message_text_at at.entry.now.line.now.place) (turn_texts at.entry.now.path.now turn)) messages.old messages.new }
 {
-    let turn = decide(alloc, tree, at.deed, at.path)?;
+    let turn = decide(alloc, tree, at.action, at.path)?;
     say_turn(alloc, &at.line.place, at.path, turn, messages)?;
     apply(alloc, tree, at, turn)
 }
@@ -51,8 +51,8 @@ fn say_turn(
     turn: Turn,
     messages: &mut Messages,
 ) -> Result<(), AllocError>
-    ensures ok { OnOk result ((deed : DeedValue) (view : View) → messages.new
-        ≡ messages.old ++ map (said_at place.now) (turn_texts path.now (meant deed view turn))) }
+    ensures ok { OnOk result ((action : ActionValue) (view : View) → messages.new
+        ≡ messages.old ++ map (message_text_at place.now) (turn_texts path.now (meant action view turn))) }
     ensures err { OnErr result (messages.new ≡ messages.old) }
 {
     match turn {
@@ -63,32 +63,32 @@ fn say_turn(
 
 /// Does what is to be done. What a line that only adjusts reaches is adjusted whatever stands at the path itself.
 fn apply<T: Tree>(alloc: Global, tree: &mut T, at: &LineAt<'_>, turn: Turn) -> Result<(), TreeFault>
-    requires deed { IsDeed at.now.path.now at.now.deed.now }
-    requires ready { IsReady at.now.deed.now at.now.path.now (T.state tree.old) }
+    requires action { IsAction at.now.path.now at.now.action.now }
+    requires ready { IsReady at.now.action.now at.now.path.now (T.state tree.old) }
     requires tree { IsTree (T.state tree.old) }
-    requires turn { meant at.now.deed.now (view_of (T.state tree.old)) turn
-        ≡ decide at.now.deed.now (view_of (T.state tree.old)) at.now.path.now }
-    ensures { let done = meant at.entry.now.deed.now (view_of (T.state tree.old)) turn in
-        Settles T.Tree at.entry.now.now at.entry.now.deed.now at.entry.now.path.now done tree.old tree.new result }
+    requires turn { meant at.now.action.now (view_of (T.state tree.old)) turn
+        ≡ decide at.now.action.now (view_of (T.state tree.old)) at.now.path.now }
+    ensures { let done = meant at.entry.now.action.now (view_of (T.state tree.old)) turn in
+        Settles T.Tree at.entry.now.now at.entry.now.action.now at.entry.now.path.now done tree.old tree.new result }
 {
-    if let Some(touching) = touched(at.deed) {
-        return adjust_reached(alloc, tree, touching, at.path, at.now);
+    if let Some(adjustment) = adjustment_of(at.action) {
+        return adjust_reached(alloc, tree, adjustment, at.path, at.now);
     }
     match turn {
         Turn::Put => put(alloc, tree, at),
-        Turn::Become => adjust(alloc, tree, at.path, sets_of(at.deed), at.now),
+        Turn::Become => adjust(alloc, tree, at.path, sets_of(at.action), at.now),
         Turn::Nothing | Turn::Left(_) => Ok(()),
     }
 }
 
 /// What a line sets of an object that stays.
-fn sets_of(deed: &Deed) -> &[Operation]
-    ensures { result.now ≡ sets_of deed.now }
+fn sets_of(action: &Action) -> &[Operation]
+    ensures { result.now ≡ sets_of action.now }
 {
-    match deed {
-        Deed::Create(making) => making.sets.as_slice(),
-        Deed::Copy(copying) => copying.sets.as_slice(),
-        Deed::Touch(touching) => touching.sets.as_slice(),
-        Deed::Idle => &[],
+    match action {
+        Action::Create(making) => making.sets.as_slice(),
+        Action::Copy(copying) => copying.sets.as_slice(),
+        Action::Adjust(adjustment) => adjustment.sets.as_slice(),
+        Action::Idle => &[],
     }
 }

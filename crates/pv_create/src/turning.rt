@@ -5,7 +5,7 @@ ghost use Rattle.pv_steps.specs.Acting.{Acted};
 ghost use Rattle.pv_steps.specs.Trees.{places};
 ghost use Rattle.pv_table.specs.Saying.{found};
 ghost use Rattle.pv_table.specs.Turns.{has_something, refused_at};
-ghost use Rattle.pv_create.specs.Deeds.{IsLineAt, IsReady};
+ghost use Rattle.pv_create.specs.Actions.{IsLineAt, IsReady};
 ghost use Rattle.pv_create.specs.OnWay.{turn_course};
 ghost use Rattle.pv_create.specs.Turning.{Readying, IsReadyStep, ready_work};
 
@@ -37,7 +37,7 @@ pub(crate) fn at_turn<T: Tree>(
         say_refusal(alloc, &at.line.place, &refused, messages)?;
         return Ok(Carried::NotCarriedOut);
     }
-    if !has_something(tree, at.deed) {
+    if !has_something(tree, at.action) {
         return Ok(Carried::Whole);
     }
     get_ready(alloc, tree, at)?;
@@ -50,14 +50,14 @@ pub(crate) fn at_turn<T: Tree>(
 fn get_ready<T: Tree>(alloc: Global, tree: &mut T, at: &LineAt<'_>) -> Result<(), TreeFault>
     requires at { IsLineAt at.now (T.state tree.old) }
     requires unrefused { refused_at at.now.line.now at.now.path.now (places (T.state tree.old)) ≡ None }
-    requires something { has_something (places (T.state tree.old)) at.now.deed.now ≡ true }
-    ensures ok { OnOk result (T.state tree.new ≡ found at.entry.now.now at.entry.now.deed.now at.entry.now.path.now (T.state tree.old)) }
-    ensures ready { OnOk result (IsReady at.entry.now.deed.now at.entry.now.path.now (T.state tree.new)) }
-    ensures acted { Acted T.Tree (Readying at.entry.now.deed.now at.entry.now.path.now (T.state tree.old))
-        (IsReadyStep at.entry.now.deed.now at.entry.now.path.now (T.state tree.old))
-        (ready_work at.entry.now.deed.now at.entry.now.path.now (T.state tree.old)) at.entry.now.now tree.old tree.new result }
+    requires something { has_something (places (T.state tree.old)) at.now.action.now ≡ true }
+    ensures ok { OnOk result (T.state tree.new ≡ found at.entry.now.now at.entry.now.action.now at.entry.now.path.now (T.state tree.old)) }
+    ensures ready { OnOk result (IsReady at.entry.now.action.now at.entry.now.path.now (T.state tree.new)) }
+    ensures acted { Acted T.Tree (Readying at.entry.now.action.now at.entry.now.path.now (T.state tree.old))
+        (IsReadyStep at.entry.now.action.now at.entry.now.path.now (T.state tree.old))
+        (ready_work at.entry.now.action.now at.entry.now.path.now (T.state tree.old)) at.entry.now.now tree.old tree.new result }
 {
-    if makes(at.deed) {
+    if makes(at.action) {
         prepare(alloc, tree, at.path, at.now)
     } else {
         Ok(())

@@ -2,12 +2,12 @@
 ghost use Rattle.std.specs.Prelude.{◌≡◌, Some, IfOk};
 ghost use Rattle.pv_steps.specs.declared.object.Object.{Object as ObjectValue};
 ghost use Rattle.pv_steps.specs.Trees.{places, node_at, IsPresent, IsTree};
-ghost use Rattle.pv_dress.specs.Operations.{run};
-ghost use Rattle.pv_dress.specs.Reasons.{is_adjusting};
+ghost use Rattle.pv_metadata.specs.Operations.{run};
+ghost use Rattle.pv_metadata.specs.Reasons.{is_adjusting};
 ghost use Rattle.pv_create.specs.Sets.{is_writing, writes, AreSets};
 ghost use Rattle.pv_create.specs.Adjusting.{IsWanted};
 
-use pv_dress::{Bare, Change, Dress, Operation, run_operations};
+use pv_metadata::{Change, Metadata, ObjectState, Operation, run_operations};
 use pv_path::{Bytes, TreePath};
 use pv_steps::{Kind, Node, Tree};
 use std::alloc::{AllocError, Global};
@@ -18,7 +18,7 @@ pub(crate) struct Wanted {
     /// The bytes of a file, where bytes are among what is set.
     pub bytes: Option<Bytes>,
     /// Its owner, mode, ACL, extended attributes and letters.
-    pub dress: Dress,
+    pub metadata: Metadata,
 }
 
 /// What the object at a path is to have. The bytes of a file are looked at only where bytes are among what is set.
@@ -36,21 +36,21 @@ pub(crate) fn wanted_at<T: Tree>(
 {
     let node = node_of(tree, path);
     if node.kind == Kind::File && writes(sets) {
-        let new = after(alloc, sets, Bare::of(alloc, node, tree.bytes(path))?)?;
+        let new = after(alloc, sets, ObjectState::of(alloc, node, tree.bytes(path))?)?;
         return Ok(Wanted {
             bytes: Some(new.body.payload),
-            dress: new.dress,
+            metadata: new.metadata,
         });
     }
-    let new = after(alloc, sets, Bare::of(alloc, node, b"")?)?;
+    let new = after(alloc, sets, ObjectState::of(alloc, node, b"")?)?;
     Ok(Wanted {
         bytes: None,
-        dress: new.dress,
+        metadata: new.metadata,
     })
 }
 
 /// What is set makes of an object.
-fn after(alloc: Global, sets: &[Operation], old: Bare) -> Result<Bare, AllocError>
+fn after(alloc: Global, sets: &[Operation], old: ObjectState) -> Result<ObjectState, AllocError>
     requires { AreSets sets.now }
     ensures { IfOk result (λ new. run sets.now (Some old) ≡ Some new) }
 {
@@ -73,7 +73,7 @@ fn is_writing(operation: &Operation) -> bool
 {
     matches!(
         operation,
-        Operation::Adjust {
+        Operation::Apply {
             change: Change::Write(_) | Change::Append(_),
             ..
         }

@@ -8,12 +8,12 @@ use Rattle.pv_steps.specs.declared.tree.TreeFault.TheVariants.{Failed, Memory}
 use Rattle.pv_steps.specs.Acting.{refused, Acted}
 use Rattle.pv_steps.specs.Trees.{Files}
 use Rattle.pv_steps.proofs.ActingLaws.{Moves, acted_none, acted_passed, no_memory}
-use Rattle.pv_text.specs.Said.{SaidPart}
-use Rattle.pv_text.proofs.SaidLaws.{said_whole}
+use Rattle.pv_text.specs.GivenMessages.{MessagesPart}
+use Rattle.pv_text.proofs.MessagesLaws.{messages_whole}
 use Rattle.pv_doing.specs.Courses.{Course, each_of, carried_of, CarriesOut, HasGone}
 use Rattle.pv_doing.specs.declared.carried.Carried.{Carried}
 use Rattle.pv_doing.specs.declared.carried.Carried.TheVariants.{Whole}
-use Rattle.pv_doing.proofs.CourseLaws.{Going, going_start, going_next, IsSingle, single_start, single_told, single_gone, one_gone, one_within, one_part, part_none, end_whole, end_said, end_part, end_refused, end_acted, end_gone}
+use Rattle.pv_doing.proofs.CourseLaws.{Going, going_start, going_next, IsSingle, single_start, single_told, single_gone, one_gone, one_within, one_part, part_none, end_whole, end_messages, end_part, end_refused, end_acted, end_gone}
 
 -- a fault that is passed on tells as many refused steps
 pub refused_passed : {A B : Type 0} {e : TreeFault} (q : Result A TreeFault) (r : Result B TreeFault) → q ≡ Err e → IsErrAnd r (λ y. y ≡ e) → refused q ≡ refused r
@@ -30,48 +30,48 @@ refused_passed {A} {B} {e} q r was passed = ap (λ (v : Result A TreeFault). ref
 module _ {S A : Type 0} (tree : Ghosts S) (c : Course A) (x : A) (now : ℕ) (a : S) (old : List (List ℕ)) where
   -- no step was done
   unmoved : (new texts : List (List ℕ)) → new ≡ old ++ texts → c.cut now 0 x (tree.state a) [] texts → (n : ℕ) → n ≡ 0 → HasGone tree (c.cut now n x (tree.state a)) now a a old new
-  unmoved new texts said cut n none = record {
+  unmoved new texts new_messages cut n none = record {
     steps = [];
     texts = texts;
     recorded = sym (append-nil (tree.steps a));
     reached = refl;
-    said = said;
+    new_messages = new_messages;
     is = subst (λ m. c.cut now m x (tree.state a) [] texts) (sym none) cut;
   }
 
   -- memory ran out before anything was done or said
   pub carried_none : Moves tree → c.way x (tree.state a) (tree.state a) → c.cut now 0 x (tree.state a) [] [] → (new : List (List ℕ)) → new ≡ old → (r : Result Carried TreeFault) → IsErrAnd r (λ e. e ≡ Memory)
       → CarriesOut tree c x now a a old new r
-  carried_none moves start begun new unsaid (Ok ended) memory = absurd memory
-  carried_none moves start begun new unsaid (Err e) memory = record {
+  carried_none moves start begun new messages_kept (Ok ended) memory = absurd memory
+  carried_none moves start begun new messages_kept (Err e) memory = record {
     ok = tt;
-    said = tt;
+    new_messages = tt;
     carried = tt;
-    part = subst (SaidPart (c.whole.says x (tree.state a)) old) (sym unsaid) (part_none (c.whole.says x (tree.state a)) old);
+    part = subst (MessagesPart (c.whole.says x (tree.state a)) old) (sym messages_kept) (part_none (c.whole.says x (tree.state a)) old);
     acted = acted_none tree moves (c.way x (tree.state a)) (c.steps x (tree.state a)) (c.whole.takes x (tree.state a)) now a (Err e) (no_memory {A = Carried} (Err e) memory) start;
-    went = unmoved new [] (unsaid ∙ sym (append-nil old)) begun (refused {A = Carried} (Err e)) (no_memory {A = Carried} (Err e) memory);
+    went = unmoved new [] (messages_kept ∙ sym (append-nil old)) begun (refused {A = Carried} (Err e)) (no_memory {A = Carried} (Err e) memory);
   }
 
   -- there is nothing to be done, and all is said
   pub carried_told : Moves tree → c.way x (tree.state a) (tree.state a) → c.cut now 0 x (tree.state a) [] (c.whole.says x (tree.state a)) → (new : List (List ℕ)) (ended : Carried) → tree.state a ≡ c.whole.after x (tree.state a) → new ≡ old ++ c.whole.says x (tree.state a)
       → ended ≡ carried_of (c.whole.is_refused x (tree.state a)) → CarriesOut tree c x now a a old new (Ok ended)
-  carried_told moves start told new ended done said is = record {
+  carried_told moves start stated new ended done new_messages is = record {
     ok = done;
-    said = said;
+    new_messages = new_messages;
     carried = is;
-    part = said_whole (c.whole.says x (tree.state a)) old new said;
+    part = messages_whole (c.whole.says x (tree.state a)) old new new_messages;
     acted = acted_none tree moves (c.way x (tree.state a)) (c.steps x (tree.state a)) (c.whole.takes x (tree.state a)) now a (Ok ended) refl start;
-    went = unmoved new (c.whole.says x (tree.state a)) said told 0 refl;
+    went = unmoved new (c.whole.says x (tree.state a)) new_messages stated 0 refl;
   }
 
   -- the fault of a call on the way is passed on
   pub carried_failed : {B : Type 0} (b : S) (new : List (List ℕ)) {e : TreeFault} (q : Result B TreeFault) (r : Result Carried TreeFault) → q ≡ Err e → IsErrAnd r (λ y. y ≡ e)
-      → SaidPart (c.whole.says x (tree.state a)) old new → Acted tree (c.way x (tree.state a)) (c.steps x (tree.state a)) (c.whole.takes x (tree.state a)) now a b q
+      → MessagesPart (c.whole.says x (tree.state a)) old new → Acted tree (c.way x (tree.state a)) (c.steps x (tree.state a)) (c.whole.takes x (tree.state a)) now a b q
       → HasGone tree (c.cut now (refused q) x (tree.state a)) now a b old new → CarriesOut tree c x now a b old new r
   carried_failed b new q (Ok ended) was passed part acted gone = absurd passed
   carried_failed b new q (Err y) was passed part acted gone = record {
     ok = tt;
-    said = tt;
+    new_messages = tt;
     carried = tt;
     part = part;
     acted = acted_passed tree q (Err y) was passed acted;
@@ -82,14 +82,14 @@ module _ {S A : Type 0} (tree : Ghosts S) (c : Course A) (x : A) (now : ℕ) (a 
 
   module _ (alone : IsSingle c) where
     pub single_none : Moves tree → c.way x (tree.state a) (tree.state a) → (new : List (List ℕ)) → new ≡ old → (r : Result Carried TreeFault) → IsErrAnd r (λ e. e ≡ Memory) → CarriesOut tree c x now a a old new r
-    single_none moves start new unsaid r memory = carried_none moves start (single_start c alone now x (tree.state a) start) new unsaid r memory
+    single_none moves start new messages_kept r memory = carried_none moves start (single_start c alone now x (tree.state a) start) new messages_kept r memory
 
-    pub single_said : Moves tree → c.way x (tree.state a) (tree.state a) → (new : List (List ℕ)) (ended : Carried) → tree.state a ≡ c.whole.after x (tree.state a) → new ≡ old ++ c.whole.says x (tree.state a)
+    pub single_messages : Moves tree → c.way x (tree.state a) (tree.state a) → (new : List (List ℕ)) (ended : Carried) → tree.state a ≡ c.whole.after x (tree.state a) → new ≡ old ++ c.whole.says x (tree.state a)
         → ended ≡ carried_of (c.whole.is_refused x (tree.state a)) → CarriesOut tree c x now a a old new (Ok ended)
-    single_said moves start new ended done said is = carried_told moves start (single_told c alone now x (tree.state a) start) new ended done said is
+    single_messages moves start new ended done new_messages is = carried_told moves start (single_told c alone now x (tree.state a) start) new ended done new_messages is
 
     pub single_failed : {B : Type 0} (b : S) (new : List (List ℕ)) {e : TreeFault} (q : Result B TreeFault) (r : Result Carried TreeFault) → q ≡ Err e → IsErrAnd r (λ y. y ≡ e)
-        → SaidPart (c.whole.says x (tree.state a)) old new → Acted tree (c.way x (tree.state a)) (c.steps x (tree.state a)) (c.whole.takes x (tree.state a)) now a b q
+        → MessagesPart (c.whole.says x (tree.state a)) old new → Acted tree (c.way x (tree.state a)) (c.steps x (tree.state a)) (c.whole.takes x (tree.state a)) now a b q
         → CarriesOut tree c x now a b old new r
     single_failed b new q r was passed part acted = carried_failed b new q r was passed part acted (single_gone c alone tree x now a b old new part acted)
 
@@ -125,7 +125,7 @@ module _ {S A : Type 0} (tree : Ghosts S) (moves : Moves tree) (c : Course A) (s
     underway_next one ended done both = record {
       refused = under.refused || c.whole.is_refused x (tree.state b);
       ended = both under.refused (c.whole.is_refused x (tree.state b)) under.ended done.carried;
-      going = going_next c tree moves start all now a old rest x under.refused b mid going d new done.ok done.said done.acted done.went;
+      going = going_next c tree moves start all now a old rest x under.refused b mid going d new done.ok done.new_messages done.acted done.went;
     }
 
   -- ---- all are carried out
@@ -133,7 +133,7 @@ module _ {S A : Type 0} (tree : Ghosts S) (moves : Moves tree) (c : Course A) (s
   pub underway_end : (left : List A) → left ≡ [] → (carried : Carried) (b : S) (new : List (List ℕ)) → Underway tree c all left now carried a b old new → CarriesOut tree (each_of c) all now a b old new (Ok carried)
   underway_end left none carried b new under = record {
     ok = end_whole c tree moves start all now a old under.refused b new gone;
-    said = end_said c tree moves start all now a old under.refused b new gone;
+    new_messages = end_messages c tree moves start all now a old under.refused b new gone;
     carried = under.ended ∙ ap carried_of (end_refused c tree moves start all now a old under.refused b new gone);
     part = end_part c tree moves start all now a old under.refused b new gone;
     acted = end_acted c tree moves start all now a old under.refused b new gone (Ok carried) refl;

@@ -13,9 +13,9 @@ use Rattle.pv_steps.specs.Acting.{refused as refused_of, Acted}
 use Rattle.pv_steps.specs.Runs.{after_all}
 use Rattle.pv_steps.proofs.ActingLaws.{Moves, well, acted_none, acted_then, acted_weaken, acted_within, acted_ended}
 use Rattle.pv_steps.proofs.RunLaws.{after_all-append}
-use Rattle.pv_text.specs.Said.{SaidPart}
-use Rattle.pv_text.proofs.SaidLaws.{said_first, said_then, said_whole}
-use Rattle.pv_table.specs.Created.{after_each, said_of_each, one_is_refused, taken_by_each}
+use Rattle.pv_text.specs.GivenMessages.{MessagesPart}
+use Rattle.pv_text.proofs.MessagesLaws.{messages_first, messages_then, messages_whole}
+use Rattle.pv_table.specs.Created.{after_each, messages_for_each, one_is_refused, taken_by_each}
 use Rattle.pv_doing.specs.Courses.{AtWork, Course, Cut, HasGone, Partway, IsStepOfSome}
 
 -- ---- what is left of a list
@@ -26,12 +26,12 @@ none_left all i h = drop_all i all h
 -- ---- parts of what is said
 
 -- a part of what is said of one, after all that is said of those before it
-part_said : (all before one rest old mid new : List (List ℕ)) → all ≡ before ++ (one ++ rest) → mid ≡ old ++ before → SaidPart one mid new → SaidPart all old new
-part_said all before one rest old mid new whole said part =
-    subst (λ (x : List (List ℕ)). SaidPart x old new) (sym whole) (said_then before (one ++ rest) old mid new said (said_first one rest mid new part))
+part_messages : (all before one rest old mid new : List (List ℕ)) → all ≡ before ++ (one ++ rest) → mid ≡ old ++ before → MessagesPart one mid new → MessagesPart all old new
+part_messages all before one rest old mid new whole new_messages part =
+    subst (λ (x : List (List ℕ)). MessagesPart x old new) (sym whole) (messages_then before (one ++ rest) old mid new new_messages (messages_first one rest mid new part))
 
 -- nothing is said
-pub part_none : (all old : List (List ℕ)) → SaidPart all old old
+pub part_none : (all old : List (List ℕ)) → MessagesPart all old old
 part_none all old = (zero, sym (append-nil old))
 
 -- ---- one thing that was cut short
@@ -39,7 +39,7 @@ part_none all old = (zero, sym (append-nil old))
 module _ {A : Type 0} (c : Course A) where
   -- it is only at work
   abbrev pub IsSingle : Type 0
-  IsSingle = (now refused : ℕ) (x : A) (t : Files) (done : List Step) (said : List (List ℕ)) → AtWork c.whole c.way c.steps now refused x t done said → c.cut now refused x t done said
+  IsSingle = (now refused : ℕ) (x : A) (t : Files) (done : List Step) (new_messages : List (List ℕ)) → AtWork c.whole c.way c.steps now refused x t done new_messages → c.cut now refused x t done new_messages
 
   module _ (alone : IsSingle) (now : ℕ) (x : A) (t : Files) (start : c.way x t t) where
     -- nothing is done or said
@@ -52,14 +52,14 @@ module _ {A : Type 0} (c : Course A) where
         alone now 0 x t [] (c.whole.says x t) (record { along = start; own = tt; within = omega arith; front = (length (c.whole.says x t), sym (take-length (c.whole.says x t))) })
 
   -- what a call has done by its steps, and has said
-  pub single_gone : IsSingle → {S B : Type 0} (tree : Ghosts S) (x : A) (now : ℕ) (a b : S) (old new : List (List ℕ)) {r : Result B TreeFault} → SaidPart (c.whole.says x (tree.state a)) old new
+  pub single_gone : IsSingle → {S B : Type 0} (tree : Ghosts S) (x : A) (now : ℕ) (a b : S) (old new : List (List ℕ)) {r : Result B TreeFault} → MessagesPart (c.whole.says x (tree.state a)) old new
       → Acted tree (c.way x (tree.state a)) (c.steps x (tree.state a)) (c.whole.takes x (tree.state a)) now a b r → HasGone tree (c.cut now (refused_of r) x (tree.state a)) now a b old new
   single_gone alone tree x now a b old new {r} part acted = record {
     steps = acted.ran.steps;
     texts = take part.0 (c.whole.says x (tree.state a));
     recorded = acted.ran.recorded;
     reached = acted.ran.reached;
-    said = part.1;
+    new_messages = part.1;
     is = alone now (refused_of r) x (tree.state a) acted.ran.steps (take part.0 (c.whole.says x (tree.state a))) (record {
       along = acted.ran.along;
       own = acted.ran.gives;
@@ -92,8 +92,8 @@ or_assoc false b c = refl
 pub record Going {A S : Type 0} (c : Course A) (tree : Ghosts S) (all left : List A) (now : ℕ) (refused : Bool) (a b : S) (old new : List (List ℕ)) : Type 0 where
   pub whole : after_each c.whole all (tree.state a) ≡ after_each c.whole left (tree.state b)
   pub before : List (List ℕ)
-  pub said : new ≡ old ++ before
-  pub to_say : said_of_each c.whole all (tree.state a) ≡ before ++ said_of_each c.whole left (tree.state b)
+  pub new_messages : new ≡ old ++ before
+  pub to_say : messages_for_each c.whole all (tree.state a) ≡ before ++ messages_for_each c.whole left (tree.state b)
   pub refusals : one_is_refused c.whole all (tree.state a) ≡ (refused || one_is_refused c.whole left (tree.state b))
   pub further : (u : Files) → Partway c left (tree.state b) u → Partway c all (tree.state a) u
   pub of_all : (s : Step) → IsStepOfSome c left (tree.state b) s → IsStepOfSome c all (tree.state a) s
@@ -111,7 +111,7 @@ module _ {A S : Type 0} (c : Course A) (tree : Ghosts S) (moves : Moves tree) (s
   going_start = record {
     whole = refl;
     before = [];
-    said = sym (append-nil old);
+    new_messages = sym (append-nil old);
     to_say = refl;
     refusals = refl;
     further = λ u way. way;
@@ -143,33 +143,33 @@ module _ {A S : Type 0} (c : Course A) (tree : Ghosts S) (moves : Moves tree) (s
         let room : going.taken + (c.whole.takes x (tree.state b) + taken_by_each c.whole left (c.whole.after x (tree.state b))) ≤ taken_by_each c.whole all (tree.state a) = going.room in
         acted_within tree (going.taken + c.whole.takes x (tree.state b)) (taken_by_each c.whole all (tree.state a)) (omega (arith, room)) (one_acted one)
 
-    pub one_part : (said : List (List ℕ)) → SaidPart (c.whole.says x (tree.state b)) new said → SaidPart (said_of_each c.whole all (tree.state a)) old said
-    one_part said part =
-        part_said (said_of_each c.whole all (tree.state a)) going.before (c.whole.says x (tree.state b)) (said_of_each c.whole left (c.whole.after x (tree.state b))) old new said going.to_say going.said part
+    pub one_part : (new_messages : List (List ℕ)) → MessagesPart (c.whole.says x (tree.state b)) new new_messages → MessagesPart (messages_for_each c.whole all (tree.state a)) old new_messages
+    one_part new_messages part =
+        part_messages (messages_for_each c.whole all (tree.state a)) going.before (c.whole.says x (tree.state b)) (messages_for_each c.whole left (c.whole.after x (tree.state b))) old new new_messages going.to_say going.new_messages part
 
     -- what it and all before it have done and said
-    pub one_gone : (n : ℕ) (d : S) (said : List (List ℕ)) → HasGone tree (c.cut now n x (tree.state b)) now b d new said → HasGone tree (Cut c now n all (tree.state a)) now a d old said
-    one_gone n d said one = record {
+    pub one_gone : (n : ℕ) (d : S) (new_messages : List (List ℕ)) → HasGone tree (c.cut now n x (tree.state b)) now b d new new_messages → HasGone tree (Cut c now n all (tree.state a)) now a d old new_messages
+    one_gone n d new_messages one = record {
       steps = going.done ++ one.steps;
       texts = going.before ++ one.texts;
       recorded = one.recorded ∙ ap (λ v. v ++ one.steps) going.recorded ∙ append_assoc (tree.steps a) going.done one.steps;
       reached = one.reached ∙ ap (λ v. after_all v one.steps now) going.reached ∙ sym (after_all-append (tree.state a) going.done one.steps now);
-      said = one.said ∙ ap (λ v. v ++ one.texts) going.said ∙ append_assoc old going.before one.texts;
+      new_messages = one.new_messages ∙ ap (λ v. v ++ one.texts) going.new_messages ∙ append_assoc old going.before one.texts;
       is = going.cutting n one.steps one.texts (inl one.is);
     }
 
     -- when it is done
-    pub going_next : {B : Type 0} (d : S) {y : B} (said : List (List ℕ)) → tree.state d ≡ c.whole.after x (tree.state b) → said ≡ new ++ c.whole.says x (tree.state b)
+    pub going_next : {B : Type 0} (d : S) {y : B} (new_messages : List (List ℕ)) → tree.state d ≡ c.whole.after x (tree.state b) → new_messages ≡ new ++ c.whole.says x (tree.state b)
         → Acted tree (c.way x (tree.state b)) (c.steps x (tree.state b)) (c.whole.takes x (tree.state b)) now b d (Ok y)
-        → HasGone tree (c.cut now 0 x (tree.state b)) now b d new said
-        → Going c tree all left now (refused || c.whole.is_refused x (tree.state b)) a d old said
-    going_next d said done is one gone = record {
+        → HasGone tree (c.cut now 0 x (tree.state b)) now b d new new_messages
+        → Going c tree all left now (refused || c.whole.is_refused x (tree.state b)) a d old new_messages
+    going_next d new_messages done is one gone = record {
       whole = going.whole ∙ ap (after_each c.whole left) (sym done);
       before = going.before ++ c.whole.says x (tree.state b);
-      said = is ∙ ap (λ v. v ++ c.whole.says x (tree.state b)) going.said ∙ append_assoc old going.before (c.whole.says x (tree.state b));
+      new_messages = is ∙ ap (λ v. v ++ c.whole.says x (tree.state b)) going.new_messages ∙ append_assoc old going.before (c.whole.says x (tree.state b));
       to_say =
-          going.to_say ∙ sym (append_assoc going.before (c.whole.says x (tree.state b)) (said_of_each c.whole left (c.whole.after x (tree.state b))))
-          ∙ ap (λ v. (going.before ++ c.whole.says x (tree.state b)) ++ said_of_each c.whole left v) (sym done);
+          going.to_say ∙ sym (append_assoc going.before (c.whole.says x (tree.state b)) (messages_for_each c.whole left (c.whole.after x (tree.state b))))
+          ∙ ap (λ v. (going.before ++ c.whole.says x (tree.state b)) ++ messages_for_each c.whole left v) (sym done);
       refusals =
           going.refusals ∙ or_assoc refused (c.whole.is_refused x (tree.state b)) (one_is_refused c.whole left (c.whole.after x (tree.state b)))
           ∙ ap (λ v. (refused || c.whole.is_refused x (tree.state b)) || one_is_refused c.whole left v) (sym done);
@@ -192,8 +192,8 @@ module _ {A S : Type 0} (c : Course A) (tree : Ghosts S) (moves : Moves tree) (s
             more = steps;
             texts = texts;
             done = refl;
-            told = refl;
-            first = subst (c.cut now 0 x (tree.state b) gone.steps) (append_cancel_left new gone.texts (c.whole.says x (tree.state b)) (sym gone.said ∙ is)) gone.is;
+            stated = refl;
+            first = subst (c.cut now 0 x (tree.state b) gone.steps) (append_cancel_left new gone.texts (c.whole.says x (tree.state b)) (sym gone.new_messages ∙ is)) gone.is;
             left = sym gone.reached ∙ done;
             later = subst (λ v. Cut c now n left v steps texts) done cut;
           }))));
@@ -205,11 +205,11 @@ module _ {A S : Type 0} (c : Course A) (tree : Ghosts S) (moves : Moves tree) (s
     pub end_whole : tree.state b ≡ after_each c.whole all (tree.state a)
     end_whole = sym going.whole
 
-    pub end_said : new ≡ old ++ said_of_each c.whole all (tree.state a)
-    end_said = going.said ∙ ap (λ v. old ++ v) (sym (going.to_say ∙ append-nil going.before))
+    pub end_messages : new ≡ old ++ messages_for_each c.whole all (tree.state a)
+    end_messages = going.new_messages ∙ ap (λ v. old ++ v) (sym (going.to_say ∙ append-nil going.before))
 
-    pub end_part : SaidPart (said_of_each c.whole all (tree.state a)) old new
-    end_part = said_whole (said_of_each c.whole all (tree.state a)) old new end_said
+    pub end_part : MessagesPart (messages_for_each c.whole all (tree.state a)) old new
+    end_part = messages_whole (messages_for_each c.whole all (tree.state a)) old new end_messages
 
     pub end_refused : refused ≡ one_is_refused c.whole all (tree.state a)
     end_refused = sym (going.refusals ∙ or-false refused)
@@ -226,6 +226,6 @@ module _ {A S : Type 0} (c : Course A) (tree : Ghosts S) (moves : Moves tree) (s
       texts = going.before ++ [];
       recorded = going.recorded ∙ ap (λ v. tree.steps a ++ v) (sym (append-nil going.done));
       reached = going.reached ∙ ap (λ v. after_all (tree.state a) v now) (sym (append-nil going.done));
-      said = going.said ∙ ap (λ v. old ++ v) (sym (append-nil going.before));
+      new_messages = going.new_messages ∙ ap (λ v. old ++ v) (sym (append-nil going.before));
       is = going.cutting 0 [] [] (refl, refl, refl);
     }

@@ -2,7 +2,7 @@
 ghost use Rattle.std.specs.Prelude.{◌≡◌, Bool, ◌||◌};
 ghost use Rattle.pv_doing.specs.Courses.{carried_of};
 
-/// Whether all could be carried out.
+/// The outcome of a phase: whether all could be carried out.
 #[derive(Clone, Copy)]
 pub enum Carried {
     /// All was carried out, or left what stood there.

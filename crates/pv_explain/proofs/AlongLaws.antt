@@ -2,15 +2,15 @@
 use Rattle.std.specs.Prelude.{◌≡◌, true, false, ◌&&◌, [], ◌∷◌, Some, None, is_some}
 use Rattle.std.proofs.Common.{sym, ap, subst, ◌∙◌, inl, inr}
 use Rattle.std.specs.FinMap as fin
-use Rattle.pv_dress.proofs.EditLaws.{path_cases}
+use Rattle.pv_metadata.proofs.EditLaws.{path_cases}
 use Rattle.pv_lines.specs.declared.line.Line.{Line}
 use Rattle.pv_lines.specs.declared.line.LinePath.TheVariants.{Literal}
 use Rattle.pv_path.specs.Paths.{Path, is_prefix, same_path, same_path-decides}
 use Rattle.pv_path.proofs.PathLaws.{is_prefix-trans}
 use Rattle.pv_path.proofs.Tests.{none_of, true_not_false}
 use Rattle.pv_steps.proofs.StepLaws.{is_among, later_among}
-use Rattle.pv_table.specs.Asking.{asks}
-use Rattle.pv_table.specs.Pointwise.{Bares, point, pointwise_after, tabulated}
+use Rattle.pv_table.specs.ActionTable.{action_of}
+use Rattle.pv_table.specs.Pointwise.{ObjectStates, point, pointwise_after, tabulated}
 use Rattle.pv_table.specs.Turns.{copied}
 use Rattle.pv_walk.proofs.PreparedLaws.{in_parents, among_first, stands_among}
 use Rattle.pv_walk.specs.Preparing.{parents_of}
@@ -27,11 +27,11 @@ among_along (name ∷ q) path high = later_among [] (name ∷ q) (path ∷ paren
       ∙ ap (λ b. b && true) high))
 ])
 
-module _ (path : Path) (line : Line) (r s : Bares) (along : IsAlong path r s) where
+module _ (path : Path) (line : Line) (r s : ObjectStates) (along : IsAlong path r s) where
   -- a line that does not copy can be carried out there alone
-  pub along_after : is_some (copied (asks line)) ≡ false → IsAlong path (tabulated ([] ∷ path ∷ parents_of path) (point line r)) (pointwise_after s line)
+  pub along_after : is_some (copied (action_of line)) ≡ false → IsAlong path (tabulated ([] ∷ path ∷ parents_of path) (point line r)) (pointwise_after s line)
   along_after copies = within_at (λ q. is_prefix q path) (λ p q above high. is_prefix-trans p q path above high) line r s along
-      (λ copying e. let no : Some copying.source ≡ None = sym (ap copied e) ∙ none_of (copied (asks line)) copies in cc)
+      (λ copying e. let no : Some copying.source ≡ None = sym (ap copied e) ∙ none_of (copied (action_of line)) copies in cc)
       ([] ∷ path ∷ parents_of path) (λ q high. among_along q path high)
 
   -- and a line aside changes nothing there

@@ -10,7 +10,7 @@ use Rattle.pv_path.specs.Paths.{Path}
 use Rattle.pv_path.proofs.PathLaws.{is_prefix-refl}
 use Rattle.pv_table.proofs.ListedLaws.{order_at, same_length, there_of}
 use Rattle.pv_table.specs.Active.{Listed, ordered, create_order, in_create_order}
-use Rattle.pv_table.specs.Pointwise.{Bares, pointwise_after, state}
+use Rattle.pv_table.specs.Pointwise.{ObjectStates, pointwise_after, state}
 use Rattle.pv_table.specs.Repeatable.{IsAt}
 use Rattle.pv_explain.specs.declared.following.Scope.{Scope}
 use Rattle.pv_explain.specs.declared.following.Scope.TheVariants.{Along, Within}
@@ -33,7 +33,7 @@ numbered [] n i x e = absurd cc
 numbered (y ∷ xs) n zero x e = let same : y ≡ x = cc in let none : n ≡ n + 0 = omega arith in λ j. Some (none j, same j)
 numbered (y ∷ xs) n (suc i) x e = let next : n + 1 + i ≡ n + suc i = omega arith in numbered xs (n + 1) i x e ∙ ap (λ k. Some (k, x)) next
 
-fold_more : (xs : List Line) (x : Line) (s : Bares) → fold pointwise_after s (xs ++ x ∷ []) ≡ pointwise_after (fold pointwise_after s xs) x
+fold_more : (xs : List Line) (x : Line) (s : ObjectStates) → fold pointwise_after s (xs ++ x ∷ []) ≡ pointwise_after (fold pointwise_after s xs) x
 fold_more [] x s = refl
 fold_more (y ∷ xs) x s = fold_more xs x (pointwise_after s y)
 
@@ -63,7 +63,7 @@ module _ (lines : List Line) where
 
   -- ---- one line more
 
-  module _ (s : Bares) (i : ℕ) (line : Line) (at : slice_get (in_create_order lines) i ≡ Some line) where
+  module _ (s : ObjectStates) (i : ℕ) (line : Line) (at : slice_get (in_create_order lines) i ≡ Some line) where
     pub state_more : state lines (i + 1) s ≡ pointwise_after (state lines i s) line
     state_more = ap (fold pointwise_after s) (take_next (in_create_order lines) i line at) ∙ fold_more (take i (in_create_order lines)) line s
 
@@ -78,7 +78,7 @@ module _ (lines : List Line) where
 
   -- ---- after all
 
-  module _ (s : Bares) (i : ℕ) (past : length (in_create_order lines) ≤ i) where
+  module _ (s : ObjectStates) (i : ℕ) (past : length (in_create_order lines) ≤ i) where
     pub state_end : (path : Path) → fin.get (state lines i s) path ≡ last lines s path
     state_end path =
         ap (λ ls. fin.get (fold pointwise_after s ls) path) (
@@ -92,7 +92,7 @@ module _ (lines : List Line) where
 -- ---- what is followed
 
 -- it has at the path what stands there
-pub follows_path : (lines : List Line) (scope : Scope) (path : Path) → Fits scope path lines → (r s : Bares) → Follows scope path r s → fin.get r path ≡ fin.get s path
+pub follows_path : (lines : List Line) (scope : Scope) (path : Path) → Fits scope path lines → (r s : ObjectStates) → Follows scope path r s → fin.get r path ≡ fin.get s path
 follows_path lines (Along places) path fits r s f = f.same path (is_prefix-refl path)
 follows_path lines (Within region) path fits r s f = f.same path (holds_path lines path region fits)
 

@@ -8,9 +8,9 @@ use Rattle.std.specs.FinMap as fin
 use Rattle.std.specs.List.{filter_map, list_all, list_any, range_with_len}
 use Rattle.std.specs.Option.{option_map_or}
 use Rattle.std.specs.Ordering.{eq_by_cmp}
-use Rattle.pv_dress.specs.declared.bare.Bare.{Bare}
-use Rattle.pv_dress.specs.declared.operation.Operation.{Operation}
-use Rattle.pv_dress.specs.Operations.{run}
+use Rattle.pv_metadata.specs.declared.object_state.ObjectState.{ObjectState}
+use Rattle.pv_metadata.specs.declared.operation.Operation.{Operation}
+use Rattle.pv_metadata.specs.Operations.{run}
 use Rattle.pv_laws.proofs.Copies.{decide_some}
 use Rattle.pv_laws.proofs.CopyShapes.{IsCopyTurn, puts, becomes, leaves, copy_turns}
 use Rattle.pv_laws.proofs.Points.{get-tabulated}
@@ -21,13 +21,13 @@ use Rattle.pv_path.specs.Paths.{Path, path_cmp, same_path, is_prefix, rest_under
 use Rattle.pv_path.proofs.PathLaws.{is_prefix-take, not_prefix_not_same, is_some-rest_under, rest_under-Some, rest_under-None, tied-equal}
 use Rattle.pv_path.proofs.Tests.{true_not_false}
 use Rattle.pv_steps.proofs.StepLaws.{is_among, among_right, among_left, later_among}
-use Rattle.pv_table.specs.declared.deed.Copying.{Copying}
-use Rattle.pv_table.specs.declared.deed.Deed.{Deed}
-use Rattle.pv_table.specs.declared.deed.Deed.TheVariants.{Create, Copy, Touch, Idle}
-use Rattle.pv_table.specs.declared.deed.Making.{Making}
-use Rattle.pv_table.specs.declared.deed.Touching.{Touching}
-use Rattle.pv_table.specs.Asking.{asks}
-use Rattle.pv_table.specs.Pointwise.{Bares, view, parent_bare, after_turn, at_made, touches, point, point_paths, pointwise_after, tabulated}
+use Rattle.pv_table.specs.declared.action.Copying.{Copying}
+use Rattle.pv_table.specs.declared.action.Action.{Action}
+use Rattle.pv_table.specs.declared.action.Action.TheVariants.{Create, Copy, Adjust, Idle}
+use Rattle.pv_table.specs.declared.action.Making.{Making}
+use Rattle.pv_table.specs.declared.action.Adjustment.{Adjustment}
+use Rattle.pv_table.specs.ActionTable.{action_of}
+use Rattle.pv_table.specs.Pointwise.{ObjectStates, view, parent_object_state, after_turn, at_made, adjusts_path, point, point_paths, pointwise_after, tabulated}
 use Rattle.pv_table.specs.Reaching.{names, names_in, names_above, path_in}
 use Rattle.pv_table.specs.Repeatable.{sets_of}
 use Rattle.pv_table.specs.Turns.{Turn, copy_of, copying_turn, decide, making_turn, topped_by}
@@ -39,31 +39,31 @@ use Rattle.pv_explain.specs.Following.{IsWithin}
 
 -- ---- the definition, by what a line asks for
 
-point_made : (line : Line) (making : Making) (s : Bares) (q : Path) → asks line ≡ Create making → point line s q ≡ at_made (Create making) (path_in line.path) s q
+point_made : (line : Line) (making : Making) (s : ObjectStates) (q : Path) → action_of line ≡ Create making → point line s q ≡ at_made (Create making) (path_in line.path) s q
 point_made line making s q e = rw e
 
-pub point_copy : (line : Line) (copying : Copying) (s : Bares) (q : Path) → asks line ≡ Copy copying → point line s q ≡ cond (is_some (fin.get s copying.source)) (at_made (Copy copying) (path_in line.path) s q) (fin.get s q)
+pub point_copy : (line : Line) (copying : Copying) (s : ObjectStates) (q : Path) → action_of line ≡ Copy copying → point line s q ≡ cond (is_some (fin.get s copying.source)) (at_made (Copy copying) (path_in line.path) s q) (fin.get s q)
 point_copy line copying s q e = rw e
 
-point_touch : (line : Line) (touching : Touching) (s : Bares) (q : Path) → asks line ≡ Touch touching → point line s q ≡ cond (touches line touching q) (run touching.sets (fin.get s q)) (fin.get s q)
-point_touch line touching s q e = rw e
+point_adjust : (line : Line) (adjustment : Adjustment) (s : ObjectStates) (q : Path) → action_of line ≡ Adjust adjustment → point line s q ≡ cond (adjusts_path line adjustment q) (run adjustment.sets (fin.get s q)) (fin.get s q)
+point_adjust line adjustment s q e = rw e
 
-point_idle : (line : Line) (s : Bares) (q : Path) → asks line ≡ Idle → point line s q ≡ fin.get s q
+point_idle : (line : Line) (s : ObjectStates) (q : Path) → action_of line ≡ Idle → point line s q ≡ fin.get s q
 point_idle line s q e = rw e
 
-paths_made : (line : Line) (making : Making) (s : Bares) → asks line ≡ Create making → point_paths line s ≡ path_in line.path ∷ parents_of (path_in line.path)
+paths_made : (line : Line) (making : Making) (s : ObjectStates) → action_of line ≡ Create making → point_paths line s ≡ path_in line.path ∷ parents_of (path_in line.path)
 paths_made line making s e = rw e
 
-paths_copy : (line : Line) (copying : Copying) (s : Bares) → asks line ≡ Copy copying
+paths_copy : (line : Line) (copying : Copying) (s : ObjectStates) → action_of line ≡ Copy copying
     → point_paths line s ≡ path_in line.path ∷ (parents_of (path_in line.path) ++ map (λ rest. path_in line.path ++ rest) (filter_map (rest_under copying.source) (fin.keys s)))
 paths_copy line copying s e = rw e
 
 -- what is done at a path, by where another lies
-abbrev pub placed_by : Bool → Option Path → Turn → Option Bare → Option Bare
-placed_by above rest turn b = cond above (Some (unwrap_or b parent_bare)) (option_map_or (λ (r : Path). after_turn turn r b) rest b)
+abbrev pub placed_by : Bool → Option Path → Turn → Option ObjectState → Option ObjectState
+placed_by above rest turn b = cond above (Some (unwrap_or b parent_object_state)) (option_map_or (λ (r : Path). after_turn turn r b) rest b)
 
-adjusting : (line : Line) (deed : Deed) → asks line ≡ deed → list_all is_adjustment (sets_of deed) ≡ true
-adjusting line deed e = subst (λ (d : Deed). list_all is_adjustment (sets_of d) ≡ true) e (sets_adjust line (asks line) (asked line))
+adjusting : (line : Line) (action : Action) → action_of line ≡ action → list_all is_adjustment (sets_of action) ≡ true
+adjusting line action e = subst (λ (d : Action). list_all is_adjustment (sets_of d) ≡ true) e (sets_adjust line (action_of line) (asked line))
 
 root_some : (q : Path) → q ≢ [] → has_some q ≡ true
 root_some [] other = absurd (other refl)
@@ -71,31 +71,31 @@ root_some (name ∷ q) other = refl
 
 module _ (making : Making) where
   -- nothing comes to stand below what is made
-  made_below : (o : Option Bare) (name : List ℕ) (rest : Path) → after_turn (making_turn making o) (name ∷ rest) None ≡ None
+  made_below : (o : Option ObjectState) (name : List ℕ) (rest : Path) → after_turn (making_turn making o) (name ∷ rest) None ≡ None
   made_below None name rest = refl
   made_below (Some b) name rest = by _ _ _
     where
-      by : (c d : Bool) (new : Bare) → after_turn (cond c (Turn.Put (single new)) (cond d (Turn.Become making.sets) (Turn.Left b.body.kind))) (name ∷ rest) None ≡ None
+      by : (c d : Bool) (new : ObjectState) → after_turn (cond c (Turn.Put (single new)) (cond d (Turn.Become making.sets) (Turn.Left b.body.kind))) (name ∷ rest) None ≡ None
       by true d new = refl
       by false true new = refl
       by false false new = refl
 
   -- what stands where something is made is not taken away
-  made_there : list_all is_adjustment making.sets ≡ true → (b : Bare) → is_some (after_turn (making_turn making (Some b)) [] (Some b)) ≡ true
+  made_there : list_all is_adjustment making.sets ≡ true → (b : ObjectState) → is_some (after_turn (making_turn making (Some b)) [] (Some b)) ≡ true
   made_there adjust b = by _ _ _
     where
-      by : (c d : Bool) (new : Bare) → is_some (after_turn (cond c (Turn.Put (single new)) (cond d (Turn.Become making.sets) (Turn.Left b.body.kind))) [] (Some b)) ≡ true
+      by : (c d : Bool) (new : ObjectState) → is_some (after_turn (cond c (Turn.Put (single new)) (cond d (Turn.Become making.sets) (Turn.Left b.body.kind))) [] (Some b)) ≡ true
       by true d new = refl
       by false true new = ap is_some (adjusted_some making.sets adjust b).1
       by false false new = refl
 
 -- ---- which paths are looked at
 
-module _ (line : Line) (s : Bares) (root : is_some (fin.get s []) ≡ true) (q : Path) where
+module _ (line : Line) (s : ObjectStates) (root : is_some (fin.get s []) ≡ true) (q : Path) where
   keyed : is_some (fin.get s q) ≡ true → is_among q (point_paths line s ++ fin.keys s) ≡ true
   keyed there = among_right q (point_paths line s) (fin.keys s) (sym (fin.contains_key-keys s q) ∙ there)
 
-  module _ (making : Making) (e : asks line ≡ Create making) where
+  module _ (making : Making) (e : action_of line ≡ Create making) where
     abbrev path : Path
     path = path_in line.path
 
@@ -126,11 +126,11 @@ module _ (line : Line) (s : Bares) (root : is_some (fin.get s []) ≡ true) (q :
             (λ is. true_not_false (same_path q path) ((same_path-decides q path).1 is) same) high
         new none false high c same g = below (rest_under path q) refl g
 
-        by : (b : Option Bare) → fin.get s q ≡ b → is_some (placed_by (is_prefix q path && not (same_path q path)) (rest_under path q) (making_turn making (fin.get s path)) b) ≡ true → is_among q (point_paths line s ++ fin.keys s) ≡ true
+        by : (b : Option ObjectState) → fin.get s q ≡ b → is_some (placed_by (is_prefix q path && not (same_path q path)) (rest_under path q) (making_turn making (fin.get s path)) b) ≡ true → is_among q (point_paths line s ++ fin.keys s) ≡ true
         by None f g = new f (is_prefix q path) refl (same_path q path) refl g
         by (Some x) f g = keyed (ap is_some f)
 
-  module _ (copying : Copying) (e : asks line ≡ Copy copying) where
+  module _ (copying : Copying) (e : action_of line ≡ Copy copying) where
     abbrev own : Path
     own = path_in line.path
 
@@ -167,42 +167,42 @@ module _ (line : Line) (s : Bares) (root : is_some (fin.get s []) ≡ true) (q :
     copy_listed : is_some (cond (is_some (fin.get s copying.source)) (at_made (Copy copying) own s q) (fin.get s q)) ≡ true → is_among q (point_paths line s ++ fin.keys s) ≡ true
     copy_listed h = from (fin.get s copying.source) refl h
       where
-        inside : (b : Bare) → fin.get s copying.source ≡ Some b → (o : Option Path) → rest_under own q ≡ o
+        inside : (b : ObjectState) → fin.get s copying.source ≡ Some b → (o : Option Path) → rest_under own q ≡ o
             → is_some (option_map_or (λ rest. after_turn (decide (Copy copying) (view s) own) rest (fin.get s q)) o (fin.get s q)) ≡ true → is_among q (point_paths line s ++ fin.keys s) ≡ true
         inside b f None g k = keyed k
         inside b f (Some rest) g k = turn_listed (copying_turn copying (view s) own b.body.kind (fin.get s own)) (copy_turns copying (view s) own b.body.kind (fin.get s own)) rest g
             (sym (ap (λ turn. is_some (after_turn turn rest (fin.get s q))) (decide_some copying (view s) own b f)) ∙ k)
 
-        by : (b : Bare) → fin.get s copying.source ≡ Some b → (a : Bool) → is_prefix q own ≡ a → (c : Bool) → same_path q own ≡ c
+        by : (b : ObjectState) → fin.get s copying.source ≡ Some b → (a : Bool) → is_prefix q own ≡ a → (c : Bool) → same_path q own ≡ c
             → is_some (placed_by (a && not c) (rest_under own q) (decide (Copy copying) (view s) own) (fin.get s q)) ≡ true
             → is_among q (point_paths line s ++ fin.keys s) ≡ true
         by b f true high true same g = copy_here (sym ((same_path-decides q own).0 same))
         by b f true high false same g = copy_parent q refl (λ is. true_not_false (same_path q own) ((same_path-decides q own).1 is) same) high
         by b f false high c same g = inside b f (rest_under own q) refl g
 
-        from : (o : Option Bare) → fin.get s copying.source ≡ o → is_some (cond (is_some o) (at_made (Copy copying) own s q) (fin.get s q)) ≡ true → is_among q (point_paths line s ++ fin.keys s) ≡ true
+        from : (o : Option ObjectState) → fin.get s copying.source ≡ o → is_some (cond (is_some o) (at_made (Copy copying) own s q) (fin.get s q)) ≡ true → is_among q (point_paths line s ++ fin.keys s) ≡ true
         from None f g = keyed g
         from (Some b) f g = by b f (is_prefix q own) refl (same_path q own) refl g
 
-  touch_listed : (touching : Touching) → asks line ≡ Touch touching → is_some (cond (touches line touching q) (run touching.sets (fin.get s q)) (fin.get s q)) ≡ true → is_among q (point_paths line s ++ fin.keys s) ≡ true
-  touch_listed touching e h = by (fin.get s q) refl h
+  adjust_listed : (adjustment : Adjustment) → action_of line ≡ Adjust adjustment → is_some (cond (adjusts_path line adjustment q) (run adjustment.sets (fin.get s q)) (fin.get s q)) ≡ true → is_among q (point_paths line s ++ fin.keys s) ≡ true
+  adjust_listed adjustment e h = by (fin.get s q) refl h
     where
-      none : (c : Bool) → is_some (cond c (run touching.sets None) None) ≡ true → is_among q (point_paths line s ++ fin.keys s) ≡ true
-      none true g = let no : false ≡ true = sym (ap is_some (adjusted_none touching.sets (adjusting line (Touch touching) e))) ∙ g in cc
+      none : (c : Bool) → is_some (cond c (run adjustment.sets None) None) ≡ true → is_among q (point_paths line s ++ fin.keys s) ≡ true
+      none true g = let no : false ≡ true = sym (ap is_some (adjusted_none adjustment.sets (adjusting line (Adjust adjustment) e))) ∙ g in cc
       none false g = let no : false ≡ true = g in cc
 
-      by : (b : Option Bare) → fin.get s q ≡ b → is_some (cond (touches line touching q) (run touching.sets b) b) ≡ true → is_among q (point_paths line s ++ fin.keys s) ≡ true
-      by None f g = none (touches line touching q) g
+      by : (b : Option ObjectState) → fin.get s q ≡ b → is_some (cond (adjusts_path line adjustment q) (run adjustment.sets b) b) ≡ true → is_among q (point_paths line s ++ fin.keys s) ≡ true
+      by None f g = none (adjusts_path line adjustment q) g
       by (Some x) f g = keyed (ap is_some f)
 
   -- what a line leaves at a path, from what stands at all
   pub pointed : fin.get (pointwise_after s line) q ≡ point line s q
-  pointed = get-tabulated (point_paths line s ++ fin.keys s) (point line s) q (by (asks line) refl)
+  pointed = get-tabulated (point_paths line s ++ fin.keys s) (point line s) q (by (action_of line) refl)
     where
-      by : (d : Deed) → asks line ≡ d → is_some (point line s q) ≡ true → is_among q (point_paths line s ++ fin.keys s) ≡ true
+      by : (d : Action) → action_of line ≡ d → is_some (point line s q) ≡ true → is_among q (point_paths line s ++ fin.keys s) ≡ true
       by (Create making) e h = made_listed making e (sym (ap is_some (point_made line making s q e)) ∙ h)
       by (Copy copying) e h = copy_listed copying e (sym (ap is_some (point_copy line copying s q e)) ∙ h)
-      by (Touch touching) e h = touch_listed touching e (sym (ap is_some (point_touch line touching s q e)) ∙ h)
+      by (Adjust adjustment) e h = adjust_listed adjustment e (sym (ap is_some (point_adjust line adjustment s q e)) ∙ h)
       by Idle e h = keyed (sym (ap is_some (point_idle line s q e)) ∙ h)
 
   -- what a line does not change stays
@@ -211,42 +211,42 @@ module _ (line : Line) (s : Bares) (root : is_some (fin.get s []) ≡ true) (q :
 
 -- ---- the root
 
-root_point : (line : Line) (s : Bares) → is_some (fin.get s []) ≡ true → is_some (point line s []) ≡ true
-root_point line s root = by (asks line) refl
+root_point : (line : Line) (s : ObjectStates) → is_some (fin.get s []) ≡ true → is_some (point line s []) ≡ true
+root_point line s root = by (action_of line) refl
   where
-    made : (making : Making) → list_all is_adjustment making.sets ≡ true → (path : Path) → (b : Option Bare) → is_some b ≡ true → (path ≡ [] → fin.get s path ≡ b)
+    made : (making : Making) → list_all is_adjustment making.sets ≡ true → (path : Path) → (b : Option ObjectState) → is_some b ≡ true → (path ≡ [] → fin.get s path ≡ b)
         → is_some (placed_by (is_prefix [] path && not (same_path [] path)) (rest_under path []) (making_turn making (fin.get s path)) b) ≡ true
     made making adjust path None there at = let no : false ≡ true = there in cc
-    made making adjust [] (Some x) there at = ap (λ (o : Option Bare). is_some (after_turn (making_turn making o) [] (Some x))) (at refl) ∙ made_there making adjust x
+    made making adjust [] (Some x) there at = ap (λ (o : Option ObjectState). is_some (after_turn (making_turn making o) [] (Some x))) (at refl) ∙ made_there making adjust x
     made making adjust (name ∷ path) (Some x) there at = refl
 
-    touched : (xs : List Operation) → list_all is_adjustment xs ≡ true → (c : Bool) (b : Option Bare) → is_some b ≡ true → is_some (cond c (run xs b) b) ≡ true
+    touched : (xs : List Operation) → list_all is_adjustment xs ≡ true → (c : Bool) (b : Option ObjectState) → is_some b ≡ true → is_some (cond c (run xs b) b) ≡ true
     touched xs adjust c None there = let no : false ≡ true = there in cc
     touched xs adjust true (Some x) there = ap is_some (adjusted_some xs adjust x).1
     touched xs adjust false (Some x) there = refl
 
-    turned : (copying : Copying) → list_all is_adjustment copying.sets ≡ true → (turn : Turn) → IsCopyTurn copying (view s) turn → (x : Bare) → fin.get s copying.source ≡ Some x → (o : Option Bare) → is_some o ≡ true → is_some (after_turn turn [] o) ≡ true
+    turned : (copying : Copying) → list_all is_adjustment copying.sets ≡ true → (turn : Turn) → IsCopyTurn copying (view s) turn → (x : ObjectState) → fin.get s copying.source ≡ Some x → (o : Option ObjectState) → is_some o ≡ true → is_some (after_turn turn [] o) ≡ true
     turned copying adjust turn way x f None there = let no : false ≡ true = there in cc
-    turned copying adjust turn (puts g) x f (Some b) there = ap (λ t. is_some (after_turn t [] (Some b))) g ∙ ap (λ (o : Option Bare). is_some (option_map (topped_by copying) o)) f
+    turned copying adjust turn (puts g) x f (Some b) there = ap (λ t. is_some (after_turn t [] (Some b))) g ∙ ap (λ (o : Option ObjectState). is_some (option_map (topped_by copying) o)) f
     turned copying adjust turn (becomes g) x f (Some b) there = ap (λ t. is_some (after_turn t [] (Some b))) g ∙ ap is_some (adjusted_some copying.sets adjust b).1
     turned copying adjust turn (leaves kind g) x f (Some b) there = ap (λ t. is_some (after_turn t [] (Some b))) g
 
-    placed : (copying : Copying) → list_all is_adjustment copying.sets ≡ true → (x : Bare) → fin.get s copying.source ≡ Some x → (path : Path)
+    placed : (copying : Copying) → list_all is_adjustment copying.sets ≡ true → (x : ObjectState) → fin.get s copying.source ≡ Some x → (path : Path)
         → is_some (placed_by (is_prefix [] path && not (same_path [] path)) (rest_under path []) (decide (Copy copying) (view s) path) (fin.get s [])) ≡ true
     placed copying adjust x f [] =
         ap (λ turn. is_some (after_turn turn [] (fin.get s []))) (decide_some copying (view s) [] x f)
         ∙ turned copying adjust (copying_turn copying (view s) [] x.body.kind (fin.get s [])) (copy_turns copying (view s) [] x.body.kind (fin.get s [])) x f (fin.get s []) root
     placed copying adjust x f (name ∷ path) = refl
 
-    copying_root : (copying : Copying) → list_all is_adjustment copying.sets ≡ true → (o : Option Bare) → fin.get s copying.source ≡ o
+    copying_root : (copying : Copying) → list_all is_adjustment copying.sets ≡ true → (o : Option ObjectState) → fin.get s copying.source ≡ o
         → is_some (cond (is_some o) (at_made (Copy copying) (path_in line.path) s []) (fin.get s [])) ≡ true
     copying_root copying adjust None f = root
     copying_root copying adjust (Some x) f = placed copying adjust x f (path_in line.path)
 
-    by : (d : Deed) → asks line ≡ d → is_some (point line s []) ≡ true
+    by : (d : Action) → action_of line ≡ d → is_some (point line s []) ≡ true
     by (Create making) e = ap is_some (point_made line making s [] e) ∙ made making (adjusting line (Create making) e) (path_in line.path) (fin.get s []) root (λ is. ap (fin.get s) is)
     by (Copy copying) e = ap is_some (point_copy line copying s [] e) ∙ copying_root copying (adjusting line (Copy copying) e) (fin.get s copying.source) refl
-    by (Touch touching) e = ap is_some (point_touch line touching s [] e) ∙ touched touching.sets (adjusting line (Touch touching) e) (touches line touching []) (fin.get s []) root
+    by (Adjust adjustment) e = ap is_some (point_adjust line adjustment s [] e) ∙ touched adjustment.sets (adjusting line (Adjust adjustment) e) (adjusts_path line adjustment []) (fin.get s []) root
     by Idle e = ap is_some (point_idle line s [] e) ∙ root
 
 neither : (a d b c : Bool) → a ≡ false → b ≡ false → (a || (d && b && c)) ≡ false
@@ -261,36 +261,36 @@ no_test f (k ∷ ks) h = ap (λ b. b || list_any f ks) (h k) ∙ no_test f ks h
 
 -- ---- some paths, and all above them
 
-module _ (held : Path → Bool) (up : (p q : Path) → is_prefix p q ≡ true → held q ≡ true → held p ≡ true) (line : Line) (r s : Bares) (within : IsWithin held r s) where
+module _ (held : Path → Bool) (up : (p q : Path) → is_prefix p q ≡ true → held q ≡ true → held p ≡ true) (line : Line) (r s : ObjectStates) (within : IsWithin held r s) where
   module _ (q : Path) (here : held q ≡ true) where
     -- what a line leaves
-    alike : ((copying : Copying) → asks line ≡ Copy copying → point line r q ≡ point line s q) → point line r q ≡ point line s q
-    alike copies = by (asks line) refl
+    alike : ((copying : Copying) → action_of line ≡ Copy copying → point line r q ≡ point line s q) → point line r q ≡ point line s q
+    alike copies = by (action_of line) refl
       where
         rest : (making : Making) (o : Option Path) → rest_under (path_in line.path) q ≡ o
             → option_map_or (λ (r' : Path). after_turn (making_turn making (fin.get r (path_in line.path))) r' (fin.get r q)) o (fin.get r q)
             ≡ option_map_or (λ (r' : Path). after_turn (making_turn making (fin.get s (path_in line.path))) r' (fin.get s q)) o (fin.get s q)
         rest making None f = within.same q here
         rest making (Some r') f =
-            ap (λ (o : Option Bare). after_turn (making_turn making o) r' (fin.get r q)) (within.same (path_in line.path) (up (path_in line.path) q (sym (is_some-rest_under (path_in line.path) q) ∙ ap is_some f) here))
+            ap (λ (o : Option ObjectState). after_turn (making_turn making o) r' (fin.get r q)) (within.same (path_in line.path) (up (path_in line.path) q (sym (is_some-rest_under (path_in line.path) q) ∙ ap is_some f) here))
             ∙ ap (after_turn (making_turn making (fin.get s (path_in line.path))) r') (within.same q here)
 
         made : (making : Making) → (a : Bool)
             → placed_by a (rest_under (path_in line.path) q) (making_turn making (fin.get r (path_in line.path))) (fin.get r q) ≡ placed_by a (rest_under (path_in line.path) q) (making_turn making (fin.get s (path_in line.path))) (fin.get s q)
-        made making true = ap (λ (o : Option Bare). Some (unwrap_or o parent_bare)) (within.same q here)
+        made making true = ap (λ (o : Option ObjectState). Some (unwrap_or o parent_object_state)) (within.same q here)
         made making false = rest making (rest_under (path_in line.path) q) refl
 
-        by : (d : Deed) → asks line ≡ d → point line r q ≡ point line s q
+        by : (d : Action) → action_of line ≡ d → point line r q ≡ point line s q
         by (Create making) e = point_made line making r q e ∙ made making (is_prefix q (path_in line.path) && not (same_path q (path_in line.path))) ∙ sym (point_made line making s q e)
         by (Copy copying) e = copies copying e
-        by (Touch touching) e = point_touch line touching r q e ∙ ap (λ (o : Option Bare). cond (touches line touching q) (run touching.sets o) o) (within.same q here) ∙ sym (point_touch line touching s q e)
+        by (Adjust adjustment) e = point_adjust line adjustment r q e ∙ ap (λ (o : Option ObjectState). cond (adjusts_path line adjustment q) (run adjustment.sets o) o) (within.same q here) ∙ sym (point_adjust line adjustment s q e)
         by Idle e = point_idle line r q e ∙ within.same q here ∙ sym (point_idle line s q e)
 
     -- a line of a path that is not among them leaves what there is, where the places above both are there
     aside : ((p : Path) → names line p ≡ same_path (path_in line.path) p) → held (path_in line.path) ≡ false → (is_prefix q (path_in line.path) ≡ true → is_some (fin.get r q) ≡ true) → point line s q ≡ fin.get s q
-    aside named apart there = by (asks line) refl
+    aside named apart there = by (action_of line) refl
       where
-        filled : (o : Option Bare) → is_some o ≡ true → Some (unwrap_or o parent_bare) ≡ o
+        filled : (o : Option ObjectState) → is_some o ≡ true → Some (unwrap_or o parent_object_state) ≡ o
         filled None h = let no : false ≡ true = h in cc
         filled (Some x) h = refl
 
@@ -304,8 +304,8 @@ module _ (held : Path → Bool) (up : (p q : Path) → is_prefix p q ≡ true �
         unnamed : (p : Path) → held p ≡ true → names line p ≡ false
         unnamed p inside = named p ∙ not_prefix_not_same (path_in line.path) p (under p inside)
 
-        untouched : (touching : Touching) → touches line touching q ≡ false
-        untouched touching = neither (names line q) touching.deep (names_above line q) (not (has_staging q)) (unnamed q here)
+        untouched : (adjustment : Adjustment) → adjusts_path line adjustment q ≡ false
+        untouched adjustment = neither (names line q) adjustment.deep (names_above line q) (not (has_staging q)) (unnamed q here)
             (no_test (λ k. names line (take k q)) (range_with_len 0 (length q)) (λ k. unnamed (take k q) (up (take k q) q (is_prefix-take k q) here)))
 
         placed : (turn : Turn) (a : Bool) → is_prefix q (path_in line.path) ≡ a → (c : Bool) → placed_by (a && c) (rest_under (path_in line.path) q) turn (fin.get s q) ≡ fin.get s q
@@ -317,17 +317,17 @@ module _ (held : Path → Bool) (up : (p q : Path) → is_prefix p q ≡ true �
         sourced copying true = placed (decide (Copy copying) (view s) (path_in line.path)) (is_prefix q (path_in line.path)) refl (not (same_path q (path_in line.path)))
         sourced copying false = refl
 
-        by : (d : Deed) → asks line ≡ d → point line s q ≡ fin.get s q
+        by : (d : Action) → action_of line ≡ d → point line s q ≡ fin.get s q
         by (Create making) e = point_made line making s q e ∙ placed (decide (Create making) (view s) (path_in line.path)) (is_prefix q (path_in line.path)) refl (not (same_path q (path_in line.path)))
         by (Copy copying) e = point_copy line copying s q e ∙ sourced copying (is_some (fin.get s copying.source))
-        by (Touch touching) e = point_touch line touching s q e ∙ ap (λ b. cond b (run touching.sets (fin.get s q)) (fin.get s q)) (untouched touching)
+        by (Adjust adjustment) e = point_adjust line adjustment s q e ∙ ap (λ b. cond b (run adjustment.sets (fin.get s q)) (fin.get s q)) (untouched adjustment)
         by Idle e = point_idle line s q e
 
   root_there : is_some (fin.get r []) ≡ true
   root_there = ap is_some (within.same [] within.top) ∙ within.root
 
   -- so it can be carried out on what stands at these paths
-  pub within_after : ((copying : Copying) → asks line ≡ Copy copying → (q : Path) → held q ≡ true → point line r q ≡ point line s q) → IsWithin held (pointwise_after r line) (pointwise_after s line)
+  pub within_after : ((copying : Copying) → action_of line ≡ Copy copying → (q : Path) → held q ≡ true → point line r q ≡ point line s q) → IsWithin held (pointwise_after r line) (pointwise_after s line)
   within_after copies = record {
     top = within.top;
     root = ap is_some (pointed line s within.root []) ∙ root_point line s within.root;
@@ -335,7 +335,7 @@ module _ (held : Path → Bool) (up : (p q : Path) → is_prefix p q ≡ true �
   }
 
   -- and at places that have all of them
-  pub within_at : ((copying : Copying) → asks line ≡ Copy copying → ⊥) → (paths : List Path) → ((q : Path) → held q ≡ true → is_among q paths ≡ true) → IsWithin held (tabulated paths (point line r)) (pointwise_after s line)
+  pub within_at : ((copying : Copying) → action_of line ≡ Copy copying → ⊥) → (paths : List Path) → ((q : Path) → held q ≡ true → is_among q paths ≡ true) → IsWithin held (tabulated paths (point line r)) (pointwise_after s line)
   within_at copies paths all = record {
     top = within.top;
     root = ap is_some (pointed line s within.root []) ∙ root_point line s within.root;

@@ -6,7 +6,7 @@ use Rattle.std.proofs.lemmas.List.Folds.{list_any-append}
 use Rattle.std.specs.FinMap as fin
 use Rattle.std.specs.List.{cons_option, list_all, list_any}
 use Rattle.std.specs.Option.{option_map_or}
-use Rattle.pv_dress.specs.declared.bare.Bare.{Bare}
+use Rattle.pv_metadata.specs.declared.object_state.ObjectState.{ObjectState}
 use Rattle.pv_laws.proofs.Copies.{childless_same, turns_same, decide_some}
 use Rattle.pv_lines.specs.declared.line.Line.{Line}
 use Rattle.pv_path.specs.Names.{is_staging}
@@ -15,11 +15,11 @@ use Rattle.pv_path.proofs.PathLaws.{is_prefix-append, is_prefix-refl, is_prefix-
 use Rattle.pv_path.proofs.Tests.{true_not_false}
 use Rattle.pv_steps.specs.Trees.{child_name}
 use Rattle.pv_steps.proofs.NameLaws.{child_name-Some}
-use Rattle.pv_table.specs.declared.deed.Copying.{Copying}
-use Rattle.pv_table.specs.declared.deed.Deed.{Deed}
-use Rattle.pv_table.specs.declared.deed.Deed.TheVariants.{Copy}
-use Rattle.pv_table.specs.Asking.{asks}
-use Rattle.pv_table.specs.Pointwise.{Bares, view, after_turn, at_made, point, pointwise_after}
+use Rattle.pv_table.specs.declared.action.Copying.{Copying}
+use Rattle.pv_table.specs.declared.action.Action.{Action}
+use Rattle.pv_table.specs.declared.action.Action.TheVariants.{Copy}
+use Rattle.pv_table.specs.ActionTable.{action_of}
+use Rattle.pv_table.specs.Pointwise.{ObjectStates, view, after_turn, at_made, point, pointwise_after}
 use Rattle.pv_table.specs.Reaching.{path_in}
 use Rattle.pv_table.specs.Turns.{copied, copy_of, copying_turn, decide, is_childless, is_visible_child, topped_by}
 use Rattle.pv_explain.specs.declared.region.Copied.{Copied}
@@ -99,8 +99,8 @@ module _ (region : Region) where
 
 -- ---- a line that copies
 
-copy_is : (line : Line) (copying : Copying) → asks line ≡ Copy copying → following.copy_of line ≡ Some (record { to = path_in line.path; from = copying.source })
-copy_is line copying e = ap (λ (d : Deed). option_map (λ source. record { to = path_in line.path; from = source }) (copied d)) e
+copy_is : (line : Line) (copying : Copying) → action_of line ≡ Copy copying → following.copy_of line ≡ Some (record { to = path_in line.path; from = copying.source })
+copy_is line copying e = ap (λ (d : Action). option_map (λ source. record { to = path_in line.path; from = source }) (copied d)) e
 
 visible_below : (path q : Path) → is_visible_child path q ≡ true → is_prefix path q ≡ true
 visible_below path q h = by (child_name path q) refl h
@@ -109,8 +109,8 @@ visible_below path q h = by (child_name path q) refl h
     by None e g = let no : false ≡ true = g in cc
     by (Some name) e g = ap (is_prefix path) (child_name-Some path q name e) ∙ is_prefix-append path (name ∷ [])
 
-module _ (region : Region) (line : Line) (held : HoldsCopy region line) (r s : Bares) (within : IsWithin (holds region) r s) where
-  module _ (copying : Copying) (e : asks line ≡ Copy copying) where
+module _ (region : Region) (line : Line) (held : HoldsCopy region line) (r s : ObjectStates) (within : IsWithin (holds region) r s) where
+  module _ (copying : Copying) (e : action_of line ≡ Copy copying) where
     abbrev own : Path
     own = path_in line.path
 
@@ -143,7 +143,7 @@ module _ (region : Region) (line : Line) (held : HoldsCopy region line) (r s : B
           ∙ ap is_some (within.same q (holds_covered region q (covers_below region.tops.items own q (visible_below own q visible) both.0)))
           ∙ fin.contains_key-keys s q)
 
-      turn_same : (b : Bare) → fin.get s source ≡ Some b → decide (Copy copying) (view r) own ≡ decide (Copy copying) (view s) own
+      turn_same : (b : ObjectState) → fin.get s source ≡ Some b → decide (Copy copying) (view r) own ≡ decide (Copy copying) (view s) own
       turn_same b f =
           decide_some copying (view r) own b (source_same ∙ f)
           ∙ turns_same copying (view r) (view s) own b.body.kind (fin.get r own) hollow_same copies_same
@@ -151,19 +151,19 @@ module _ (region : Region) (line : Line) (held : HoldsCopy region line) (r s : B
           ∙ sym (decide_some copying (view s) own b f)
 
     module _ (q : Path) (there : holds region q ≡ true) where
-      rest_same : (b : Bare) → fin.get s source ≡ Some b → (o : Option Path) → rest_under own q ≡ o
+      rest_same : (b : ObjectState) → fin.get s source ≡ Some b → (o : Option Path) → rest_under own q ≡ o
           → option_map_or (λ rest. after_turn (decide (Copy copying) (view r) own) rest (fin.get s q)) o (fin.get s q)
           ≡ option_map_or (λ rest. after_turn (decide (Copy copying) (view s) own) rest (fin.get s q)) o (fin.get s q)
       rest_same b f None g = refl
       rest_same b f (Some rest) g =
           ap (λ turn. after_turn turn rest (fin.get s q)) (turn_same (holds_above region own q (sym (is_some-rest_under own q) ∙ ap is_some g) there) b f)
 
-      placed_same : (b : Bare) → fin.get s source ≡ Some b → (a : Bool)
+      placed_same : (b : ObjectState) → fin.get s source ≡ Some b → (a : Bool)
           → placed_by a (rest_under own q) (decide (Copy copying) (view r) own) (fin.get s q) ≡ placed_by a (rest_under own q) (decide (Copy copying) (view s) own) (fin.get s q)
       placed_same b f true = refl
       placed_same b f false = rest_same b f (rest_under own q) refl
 
-      made_same : (o : Option Bare) → fin.get s source ≡ o
+      made_same : (o : Option ObjectState) → fin.get s source ≡ o
           → cond (is_some o) (at_made (Copy copying) own r q) (fin.get r q) ≡ cond (is_some o) (at_made (Copy copying) own s q) (fin.get s q)
       made_same None f = within.same q there
       made_same (Some b) f =
@@ -173,7 +173,7 @@ module _ (region : Region) (line : Line) (held : HoldsCopy region line) (r s : B
       copy_same : point line r q ≡ point line s q
       copy_same =
           point_copy line copying r q e
-          ∙ ap (λ (o : Option Bare). cond (is_some o) (at_made (Copy copying) own r q) (fin.get r q)) source_same
+          ∙ ap (λ (o : Option ObjectState). cond (is_some o) (at_made (Copy copying) own r q) (fin.get r q)) source_same
           ∙ made_same (fin.get s source) refl
           ∙ sym (point_copy line copying s q e)
 

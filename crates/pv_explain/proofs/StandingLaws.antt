@@ -6,11 +6,11 @@ use Rattle.std.proofs.lemmas.List.Concat.{flat_map-cons}
 use Rattle.std.proofs.lemmas.List.Folds.{list_any-append}
 use Rattle.std.specs.FinMap as fin
 use Rattle.std.specs.List.{AllByRecursion}
-use Rattle.pv_dress.specs.Nodes.{bares_of}
+use Rattle.pv_metadata.specs.Nodes.{object_states_of}
 use Rattle.pv_find.proofs.FindingLaws.{one_of-tied}
 use Rattle.pv_laws.proofs.AllPoints.{state_whole, all_safe}
 use Rattle.pv_laws.proofs.Points.{get-tabulated}
-use Rattle.pv_laws.proofs.Prepared.{bare_some}
+use Rattle.pv_laws.proofs.Prepared.{object_state_some}
 use Rattle.pv_lines.specs.declared.line.Line.{Line}
 use Rattle.pv_lines.specs.Lines.{IsLine}
 use Rattle.pv_path.specs.Paths.{Path, is_prefix, same_path, has_staging, same_path-decides}
@@ -93,34 +93,34 @@ all_read t region q held there = by (or_cases (covers tops q || leads tops q) (l
 -- ---- what stands there
 
 module _ (t : Files) where
-  pub standing_is : (q : Path) → fin.get (standing t) q ≡ bares_of (places t) q
-  standing_is q = get-tabulated (fin.keys t) (bares_of (places t)) q (λ h. among_keys t q ∙ sym (bare_some (places t q)) ∙ h)
+  pub standing_is : (q : Path) → fin.get (standing t) q ≡ object_states_of (places t) q
+  standing_is q = get-tabulated (fin.keys t) (object_states_of (places t)) q (λ h. among_keys t q ∙ sym (object_state_some (places t q)) ∙ h)
 
   module _ (tree : IsTree t) where
     root_stands : is_some (fin.get (standing t) []) ≡ true
-    root_stands = ap is_some (standing_is []) ∙ bare_some (places t []) ∙ by (places t []) tree.root
+    root_stands = ap is_some (standing_is []) ∙ object_state_some (places t []) ∙ by (places t []) tree.root
       where
         by : (o : Option Object) → kind_of o ≡ Some Directory → is_some o ≡ true
         by None e = absurd (let no : None ≡ Some Directory = e in cc)
         by (Some x) e = refl
 
     -- what stands along a path is what stands there in the tree
-    pub stands_along : (path : Path) → IsAlong path (tabulated ([] ∷ path ∷ parents_of path) (bares_of (places t))) (standing t)
+    pub stands_along : (path : Path) → IsAlong path (tabulated ([] ∷ path ∷ parents_of path) (object_states_of (places t))) (standing t)
     stands_along path = record {
       top = refl;
       root = root_stands;
-      same = λ q high. get-tabulated ([] ∷ path ∷ parents_of path) (bares_of (places t)) q (λ h. among_along q path high) ∙ sym (standing_is q);
+      same = λ q high. get-tabulated ([] ∷ path ∷ parents_of path) (object_states_of (places t)) q (λ h. among_along q path high) ∙ sym (standing_is q);
     }
 
     -- so in a region, from paths that have all that stands there
-    pub stands_within : (held : Path → Bool) → held [] ≡ true → (paths : List Path) → ((q : Path) → held q ≡ true → is_some (places t q) ≡ true → is_one_of paths q ≡ true) → IsWithin held (tabulated paths (bares_of (places t))) (standing t)
+    pub stands_within : (held : Path → Bool) → held [] ≡ true → (paths : List Path) → ((q : Path) → held q ≡ true → is_some (places t q) ≡ true → is_one_of paths q ≡ true) → IsWithin held (tabulated paths (object_states_of (places t))) (standing t)
     stands_within held top paths all = record {
       top = top;
       root = root_stands;
-      same = λ q here. get-tabulated paths (bares_of (places t)) q (λ h. one_of-tied paths q ∙ all q here (sym (bare_some (places t q)) ∙ h)) ∙ sym (standing_is q);
+      same = λ q here. get-tabulated paths (object_states_of (places t)) q (λ h. one_of-tied paths q ∙ all q here (sym (object_state_some (places t q)) ∙ h)) ∙ sym (standing_is q);
     }
 
     -- where no line has a reason, what stands at a path after all lines is what a create run leaves there
     pub left_there : (lines : List Line) → AllByRecursion IsLine lines → (now : ℕ) → IsRepeatable lines → IsQuiet lines now t → (path : Path) → has_staging path ≡ false
-        → last lines (standing t) path ≡ bares_of (places (created lines now t)) path
+        → last lines (standing t) path ≡ object_states_of (places (created lines now t)) path
     left_there lines are now repeatable quiet path plain = state_whole lines (all_safe lines are repeatable) now (standing t) t tree quiet (λ q unstaged. standing_is q) path plain

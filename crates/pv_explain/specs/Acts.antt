@@ -3,46 +3,46 @@
 use Rattle.std.specs.Prelude.{ℕ, ◌+◌, List, length, Option, Some, None, option_map, if◌then◌else◌}
 use Rattle.std.specs.FinMap as fin
 use Rattle.std.specs.List.{filter_map, enumerate_from}
-use Rattle.pv_dress.specs.declared.bare.Bare.{Bare}
-use Rattle.pv_dress.specs.Nodes.{bare_of, bares_of}
+use Rattle.pv_metadata.specs.declared.object_state.ObjectState.{ObjectState}
+use Rattle.pv_metadata.specs.Nodes.{object_state_of, object_states_of}
 use Rattle.pv_lines.specs.declared.line.Line.{Line}
 use Rattle.pv_path.specs.Paths.{Path}
 use Rattle.pv_steps.specs.declared.node.Node.{Node}
 use Rattle.pv_steps.specs.Trees.{Files, places}
 use Rattle.pv_table.specs.Active.{in_create_order}
-use Rattle.pv_table.specs.Effects.{same_bare}
-use Rattle.pv_table.specs.Pointwise.{Bares, state, tabulated}
+use Rattle.pv_table.specs.Effects.{same_object_state}
+use Rattle.pv_table.specs.Pointwise.{ObjectStates, state, tabulated}
 use Rattle.pv_explain.specs.declared.explained.Act.{Act}
 use Rattle.pv_explain.specs.declared.explained.Act.TheVariants.{Makes, Removes, Changes}
 use Rattle.pv_explain.specs.declared.explained.LineAct.{LineAct}
 
 -- all that stands in a tree, without stamps
-abbrev pub standing : Files → Bares
-standing t = tabulated (fin.keys t) (bares_of (places t))
+abbrev pub standing : Files → ObjectStates
+standing t = tabulated (fin.keys t) (object_states_of (places t))
 
 -- what is done between what stands at a path before and after: nothing where it is the same
-abbrev pub act_between : Option Bare → Option Bare → Option Act
+abbrev pub act_between : Option ObjectState → Option ObjectState → Option Act
 act_between None None = None
 act_between None (Some b) = Some Makes
 act_between (Some a) None = Some Removes
-act_between (Some a) (Some b) = if same_bare a b then None else Some Changes
+act_between (Some a) (Some b) = if same_object_state a b then None else Some Changes
 
 -- what the line behind the first k of the create phase does at a path
-abbrev pub act_after : List Line → Bares → Path → ℕ → Option Act
+abbrev pub act_after : List Line → ObjectStates → Path → ℕ → Option Act
 act_after lines s path k = act_between (fin.get (state lines k s) path) (fin.get (state lines (k + 1) s) path)
 
 -- what a line does at a path, by the number of lines before it
-abbrev pub line_act : List Line → Bares → Path → ℕ × Line → Option LineAct
+abbrev pub line_act : List Line → ObjectStates → Path → ℕ × Line → Option LineAct
 line_act lines s path line = option_map (λ act. record { place = line.1.place; act = act }) (act_after lines s path line.0)
 
 -- the acts at a path, in the order of the create phase
-abbrev pub acts : List Line → Bares → Path → List LineAct
+abbrev pub acts : List Line → ObjectStates → Path → List LineAct
 acts lines s path = filter_map (line_act lines s path) (enumerate_from 0 (in_create_order lines))
 
 -- what stands at a path after all lines
-abbrev pub last : List Line → Bares → Path → Option Bare
+abbrev pub last : List Line → ObjectStates → Path → Option ObjectState
 last lines s path = fin.get (state lines (length (in_create_order lines)) s) path
 
 -- a node and its payload, without stamps
-abbrev pub bare_in : Node × List ℕ → Bare
-bare_in object = bare_of (record { node = object.0; payload = object.1 })
+abbrev pub object_state_in : Node × List ℕ → ObjectState
+object_state_in object = object_state_of (record { node = object.0; payload = object.1 })

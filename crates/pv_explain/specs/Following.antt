@@ -5,8 +5,8 @@ use Rattle.std.specs.FinMap as fin
 use Rattle.std.specs.List.{filter_map, list_all, list_any}
 use Rattle.pv_lines.specs.declared.line.Line.{Line}
 use Rattle.pv_path.specs.Paths.{Path, is_prefix}
-use Rattle.pv_table.specs.Asking.{asks}
-use Rattle.pv_table.specs.Pointwise.{Bares}
+use Rattle.pv_table.specs.ActionTable.{action_of}
+use Rattle.pv_table.specs.Pointwise.{ObjectStates}
 use Rattle.pv_table.specs.Reaching.{path_in}
 use Rattle.pv_table.specs.Turns.{copied}
 use Rattle.pv_walk.specs.Preparing.{parents_of}
@@ -15,13 +15,13 @@ use Rattle.pv_explain.specs.declared.following.Scope.{Scope}
 use Rattle.pv_explain.specs.declared.following.Scope.TheVariants.{Along, Within}
 use Rattle.pv_explain.specs.declared.region.Copied.{Copied}
 use Rattle.pv_explain.specs.declared.region.Region.{Region}
-use Rattle.pv_explain.specs.Acts.{acts, bare_in, last}
+use Rattle.pv_explain.specs.Acts.{acts, object_state_in, last}
 
 -- ---- regions
 
 -- what a line copies, and where to
 abbrev pub copy_of : Line → Option Copied
-copy_of line = option_map (λ source. record { to = path_in line.path; from = source }) (copied (asks line))
+copy_of line = option_map (λ source. record { to = path_in line.path; from = source }) (copied (action_of line))
 
 abbrev pub copies_of : List Line → List Copied
 copies_of lines = filter_map copy_of lines
@@ -54,17 +54,17 @@ HoldsCopy region line = IfSome (copy_of line) (λ copy. (holds region copy.from 
 -- ---- what is followed
 
 -- a map has at some paths, the root among them, what another has, where the root stands
-pub record IsWithin (held : Path → Bool) (r s : Bares) : Type 0 where
+pub record IsWithin (held : Path → Bool) (r s : ObjectStates) : Type 0 where
   pub top : held [] ≡ true
   pub root : is_some (fin.get s []) ≡ true
   pub same : (q : Path) → held q ≡ true → fin.get r q ≡ fin.get s q
 
 -- so at a path and those above it
-abbrev pub IsAlong : Path → Bares → Bares → Type 0
+abbrev pub IsAlong : Path → ObjectStates → ObjectStates → Type 0
 IsAlong path r s = IsWithin (λ q. is_prefix q path) r s
 
 -- what is followed is what stands there
-abbrev pub Follows : Scope → Path → Bares → Bares → Type 0
+abbrev pub Follows : Scope → Path → ObjectStates → ObjectStates → Type 0
 Follows (Along places) path r s = IsAlong path r s
 Follows (Within region) path r s = IsWithin (holds region) r s
 
@@ -79,6 +79,6 @@ Suits (Along places) path line = places.items ≡ [] ∷ path ∷ parents_of pat
 Suits (Within region) path line = HoldsCopy region line
 
 -- what is told is what lines do, and what stands after them
-pub record Tells (lines : List Line) (s : Bares) (path : Path) (told : Explained) : Type 0 where
-  pub acts : told.acts ≡ acts lines s path
-  pub node : option_map bare_in told.node ≡ last lines s path
+pub record Tells (lines : List Line) (s : ObjectStates) (path : Path) (explanation : Explained) : Type 0 where
+  pub acts : explanation.acts ≡ acts lines s path
+  pub node : option_map object_state_in explanation.node ≡ last lines s path

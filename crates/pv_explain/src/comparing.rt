@@ -2,17 +2,17 @@
 ghost use Rattle.std.specs.Prelude.{◌≡◌, ◌&&◌, ◌==◌, Some};
 ghost use Rattle.std.specs.Cmp.Lexicographic.{pointwise};
 ghost use Rattle.std.specs.Option.{option_copied};
-ghost use Rattle.pv_table.specs.Effects.{same_attr, same_bare};
-ghost use Rattle.pv_explain.specs.Acts.{act_between, bare_in};
-ghost use Rattle.pv_explain.specs.Comparing.{same_body, same_dress};
+ghost use Rattle.pv_table.specs.Effects.{same_attr, same_object_state};
+ghost use Rattle.pv_explain.specs.Acts.{act_between, object_state_in};
+ghost use Rattle.pv_explain.specs.Comparing.{same_body, same_metadata};
 
 use crate::explained::Act;
-use pv_dress::{Bare, Body, Dress};
+use pv_metadata::{Body, Metadata, ObjectState};
 use pv_path::Bytes;
 use pv_steps::{AttrList, LetterSet, Node, Stamps};
 
 /// What is done between what stands at a path before and after; nothing where it is the same.
-pub(crate) fn act_between(before: Option<&Bare>, after: Option<&Bare>) -> Option<Act>
+pub(crate) fn act_between(before: Option<&ObjectState>, after: Option<&ObjectState>) -> Option<Act>
     ensures { result ≡ act_between (option_copied before.entry) (option_copied after.entry) }
 {
     match (before, after) {
@@ -24,7 +24,7 @@ pub(crate) fn act_between(before: Option<&Bare>, after: Option<&Bare>) -> Option
 }
 
 /// What is done where something stands before and after; nothing where both are the same.
-fn changed(old: &Bare, new: &Bare) -> Option<Act>
+fn changed(old: &ObjectState, new: &ObjectState) -> Option<Act>
     ensures { result ≡ act_between (Some old.now) (Some new.now) }
 {
     if is_same(old, new) {
@@ -35,10 +35,10 @@ fn changed(old: &Bare, new: &Bare) -> Option<Act>
 }
 
 /// Whether two objects are the same.
-fn is_same(a: &Bare, b: &Bare) -> bool
-    ensures { result ≡ same_bare a.now b.now }
+fn is_same(a: &ObjectState, b: &ObjectState) -> bool
+    ensures { result ≡ same_object_state a.now b.now }
 {
-    is_same_body(&a.body, &b.body) && is_same_dress(&a.dress, &b.dress)
+    is_same_body(&a.body, &b.body) && is_same_metadata(&a.metadata, &b.metadata)
 }
 
 /// Whether two objects are and hold the same.
@@ -49,8 +49,8 @@ fn is_same_body(a: &Body, b: &Body) -> bool
 }
 
 /// Whether two objects have the same owners, special bits, ACL, extended attributes and letters.
-fn is_same_dress(a: &Dress, b: &Dress) -> bool
-    ensures { result ≡ same_dress a.now b.now }
+fn is_same_metadata(a: &Metadata, b: &Metadata) -> bool
+    ensures { result ≡ same_metadata a.now b.now }
 {
     has_same_owners(a, b)
         && a.acl == b.acl
@@ -59,7 +59,7 @@ fn is_same_dress(a: &Dress, b: &Dress) -> bool
 }
 
 /// Whether two objects have the same owners and special bits.
-fn has_same_owners(a: &Dress, b: &Dress) -> bool
+fn has_same_owners(a: &Metadata, b: &Metadata) -> bool
     ensures { result ≡ (a.now.uid == b.now.uid && a.now.gid == b.now.gid && a.now.special == b.now.special) }
 {
     a.uid == b.uid && a.gid == b.gid && a.special == b.special
@@ -79,17 +79,17 @@ fn are_same_letters(a: LetterSet, b: LetterSet) -> bool
     a.is_same(b)
 }
 
-/// A node and its payload; its stamps are 0.
-pub(crate) fn node_of(bare: Bare) -> (Node, Bytes)
-    ensures { bare_in result ≡ bare }
+/// A node and its payload; its timestamps are 0.
+pub(crate) fn node_of(object_state: ObjectState) -> (Node, Bytes)
+    ensures { object_state_in result ≡ object_state }
 {
-    let Bare { body, dress } = bare;
+    let ObjectState { body, metadata } = object_state;
     let node = Node {
         kind: body.kind,
-        special: dress.special,
-        uid: dress.uid,
-        gid: dress.gid,
-        acl: dress.acl,
+        special: metadata.special,
+        uid: metadata.uid,
+        gid: metadata.gid,
+        acl: metadata.acl,
         stamps: Stamps {
             access: 0,
             birth: 0,
@@ -98,8 +98,8 @@ pub(crate) fn node_of(bare: Bare) -> (Node, Bytes)
         },
         major: body.major,
         minor: body.minor,
-        attrs: dress.attrs,
-        letters: dress.letters,
+        attrs: metadata.attrs,
+        letters: metadata.letters,
     };
     (node, body.payload)
 }

@@ -10,7 +10,7 @@ pub enum Act {
     Makes,
     /// Something stands there before it, and nothing after it.
     Removes,
-    /// Something else stands there after it, stamps aside.
+    /// Something else stands there after it, timestamps aside.
     Changes,
 }
 
@@ -31,6 +31,6 @@ pub type ActList = Sequence<LineAct>;
 pub struct Explained {
     /// Each line that acts on the path.
     pub acts: ActList,
-    /// The node at the end with its payload; its stamps say nothing.
+    /// The node at the end with its payload; its timestamps say nothing.
     pub node: Option<(Node, Bytes)>,
 }

@@ -2,16 +2,16 @@
 ghost use Rattle.std.specs.Prelude.{◌≡◌, ◌++◌, [], ℕ, false, true, Some, is_some, option_map, slice_get, IfOk, OnOk};
 ghost use Rattle.std.specs.List.{cons_option};
 ghost use Rattle.std.specs.Option.{option_copied};
-ghost use Rattle.pv_dress.specs.Nodes.{bares_of};
+ghost use Rattle.pv_metadata.specs.Nodes.{object_states_of};
 ghost use Rattle.pv_path.specs.Paths.{has_staging};
 ghost use Rattle.pv_steps.specs.Trees.{places};
 ghost use Rattle.pv_table.specs.Created.{created, IsQuiet};
-ghost use Rattle.pv_table.specs.Pointwise.{Bares};
+ghost use Rattle.pv_table.specs.Pointwise.{ObjectStates};
 ghost use Rattle.pv_table.specs.Repeatable.{IsRepeatable};
 ghost use Rattle.pv_explain.specs.declared.explained.Explained.{Explained as ExplainedValue};
 ghost use Rattle.pv_explain.specs.declared.following.Scope.TheVariants.{Within};
 ghost use Rattle.pv_explain.specs.declared.region.Region.{Region};
-ghost use Rattle.pv_explain.specs.Acts.{act_between, acts, bare_in, last, standing};
+ghost use Rattle.pv_explain.specs.Acts.{act_between, acts, object_state_in, last, standing};
 ghost use Rattle.pv_explain.specs.Following.{Fits, Follows, Tells};
 
 use crate::comparing::{act_between, node_of};
@@ -19,8 +19,8 @@ use crate::explained::{ActList, Explained, LineAct};
 use crate::following::{Scope, after};
 use crate::region::{closed_region, paths_in};
 use crate::standing::standing_at;
-use pv_dress::Bare;
 use pv_lines::Line;
+use pv_metadata::ObjectState;
 use pv_path::TreePath;
 use pv_pointwise::{Standing, places_along};
 use pv_steps::Tree;
@@ -28,7 +28,7 @@ use pv_table::{Table, create_order};
 use std::alloc::{AllocError, Global};
 
 /// Which lines of a table act on a path in the create phase, in their order, and what stands there at the end
-/// (tmpfiles.d(5)). No step is done and no line refused: each path is judged by itself, stamps aside.
+/// (tmpfiles.d(5)). No step is done and no line refused: each path is judged by itself, timestamps aside.
 pub fn explain<T: Tree>(
     alloc: Global,
     tree: &T,
@@ -36,22 +36,22 @@ pub fn explain<T: Tree>(
     path: &TreePath,
 ) -> Result<Explained, AllocError>
     // Exactly the lines before and after which something else stands at the path.
-    ensures acts { IfOk result (λ told. told.acts ≡ acts table.now (standing (T.state tree.now)) path.now) }
+    ensures acts { IfOk result (λ explanation. explanation.acts ≡ acts table.now (standing (T.state tree.now)) path.now) }
 
     // What stands there after all lines, and nothing exactly where nothing does.
-    ensures node { IfOk result (λ told. option_map bare_in told.node
+    ensures node { IfOk result (λ explanation. option_map object_state_in explanation.node
         ≡ last table.now (standing (T.state tree.now)) path.now) }
 
     // Where no line has a reason this is what a create run leaves there, if it refuses no line.
-    ensures leaves { IfOk result (λ told. (now : ℕ) → IsRepeatable table.now → IsQuiet table.now now (T.state tree.now)
+    ensures leaves { IfOk result (λ explanation. (now : ℕ) → IsRepeatable table.now → IsQuiet table.now now (T.state tree.now)
         → has_staging path.now ≡ false
-        → option_map bare_in told.node ≡ bares_of (places (created table.now now (T.state tree.now))) path.now) }
+        → option_map object_state_in explanation.node ≡ object_states_of (places (created table.now now (T.state tree.now))) path.now) }
 {
     // In a tree the root is a directory, and the lines of a table were read.
     let _node = tree.look(path);
     let _lines = table.lines();
     match explain_along(alloc, tree, table, path)? {
-        Some(told) => Ok(told),
+        Some(explanation) => Ok(explanation),
         None => explain_within(alloc, tree, table, path),
     }
 }
@@ -63,8 +63,8 @@ fn explain_along<T: Tree>(
     table: &Table,
     path: &TreePath,
 ) -> Result<Option<Explained>, AllocError>
-    ensures { IfOk result (λ answer. (told : ExplainedValue) → answer ≡ Some told
-        → Tells table.now (standing (T.state tree.now)) path.now told) }
+    ensures { IfOk result (λ answer. (explanation : ExplainedValue) → answer ≡ Some explanation
+        → Tells table.now (standing (T.state tree.now)) path.now explanation) }
 {
     // In a tree the root is a directory.
     let _node = tree.look(path);
@@ -80,7 +80,7 @@ fn explain_within<T: Tree>(
     table: &Table,
     path: &TreePath,
 ) -> Result<Explained, AllocError>
-    ensures { IfOk result (λ told. Tells table.now (standing (T.state tree.now)) path.now told) }
+    ensures { IfOk result (λ explanation. Tells table.now (standing (T.state tree.now)) path.now explanation) }
 {
     // In a tree the root is a directory.
     let _node = tree.look(path);
@@ -103,8 +103,8 @@ fn follow(
     start: Standing,
 ) -> Result<Option<Explained>, AllocError>
     requires { Fits scope.now path.now table.now }
-    ensures told { IfOk result (λ answer. (s : Bares) (told : ExplainedValue) → answer ≡ Some told
-        → Follows scope.now path.now start s → Tells table.now s path.now told) }
+    ensures explanation { IfOk result (λ answer. (s : ObjectStates) (explanation : ExplainedValue) → answer ≡ Some explanation
+        → Follows scope.now path.now start s → Tells table.now s path.now explanation) }
     ensures whole { IfOk result (λ answer. (region : Region) → scope.now ≡ Within region → is_some answer ≡ true) }
 {
     let order = create_order(alloc, table)?;
@@ -123,12 +123,12 @@ fn follow(
 }
 
 /// What is told by the acts and by what stands at the path at the end.
-fn ended(acts: ActList, last: Option<Bare>) -> Explained
+fn ended(acts: ActList, last: Option<ObjectState>) -> Explained
     ensures acts { result.acts ≡ acts }
-    ensures node { option_map bare_in result.node ≡ last }
+    ensures node { option_map object_state_in result.node ≡ last }
 {
     let node = match last {
-        Some(bare) => Some(node_of(bare)),
+        Some(object_state) => Some(node_of(object_state)),
         None => None,
     };
     Explained { acts, node }
@@ -149,8 +149,8 @@ fn line_at(table: &Table, place: usize) -> &Line
 fn note(
     acts: &mut ActList,
     line: &Line,
-    before: Option<Bare>,
-    after: Option<&Bare>,
+    before: Option<ObjectState>,
+    after: Option<&ObjectState>,
 ) -> Result<(), AllocError>
     ensures { OnOk result (acts.new ≡ acts.old ++ cons_option
         (option_map (λ act. record { place = line.now.place; act = act }) (act_between before (option_copied after.entry))) []) }

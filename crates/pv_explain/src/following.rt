@@ -3,8 +3,8 @@ ghost use Rattle.std.specs.Prelude.{◌≡◌, [], ◌∷◌, Bool, not, true, �
 ghost use Rattle.std.specs.FinMap as fin;
 ghost use Rattle.std.specs.List.{list_all};
 ghost use Rattle.pv_path.specs.Paths.{is_prefix};
-ghost use Rattle.pv_table.specs.Asking.{asks};
-ghost use Rattle.pv_table.specs.Pointwise.{Bares, pointwise_after};
+ghost use Rattle.pv_table.specs.ActionTable.{action_of};
+ghost use Rattle.pv_table.specs.Pointwise.{ObjectStates, pointwise_after};
 ghost use Rattle.pv_table.specs.Turns.{copied};
 ghost use Rattle.pv_walk.specs.Preparing.{parents_of};
 ghost use Rattle.pv_explain.specs.declared.following.Scope.TheVariants.{Within};
@@ -15,7 +15,7 @@ use crate::region::Region;
 use pv_lines::{Line, LinePath};
 use pv_path::{TreePath, is_prefix};
 use pv_pointwise::{Standing, after_line, after_line_at, places_along};
-use pv_table::{Deed, asks};
+use pv_table::{Action, action_of};
 use std::alloc::{AllocError, Global};
 
 /// Where it is followed what stands.
@@ -36,7 +36,7 @@ pub(crate) fn after(
     before: Standing,
 ) -> Result<Option<Standing>, AllocError>
     requires { Suits scope.now path.now line.now }
-    ensures follows { IfOk result (λ next. (s left : Bares) → next ≡ Some left → Follows scope.now path.now before s
+    ensures follows { IfOk result (λ next. (s left : ObjectStates) → next ≡ Some left → Follows scope.now path.now before s
         → Follows scope.now path.now left (pointwise_after s line.now)) }
     ensures whole { IfOk result (λ next. (region : RegionValue) → scope.now ≡ Within region → is_some next ≡ true) }
 {
@@ -54,7 +54,7 @@ fn after_within(
     before: Standing,
 ) -> Result<Standing, AllocError>
     requires { HoldsCopy region.now line.now }
-    ensures { IfOk result (λ left. (s : Bares) → IsWithin (holds region.now) before s
+    ensures { IfOk result (λ left. (s : ObjectStates) → IsWithin (holds region.now) before s
         → IsWithin (holds region.now) left (pointwise_after s line.now)) }
 {
     if let LinePath::Literal(own) = &line.path {
@@ -104,7 +104,7 @@ fn after_along(
     before: Standing,
 ) -> Result<Option<Standing>, AllocError>
     requires { places.now ≡ [] ∷ path.now ∷ parents_of path.now }
-    ensures { IfOk result (λ next. (s left : Bares) → next ≡ Some left → IsAlong path.now before s
+    ensures { IfOk result (λ next. (s left : ObjectStates) → next ≡ Some left → IsAlong path.now before s
         → IsAlong path.now left (pointwise_after s line.now)) }
 {
     if let LinePath::Literal(own) = &line.path {
@@ -120,10 +120,10 @@ fn after_along(
 
 /// Whether a line copies.
 fn copies(alloc: Global, line: &Line) -> Result<bool, AllocError>
-    ensures { IfOk result (λ copies. copies ≡ is_some (copied (asks line.now))) }
+    ensures { IfOk result (λ copies. copies ≡ is_some (copied (action_of line.now))) }
 {
-    let deed = asks(alloc, line)?;
-    Ok(matches!(deed, Deed::Copy(_)))
+    let action = action_of(alloc, line)?;
+    Ok(matches!(action, Action::Copy(_)))
 }
 
 /// Whether nothing is put at a path and above it by what is made at another: this does not lie above it, and those places

@@ -14,7 +14,7 @@ use pv_lines::Line;
 use pv_path::{TreePath, is_prefix};
 use pv_pointwise::places_along;
 use pv_steps::Tree;
-use pv_table::{Deed, Table, asks, path_of};
+use pv_table::{Action, Table, action_of, path_of};
 use std::alloc::{AllocError, Global};
 
 /// What a line copies, and where to.
@@ -94,8 +94,8 @@ fn copies_of(alloc: Global, table: &Table) -> Result<Vec<Copied>, AllocError>
 fn add_copy(alloc: Global, line: &Line, copies: &mut Vec<Copied>) -> Result<(), AllocError>
     ensures { OnOk result (copies.new.items ≡ copies.old.items ++ cons_option (copy_of line.now) []) }
 {
-    let deed = asks(alloc, line)?;
-    if let Deed::Copy(copying) = &deed {
+    let action = action_of(alloc, line)?;
+    if let Action::Copy(copying) = &action {
         copies.push(Copied {
             to: path_of(alloc, line)?,
             from: copying.source.copy()?,

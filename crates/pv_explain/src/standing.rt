@@ -1,10 +1,10 @@
-//! What stands in a tree, without stamps.
+//! What stands in a tree, without timestamps.
 ghost use Rattle.std.specs.Prelude.{◌≡◌, Some, IfOk};
-ghost use Rattle.pv_dress.specs.Nodes.{bares_of};
+ghost use Rattle.pv_metadata.specs.Nodes.{object_states_of};
 ghost use Rattle.pv_steps.specs.Trees.{places, node_at, payload_at, IsTree};
 ghost use Rattle.pv_table.specs.Pointwise.{tabulated};
 
-use pv_dress::Bare;
+use pv_metadata::ObjectState;
 use pv_path::TreePath;
 use pv_pointwise::Standing;
 use pv_steps::{Kind, Node, Tree};
@@ -16,24 +16,28 @@ pub(crate) fn standing_at<T: Tree>(
     tree: &T,
     paths: &[TreePath],
 ) -> Result<Standing, AllocError>
-    ensures { IfOk result (λ standing. standing ≡ tabulated paths.now (bares_of (places (T.state tree.now)))) }
+    ensures { IfOk result (λ standing. standing ≡ tabulated paths.now (object_states_of (places (T.state tree.now)))) }
 {
     let mut standing = Standing::new(alloc);
     for path in paths {
-        if let Some(bare) = bare_at(alloc, tree, path)? {
-            standing.put(path.copy()?, bare)?;
+        if let Some(object_state) = object_state_at(alloc, tree, path)? {
+            standing.put(path.copy()?, object_state)?;
         }
     }
     Ok(standing)
 }
 
-/// What stands at a path, without its stamps.
-fn bare_at<T: Tree>(alloc: Global, tree: &T, path: &TreePath) -> Result<Option<Bare>, AllocError>
-    ensures { IfOk result (λ bare. bare ≡ bares_of (places (T.state tree.now)) path.now) }
+/// What stands at a path, without its timestamps.
+fn object_state_at<T: Tree>(
+    alloc: Global,
+    tree: &T,
+    path: &TreePath,
+) -> Result<Option<ObjectState>, AllocError>
+    ensures { IfOk result (λ object_state. object_state ≡ object_states_of (places (T.state tree.now)) path.now) }
 {
     match tree.look(path) {
         None => Ok(None),
-        Some(node) => Ok(Some(Bare::of(alloc, node, payload_of(tree, path, node))?)),
+        Some(node) => Ok(Some(ObjectState::of(alloc, node, payload_of(tree, path, node))?)),
     }
 }
 

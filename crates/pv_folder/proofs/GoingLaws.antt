@@ -33,9 +33,9 @@ use Rattle.pv_folder.proofs.StackLaws.{IsStacked, next_after, next_parent, stack
 
 -- ---- what is told
 
-pub told : {A : Type 0} (P Q : A → Type 0) (o : Option A) → ((x : A) → P x → Q x) → IfSome o P → IfSome o Q
-told P Q None f h = h
-told P Q (Some x) f h = f x h
+pub from_content : {A : Type 0} (P Q : A → Type 0) (o : Option A) → ((x : A) → P x → Q x) → IfSome o P → IfSome o Q
+from_content P Q None f h = h
+from_content P Q (Some x) f h = f x h
 
 pub told_both : {A : Type 0} (P Q R : A → Type 0) (o : Option A) → ((x : A) → P x → Q x → R x) → IfSome o P → IfSome o Q → IfSome o R
 told_both P Q R None f g h = h
@@ -84,7 +84,7 @@ module _ (content : Option Content) (folder : Path) (objects bytes : ℕ) (files
   stacked = subst (IsStacked files last) (popped pending x) g.stacked
 
   reading : IfSome content (λ c. IsReading folder c objects bytes files last (x ∷ reverse pending))
-  reading = told (λ c. IsReading folder c objects bytes files last (reverse (pending ++ x ∷ []))) (λ c. IsReading folder c objects bytes files last (x ∷ reverse pending)) content
+  reading = from_content (λ c. IsReading folder c objects bytes files last (reverse (pending ++ x ∷ []))) (λ c. IsReading folder c objects bytes files last (x ∷ reverse pending)) content
       (λ c. subst (IsReading folder c objects bytes files last) (popped pending x)) g.reading
 
   pub going_after : is_lt (path_cmp last (path_of x)) ≡ true
@@ -95,7 +95,7 @@ module _ (content : Option Content) (folder : Path) (objects bytes : ℕ) (files
 
   -- a name that is none, or another object, is the fault
   pub going_odd : (x.kind ≡ kind.Other) ⊎ (is_name x.name ≡ false) → IfSome content (Faulty folder (odd (path_of x)))
-  going_odd why = told (λ c. IsReading folder c objects bytes files last (x ∷ reverse pending)) (Faulty folder (odd (path_of x))) content (λ c r. by c r why) reading
+  going_odd why = from_content (λ c. IsReading folder c objects bytes files last (x ∷ reverse pending)) (Faulty folder (odd (path_of x))) content (λ c r. by c r why) reading
     where
       by : (c : Content) → IsReading folder c objects bytes files last (x ∷ reverse pending) → (x.kind ≡ kind.Other) ⊎ (is_name x.name ≡ false) → Faulty folder (odd (path_of x)) c
       by c r (inl other) = next_other folder c objects bytes files last x (reverse pending) r other
@@ -139,10 +139,10 @@ going_first content folder items ordered whole lists = record {
 module _ (content : Option Content) (folder : Path) (objects bytes : ℕ) (files : Files) (last : Path) (g : IsGoing content folder objects bytes files last []) where
   -- with which it ends
   pub going_sound : IfSome content (λ c. fault_among 0 0 (objects_below folder c) ≡ None)
-  going_sound = told (λ c. IsReading folder c objects bytes files last []) (λ c. fault_among 0 0 (objects_below folder c) ≡ None) content (λ c r. r.fault) g.reading
+  going_sound = from_content (λ c. IsReading folder c objects bytes files last []) (λ c. fault_among 0 0 (objects_below folder c) ≡ None) content (λ c r. r.fault) g.reading
 
   pub going_real : IfSome content (λ c. files ≡ real_in folder c)
-  going_real = told (λ c. IsReading folder c objects bytes files last []) (λ c. files ≡ real_in folder c) content (λ c r. all_grown (real_in folder c) files last r.growing) g.reading
+  going_real = from_content (λ c. IsReading folder c objects bytes files last []) (λ c. files ≡ real_in folder c) content (λ c r. all_grown (real_in folder c) files last r.growing) g.reading
 
 -- ---- a folder's own listing
 

@@ -16,7 +16,7 @@ use Rattle.pv_steps.specs.declared.node.Node.{Node}
 use Rattle.pv_steps.specs.declared.object.Object.{Object}
 use Rattle.pv_steps.specs.Objects.{fresh}
 use Rattle.pv_steps.specs.Trees.{Files, kind_of, places}
-use Rattle.pv_dress.specs.Nodes.{same_kind}
+use Rattle.pv_metadata.specs.Nodes.{same_kind}
 use Rattle.pv_text.specs.Facts.{Values}
 use Rattle.pv_host.specs.declared.item.HostKind.TheVariants as kind
 use Rattle.pv_image.specs.Emptied.{with_empty_files}
@@ -27,7 +27,7 @@ use Rattle.pv_folder.specs.declared.open_fault.OpenFault.TheVariants.{TooLarge}
 use Rattle.pv_folder.specs.Folders.{Agrees, manifest_path, new_manifest_path, object_of, objects_in, real_as, real_in, real_of, tree_path}
 use Rattle.pv_folder.specs.Keeping.{IsClosed, Keeps, with_manifest}
 use Rattle.pv_folder.specs.Manifest.{IsManifest, manifest_of}
-use Rattle.pv_folder.specs.Merge.{dressed, is_real_kind, merged_of, plain}
+use Rattle.pv_folder.specs.Merge.{with_metadata, is_real_kind, merged_of, plain}
 use Rattle.pv_folder.specs.Opening.{IsOpened, fault_among, is_over, objects_below, present, size}
 use Rattle.pv_folder.proofs.ClosingLaws.{agrees_with, ready_with}
 use Rattle.pv_folder.proofs.FolderLaws.{objects_found, objects_sorted}
@@ -98,9 +98,9 @@ unreal (Some o) None = refl
 unreal (Some o) (Some node.Directory) = no_host_kind o.node.kind o refl
 unreal (Some o) (Some k) = refl
 
-real_dressed : (n : Option Node) (r : Object) → real_of (Some (dressed n r)) ≡ real_of (Some r)
-real_dressed None r = refl
-real_dressed (Some n) r = by (same_kind n.kind r.node.kind) refl
+real_with_metadata : (n : Option Node) (r : Object) → real_of (Some (with_metadata n r)) ≡ real_of (Some r)
+real_with_metadata None r = refl
+real_with_metadata (Some n) r = by (same_kind n.kind r.node.kind) refl
   where
     by : (b : Bool) → same_kind n.kind r.node.kind ≡ b → real_of (Some (cond b (record r { node = n }) (plain r))) ≡ real_of (Some r)
     by true e = ap (λ (k : Kind). real_as k r.payload) (same_kind-exact n.kind r.node.kind e)
@@ -109,8 +109,8 @@ real_dressed (Some n) r = by (same_kind n.kind r.node.kind) refl
 real_merged : (m : Option Object) (parent : Option Kind) (x : Option HostObject) → (x ≡ Some host.Other → ⊥)
     → real_of (merged_of m (option_and_then object_of x) parent) ≡ x
 real_merged m parent None never = unreal m parent
-real_merged m parent (Some host.Directory) never = real_dressed (option_map (λ o. o.node) m) (fresh node.Directory 0o755 [] 0 0 0)
-real_merged m parent (Some (host.File bytes)) never = real_dressed (option_map (λ o. o.node) m) (fresh node.File 0o644 bytes 0 0 0)
+real_merged m parent (Some host.Directory) never = real_with_metadata (option_map (λ o. o.node) m) (fresh node.Directory 0o755 [] 0 0 0)
+real_merged m parent (Some (host.File bytes)) never = real_with_metadata (option_map (λ o. o.node) m) (fresh node.File 0o644 bytes 0 0 0)
 real_merged m parent (Some host.Other) never = absurd (never refl)
 
 module _ (folder : Path) (c : Content) (facts : Values) (tree : Files) (opened : IsOpened folder c facts tree) where

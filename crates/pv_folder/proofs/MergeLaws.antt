@@ -11,8 +11,8 @@ use Rattle.pv_steps.specs.Objects.{AclFits, IsObject, PayloadFits}
 use Rattle.pv_steps.specs.Trees.{Files, IsKind, IsTree, kind_of, places}
 use Rattle.pv_steps.proofs.ObjectLaws.{IsObject-fresh}
 use Rattle.pv_steps.proofs.StepLaws.{among_keys, among_left, among_right, is_among, places-tabulate}
-use Rattle.pv_dress.specs.Nodes.{same_kind}
-use Rattle.pv_folder.specs.Merge.{dressed, is_real_kind, merged, merged_at, merged_of, plain, plain_mode}
+use Rattle.pv_metadata.specs.Nodes.{same_kind}
+use Rattle.pv_folder.specs.Merge.{with_metadata, is_real_kind, merged, merged_at, merged_of, plain, plain_mode}
 
 -- ---- what stands at each path
 
@@ -44,9 +44,9 @@ same_kind-exact CharDevice CharDevice e = refl
 same_kind-exact BlockDevice BlockDevice e = refl
 same_kind-exact a b e = cc
 
-kind-dressed : (n : Option Node) (r : Object) → (dressed n r).node.kind ≡ r.node.kind
-kind-dressed None r = refl
-kind-dressed (Some n) r = by (same_kind n.kind r.node.kind) refl
+kind-with_metadata : (n : Option Node) (r : Object) → (with_metadata n r).node.kind ≡ r.node.kind
+kind-with_metadata None r = refl
+kind-with_metadata (Some n) r = by (same_kind n.kind r.node.kind) refl
   where
     by : (b : Bool) → same_kind n.kind r.node.kind ≡ b → (cond b (record r { node = n }) (plain r)).node.kind ≡ r.node.kind
     by true e = same_kind-exact n.kind r.node.kind e
@@ -54,7 +54,7 @@ kind-dressed (Some n) r = by (same_kind n.kind r.node.kind) refl
 
 -- what is real keeps its kind
 pub kind_of-merged : (m r : Option Object) (p : Option Kind) (k : Kind) → kind_of r ≡ Some k → kind_of (merged_of m r p) ≡ Some k
-kind_of-merged m (Some r) p k e = ap Some (kind-dressed (option_map (λ o. o.node) m) r) ∙ e
+kind_of-merged m (Some r) p k e = ap Some (kind-with_metadata (option_map (λ o. o.node) m) r) ∙ e
 kind_of-merged m None p k e = cc
 
 -- ---- objects
@@ -81,9 +81,9 @@ IsObject-plain r h =
     h.payload h.bytes h.numbers (plain-special r.node.kind)
 
 -- a node with the bytes of an object of its kind
-pub redressed : (n : Node) (payload : List ℕ) (r : Object) → n.kind ≡ r.node.kind → IsObject (record { node = n; payload = payload }) → IsObject r
+pub metadata_again : (n : Node) (payload : List ℕ) (r : Object) → n.kind ≡ r.node.kind → IsObject (record { node = n; payload = payload }) → IsObject r
     → IsObject (record r { node = n })
-redressed n payload r e m h = record {
+metadata_again n payload r e m h = record {
   payload = subst (λ (k : Kind). PayloadFits k r.payload) (sym e) h.payload;
   bytes = h.bytes;
   numbers = m.numbers;
@@ -96,12 +96,12 @@ redressed n payload r e m h = record {
   letters = m.letters;
 }
 
-IsObject-dressed : (m : Option Object) (r : Object) → ((o : Object) → m ≡ Some o → IsObject o) → IsObject r → IsObject (dressed (option_map (λ o. o.node) m) r)
-IsObject-dressed None r hm h = IsObject-plain r h
-IsObject-dressed (Some m) r hm h = by (same_kind m.node.kind r.node.kind) refl
+IsObject-with_metadata : (m : Option Object) (r : Object) → ((o : Object) → m ≡ Some o → IsObject o) → IsObject r → IsObject (with_metadata (option_map (λ o. o.node) m) r)
+IsObject-with_metadata None r hm h = IsObject-plain r h
+IsObject-with_metadata (Some m) r hm h = by (same_kind m.node.kind r.node.kind) refl
   where
     by : (b : Bool) → same_kind m.node.kind r.node.kind ≡ b → IsObject (cond b (record r { node = m.node }) (plain r))
-    by true e = redressed m.node m.payload r (same_kind-exact m.node.kind r.node.kind e) (hm m refl) h
+    by true e = metadata_again m.node m.payload r (same_kind-exact m.node.kind r.node.kind e) (hm m refl) h
     by false e = IsObject-plain r h
 
 some_same : {A : Type 0} (x y : A) → Some x ≡ Some y → x ≡ y
@@ -109,7 +109,7 @@ some_same x y e = cc
 
 object_of-merged : (m r : Option Object) (p : Option Kind) (o : Object) → ((x : Object) → m ≡ Some x → IsObject x) → ((x : Object) → r ≡ Some x → IsObject x)
     → merged_of m r p ≡ Some o → IsObject o
-object_of-merged m (Some r) p o hm hr e = subst IsObject (some_same _ _ e) (IsObject-dressed m r hm (hr r refl))
+object_of-merged m (Some r) p o hm hr e = subst IsObject (some_same _ _ e) (IsObject-with_metadata m r hm (hr r refl))
 object_of-merged (Some m) None (Some Directory) o hm hr e = by (is_real_kind m.node.kind) e
   where
     by : (b : Bool) → cond b None (Some m) ≡ Some o → IsObject o

@@ -19,13 +19,13 @@ use Rattle.pv_steps.proofs.StepLaws.{same_files}
 use Rattle.pv_tree.specs.Changes.{MayHave, with_node}
 use Rattle.pv_tree.specs.Growth.{Grown}
 use Rattle.pv_tree.specs.Held.{root_alone}
-use Rattle.pv_dress.specs.Nodes.{same_kind}
+use Rattle.pv_metadata.specs.Nodes.{same_kind}
 use Rattle.pv_image.proofs.MappedLaws.{places-mapped}
 use Rattle.pv_folder.specs.declared.found.Seen.{Seen}
 use Rattle.pv_folder.specs.declared.found.Seen.TheVariants as seen
-use Rattle.pv_folder.specs.Merge.{IsPlain, IsPlainAt, dressed, is_real_kind, merged, merged_at, merged_of, plain, plained}
+use Rattle.pv_folder.specs.Merge.{IsPlain, IsPlainAt, with_metadata, is_real_kind, merged, merged_at, merged_of, plain, plained}
 use Rattle.pv_folder.specs.Reading.{seen_object}
-use Rattle.pv_folder.proofs.MergeLaws.{kind_of-merged, places-merged, redressed, same_kind-exact}
+use Rattle.pv_folder.proofs.MergeLaws.{kind_of-merged, places-merged, metadata_again, same_kind-exact}
 
 abbrev Entries : Type 0
 Entries = List (Path × Object)
@@ -57,36 +57,36 @@ on_put p f t = λ j q. at q j
         by false e = refl
 
 -- a real object gets the node of one of its kind, or stays
-dressed_same : (n : Node) (o : Option Object) (k : Kind) → kind_of o ≡ Some k → same_kind n.kind k ≡ true → option_map (with_node n) o ≡ option_map (dressed (Some n)) o
-dressed_same n None k is same = refl
-dressed_same n (Some r) k is same =
+with_metadata_same : (n : Node) (o : Option Object) (k : Kind) → kind_of o ≡ Some k → same_kind n.kind k ≡ true → option_map (with_node n) o ≡ option_map (with_metadata (Some n)) o
+with_metadata_same n None k is same = refl
+with_metadata_same n (Some r) k is same =
     let kind : r.node.kind ≡ k = same_Some r.node.kind k is in
     let yes : same_kind n.kind r.node.kind ≡ true = ap (same_kind n.kind) kind ∙ same in
     ap (λ b. Some (cond b (record r { node = n }) (plain r))) (sym yes)
 
-dressed_other : (n : Node) (o : Option Object) (k : Kind) → kind_of o ≡ Some k → same_kind n.kind k ≡ false → IfSome o (λ r. plain r ≡ r) → o ≡ option_map (dressed (Some n)) o
-dressed_other n None k is other plains = refl
-dressed_other n (Some r) k is other plains =
+with_metadata_other : (n : Node) (o : Option Object) (k : Kind) → kind_of o ≡ Some k → same_kind n.kind k ≡ false → IfSome o (λ r. plain r ≡ r) → o ≡ option_map (with_metadata (Some n)) o
+with_metadata_other n None k is other plains = refl
+with_metadata_other n (Some r) k is other plains =
     let kind : r.node.kind ≡ k = same_Some r.node.kind k is in
     let no : same_kind n.kind r.node.kind ≡ false = ap (same_kind n.kind) kind ∙ other in
     ap Some (sym plains) ∙ ap (λ b. Some (cond b (record r { node = n }) (plain r))) (sym no)
 
-pub dress_same : (p : Path) (n : Node) (t : Places) (k : Kind) → kind_of (t p) ≡ Some k → same_kind n.kind k ≡ true → on_at p (with_node n) t ≡ on_at p (dressed (Some n)) t
-dress_same p n t k is same =
-    on_put p (with_node n) t ∙ ap (λ (o : Option Object). put_at p o t) (dressed_same n (t p) k is same) ∙ sym (on_put p (dressed (Some n)) t)
+pub metadata_same : (p : Path) (n : Node) (t : Places) (k : Kind) → kind_of (t p) ≡ Some k → same_kind n.kind k ≡ true → on_at p (with_node n) t ≡ on_at p (with_metadata (Some n)) t
+metadata_same p n t k is same =
+    on_put p (with_node n) t ∙ ap (λ (o : Option Object). put_at p o t) (with_metadata_same n (t p) k is same) ∙ sym (on_put p (with_metadata (Some n)) t)
 
-pub dress_other : (p : Path) (n : Node) (t : Places) (k : Kind) → kind_of (t p) ≡ Some k → same_kind n.kind k ≡ false → IfSome (t p) (λ r. plain r ≡ r) → t ≡ on_at p (dressed (Some n)) t
-dress_other p n t k is other plains =
-    put_same p t (t p) refl ∙ ap (λ (o : Option Object). put_at p o t) (dressed_other n (t p) k is other plains) ∙ sym (on_put p (dressed (Some n)) t)
+pub metadata_other : (p : Path) (n : Node) (t : Places) (k : Kind) → kind_of (t p) ≡ Some k → same_kind n.kind k ≡ false → IfSome (t p) (λ r. plain r ≡ r) → t ≡ on_at p (with_metadata (Some n)) t
+metadata_other p n t k is other plains =
+    put_same p t (t p) refl ∙ ap (λ (o : Option Object). put_at p o t) (with_metadata_other n (t p) k is other plains) ∙ sym (on_put p (with_metadata (Some n)) t)
 
 -- where something is real
-there : (m : Object) (o : Option Object) (k : Kind) (parent : Option Kind) → kind_of o ≡ Some k → option_map (dressed (Some m.node)) o ≡ merged_of (Some m) o parent
+there : (m : Object) (o : Option Object) (k : Kind) (parent : Option Kind) → kind_of o ≡ Some k → option_map (with_metadata (Some m.node)) o ≡ merged_of (Some m) o parent
 there m None k parent is = let no : None ≡ Some k = is in cc
 there m (Some r) k parent is = refl
 
 pub merged_there : (p : Path) (m : Object) (t : Places) (k : Kind) → kind_of (t p) ≡ Some k
-    → on_at p (dressed (Some m.node)) t ≡ put_at p (merged_of (Some m) (t p) (kind_of (t (parent_of p)))) t
-merged_there p m t k is = on_put p (dressed (Some m.node)) t ∙ ap (λ (o : Option Object). put_at p o t) (there m (t p) k (kind_of (t (parent_of p))) is)
+    → on_at p (with_metadata (Some m.node)) t ≡ put_at p (merged_of (Some m) (t p) (kind_of (t (parent_of p)))) t
+merged_there p m t k is = on_put p (with_metadata (Some m.node)) t ∙ ap (λ (o : Option Object). put_at p o t) (there m (t p) k (kind_of (t (parent_of p))) is)
 
 pub absent_of : (o : Option Object) → kind_of o ≡ None → o ≡ None
 absent_of None e = refl
@@ -112,7 +112,7 @@ may_have : (n : Node) (payload : List ℕ) (o : Option Object) (k : Kind) → Is
 may_have n payload None k m whole is same = tt
 may_have n payload (Some r) k m whole is same =
     let kinds : n.kind ≡ r.node.kind = same_kind-exact n.kind k same ∙ sym (same_Some r.node.kind k is) in
-    (kinds, redressed n payload r kinds m (whole r refl))
+    (kinds, metadata_again n payload r kinds m (whole r refl))
 
 pub may_have_at : (t : Files) (p : Path) (n : Node) (payload : List ℕ) (k : Kind) → IsTree t → IsObject (record { node = n; payload = payload })
     → kind_of (places t p) ≡ Some k → same_kind n.kind k ≡ true → IfSome (places t p) (MayHave n)
@@ -262,9 +262,9 @@ plain_again (Some o) = refl
 pub plained_plain : (t : Files) → IsPlain (plained t)
 plained_plain t = λ q. subst (λ (x : Option Object). IfSome x (λ r. plain r ≡ r)) (sym (places-mapped plain t q)) (plain_again (places t q))
 
-dressed_again : (n : Option Node) (r : Object) → dressed n (plain r) ≡ dressed n r
-dressed_again None r = refl
-dressed_again (Some n) r = refl
+with_metadata_again : (n : Option Node) (r : Object) → with_metadata n (plain r) ≡ with_metadata n r
+with_metadata_again None r = refl
+with_metadata_again (Some n) r = refl
 
 kind_of-plain : (r : Option Object) → kind_of (option_map plain r) ≡ kind_of r
 kind_of-plain None = refl
@@ -272,7 +272,7 @@ kind_of-plain (Some r) = refl
 
 same_merged : (m r : Option Object) (k : Option Kind) → merged_of m (option_map plain r) k ≡ merged_of m r k
 same_merged m None k = refl
-same_merged m (Some r) k = ap Some (dressed_again (option_map (λ o. o.node) m) r)
+same_merged m (Some r) k = ap Some (with_metadata_again (option_map (λ o. o.node) m) r)
 
 pub merged_plained : (manifest real : Files) → merged manifest (plained real) ≡ merged manifest real
 merged_plained manifest real = same_files (merged manifest (plained real)) (merged manifest real) (λ q.

@@ -14,7 +14,7 @@ use Rattle.pv_steps.specs.declared.node.Kind.TheVariants as node
 use Rattle.pv_steps.specs.declared.object.Object.{Object}
 use Rattle.pv_steps.specs.Objects.{PayloadFits, fresh}
 use Rattle.pv_steps.specs.Trees.{Files, IsTree, kind_of, places}
-use Rattle.pv_dress.specs.Nodes.{same_kind}
+use Rattle.pv_metadata.specs.Nodes.{same_kind}
 use Rattle.pv_text.specs.Facts.{Values}
 use Rattle.pv_image.specs.declared.image_fault.ImageFault.{ImageFault}
 use Rattle.pv_image.specs.declared.image_fault.ImageFault.TheVariants as image_fault
@@ -29,7 +29,7 @@ use Rattle.pv_folder.specs.declared.open_fault.OpenFault.TheVariants.{BadManifes
 use Rattle.pv_folder.specs.Folders.{Agrees, IsPrepared, manifest_path, object_of, objects_in, real_as, real_in, real_of, tree_path}
 use Rattle.pv_folder.specs.Merge.{is_real_kind, merged, merged_of, plain}
 use Rattle.pv_folder.specs.Opening.{IsOpened, IsRefused, Says, absent, bad_manifest, fault_among, is_outer, not_prepared, objects_below, of_image, present, real}
-use Rattle.pv_folder.proofs.GoingLaws.{Faulty, told, told_both}
+use Rattle.pv_folder.proofs.GoingLaws.{Faulty, from_content, told_both}
 use Rattle.pv_folder.proofs.FolderLaws.{objects_found, objects_sorted}
 use Rattle.pv_folder.proofs.MergeLaws.{places-merged}
 use Rattle.pv_folder.proofs.ReadingLaws.{real_below, real_entries}
@@ -101,7 +101,7 @@ module _ (content : Option Content) (folder : Path) where
   pub manifest_says : (bytes : List ℕ) (facts : Values) (files : Files) → IfSome content (λ c. Some bytes ≡ bytes_of (held c (manifest_path folder)))
       → IsImage bytes facts files → IfSome content (λ c. Says folder c facts files)
   manifest_says bytes facts files at image =
-      told (λ c. Some bytes ≡ bytes_of (held c (manifest_path folder))) (λ c. Says folder c facts files) content
+      from_content (λ c. Some bytes ≡ bytes_of (held c (manifest_path folder))) (λ c. Says folder c facts files) content
       (λ c h. present bytes (file_at (held c (manifest_path folder)) bytes h) image) at
 
   -- a fault of what is real, which is looked at after that
@@ -128,14 +128,14 @@ module _ (content : Option Content) (folder : Path) where
           → IfSome content (λ c. IsRefused folder c g → (◌≡◌ {A = Result A OpenFault} (Err e) (Err g)) ⊎ (◌≡◌ {A = Result A OpenFault} (Err e) (Err HostFailed)) ⊎ (◌≡◌ {A = Result A OpenFault} (Err e) (Err Memory)))
       by true is = always (λ c. IsRefused folder c g → (◌≡◌ {A = Result A OpenFault} (Err e) (Err g)) ⊎ (◌≡◌ {A = Result A OpenFault} (Err e) (Err HostFailed)) ⊎ (◌≡◌ {A = Result A OpenFault} (Err e) (Err Memory)))
           content (λ c other. outer (outer_fault f is))
-      by false is = told (λ c. IsRefused folder c f) (λ c. IsRefused folder c g → (◌≡◌ {A = Result A OpenFault} (Err e) (Err g)) ⊎ (◌≡◌ {A = Result A OpenFault} (Err e) (Err HostFailed)) ⊎ (◌≡◌ {A = Result A OpenFault} (Err e) (Err Memory)))
+      by false is = from_content (λ c. IsRefused folder c f) (λ c. IsRefused folder c g → (◌≡◌ {A = Result A OpenFault} (Err e) (Err g)) ⊎ (◌≡◌ {A = Result A OpenFault} (Err e) (Err HostFailed)) ⊎ (◌≡◌ {A = Result A OpenFault} (Err e) (Err Memory)))
           content (λ c own other. inl (ap Err (h ∙ one_reason folder c f g own other))) (why is)
 
-pub folder_opened : (content : Option Content) (folder : Path) (facts said : Values) (tree manifest found : Files) → facts ≡ said → tree ≡ merged manifest found
-    → IfSome content (λ c. IsPrepared folder (held c)) → IfSome content (λ c. Says folder c said manifest) → IfSome content (λ c. fault_among 0 0 (objects_below folder c) ≡ None)
+pub folder_opened : (content : Option Content) (folder : Path) (facts new_messages : Values) (tree manifest found : Files) → facts ≡ new_messages → tree ≡ merged manifest found
+    → IfSome content (λ c. IsPrepared folder (held c)) → IfSome content (λ c. Says folder c new_messages manifest) → IfSome content (λ c. fault_among 0 0 (objects_below folder c) ≡ None)
     → IfSome content (λ c. found ≡ real_in folder c) → IfSome content (λ c. IsOpened folder c facts tree)
-folder_opened None folder facts said tree manifest found same is prepared says sound are = tt
-folder_opened (Some c) folder facts said tree manifest found same is prepared says sound are = record {
+folder_opened None folder facts new_messages tree manifest found same is prepared says sound are = tt
+folder_opened (Some c) folder facts new_messages tree manifest found same is prepared says sound are = record {
   manifest = manifest;
   prepared = prepared;
   says = subst (λ (v : Values). Says folder c v manifest) (sym same) says;

@@ -148,9 +148,9 @@ module _ (folder : Path) (files : Files) (s : Step) (now : ℕ) (tree : IsTree f
         by : (o : Option Content) → IsChangedBy (change_for (tree_path folder) (places files) s) o new → IsSameOutside folder o new
         by None is = untold_change (change_for (tree_path folder) (places files) s) new is
         by (Some c) is =
-            let told = told_change (change_for (tree_path folder) (places files) s) c new is in
-            subst (λ (o : Option Content). IsSameOutside folder (Some c) o) (sym told.1)
-            (λ path out. ap (λ (u : Held). u path) told.2 ∙ same_elsewhere (tree_path folder) (places files) (held c) path out s)
+            let from_content = told_change (change_for (tree_path folder) (places files) s) c new is in
+            subst (λ (o : Option Content). IsSameOutside folder (Some c) o) (sym from_content.1)
+            (λ path out. ap (λ (u : Held). u path) from_content.2 ∙ same_elsewhere (tree_path folder) (places files) (held c) path out s)
 
     pub agrees_step : IfSome old (λ c. Agrees folder files (held c)) → IfSome new (λ c. Agrees folder (after files s now) (held c))
     agrees_step agrees = by old asked agrees
@@ -160,9 +160,9 @@ module _ (folder : Path) (files : Files) (s : Step) (now : ℕ) (tree : IsTree f
         by None is agrees =
             subst (λ (o : Option Content). IfSome o (λ c. Agrees folder (after files s now) (held c))) (sym (untold_change (change_for (tree_path folder) (places files) s) new is)) tt
         by (Some c) is agrees =
-            let told = told_change (change_for (tree_path folder) (places files) s) c new is in
-            subst (λ (o : Option Content). IfSome o (λ c. Agrees folder (after files s now) (held c))) (sym told.1)
-            (λ path. ap (λ (u : Held). u (tree_path folder ++ path)) told.2
+            let from_content = told_change (change_for (tree_path folder) (places files) s) c new is in
+            subst (λ (o : Option Content). IfSome o (λ c. Agrees folder (after files s now) (held c))) (sym from_content.1)
+            (λ path. ap (λ (u : Held). u (tree_path folder ++ path)) from_content.2
             ∙ agrees_after (tree_path folder) (places files) (held c) agrees tree s now can path
             ∙ ap (λ (t : Places). real_of (t path)) (sym (at_after files s now)))
 

@@ -9,7 +9,7 @@ use Rattle.pv_steps.specs.declared.node.Node.{Node}
 use Rattle.pv_steps.specs.declared.object.Object.{Object}
 use Rattle.pv_steps.specs.Objects.{fresh}
 use Rattle.pv_steps.specs.Trees.{Files, kind_of, places, tabulate}
-use Rattle.pv_dress.specs.Nodes.{same_kind}
+use Rattle.pv_metadata.specs.Nodes.{same_kind}
 
 -- the mode of a real object of which the manifest says nothing
 abbrev pub plain_mode : Kind → ℕ
@@ -22,9 +22,9 @@ abbrev pub plain : Object → Object
 plain r = fresh r.node.kind (plain_mode r.node.kind) r.payload r.node.major r.node.minor 0
 
 -- a real object: its bytes are its own, and all else is that of the manifest's node at its path, where that is of its kind
-abbrev pub dressed : Option Node → Object → Object
-dressed None r = plain r
-dressed (Some node) r = if same_kind node.kind r.node.kind then record r { node = node } else plain r
+abbrev pub with_metadata : Option Node → Object → Object
+with_metadata None r = plain r
+with_metadata (Some node) r = if same_kind node.kind r.node.kind then record r { node = node } else plain r
 
 -- whether a host has objects of this kind: directories and files; links, FIFOs and devices are the manifest's alone
 abbrev pub is_real_kind : Kind → Bool
@@ -34,7 +34,7 @@ is_real_kind kind = false
 
 -- what stands at a path of which the manifest says this, at which this is real, in what is really of this kind
 abbrev pub merged_of : Option Object → Option Object → Option Kind → Option Object
-merged_of m (Some r) parent = Some (dressed (option_map (λ o. o.node) m) r)
+merged_of m (Some r) parent = Some (with_metadata (option_map (λ o. o.node) m) r)
 merged_of (Some m) None (Some Directory) = if is_real_kind m.node.kind then None else Some m
 merged_of m None parent = None
 

@@ -162,7 +162,7 @@ impl<'a, H: Host> Tree for FolderTree<'a, H> {
         // Once a step has run out of memory, each further one does, and the host is not asked.
         ensures pending { IsErrOf result Memory → self.new.pending ≡ true }
         ensures settled { (IsErrOf result Memory → ⊥) → self.new.pending ≡ false }
-        ensures spent { self.old.pending ≡ true → (result ≡ Err Memory) × (self.new.host.now ≡ self.old.host.now) }
+        ensures pending_fails { self.old.pending ≡ true → (result ≡ Err Memory) × (self.new.host.now ≡ self.old.host.now) }
     {
         parts_fit(step);
         if self.pending {

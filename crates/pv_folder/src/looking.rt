@@ -23,7 +23,7 @@ pub(crate) fn items_at<H: Host>(
     folder: &[u8],
     path: &TreePath,
 ) -> Result<Option<HostList>, OpenFault>
-    ensures told { IfOk result (λ items. IfSome (H.content host.old) (λ c.
+    ensures from_content { IfOk result (λ items. IfSome (H.content host.old) (λ c.
         items ≡ listing c (tree_path (spelled folder.now) ++ path.now))) }
     ensures content { IfOk result (λ _. IfSome (H.content host.old) (λ c. IsContent (held c))) }
     ensures outer { IfErr result (λ fault. is_outer fault ≡ true) }
@@ -41,7 +41,7 @@ pub(crate) fn bytes_at<H: Host>(
     host: &mut H,
     place: &[u8],
 ) -> Result<Option<Bytes>, OpenFault>
-    ensures told { IfOk result (λ bytes. IfSome (H.content host.old) (λ c. bytes ≡ bytes_of (held c (spelled place.now)))) }
+    ensures from_content { IfOk result (λ bytes. IfSome (H.content host.old) (λ c. bytes ≡ bytes_of (held c (spelled place.now)))) }
     ensures outer { IfErr result (λ fault. is_outer fault ≡ true) }
     ensures kept { H.content host.new ≡ H.content host.old }
     ensures cause { IsErrOf result HostFailed → HasRisen (H.faults host.old) (H.faults host.new) }
@@ -72,7 +72,7 @@ pub(crate) fn look<H: Host>(
 ) -> Result<Seen, OpenFault>
     requires kind { found.now.kind ≢ kind.Other }
     requires path { path.now ≡ path_of found.now }
-    ensures told { IfOk result (λ seen. IfSome (H.content host.old) (λ c. Shows c (tree_path (spelled folder.now) ++ path.now) seen)) }
+    ensures from_content { IfOk result (λ seen. IfSome (H.content host.old) (λ c. Shows c (tree_path (spelled folder.now) ++ path.now) seen)) }
     ensures odd { IfErr result (λ fault. is_outer fault ≡ false → fault ≡ odd path.now) }
     ensures other { IfErr result (λ fault. is_outer fault ≡ false → IfSome (H.content host.old) (λ c.
         kind_at (held c) (tree_path (spelled folder.now) ++ path.now) ≢ Some found.now.kind)) }

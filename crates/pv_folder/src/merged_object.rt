@@ -6,8 +6,8 @@ ghost use Rattle.pv_steps.specs.Objects.{IsObject};
 ghost use Rattle.pv_steps.specs.Steps.{on_at, put_at};
 ghost use Rattle.pv_steps.specs.Trees.{IsKind, kind_of, places};
 ghost use Rattle.pv_tree.specs.Changes.{MayHave};
-ghost use Rattle.pv_dress.specs.Nodes.{same_kind};
-ghost use Rattle.pv_folder.specs.Merge.{IsPlainAt, dressed, is_real_kind, merged_of};
+ghost use Rattle.pv_metadata.specs.Nodes.{same_kind};
+ghost use Rattle.pv_folder.specs.Merge.{IsPlainAt, with_metadata, is_real_kind, merged_of};
 
 use pv_path::{Name, TreePath};
 use pv_steps::{Kind, Node};
@@ -28,12 +28,17 @@ fn same_kind(a: Kind, b: Kind) -> bool
 }
 
 /// Gives a real object of a kind all that the manifest's node at its path says of one of its kind.
-fn dress(tree: &mut MemTree, names: &[Name], node: &Node, kind: Kind) -> Result<(), AllocError>
+fn set_metadata(
+    tree: &mut MemTree,
+    names: &[Name],
+    node: &Node,
+    kind: Kind,
+) -> Result<(), AllocError>
     requires kind { kind_of (places tree.old.files names.now) ≡ Some kind }
     requires plain { IsPlainAt tree.old.files names.now }
     requires fits { same_kind node.now.kind kind ≡ true → IfSome (places tree.old.files names.now) (MayHave node.now) }
     ensures places { OnOk result
-        (places tree.new.files ≡ on_at names.now (dressed (Some node.now)) (places tree.old.files)) }
+        (places tree.new.files ≡ on_at names.now (with_metadata (Some node.now)) (places tree.old.files)) }
     ensures steps { tree.new.steps ≡ tree.old.steps }
 {
     if same_kind(node.kind, kind) {
@@ -74,8 +79,8 @@ fn add_unreal(
     requires names { has_names names.now ≡ true }
     requires object { IsObject (record { node = node.now; payload = payload.now }) }
     ensures places { let path = names.now in let t = places tree.old.files in
-        let said = Some (record { node = node.now; payload = payload.now }) in
-        OnOk result (places tree.new.files ≡ put_at path (merged_of said None (kind_of (t (parent_of path)))) t) }
+        let new_messages = Some (record { node = node.now; payload = payload.now }) in
+        OnOk result (places tree.new.files ≡ put_at path (merged_of new_messages None (kind_of (t (parent_of path)))) t) }
     ensures steps { tree.new.steps ≡ tree.old.steps }
 {
     if is_real_kind(node.kind) || !lies_in_directory(tree, names) {
@@ -97,12 +102,12 @@ pub(crate) fn merge_at(
     requires object { IsObject (record { node = node.now; payload = payload.now }) }
     requires plain { IsPlainAt tree.old.files names.now }
     ensures places { let path = names.now in let t = places tree.old.files in
-        let said = Some (record { node = node.now; payload = payload.now }) in
-        OnOk result (places tree.new.files ≡ put_at path (merged_of said (t path) (kind_of (t (parent_of path)))) t) }
+        let new_messages = Some (record { node = node.now; payload = payload.now }) in
+        OnOk result (places tree.new.files ≡ put_at path (merged_of new_messages (t path) (kind_of (t (parent_of path)))) t) }
     ensures steps { tree.new.steps ≡ tree.old.steps }
 {
     match tree.kind_at(names) {
-        Some(kind) => dress(tree, names, node, kind),
+        Some(kind) => set_metadata(tree, names, node, kind),
         None => add_unreal(alloc, tree, names, node, payload),
     }
 }

@@ -41,10 +41,10 @@ fn merge_into(alloc: Global, tree: &mut MemTree, manifest: &MemTree) -> Result<(
     ensures files { OnOk result (tree.new.files ≡ merged manifest.now.files tree.old.files) }
     ensures steps { tree.new.steps ≡ tree.old.steps }
 {
-    let mut said = manifest.walk(alloc)?;
-    while let Some(place) = said.place() {
+    let mut new_messages = manifest.walk(alloc)?;
+    while let Some(place) = new_messages.place() {
         merge_at(alloc, tree, place.names, place.node, place.payload)?;
-        said.advance()?;
+        new_messages.advance()?;
     }
     Ok(())
 }
@@ -56,9 +56,12 @@ pub(crate) fn merge_with(alloc: Global, manifest: Image, real: MemTree) -> Resul
     ensures steps { IfOk result (λ image. image.tree.steps ≡ real.steps) }
     ensures facts { IfOk result (λ image. image.facts ≡ manifest.facts) }
 {
-    let Image { tree: said, facts } = manifest;
+    let Image {
+        tree: new_messages,
+        facts,
+    } = manifest;
     let mut tree = real;
-    merge_into(alloc, &mut tree, &said)?;
+    merge_into(alloc, &mut tree, &new_messages)?;
     Ok(Image { tree, facts })
 }
 

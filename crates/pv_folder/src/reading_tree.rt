@@ -88,7 +88,7 @@ fn size_of(seen: &Seen) -> usize
 /// The objects in `tree`, where it is a directory.
 fn items_in_tree<H: Host>(alloc: Global, host: &mut H, folder: &[u8]) -> Result<HostList, OpenFault>
     requires { IfSome (H.content host.old) (λ c. IsDirectory (held c) (tree_path (spelled folder.now))) }
-    ensures told { IfOk result (λ items. IfSome (H.content host.old) (λ c. listing c (tree_path (spelled folder.now)) ≡ Some items)) }
+    ensures from_content { IfOk result (λ items. IfSome (H.content host.old) (λ c. listing c (tree_path (spelled folder.now)) ≡ Some items)) }
     ensures content { IfOk result (λ _. IfSome (H.content host.old) (λ c. IsContent (held c))) }
     ensures fault { IfErr result (λ fault. is_outer fault ≡ false → IfSome (H.content host.old) (λ _. ⊥)) }
     ensures kept { H.content host.new ≡ H.content host.old }

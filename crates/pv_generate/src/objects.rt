@@ -7,7 +7,7 @@ use pv_path::Bytes;
 use pv_steps::{Kind, Object};
 use std::alloc::{AllocError, Global};
 
-/// An object that root owns, all of whose stamps are 0.
+/// An object that root owns, all of whose timestamps are 0.
 pub(crate) fn object(alloc: Global, kind: Kind, mode: u16, payload: Bytes) -> Object
     ensures { result ≡ fresh kind mode payload 0 0 0 }
 {

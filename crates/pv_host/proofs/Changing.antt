@@ -30,13 +30,13 @@ directory_seen (Some o) e =
     ap (λ (k : Kind). Some (seen_as k o.payload)) is
 
 -- the kind of what a host sees tells the kind of what stands there
-told : (k : Kind) (payload : List ℕ) → host.kind_of (seen_as k payload) ≡ named.Directory → k ≡ kind.Directory
-told kind.Directory payload e = refl
-told kind.File payload e = cc
-told kind.Link payload e = cc
-told kind.Fifo payload e = cc
-told kind.CharDevice payload e = cc
-told kind.BlockDevice payload e = cc
+from_content : (k : Kind) (payload : List ℕ) → host.kind_of (seen_as k payload) ≡ named.Directory → k ≡ kind.Directory
+from_content kind.Directory payload e = refl
+from_content kind.File payload e = cc
+from_content kind.Link payload e = cc
+from_content kind.Fifo payload e = cc
+from_content kind.CharDevice payload e = cc
+from_content kind.BlockDevice payload e = cc
 
 told_file : (k : Kind) (payload : List ℕ) → host.kind_of (seen_as k payload) ≡ named.File → k ≡ kind.File
 told_file kind.Directory payload e = cc
@@ -50,7 +50,7 @@ directory_back : (o : Option Object) → option_map host.kind_of (option_map see
 directory_back None e = cc
 directory_back (Some o) e =
     let is : host.kind_of (seen_as o.node.kind o.payload) ≡ named.Directory = cc in
-    ap Some (told o.node.kind o.payload is)
+    ap Some (from_content o.node.kind o.payload is)
 
 file_back : (o : Option Object) → option_map host.kind_of (option_map seen o) ≡ Some named.File → kind_of o ≡ Some kind.File
 file_back None e = cc

@@ -48,7 +48,7 @@ pub trait Host {
 
     /// The objects in a directory, or nothing where the path is no directory.
     fn list(&mut self, alloc: Global, path: &[u8]) -> Result<Option<HostList>, HostFault>
-        ensures told { IfOk result (λ items. IfSome (content self.old) (λ c. items ≡ listing c (spelled path.now))) }
+        ensures from_content { IfOk result (λ items. IfSome (content self.old) (λ c. items ≡ listing c (spelled path.now))) }
         ensures content { IfSome (content self.old) (λ c. IsContent (held c)) }
         ensures kept { content self.new ≡ content self.old }
         ensures cause { IsErrOf result Failed → HasRisen (faults self.old) (faults self.new) }
@@ -57,7 +57,7 @@ pub trait Host {
 
     /// The bytes of a file, or nothing where the path is no file.
     fn read_file(&mut self, alloc: Global, path: &[u8]) -> Result<Option<Vec<u8>>, HostFault>
-        ensures told { IfOk result (λ bytes. IfSome (content self.old) (λ c.
+        ensures from_content { IfOk result (λ bytes. IfSome (content self.old) (λ c.
             option_map (λ b. b.items) bytes ≡ bytes_of (held c (spelled path.now)))) }
         ensures content { IfSome (content self.old) (λ c. IsContent (held c)) }
         ensures kept { content self.new ≡ content self.old }

@@ -75,7 +75,7 @@ impl Host for MemHost {
     ghost faults = { λ h. h.plan.faults };
 
     fn list(&mut self, alloc: Global, path: &[u8]) -> Result<Option<HostList>, HostFault>
-        ensures told { IfOk result (λ items. items ≡ listing (content_of self.old.tree.files) (spelled path.now)) }
+        ensures from_content { IfOk result (λ items. items ≡ listing (content_of self.old.tree.files) (spelled path.now)) }
         ensures content { IsContent (held (content_of self.old.tree.files)) }
         ensures kept { self.new.tree.files ≡ self.old.tree.files }
         ensures cause { IsErrOf result Failed → HasRisen self.old.plan.faults self.new.plan.faults }
@@ -93,7 +93,7 @@ impl Host for MemHost {
     }
 
     fn read_file(&mut self, alloc: Global, path: &[u8]) -> Result<Option<Vec<u8>>, HostFault>
-        ensures told { IfOk result (λ bytes.
+        ensures from_content { IfOk result (λ bytes.
             option_map (λ b. b.items) bytes ≡ bytes_of (held (content_of self.old.tree.files) (spelled path.now))) }
         ensures content { IsContent (held (content_of self.old.tree.files)) }
         ensures kept { self.new.tree.files ≡ self.old.tree.files }

@@ -12,7 +12,7 @@ use Rattle.pv_steps.specs.Trees.{Files, IsTree, kind_of, places}
 use Rattle.pv_image.specs.declared.extent.Extent.{Extent}
 use Rattle.pv_image.specs.declared.extent.Extent.TheVariants.{Whole, EmptyFiles}
 use Rattle.pv_image.specs.Emptied.{emptied, emptied_payload, with_empty_files}
-use Rattle.pv_image.specs.Told.{told_object, told_payload, told_tree}
+use Rattle.pv_image.specs.Written.{written_object, written_payload, written_tree}
 use Rattle.pv_image.proofs.MappedLaws.{entries-mapped, places-mapped, shown_by, tree_mapped}
 
 -- ---- with empty files
@@ -59,19 +59,19 @@ tree_emptied = tree_mapped emptied (λ o. refl) IsObject-emptied
 
 -- ---- what is written
 
-entries_as_they_are : (es : List (Path × Object)) → map (shown_by (told_object Whole)) es ≡ es
+entries_as_they_are : (es : List (Path × Object)) → map (shown_by (written_object Whole)) es ≡ es
 entries_as_they_are [] = refl
 entries_as_they_are (e ∷ es) = ap (λ (v : List (Path × Object)). e ∷ v) (entries_as_they_are es)
 
-pub entries_told : (extent : Extent) (t : Files) → map (shown_by (told_object extent)) (fin.entries t) ≡ fin.entries (told_tree extent t)
+pub entries_told : (extent : Extent) (t : Files) → map (shown_by (written_object extent)) (fin.entries t) ≡ fin.entries (written_tree extent t)
 entries_told Whole t = entries_as_they_are (fin.entries t)
 entries_told EmptyFiles t = entries-mapped emptied t
 
-pub tree_told : (extent : Extent) (t : Files) → IsTree t → IsTree (told_tree extent t)
+pub tree_told : (extent : Extent) (t : Files) → IsTree t → IsTree (written_tree extent t)
 tree_told Whole t tree = tree
 tree_told EmptyFiles t tree = tree_emptied t tree
 
 -- an object of which so much is written
-pub told_parts : (extent : Extent) (o : Object) → record o { payload = told_payload extent o.node.kind o.payload } ≡ told_object extent o
+pub told_parts : (extent : Extent) (o : Object) → record o { payload = written_payload extent o.node.kind o.payload } ≡ written_object extent o
 told_parts Whole o = refl
 told_parts EmptyFiles o = refl

@@ -47,13 +47,13 @@ step_on n stage next bytes text rest what f cut spells is (cut_off none unended)
 step_on n stage next bytes text rest what f cut spells is (misspelt {text = other} {rest = after} again none) =
     let same = one_cut bytes text other rest after cut again in
     absurd (let nothing : judged n stage what ≡ None = none what (subst (λ (t : List ℕ). Spells t what) same.0 spells) in let bad : None ≡ Some (Ok next) = sym nothing ∙ is in cc)
-step_on n stage next bytes text rest what f cut spells is (misplaced {text = other} {rest = after} said again says wrong) =
+step_on n stage next bytes text rest what f cut spells is (misplaced {text = other} {rest = after} new_messages again says wrong) =
     let same = one_cut bytes text other rest after cut again in
-    let one : said ≡ what = spells_once other said what says (subst (λ (t : List ℕ). Spells t what) same.0 spells) in
+    let one : new_messages ≡ what = spells_once other new_messages what says (subst (λ (t : List ℕ). Spells t what) same.0 spells) in
     absurd (let bad : Some (Err f) ≡ Some (Ok next) = sym wrong ∙ ap (judged n stage) one ∙ is in cc)
-step_on n stage next bytes text rest what f cut spells is (later {next = on} {text = other} {rest = after} said again says right more) =
+step_on n stage next bytes text rest what f cut spells is (later {next = on} {text = other} {rest = after} new_messages again says right more) =
     let same = one_cut bytes text other rest after cut again in
-    let one : said ≡ what = spells_once other said what says (subst (λ (t : List ℕ). Spells t what) same.0 spells) in
+    let one : new_messages ≡ what = spells_once other new_messages what says (subst (λ (t : List ℕ). Spells t what) same.0 spells) in
     let both : Some (Ok on) ≡ Some (Ok next) = sym right ∙ ap (judged n stage) one ∙ is in
     let stages : on ≡ next = cc in
     subst (λ (b : List ℕ). HasFault (suc n) next b f) (sym same.1) (subst (λ (s : Stage). HasFault (suc n) s after f) stages more)
@@ -284,14 +284,14 @@ one_fault n stage bytes f g (misplaced {text = text} {rest = rest} what cut spel
 one_fault n stage bytes f g (misplaced {text = text} {rest = rest} what cut spells is) (misspelt {text = other} {rest = after} again none) =
     let same = one_cut bytes text other rest after cut again in
     absurd (let nothing : judged n stage what ≡ None = none what (subst (λ (t : List ℕ). Spells t what) same.0 spells) in let bad : None ≡ Some (Err f) = sym nothing ∙ is in cc)
-one_fault n stage bytes f g (misplaced {text = text} {rest = rest} what cut spells is) (misplaced {text = other} {rest = after} said again says wrong) =
+one_fault n stage bytes f g (misplaced {text = text} {rest = rest} what cut spells is) (misplaced {text = other} {rest = after} new_messages again says wrong) =
     let same = one_cut bytes text other rest after cut again in
-    let one : said ≡ what = spells_once other said what says (subst (λ (t : List ℕ). Spells t what) same.0 spells) in
+    let one : new_messages ≡ what = spells_once other new_messages what says (subst (λ (t : List ℕ). Spells t what) same.0 spells) in
     let both : Some (Err f) ≡ Some (Err g) = sym is ∙ ap (judged n stage) (sym one) ∙ wrong in
     cc
-one_fault n stage bytes f g (misplaced {text = text} {rest = rest} what cut spells is) (later {next = next} {text = other} {rest = after} said again says right more) =
+one_fault n stage bytes f g (misplaced {text = text} {rest = rest} what cut spells is) (later {next = next} {text = other} {rest = after} new_messages again says right more) =
     let same = one_cut bytes text other rest after cut again in
-    let one : said ≡ what = spells_once other said what says (subst (λ (t : List ℕ). Spells t what) same.0 spells) in
+    let one : new_messages ≡ what = spells_once other new_messages what says (subst (λ (t : List ℕ). Spells t what) same.0 spells) in
     absurd (let bad : Some (Err f) ≡ Some (Ok next) = sym is ∙ ap (judged n stage) (sym one) ∙ right in cc)
 one_fault n stage bytes f g (later {next = next} {text = text} {rest = rest} what cut spells is more) h =
     one_fault (suc n) next rest f g more (step_on n stage next bytes text rest what g cut spells is h)
@@ -457,12 +457,12 @@ pub one_image : (bytes : List ℕ) (f g : Values) (t u : Files) → IsImage byte
 one_image bytes f g t u a b =
     let own = texts_of a.version a.notes (fin.entries f) (fin.entries t) in
     let other = texts_of b.version b.notes (fin.entries g) (fin.entries u) in
-    let said = whats_of a.version a.notes (fin.entries f) (fin.entries t) in
+    let new_messages = whats_of a.version a.notes (fin.entries f) (fin.entries t) in
     let says = whats_of b.version b.notes (fin.entries g) (fin.entries u) in
     let x = texts_spell a.version a.notes (fin.entries f) (fin.entries t) a.are_notes a.fit.facts_fit (tree_entries a.version f t a.fit) in
     let y = texts_spell b.version b.notes (fin.entries g) (fin.entries u) b.are_notes b.fit.facts_fit (tree_entries b.version g u b.fit) in
     let texts : own ≡ other = lines_once own other x.1 y.1 (sym (image_lines bytes f t a) ∙ image_lines bytes g u b) in
-    let whats : said ≡ says = whats_once other said says (subst (λ (ts : List (List ℕ)). AllSpell ts said) texts x.0) y.0 in
+    let whats : new_messages ≡ says = whats_once other new_messages says (subst (λ (ts : List (List ℕ)). AllSpell ts new_messages) texts x.0) y.0 in
     let facts : fin.entries f ≡ fin.entries g = sym (all_facts a.version a.notes (fin.entries f) (fin.entries t)) ∙ ap (filter_map fact_in) whats ∙ all_facts b.version b.notes (fin.entries g) (fin.entries u) in
     let nodes : fin.entries t ≡ fin.entries u = sym (all_nodes a.version a.notes (fin.entries f) (fin.entries t)) ∙ ap (filter_map node_in) whats ∙ all_nodes b.version b.notes (fin.entries g) (fin.entries u) in
     (fin.same_entries_map f g facts, fin.same_entries_map t u nodes)

@@ -5,4 +5,4 @@ pub mod Images
 pub mod Progress
 pub mod Writing
 pub mod Emptied
-pub mod Told
+pub mod Written

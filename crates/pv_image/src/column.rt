@@ -101,7 +101,7 @@ pub(crate) fn read_id(text: &[u8]) -> Option<u32>
     read_up_to(4294967294, text)
 }
 
-/// The stamps that four texts spell.
+/// The timestamps that four texts spell.
 fn stamps_with(access: &[u8], birth: &[u8], change: &[u8], modify: &[u8]) -> Option<Stamps>
     ensures { let texts = access.now ∷ birth.now ∷ change.now ∷ modify.now ∷ [] in
         Reads stamp_texts StampsFit texts result }
@@ -114,7 +114,7 @@ fn stamps_with(access: &[u8], birth: &[u8], change: &[u8], modify: &[u8]) -> Opt
     })
 }
 
-/// The stamps that texts spell, one each.
+/// The timestamps that texts spell, one each.
 fn stamps_of(pieces: &[&[u8]]) -> Option<Stamps>
     ensures { Reads stamp_texts StampsFit (texts pieces.now) result }
 {
@@ -124,7 +124,7 @@ fn stamps_of(pieces: &[&[u8]]) -> Option<Stamps>
     }
 }
 
-/// The stamps that a text spells.
+/// The timestamps that a text spells.
 pub(crate) fn read_stamps(alloc: Global, text: &[u8]) -> Result<Option<Stamps>, AllocError>
     ensures { IfOk result (Reads stamps_text StampsFit text.now) }
 {

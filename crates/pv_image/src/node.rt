@@ -29,11 +29,11 @@ pub struct Plain {
     pub uid: u32,
     /// The ID of the owning group, 0 to 4294967294.
     pub gid: u32,
-    /// The four stamps.
+    /// The four timestamps.
     pub stamps: Stamps,
 }
 
-/// The plain columns, beside the stamps.
+/// The plain columns, beside the timestamps.
 fn plain_with(
     kind: &[u8],
     mode: &[u8],

@@ -166,7 +166,7 @@ fn add_number(output: &mut Vec<u8>, separator: u8, number: u64) -> Result<(), Al
     Ok(())
 }
 
-/// Adds a space and the four stamps.
+/// Adds a space and the four timestamps.
 fn add_stamps(output: &mut Vec<u8>, stamps: &Stamps) -> Result<(), AllocError>
     ensures { OnOk result (output.new.items ≡ output.old.items ++ 32 ∷ stamps_text stamps.now) }
 {
@@ -314,7 +314,7 @@ pub(crate) fn add_node(
     Ok(())
 }
 
-/// An object as an image spells it, without its path and its stamps: kind, mode, owner, owning group, ACL,
+/// An object as an image spells it, without its path and its timestamps: kind, mode, owner, owning group, ACL,
 /// attributes, letters and payload, with one space between them.
 pub fn print_node(alloc: Global, node: &Node, payload: &[u8]) -> Result<Vec<u8>, AllocError>
     ensures text { IfOk result (λ text. text.items ≡ object_text (record { node = node.now; payload = payload.now })) }

@@ -8,7 +8,7 @@ ghost use Rattle.pv_steps.specs.Trees.{IsTree};
 ghost use Rattle.pv_image.specs.Spelling.{text_of};
 ghost use Rattle.pv_image.specs.Images.{IsImage, is_byte_fact};
 ghost use Rattle.pv_image.specs.Emptied.{emptied_payload, with_empty_files};
-ghost use Rattle.pv_image.specs.Told.{told_payload, told_tree};
+ghost use Rattle.pv_image.specs.Written.{written_payload, written_tree};
 
 use crate::extent::Extent;
 use crate::line::header;
@@ -60,10 +60,10 @@ fn add_image_with(
     facts: &Facts,
     extent: Extent,
 ) -> Result<(), AllocError>
-    ensures text { let told = told_tree extent tree.now.files in
-        OnOk result (output.new.items ≡ output.old.items ++ text_of facts.now told) }
-    ensures image { let told = told_tree extent tree.now.files in
-        OnOk result (IsImage (text_of facts.now told) facts.now told) }
+    ensures text { let written_part = written_tree extent tree.now.files in
+        OnOk result (output.new.items ≡ output.old.items ++ text_of facts.now written_part) }
+    ensures image { let written_part = written_tree extent tree.now.files in
+        OnOk result (IsImage (text_of facts.now written_part) facts.now written_part) }
 {
     output.extend_from_slice(header(Version::Two))?;
     output.push(b'\n')?;
@@ -108,8 +108,8 @@ fn emptied_payload(kind: Kind, payload: &[u8]) -> &[u8]
 }
 
 /// What is written of a payload.
-fn told_payload(extent: Extent, kind: Kind, payload: &[u8]) -> &[u8]
-    ensures { result.now ≡ told_payload extent kind payload.now }
+fn written_payload(extent: Extent, kind: Kind, payload: &[u8]) -> &[u8]
+    ensures { result.now ≡ written_payload extent kind payload.now }
 {
     match extent {
         Extent::Whole => payload,
@@ -124,13 +124,13 @@ fn add_nodes(
     tree: &MemTree,
     extent: Extent,
 ) -> Result<(), AllocError>
-    ensures text { let lines = flat_map node_line (fin.entries (told_tree extent tree.now.files)) in
+    ensures text { let lines = flat_map node_line (fin.entries (written_tree extent tree.now.files)) in
         OnOk result (output.new.items ≡ output.old.items ++ lines) }
     ensures tree { IsTree tree.now.files }
 {
     let mut walk = tree.walk(alloc)?;
     while let Some(place) = walk.place() {
-        let payload = told_payload(extent, place.node.kind, place.payload);
+        let payload = written_payload(extent, place.node.kind, place.payload);
         add_node(alloc, output, place.names, place.node, payload)?;
         walk.advance()?;
     }

@@ -4,7 +4,7 @@ use Rattle.std.proofs.Common.{refl, sym, subst, ◌∙◌}
 use Rattle.std.specs.List.{AllByRecursion}
 use Rattle.pv_steps.specs.Same.{Same}
 use Rattle.pv_steps.specs.Trees.{Files, places, IsTree}
-use Rattle.pv_dress.proofs.OperationLaws.{bares-same}
+use Rattle.pv_metadata.proofs.OperationLaws.{object_states-same}
 use Rattle.pv_lines.specs.declared.line.Line.{Line}
 use Rattle.pv_lines.specs.Lines.{IsLine}
 use Rattle.pv_table.specs.Active.{are_distinct}
@@ -17,7 +17,7 @@ use Rattle.pv_laws.proofs.Moments.{created_same}
 module _ (lines : List Line) (are : AllByRecursion IsLine lines) (distinct : are_distinct lines ≡ true) (repeatable : IsRepeatable lines) where
   -- a run needs no moment
   any_moment : (now later : ℕ) (t : Files) → Same (created lines now t) (created lines later t)
-  any_moment now later t q plain = bares-same (places (created lines now t)) (places (created lines later t)) q (created_same lines now later t t (λ p. refl) q)
+  any_moment now later t q plain = object_states-same (places (created lines now t)) (places (created lines later t)) q (created_same lines now later t t (λ p. refl) q)
 
   -- a whole run from the first of these trees refuses no line at some moment
   quiet_first : (moments : List ℕ) (later : ℕ) (t u : Files) → StoppedRuns lines moments t u → IsQuiet lines later u → (now : ℕ) × IsQuiet lines now t

@@ -6,17 +6,17 @@ use Rattle.std.proofs.lemmas.Bool.{or_parts}
 use Rattle.pv_path.specs.Paths.{Path, same_path, is_prefix, has_staging, same_path-decides}
 use Rattle.pv_path.proofs.PathLaws.{rest_under-None, same_path-refl}
 use Rattle.pv_steps.specs.Trees.{Files, places, IsTree}
-use Rattle.pv_dress.specs.declared.bare.Bare.{Bare}
-use Rattle.pv_dress.specs.Nodes.{bares_of}
-use Rattle.pv_dress.proofs.OperationLaws.{bares_of-same}
+use Rattle.pv_metadata.specs.declared.object_state.ObjectState.{ObjectState}
+use Rattle.pv_metadata.specs.Nodes.{object_states_of}
+use Rattle.pv_metadata.proofs.OperationLaws.{object_states_of-same}
 use Rattle.pv_lines.specs.declared.line.Line.{Line}
 use Rattle.pv_lines.specs.declared.line.LinePath.{LinePath}
 use Rattle.pv_lines.specs.Lines.{IsLine}
-use Rattle.pv_table.specs.declared.deed.Copying.{Copying}
-use Rattle.pv_table.specs.declared.deed.Deed.{Deed}
-use Rattle.pv_table.specs.declared.deed.Deed.TheVariants.{Create, Copy, Touch, Idle}
+use Rattle.pv_table.specs.declared.action.Copying.{Copying}
+use Rattle.pv_table.specs.declared.action.Action.{Action}
+use Rattle.pv_table.specs.declared.action.Action.TheVariants.{Create, Copy, Adjust, Idle}
 use Rattle.pv_table.specs.Active.{in_create_order}
-use Rattle.pv_table.specs.Asking.{asks}
+use Rattle.pv_table.specs.ActionTable.{action_of}
 use Rattle.pv_table.specs.Created.{after_each, by_turn, by_line, created}
 use Rattle.pv_table.specs.Effects.{carried_out, turn_after}
 use Rattle.pv_table.specs.Reaching.{names, path_in, is_creating, governs}
@@ -28,14 +28,14 @@ use Rattle.pv_laws.proofs.CopyShapes.{at_outside, copied_shaped}
 use Rattle.pv_laws.proofs.Frames.{IsFree, ungoverned, not_reached, IsKept, kept_same, turn_kept, line_kept, midway_frame}
 use Rattle.pv_laws.proofs.Lines.{path_named, line_is_plain, copy_literal, copy_path, copy_source}
 use Rattle.pv_laws.proofs.Making.{IsShaped}
-use Rattle.pv_laws.proofs.Prepared.{bare_some, filled}
+use Rattle.pv_laws.proofs.Prepared.{object_state_some, filled}
 use Rattle.pv_table.proofs.ListedLaws.{all_in_order}
 use Rattle.pv_laws.proofs.Sets.{is_adjustment, asked, sets_adjust}
 use Rattle.pv_laws.proofs.Shapes.{tree_shaped}
 use Rattle.pv_path.proofs.Tests.{true_not_false}
 
 -- a path that a line that copies does not govern lies neither at its path, nor above it, nor below it
-module _ (line : Line) (is : IsLine line) (copying : Copying) (e : asks line ≡ Copy copying) (q : Path) (free : IsFree line q) where
+module _ (line : Line) (is : IsLine line) (copying : Copying) (e : action_of line ≡ Copy copying) (q : Path) (free : IsFree line q) where
   copy_names : (p : Path) → names line p ≡ same_path (path_in line.path) p
   copy_names p = ap (λ (path : LinePath). names (record line { path = path }) p) (copy_literal line is copying e)
 
@@ -57,75 +57,75 @@ module _ (line : Line) (is : IsLine line) (copying : Copying) (e : asks line ≡
 
 -- ---- a line
 
-module _ (now : ℕ) (line : Line) (is : IsLine line) (t : Files) (shape : IsShaped (bares_of (places t))) where
-  copy_kept : (copying : Copying) → asks line ≡ Copy copying → IsKept line t (turn_after now line (path_in line.path) t)
-  copy_kept copying e = turn_kept now line (path_in line.path) t shape (λ free. subst (λ (d : Deed). IsKept line t (carried_out now d (path_in line.path) t)) (sym e) (by free (bares_of (places t) copying.source) refl))
+module _ (now : ℕ) (line : Line) (is : IsLine line) (t : Files) (shape : IsShaped (object_states_of (places t))) where
+  copy_kept : (copying : Copying) → action_of line ≡ Copy copying → IsKept line t (turn_after now line (path_in line.path) t)
+  copy_kept copying e = turn_kept now line (path_in line.path) t shape (λ free. subst (λ (d : Action). IsKept line t (carried_out now d (path_in line.path) t)) (sym e) (by free (object_states_of (places t) copying.source) refl))
     where
       adjust : list_all is_adjustment copying.sets ≡ true
-      adjust = subst (λ d. list_all is_adjustment (sets_of d) ≡ true) e (sets_adjust line (asks line) (asked line))
+      adjust = subst (λ d. list_all is_adjustment (sets_of d) ≡ true) e (sets_adjust line (action_of line) (asked line))
 
-      by : refused_at line (path_in line.path) (places t) ≡ None → (b : Option Bare) → bares_of (places t) copying.source ≡ b → IsKept line t (carried_out now (Copy copying) (path_in line.path) t)
-      by free None f = subst (IsKept line t) (sym (copy_idle now copying (path_in line.path) t (sym (bare_some (places t copying.source)) ∙ ap is_some f))) (kept_same line t shape)
+      by : refused_at line (path_in line.path) (places t) ≡ None → (b : Option ObjectState) → object_states_of (places t) copying.source ≡ b → IsKept line t (carried_out now (Copy copying) (path_in line.path) t)
+      by free None f = subst (IsKept line t) (sym (copy_idle now copying (path_in line.path) t (sym (object_state_some (places t copying.source)) ∙ ap is_some f))) (kept_same line t shape)
       by free (Some b) f = record {
         shape =
             copied_shaped now copying adjust (path_in line.path) (copy_path line is copying e).0 (copy_source line is copying e) t shape b f (copy_path line is copying e).1
-            (copy_passes line copying e t free (sym (bare_some (places t copying.source)) ∙ ap is_some f)) (path_named line is);
+            (copy_passes line copying e t free (sym (object_state_some (places t copying.source)) ∙ ap is_some f)) (path_named line is);
         frame = λ q plain away.
             at_outside now copying adjust (path_in line.path) (copy_path line is copying e).0 (copy_source line is copying e) t shape b f (copy_path line is copying e).1
-            (copy_passes line copying e t free (sym (bare_some (places t copying.source)) ∙ ap is_some f)) q plain
+            (copy_passes line copying e t free (sym (object_state_some (places t copying.source)) ∙ ap is_some f)) q plain
             (rest_under-None (path_in line.path) q (not_below line is copying e q (ungoverned line q away)))
-            ∙ ap (λ c. filled c (bares_of (places t) q)) (not_above line is copying e q (ungoverned line q away));
+            ∙ ap (λ c. filled c (object_states_of (places t) q)) (not_above line is copying e q (ungoverned line q away));
       }
 
   -- whatever it asks for
   pub each_kept : IsKept line t ((by_line now).after line t)
-  each_kept = by (asks line) refl
+  each_kept = by (action_of line) refl
     where
-      plain_line : copied (asks line) ≡ None → IsKept line t ((by_line now).after line t)
+      plain_line : copied (action_of line) ≡ None → IsKept line t ((by_line now).after line t)
       plain_line none = line_kept now line is (line_is_plain line is none) t shape
 
-      by : (d : Deed) → asks line ≡ d → IsKept line t ((by_line now).after line t)
+      by : (d : Action) → action_of line ≡ d → IsKept line t ((by_line now).after line t)
       by (Create making) e = plain_line (ap copied e)
       by (Copy copying) e = subst (λ paths. IsKept line t (after_each (by_turn now line) paths t)) (sym (turns_copy line copying t e)) (copy_kept copying e)
-      by (Touch touching) e = plain_line (ap copied e)
+      by (Adjust adjustment) e = plain_line (ap copied e)
       by Idle e = plain_line (ap copied e)
 
   -- on its way
-  pub way_frame : (u : Files) (q : Path) → has_staging q ≡ false → governs line q ≡ false → OnWayOf line now t u → bares_of (places u) q ≡ bares_of (places t) q
+  pub way_frame : (u : Files) (q : Path) → has_staging q ≡ false → governs line q ≡ false → OnWayOf line now t u → object_states_of (places u) q ≡ object_states_of (places t) q
   way_frame u q plain away way = by way
     where
       free : IsFree line q
       free = ungoverned line q away
 
-      copy_frame : (copying : Copying) → asks line ≡ Copy copying → IsCopyMidway (path_in line.path) copying (turn_of line copying now t) q (bares_of (places t) q) (bares_of (places u) q) → bares_of (places u) q ≡ bares_of (places t) q
+      copy_frame : (copying : Copying) → action_of line ≡ Copy copying → IsCopyMidway (path_in line.path) copying (turn_of line copying now t) q (object_states_of (places t) q) (object_states_of (places u) q) → object_states_of (places u) q ≡ object_states_of (places t) q
       copy_frame copying e (kept f) = f
       copy_frame copying e (parent high differ none f) = absurd (true_not_false (is_prefix q (path_in line.path)) high (not_above line is copying e q free))
       copy_frame copying e (some_set k same turn f) = absurd (true_not_false (same_path (path_in line.path) q) ((same_path-decides (path_in line.path) q).1 (sym same)) (not_at line is copying e q free))
       copy_frame copying e (gone subtree low turn f) = absurd (true_not_false (is_prefix (path_in line.path) q) low (not_below line is copying e q free))
 
-      by : OnWayOf line now t u → bares_of (places u) q ≡ bares_of (places t) q
+      by : OnWayOf line now t u → object_states_of (places u) q ≡ object_states_of (places t) q
       by (copy_before copying e before) = copy_frame copying e (before.1 q plain)
-      by (copy_done copying e whole) = sym (bares_of-same (places ((by_line now).after line t)) (places u) q (whole q plain)) ∙ each_kept.frame q plain away
-      by (other none way_there) = midway_frame line is q plain away (bares_of (places t) q) (bares_of (places u) q) (way_there q plain)
+      by (copy_done copying e whole) = sym (object_states_of-same (places ((by_line now).after line t)) (places u) q (whole q plain)) ∙ each_kept.frame q plain away
+      by (other none way_there) = midway_frame line is q plain away (object_states_of (places t) q) (object_states_of (places u) q) (way_there q plain)
 
 -- ---- lines one after the other
 
 -- they leave the shape
-pub shape_after : (now : ℕ) (lines : List Line) → AllByRecursion IsLine lines → (t : Files) → IsShaped (bares_of (places t)) → IsShaped (bares_of (places (after_each (by_line now) lines t)))
+pub shape_after : (now : ℕ) (lines : List Line) → AllByRecursion IsLine lines → (t : Files) → IsShaped (object_states_of (places t)) → IsShaped (object_states_of (places (after_each (by_line now) lines t)))
 shape_after now [] are t shape = shape
 shape_after now (line ∷ lines) are t shape = shape_after now lines are.1 ((by_line now).after line t) (each_kept now line are.0 t shape).shape
 
 module _ (now : ℕ) (q : Path) (plain : has_staging q ≡ false) where
   -- done
-  pub frame_after : (lines : List Line) → AllByRecursion IsLine lines → AllByRecursion (λ line. governs line q ≡ false) lines → (t : Files) → IsShaped (bares_of (places t)) → bares_of (places (after_each (by_line now) lines t)) q ≡ bares_of (places t) q
+  pub frame_after : (lines : List Line) → AllByRecursion IsLine lines → AllByRecursion (λ line. governs line q ≡ false) lines → (t : Files) → IsShaped (object_states_of (places t)) → object_states_of (places (after_each (by_line now) lines t)) q ≡ object_states_of (places t) q
   frame_after [] are away t shape = refl
   frame_after (line ∷ lines) are away t shape =
       let one = each_kept now line are.0 t shape in
       frame_after lines are.1 away.1 ((by_line now).after line t) one.shape ∙ one.frame q plain away.0
 
   -- or on the way
-  pub frame_partway : (lines : List Line) → AllByRecursion IsLine lines → AllByRecursion (λ line. governs line q ≡ false) lines → (t u : Files) → IsShaped (bares_of (places t)) → PartwayOf lines now t u → bares_of (places u) q ≡ bares_of (places t) q
-  frame_partway [] are away t u shape same = sym (bares_of-same (places t) (places u) q (same q plain))
+  pub frame_partway : (lines : List Line) → AllByRecursion IsLine lines → AllByRecursion (λ line. governs line q ≡ false) lines → (t u : Files) → IsShaped (object_states_of (places t)) → PartwayOf lines now t u → object_states_of (places u) q ≡ object_states_of (places t) q
+  frame_partway [] are away t u shape same = sym (object_states_of-same (places t) (places u) q (same q plain))
   frame_partway (line ∷ lines) are away t u shape (inl way) = way_frame now line are.0 t shape u q plain away.0 way
   frame_partway (line ∷ lines) are away t u shape (inr later) =
       let one = each_kept now line are.0 t shape in
@@ -140,8 +140,8 @@ module _ (now : ℕ) (q : Path) (plain : has_staging q ≡ false) where
     in_order_away = all_in_order (λ (line : Line). governs line q ≡ false) lines (all_away lines free)
 
     -- a whole run, and one that was cut short
-    pub run_frame : bares_of (places (created lines now t)) q ≡ bares_of (places t) q
+    pub run_frame : object_states_of (places (created lines now t)) q ≡ object_states_of (places t) q
     run_frame = frame_after (in_create_order lines) (all_in_order IsLine lines are) in_order_away t (tree_shaped (places t) tree)
 
-    pub stopped_frame : (u : Files) → PartwayOf (in_create_order lines) now t u → bares_of (places u) q ≡ bares_of (places t) q
+    pub stopped_frame : (u : Files) → PartwayOf (in_create_order lines) now t u → object_states_of (places u) q ≡ object_states_of (places t) q
     stopped_frame u way = frame_partway (in_create_order lines) (all_in_order IsLine lines are) in_order_away t u (tree_shaped (places t) tree) way

@@ -16,24 +16,24 @@ use Rattle.pv_steps.specs.Objects.{is_directory}
 use Rattle.pv_steps.specs.Refusal.{refusal}
 use Rattle.pv_steps.specs.Trees.{Files, places, kind_of, IsTree}
 use Rattle.pv_steps.proofs.StepLaws.{is_among, among_right, among_left, later_among}
-use Rattle.pv_dress.specs.declared.bare.Bare.{Bare}
-use Rattle.pv_dress.specs.Nodes.{bare_of, bares_of}
-use Rattle.pv_dress.specs.Operations.{run}
+use Rattle.pv_metadata.specs.declared.object_state.ObjectState.{ObjectState}
+use Rattle.pv_metadata.specs.Nodes.{object_state_of, object_states_of}
+use Rattle.pv_metadata.specs.Operations.{run}
 use Rattle.pv_lines.specs.declared.line.Line.{Line}
 use Rattle.pv_lines.specs.declared.line.LinePath.{LinePath}
 use Rattle.pv_lines.specs.Lines.{IsLine}
 use Rattle.pv_walk.proofs.PreparingSweep.{unrefused_pass}
 use Rattle.pv_walk.specs.Preparing.{parents_of}
-use Rattle.pv_table.specs.declared.deed.Copying.{Copying}
-use Rattle.pv_table.specs.declared.deed.Deed.{Deed}
-use Rattle.pv_table.specs.declared.deed.Deed.TheVariants.{Create, Copy, Touch, Idle}
+use Rattle.pv_table.specs.declared.action.Copying.{Copying}
+use Rattle.pv_table.specs.declared.action.Action.{Action}
+use Rattle.pv_table.specs.declared.action.Action.TheVariants.{Create, Copy, Adjust, Idle}
 use Rattle.pv_table.specs.declared.reason.Reason.TheVariants as reason
 use Rattle.pv_table.specs.Active.{Listed, ordered, in_create_order}
 use Rattle.pv_table.specs.Asked.{operations}
-use Rattle.pv_table.specs.Asking.{asks}
+use Rattle.pv_table.specs.ActionTable.{action_of}
 use Rattle.pv_table.specs.Created.{after_each, one_is_refused, by_turn, by_line, created, IsQuiet}
 use Rattle.pv_table.specs.Effects.{turned, prepare, carried_out, turn_after, turns}
-use Rattle.pv_table.specs.Pointwise.{Bares, view, parent_bare, after_turn, at_made, point, point_paths, pointwise_after, state}
+use Rattle.pv_table.specs.Pointwise.{ObjectStates, view, parent_object_state, after_turn, at_made, point, point_paths, pointwise_after, state}
 use Rattle.pv_table.specs.Reaching.{names, path_in, reaches, governs}
 use Rattle.pv_table.specs.Repeatable.{IsAt, HasReason, IsRepeatable, sets_of}
 use Rattle.pv_table.specs.Turns.{Refused, Turn, view_of, source_refusal, copied, copy_of, copying_turn, owner_made, refused_at, decide}
@@ -46,32 +46,32 @@ use Rattle.pv_laws.proofs.Lines.{path_named, line_is_plain, line_point, copy_lit
 use Rattle.pv_laws.proofs.Making.{is_dir, IsShaped, dir_there}
 use Rattle.pv_table.proofs.ListedLaws.{all_ordered, all_listed, all_in_order, all_at}
 use Rattle.pv_laws.proofs.Points.{get-tabulated, point_asked, listed, quiet_front}
-use Rattle.pv_laws.proofs.Prepared.{bare_some}
+use Rattle.pv_laws.proofs.Prepared.{object_state_some}
 use Rattle.pv_walk.proofs.PreparedLaws.{has_some, in_parents, among_first, stands_among}
 use Rattle.pv_laws.proofs.Sets.{impossible, is_adjustment, asked, sets_adjust}
 use Rattle.pv_laws.proofs.Shapes.{shape_same, tree_shaped}
-use Rattle.pv_laws.proofs.Touching.{turn_open, first_turn}
+use Rattle.pv_laws.proofs.Adjustment.{turn_open, first_turn}
 use Rattle.pv_path.proofs.Tests.{true_not_false, all_take}
 
 -- a line that was read; if it copies, its source does not lie above its path, nor at it
 pub record IsSafe (line : Line) : Type 0 where
   pub is : IsLine line
-  pub away : (copying : Copying) → asks line ≡ Copy copying → is_prefix copying.source (path_in line.path) ≡ false
+  pub away : (copying : Copying) → action_of line ≡ Copy copying → is_prefix copying.source (path_in line.path) ≡ false
 
 -- what a line leaves has the shape, and is at each path what the definition gives, from any map that agrees
 pub record IsPointed (line : Line) (t u : Files) : Type 0 where
-  pub point : (s : Bares) → Agree s t → (q : Path) → has_staging q ≡ false → bares_of (places u) q ≡ point line s q
-  pub shape : IsShaped (bares_of (places u))
+  pub point : (s : ObjectStates) → Agree s t → (q : Path) → has_staging q ≡ false → object_states_of (places u) q ≡ point line s q
+  pub shape : IsShaped (object_states_of (places u))
 
 -- ---- a line that copies
 
-point_copy : (line : Line) (copying : Copying) (s : Bares) (q : Path) → asks line ≡ Copy copying → point line s q ≡ cond (is_some (fin.get s copying.source)) (at_made (Copy copying) (path_in line.path) s q) (fin.get s q)
+point_copy : (line : Line) (copying : Copying) (s : ObjectStates) (q : Path) → action_of line ≡ Copy copying → point line s q ≡ cond (is_some (fin.get s copying.source)) (at_made (Copy copying) (path_in line.path) s q) (fin.get s q)
 point_copy line copying s q e = rw e
 
-pub turns_copy : (line : Line) (copying : Copying) (t : Files) → asks line ≡ Copy copying → turns line t ≡ path_in line.path ∷ []
+pub turns_copy : (line : Line) (copying : Copying) (t : Files) → action_of line ≡ Copy copying → turns line t ≡ path_in line.path ∷ []
 turns_copy line copying t e = rw e
 
-paths_copy : (line : Line) (copying : Copying) (s : Bares) → asks line ≡ Copy copying
+paths_copy : (line : Line) (copying : Copying) (s : ObjectStates) → action_of line ≡ Copy copying
     → point_paths line s ≡ path_in line.path ∷ (parents_of (path_in line.path) ++ map (λ rest. path_in line.path ++ rest) (filter_map (rest_under copying.source) (fin.keys s)))
 paths_copy line copying s e = rw e
 
@@ -83,7 +83,7 @@ or_second : {A : Type 0} (a b : Option A) → option_or a b ≡ None → b ≡ N
 or_second None b e = e
 or_second (Some x) b e = absurd (let no : Some x ≡ None = e in cc)
 
-module _ (line : Line) (copying : Copying) (e : asks line ≡ Copy copying) (t : Files) (free : refused_at line (path_in line.path) (places t) ≡ None) (there : is_some (places t copying.source) ≡ true) where
+module _ (line : Line) (copying : Copying) (e : action_of line ≡ Copy copying) (t : Files) (free : refused_at line (path_in line.path) (places t) ≡ None) (there : is_some (places t copying.source) ≡ true) where
   copy_refusal : refusal (places t) (path_in line.path) (owner_made line (places t)) ≡ None
   copy_refusal = by (refusal (places t) (path_in line.path) (owner_made line (places t))) refl
     where
@@ -103,28 +103,28 @@ module _ (line : Line) (copying : Copying) (e : asks line ≡ Copy copying) (t :
       by None f = refl
       by (Some place) f = absurd (let no : Some (Refused.named (path_in line.path) place.0 place.1) ≡ None = sym (ap (option_map (λ (p : ℕ × Why). Refused.named (path_in line.path) p.0 p.1)) f) ∙ last in cc)
 
-  pub copy_passes : (p : Path) → is_prefix p (path_in line.path) ≡ true → p ≢ path_in line.path → is_some (bares_of (places t) p) ≡ true → is_dir (bares_of (places t) p) ≡ true
-  copy_passes p high other h = kind_dir (places t p) (unrefused_pass (path_in line.path) (owner_made line (places t)) t copy_refusal p (high, other) (sym (bare_some (places t p)) ∙ h))
+  pub copy_passes : (p : Path) → is_prefix p (path_in line.path) ≡ true → p ≢ path_in line.path → is_some (object_states_of (places t) p) ≡ true → is_dir (object_states_of (places t) p) ≡ true
+  copy_passes p high other h = kind_dir (places t p) (unrefused_pass (path_in line.path) (owner_made line (places t)) t copy_refusal p (high, other) (sym (object_state_some (places t p)) ∙ h))
     where
       kind_is : (k : Kind) → Some k ≡ Some Directory → k ≡ Directory
       kind_is k g = cc
 
-      kind_dir : (o : Option Object) → kind_of o ≡ Some Directory → is_dir (option_map bare_of o) ≡ true
+      kind_dir : (o : Option Object) → kind_of o ≡ Some Directory → is_dir (option_map object_state_of o) ≡ true
       kind_dir None g = absurd (let no : None ≡ Some Directory = g in cc)
       kind_dir (Some x) g = let same : x.node.kind ≡ Directory = kind_is x.node.kind g in ap is_directory same
 
-module _ (now : ℕ) (line : Line) (safe : IsSafe line) (t : Files) (shape : IsShaped (bares_of (places t))) where
-  copy_pointed : (copying : Copying) → asks line ≡ Copy copying → one_is_refused (by_turn now line) (path_in line.path ∷ []) t ≡ false → IsPointed line t (turn_after now line (path_in line.path) t)
-  copy_pointed copying e quiet = by (bares_of (places t) copying.source) refl
+module _ (now : ℕ) (line : Line) (safe : IsSafe line) (t : Files) (shape : IsShaped (object_states_of (places t))) where
+  copy_pointed : (copying : Copying) → action_of line ≡ Copy copying → one_is_refused (by_turn now line) (path_in line.path ∷ []) t ≡ false → IsPointed line t (turn_after now line (path_in line.path) t)
+  copy_pointed copying e quiet = by (object_states_of (places t) copying.source) refl
     where
       free : refused_at line (path_in line.path) (places t) ≡ None
       free = (first_turn now line (path_in line.path) [] t quiet).0
 
       opened : turn_after now line (path_in line.path) t ≡ carried_out now (Copy copying) (path_in line.path) t
-      opened = turn_open now line (path_in line.path) t free ∙ ap (λ (d : Deed). carried_out now d (path_in line.path) t) e
+      opened = turn_open now line (path_in line.path) t free ∙ ap (λ (d : Action). carried_out now d (path_in line.path) t) e
 
       adjust : list_all is_adjustment copying.sets ≡ true
-      adjust = subst (λ d. list_all is_adjustment (sets_of d) ≡ true) e (sets_adjust line (asks line) (asked line))
+      adjust = subst (λ d. list_all is_adjustment (sets_of d) ≡ true) e (sets_adjust line (action_of line) (asked line))
 
       plain_path : has_staging (path_in line.path) ≡ false
       plain_path = (copy_path line safe.is copying e).0
@@ -132,55 +132,55 @@ module _ (now : ℕ) (line : Line) (safe : IsSafe line) (t : Files) (shape : IsS
       plain_source : has_staging copying.source ≡ false
       plain_source = copy_source line safe.is copying e
 
-      by : (b : Option Bare) → bares_of (places t) copying.source ≡ b → IsPointed line t (turn_after now line (path_in line.path) t)
+      by : (b : Option ObjectState) → object_states_of (places t) copying.source ≡ b → IsPointed line t (turn_after now line (path_in line.path) t)
       by None f = record {
         point = λ s agree q plain.
-            ap (λ (u : Files). bares_of (places u) q) (opened ∙ idle) ∙ sym (agree q plain)
+            ap (λ (u : Files). object_states_of (places u) q) (opened ∙ idle) ∙ sym (agree q plain)
             ∙ sym (point_copy line copying s q e ∙ ap (λ b. cond b (at_made (Copy copying) (path_in line.path) s q) (fin.get s q)) (ap is_some (agree copying.source plain_source ∙ f)));
-        shape = subst (λ (u : Files). IsShaped (bares_of (places u))) (sym (opened ∙ idle)) shape;
+        shape = subst (λ (u : Files). IsShaped (object_states_of (places u))) (sym (opened ∙ idle)) shape;
       }
         where
           idle : carried_out now (Copy copying) (path_in line.path) t ≡ t
-          idle = copy_idle now copying (path_in line.path) t (sym (bare_some (places t copying.source)) ∙ ap is_some f)
+          idle = copy_idle now copying (path_in line.path) t (sym (object_state_some (places t copying.source)) ∙ ap is_some f)
       by (Some b) f = record {
         point = λ s agree q plain.
-            ap (λ (u : Files). bares_of (places u) q) opened
+            ap (λ (u : Files). object_states_of (places u) q) opened
             ∙ copied_point now copying adjust (path_in line.path) plain_path plain_source t shape b f (safe.away copying e) s agree q plain
             ∙ sym (point_copy line copying s q e ∙ ap (λ c. cond c (at_made (Copy copying) (path_in line.path) s q) (fin.get s q)) (ap is_some (agree copying.source plain_source ∙ f)));
-        shape = subst (λ (u : Files). IsShaped (bares_of (places u))) (sym opened) (
+        shape = subst (λ (u : Files). IsShaped (object_states_of (places u))) (sym opened) (
             copied_shaped now copying adjust (path_in line.path) plain_path plain_source t shape b f (copy_path line safe.is copying e).1
-            (copy_passes line copying e t free (sym (bare_some (places t copying.source)) ∙ ap is_some f)) (path_named line safe.is));
+            (copy_passes line copying e t free (sym (object_state_some (places t copying.source)) ∙ ap is_some f)) (path_named line safe.is));
       }
 
   -- each line
   pub line_pointed : (by_line now).is_refused line t ≡ false → IsPointed line t ((by_line now).after line t)
-  line_pointed quiet = by (asks line) refl
+  line_pointed quiet = by (action_of line) refl
     where
-      plain_line : copied (asks line) ≡ None → IsPointed line t ((by_line now).after line t)
+      plain_line : copied (action_of line) ≡ None → IsPointed line t ((by_line now).after line t)
       plain_line none =
           let plain = line_is_plain line safe.is none in
           let one = line_point now line plain t shape quiet in
           record {
             point = λ s agree q unstaged.
                 one.point q unstaged ∙ ap (run (operations line q)) (sym (agree q unstaged))
-                ∙ sym (point_asked line plain s (shape_same (bares_of (places t)) (fin.get s) agree shape) q unstaged);
+                ∙ sym (point_asked line plain s (shape_same (object_states_of (places t)) (fin.get s) agree shape) q unstaged);
             shape = one.shape;
           }
 
-      by : (d : Deed) → asks line ≡ d → IsPointed line t ((by_line now).after line t)
+      by : (d : Action) → action_of line ≡ d → IsPointed line t ((by_line now).after line t)
       by (Create making) e = plain_line (ap copied e)
       by (Copy copying) e = subst (λ paths. IsPointed line t (after_each (by_turn now line) paths t)) (sym (turns_copy line copying t e))
           (copy_pointed copying e (ap (λ paths. one_is_refused (by_turn now line) paths t) (sym (turns_copy line copying t e)) ∙ quiet))
-      by (Touch touching) e = plain_line (ap copied e)
+      by (Adjust adjustment) e = plain_line (ap copied e)
       by Idle e = plain_line (ap copied e)
 
 -- ---- which paths are looked at
 
-module _ (line : Line) (safe : IsSafe line) (s : Bares) (shape : IsShaped (fin.get s)) (q : Path) (plain : has_staging q ≡ false) where
+module _ (line : Line) (safe : IsSafe line) (s : ObjectStates) (shape : IsShaped (fin.get s)) (q : Path) (plain : has_staging q ≡ false) where
   keyed : is_some (fin.get s q) ≡ true → is_among q (point_paths line s ++ fin.keys s) ≡ true
   keyed there = among_right q (point_paths line s) (fin.keys s) (sym (fin.contains_key-keys s q) ∙ there)
 
-  module _ (copying : Copying) (e : asks line ≡ Copy copying) where
+  module _ (copying : Copying) (e : action_of line ≡ Copy copying) where
     abbrev path : Path
     path = path_in line.path
 
@@ -221,7 +221,7 @@ module _ (line : Line) (safe : IsSafe line) (s : Bares) (shape : IsShaped (fin.g
     turn_listed turn (leaves kind g) (name ∷ rest) f h = keyed (sym (ap (λ x. is_some (after_turn x (name ∷ rest) (fin.get s q))) g) ∙ h)
 
     -- what the definition gives lies among them
-    copied_listed : (b : Bare) → fin.get s copying.source ≡ Some b → is_some (at_made (Copy copying) path s q) ≡ true → is_among q (point_paths line s ++ fin.keys s) ≡ true
+    copied_listed : (b : ObjectState) → fin.get s copying.source ≡ Some b → is_some (at_made (Copy copying) path s q) ≡ true → is_among q (point_paths line s ++ fin.keys s) ≡ true
     copied_listed b f h = by (is_prefix q path) refl (same_path q path) refl h
       where
         turn_is : decide (Copy copying) (view s) path ≡ copying_turn copying (view s) path b.body.kind (fin.get s path)
@@ -232,45 +232,45 @@ module _ (line : Line) (safe : IsSafe line) (s : Bares) (shape : IsShaped (fin.g
         inside (Some rest) g k = turn_listed (copying_turn copying (view s) path b.body.kind (fin.get s path)) (copy_turns copying (view s) path b.body.kind (fin.get s path)) rest g (sym (ap (λ turn. is_some (after_turn turn rest (fin.get s q))) turn_is) ∙ k)
 
         by : (a : Bool) → is_prefix q path ≡ a → (c : Bool) → same_path q path ≡ c
-            → is_some (cond (is_prefix q path && not (same_path q path)) (Some (unwrap_or (fin.get s q) parent_bare)) (option_map_or (λ rest. after_turn (decide (Copy copying) (view s) path) rest (fin.get s q)) (rest_under path q) (fin.get s q))) ≡ true
+            → is_some (cond (is_prefix q path && not (same_path q path)) (Some (unwrap_or (fin.get s q) parent_object_state)) (option_map_or (λ rest. after_turn (decide (Copy copying) (view s) path) rest (fin.get s q)) (rest_under path q) (fin.get s q))) ≡ true
             → is_among q (point_paths line s ++ fin.keys s) ≡ true
         by true g false k m = parent_there g (λ same. true_not_false (same_path q path) ((same_path-decides q path).1 same) k)
         by true g true k m = first_there (sym ((same_path-decides q path).0 k))
-        by false g c k m = inside (rest_under path q) refl (sym (ap (λ a. is_some (cond (a && not (same_path q path)) (Some (unwrap_or (fin.get s q) parent_bare)) (option_map_or (λ rest. after_turn (decide (Copy copying) (view s) path) rest (fin.get s q)) (rest_under path q) (fin.get s q)))) g) ∙ m)
+        by false g c k m = inside (rest_under path q) refl (sym (ap (λ a. is_some (cond (a && not (same_path q path)) (Some (unwrap_or (fin.get s q) parent_object_state)) (option_map_or (λ rest. after_turn (decide (Copy copying) (view s) path) rest (fin.get s q)) (rest_under path q) (fin.get s q)))) g) ∙ m)
 
     copy_listed : is_some (point line s q) ≡ true → is_among q (point_paths line s ++ fin.keys s) ≡ true
     copy_listed h = by (fin.get s copying.source) refl (sym (ap is_some (point_copy line copying s q e)) ∙ h)
       where
-        by : (b : Option Bare) → fin.get s copying.source ≡ b → is_some (cond (is_some (fin.get s copying.source)) (at_made (Copy copying) path s q) (fin.get s q)) ≡ true → is_among q (point_paths line s ++ fin.keys s) ≡ true
+        by : (b : Option ObjectState) → fin.get s copying.source ≡ b → is_some (cond (is_some (fin.get s copying.source)) (at_made (Copy copying) path s q) (fin.get s q)) ≡ true → is_among q (point_paths line s ++ fin.keys s) ≡ true
         by None f g = keyed (sym (ap (λ c. is_some (cond (is_some c) (at_made (Copy copying) path s q) (fin.get s q))) f) ∙ g)
         by (Some b) f g = copied_listed b f (sym (ap (λ c. is_some (cond (is_some c) (at_made (Copy copying) path s q) (fin.get s q))) f) ∙ g)
 
   pub pointwise_is : fin.get (pointwise_after s line) q ≡ point line s q
-  pointwise_is = get-tabulated (point_paths line s ++ fin.keys s) (point line s) q (by (asks line) refl)
+  pointwise_is = get-tabulated (point_paths line s ++ fin.keys s) (point line s) q (by (action_of line) refl)
     where
-      plain_line : copied (asks line) ≡ None → is_some (point line s q) ≡ true → is_among q (point_paths line s ++ fin.keys s) ≡ true
+      plain_line : copied (action_of line) ≡ None → is_some (point line s q) ≡ true → is_among q (point_paths line s ++ fin.keys s) ≡ true
       plain_line none h = let plain_one = line_is_plain line safe.is none in listed line plain_one s shape q plain (sym (ap is_some (point_asked line plain_one s shape q plain)) ∙ h)
 
-      by : (d : Deed) → asks line ≡ d → is_some (point line s q) ≡ true → is_among q (point_paths line s ++ fin.keys s) ≡ true
+      by : (d : Action) → action_of line ≡ d → is_some (point line s q) ≡ true → is_among q (point_paths line s ++ fin.keys s) ≡ true
       by (Create making) e h = plain_line (ap copied e) h
       by (Copy copying) e h = copy_listed copying e h
-      by (Touch touching) e h = plain_line (ap copied e) h
+      by (Adjust adjustment) e h = plain_line (ap copied e) h
       by Idle e h = plain_line (ap copied e) h
 
 -- ---- lines one after the other
 
-pub points_after : (now : ℕ) (lines : List Line) (s : Bares) (t : Files) → AllByRecursion IsSafe lines → IsShaped (bares_of (places t)) → one_is_refused (by_line now) lines t ≡ false → Agree s t
+pub points_after : (now : ℕ) (lines : List Line) (s : ObjectStates) (t : Files) → AllByRecursion IsSafe lines → IsShaped (object_states_of (places t)) → one_is_refused (by_line now) lines t ≡ false → Agree s t
     → Agree (fold pointwise_after s lines) (after_each (by_line now) lines t)
 points_after now [] s t are shape quiet agree = agree
 points_after now (line ∷ lines) s t are shape quiet agree =
     let two = or_parts ((by_line now).is_refused line t) (one_is_refused (by_line now) lines ((by_line now).after line t)) quiet in
     let one = line_pointed now line are.0 t shape two.0 in
     points_after now lines (pointwise_after s line) ((by_line now).after line t) are.1 one.shape two.1 (λ q plain.
-    pointwise_is line are.0 s (shape_same (bares_of (places t)) (fin.get s) agree shape) q plain
+    pointwise_is line are.0 s (shape_same (object_states_of (places t)) (fin.get s) agree shape) q plain
     ∙ sym (one.point s agree q plain))
 
 -- where none of them copies what lies above its path
-module _ (lines : List Line) (safe : AllByRecursion IsSafe (in_create_order lines)) (now : ℕ) (s : Bares) (t : Files) (tree : IsTree t) (quiet : IsQuiet lines now t) (agree : Agree s t) where
+module _ (lines : List Line) (safe : AllByRecursion IsSafe (in_create_order lines)) (now : ℕ) (s : ObjectStates) (t : Files) (tree : IsTree t) (quiet : IsQuiet lines now t) (agree : Agree s t) where
   -- after the first lines
   pub state_after : (k : ℕ) → Agree (state lines k s) (after_each (by_line now) (take k (in_create_order lines)) t)
   state_after k = points_after now (take k (in_create_order lines)) s t (all_take IsSafe k (in_create_order lines) safe) (tree_shaped (places t) tree) (quiet_front now k (in_create_order lines) t quiet) agree
@@ -279,7 +279,7 @@ module _ (lines : List Line) (safe : AllByRecursion IsSafe (in_create_order line
   pub state_whole : Agree (state lines (length (in_create_order lines)) s) (created lines now t)
   state_whole q plain =
       state_after (length (in_create_order lines)) q plain
-      ∙ ap (λ ls. bares_of (places (after_each (by_line now) ls t)) q) (take_all (length (in_create_order lines)) (in_create_order lines) (omega arith))
+      ∙ ap (λ ls. object_states_of (places (after_each (by_line now) ls t)) q) (take_all (length (in_create_order lines)) (in_create_order lines) (omega arith))
 
 -- so it is where they copy nothing
 pub plain_safe : (lines : List Line) → AllByRecursion IsLine lines → AllByRecursion CopiesNothing lines → AllByRecursion IsSafe (in_create_order lines)
@@ -302,7 +302,7 @@ module _ (lines : List Line) (are : AllByRecursion IsLine lines) (repeatable : I
   pub safe_of : (line : Listed) → IsPlaced line → IsSafe line.1
   safe_of line placed = record { is = placed.is; away = away }
     where
-      away : (copying : Copying) → asks line.1 ≡ Copy copying → is_prefix copying.source (path_in line.1.path) ≡ false
+      away : (copying : Copying) → action_of line.1 ≡ Copy copying → is_prefix copying.source (path_in line.1.path) ≡ false
       away copying e = by (is_prefix copying.source (path_in line.1.path)) refl
         where
           named : names line.1 (path_in line.1.path) ≡ true

@@ -8,17 +8,17 @@ use Rattle.pv_path.specs.Paths.{Path, is_prefix, rest_under, has_staging}
 use Rattle.pv_path.proofs.PathLaws.{is_prefix-append, is_prefix-refl, is_prefix-antisym, rest_under-self, rest_under-append, has_staging-append}
 use Rattle.pv_steps.specs.Objects.{is_directory}
 use Rattle.pv_steps.specs.Trees.{Files, places}
-use Rattle.pv_dress.specs.declared.bare.Bare.{Bare}
-use Rattle.pv_dress.specs.declared.operation.Operation.{Operation}
-use Rattle.pv_dress.specs.Dividing.{parts}
-use Rattle.pv_dress.specs.Nodes.{bares_of, same_kind}
-use Rattle.pv_dress.specs.Operations.{run}
-use Rattle.pv_dress.specs.Reasons.{IsRepeatable}
+use Rattle.pv_metadata.specs.declared.object_state.ObjectState.{ObjectState}
+use Rattle.pv_metadata.specs.declared.operation.Operation.{Operation}
+use Rattle.pv_metadata.specs.Dividing.{parts}
+use Rattle.pv_metadata.specs.Nodes.{object_states_of, same_kind}
+use Rattle.pv_metadata.specs.Operations.{run}
+use Rattle.pv_metadata.specs.Reasons.{IsRepeatable}
 use Rattle.pv_lines.specs.declared.line.Line.{Line}
-use Rattle.pv_table.specs.declared.deed.Copying.{Copying}
-use Rattle.pv_table.specs.declared.deed.Deed.{Deed}
-use Rattle.pv_table.specs.declared.deed.Deed.TheVariants.{Copy}
-use Rattle.pv_table.specs.Asking.{asks}
+use Rattle.pv_table.specs.declared.action.Copying.{Copying}
+use Rattle.pv_table.specs.declared.action.Action.{Action}
+use Rattle.pv_table.specs.declared.action.Action.TheVariants.{Copy}
+use Rattle.pv_table.specs.ActionTable.{action_of}
 use Rattle.pv_table.specs.Created.{after_each, one_is_refused, by_turn, by_line}
 use Rattle.pv_table.specs.Effects.{carried_out}
 use Rattle.pv_table.specs.Pointwise.{after_turn}
@@ -33,18 +33,18 @@ use Rattle.pv_laws.proofs.CopyMends as mends
 use Rattle.pv_laws.proofs.Lines.{copy_path, copy_source}
 use Rattle.pv_laws.proofs.Making.{IsShaped}
 use Rattle.pv_laws.proofs.Sets.{impossible, is_adjustment, asked, sets_adjust, adjusted_some}
-use Rattle.pv_laws.proofs.Touching.{turn_open, first_turn}
+use Rattle.pv_laws.proofs.Adjustment.{turn_open, first_turn}
 use Rattle.pv_laws.proofs.Ways.{all_take}
 use Rattle.pv_path.proofs.Tests.{same_tests}
 
 -- what stands at a path and below it, without staging names, by what comes after the path
-abbrev pub inside : Path → Files → Path → Option Bare
-inside p t [] = bares_of (places t) p
-inside p t (name ∷ rest) = cond (has_staging (name ∷ rest)) None (bares_of (places t) (p ++ name ∷ rest))
+abbrev pub inside : Path → Files → Path → Option ObjectState
+inside p t [] = object_states_of (places t) p
+inside p t (name ∷ rest) = cond (has_staging (name ∷ rest)) None (object_states_of (places t) (p ++ name ∷ rest))
 
-pub inside_is : (p : Path) (t : Files) (rest : Path) → has_staging rest ≡ false → inside p t rest ≡ bares_of (places t) (p ++ rest)
-inside_is p t [] plain = ap (bares_of (places t)) (sym (append-nil p))
-inside_is p t (name ∷ rest) plain = ap (λ c. cond c None (bares_of (places t) (p ++ name ∷ rest))) plain
+pub inside_is : (p : Path) (t : Files) (rest : Path) → has_staging rest ≡ false → inside p t rest ≡ object_states_of (places t) (p ++ rest)
+inside_is p t [] plain = ap (object_states_of (places t)) (sym (append-nil p))
+inside_is p t (name ∷ rest) plain = ap (λ c. cond c None (object_states_of (places t) (p ++ name ∷ rest))) plain
 
 pub below_plain : (p rest : Path) → has_staging p ≡ false → has_staging rest ≡ false → has_staging (p ++ rest) ≡ false
 below_plain p rest h g = has_staging-append p rest ∙ ap (λ b. b || has_staging rest) h ∙ g
@@ -53,25 +53,25 @@ rest_plain : (p rest : Path) → has_staging (p ++ rest) ≡ false → has_stagi
 rest_plain p rest h = (or_parts (has_staging p) (has_staging rest) (sym (has_staging-append p rest) ∙ h)).1
 
 -- where the same stands at and below a path
-pub inside_same : (p : Path) (t u : Files) → has_staging p ≡ false → ((q : Path) → has_staging q ≡ false → is_prefix p q ≡ true → bares_of (places u) q ≡ bares_of (places t) q) → (rest : Path) → inside p u rest ≡ inside p t rest
+pub inside_same : (p : Path) (t u : Files) → has_staging p ≡ false → ((q : Path) → has_staging q ≡ false → is_prefix p q ≡ true → object_states_of (places u) q ≡ object_states_of (places t) q) → (rest : Path) → inside p u rest ≡ inside p t rest
 inside_same p t u plain same [] = same p plain (is_prefix-refl p)
 inside_same p t u plain same (name ∷ rest) = by (has_staging (name ∷ rest)) refl
   where
-    by : (c : Bool) → has_staging (name ∷ rest) ≡ c → cond c None (bares_of (places u) (p ++ name ∷ rest)) ≡ cond c None (bares_of (places t) (p ++ name ∷ rest))
+    by : (c : Bool) → has_staging (name ∷ rest) ≡ c → cond c None (object_states_of (places u) (p ++ name ∷ rest)) ≡ cond c None (object_states_of (places t) (p ++ name ∷ rest))
     by true h = refl
     by false h = same (p ++ name ∷ rest) (below_plain p (name ∷ rest) plain h) (is_prefix-append p (name ∷ rest))
 
 -- the same is copied where the same stands at and below the source
-pub same_copy : (copying : Copying) (t u : Files) → has_staging copying.source ≡ false → ((rest : Path) → has_staging rest ≡ false → bares_of (places u) (copying.source ++ rest) ≡ bares_of (places t) (copying.source ++ rest))
+pub same_copy : (copying : Copying) (t u : Files) → has_staging copying.source ≡ false → ((rest : Path) → has_staging rest ≡ false → object_states_of (places u) (copying.source ++ rest) ≡ object_states_of (places t) (copying.source ++ rest))
     → (rest : Path) → copy_of copying (view_of t) rest ≡ copy_of copying (view_of u) rest
-same_copy copying t u plain same [] = ap (option_map (topped_by copying)) (ap (bares_of (places t)) (sym (append-nil copying.source)) ∙ sym (same [] refl) ∙ ap (bares_of (places u)) (append-nil copying.source))
+same_copy copying t u plain same [] = ap (option_map (topped_by copying)) (ap (object_states_of (places t)) (sym (append-nil copying.source)) ∙ sym (same [] refl) ∙ ap (object_states_of (places u)) (append-nil copying.source))
 same_copy copying t u plain same (name ∷ rest) = by (has_staging (name ∷ rest)) refl
   where
-    by : (c : Bool) → has_staging (name ∷ rest) ≡ c → cond c None (bares_of (places t) (copying.source ++ name ∷ rest)) ≡ cond c None (bares_of (places u) (copying.source ++ name ∷ rest))
+    by : (c : Bool) → has_staging (name ∷ rest) ≡ c → cond c None (object_states_of (places t) (copying.source ++ name ∷ rest)) ≡ cond c None (object_states_of (places u) (copying.source ++ name ∷ rest))
     by true e = refl
     by false e = sym (same (name ∷ rest) e)
 
-module _ (line : Line) (safe : IsSafe line) (copying : Copying) (e : asks line ≡ Copy copying) (b : Bare) where
+module _ (line : Line) (safe : IsSafe line) (copying : Copying) (e : action_of line ≡ Copy copying) (b : ObjectState) where
   abbrev p : Path
   p = path_in line.path
 
@@ -82,17 +82,17 @@ module _ (line : Line) (safe : IsSafe line) (copying : Copying) (e : asks line �
   plain_source = copy_source line safe.is copying e
 
   pub adjust : list_all is_adjustment copying.sets ≡ true
-  adjust = subst (λ d. list_all is_adjustment (sets_of d) ≡ true) e (sets_adjust line (asks line) (asked line))
+  adjust = subst (λ d. list_all is_adjustment (sets_of d) ≡ true) e (sets_adjust line (action_of line) (asked line))
 
   -- the turn of the line from a tree
   abbrev pub turn_at : Files → Turn
-  turn_at t = copying_turn copying (view_of t) p b.body.kind (bares_of (places t) p)
+  turn_at t = copying_turn copying (view_of t) p b.body.kind (object_states_of (places t) p)
 
   -- what the line leaves there
-  module _ (now : ℕ) (t : Files) (shape : IsShaped (bares_of (places t))) (present : bares_of (places t) copying.source ≡ Some b) where
-    pub copy_inside : (by_line now).is_refused line t ≡ false → (rest : Path) → has_staging rest ≡ false → bares_of (places ((by_line now).after line t)) (p ++ rest) ≡ after_turn (turn_at t) rest (inside p t rest)
+  module _ (now : ℕ) (t : Files) (shape : IsShaped (object_states_of (places t))) (present : object_states_of (places t) copying.source ≡ Some b) where
+    pub copy_inside : (by_line now).is_refused line t ≡ false → (rest : Path) → has_staging rest ≡ false → object_states_of (places ((by_line now).after line t)) (p ++ rest) ≡ after_turn (turn_at t) rest (inside p t rest)
     copy_inside quiet rest plain =
-        ap (λ (u : Files). bares_of (places u) (p ++ rest)) opened
+        ap (λ (u : Files). object_states_of (places u) (p ++ rest)) opened
         ∙ left_before now copying adjust p plain_path plain_source t shape b present (safe.away copying e) (p ++ rest) rest (below_plain p rest plain_path plain) (rest_under-append p rest)
         ∙ ap (after_turn (turn_at t) rest) (sym (inside_is p t rest plain))
       where
@@ -100,10 +100,10 @@ module _ (line : Line) (safe : IsSafe line) (copying : Copying) (e : asks line �
         open_path = (first_turn now line p [] t (ap (λ paths. one_is_refused (by_turn now line) paths t) (sym (turns_copy line copying t e)) ∙ quiet)).0
 
         opened : (by_line now).after line t ≡ carried_out now (Copy copying) p t
-        opened = ap (λ paths. after_each (by_turn now line) paths t) (turns_copy line copying t e) ∙ turn_open now line p t open_path ∙ ap (λ (d : Deed). carried_out now d p t) e
+        opened = ap (λ paths. after_each (by_turn now line) paths t) (turns_copy line copying t e) ∙ turn_open now line p t open_path ∙ ap (λ (d : Action). carried_out now d p t) e
 
     -- before the copy has come there
-    pub begun_before : (u : Files) → ((q : Path) → has_staging q ≡ false → IsCopyMidway p copying (turn_of line copying now t) q (bares_of (places t) q) (bares_of (places u) q))
+    pub begun_before : (u : Files) → ((q : Path) → has_staging q ≡ false → IsCopyMidway p copying (turn_of line copying now t) q (object_states_of (places t) q) (object_states_of (places u) q))
         → (rest : Path) → IsBegun copying.sets (turn_at t) rest (inside p t rest) (inside p u rest)
     begun_before u way rest = by (has_staging rest) refl
       where
@@ -112,7 +112,7 @@ module _ (line : Line) (safe : IsSafe line) (copying : Copying) (e : asks line �
 
         none_staged : (r : Path) → has_staging r ≡ true → inside p u r ≡ inside p t r
         none_staged [] h = impossible h
-        none_staged (name ∷ r) h = (λ i. cond (h i) None (bares_of (places u) (p ++ name ∷ r))) ∙ sym (λ i. cond (h i) None (bares_of (places t) (p ++ name ∷ r)))
+        none_staged (name ∷ r) h = (λ i. cond (h i) None (object_states_of (places u) (p ++ name ∷ r))) ∙ sym (λ i. cond (h i) None (object_states_of (places t) (p ++ name ∷ r)))
 
         whole : p ++ rest ≡ p → rest ≡ []
         whole same = is (sym (rest_under-append p rest) ∙ ap (rest_under p) same ∙ rest_under-self p)
@@ -120,7 +120,7 @@ module _ (line : Line) (safe : IsSafe line) (copying : Copying) (e : asks line �
             is : Some rest ≡ Some [] → rest ≡ []
             is k = cc
 
-        at : has_staging rest ≡ false → IsCopyMidway p copying (turn_of line copying now t) (p ++ rest) (bares_of (places t) (p ++ rest)) (bares_of (places u) (p ++ rest)) → IsBegun copying.sets (turn_at t) rest (inside p t rest) (inside p u rest)
+        at : has_staging rest ≡ false → IsCopyMidway p copying (turn_of line copying now t) (p ++ rest) (object_states_of (places t) (p ++ rest)) (object_states_of (places u) (p ++ rest)) → IsBegun copying.sets (turn_at t) rest (inside p t rest) (inside p u rest)
         at plain (kept f) = mends.kept (inside_is p u rest plain ∙ f ∙ sym (inside_is p t rest plain))
         at plain (parent high differ none f) = absurd (differ (sym (is_prefix-antisym p (p ++ rest) (is_prefix-append p rest) high)))
         at plain (some_set k same turn f) = mends.some_set k (whole same) (sym turn_is ∙ turn) (inside_is p u rest plain ∙ f ∙ ap (run (take k (parts copying.sets))) (sym (inside_is p t rest plain)))
@@ -131,28 +131,28 @@ module _ (line : Line) (safe : IsSafe line) (copying : Copying) (e : asks line �
         by false h = at h (way (p ++ rest) (below_plain p rest plain_path h))
 
   -- a second tree, in which the same is to be copied
-  module _ (t u : Files) (present : bares_of (places t) copying.source ≡ Some b)
-      (same : (rest : Path) → has_staging rest ≡ false → bares_of (places u) (copying.source ++ rest) ≡ bares_of (places t) (copying.source ++ rest)) where
+  module _ (t u : Files) (present : object_states_of (places t) copying.source ≡ Some b)
+      (same : (rest : Path) → has_staging rest ≡ false → object_states_of (places u) (copying.source ++ rest) ≡ object_states_of (places t) (copying.source ++ rest)) where
     copies_same : (rest : Path) → copy_of copying (view_of t) rest ≡ copy_of copying (view_of u) rest
     copies_same = same_copy copying t u plain_source same
 
-    child_is : (x : Files) (name : List ℕ) → has_staging (p ++ name ∷ []) ≡ false → inside p x (name ∷ []) ≡ bares_of (places x) (p ++ name ∷ [])
+    child_is : (x : Files) (name : List ℕ) → has_staging (p ++ name ∷ []) ≡ false → inside p x (name ∷ []) ≡ object_states_of (places x) (p ++ name ∷ [])
     child_is x name plain = inside_is p x (name ∷ []) (rest_plain p (name ∷ []) plain)
 
     -- where the line had begun, or had not come there
     module _ (repeatable : IsRepeatable (parts copying.sets)) (begun : (r : Path) → IsBegun copying.sets (turn_at t) r (inside p t r) (inside p u r)) where
-      fewer : (name : List ℕ) → has_staging (p ++ name ∷ []) ≡ false → is_some (bares_of (places u) (p ++ name ∷ [])) ≡ true → is_some (bares_of (places t) (p ++ name ∷ [])) ≡ true
+      fewer : (name : List ℕ) → has_staging (p ++ name ∷ []) ≡ false → is_some (object_states_of (places u) (p ++ name ∷ [])) ≡ true → is_some (object_states_of (places t) (p ++ name ∷ [])) ≡ true
       fewer name plain there = by (begun (name ∷ []))
         where
-          by : IsBegun copying.sets (turn_at t) (name ∷ []) (inside p t (name ∷ [])) (inside p u (name ∷ [])) → is_some (bares_of (places t) (p ++ name ∷ [])) ≡ true
+          by : IsBegun copying.sets (turn_at t) (name ∷ []) (inside p t (name ∷ [])) (inside p u (name ∷ [])) → is_some (object_states_of (places t) (p ++ name ∷ [])) ≡ true
           by (mends.kept f) = ap is_some (sym (child_is t name plain) ∙ sym f ∙ child_is u name plain) ∙ there
           by (mends.some_set k none turn f) = absurd (let no : ◌≡◌ {A = Path} (name ∷ []) [] = none in cc)
           by (mends.gone subtree turn f) = impossible (sym (ap is_some (sym (child_is u name plain) ∙ f)) ∙ there)
 
-      all_stay : turn_at t ≡ Turn.Become copying.sets → (name : List ℕ) → has_staging (p ++ name ∷ []) ≡ false → is_some (bares_of (places t) (p ++ name ∷ [])) ≡ true → is_some (bares_of (places u) (p ++ name ∷ [])) ≡ true
+      all_stay : turn_at t ≡ Turn.Become copying.sets → (name : List ℕ) → has_staging (p ++ name ∷ []) ≡ false → is_some (object_states_of (places t) (p ++ name ∷ [])) ≡ true → is_some (object_states_of (places u) (p ++ name ∷ [])) ≡ true
       all_stay sets name plain there = by (begun (name ∷ []))
         where
-          by : IsBegun copying.sets (turn_at t) (name ∷ []) (inside p t (name ∷ [])) (inside p u (name ∷ [])) → is_some (bares_of (places u) (p ++ name ∷ [])) ≡ true
+          by : IsBegun copying.sets (turn_at t) (name ∷ []) (inside p t (name ∷ [])) (inside p u (name ∷ [])) → is_some (object_states_of (places u) (p ++ name ∷ [])) ≡ true
           by (mends.kept f) = ap is_some (sym (child_is u name plain) ∙ f ∙ child_is t name plain) ∙ there
           by (mends.some_set k none turn f) = absurd (let no : ◌≡◌ {A = Path} (name ∷ []) [] = none in cc)
           by (mends.gone subtree turn f) = absurd (let no : Turn.Become copying.sets ≡ Turn.Put subtree = sym sets ∙ turn in cc)
@@ -174,13 +174,13 @@ module _ (line : Line) (safe : IsSafe line) (copying : Copying) (e : asks line �
       j rest = (pieces rest).0
 
       -- where only the line's own settings were made, all below stays
-      stay : (x : Bare) → inside p t [] ≡ Some x → same_kind b.body.kind x.body.kind ≡ true → (is_directory b.body.kind && is_childless (view_of t) p) ≡ false
-          → (name : List ℕ) → has_staging (p ++ name ∷ []) ≡ false → is_some (bares_of (places t) (p ++ name ∷ [])) ≡ true → is_some (bares_of (places u) (p ++ name ∷ [])) ≡ true
+      stay : (x : ObjectState) → inside p t [] ≡ Some x → same_kind b.body.kind x.body.kind ≡ true → (is_directory b.body.kind && is_childless (view_of t) p) ≡ false
+          → (name : List ℕ) → has_staging (p ++ name ∷ []) ≡ false → is_some (object_states_of (places t) (p ++ name ∷ [])) ≡ true → is_some (object_states_of (places u) (p ++ name ∷ [])) ≡ true
       stay x f s empty name plain there =
           ap is_some (sym (child_is u name plain) ∙ (pieces (name ∷ [])).1 (rest_plain p (name ∷ []) plain)
           ∙ ap (λ turn. run (take (j (name ∷ [])) (ys (name ∷ []))) (after_turn turn (name ∷ []) (inside p t (name ∷ [])))) turn
           ∙ ap (run (take (j (name ∷ [])) (ys (name ∷ [])))) (child_is t name plain))
-          ∙ present_still (bares_of (places t) (p ++ name ∷ [])) there
+          ∙ present_still (object_states_of (places t) (p ++ name ∷ [])) there
         where
           turn : turn_at t ≡ Turn.Become copying.sets
           turn =
@@ -188,11 +188,11 @@ module _ (line : Line) (safe : IsSafe line) (copying : Copying) (e : asks line �
               ∙ ap (λ c. if c then (if is_directory b.body.kind && is_childless (view_of t) p then Turn.Put (copy_of copying (view_of t)) else Turn.Become copying.sets) else if copying.renews then Turn.Put (copy_of copying (view_of t)) else Turn.Left x.body.kind) s
               ∙ ap (λ c. if c then Turn.Put (copy_of copying (view_of t)) else Turn.Become copying.sets) empty
 
-          present_still : (c : Option Bare) → is_some c ≡ true → is_some (run (take (j (name ∷ [])) (ys (name ∷ []))) c) ≡ true
+          present_still : (c : Option ObjectState) → is_some c ≡ true → is_some (run (take (j (name ∷ [])) (ys (name ∷ []))) c) ≡ true
           present_still None h = impossible h
           present_still (Some y) h = ap is_some (adjusted_some (take (j (name ∷ [])) (ys (name ∷ []))) (all_take is_adjustment (j (name ∷ [])) (ys (name ∷ [])) (ys_adjust (name ∷ []))) y).1
 
-      still_full : (x : Bare) → inside p t [] ≡ Some x → same_kind b.body.kind x.body.kind ≡ true → (is_directory b.body.kind && is_childless (view_of t) p) ≡ false → (is_directory b.body.kind && is_childless (view_of u) p) ≡ false
+      still_full : (x : ObjectState) → inside p t [] ≡ Some x → same_kind b.body.kind x.body.kind ≡ true → (is_directory b.body.kind && is_childless (view_of t) p) ≡ false → (is_directory b.body.kind && is_childless (view_of u) p) ≡ false
       still_full x f s empty = by (is_directory b.body.kind) (is_childless (view_of t) p) (is_childless (view_of u) p) (childless_less u t p plain_path (stay x f s empty)) empty
         where
           by : (d v w : Bool) → (w ≡ true → v ≡ true) → (d && v) ≡ false → (d && w) ≡ false

@@ -6,54 +6,54 @@ use Rattle.std.proofs.lemmas.Bool.{and_parts, and_from}
 use Rattle.pv_path.specs.Paths.{Path}
 use Rattle.pv_steps.specs.declared.node.Kind.{Kind}
 use Rattle.pv_steps.specs.Objects.{is_directory}
-use Rattle.pv_dress.specs.declared.bare.Bare.{Bare}
-use Rattle.pv_dress.specs.declared.operation.Operation.{Operation}
-use Rattle.pv_dress.specs.Nodes.{same_kind}
-use Rattle.pv_dress.specs.Operations.{run}
-use Rattle.pv_dress.specs.Reasons.{IsRepeatable}
-use Rattle.pv_dress.proofs.OperationLaws.{absorbed, run-append}
-use Rattle.pv_table.specs.declared.deed.Copying.{Copying}
+use Rattle.pv_metadata.specs.declared.object_state.ObjectState.{ObjectState}
+use Rattle.pv_metadata.specs.declared.operation.Operation.{Operation}
+use Rattle.pv_metadata.specs.Nodes.{same_kind}
+use Rattle.pv_metadata.specs.Operations.{run}
+use Rattle.pv_metadata.specs.Reasons.{IsRepeatable}
+use Rattle.pv_metadata.proofs.OperationLaws.{absorbed, run-append}
+use Rattle.pv_table.specs.declared.action.Copying.{Copying}
 use Rattle.pv_table.specs.Pointwise.{after_turn}
 use Rattle.pv_table.specs.Turns.{Turn, View, copy_of, is_childless, copying_turn}
 use Rattle.pv_laws.proofs.Sets.{is_adjustment}
 use Rattle.pv_laws.proofs.Shapes.{IsLike, adjusted_like}
 use Rattle.pv_laws.proofs.Stops.{take_after}
 use Rattle.pv_laws.proofs.Ways.{all_take, parts_adjust}
-use Rattle.pv_dress.specs.Dividing.{parts}
-use Rattle.pv_dress.proofs.Dividing.{run-parts}
+use Rattle.pv_metadata.specs.Dividing.{parts}
+use Rattle.pv_metadata.proofs.Dividing.{run-parts}
 use Rattle.pv_walk.specs.Copying.{Subtree}
 
 -- what is set by a line, then in part by later ones, is set whole by both again
-module _ (sets ys : List Operation) (said_none : IsRepeatable (sets ++ ys)) where
-  pub set_again : (k : ℕ) (b : Option Bare) → run ys (run sets (run (take k ys) (run sets b))) ≡ run ys (run sets b)
+module _ (sets ys : List Operation) (messages_none : IsRepeatable (sets ++ ys)) where
+  pub set_again : (k : ℕ) (b : Option ObjectState) → run ys (run sets (run (take k ys) (run sets b))) ≡ run ys (run sets b)
   set_again k b =
       let front = take_after k sets ys in
       ap (λ c. run ys (run sets c)) (sym (run-append sets (take k ys) b) ∙ ap (λ xs. run xs b) (sym front.1))
       ∙ sym (run-append sets ys (run (take front.0 (sets ++ ys)) b))
-      ∙ absorbed (sets ++ ys) front.0 b said_none
+      ∙ absorbed (sets ++ ys) front.0 b messages_none
       ∙ run-append sets ys b
 
 -- the copy and its path, seen in two trees in which the same is copied
-module _ (copying : Copying) (kind : Kind) (path : Path) (v w : View) (top : Bare) (is_top : copy_of copying v [] ≡ Some top) (of_kind : same_kind kind top.body.kind ≡ true) (again : run copying.sets (Some top) ≡ Some top)
+module _ (copying : Copying) (kind : Kind) (path : Path) (v w : View) (top : ObjectState) (is_top : copy_of copying v [] ≡ Some top) (of_kind : same_kind kind top.body.kind ≡ true) (again : run copying.sets (Some top) ≡ Some top)
     -- what later lines set at each path below
     (ys : Path → List Operation) (adjust : (rest : Path) → list_all is_adjustment (ys rest) ≡ true) (both_repeatable : IsRepeatable (copying.sets ++ ys []))
     (set_adjust : list_all is_adjustment copying.sets ≡ true)
     -- what stood there when the line began, how much of it later lines have set
-    (a : Path → Option Bare) (j : Path → ℕ)
-    (full : (x : Bare) → a [] ≡ Some x → same_kind kind x.body.kind ≡ true → (is_directory kind && is_childless v path) ≡ false → (is_directory kind && is_childless w path) ≡ false)
+    (a : Path → Option ObjectState) (j : Path → ℕ)
+    (full : (x : ObjectState) → a [] ≡ Some x → same_kind kind x.body.kind ≡ true → (is_directory kind && is_childless v path) ≡ false → (is_directory kind && is_childless w path) ≡ false)
     (rest : Path) (repeatable : IsRepeatable (ys rest)) (same : copy_of copying v rest ≡ copy_of copying w rest) where
-  abbrev left : Path → Option Bare
+  abbrev left : Path → Option ObjectState
   left r = after_turn (copying_turn copying v path kind (a [])) r (a r)
 
   -- what stands there now
-  abbrev now : Path → Option Bare
+  abbrev now : Path → Option ObjectState
   now r = run (take (j r) (ys r)) (left r)
 
   abbrev IsMendedAt : Turn → Turn → Type 0
   IsMendedAt first second =
       run (ys rest) (after_turn second rest (run (take (j rest) (ys rest)) (after_turn first rest (a rest)))) ≡ run (ys rest) (after_turn first rest (a rest))
 
-  absorbed_there : (b : Option Bare) → run (ys rest) (run (take (j rest) (ys rest)) b) ≡ run (ys rest) b
+  absorbed_there : (b : Option ObjectState) → run (ys rest) (run (take (j rest) (ys rest)) b) ≡ run (ys rest) b
   absorbed_there b = absorbed (ys rest) (j rest) b repeatable
 
   -- the copy was put: it is put again, or set
@@ -73,13 +73,13 @@ module _ (copying : Copying) (kind : Kind) (path : Path) (v w : View) (top : Bar
   set_set (name ∷ r) e = absorbed (ys (name ∷ r)) (j (name ∷ r)) (a (name ∷ r)) (subst (λ (p : Path). IsRepeatable (ys p)) (sym e) repeatable)
 
   -- the second turn, where an object of the kind stands there
-  second_same : (y : Bare) → same_kind kind y.body.kind ≡ true → (empty : Bool) → (is_directory kind && is_childless w path) ≡ empty → copying_turn copying w path kind (Some y) ≡ cond empty (Turn.Put (copy_of copying w)) (Turn.Become copying.sets)
+  second_same : (y : ObjectState) → same_kind kind y.body.kind ≡ true → (empty : Bool) → (is_directory kind && is_childless w path) ≡ empty → copying_turn copying w path kind (Some y) ≡ cond empty (Turn.Put (copy_of copying w)) (Turn.Become copying.sets)
   second_same y s empty e =
       ap (λ c. if c then (if is_directory kind && is_childless w path then Turn.Put (copy_of copying w) else Turn.Become copying.sets) else if copying.renews then Turn.Put (copy_of copying w) else Turn.Left y.body.kind) s
       ∙ ap (λ c. if c then Turn.Put (copy_of copying w) else Turn.Become copying.sets) e
 
   -- what later lines set of an object is of its kind
-  still : (x : Bare) → (y : Bare) × (run (take (j []) (ys [])) (Some x) ≡ Some y) × IsLike x y
+  still : (x : ObjectState) → (y : ObjectState) × (run (take (j []) (ys [])) (Some x) ≡ Some y) × IsLike x y
   still x = adjusted_like (take (j []) (ys [])) (all_take is_adjustment (j []) (ys []) (adjust [])) x
 
   after_put : IsMendedAt (Turn.Put (copy_of copying v)) (copying_turn copying w path kind (run (take (j []) (ys [])) (copy_of copying v [])))
@@ -96,7 +96,7 @@ module _ (copying : Copying) (kind : Kind) (path : Path) (v w : View) (top : Bar
   pub copy_mends : run (ys rest) (after_turn (copying_turn copying w path kind (now [])) rest (now rest)) ≡ run (ys rest) (left rest)
   copy_mends = start (a []) refl
     where
-      kept : (x : Bare) → a [] ≡ Some x → (s : Bool) → same_kind kind x.body.kind ≡ s → (empty : Bool) → (is_directory kind && is_childless v path) ≡ empty → (renews : Bool) → copying.renews ≡ renews
+      kept : (x : ObjectState) → a [] ≡ Some x → (s : Bool) → same_kind kind x.body.kind ≡ s → (empty : Bool) → (is_directory kind && is_childless v path) ≡ empty → (renews : Bool) → copying.renews ≡ renews
           → IsMendedAt (if s then (if empty then Turn.Put (copy_of copying v) else Turn.Become copying.sets) else if renews then Turn.Put (copy_of copying v) else Turn.Left x.body.kind)
           (copying_turn copying w path kind (run (take (j []) (ys [])) (after_turn (if s then (if empty then Turn.Put (copy_of copying v) else Turn.Become copying.sets) else if renews then Turn.Put (copy_of copying v) else Turn.Left x.body.kind) [] (a []))))
       kept x e true s true f renews g = after_put
@@ -116,7 +116,7 @@ module _ (copying : Copying) (kind : Kind) (path : Path) (v w : View) (top : Bar
           ∙ ap (λ c. if c then Turn.Put (copy_of copying w) else Turn.Left next.0.body.kind) g))
           (absorbed_there (a rest)))
 
-      start : (b : Option Bare) → a [] ≡ b → run (ys rest) (after_turn (copying_turn copying w path kind (now [])) rest (now rest)) ≡ run (ys rest) (left rest)
+      start : (b : Option ObjectState) → a [] ≡ b → run (ys rest) (after_turn (copying_turn copying w path kind (now [])) rest (now rest)) ≡ run (ys rest) (left rest)
       start None e =
           subst (λ b. IsMendedAt (copying_turn copying v path kind b) (copying_turn copying w path kind (run (take (j []) (ys [])) (after_turn (copying_turn copying v path kind b) [] (a []))))) (sym e) after_put
       start (Some x) e =
@@ -126,12 +126,12 @@ module _ (copying : Copying) (kind : Kind) (path : Path) (v w : View) (top : Bar
 -- ---- before the copy has come to its path
 
 -- what stands at a path below, from what stood there when the line began: the same, some of what is set, or nothing
-pub data IsBegun (sets : List Operation) (turn : Turn) (rest : Path) (old new : Option Bare) : Type 0 where
+pub data IsBegun (sets : List Operation) (turn : Turn) (rest : Path) (old new : Option ObjectState) : Type 0 where
   kept : new ≡ old → IsBegun sets turn rest old new
   some_set : (k : ℕ) → rest ≡ [] → turn ≡ Turn.Become sets → new ≡ run (take k (parts sets)) old → IsBegun sets turn rest old new
   gone : (subtree : Subtree) → turn ≡ Turn.Put subtree → new ≡ None → IsBegun sets turn rest old new
 
-module _ (copying : Copying) (kind : Kind) (path : Path) (v w : View) (a c : Path → Option Bare) (adjust : list_all is_adjustment copying.sets ≡ true) (repeatable : IsRepeatable (parts copying.sets))
+module _ (copying : Copying) (kind : Kind) (path : Path) (v w : View) (a c : Path → Option ObjectState) (adjust : list_all is_adjustment copying.sets ≡ true) (repeatable : IsRepeatable (parts copying.sets))
     (begun : (r : Path) → IsBegun copying.sets (copying_turn copying v path kind (a [])) r (a r) (c r))
     (emptier : is_childless v path ≡ true → is_childless w path ≡ true)
     (full : copying_turn copying v path kind (a []) ≡ Turn.Become copying.sets → is_childless w path ≡ is_childless v path)
@@ -161,7 +161,7 @@ module _ (copying : Copying) (kind : Kind) (path : Path) (v w : View) (a c : Pat
       by (some_set k s t f) = absurd (let no : Turn.Left own ≡ Turn.Become copying.sets = sym e ∙ t in cc)
       by (gone subtree t f) = absurd (let no : Turn.Left own ≡ Turn.Put subtree = sym e ∙ t in cc)
 
-  abbrev second : Option Bare → Turn
+  abbrev second : Option ObjectState → Turn
   second b = copying_turn copying w path kind b
 
   abbrev shown : View → Bool → Bool → Bool → Kind → Turn
@@ -170,7 +170,7 @@ module _ (copying : Copying) (kind : Kind) (path : Path) (v w : View) (a c : Pat
   both_empty : (is_directory kind && is_childless v path) ≡ true → (is_directory kind && is_childless w path) ≡ true
   both_empty e = let two = and_parts (is_directory kind) (is_childless v path) e in and_from (is_directory kind) (is_childless w path) two.0 (emptier two.1)
 
-  as_shown : (y : Bare) (s empty renews : Bool) → same_kind kind y.body.kind ≡ s → (is_directory kind && is_childless w path) ≡ empty → copying.renews ≡ renews → second (Some y) ≡ shown w s empty renews y.body.kind
+  as_shown : (y : ObjectState) (s empty renews : Bool) → same_kind kind y.body.kind ≡ s → (is_directory kind && is_childless w path) ≡ empty → copying.renews ≡ renews → second (Some y) ≡ shown w s empty renews y.body.kind
   as_shown y s empty renews e f g =
       ap (λ b. shown w b (is_directory kind && is_childless w path) copying.renews y.body.kind) e
       ∙ ap (λ b. shown w s b copying.renews y.body.kind) f ∙ ap (λ b. shown w s empty b y.body.kind) g
@@ -198,10 +198,10 @@ module _ (copying : Copying) (kind : Kind) (path : Path) (v w : View) (a c : Pat
       by (inl f) = f
       by (inr f) = absurd (let no : name ∷ r ≡ [] = f.0 in cc)
 
-  kind_there : (x : Bare) → a [] ≡ Some x → copying_turn copying v path kind (a []) ≡ Turn.Become copying.sets → (y : Bare) × (c [] ≡ Some y) × (y.body.kind ≡ x.body.kind)
+  kind_there : (x : ObjectState) → a [] ≡ Some x → copying_turn copying v path kind (a []) ≡ Turn.Become copying.sets → (y : ObjectState) × (c [] ≡ Some y) × (y.body.kind ≡ x.body.kind)
   kind_there x f e = by (set_begun e [])
     where
-      by : (c [] ≡ a []) ⊎ ((◌≡◌ {A = Path} [] []) × ((k : ℕ) × (c [] ≡ run (take k (parts copying.sets)) (a [])))) → (y : Bare) × (c [] ≡ Some y) × (y.body.kind ≡ x.body.kind)
+      by : (c [] ≡ a []) ⊎ ((◌≡◌ {A = Path} [] []) × ((k : ℕ) × (c [] ≡ run (take k (parts copying.sets)) (a [])))) → (y : ObjectState) × (c [] ≡ Some y) × (y.body.kind ≡ x.body.kind)
       by (inl g) = (x, g ∙ f, refl)
       by (inr g) =
           let like = adjusted_like (take g.1.0 (parts copying.sets)) (all_take is_adjustment g.1.0 (parts copying.sets) (parts_adjust copying.sets adjust)) x in
@@ -210,7 +210,7 @@ module _ (copying : Copying) (kind : Kind) (path : Path) (v w : View) (a c : Pat
   pub begun_mends : after_turn (second (c [])) rest (c rest) ≡ after_turn (copying_turn copying v path kind (a [])) rest (a rest)
   begun_mends = start (a []) refl
     where
-      with_object : (x : Bare) → a [] ≡ Some x → (s : Bool) → same_kind kind x.body.kind ≡ s → (empty : Bool) → (is_directory kind && is_childless v path) ≡ empty → (renews : Bool) → copying.renews ≡ renews
+      with_object : (x : ObjectState) → a [] ≡ Some x → (s : Bool) → same_kind kind x.body.kind ≡ s → (empty : Bool) → (is_directory kind && is_childless v path) ≡ empty → (renews : Bool) → copying.renews ≡ renews
           → copying_turn copying v path kind (a []) ≡ shown v s empty renews x.body.kind → after_turn (second (c [])) rest (c rest) ≡ after_turn (copying_turn copying v path kind (a [])) rest (a rest)
       with_object x f true s true e renews g turn = put_end turn (ap second f ∙ as_shown x true true renews s (both_empty e) g)
       with_object x f true s false e renews g turn =
@@ -224,6 +224,6 @@ module _ (copying : Copying) (kind : Kind) (path : Path) (v w : View) (a c : Pat
           ∙ ap (λ y. after_turn y rest (c rest)) (as_shown x false (is_directory kind && is_childless w path) false s refl g)
           ∙ left_begun x.body.kind turn rest ∙ sym (ap (λ y. after_turn y rest (a rest)) turn)
 
-      start : (b : Option Bare) → a [] ≡ b → after_turn (second (c [])) rest (c rest) ≡ after_turn (copying_turn copying v path kind (a [])) rest (a rest)
+      start : (b : Option ObjectState) → a [] ≡ b → after_turn (second (c [])) rest (c rest) ≡ after_turn (copying_turn copying v path kind (a [])) rest (a rest)
       start None f = put_end (ap (copying_turn copying v path kind) f) (ap second f)
       start (Some x) f = with_object x f (same_kind kind x.body.kind) refl (is_directory kind && is_childless v path) refl copying.renews refl (ap (copying_turn copying v path kind) f)

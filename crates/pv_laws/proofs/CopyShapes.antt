@@ -10,19 +10,19 @@ use Rattle.pv_path.proofs.PathLaws.{has_names-append, has_names-both, has_names-
 use Rattle.pv_steps.specs.declared.node.Kind.{Kind}
 use Rattle.pv_steps.specs.Objects.{is_directory}
 use Rattle.pv_steps.specs.Trees.{Files, places}
-use Rattle.pv_dress.specs.declared.bare.Bare.{Bare}
-use Rattle.pv_dress.specs.declared.bare.Body.{Body}
-use Rattle.pv_dress.specs.Nodes.{bares_of, is_link, same_kind}
-use Rattle.pv_dress.specs.declared.bare.Dress.{Dress}
-use Rattle.pv_dress.specs.Operations.{with_mode, run}
+use Rattle.pv_metadata.specs.declared.object_state.ObjectState.{ObjectState}
+use Rattle.pv_metadata.specs.declared.object_state.Body.{Body}
+use Rattle.pv_metadata.specs.Nodes.{object_states_of, is_link, same_kind}
+use Rattle.pv_metadata.specs.declared.object_state.Metadata.{Metadata}
+use Rattle.pv_metadata.specs.Operations.{with_mode, run}
 use Rattle.pv_lines.specs.declared.line.LineMode.{LineMode}
-use Rattle.pv_dress.proofs.EditLaws.{path_cases}
+use Rattle.pv_metadata.proofs.EditLaws.{path_cases}
 use Rattle.pv_walk.specs.Preparing.{IsAbove}
-use Rattle.pv_table.specs.declared.deed.Copying.{Copying}
-use Rattle.pv_table.specs.declared.deed.Deed.TheVariants.{Copy}
-use Rattle.pv_table.specs.Asking.{mode_for_new}
+use Rattle.pv_table.specs.declared.action.Copying.{Copying}
+use Rattle.pv_table.specs.declared.action.Action.TheVariants.{Copy}
+use Rattle.pv_table.specs.ActionTable.{mode_for_new}
 use Rattle.pv_table.specs.Effects.{prepare, carried_out}
-use Rattle.pv_table.specs.Pointwise.{parent_bare, after_turn}
+use Rattle.pv_table.specs.Pointwise.{parent_object_state, after_turn}
 use Rattle.pv_table.specs.Turns.{Turn, View, view_of, topped_by, copy_of, is_childless, copying_turn}
 use Rattle.pv_laws.proofs.Copies.{source_ready, left_inside, left_outside, below_ready}
 use Rattle.pv_laws.proofs.Making.{is_dir, IsShaped, ready_here, ready_else}
@@ -32,17 +32,17 @@ use Rattle.pv_laws.proofs.Shapes.{adjusted_like, plain_prefix}
 use Rattle.pv_path.proofs.Tests.{true_not_false}
 
 -- a copied object is what its source is
-pub topped_body : (copying : Copying) (b : Bare) → (topped_by copying b).body ≡ b.body
+pub topped_body : (copying : Copying) (b : ObjectState) → (topped_by copying b).body ≡ b.body
 topped_body copying b = by copying.mode refl
   where
     by : (m : Option LineMode) → copying.mode ≡ m → (topped_by copying b).body ≡ b.body
     by None e = rw e
-    by (Some mode) e = rw e (at (is_link b.body.kind) (with_mode b.body.kind (mode_for_new (Some mode) (is_directory b.body.kind)) false (record b.dress { uid = unwrap_or copying.uid b.dress.uid; gid = unwrap_or copying.gid b.dress.gid })))
+    by (Some mode) e = rw e (at (is_link b.body.kind) (with_mode b.body.kind (mode_for_new (Some mode) (is_directory b.body.kind)) false (record b.metadata { uid = unwrap_or copying.uid b.metadata.uid; gid = unwrap_or copying.gid b.metadata.gid })))
       where
-        owned : Bare
-        owned = record b { dress = record b.dress { uid = unwrap_or copying.uid b.dress.uid; gid = unwrap_or copying.gid b.dress.gid } }
+        owned : ObjectState
+        owned = record b { metadata = record b.metadata { uid = unwrap_or copying.uid b.metadata.uid; gid = unwrap_or copying.gid b.metadata.gid } }
 
-        at : (l : Bool) (d : Dress) → (cond l owned (record owned { dress = d })).body ≡ b.body
+        at : (l : Bool) (d : Metadata) → (cond l owned (record owned { metadata = d })).body ≡ b.body
         at true d = refl
         at false d = refl
 
@@ -52,7 +52,7 @@ pub data IsCopyTurn (copying : Copying) (view : View) (turn : Turn) : Type 0 whe
   becomes : turn ≡ Turn.Become copying.sets → IsCopyTurn copying view turn
   leaves : (kind : Kind) → turn ≡ Turn.Left kind → IsCopyTurn copying view turn
 
-pub copy_turns : (copying : Copying) (view : View) (path : Path) (kind : Kind) (b : Option Bare) → IsCopyTurn copying view (copying_turn copying view path kind b)
+pub copy_turns : (copying : Copying) (view : View) (path : Path) (kind : Kind) (b : Option ObjectState) → IsCopyTurn copying view (copying_turn copying view path kind b)
 copy_turns copying view path kind None = puts refl
 copy_turns copying view path kind (Some x) = by (same_kind kind x.body.kind) (is_directory kind && is_childless view path) copying.renews
   where
@@ -63,16 +63,16 @@ copy_turns copying view path kind (Some x) = by (same_kind kind x.body.kind) (is
     by false empty false = leaves x.body.kind refl
 
 module _ (now : ℕ) (copying : Copying) (adjust : list_all is_adjustment copying.sets ≡ true) (path : Path) (unstaged : has_staging path ≡ false) (plain_source : has_staging copying.source ≡ false)
-    (t : Files) (shape : IsShaped (bares_of (places t))) (b : Bare) (present : bares_of (places t) copying.source ≡ Some b)
-    (named : path ≢ []) (pass : (p : Path) → is_prefix p path ≡ true → p ≢ path → is_some (bares_of (places t) p) ≡ true → is_dir (bares_of (places t) p) ≡ true) where
-  abbrev old : Path → Option Bare
-  old q = bares_of (places t) q
+    (t : Files) (shape : IsShaped (object_states_of (places t))) (b : ObjectState) (present : object_states_of (places t) copying.source ≡ Some b)
+    (named : path ≢ []) (pass : (p : Path) → is_prefix p path ≡ true → p ≢ path → is_some (object_states_of (places t) p) ≡ true → is_dir (object_states_of (places t) p) ≡ true) where
+  abbrev old : Path → Option ObjectState
+  old q = object_states_of (places t) q
 
-  abbrev left : Path → Option Bare
-  left q = bares_of (places (carried_out now (Copy copying) path t)) q
+  abbrev left : Path → Option ObjectState
+  left q = object_states_of (places (carried_out now (Copy copying) path t)) q
 
   abbrev turn_there : Turn
-  turn_there = copying_turn copying (view_of (prepare now path t)) path b.body.kind (bares_of (places (prepare now path t)) path)
+  turn_there = copying_turn copying (view_of (prepare now path t)) path b.body.kind (object_states_of (places (prepare now path t)) path)
 
   -- what is left, by where a path lies
   pub at_inside : (q rest : Path) → has_staging q ≡ false → rest_under path q ≡ Some rest → left q ≡ after_turn turn_there rest (old q)
@@ -85,15 +85,15 @@ module _ (now : ℕ) (copying : Copying) (adjust : list_all is_adjustment copyin
       left_outside now copying adjust path unstaged plain_source t shape b present q e
       ∙ ready_else now path unstaged t shape q plain (λ same. (let there : Some [] ≡ None = sym (rest_under-self path) ∙ ap (rest_under path) (sym same) ∙ e in cc))
 
-  keeps_dir : (above : Bool) (c : Option Bare) → is_dir c ≡ true → is_dir (filled above c) ≡ true
+  keeps_dir : (above : Bool) (c : Option ObjectState) → is_dir c ≡ true → is_dir (filled above c) ≡ true
   keeps_dir true None h = impossible h
   keeps_dir true (Some x) h = h
   keeps_dir false c h = h
 
   -- ---- the tree whose path is prepared
 
-  abbrev ready : Path → Option Bare
-  ready q = bares_of (places (prepare now path t)) q
+  abbrev ready : Path → Option ObjectState
+  ready q = object_states_of (places (prepare now path t)) q
 
   ready_is : (q : Path) → has_staging q ≡ false → (ready q ≡ old q) ⊎ (IsAbove q path × (ready q ≡ filled true (old q)))
   ready_is q plain = elim (path_cases q path) [
@@ -109,7 +109,7 @@ module _ (now : ℕ) (copying : Copying) (adjust : list_all is_adjustment copyin
   high_dir : (p : Path) → has_staging p ≡ false → is_prefix p path ≡ true → p ≢ path → is_dir (filled true (old p)) ≡ true
   high_dir p plain high other = at (old p) (pass p high other)
     where
-      at : (c : Option Bare) → (is_some c ≡ true → is_dir c ≡ true) → is_dir (filled true c) ≡ true
+      at : (c : Option ObjectState) → (is_some c ≡ true → is_dir c ≡ true) → is_dir (filled true c) ≡ true
       at None h = refl
       at (Some x) h = h refl
 
@@ -130,12 +130,12 @@ module _ (now : ℕ) (copying : Copying) (adjust : list_all is_adjustment copyin
           let differ : p ≢ path = (λ same. two.0.1 (is_prefix-antisym q path two.0.0 (ap (λ r. is_prefix r q) (sym same) ∙ above))) in
           ap is_dir (ready_else now path unstaged t shape p (plain_prefix p q above plain) differ ∙ ap (λ c. filled c (old p)) high) ∙ high_dir p (plain_prefix p q above plain) high differ
 
-  filled_numbers : (q : Path) → has_staging q ≡ false → (above : Bool) (c : Option Bare) → old q ≡ c → (x : Bare) → filled above c ≡ Some x → is_directory x.body.kind ≡ true → (x.body.major ≡ 0) × (x.body.minor ≡ 0)
-  filled_numbers q plain true None f x e h = subst (λ (y : Bare). (y.body.major ≡ 0) × (y.body.minor ≡ 0)) (same_Some parent_bare x e) (refl, refl)
+  filled_numbers : (q : Path) → has_staging q ≡ false → (above : Bool) (c : Option ObjectState) → old q ≡ c → (x : ObjectState) → filled above c ≡ Some x → is_directory x.body.kind ≡ true → (x.body.major ≡ 0) × (x.body.minor ≡ 0)
+  filled_numbers q plain true None f x e h = subst (λ (y : ObjectState). (y.body.major ≡ 0) × (y.body.minor ≡ 0)) (same_Some parent_object_state x e) (refl, refl)
   filled_numbers q plain true (Some y) f x e h = shape.plain q x plain (f ∙ e) h
   filled_numbers q plain false c f x e h = shape.plain q x plain (f ∙ e) h
 
-  ready_numbers : (q : Path) (x : Bare) → has_staging q ≡ false → ready q ≡ Some x → is_directory x.body.kind ≡ true → (x.body.major ≡ 0) × (x.body.minor ≡ 0)
+  ready_numbers : (q : Path) (x : ObjectState) → has_staging q ≡ false → ready q ≡ Some x → is_directory x.body.kind ≡ true → (x.body.major ≡ 0) × (x.body.minor ≡ 0)
   ready_numbers q x plain e h = by (ready_is q plain)
     where
       by : (ready q ≡ old q) ⊎ (IsAbove q path × (ready q ≡ filled true (old q))) → (x.body.major ≡ 0) × (x.body.minor ≡ 0)
@@ -182,12 +182,12 @@ module _ (now : ℕ) (copying : Copying) (adjust : list_all is_adjustment copyin
       (λ e. longer (copying.source ++ first ∷ front) name back (e ∙ sym (append_assoc copying.source (first ∷ front) (name ∷ back)))) there.1
 
   -- a directory that was there stays one, where it is adjusted
-  set_dir : (c : Option Bare) → is_dir c ≡ true → is_dir (run copying.sets c) ≡ true
+  set_dir : (c : Option ObjectState) → is_dir c ≡ true → is_dir (run copying.sets c) ≡ true
   set_dir None h = impossible h
   set_dir (Some x) h = let like = adjusted_like copying.sets adjust x in ap is_dir like.1 ∙ ap is_directory like.2.kind ∙ h
 
   -- at and below the path
-  inside_dir : (turn : Turn) → IsCopyTurn copying (view_of (prepare now path t)) turn → (front : Path) (name : List ℕ) (back : Path) (c d : Option Bare) → (is_some d ≡ true → is_dir c ≡ true) → is_some (after_turn turn (front ++ name ∷ back) d) ≡ true → is_dir (after_turn turn front c) ≡ true
+  inside_dir : (turn : Turn) → IsCopyTurn copying (view_of (prepare now path t)) turn → (front : Path) (name : List ℕ) (back : Path) (c d : Option ObjectState) → (is_some d ≡ true → is_dir c ≡ true) → is_some (after_turn turn (front ++ name ∷ back) d) ≡ true → is_dir (after_turn turn front c) ≡ true
   inside_dir turn (puts e) front name back c d over h = ap (λ x. is_dir (after_turn x front c)) e ∙ copied_dir front name back (sym (ap (λ x. is_some (after_turn x (front ++ name ∷ back) d)) e) ∙ h)
   inside_dir turn (becomes e) [] name back c d over h = ap (λ x. is_dir (after_turn x [] c)) e ∙ set_dir c (over (sym (ap (λ x. is_some (after_turn x (name ∷ back) d)) e) ∙ h))
   inside_dir turn (becomes e) (first ∷ front) name back c d over h = ap (λ x. is_dir (after_turn x (first ∷ front) c)) e ∙ over (sym (ap (λ x. is_some (after_turn x (first ∷ front ++ name ∷ back) d)) e) ∙ h)
@@ -223,7 +223,7 @@ module _ (now : ℕ) (copying : Copying) (adjust : list_all is_adjustment copyin
           at [] g = absurd (other (sym (g ∙ append-nil p)))
           at (name ∷ back) g =
               ap is_dir (at_inside p front plain_above f)
-              ∙ inside_dir turn_there (copy_turns copying (view_of (prepare now path t)) path b.body.kind (bares_of (places (prepare now path t)) path)) front name back (old p) (old q) (λ h. shape.above p q plain above other h)
+              ∙ inside_dir turn_there (copy_turns copying (view_of (prepare now path t)) path b.body.kind (object_states_of (places (prepare now path t)) path)) front name back (old p) (old q) (λ h. shape.above p q plain above other h)
               (ap (λ r. is_some (after_turn turn_there r (old q))) (sym (joined (name ∷ back) g)) ∙ sym (ap is_some (at_inside q rest plain e)) ∙ there)
 
       by : (r : Option Path) → rest_under path q ≡ r → (f : Option Path) → rest_under path p ≡ f → is_dir (left p) ≡ true
@@ -250,35 +250,35 @@ module _ (now : ℕ) (copying : Copying) (adjust : list_all is_adjustment copyin
           at false g h = ap is_dir (at_outside p plain_above f) ∙ keeps_dir (is_prefix p path) (old p) (shape.above p q plain above other (sym (ap (λ c. is_some (filled c (old q))) g) ∙ h))
 
   -- directories have no numbers
-  put_numbers : (rest : Path) (x : Bare) → copy_of copying (view_of (prepare now path t)) rest ≡ Some x → is_directory x.body.kind ≡ true → (x.body.major ≡ 0) × (x.body.minor ≡ 0)
+  put_numbers : (rest : Path) (x : ObjectState) → copy_of copying (view_of (prepare now path t)) rest ≡ Some x → is_directory x.body.kind ≡ true → (x.body.major ≡ 0) × (x.body.minor ≡ 0)
   put_numbers [] x e h =
-      let body : x.body ≡ b.body = ap (λ (y : Bare). y.body) (same_Some x (topped_by copying b) (sym e ∙ copy_top)) ∙ topped_body copying b in
+      let body : x.body ≡ b.body = ap (λ (y : ObjectState). y.body) (same_Some x (topped_by copying b) (sym e ∙ copy_top)) ∙ topped_body copying b in
       let numbers = shape.plain copying.source b plain_source present (ap (λ (y : Body). is_directory y.kind) (sym body) ∙ h) in
       (ap (λ (y : Body). y.major) body ∙ numbers.0, ap (λ (y : Body). y.minor) body ∙ numbers.1)
   put_numbers (name ∷ rest) x e h =
       let there = copied_there name rest (ap is_some e) in
       ready_numbers (copying.source ++ name ∷ rest) x (source_plain (name ∷ rest) there.0) (sym (ap (λ c. cond c None (ready (copying.source ++ name ∷ rest))) there.0) ∙ sym (copy_below name rest) ∙ e) h
 
-  set_numbers : (q : Path) → has_staging q ≡ false → (c : Option Bare) → old q ≡ c → (x : Bare) → run copying.sets c ≡ Some x → is_directory x.body.kind ≡ true → (x.body.major ≡ 0) × (x.body.minor ≡ 0)
+  set_numbers : (q : Path) → has_staging q ≡ false → (c : Option ObjectState) → old q ≡ c → (x : ObjectState) → run copying.sets c ≡ Some x → is_directory x.body.kind ≡ true → (x.body.major ≡ 0) × (x.body.minor ≡ 0)
   set_numbers q plain None f x e h = absurd (let no : None ≡ Some x = sym (adjusted_none copying.sets adjust) ∙ e in cc)
   set_numbers q plain (Some y) f x e h =
       let like = adjusted_like copying.sets adjust y in
       let same : like.0 ≡ x = same_Some like.0 x (sym like.1 ∙ e) in
-      let numbers = shape.plain q y plain f (sym (ap is_directory like.2.kind) ∙ ap (λ (z : Bare). is_directory z.body.kind) same ∙ h) in
-      (sym (ap (λ (z : Bare). z.body.major) same) ∙ like.2.major ∙ numbers.0, sym (ap (λ (z : Bare). z.body.minor) same) ∙ like.2.minor ∙ numbers.1)
+      let numbers = shape.plain q y plain f (sym (ap is_directory like.2.kind) ∙ ap (λ (z : ObjectState). is_directory z.body.kind) same ∙ h) in
+      (sym (ap (λ (z : ObjectState). z.body.major) same) ∙ like.2.major ∙ numbers.0, sym (ap (λ (z : ObjectState). z.body.minor) same) ∙ like.2.minor ∙ numbers.1)
 
-  inside_numbers : (turn : Turn) → IsCopyTurn copying (view_of (prepare now path t)) turn → (q rest : Path) → has_staging q ≡ false → (x : Bare) → after_turn turn rest (old q) ≡ Some x → is_directory x.body.kind ≡ true → (x.body.major ≡ 0) × (x.body.minor ≡ 0)
+  inside_numbers : (turn : Turn) → IsCopyTurn copying (view_of (prepare now path t)) turn → (q rest : Path) → has_staging q ≡ false → (x : ObjectState) → after_turn turn rest (old q) ≡ Some x → is_directory x.body.kind ≡ true → (x.body.major ≡ 0) × (x.body.minor ≡ 0)
   inside_numbers turn (puts e) q rest plain x f h = put_numbers rest x (sym (ap (λ y. after_turn y rest (old q)) e) ∙ f) h
   inside_numbers turn (becomes e) q [] plain x f h = set_numbers q plain (old q) refl x (sym (ap (λ y. after_turn y [] (old q)) e) ∙ f) h
   inside_numbers turn (becomes e) q (name ∷ rest) plain x f h = shape.plain q x plain (sym (ap (λ y. after_turn y (name ∷ rest) (old q)) e) ∙ f) h
   inside_numbers turn (leaves kind e) q rest plain x f h = shape.plain q x plain (sym (ap (λ y. after_turn y rest (old q)) e) ∙ f) h
 
-  numbers_at : (q : Path) (x : Bare) → has_staging q ≡ false → left q ≡ Some x → is_directory x.body.kind ≡ true → (x.body.major ≡ 0) × (x.body.minor ≡ 0)
+  numbers_at : (q : Path) (x : ObjectState) → has_staging q ≡ false → left q ≡ Some x → is_directory x.body.kind ≡ true → (x.body.major ≡ 0) × (x.body.minor ≡ 0)
   numbers_at q x plain e h = by (rest_under path q) refl
     where
       by : (r : Option Path) → rest_under path q ≡ r → (x.body.major ≡ 0) × (x.body.minor ≡ 0)
       by None f = filled_numbers q plain (is_prefix q path) (old q) refl x (sym (at_outside q plain f) ∙ e) h
-      by (Some rest) f = inside_numbers turn_there (copy_turns copying (view_of (prepare now path t)) path b.body.kind (bares_of (places (prepare now path t)) path)) q rest plain x (sym (at_inside q rest plain f) ∙ e) h
+      by (Some rest) f = inside_numbers turn_there (copy_turns copying (view_of (prepare now path t)) path b.body.kind (object_states_of (places (prepare now path t)) path)) q rest plain x (sym (at_inside q rest plain f) ∙ e) h
 
   -- what is left has names
   module _ (names : has_names path ≡ true) where
@@ -300,7 +300,7 @@ module _ (now : ℕ) (copying : Copying) (adjust : list_all is_adjustment copyin
         let whole : has_names (copying.source ++ name ∷ rest) ≡ true = ready_named (copying.source ++ name ∷ rest) (source_plain (name ∷ rest) copied.0) copied.1 in
         has_names-both path (name ∷ rest) names (and_parts (has_names copying.source) (has_names (name ∷ rest)) (sym (has_names-append copying.source (name ∷ rest)) ∙ whole)).1
 
-    set_there : (c : Option Bare) → is_some (run copying.sets c) ≡ true → is_some c ≡ true
+    set_there : (c : Option ObjectState) → is_some (run copying.sets c) ≡ true → is_some c ≡ true
     set_there None h = sym (ap is_some (adjusted_none copying.sets adjust)) ∙ h
     set_there (Some x) h = refl
 
@@ -315,7 +315,7 @@ module _ (now : ℕ) (copying : Copying) (adjust : list_all is_adjustment copyin
       where
         by : (r : Option Path) → rest_under path q ≡ r → has_names q ≡ true
         by None f = filled_named q plain (is_prefix q path) refl (sym (ap is_some (at_outside q plain f)) ∙ there)
-        by (Some rest) f = inside_named turn_there (copy_turns copying (view_of (prepare now path t)) path b.body.kind (bares_of (places (prepare now path t)) path)) q rest plain
+        by (Some rest) f = inside_named turn_there (copy_turns copying (view_of (prepare now path t)) path b.body.kind (object_states_of (places (prepare now path t)) path)) q rest plain
             (rest_under-Some path q rest f) (sym (ap is_some (at_inside q rest plain f)) ∙ there)
 
   pub copied_shaped : has_names path ≡ true → IsShaped left

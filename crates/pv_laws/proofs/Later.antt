@@ -6,17 +6,17 @@ use Rattle.std.proofs.lemmas.List.Folds.{list_all-append}
 use Rattle.std.proofs.lemmas.Bool.{or_parts}
 use Rattle.pv_path.specs.Paths.{Path, is_prefix, has_staging}
 use Rattle.pv_steps.specs.Trees.{Files, places}
-use Rattle.pv_dress.specs.Dividing.{parts}
-use Rattle.pv_dress.specs.Nodes.{bares_of}
-use Rattle.pv_dress.specs.Operations.{run}
-use Rattle.pv_dress.proofs.Dividing.{run-parts}
-use Rattle.pv_dress.proofs.OperationLaws.{bares_of-same, run-append}
+use Rattle.pv_metadata.specs.Dividing.{parts}
+use Rattle.pv_metadata.specs.Nodes.{object_states_of}
+use Rattle.pv_metadata.specs.Operations.{run}
+use Rattle.pv_metadata.proofs.Dividing.{run-parts}
+use Rattle.pv_metadata.proofs.OperationLaws.{object_states_of-same, run-append}
 use Rattle.pv_lines.specs.declared.line.Line.{Line}
-use Rattle.pv_table.specs.declared.deed.Deed.{Deed}
-use Rattle.pv_table.specs.declared.deed.Deed.TheVariants.{Create, Copy, Touch, Idle}
-use Rattle.pv_table.specs.Active.{is_touching}
+use Rattle.pv_table.specs.declared.action.Action.{Action}
+use Rattle.pv_table.specs.declared.action.Action.TheVariants.{Create, Copy, Adjust, Idle}
+use Rattle.pv_table.specs.Active.{is_adjusting_line}
 use Rattle.pv_table.specs.Asked.{operations, operations_of}
-use Rattle.pv_table.specs.Asking.{asks}
+use Rattle.pv_table.specs.ActionTable.{action_of}
 use Rattle.pv_table.specs.Created.{after_each, one_is_refused, by_line}
 use Rattle.pv_table.specs.Reaching.{path_in}
 use Rattle.pv_table.specs.Turns.{copied}
@@ -35,17 +35,17 @@ use Rattle.pv_path.proofs.Tests.{true_not_false}
 -- a line that may be carried out after one that copies to a path: it adjusts, or it makes or copies an object neither above
 -- the path, nor at it, nor below it
 pub data IsAfter (p : Path) (line : Line) : Type 0 where
-  adjusts : is_touching line ≡ true → IsAfter p line
+  adjusts : is_adjusting_line line ≡ true → IsAfter p line
   beside : IsBeside p line → is_prefix (path_in line.path) p ≡ false → IsAfter p line
 
 -- a line that adjusts copies nothing
-adjuster_plain : (line : Line) (q : Path) → is_touching line ≡ true → copied (asks line) ≡ None
-adjuster_plain line q h = by (asks line) refl
+adjuster_plain : (line : Line) (q : Path) → is_adjusting_line line ≡ true → copied (action_of line) ≡ None
+adjuster_plain line q h = by (action_of line) refl
   where
-    by : (d : Deed) → asks line ≡ d → copied (asks line) ≡ None
+    by : (d : Action) → action_of line ≡ d → copied (action_of line) ≡ None
     by (Create making) e = ap copied e
     by (Copy copying) e = impossible (sym (copy_adjusts_not q line copying e) ∙ h)
-    by (Touch touching) e = ap copied e
+    by (Adjust adjustment) e = ap copied e
     by Idle e = ap copied e
 
 module _ (p : Path) (line : Line) (q : Path) (under : is_prefix p q ≡ true) where
@@ -61,34 +61,34 @@ module _ (p : Path) (line : Line) (q : Path) (under : is_prefix p q ≡ true) wh
   after_adjusts (adjusts h) = adjuster_adjusts q line h
   after_adjusts (beside is low) = ap (list_all is_adjustment) (asks_none is low)
 
-  module _ (now : ℕ) (safe : IsSafe line) (t : Files) (shape : IsShaped (bares_of (places t))) (quiet : (by_line now).is_refused line t ≡ false) (plain : has_staging q ≡ false) where
-    after_point : IsAfter p line → bares_of (places ((by_line now).after line t)) q ≡ run (operations line q) (bares_of (places t) q)
+  module _ (now : ℕ) (safe : IsSafe line) (t : Files) (shape : IsShaped (object_states_of (places t))) (quiet : (by_line now).is_refused line t ≡ false) (plain : has_staging q ≡ false) where
+    after_point : IsAfter p line → object_states_of (places ((by_line now).after line t)) q ≡ run (operations line q) (object_states_of (places t) q)
     after_point (adjusts h) = (line_point now line (line_is_plain line safe.is (adjuster_plain line q h)) t shape quiet).point q plain
     after_point (beside is low) = by (beside_after now p line safe is t shape quiet q plain under)
       where
-        by : (bares_of (places ((by_line now).after line t)) q ≡ bares_of (places t) q) ⊎ IsClearing p line → bares_of (places ((by_line now).after line t)) q ≡ run (operations line q) (bares_of (places t) q)
-        by (inl e) = e ∙ sym (ap (λ xs. run xs (bares_of (places t) q)) (asks_none is low))
+        by : (object_states_of (places ((by_line now).after line t)) q ≡ object_states_of (places t) q) ⊎ IsClearing p line → object_states_of (places ((by_line now).after line t)) q ≡ run (operations line q) (object_states_of (places t) q)
+        by (inl e) = e ∙ sym (ap (λ xs. run xs (object_states_of (places t) q)) (asks_none is low))
         by (inr clearing) = absurd (true_not_false (is_prefix (path_in line.path) p) clearing.above low)
 
     -- on its way the first of its operations are done there
-    after_way : IsAfter p line → (u : Files) → OnWayOf line now t u → (k : ℕ) × (bares_of (places u) q ≡ run (take k (parts (operations line q))) (bares_of (places t) q))
+    after_way : IsAfter p line → (u : Files) → OnWayOf line now t u → (k : ℕ) × (object_states_of (places u) q ≡ run (take k (parts (operations line q))) (object_states_of (places t) q))
     after_way (beside is low) u way = by (beside_way now p line safe is t shape quiet q plain under u way)
       where
-        by : (bares_of (places u) q ≡ bares_of (places t) q) ⊎ IsClearing p line → (k : ℕ) × (bares_of (places u) q ≡ run (take k (parts (operations line q))) (bares_of (places t) q))
+        by : (object_states_of (places u) q ≡ object_states_of (places t) q) ⊎ IsClearing p line → (k : ℕ) × (object_states_of (places u) q ≡ run (take k (parts (operations line q))) (object_states_of (places t) q))
         by (inl e) = (0, e)
         by (inr clearing) = absurd (true_not_false (is_prefix (path_in line.path) p) clearing.above low)
     after_way (adjusts h) u (copy_before copying e before) = impossible (sym (copy_adjusts_not q line copying e) ∙ h)
     after_way (adjusts h) u (copy_done copying e whole) = impossible (sym (copy_adjusts_not q line copying e) ∙ h)
     after_way (adjusts h) u (other none way) = by (way q plain)
       where
-        by : IsMidway line q (bares_of (places t) q) (bares_of (places u) q) → (k : ℕ) × (bares_of (places u) q ≡ run (take k (parts (operations line q))) (bares_of (places t) q))
+        by : IsMidway line q (object_states_of (places t) q) (object_states_of (places u) q) → (k : ℕ) × (object_states_of (places u) q ≡ run (take k (parts (operations line q))) (object_states_of (places t) q))
         by (IsMidway.piece k f) = (k, f)
         by (IsMidway.gap b s renewal f) = impossible (sym (create_adjusts_not q line renewal.making renewal.makes) ∙ h)
 
 -- ---- one after the other
 
 -- what lines leave has the shape that the laws need
-pub all_shaped : (now : ℕ) (lines : List Line) → AllByRecursion IsSafe lines → (t : Files) → IsShaped (bares_of (places t)) → one_is_refused (by_line now) lines t ≡ false → IsShaped (bares_of (places (after_each (by_line now) lines t)))
+pub all_shaped : (now : ℕ) (lines : List Line) → AllByRecursion IsSafe lines → (t : Files) → IsShaped (object_states_of (places t)) → one_is_refused (by_line now) lines t ≡ false → IsShaped (object_states_of (places (after_each (by_line now) lines t)))
 all_shaped now [] safe t shape quiet = shape
 all_shaped now (line ∷ lines) safe t shape quiet =
     let two = or_parts ((by_line now).is_refused line t) (one_is_refused (by_line now) lines ((by_line now).after line t)) quiet in
@@ -103,31 +103,31 @@ module _ (p q : Path) (under : is_prefix p q ≡ true) where
       ∙ all_adjust lines after.1
 
   module _ (now : ℕ) (plain : has_staging q ≡ false) where
-    pub later_point : (lines : List Line) → AllByRecursion IsSafe lines → AllByRecursion (IsAfter p) lines → (t : Files) → IsShaped (bares_of (places t)) → one_is_refused (by_line now) lines t ≡ false
-        → bares_of (places (after_each (by_line now) lines t)) q ≡ run (operations_of lines q) (bares_of (places t) q)
+    pub later_point : (lines : List Line) → AllByRecursion IsSafe lines → AllByRecursion (IsAfter p) lines → (t : Files) → IsShaped (object_states_of (places t)) → one_is_refused (by_line now) lines t ≡ false
+        → object_states_of (places (after_each (by_line now) lines t)) q ≡ run (operations_of lines q) (object_states_of (places t) q)
     later_point [] safe after t shape quiet = refl
     later_point (line ∷ lines) safe after t shape quiet =
         let two = or_parts ((by_line now).is_refused line t) (one_is_refused (by_line now) lines ((by_line now).after line t)) quiet in
         later_point lines safe.1 after.1 ((by_line now).after line t) (line_pointed now line safe.0 t shape two.0).shape two.1
-        ∙ ap (run (operations_of lines q)) (after_point p line q under now safe.0 t shape two.0 plain after.0 ∙ sym (run-parts (operations line q) (bares_of (places t) q)))
-        ∙ sym (run-append (parts (operations line q)) (operations_of lines q) (bares_of (places t) q))
+        ∙ ap (run (operations_of lines q)) (after_point p line q under now safe.0 t shape two.0 plain after.0 ∙ sym (run-parts (operations line q) (object_states_of (places t) q)))
+        ∙ sym (run-append (parts (operations line q)) (operations_of lines q) (object_states_of (places t) q))
 
     -- on their way the first of their operations are done there
-    pub later_way : (lines : List Line) → AllByRecursion IsSafe lines → AllByRecursion (IsAfter p) lines → (t u : Files) → IsShaped (bares_of (places t)) → one_is_refused (by_line now) lines t ≡ false → PartwayOf lines now t u
-        → (k : ℕ) × (bares_of (places u) q ≡ run (take k (operations_of lines q)) (bares_of (places t) q))
-    later_way [] safe after t u shape quiet same = (0, sym (bares_of-same (places t) (places u) q (same q plain)))
+    pub later_way : (lines : List Line) → AllByRecursion IsSafe lines → AllByRecursion (IsAfter p) lines → (t u : Files) → IsShaped (object_states_of (places t)) → one_is_refused (by_line now) lines t ≡ false → PartwayOf lines now t u
+        → (k : ℕ) × (object_states_of (places u) q ≡ run (take k (operations_of lines q)) (object_states_of (places t) q))
+    later_way [] safe after t u shape quiet same = (0, sym (object_states_of-same (places t) (places u) q (same q plain)))
     later_way (line ∷ lines) safe after t u shape quiet (inl way) =
         let two = or_parts ((by_line now).is_refused line t) (one_is_refused (by_line now) lines ((by_line now).after line t)) quiet in
         let some = after_way p line q under now safe.0 t shape two.0 plain after.0 u way in
         let front = take_front some.0 (parts (operations line q)) (operations_of lines q) in
-        (front.0, some.1 ∙ ap (λ xs. run xs (bares_of (places t) q)) (sym front.1))
+        (front.0, some.1 ∙ ap (λ xs. run xs (object_states_of (places t) q)) (sym front.1))
     later_way (line ∷ lines) safe after t u shape quiet (inr later) =
         let two = or_parts ((by_line now).is_refused line t) (one_is_refused (by_line now) lines ((by_line now).after line t)) quiet in
         let some = later_way lines safe.1 after.1 ((by_line now).after line t) u (line_pointed now line safe.0 t shape two.0).shape two.1 later in
         let back = take_after some.0 (parts (operations line q)) (operations_of lines q) in (
           back.0,
           some.1
-              ∙ ap (run (take some.0 (operations_of lines q))) (after_point p line q under now safe.0 t shape two.0 plain after.0 ∙ sym (run-parts (operations line q) (bares_of (places t) q)))
-              ∙ sym (run-append (parts (operations line q)) (take some.0 (operations_of lines q)) (bares_of (places t) q))
-              ∙ ap (λ xs. run xs (bares_of (places t) q)) (sym back.1),
+              ∙ ap (run (take some.0 (operations_of lines q))) (after_point p line q under now safe.0 t shape two.0 plain after.0 ∙ sym (run-parts (operations line q) (object_states_of (places t) q)))
+              ∙ sym (run-append (parts (operations line q)) (take some.0 (operations_of lines q)) (object_states_of (places t) q))
+              ∙ ap (λ xs. run xs (object_states_of (places t) q)) (sym back.1),
         )

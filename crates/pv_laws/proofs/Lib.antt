@@ -2,7 +2,7 @@ pub mod Sets
 pub mod Comparing
 pub mod Prepared
 pub mod Making
-pub mod Touching
+pub mod Adjustment
 pub mod Shapes
 pub mod Lines
 pub mod Orders

@@ -1,22 +1,22 @@
 -- Runs of lines at different moments, from trees that are the same but for stamps: the trees that they leave, the messages and
 -- the refusals.
 use Rattle.std.specs.Prelude.{◌≡◌, ℕ, List}
-use Rattle.pv_dress.proofs.OperationLaws.{bares_of-same, bares-same}
+use Rattle.pv_metadata.proofs.OperationLaws.{object_states_of-same, object_states-same}
 use Rattle.pv_lines.specs.declared.line.Line.{Line}
 use Rattle.pv_steps.specs.Trees.{Files, places}
 use Rattle.pv_table.specs.Created.{created, created_messages, IsQuiet}
 use Rattle.pv_table.proofs.QuietLaws.{Alike, created_alike, messages_alike, quiet_alike}
-use Rattle.pv_laws.specs.Moments.{SameBares}
+use Rattle.pv_laws.specs.Moments.{SameObjectStates}
 
-alike : (t u : Files) → SameBares t u → Alike (places t) (places u)
-alike t u same q = bares-same (places t) (places u) q (same q)
+alike : (t u : Files) → SameObjectStates t u → Alike (places t) (places u)
+alike t u same q = object_states-same (places t) (places u) q (same q)
 
-pub created_same : (lines : List Line) (now later : ℕ) (t u : Files) → SameBares t u → SameBares (created lines now t) (created lines later u)
+pub created_same : (lines : List Line) (now later : ℕ) (t u : Files) → SameObjectStates t u → SameObjectStates (created lines now t) (created lines later u)
 created_same lines now later t u same q =
-    bares_of-same (places (created lines now t)) (places (created lines later u)) q (created_alike lines now later t u (alike t u same) q)
+    object_states_of-same (places (created lines now t)) (places (created lines later u)) q (created_alike lines now later t u (alike t u same) q)
 
-pub messages_same : (lines : List Line) (now later : ℕ) (t u : Files) → SameBares t u → created_messages lines now t ≡ created_messages lines later u
+pub messages_same : (lines : List Line) (now later : ℕ) (t u : Files) → SameObjectStates t u → created_messages lines now t ≡ created_messages lines later u
 messages_same lines now later t u same = messages_alike lines now later t u (alike t u same)
 
-pub quiet_same : (lines : List Line) (now later : ℕ) (t u : Files) → SameBares t u → IsQuiet lines now t → IsQuiet lines later u
+pub quiet_same : (lines : List Line) (now later : ℕ) (t u : Files) → SameObjectStates t u → IsQuiet lines now t → IsQuiet lines later u
 quiet_same lines now later t u same quiet = quiet_alike lines now later t u (alike t u same) quiet

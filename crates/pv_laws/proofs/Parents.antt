@@ -6,23 +6,23 @@ use Rattle.std.proofs.lemmas.Bool.{or_parts}
 use Rattle.pv_path.specs.Paths.{Path, same_path, is_prefix, has_staging}
 use Rattle.pv_path.proofs.PathLaws.{is_prefix-refl, rest_under-None, same_path-no}
 use Rattle.pv_steps.specs.Trees.{Files, places}
-use Rattle.pv_dress.specs.declared.bare.Bare.{Bare}
-use Rattle.pv_dress.specs.declared.operation.Operation.{Operation}
-use Rattle.pv_dress.specs.declared.operation.Operation.TheVariants.{Make}
-use Rattle.pv_dress.specs.Dividing.{parts}
-use Rattle.pv_dress.specs.Nodes.{bares_of}
-use Rattle.pv_dress.specs.Operations.{run}
-use Rattle.pv_dress.proofs.Dividing.{run-parts}
-use Rattle.pv_dress.proofs.OperationLaws.{bares_of-same, run-append}
+use Rattle.pv_metadata.specs.declared.object_state.ObjectState.{ObjectState}
+use Rattle.pv_metadata.specs.declared.operation.Operation.{Operation}
+use Rattle.pv_metadata.specs.declared.operation.Operation.TheVariants.{Make}
+use Rattle.pv_metadata.specs.Dividing.{parts}
+use Rattle.pv_metadata.specs.Nodes.{object_states_of}
+use Rattle.pv_metadata.specs.Operations.{run}
+use Rattle.pv_metadata.proofs.Dividing.{run-parts}
+use Rattle.pv_metadata.proofs.OperationLaws.{object_states_of-same, run-append}
 use Rattle.pv_lines.specs.declared.line.Line.{Line}
-use Rattle.pv_table.specs.declared.deed.Copying.{Copying}
-use Rattle.pv_table.specs.declared.deed.Deed.{Deed}
-use Rattle.pv_table.specs.declared.deed.Deed.TheVariants.{Create, Copy, Touch, Idle}
+use Rattle.pv_table.specs.declared.action.Copying.{Copying}
+use Rattle.pv_table.specs.declared.action.Action.{Action}
+use Rattle.pv_table.specs.declared.action.Action.TheVariants.{Create, Copy, Adjust, Idle}
 use Rattle.pv_table.specs.Asked.{operations, operations_of}
-use Rattle.pv_table.specs.Asking.{asks}
+use Rattle.pv_table.specs.ActionTable.{action_of}
 use Rattle.pv_table.specs.Created.{after_each, one_is_refused, by_turn, by_line}
 use Rattle.pv_table.specs.Effects.{carried_out}
-use Rattle.pv_table.specs.Pointwise.{parent_bare}
+use Rattle.pv_table.specs.Pointwise.{parent_object_state}
 use Rattle.pv_table.specs.Reaching.{path_in, governs}
 use Rattle.pv_table.specs.Repeatable.{sets_of}
 use Rattle.pv_table.specs.Turns.{copied, refused_at}
@@ -34,109 +34,109 @@ use Rattle.pv_laws.proofs.AllFrames.{each_kept}
 use Rattle.pv_laws.proofs.Lines.{line_is_plain, line_point, copy_path, copy_source}
 use Rattle.pv_laws.proofs.Making.{IsShaped}
 use Rattle.pv_laws.proofs.Orders.{Pairwise}
-use Rattle.pv_laws.proofs.Prepared.{bare_some, filled}
+use Rattle.pv_laws.proofs.Prepared.{object_state_some, filled}
 use Rattle.pv_laws.proofs.Repeated.{asked_copy}
 use Rattle.pv_laws.proofs.Sets.{impossible, is_adjustment, asked, sets_adjust}
 use Rattle.pv_laws.proofs.Stops.{midway_piece, later_piece}
-use Rattle.pv_laws.proofs.Swapped.{copies_some, swapped, bare_directory, directory_asks, IsSwap, swap}
+use Rattle.pv_laws.proofs.Swapped.{copies_some, swapped, object_state_directory, directory_asks, IsSwap, swap}
 use Rattle.pv_laws.proofs.Swapped as swaps
-use Rattle.pv_laws.proofs.Touching.{turn_open, first_turn}
+use Rattle.pv_laws.proofs.Adjustment.{turn_open, first_turn}
 use Rattle.pv_path.proofs.Tests.{true_not_false}
 
 -- a path lies neither at nor below the path of a line that copies what is there
 abbrev pub IsOutside : Files → Path → Line → Type 0
-IsOutside t q line = (copying : Copying) → asks line ≡ Copy copying → is_some (bares_of (places t) copying.source) ≡ true → is_prefix (path_in line.path) q ≡ false
+IsOutside t q line = (copying : Copying) → action_of line ≡ Copy copying → is_some (object_states_of (places t) copying.source) ≡ true → is_prefix (path_in line.path) q ≡ false
 
 -- what a line copies is there in one tree as in another
 abbrev pub IsThereAlike : Files → Files → Line → Type 0
-IsThereAlike t u line = (copying : Copying) → asks line ≡ Copy copying → is_some (bares_of (places u) copying.source) ≡ is_some (bares_of (places t) copying.source)
+IsThereAlike t u line = (copying : Copying) → action_of line ≡ Copy copying → is_some (object_states_of (places u) copying.source) ≡ is_some (object_states_of (places t) copying.source)
 
 -- a line does not govern what another copies
 abbrev pub IsFreeOf : Line → Line → Type 0
-IsFreeOf line copier = (copying : Copying) → asks copier ≡ Copy copying → governs line copying.source ≡ false
+IsFreeOf line copier = (copying : Copying) → action_of copier ≡ Copy copying → governs line copying.source ≡ false
 
-parent_done : (b : Bool) (c : Option Bare) → filled b c ≡ run (cond b (Make parent_bare ∷ []) []) c
+parent_done : (b : Bool) (c : Option ObjectState) → filled b c ≡ run (cond b (Make parent_object_state ∷ []) []) c
 parent_done true c = refl
 parent_done false c = refl
 
 -- ---- one line
 
 -- t is the tree at the start, in which is seen what there is to copy; v is that which the line finds
-module _ (t : Files) (q : Path) (plain : has_staging q ≡ false) (now : ℕ) (line : Line) (safe : IsSafe line) (outside : IsOutside t q line) (v : Files) (shape : IsShaped (bares_of (places v))) (alike : IsThereAlike t v line) (quiet : (by_line now).is_refused line v ≡ false) where
-  copy_opened : (copying : Copying) → asks line ≡ Copy copying → (refused_at line (path_in line.path) (places v) ≡ None) × ((by_line now).after line v ≡ carried_out now (Copy copying) (path_in line.path) v)
+module _ (t : Files) (q : Path) (plain : has_staging q ≡ false) (now : ℕ) (line : Line) (safe : IsSafe line) (outside : IsOutside t q line) (v : Files) (shape : IsShaped (object_states_of (places v))) (alike : IsThereAlike t v line) (quiet : (by_line now).is_refused line v ≡ false) where
+  copy_opened : (copying : Copying) → action_of line ≡ Copy copying → (refused_at line (path_in line.path) (places v) ≡ None) × ((by_line now).after line v ≡ carried_out now (Copy copying) (path_in line.path) v)
   copy_opened copying e =
       let open_path = (first_turn now line (path_in line.path) [] v (ap (λ paths. one_is_refused (by_turn now line) paths v) (sym (turns_copy line copying v e)) ∙ quiet)).0 in (
         open_path,
-        ap (λ paths. after_each (by_turn now line) paths v) (turns_copy line copying v e) ∙ turn_open now line (path_in line.path) v open_path ∙ ap (λ (d : Deed). carried_out now d (path_in line.path) v) e,
+        ap (λ paths. after_each (by_turn now line) paths v) (turns_copy line copying v e) ∙ turn_open now line (path_in line.path) v open_path ∙ ap (λ (d : Action). carried_out now d (path_in line.path) v) e,
       )
 
-  other_path : (copying : Copying) → asks line ≡ Copy copying → is_some (bares_of (places t) copying.source) ≡ true → same_path (path_in line.path) q ≡ false
+  other_path : (copying : Copying) → action_of line ≡ Copy copying → is_some (object_states_of (places t) copying.source) ≡ true → same_path (path_in line.path) q ≡ false
   other_path copying e there = same_path-no (path_in line.path) q (λ e'. true_not_false (is_prefix (path_in line.path) q) (ap (is_prefix (path_in line.path)) (sym e') ∙ is_prefix-refl (path_in line.path)) (outside copying e there))
 
   -- what is asked of the path in its place
-  asked_there : (copying : Copying) → asks line ≡ Copy copying → is_some (bares_of (places t) copying.source) ≡ true → swapped t line ≡ bare_directory line → operations (swapped t line) q ≡ cond (is_prefix q (path_in line.path)) (Make parent_bare ∷ []) []
+  asked_there : (copying : Copying) → action_of line ≡ Copy copying → is_some (object_states_of (places t) copying.source) ≡ true → swapped t line ≡ object_state_directory line → operations (swapped t line) q ≡ cond (is_prefix q (path_in line.path)) (Make parent_object_state ∷ []) []
   asked_there copying e there is = ap (λ (l : Line). operations l q) is ∙ directory_asks line q (other_path copying e there)
 
   -- a copy of what is absent
-  absent_point : (copying : Copying) → asks line ≡ Copy copying → is_some (bares_of (places t) copying.source) ≡ false → bares_of (places ((by_line now).after line v)) q ≡ bares_of (places v) q
+  absent_point : (copying : Copying) → action_of line ≡ Copy copying → is_some (object_states_of (places t) copying.source) ≡ false → object_states_of (places ((by_line now).after line v)) q ≡ object_states_of (places v) q
   absent_point copying e none =
-      ap (λ (u : Files). bares_of (places u) q) ((copy_opened copying e).1 ∙ copy_idle now copying (path_in line.path) v (sym (bare_some (places v copying.source)) ∙ alike copying e ∙ none))
+      ap (λ (u : Files). object_states_of (places u) q) ((copy_opened copying e).1 ∙ copy_idle now copying (path_in line.path) v (sym (object_state_some (places v copying.source)) ∙ alike copying e ∙ none))
 
-  present_point : (copying : Copying) → asks line ≡ Copy copying → is_some (bares_of (places t) copying.source) ≡ true → bares_of (places ((by_line now).after line v)) q ≡ filled (is_prefix q (path_in line.path)) (bares_of (places v) q)
-  present_point copying e there = by (bares_of (places v) copying.source) refl
+  present_point : (copying : Copying) → action_of line ≡ Copy copying → is_some (object_states_of (places t) copying.source) ≡ true → object_states_of (places ((by_line now).after line v)) q ≡ filled (is_prefix q (path_in line.path)) (object_states_of (places v) q)
+  present_point copying e there = by (object_states_of (places v) copying.source) refl
     where
-      by : (b : Option Bare) → bares_of (places v) copying.source ≡ b → bares_of (places ((by_line now).after line v)) q ≡ filled (is_prefix q (path_in line.path)) (bares_of (places v) q)
+      by : (b : Option ObjectState) → object_states_of (places v) copying.source ≡ b → object_states_of (places ((by_line now).after line v)) q ≡ filled (is_prefix q (path_in line.path)) (object_states_of (places v) q)
       by None f = impossible (sym (ap is_some f) ∙ alike copying e ∙ there)
       by (Some b) f =
-          ap (λ (u : Files). bares_of (places u) q) (copy_opened copying e).1
-          ∙ at_outside now copying (subst (λ d. list_all is_adjustment (sets_of d) ≡ true) e (sets_adjust line (asks line) (asked line))) (path_in line.path) (copy_path line safe.is copying e).0 (copy_source line safe.is copying e) v shape b f
-          (copy_path line safe.is copying e).1 (copy_passes line copying e v (copy_opened copying e).0 (sym (bare_some (places v copying.source)) ∙ ap is_some f)) q plain (rest_under-None (path_in line.path) q (outside copying e there))
+          ap (λ (u : Files). object_states_of (places u) q) (copy_opened copying e).1
+          ∙ at_outside now copying (subst (λ d. list_all is_adjustment (sets_of d) ≡ true) e (sets_adjust line (action_of line) (asked line))) (path_in line.path) (copy_path line safe.is copying e).0 (copy_source line safe.is copying e) v shape b f
+          (copy_path line safe.is copying e).1 (copy_passes line copying e v (copy_opened copying e).0 (sym (object_state_some (places v copying.source)) ∙ ap is_some f)) q plain (rest_under-None (path_in line.path) q (outside copying e there))
 
-  pub swap_point : bares_of (places ((by_line now).after line v)) q ≡ run (operations (swapped t line) q) (bares_of (places v) q)
+  pub swap_point : object_states_of (places ((by_line now).after line v)) q ≡ run (operations (swapped t line) q) (object_states_of (places v) q)
   swap_point = by (swap t line)
     where
-      at : swapped t line ≡ line → copies_some t (asks line) ≡ false → (d : Deed) → asks line ≡ d → bares_of (places ((by_line now).after line v)) q ≡ run (operations (swapped t line) q) (bares_of (places v) q)
-      at is f (Copy copying) e = absent_point copying e (sym (ap (copies_some t) e) ∙ f) ∙ sym (ap (λ (l : Line). run (operations l q) (bares_of (places v) q)) is ∙ ap (λ xs. run xs (bares_of (places v) q)) (asked_copy line copying q e))
-      at is f (Create making) e = (line_point now line (line_is_plain line safe.is (ap copied e)) v shape quiet).point q plain ∙ sym (ap (λ (l : Line). run (operations l q) (bares_of (places v) q)) is)
-      at is f (Touch touching) e = (line_point now line (line_is_plain line safe.is (ap copied e)) v shape quiet).point q plain ∙ sym (ap (λ (l : Line). run (operations l q) (bares_of (places v) q)) is)
-      at is f Idle e = (line_point now line (line_is_plain line safe.is (ap copied e)) v shape quiet).point q plain ∙ sym (ap (λ (l : Line). run (operations l q) (bares_of (places v) q)) is)
+      at : swapped t line ≡ line → copies_some t (action_of line) ≡ false → (d : Action) → action_of line ≡ d → object_states_of (places ((by_line now).after line v)) q ≡ run (operations (swapped t line) q) (object_states_of (places v) q)
+      at is f (Copy copying) e = absent_point copying e (sym (ap (copies_some t) e) ∙ f) ∙ sym (ap (λ (l : Line). run (operations l q) (object_states_of (places v) q)) is ∙ ap (λ xs. run xs (object_states_of (places v) q)) (asked_copy line copying q e))
+      at is f (Create making) e = (line_point now line (line_is_plain line safe.is (ap copied e)) v shape quiet).point q plain ∙ sym (ap (λ (l : Line). run (operations l q) (object_states_of (places v) q)) is)
+      at is f (Adjust adjustment) e = (line_point now line (line_is_plain line safe.is (ap copied e)) v shape quiet).point q plain ∙ sym (ap (λ (l : Line). run (operations l q) (object_states_of (places v) q)) is)
+      at is f Idle e = (line_point now line (line_is_plain line safe.is (ap copied e)) v shape quiet).point q plain ∙ sym (ap (λ (l : Line). run (operations l q) (object_states_of (places v) q)) is)
 
-      by : IsSwap t line (swapped t line) → bares_of (places ((by_line now).after line v)) q ≡ run (operations (swapped t line) q) (bares_of (places v) q)
-      by (swaps.same is f) = at is f (asks line) refl
+      by : IsSwap t line (swapped t line) → object_states_of (places ((by_line now).after line v)) q ≡ run (operations (swapped t line) q) (object_states_of (places v) q)
+      by (swaps.same is f) = at is f (action_of line) refl
       by (swaps.directory copying e there is) =
-          present_point copying e there ∙ parent_done (is_prefix q (path_in line.path)) (bares_of (places v) q)
-          ∙ sym (ap (λ xs. run xs (bares_of (places v) q)) (asked_there copying e there is))
+          present_point copying e there ∙ parent_done (is_prefix q (path_in line.path)) (object_states_of (places v) q)
+          ∙ sym (ap (λ xs. run xs (object_states_of (places v) q)) (asked_there copying e there is))
 
   -- and on its way
-  pub swap_way : (u : Files) → OnWayOf line now v u → IsMidway (swapped t line) q (bares_of (places v) q) (bares_of (places u) q)
+  pub swap_way : (u : Files) → OnWayOf line now v u → IsMidway (swapped t line) q (object_states_of (places v) q) (object_states_of (places u) q)
   swap_way u (copy_before copying e before) = by (swap t line)
     where
-      there : is_some (bares_of (places t) copying.source) ≡ true
-      there = sym (alike copying e) ∙ bare_some (places v copying.source) ∙ before.0
+      there : is_some (object_states_of (places t) copying.source) ≡ true
+      there = sym (alike copying e) ∙ object_state_some (places v copying.source) ∙ before.0
 
-      at : swapped t line ≡ bare_directory line → IsCopyMidway (path_in line.path) copying (turn_of line copying now v) q (bares_of (places v) q) (bares_of (places u) q) → IsMidway (swapped t line) q (bares_of (places v) q) (bares_of (places u) q)
+      at : swapped t line ≡ object_state_directory line → IsCopyMidway (path_in line.path) copying (turn_of line copying now v) q (object_states_of (places v) q) (object_states_of (places u) q) → IsMidway (swapped t line) q (object_states_of (places v) q) (object_states_of (places u) q)
       at is (kept f) = IsMidway.piece 0 f
       at is (parent high differ none f) = IsMidway.piece 1 (
-          f ∙ ap (λ c. run (Make parent_bare ∷ []) c) (sym none)
-          ∙ sym (ap (λ xs. run (take 1 (parts xs)) (bares_of (places v) q)) (asked_there copying e there is ∙ ap (λ b. cond b (Make parent_bare ∷ []) []) high)))
+          f ∙ ap (λ c. run (Make parent_object_state ∷ []) c) (sym none)
+          ∙ sym (ap (λ xs. run (take 1 (parts xs)) (object_states_of (places v) q)) (asked_there copying e there is ∙ ap (λ b. cond b (Make parent_object_state ∷ []) []) high)))
       at is (some_set k same turn f) = absurd (true_not_false (is_prefix (path_in line.path) q) (ap (is_prefix (path_in line.path)) same ∙ is_prefix-refl (path_in line.path)) (outside copying e there))
       at is (gone subtree low turn f) = absurd (true_not_false (is_prefix (path_in line.path) q) low (outside copying e there))
 
-      by : IsSwap t line (swapped t line) → IsMidway (swapped t line) q (bares_of (places v) q) (bares_of (places u) q)
+      by : IsSwap t line (swapped t line) → IsMidway (swapped t line) q (object_states_of (places v) q) (object_states_of (places u) q)
       by (swaps.same is f) = impossible (sym (sym (ap (copies_some t) e) ∙ f) ∙ there)
       by (swaps.directory c f g is) = at is (before.1 q plain)
   swap_way u (copy_done copying e whole) = IsMidway.piece (whole_length (parts (operations (swapped t line) q))).0 (
-      sym (bares_of-same (places ((by_line now).after line v)) (places u) q (whole q plain))
-      ∙ swap_point ∙ sym (run-parts (operations (swapped t line) q) (bares_of (places v) q))
-      ∙ ap (λ xs. run xs (bares_of (places v) q)) (sym (whole_length (parts (operations (swapped t line) q))).1))
+      sym (object_states_of-same (places ((by_line now).after line v)) (places u) q (whole q plain))
+      ∙ swap_point ∙ sym (run-parts (operations (swapped t line) q) (object_states_of (places v) q))
+      ∙ ap (λ xs. run xs (object_states_of (places v) q)) (sym (whole_length (parts (operations (swapped t line) q))).1))
     where
       whole_length : (xs : List Operation) → (k : ℕ) × (take k xs ≡ xs)
       whole_length [] = (0, refl)
       whole_length (x ∷ xs) = let rest = whole_length xs in (suc rest.0, ap (λ ys. x ∷ ys) rest.1)
   swap_way u (other none way) = by (swap t line)
     where
-      by : IsSwap t line (swapped t line) → IsMidway (swapped t line) q (bares_of (places v) q) (bares_of (places u) q)
-      by (swaps.same is f) = subst (λ (l : Line). IsMidway l q (bares_of (places v) q) (bares_of (places u) q)) (sym is) (way q plain)
+      by : IsSwap t line (swapped t line) → IsMidway (swapped t line) q (object_states_of (places v) q) (object_states_of (places u) q)
+      by (swaps.same is f) = subst (λ (l : Line). IsMidway l q (object_states_of (places v) q) (object_states_of (places u) q)) (sym is) (way q plain)
       by (swaps.directory copying e there is) = absurd (let no : Some copying.source ≡ None = sym (ap copied e) ∙ none in cc)
 
   -- what another line copies is there as before
@@ -151,25 +151,25 @@ module _ (t : Files) (q : Path) (plain : has_staging q ≡ false) (now : ℕ) (l
 -- ---- lines one after the other
 
 module _ (t : Files) (q : Path) (plain : has_staging q ≡ false) (now : ℕ) where
-  pub swaps_point : (lines : List Line) → AllByRecursion IsSafe lines → AllByRecursion (IsOutside t q) lines → Pairwise IsFreeOf lines → (v : Files) → IsShaped (bares_of (places v)) → AllByRecursion (IsThereAlike t v) lines → one_is_refused (by_line now) lines v ≡ false
-      → bares_of (places (after_each (by_line now) lines v)) q ≡ run (operations_of (map (swapped t) lines) q) (bares_of (places v) q)
+  pub swaps_point : (lines : List Line) → AllByRecursion IsSafe lines → AllByRecursion (IsOutside t q) lines → Pairwise IsFreeOf lines → (v : Files) → IsShaped (object_states_of (places v)) → AllByRecursion (IsThereAlike t v) lines → one_is_refused (by_line now) lines v ≡ false
+      → object_states_of (places (after_each (by_line now) lines v)) q ≡ run (operations_of (map (swapped t) lines) q) (object_states_of (places v) q)
   swaps_point [] safe outside free v shape alike quiet = refl
   swaps_point (line ∷ lines) safe outside free v shape alike quiet =
       let two = or_parts ((by_line now).is_refused line v) (one_is_refused (by_line now) lines ((by_line now).after line v)) quiet in
       swaps_point lines safe.1 outside.1 free.1 ((by_line now).after line v) (line_pointed now line safe.0 v shape two.0).shape
       (all_alike t q plain now line safe.0 outside.0 v shape alike.0 two.0 lines safe.1 free.0 alike.1) two.1
-      ∙ ap (run (operations_of (map (swapped t) lines) q)) (swap_point t q plain now line safe.0 outside.0 v shape alike.0 two.0 ∙ sym (run-parts (operations (swapped t line) q) (bares_of (places v) q)))
-      ∙ sym (run-append (parts (operations (swapped t line) q)) (operations_of (map (swapped t) lines) q) (bares_of (places v) q))
+      ∙ ap (run (operations_of (map (swapped t) lines) q)) (swap_point t q plain now line safe.0 outside.0 v shape alike.0 two.0 ∙ sym (run-parts (operations (swapped t line) q) (object_states_of (places v) q)))
+      ∙ sym (run-append (parts (operations (swapped t line) q)) (operations_of (map (swapped t) lines) q) (object_states_of (places v) q))
 
-  pub swaps_way : (lines : List Line) → AllByRecursion IsSafe lines → AllByRecursion (IsOutside t q) lines → Pairwise IsFreeOf lines → (v u : Files) → IsShaped (bares_of (places v)) → AllByRecursion (IsThereAlike t v) lines → one_is_refused (by_line now) lines v ≡ false
-      → PartwayOf lines now v u → IsPiece (map (swapped t) lines) q (bares_of (places v) q) (bares_of (places u) q)
-  swaps_way [] safe outside free v u shape alike quiet same = IsPiece.piece 0 (sym (bares_of-same (places v) (places u) q (same q plain)))
+  pub swaps_way : (lines : List Line) → AllByRecursion IsSafe lines → AllByRecursion (IsOutside t q) lines → Pairwise IsFreeOf lines → (v u : Files) → IsShaped (object_states_of (places v)) → AllByRecursion (IsThereAlike t v) lines → one_is_refused (by_line now) lines v ≡ false
+      → PartwayOf lines now v u → IsPiece (map (swapped t) lines) q (object_states_of (places v) q) (object_states_of (places u) q)
+  swaps_way [] safe outside free v u shape alike quiet same = IsPiece.piece 0 (sym (object_states_of-same (places v) (places u) q (same q plain)))
   swaps_way (line ∷ lines) safe outside free v u shape alike quiet (inl way) =
       let two = or_parts ((by_line now).is_refused line v) (one_is_refused (by_line now) lines ((by_line now).after line v)) quiet in
-      midway_piece (swapped t line) (map (swapped t) lines) q (bares_of (places v) q) (bares_of (places u) q) (swap_way t q plain now line safe.0 outside.0 v shape alike.0 two.0 u way)
+      midway_piece (swapped t line) (map (swapped t) lines) q (object_states_of (places v) q) (object_states_of (places u) q) (swap_way t q plain now line safe.0 outside.0 v shape alike.0 two.0 u way)
   swaps_way (line ∷ lines) safe outside free v u shape alike quiet (inr later) =
       let two = or_parts ((by_line now).is_refused line v) (one_is_refused (by_line now) lines ((by_line now).after line v)) quiet in
-      later_piece (swapped t line) (map (swapped t) lines) q (bares_of (places v) q) (bares_of (places u) q) (
-      subst (λ b. IsPiece (map (swapped t) lines) q b (bares_of (places u) q)) (swap_point t q plain now line safe.0 outside.0 v shape alike.0 two.0 ∙ sym (run-parts (operations (swapped t line) q) (bares_of (places v) q)))
+      later_piece (swapped t line) (map (swapped t) lines) q (object_states_of (places v) q) (object_states_of (places u) q) (
+      subst (λ b. IsPiece (map (swapped t) lines) q b (object_states_of (places u) q)) (swap_point t q plain now line safe.0 outside.0 v shape alike.0 two.0 ∙ sym (run-parts (operations (swapped t line) q) (object_states_of (places v) q)))
       (swaps_way lines safe.1 outside.1 free.1 ((by_line now).after line v) u (line_pointed now line safe.0 v shape two.0).shape
       (all_alike t q plain now line safe.0 outside.0 v shape alike.0 two.0 lines safe.1 free.0 alike.1) two.1 later))

@@ -12,25 +12,25 @@ use Rattle.pv_path.specs.Paths.{Path, path_cmp, path_total, same_path, is_prefix
 use Rattle.pv_path.proofs.PathLaws.{path_cmp-exact, rest_under-self, rest_under-Some, is_some-rest_under, same_path-no}
 use Rattle.pv_steps.specs.Trees.{Files}
 use Rattle.pv_steps.proofs.StepLaws.{is_among, among_right, among_left, later_among}
-use Rattle.pv_dress.specs.declared.bare.Bare.{Bare}
-use Rattle.pv_dress.specs.declared.operation.Operation.{Operation}
-use Rattle.pv_dress.specs.declared.operation.Operation.TheVariants.{Make, Erase}
-use Rattle.pv_dress.specs.Operations.{done, run}
-use Rattle.pv_dress.proofs.EditLaws.{path_cases}
+use Rattle.pv_metadata.specs.declared.object_state.ObjectState.{ObjectState}
+use Rattle.pv_metadata.specs.declared.operation.Operation.{Operation}
+use Rattle.pv_metadata.specs.declared.operation.Operation.TheVariants.{Make, Erase}
+use Rattle.pv_metadata.specs.Operations.{done, run}
+use Rattle.pv_metadata.proofs.EditLaws.{path_cases}
 use Rattle.pv_lines.specs.declared.line.Line.{Line}
 use Rattle.pv_walk.specs.Preparing.{parents_of}
-use Rattle.pv_table.specs.declared.deed.Deed.{Deed}
-use Rattle.pv_table.specs.declared.deed.Deed.TheVariants.{Create, Copy, Touch, Idle}
-use Rattle.pv_table.specs.declared.deed.Making.{Making}
-use Rattle.pv_table.specs.declared.deed.Touching.{Touching}
+use Rattle.pv_table.specs.declared.action.Action.{Action}
+use Rattle.pv_table.specs.declared.action.Action.TheVariants.{Create, Copy, Adjust, Idle}
+use Rattle.pv_table.specs.declared.action.Making.{Making}
+use Rattle.pv_table.specs.declared.action.Adjustment.{Adjustment}
 use Rattle.pv_table.specs.Asked.{clears_below, made_at, operations}
-use Rattle.pv_table.specs.Asking.{asks}
+use Rattle.pv_table.specs.ActionTable.{action_of}
 use Rattle.pv_table.specs.Created.{one_is_refused, by_line}
-use Rattle.pv_table.specs.Pointwise.{Bares, tabulated, parent_bare, after_turn, at_made, touches, point, point_paths}
+use Rattle.pv_table.specs.Pointwise.{ObjectStates, tabulated, parent_object_state, after_turn, at_made, adjusts_path, point, point_paths}
 use Rattle.pv_table.specs.Reaching.{path_in}
 use Rattle.pv_table.specs.Repeatable.{sets_of}
 use Rattle.pv_table.specs.Turns.{copied, making_turn}
-use Rattle.pv_laws.proofs.Lines.{IsPlain, asked_made, asked_touch, asked_idle}
+use Rattle.pv_laws.proofs.Lines.{IsPlain, asked_made, asked_adjustment, asked_idle}
 use Rattle.pv_laws.proofs.Making.{is_dir, IsShaped, dir_there, asked_here, asked_above, asked_else, object_after, below_after}
 use Rattle.pv_walk.proofs.PreparedLaws.{has_some, in_parents, among_first, stands_among}
 use Rattle.pv_laws.proofs.Repeated.{IsAskedAt, object, parent, below, set, nothing, asked_at}
@@ -40,45 +40,45 @@ use Rattle.pv_path.proofs.Tests.{equal_of, true_not_false, hidden, shown}
 -- ---- maps from functions
 
 -- what a function has at some paths
-abbrev bares_at : List Path → (Path → Option Bare) → List (Path × Bare)
-bares_at paths f = filter_map (λ path. option_map (λ b. (path, b)) (f path)) paths
+abbrev object_states_at : List Path → (Path → Option ObjectState) → List (Path × ObjectState)
+object_states_at paths f = filter_map (λ path. option_map (λ b. (path, b)) (f path)) paths
 
-find-bares_at : (paths : List Path) (f : Path → Option Bare) (q : Path) → entries.find path_cmp q (bares_at paths f) ≡ cond (is_among q paths) (f q) None
-find-bares_at [] f q = refl
-find-bares_at (path ∷ paths) f q = by (f path) refl (find-bares_at paths f q)
+find-object_states_at : (paths : List Path) (f : Path → Option ObjectState) (q : Path) → entries.find path_cmp q (object_states_at paths f) ≡ cond (is_among q paths) (f q) None
+find-object_states_at [] f q = refl
+find-object_states_at (path ∷ paths) f q = by (f path) refl (find-object_states_at paths f q)
   where
     same : eq_by_cmp path_cmp q path ≡ true → f q ≡ f path
     same h = ap f (path_cmp-exact q path (equal_of (path_cmp q path) h))
 
-    by : (o : Option Bare) → f path ≡ o → entries.find path_cmp q (bares_at paths f) ≡ cond (is_among q paths) (f q) None
-        → entries.find path_cmp q (cons_option (option_map (λ (b : Bare). (path, b)) o) (bares_at paths f)) ≡ cond (is_among q (path ∷ paths)) (f q) None
+    by : (o : Option ObjectState) → f path ≡ o → entries.find path_cmp q (object_states_at paths f) ≡ cond (is_among q paths) (f q) None
+        → entries.find path_cmp q (cons_option (option_map (λ (b : ObjectState). (path, b)) o) (object_states_at paths f)) ≡ cond (is_among q (path ∷ paths)) (f q) None
     by None e rest = rest ∙ hidden (eq_by_cmp path_cmp q path) (is_among q paths) (f q) (λ h. same h ∙ e)
     by (Some x) e rest = ap (cond (eq_by_cmp path_cmp q path) (Some x)) rest ∙ shown (eq_by_cmp path_cmp q path) (is_among q paths) x (f q) (λ h. same h ∙ e)
 
-covered : (b : Bool) (o : Option Bare) → (is_some o ≡ true → b ≡ true) → cond b o None ≡ o
+covered : (b : Bool) (o : Option ObjectState) → (is_some o ≡ true → b ≡ true) → cond b o None ≡ o
 covered true o h = refl
 covered false None h = refl
 covered false (Some x) h = impossible (h refl)
 
-pub get-tabulated : (paths : List Path) (f : Path → Option Bare) (q : Path) → (is_some (f q) ≡ true → is_among q paths ≡ true) → fin.get (tabulated paths f) q ≡ f q
-get-tabulated paths f q holds = fin.get-from_entries path_total (bares_at paths f) q ∙ find-bares_at paths f q ∙ covered (is_among q paths) (f q) holds
+pub get-tabulated : (paths : List Path) (f : Path → Option ObjectState) (q : Path) → (is_some (f q) ≡ true → is_among q paths ≡ true) → fin.get (tabulated paths f) q ≡ f q
+get-tabulated paths f q holds = fin.get-from_entries path_total (object_states_at paths f) q ∙ find-object_states_at paths f q ∙ covered (is_among q paths) (f q) holds
 
 -- ---- one line
 
-point_made : (line : Line) (making : Making) (s : Bares) (q : Path) → asks line ≡ Create making → point line s q ≡ at_made (Create making) (path_in line.path) s q
+point_made : (line : Line) (making : Making) (s : ObjectStates) (q : Path) → action_of line ≡ Create making → point line s q ≡ at_made (Create making) (path_in line.path) s q
 point_made line making s q e = rw e
 
-point_touch : (line : Line) (touching : Touching) (s : Bares) (q : Path) → asks line ≡ Touch touching → point line s q ≡ cond (touches line touching q) (run touching.sets (fin.get s q)) (fin.get s q)
-point_touch line touching s q e = rw e
+point_adjust : (line : Line) (adjustment : Adjustment) (s : ObjectStates) (q : Path) → action_of line ≡ Adjust adjustment → point line s q ≡ cond (adjusts_path line adjustment q) (run adjustment.sets (fin.get s q)) (fin.get s q)
+point_adjust line adjustment s q e = rw e
 
-point_idle : (line : Line) (s : Bares) (q : Path) → asks line ≡ Idle → point line s q ≡ fin.get s q
+point_idle : (line : Line) (s : ObjectStates) (q : Path) → action_of line ≡ Idle → point line s q ≡ fin.get s q
 point_idle line s q e = rw e
 
-paths_made : (line : Line) (making : Making) (s : Bares) → asks line ≡ Create making → point_paths line s ≡ path_in line.path ∷ parents_of (path_in line.path)
+paths_made : (line : Line) (making : Making) (s : ObjectStates) → action_of line ≡ Create making → point_paths line s ≡ path_in line.path ∷ parents_of (path_in line.path)
 paths_made line making s e = rw e
 
-module _ (line : Line) (is : IsPlain line) (s : Bares) (shape : IsShaped (fin.get s)) (q : Path) (plain : has_staging q ≡ false) where
-  module _ (making : Making) (e : asks line ≡ Create making) where
+module _ (line : Line) (is : IsPlain line) (s : ObjectStates) (shape : IsShaped (fin.get s)) (q : Path) (plain : has_staging q ≡ false) where
+  module _ (making : Making) (e : action_of line ≡ Create making) where
     abbrev path : Path
     path = path_in line.path
 
@@ -86,8 +86,8 @@ module _ (line : Line) (is : IsPlain line) (s : Bares) (shape : IsShaped (fin.ge
     is_making = line_is_making line making e
 
     -- what the definition gives at one path, by where the path lies
-    abbrev given : Bool → Option Path → Option Bare
-    given above rest = cond above (Some (unwrap_or (fin.get s q) parent_bare)) (option_map_or (λ r. after_turn (making_turn making (fin.get s path)) r (fin.get s q)) rest (fin.get s q))
+    abbrev given : Bool → Option Path → Option ObjectState
+    given above rest = cond above (Some (unwrap_or (fin.get s q) parent_object_state)) (option_map_or (λ r. after_turn (making_turn making (fin.get s path)) r (fin.get s q)) rest (fin.get s q))
 
     made_here : path ≡ q → given (is_prefix q path && not (same_path q path)) (rest_under path q) ≡ run (made_at making path q) (fin.get s q)
     made_here same =
@@ -109,7 +109,7 @@ module _ (line : Line) (is : IsPlain line) (s : Bares) (shape : IsShaped (fin.ge
         ∙ filled (fin.get s q)
         ∙ sym (ap (λ xs. run xs (fin.get s q)) (asked_above making path q d high))
       where
-        filled : (b : Option Bare) → Some (unwrap_or b parent_bare) ≡ done (Make parent_bare) b
+        filled : (b : Option ObjectState) → Some (unwrap_or b parent_object_state) ≡ done (Make parent_object_state) b
         filled None = refl
         filled (Some x) = refl
 
@@ -127,7 +127,7 @@ module _ (line : Line) (is : IsPlain line) (s : Bares) (shape : IsShaped (fin.ge
         absent : is_prefix path q ≡ true → is_dir (fin.get s path) ≡ false → fin.get s q ≡ None
         absent under no_dir = at (fin.get s q) refl
           where
-            at : (b : Option Bare) → fin.get s q ≡ b → b ≡ None
+            at : (b : Option ObjectState) → fin.get s q ≡ b → b ≡ None
             at None f = refl
             at (Some x) f = absurd (true_not_false (is_dir (fin.get s path)) (shape.above path q plain under (λ same. true_not_false (same_path path q) ((same_path-decides path q).1 same) d) (ap is_some f)) no_dir)
 
@@ -150,16 +150,16 @@ module _ (line : Line) (is : IsPlain line) (s : Bares) (shape : IsShaped (fin.ge
 
   -- what the definition gives at a path is what the operations asked there make of what stood there
   pub point_asked : point line s q ≡ run (operations line q) (fin.get s q)
-  point_asked = by (asks line) refl
+  point_asked = by (action_of line) refl
     where
       either : (b : Bool) (xs : List Operation) → cond b (run xs (fin.get s q)) (fin.get s q) ≡ run (cond b xs []) (fin.get s q)
       either true xs = refl
       either false xs = refl
 
-      by : (d : Deed) → asks line ≡ d → point line s q ≡ run (operations line q) (fin.get s q)
+      by : (d : Action) → action_of line ≡ d → point line s q ≡ run (operations line q) (fin.get s q)
       by (Create making) e = point_made line making s q e ∙ made_given making e ∙ ap (λ xs. run xs (fin.get s q)) (sym (asked_made line making q e))
       by (Copy copying) e = absurd (let no : Some copying.source ≡ None = sym (ap copied e) ∙ is.no_copy in cc)
-      by (Touch touching) e = point_touch line touching s q e ∙ either (touches line touching q) touching.sets ∙ ap (λ xs. run xs (fin.get s q)) (sym (asked_touch line touching q e))
+      by (Adjust adjustment) e = point_adjust line adjustment s q e ∙ either (adjusts_path line adjustment q) adjustment.sets ∙ ap (λ xs. run xs (fin.get s q)) (sym (asked_adjustment line adjustment q e))
       by Idle e = point_idle line s q e ∙ ap (λ xs. run xs (fin.get s q)) (sym (asked_idle line q e))
 
   -- and it lies among the paths that are looked at
@@ -169,7 +169,7 @@ module _ (line : Line) (is : IsPlain line) (s : Bares) (shape : IsShaped (fin.ge
       keyed : is_some (fin.get s q) ≡ true → is_among q (point_paths line s ++ fin.keys s) ≡ true
       keyed there = among_right q (point_paths line s) (fin.keys s) (sym (fin.contains_key-keys s q) ∙ there)
 
-      among_made : (making : Making) → asks line ≡ Create making → is_among q (path_in line.path ∷ (parents_of (path_in line.path) ++ fin.keys s)) ≡ true → is_among q (point_paths line s ++ fin.keys s) ≡ true
+      among_made : (making : Making) → action_of line ≡ Create making → is_among q (path_in line.path ∷ (parents_of (path_in line.path) ++ fin.keys s)) ≡ true → is_among q (point_paths line s ++ fin.keys s) ≡ true
       among_made making e g = ap (λ ps. is_among q (ps ++ fin.keys s)) (paths_made line making s e) ∙ g
 
       root : q ≢ [] → has_some q ≡ true
@@ -189,11 +189,11 @@ module _ (line : Line) (is : IsPlain line) (s : Bares) (shape : IsShaped (fin.ge
             ∙ root (λ at_root. true_not_false (is_some (fin.get s q)) (ap (λ (p : Path). is_some (fin.get s p)) at_root ∙ dir_there (fin.get s []) shape.root) (ap is_some none))))))
       ]
       new none (below making e g d f) = impossible (sym (ap (λ xs. is_some (run xs (fin.get s q))) f) ∙ h)
-      new none (set touching e t f) = impossible (
-          sym (ap (λ xs. is_some (run xs (fin.get s q))) f ∙ ap (λ b. is_some (run touching.sets b)) none ∙ ap is_some (adjusted_none touching.sets (subst (λ d. list_all is_adjustment (sets_of d) ≡ true) e (sets_adjust line (asks line) (asked line))))) ∙ h)
+      new none (set adjustment e t f) = impossible (
+          sym (ap (λ xs. is_some (run xs (fin.get s q))) f ∙ ap (λ b. is_some (run adjustment.sets b)) none ∙ ap is_some (adjusted_none adjustment.sets (subst (λ d. list_all is_adjustment (sets_of d) ≡ true) e (sets_adjust line (action_of line) (asked line))))) ∙ h)
       new none (nothing f) = impossible (sym (ap (λ xs. is_some (run xs (fin.get s q))) f ∙ ap is_some none) ∙ h)
 
-      by : (b : Option Bare) → fin.get s q ≡ b → is_among q (point_paths line s ++ fin.keys s) ≡ true
+      by : (b : Option ObjectState) → fin.get s q ≡ b → is_among q (point_paths line s ++ fin.keys s) ≡ true
       by None e = new e (asked_at line q)
       by (Some x) e = keyed (ap is_some e)
 

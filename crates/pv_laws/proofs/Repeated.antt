@@ -7,33 +7,33 @@ use Rattle.std.proofs.lemmas.List.Folds.{list_any-append, list_all-append}
 use Rattle.std.proofs.lemmas.Bool.{or_parts, or_left, false_from_ne_true, and_parts}
 use Rattle.pv_path.specs.Paths.{has_names, Path, same_path, is_prefix, has_staging, same_path-decides}
 use Rattle.pv_path.proofs.PathLaws.{is_prefix-refl}
-use Rattle.pv_dress.specs.declared.operation.Change.{Change}
-use Rattle.pv_dress.specs.declared.operation.Operation.{Operation}
-use Rattle.pv_dress.specs.declared.operation.Operation.TheVariants.{Make, Renew, Erase, Adjust}
-use Rattle.pv_dress.specs.declared.operation.Test.{Test}
-use Rattle.pv_dress.specs.Dividing.{parts_of, parts}
-use Rattle.pv_dress.specs.Reasons as reasons
-use Rattle.pv_dress.specs.Reasons.{is_adjusting, is_append, is_masked, gives_base, is_make, is_renewal, is_erasure, is_idle, has_append, has_mixed_mask, makes_late, has_late_make}
-use Rattle.pv_dress.proofs.Dividing.{repeatable-parts}
-use Rattle.pv_dress.proofs.EditLaws.{path_cases}
+use Rattle.pv_metadata.specs.declared.operation.Change.{Change}
+use Rattle.pv_metadata.specs.declared.operation.Operation.{Operation}
+use Rattle.pv_metadata.specs.declared.operation.Operation.TheVariants.{Make, Renew, Erase, Apply}
+use Rattle.pv_metadata.specs.declared.operation.Test.{Test}
+use Rattle.pv_metadata.specs.Dividing.{parts_of, parts}
+use Rattle.pv_metadata.specs.Reasons as reasons
+use Rattle.pv_metadata.specs.Reasons.{is_adjusting, is_append, is_masked, gives_base, is_make, is_renewal, is_erasure, is_idle, has_append, has_mixed_mask, makes_late, has_late_make}
+use Rattle.pv_metadata.proofs.Dividing.{repeatable-parts}
+use Rattle.pv_metadata.proofs.EditLaws.{path_cases}
 use Rattle.pv_lines.specs.declared.line.Line.{Line}
 use Rattle.pv_lines.specs.declared.line.LinePath.{LinePath}
 use Rattle.pv_lines.specs.declared.line.LinePath.TheVariants.{Literal, Glob}
 use Rattle.pv_lines.specs.Lines.{IsLine, IsLinePath}
 use Rattle.pv_walk.proofs.RemovalLaws.{zero_or_more}
-use Rattle.pv_table.specs.declared.deed.Copying.{Copying}
-use Rattle.pv_table.specs.declared.deed.Deed.{Deed}
-use Rattle.pv_table.specs.declared.deed.Deed.TheVariants.{Create, Copy, Touch, Idle}
-use Rattle.pv_table.specs.declared.deed.Making.{Making}
-use Rattle.pv_table.specs.declared.deed.Touching.{Touching}
+use Rattle.pv_table.specs.declared.action.Copying.{Copying}
+use Rattle.pv_table.specs.declared.action.Action.{Action}
+use Rattle.pv_table.specs.declared.action.Action.TheVariants.{Create, Copy, Adjust, Idle}
+use Rattle.pv_table.specs.declared.action.Making.{Making}
+use Rattle.pv_table.specs.declared.action.Adjustment.{Adjustment}
 use Rattle.pv_table.specs.declared.reason.Reason.TheVariants as reason
-use Rattle.pv_table.specs.Active.{are_distinct, Listed, placed, is_touching, ordered, in_create_order}
+use Rattle.pv_table.specs.Active.{are_distinct, Listed, placed, is_adjusting_line, ordered, in_create_order}
 use Rattle.pv_table.specs.Asked.{first_of, clears_below, operations, operations_of}
-use Rattle.pv_table.specs.Asking.{asks}
-use Rattle.pv_table.specs.Pointwise.{parent_bare, touches}
+use Rattle.pv_table.specs.ActionTable.{action_of}
+use Rattle.pv_table.specs.Pointwise.{parent_object_state, adjusts_path}
 use Rattle.pv_table.specs.Reaching.{names, names_above, path_in, is_creating, is_deep, reaches_below, reaches}
 use Rattle.pv_table.specs.Repeatable.{IsAt, sets_of, sets_base, has_masked_mode, HasReason, IsRepeatable}
-use Rattle.pv_laws.proofs.Lines.{made_creates, creating_adjusts_none, creating_row, asked_made, asked_touch, asked_idle}
+use Rattle.pv_laws.proofs.Lines.{made_creates, creating_adjusts_none, creating_row, asked_made, asked_adjustment, asked_idle}
 use Rattle.pv_laws.proofs.Making.{first_make, first_renew, asked_here, asked_above, asked_else}
 use Rattle.pv_laws.proofs.Orders.{Pairwise, path_of, ComesAfter, makers_ordered}
 use Rattle.pv_table.proofs.ListedLaws.{all_tests, all_map, all_makers, all_ordered, makers_create, all_listed, all_at}
@@ -42,21 +42,21 @@ use Rattle.pv_path.proofs.Tests.{true_not_false}
 
 -- ---- the operations of one line
 
-pub asked_copy : (line : Line) (copying : Copying) (q : Path) → asks line ≡ Copy copying → operations line q ≡ []
+pub asked_copy : (line : Line) (copying : Copying) (q : Path) → action_of line ≡ Copy copying → operations line q ≡ []
 asked_copy line copying q e = rw e
 
 -- what a line asks for at a path: what it makes there, or what it sets, or nothing
 pub data IsAskedAt (line : Line) (q : Path) : Type 0 where
-  object : (making : Making) → asks line ≡ Create making → path_in line.path ≡ q → operations line q ≡ first_of making ∷ making.sets → IsAskedAt line q
-  parent : (making : Making) → asks line ≡ Create making → is_prefix q (path_in line.path) ≡ true → operations line q ≡ Make parent_bare ∷ [] → IsAskedAt line q
-  below : (making : Making) → asks line ≡ Create making → (is_prefix (path_in line.path) q && clears_below making) ≡ true → same_path (path_in line.path) q ≡ false → operations line q ≡ Erase ∷ [] → IsAskedAt line q
-  set : (touching : Touching) → asks line ≡ Touch touching → touches line touching q ≡ true → operations line q ≡ touching.sets → IsAskedAt line q
+  object : (making : Making) → action_of line ≡ Create making → path_in line.path ≡ q → operations line q ≡ first_of making ∷ making.sets → IsAskedAt line q
+  parent : (making : Making) → action_of line ≡ Create making → is_prefix q (path_in line.path) ≡ true → operations line q ≡ Make parent_object_state ∷ [] → IsAskedAt line q
+  below : (making : Making) → action_of line ≡ Create making → (is_prefix (path_in line.path) q && clears_below making) ≡ true → same_path (path_in line.path) q ≡ false → operations line q ≡ Erase ∷ [] → IsAskedAt line q
+  set : (adjustment : Adjustment) → action_of line ≡ Adjust adjustment → adjusts_path line adjustment q ≡ true → operations line q ≡ adjustment.sets → IsAskedAt line q
   nothing : operations line q ≡ [] → IsAskedAt line q
 
 pub asked_at : (line : Line) (q : Path) → IsAskedAt line q
-asked_at line q = by (asks line) refl
+asked_at line q = by (action_of line) refl
   where
-    made : (making : Making) → asks line ≡ Create making → IsAskedAt line q
+    made : (making : Making) → action_of line ≡ Create making → IsAskedAt line q
     made making e = elim (path_cases (path_in line.path) q) [
       | inl s ↦ object making e s (asked_made line making q e ∙ asked_here making (path_in line.path) q ((same_path-decides (path_in line.path) q).1 s))
       | inr d ↦ at d (is_prefix q (path_in line.path)) refl
@@ -70,14 +70,14 @@ asked_at line q = by (asks line) refl
         at d true f = parent making e f (asked_made line making q e ∙ asked_above making (path_in line.path) q d f)
         at d false f = cleared (is_prefix (path_in line.path) q && clears_below making) refl d (asked_made line making q e ∙ asked_else making (path_in line.path) q d f)
 
-    touched : (touching : Touching) → asks line ≡ Touch touching → (b : Bool) → touches line touching q ≡ b → IsAskedAt line q
-    touched touching e true t = set touching e t (asked_touch line touching q e ∙ ap (λ b. cond b touching.sets []) t)
-    touched touching e false t = nothing (asked_touch line touching q e ∙ ap (λ b. cond b touching.sets []) t)
+    touched : (adjustment : Adjustment) → action_of line ≡ Adjust adjustment → (b : Bool) → adjusts_path line adjustment q ≡ b → IsAskedAt line q
+    touched adjustment e true t = set adjustment e t (asked_adjustment line adjustment q e ∙ ap (λ b. cond b adjustment.sets []) t)
+    touched adjustment e false t = nothing (asked_adjustment line adjustment q e ∙ ap (λ b. cond b adjustment.sets []) t)
 
-    by : (d : Deed) → asks line ≡ d → IsAskedAt line q
+    by : (d : Action) → action_of line ≡ d → IsAskedAt line q
     by (Create making) e = made making e
     by (Copy copying) e = nothing (asked_copy line copying q e)
-    by (Touch touching) e = touched touching e (touches line touching q) refl
+    by (Adjust adjustment) e = touched adjustment e (adjusts_path line adjustment q) refl
     by Idle e = nothing (asked_idle line q e)
 
 -- the first operation at the path of a line makes
@@ -89,17 +89,17 @@ first_makes making is = by making.renew refl
     by (Some t) e = (ap is_make (first_renew making is t e), λ test. ap (is_adjusting test) (first_renew making is t e))
 
 -- what a line changes somewhere, it sets
-pub asked_sets : (test : Change → Bool) (line : Line) (q : Path) → list_any (is_adjusting test) (operations line q) ≡ true → list_any (is_adjusting test) (sets_of (asks line)) ≡ true
+pub asked_sets : (test : Change → Bool) (line : Line) (q : Path) → list_any (is_adjusting test) (operations line q) ≡ true → list_any (is_adjusting test) (sets_of (action_of line)) ≡ true
 asked_sets test line q h = by (asked_at line q)
   where
-    by : IsAskedAt line q → list_any (is_adjusting test) (sets_of (asks line)) ≡ true
+    by : IsAskedAt line q → list_any (is_adjusting test) (sets_of (action_of line)) ≡ true
     by (object making e s f) =
-        ap (λ (d : Deed). list_any (is_adjusting test) (sets_of d)) e
+        ap (λ (d : Action). list_any (is_adjusting test) (sets_of d)) e
         ∙ sym (ap (λ b. b || list_any (is_adjusting test) making.sets) ((first_makes making (line_is_making line making e)).1 test))
         ∙ sym (ap (list_any (is_adjusting test)) f) ∙ h
     by (parent making e s f) = impossible (sym (ap (list_any (is_adjusting test)) f) ∙ h)
     by (below making e g d f) = impossible (sym (ap (list_any (is_adjusting test)) f) ∙ h)
-    by (set touching e t f) = ap (λ (d : Deed). list_any (is_adjusting test) (sets_of d)) e ∙ sym (ap (list_any (is_adjusting test)) f) ∙ h
+    by (set adjustment e t f) = ap (λ (d : Action). list_any (is_adjusting test) (sets_of d)) e ∙ sym (ap (list_any (is_adjusting test)) f) ∙ h
     by (nothing f) = impossible (sym (ap (list_any (is_adjusting test)) f) ∙ h)
 
 -- and it reaches it
@@ -113,9 +113,9 @@ asked_reaches test line is q h = by (asked_at line q)
     named : names line q ≡ true → reaches line q ≡ true
     named e = or_left (names line q) (reaches_below line && names_above line q) e
 
-    touched : (touching : Touching) → asks line ≡ Touch touching → (a d n s : Bool) → names line q ≡ a → touching.deep ≡ d → names_above line q ≡ n → (a || (d && n && s)) ≡ true → reaches line q ≡ true
-    touched touching e true d n s f g k t = named f
-    touched touching e false true true s f g k t =
+    touched : (adjustment : Adjustment) → action_of line ≡ Adjust adjustment → (a d n s : Bool) → names line q ≡ a → adjustment.deep ≡ d → names_above line q ≡ n → (a || (d && n && s)) ≡ true → reaches line q ≡ true
+    touched adjustment e true d n s f g k t = named f
+    touched adjustment e false true true s f g k t =
         ap (λ b. names line q || (b && names_above line q)) (deep_below) ∙ ap (λ b. names line q || b) k ∙ elim (names line q) as (λ b. (b || true) ≡ true) [ true ↦ refl | false ↦ refl ]
       where
         or_four : (a b c x y : Bool) → a ≡ true → (a || b || c || x || y) ≡ true
@@ -123,15 +123,15 @@ asked_reaches test line is q h = by (asked_at line q)
         or_four false b c x y i = impossible i
 
         deep_below : reaches_below line ≡ true
-        deep_below = or_four (is_deep (asks line)) _ _ _ _ (ap is_deep e ∙ g)
-    touched touching e false false n s f g k t = impossible t
-    touched touching e false true false s f g k t = impossible t
+        deep_below = or_four (is_deep (action_of line)) _ _ _ _ (ap is_deep e ∙ g)
+    touched adjustment e false false n s f g k t = impossible t
+    touched adjustment e false true false s f g k t = impossible t
 
     by : IsAskedAt line q → reaches line q ≡ true
     by (object making e s f) = named (own line.path is.fits.path (made_creates line is making e) s)
     by (parent making e s f) = impossible (sym (ap (list_any (is_adjusting test)) f) ∙ h)
     by (below making e g d f) = impossible (sym (ap (list_any (is_adjusting test)) f) ∙ h)
-    by (set touching e t f) = touched touching e (names line q) touching.deep (names_above line q) (not (has_staging q)) refl refl refl t
+    by (set adjustment e t f) = touched adjustment e (names line q) adjustment.deep (names_above line q) (not (has_staging q)) refl refl refl t
     by (nothing f) = impossible (sym (ap (list_any (is_adjusting test)) f) ∙ h)
 
 -- ---- the operations of all lines
@@ -165,30 +165,30 @@ module _ (q : Path) where
 
   -- ---- makes come first
 
-  pub touch_adjusts : (line : Line) (touching : Touching) → asks line ≡ Touch touching → is_touching line ≡ true
-  touch_adjusts line touching e = rw e
+  pub adjust_adjusts : (line : Line) (adjustment : Adjustment) → action_of line ≡ Adjust adjustment → is_adjusting_line line ≡ true
+  adjust_adjusts line adjustment e = rw e
 
-  pub create_adjusts_not : (line : Line) (making : Making) → asks line ≡ Create making → is_touching line ≡ false
+  pub create_adjusts_not : (line : Line) (making : Making) → action_of line ≡ Create making → is_adjusting_line line ≡ false
   create_adjusts_not line making e = rw e
 
-  pub copy_adjusts_not : (line : Line) (copying : Copying) → asks line ≡ Copy copying → is_touching line ≡ false
+  pub copy_adjusts_not : (line : Line) (copying : Copying) → action_of line ≡ Copy copying → is_adjusting_line line ≡ false
   copy_adjusts_not line copying e = rw e
 
-  idle_adjusts_not : (line : Line) → asks line ≡ Idle → is_touching line ≡ false
+  idle_adjusts_not : (line : Line) → action_of line ≡ Idle → is_adjusting_line line ≡ false
   idle_adjusts_not line e = rw e
 
   -- lines that make an object elsewhere renew nothing here
-  renews_none : (line : Line) → path_in line.path ≢ q → is_touching line ≡ false → list_any is_renewal (operations line q) ≡ false
+  renews_none : (line : Line) → path_in line.path ≢ q → is_adjusting_line line ≡ false → list_any is_renewal (operations line q) ≡ false
   renews_none line other adjusts = by (asked_at line q)
     where
       by : IsAskedAt line q → list_any is_renewal (operations line q) ≡ false
       by (object making e s f) = absurd (other s)
       by (parent making e s f) = ap (list_any is_renewal) f
       by (below making e g d f) = ap (list_any is_renewal) f
-      by (set touching e t f) = impossible (sym adjusts ∙ touch_adjusts line touching e)
+      by (set adjustment e t f) = impossible (sym adjusts ∙ adjust_adjusts line adjustment e)
       by (nothing f) = ap (list_any is_renewal) f
 
-  all_renew_none : (lines : List Listed) → AllByRecursion (λ (line : Listed). path_of line ≢ q) lines → AllByRecursion (λ (line : Listed). is_touching line.1 ≡ false) lines → list_any is_renewal (listed_asked lines) ≡ false
+  all_renew_none : (lines : List Listed) → AllByRecursion (λ (line : Listed). path_of line ≢ q) lines → AllByRecursion (λ (line : Listed). is_adjusting_line line.1 ≡ false) lines → list_any is_renewal (listed_asked lines) ≡ false
   all_renew_none [] other adjusts = refl
   all_renew_none (line ∷ lines) other adjusts =
       list_any-append is_renewal (operations line.1 q) (listed_asked lines)
@@ -200,7 +200,7 @@ module _ (q : Path) where
     empty : xs ≡ [] → BeginsWithMake xs
     make : (x : Operation) (rest : List Operation) → xs ≡ x ∷ rest → is_make x ≡ true → list_any is_renewal rest ≡ false → BeginsWithMake xs
 
-  pub makers_begin : (lines : List Listed) → AllByRecursion (λ (line : Listed). is_touching line.1 ≡ false) lines → Pairwise ComesAfter lines → list_any is_erasure (listed_asked lines) ≡ false → BeginsWithMake (listed_asked lines)
+  pub makers_begin : (lines : List Listed) → AllByRecursion (λ (line : Listed). is_adjusting_line line.1 ≡ false) lines → Pairwise ComesAfter lines → list_any is_erasure (listed_asked lines) ≡ false → BeginsWithMake (listed_asked lines)
   makers_begin [] adjusts order h = empty refl
   makers_begin (line ∷ lines) adjusts order h = by (asked_at line.1 q) (makers_begin lines adjusts.1 order.1)
     where
@@ -215,26 +215,26 @@ module _ (q : Path) where
           list_any-append is_renewal making.sets (listed_asked lines)
           ∙ ap (λ b. b || list_any is_renewal (listed_asked lines)) (adjustments_renew_none making.sets (only_adjusts _ making.sets (line_is_making line.1 making e).only))
           ∙ later (ap (is_prefix q) s ∙ is_prefix-refl q))
-      by (parent making e s f) rest = make (Make parent_bare) (listed_asked lines) (ap (λ xs. xs ++ listed_asked lines) f) refl (later s)
+      by (parent making e s f) rest = make (Make parent_object_state) (listed_asked lines) (ap (λ xs. xs ++ listed_asked lines) f) refl (later s)
       by (below making e g d f) rest = impossible (sym two.0 ∙ ap (list_any is_erasure) f)
-      by (set touching e t f) rest = impossible (sym adjusts.0 ∙ touch_adjusts line.1 touching e)
+      by (set adjustment e t f) rest = impossible (sym adjusts.0 ∙ adjust_adjusts line.1 adjustment e)
       by (nothing f) rest = subst BeginsWithMake (sym (ap (λ xs. xs ++ listed_asked lines) f)) (rest two.1)
 
   -- lines that adjust ask for adjustments alone
-  pub adjuster_adjusts : (line : Line) → is_touching line ≡ true → list_all is_adjustment (operations line q) ≡ true
-  adjuster_adjusts line h = by (asks line) refl
+  pub adjuster_adjusts : (line : Line) → is_adjusting_line line ≡ true → list_all is_adjustment (operations line q) ≡ true
+  adjuster_adjusts line h = by (action_of line) refl
     where
-      at : (touching : Touching) → asks line ≡ Touch touching → (b : Bool) → list_all is_adjustment (cond b touching.sets []) ≡ true
-      at touching e true = subst (λ d. list_all is_adjustment (sets_of d) ≡ true) e (sets_adjust line (asks line) (asked line))
-      at touching e false = refl
+      at : (adjustment : Adjustment) → action_of line ≡ Adjust adjustment → (b : Bool) → list_all is_adjustment (cond b adjustment.sets []) ≡ true
+      at adjustment e true = subst (λ d. list_all is_adjustment (sets_of d) ≡ true) e (sets_adjust line (action_of line) (asked line))
+      at adjustment e false = refl
 
-      by : (d : Deed) → asks line ≡ d → list_all is_adjustment (operations line q) ≡ true
+      by : (d : Action) → action_of line ≡ d → list_all is_adjustment (operations line q) ≡ true
       by (Create making) e = impossible (sym (create_adjusts_not line making e) ∙ h)
       by (Copy copying) e = impossible (sym (copy_adjusts_not line copying e) ∙ h)
-      by (Touch touching) e = ap (list_all is_adjustment) (asked_touch line touching q e) ∙ at touching e (touches line touching q)
+      by (Adjust adjustment) e = ap (list_all is_adjustment) (asked_adjustment line adjustment q e) ∙ at adjustment e (adjusts_path line adjustment q)
       by Idle e = impossible (sym (idle_adjusts_not line e) ∙ h)
 
-  adjusters_adjust : (lines : List Listed) → AllByRecursion (λ (line : Listed). is_touching line.1 ≡ true) lines → list_all is_adjustment (listed_asked lines) ≡ true
+  adjusters_adjust : (lines : List Listed) → AllByRecursion (λ (line : Listed). is_adjusting_line line.1 ≡ true) lines → list_all is_adjustment (listed_asked lines) ≡ true
   adjusters_adjust [] h = refl
   adjusters_adjust (line ∷ lines) h =
       list_all-append is_adjustment (operations line.1 q) (listed_asked lines)
@@ -245,7 +245,7 @@ module _ (q : Path) where
   make_not_idle (Make b) h = refl
   make_not_idle (Renew test b) h = refl
   make_not_idle Erase h = refl
-  make_not_idle (Adjust guard change) h = impossible h
+  make_not_idle (Apply guard change) h = impossible h
 
   -- no make comes late
   timely : (xs ys : List Operation) → (list_any is_erasure xs ≡ false → BeginsWithMake xs) → list_all is_adjustment ys ≡ true → has_late_make (xs ++ ys) ≡ false
@@ -307,7 +307,7 @@ module _ (lines : List Line) (are : AllByRecursion IsLine lines) (distinct : are
       b = some_line q IsListed (is_adjusting gives_base) (ordered (enumerate_from 0 lines)) in_order g
 
       masked : has_masked_mode a.0.1 ≡ true
-      masked = sets_masked a.0.1 (asks a.0.1) (asked a.0.1) (asked_sets is_masked a.0.1 q a.2)
+      masked = sets_masked a.0.1 (action_of a.0.1) (asked a.0.1) (asked_sets is_masked a.0.1 q a.2)
 
       base : sets_base b.0.1 ≡ true
       base = asked_sets gives_base b.0.1 q b.2
@@ -319,9 +319,9 @@ module _ (lines : List Line) (are : AllByRecursion IsLine lines) (distinct : are
       reached_second = asked_reaches gives_base b.0.1 b.1.is q b.2
 
       both_in_one : a.0.1 ≡ b.0.1 → ⊥
-      both_in_one e = true_not_false (has_mixed_mask (sets_of (asks a.0.1)))
-          (ap (λ t. t && list_any (is_adjusting gives_base) (sets_of (asks a.0.1))) (asked_sets is_masked a.0.1 q a.2) ∙ ap (λ (l : Line). list_any (is_adjusting gives_base) (sets_of (asks l))) e ∙ base)
-          (sets_unmixed a.0.1 (asks a.0.1) (asked a.0.1))
+      both_in_one e = true_not_false (has_mixed_mask (sets_of (action_of a.0.1)))
+          (ap (λ t. t && list_any (is_adjusting gives_base) (sets_of (action_of a.0.1))) (asked_sets is_masked a.0.1 q a.2) ∙ ap (λ (l : Line). list_any (is_adjusting gives_base) (sets_of (action_of l))) e ∙ base)
+          (sets_unmixed a.0.1 (action_of a.0.1) (asked a.0.1))
 
       by : (a.0.0 - b.0.0 ≡ 0) ⊎ (1 ≤ a.0.0 - b.0.0) → (b.0.0 - a.0.0 ≡ 0) ⊎ (1 ≤ b.0.0 - a.0.0) → ⊥
       by (inl z) (inl y) = both_in_one (slices_same a.0.0 b.0.0 a.0.1 b.0.1 (omega (arith, z, y)) a.1.at b.1.at)
@@ -332,19 +332,19 @@ module _ (lines : List Line) (are : AllByRecursion IsLine lines) (distinct : are
   mask_none named = false_from_ne_true _ (λ h. (let two = and_parts _ _ h in mixed_none named two.0 two.1))
 
   -- no make comes late
-  pub makers_adjust_none : AllByRecursion (λ (line : Listed). is_touching line.1 ≡ false) (fold placed [] (filter (λ (l : Listed). is_creating l.1) (enumerate_from 0 lines)))
+  pub makers_adjust_none : AllByRecursion (λ (line : Listed). is_adjusting_line line.1 ≡ false) (fold placed [] (filter (λ (l : Listed). is_creating l.1) (enumerate_from 0 lines)))
   makers_adjust_none = at (fold placed [] (filter (λ (l : Listed). is_creating l.1) (enumerate_from 0 lines))) (all_makers IsListed (enumerate_from 0 lines) listed) (makers_create (enumerate_from 0 lines))
     where
-      at : (ls : List Listed) → AllByRecursion IsListed ls → AllByRecursion (λ (line : Listed). is_creating line.1 ≡ true) ls → AllByRecursion (λ (line : Listed). is_touching line.1 ≡ false) ls
+      at : (ls : List Listed) → AllByRecursion IsListed ls → AllByRecursion (λ (line : Listed). is_creating line.1 ≡ true) ls → AllByRecursion (λ (line : Listed). is_adjusting_line line.1 ≡ false) ls
       at [] h g = tt
       at (l ∷ ls) h g = (creating_adjusts_none l.1 h.0.is (creating_row l.1 h.0.is g.0), at ls h.1 g.1)
 
   make_none : has_late_make (flat_map (λ (line : Listed). operations line.1 q) (ordered (enumerate_from 0 lines))) ≡ false
   make_none =
-      ap has_late_make (flat_map-append (λ (line : Listed). operations line.1 q) (fold placed [] (filter (λ (l : Listed). is_creating l.1) (enumerate_from 0 lines))) (filter (λ (l : Listed). is_touching l.1) (enumerate_from 0 lines)))
-      ∙ timely q (flat_map (λ (line : Listed). operations line.1 q) (fold placed [] (filter (λ (l : Listed). is_creating l.1) (enumerate_from 0 lines)))) (flat_map (λ (line : Listed). operations line.1 q) (filter (λ (l : Listed). is_touching l.1) (enumerate_from 0 lines)))
+      ap has_late_make (flat_map-append (λ (line : Listed). operations line.1 q) (fold placed [] (filter (λ (l : Listed). is_creating l.1) (enumerate_from 0 lines))) (filter (λ (l : Listed). is_adjusting_line l.1) (enumerate_from 0 lines)))
+      ∙ timely q (flat_map (λ (line : Listed). operations line.1 q) (fold placed [] (filter (λ (l : Listed). is_creating l.1) (enumerate_from 0 lines)))) (flat_map (λ (line : Listed). operations line.1 q) (filter (λ (l : Listed). is_adjusting_line l.1) (enumerate_from 0 lines)))
       (makers_begin q (fold placed [] (filter (λ (l : Listed). is_creating l.1) (enumerate_from 0 lines))) makers_adjust_none (makers_ordered lines distinct))
-      (adjusters_adjust q (filter (λ (l : Listed). is_touching l.1) (enumerate_from 0 lines)) (all_tests (λ (l : Listed). is_touching l.1) (enumerate_from 0 lines)))
+      (adjusters_adjust q (filter (λ (l : Listed). is_adjusting_line l.1) (enumerate_from 0 lines)) (all_tests (λ (l : Listed). is_adjusting_line l.1) (enumerate_from 0 lines)))
 
   -- so nothing is said against the operations at the path, where it can stand in a tree
   pub operations_repeatable : has_names q ≡ true → reasons.IsRepeatable (operations_of (in_create_order lines) q)

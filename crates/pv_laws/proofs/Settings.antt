@@ -7,31 +7,31 @@ use Rattle.std.proofs.lemmas.List.Folds.{list_any-append, list_all-append}
 use Rattle.std.proofs.lemmas.Bool.{false_from_ne_true, or_left, and_parts}
 use Rattle.pv_path.specs.Paths.{has_names, Path, is_prefix}
 use Rattle.pv_path.proofs.PathLaws.{same_path-refl}
-use Rattle.pv_dress.specs.declared.bare.Bare.{Bare}
-use Rattle.pv_dress.specs.declared.bare.Body.{Body}
-use Rattle.pv_dress.specs.declared.operation.Change.{Change}
-use Rattle.pv_dress.specs.declared.operation.Change.TheVariants.{Owner, Mode}
-use Rattle.pv_dress.specs.declared.operation.Guard.TheVariants.{Every, NoLink}
-use Rattle.pv_dress.specs.declared.operation.Operation.{Operation}
-use Rattle.pv_dress.specs.declared.operation.Operation.TheVariants.{Adjust}
-use Rattle.pv_dress.specs.Dividing.{parts_of, parts}
-use Rattle.pv_dress.specs.Nodes.{same_kind}
-use Rattle.pv_dress.specs.Operations.{run}
-use Rattle.pv_dress.specs.Reasons as reasons
-use Rattle.pv_dress.specs.Reasons.{is_adjusting, is_append, is_masked, gives_base, has_append, has_mixed_mask}
-use Rattle.pv_dress.proofs.Dividing.{repeatable-parts}
+use Rattle.pv_metadata.specs.declared.object_state.ObjectState.{ObjectState}
+use Rattle.pv_metadata.specs.declared.object_state.Body.{Body}
+use Rattle.pv_metadata.specs.declared.operation.Change.{Change}
+use Rattle.pv_metadata.specs.declared.operation.Change.TheVariants.{Owner, Mode}
+use Rattle.pv_metadata.specs.declared.operation.Guard.TheVariants.{Every, NoLink}
+use Rattle.pv_metadata.specs.declared.operation.Operation.{Operation}
+use Rattle.pv_metadata.specs.declared.operation.Operation.TheVariants.{Apply}
+use Rattle.pv_metadata.specs.Dividing.{parts_of, parts}
+use Rattle.pv_metadata.specs.Nodes.{same_kind}
+use Rattle.pv_metadata.specs.Operations.{run}
+use Rattle.pv_metadata.specs.Reasons as reasons
+use Rattle.pv_metadata.specs.Reasons.{is_adjusting, is_append, is_masked, gives_base, has_append, has_mixed_mask}
+use Rattle.pv_metadata.proofs.Dividing.{repeatable-parts}
 use Rattle.pv_lines.specs.declared.line.Line.{Line}
 use Rattle.pv_lines.specs.declared.line.LineMode.{LineMode}
 use Rattle.pv_lines.specs.declared.line.LinePath.{LinePath}
 use Rattle.pv_lines.specs.Lines.{IsLine}
 use Rattle.pv_walk.proofs.RemovalLaws.{zero_or_more}
-use Rattle.pv_table.specs.declared.deed.Copying.{Copying}
-use Rattle.pv_table.specs.declared.deed.Deed.{Deed}
-use Rattle.pv_table.specs.declared.deed.Deed.TheVariants.{Copy, Idle}
+use Rattle.pv_table.specs.declared.action.Copying.{Copying}
+use Rattle.pv_table.specs.declared.action.Action.{Action}
+use Rattle.pv_table.specs.declared.action.Action.TheVariants.{Copy, Idle}
 use Rattle.pv_table.specs.declared.reason.Reason.TheVariants as reason
 use Rattle.pv_table.specs.Active.{are_distinct, Listed}
 use Rattle.pv_table.specs.Asked.{operations, operations_of}
-use Rattle.pv_table.specs.Asking.{asks, id_to_set, without_links, mode_to_set}
+use Rattle.pv_table.specs.ActionTable.{action_of, id_to_set, without_links, mode_to_set}
 use Rattle.pv_table.specs.Reaching.{path_in, names, reaches}
 use Rattle.pv_table.specs.Repeatable.{sets_of, has_masked_mode, HasReason, IsRepeatable}
 use Rattle.pv_table.specs.Turns.{copied, topped_by}
@@ -44,20 +44,20 @@ use Rattle.pv_laws.proofs.Sets as sets
 use Rattle.pv_laws.proofs.Splits.{IsKnown, line_of}
 use Rattle.pv_laws.proofs.Tops.{copied_by, top_again}
 use Rattle.pv_path.proofs.Tests.{true_not_false}
-use Rattle.pv_dress.proofs.Repeating.{same_kind-refl}
+use Rattle.pv_metadata.proofs.Repeating.{same_kind-refl}
 
 -- ---- what a line that copies sets
 
-pub is_copied_by : (line : Line) (copying : Copying) → asks line ≡ Copy copying → copying ≡ copied_by line
+pub is_copied_by : (line : Line) (copying : Copying) → action_of line ≡ Copy copying → copying ≡ copied_by line
 is_copied_by line copying e = by (asked line)
   where
     same : Copy copying ≡ Copy (copied_by line) → copying ≡ copied_by line
     same k = cc
 
-    other : (d : Deed) → asks line ≡ d → copied d ≡ None → copying ≡ copied_by line
+    other : (d : Action) → action_of line ≡ d → copied d ≡ None → copying ≡ copied_by line
     other d f none = absurd (let no : Some copying.source ≡ None = sym (ap copied e) ∙ ap copied f ∙ none in cc)
 
-    by : IsAsked line (asks line) → copying ≡ copied_by line
+    by : IsAsked line (action_of line) → copying ≡ copied_by line
     by (sets.makes what file f) = other _ f refl
     by (sets.copies f) = same (sym e ∙ f)
     by (sets.adjusts deep wanted guard f) = other _ f refl
@@ -67,17 +67,17 @@ is_copied_by line copying e = by (asked line)
 
 one_part : (mode : Option LineMode) → parts (mode_to_set mode (without_links Every)) ≡ mode_to_set mode (without_links Every)
 one_part None = refl
-one_part (Some mode) = elim mode.new_only as (λ b. parts (cond b [] (Adjust NoLink (Mode mode.value mode.masked) ∷ [])) ≡ cond b [] (Adjust NoLink (Mode mode.value mode.masked) ∷ [])) [ true ↦ refl | false ↦ refl ]
+one_part (Some mode) = elim mode.new_only as (λ b. parts (cond b [] (Apply NoLink (Mode mode.value mode.masked) ∷ [])) ≡ cond b [] (Apply NoLink (Mode mode.value mode.masked) ∷ [])) [ true ↦ refl | false ↦ refl ]
 
 -- each of its settings is one part
-pub sets_in_parts : (line : Line) (copying : Copying) → asks line ≡ Copy copying → parts copying.sets ≡ copying.sets
-sets_in_parts line copying e = subst (λ (c : Copying). parts c.sets ≡ c.sets) (sym (is_copied_by line copying e)) (ap (λ xs. Adjust Every (Owner (id_to_set line.user) (id_to_set line.group)) ∷ xs) (one_part line.mode))
+pub sets_in_parts : (line : Line) (copying : Copying) → action_of line ≡ Copy copying → parts copying.sets ≡ copying.sets
+sets_in_parts line copying e = subst (λ (c : Copying). parts c.sets ≡ c.sets) (sym (is_copied_by line copying e)) (ap (λ xs. Apply Every (Owner (id_to_set line.user) (id_to_set line.group)) ∷ xs) (one_part line.mode))
 
 -- they change nothing of its own copy
-pub own_again : (line : Line) (copying : Copying) (b : Bare) → asks line ≡ Copy copying → run copying.sets (Some (topped_by copying b)) ≡ Some (topped_by copying b)
+pub own_again : (line : Line) (copying : Copying) (b : ObjectState) → action_of line ≡ Copy copying → run copying.sets (Some (topped_by copying b)) ≡ Some (topped_by copying b)
 own_again line copying b e = subst (λ (c : Copying). run c.sets (Some (topped_by c b)) ≡ Some (topped_by c b)) (sym (is_copied_by line copying e)) (top_again line b)
 
-pub top_kind : (copying : Copying) (b : Bare) → same_kind b.body.kind (topped_by copying b).body.kind ≡ true
+pub top_kind : (copying : Copying) (b : ObjectState) → same_kind b.body.kind (topped_by copying b).body.kind ≡ true
 top_kind copying b = ap (λ (body : Body). same_kind b.body.kind body.kind) (topped_body copying b) ∙ same_kind-refl b.body.kind
 
 -- ---- adjustments of lines of which none has a reason
@@ -90,7 +90,7 @@ module _ (lines : List Line) (are : AllByRecursion IsLine lines) (distinct : are
   pub record IsSetter (q : Path) (test : Change → Bool) : Type 0 where
     pub one : Listed
     pub known : Known one
-    pub sets_it : list_any (is_adjusting test) (sets_of (asks one.1)) ≡ true
+    pub sets_it : list_any (is_adjusting test) (sets_of (action_of one.1)) ≡ true
     pub reached : reaches one.1 q ≡ true
 
   module _ (q : Path) (named : has_names q ≡ true) (xs : List Operation) (adjust : list_all is_adjustment xs ≡ true) (setters : (test : Change → Bool) → list_any (is_adjusting test) xs ≡ true → IsSetter q test) where
@@ -107,12 +107,12 @@ module _ (lines : List Line) (are : AllByRecursion IsLine lines) (distinct : are
         b = setters gives_base g
 
         masked : has_masked_mode a.one.1 ≡ true
-        masked = sets_masked a.one.1 (asks a.one.1) (asked a.one.1) a.sets_it
+        masked = sets_masked a.one.1 (action_of a.one.1) (asked a.one.1) a.sets_it
 
         both_in_one : a.one.1 ≡ b.one.1 → ⊥
-        both_in_one e = true_not_false (has_mixed_mask (sets_of (asks a.one.1)))
-            (ap (λ t. t && list_any (is_adjusting gives_base) (sets_of (asks a.one.1))) a.sets_it ∙ ap (λ (l : Line). list_any (is_adjusting gives_base) (sets_of (asks l))) e ∙ b.sets_it)
-            (sets_unmixed a.one.1 (asks a.one.1) (asked a.one.1))
+        both_in_one e = true_not_false (has_mixed_mask (sets_of (action_of a.one.1)))
+            (ap (λ t. t && list_any (is_adjusting gives_base) (sets_of (action_of a.one.1))) a.sets_it ∙ ap (λ (l : Line). list_any (is_adjusting gives_base) (sets_of (action_of l))) e ∙ b.sets_it)
+            (sets_unmixed a.one.1 (action_of a.one.1) (asked a.one.1))
 
         by : (a.one.0 - b.one.0 ≡ 0) ⊎ (1 ≤ a.one.0 - b.one.0) → (b.one.0 - a.one.0 ≡ 0) ⊎ (1 ≤ b.one.0 - a.one.0) → ⊥
         by (inl z) (inl y) = both_in_one (slices_same lines are distinct repeatable q a.one.0 b.one.0 a.one.1 b.one.1 (omega (arith, z, y)) a.known.at b.known.at)
@@ -144,12 +144,12 @@ module _ (lines : List Line) (are : AllByRecursion IsLine lines) (distinct : are
       later_repeatable named = subst reasons.IsRepeatable (sym in_parts) (repeatable-parts (listed_asked q after) (setters_repeatable q named (listed_asked q after) (asked_adjust after later) asked_setters))
 
     -- so with what the line that copies sets itself
-    module _ (copier : Listed) (is : Known copier) (copying : Copying) (e : asks copier.1 ≡ Copy copying) (at : path_in copier.1.path ≡ p) (q : Path) (here : q ≡ p) (under : is_prefix p q ≡ true) where
+    module _ (copier : Listed) (is : Known copier) (copying : Copying) (e : action_of copier.1 ≡ Copy copying) (at : path_in copier.1.path ≡ p) (q : Path) (here : q ≡ p) (under : is_prefix p q ≡ true) where
       abbrev own : List Operation
       own = copying.sets
 
       own_adjust : list_all is_adjustment own ≡ true
-      own_adjust = subst (λ d. list_all is_adjustment (sets_of d) ≡ true) e (sets_adjust copier.1 (asks copier.1) (asked copier.1))
+      own_adjust = subst (λ d. list_all is_adjustment (sets_of d) ≡ true) e (sets_adjust copier.1 (action_of copier.1) (asked copier.1))
 
       own_reaches : reaches copier.1 q ≡ true
       own_reaches = or_left (names copier.1 q) _ (ap (names copier.1) (here ∙ sym at) ∙ ap (λ (path : LinePath). names (record copier.1 { path = path }) (path_in copier.1.path)) (copy_literal copier.1 is.is copying e) ∙ same_path-refl (path_in copier.1.path))

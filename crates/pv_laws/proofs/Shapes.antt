@@ -12,45 +12,45 @@ use Rattle.pv_steps.specs.declared.object.Object.{Object}
 use Rattle.pv_steps.specs.Objects.{is_directory, NumbersFit}
 use Rattle.pv_steps.specs.Trees.{Places, kind_of, IsTreeIn}
 use Rattle.pv_steps.proofs.TreeLaws.{directory_above}
-use Rattle.pv_dress.specs.declared.bare.Bare.{Bare}
-use Rattle.pv_dress.specs.declared.operation.Change.{Change}
-use Rattle.pv_dress.specs.declared.operation.Guard.{Guard}
-use Rattle.pv_dress.specs.declared.operation.Operation.{Operation}
-use Rattle.pv_dress.specs.declared.operation.Operation.TheVariants.{Make, Renew, Erase, Adjust}
-use Rattle.pv_dress.specs.Nodes.{bare_of, bares_of}
-use Rattle.pv_dress.specs.Operations.{admits, changed, done, run}
-use Rattle.pv_dress.proofs.EditLaws.{path_cases}
-use Rattle.pv_dress.proofs.NodeChanges.{keeps-changed}
+use Rattle.pv_metadata.specs.declared.object_state.ObjectState.{ObjectState}
+use Rattle.pv_metadata.specs.declared.operation.Change.{Change}
+use Rattle.pv_metadata.specs.declared.operation.Guard.{Guard}
+use Rattle.pv_metadata.specs.declared.operation.Operation.{Operation}
+use Rattle.pv_metadata.specs.declared.operation.Operation.TheVariants.{Make, Renew, Erase, Apply}
+use Rattle.pv_metadata.specs.Nodes.{object_state_of, object_states_of}
+use Rattle.pv_metadata.specs.Operations.{admits, changed, done, run}
+use Rattle.pv_metadata.proofs.EditLaws.{path_cases}
+use Rattle.pv_metadata.proofs.NodeChanges.{keeps-changed}
 use Rattle.pv_walk.specs.Staging.{new_object, new_kind}
-use Rattle.pv_table.specs.declared.deed.Making.{Making}
+use Rattle.pv_table.specs.declared.action.Making.{Making}
 use Rattle.pv_table.specs.Asked.{first_of, clears_below, made_at}
-use Rattle.pv_table.specs.Pointwise.{parent_bare}
+use Rattle.pv_table.specs.Pointwise.{parent_object_state}
 use Rattle.pv_laws.proofs.Making.{is_dir, IsShaped, does_stay, first_on_none, first_on_some, new_numbers, directory_stays, asked_here, asked_above, asked_else}
-use Rattle.pv_laws.proofs.Prepared.{bare_some}
+use Rattle.pv_laws.proofs.Prepared.{object_state_some}
 use Rattle.pv_laws.proofs.Sets.{impossible, is_adjustment, IsMaking, only_adjusts}
 use Rattle.pv_path.proofs.Tests.{true_not_false}
 
 -- ---- adjustments keep the kind and the numbers
 
 -- of the same kind, with the same numbers
-pub record IsLike (b c : Bare) : Type 0 where
+pub record IsLike (b c : ObjectState) : Type 0 where
   pub kind : c.body.kind ≡ b.body.kind
   pub major : c.body.major ≡ b.body.major
   pub minor : c.body.minor ≡ b.body.minor
 
-change_keeps : (guard : Guard) (change : Change) (b : Bare) → IsLike b (cond (admits guard b.body.kind) (changed b.body.kind change b) b)
+change_keeps : (guard : Guard) (change : Change) (b : ObjectState) → IsLike b (cond (admits guard b.body.kind) (changed b.body.kind change b) b)
 change_keeps guard change b = by (admits guard b.body.kind)
   where
     by : (t : Bool) → IsLike b (cond t (changed b.body.kind change b) b)
     by true = let keeps = keeps-changed b.body.kind change in record { kind = keeps.same b; major = keeps.major b; minor = keeps.minor b }
     by false = record { kind = refl; major = refl; minor = refl }
 
-pub adjusted_like : (xs : List Operation) → list_all is_adjustment xs ≡ true → (b : Bare) → (c : Bare) × (run xs (Some b) ≡ Some c) × IsLike b c
+pub adjusted_like : (xs : List Operation) → list_all is_adjustment xs ≡ true → (b : ObjectState) → (c : ObjectState) × (run xs (Some b) ≡ Some c) × IsLike b c
 adjusted_like [] h b = (b, refl, record { kind = refl; major = refl; minor = refl })
 adjusted_like (Make n ∷ xs) h b = impossible h
 adjusted_like (Renew test n ∷ xs) h b = impossible h
 adjusted_like (Erase ∷ xs) h b = impossible h
-adjusted_like (Adjust guard change ∷ xs) h b =
+adjusted_like (Apply guard change ∷ xs) h b =
     let one = change_keeps guard change b in
     let rest = adjusted_like xs h (cond (admits guard b.body.kind) (changed b.body.kind change b) b) in
     (rest.0, rest.1, record { kind = rest.2.kind ∙ one.kind; major = rest.2.major ∙ one.major; minor = rest.2.minor ∙ one.minor })
@@ -66,38 +66,38 @@ plain_prefix p q above plain = by (has_staging p) refl
 
 -- ---- what a making leaves
 
-module _ (making : Making) (is : IsMaking making) (path : Path) (unstaged : has_staging path ≡ false) (a : Path → Option Bare) (shape : IsShaped a)
+module _ (making : Making) (is : IsMaking making) (path : Path) (unstaged : has_staging path ≡ false) (a : Path → Option ObjectState) (shape : IsShaped a)
     (rooted : path ≡ [] → is_directory (new_kind making.new.what) ≡ true)
     (pass : (p : Path) → is_prefix p path ≡ true → p ≢ path → is_some (a p) ≡ true → is_dir (a p) ≡ true) where
-  abbrev made : Path → Option Bare
+  abbrev made : Path → Option ObjectState
   made q = run (made_at making path q) (a q)
 
-  abbrev own : Bare
-  own = bare_of (new_object making.new 0)
+  abbrev own : ObjectState
+  own = object_state_of (new_object making.new 0)
 
   -- what stands at the path then: the new object, or one like that which stood there and stays
-  pub data IsHere (z : Bare) : Type 0 where
+  pub data IsHere (z : ObjectState) : Type 0 where
     fresh : z ≡ own → IsHere z
-    kept : (x : Bare) → a path ≡ Some x → IsLike x z → IsHere z
+    kept : (x : ObjectState) → a path ≡ Some x → IsLike x z → IsHere z
 
-  on_object : (x : Bare) → a path ≡ Some x → (stay : Bool) → does_stay making is making.renew x ≡ stay → (z : Bare) × (run making.sets (Some (cond stay x own)) ≡ Some z) × IsHere z
+  on_object : (x : ObjectState) → a path ≡ Some x → (stay : Bool) → does_stay making is making.renew x ≡ stay → (z : ObjectState) × (run making.sets (Some (cond stay x own)) ≡ Some z) × IsHere z
   on_object x e true s = let like = adjusted_like making.sets (only_adjusts (new_kind making.new.what) making.sets is.only) x in (like.0, like.1, kept x e like.2)
   on_object x e false s = (own, is.once, fresh refl)
 
-  here : (z : Bare) × (made path ≡ Some z) × IsHere z
+  here : (z : ObjectState) × (made path ≡ Some z) × IsHere z
   here = by (a path) refl
     where
       asked_so : made_at making path path ≡ first_of making ∷ making.sets
       asked_so = asked_here making path path (same_path-refl path)
 
-      by : (b : Option Bare) → a path ≡ b → (z : Bare) × (made path ≡ Some z) × IsHere z
+      by : (b : Option ObjectState) → a path ≡ b → (z : ObjectState) × (made path ≡ Some z) × IsHere z
       by None e = (own, ap (λ xs. run xs (a path)) asked_so ∙ ap (run (first_of making ∷ making.sets)) e ∙ ap (run making.sets) (first_on_none making is) ∙ is.once, fresh refl)
       by (Some x) e =
           let found = on_object x e (does_stay making is making.renew x) refl in
           (found.0, ap (λ xs. run xs (a path)) asked_so ∙ ap (run (first_of making ∷ making.sets)) e ∙ ap (run making.sets) (first_on_some making is x) ∙ found.1, found.2)
 
   -- above the path stands a directory
-  above_made : (p : Path) → is_prefix p path ≡ true → p ≢ path → made p ≡ done (Make parent_bare) (a p)
+  above_made : (p : Path) → is_prefix p path ≡ true → p ≢ path → made p ≡ done (Make parent_object_state) (a p)
   above_made p high other = ap (λ xs. run xs (a p)) (asked_above making path p (by (path_cases path p)) high)
     where
       by : (path ≡ p) ⊎ (same_path path p ≡ false) → same_path path p ≡ false
@@ -107,7 +107,7 @@ module _ (making : Making) (is : IsMaking making) (path : Path) (unstaged : has_
   dir_above : (p : Path) → is_prefix p path ≡ true → p ≢ path → is_dir (made p) ≡ true
   dir_above p high other = ap is_dir (above_made p high other) ∙ by (a p) (pass p high other)
     where
-      by : (b : Option Bare) → (is_some b ≡ true → is_dir b ≡ true) → is_dir (done (Make parent_bare) b) ≡ true
+      by : (b : Option ObjectState) → (is_some b ≡ true → is_dir b ≡ true) → is_dir (done (Make parent_object_state) b) ≡ true
       by None h = refl
       by (Some x) h = h refl
 
@@ -132,7 +132,7 @@ module _ (making : Making) (is : IsMaking making) (path : Path) (unstaged : has_
       clears_not : is_prefix path q ≡ true → clears_below making ≡ false
       clears_not below = sym (ap (λ b. b && clears_below making) below) ∙ keeps
 
-      dir_some : (b : Option Bare) → is_dir b ≡ true → (x : Bare) × (b ≡ Some x) × (is_directory x.body.kind ≡ true)
+      dir_some : (b : Option ObjectState) → is_dir b ≡ true → (x : ObjectState) × (b ≡ Some x) × (is_directory x.body.kind ≡ true)
       dir_some None h = impossible h
       dir_some (Some x) h = (x, refl, h)
 
@@ -171,21 +171,21 @@ module _ (making : Making) (is : IsMaking making) (path : Path) (unstaged : has_
   own_numbers : is_directory own.body.kind ≡ true → (own.body.major ≡ 0) × (own.body.minor ≡ 0)
   own_numbers h = new_numbers making is making.new.what h
 
-  numbers_at : (q : Path) (x : Bare) → has_staging q ≡ false → made q ≡ Some x → is_directory x.body.kind ≡ true → (x.body.major ≡ 0) × (x.body.minor ≡ 0)
+  numbers_at : (q : Path) (x : ObjectState) → has_staging q ≡ false → made q ≡ Some x → is_directory x.body.kind ≡ true → (x.body.major ≡ 0) × (x.body.minor ≡ 0)
   numbers_at q x plain e dir = elim (path_cases path q) [ inl s ↦ at s | inr d ↦ by d (is_prefix q path) refl ]
     where
-      like_numbers : (z : Bare) → IsHere z → is_directory z.body.kind ≡ true → (z.body.major ≡ 0) × (z.body.minor ≡ 0)
-      like_numbers z (fresh s) h = subst (λ (w : Bare). (w.body.major ≡ 0) × (w.body.minor ≡ 0)) (sym s) (own_numbers (ap (λ (w : Bare). is_directory w.body.kind) (sym s) ∙ h))
+      like_numbers : (z : ObjectState) → IsHere z → is_directory z.body.kind ≡ true → (z.body.major ≡ 0) × (z.body.minor ≡ 0)
+      like_numbers z (fresh s) h = subst (λ (w : ObjectState). (w.body.major ≡ 0) × (w.body.minor ≡ 0)) (sym s) (own_numbers (ap (λ (w : ObjectState). is_directory w.body.kind) (sym s) ∙ h))
       like_numbers z (kept y s like) h =
           let old = shape.plain path y unstaged s (ap is_directory (sym like.kind) ∙ h) in
           (like.major ∙ old.0, like.minor ∙ old.1)
 
       at : path ≡ q → (x.body.major ≡ 0) × (x.body.minor ≡ 0)
       at s = let same : here.0 ≡ x = same_Some here.0 x (sym here.1 ∙ ap made s ∙ e) in
-          subst (λ (w : Bare). (w.body.major ≡ 0) × (w.body.minor ≡ 0)) same (like_numbers here.0 here.2 (ap (λ (w : Bare). is_directory w.body.kind) same ∙ dir))
+          subst (λ (w : ObjectState). (w.body.major ≡ 0) × (w.body.minor ≡ 0)) same (like_numbers here.0 here.2 (ap (λ (w : ObjectState). is_directory w.body.kind) same ∙ dir))
 
-      parent_numbers : (b : Option Bare) → a q ≡ b → done (Make parent_bare) b ≡ Some x → (x.body.major ≡ 0) × (x.body.minor ≡ 0)
-      parent_numbers None s h = subst (λ (w : Bare). (w.body.major ≡ 0) × (w.body.minor ≡ 0)) (same_Some parent_bare x h) (refl, refl)
+      parent_numbers : (b : Option ObjectState) → a q ≡ b → done (Make parent_object_state) b ≡ Some x → (x.body.major ≡ 0) × (x.body.minor ≡ 0)
+      parent_numbers None s h = subst (λ (w : ObjectState). (w.body.major ≡ 0) × (w.body.minor ≡ 0)) (same_Some parent_object_state x h) (refl, refl)
       parent_numbers (Some y) s h = shape.plain q x plain (s ∙ h) dir
 
       by : same_path path q ≡ false → (b : Bool) → is_prefix q path ≡ b → (x.body.major ≡ 0) × (x.body.minor ≡ 0)
@@ -200,8 +200,8 @@ module _ (making : Making) (is : IsMaking making) (path : Path) (unstaged : has_
     | inr d ↦ dir_above [] refl (λ e. true_not_false (same_path path []) ((same_path-decides path []).1 (sym e)) d)
   ]
     where
-      like_dir : (z : Bare) → path ≡ [] → IsHere z → is_directory z.body.kind ≡ true
-      like_dir z e (fresh s) = ap (λ (w : Bare). is_directory w.body.kind) s ∙ rooted e
+      like_dir : (z : ObjectState) → path ≡ [] → IsHere z → is_directory z.body.kind ≡ true
+      like_dir z e (fresh s) = ap (λ (w : ObjectState). is_directory w.body.kind) s ∙ rooted e
       like_dir z e (kept y s like) = ap is_directory like.kind ∙ sym (ap is_dir s) ∙ ap (λ r. is_dir (a r)) e ∙ shape.root
 
       at : path ≡ [] → is_dir (made []) ≡ true
@@ -220,7 +220,7 @@ module _ (making : Making) (is : IsMaking making) (path : Path) (unstaged : has_
 -- ---- what sets leave
 
 -- what keeps presence, kind and numbers keeps the shape
-pub shaped_like : (a b : Path → Option Bare) → ((q : Path) → has_staging q ≡ false → (b q ≡ a q) ⊎ ((x : Bare) × (y : Bare) × (a q ≡ Some x) × (b q ≡ Some y) × IsLike x y)) → IsShaped a → IsShaped b
+pub shaped_like : (a b : Path → Option ObjectState) → ((q : Path) → has_staging q ≡ false → (b q ≡ a q) ⊎ ((x : ObjectState) × (y : ObjectState) × (a q ≡ Some x) × (b q ≡ Some y) × IsLike x y)) → IsShaped a → IsShaped b
 shaped_like a b like shape = record {
   root = dir [] refl shape.root;
   above = λ p q plain above other there. dir p (plain_prefix p q above plain) (shape.above p q plain above other (back q plain there));
@@ -231,62 +231,62 @@ shaped_like a b like shape = record {
     dir : (q : Path) → has_staging q ≡ false → is_dir (a q) ≡ true → is_dir (b q) ≡ true
     dir q plain h = by (like q plain)
       where
-        by : (b q ≡ a q) ⊎ ((x : Bare) × (y : Bare) × (a q ≡ Some x) × (b q ≡ Some y) × IsLike x y) → is_dir (b q) ≡ true
+        by : (b q ≡ a q) ⊎ ((x : ObjectState) × (y : ObjectState) × (a q ≡ Some x) × (b q ≡ Some y) × IsLike x y) → is_dir (b q) ≡ true
         by (inl e) = ap is_dir e ∙ h
         by (inr both) = ap is_dir both.3 ∙ ap is_directory both.4.kind ∙ sym (ap is_dir both.2) ∙ h
 
     back : (q : Path) → has_staging q ≡ false → is_some (b q) ≡ true → is_some (a q) ≡ true
     back q plain h = by (like q plain)
       where
-        by : (b q ≡ a q) ⊎ ((x : Bare) × (y : Bare) × (a q ≡ Some x) × (b q ≡ Some y) × IsLike x y) → is_some (a q) ≡ true
+        by : (b q ≡ a q) ⊎ ((x : ObjectState) × (y : ObjectState) × (a q ≡ Some x) × (b q ≡ Some y) × IsLike x y) → is_some (a q) ≡ true
         by (inl e) = sym (ap is_some e) ∙ h
         by (inr both) = ap is_some both.2
 
-    numbers : (q : Path) (y : Bare) → has_staging q ≡ false → b q ≡ Some y → is_directory y.body.kind ≡ true
-        → (b q ≡ a q) ⊎ ((x : Bare) × (z : Bare) × (a q ≡ Some x) × (b q ≡ Some z) × IsLike x z) → (y.body.major ≡ 0) × (y.body.minor ≡ 0)
+    numbers : (q : Path) (y : ObjectState) → has_staging q ≡ false → b q ≡ Some y → is_directory y.body.kind ≡ true
+        → (b q ≡ a q) ⊎ ((x : ObjectState) × (z : ObjectState) × (a q ≡ Some x) × (b q ≡ Some z) × IsLike x z) → (y.body.major ≡ 0) × (y.body.minor ≡ 0)
     numbers q y plain e h (inl s) = shape.plain q y plain (sym s ∙ e) h
     numbers q y plain e h (inr both) =
         let same : both.1 ≡ y = same_Some both.1 y (sym both.3 ∙ e) in
-        let old = shape.plain q both.0 plain both.2 (ap is_directory (sym both.4.kind) ∙ ap (λ (w : Bare). is_directory w.body.kind) same ∙ h) in
-        subst (λ (w : Bare). (w.body.major ≡ 0) × (w.body.minor ≡ 0)) same (both.4.major ∙ old.0, both.4.minor ∙ old.1)
+        let old = shape.plain q both.0 plain both.2 (ap is_directory (sym both.4.kind) ∙ ap (λ (w : ObjectState). is_directory w.body.kind) same ∙ h) in
+        subst (λ (w : ObjectState). (w.body.major ≡ 0) × (w.body.minor ≡ 0)) same (both.4.major ∙ old.0, both.4.minor ∙ old.1)
 
 -- what is the same at paths without staging names has the same shape
-pub shape_same : (a b : Path → Option Bare) → ((q : Path) → has_staging q ≡ false → b q ≡ a q) → IsShaped a → IsShaped b
+pub shape_same : (a b : Path → Option ObjectState) → ((q : Path) → has_staging q ≡ false → b q ≡ a q) → IsShaped a → IsShaped b
 shape_same a b same shape = shaped_like a b (λ q plain. inl (same q plain)) shape
 
 -- ---- trees
 
 -- each tree has the shape
-pub tree_shaped : (t : Places) → IsTreeIn t → IsShaped (bares_of t)
-tree_shaped t tree = record { root = kind_dir (t []) tree.root; above = above; plain = plain; named = λ q unstaged there. tree.names q (sym (bare_some (t q)) ∙ there) }
+pub tree_shaped : (t : Places) → IsTreeIn t → IsShaped (object_states_of t)
+tree_shaped t tree = record { root = kind_dir (t []) tree.root; above = above; plain = plain; named = λ q unstaged there. tree.names q (sym (object_state_some (t q)) ∙ there) }
   where
-    kind_dir : (o : Option Object) → kind_of o ≡ Some Directory → is_dir (bares_of (λ (q : Path). o) []) ≡ true
+    kind_dir : (o : Option Object) → kind_of o ≡ Some Directory → is_dir (object_states_of (λ (q : Path). o) []) ≡ true
     kind_dir None h = absurd (let no : None ≡ Some Directory = h in cc)
     kind_dir (Some x) h = (let same : x.node.kind ≡ Directory = by x.node.kind h in ap is_directory same)
       where
         by : (k : Kind) → Some k ≡ Some Directory → k ≡ Directory
         by k e = cc
 
-    above : (p q : Path) → has_staging q ≡ false → is_prefix p q ≡ true → p ≢ q → is_some (bares_of t q) ≡ true → is_dir (bares_of t p) ≡ true
+    above : (p q : Path) → has_staging q ≡ false → is_prefix p q ≡ true → p ≢ q → is_some (object_states_of t q) ≡ true → is_dir (object_states_of t p) ≡ true
     above p q plain high other there = by parts.0 parts.1
       where
         parts : (r : Path) × (q ≡ p ++ r)
         parts = prefix_parts p q high
 
-        by : (r : Path) → q ≡ p ++ r → is_dir (bares_of t p) ≡ true
+        by : (r : Path) → q ≡ p ++ r → is_dir (object_states_of t p) ≡ true
         by [] e = absurd (other (sym (e ∙ append-nil p)))
-        by (name ∷ rest) e = kind_dir (t p) (directory_above t tree p name rest (ap (λ (x : Path). is_some (t x)) (sym e) ∙ sym (bare_some (t q)) ∙ there))
+        by (name ∷ rest) e = kind_dir (t p) (directory_above t tree p name rest (ap (λ (x : Path). is_some (t x)) (sym e) ∙ sym (object_state_some (t q)) ∙ there))
 
     fitting : (kind : Kind) (major minor : ℕ) → is_directory kind ≡ true → NumbersFit kind major minor → (major ≡ 0) × (minor ≡ 0)
     fitting Directory major minor h fit = fit
     fitting kind major minor h fit = impossible h
 
-    plain : (q : Path) (x : Bare) → has_staging q ≡ false → bares_of t q ≡ Some x → is_directory x.body.kind ≡ true → (x.body.major ≡ 0) × (x.body.minor ≡ 0)
+    plain : (q : Path) (x : ObjectState) → has_staging q ≡ false → object_states_of t q ≡ Some x → is_directory x.body.kind ≡ true → (x.body.major ≡ 0) × (x.body.minor ≡ 0)
     plain q x unstaged e h = by (t q) refl e
       where
-        by : (o : Option Object) → t q ≡ o → option_map bare_of o ≡ Some x → (x.body.major ≡ 0) × (x.body.minor ≡ 0)
+        by : (o : Option Object) → t q ≡ o → option_map object_state_of o ≡ Some x → (x.body.major ≡ 0) × (x.body.minor ≡ 0)
         by None f g = absurd (let no : None ≡ Some x = g in cc)
         by (Some o) f g =
-            let same : bare_of o ≡ x = same_Some (bare_of o) x g in
-            subst (λ (w : Bare). (w.body.major ≡ 0) × (w.body.minor ≡ 0)) same
-            (fitting o.node.kind o.node.major o.node.minor (ap (λ (w : Bare). is_directory w.body.kind) same ∙ h) (tree.objects q o f).numbers)
+            let same : object_state_of o ≡ x = same_Some (object_state_of o) x g in
+            subst (λ (w : ObjectState). (w.body.major ≡ 0) × (w.body.minor ≡ 0)) same
+            (fitting o.node.kind o.node.major o.node.minor (ap (λ (w : ObjectState). is_directory w.body.kind) same ∙ h) (tree.objects q o f).numbers)

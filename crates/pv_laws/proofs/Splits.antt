@@ -8,11 +8,11 @@ use Rattle.pv_path.proofs.PathLaws.{is_prefix-refl}
 use Rattle.pv_lines.specs.declared.line.Line.{Line}
 use Rattle.pv_lines.specs.declared.line.LinePath.{LinePath}
 use Rattle.pv_lines.specs.Lines.{IsLine}
-use Rattle.pv_table.specs.declared.deed.Copying.{Copying}
-use Rattle.pv_table.specs.declared.deed.Deed.TheVariants.{Copy}
+use Rattle.pv_table.specs.declared.action.Copying.{Copying}
+use Rattle.pv_table.specs.declared.action.Action.TheVariants.{Copy}
 use Rattle.pv_table.specs.declared.reason.Reason.TheVariants as reason
-use Rattle.pv_table.specs.Active.{are_distinct, Listed, placed, is_touching, ordered, in_create_order}
-use Rattle.pv_table.specs.Asking.{asks}
+use Rattle.pv_table.specs.Active.{are_distinct, Listed, placed, is_adjusting_line, ordered, in_create_order}
+use Rattle.pv_table.specs.ActionTable.{action_of}
 use Rattle.pv_table.specs.Reaching.{path_in, is_creating}
 use Rattle.pv_table.specs.Repeatable.{IsAt, IsRepeatable, below}
 use Rattle.pv_table.specs.Turns.{copied}
@@ -87,29 +87,29 @@ module _ (lines : List Line) (are : AllByRecursion IsLine lines) (distinct : are
   pub record IsKnown (l : Listed) : Type 0 where
     pub at : IsAt lines l.0 l.1
     pub is : IsLine l.1
-    pub does : (is_creating l.1 ≡ true) ⊎ (is_touching l.1 ≡ true)
+    pub does : (is_creating l.1 ≡ true) ⊎ (is_adjusting_line l.1 ≡ true)
 
   abbrev all : List Listed
   all = enumerate_from 0 lines
 
   pub all_known : AllByRecursion IsKnown (ordered all)
   all_known =
-      all_both (λ (l : Listed). IsAt lines l.0 l.1 × IsLine l.1) (λ (l : Listed). (is_creating l.1 ≡ true) ⊎ (is_touching l.1 ≡ true)) IsKnown (λ l h g. record { at = h.0; is = h.1; does = g }) (ordered all)
+      all_both (λ (l : Listed). IsAt lines l.0 l.1 × IsLine l.1) (λ (l : Listed). (is_creating l.1 ≡ true) ⊎ (is_adjusting_line l.1 ≡ true)) IsKnown (λ l h g. record { at = h.0; is = h.1; does = g }) (ordered all)
       (all_ordered (λ (l : Listed). IsAt lines l.0 l.1 × IsLine l.1) all (
       all_both (λ (l : Listed). IsAt lines l.0 l.1) (λ (l : Listed). IsLine l.1) (λ (l : Listed). IsAt lines l.0 l.1 × IsLine l.1) (λ l h g. (h, g)) all
       (all_at lines lines 0 (λ i. (let same : 0 + i ≡ i = omega arith in ap (slice_get lines) same))) (all_listed IsLine 0 lines are)))
-      (all_append (λ (l : Listed). (is_creating l.1 ≡ true) ⊎ (is_touching l.1 ≡ true)) (fold placed [] (filter (λ (l : Listed). is_creating l.1) all)) (filter (λ (l : Listed). is_touching l.1) all)
-      (makes (fold placed [] (filter (λ (l : Listed). is_creating l.1) all)) (makers_create all)) (touch (filter (λ (l : Listed). is_touching l.1) all) (all_tests (λ (l : Listed). is_touching l.1) all)))
+      (all_append (λ (l : Listed). (is_creating l.1 ≡ true) ⊎ (is_adjusting_line l.1 ≡ true)) (fold placed [] (filter (λ (l : Listed). is_creating l.1) all)) (filter (λ (l : Listed). is_adjusting_line l.1) all)
+      (makes (fold placed [] (filter (λ (l : Listed). is_creating l.1) all)) (makers_create all)) (adjust_at (filter (λ (l : Listed). is_adjusting_line l.1) all) (all_tests (λ (l : Listed). is_adjusting_line l.1) all)))
     where
-      makes : (xs : List Listed) → AllByRecursion (λ (l : Listed). is_creating l.1 ≡ true) xs → AllByRecursion (λ (l : Listed). (is_creating l.1 ≡ true) ⊎ (is_touching l.1 ≡ true)) xs
+      makes : (xs : List Listed) → AllByRecursion (λ (l : Listed). is_creating l.1 ≡ true) xs → AllByRecursion (λ (l : Listed). (is_creating l.1 ≡ true) ⊎ (is_adjusting_line l.1 ≡ true)) xs
       makes [] h = tt
       makes (x ∷ xs) h = (inl h.0, makes xs h.1)
 
-      touch : (xs : List Listed) → AllByRecursion (λ (l : Listed). is_touching l.1 ≡ true) xs → AllByRecursion (λ (l : Listed). (is_creating l.1 ≡ true) ⊎ (is_touching l.1 ≡ true)) xs
-      touch [] h = tt
-      touch (x ∷ xs) h = (inr h.0, touch xs h.1)
+      adjust_at : (xs : List Listed) → AllByRecursion (λ (l : Listed). is_adjusting_line l.1 ≡ true) xs → AllByRecursion (λ (l : Listed). (is_creating l.1 ≡ true) ⊎ (is_adjusting_line l.1 ≡ true)) xs
+      adjust_at [] h = tt
+      adjust_at (x ∷ xs) h = (inr h.0, adjust_at xs h.1)
 
-  module _ (before after : List Listed) (copier : Listed) (whole : ordered all ≡ before ++ copier ∷ after) (copying : Copying) (e : asks copier.1 ≡ Copy copying) where
+  module _ (before after : List Listed) (copier : Listed) (whole : ordered all ≡ before ++ copier ∷ after) (copying : Copying) (e : action_of copier.1 ≡ Copy copying) where
     abbrev p : Path
     p = path_in copier.1.path
 
@@ -125,7 +125,7 @@ module _ (lines : List Line) (are : AllByRecursion IsLine lines) (distinct : are
     pub known_after : AllByRecursion IsKnown after
     known_after = (all_behind IsKnown before (copier ∷ after) parts_known).1
 
-    adjusts_not : is_touching copier.1 ≡ false
+    adjusts_not : is_adjusting_line copier.1 ≡ false
     adjusts_not = copy_adjusts_not [] copier.1 copying e
 
     copier_creates : is_creating copier.1 ≡ true
@@ -146,7 +146,7 @@ module _ (lines : List Line) (are : AllByRecursion IsLine lines) (distinct : are
         by true f = absurd (repeatable l.0 reason.Below (below l.1 copier.1 copier.0 copying.source known.at known_one.at creates (ap copied e) f differ))
         by false f = f
 
-    none_above : (l : Listed) → IsKnown l → (other : Copying) → asks l.1 ≡ Copy other → path_in l.1.path ≢ p → is_prefix (path_in l.1.path) p ≡ false
+    none_above : (l : Listed) → IsKnown l → (other : Copying) → action_of l.1 ≡ Copy other → path_in l.1.path ≢ p → is_prefix (path_in l.1.path) p ≡ false
     none_above l known other f differ = by (is_prefix (path_in l.1.path) p) refl
       where
         by : (b : Bool) → is_prefix (path_in l.1.path) p ≡ b → is_prefix (path_in l.1.path) p ≡ false
@@ -176,17 +176,17 @@ module _ (lines : List Line) (are : AllByRecursion IsLine lines) (distinct : are
 
     pub later_listed : AllByRecursion (λ (l : Listed). IsAfter p l.1) after
     later_listed =
-        all_both IsKnown (λ (l : Listed). GoesBefore copier.1 l.1) (λ (l : Listed). IsAfter p l.1) (λ l known goes. one l known goes (is_touching l.1) refl) after known_after
+        all_both IsKnown (λ (l : Listed). GoesBefore copier.1 l.1) (λ (l : Listed). IsAfter p l.1) (λ l known goes. one l known goes (is_adjusting_line l.1) refl) after known_after
         (all_unlist (GoesBefore copier.1) after (after_one GoesBefore (map line_of before) copier.1 (map line_of after) in_place))
       where
-        creates : (l : Listed) → IsKnown l → is_touching l.1 ≡ false → is_creating l.1 ≡ true
+        creates : (l : Listed) → IsKnown l → is_adjusting_line l.1 ≡ false → is_creating l.1 ≡ true
         creates l known none = by known.does
           where
-            by : (is_creating l.1 ≡ true) ⊎ (is_touching l.1 ≡ true) → is_creating l.1 ≡ true
+            by : (is_creating l.1 ≡ true) ⊎ (is_adjusting_line l.1 ≡ true) → is_creating l.1 ≡ true
             by (inl h) = h
             by (inr h) = impossible (sym none ∙ h)
 
-        one : (l : Listed) → IsKnown l → GoesBefore copier.1 l.1 → (touches : Bool) → is_touching l.1 ≡ touches → IsAfter p l.1
+        one : (l : Listed) → IsKnown l → GoesBefore copier.1 l.1 → (adjusts_path : Bool) → is_adjusting_line l.1 ≡ adjusts_path → IsAfter p l.1
         one l known goes true f = adjusts f
         one l known goes false f =
             let above : is_prefix (path_in l.1.path) p ≡ false = (goes f).1 in

@@ -13,30 +13,30 @@ use Rattle.pv_path.proofs.PathLaws.{has_names-prefix, is_prefix-refl, is_prefix-
 use Rattle.pv_path.proofs.Tests.{true_not_false}
 use Rattle.pv_steps.specs.Objects.{is_directory}
 use Rattle.pv_steps.specs.Trees.{Files, places, IsTree}
-use Rattle.pv_dress.specs.declared.bare.Bare.{Bare}
-use Rattle.pv_dress.specs.declared.operation.Operation.{Operation}
-use Rattle.pv_dress.specs.declared.operation.Operation.TheVariants.{Make, Renew, Erase, Adjust}
-use Rattle.pv_dress.specs.declared.operation.Test.{Test}
-use Rattle.pv_dress.specs.Dividing.{parts}
-use Rattle.pv_dress.specs.Nodes.{bare_of, bares_of}
-use Rattle.pv_dress.specs.Operations.{done, run}
-use Rattle.pv_dress.specs.Reasons as reasons
-use Rattle.pv_dress.specs.Reasons.{is_erasure}
-use Rattle.pv_dress.proofs.Dividing.{run-parts}
-use Rattle.pv_dress.proofs.OperationLaws.{absorbed, from_the_gap, run-append, repeatable-front}
+use Rattle.pv_metadata.specs.declared.object_state.ObjectState.{ObjectState}
+use Rattle.pv_metadata.specs.declared.operation.Operation.{Operation}
+use Rattle.pv_metadata.specs.declared.operation.Operation.TheVariants.{Make, Renew, Erase, Apply}
+use Rattle.pv_metadata.specs.declared.operation.Test.{Test}
+use Rattle.pv_metadata.specs.Dividing.{parts}
+use Rattle.pv_metadata.specs.Nodes.{object_state_of, object_states_of}
+use Rattle.pv_metadata.specs.Operations.{done, run}
+use Rattle.pv_metadata.specs.Reasons as reasons
+use Rattle.pv_metadata.specs.Reasons.{is_erasure}
+use Rattle.pv_metadata.proofs.Dividing.{run-parts}
+use Rattle.pv_metadata.proofs.OperationLaws.{absorbed, from_the_gap, run-append, repeatable-front}
 use Rattle.pv_lines.specs.declared.line.Line.{Line}
 use Rattle.pv_lines.specs.declared.line.LinePath.{LinePath}
 use Rattle.pv_lines.specs.Lines.{IsLine}
 use Rattle.pv_walk.specs.Staging.{new_object, new_kind}
-use Rattle.pv_table.specs.declared.deed.Copying.{Copying}
-use Rattle.pv_table.specs.declared.deed.Deed.TheVariants.{Create, Copy}
-use Rattle.pv_table.specs.declared.deed.Making.{Making}
+use Rattle.pv_table.specs.declared.action.Copying.{Copying}
+use Rattle.pv_table.specs.declared.action.Action.TheVariants.{Create, Copy}
+use Rattle.pv_table.specs.declared.action.Making.{Making}
 use Rattle.pv_table.specs.declared.reason.Reason.TheVariants as reason
-use Rattle.pv_table.specs.Active.{are_distinct, Listed, is_touching, ordered, in_create_order}
+use Rattle.pv_table.specs.Active.{are_distinct, Listed, is_adjusting_line, ordered, in_create_order}
 use Rattle.pv_table.specs.Asked.{first_of, clears_below, operations, operations_of}
-use Rattle.pv_table.specs.Asking.{asks}
+use Rattle.pv_table.specs.ActionTable.{action_of}
 use Rattle.pv_table.specs.Created.{after_each, one_is_refused, by_turn, by_line, IsQuiet}
-use Rattle.pv_table.specs.Pointwise.{Bares, parent_bare, pointwise_after}
+use Rattle.pv_table.specs.Pointwise.{ObjectStates, parent_object_state, pointwise_after}
 use Rattle.pv_table.specs.Reaching.{path_in, is_creating, governs}
 use Rattle.pv_table.specs.Repeatable.{IsRepeatable, HasReason, below, sets_of}
 use Rattle.pv_table.specs.Turns.{copied, refused_at}
@@ -52,7 +52,7 @@ use Rattle.pv_laws.proofs.Lines.{path_named, line_is_plain, source_named, copy_p
 use Rattle.pv_laws.proofs.Making.{is_dir, IsShaped, does_stay, first_on_some, first_make, first_renew, asked_here, asked_above, directory_stays}
 use Rattle.pv_laws.proofs.Orders.{Pairwise}
 use Rattle.pv_laws.proofs.Parents.{IsOutside, IsThereAlike, IsFreeOf, swap_point, swap_way, swaps_point, swaps_way, all_alike}
-use Rattle.pv_laws.proofs.Prepared.{bare_some}
+use Rattle.pv_laws.proofs.Prepared.{object_state_some}
 use Rattle.pv_laws.proofs.Regions.{IsBeside, IsClearing, Before, Passes, never_clears}
 use Rattle.pv_laws.proofs.Repeated as repeated
 use Rattle.pv_laws.proofs.Repeated.{IsAskedAt, asked_at, adjuster_adjusts, create_adjusts_not, operations_repeatable}
@@ -61,18 +61,18 @@ use Rattle.pv_laws.proofs.Shapes.{IsLike, adjusted_like, plain_prefix, shape_sam
 use Rattle.pv_laws.proofs.Splits.{IsKnown, all_known, all_before, all_behind, front_pairs, after_one, line_of, all_lines, all_both}
 use Rattle.pv_laws.proofs.StateSteps.{PassesTo, IsOpen, IsAlikeIn, AllOpen, all_frame, all_swap, fold_one, open_one}
 use Rattle.pv_laws.proofs.Stops.{GoesBefore, all_in_place, before_one, nothing_before}
-use Rattle.pv_laws.proofs.Swapped.{swapped, swapped_path, bare_directory, directory_asks, IsSwap, swap, all_swapped, swapped_distinct, swapped_repeatable, in_order_swapped}
+use Rattle.pv_laws.proofs.Swapped.{swapped, swapped_path, object_state_directory, directory_asks, IsSwap, swap, all_swapped, swapped_distinct, swapped_repeatable, in_order_swapped}
 use Rattle.pv_laws.proofs.Swapped as swaps
-use Rattle.pv_laws.proofs.Touching.{first_turn}
+use Rattle.pv_laws.proofs.Adjustment.{first_turn}
 use Rattle.pv_laws.proofs.Ways.{parts_adjust, all_take}
 
 -- ---- operations on a directory
 
 -- a directory, without numbers
-abbrev IsDirectory : Bare → Type 0
+abbrev IsDirectory : ObjectState → Type 0
 IsDirectory x = (is_directory x.body.kind ≡ true) × (x.body.major ≡ 0) × (x.body.minor ≡ 0)
 
-like_directory : (x y : Bare) → IsLike x y → IsDirectory x → IsDirectory y
+like_directory : (x y : ObjectState) → IsLike x y → IsDirectory x → IsDirectory y
 like_directory x y like is = (ap is_directory like.kind ∙ is.0, like.major ∙ is.1, like.minor ∙ is.2)
 
 -- an adjustment, or a make that replaces nothing
@@ -80,30 +80,30 @@ abbrev is_gentle : Operation → Bool
 is_gentle (Make new) = true
 is_gentle (Renew test new) = false
 is_gentle Erase = false
-is_gentle (Adjust guard change) = true
+is_gentle (Apply guard change) = true
 
 gentle_all : (xs : List Operation) → list_all is_adjustment xs ≡ true → list_all is_gentle xs ≡ true
 gentle_all [] h = refl
 gentle_all (Make new ∷ xs) h = impossible h
 gentle_all (Renew test new ∷ xs) h = impossible h
 gentle_all (Erase ∷ xs) h = impossible h
-gentle_all (Adjust guard change ∷ xs) h = gentle_all xs h
+gentle_all (Apply guard change ∷ xs) h = gentle_all xs h
 
-gentle_keeps : (xs : List Operation) → list_all is_gentle xs ≡ true → (b : Option Bare) → is_dir b ≡ true → is_dir (run xs b) ≡ true
+gentle_keeps : (xs : List Operation) → list_all is_gentle xs ≡ true → (b : Option ObjectState) → is_dir b ≡ true → is_dir (run xs b) ≡ true
 gentle_keeps [] h b dir = dir
 gentle_keeps (x ∷ xs) h None dir = impossible dir
 gentle_keeps (Make new ∷ xs) h (Some b) dir = gentle_keeps xs h (Some b) dir
 gentle_keeps (Renew test new ∷ xs) h (Some b) dir = impossible h
 gentle_keeps (Erase ∷ xs) h (Some b) dir = impossible h
-gentle_keeps (Adjust guard change ∷ xs) h (Some b) dir = gentle_keeps xs h (done (Adjust guard change) (Some b)) (
-    let like = adjusted_like (Adjust guard change ∷ []) refl b in
+gentle_keeps (Apply guard change ∷ xs) h (Some b) dir = gentle_keeps xs h (done (Apply guard change) (Some b)) (
+    let like = adjusted_like (Apply guard change ∷ []) refl b in
     ap is_dir like.1 ∙ ap is_directory like.2.kind ∙ dir)
 
 -- ---- a line that neither erases at a path nor takes a directory away there
 
 record IsCalm (line : Line) (a : Path) : Type 0 where
   no_erasure : list_any is_erasure (parts (operations line a)) ≡ false
-  keeps : (x : Bare) → IsDirectory x → (y : Bare) × (run (operations line a) (Some x) ≡ Some y) × IsDirectory y
+  keeps : (x : ObjectState) → IsDirectory x → (y : ObjectState) × (run (operations line a) (Some x) ≡ Some y) × IsDirectory y
 
 -- what adjusts erases nothing, in parts either
 adjusts_calm : (xs : List Operation) → list_all is_adjustment xs ≡ true → list_any is_erasure xs ≡ false
@@ -111,10 +111,10 @@ adjusts_calm [] h = refl
 adjusts_calm (Make new ∷ xs) h = impossible h
 adjusts_calm (Renew test new ∷ xs) h = impossible h
 adjusts_calm (Erase ∷ xs) h = impossible h
-adjusts_calm (Adjust guard change ∷ xs) h = adjusts_calm xs h
+adjusts_calm (Apply guard change ∷ xs) h = adjusts_calm xs h
 
 calm_of : (line : Line) (a : Path) (xs : List Operation) → operations line a ≡ xs → list_any is_erasure (parts xs) ≡ false
-    → ((x : Bare) → IsDirectory x → (y : Bare) × (run xs (Some x) ≡ Some y) × IsDirectory y) → IsCalm line a
+    → ((x : ObjectState) → IsDirectory x → (y : ObjectState) × (run xs (Some x) ≡ Some y) × IsDirectory y) → IsCalm line a
 calm_of line a xs e none keeps = record {
   no_erasure = ap (λ ys. list_any is_erasure (parts ys)) e ∙ none;
   keeps = λ x is. let rest = keeps x is in (rest.0, ap (λ ys. run ys (Some x)) e ∙ rest.1, rest.2);
@@ -123,8 +123,8 @@ calm_of line a xs e none keeps = record {
 nothing_calm : (line : Line) (a : Path) → operations line a ≡ [] → IsCalm line a
 nothing_calm line a e = calm_of line a [] e refl (λ x is. (x, refl, is))
 
-parent_calm : (line : Line) (a : Path) → operations line a ≡ Make parent_bare ∷ [] → IsCalm line a
-parent_calm line a e = calm_of line a (Make parent_bare ∷ []) e refl (λ x is. (x, refl, is))
+parent_calm : (line : Line) (a : Path) → operations line a ≡ Make parent_object_state ∷ [] → IsCalm line a
+parent_calm line a e = calm_of line a (Make parent_object_state ∷ []) e refl (λ x is. (x, refl, is))
 
 -- the first make, in parts
 first_calm : (making : Making) → IsMaking making → (xs : List Operation) → list_any is_erasure (parts xs) ≡ false → list_any is_erasure (parts (first_of making ∷ xs)) ≡ false
@@ -135,20 +135,20 @@ first_calm making is xs none = by making.renew refl
     by (Some test) e = ap (λ (o : Operation). list_any is_erasure (parts (o ∷ xs))) (first_renew making is test e) ∙ none
 
 module _ (p a : Path) (line : Line) (above : is_prefix a p ≡ true) (never : IsClearing p line → ⊥) where
-  clears_not : (making : Making) → asks line ≡ Create making → is_prefix (path_in line.path) a ≡ true → clears_below making ≡ false
+  clears_not : (making : Making) → action_of line ≡ Create making → is_prefix (path_in line.path) a ≡ true → clears_below making ≡ false
   clears_not making e high = by (clears_below making) refl
     where
       by : (b : Bool) → clears_below making ≡ b → clears_below making ≡ false
       by true f = absurd (never (record { making = making; makes = e; clears = f; above = is_prefix-trans (path_in line.path) a p high above }))
       by false f = f
 
-  object_calm : (making : Making) → asks line ≡ Create making → path_in line.path ≡ a → operations line a ≡ first_of making ∷ making.sets → IsCalm line a
+  object_calm : (making : Making) → action_of line ≡ Create making → path_in line.path ≡ a → operations line a ≡ first_of making ∷ making.sets → IsCalm line a
   object_calm making e same f = calm_of line a (first_of making ∷ making.sets) f
       (first_calm making is making.sets (adjusts_calm (parts making.sets) (parts_adjust making.sets adjust)))
       (λ x dir. (
       let like = adjusted_like making.sets adjust x in (
         like.0,
-        ap (run making.sets) (first_on_some making is x ∙ ap (λ b. Some (cond b x (bare_of (new_object making.new 0)))) (stays x dir)) ∙ like.1,
+        ap (run making.sets) (first_on_some making is x ∙ ap (λ b. Some (cond b x (object_state_of (new_object making.new 0)))) (stays x dir)) ∙ like.1,
         like_directory x like.0 like.2 dir,
       )))
     where
@@ -158,7 +158,7 @@ module _ (p a : Path) (line : Line) (above : is_prefix a p ≡ true) (never : Is
       adjust : list_all is_adjustment making.sets ≡ true
       adjust = only_adjusts (new_kind making.new.what) making.sets is.only
 
-      stays : (x : Bare) → IsDirectory x → does_stay making is making.renew x ≡ true
+      stays : (x : ObjectState) → IsDirectory x → does_stay making is making.renew x ≡ true
       stays x dir = directory_stays making is x dir ∙ ap not (clears_not making e (ap (λ (r : Path). is_prefix r a) same ∙ is_prefix-refl a))
 
   line_calm : IsCalm line a
@@ -170,10 +170,10 @@ module _ (p a : Path) (line : Line) (above : is_prefix a p ≡ true) (never : Is
       by (repeated.below making e g d f) =
           let two = and_parts (is_prefix (path_in line.path) a) (clears_below making) g in
           absurd (true_not_false (clears_below making) two.1 (clears_not making e two.0))
-      by (repeated.set touching e g f) =
-          let adjust : list_all is_adjustment touching.sets ≡ true = subst (λ d. list_all is_adjustment (sets_of d) ≡ true) e (sets_adjust line (asks line) (asked line)) in
-          calm_of line a touching.sets f (adjusts_calm (parts touching.sets) (parts_adjust touching.sets adjust)) (λ x dir. (
-          let like = adjusted_like touching.sets adjust x in (like.0, like.1, like_directory x like.0 like.2 dir)))
+      by (repeated.set adjustment e g f) =
+          let adjust : list_all is_adjustment adjustment.sets ≡ true = subst (λ d. list_all is_adjustment (sets_of d) ≡ true) e (sets_adjust line (action_of line) (asked line)) in
+          calm_of line a adjustment.sets f (adjusts_calm (parts adjustment.sets) (parts_adjust adjustment.sets adjust)) (λ x dir. (
+          let like = adjusted_like adjustment.sets adjust x in (like.0, like.1, like_directory x like.0 like.2 dir)))
       by (repeated.nothing f) = nothing_calm line a f
 
   -- so is the line in its place
@@ -181,9 +181,9 @@ module _ (p a : Path) (line : Line) (above : is_prefix a p ≡ true) (never : Is
     swapped_calm : IsCalm (swapped t line) a
     swapped_calm = by (swap t line)
       where
-        at : (b : Bool) → operations (bare_directory line) a ≡ cond b (Make parent_bare ∷ []) [] → IsCalm (bare_directory line) a
-        at true f = parent_calm (bare_directory line) a f
-        at false f = nothing_calm (bare_directory line) a f
+        at : (b : Bool) → operations (object_state_directory line) a ≡ cond b (Make parent_object_state ∷ []) [] → IsCalm (object_state_directory line) a
+        at true f = parent_calm (object_state_directory line) a f
+        at false f = nothing_calm (object_state_directory line) a f
 
         by : IsSwap t line (swapped t line) → IsCalm (swapped t line) a
         by (swaps.same is f) = subst (λ (l : Line). IsCalm l a) (sym is) line_calm
@@ -198,7 +198,7 @@ all_quiet_there a (line ∷ lines) calm =
     ∙ ap (λ b. b || list_any is_erasure (operations_of lines a)) calm.0.no_erasure
     ∙ all_quiet_there a lines calm.1
 
-all_keep : (a : Path) (lines : List Line) → AllByRecursion (λ line. IsCalm line a) lines → (x : Bare) → IsDirectory x → (y : Bare) × (run (operations_of lines a) (Some x) ≡ Some y) × IsDirectory y
+all_keep : (a : Path) (lines : List Line) → AllByRecursion (λ line. IsCalm line a) lines → (x : ObjectState) → IsDirectory x → (y : ObjectState) × (run (operations_of lines a) (Some x) ≡ Some y) × IsDirectory y
 all_keep a [] calm x dir = (x, refl, dir)
 all_keep a (line ∷ lines) calm x dir =
     let one = calm.0.keeps x dir in
@@ -211,7 +211,7 @@ all_keep a (line ∷ lines) calm x dir =
 -- ---- none of the lines before one that could be walked to clears what lies above its path
 
 module _ (now : ℕ) (p : Path) where
-  pub none_clears : (lines : List Line) → AllByRecursion IsSafe lines → AllByRecursion (IsBeside p) lines → Pairwise Before lines → (t : Files) → IsShaped (bares_of (places t))
+  pub none_clears : (lines : List Line) → AllByRecursion IsSafe lines → AllByRecursion (IsBeside p) lines → Pairwise Before lines → (t : Files) → IsShaped (object_states_of (places t))
       → one_is_refused (by_line now) lines t ≡ false → Passes now p (after_each (by_line now) lines t) → AllByRecursion (λ line. IsClearing p line → ⊥) lines
   none_clears [] safe beside before t shape quiet passes = tt
   none_clears (line ∷ lines) safe beside before t shape quiet passes =
@@ -258,9 +258,9 @@ module _ (lines : List Line) (are : AllByRecursion IsLine lines) (distinct : are
   free_all [] h = tt
   free_all (l ∷ ls) h = (free_each l h.0 ls h.1, free_all ls h.1)
 
-  module _ (now : ℕ) (t u : Files) (tree : IsTree t) (there : IsTree u) (quiet : IsQuiet lines now t) (way : PartwayOf (in_create_order lines) now t u) (r : Bares) (agree : Agree r u) where
+  module _ (now : ℕ) (t u : Files) (tree : IsTree t) (there : IsTree u) (quiet : IsQuiet lines now t) (way : PartwayOf (in_create_order lines) now t u) (r : ObjectStates) (agree : Agree r u) where
     pub start_shaped : IsShaped (fin.get r)
-    start_shaped = shape_same (bares_of (places u)) (fin.get r) agree (tree_shaped (places u) there)
+    start_shaped = shape_same (object_states_of (places u)) (fin.get r) agree (tree_shaped (places u) there)
 
     -- what is copied is there in both
     alike_there : (l : Listed) → Known l → IsThereAlike t u l.1
@@ -279,7 +279,7 @@ module _ (lines : List Line) (are : AllByRecursion IsLine lines) (distinct : are
 
     -- ---- one line, with those before and after it
 
-    module _ (before after : List Listed) (one : Listed) (whole : ordered all ≡ before ++ one ∷ after) (makes : is_touching one.1 ≡ false) (opens : AllOpen (map line_of before) r) where
+    module _ (before after : List Listed) (one : Listed) (whole : ordered all ≡ before ++ one ∷ after) (makes : is_adjusting_line one.1 ≡ false) (opens : AllOpen (map line_of before) r) where
       abbrev line : Line
       line = one.1
 
@@ -307,7 +307,7 @@ module _ (lines : List Line) (are : AllByRecursion IsLine lines) (distinct : are
       creates : is_creating line ≡ true
       creates = by known_one.does
         where
-          by : (is_creating line ≡ true) ⊎ (is_touching line ≡ true) → is_creating line ≡ true
+          by : (is_creating line ≡ true) ⊎ (is_adjusting_line line ≡ true) → is_creating line ≡ true
           by (inl h) = h
           by (inr h) = impossible (sym makes ∙ h)
 
@@ -315,7 +315,7 @@ module _ (lines : List Line) (are : AllByRecursion IsLine lines) (distinct : are
       in_place = subst (Pairwise GoesBefore) in_parts (all_in_place lines are distinct repeatable p)
 
       -- no line copies to a path above it
-      none_above : (l : Listed) → Known l → (copying : Copying) → asks l.1 ≡ Copy copying → path_in l.1.path ≢ p → is_prefix (path_in l.1.path) p ≡ false
+      none_above : (l : Listed) → Known l → (copying : Copying) → action_of l.1 ≡ Copy copying → path_in l.1.path ≢ p → is_prefix (path_in l.1.path) p ≡ false
       none_above l is copying e differ = by (is_prefix (path_in l.1.path) p) refl
         where
           by : (b : Bool) → is_prefix (path_in l.1.path) p ≡ b → is_prefix (path_in l.1.path) p ≡ false
@@ -366,14 +366,14 @@ module _ (lines : List Line) (are : AllByRecursion IsLine lines) (distinct : are
       quiet_line : ((by_line now).is_refused line first ≡ false) × (one_is_refused (by_line now) ys ((by_line now).after line first) ≡ false)
       quiet_line = or_parts ((by_line now).is_refused line first) (one_is_refused (by_line now) ys ((by_line now).after line first)) quiet_two.1
 
-      t_shaped : IsShaped (bares_of (places t))
+      t_shaped : IsShaped (object_states_of (places t))
       t_shaped = tree_shaped (places t) tree
 
-      first_shaped : IsShaped (bares_of (places first))
+      first_shaped : IsShaped (object_states_of (places first))
       first_shaped = all_shaped now xs safe_xs t t_shaped quiet_two.0
 
       -- what the line asks of each path above its own
-      module _ (unstaged : has_staging p ≡ false) (asks_parent : (a : Path) → is_prefix a p ≡ true → a ≢ p → operations (swapped t line) a ≡ Make parent_bare ∷ []) (passes : Passes now p first)
+      module _ (unstaged : has_staging p ≡ false) (asks_parent : (a : Path) → is_prefix a p ≡ true → a ≢ p → operations (swapped t line) a ≡ Make parent_object_state ∷ []) (passes : Passes now p first)
           (a : Path) (high : is_prefix a p ≡ true) (other : a ≢ p) where
         plain : has_staging a ≡ false
         plain = plain_prefix a p high unstaged
@@ -411,12 +411,12 @@ module _ (lines : List Line) (are : AllByRecursion IsLine lines) (distinct : are
         abbrev done_there : List Operation
         done_there = operations_of (map (swapped t) xs) a
 
-        here : fin.get (fold pointwise_after r xs) a ≡ run done_there (bares_of (places u) a)
+        here : fin.get (fold pointwise_after r xs) a ≡ run done_there (object_states_of (places u) a)
         here =
             all_swap t a plain xs safe_xs outside_xs (front_pairs IsFreeOf xs (line ∷ ys) free_parts) r start_shaped (alike_all before known_before) opens
             ∙ ap (run done_there) (agree a plain)
 
-        first_there : bares_of (places first) a ≡ run done_there (bares_of (places t) a)
+        first_there : object_states_of (places first) a ≡ run done_there (object_states_of (places t) a)
         first_there = swaps_point t a plain now xs safe_xs outside_xs (front_pairs IsFreeOf xs (line ∷ ys) free_parts) t t_shaped (same_alike xs) quiet_two.0
 
         calm_each : (zs : List Line) → AllByRecursion (IsOutside t a) zs → AllByRecursion (λ z. IsClearing p z → ⊥) zs → AllByRecursion (λ z. IsCalm z a) (map (swapped t) zs)
@@ -436,23 +436,23 @@ module _ (lines : List Line) (are : AllByRecursion IsLine lines) (distinct : are
 
         -- what the later ones ask of the path changes no directory into anything else
         gentle_one : (z : Line) → GoesBefore (swapped t line) z → list_all is_gentle (parts (operations z a)) ≡ true
-        gentle_one z goes = by (is_touching z) refl
+        gentle_one z goes = by (is_adjusting_line z) refl
           where
-            higher : is_touching z ≡ false → is_prefix (path_in z.path) a ≡ false
+            higher : is_adjusting_line z ≡ false → is_prefix (path_in z.path) a ≡ false
             higher none = at (is_prefix (path_in z.path) a) refl
               where
                 at : (b : Bool) → is_prefix (path_in z.path) a ≡ b → is_prefix (path_in z.path) a ≡ false
                 at true f = absurd (true_not_false (is_prefix (path_in z.path) p) (is_prefix-trans (path_in z.path) a p f high) (sym (ap (λ (l : LinePath). is_prefix (path_in z.path) (path_in l)) (swapped_path t line)) ∙ (goes none).1))
                 at false f = f
 
-            lower : is_touching z ≡ false → IsAskedAt z a → list_all is_gentle (parts (operations z a)) ≡ true
+            lower : is_adjusting_line z ≡ false → IsAskedAt z a → list_all is_gentle (parts (operations z a)) ≡ true
             lower none (repeated.object making e same f) = absurd (true_not_false (is_prefix (path_in z.path) a) (ap (λ (c : Path). is_prefix c a) same ∙ is_prefix-refl a) (higher none))
             lower none (repeated.parent making e low f) = ap (λ zs. list_all is_gentle (parts zs)) f
             lower none (repeated.below making e g d f) = absurd (true_not_false (is_prefix (path_in z.path) a) (and_parts (is_prefix (path_in z.path) a) (clears_below making) g).0 (higher none))
-            lower none (repeated.set touching e g f) = impossible (sym none ∙ repeated.touch_adjusts a z touching e)
+            lower none (repeated.set adjustment e g f) = impossible (sym none ∙ repeated.adjust_adjusts a z adjustment e)
             lower none (repeated.nothing f) = ap (λ zs. list_all is_gentle (parts zs)) f
 
-            by : (b : Bool) → is_touching z ≡ b → list_all is_gentle (parts (operations z a)) ≡ true
+            by : (b : Bool) → is_adjusting_line z ≡ b → list_all is_gentle (parts (operations z a)) ≡ true
             by true f = gentle_all (parts (operations z a)) (parts_adjust (operations z a) (adjuster_adjusts a z f))
             by false f = lower f (asked_at z a)
 
@@ -481,23 +481,23 @@ module _ (lines : List Line) (are : AllByRecursion IsLine lines) (distinct : are
             none (Make new ∷ zs) h = none zs h
             none (Renew test new ∷ zs) h = impossible h
             none (Erase ∷ zs) h = impossible h
-            none (Adjust guard change ∷ zs) h = none zs h
+            none (Apply guard change ∷ zs) h = none zs h
 
-        said_none : reasons.IsRepeatable done_there
-        said_none = repeatable-front done_there (operations_of (swapped t line ∷ map (swapped t) ys) a) no_erasure (
+        messages_none : reasons.IsRepeatable done_there
+        messages_none = repeatable-front done_there (operations_of (swapped t line ∷ map (swapped t) ys) a) no_erasure (
             subst reasons.IsRepeatable (ap (λ ls. operations_of ls a) mapped_parts ∙ flat_map-append (λ (l : Line). parts (operations l a)) mapped (swapped t line ∷ map (swapped t) ys))
             (operations_repeatable (map (swapped t) lines) (all_swapped t lines are) (swapped_distinct t lines ∙ distinct) (swapped_repeatable t lines repeatable) a named))
 
         -- ---- where the run was cut short among the lines before
 
-        gap_ends : (front back : List Line) (x : Line) (b : Bare) (old : Option Bare) → mapped ≡ front ++ x ∷ back → run (operations_of front a) old ≡ Some b → IsRenewal x a b → run done_there None ≡ run done_there old
+        gap_ends : (front back : List Line) (x : Line) (b : ObjectState) (old : Option ObjectState) → mapped ≡ front ++ x ∷ back → run (operations_of front a) old ≡ Some b → IsRenewal x a b → run done_there None ≡ run done_there old
         gap_ends front back x b old cut stood renewal =
             ap (λ zs. run zs None) is
             ∙ sym (from_the_gap [] (parts renewal.making.sets ++ operations_of back a) renewal.test own b refl renewal.fails)
             ∙ sym (ap (λ zs. run zs (Some b)) is) ∙ sym (ap (run done_there) begun)
           where
-            own : Bare
-            own = bare_of (new_object renewal.making.new 0)
+            own : ObjectState
+            own = object_state_of (new_object renewal.making.new 0)
 
             split : done_there ≡ operations_of front a ++ (parts (operations x a) ++ operations_of back a)
             split = ap (λ (ls : List Line). operations_of ls a) cut ∙ flat_map-append (λ (l : Line). parts (operations l a)) front (x ∷ back)
@@ -523,28 +523,28 @@ module _ (lines : List Line) (are : AllByRecursion IsLine lines) (distinct : are
             begun : old ≡ Some b
             begun = sym (ap (λ zs. run zs old) none) ∙ stood
 
-        piece_ends : IsPiece mapped a (bares_of (places t) a) (bares_of (places u) a) → run done_there (bares_of (places u) a) ≡ run done_there (bares_of (places t) a)
-        piece_ends (IsPiece.piece k e) = ap (run done_there) e ∙ absorbed done_there k (bares_of (places t) a) said_none
-        piece_ends (IsPiece.gap front back x b cut stood renewal none) = ap (run done_there) none ∙ gap_ends front back x b (bares_of (places t) a) cut stood renewal
+        piece_ends : IsPiece mapped a (object_states_of (places t) a) (object_states_of (places u) a) → run done_there (object_states_of (places u) a) ≡ run done_there (object_states_of (places t) a)
+        piece_ends (IsPiece.piece k e) = ap (run done_there) e ∙ absorbed done_there k (object_states_of (places t) a) messages_none
+        piece_ends (IsPiece.gap front back x b cut stood renewal none) = ap (run done_there) none ∙ gap_ends front back x b (object_states_of (places t) a) cut stood renewal
 
         -- what is as in the first run is a directory, if anything
-        as_first : fin.get (fold pointwise_after r xs) a ≡ bares_of (places first) a → is_some (fin.get (fold pointwise_after r xs) a) ≡ true → is_dir (fin.get (fold pointwise_after r xs) a) ≡ true
+        as_first : fin.get (fold pointwise_after r xs) a ≡ object_states_of (places first) a → is_some (fin.get (fold pointwise_after r xs) a) ≡ true → is_dir (fin.get (fold pointwise_after r xs) a) ≡ true
         as_first same h = ap is_dir same ∙ passes a high other (sym (ap is_some same) ∙ h)
 
         -- ---- where it had come to the line, or past it
 
-        parent_there : is_dir (done (Make parent_bare) (bares_of (places first) a)) ≡ true
-        parent_there = by (bares_of (places first) a) (passes a high other)
+        parent_there : is_dir (done (Make parent_object_state) (object_states_of (places first) a)) ≡ true
+        parent_there = by (object_states_of (places first) a) (passes a high other)
           where
-            by : (b : Option Bare) → (is_some b ≡ true → is_dir b ≡ true) → is_dir (done (Make parent_bare) b) ≡ true
+            by : (b : Option ObjectState) → (is_some b ≡ true → is_dir b ≡ true) → is_dir (done (Make parent_object_state) b) ≡ true
             by None h = refl
             by (Some x) h = h refl
 
         -- a directory stands there
-        from_directory : is_dir (bares_of (places u) a) ≡ true → is_dir (fin.get (fold pointwise_after r xs) a) ≡ true
-        from_directory dir = by (bares_of (places u) a) refl dir
+        from_directory : is_dir (object_states_of (places u) a) ≡ true → is_dir (fin.get (fold pointwise_after r xs) a) ≡ true
+        from_directory dir = by (object_states_of (places u) a) refl dir
           where
-            by : (b : Option Bare) → bares_of (places u) a ≡ b → is_dir b ≡ true → is_dir (fin.get (fold pointwise_after r xs) a) ≡ true
+            by : (b : Option ObjectState) → object_states_of (places u) a ≡ b → is_dir b ≡ true → is_dir (fin.get (fold pointwise_after r xs) a) ≡ true
             by None f h = impossible h
             by (Some x) f h =
                 let numbers = (tree_shaped (places u) there).plain a x plain f h in
@@ -552,13 +552,13 @@ module _ (lines : List Line) (are : AllByRecursion IsLine lines) (distinct : are
                 ap is_dir (here ∙ ap (run done_there) f ∙ kept.1) ∙ kept.2.0
 
         -- all is as when the line began
-        from_first : bares_of (places u) a ≡ bares_of (places first) a → fin.get (fold pointwise_after r xs) a ≡ bares_of (places first) a
+        from_first : object_states_of (places u) a ≡ object_states_of (places first) a → fin.get (fold pointwise_after r xs) a ≡ object_states_of (places first) a
         from_first same =
-            here ∙ ap (run done_there) (same ∙ first_there ∙ ap (λ zs. run zs (bares_of (places t) a)) (sym (take_all (length done_there) done_there (omega arith))))
-            ∙ absorbed done_there (length done_there) (bares_of (places t) a) said_none ∙ sym first_there
+            here ∙ ap (run done_there) (same ∙ first_there ∙ ap (λ zs. run zs (object_states_of (places t) a)) (sym (take_all (length done_there) done_there (omega arith))))
+            ∙ absorbed done_there (length done_there) (object_states_of (places t) a) messages_none ∙ sym first_there
 
         abbrev IsGood : Type 0
-        IsGood = (bares_of (places u) a ≡ bares_of (places first) a) ⊎ (is_dir (bares_of (places u) a) ≡ true)
+        IsGood = (object_states_of (places u) a ≡ object_states_of (places first) a) ⊎ (is_dir (object_states_of (places u) a) ≡ true)
 
         alike_parts : AllByRecursion (IsThereAlike t first) (line ∷ ys)
         alike_parts = each (one ∷ after) (all_behind Known before (one ∷ after) parts_known)
@@ -577,25 +577,25 @@ module _ (lines : List Line) (are : AllByRecursion IsLine lines) (distinct : are
                 all_map' [] g = tt
                 all_map' (z ∷ zs) g = (g.0.is, all_map' zs g.1)
 
-        at_line : IsMidway (swapped t line) a (bares_of (places first) a) (bares_of (places u) a) → IsGood
+        at_line : IsMidway (swapped t line) a (object_states_of (places first) a) (object_states_of (places u) a) → IsGood
         at_line (IsMidway.piece zero f) = inl f
         at_line (IsMidway.piece (suc k) f) = inr (
-            ap is_dir (f ∙ ap (λ zs. run (take (suc k) (parts zs)) (bares_of (places first) a)) (asks_parent a high other)) ∙ more k)
+            ap is_dir (f ∙ ap (λ zs. run (take (suc k) (parts zs)) (object_states_of (places first) a)) (asks_parent a high other)) ∙ more k)
           where
-            more : (n : ℕ) → is_dir (run (take (suc n) (parts (Make parent_bare ∷ []))) (bares_of (places first) a)) ≡ true
+            more : (n : ℕ) → is_dir (run (take (suc n) (parts (Make parent_object_state ∷ []))) (object_states_of (places first) a)) ≡ true
             more zero = parent_there
             more (suc n) = parent_there
         at_line (IsMidway.gap b s renewal none) = absurd (other (sym (sym (ap path_in (swapped_path t line)) ∙ renewal.at)))
 
-        next_there : bares_of (places ((by_line now).after line first)) a ≡ done (Make parent_bare) (bares_of (places first) a)
+        next_there : object_states_of (places ((by_line now).after line first)) a ≡ done (Make parent_object_state) (object_states_of (places first) a)
         next_there =
             swap_point t a plain now line safe_two.0 outside_two.0 first first_shaped alike_parts.0 quiet_line.0
-            ∙ ap (λ zs. run zs (bares_of (places first) a)) (asks_parent a high other)
+            ∙ ap (λ zs. run zs (object_states_of (places first) a)) (asks_parent a high other)
 
-        later_on : IsPiece (map (swapped t) ys) a (bares_of (places ((by_line now).after line first)) a) (bares_of (places u) a) → IsGood
+        later_on : IsPiece (map (swapped t) ys) a (object_states_of (places ((by_line now).after line first)) a) (object_states_of (places u) a) → IsGood
         later_on (IsPiece.piece k f) = inr (
             ap is_dir f ∙ gentle_keeps (take k (operations_of (map (swapped t) ys) a)) (all_take is_gentle k (operations_of (map (swapped t) ys) a) (gentle_each (map (swapped t) ys) behind))
-            (bares_of (places ((by_line now).after line first)) a) (ap is_dir next_there ∙ parent_there))
+            (object_states_of (places ((by_line now).after line first)) a) (ap is_dir next_there ∙ parent_there))
         later_on (IsPiece.gap front back x b cut stood renewal none) =
             let goes : GoesBefore (swapped t line) x = (all_behind (GoesBefore (swapped t line)) front (x ∷ back) (subst (AllByRecursion (GoesBefore (swapped t line))) cut behind)).0 in
             absurd (true_not_false (is_prefix (path_in x.path) p) (ap (λ (c : Path). is_prefix c p) renewal.at ∙ high)
@@ -626,7 +626,7 @@ module _ (lines : List Line) (are : AllByRecursion IsLine lines) (distinct : are
 
       -- ---- so it is open
 
-      made_open : (making : Making) → asks line ≡ Create making → PassesTo (fold pointwise_after r xs) p
+      made_open : (making : Making) → action_of line ≡ Create making → PassesTo (fold pointwise_after r xs) p
       made_open making e = open_above (line_is_plain line known_one.is (ap copied e)).unstaged parents (made_passes line making e p first free)
         where
           free : refused_at line p (places first) ≡ None
@@ -637,10 +637,10 @@ module _ (lines : List Line) (are : AllByRecursion IsLine lines) (distinct : are
           itself (swaps.same is f) = is
           itself (swaps.directory copying f there is) = absurd (let no : Create making ≡ Copy copying = sym e ∙ f in cc)
 
-          parents : (a : Path) → is_prefix a p ≡ true → a ≢ p → operations (swapped t line) a ≡ Make parent_bare ∷ []
+          parents : (a : Path) → is_prefix a p ≡ true → a ≢ p → operations (swapped t line) a ≡ Make parent_object_state ∷ []
           parents a high other = ap (λ (l : Line). operations l a) (itself (swap t line)) ∙ asked_made line making a e ∙ asked_above making p a (same_path-no p a (λ same. other (sym same))) high
 
-      copy_open : (copying : Copying) → asks line ≡ Copy copying → is_some (fin.get (fold pointwise_after r xs) copying.source) ≡ true → PassesTo (fold pointwise_after r xs) p
+      copy_open : (copying : Copying) → action_of line ≡ Copy copying → is_some (fin.get (fold pointwise_after r xs) copying.source) ≡ true → PassesTo (fold pointwise_after r xs) p
       copy_open copying e present = open_above (copy_path line known_one.is copying e).0 parents (copy_passes line copying e first free first_present)
         where
           free : refused_at line p (places first) ≡ None
@@ -657,29 +657,29 @@ module _ (lines : List Line) (are : AllByRecursion IsLine lines) (distinct : are
           all_are [] g = tt
           all_are (z ∷ zs) g = (g.0.is, all_are zs g.1)
 
-          t_present : is_some (bares_of (places t) copying.source) ≡ true
+          t_present : is_some (object_states_of (places t) copying.source) ≡ true
           t_present =
               sym (alike_one one known_one copying e)
               ∙ sym (ap is_some (all_frame copying.source plain_source xs safe_xs away r start_shaped opens)) ∙ present
 
           first_present : is_some (places first copying.source) ≡ true
-          first_present = sym (bare_some (places first copying.source)) ∙ ap is_some (frame_after now copying.source plain_source xs (all_are xs safe_xs) away t t_shaped) ∙ t_present
+          first_present = sym (object_state_some (places first copying.source)) ∙ ap is_some (frame_after now copying.source plain_source xs (all_are xs safe_xs) away t t_shaped) ∙ t_present
 
-          parents : (a : Path) → is_prefix a p ≡ true → a ≢ p → operations (swapped t line) a ≡ Make parent_bare ∷ []
+          parents : (a : Path) → is_prefix a p ≡ true → a ≢ p → operations (swapped t line) a ≡ Make parent_object_state ∷ []
           parents a high other = by (swap t line)
             where
-              by : IsSwap t line (swapped t line) → operations (swapped t line) a ≡ Make parent_bare ∷ []
+              by : IsSwap t line (swapped t line) → operations (swapped t line) a ≡ Make parent_object_state ∷ []
               by (swaps.same is f) = impossible (sym f ∙ ap (swaps.copies_some t) e ∙ t_present)
               by (swaps.directory c f there is) =
-                  ap (λ (l : Line). operations l a) is ∙ directory_asks line a (same_path-no p a (λ same. other (sym same))) ∙ ap (λ b. cond b (Make parent_bare ∷ []) []) high
+                  ap (λ (l : Line). operations l a) is ∙ directory_asks line a (same_path-no p a (λ same. other (sym same))) ∙ ap (λ b. cond b (Make parent_object_state ∷ []) []) high
 
       line_open : IsOpen line (fold pointwise_after r xs)
       line_open = record { made = made_open; copies = copy_open }
 
     -- ---- all lines
 
-    touch_open : (l : Line) (s : Bares) → is_touching l ≡ true → IsOpen l s
-    touch_open l s h = record {
+    adjust_open : (l : Line) (s : ObjectStates) → is_adjusting_line l ≡ true → IsOpen l s
+    adjust_open l s h = record {
       made = λ making e. impossible (sym (create_adjusts_not [] l making e) ∙ h);
       copies = λ copying e there. impossible (sym (repeated.copy_adjusts_not [] l copying e) ∙ h);
     }
@@ -693,12 +693,12 @@ module _ (lines : List Line) (are : AllByRecursion IsLine lines) (distinct : are
           (subst (λ ls. AllOpen ls r) (sym (map-append line_of before (one ∷ []))) (open_one (map line_of before) one.1 r opens own_turn))),
     )
       where
-        by : (b : Bool) → is_touching one.1 ≡ b → IsOpen one.1 (fold pointwise_after r (map line_of before))
-        by true f = touch_open one.1 (fold pointwise_after r (map line_of before)) f
+        by : (b : Bool) → is_adjusting_line one.1 ≡ b → IsOpen one.1 (fold pointwise_after r (map line_of before))
+        by true f = adjust_open one.1 (fold pointwise_after r (map line_of before)) f
         by false f = line_open before after one whole f opens
 
         own_turn : IsOpen one.1 (fold pointwise_after r (map line_of before))
-        own_turn = by (is_touching one.1) refl
+        own_turn = by (is_adjusting_line one.1) refl
 
     pub all_open : AllOpen (in_create_order lines) r
     all_open = open_rest [] (ordered all) refl tt

@@ -9,24 +9,24 @@ use Rattle.pv_path.proofs.PathLaws.{is_prefix-refl, rest_under-None, rest_under-
 use Rattle.pv_path.proofs.Tests.{true_not_false}
 use Rattle.pv_steps.specs.Trees.{Files, Places, places, tabulate}
 use Rattle.pv_steps.proofs.StepLaws.{is_among, places-tabulate}
-use Rattle.pv_dress.specs.declared.bare.Bare.{Bare}
-use Rattle.pv_dress.specs.declared.operation.Operation.TheVariants.{Make}
-use Rattle.pv_dress.specs.Dividing.{parts}
-use Rattle.pv_dress.specs.Nodes.{bare_of, bares_of}
-use Rattle.pv_dress.specs.Operations.{run}
-use Rattle.pv_dress.proofs.Dividing.{run-parts}
-use Rattle.pv_dress.proofs.OperationLaws.{run-append}
+use Rattle.pv_metadata.specs.declared.object_state.ObjectState.{ObjectState}
+use Rattle.pv_metadata.specs.declared.operation.Operation.TheVariants.{Make}
+use Rattle.pv_metadata.specs.Dividing.{parts}
+use Rattle.pv_metadata.specs.Nodes.{object_state_of, object_states_of}
+use Rattle.pv_metadata.specs.Operations.{run}
+use Rattle.pv_metadata.proofs.Dividing.{run-parts}
+use Rattle.pv_metadata.proofs.OperationLaws.{run-append}
 use Rattle.pv_lines.specs.declared.line.Line.{Line}
 use Rattle.pv_walk.specs.Copying.{object_of}
-use Rattle.pv_table.specs.declared.deed.Copying.{Copying}
-use Rattle.pv_table.specs.declared.deed.Deed.{Deed}
-use Rattle.pv_table.specs.declared.deed.Deed.TheVariants.{Create, Copy, Touch, Idle}
-use Rattle.pv_table.specs.declared.deed.Making.{Making}
-use Rattle.pv_table.specs.declared.deed.Touching.{Touching}
+use Rattle.pv_table.specs.declared.action.Copying.{Copying}
+use Rattle.pv_table.specs.declared.action.Action.{Action}
+use Rattle.pv_table.specs.declared.action.Action.TheVariants.{Create, Copy, Adjust, Idle}
+use Rattle.pv_table.specs.declared.action.Making.{Making}
+use Rattle.pv_table.specs.declared.action.Adjustment.{Adjustment}
 use Rattle.pv_table.specs.Asked.{made_at, operations, operations_of}
-use Rattle.pv_table.specs.Asking.{asks}
+use Rattle.pv_table.specs.ActionTable.{action_of}
 use Rattle.pv_table.specs.Effects.{carried_out}
-use Rattle.pv_table.specs.Pointwise.{Bares, parent_bare, after_turn, at_made, touches, point, pointwise_after}
+use Rattle.pv_table.specs.Pointwise.{ObjectStates, parent_object_state, after_turn, at_made, adjusts_path, point, pointwise_after}
 use Rattle.pv_table.specs.Reaching.{path_in, governs}
 use Rattle.pv_table.specs.Repeatable.{sets_of}
 use Rattle.pv_table.specs.Turns.{copied}
@@ -37,7 +37,7 @@ use Rattle.pv_laws.proofs.Copies.{copied_point, left_before}
 use Rattle.pv_laws.proofs.CopyEnds.{inside, inside_is, below_plain, turn_at}
 use Rattle.pv_laws.proofs.CopyShapes.{at_outside, copied_shaped}
 use Rattle.pv_laws.proofs.Frames.{ungoverned, asks_nothing}
-use Rattle.pv_laws.proofs.Lines.{IsPlain, line_is_plain, path_named, copy_path, copy_source, asked_made, asked_touch, asked_idle}
+use Rattle.pv_laws.proofs.Lines.{IsPlain, line_is_plain, path_named, copy_path, copy_source, asked_made, asked_adjustment, asked_idle}
 use Rattle.pv_laws.proofs.Making.{is_dir, IsShaped}
 use Rattle.pv_laws.proofs.Orders.{Pairwise}
 use Rattle.pv_laws.proofs.Parents.{IsOutside, IsFreeOf}
@@ -46,83 +46,83 @@ use Rattle.pv_laws.proofs.Prepared.{filled}
 use Rattle.pv_laws.proofs.Repeated.{asked_copy}
 use Rattle.pv_laws.proofs.Sets.{impossible, is_adjustment, line_is_making, adjusted_none, asked, sets_adjust}
 use Rattle.pv_laws.proofs.Shapes.{IsLike, adjusted_like, made_shaped, shaped_like, shape_same}
-use Rattle.pv_laws.proofs.Swapped.{copies_some, swapped, bare_directory, directory_asks, IsSwap, swap}
+use Rattle.pv_laws.proofs.Swapped.{copies_some, swapped, object_state_directory, directory_asks, IsSwap, swap}
 use Rattle.pv_laws.proofs.Swapped as swaps
 
 -- ---- a tree of a map
 
-abbrev objects : Bares → Places
+abbrev objects : ObjectStates → Places
 objects s q = option_map (object_of 0) (fin.get s q)
 
-object_bare : (b : Option Bare) → option_map bare_of (option_map (object_of 0) b) ≡ b
-object_bare None = refl
-object_bare (Some x) = refl
+state_of_object : (b : Option ObjectState) → option_map object_state_of (option_map (object_of 0) b) ≡ b
+state_of_object None = refl
+state_of_object (Some x) = refl
 
-object_some : (b : Option Bare) → is_some (option_map (object_of 0) b) ≡ is_some b
+object_some : (b : Option ObjectState) → is_some (option_map (object_of 0) b) ≡ is_some b
 object_some None = refl
 object_some (Some x) = refl
 
 -- each map is what stands in some tree, stamps aside
-pub tree_of : (s : Bares) → (v : Files) × ((q : Path) → fin.get s q ≡ bares_of (places v) q)
+pub tree_of : (s : ObjectStates) → (v : Files) × ((q : Path) → fin.get s q ≡ object_states_of (places v) q)
 tree_of s = (
   tabulate (fin.keys s) (objects s),
   λ q. sym (
-      ap (option_map bare_of) (places-tabulate (fin.keys s) (objects s) q (λ h. sym (fin.contains_key-keys s q) ∙ sym (object_some (fin.get s q)) ∙ h))
-      ∙ object_bare (fin.get s q)),
+      ap (option_map object_state_of) (places-tabulate (fin.keys s) (objects s) q (λ h. sym (fin.contains_key-keys s q) ∙ sym (object_some (fin.get s q)) ∙ h))
+      ∙ state_of_object (fin.get s q)),
 )
 
 -- ---- one line
 
 -- each present place above a path is a directory
-abbrev pub PassesTo : Bares → Path → Type 0
+abbrev pub PassesTo : ObjectStates → Path → Type 0
 PassesTo s path = (p : Path) → is_prefix p path ≡ true → p ≢ path → is_some (fin.get s p) ≡ true → is_dir (fin.get s p) ≡ true
 
 -- where a line makes an object, or copies what is there, its path can be walked to
-pub record IsOpen (line : Line) (s : Bares) : Type 0 where
-  pub made : (making : Making) → asks line ≡ Create making → PassesTo s (path_in line.path)
-  pub copies : (copying : Copying) → asks line ≡ Copy copying → is_some (fin.get s copying.source) ≡ true → PassesTo s (path_in line.path)
+pub record IsOpen (line : Line) (s : ObjectStates) : Type 0 where
+  pub made : (making : Making) → action_of line ≡ Create making → PassesTo s (path_in line.path)
+  pub copies : (copying : Copying) → action_of line ≡ Copy copying → is_some (fin.get s copying.source) ≡ true → PassesTo s (path_in line.path)
 
 -- what a line copies is there in a map as in a tree
-abbrev pub IsAlikeIn : Files → Bares → Line → Type 0
-IsAlikeIn t s line = (copying : Copying) → asks line ≡ Copy copying → is_some (fin.get s copying.source) ≡ is_some (bares_of (places t) copying.source)
+abbrev pub IsAlikeIn : Files → ObjectStates → Line → Type 0
+IsAlikeIn t s line = (copying : Copying) → action_of line ≡ Copy copying → is_some (fin.get s copying.source) ≡ is_some (object_states_of (places t) copying.source)
 
-point_copied : (line : Line) (copying : Copying) (s : Bares) (q : Path) → asks line ≡ Copy copying → point line s q ≡ cond (is_some (fin.get s copying.source)) (at_made (Copy copying) (path_in line.path) s q) (fin.get s q)
+point_copied : (line : Line) (copying : Copying) (s : ObjectStates) (q : Path) → action_of line ≡ Copy copying → point line s q ≡ cond (is_some (fin.get s copying.source)) (at_made (Copy copying) (path_in line.path) s q) (fin.get s q)
 point_copied line copying s q e = rw e
 
-parent_done : (b : Bool) (c : Option Bare) → filled b c ≡ run (cond b (Make parent_bare ∷ []) []) c
+parent_done : (b : Bool) (c : Option ObjectState) → filled b c ≡ run (cond b (Make parent_object_state ∷ []) []) c
 parent_done true c = refl
 parent_done false c = refl
 
-module _ (line : Line) (safe : IsSafe line) (s : Bares) (shape : IsShaped (fin.get s)) where
+module _ (line : Line) (safe : IsSafe line) (s : ObjectStates) (shape : IsShaped (fin.get s)) where
   abbrev path : Path
   path = path_in line.path
 
   -- one that copies nothing
-  pub asked_after : copied (asks line) ≡ None → (q : Path) → has_staging q ≡ false → fin.get (pointwise_after s line) q ≡ run (operations line q) (fin.get s q)
+  pub asked_after : copied (action_of line) ≡ None → (q : Path) → has_staging q ≡ false → fin.get (pointwise_after s line) q ≡ run (operations line q) (fin.get s q)
   asked_after none q plain = pointwise_is line safe s shape q plain ∙ point_asked line (line_is_plain line safe.is none) s shape q plain
 
   -- a copy of what is absent
-  pub none_after : (copying : Copying) → asks line ≡ Copy copying → fin.get s copying.source ≡ None → (q : Path) → has_staging q ≡ false → fin.get (pointwise_after s line) q ≡ fin.get s q
+  pub none_after : (copying : Copying) → action_of line ≡ Copy copying → fin.get s copying.source ≡ None → (q : Path) → has_staging q ≡ false → fin.get (pointwise_after s line) q ≡ fin.get s q
   none_after copying e none q plain =
       pointwise_is line safe s shape q plain ∙ point_copied line copying s q e
       ∙ ap (λ b. cond (is_some b) (at_made (Copy copying) path s q) (fin.get s q)) none
 
   -- a copy of what is there
-  module _ (copying : Copying) (e : asks line ≡ Copy copying) (b : Bare) (present : fin.get s copying.source ≡ Some b) where
+  module _ (copying : Copying) (e : action_of line ≡ Copy copying) (b : ObjectState) (present : fin.get s copying.source ≡ Some b) where
     abbrev pub seen : Files
     seen = (tree_of s).0
 
-    agrees : (q : Path) → fin.get s q ≡ bares_of (places seen) q
+    agrees : (q : Path) → fin.get s q ≡ object_states_of (places seen) q
     agrees = (tree_of s).1
 
-    seen_shaped : IsShaped (bares_of (places seen))
-    seen_shaped = shape_same (fin.get s) (bares_of (places seen)) (λ q plain. sym (agrees q)) shape
+    seen_shaped : IsShaped (object_states_of (places seen))
+    seen_shaped = shape_same (fin.get s) (object_states_of (places seen)) (λ q plain. sym (agrees q)) shape
 
-    seen_there : bares_of (places seen) copying.source ≡ Some b
+    seen_there : object_states_of (places seen) copying.source ≡ Some b
     seen_there = sym (agrees copying.source) ∙ present
 
     adjust : list_all is_adjustment copying.sets ≡ true
-    adjust = subst (λ d. list_all is_adjustment (sets_of d) ≡ true) e (sets_adjust line (asks line) (asked line))
+    adjust = subst (λ d. list_all is_adjustment (sets_of d) ≡ true) e (sets_adjust line (action_of line) (asked line))
 
     plain_path : has_staging path ≡ false
     plain_path = (copy_path line safe.is copying e).0
@@ -130,7 +130,7 @@ module _ (line : Line) (safe : IsSafe line) (s : Bares) (shape : IsShaped (fin.g
     plain_source : has_staging copying.source ≡ false
     plain_source = copy_source line safe.is copying e
 
-    carried : (q : Path) → has_staging q ≡ false → fin.get (pointwise_after s line) q ≡ bares_of (places (carried_out 0 (Copy copying) path seen)) q
+    carried : (q : Path) → has_staging q ≡ false → fin.get (pointwise_after s line) q ≡ object_states_of (places (carried_out 0 (Copy copying) path seen)) q
     carried q plain =
         pointwise_is line safe s shape q plain ∙ point_copied line copying s q e
         ∙ ap (λ c. cond (is_some c) (at_made (Copy copying) path s q) (fin.get s q)) present
@@ -143,11 +143,11 @@ module _ (line : Line) (safe : IsSafe line) (s : Bares) (shape : IsShaped (fin.g
         ∙ ap (after_turn (turn_at line safe copying e b seen) rest) (sym (inside_is path seen rest plain))
 
     module _ (pass : PassesTo s path) where
-      seen_pass : (p : Path) → is_prefix p path ≡ true → p ≢ path → is_some (bares_of (places seen) p) ≡ true → is_dir (bares_of (places seen) p) ≡ true
+      seen_pass : (p : Path) → is_prefix p path ≡ true → p ≢ path → is_some (object_states_of (places seen) p) ≡ true → is_dir (object_states_of (places seen) p) ≡ true
       seen_pass p high other h = ap is_dir (sym (agrees p)) ∙ pass p high other (ap is_some (agrees p) ∙ h)
 
       pub copy_shape : IsShaped (fin.get (pointwise_after s line))
-      copy_shape = shape_same (bares_of (places (carried_out 0 (Copy copying) path seen))) (fin.get (pointwise_after s line)) carried (
+      copy_shape = shape_same (object_states_of (places (carried_out 0 (Copy copying) path seen))) (fin.get (pointwise_after s line)) carried (
           copied_shaped 0 copying adjust path plain_path plain_source seen seen_shaped b seen_there (copy_path line safe.is copying e).1 seen_pass (path_named line safe.is))
 
       pub outside_after : (q : Path) → has_staging q ≡ false → is_prefix path q ≡ false → fin.get (pointwise_after s line) q ≡ filled (is_prefix q path) (fin.get s q)
@@ -157,73 +157,73 @@ module _ (line : Line) (safe : IsSafe line) (s : Bares) (shape : IsShaped (fin.g
           ∙ ap (filled (is_prefix q path)) (sym (agrees q))
 
   -- what it leaves has the shape
-  touch_like : (touching : Touching) → asks line ≡ Touch touching → (q : Path) → has_staging q ≡ false → (fin.get (pointwise_after s line) q ≡ fin.get s q)
-      ⊎ ((x : Bare) × (y : Bare) × (fin.get s q ≡ Some x) × (fin.get (pointwise_after s line) q ≡ Some y) × IsLike x y)
-  touch_like touching e q plain = by (touches line touching q) (fin.get s q) refl (asked_after (ap copied e) q plain ∙ ap (λ xs. run xs (fin.get s q)) (asked_touch line touching q e))
+  adjust_like : (adjustment : Adjustment) → action_of line ≡ Adjust adjustment → (q : Path) → has_staging q ≡ false → (fin.get (pointwise_after s line) q ≡ fin.get s q)
+      ⊎ ((x : ObjectState) × (y : ObjectState) × (fin.get s q ≡ Some x) × (fin.get (pointwise_after s line) q ≡ Some y) × IsLike x y)
+  adjust_like adjustment e q plain = by (adjusts_path line adjustment q) (fin.get s q) refl (asked_after (ap copied e) q plain ∙ ap (λ xs. run xs (fin.get s q)) (asked_adjustment line adjustment q e))
     where
-      adjusts : list_all is_adjustment touching.sets ≡ true
-      adjusts = subst (λ d. list_all is_adjustment (sets_of d) ≡ true) e (sets_adjust line (asks line) (asked line))
+      adjusts : list_all is_adjustment adjustment.sets ≡ true
+      adjusts = subst (λ d. list_all is_adjustment (sets_of d) ≡ true) e (sets_adjust line (action_of line) (asked line))
 
-      by : (b : Bool) (o : Option Bare) → fin.get s q ≡ o → fin.get (pointwise_after s line) q ≡ run (cond b touching.sets []) (fin.get s q)
-          → (fin.get (pointwise_after s line) q ≡ fin.get s q) ⊎ ((x : Bare) × (y : Bare) × (fin.get s q ≡ Some x) × (fin.get (pointwise_after s line) q ≡ Some y) × IsLike x y)
+      by : (b : Bool) (o : Option ObjectState) → fin.get s q ≡ o → fin.get (pointwise_after s line) q ≡ run (cond b adjustment.sets []) (fin.get s q)
+          → (fin.get (pointwise_after s line) q ≡ fin.get s q) ⊎ ((x : ObjectState) × (y : ObjectState) × (fin.get s q ≡ Some x) × (fin.get (pointwise_after s line) q ≡ Some y) × IsLike x y)
       by false o f g = inl g
-      by true None f g = inl (g ∙ ap (run touching.sets) f ∙ adjusted_none touching.sets adjusts ∙ sym f)
-      by true (Some x) f g = let same = adjusted_like touching.sets adjusts x in inr (x, same.0, f, g ∙ ap (run touching.sets) f ∙ same.1, same.2)
+      by true None f g = inl (g ∙ ap (run adjustment.sets) f ∙ adjusted_none adjustment.sets adjusts ∙ sym f)
+      by true (Some x) f g = let same = adjusted_like adjustment.sets adjusts x in inr (x, same.0, f, g ∙ ap (run adjustment.sets) f ∙ same.1, same.2)
 
   module _ (opens : IsOpen line s) where
     pub open_shape : IsShaped (fin.get (pointwise_after s line))
-    open_shape = by (asks line) refl
+    open_shape = by (action_of line) refl
       where
-        made : (making : Making) → asks line ≡ Create making → IsPlain line → IsShaped (fin.get (pointwise_after s line))
+        made : (making : Making) → action_of line ≡ Create making → IsPlain line → IsShaped (fin.get (pointwise_after s line))
         made making e is = shape_same (λ q. run (made_at making path q) (fin.get s q)) (fin.get (pointwise_after s line))
             (λ q plain. asked_after (ap copied e) q plain ∙ ap (λ xs. run xs (fin.get s q)) (asked_made line making q e))
             (made_shaped making (line_is_making line making e) path is.unstaged (fin.get s) shape (is.rooted making e) (opens.made making e) is.named)
 
-        copy : (copying : Copying) → asks line ≡ Copy copying → (o : Option Bare) → fin.get s copying.source ≡ o → IsShaped (fin.get (pointwise_after s line))
+        copy : (copying : Copying) → action_of line ≡ Copy copying → (o : Option ObjectState) → fin.get s copying.source ≡ o → IsShaped (fin.get (pointwise_after s line))
         copy copying e None f = shape_same (fin.get s) (fin.get (pointwise_after s line)) (none_after copying e f) shape
         copy copying e (Some b) f = copy_shape copying e b f (opens.copies copying e (ap is_some f))
 
-        by : (d : Deed) → asks line ≡ d → IsShaped (fin.get (pointwise_after s line))
+        by : (d : Action) → action_of line ≡ d → IsShaped (fin.get (pointwise_after s line))
         by (Create making) e = made making e (line_is_plain line safe.is (ap copied e))
         by (Copy copying) e = copy copying e (fin.get s copying.source) refl
-        by (Touch touching) e = shaped_like (fin.get s) (fin.get (pointwise_after s line)) (touch_like touching e) shape
+        by (Adjust adjustment) e = shaped_like (fin.get s) (fin.get (pointwise_after s line)) (adjust_like adjustment e) shape
         by Idle e = shape_same (fin.get s) (fin.get (pointwise_after s line)) (λ q plain. asked_after (ap copied e) q plain ∙ ap (λ xs. run xs (fin.get s q)) (asked_idle line q e)) shape
 
     -- what it does not govern stays
     pub frame_step : (q : Path) → has_staging q ≡ false → governs line q ≡ false → fin.get (pointwise_after s line) q ≡ fin.get s q
-    frame_step q plain away = by (asks line) refl
+    frame_step q plain away = by (action_of line) refl
       where
-        plain_line : copied (asks line) ≡ None → fin.get (pointwise_after s line) q ≡ fin.get s q
+        plain_line : copied (action_of line) ≡ None → fin.get (pointwise_after s line) q ≡ fin.get s q
         plain_line none = asked_after none q plain ∙ ap (λ xs. run xs (fin.get s q)) (asks_nothing line safe.is q (ungoverned line q away))
 
-        copy : (copying : Copying) → asks line ≡ Copy copying → (o : Option Bare) → fin.get s copying.source ≡ o → fin.get (pointwise_after s line) q ≡ fin.get s q
+        copy : (copying : Copying) → action_of line ≡ Copy copying → (o : Option ObjectState) → fin.get s copying.source ≡ o → fin.get (pointwise_after s line) q ≡ fin.get s q
         copy copying e None f = none_after copying e f q plain
         copy copying e (Some b) f =
             outside_after copying e b f (opens.copies copying e (ap is_some f)) q plain (not_below line safe.is copying e q (ungoverned line q away))
             ∙ ap (λ c. filled c (fin.get s q)) (not_above line safe.is copying e q (ungoverned line q away))
 
-        by : (d : Deed) → asks line ≡ d → fin.get (pointwise_after s line) q ≡ fin.get s q
+        by : (d : Action) → action_of line ≡ d → fin.get (pointwise_after s line) q ≡ fin.get s q
         by (Create making) e = plain_line (ap copied e)
         by (Copy copying) e = copy copying e (fin.get s copying.source) refl
-        by (Touch touching) e = plain_line (ap copied e)
+        by (Adjust adjustment) e = plain_line (ap copied e)
         by Idle e = plain_line (ap copied e)
 
     -- beside what is copied it leaves what the line in its place asks for
     module _ (t : Files) (q : Path) (plain : has_staging q ≡ false) (outside : IsOutside t q line) (alike : IsAlikeIn t s line) where
-      other_path : (copying : Copying) → asks line ≡ Copy copying → is_some (bares_of (places t) copying.source) ≡ true → same_path path q ≡ false
+      other_path : (copying : Copying) → action_of line ≡ Copy copying → is_some (object_states_of (places t) copying.source) ≡ true → same_path path q ≡ false
       other_path copying e there = same_path-no path q (λ same. true_not_false (is_prefix path q) (ap (is_prefix path) (sym same) ∙ is_prefix-refl path) (outside copying e there))
 
-      absent : (copying : Copying) → asks line ≡ Copy copying → is_some (bares_of (places t) copying.source) ≡ false → fin.get (pointwise_after s line) q ≡ fin.get s q
+      absent : (copying : Copying) → action_of line ≡ Copy copying → is_some (object_states_of (places t) copying.source) ≡ false → fin.get (pointwise_after s line) q ≡ fin.get s q
       absent copying e none = by (fin.get s copying.source) refl
         where
-          by : (o : Option Bare) → fin.get s copying.source ≡ o → fin.get (pointwise_after s line) q ≡ fin.get s q
+          by : (o : Option ObjectState) → fin.get s copying.source ≡ o → fin.get (pointwise_after s line) q ≡ fin.get s q
           by None f = none_after copying e f q plain
           by (Some b) f = impossible (sym none ∙ sym (alike copying e) ∙ ap is_some f)
 
-      present : (copying : Copying) → asks line ≡ Copy copying → is_some (bares_of (places t) copying.source) ≡ true → fin.get (pointwise_after s line) q ≡ filled (is_prefix q path) (fin.get s q)
+      present : (copying : Copying) → action_of line ≡ Copy copying → is_some (object_states_of (places t) copying.source) ≡ true → fin.get (pointwise_after s line) q ≡ filled (is_prefix q path) (fin.get s q)
       present copying e there = by (fin.get s copying.source) refl
         where
-          by : (o : Option Bare) → fin.get s copying.source ≡ o → fin.get (pointwise_after s line) q ≡ filled (is_prefix q path) (fin.get s q)
+          by : (o : Option ObjectState) → fin.get s copying.source ≡ o → fin.get (pointwise_after s line) q ≡ filled (is_prefix q path) (fin.get s q)
           by None f = impossible (sym (ap is_some f) ∙ alike copying e ∙ there)
           by (Some b) f = outside_after copying e b f (opens.copies copying e (ap is_some f)) q plain (outside copying e there)
 
@@ -233,14 +233,14 @@ module _ (line : Line) (safe : IsSafe line) (s : Bares) (shape : IsShaped (fin.g
           kept : swapped t line ≡ line → run (operations line q) (fin.get s q) ≡ run (operations (swapped t line) q) (fin.get s q)
           kept is = sym (ap (λ (l : Line). run (operations l q) (fin.get s q)) is)
 
-          at : swapped t line ≡ line → copies_some t (asks line) ≡ false → (d : Deed) → asks line ≡ d → fin.get (pointwise_after s line) q ≡ run (operations (swapped t line) q) (fin.get s q)
+          at : swapped t line ≡ line → copies_some t (action_of line) ≡ false → (d : Action) → action_of line ≡ d → fin.get (pointwise_after s line) q ≡ run (operations (swapped t line) q) (fin.get s q)
           at is f (Copy copying) e = absent copying e (sym (ap (copies_some t) e) ∙ f) ∙ sym (ap (λ xs. run xs (fin.get s q)) (asked_copy line copying q e)) ∙ kept is
           at is f (Create making) e = asked_after (ap copied e) q plain ∙ kept is
-          at is f (Touch touching) e = asked_after (ap copied e) q plain ∙ kept is
+          at is f (Adjust adjustment) e = asked_after (ap copied e) q plain ∙ kept is
           at is f Idle e = asked_after (ap copied e) q plain ∙ kept is
 
           by : IsSwap t line (swapped t line) → fin.get (pointwise_after s line) q ≡ run (operations (swapped t line) q) (fin.get s q)
-          by (swaps.same is f) = at is f (asks line) refl
+          by (swaps.same is f) = at is f (action_of line) refl
           by (swaps.directory copying e there is) =
               present copying e there ∙ parent_done (is_prefix q path) (fin.get s q)
               ∙ sym (ap (λ xs. run xs (fin.get s q)) (ap (λ (l : Line). operations l q) is ∙ directory_asks line q (other_path copying e there)))
@@ -248,15 +248,15 @@ module _ (line : Line) (safe : IsSafe line) (s : Bares) (shape : IsShaped (fin.g
 -- ---- lines one after the other
 
 -- each of them is open when its turn comes
-abbrev pub AllOpen : List Line → Bares → Type 0
+abbrev pub AllOpen : List Line → ObjectStates → Type 0
 AllOpen [] s = ⊤
 AllOpen (line ∷ lines) s = IsOpen line s × AllOpen lines (pointwise_after s line)
 
-pub all_shape : (lines : List Line) → AllByRecursion IsSafe lines → (s : Bares) → IsShaped (fin.get s) → AllOpen lines s → IsShaped (fin.get (fold pointwise_after s lines))
+pub all_shape : (lines : List Line) → AllByRecursion IsSafe lines → (s : ObjectStates) → IsShaped (fin.get s) → AllOpen lines s → IsShaped (fin.get (fold pointwise_after s lines))
 all_shape [] safe s shape opens = shape
 all_shape (line ∷ lines) safe s shape opens = all_shape lines safe.1 (pointwise_after s line) (open_shape line safe.0 s shape opens.0) opens.1
 
-pub all_frame : (q : Path) → has_staging q ≡ false → (lines : List Line) → AllByRecursion IsSafe lines → AllByRecursion (λ line. governs line q ≡ false) lines → (s : Bares) → IsShaped (fin.get s) → AllOpen lines s
+pub all_frame : (q : Path) → has_staging q ≡ false → (lines : List Line) → AllByRecursion IsSafe lines → AllByRecursion (λ line. governs line q ≡ false) lines → (s : ObjectStates) → IsShaped (fin.get s) → AllOpen lines s
     → fin.get (fold pointwise_after s lines) q ≡ fin.get s q
 all_frame q plain [] safe away s shape opens = refl
 all_frame q plain (line ∷ lines) safe away s shape opens =
@@ -264,7 +264,7 @@ all_frame q plain (line ∷ lines) safe away s shape opens =
     ∙ frame_step line safe.0 s shape opens.0 q plain away.0
 
 -- what the next lines copy is there as before
-alike_after : (t : Files) (line : Line) (safe : IsSafe line) (s : Bares) (shape : IsShaped (fin.get s)) (opens : IsOpen line s) (lines : List Line) → AllByRecursion IsSafe lines → AllByRecursion (IsFreeOf line) lines
+alike_after : (t : Files) (line : Line) (safe : IsSafe line) (s : ObjectStates) (shape : IsShaped (fin.get s)) (opens : IsOpen line s) (lines : List Line) → AllByRecursion IsSafe lines → AllByRecursion (IsFreeOf line) lines
     → AllByRecursion (IsAlikeIn t s) lines → AllByRecursion (IsAlikeIn t (pointwise_after s line)) lines
 alike_after t line safe s shape opens [] is free same = tt
 alike_after t line safe s shape opens (l ∷ lines) is free same = (
@@ -273,7 +273,7 @@ alike_after t line safe s shape opens (l ∷ lines) is free same = (
 )
 
 pub all_swap : (t : Files) (q : Path) (plain : has_staging q ≡ false) (lines : List Line) → AllByRecursion IsSafe lines → AllByRecursion (IsOutside t q) lines → Pairwise IsFreeOf lines
-    → (s : Bares) → IsShaped (fin.get s) → AllByRecursion (IsAlikeIn t s) lines → AllOpen lines s
+    → (s : ObjectStates) → IsShaped (fin.get s) → AllByRecursion (IsAlikeIn t s) lines → AllOpen lines s
     → fin.get (fold pointwise_after s lines) q ≡ run (operations_of (map (swapped t) lines) q) (fin.get s q)
 all_swap t q plain [] safe outside free s shape alike opens = refl
 all_swap t q plain (line ∷ lines) safe outside free s shape alike opens =
@@ -284,18 +284,18 @@ all_swap t q plain (line ∷ lines) safe outside free s shape alike opens =
 
 -- ---- in parts
 
-pub fold_one : (xs : List Line) (line : Line) (s : Bares) → fold pointwise_after s (xs ++ line ∷ []) ≡ pointwise_after (fold pointwise_after s xs) line
+pub fold_one : (xs : List Line) (line : Line) (s : ObjectStates) → fold pointwise_after s (xs ++ line ∷ []) ≡ pointwise_after (fold pointwise_after s xs) line
 fold_one [] line s = refl
 fold_one (x ∷ xs) line s = fold_one xs line (pointwise_after s x)
 
-pub fold_parts : (xs ys : List Line) (s : Bares) → fold pointwise_after s (xs ++ ys) ≡ fold pointwise_after (fold pointwise_after s xs) ys
+pub fold_parts : (xs ys : List Line) (s : ObjectStates) → fold pointwise_after s (xs ++ ys) ≡ fold pointwise_after (fold pointwise_after s xs) ys
 fold_parts [] ys s = refl
 fold_parts (x ∷ xs) ys s = fold_parts xs ys (pointwise_after s x)
 
-pub open_one : (xs : List Line) (line : Line) (s : Bares) → AllOpen xs s → IsOpen line (fold pointwise_after s xs) → AllOpen (xs ++ line ∷ []) s
+pub open_one : (xs : List Line) (line : Line) (s : ObjectStates) → AllOpen xs s → IsOpen line (fold pointwise_after s xs) → AllOpen (xs ++ line ∷ []) s
 open_one [] line s opens one = (one, tt)
 open_one (x ∷ xs) line s opens one = (opens.0, open_one xs line (pointwise_after s x) opens.1 one)
 
-pub open_parts : (xs ys : List Line) (s : Bares) → AllOpen (xs ++ ys) s → AllOpen xs s × AllOpen ys (fold pointwise_after s xs)
+pub open_parts : (xs ys : List Line) (s : ObjectStates) → AllOpen (xs ++ ys) s → AllOpen xs s × AllOpen ys (fold pointwise_after s xs)
 open_parts [] ys s opens = (tt, opens)
 open_parts (x ∷ xs) ys s opens = let rest = open_parts xs ys (pointwise_after s x) opens.1 in ((opens.0, rest.0), rest.1)

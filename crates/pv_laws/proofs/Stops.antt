@@ -11,24 +11,24 @@ use Rattle.pv_path.specs.Paths.{has_names, Path, is_prefix, has_staging, same_pa
 use Rattle.pv_path.proofs.PathLaws.{is_prefix-refl}
 use Rattle.pv_steps.specs.Trees.{Files, places, IsTree}
 use Rattle.pv_steps.specs.Same.{Same}
-use Rattle.pv_dress.specs.declared.bare.Bare.{Bare}
-use Rattle.pv_dress.specs.declared.operation.Operation.{Operation}
-use Rattle.pv_dress.specs.declared.operation.Operation.TheVariants.{Renew}
-use Rattle.pv_dress.specs.Dividing.{parts}
-use Rattle.pv_dress.specs.Nodes.{bare_of, bares_of}
-use Rattle.pv_dress.specs.Operations.{run}
-use Rattle.pv_dress.specs.Reasons as reasons
-use Rattle.pv_dress.specs.Reasons.{is_erasure}
-use Rattle.pv_dress.proofs.Dividing.{run-parts}
-use Rattle.pv_dress.proofs.OperationLaws.{absorbed, bares_of-same, bares-same, erased-alike, from_the_gap, run-append}
+use Rattle.pv_metadata.specs.declared.object_state.ObjectState.{ObjectState}
+use Rattle.pv_metadata.specs.declared.operation.Operation.{Operation}
+use Rattle.pv_metadata.specs.declared.operation.Operation.TheVariants.{Renew}
+use Rattle.pv_metadata.specs.Dividing.{parts}
+use Rattle.pv_metadata.specs.Nodes.{object_state_of, object_states_of}
+use Rattle.pv_metadata.specs.Operations.{run}
+use Rattle.pv_metadata.specs.Reasons as reasons
+use Rattle.pv_metadata.specs.Reasons.{is_erasure}
+use Rattle.pv_metadata.proofs.Dividing.{run-parts}
+use Rattle.pv_metadata.proofs.OperationLaws.{absorbed, object_states_of-same, object_states-same, erased-alike, from_the_gap, run-append}
 use Rattle.pv_lines.specs.declared.line.Line.{Line}
 use Rattle.pv_lines.specs.Lines.{IsLine}
 use Rattle.pv_walk.specs.Staging.{new_object}
-use Rattle.pv_table.specs.declared.deed.Deed.TheVariants.{Create, Touch}
-use Rattle.pv_table.specs.declared.deed.Making.{Making}
-use Rattle.pv_table.specs.Active.{are_distinct, Listed, placed, is_touching, in_create_order}
+use Rattle.pv_table.specs.declared.action.Action.TheVariants.{Create, Adjust}
+use Rattle.pv_table.specs.declared.action.Making.{Making}
+use Rattle.pv_table.specs.Active.{are_distinct, Listed, placed, is_adjusting_line, in_create_order}
 use Rattle.pv_table.specs.Asked.{first_of, operations, operations_of}
-use Rattle.pv_table.specs.Asking.{asks}
+use Rattle.pv_table.specs.ActionTable.{action_of}
 use Rattle.pv_table.specs.Created.{by_line, one_is_refused, created, IsQuiet}
 use Rattle.pv_table.specs.Reaching.{path_in, is_creating}
 use Rattle.pv_table.specs.Repeatable.{IsRepeatable}
@@ -56,14 +56,14 @@ take_after k [] ys = (k, refl)
 take_after k (x ∷ xs) ys = let more = take_after k xs ys in (suc more.0, ap (λ zs. x ∷ zs) more.1)
 
 -- what is on the way of the first line is a piece of what all ask for
-pub midway_piece : (line : Line) (lines : List Line) (q : Path) (old new : Option Bare) → IsMidway line q old new → IsPiece (line ∷ lines) q old new
+pub midway_piece : (line : Line) (lines : List Line) (q : Path) (old new : Option ObjectState) → IsMidway line q old new → IsPiece (line ∷ lines) q old new
 midway_piece line lines q old new (IsMidway.piece k e) =
     let front = take_front k (parts (operations line q)) (operations_of lines q) in
     IsPiece.piece front.0 (e ∙ ap (λ xs. run xs old) (sym front.1))
 midway_piece line lines q old new (IsMidway.gap b s renewal none) = IsPiece.gap [] lines line b refl s renewal none
 
 -- so is what is on the way of a later one
-pub later_piece : (line : Line) (lines : List Line) (q : Path) (old new : Option Bare) → IsPiece lines q (run (parts (operations line q)) old) new → IsPiece (line ∷ lines) q old new
+pub later_piece : (line : Line) (lines : List Line) (q : Path) (old new : Option ObjectState) → IsPiece lines q (run (parts (operations line q)) old) new → IsPiece (line ∷ lines) q old new
 later_piece line lines q old new (IsPiece.piece k e) =
     let back = take_after k (parts (operations line q)) (operations_of lines q) in
     IsPiece.piece back.0 (e ∙ sym (run-append (parts (operations line q)) (take k (operations_of lines q)) old) ∙ ap (λ xs. run xs old) (sym back.1))
@@ -71,22 +71,22 @@ later_piece line lines q old new (IsPiece.gap before after next b whole s renewa
     IsPiece.gap (line ∷ before) after next b (ap (λ ls. line ∷ ls) whole) (run-append (parts (operations line q)) (operations_of before q) old ∙ s) renewal none
 
 -- a line that copies nothing is on its way at each path
-plain_way : (now : ℕ) (line : Line) (t u : Files) → copied (asks line) ≡ None → OnWayOf line now t u → OnWay line t u
+plain_way : (now : ℕ) (line : Line) (t u : Files) → copied (action_of line) ≡ None → OnWayOf line now t u → OnWay line t u
 plain_way now line t u none (copy_before copying e before) = absurd (let no : Some copying.source ≡ None = sym (ap copied e) ∙ none in cc)
 plain_way now line t u none (copy_done copying e whole) = absurd (let no : Some copying.source ≡ None = sym (ap copied e) ∙ none in cc)
 plain_way now line t u none (other no_copy way) = way
 
 -- what a run has left on its way is a piece at each path
-pub partway_piece : (lines : List Line) (now : ℕ) (t u : Files) → AllByRecursion IsPlain lines → IsShaped (bares_of (places t)) → one_is_refused (by_line now) lines t ≡ false → PartwayOf lines now t u
-    → (q : Path) → has_staging q ≡ false → IsPiece lines q (bares_of (places t) q) (bares_of (places u) q)
-partway_piece [] now t u are shape quiet same q plain = IsPiece.piece 0 (sym (bares_of-same (places t) (places u) q (same q plain)))
+pub partway_piece : (lines : List Line) (now : ℕ) (t u : Files) → AllByRecursion IsPlain lines → IsShaped (object_states_of (places t)) → one_is_refused (by_line now) lines t ≡ false → PartwayOf lines now t u
+    → (q : Path) → has_staging q ≡ false → IsPiece lines q (object_states_of (places t) q) (object_states_of (places u) q)
+partway_piece [] now t u are shape quiet same q plain = IsPiece.piece 0 (sym (object_states_of-same (places t) (places u) q (same q plain)))
 partway_piece (line ∷ lines) now t u are shape quiet (inl way) q plain =
-    midway_piece line lines q (bares_of (places t) q) (bares_of (places u) q) (plain_way now line t u are.0.no_copy way q plain)
+    midway_piece line lines q (object_states_of (places t) q) (object_states_of (places u) q) (plain_way now line t u are.0.no_copy way q plain)
 partway_piece (line ∷ lines) now t u are shape quiet (inr later) q plain =
     let two = or_parts ((by_line now).is_refused line t) (one_is_refused (by_line now) lines ((by_line now).after line t)) quiet in
     let one = line_point now line are.0 t shape two.0 in
-    later_piece line lines q (bares_of (places t) q) (bares_of (places u) q) (
-    subst (λ b. IsPiece lines q b (bares_of (places u) q)) (one.point q plain ∙ sym (run-parts (operations line q) (bares_of (places t) q)))
+    later_piece line lines q (object_states_of (places t) q) (object_states_of (places u) q) (
+    subst (λ b. IsPiece lines q b (object_states_of (places u) q)) (one.point q plain ∙ sym (run-parts (operations line q) (object_states_of (places t) q)))
     (partway_piece lines now ((by_line now).after line t) u are.1 one.shape two.1 later q plain))
 
 -- ---- the line that is to replace what stands there
@@ -106,36 +106,36 @@ module _ {A : Type 0} (R : A → A → Type 0) where
 
 -- of two lines of which the second makes an object, the first makes one too, and not below it
 abbrev pub GoesBefore : Line → Line → Type 0
-GoesBefore a b = is_touching b ≡ false → (is_touching a ≡ false) × (is_prefix (path_in b.path) (path_in a.path) ≡ false)
+GoesBefore a b = is_adjusting_line b ≡ false → (is_adjusting_line a ≡ false) × (is_prefix (path_in b.path) (path_in a.path) ≡ false)
 
 module _ (lines : List Line) (are : AllByRecursion IsLine lines) (distinct : are_distinct lines ≡ true) (repeatable : IsRepeatable lines) (q : Path) where
   abbrev makers : List Listed
   makers = fold placed [] (filter (λ (l : Listed). is_creating l.1) (enumerate_from 0 lines))
 
   abbrev adjusters : List Listed
-  adjusters = filter (λ (l : Listed). is_touching l.1) (enumerate_from 0 lines)
+  adjusters = filter (λ (l : Listed). is_adjusting_line l.1) (enumerate_from 0 lines)
 
   abbrev InOrder : Listed → Listed → Type 0
   InOrder a b = GoesBefore a.1 b.1
 
-  makers_in_order : (ls : List Listed) → AllByRecursion (λ (l : Listed). is_touching l.1 ≡ false) ls → Pairwise ComesAfter ls → Pairwise InOrder ls
+  makers_in_order : (ls : List Listed) → AllByRecursion (λ (l : Listed). is_adjusting_line l.1 ≡ false) ls → Pairwise ComesAfter ls → Pairwise InOrder ls
   makers_in_order [] h g = tt
   makers_in_order (l ∷ ls) h g = (all_map (ComesAfter l) (InOrder l) (λ k after none. (h.0, after)) ls g.0, makers_in_order ls h.1 g.1)
 
-  nothing_after : (l : Listed) (ls : List Listed) → AllByRecursion (λ (k : Listed). is_touching k.1 ≡ true) ls → AllByRecursion (InOrder l) ls
+  nothing_after : (l : Listed) (ls : List Listed) → AllByRecursion (λ (k : Listed). is_adjusting_line k.1 ≡ true) ls → AllByRecursion (InOrder l) ls
   nothing_after l [] h = tt
   nothing_after l (k ∷ ls) h = ((λ none. impossible (sym none ∙ h.0)), nothing_after l ls h.1)
 
-  adjusters_in_order : (ls : List Listed) → AllByRecursion (λ (k : Listed). is_touching k.1 ≡ true) ls → Pairwise InOrder ls
+  adjusters_in_order : (ls : List Listed) → AllByRecursion (λ (k : Listed). is_adjusting_line k.1 ≡ true) ls → Pairwise InOrder ls
   adjusters_in_order [] h = tt
   adjusters_in_order (l ∷ ls) h = (nothing_after l ls h.1, adjusters_in_order ls h.1)
 
-  across : (ls ks : List Listed) → AllByRecursion (λ (k : Listed). is_touching k.1 ≡ true) ks → AllByRecursion (λ l. AllByRecursion (InOrder l) ks) ls
+  across : (ls ks : List Listed) → AllByRecursion (λ (k : Listed). is_adjusting_line k.1 ≡ true) ks → AllByRecursion (λ l. AllByRecursion (InOrder l) ks) ls
   across [] ks h = tt
   across (l ∷ ls) ks h = (nothing_after l ks h, across ls ks h)
 
-  all_adjust : AllByRecursion (λ (k : Listed). is_touching k.1 ≡ true) adjusters
-  all_adjust = all_tests (λ (l : Listed). is_touching l.1) (enumerate_from 0 lines)
+  all_adjust : AllByRecursion (λ (k : Listed). is_adjusting_line k.1 ≡ true) adjusters
+  all_adjust = all_tests (λ (l : Listed). is_adjusting_line l.1) (enumerate_from 0 lines)
 
   listed_in_order : Pairwise InOrder (makers ++ adjusters)
   listed_in_order = pairwise_append InOrder makers adjusters
@@ -157,28 +157,28 @@ module _ (lines : List Line) (are : AllByRecursion IsLine lines) (distinct : are
   abbrev all : List Operation
   all = operations_of (in_create_order lines) q
 
-  said_none : has_names q ≡ true → reasons.IsRepeatable all
-  said_none = operations_repeatable lines are distinct repeatable q
+  messages_none : has_names q ≡ true → reasons.IsRepeatable all
+  messages_none = operations_repeatable lines are distinct repeatable q
 
   -- before a line that makes an object at the path nothing is done there, where nothing is erased
-  module _ (line : Line) (making : Making) (makes : asks line ≡ Create making) (at : path_in line.path ≡ q) where
-    adjusts_none : is_touching line ≡ false
+  module _ (line : Line) (making : Making) (makes : action_of line ≡ Create making) (at : path_in line.path ≡ q) where
+    adjusts_none : is_adjusting_line line ≡ false
     adjusts_none = rw makes
 
     nothing_asked : (first : Line) → GoesBefore first line → list_any is_erasure (parts (operations first q)) ≡ false → operations first q ≡ []
     nothing_asked first goes none = by (asked_at first q)
       where
-        two : (is_touching first ≡ false) × (is_prefix (path_in line.path) (path_in first.path) ≡ false)
+        two : (is_adjusting_line first ≡ false) × (is_prefix (path_in line.path) (path_in first.path) ≡ false)
         two = goes adjusts_none
 
-        touch_adjusts : (touching : _) → asks first ≡ Touch touching → is_touching first ≡ true
-        touch_adjusts touching e = rw e
+        adjust_adjusts : (adjustment : _) → action_of first ≡ Adjust adjustment → is_adjusting_line first ≡ true
+        adjust_adjusts adjustment e = rw e
 
         by : IsAskedAt first q → operations first q ≡ []
         by (object m e s f) = absurd (true_not_false (is_prefix (path_in line.path) (path_in first.path)) (ap (is_prefix (path_in line.path)) (s ∙ sym at) ∙ is_prefix-refl (path_in line.path)) two.1)
         by (parent m e s f) = absurd (true_not_false (is_prefix (path_in line.path) (path_in first.path)) (ap (λ (p : Path). is_prefix p (path_in first.path)) at ∙ s) two.1)
         by (below m e g d f) = impossible (sym none ∙ ap (λ xs. list_any is_erasure (parts xs)) f)
-        by (set touching e t f) = impossible (sym two.0 ∙ touch_adjusts touching e)
+        by (set adjustment e t f) = impossible (sym two.0 ∙ adjust_adjusts adjustment e)
         by (nothing f) = f
 
     pub nothing_before : (before : List Line) → AllByRecursion (λ first. GoesBefore first line) before → list_any is_erasure (operations_of before q) ≡ false → operations_of before q ≡ []
@@ -188,7 +188,7 @@ module _ (lines : List Line) (are : AllByRecursion IsLine lines) (distinct : are
         ap (λ xs. parts xs ++ operations_of before q) (nothing_asked first goes.0 two.0) ∙ nothing_before before goes.1 two.1
 
   -- what the lines before it left gives way to the line's own object, so that nothing is as good
-  gap_mends : (before after : List Line) (line : Line) (b : Bare) (old : Option Bare) → in_create_order lines ≡ before ++ line ∷ after → run (operations_of before q) old ≡ Some b → IsRenewal line q b → run all None ≡ run all old
+  gap_mends : (before after : List Line) (line : Line) (b : ObjectState) (old : Option ObjectState) → in_create_order lines ≡ before ++ line ∷ after → run (operations_of before q) old ≡ Some b → IsRenewal line q b → run all None ≡ run all old
   gap_mends before after line b old whole stood renewal = by (list_any is_erasure all) refl
     where
       split : all ≡ operations_of before q ++ (parts (operations line q) ++ operations_of after q)
@@ -200,8 +200,8 @@ module _ (lines : List Line) (are : AllByRecursion IsLine lines) (distinct : are
       is_making : IsMaking renewal.making
       is_making = line_is_making line renewal.making renewal.makes
 
-      own : Bare
-      own = bare_of (new_object renewal.making.new 0)
+      own : ObjectState
+      own = object_state_of (new_object renewal.making.new 0)
 
       asks_there : operations line q ≡ first_of renewal.making ∷ renewal.making.sets
       asks_there =
@@ -221,38 +221,38 @@ module _ (lines : List Line) (are : AllByRecursion IsLine lines) (distinct : are
           ∙ sym (ap (λ xs. run xs (Some b)) is) ∙ sym (ap (run all) here)
 
   -- from a piece all operations end as from the start, where the path can stand in a tree
-  pub piece_mends : has_names q ≡ true → (old new : Option Bare) → IsPiece (in_create_order lines) q old new → run all new ≡ run all old
-  piece_mends named old new (IsPiece.piece k e) = ap (run all) e ∙ absorbed all k old (said_none named)
+  pub piece_mends : has_names q ≡ true → (old new : Option ObjectState) → IsPiece (in_create_order lines) q old new → run all new ≡ run all old
+  piece_mends named old new (IsPiece.piece k e) = ap (run all) e ∙ absorbed all k old (messages_none named)
   piece_mends named old new (IsPiece.gap before after line b whole stood renewal none) = ap (run all) none ∙ gap_mends before after line b old whole stood renewal
 
 -- ---- whole runs
 
-pub all_plain : (lines : List Line) → AllByRecursion IsLine lines → AllByRecursion (λ line. copied (asks line) ≡ None) lines → AllByRecursion IsPlain lines
+pub all_plain : (lines : List Line) → AllByRecursion IsLine lines → AllByRecursion (λ line. copied (action_of line) ≡ None) lines → AllByRecursion IsPlain lines
 all_plain [] are none = tt
 all_plain (line ∷ lines) are none = (line_is_plain line are.0 none.0, all_plain lines are.1 none.1)
 
-module _ (lines : List Line) (are : AllByRecursion IsLine lines) (no_copies : AllByRecursion (λ line. copied (asks line) ≡ None) lines) where
+module _ (lines : List Line) (are : AllByRecursion IsLine lines) (no_copies : AllByRecursion (λ line. copied (action_of line) ≡ None) lines) where
   pub in_order_plain : AllByRecursion IsPlain (in_create_order lines)
   in_order_plain = all_in_order IsPlain lines (all_plain lines are no_copies)
 
   -- what a whole run that refuses nothing leaves at a path
   pub created_point : (now : ℕ) (t : Files) → IsTree t → IsQuiet lines now t → (q : Path) → has_staging q ≡ false
-      → bares_of (places (created lines now t)) q ≡ run (operations_of (in_create_order lines) q) (bares_of (places t) q)
+      → object_states_of (places (created lines now t)) q ≡ run (operations_of (in_create_order lines) q) (object_states_of (places t) q)
   created_point now t tree quiet q plain = lines_point now (in_create_order lines) t in_order_plain (tree_shaped (places t) tree) quiet q plain
 
   -- what it has left on its way is a piece at each path
   pub partway_of_lines : (now : ℕ) (t u : Files) → IsTree t → IsQuiet lines now t → PartwayOf (in_create_order lines) now t u → (q : Path) → has_staging q ≡ false
-      → IsPiece (in_create_order lines) q (bares_of (places t) q) (bares_of (places u) q)
+      → IsPiece (in_create_order lines) q (object_states_of (places t) q) (object_states_of (places u) q)
   partway_of_lines now t u tree quiet way = partway_piece (in_create_order lines) now t u in_order_plain (tree_shaped (places t) tree) quiet way
 
   -- from pieces a whole run leaves what it leaves from the start
   module _ (distinct : are_distinct lines ≡ true) (repeatable : IsRepeatable lines) (now later : ℕ) (t u : Files) (tree : IsTree t) (there : IsTree u) (quiet : IsQuiet lines now t) (again : IsQuiet lines later u) where
-    pub pieces_mend : ((q : Path) → has_staging q ≡ false → IsPiece (in_create_order lines) q (bares_of (places t) q) (bares_of (places u) q)) → Same (created lines later u) (created lines now t)
-    pieces_mend pieces q plain = bares-same (places (created lines later u)) (places (created lines now t)) q (
-        same_unnamed (bares_of (places (created lines later u))) (bares_of (places (created lines now t))) (left later u there) (left now t tree) q plain (λ named.
+    pub pieces_mend : ((q : Path) → has_staging q ≡ false → IsPiece (in_create_order lines) q (object_states_of (places t) q) (object_states_of (places u) q)) → Same (created lines later u) (created lines now t)
+    pieces_mend pieces q plain = object_states-same (places (created lines later u)) (places (created lines now t)) q (
+        same_unnamed (object_states_of (places (created lines later u))) (object_states_of (places (created lines now t))) (left later u there) (left now t tree) q plain (λ named.
         created_point later u there again q plain
-        ∙ piece_mends lines are distinct repeatable q named (bares_of (places t) q) (bares_of (places u) q) (pieces q plain)
+        ∙ piece_mends lines are distinct repeatable q named (object_states_of (places t) q) (object_states_of (places u) q) (pieces q plain)
         ∙ sym (created_point now t tree quiet q plain)))
       where
-        left : (moment : ℕ) (v : Files) → IsTree v → IsShaped (bares_of (places (created lines moment v)))
+        left : (moment : ℕ) (v : Files) → IsTree v → IsShaped (object_states_of (places (created lines moment v)))
         left moment v is = shape_after moment (in_create_order lines) (all_in_order IsLine lines are) v (tree_shaped (places v) is)

@@ -7,23 +7,23 @@ use Rattle.std.specs.List.{list_any, enumerate_from, AllByRecursion}
 use Rattle.std.proofs.lemmas.Bool.{or_left, or_right}
 use Rattle.pv_path.specs.Paths.{Path, same_path, is_prefix}
 use Rattle.pv_steps.specs.Trees.{Files, places}
-use Rattle.pv_dress.specs.declared.operation.Operation.TheVariants.{Make, Erase}
-use Rattle.pv_dress.specs.Nodes.{bares_of}
+use Rattle.pv_metadata.specs.declared.operation.Operation.TheVariants.{Make, Erase}
+use Rattle.pv_metadata.specs.Nodes.{object_states_of}
 use Rattle.pv_lines.specs.declared.line.Argument.TheVariants as argument
 use Rattle.pv_lines.specs.declared.line.Line.{Line}
 use Rattle.pv_lines.specs.declared.line.LinePath.{LinePath}
 use Rattle.pv_lines.specs.declared.line.LinePath.TheVariants.{Literal, Glob}
 use Rattle.pv_lines.specs.Lines.{IsLine, IsLinePath}
 use Rattle.pv_lines.specs.Types.{creating, with_age, with_root}
-use Rattle.pv_table.specs.declared.deed.Copying.{Copying}
-use Rattle.pv_table.specs.declared.deed.Deed.{Deed}
-use Rattle.pv_table.specs.declared.deed.Deed.TheVariants.{Create, Copy, Touch, Idle}
+use Rattle.pv_table.specs.declared.action.Copying.{Copying}
+use Rattle.pv_table.specs.declared.action.Action.{Action}
+use Rattle.pv_table.specs.declared.action.Action.TheVariants.{Create, Copy, Adjust, Idle}
 use Rattle.pv_table.specs.declared.reason.Reason.{Reason}
-use Rattle.pv_table.specs.Active.{make_same, are_distinct, Listed, placed, is_touching, ordered, in_create_order}
-use Rattle.pv_table.specs.declared.deed.Making.{Making}
+use Rattle.pv_table.specs.Active.{make_same, are_distinct, Listed, placed, is_adjusting_line, ordered, in_create_order}
+use Rattle.pv_table.specs.declared.action.Making.{Making}
 use Rattle.pv_table.specs.Asked.{clears_below, made_at, operations}
-use Rattle.pv_table.specs.Asking.{asks}
-use Rattle.pv_table.specs.Pointwise.{parent_bare}
+use Rattle.pv_table.specs.ActionTable.{action_of}
+use Rattle.pv_table.specs.Pointwise.{parent_object_state}
 use Rattle.pv_table.specs.Reaching.{names, names_above, path_in, is_creating, reaches_below, reaches, governs}
 use Rattle.pv_table.specs.Repeatable.{IsAt, HasReason, IsRepeatable, append, source, below, input, mask, appends, sets_base, has_masked_mode, changes_content}
 use Rattle.pv_table.specs.Turns.{copied}
@@ -33,33 +33,33 @@ use Rattle.pv_laws.proofs.Repeated.{copy_adjusts_not}
 use Rattle.pv_laws.proofs.Sets.{impossible}
 
 -- a directory made at the path of a line, of which nothing is set
-abbrev pub bare_directory : Line → Line
-bare_directory line = record line { letter = 100; plus = false; replace = false; encoded = false; purge = false; mode = None; user = None; group = None; age = None; argument = argument.Ignored }
+abbrev pub object_state_directory : Line → Line
+object_state_directory line = record line { letter = 100; plus = false; replace = false; encoded = false; purge = false; mode = None; user = None; group = None; age = None; argument = argument.Ignored }
 
 -- whether what a line copies stands in a tree
-abbrev pub copies_some : Files → Deed → Bool
-copies_some t (Copy copying) = is_some (bares_of (places t) copying.source)
-copies_some t deed = false
+abbrev pub copies_some : Files → Action → Bool
+copies_some t (Copy copying) = is_some (object_states_of (places t) copying.source)
+copies_some t action = false
 
 abbrev pub swapped : Files → Line → Line
-swapped t line = cond (copies_some t (asks line)) (bare_directory line) line
+swapped t line = cond (copies_some t (action_of line)) (object_state_directory line) line
 
 -- what is asked of each path by it
-pub directory_asks : (line : Line) (q : Path) → same_path (path_in line.path) q ≡ false → operations (bare_directory line) q ≡ cond (is_prefix q (path_in line.path)) (Make parent_bare ∷ []) []
+pub directory_asks : (line : Line) (q : Path) → same_path (path_in line.path) q ≡ false → operations (object_state_directory line) q ≡ cond (is_prefix q (path_in line.path)) (Make parent_object_state ∷ []) []
 directory_asks line q other = made _ refl
   where
-    clears : Deed → Bool
+    clears : Action → Bool
     clears (Create making) = clears_below making
-    clears deed = false
+    clears action = false
 
     none_goes : (b : Bool) → cond (b && false) (Erase ∷ []) [] ≡ []
     none_goes true = refl
     none_goes false = refl
 
-    made : (making : Making) → asks (bare_directory line) ≡ Create making → operations (bare_directory line) q ≡ cond (is_prefix q (path_in line.path)) (Make parent_bare ∷ []) []
-    made making e = asked_made (bare_directory line) making q e ∙ at (is_prefix q (path_in line.path)) refl
+    made : (making : Making) → action_of (object_state_directory line) ≡ Create making → operations (object_state_directory line) q ≡ cond (is_prefix q (path_in line.path)) (Make parent_object_state ∷ []) []
+    made making e = asked_made (object_state_directory line) making q e ∙ at (is_prefix q (path_in line.path)) refl
       where
-        at : (b : Bool) → is_prefix q (path_in line.path) ≡ b → made_at making (path_in line.path) q ≡ cond b (Make parent_bare ∷ []) []
+        at : (b : Bool) → is_prefix q (path_in line.path) ≡ b → made_at making (path_in line.path) q ≡ cond b (Make parent_object_state ∷ []) []
         at true f = asked_above making (path_in line.path) q other f
         at false f =
             asked_else making (path_in line.path) q other f
@@ -68,31 +68,31 @@ directory_asks line q other = made _ refl
 
 -- a line is as it was, or it copies what is there and is swapped
 pub data IsSwap (t : Files) (line : Line) (new : Line) : Type 0 where
-  same : new ≡ line → copies_some t (asks line) ≡ false → IsSwap t line new
-  directory : (copying : Copying) → asks line ≡ Copy copying → is_some (bares_of (places t) copying.source) ≡ true → new ≡ bare_directory line → IsSwap t line new
+  same : new ≡ line → copies_some t (action_of line) ≡ false → IsSwap t line new
+  directory : (copying : Copying) → action_of line ≡ Copy copying → is_some (object_states_of (places t) copying.source) ≡ true → new ≡ object_state_directory line → IsSwap t line new
 
 pub swap : (t : Files) (line : Line) → IsSwap t line (swapped t line)
-swap t line = by (asks line) refl (copies_some t (asks line)) refl
+swap t line = by (action_of line) refl (copies_some t (action_of line)) refl
   where
-    by : (d : Deed) → asks line ≡ d → (b : Bool) → copies_some t (asks line) ≡ b → IsSwap t line (swapped t line)
-    by d e false f = same (ap (λ c. cond c (bare_directory line) line) f) f
-    by (Copy copying) e true f = directory copying e (sym (ap (copies_some t) e) ∙ f) (ap (λ c. cond c (bare_directory line) line) f)
+    by : (d : Action) → action_of line ≡ d → (b : Bool) → copies_some t (action_of line) ≡ b → IsSwap t line (swapped t line)
+    by d e false f = same (ap (λ c. cond c (object_state_directory line) line) f) f
+    by (Copy copying) e true f = directory copying e (sym (ap (copies_some t) e) ∙ f) (ap (λ c. cond c (object_state_directory line) line) f)
     by (Create making) e true f = impossible (sym (ap (copies_some t) e) ∙ f)
-    by (Touch touching) e true f = impossible (sym (ap (copies_some t) e) ∙ f)
+    by (Adjust adjustment) e true f = impossible (sym (ap (copies_some t) e) ∙ f)
     by Idle e true f = impossible (sym (ap (copies_some t) e) ∙ f)
 
 -- ---- it is a line, and it stands where the line stood
 
 module _ (t : Files) where
   pub swapped_path : (line : Line) → (swapped t line).path ≡ line.path
-  swapped_path line = elim (copies_some t (asks line)) as (λ b. (cond b (bare_directory line) line).path ≡ line.path) [ true ↦ refl | false ↦ refl ]
+  swapped_path line = elim (copies_some t (action_of line)) as (λ b. (cond b (object_state_directory line) line).path ≡ line.path) [ true ↦ refl | false ↦ refl ]
 
-  pub swapped_touching : (line : Line) → is_touching (swapped t line) ≡ is_touching line
-  swapped_touching line = by (swap t line)
+  pub swapped_adjustment : (line : Line) → is_adjusting_line (swapped t line) ≡ is_adjusting_line line
+  swapped_adjustment line = by (swap t line)
     where
-      by : IsSwap t line (swapped t line) → is_touching (swapped t line) ≡ is_touching line
-      by (same e f) = ap is_touching e
-      by (directory copying e f g) = ap is_touching g ∙ sym (copy_adjusts_not [] line copying e)
+      by : IsSwap t line (swapped t line) → is_adjusting_line (swapped t line) ≡ is_adjusting_line line
+      by (same e f) = ap is_adjusting_line e
+      by (directory copying e f g) = ap is_adjusting_line g ∙ sym (copy_adjusts_not [] line copying e)
 
   pub swapped_creating : (line : Line) → is_creating (swapped t line) ≡ is_creating line
   swapped_creating line = ap (λ (path : LinePath). is_creating (record line { path = path })) (swapped_path line)
@@ -180,9 +180,9 @@ module _ (t : Files) where
   in_order_swapped lines =
       ap (λ ls. map (λ (l : Listed). l.1) (ordered ls)) (listed_swapped 0 lines)
       ∙ ap (map (λ (l : Listed). l.1)) (
-      (λ i. fold placed [] (filter_swapped is_creating swapped_creating (enumerate_from 0 lines) i) ++ filter_swapped is_touching swapped_touching (enumerate_from 0 lines) i)
-      ∙ ap (λ ls. ls ++ map relisted (filter (λ (l : Listed). is_touching l.1) (enumerate_from 0 lines))) (folded_swapped (filter (λ (l : Listed). is_creating l.1) (enumerate_from 0 lines)) [])
-      ∙ sym (map-append relisted (fold placed [] (filter (λ (l : Listed). is_creating l.1) (enumerate_from 0 lines))) (filter (λ (l : Listed). is_touching l.1) (enumerate_from 0 lines))))
+      (λ i. fold placed [] (filter_swapped is_creating swapped_creating (enumerate_from 0 lines) i) ++ filter_swapped is_adjusting_line swapped_adjustment (enumerate_from 0 lines) i)
+      ∙ ap (λ ls. ls ++ map relisted (filter (λ (l : Listed). is_adjusting_line l.1) (enumerate_from 0 lines))) (folded_swapped (filter (λ (l : Listed). is_creating l.1) (enumerate_from 0 lines)) [])
+      ∙ sym (map-append relisted (fold placed [] (filter (λ (l : Listed). is_creating l.1) (enumerate_from 0 lines))) (filter (λ (l : Listed). is_adjusting_line l.1) (enumerate_from 0 lines))))
       ∙ unlisted_swapped (ordered (enumerate_from 0 lines))
 
   -- ---- no line has a reason, as before
@@ -201,7 +201,7 @@ module _ (t : Files) where
   or_keeps true b c f g = refl
   or_keeps false b c f g = f g
 
-  named_alone : (line : Line) (q : Path) → reaches (bare_directory line) q ≡ true → names line q ≡ true
+  named_alone : (line : Line) (q : Path) → reaches (object_state_directory line) q ≡ true → names line q ≡ true
   named_alone line q h = by (names line q) h
     where
       by : (b : Bool) → (b || false) ≡ true → b ≡ true
@@ -246,12 +246,12 @@ module _ (t : Files) where
       by (same e f) h = sym (ap has_masked_mode e) ∙ h
       by (directory copying e f g) h = impossible (sym (ap has_masked_mode g) ∙ h)
 
-  copies_less : (line : Line) (path : Path) → copied (asks (swapped t line)) ≡ Some path → copied (asks line) ≡ Some path
+  copies_less : (line : Line) (path : Path) → copied (action_of (swapped t line)) ≡ Some path → copied (action_of line) ≡ Some path
   copies_less line path = by (swap t line)
     where
-      by : IsSwap t line (swapped t line) → copied (asks (swapped t line)) ≡ Some path → copied (asks line) ≡ Some path
-      by (same e f) h = sym (ap (λ (l : Line). copied (asks l)) e) ∙ h
-      by (directory copying e f g) h = absurd (let no : None ≡ Some path = sym (ap (λ (l : Line). copied (asks l)) g) ∙ h in cc)
+      by : IsSwap t line (swapped t line) → copied (action_of (swapped t line)) ≡ Some path → copied (action_of line) ≡ Some path
+      by (same e f) h = sym (ap (λ (l : Line). copied (action_of l)) e) ∙ h
+      by (directory copying e f g) h = absurd (let no : None ≡ Some path = sym (ap (λ (l : Line). copied (action_of l)) g) ∙ h in cc)
 
   contents_less : (line : Line) → changes_content (swapped t line) ≡ true → changes_content line ≡ true
   contents_less line = by (swap t line)
@@ -278,13 +278,13 @@ module _ (t : Files) where
       by _ (source new other j path q at at' copies under named g) =
           let l = line_at lines i new at in
           let k = line_at lines j other at' in
-          source l.0 k.0 j path q l.1 k.1 (copies_less k.0 path (sym (ap (λ (x : Line). copied (asks x)) k.2) ∙ copies)) under named (governs_less l.0 q (sym (ap (λ (x : Line). governs x q) l.2) ∙ g))
+          source l.0 k.0 j path q l.1 k.1 (copies_less k.0 path (sym (ap (λ (x : Line). copied (action_of x)) k.2) ∙ copies)) under named (governs_less l.0 q (sym (ap (λ (x : Line). governs x q) l.2) ∙ g))
       by _ (below new other j path at at' creates copies under differ) =
           let l = line_at lines i new at in
           let k = line_at lines j other at' in
           let own : path_in new.path ≡ path_in l.0.path = ap (λ (x : Line). path_in x.path) l.2 ∙ ap path_in (swapped_path l.0) in
           let others : path_in other.path ≡ path_in k.0.path = ap (λ (x : Line). path_in x.path) k.2 ∙ ap path_in (swapped_path k.0) in
-          below l.0 k.0 j path l.1 k.1 (sym (swapped_creating l.0) ∙ sym (ap is_creating l.2) ∙ creates) (copies_less k.0 path (sym (ap (λ (x : Line). copied (asks x)) k.2) ∙ copies))
+          below l.0 k.0 j path l.1 k.1 (sym (swapped_creating l.0) ∙ sym (ap is_creating l.2) ∙ creates) (copies_less k.0 path (sym (ap (λ (x : Line). copied (action_of x)) k.2) ∙ copies))
           (sym (λ i. is_prefix (others i) (own i)) ∙ under) (λ e. differ (others ∙ e ∙ sym own))
       by _ (input new q at h is named g) =
           let l = line_at lines i new at in

@@ -6,19 +6,19 @@ use Rattle.pv_acl.specs.Parts as parts
 use Rattle.pv_acl.specs.Parts.{special_of}
 use Rattle.pv_steps.specs.declared.node.Kind.{Kind}
 use Rattle.pv_steps.specs.declared.node.Kind.TheVariants.{Directory, File, Link, Fifo, CharDevice, BlockDevice}
-use Rattle.pv_dress.specs.declared.bare.Bare.{Bare}
-use Rattle.pv_dress.specs.declared.operation.Change.TheVariants.{Owner}
-use Rattle.pv_dress.specs.declared.operation.Guard.TheVariants.{Every}
-use Rattle.pv_dress.specs.declared.operation.Operation.{Operation}
-use Rattle.pv_dress.specs.declared.operation.Operation.TheVariants.{Adjust}
-use Rattle.pv_dress.specs.Masks.{with_masked}
-use Rattle.pv_dress.specs.Operations.{run}
-use Rattle.pv_dress.proofs.Absorbing.{with_masked-own}
+use Rattle.pv_metadata.specs.declared.object_state.ObjectState.{ObjectState}
+use Rattle.pv_metadata.specs.declared.operation.Change.TheVariants.{Owner}
+use Rattle.pv_metadata.specs.declared.operation.Guard.TheVariants.{Every}
+use Rattle.pv_metadata.specs.declared.operation.Operation.{Operation}
+use Rattle.pv_metadata.specs.declared.operation.Operation.TheVariants.{Apply}
+use Rattle.pv_metadata.specs.Masks.{with_masked}
+use Rattle.pv_metadata.specs.Operations.{run}
+use Rattle.pv_metadata.proofs.Absorbing.{with_masked-own}
 use Rattle.pv_lines.specs.declared.line.Line.{Line}
 use Rattle.pv_lines.specs.declared.line.LineId.{LineId}
 use Rattle.pv_lines.specs.declared.line.LineMode.{LineMode}
-use Rattle.pv_table.specs.declared.deed.Copying.{Copying}
-use Rattle.pv_table.specs.Asking.{id_for_new, id_to_set, without_links, mode_to_set, owners_and_mode, source_of}
+use Rattle.pv_table.specs.declared.action.Copying.{Copying}
+use Rattle.pv_table.specs.ActionTable.{id_for_new, id_to_set, without_links, mode_to_set, owners_and_mode, source_of}
 use Rattle.pv_table.specs.Turns.{topped_by}
 use Rattle.pv_laws.proofs.Sets.{masked_low, no_special, own_owner, mode_of_line}
 
@@ -41,37 +41,37 @@ low_again : (value : ℕ) (part : Part) → with_masked value (parts.with_mode (
 low_again value part = λ i. record part { owner = (masked_low value i).owner; group = (masked_low value i).group; other = (masked_low value i).other }
 
 -- owners set again
-owners_again : (user group : Option LineId) (d e : ℕ) (xs : List Operation) (top : Bare) → top.dress.uid ≡ unwrap_or (id_for_new user) d → top.dress.gid ≡ unwrap_or (id_for_new group) e
-    → run (Adjust Every (Owner (id_to_set user) (id_to_set group)) ∷ xs) (Some top) ≡ run xs (Some top)
+owners_again : (user group : Option LineId) (d e : ℕ) (xs : List Operation) (top : ObjectState) → top.metadata.uid ≡ unwrap_or (id_for_new user) d → top.metadata.gid ≡ unwrap_or (id_for_new group) e
+    → run (Apply Every (Owner (id_to_set user) (id_to_set group)) ∷ xs) (Some top) ≡ run xs (Some top)
 owners_again user group d e xs top u g = λ i. run xs (Some (record top {
-  dress = record top.dress {
+  metadata = record top.metadata {
     uid = (ap (unwrap_or (id_to_set user)) u ∙ own_owner user d ∙ sym u) i;
     gid = (ap (unwrap_or (id_to_set group)) g ∙ own_owner group e ∙ sym g) i;
   };
 }))
 
 -- the object at a line's mode, with its owners
-abbrev owned : Line → Bare → Kind → Bare
+abbrev owned : Line → ObjectState → Kind → ObjectState
 owned line b kind = record b {
   body = record b.body { kind = kind };
-  dress = record b.dress { uid = unwrap_or (id_for_new line.user) b.dress.uid; gid = unwrap_or (id_for_new line.group) b.dress.gid };
+  metadata = record b.metadata { uid = unwrap_or (id_for_new line.user) b.metadata.uid; gid = unwrap_or (id_for_new line.group) b.metadata.gid };
 }
 
-abbrev of_kind : Bare → Kind → Bare
+abbrev of_kind : ObjectState → Kind → ObjectState
 of_kind b kind = record b { body = record b.body { kind = kind } }
 
-abbrev IsSetAgain : Line → Option LineMode → Bare → Kind → Type 0
+abbrev IsSetAgain : Line → Option LineMode → ObjectState → Kind → Type 0
 IsSetAgain line mode b kind =
     run (mode_to_set mode (without_links Every)) (Some (topped_by (copied_by (record line { mode = mode })) (of_kind b kind))) ≡ Some (topped_by (copied_by (record line { mode = mode })) (of_kind b kind))
 
-low_special : (line : Line) (b : Bare) (kind : Kind) (value : ℕ)
-    → record (owned line b kind) { dress = record (owned line b kind).dress { special = 0; acl = record b.dress.acl { access = with_masked value (parts.with_mode (value % 512) b.dress.acl.access) } } }
-    ≡ record (owned line b kind) { dress = record (owned line b kind).dress { special = special_of (value % 512); acl = record b.dress.acl { access = parts.with_mode (value % 512) b.dress.acl.access } } }
+low_special : (line : Line) (b : ObjectState) (kind : Kind) (value : ℕ)
+    → record (owned line b kind) { metadata = record (owned line b kind).metadata { special = 0; acl = record b.metadata.acl { access = with_masked value (parts.with_mode (value % 512) b.metadata.acl.access) } } }
+    ≡ record (owned line b kind) { metadata = record (owned line b kind).metadata { special = special_of (value % 512); acl = record b.metadata.acl { access = parts.with_mode (value % 512) b.metadata.acl.access } } }
 low_special line b kind value = λ i. record (owned line b kind) {
-  dress = record (owned line b kind).dress { special = sym (no_special value) i; acl = record b.dress.acl { access = low_again value b.dress.acl.access i } };
+  metadata = record (owned line b kind).metadata { special = sym (no_special value) i; acl = record b.metadata.acl { access = low_again value b.metadata.acl.access i } };
 }
 
-mode_again : (line : Line) (mode : Option LineMode) (b : Bare) (kind : Kind) → IsSetAgain line mode b kind
+mode_again : (line : Line) (mode : Option LineMode) (b : ObjectState) (kind : Kind) → IsSetAgain line mode b kind
 mode_again line None b kind = refl
 mode_again line (Some mode) b kind = by kind mode.new_only mode.masked
   where
@@ -83,13 +83,13 @@ mode_again line (Some mode) b kind = by kind mode.new_only mode.masked
     by Fifo false false = refl
     by CharDevice false false = refl
     by BlockDevice false false = refl
-    by Directory false true = λ i. Some (record (owned line b Directory) { dress = record (owned line b Directory).dress { special = special_of mode.value; acl = record b.dress.acl { access = masked_again mode.value b.dress.acl.access i } } })
-    by File false true = ap (λ (x : Bare). Some x) (low_special line b File mode.value)
-    by Fifo false true = ap (λ (x : Bare). Some x) (low_special line b Fifo mode.value)
-    by CharDevice false true = ap (λ (x : Bare). Some x) (low_special line b CharDevice mode.value)
-    by BlockDevice false true = ap (λ (x : Bare). Some x) (low_special line b BlockDevice mode.value)
+    by Directory false true = λ i. Some (record (owned line b Directory) { metadata = record (owned line b Directory).metadata { special = special_of mode.value; acl = record b.metadata.acl { access = masked_again mode.value b.metadata.acl.access i } } })
+    by File false true = ap (λ (x : ObjectState). Some x) (low_special line b File mode.value)
+    by Fifo false true = ap (λ (x : ObjectState). Some x) (low_special line b Fifo mode.value)
+    by CharDevice false true = ap (λ (x : ObjectState). Some x) (low_special line b CharDevice mode.value)
+    by BlockDevice false true = ap (λ (x : ObjectState). Some x) (low_special line b BlockDevice mode.value)
 
-top_owners : (line : Line) (mode : Option LineMode) (b : Bare) (kind : Kind) → ((topped_by (copied_by (record line { mode = mode })) (of_kind b kind)).dress.uid ≡ unwrap_or (id_for_new line.user) b.dress.uid) × ((topped_by (copied_by (record line { mode = mode })) (of_kind b kind)).dress.gid ≡ unwrap_or (id_for_new line.group) b.dress.gid)
+top_owners : (line : Line) (mode : Option LineMode) (b : ObjectState) (kind : Kind) → ((topped_by (copied_by (record line { mode = mode })) (of_kind b kind)).metadata.uid ≡ unwrap_or (id_for_new line.user) b.metadata.uid) × ((topped_by (copied_by (record line { mode = mode })) (of_kind b kind)).metadata.gid ≡ unwrap_or (id_for_new line.group) b.metadata.gid)
 top_owners line None b kind = (refl, refl)
 top_owners line (Some mode) b Directory = (refl, refl)
 top_owners line (Some mode) b File = (refl, refl)
@@ -99,8 +99,8 @@ top_owners line (Some mode) b CharDevice = (refl, refl)
 top_owners line (Some mode) b BlockDevice = (refl, refl)
 
 -- so all that is set changes nothing of it
-pub top_again : (line : Line) (b : Bare) → run (copied_by line).sets (Some (topped_by (copied_by line) b)) ≡ Some (topped_by (copied_by line) b)
+pub top_again : (line : Line) (b : ObjectState) → run (copied_by line).sets (Some (topped_by (copied_by line) b)) ≡ Some (topped_by (copied_by line) b)
 top_again line b =
     let owners = top_owners line line.mode b b.body.kind in
-    owners_again line.user line.group b.dress.uid b.dress.gid (mode_to_set line.mode (without_links Every)) (topped_by (copied_by line) b) owners.0 owners.1
+    owners_again line.user line.group b.metadata.uid b.metadata.gid (mode_to_set line.mode (without_links Every)) (topped_by (copied_by line) b) owners.0 owners.1
     ∙ mode_again line line.mode b b.body.kind

@@ -3,7 +3,7 @@ use Rattle.std.specs.Prelude.{◌≡◌, ◌⊎◌, ℕ, true, false, ◌&&◌, 
 use Rattle.pv_lines.specs.declared.line.Line.{Line}
 use Rattle.pv_path.specs.Paths.{Path, has_names}
 use Rattle.pv_steps.specs.Trees.{Files, places}
-use Rattle.pv_table.specs.Asking.{asks}
+use Rattle.pv_table.specs.ActionTable.{action_of}
 use Rattle.pv_table.specs.Created.{by_line}
 use Rattle.pv_table.specs.Reaching.{reaches, governs}
 use Rattle.pv_table.specs.Turns.{has_something}
@@ -12,7 +12,7 @@ use Rattle.pv_table.specs.Turns.{has_something}
 abbrev pub IsCarriedOut : Line → List Line → ℕ → Files → Type 0
 IsCarriedOut line [] now t = ⊥
 IsCarriedOut line (first ∷ lines) now t =
-    ((first ≡ line) × ((by_line now).is_refused first t ≡ false) × (has_something (places t) (asks first) ≡ true))
+    ((first ≡ line) × ((by_line now).is_refused first t ≡ false) × (has_something (places t) (action_of first) ≡ true))
     ⊎ IsCarriedOut line lines now ((by_line now).after first t)
 
 -- of two lines neither reaches a path that can stand in a tree and that the other may change

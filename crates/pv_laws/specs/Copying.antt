@@ -4,19 +4,19 @@ use Rattle.std.specs.Prelude.{⊤, ◌≡◌, ◌≢◌, ℕ, true, false, List,
 use Rattle.pv_path.specs.Paths.{Path, is_prefix, has_staging}
 use Rattle.pv_steps.specs.Same.{Same}
 use Rattle.pv_steps.specs.Trees.{Files, places, IsTree}
-use Rattle.pv_dress.specs.declared.bare.Bare.{Bare}
-use Rattle.pv_dress.specs.Dividing.{parts}
-use Rattle.pv_dress.specs.Nodes.{bares_of}
-use Rattle.pv_dress.specs.Operations.{run}
+use Rattle.pv_metadata.specs.declared.object_state.ObjectState.{ObjectState}
+use Rattle.pv_metadata.specs.Dividing.{parts}
+use Rattle.pv_metadata.specs.Nodes.{object_states_of}
+use Rattle.pv_metadata.specs.Operations.{run}
 use Rattle.pv_doing.specs.Courses.{Course, Partway}
 use Rattle.pv_lines.specs.declared.line.Line.{Line}
-use Rattle.pv_table.specs.declared.deed.Copying.{Copying}
-use Rattle.pv_table.specs.declared.deed.Deed.TheVariants.{Copy}
+use Rattle.pv_table.specs.declared.action.Copying.{Copying}
+use Rattle.pv_table.specs.declared.action.Action.TheVariants.{Copy}
 use Rattle.pv_table.specs.Active.{in_create_order}
-use Rattle.pv_table.specs.Asking.{asks}
+use Rattle.pv_table.specs.ActionTable.{action_of}
 use Rattle.pv_table.specs.Created.{by_line, IsQuiet}
 use Rattle.pv_table.specs.Effects.{prepare}
-use Rattle.pv_table.specs.Pointwise.{parent_bare}
+use Rattle.pv_table.specs.Pointwise.{parent_object_state}
 use Rattle.pv_table.specs.Reaching.{path_in}
 use Rattle.pv_table.specs.Turns.{Turn, view_of, copied, decide}
 use Rattle.pv_walk.specs.Copying.{Subtree}
@@ -24,9 +24,9 @@ use Rattle.pv_laws.specs.Stopping.{OnWay}
 
 -- at a path, from what stood there when a line that copies began, before its copy has come to its path: the same, or a
 -- parent; some of what is set, where the line adjusts; or nothing, where what stands there gives way
-pub data IsCopyMidway (path : Path) (copying : Copying) (turn : Turn) (q : Path) (old new : Option Bare) : Type 0 where
+pub data IsCopyMidway (path : Path) (copying : Copying) (turn : Turn) (q : Path) (old new : Option ObjectState) : Type 0 where
   kept : new ≡ old → IsCopyMidway path copying turn q old new
-  parent : is_prefix q path ≡ true → q ≢ path → old ≡ None → new ≡ Some parent_bare → IsCopyMidway path copying turn q old new
+  parent : is_prefix q path ≡ true → q ≢ path → old ≡ None → new ≡ Some parent_object_state → IsCopyMidway path copying turn q old new
   some_set : (k : ℕ) → q ≡ path → turn ≡ Turn.Become copying.sets → new ≡ run (take k (parts copying.sets)) old → IsCopyMidway path copying turn q old new
   gone : (subtree : Subtree) → is_prefix path q ≡ true → turn ≡ Turn.Put subtree → new ≡ None → IsCopyMidway path copying turn q old new
 
@@ -38,13 +38,13 @@ turn_of line copying now t = decide (Copy copying) (view_of (prepare now (path_i
 abbrev pub BeforeCopy : Line → Copying → ℕ → Files → Files → Type 0
 BeforeCopy line copying now t u =
     (is_some (places t copying.source) ≡ true)
-    × ((q : Path) → has_staging q ≡ false → IsCopyMidway (path_in line.path) copying (turn_of line copying now t) q (bares_of (places t) q) (bares_of (places u) q))
+    × ((q : Path) → has_staging q ≡ false → IsCopyMidway (path_in line.path) copying (turn_of line copying now t) q (object_states_of (places t) q) (object_states_of (places u) q))
 
 -- on the way of one line: one that copies has not yet brought its copy, or is done; any other is on its way at each path
 pub data OnWayOf (line : Line) (now : ℕ) (t u : Files) : Type 0 where
-  copy_before : (copying : Copying) → asks line ≡ Copy copying → BeforeCopy line copying now t u → OnWayOf line now t u
-  copy_done : (copying : Copying) → asks line ≡ Copy copying → Same ((by_line now).after line t) u → OnWayOf line now t u
-  other : copied (asks line) ≡ None → OnWay line t u → OnWayOf line now t u
+  copy_before : (copying : Copying) → action_of line ≡ Copy copying → BeforeCopy line copying now t u → OnWayOf line now t u
+  copy_done : (copying : Copying) → action_of line ≡ Copy copying → Same ((by_line now).after line t) u → OnWayOf line now t u
+  other : copied (action_of line) ≡ None → OnWay line t u → OnWayOf line now t u
 
 -- a line as a course, of which neither steps nor texts are told
 abbrev pub law_course : ℕ → Course Line
@@ -52,7 +52,7 @@ law_course now = record {
   whole = by_line now;
   way = λ line t u. OnWayOf line now t u;
   steps = λ line t step. ⊤;
-  cut = λ moment refused line t steps said. ⊤;
+  cut = λ moment refused line t steps new_messages. ⊤;
 }
 
 -- on the way of lines one after the other

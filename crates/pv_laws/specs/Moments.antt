@@ -3,13 +3,13 @@ use Rattle.std.specs.Prelude.{◌≡◌, false}
 use Rattle.pv_path.specs.Paths.{Path, has_staging}
 use Rattle.pv_steps.specs.Trees.{Files, places}
 use Rattle.std.specs.FinMap as fin
-use Rattle.pv_dress.specs.Nodes.{bares_of}
-use Rattle.pv_table.specs.Pointwise.{Bares}
+use Rattle.pv_metadata.specs.Nodes.{object_states_of}
+use Rattle.pv_table.specs.Pointwise.{ObjectStates}
 
 -- the same stands at each path, staging names included, stamps aside
-abbrev pub SameBares : Files → Files → Type 0
-SameBares t u = (q : Path) → bares_of (places t) q ≡ bares_of (places u) q
+abbrev pub SameObjectStates : Files → Files → Type 0
+SameObjectStates t u = (q : Path) → object_states_of (places t) q ≡ object_states_of (places u) q
 
 -- a map has what stands at each path of a tree without a staging name, stamps aside
-abbrev pub Agree : Bares → Files → Type 0
-Agree s t = (q : Path) → has_staging q ≡ false → fin.get s q ≡ bares_of (places t) q
+abbrev pub Agree : ObjectStates → Files → Type 0
+Agree s t = (q : Path) → has_staging q ≡ false → fin.get s q ≡ object_states_of (places t) q

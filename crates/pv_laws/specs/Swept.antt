@@ -3,17 +3,17 @@ use Rattle.std.specs.Prelude.{◌≡◌, ◌≢◌, ◌⊎◌, ℕ, true, List, 
 use Rattle.pv_lines.specs.declared.line.Line.{Line}
 use Rattle.pv_path.specs.Paths.{Path, is_prefix, staging_of}
 use Rattle.pv_steps.specs.Trees.{Files, places, IsAbsentIn}
-use Rattle.pv_table.specs.declared.deed.Copying.{Copying}
-use Rattle.pv_table.specs.declared.deed.Deed.TheVariants.{Create, Copy}
-use Rattle.pv_table.specs.declared.deed.Making.{Making}
+use Rattle.pv_table.specs.declared.action.Copying.{Copying}
+use Rattle.pv_table.specs.declared.action.Action.TheVariants.{Create, Copy}
+use Rattle.pv_table.specs.declared.action.Making.{Making}
 use Rattle.pv_table.specs.Active.{in_create_order}
-use Rattle.pv_table.specs.Asking.{asks}
+use Rattle.pv_table.specs.ActionTable.{action_of}
 use Rattle.pv_table.specs.Reaching.{path_in}
 use Rattle.pv_laws.specs.CarryingOut.{IsCarriedOut}
 
 -- a line puts an object at its path, made or copied
 abbrev pub PutsObject : Line → Type 0
-PutsObject line = ((making : Making) × (asks line ≡ Create making)) ⊎ ((copying : Copying) × (asks line ≡ Copy copying))
+PutsObject line = ((making : Making) × (action_of line ≡ Create making)) ⊎ ((copying : Copying) × (action_of line ≡ Copy copying))
 
 -- a run of lines that began with one tree has left another: along the path of each line that puts an object there, was
 -- refused at no turn and found what it copies, nothing stands at the staging names

@@ -5,41 +5,41 @@ ghost use Rattle.std.specs.List.{list_any, AllByRecursion};
 ghost use Rattle.pv_path.specs.Paths.{Path, has_names, is_prefix, has_staging};
 ghost use Rattle.pv_steps.specs.Trees.{Files, places, IsTree};
 ghost use Rattle.pv_steps.specs.Same.{Same};
-ghost use Rattle.pv_dress.specs.declared.bare.Bare.{Bare as BareValue};
-ghost use Rattle.pv_dress.specs.Nodes.{bares_of};
-ghost use Rattle.pv_dress.specs.Operations.{run};
-ghost use Rattle.pv_dress.specs.Reasons as reasons;
+ghost use Rattle.pv_metadata.specs.declared.object_state.ObjectState.{ObjectState as ObjectStateValue};
+ghost use Rattle.pv_metadata.specs.Nodes.{object_states_of};
+ghost use Rattle.pv_metadata.specs.Operations.{run};
+ghost use Rattle.pv_metadata.specs.Reasons as reasons;
 ghost use Rattle.pv_lines.specs.declared.line.Line.{Line as LineValue};
 ghost use Rattle.pv_lines.specs.Lines.{IsLine};
 ghost use Rattle.pv_table.specs.Active.{active, are_distinct, in_create_order};
 ghost use Rattle.pv_table.specs.Asked.{operations, operations_of};
-ghost use Rattle.pv_table.specs.Asking.{asks};
+ghost use Rattle.pv_table.specs.ActionTable.{action_of};
 ghost use Rattle.pv_table.specs.Created.{after_each, by_line, created, created_messages, one_is_refused, IsQuiet};
-ghost use Rattle.pv_table.specs.Pointwise.{Bares, state};
+ghost use Rattle.pv_table.specs.Pointwise.{ObjectStates, state};
 ghost use Rattle.pv_table.specs.Reaching.{governs};
 ghost use Rattle.pv_table.specs.Repeatable.{IsAt, IsRepeatable};
 ghost use Rattle.pv_table.specs.Turns.{copied};
 ghost use Rattle.pv_laws.specs.Between.{IsOnTheWay};
 ghost use Rattle.pv_laws.specs.CarryingOut.{AreApart};
 ghost use Rattle.pv_laws.specs.Copying.{PartwayOf, StoppedRuns};
-ghost use Rattle.pv_laws.specs.Moments.{SameBares, Agree};
+ghost use Rattle.pv_laws.specs.Moments.{SameObjectStates, Agree};
 ghost use Rattle.pv_laws.specs.Stopping.{CopiesNothing, IsPiece};
 ghost use Rattle.pv_laws.specs.Swept.{LeavesNoStagingName};
 
 /// What a line that is refused at no turn leaves at a path depends on what stood at this path alone: it is what the
-/// operations that the line asks for there make of it; stamps and staging names aside.
+/// operations that the line asks for there make of it; timestamps and staging names aside.
 pub fn a_line_leaves_what_it_asks_for()
     ensures { (line : LineValue) (now : ℕ) (t : Files) (q : Path) → IsTree t → IsLine line → CopiesNothing line
         → (by_line now).is_refused line t ≡ false → has_staging q ≡ false
-        → bares_of (places ((by_line now).after line t)) q ≡ run (operations line q) (bares_of (places t) q) }
+        → object_states_of (places ((by_line now).after line t)) q ≡ run (operations line q) (object_states_of (places t) q) }
 {}
 
 /// A run of lines that refuses nothing leaves at a path what the operations of all lines in their order make of it.
 pub fn lines_leave_what_they_ask_for()
     ensures { (lines : List LineValue) (now : ℕ) (t : Files) (q : Path) → IsTree t → AllByRecursion IsLine lines
         → AllByRecursion CopiesNothing lines → IsQuiet lines now t → has_staging q ≡ false
-        → bares_of (places (created lines now t)) q
-        ≡ run (operations_of (in_create_order lines) q) (bares_of (places t) q) }
+        → object_states_of (places (created lines now t)) q
+        ≡ run (operations_of (in_create_order lines) q) (object_states_of (places t) q) }
 {}
 
 /// Where no line has a reason, nothing is said against the operations that the lines ask for at any path that can stand
@@ -52,7 +52,7 @@ pub fn nothing_is_said_against_lines_without_reasons()
 /// So from what the first operations at a path have left there, or from the gap where an object is to be replaced, all
 /// operations end as they end from the start.
 pub fn a_piece_ends_as_the_start()
-    ensures { (lines : List LineValue) (q : Path) (old new : Option BareValue) → AllByRecursion IsLine lines
+    ensures { (lines : List LineValue) (q : Path) (old new : Option ObjectStateValue) → AllByRecursion IsLine lines
         → are_distinct lines ≡ true → IsRepeatable lines → has_names q ≡ true → IsPiece (in_create_order lines) q old new
         → run (operations_of (in_create_order lines) q) new ≡ run (operations_of (in_create_order lines) q) old }
 {}
@@ -62,17 +62,17 @@ pub fn what_is_on_the_way_is_a_piece()
     ensures { (lines : List LineValue) (now : ℕ) (t u : Files) (q : Path) → IsTree t → AllByRecursion IsLine lines
         → AllByRecursion CopiesNothing lines → IsQuiet lines now t → PartwayOf (in_create_order lines) now t u
         → has_staging q ≡ false
-        → IsPiece (in_create_order lines) q (bares_of (places t) q) (bares_of (places u) q) }
+        → IsPiece (in_create_order lines) q (object_states_of (places t) q) (object_states_of (places u) q) }
 {}
 
 /// From a tree with such a piece at each path a whole run of the lines, at any moment, leaves what it leaves from the
-/// start, where neither run refuses a line at a turn; stamps and staging names aside.
+/// start, where neither run refuses a line at a turn; timestamps and staging names aside.
 pub fn a_run_from_pieces_is_mended()
     ensures { (lines : List LineValue) (now later : ℕ) (t u : Files) → IsTree t → IsTree u
         → AllByRecursion IsLine lines → AllByRecursion CopiesNothing lines → are_distinct lines ≡ true
         → IsRepeatable lines → IsQuiet lines now t → IsQuiet lines later u
         → ((q : Path) → has_staging q ≡ false
-        → IsPiece (in_create_order lines) q (bares_of (places t) q) (bares_of (places u) q))
+        → IsPiece (in_create_order lines) q (object_states_of (places t) q) (object_states_of (places u) q))
         → Same (created lines later u) (created lines now t) }
 {}
 
@@ -94,7 +94,7 @@ pub fn runs_cut_short_again_and_again_are_mended()
 {}
 
 /// Two lines without reasons, of which neither reaches a path of a tree that the other may change, leave the same in either
-/// order, where neither order has one refused; copies included, stamps and staging names aside.
+/// order, where neither order has one refused; copies included, timestamps and staging names aside.
 pub fn lines_that_are_apart_commute()
     ensures { (a b : LineValue) (now later : ℕ) (t : Files) → IsTree t → IsLine a → IsLine b
         → IsRepeatable (a ∷ b ∷ []) → AreApart a b → one_is_refused (by_line now) (a ∷ b ∷ []) t ≡ false
@@ -102,29 +102,29 @@ pub fn lines_that_are_apart_commute()
         → Same (after_each (by_line now) (a ∷ b ∷ []) t) (after_each (by_line later) (b ∷ a ∷ []) t) }
 {}
 
-/// Whether a run of lines refuses one at some turn needs no moment, and no stamps; copies included.
+/// Whether a run of lines refuses one at some turn needs no moment, and no timestamps; copies included.
 pub fn quiet_needs_no_moment()
-    ensures { (lines : List LineValue) (now later : ℕ) (t u : Files) → SameBares t u → IsQuiet lines now t
+    ensures { (lines : List LineValue) (now later : ℕ) (t u : Files) → SameObjectStates t u → IsQuiet lines now t
         → IsQuiet lines later u }
 {}
 
-/// So it is with what a run says, and with what it leaves, stamps aside; copies included.
+/// So it is with what a run says, and with what it leaves, timestamps aside; copies included.
 pub fn messages_and_trees_need_no_moment()
-    ensures said { (lines : List LineValue) (now later : ℕ) (t u : Files) → SameBares t u
+    ensures new_messages { (lines : List LineValue) (now later : ℕ) (t u : Files) → SameObjectStates t u
         → created_messages lines now t ≡ created_messages lines later u }
-    ensures left { (lines : List LineValue) (now later : ℕ) (t u : Files) → SameBares t u
-        → SameBares (created lines now t) (created lines later u) }
+    ensures left { (lines : List LineValue) (now later : ℕ) (t u : Files) → SameObjectStates t u
+        → SameObjectStates (created lines now t) (created lines later u) }
 {}
 
-/// What no line governs stays as it is, after a whole run and on its way, whatever is refused; copies included, stamps
-/// and staging names aside.
+/// What no line governs stays as it is, after a whole run and on its way, whatever is refused; copies included,
+/// timestamps and staging names aside.
 pub fn what_no_line_governs_stays()
     ensures whole { (lines : List LineValue) (now : ℕ) (t : Files) (q : Path) → IsTree t → AllByRecursion IsLine lines
         → has_staging q ≡ false → list_any (λ line. governs line q) lines ≡ false
-        → bares_of (places (created lines now t)) q ≡ bares_of (places t) q }
+        → object_states_of (places (created lines now t)) q ≡ object_states_of (places t) q }
     ensures stopped { (lines : List LineValue) (now : ℕ) (t u : Files) (q : Path) → IsTree t → AllByRecursion IsLine lines
         → has_staging q ≡ false → list_any (λ line. governs line q) lines ≡ false → PartwayOf (in_create_order lines) now t u
-        → bares_of (places u) q ≡ bares_of (places t) q }
+        → object_states_of (places u) q ≡ object_states_of (places t) q }
 {}
 
 /// A whole run leaves nothing at the staging names along the path of a line that makes or copies an object and was
@@ -135,12 +135,12 @@ pub fn a_run_leaves_no_staging_name()
 {}
 
 /// The definition of what lines leave at each path by itself gives what they leave, after each number of lines, where
-/// none is refused at a turn; stamps and staging names aside.
+/// none is refused at a turn; timestamps and staging names aside.
 pub fn each_path_by_itself_is_what_lines_leave()
-    ensures some { (lines : List LineValue) (now k : ℕ) (s : Bares) (t : Files) → IsTree t → AllByRecursion IsLine lines
+    ensures some { (lines : List LineValue) (now k : ℕ) (s : ObjectStates) (t : Files) → IsTree t → AllByRecursion IsLine lines
         → AllByRecursion CopiesNothing lines → IsQuiet lines now t → Agree s t
         → Agree (state lines k s) (after_each (by_line now) (take k (in_create_order lines)) t) }
-    ensures all { (lines : List LineValue) (now : ℕ) (s : Bares) (t : Files) → IsTree t → AllByRecursion IsLine lines
+    ensures all { (lines : List LineValue) (now : ℕ) (s : ObjectStates) (t : Files) → IsTree t → AllByRecursion IsLine lines
         → AllByRecursion CopiesNothing lines → IsQuiet lines now t → Agree s t
         → Agree (state lines (length (in_create_order lines)) s) (created lines now t) }
 {}
@@ -157,20 +157,20 @@ pub fn active_lines_are_distinct()
 /// has before the line or after it; what is absent is absent before or after, or the line replaces an object there or
 /// above. This holds of lines that copy nothing, and of lines that copy where no line has a reason.
 pub fn on_the_way_each_path_is_between_two_lines()
-    ensures plain { (lines : List LineValue) (now : ℕ) (s : Bares) (t u : Files) → IsTree t → AllByRecursion IsLine lines
+    ensures plain { (lines : List LineValue) (now : ℕ) (s : ObjectStates) (t u : Files) → IsTree t → AllByRecursion IsLine lines
         → AllByRecursion CopiesNothing lines → IsQuiet lines now t → Agree s t
         → PartwayOf (in_create_order lines) now t u → IsOnTheWay lines s u }
-    ensures copies { (lines : List LineValue) (now : ℕ) (s : Bares) (t u : Files) → IsTree t → AllByRecursion IsLine lines
+    ensures copies { (lines : List LineValue) (now : ℕ) (s : ObjectStates) (t u : Files) → IsTree t → AllByRecursion IsLine lines
         → IsRepeatable lines → IsQuiet lines now t → Agree s t
         → PartwayOf (in_create_order lines) now t u → IsOnTheWay lines s u }
 {}
 
 /// Where no line has a reason, that definition gives what lines leave at each path, copying lines included.
 pub fn each_path_by_itself_is_what_lines_without_reasons_leave()
-    ensures some { (lines : List LineValue) (now k : ℕ) (s : Bares) (t : Files) → IsTree t → AllByRecursion IsLine lines
+    ensures some { (lines : List LineValue) (now k : ℕ) (s : ObjectStates) (t : Files) → IsTree t → AllByRecursion IsLine lines
         → IsRepeatable lines → IsQuiet lines now t → Agree s t
         → Agree (state lines k s) (after_each (by_line now) (take k (in_create_order lines)) t) }
-    ensures all { (lines : List LineValue) (now : ℕ) (s : Bares) (t : Files) → IsTree t → AllByRecursion IsLine lines
+    ensures all { (lines : List LineValue) (now : ℕ) (s : ObjectStates) (t : Files) → IsTree t → AllByRecursion IsLine lines
         → IsRepeatable lines → IsQuiet lines now t → Agree s t
         → Agree (state lines (length (in_create_order lines)) s) (created lines now t) }
 {}
@@ -179,7 +179,7 @@ pub fn each_path_by_itself_is_what_lines_without_reasons_leave()
 /// of its start, where no line has a reason and a whole run from the start refuses no line at a turn; whatever a whole run
 /// from what was left would refuse.
 pub fn states_after_a_stop_end_as_from_the_start()
-    ensures { (lines : List LineValue) (now : ℕ) (s r : Bares) (t u : Files) (q : Path) → IsTree t → IsTree u
+    ensures { (lines : List LineValue) (now : ℕ) (s r : ObjectStates) (t u : Files) (q : Path) → IsTree t → IsTree u
         → AllByRecursion IsLine lines → are_distinct lines ≡ true → IsRepeatable lines → IsQuiet lines now t
         → Agree s t → Agree r u → PartwayOf (in_create_order lines) now t u → has_staging q ≡ false
         → fin.get (state lines (length (in_create_order lines)) r) q
@@ -190,11 +190,11 @@ pub fn states_after_a_stop_end_as_from_the_start()
 /// on its way, whatever is refused; lines that copy are among the lines.
 pub fn what_lines_copy_stays()
     ensures whole { (lines : List LineValue) (j : ℕ) (copier : LineValue) (source q : Path) (now : ℕ) (t : Files)
-        → AllByRecursion IsLine lines → IsRepeatable lines → IsAt lines j copier → copied (asks copier) ≡ Some source
+        → AllByRecursion IsLine lines → IsRepeatable lines → IsAt lines j copier → copied (action_of copier) ≡ Some source
         → is_prefix source q ≡ true → has_names q ≡ true → has_staging q ≡ false → IsTree t
-        → bares_of (places (created lines now t)) q ≡ bares_of (places t) q }
+        → object_states_of (places (created lines now t)) q ≡ object_states_of (places t) q }
     ensures stopped { (lines : List LineValue) (j : ℕ) (copier : LineValue) (source q : Path) (now : ℕ) (t u : Files)
-        → AllByRecursion IsLine lines → IsRepeatable lines → IsAt lines j copier → copied (asks copier) ≡ Some source
+        → AllByRecursion IsLine lines → IsRepeatable lines → IsAt lines j copier → copied (action_of copier) ≡ Some source
         → is_prefix source q ≡ true → has_names q ≡ true → has_staging q ≡ false → IsTree t
-        → PartwayOf (in_create_order lines) now t u → bares_of (places u) q ≡ bares_of (places t) q }
+        → PartwayOf (in_create_order lines) now t u → object_states_of (places u) q ≡ object_states_of (places t) q }
 {}

@@ -7,7 +7,7 @@ use Rattle.pv_path.specs.Paths.{Path}
 use Rattle.pv_steps.specs.Trees.{Files}
 use Rattle.pv_layers.specs.Folders.{found_in}
 use Rattle.pv_layers.specs.Choices.{Choice, nothing, followed, choice_of, choice_of_names, choice_of_next, choice_of_words}
-use Rattle.pv_text.specs.Said.{SaidPart}
+use Rattle.pv_text.specs.GivenMessages.{MessagesPart}
 
 or_assoc : (a b c : Bool) → ((a || b) || c) ≡ (a || (b || c))
 or_assoc true b c = refl
@@ -45,8 +45,8 @@ module _ {all rest : Choice} {old : List (List ℕ)} {files : List Path} {missin
     whole = followed_assoc p.made one next ∙ ap (followed p.made) (sym is) ∙ p.whole;
   }
 
-  pub partly_said : SaidPart all.messages old messages
-  partly_said = (
+  pub partly_messages : MessagesPart all.messages old messages
+  partly_messages = (
     length p.made.messages,
     p.messages_are ∙ ap (λ (x : List (List ℕ)). old ++ x)
         (sym (take_at p.made.messages rest.messages (length p.made.messages) refl) ∙ ap (λ (c : Choice). take (length p.made.messages) c.messages) p.whole),

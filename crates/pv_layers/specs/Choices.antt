@@ -35,8 +35,8 @@ followed a b = record { files = a.files ++ b.files; missing = a.missing || b.mis
 -- a choice is made: its files come after those chosen before, a missing word stays missing, and what it
 -- says comes after what was said
 abbrev pub IsMade : Choice → Chosen → Chosen → List (List ℕ) → List (List ℕ) → Type 0
-IsMade choice old new said says =
-    (new.files ≡ old.files ++ choice.files) × (new.missing ≡ (old.missing || choice.missing)) × (says ≡ said ++ choice.messages)
+IsMade choice old new new_messages says =
+    (new.files ≡ old.files ++ choice.files) × (new.missing ≡ (old.missing || choice.missing)) × (says ≡ new_messages ++ choice.messages)
 
 -- ---- without words
 

@@ -3,7 +3,7 @@ ghost use Rattle.std.specs.Prelude.{◌≡◌, ◌∷◌, ◌++◌, [], ◌||◌
 ghost use Rattle.pv_path.specs.Printing.{printed, printed_path};
 ghost use Rattle.pv_layers.specs.Folders.{conf_names, found_in};
 ghost use Rattle.pv_layers.specs.Choices.{chosen, choice_of, choice_of_names, choice_of_word, choice_of_next, choice_of_words, IsMade};
-ghost use Rattle.pv_text.specs.Said.{SaidPart};
+ghost use Rattle.pv_text.specs.GivenMessages.{MessagesPart};
 
 use crate::folders::{conf_names, folders};
 use crate::found::{Found, found_in};
@@ -134,10 +134,10 @@ fn choose_names<T: Tree>(
         IfOk result (λ c. c.files ≡ choice.files) }
     ensures missing { let choice = choice_of_names (T.state tree.now) folders.now names.now in
         IfOk result (λ c. c.missing ≡ choice.missing) }
-    ensures said { let choice = choice_of_names (T.state tree.now) folders.now names.now in
+    ensures new_messages { let choice = choice_of_names (T.state tree.now) folders.now names.now in
         OnOk result (messages.new ≡ messages.old ++ choice.messages) }
     ensures part { let choice = choice_of_names (T.state tree.now) folders.now names.now in
-        SaidPart choice.messages messages.old messages.new }
+        MessagesPart choice.messages messages.old messages.new }
 {
     let mut chosen = Chosen {
         files: PathList::new(alloc),
@@ -161,10 +161,10 @@ fn choose_words<T: Tree>(
         IfOk result (λ c. c.files ≡ choice.files) }
     ensures missing { let choice = choice_of_words (T.state tree.now) folders.now [] words.now in
         IfOk result (λ c. c.missing ≡ choice.missing) }
-    ensures said { let choice = choice_of_words (T.state tree.now) folders.now [] words.now in
+    ensures new_messages { let choice = choice_of_words (T.state tree.now) folders.now [] words.now in
         OnOk result (messages.new ≡ messages.old ++ choice.messages) }
     ensures part { let choice = choice_of_words (T.state tree.now) folders.now [] words.now in
-        SaidPart choice.messages messages.old messages.new }
+        MessagesPart choice.messages messages.old messages.new }
 {
     let mut chosen = Chosen {
         files: PathList::new(alloc),
@@ -198,10 +198,10 @@ pub fn chosen_files<T: Tree>(
         IfOk result (λ c. c.files ≡ choice.files) }
     ensures missing { let choice = chosen (T.state tree.now) tool names.now in
         IfOk result (λ c. c.missing ≡ choice.missing) }
-    ensures said { let choice = chosen (T.state tree.now) tool names.now in
+    ensures new_messages { let choice = chosen (T.state tree.now) tool names.now in
         OnOk result (messages.new ≡ messages.old ++ choice.messages) }
     ensures part { let choice = chosen (T.state tree.now) tool names.now in
-        SaidPart choice.messages messages.old messages.new }
+        MessagesPart choice.messages messages.old messages.new }
 {
     let folders = folders(alloc, tool)?;
     match names.as_slice() {

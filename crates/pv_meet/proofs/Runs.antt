@@ -22,7 +22,7 @@ told_below t n b = if nat_lt b n then option_to_list (t b) else []
 
 -- the moves and the run tell where the bytes below a number lead
 pub record Running (t : ℕ → Option ℕ) (places : ℕ) (n : ℕ) (old moves : List Move) (run : Option Move) : Type 0 where
-  pub told : (b : ℕ) → targets (moves ++ option_to_list run) b ≡ targets old b ++ told_below t n b
+  pub stated : (b : ℕ) → targets (moves ++ option_to_list run) b ≡ targets old b ++ told_below t n b
   pub ends : (r : Move) → run ≡ Some r → (r.high + 1 ≡ n) × (r.low ≤ r.high)
   pub inside : AllInside places old → AllInside places (moves ++ option_to_list run)
 
@@ -36,7 +36,7 @@ module _ (t : ℕ → Option ℕ) (places : ℕ) where
 
   pub running_start : (old : List Move) → t 0 ≡ None → Running t places 1 old old None
   running_start old e = record {
-    told = λ b. ap (λ x. targets x b) (append-nil old) ∙ sym (append-nil (targets old b)) ∙ ap (λ x. targets old b ++ x) (sym (below_one e b));
+    stated = λ b. ap (λ x. targets x b) (append-nil old) ∙ sym (append-nil (targets old b)) ∙ ap (λ x. targets old b ++ x) (sym (below_one e b));
     ends = λ r h. absurd (let differ : ◌≡◌ {A = Option Move} None (Some r) = h in cc);
     inside = λ all. subst (AllInside places) (sym (append-nil old)) all;
   }
@@ -62,7 +62,7 @@ module _ (t : ℕ → Option ℕ) (places : ℕ) where
   module _ (n : ℕ) (old moves : List Move) where
     pub running_longer : (r : Move) → Running t places n old moves (Some r) → t n ≡ Some r.to → Running t places (n + 1) old moves (Some (record r { high = n }))
     running_longer r was e = record {
-      told = told;
+      stated = stated;
       ends = λ s h. (let same : record r { high = n } ≡ s = cc in let high : n ≡ s.high = ap (λ (x : Move). x.high) same in let low : r.low ≡ s.low = ap (λ (x : Move). x.low) same in
           let w = was.ends r refl in (omega arith, (let a = w.0 in let b = w.1 in omega arith)));
       inside = λ all. inside_longer (was.inside all);
@@ -71,11 +71,11 @@ module _ (t : ℕ → Option ℕ) (places : ℕ) where
         longer : Move
         longer = record r { high = n }
 
-        told : (b : ℕ) → targets (moves ++ record r { high = n } ∷ []) b ≡ targets old b ++ told_below t (n + 1) b
-        told b = elim (cases_eq b n) [
+        stated : (b : ℕ) → targets (moves ++ record r { high = n } ∷ []) b ≡ targets old b ++ told_below t (n + 1) b
+        stated b = elim (cases_eq b n) [
           | inl z ↦ (
               let w = was.ends r refl in let w0 = w.0 in let w1 = w.1 in
-              let before : targets moves b ++ tells r b ≡ targets old b ++ told_below t n b = sym (targets-append moves (r ∷ []) b) ∙ was.told b in
+              let before : targets moves b ++ tells r b ≡ targets old b ++ told_below t n b = sym (targets-append moves (r ∷ []) b) ∙ was.stated b in
               let shut : goes_by b r ≡ false = grind (arith, nat_tests) in
               let open' : goes_by b (record r { high = n }) ≡ true = grind (arith, nat_tests) in
               let same : targets moves b ≡ targets old b =
@@ -84,7 +84,7 @@ module _ (t : ℕ → Option ℕ) (places : ℕ) where
               ∙ ap (λ x. targets old b ++ x) (sym (ap (told_below t (n + 1)) z ∙ told_here n ∙ ap option_to_list e)))
           | inr other ↦ (
               let w = was.ends r refl in let w0 = w.0 in let w1 = w.1 in
-              let before : targets moves b ++ tells r b ≡ targets old b ++ told_below t n b = sym (targets-append moves (r ∷ []) b) ∙ was.told b in
+              let before : targets moves b ++ tells r b ≡ targets old b ++ told_below t n b = sym (targets-append moves (r ∷ []) b) ∙ was.stated b in
               let same : goes_by b (record r { high = n }) ≡ goes_by b r = grind (arith, nat_tests) in
               targets-append moves (record r { high = n } ∷ []) b ∙ ap (λ x. targets moves b ++ x) (ap (λ (x : Bool). map (λ (m : Move). m.to) (cond x (record r { high = n } ∷ []) [])) same ∙ by (goes_by b r)) ∙ before
               ∙ ap (λ x. targets old b ++ x) (sym (told_same n b other)))
@@ -104,7 +104,7 @@ module _ (t : ℕ → Option ℕ) (places : ℕ) where
 
     pub running_fresh : (run : Option Move) → Running t places n old moves run → ((to : ℕ) → t n ≡ Some to → to < places) → Running t places (n + 1) old (moves ++ option_to_list run) (begun n)
     running_fresh run was below = record {
-      told = λ b. targets-append (moves ++ option_to_list run) (option_to_list (begun n)) b ∙ ap (λ x. x ++ targets (option_to_list (begun n)) b) (was.told b)
+      stated = λ b. targets-append (moves ++ option_to_list run) (option_to_list (begun n)) b ∙ ap (λ x. x ++ targets (option_to_list (begun n)) b) (was.stated b)
           ∙ append_assoc (targets old b) (told_below t n b) (targets (option_to_list (begun n)) b) ∙ ap (λ x. targets old b ++ x) (fresh b);
       ends = λ s h. ends (t n) s h;
       inside = λ all. All-append (λ (m : Move). m.to < places) (moves ++ option_to_list run) (option_to_list (begun n)) (was.inside all) (inside (t n) below);
@@ -138,7 +138,7 @@ module _ (t : ℕ → Option ℕ) (places : ℕ) where
 
   -- after the last byte the moves tell where each byte leads
   pub running_ends : (old moves : List Move) (run : Option Move) → Running t places 256 old moves run → ((b : ℕ) → 256 ≤ b → t b ≡ None) → (b : ℕ) → targets (moves ++ option_to_list run) b ≡ targets old b ++ option_to_list (t b)
-  running_ends old moves run was none b = was.told b ∙ ap (λ x. targets old b ++ x) (by (nat_lt b 256) refl)
+  running_ends old moves run was none b = was.stated b ∙ ap (λ x. targets old b ++ x) (by (nat_lt b 256) refl)
     where
       by : (x : Bool) → nat_lt b 256 ≡ x → (if x then option_to_list (t b) else []) ≡ option_to_list (t b)
       by true e = refl

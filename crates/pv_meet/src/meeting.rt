@@ -164,7 +164,7 @@ fn meet_all(
     Ok(found)
 }
 
-/// The first path that two reaches share: of fewest names, and then name by name the shortest, and of those as long
+/// The first path in the intersection of two reaches: of fewest names, name by name the shortest, and of those as long
 /// the first in the order of bytes `a` to `z`, `0` to `9`, `A` to `Z` and then by value. It answers nothing exactly
 /// where no path is in both.
 pub fn meet(alloc: Global, a: &Reach, b: &Reach) -> Result<Option<TreePath>, AllocError>

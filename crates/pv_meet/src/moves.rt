@@ -39,5 +39,5 @@ pub trait Moves {
         ensures moves { IfOk result (λ moves. (b : ℕ) → targets moves b ≡ (machine self.old).after at b) }
         ensures inside { IfOk result (AllInside (machine self.old).places) }
         ensures same { machine self.new ≡ machine self.old }
-        ensures spent { questions self.new + 1 ≡ questions self.old };
+        ensures cost { questions self.new + 1 ≡ questions self.old };
 }

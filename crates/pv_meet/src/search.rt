@@ -80,7 +80,7 @@ fn next_level<M: Moves>(
     ensures searched { IfOk result (λ next. IsSearched (M.machine machine.old) found.new.items next.items) }
     ensures count { IfOk result (λ next. unfound found.new.items + length next.items ≡ unfound found.old.items) }
     ensures same { M.machine machine.new ≡ M.machine machine.old }
-    ensures spent { M.questions machine.old ≤ M.questions machine.new + length level.now }
+    ensures cost { M.questions machine.old ≤ M.questions machine.new + length level.now }
 {
     let mut next = Vec::new(alloc);
     for place in level {
@@ -148,7 +148,7 @@ fn spelled(alloc: Global, word: &Word) -> Result<Bytes, AllocError>
     Ok(bytes)
 }
 
-/// The shortest word that leads from the first place of a machine to an end, of those as long the first in the
+/// The least word of an automaton: the shortest that leads from its first place to an end, of those as long the first in the
 /// order of bytes `a` to `z`, `0` to `9`, `A` to `Z` and then by value, or nothing where no word does. `places` is
 /// the number of places. It asks for the moves of each place at most once.
 pub fn least_word<M: Moves>(
@@ -162,7 +162,7 @@ pub fn least_word<M: Moves>(
     ensures none { IfOk result (λ found. IsNone found → (word : List ℕ) → reads (M.machine machine.old) 0 word ≡ false) }
     ensures first { IfOk result (λ found. IfSome found (IsFirst word_cmp (reads (M.machine machine.old) 0))) }
     ensures same { M.machine machine.new ≡ M.machine machine.old }
-    ensures spent { M.questions machine.old ≤ M.questions machine.new + places }
+    ensures cost { M.questions machine.old ≤ M.questions machine.new + places }
 {
     let mut found = start(alloc, places)?;
     let mut level = vec![in alloc; 0u32]?;

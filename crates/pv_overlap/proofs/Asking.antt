@@ -32,7 +32,7 @@ pub record AreAskedOf (order : List Head) (at : ℕ) (questions : List Question)
 -- when the heads below a place have been walked, all of them were asked
 pub record AskedBelow (asked : List Question → Type 0) (order : List Head) (at : ℕ) : Type 0 where
   pub questions : List Question
-  pub told : asked questions
+  pub recorded : asked questions
   pub are : AreAskedOf order at questions
   pub all : (q p : ℕ) → q < p → p < at → is_prefix (head_at order q).path (head_at order p).path ≡ true → Contains questions (question_of (head_at order q) (head_at order p))
 
@@ -55,7 +55,7 @@ not_both (Err fault) failed e = let differ : ◌≡◌ {A = Bool} false true = e
 pub was_none : (asked : List Question → Type 0) (heads : List Path) → asked [] → (result : Result (List Pair) AllocError) → IsErr result → WasAsked asked heads (is_ok result)
 was_none asked heads none result failed = record {
   questions = [];
-  told = none;
+  recorded = none;
   each = λ k d l. absurd (omega arith);
   once = AllPairs-none ◌≢◌;
   all = λ e. absurd (not_both result failed e);
@@ -119,9 +119,9 @@ module _ (heads : List Path) (order : List Head) (is_order : IsOrderOf heads ord
       (related_of (head_at order of.first).path (head_at order of.second).path of.begins))
 
   pub was_some : (asked : List Question → Type 0) (at : ℕ) → at ≤ length order → (questions : List Question) → asked questions → AreAskedOf order at questions → (result : Result (List Pair) AllocError) → IsErr result → WasAsked asked heads (is_ok result)
-  was_some asked at within questions told are result failed = record {
+  was_some asked at within questions recorded are result failed = record {
     questions = questions;
-    told = told;
+    recorded = recorded;
     each = All-weaker (IsAskedOf order at) (IsQuestion heads) (is_question at within) questions are.each;
     once = are.once;
     all = λ e. absurd (not_both result failed e);
@@ -162,7 +162,7 @@ module _ (heads : List Path) (order : List Head) (is_order : IsOrderOf heads ord
     pub was_all : (done : Bool) → WasAsked asked heads done
     was_all done = record {
       questions = below.questions;
-      told = below.told;
+      recorded = below.recorded;
       each = All-weaker (IsAskedOf order at) (IsQuestion heads) (is_question at within) below.questions below.are.each;
       once = below.are.once;
       all = λ e question is. all_asked question.0 question.1 is.0 is.1 is.2;
@@ -220,9 +220,9 @@ module _ (heads : List Path) (order : List Head) (is_order : IsOrderOf heads ord
 
       -- all of them were asked
       pub asked_next : (old new : List Question → Type 0) (before : AskedBelow old order at) → new (before.questions ++ questions_at order at (filter begins open')) → AskedBelow new order (at + 1)
-      asked_next old new before told = record {
+      asked_next old new before recorded = record {
         questions = before.questions ++ questions_at order at (filter begins open');
-        told = told;
+        recorded = recorded;
         are = asked_more before.questions before.are (filter begins open') low (filter_passes begins open') up;
         all = λ q p less l e. elim (cases_lt p at) [
           | inl m ↦ Contains-append_left before.questions (questions_at order at (filter begins open')) (question_of (head_at order q) (head_at order p)) (before.all q p less m e)

@@ -212,12 +212,12 @@ walked_all answers heads order is_order at whole open' found walked i j less far
     let lp = p.1 in
     elim (cases_lt q.0 p.0) [
       | inl before ↦ (
-          let told : HasAnswer answers found i j = subst (λ x. HasAnswer answers found x j) q.2 (subst (λ x. HasAnswer answers found (head_at order q.0).index x) p.2 (walked.all q.0 p.0 before (omega arith))) in
-          told.0 less)
+          let recorded : HasAnswer answers found i j = subst (λ x. HasAnswer answers found x j) q.2 (subst (λ x. HasAnswer answers found (head_at order q.0).index x) p.2 (walked.all q.0 p.0 before (omega arith))) in
+          recorded.0 less)
       | inr behind ↦ elim (cases_lt p.0 q.0) [
         | inl after ↦ (
-            let told : HasAnswer answers found j i = subst (λ x. HasAnswer answers found x i) p.2 (subst (λ x. HasAnswer answers found (head_at order p.0).index x) q.2 (walked.all p.0 q.0 after (omega arith))) in
-            told.1 less)
+            let recorded : HasAnswer answers found j i = subst (λ x. HasAnswer answers found x i) p.2 (subst (λ x. HasAnswer answers found (head_at order p.0).index x) q.2 (walked.all p.0 q.0 after (omega arith))) in
+            recorded.1 less)
         | inr same ↦ absurd (let one : q.0 ≡ p.0 = omega arith in let equal : i ≡ j = sym q.2 ∙ ap (λ x. (head_at order x).index) one ∙ p.2 in omega (arith, less, equal))
       ]
     ]

@@ -15,7 +15,7 @@ IsQuestion heads question = (question.0 < question.1) × (question.1 < length he
 -- are, none twice, and where `whole` all of them
 pub record WasAsked (asked : List Question → Type 0) (heads : List Path) (whole : Bool) : Type 0 where
   pub questions : List Question
-  pub told : asked questions
+  pub recorded : asked questions
   pub each : All (IsQuestion heads) questions
   pub once : AllPairs ◌≢◌ questions
   pub all : whole ≡ true → (question : Question) → IsQuestion heads question → Contains questions question

@@ -14,5 +14,5 @@ or_fault fault None = Err fault
 
 -- the same result, its fault told in other words
 abbrev pub in_words : {A E F : Type 0} → (E → F) → Result A E → Result A F
-in_words told (Ok x) = Ok x
-in_words told (Err fault) = Err (told fault)
+in_words stated (Ok x) = Ok x
+in_words stated (Err fault) = Err (stated fault)

@@ -16,7 +16,7 @@ pub use parse::parse_path;
 pub use path::TreePath;
 pub use path_fault::PathFault;
 pub use print::{add_plain, add_printed, add_printed_but, is_plain, print_bytes, print_path};
-pub use relate::{carry, child, has_staging, is_prefix, names_under, parent, staging};
+pub use relate::{child, has_staging, is_prefix, names_under, parent, rebase, staging};
 pub use sequence::Sequence;
 
 /// Bytes: a content, a link's target, or a text.

@@ -82,7 +82,7 @@ pub fn staging(alloc: Global, path: &TreePath) -> Result<TreePath, AllocError>
 
 /// Where a path goes when the directory that it begins with is moved: what follows `from` in the
 /// path, after `to`.
-pub fn carry(
+pub fn rebase(
     alloc: Global,
     path: &TreePath,
     from: &TreePath,

@@ -15,7 +15,7 @@ use Rattle.pv_steps.proofs.ActingLaws.{Moves}
 use Rattle.pv_table.specs.Active.{in_create_order}
 use Rattle.pv_table.specs.Created.{created, created_messages, some_refusal_counts, work}
 use Rattle.pv_table.specs.Removed.{is_gone, is_unfinished, removed_messages}
-use Rattle.pv_text.specs.Said.{SaidPart}
+use Rattle.pv_text.specs.GivenMessages.{MessagesPart}
 use Rattle.pv_phases.specs.Phases.{boot_phases, phases_course}
 use Rattle.pv_phases.specs.declared.phase.Phase.TheVariants.{Remove, Create}
 use Rattle.pv_phases.proofs.PhaseLaws.{phase_start, quiet_gone}
@@ -28,7 +28,7 @@ module _ {S : Type 0} (tree : Ghosts S) (lines : List Line) (now : ℕ) where
       → CarriesOut tree (phases_course lines now) Remove now a d old new r
   removing_out a d old new r took = record {
     ok = took.ok;
-    said = took.said;
+    new_messages = took.new_messages;
     carried = took.carried;
     part = took.part;
     acted = took.acted;
@@ -37,11 +37,11 @@ module _ {S : Type 0} (tree : Ghosts S) (lines : List Line) (now : ℕ) where
 
   pub creating_out : (a d : S) (old new : List (List ℕ)) (r : Result Carried TreeFault)
       → OnOk r (tree.state d ≡ created lines now (tree.state a)) → OnOk r (new ≡ old ++ created_messages lines now (tree.state a)) → IfOk r (λ c. c ≡ carried_of (some_refusal_counts lines now (tree.state a)))
-      → SaidPart (created_messages lines now (tree.state a)) old new
+      → MessagesPart (created_messages lines now (tree.state a)) old new
       → Acted tree (Partway (lines_course now) (in_create_order lines) (tree.state a)) (IsStepOfSome (lines_course now) (in_create_order lines) (tree.state a)) (work lines now (tree.state a)) now a d r
       → HasGone tree (Cut (lines_course now) now (refused r) (in_create_order lines) (tree.state a)) now a d old new
       → CarriesOut tree (phases_course lines now) Create now a d old new r
-  creating_out a d old new r ok said carried part acted went = record { ok = ok; said = said; carried = carried; part = part; acted = acted; went = went }
+  creating_out a d old new r ok new_messages carried part acted went = record { ok = ok; new_messages = new_messages; carried = carried; part = part; acted = acted; went = went }
 
   -- ---- one after the other
 

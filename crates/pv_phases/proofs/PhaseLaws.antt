@@ -10,15 +10,15 @@ use Rattle.pv_create.proofs.LineLaws.{line_start}
 use Rattle.pv_doing.specs.Courses.{AtWork, Cut, HasGone, Partway, IsStepOfSome, single, carried_of}
 use Rattle.pv_doing.specs.declared.carried.Carried.{Carried}
 use Rattle.pv_doing.specs.declared.carried.Carried.TheVariants.{Whole}
-use Rattle.pv_doing.proofs.CourseLaws.{Going, going_start, going_next, none_left, one_gone, one_within, one_part, partway_start, single_gone, end_whole, end_said, end_part, end_refused, end_acted, end_gone}
+use Rattle.pv_doing.proofs.CourseLaws.{Going, going_start, going_next, none_left, one_gone, one_within, one_part, partway_start, single_gone, end_whole, end_messages, end_part, end_refused, end_acted, end_gone}
 use Rattle.pv_doing.proofs.CarryingLaws.{refused_passed}
 use Rattle.pv_create.specs.Mended.{IsMended}
-use Rattle.pv_dress.proofs.OperationLaws.{bares-same}
+use Rattle.pv_metadata.proofs.OperationLaws.{object_states-same}
 use Rattle.pv_laws.proofs.Moments.{created_same}
 use Rattle.pv_laws.proofs.Sets.{impossible}
 use Rattle.pv_steps.specs.Runs.{after_all}
 use Rattle.pv_steps.specs.Same.{Same}
-use Rattle.pv_dress.specs.Edits.{Pruned}
+use Rattle.pv_metadata.specs.Edits.{Pruned}
 use Rattle.pv_lines.specs.declared.line.Line.{Line}
 use Rattle.pv_remove.proofs.RunLaws.{removal_mended, purge_mended}
 use Rattle.pv_steps.specs.Acting.{refused, Acted}
@@ -32,11 +32,11 @@ use Rattle.pv_steps.proofs.ActingLaws.{Moves}
 use Rattle.pv_steps.proofs.RunLaws.{ran_none}
 use Rattle.pv_table.specs.Active.{in_create_order}
 use Rattle.pv_table.specs.Cleaned.{is_aged}
-use Rattle.pv_table.specs.Created.{after_each, said_of_each, one_is_refused, taken_by_each, created}
+use Rattle.pv_table.specs.Created.{after_each, messages_for_each, one_is_refused, taken_by_each, created}
 use Rattle.pv_table.specs.Removed.{is_gone, is_purged}
-use Rattle.pv_text.specs.Said.{SaidPart}
+use Rattle.pv_text.specs.GivenMessages.{MessagesPart}
 use Rattle.pv_phases.specs.Booted.{booted, IsBootMended}
-use Rattle.pv_phases.specs.Phases.{boot_phases, is_boot, IsMendedBy, is_step_of, left_by, most_steps_of, falls_short, on_way, phase_cut, phase_whole, phases_course, said_in}
+use Rattle.pv_phases.specs.Phases.{boot_phases, is_boot, IsMendedBy, is_step_of, left_by, most_steps_of, falls_short, on_way, phase_cut, phase_whole, phases_course, messages_in}
 use Rattle.pv_phases.specs.declared.phase.Phase.{Phase}
 use Rattle.pv_phases.specs.declared.phase.Phase.TheVariants.{Remove, Clean, Create, Purge}
 use Rattle.pv_phases.proofs.BootLaws.{booted_same}
@@ -56,7 +56,7 @@ nothing_mended : (lines : List Line) (now : ℕ) (t : Files) (h : List Step) →
 nothing_mended lines now t h n later repeatable quiet again =
     let none : take n (drop (length h) h) ≡ [] = ap (take n) (drop-length h) ∙ take-nil n in
     subst (λ (steps : List Step). Same (created lines later (after_all t steps now)) (created lines now t)) (sym none)
-    (λ q plain. bares-same (places (created lines later t)) (places (created lines now t)) q (created_same lines later now t t (λ p. refl) q))
+    (λ q plain. object_states-same (places (created lines later t)) (places (created lines now t)) q (created_same lines later now t t (λ p. refl) q))
 
 -- of a run of one phase what its stop law says; of several phases nothing
 abbrev pub IsMendedAlone : List Phase → List Line → ℕ → Files → List Step → Type 0
@@ -132,18 +132,18 @@ module _ {S : Type 0} (tree : Ghosts S) (lines : List Line) (now : ℕ) (phase :
   failed_of (Err Failed) one = refl
   failed_of (Err Memory) one = absurd (let no : ◌≡◌ {A = ℕ} 0 1 = one in omega (arith, no))
 
-  pub quiet_gone : SaidPart (said_in lines now phase (tree.state a)) old new
+  pub quiet_gone : MessagesPart (messages_in lines now phase (tree.state a)) old new
       → Acted tree (on_way lines now phase (tree.state a)) (is_step_of lines now phase (tree.state a)) (most_steps_of lines now phase (tree.state a)) now a d r
-      → HasGone tree (λ steps said. AtWork (phase_whole lines now) (on_way lines now) (is_step_of lines now) now (refused r) phase (tree.state a) steps said × (refused r ≡ 1 → said ≡ [])) now a d old new
+      → HasGone tree (λ steps new_messages. AtWork (phase_whole lines now) (on_way lines now) (is_step_of lines now) now (refused r) phase (tree.state a) steps new_messages × (refused r ≡ 1 → new_messages ≡ [])) now a d old new
   quiet_gone part acted =
-      let one = single_gone (single (phase_whole lines now) (on_way lines now) (is_step_of lines now)) (λ moment refused x t done said work. work) tree phase now a d old new part acted in
+      let one = single_gone (single (phase_whole lines now) (on_way lines now) (is_step_of lines now)) (λ moment refused x t done new_messages work. work) tree phase now a d old new part acted in
       record {
         steps = one.steps;
         texts = one.texts;
         recorded = one.recorded;
         reached = one.reached;
-        said = one.said;
-        is = (one.is, λ failed. append_cancel_left old one.texts [] (sym one.said ∙ silent (failed_of r failed) ∙ sym (append-nil old)));
+        new_messages = one.new_messages;
+        is = (one.is, λ failed. append_cancel_left old one.texts [] (sym one.new_messages ∙ silent (failed_of r failed) ∙ sym (append-nil old)));
       }
 
 -- ---- some phases are done
@@ -186,18 +186,18 @@ module _ {S : Type 0} (tree : Ghosts S) (moves : Moves tree) (lines : List Line)
     going : Going (phases_course lines now) tree all (phase ∷ rest) now run.refused a b old new
     going = subst (λ ps. Going (phases_course lines now) tree all ps now run.refused a b old new) next run.going
 
-    pub phases_part : (said : List (List ℕ)) → SaidPart (said_in lines now phase (tree.state b)) new said → SaidPart (said_of_each (phases_course lines now).whole all t) old said
-    phases_part said part = one_part (phases_course lines now) tree moves start all now a old rest phase run.refused b new going said part
+    pub phases_part : (new_messages : List (List ℕ)) → MessagesPart (messages_in lines now phase (tree.state b)) new new_messages → MessagesPart (messages_for_each (phases_course lines now).whole all t) old new_messages
+    phases_part new_messages part = one_part (phases_course lines now) tree moves start all now a old rest phase run.refused b new going new_messages part
 
     pub phases_acted : {B : Type 0} {d : S} {r : Result B TreeFault} → Acted tree (on_way lines now phase (tree.state b)) (is_step_of lines now phase (tree.state b)) (most_steps_of lines now phase (tree.state b)) now b d r
         → Acted tree (Partway (phases_course lines now) all t) (IsStepOfSome (phases_course lines now) all t) (taken_by_each (phases_course lines now).whole all t) now a d r
     phases_acted one = one_within (phases_course lines now) tree moves start all now a old rest phase run.refused b new going one
 
-    pub phases_gone : {B C : Type 0} {e : TreeFault} (d : S) (said : List (List ℕ)) (q : Result B TreeFault) (r : Result C TreeFault) → q ≡ Err e → IsErrAnd r (λ y. y ≡ e)
-        → HasGone tree (phase_cut lines now (refused q) phase (tree.state b)) now b d new said → HasGone tree (Cut (phases_course lines now) now (refused r) all t) now a d old said
-    phases_gone d said q r was passed one =
-        subst (λ n. HasGone tree (Cut (phases_course lines now) now n all t) now a d old said) (refused_passed q r was passed)
-        (one_gone (phases_course lines now) tree moves start all now a old rest phase run.refused b new going (refused q) d said one)
+    pub phases_gone : {B C : Type 0} {e : TreeFault} (d : S) (new_messages : List (List ℕ)) (q : Result B TreeFault) (r : Result C TreeFault) → q ≡ Err e → IsErrAnd r (λ y. y ≡ e)
+        → HasGone tree (phase_cut lines now (refused q) phase (tree.state b)) now b d new new_messages → HasGone tree (Cut (phases_course lines now) now (refused r) all t) now a d old new_messages
+    phases_gone d new_messages q r was passed one =
+        subst (λ n. HasGone tree (Cut (phases_course lines now) now n all t) now a d old new_messages) (refused_passed q r was passed)
+        (one_gone (phases_course lines now) tree moves start all now a old rest phase run.refused b new going (refused q) d new_messages one)
 
     pub phases_mended : (d : S) → IsMendedBy (phase ∷ []) lines now (tree.state b) (drop (length (tree.steps b)) (tree.steps d)) → IsMendedAlone all lines now t (drop (length (tree.steps a)) (tree.steps d))
     phases_mended d one = by all i within is run.mending.still
@@ -210,16 +210,16 @@ module _ {S : Type 0} (tree : Ghosts S) (moves : Moves tree) (lines : List Line)
         by (p ∷ []) (suc j) in_it at still = absurd (omega (arith, in_it))
         by (p ∷ q ∷ phases) j in_it at still = tt
 
-    pub phases_next : {B : Type 0} (d : S) {y : B} (said : List (List ℕ)) (ended : Carried) → tree.state d ≡ left_by lines now phase (tree.state b) → said ≡ new ++ said_in lines now phase (tree.state b)
+    pub phases_next : {B : Type 0} (d : S) {y : B} (new_messages : List (List ℕ)) (ended : Carried) → tree.state d ≡ left_by lines now phase (tree.state b) → new_messages ≡ new ++ messages_in lines now phase (tree.state b)
         → Acted tree (on_way lines now phase (tree.state b)) (is_step_of lines now phase (tree.state b)) (most_steps_of lines now phase (tree.state b)) now b d (Ok y)
-        → HasGone tree (phase_cut lines now 0 phase (tree.state b)) now b d new said
+        → HasGone tree (phase_cut lines now 0 phase (tree.state b)) now b d new new_messages
         → IsMendedBy (phase ∷ []) lines now (tree.state b) (drop (length (tree.steps b)) (tree.steps d))
         → ((yet : Bool) → carried ≡ carried_of yet → ended ≡ carried_of (yet || falls_short lines now phase (tree.state b)))
-        → OnPhases tree lines now all (i + 1) ended a d old said
-    phases_next d {y} said ended done says one gone law counts = record {
+        → OnPhases tree lines now all (i + 1) ended a d old new_messages
+    phases_next d {y} new_messages ended done says one gone law counts = record {
       refused = run.refused || falls_short lines now phase (tree.state b);
       ended = counts run.refused run.ended;
-      going = going_next (phases_course lines now) tree moves start all now a old rest phase run.refused b new going d {y = y} said done says one gone;
+      going = going_next (phases_course lines now) tree moves start all now a old rest phase run.refused b new going d {y = y} new_messages done says one gone;
       mending = record { still = λ none. absurd (omega (arith, none)); law = phases_mended d law };
     }
 
@@ -232,10 +232,10 @@ module _ {S : Type 0} (tree : Ghosts S) (moves : Moves tree) (lines : List Line)
     pub phases_whole : tree.state b ≡ after_each (phases_course lines now).whole all t
     phases_whole = end_whole (phases_course lines now) tree moves start all now a old run.refused b new all_done
 
-    pub phases_said : new ≡ old ++ said_of_each (phases_course lines now).whole all t
-    phases_said = end_said (phases_course lines now) tree moves start all now a old run.refused b new all_done
+    pub phases_messages : new ≡ old ++ messages_for_each (phases_course lines now).whole all t
+    phases_messages = end_messages (phases_course lines now) tree moves start all now a old run.refused b new all_done
 
-    pub phases_told : SaidPart (said_of_each (phases_course lines now).whole all t) old new
+    pub phases_told : MessagesPart (messages_for_each (phases_course lines now).whole all t) old new
     phases_told = end_part (phases_course lines now) tree moves start all now a old run.refused b new all_done
 
     pub phases_ended : carried ≡ carried_of (one_is_refused (phases_course lines now).whole all t)

@@ -10,9 +10,9 @@ use Rattle.pv_create.proofs.StoppedLaws.{between}
 use Rattle.pv_create.specs.OnTheWay.{IsGiven}
 use Rattle.pv_create.specs.Ways.{lines_course}
 use Rattle.pv_doing.specs.Courses.{Course, Partway, IsStepOfSome}
-use Rattle.pv_dress.specs.declared.bare.Bare.{Bare}
-use Rattle.pv_dress.specs.Edits.{Pruned}
-use Rattle.pv_dress.specs.Nodes.{bares_of}
+use Rattle.pv_metadata.specs.declared.object_state.ObjectState.{ObjectState}
+use Rattle.pv_metadata.specs.Edits.{Pruned}
+use Rattle.pv_metadata.specs.Nodes.{object_states_of}
 use Rattle.pv_laws.specs.Between.{IsBetween, IsOnTheWay}
 use Rattle.pv_laws.specs.Moments.{Agree}
 use Rattle.pv_lines.specs.declared.line.Line.{Line}
@@ -23,7 +23,7 @@ use Rattle.pv_steps.specs.Runs.{after_all, Ran}
 use Rattle.pv_steps.specs.Trees.{Files, IsTree, places}
 use Rattle.pv_steps.proofs.RunLaws.{ran_weaken}
 use Rattle.pv_table.specs.Active.{in_create_order}
-use Rattle.pv_table.specs.Pointwise.{Bares, pointwise_after, state}
+use Rattle.pv_table.specs.Pointwise.{ObjectStates, pointwise_after, state}
 use Rattle.pv_table.specs.Removed.{is_gone}
 use Rattle.pv_walk.proofs.SweepLaws.{pruned-none}
 use Rattle.pv_phases.specs.OnTheWay.{GiveBy, IsBetweenBy}
@@ -75,13 +75,13 @@ module _ (lines : List Line) (are : AllByRecursion IsLine lines) (now : ℕ) (t 
 -- ---- nothing done
 
 -- before the first line each path is as it was
-way_begins : (lines : List Line) (s : Bares) (t : Files) → Agree s t → IsOnTheWay lines s t
+way_begins : (lines : List Line) (s : ObjectStates) (t : Files) → Agree s t → IsOnTheWay lines s t
 way_begins lines s t agree = by (in_create_order lines) refl
   where
-    as_it_was : (after : Bares) (line : Line) (q : Path) → has_staging q ≡ false → IsBetween line s after q (bares_of (places t) q)
-    as_it_was after line q plain = at (bares_of (places t) q) refl
+    as_it_was : (after : ObjectStates) (line : Line) (q : Path) → has_staging q ≡ false → IsBetween line s after q (object_states_of (places t) q)
+    as_it_was after line q plain = at (object_states_of (places t) q) refl
       where
-        at : (here : Option Bare) → bares_of (places t) q ≡ here → IsBetween line s after q here
+        at : (here : Option ObjectState) → object_states_of (places t) q ≡ here → IsBetween line s after q here
         at None e = IsBetween.absent refl (inl (agree q plain ∙ e))
         at (Some x) e = IsBetween.akin x x refl (inl (agree q plain ∙ e)) (record { kind = refl; uid = refl })
 
@@ -91,7 +91,7 @@ way_begins lines s t agree = by (in_create_order lines) refl
       k = 0;
       line = line;
       at = ap (λ (xs : List Line). slice_get xs 0) e;
-      between = λ q plain. subst (λ (before : Bares). IsBetween line before (state lines 1 s) q (bares_of (places t) q)) (sym none) (as_it_was (state lines 1 s) line q plain);
+      between = λ q plain. subst (λ (before : ObjectStates). IsBetween line before (state lines 1 s) q (object_states_of (places t) q)) (sym none) (as_it_was (state lines 1 s) line q plain);
     })
       where
         none : state lines 0 s ≡ s
@@ -101,7 +101,7 @@ module _ (lines : List Line) (now : ℕ) (t : Files) (h : List Step) where
   none_left : (n : ℕ) → after_all t (take n (drop (length h) h)) now ≡ t
   none_left n = ap (λ (steps : List Step). after_all t steps now) (ap (take n) (drop-length h) ∙ take-nil n)
 
-  create_none : (s : Bares) → Agree s t → (n : ℕ) → IsOnTheWay lines s (after_all t (take n (drop (length h) h)) now)
+  create_none : (s : ObjectStates) → Agree s t → (n : ℕ) → IsOnTheWay lines s (after_all t (take n (drop (length h) h)) now)
   create_none s agree n = subst (λ (u : Files). IsOnTheWay lines s u) (sym (none_left n)) (way_begins lines s t agree)
 
   -- a run that has done nothing is where it began

@@ -2,7 +2,7 @@
 -- (systemd-tmpfiles(8), --remove --create).
 use Rattle.std.specs.Prelude.{◌≡◌, ◌⊎◌, ℕ, Bool, true, false, ◌||◌, List, ◌++◌, take}
 use Rattle.std.specs.List.{AllByRecursion}
-use Rattle.pv_dress.specs.Edits.{Pruned}
+use Rattle.pv_metadata.specs.Edits.{Pruned}
 use Rattle.pv_laws.specs.Between.{IsOnTheWay}
 use Rattle.pv_laws.specs.Moments.{Agree}
 use Rattle.pv_laws.specs.Stopping.{CopiesNothing}
@@ -16,7 +16,7 @@ use Rattle.pv_steps.specs.Same.{Same}
 use Rattle.pv_steps.specs.Trees.{Files, places}
 use Rattle.pv_table.specs.declared.reason.Reason.TheVariants as reason
 use Rattle.pv_table.specs.Created.{created, created_messages, some_refusal_counts, IsQuiet}
-use Rattle.pv_table.specs.Pointwise.{Bares}
+use Rattle.pv_table.specs.Pointwise.{ObjectStates}
 use Rattle.pv_table.specs.Removed.{is_gone, is_unfinished, removed, removed_messages}
 use Rattle.pv_table.specs.Repeatable.{HasReason, IsRepeatable}
 
@@ -50,7 +50,7 @@ IsBootMended lines now t steps = (n later : ℕ) → IsRepeatable lines → AllB
 abbrev pub IsBootBetween : List Line → ℕ → Files → List Step → Type 0
 IsBootBetween lines now t steps = (n : ℕ) →
     Pruned (is_gone lines t) t (after_all t (take n steps) now)
-    ⊎ ((s : Bares) → IsRepeatable lines → IsQuiet lines now (removed lines now t) → Agree s (removed lines now t) →
+    ⊎ ((s : ObjectStates) → IsRepeatable lines → IsQuiet lines now (removed lines now t) → Agree s (removed lines now t) →
     IsOnTheWay lines s (after_all t (take n steps) now))
 
 -- lines none of which may change what lines are read from have left, at each moment, presence, kind and payload at each path

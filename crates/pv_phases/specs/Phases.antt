@@ -5,7 +5,7 @@ use Rattle.pv_clean.specs.Cleaning.{IsCleanStep, TakesOnly, most_steps}
 use Rattle.pv_create.specs.Mended as create
 use Rattle.pv_create.specs.Ways.{lines_course}
 use Rattle.pv_doing.specs.Courses.{AtWork, Course, Cut, Partway, IsStepOfSome}
-use Rattle.pv_dress.specs.Edits.{Pruned}
+use Rattle.pv_metadata.specs.Edits.{Pruned}
 use Rattle.pv_find.specs.Whole.{count_of}
 use Rattle.pv_lines.specs.declared.line.Line.{Line}
 use Rattle.pv_remove.specs.Ended as remove
@@ -48,11 +48,11 @@ left_by lines now Create t = created lines now t
 left_by lines now Purge t = purged lines now t
 
 -- what is said of its lines
-abbrev pub said_in : List Line → ℕ → Phase → Files → List (List ℕ)
-said_in lines now Remove t = removed_messages lines t
-said_in lines now Clean t = []
-said_in lines now Create t = created_messages lines now t
-said_in lines now Purge t = purged_messages lines t
+abbrev pub messages_in : List Line → ℕ → Phase → Files → List (List ℕ)
+messages_in lines now Remove t = removed_messages lines t
+messages_in lines now Clean t = []
+messages_in lines now Create t = created_messages lines now t
+messages_in lines now Purge t = purged_messages lines t
 
 -- whether something in it is not carried out
 abbrev pub falls_short : List Line → ℕ → Phase → Files → Bool
@@ -84,15 +84,15 @@ is_step_of lines now Purge t step = Removes (is_purged lines t) step
 
 -- all of it
 abbrev pub phase_whole : List Line → ℕ → Doing Phase
-phase_whole lines now = record { after = left_by lines now; says = said_in lines now; is_refused = falls_short lines now; takes = most_steps_of lines now }
+phase_whole lines now = record { after = left_by lines now; says = messages_in lines now; is_refused = falls_short lines now; takes = most_steps_of lines now }
 
 -- what it has done and said where it was cut short: in creating the lines before the one at work are done, those after it
 -- not begun; the other phases are at work, and where a step was refused they have said nothing, since what they say follows
 -- their last step
 abbrev pub phase_cut : List Line → ℕ → ℕ → Phase → Files → List Step → List (List ℕ) → Type 0
-phase_cut lines now refused Create t steps said = Cut (lines_course now) now refused (in_create_order lines) t steps said
-phase_cut lines now refused phase t steps said =
-    AtWork (phase_whole lines now) (on_way lines now) (is_step_of lines now) now refused phase t steps said × (refused ≡ 1 → said ≡ [])
+phase_cut lines now refused Create t steps new_messages = Cut (lines_course now) now refused (in_create_order lines) t steps new_messages
+phase_cut lines now refused phase t steps new_messages =
+    AtWork (phase_whole lines now) (on_way lines now) (is_step_of lines now) now refused phase t steps new_messages × (refused ≡ 1 → new_messages ≡ [])
 
 -- phases one after the other
 abbrev pub phases_course : List Line → ℕ → Course Phase

@@ -6,7 +6,7 @@ ghost use Rattle.pv_laws.specs.Swept.{LeavesNoStagingName};
 ghost use Rattle.pv_steps.specs.Acting.{refused, Acted};
 ghost use Rattle.pv_table.specs.Created.{taken_by_each};
 ghost use Rattle.pv_table.specs.Removed.{removed};
-ghost use Rattle.pv_text.specs.Said.{SaidPart};
+ghost use Rattle.pv_text.specs.GivenMessages.{MessagesPart};
 ghost use Rattle.pv_phases.specs.Booted.{booted, booted_messages, is_boot_unfinished, IsBootBetween, IsBootMended, KeepsInput};
 ghost use Rattle.pv_phases.specs.BootedAgain.{IsBootMendedAgain, IsBootStoppedAgain};
 ghost use Rattle.pv_phases.specs.Phases.{boot_phases, phases_course};
@@ -31,13 +31,13 @@ pub fn boot_run<T: Tree>(
 ) -> Result<Carried, TreeFault>
     // What a whole run leaves, stamps and staging names included, what it says and how it ends.
     ensures ok { OnOk result (T.state tree.new ≡ booted table.now now (T.state tree.old)) }
-    ensures said { OnOk result (messages.new ≡ messages.old ++ booted_messages table.now now (T.state tree.old)) }
+    ensures new_messages { OnOk result (messages.new ≡ messages.old ++ booted_messages table.now now (T.state tree.old)) }
     ensures carried { IfOk result (λ c. c ≡ carried_of (is_boot_unfinished table.now now (T.state tree.old))) }
     ensures staged { OnOk result (LeavesNoStagingName table.now now (removed table.now now (T.state tree.old))
         (T.state tree.new)) }
 
     // What any run has said and done, whatever it answers.
-    ensures part { SaidPart (booted_messages table.now now (T.state tree.old)) messages.old messages.new }
+    ensures part { MessagesPart (booted_messages table.now now (T.state tree.old)) messages.old messages.new }
     ensures acted { Acted T.Tree (Partway (phases_course table.now now) boot_phases (T.state tree.old))
         (IsStepOfSome (phases_course table.now now) boot_phases (T.state tree.old))
         (taken_by_each (phases_course table.now now).whole boot_phases (T.state tree.old)) now tree.old tree.new result }

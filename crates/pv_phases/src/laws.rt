@@ -2,8 +2,8 @@
 ghost use Rattle.std.specs.Prelude.{◌≡◌, ◌⊎◌, ℕ, ◌<◌, ◌^◌, List, true, false};
 ghost use Rattle.std.specs.List.{AllByRecursion, list_any};
 ghost use Rattle.pv_doing.specs.Courses.{IsStepOfSome, Partway};
-ghost use Rattle.pv_dress.specs.Edits.{Pruned};
-ghost use Rattle.pv_dress.specs.Nodes.{bares_of};
+ghost use Rattle.pv_metadata.specs.Edits.{Pruned};
+ghost use Rattle.pv_metadata.specs.Nodes.{object_states_of};
 ghost use Rattle.pv_laws.specs.Between.{IsOnTheWay};
 ghost use Rattle.pv_laws.specs.Moments.{Agree};
 ghost use Rattle.pv_laws.specs.Stopping.{CopiesNothing};
@@ -19,7 +19,7 @@ ghost use Rattle.pv_steps.specs.Trees.{Files, places, IsTree};
 ghost use Rattle.pv_table.specs.declared.reason.Reason.TheVariants as reason;
 ghost use Rattle.pv_table.specs.Active.{are_distinct};
 ghost use Rattle.pv_table.specs.Created.{IsQuiet};
-ghost use Rattle.pv_table.specs.Pointwise.{Bares};
+ghost use Rattle.pv_table.specs.Pointwise.{ObjectStates};
 ghost use Rattle.pv_table.specs.Reaching.{governs};
 ghost use Rattle.pv_table.specs.Removed.{is_gone, is_unfinished, removed};
 ghost use Rattle.pv_table.specs.Repeatable.{HasReason, IsRepeatable};
@@ -29,16 +29,17 @@ ghost use Rattle.pv_phases.specs.Phases.{boot_phases, phases_course};
 ghost use Rattle.pv_phases.specs.declared.phase.Phase.{Phase as PhaseValue};
 
 /// At each moment on the way of phases one after the other, whatever is refused, a path that no line governs is as it
-/// was, stamps and staging names aside.
+/// was, timestamps and staging names aside.
 pub fn what_no_line_governs_stays()
     ensures { (lines : List LineValue) (now : ℕ) (phases : List PhaseValue) (t u : Files) (q : Path) → IsTree t
         → AllByRecursion IsLine lines → Partway (phases_course lines now) phases t u → has_staging q ≡ false
-        → list_any (λ line. governs line q) lines ≡ false → bares_of (places u) q ≡ bares_of (places t) q }
+        → list_any (λ line. governs line q) lines ≡ false → object_states_of (places u) q ≡ object_states_of (places t) q }
 {}
 
 /// The boot law: what a run of removing and then creating has left on its way is mended by a whole run from there, at any
-/// moment; this leaves the tree of one whole run, stamps and staging names aside. No line has a reason and none copies;
-/// removing leaves nothing unfinished; and after removing, creating refuses no line at a turn, in neither whole run.
+/// moment; this leaves the tree of one whole run, timestamps and staging names aside. No line has a reason and none
+/// copies; removing leaves nothing unfinished; and after removing, creating refuses no line at a turn, in neither whole
+/// run.
 pub fn a_boot_cut_short_is_mended()
     ensures { (lines : List LineValue) (now later : ℕ) (t u : Files) → IsTree t → IsTree u → AllByRecursion IsLine lines
         → AllByRecursion CopiesNothing lines → are_distinct lines ≡ true → IsRepeatable lines
@@ -61,7 +62,7 @@ pub fn a_boot_on_its_way_removes_or_is_between_two_lines()
     ensures { (lines : List LineValue) (now : ℕ) (t u : Files) → now < 2 ^ 64 → IsTree t → AllByRecursion IsLine lines
         → Partway (phases_course lines now) boot_phases t u
         → Pruned (is_gone lines t) t u
-        ⊎ ((s : Bares) → IsRepeatable lines → IsQuiet lines now (removed lines now t) → Agree s (removed lines now t)
+        ⊎ ((s : ObjectStates) → IsRepeatable lines → IsQuiet lines now (removed lines now t) → Agree s (removed lines now t)
         → IsOnTheWay lines s u) }
 {}
 

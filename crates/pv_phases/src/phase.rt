@@ -3,10 +3,10 @@ ghost use Rattle.std.specs.Prelude.{◌≡◌, ◌++◌, ◌∷◌, [], drop, le
 ghost use Rattle.pv_create.specs.OnTheWay.{IsFramed};
 ghost use Rattle.pv_doing.specs.Courses.{Partway, IsStepOfSome, carried_of, Cut, HasGone};
 ghost use Rattle.pv_steps.specs.Acting.{refused, Acted};
-ghost use Rattle.pv_table.specs.Created.{after_each, said_of_each, one_is_refused, taken_by_each};
-ghost use Rattle.pv_text.specs.Said.{SaidPart};
+ghost use Rattle.pv_table.specs.Created.{after_each, messages_for_each, one_is_refused, taken_by_each};
+ghost use Rattle.pv_text.specs.GivenMessages.{MessagesPart};
 ghost use Rattle.pv_phases.specs.OnTheWay.{GiveBy, IsBetweenBy};
-ghost use Rattle.pv_phases.specs.Phases.{asked, falls_short, is_boot, is_step_of, IsMendedBy, left_by, most_steps_of, on_way, phase_cut, phases_course, phases_of, said_in};
+ghost use Rattle.pv_phases.specs.Phases.{asked, falls_short, is_boot, is_step_of, IsMendedBy, left_by, most_steps_of, on_way, phase_cut, phases_course, phases_of, messages_in};
 ghost use Rattle.pv_phases.specs.Swept.{IsSweptBy};
 
 use crate::boot::boot_run;
@@ -76,12 +76,12 @@ pub fn run_phases<T: Tree>(
     messages: &mut Messages,
 ) -> Result<Carried, TreeFault>
     ensures ok { OnOk result (T.state tree.new ≡ after_each (phases_course table.now now).whole phases.now (T.state tree.old)) }
-    ensures said { OnOk result (messages.new
-        ≡ messages.old ++ said_of_each (phases_course table.now now).whole phases.now (T.state tree.old)) }
+    ensures new_messages { OnOk result (messages.new
+        ≡ messages.old ++ messages_for_each (phases_course table.now now).whole phases.now (T.state tree.old)) }
     ensures carried { IfOk result (λ c. c
         ≡ carried_of (one_is_refused (phases_course table.now now).whole phases.now (T.state tree.old))) }
     ensures staged { OnOk result (IsSweptBy phases.now table.now now (T.state tree.old) (T.state tree.new)) }
-    ensures part { SaidPart (said_of_each (phases_course table.now now).whole phases.now (T.state tree.old))
+    ensures part { MessagesPart (messages_for_each (phases_course table.now now).whole phases.now (T.state tree.old))
         messages.old messages.new }
     ensures acted { Acted T.Tree (Partway (phases_course table.now now) phases.now (T.state tree.old))
         (IsStepOfSome (phases_course table.now now) phases.now (T.state tree.old))
@@ -124,9 +124,9 @@ fn do_phase<T: Tree>(
     messages: &mut Messages,
 ) -> Result<Carried, TreeFault>
     ensures ok { OnOk result (T.state tree.new ≡ left_by table.now now phase (T.state tree.old)) }
-    ensures said { OnOk result (messages.new ≡ messages.old ++ said_in table.now now phase (T.state tree.old)) }
+    ensures new_messages { OnOk result (messages.new ≡ messages.old ++ messages_in table.now now phase (T.state tree.old)) }
     ensures carried { IfOk result (λ c. c ≡ carried_of (falls_short table.now now phase (T.state tree.old))) }
-    ensures part { SaidPart (said_in table.now now phase (T.state tree.old)) messages.old messages.new }
+    ensures part { MessagesPart (messages_in table.now now phase (T.state tree.old)) messages.old messages.new }
     ensures acted { Acted T.Tree (on_way table.now now phase (T.state tree.old)) (is_step_of table.now now phase (T.state tree.old))
         (most_steps_of table.now now phase (T.state tree.old)) now tree.old tree.new result }
     ensures went { HasGone T.Tree (phase_cut table.now now (refused result) phase (T.state tree.old))

@@ -2,14 +2,14 @@
 ghost use Rattle.std.specs.Prelude.{◌≡◌, Some, IfOk};
 ghost use Rattle.std.specs.FinMap as fin;
 ghost use Rattle.pv_path.specs.Paths.{Path, has_staging, rest_under};
-ghost use Rattle.pv_table.specs.declared.deed.Deed.TheVariants.{Copy};
+ghost use Rattle.pv_table.specs.declared.action.Action.TheVariants.{Copy};
 ghost use Rattle.pv_table.specs.Pointwise.{after_turn, view};
 ghost use Rattle.pv_table.specs.Turns.{View, copy_of, copying_turn, decide, is_childless, topped_by};
 
 use crate::made::adjusted;
 use crate::standing::Standing;
-use pv_dress::Bare;
-use pv_path::{Name, TreePath, carry, is_staging};
+use pv_metadata::ObjectState;
+use pv_path::{Name, TreePath, is_staging, rebase};
 use pv_table::Copying;
 use pv_walk::topped;
 use std::alloc::{AllocError, Global};
@@ -23,11 +23,11 @@ pub(crate) fn after_copying(
     before: &Standing,
     other: &TreePath,
     rest: &[Name],
-    here: Option<Bare>,
-) -> Result<Option<Bare>, AllocError>
+    here: Option<ObjectState>,
+) -> Result<Option<ObjectState>, AllocError>
     requires childless { childless ≡ is_childless (view before.now) path.now }
     requires rest { rest_under path.now other.now ≡ Some rest.now }
-    ensures { IfOk result (λ bare. bare ≡ after_turn (decide (Copy copying.now) (view before.now) path.now) rest.now here) }
+    ensures { IfOk result (λ object_state. object_state ≡ after_turn (decide (Copy copying.now) (view before.now) path.now) rest.now here) }
 {
     match before.get(&copying.source) {
         None => Ok(here),
@@ -49,15 +49,15 @@ fn over(
     alloc: Global,
     copying: &Copying,
     childless: bool,
-    source: &Bare,
-    old: &Bare,
+    source: &ObjectState,
+    old: &ObjectState,
     rest: &[Name],
-    copy: Option<Bare>,
-    here: Option<Bare>,
-) -> Result<Option<Bare>, AllocError>
-    ensures { IfOk result (λ bare. (view : View) (path : Path) → childless ≡ is_childless view path
+    copy: Option<ObjectState>,
+    here: Option<ObjectState>,
+) -> Result<Option<ObjectState>, AllocError>
+    ensures { IfOk result (λ object_state. (view : View) (path : Path) → childless ≡ is_childless view path
         → copy ≡ copy_of copying.now view rest.now
-        → bare ≡ after_turn (copying_turn copying.now view path source.now.body.kind (Some old.now)) rest.now here) }
+        → object_state ≡ after_turn (copying_turn copying.now view path source.now.body.kind (Some old.now)) rest.now here) }
 {
     if source.body.kind == old.body.kind {
         if source.body.kind.is_directory() && childless {
@@ -78,10 +78,10 @@ fn copied(
     copying: &Copying,
     path: &TreePath,
     before: &Standing,
-    source: &Bare,
+    source: &ObjectState,
     other: &TreePath,
     rest: &[Name],
-) -> Result<Option<Bare>, AllocError>
+) -> Result<Option<ObjectState>, AllocError>
     requires source { fin.get before.now copying.now.source ≡ Some source.now }
     requires rest { rest_under path.now other.now ≡ Some rest.now }
     ensures { IfOk result (λ copy. copy ≡ copy_of copying.now (view before.now) rest.now) }
@@ -92,7 +92,7 @@ fn copied(
             if is_staged(rest) {
                 return Ok(None);
             }
-            before.copy_at(&carry(alloc, other, path, &copying.source)?)
+            before.copy_at(&rebase(alloc, other, path, &copying.source)?)
         }
     }
 }
@@ -104,7 +104,7 @@ fn is_staged(names: &[Name]) -> bool
 }
 
 /// A copied object with the mode and the owners of a line; a link takes owners alone.
-fn topped_by(copying: &Copying, source: &Bare) -> Result<Bare, AllocError>
+fn topped_by(copying: &Copying, source: &ObjectState) -> Result<ObjectState, AllocError>
     ensures { IfOk result (λ top. top ≡ topped_by copying.now source.now) }
 {
     let top = copying.top(source.body.kind.is_directory());

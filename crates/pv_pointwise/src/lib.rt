@@ -1,4 +1,5 @@
-//! What lines leave at each path by itself, stamps aside (tmpfiles.d(5)): no line is refused, and no tree is walked.
+//! What lines leave at each path by itself, timestamps aside (tmpfiles.d(5)): no line is refused, and no tree is
+//! walked.
 #![tactic(auto)]
 
 mod copied;

@@ -1,22 +1,22 @@
 //! What a line that makes an object leaves at and below its path.
 ghost use Rattle.std.specs.Prelude.{◌≡◌, true, Some, IfOk};
 ghost use Rattle.std.specs.Option.{option_copied, option_map_or};
-ghost use Rattle.pv_dress.specs.Nodes.{bare_of};
-ghost use Rattle.pv_dress.specs.Operations.{stays};
-ghost use Rattle.pv_table.specs.Pointwise.{after_turn, parent_bare};
+ghost use Rattle.pv_metadata.specs.Nodes.{object_state_of};
+ghost use Rattle.pv_metadata.specs.Operations.{stays};
+ghost use Rattle.pv_table.specs.Pointwise.{after_turn, parent_object_state};
 ghost use Rattle.pv_table.specs.Turns.{Turn, making_turn};
 ghost use Rattle.pv_walk.specs.Copying.{single};
 ghost use Rattle.pv_walk.specs.Staging.{new_object};
 
-use pv_dress::{Bare, Body, Test, run_operations, stays};
+use pv_metadata::{Body, ObjectState, Test, run_operations, stays};
 use pv_path::Name;
 use pv_table::{Making, OperationList};
-use pv_walk::{NewFile, NewKind, new_bare};
+use pv_walk::{NewFile, NewKind, new_object_state};
 use std::alloc::{AllocError, Global};
 
 /// The directory that a line puts where nothing stands above its path.
-pub(crate) fn parent_bare(alloc: Global) -> Result<Bare, AllocError>
-    ensures { IfOk result (λ bare. bare ≡ parent_bare) }
+pub(crate) fn parent_object_state(alloc: Global) -> Result<ObjectState, AllocError>
+    ensures { IfOk result (λ object_state. object_state ≡ parent_object_state) }
 {
     let parent = NewFile {
         what: NewKind::Directory,
@@ -24,20 +24,20 @@ pub(crate) fn parent_bare(alloc: Global) -> Result<Bare, AllocError>
         uid: 0,
         gid: 0,
     };
-    new_bare(alloc, &parent)
+    new_object_state(alloc, &parent)
 }
 
 /// What a line that makes an object leaves at a path that comes by a rest after its own.
 pub(crate) fn after_making(
     alloc: Global,
     making: &Making,
-    old: Option<&Bare>,
+    old: Option<&ObjectState>,
     rest: &[Name],
-    here: Option<Bare>,
-) -> Result<Option<Bare>, AllocError>
-    ensures { IfOk result (λ bare. bare ≡ after_turn (making_turn making.now (option_copied old.entry)) rest.now here) }
+    here: Option<ObjectState>,
+) -> Result<Option<ObjectState>, AllocError>
+    ensures { IfOk result (λ object_state. object_state ≡ after_turn (making_turn making.now (option_copied old.entry)) rest.now here) }
 {
-    let new = new_bare(alloc, &making.new)?;
+    let new = new_object_state(alloc, &making.new)?;
     match old {
         None => Ok(single(new, rest)),
         Some(old) => over(alloc, making, new, old, rest, here),
@@ -48,13 +48,13 @@ pub(crate) fn after_making(
 fn over(
     alloc: Global,
     making: &Making,
-    new: Bare,
-    old: &Bare,
+    new: ObjectState,
+    old: &ObjectState,
     rest: &[Name],
-    here: Option<Bare>,
-) -> Result<Option<Bare>, AllocError>
-    requires { new ≡ bare_of (new_object making.now.new 0) }
-    ensures { IfOk result (λ bare. bare ≡ after_turn (making_turn making.now (Some old.now)) rest.now here) }
+    here: Option<ObjectState>,
+) -> Result<Option<ObjectState>, AllocError>
+    requires { new ≡ object_state_of (new_object making.now.new 0) }
+    ensures { IfOk result (λ object_state. object_state ≡ after_turn (making_turn making.now (Some old.now)) rest.now here) }
 {
     if !is_kept(making.renew, &new.body, &old.body) {
         Ok(single(new, rest))
@@ -66,11 +66,11 @@ fn over(
 }
 
 /// One object with nothing below it.
-fn single(bare: Bare, rest: &[Name]) -> Option<Bare>
-    ensures { result ≡ single bare rest.now }
+fn single(object_state: ObjectState, rest: &[Name]) -> Option<ObjectState>
+    ensures { result ≡ single object_state rest.now }
 {
     match rest {
-        [] => Some(bare),
+        [] => Some(object_state),
         [_, ..] => None,
     }
 }
@@ -80,9 +80,9 @@ pub(crate) fn adjusted(
     alloc: Global,
     sets: &OperationList,
     rest: &[Name],
-    here: Option<Bare>,
-) -> Result<Option<Bare>, AllocError>
-    ensures { IfOk result (λ bare. bare ≡ after_turn (Turn.Become sets.now) rest.now here) }
+    here: Option<ObjectState>,
+) -> Result<Option<ObjectState>, AllocError>
+    ensures { IfOk result (λ object_state. object_state ≡ after_turn (Turn.Become sets.now) rest.now here) }
 {
     match rest {
         [] => run_operations(alloc, sets.as_slice(), here),

@@ -1,43 +1,43 @@
 //! What a line leaves at a path, from what stands at all.
 ghost use Rattle.std.specs.Prelude.{◌≡◌, ◌&&◌, not, Some, IfOk, is_some, unwrap_or, if◌then◌else◌};
 ghost use Rattle.std.specs.FinMap as fin;
-ghost use Rattle.pv_dress.specs.Operations.{run};
+ghost use Rattle.pv_metadata.specs.Operations.{run};
 ghost use Rattle.pv_path.specs.Paths.{is_prefix, same_path};
-ghost use Rattle.pv_table.specs.declared.deed.Deed.TheVariants.{Create, Copy};
-ghost use Rattle.pv_table.specs.Asking.{asks};
-ghost use Rattle.pv_table.specs.Pointwise.{at_made, parent_bare, point, touches, view};
+ghost use Rattle.pv_table.specs.declared.action.Action.TheVariants.{Create, Copy};
+ghost use Rattle.pv_table.specs.ActionTable.{action_of};
+ghost use Rattle.pv_table.specs.Pointwise.{at_made, parent_object_state, point, adjusts_path, view};
 ghost use Rattle.pv_table.specs.Reaching.{names_above, path_in};
 ghost use Rattle.pv_table.specs.Turns.{is_childless};
 
 use crate::copied::after_copying;
-use crate::made::{after_making, parent_bare};
+use crate::made::{after_making, parent_object_state};
 use crate::standing::Standing;
-use pv_dress::{Bare, run_operations};
 use pv_lines::Line;
+use pv_metadata::{ObjectState, run_operations};
 use pv_path::{TreePath, has_staging, is_prefix, names_under};
-use pv_table::{Copying, Deed, Making, Touching, names, names_first};
+use pv_table::{Action, Adjustment, Copying, Making, names, names_first};
 use std::alloc::{AllocError, Global};
 
-/// What a line leaves at a path; the deed is what it asks for, and the path its own.
+/// What a line leaves at a path; the action is what it asks for, and the path its own.
 pub(crate) fn point(
     alloc: Global,
     line: &Line,
-    deed: &Deed,
+    action: &Action,
     path: &TreePath,
     childless: bool,
     before: &Standing,
     other: &TreePath,
-) -> Result<Option<Bare>, AllocError>
-    requires deed { deed.now ≡ asks line.now }
+) -> Result<Option<ObjectState>, AllocError>
+    requires action { action.now ≡ action_of line.now }
     requires path { path.now ≡ path_in line.now.path }
     requires childless { childless ≡ is_childless (view before.now) path.now }
-    ensures { IfOk result (λ bare. bare ≡ point line.now before.now other.now) }
+    ensures { IfOk result (λ object_state. object_state ≡ point line.now before.now other.now) }
 {
-    match deed {
-        Deed::Create(making) => made(alloc, making, path, before, other),
-        Deed::Copy(copying) => copied(alloc, copying, path, childless, before, other),
-        Deed::Touch(touching) => touched(alloc, line, touching, before, other),
-        Deed::Idle => before.copy_at(other),
+    match action {
+        Action::Create(making) => made(alloc, making, path, before, other),
+        Action::Copy(copying) => copied(alloc, copying, path, childless, before, other),
+        Action::Adjust(adjustment) => touched(alloc, line, adjustment, before, other),
+        Action::Idle => before.copy_at(other),
     }
 }
 
@@ -49,12 +49,16 @@ fn is_above(other: &TreePath, path: &TreePath) -> bool
 }
 
 /// What stands above the path of a line that makes something: what was there, or a parent.
-fn above(alloc: Global, before: &Standing, other: &TreePath) -> Result<Option<Bare>, AllocError>
-    ensures { IfOk result (λ bare. bare ≡ Some (unwrap_or (fin.get before.now other.now) parent_bare)) }
+fn above(
+    alloc: Global,
+    before: &Standing,
+    other: &TreePath,
+) -> Result<Option<ObjectState>, AllocError>
+    ensures { IfOk result (λ object_state. object_state ≡ Some (unwrap_or (fin.get before.now other.now) parent_object_state)) }
 {
     match before.get(other) {
-        Some(bare) => Ok(Some(bare.copy()?)),
-        None => Ok(Some(parent_bare(alloc)?)),
+        Some(object_state) => Ok(Some(object_state.copy()?)),
+        None => Ok(Some(parent_object_state(alloc)?)),
     }
 }
 
@@ -65,8 +69,8 @@ fn made(
     path: &TreePath,
     before: &Standing,
     other: &TreePath,
-) -> Result<Option<Bare>, AllocError>
-    ensures { IfOk result (λ bare. bare ≡ at_made (Create making.now) path.now before.now other.now) }
+) -> Result<Option<ObjectState>, AllocError>
+    ensures { IfOk result (λ object_state. object_state ≡ at_made (Create making.now) path.now before.now other.now) }
 {
     if is_above(other, path) {
         return above(alloc, before, other);
@@ -86,9 +90,9 @@ fn copied(
     childless: bool,
     before: &Standing,
     other: &TreePath,
-) -> Result<Option<Bare>, AllocError>
+) -> Result<Option<ObjectState>, AllocError>
     requires childless { childless ≡ is_childless (view before.now) path.now }
-    ensures { IfOk result (λ bare. bare
+    ensures { IfOk result (λ object_state. object_state
         ≡ (if is_some (fin.get before.now copying.now.source) then at_made (Copy copying.now) path.now before.now other.now
         else fin.get before.now other.now)) }
 {
@@ -109,27 +113,27 @@ fn copied(
 fn touched(
     alloc: Global,
     line: &Line,
-    touching: &Touching,
+    adjustment: &Adjustment,
     before: &Standing,
     other: &TreePath,
-) -> Result<Option<Bare>, AllocError>
-    ensures { IfOk result (λ bare. bare
-        ≡ (if touches line.now touching.now other.now then run touching.now.sets (fin.get before.now other.now)
+) -> Result<Option<ObjectState>, AllocError>
+    ensures { IfOk result (λ object_state. object_state
+        ≡ (if adjusts_path line.now adjustment.now other.now then run adjustment.now.sets (fin.get before.now other.now)
         else fin.get before.now other.now)) }
 {
     let here = before.copy_at(other)?;
-    if touches(line, touching, other) {
-        run_operations(alloc, touching.sets.as_slice(), here)
+    if adjusts_path(line, adjustment, other) {
+        run_operations(alloc, adjustment.sets.as_slice(), here)
     } else {
         Ok(here)
     }
 }
 
 /// Whether a line touches a path: it names it, or, going down, what it lies below.
-fn touches(line: &Line, touching: &Touching, path: &TreePath) -> bool
-    ensures { result ≡ touches line.now touching.now path.now }
+fn adjusts_path(line: &Line, adjustment: &Adjustment, path: &TreePath) -> bool
+    ensures { result ≡ adjusts_path line.now adjustment.now path.now }
 {
-    names(line, path) || (touching.deep && names_above(line, path) && !has_staging(path))
+    names(line, path) || (adjustment.deep && names_above(line, path) && !has_staging(path))
 }
 
 /// Whether a line names what a path lies below.

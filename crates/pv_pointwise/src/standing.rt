@@ -1,4 +1,4 @@
-//! What stands at each path, without stamps.
+//! What stands at each path, without timestamps.
 ghost use Rattle.std.specs.Prelude.{◌≡◌, not, IfOk, OnOk};
 ghost use Rattle.std.specs.BTreeMap.{IsOrdered, keys};
 ghost use Rattle.std.specs.FinMap as fin;
@@ -8,27 +8,27 @@ ghost use Rattle.pv_path.specs.Paths.{path_cmp};
 ghost use Rattle.pv_table.specs.Pointwise.{view};
 ghost use Rattle.pv_table.specs.Turns.{is_childless, is_visible_child};
 
-use pv_dress::Bare;
+use pv_metadata::ObjectState;
 use pv_path::{TreePath, is_staging, names_under};
 use std::alloc::{AllocError, Global};
 use std::collections::BTreeMap;
 use std::marker::Model;
 
-/// What stands at each path, without stamps. Clauses see the finite map.
+/// What stands at each path, without timestamps. Clauses see the finite map.
 #[derive(Drop)]
 pub struct Standing {
-    objects: BTreeMap<TreePath, Bare>,
+    objects: BTreeMap<TreePath, ObjectState>,
 }
 
 impl Model for Standing {
     ghost use Rattle.std.specs.Coded.{coded_ℕ, coded_list};
     ghost use Rattle.std.specs.FinMap as fin;
-    ghost use Rattle.pv_dress.specs.contracts.bare.Bare as bare;
-    ghost use Rattle.pv_table.specs.Pointwise.{Bares};
+    ghost use Rattle.pv_metadata.specs.contracts.object_state.ObjectState as object_state;
+    ghost use Rattle.pv_table.specs.Pointwise.{ObjectStates};
 
-    ghost Value = { Bares };
+    ghost Value = { ObjectStates };
 
-    ghost coded = { fin.code (coded_list (coded_list coded_ℕ)) (bare.the_row).coded };
+    ghost coded = { fin.code (coded_list (coded_list coded_ℕ)) (object_state.the_row).coded };
 
     ghost view = { λ s. fin.from_entries s.objects.entries };
 }
@@ -44,26 +44,26 @@ impl Standing {
     }
 
     /// Puts an object at a path, in the place of what stands there.
-    pub fn put(&mut self, path: TreePath, bare: Bare) -> Result<(), AllocError>
-        ensures { OnOk result (self.new ≡ fin.insert self.old path bare) }
+    pub fn put(&mut self, path: TreePath, object_state: ObjectState) -> Result<(), AllocError>
+        ensures { OnOk result (self.new ≡ fin.insert self.old path object_state) }
     {
-        let _replaced = self.objects.insert(path, bare)?;
+        let _replaced = self.objects.insert(path, object_state)?;
         Ok(())
     }
 
     /// What stands at a path. It takes no memory.
-    pub fn get(&self, path: &TreePath) -> Option<&Bare>
+    pub fn get(&self, path: &TreePath) -> Option<&ObjectState>
         ensures { option_copied result ≡ fin.get self.now path.now }
     {
         self.objects.get(path)
     }
 
     /// A copy of what stands at a path.
-    pub fn copy_at(&self, path: &TreePath) -> Result<Option<Bare>, AllocError>
-        ensures { IfOk result (λ bare. bare ≡ fin.get self.now path.now) }
+    pub fn copy_at(&self, path: &TreePath) -> Result<Option<ObjectState>, AllocError>
+        ensures { IfOk result (λ object_state. object_state ≡ fin.get self.now path.now) }
     {
         match self.get(path) {
-            Some(bare) => Ok(Some(bare.copy()?)),
+            Some(object_state) => Ok(Some(object_state.copy()?)),
             None => Ok(None),
         }
     }
@@ -85,7 +85,10 @@ impl Standing {
 }
 
 /// The paths of a map, in their order.
-fn paths_of(alloc: Global, objects: &BTreeMap<TreePath, Bare>) -> Result<Vec<TreePath>, AllocError>
+fn paths_of(
+    alloc: Global,
+    objects: &BTreeMap<TreePath, ObjectState>,
+) -> Result<Vec<TreePath>, AllocError>
     ensures paths { IfOk result (λ paths. paths.items ≡ keys objects.now) }
     ensures ordered { IsOrdered path_cmp objects.now }
 {
@@ -97,7 +100,7 @@ fn paths_of(alloc: Global, objects: &BTreeMap<TreePath, Bare>) -> Result<Vec<Tre
 }
 
 /// Whether no path of a map is that of an object directly below a path, staging names aside.
-fn none_below(objects: &BTreeMap<TreePath, Bare>, path: &TreePath) -> bool
+fn none_below(objects: &BTreeMap<TreePath, ObjectState>, path: &TreePath) -> bool
     ensures all { result ≡ list_all (λ q. not (is_visible_child path.now q)) (keys objects.now) }
     ensures ordered { IsOrdered path_cmp objects.now }
 {

@@ -4,7 +4,7 @@ ghost use Rattle.std.specs.FinMap as fin;
 ghost use Rattle.std.specs.List.{filter_map};
 ghost use Rattle.pv_lines.specs.declared.line.Line.{Line as LineValue};
 ghost use Rattle.pv_path.specs.Paths.{rest_under};
-ghost use Rattle.pv_table.specs.Asking.{asks};
+ghost use Rattle.pv_table.specs.ActionTable.{action_of};
 ghost use Rattle.pv_table.specs.Pointwise.{point, point_paths, pointwise_after, state, tabulated};
 ghost use Rattle.pv_table.specs.Reaching.{path_in};
 ghost use Rattle.pv_walk.specs.Preparing.{parents_of};
@@ -12,8 +12,8 @@ ghost use Rattle.pv_walk.specs.Preparing.{parents_of};
 use crate::point::point;
 use crate::standing::Standing;
 use pv_lines::Line;
-use pv_path::{TreePath, carry, is_prefix};
-use pv_table::{Deed, Table, asks, create_order, path_of};
+use pv_path::{TreePath, is_prefix, rebase};
+use pv_table::{Action, Table, action_of, create_order, path_of};
 use std::alloc::{AllocError, Global};
 
 /// What the first lines of a table leave at each path, in the order of the create phase (tmpfiles.d(5)): no line is
@@ -51,10 +51,10 @@ fn first(places: &[usize], count: usize) -> &[usize]
 pub fn after_line(alloc: Global, line: &Line, before: &Standing) -> Result<Standing, AllocError>
     ensures { IfOk result (λ after. after ≡ pointwise_after before.now line.now) }
 {
-    let deed = asks(alloc, line)?;
+    let action = action_of(alloc, line)?;
     let path = path_of(alloc, line)?;
-    let paths = touched_paths(alloc, &deed, &path, before)?;
-    tabulated(alloc, line, &deed, &path, before, &paths)
+    let paths = touched_paths(alloc, &action, &path, before)?;
+    tabulated(alloc, line, &action, &path, before, &paths)
 }
 
 /// What a line leaves at some paths, from what stands at all that it looks at.
@@ -66,29 +66,29 @@ pub fn after_line_at(
 ) -> Result<Standing, AllocError>
     ensures { IfOk result (λ after. after ≡ tabulated paths.now (point line.now before.now)) }
 {
-    let deed = asks(alloc, line)?;
+    let action = action_of(alloc, line)?;
     let path = path_of(alloc, line)?;
-    tabulated(alloc, line, &deed, &path, before, paths)
+    tabulated(alloc, line, &action, &path, before, paths)
 }
 
 /// What a line leaves at some paths.
 fn tabulated(
     alloc: Global,
     line: &Line,
-    deed: &Deed,
+    action: &Action,
     path: &TreePath,
     before: &Standing,
     paths: &[TreePath],
 ) -> Result<Standing, AllocError>
-    requires deed { deed.now ≡ asks line.now }
+    requires action { action.now ≡ action_of line.now }
     requires path { path.now ≡ path_in line.now.path }
     ensures { IfOk result (λ after. after ≡ tabulated paths.now (point line.now before.now)) }
 {
     let childless = before.is_childless(path);
     let mut after = Standing::new(alloc);
     for other in paths {
-        if let Some(bare) = point(alloc, line, deed, path, childless, before, other)? {
-            after.put(other.copy()?, bare)?;
+        if let Some(object_state) = point(alloc, line, action, path, childless, before, other)? {
+            after.put(other.copy()?, object_state)?;
         }
     }
     Ok(after)
@@ -97,23 +97,23 @@ fn tabulated(
 /// The paths at which a line may put something, and those at which something stands.
 fn touched_paths(
     alloc: Global,
-    deed: &Deed,
+    action: &Action,
     path: &TreePath,
     before: &Standing,
 ) -> Result<Vec<TreePath>, AllocError>
-    ensures { IfOk result (λ paths. (line : LineValue) → deed.now ≡ asks line → path.now ≡ path_in line.path
+    ensures { IfOk result (λ paths. (line : LineValue) → action.now ≡ action_of line → path.now ≡ path_in line.path
         → paths.items ≡ point_paths line before.now ++ fin.keys before.now) }
 {
     let mut present = before.paths(alloc)?;
     let mut paths = Vec::new(alloc);
-    match deed {
-        Deed::Create(_) => add_line(alloc, &mut paths, path)?,
-        Deed::Copy(copying) => {
+    match action {
+        Action::Create(_) => add_line(alloc, &mut paths, path)?,
+        Action::Copy(copying) => {
             add_line(alloc, &mut paths, path)?;
             add_copies(alloc, &mut paths, &copying.source, path, &present)?;
         }
-        Deed::Touch(_) => {}
-        Deed::Idle => {}
+        Action::Adjust(_) => {}
+        Action::Idle => {}
     }
     paths.append(&mut present)?;
     Ok(paths)
@@ -156,7 +156,7 @@ fn add_copies(
 {
     for other in present {
         if is_prefix(source, other) {
-            paths.push(carry(alloc, other, source, path)?)?;
+            paths.push(rebase(alloc, other, source, path)?)?;
         }
     }
     Ok(())

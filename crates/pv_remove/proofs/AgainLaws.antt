@@ -18,7 +18,7 @@ use Rattle.pv_path.proofs.PathLaws.{is_prefix-refl, parent_of-is_prefix, prefix_
 use Rattle.pv_path.proofs.Tests.{true_not_false}
 use Rattle.pv_steps.specs.declared.object.Object.{Object}
 use Rattle.pv_steps.specs.Objects.{is_directory, modified, IsObject}
-use Rattle.pv_steps.specs.Same.{bares}
+use Rattle.pv_steps.specs.Same.{object_states}
 use Rattle.pv_steps.specs.Trees.{Files, places, kind_of, IsTree}
 use Rattle.pv_steps.proofs.ObjectLaws.{IsObject-modified}
 use Rattle.pv_steps.proofs.TreeLaws.{present_above, directory_above}
@@ -27,14 +27,14 @@ use Rattle.pv_find.proofs.WholeLaws.{goes_parts, goes_from, all_at-each, each-al
 use Rattle.pv_walk.specs.Removal.{loses_child}
 use Rattle.pv_table.specs.declared.taking.Taking.{Taking}
 use Rattle.pv_table.specs.declared.taking.Taking.TheVariants as taking
-use Rattle.pv_table.specs.Asking.{taking_of}
+use Rattle.pv_table.specs.ActionTable.{taking_of}
 use Rattle.pv_table.specs.Reaching.{names, names_in, path_in}
 use Rattle.pv_table.specs.Removed.{all_at, covers, files_without, is_directory_at, is_gone, is_named, is_unfinished, judged, keeps, refused_place, removed}
-use Rattle.pv_table.proofs.QuietLaws.{kind_bare, present_bare}
+use Rattle.pv_table.proofs.QuietLaws.{kind_object_state, present_object_state}
 use Rattle.pv_remove.proofs.CoverLaws.{at_place, from_range, in_any, in_range, key_there, take_rest_of}
 use Rattle.pv_remove.proofs.InputLaws.{emptying_makes}
 use Rattle.pv_remove.proofs.RunLaws.{goes_below}
-use Rattle.pv_remove.proofs.StopLaws.{bares-without, places-without}
+use Rattle.pv_remove.proofs.StopLaws.{object_states-without, places-without}
 
 -- D names its own path alone
 own_path : (line : Line) → IsLine line → taking_of line ≡ taking.Contents → (p : Path) → names line p ≡ true → path_in line.path ≡ p
@@ -204,19 +204,19 @@ module _ (test : Path → Bool) (now : ℕ) (fits : now < 2 ^ 64) (t : Files) (t
   abbrev left : Files
   left = files_without goes (modified now) t
 
-  bare_left : (q : Path) → goes q ≡ false → bares (places left) q ≡ bares (places t) q
-  bare_left q h = bares-without goes (modified now) (λ o. refl) t q ∙ ap (λ b. cond b None (bares (places t) q)) h
+  object_state_left : (q : Path) → goes q ≡ false → object_states (places left) q ≡ object_states (places t) q
+  object_state_left q h = object_states-without goes (modified now) (λ o. refl) t q ∙ ap (λ b. cond b None (object_states (places t) q)) h
 
   kind_left : (q : Path) → goes q ≡ false → kind_of (places left q) ≡ kind_of (places t q)
-  kind_left q h = kind_bare (places left q) ∙ ap kind_of (bare_left q h) ∙ sym (kind_bare (places t q))
+  kind_left q h = kind_object_state (places left q) ∙ ap kind_of (object_state_left q h) ∙ sym (kind_object_state (places t q))
 
   stays : (q : Path) → is_some (places left q) ≡ true → goes q ≡ false
   stays q there = false_from_ne_true (goes q) (λ h.
-      let none : is_some (bares (places left) q) ≡ false = ap is_some (bares-without goes (modified now) (λ o. refl) t q ∙ ap (λ b. cond b None (bares (places t) q)) h) in
-      true_not_false (is_some (places left q)) there (present_bare (places left q) ∙ none))
+      let none : is_some (object_states (places left) q) ≡ false = ap is_some (object_states-without goes (modified now) (λ o. refl) t q ∙ ap (λ b. cond b None (object_states (places t) q)) h) in
+      true_not_false (is_some (places left q)) there (present_object_state (places left q) ∙ none))
 
   was : (q : Path) → is_some (places left q) ≡ true → is_some (places t q) ≡ true
-  was q there = present_bare (places t q) ∙ sym (ap is_some (bare_left q (stays q there))) ∙ sym (present_bare (places left q)) ∙ there
+  was q there = present_object_state (places t q) ∙ sym (ap is_some (object_state_left q (stays q there))) ∙ sym (present_object_state (places left q)) ∙ there
 
   whole_object : (q : Path) (o : Object) → places left q ≡ Some o → IsObject o
   whole_object q o e = by (goes q) (loses_child goes t q) (places t q) refl (sym (places-without goes (modified now) t q) ∙ e)

@@ -28,7 +28,7 @@ use Rattle.pv_walk.proofs.RemovalLaws.{below_parts, is_below-append}
 use Rattle.pv_find.proofs.FindingLaws.{one_of-tied, any_more}
 use Rattle.pv_table.specs.declared.taking.Taking.{Taking}
 use Rattle.pv_table.specs.declared.taking.Taking.TheVariants as taking
-use Rattle.pv_table.specs.Asking.{taking_of}
+use Rattle.pv_table.specs.ActionTable.{taking_of}
 use Rattle.pv_table.specs.Reaching.{names, names_in}
 use Rattle.pv_table.specs.Removed.{covers, is_directory_at, is_named, refused_place}
 use Rattle.pv_remove.specs.Covering.{takes}

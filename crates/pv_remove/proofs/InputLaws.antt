@@ -19,16 +19,16 @@ use Rattle.pv_path.proofs.PathLaws.{is_prefix-refl, prefix_parts, same_path-refl
 use Rattle.pv_steps.specs.declared.object.Object.{Object, Object}
 use Rattle.pv_steps.specs.declared.step.Step.{Step}
 use Rattle.pv_steps.specs.Content.{content_of}
-use Rattle.pv_steps.specs.Objects.{bare}
+use Rattle.pv_steps.specs.Objects.{object_state}
 use Rattle.pv_steps.specs.Runs.{after_all, Ran}
 use Rattle.pv_steps.specs.Trees.{IsTree, Files, Places, places}
-use Rattle.pv_dress.specs.Edits.{Pruned}
+use Rattle.pv_metadata.specs.Edits.{Pruned}
 use Rattle.pv_walk.proofs.RemovalLaws.{zero_or_more}
 use Rattle.pv_find.proofs.WholeLaws.{goes_parts, all_at-each}
 use Rattle.pv_table.specs.declared.reason.Reason.TheVariants as reason
 use Rattle.pv_table.specs.declared.taking.Taking.{Taking}
 use Rattle.pv_table.specs.declared.taking.Taking.TheVariants as taking
-use Rattle.pv_table.specs.Asking.{asks, is_writing, sparing_of, taking_of}
+use Rattle.pv_table.specs.ActionTable.{action_of, is_writing, sparing_of, taking_of}
 use Rattle.pv_table.specs.Reaching.{governs, is_creating, is_deep, names, names_above, names_in, path_in, reaches_below, spares_below, takes_below}
 use Rattle.pv_table.specs.Removed.{covers, is_directory_at, is_gone, is_named, is_purged, purges, refused_place}
 use Rattle.pv_table.specs.Repeatable.{HasReason, IsAt, changes_content, takes_named}
@@ -39,13 +39,13 @@ use Rattle.pv_path.proofs.Tests.{true_not_false}
 
 -- ---- what does not go is read as before
 
-content-bare : (o : Option Object) → content_of o ≡ content_of (option_map bare o)
-content-bare None = refl
-content-bare (Some o) = refl
+content-object_state : (o : Option Object) → content_of o ≡ content_of (option_map object_state o)
+content-object_state None = refl
+content-object_state (Some o) = refl
 
 -- what is the same but for stamps is read alike
-pub same_content : (x y : Option Object) → option_map bare x ≡ option_map bare y → content_of x ≡ content_of y
-same_content x y e = content-bare x ∙ ap content_of e ∙ sym (content-bare y)
+pub same_content : (x y : Option Object) → option_map object_state x ≡ option_map object_state y → content_of x ≡ content_of y
+same_content x y e = content-object_state x ∙ ap content_of e ∙ sym (content-object_state y)
 
 module _ (goes : Path → Bool) (t : Files) where
   pub kept_content : (u : Files) (q : Path) → Pruned goes t u → goes q ≡ false → content_of (places u q) ≡ content_of (places t q)
@@ -102,7 +102,7 @@ module _ (line : Line) where
   taking_reaches : (v : Taking) → taking_of line ≡ v → takes_below v ≡ true → reaches_below line ≡ true
   taking_reaches v e h =
       ap (λ b. ((b || option_map_or spares_below (sparing_of line) false) || is_some line.age) || line.purge)
-      (or_right (is_deep (asks line)) (takes_below (taking_of line)) (ap takes_below e ∙ h))
+      (or_right (is_deep (action_of line)) (takes_below (taking_of line)) (ap takes_below e ∙ h))
 
   module _ (is : IsLine line) where
     makes_creating : is.row.creates ≡ true → is_creating line ≡ true
@@ -176,7 +176,7 @@ module _ (line : Line) where
         record {
           changes = creating_changes (makes_creating makes);
           governs = governs_below line q (length (path_in line.path)) (omega (arith, ap length parts.1, length-append (path_in line.path) parts.0)) (ap (names line) front ∙ makes_named makes)
-              (or_right (is_deep (asks line) || takes_below (taking_of line) || option_map_or spares_below (sparing_of line) false || is_some line.age) line.purge two.0);
+              (or_right (is_deep (action_of line) || takes_below (taking_of line) || option_map_or spares_below (sparing_of line) false || is_some line.age) line.purge two.0);
         }
 
 -- ---- the two phases

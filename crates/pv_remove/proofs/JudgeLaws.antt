@@ -12,7 +12,7 @@ use Rattle.pv_path.specs.Paths.{Path}
 use Rattle.pv_steps.specs.Trees.{Files}
 use Rattle.pv_table.specs.declared.taking.Taking.{Taking}
 use Rattle.pv_table.specs.declared.taking.Taking.TheVariants as taking
-use Rattle.pv_table.specs.Asking.{taking_of}
+use Rattle.pv_table.specs.ActionTable.{taking_of}
 use Rattle.pv_table.specs.Reaching.{names, path_in}
 use Rattle.pv_table.specs.Removed.{judged}
 use Rattle.pv_remove.proofs.CoverLaws.{kept_passes, named_short}

@@ -100,5 +100,5 @@ module _ (goes : Path → Bool) where
       let all = steps_take P t run.steps now run.along run.gives in
       let none = none_goes change t u is in
       let same : count_of goes u ≡ count_of goes (after_all t run.steps now) = ap (λ v. count_of goes v) run.reached in
-      let told : length (drop (length h) k) ≡ length run.steps = ap length (ap (drop (length h)) run.recorded ∙ drop-append_seam h run.steps) in
-      omega (arith, all, none, same, told)
+      let stated : length (drop (length h) k) ≡ length run.steps = ap length (ap (drop (length h)) run.recorded ∙ drop-append_seam h run.steps) in
+      omega (arith, all, none, same, stated)

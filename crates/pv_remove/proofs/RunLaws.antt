@@ -12,7 +12,7 @@ use Rattle.pv_steps.specs.declared.step.Step.{Step}
 use Rattle.pv_steps.specs.declared.why.Why.{Why}
 use Rattle.pv_steps.specs.Trees.{Files, Places, places, IsTree}
 use Rattle.pv_steps.specs.Runs.{Ran}
-use Rattle.pv_dress.specs.Edits.{Pruned}
+use Rattle.pv_metadata.specs.Edits.{Pruned}
 use Rattle.pv_walk.specs.Removal.{is_one_of}
 use Rattle.pv_find.specs.Whole.{goes_whole}
 use Rattle.pv_find.proofs.WholeLaws.{goes_parts, goes_from, goes_whole-same, all_at-each, each-all_at}

@@ -19,7 +19,7 @@ use Rattle.pv_find.proofs.FindingLaws.{no_names}
 use Rattle.pv_find.proofs.WholeLaws.{member_passes, members_pass, goes_parts, goes_from, goes_by_children, all_at-each, each-all_at}
 use Rattle.pv_table.specs.declared.taking.Taking.{Taking}
 use Rattle.pv_table.specs.declared.taking.Taking.TheVariants as taking
-use Rattle.pv_table.specs.Asking.{taking_of}
+use Rattle.pv_table.specs.ActionTable.{taking_of}
 use Rattle.pv_table.specs.Removed.{covers, is_directory_at, is_gone, is_named}
 use Rattle.pv_remove.specs.Sentences.{children_go, is_gone_by, takes_by}
 use Rattle.pv_remove.proofs.CoverLaws.{from_range, in_range}
@@ -202,5 +202,5 @@ is_gone_by-same lines t f g q same =
 -- a predicate that the sentence says is what is gone
 pub gone_alone : (lines : List Line) (t : Files) (goes : Path → Bool) → IsTree t → ((q : Path) → is_some (places t q) ≡ true → goes q ≡ is_gone_by goes lines t q)
     → (q : Path) → is_some (places t q) ≡ true → goes q ≡ is_gone lines t q
-gone_alone lines t goes tree said q there =
-    one_alone t (λ f p. is_gone_by f lines t p) (λ f g p same. is_gone_by-same lines t f g p same) goes (is_gone lines t) said (λ p at. gone_by lines t tree p) q there
+gone_alone lines t goes tree new_messages q there =
+    one_alone t (λ f p. is_gone_by f lines t p) (λ f g p same. is_gone_by-same lines t f g p same) goes (is_gone lines t) new_messages (λ p at. gone_by lines t tree p) q there

@@ -11,25 +11,25 @@ use Rattle.pv_path.proofs.PathLaws.{is_prefix-refl, prefix_parts, is_prefix-take
 use Rattle.pv_steps.specs.declared.object.Object.{Object}
 use Rattle.pv_steps.specs.declared.step.Step.{Step}
 use Rattle.pv_steps.specs.declared.why.Why.{Why}
-use Rattle.pv_steps.specs.Objects.{bare, is_directory, modified}
+use Rattle.pv_steps.specs.Objects.{object_state, is_directory, modified}
 use Rattle.pv_steps.specs.Refusal.{why_refused, first_refused, refusal, owner_at}
 use Rattle.pv_steps.specs.Runs.{Ran, after_all}
-use Rattle.pv_steps.specs.Same.{bares, Same}
+use Rattle.pv_steps.specs.Same.{object_states, Same}
 use Rattle.pv_steps.specs.Trees.{Files, Places, places, kind_of, IsTree}
 use Rattle.pv_steps.proofs.RunLaws.{along_prefix, along_trees}
 use Rattle.pv_steps.proofs.StepLaws.{places-tabulate, among_keys}
 use Rattle.pv_steps.proofs.TreeLaws.{present_above}
-use Rattle.pv_dress.specs.Edits.{Pruned}
+use Rattle.pv_metadata.specs.Edits.{Pruned}
 use Rattle.pv_walk.specs.Removal.{loses_child, without}
 use Rattle.pv_find.proofs.WholeLaws.{goes_parts, goes_from, all_at-each, each-all_at}
 use Rattle.pv_table.specs.declared.taking.Taking.{Taking}
 use Rattle.pv_table.specs.declared.taking.Taking.TheVariants as taking
-use Rattle.pv_table.specs.Asking.{taking_of}
+use Rattle.pv_table.specs.ActionTable.{taking_of}
 use Rattle.pv_table.specs.Reaching.{names, path_in}
 use Rattle.pv_table.specs.Removed.{all_at, covers, is_directory_at, is_gone, is_named, files_without, is_purged, owner_given, purges, purged, refused_place, removed}
 use Rattle.pv_remove.specs.Ended.{IsMended}
 use Rattle.pv_path.proofs.Tests.{same_tests}
-use Rattle.pv_table.proofs.QuietLaws.{kind_bare, present_bare}
+use Rattle.pv_table.proofs.QuietLaws.{kind_object_state, present_object_state}
 
 -- ---- what a tree without some paths has
 
@@ -46,10 +46,10 @@ pub places-without : (goes : Path → Bool) (change : Object → Object) (t : Fi
 places-without goes change t q = places-tabulate (fin.keys t) (without goes change t) q (λ h. among_keys t q ∙ without_key goes change t q h)
 
 -- stamps aside, where only stamps change
-pub bares-without : (goes : Path → Bool) (change : Object → Object) → ((o : Object) → bare (change o) ≡ bare o) → (t : Files) (q : Path) → bares (places (files_without goes change t)) q ≡ cond (goes q) None (bares (places t) q)
-bares-without goes change keeps t q = ap (option_map bare) (places-without goes change t q) ∙ by (goes q) (loses_child goes t q) (places t q)
+pub object_states-without : (goes : Path → Bool) (change : Object → Object) → ((o : Object) → object_state (change o) ≡ object_state o) → (t : Files) (q : Path) → object_states (places (files_without goes change t)) q ≡ cond (goes q) None (object_states (places t) q)
+object_states-without goes change keeps t q = ap (option_map object_state) (places-without goes change t q) ∙ by (goes q) (loses_child goes t q) (places t q)
   where
-    by : (g l : Bool) (o : Option Object) → option_map bare (cond g None (cond l (option_map change o) o)) ≡ cond g None (option_map bare o)
+    by : (g l : Bool) (o : Option Object) → option_map object_state (cond g None (cond l (option_map change o) o)) ≡ cond g None (option_map object_state o)
     by true l o = refl
     by false true None = refl
     by false true (Some x) = ap Some (keeps x)
@@ -57,19 +57,19 @@ bares-without goes change keeps t q = ap (option_map bare) (places-without goes 
 
 -- ---- judging a path depends on what stands along it
 
-owner-bare : (o : Option Object) (d : ℕ) → option_map_or (λ x. x.node.uid) o d ≡ option_map_or (λ x. x.node.uid) (option_map bare o) d
-owner-bare None d = refl
-owner-bare (Some o) d = refl
+owner-object_state : (o : Option Object) (d : ℕ) → option_map_or (λ x. x.node.uid) o d ≡ option_map_or (λ x. x.node.uid) (option_map object_state o) d
+owner-object_state None d = refl
+owner-object_state (Some o) d = refl
 
-module _ (t u : Places) (path : Path) (same : (k : ℕ) → bares u (take k path) ≡ bares t (take k path)) where
+module _ (t u : Places) (path : Path) (same : (k : ℕ) → object_states u (take k path) ≡ object_states t (take k path)) where
   kind_at-same : (k : ℕ) → kind_of (u (take k path)) ≡ kind_of (t (take k path))
-  kind_at-same k = kind_bare (u (take k path)) ∙ ap kind_of (same k) ∙ sym (kind_bare (t (take k path)))
+  kind_at-same k = kind_object_state (u (take k path)) ∙ ap kind_of (same k) ∙ sym (kind_object_state (t (take k path)))
 
   owner_at-same : (last k : ℕ) → owner_at u path last k ≡ owner_at t path last k
   owner_at-same last k =
-      owner-bare (u (take k path)) (cond (k == length path) last 0)
+      owner-object_state (u (take k path)) (cond (k == length path) last 0)
       ∙ ap (λ o. option_map_or (λ x. x.node.uid) o (cond (k == length path) last 0)) (same k)
-      ∙ sym (owner-bare (t (take k path)) (cond (k == length path) last 0))
+      ∙ sym (owner-object_state (t (take k path)) (cond (k == length path) last 0))
 
   why_refused-same : (last k : ℕ) → why_refused u path last k ≡ why_refused t path last k
   why_refused-same last k = rw (kind_at-same k, owner_at-same last k, owner_at-same last (k - 1)) refl
@@ -81,10 +81,10 @@ module _ (t u : Places) (path : Path) (same : (k : ℕ) → bares u (take k path
 
 module _ (inside : Path → Bool) (t u : Files) (pruned : Pruned inside t u) where
   -- what is there is as it was
-  pub still_same : (q : Path) → is_some (places u q) ≡ true → bares (places u) q ≡ bares (places t) q
+  pub still_same : (q : Path) → is_some (places u q) ≡ true → object_states (places u) q ≡ object_states (places t) q
   still_same q there = by (inside q) refl
     where
-      by : (b : Bool) → inside q ≡ b → bares (places u) q ≡ bares (places t) q
+      by : (b : Bool) → inside q ≡ b → object_states (places u) q ≡ object_states (places t) q
       by true e = elim (pruned.within q e) [
         | inl gone ↦ absurd (let no : is_some (places u q) ≡ false = ap is_some gone in cc)
         | inr same ↦ same
@@ -92,14 +92,14 @@ module _ (inside : Path → Bool) (t u : Files) (pruned : Pruned inside t u) whe
       by false e = pruned.outside q e
 
   was_there : (q : Path) → is_some (places u q) ≡ true → is_some (places t q) ≡ true
-  was_there q there = present_bare (places t q) ∙ ap is_some (sym (still_same q there)) ∙ sym (present_bare (places u q)) ∙ there
+  was_there q there = present_object_state (places t q) ∙ ap is_some (sym (still_same q there)) ∙ sym (present_object_state (places u q)) ∙ there
 
   module _ (tree : IsTree u) where
     prefix_there : (p q : Path) → is_prefix p q ≡ true → is_some (places u q) ≡ true → is_some (places u p) ≡ true
     prefix_there p q under there = let parts = prefix_parts p q under in present_above (places u) tree p parts.0 (subst (λ (r : Path). is_some (places u r) ≡ true) parts.1 there)
 
     -- and so is all that stands above it
-    along_same : (q : Path) → is_some (places u q) ≡ true → (k : ℕ) → bares (places u) (take k q) ≡ bares (places t) (take k q)
+    along_same : (q : Path) → is_some (places u q) ≡ true → (k : ℕ) → object_states (places u) (take k q) ≡ object_states (places t) (take k q)
     along_same q there k = still_same (take k q) (prefix_there (take k q) q (is_prefix-take k q) there)
 
     refused-same : (line : Line) (q : Path) → is_some (places u q) ≡ true → refused_place line (places u) q ≡ refused_place line (places t) q
@@ -109,7 +109,7 @@ module _ (inside : Path → Bool) (t u : Files) (pruned : Pruned inside t u) whe
     named-same line q there = ap (λ (r : Option (ℕ × Why)). names line q && is_none r) (refused-same line q there)
 
     directory-same : (q : Path) → is_some (places u q) ≡ true → is_directory_at (places u) q ≡ is_directory_at (places t) q
-    directory-same q there = ap (λ k. option_map_or is_directory k false) (kind_bare (places u q) ∙ ap kind_of (still_same q there) ∙ sym (kind_bare (places t q)))
+    directory-same q there = ap (λ k. option_map_or is_directory k false) (kind_object_state (places u q) ∙ ap kind_of (still_same q there) ∙ sym (kind_object_state (places t q)))
 
     named_first-same : (line : Line) (q : Path) → is_some (places u q) ≡ true → (k : ℕ) → is_named line (places u) (take k q) ≡ is_named line (places t) (take k q)
     named_first-same line q there k = named-same line (take k q) (prefix_there (take k q) q (is_prefix-take k q) there)
@@ -148,9 +148,9 @@ module _ (inside : Path → Bool) (t u : Files) (pruned : Pruned inside t u) whe
 same_end : (goes_t goes_u : Path → Bool) (now later : ℕ) (t u : Files) → Pruned goes_t t u → ((q : Path) → is_some (places u q) ≡ true → goes_u q ≡ goes_t q) → ((q : Path) → goes_u q ≡ true → is_some (places u q) ≡ true)
     → Same (files_without goes_u (modified later) u) (files_without goes_t (modified now) t)
 same_end goes_t goes_u now later t u pruned alike there q plain =
-    bares-without goes_u (modified later) (λ o. refl) u q ∙ by (is_some (places u q)) refl (goes_t q) refl ∙ sym (bares-without goes_t (modified now) (λ o. refl) t q)
+    object_states-without goes_u (modified later) (λ o. refl) u q ∙ by (is_some (places u q)) refl (goes_t q) refl ∙ sym (object_states-without goes_t (modified now) (λ o. refl) t q)
   where
-    none : (o : Option Object) → is_some o ≡ false → option_map bare o ≡ None
+    none : (o : Option Object) → is_some o ≡ false → option_map object_state o ≡ None
     none None e = refl
     none (Some x) e = cc
 
@@ -161,10 +161,10 @@ same_end goes_t goes_u now later t u pruned alike there q plain =
         at true h = absurd (let yes = there q h in cc)
         at false h = refl
 
-    by : (s : Bool) → is_some (places u q) ≡ s → (g : Bool) → goes_t q ≡ g → cond (goes_u q) None (bares (places u) q) ≡ cond (goes_t q) None (bares (places t) q)
-    by true e g h = ap (λ b. cond b None (bares (places u) q)) (alike q e) ∙ ap (λ o. cond (goes_t q) None o) (still_same goes_t t u pruned q e)
-    by false e true h = ap (λ b. cond b None (bares (places u) q)) (not_gone e) ∙ none (places u q) e ∙ sym (ap (λ b. cond b None (bares (places t) q)) h)
-    by false e false h = ap (λ b. cond b None (bares (places u) q)) (not_gone e) ∙ pruned.outside q h ∙ sym (ap (λ b. cond b None (bares (places t) q)) h)
+    by : (s : Bool) → is_some (places u q) ≡ s → (g : Bool) → goes_t q ≡ g → cond (goes_u q) None (object_states (places u) q) ≡ cond (goes_t q) None (object_states (places t) q)
+    by true e g h = ap (λ b. cond b None (object_states (places u) q)) (alike q e) ∙ ap (λ o. cond (goes_t q) None o) (still_same goes_t t u pruned q e)
+    by false e true h = ap (λ b. cond b None (object_states (places u) q)) (not_gone e) ∙ none (places u q) e ∙ sym (ap (λ b. cond b None (object_states (places t) q)) h)
+    by false e false h = ap (λ b. cond b None (object_states (places u) q)) (not_gone e) ∙ pruned.outside q h ∙ sym (ap (λ b. cond b None (object_states (places t) q)) h)
 
 -- what is still there goes as it would have gone
 gone-same : (lines : List Line) (t u : Files) → Pruned (is_gone lines t) t u → IsTree u → (q : Path) → is_some (places u q) ≡ true → is_gone lines u q ≡ is_gone lines t q
@@ -183,7 +183,7 @@ gone-same lines t u pruned tree q there = same_tests (is_gone lines u q) (is_gon
             let parts = goes_parts (λ p. list_any (λ line. covers line (places t) p) lines) t r h in
             all_at-each (λ p. list_any (λ line. covers line (places t) p) lines) t r parts.2 r at (is_prefix-refl r)
         by r at under false e false h all = absurd (
-            let same : is_some (places t r) ≡ is_some (places u r) = present_bare (places t r) ∙ ap is_some (sym (pruned.outside r h)) ∙ sym (present_bare (places u r)) in cc)
+            let same : is_some (places t r) ≡ is_some (places u r) = present_object_state (places t r) ∙ ap is_some (sym (pruned.outside r h)) ∙ sym (present_object_state (places u r)) in cc)
 
     back : is_gone lines t q ≡ true → is_gone lines u q ≡ true
     back h =

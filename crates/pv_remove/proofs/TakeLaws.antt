@@ -17,7 +17,7 @@ use Rattle.pv_steps.specs.Objects.{modified}
 use Rattle.pv_steps.specs.Trees.{Files, places}
 use Rattle.pv_steps.proofs.ActingLaws.{Moves, well, acted_none, acted_passed, acted_ended}
 use Rattle.pv_steps.proofs.StepLaws.{same_files}
-use Rattle.pv_dress.specs.Edits.{Pruned}
+use Rattle.pv_metadata.specs.Edits.{Pruned}
 use Rattle.pv_walk.specs.Listing.{times, AreRemovable}
 use Rattle.pv_walk.specs.Removal.{is_one_of, removal_at, without, DonePart}
 use Rattle.pv_walk.proofs.CountLaws.{length-times, times-filter, times-keys}
@@ -25,7 +25,7 @@ use Rattle.pv_walk.proofs.TakingLaws.{one_of-some, one_of-counted}
 use Rattle.pv_find.specs.Whole.{count_of, goes_whole, AreDeepestFirst}
 use Rattle.pv_find.proofs.WholeLaws.{goes_parts, times-rising, whole_removable}
 use Rattle.pv_table.specs.Removed.{files_without}
-use Rattle.pv_text.specs.Said.{SaidPart}
+use Rattle.pv_text.specs.GivenMessages.{MessagesPart}
 use Rattle.pv_remove.specs.Ended.{TakesAway, TakesInOrder}
 use Rattle.pv_remove.proofs.StopLaws.{places-without}
 use Rattle.pv_path.proofs.Tests.{same_tests}
@@ -40,7 +40,7 @@ takes_nothing tree moves goes texts unfinished now a before (Ok c) h = absurd h
 takes_nothing tree moves goes texts unfinished now a before (Err Failed) h = cc
 takes_nothing tree moves goes texts unfinished now a before (Err Memory) h = record {
   ok = tt;
-  said = tt;
+  new_messages = tt;
   carried = tt;
   part = (0, sym (append-nil before));
   silent = λ failed. refl;
@@ -56,7 +56,7 @@ pub takes_failed : {S : Type 0} (tree : Ghosts S) {goes : Path → Bool} (texts 
 takes_failed tree texts unfinished before q (Ok c) was h acted order = absurd h
 takes_failed tree texts unfinished before q (Err f) was h acted order = record {
   ok = tt;
-  said = tt;
+  new_messages = tt;
   carried = tt;
   part = (0, sym (append-nil before));
   silent = λ failed. refl;
@@ -66,14 +66,14 @@ takes_failed tree texts unfinished before q (Err f) was h acted order = record {
 }
 
 -- where it is whole, but memory to say a text is wanting, a part is said
-pub takes_unsaid : {S : Type 0} (tree : Ghosts S) {goes : Path → Bool} {texts : List (List ℕ)} (unfinished : Bool) {now : ℕ} {a b : S} {before behind : List (List ℕ)} (r : Result Carried TreeFault)
-    → IsErrAnd r (λ y. y ≡ Memory) → SaidPart texts before behind → Acted tree (Pruned goes (tree.state a)) (Removes goes) (count_of goes (tree.state a)) now a b well
+pub takes_messages_kept : {S : Type 0} (tree : Ghosts S) {goes : Path → Bool} {texts : List (List ℕ)} (unfinished : Bool) {now : ℕ} {a b : S} {before behind : List (List ℕ)} (r : Result Carried TreeFault)
+    → IsErrAnd r (λ y. y ≡ Memory) → MessagesPart texts before behind → Acted tree (Pruned goes (tree.state a)) (Removes goes) (count_of goes (tree.state a)) now a b well
     → TakesInOrder goes (tree.state a) (tree.steps a) (tree.steps b) → TakesAway tree goes texts unfinished now a b before behind r
-takes_unsaid tree unfinished (Ok c) h part acted order = absurd h
-takes_unsaid tree unfinished (Err Failed) h part acted order = cc
-takes_unsaid tree unfinished (Err Memory) h part acted order = record {
+takes_messages_kept tree unfinished (Ok c) h part acted order = absurd h
+takes_messages_kept tree unfinished (Err Failed) h part acted order = cc
+takes_messages_kept tree unfinished (Err Memory) h part acted order = record {
   ok = tt;
-  said = tt;
+  new_messages = tt;
   carried = tt;
   part = part;
   silent = λ failed. (let no : ◌≡◌ {A = Result Carried TreeFault} (Err Memory) (Err Failed) = failed in cc);
@@ -85,9 +85,9 @@ takes_unsaid tree unfinished (Err Memory) h part acted order = record {
 -- what is taken away and said is known by any name
 pub takes-same : {S : Type 0} (tree : Ghosts S) {f h : Path → Bool} {texts more : List (List ℕ)} {a b : Bool} {now : ℕ} {old new : S} {before behind : List (List ℕ)} {r : Result Carried TreeFault}
     → f ≡ h → texts ≡ more → a ≡ b → TakesAway tree f texts a now old new before behind r → TakesAway tree h more b now old new before behind r
-takes-same tree {f = f} {h = h} {texts = texts} {more = more} {a = a} {b = b} {now = now} {old = old} {new = new} {before = before} {behind = behind} {r = r} goes said ends took =
+takes-same tree {f = f} {h = h} {texts = texts} {more = more} {a = a} {b = b} {now = now} {old = old} {new = new} {before = before} {behind = behind} {r = r} goes new_messages ends took =
     subst (λ (x : Bool). TakesAway tree h more x now old new before behind r) ends
-    (subst (λ (x : List (List ℕ)). TakesAway tree h x a now old new before behind r) said
+    (subst (λ (x : List (List ℕ)). TakesAway tree h x a now old new before behind r) new_messages
     (subst (λ (x : Path → Bool). TakesAway tree x texts a now old new before behind r) goes took))
 
 -- ---- paths that go whole

@@ -3,7 +3,7 @@
 use Rattle.std.specs.Prelude.{◌≡◌, ℕ, Bool, List, ◌++◌, drop, length, map, take, Result, IfOk, IsErrOf, OnOk}
 use Rattle.pv_doing.specs.declared.carried.Carried.{Carried}
 use Rattle.pv_doing.specs.Courses.{carried_of}
-use Rattle.pv_dress.specs.Edits.{Pruned}
+use Rattle.pv_metadata.specs.Edits.{Pruned}
 use Rattle.pv_find.specs.Whole.{count_of, AreDeepestFirst}
 use Rattle.pv_path.specs.Paths.{Path}
 use Rattle.pv_steps.specs.declared.step.Step.{Step}
@@ -17,7 +17,7 @@ use Rattle.pv_steps.specs.Trees.{Files}
 use Rattle.pv_steps.specs.Runs.{after_all}
 use Rattle.pv_steps.specs.Same.{Same}
 use Rattle.pv_table.specs.Removed.{files_without}
-use Rattle.pv_text.specs.Said.{SaidPart}
+use Rattle.pv_text.specs.GivenMessages.{MessagesPart}
 use Rattle.pv_walk.specs.Removal.{is_one_of, removal_at, DonePart}
 
 -- nothing is done, or the first of the steps that take away all paths that go: the deepest first, those of one depth in
@@ -34,9 +34,9 @@ pub record TakesAway {S : Type 0} (tree : Ghosts S) (goes : Path → Bool) (text
     (now : ℕ) (old new : S) (before behind : List (List ℕ)) (r : Result Carried TreeFault) : Type 0 where
   pub ok : OnOk r (tree.state new ≡ files_without goes (modified now) (tree.state old))
   pub exact : OnOk r (length (drop (length (tree.steps old)) (tree.steps new)) ≡ count_of goes (tree.state old))
-  pub said : OnOk r (behind ≡ before ++ texts)
+  pub new_messages : OnOk r (behind ≡ before ++ texts)
   pub carried : IfOk r (λ c. c ≡ carried_of unfinished)
-  pub part : SaidPart texts before behind
+  pub part : MessagesPart texts before behind
   pub silent : IsErrOf r Failed → behind ≡ before
   pub acted : Acted tree (Pruned goes (tree.state old)) (Removes goes) (count_of goes (tree.state old)) now old new r
   pub order : TakesInOrder goes (tree.state old) (tree.steps old) (tree.steps new)

@@ -6,7 +6,7 @@ use Rattle.pv_path.specs.Paths.{Path}
 use Rattle.pv_steps.specs.Trees.{Files, places, names_below}
 use Rattle.pv_table.specs.declared.taking.Taking.{Taking}
 use Rattle.pv_table.specs.declared.taking.Taking.TheVariants as taking
-use Rattle.pv_table.specs.Asking.{taking_of}
+use Rattle.pv_table.specs.ActionTable.{taking_of}
 use Rattle.pv_table.specs.Removed.{is_directory_at, is_named}
 
 -- what stands at a path is no directory, or all that stands in it goes

@@ -5,7 +5,7 @@ ghost use Rattle.pv_lines.specs.Lines.{IsLine};
 ghost use Rattle.pv_lines.specs.declared.line.Line.{Line as LineValue};
 ghost use Rattle.pv_path.specs.Paths.{Path};
 ghost use Rattle.pv_steps.specs.Trees.{places, kind_of};
-ghost use Rattle.pv_text.specs.Said.{said_at};
+ghost use Rattle.pv_text.specs.GivenMessages.{message_text_at};
 ghost use Rattle.pv_walk.specs.Removal.{is_one_of};
 ghost use Rattle.pv_table.specs.Reaching.{path_in};
 ghost use Rattle.pv_table.specs.Removed.{is_directory_at, is_gone, is_unfinished, judged, keeps, left_kind, not_empty, refused_place, removal_texts, removed_messages, unrefused_texts};
@@ -26,16 +26,16 @@ pub(crate) fn judge<T: Tree>(
     tree: &T,
     lines: &[Line],
     gone: &BTreeSet<TreePath>,
-    said: &mut Messages,
+    new_messages: &mut Messages,
 ) -> Result<bool, AllocError>
     requires lines { AllByRecursion IsLine lines.now }
     requires gone { (q : Path) → is_one_of gone.now.keys q ≡ is_gone lines.now (T.state tree.now) q }
-    ensures said { OnOk result (said.new ≡ said.old ++ removed_messages lines.now (T.state tree.now)) }
+    ensures new_messages { OnOk result (new_messages.new ≡ new_messages.old ++ removed_messages lines.now (T.state tree.now)) }
     ensures unfinished { IfOk result (λ unfinished. unfinished ≡ is_unfinished lines.now (T.state tree.now)) }
 {
     let mut unfinished = false;
     for line in lines {
-        unfinished |= judge_line(alloc, tree, line, gone, said)?;
+        unfinished |= judge_line(alloc, tree, line, gone, new_messages)?;
     }
     Ok(unfinished)
 }
@@ -46,11 +46,11 @@ fn judge_line<T: Tree>(
     tree: &T,
     line: &Line,
     gone: &BTreeSet<TreePath>,
-    said: &mut Messages,
+    new_messages: &mut Messages,
 ) -> Result<bool, AllocError>
     requires line { IsLine line.now }
-    ensures said { (lines : List LineValue) → ((q : Path) → is_one_of gone.now.keys q ≡ is_gone lines (T.state tree.now) q)
-        → OnOk result (said.new ≡ said.old ++ map (said_at line.now.place)
+    ensures new_messages { (lines : List LineValue) → ((q : Path) → is_one_of gone.now.keys q ≡ is_gone lines (T.state tree.now) q)
+        → OnOk result (new_messages.new ≡ new_messages.old ++ map (message_text_at line.now.place)
         (flat_map (removal_texts lines line.now (T.state tree.now)) (judged line.now (T.state tree.now)))) }
     ensures unfinished { (lines : List LineValue) → ((q : Path) → is_one_of gone.now.keys q ≡ is_gone lines (T.state tree.now) q)
         → IfOk result (λ unfinished. unfinished ≡ list_any (λ path. is_some (refused_place line.now (places (T.state tree.now)) path)
@@ -59,7 +59,7 @@ fn judge_line<T: Tree>(
     let paths = judged_paths(alloc, tree, line)?;
     let mut unfinished = false;
     for path in &paths {
-        unfinished |= judge_path(alloc, tree, line, path, gone, said)?;
+        unfinished |= judge_path(alloc, tree, line, path, gone, new_messages)?;
     }
     Ok(unfinished)
 }
@@ -92,21 +92,21 @@ fn judge_path<T: Tree>(
     line: &Line,
     path: &TreePath,
     gone: &BTreeSet<TreePath>,
-    said: &mut Messages,
+    new_messages: &mut Messages,
 ) -> Result<bool, AllocError>
     requires { length path.now < 2 ^ 32 }
-    ensures said { (lines : List LineValue) → ((q : Path) → is_one_of gone.now.keys q ≡ is_gone lines (T.state tree.now) q)
-        → OnOk result (said.new ≡ said.old ++ map (said_at line.now.place) (removal_texts lines line.now (T.state tree.now) path.now)) }
+    ensures new_messages { (lines : List LineValue) → ((q : Path) → is_one_of gone.now.keys q ≡ is_gone lines (T.state tree.now) q)
+        → OnOk result (new_messages.new ≡ new_messages.old ++ map (message_text_at line.now.place) (removal_texts lines line.now (T.state tree.now) path.now)) }
     ensures unfinished { (lines : List LineValue) → ((q : Path) → is_one_of gone.now.keys q ≡ is_gone lines (T.state tree.now) q)
         → IfOk result (λ unfinished. unfinished ≡ (is_some (refused_place line.now (places (T.state tree.now)) path.now)
         || keeps lines line.now (T.state tree.now) path.now)) }
 {
     match refusal(alloc, tree, line, path)? {
         Some((place, why)) => {
-            say_refused(alloc, &line.place, path, place, why, said)?;
+            say_refused(alloc, &line.place, path, place, why, new_messages)?;
             Ok(true)
         }
-        None => judge_unrefused(alloc, tree, line, path, gone, said),
+        None => judge_unrefused(alloc, tree, line, path, gone, new_messages),
     }
 }
 
@@ -117,17 +117,17 @@ fn judge_unrefused<T: Tree>(
     line: &Line,
     path: &TreePath,
     gone: &BTreeSet<TreePath>,
-    said: &mut Messages,
+    new_messages: &mut Messages,
 ) -> Result<bool, AllocError>
-    ensures said { (lines : List LineValue) → ((q : Path) → is_one_of gone.now.keys q ≡ is_gone lines (T.state tree.now) q)
-        → OnOk result (said.new ≡ said.old ++ map (said_at line.now.place) (unrefused_texts lines line.now (T.state tree.now) path.now)) }
+    ensures new_messages { (lines : List LineValue) → ((q : Path) → is_one_of gone.now.keys q ≡ is_gone lines (T.state tree.now) q)
+        → OnOk result (new_messages.new ≡ new_messages.old ++ map (message_text_at line.now.place) (unrefused_texts lines line.now (T.state tree.now) path.now)) }
     ensures unfinished { (lines : List LineValue) → ((q : Path) → is_one_of gone.now.keys q ≡ is_gone lines (T.state tree.now) q)
         → IfOk result (λ unfinished. unfinished ≡ keeps lines line.now (T.state tree.now) path.now) }
 {
     match taking_of(line) {
-        Taking::Itself => say_kept(alloc, tree, &line.place, path, gone, said),
+        Taking::Itself => say_kept(alloc, tree, &line.place, path, gone, new_messages),
         Taking::Contents => {
-            say_left_kind(alloc, tree, &line.place, path, said)?;
+            say_left_kind(alloc, tree, &line.place, path, new_messages)?;
             Ok(false)
         }
         Taking::Whole | Taking::Nothing => Ok(false),
@@ -141,9 +141,9 @@ fn say_kept<T: Tree>(
     place: &Place,
     path: &TreePath,
     gone: &BTreeSet<TreePath>,
-    said: &mut Messages,
+    new_messages: &mut Messages,
 ) -> Result<bool, AllocError>
-    ensures said { OnOk result (said.new ≡ said.old ++ map (said_at place.now)
+    ensures new_messages { OnOk result (new_messages.new ≡ new_messages.old ++ map (message_text_at place.now)
         (if is_directory_at (places (T.state tree.now)) path.now && not (is_one_of gone.now.keys path.now) then not_empty path.now ∷ [] else [])) }
     ensures kept { IfOk result (λ kept. kept
         ≡ (is_directory_at (places (T.state tree.now)) path.now && not (is_one_of gone.now.keys path.now))) }
@@ -151,7 +151,7 @@ fn say_kept<T: Tree>(
     if !is_directory(tree, path) || is_among(gone, path) {
         return Ok(false);
     }
-    said.push_at(place, &not_empty(alloc, path)?)?;
+    new_messages.push_at(place, &not_empty(alloc, path)?)?;
     Ok(true)
 }
 
@@ -170,13 +170,13 @@ fn say_left_kind<T: Tree>(
     tree: &T,
     place: &Place,
     path: &TreePath,
-    said: &mut Messages,
+    new_messages: &mut Messages,
 ) -> Result<(), AllocError>
-    ensures { OnOk result (said.new ≡ said.old ++ map (said_at place.now)
+    ensures { OnOk result (new_messages.new ≡ new_messages.old ++ map (message_text_at place.now)
         (left_kind path.now (kind_of (places (T.state tree.now) path.now)))) }
 {
     match kind_at(tree, path) {
         None | Some(Kind::Directory) => Ok(()),
-        Some(kind) => say_left(alloc, place, path, kind, said),
+        Some(kind) => say_left(alloc, place, path, kind, new_messages),
     }
 }

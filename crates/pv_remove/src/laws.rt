@@ -8,7 +8,7 @@ ghost use Rattle.pv_path.specs.Paths.{Path};
 ghost use Rattle.pv_steps.specs.Content.{content_of};
 ghost use Rattle.pv_steps.specs.Same.{Same};
 ghost use Rattle.pv_steps.specs.Trees.{Files, places, IsTree};
-ghost use Rattle.pv_dress.specs.Edits.{Pruned};
+ghost use Rattle.pv_metadata.specs.Edits.{Pruned};
 ghost use Rattle.pv_table.specs.declared.reason.Reason.TheVariants as reason;
 ghost use Rattle.pv_table.specs.Reaching.{governs};
 ghost use Rattle.pv_table.specs.Removed.{is_gone, is_purged, is_unfinished, purged, removed};
@@ -17,13 +17,14 @@ ghost use Rattle.pv_table.specs.Repeatable.{HasReason};
 ghost use Rattle.pv_remove.specs.Sentences.{is_gone_by};
 
 /// From a tree in which a removal may have been cut short, a whole removal leaves what it leaves from the start, at
-/// whatever moment, whatever the lines; stamps and staging names aside.
+/// whatever moment, whatever the lines; timestamps and staging names aside.
 pub fn a_removal_cut_short_is_mended()
     ensures { (lines : List LineValue) (now later : ℕ) (t u : Files) → IsTree u → Pruned (is_gone lines t) t u
         → Same (removed lines later u) (removed lines now t) }
 {}
 
-/// After a purge that was cut short a whole one leaves what it leaves from the start; stamps and staging names aside.
+/// After a purge that was cut short a whole one leaves what it leaves from the start; timestamps and staging names
+/// aside.
 pub fn a_purge_cut_short_is_mended()
     ensures { (lines : List LineValue) (now later : ℕ) (t u : Files) → IsTree u → Pruned (is_purged lines t) t u
         → Same (purged lines later u) (purged lines now t) }

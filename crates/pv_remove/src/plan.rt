@@ -19,13 +19,13 @@ pub(crate) struct Plan {
     /// The paths that go, each with all that stands below it.
     pub(crate) paths: BTreeSet<TreePath>,
     /// What is said after the steps.
-    pub(crate) said: Messages,
+    pub(crate) new_messages: Messages,
     /// Whether something is not carried out.
     pub(crate) unfinished: bool,
 }
 
 /// Takes away what is to go, and then says what is to be said.
-pub(crate) fn carry_out<T: Tree>(
+pub(crate) fn apply_plan<T: Tree>(
     alloc: Global,
     tree: &mut T,
     plan: Plan,
@@ -33,15 +33,15 @@ pub(crate) fn carry_out<T: Tree>(
     messages: &mut Messages,
 ) -> Result<Carried, TreeFault>
     requires whole { (q : Path) → is_one_of plan.paths.keys q ≡ goes_whole (is_one_of plan.paths.keys) (T.state tree.old) q }
-    ensures { TakesAway T.Tree (is_one_of plan.paths.keys) plan.said plan.unfinished now tree.old tree.new
+    ensures { TakesAway T.Tree (is_one_of plan.paths.keys) plan.new_messages plan.unfinished now tree.old tree.new
         messages.old messages.new result }
 {
     let Plan {
         paths,
-        said,
+        new_messages,
         unfinished,
     } = plan;
     take_away(alloc, tree, paths, now)?;
-    say_all(&said, messages)?;
+    say_all(&new_messages, messages)?;
     Ok(Carried::of(unfinished))
 }

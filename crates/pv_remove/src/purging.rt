@@ -4,14 +4,14 @@ ghost use Rattle.std.specs.List.{AllByRecursion, list_any};
 ghost use Rattle.pv_lines.specs.Lines.{IsLine};
 ghost use Rattle.pv_path.specs.Paths.{Path};
 ghost use Rattle.pv_steps.specs.Trees.{places, IsTree};
-ghost use Rattle.pv_text.specs.Said.{said_at};
+ghost use Rattle.pv_text.specs.GivenMessages.{message_text_at};
 ghost use Rattle.pv_walk.specs.Removal.{is_one_of};
 ghost use Rattle.pv_table.specs.Reaching.{path_in};
 ghost use Rattle.pv_table.specs.Removed.{is_purge_unfinished, is_purged, purge_refusal, purge_texts, purged, purged_messages, purges};
 ghost use Rattle.pv_remove.specs.Ended.{IsMended, TakesAway};
 
 use crate::covering::refusal;
-use crate::plan::{Plan, carry_out};
+use crate::plan::{Plan, apply_plan};
 use pv_doing::Carried;
 use pv_find::{at_and_below, whole_of};
 use pv_lines::Line;
@@ -40,13 +40,13 @@ pub fn purge_run<T: Tree>(
         (drop (length (T.steps tree.old)) (T.steps tree.new)) }
 {
     let plan = purge_plan(alloc, tree, table)?;
-    carry_out(alloc, tree, plan, now, messages)
+    apply_plan(alloc, tree, plan, now, messages)
 }
 
 /// What lines with `$` take away, and what is said of them.
 fn purge_plan<T: Tree>(alloc: Global, tree: &T, table: &Table) -> Result<Plan, AllocError>
     ensures gone { IfOk result (λ plan. (q : Path) → is_one_of plan.paths.keys q ≡ is_purged table.now (T.state tree.now) q) }
-    ensures said { IfOk result (λ plan. plan.said ≡ purged_messages table.now (T.state tree.now)) }
+    ensures new_messages { IfOk result (λ plan. plan.new_messages ≡ purged_messages table.now (T.state tree.now)) }
     ensures unfinished { IfOk result (λ plan. plan.unfinished ≡ is_purge_unfinished table.now (T.state tree.now)) }
     ensures tree { IsTree (T.state tree.now) }
 {
@@ -54,11 +54,11 @@ fn purge_plan<T: Tree>(alloc: Global, tree: &T, table: &Table) -> Result<Plan, A
     let _rooted = is_present(tree, &TreePath::root(alloc));
     let purged = purged_paths(alloc, tree, lines)?;
     let paths = whole_of(alloc, tree, purged)?;
-    let mut said = Messages::new(alloc);
-    let unfinished = judge_purge(alloc, tree, lines, &mut said)?;
+    let mut new_messages = Messages::new(alloc);
+    let unfinished = judge_purge(alloc, tree, lines, &mut new_messages)?;
     Ok(Plan {
         paths,
-        said,
+        new_messages,
         unfinished,
     })
 }
@@ -102,15 +102,15 @@ fn judge_purge<T: Tree>(
     alloc: Global,
     tree: &T,
     lines: &[Line],
-    said: &mut Messages,
+    new_messages: &mut Messages,
 ) -> Result<bool, AllocError>
     requires lines { AllByRecursion IsLine lines.now }
-    ensures said { OnOk result (said.new ≡ said.old ++ purged_messages lines.now (T.state tree.now)) }
+    ensures new_messages { OnOk result (new_messages.new ≡ new_messages.old ++ purged_messages lines.now (T.state tree.now)) }
     ensures unfinished { IfOk result (λ unfinished. unfinished ≡ is_purge_unfinished lines.now (T.state tree.now)) }
 {
     let mut unfinished = false;
     for line in lines {
-        unfinished |= judge_purge_line(alloc, tree, line, said)?;
+        unfinished |= judge_purge_line(alloc, tree, line, new_messages)?;
     }
     Ok(unfinished)
 }
@@ -120,16 +120,16 @@ fn judge_purge_line<T: Tree>(
     alloc: Global,
     tree: &T,
     line: &Line,
-    said: &mut Messages,
+    new_messages: &mut Messages,
 ) -> Result<bool, AllocError>
     requires line { IsLine line.now }
-    ensures said { OnOk result (said.new ≡ said.old ++ map (said_at line.now.place) (purge_texts line.now (places (T.state tree.now)))) }
+    ensures new_messages { OnOk result (new_messages.new ≡ new_messages.old ++ map (message_text_at line.now.place) (purge_texts line.now (places (T.state tree.now)))) }
     ensures unfinished { IfOk result (λ unfinished. unfinished ≡ is_some (purge_refusal line.now (places (T.state tree.now)))) }
 {
     let path = path_of(alloc, line)?;
     match purge_refusal(alloc, tree, line, &path)? {
         Some((place, why)) => {
-            say_refused(alloc, &line.place, &path, place, why, said)?;
+            say_refused(alloc, &line.place, &path, place, why, new_messages)?;
             Ok(true)
         }
         None => Ok(false),

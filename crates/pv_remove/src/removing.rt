@@ -8,7 +8,7 @@ ghost use Rattle.pv_remove.specs.Ended.{IsMended, TakesAway};
 
 use crate::covering::covered_paths;
 use crate::judging::judge;
-use crate::plan::{Plan, carry_out};
+use crate::plan::{Plan, apply_plan};
 use pv_doing::Carried;
 use pv_find::whole_of;
 use pv_path::TreePath;
@@ -35,13 +35,13 @@ pub fn remove_run<T: Tree>(
         (drop (length (T.steps tree.old)) (T.steps tree.new)) }
 {
     let plan = removal_plan(alloc, tree, table)?;
-    carry_out(alloc, tree, plan, now, messages)
+    apply_plan(alloc, tree, plan, now, messages)
 }
 
 /// What lines r, R and D take away, and what is said of them.
 fn removal_plan<T: Tree>(alloc: Global, tree: &T, table: &Table) -> Result<Plan, AllocError>
     ensures gone { IfOk result (λ plan. (q : Path) → is_one_of plan.paths.keys q ≡ is_gone table.now (T.state tree.now) q) }
-    ensures said { IfOk result (λ plan. plan.said ≡ removed_messages table.now (T.state tree.now)) }
+    ensures new_messages { IfOk result (λ plan. plan.new_messages ≡ removed_messages table.now (T.state tree.now)) }
     ensures unfinished { IfOk result (λ plan. plan.unfinished ≡ is_unfinished table.now (T.state tree.now)) }
     ensures tree { IsTree (T.state tree.now) }
 {
@@ -49,11 +49,11 @@ fn removal_plan<T: Tree>(alloc: Global, tree: &T, table: &Table) -> Result<Plan,
     let _rooted = is_present(tree, &TreePath::root(alloc));
     let covered = covered_paths(alloc, tree, lines)?;
     let paths = whole_of(alloc, tree, covered)?;
-    let mut said = Messages::new(alloc);
-    let unfinished = judge(alloc, tree, lines, &paths, &mut said)?;
+    let mut new_messages = Messages::new(alloc);
+    let unfinished = judge(alloc, tree, lines, &paths, &mut new_messages)?;
     Ok(Plan {
         paths,
-        said,
+        new_messages,
         unfinished,
     })
 }

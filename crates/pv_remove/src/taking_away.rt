@@ -4,7 +4,7 @@ ghost use Rattle.pv_path.specs.Paths.{Path};
 ghost use Rattle.pv_steps.specs.Acting.{Acted};
 ghost use Rattle.pv_steps.specs.Content.{Removes};
 ghost use Rattle.pv_steps.specs.Objects.{modified};
-ghost use Rattle.pv_dress.specs.Edits.{Pruned};
+ghost use Rattle.pv_metadata.specs.Edits.{Pruned};
 ghost use Rattle.pv_walk.specs.Removal.{is_one_of};
 ghost use Rattle.pv_find.specs.Whole.{count_of, goes_whole};
 ghost use Rattle.pv_table.specs.Removed.{files_without};

@@ -12,9 +12,9 @@ use Rattle.pv_lines.specs.declared.line.LinePath.{LinePath}
 use Rattle.pv_lines.specs.declared.line.LinePath.TheVariants.{Literal, Glob}
 use Rattle.pv_lines.specs.Lines.{IsArgument, IsConfigured, IsLine, IsLinePath}
 use Rattle.pv_lines.specs.Types.{type_of}
-use Rattle.pv_table.specs.declared.deed.Deed.{Deed}
-use Rattle.pv_table.specs.declared.deed.Deed.TheVariants.{Create, Copy, Touch, Idle}
-use Rattle.pv_table.specs.Asking.{asks, copying, deeds, source_of, sparing_of, taking_of}
+use Rattle.pv_table.specs.declared.action.Action.{Action}
+use Rattle.pv_table.specs.declared.action.Action.TheVariants.{Create, Copy, Adjust, Idle}
+use Rattle.pv_table.specs.ActionTable.{action_of, copying, actions, source_of, sparing_of, taking_of}
 use Rattle.pv_table.specs.Reaching.{is_deep, path_in, reaches, reaches_below, spares_below, takes_below}
 use Rattle.pv_table.specs.Turns.{copied}
 use Rattle.pv_report.specs.Subjects.{plains_of}
@@ -38,20 +38,20 @@ named_there line is = by line.path is.fits.path
 
 -- ---- the letter of what copies
 
-abbrev copies : Deed → Bool
-copies deed = is_some (copied deed)
+abbrev copies : Action → Bool
+copies action = is_some (copied action)
 
-abbrev Each : (ℕ × (Line → Deed) → Type 0) → List (ℕ × (Line → Deed)) → Type 0
+abbrev Each : (ℕ × (Line → Action) → Type 0) → List (ℕ × (Line → Action)) → Type 0
 Each P [] = Unit {0}
 Each P (row ∷ rows) = P row × Each P rows
 
-abbrev IsCopy : ℕ × (Line → Deed) → Type 0
+abbrev IsCopy : ℕ × (Line → Action) → Type 0
 IsCopy row = (line : Line) → copies (row.1 line) ≡ true → row.0 ≡ 67
 
-rows_copy : Each IsCopy deeds
+rows_copy : Each IsCopy actions
 rows_copy = (λ line h. cc, (λ line h. cc, (λ line h. cc, (λ line h. cc, (λ line h. cc, (λ line h. cc, (λ line h. cc, (λ line h. cc, (λ line h. cc, (λ line h. cc, (λ line h. refl, (λ line h. cc, (λ line h. cc, (λ line h. cc, (λ line h. cc, (λ line h. cc, (λ line h. cc, (λ line h. cc, (λ line h. cc, (λ line h. cc, (λ line h. cc, tt)))))))))))))))))))))
 
-found_copies : (rows : List (ℕ × (Line → Deed))) → Each IsCopy rows → (line : Line) → copies (option_map_or (λ row. row.1 line) (find (λ row. row.0 == line.letter) rows) Idle) ≡ true → line.letter ≡ 67
+found_copies : (rows : List (ℕ × (Line → Action))) → Each IsCopy rows → (line : Line) → copies (option_map_or (λ row. row.1 line) (find (λ row. row.0 == line.letter) rows) Idle) ≡ true → line.letter ≡ 67
 found_copies [] each line h = absurd (let no : false ≡ true = h in cc)
 found_copies (row ∷ rows) each line h = by (row.0 == line.letter) refl (found_copies rows each.1 line) h
   where
@@ -60,9 +60,9 @@ found_copies (row ∷ rows) each line h = by (row.0 == line.letter) refl (found_
     by true e rest h = sym (eqb-true row.0 line.letter e) ∙ each.0 line h
     by false e rest h = rest h
 
-module _ (line : Line) (is : IsLine line) (source : Path) (copies_it : copied (asks line) ≡ Some source) where
+module _ (line : Line) (is : IsLine line) (source : Path) (copies_it : copied (action_of line) ≡ Some source) where
   letter_is : line.letter ≡ 67
-  letter_is = found_copies deeds rows_copy line (ap is_some copies_it)
+  letter_is = found_copies actions rows_copy line (ap is_some copies_it)
 
   row_is : type_of 67 ≡ Some is.row
   row_is = ap type_of (sym letter_is) ∙ is.is_type
@@ -80,8 +80,8 @@ module _ (line : Line) (is : IsLine line) (source : Path) (copies_it : copied (a
       by (Literal path) fits = refl
       by (Glob pattern) fits = absurd (let no : false ≡ true = sym fits.0 ∙ creates in cc)
 
-  copying_is : asks line ≡ copying line
-  copying_is = λ i. asks (record line { letter = letter_is i })
+  copying_is : action_of line ≡ copying line
+  copying_is = λ i. action_of (record line { letter = letter_is i })
 
   pub source_unstaged : has_staging source ≡ false
   source_unstaged = sym (ap has_staging argument_is) ∙ by line.argument is.fits.argument
@@ -100,14 +100,14 @@ module _ (line : Line) (is : IsLine line) (source : Path) (copies_it : copied (a
       by (argument.Letters how letters) h = refl
       by argument.Ignored h = refl
 
-  deep : (deed : Deed) → copied deed ≡ Some source → is_deep deed ≡ true
+  deep : (action : Action) → copied action ≡ Some source → is_deep action ≡ true
   deep (Create making) e = absurd (let no : None ≡ Some source = e in cc)
   deep (Copy copying) e = refl
-  deep (Touch touching) e = absurd (let no : None ≡ Some source = e in cc)
+  deep (Adjust adjustment) e = absurd (let no : None ≡ Some source = e in cc)
   deep Idle e = absurd (let no : None ≡ Some source = e in cc)
 
   copy_below : reaches_below line ≡ true
-  copy_below = ap (λ (t : Bool). t || takes_below (taking_of line) || option_map_or spares_below (sparing_of line) false || is_some line.age || line.purge) (deep (asks line) copies_it)
+  copy_below = ap (λ (t : Bool). t || takes_below (taking_of line) || option_map_or spares_below (sparing_of line) false || is_some line.age || line.purge) (deep (action_of line) copies_it)
 
   -- such a line reaches its path with all below it
   pub copy_reaches : (q : Path) → is_prefix (path_in line.path) q ≡ true → reaches line q ≡ true

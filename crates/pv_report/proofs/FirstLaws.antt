@@ -18,7 +18,7 @@ use Rattle.pv_path.specs.Paths.{Path}
 use Rattle.pv_report.specs.declared.listing.Report.{Report}
 use Rattle.pv_report.specs.declared.listing.Unrepeatable.{Unrepeatable}
 use Rattle.pv_report.specs.Reporting.{both_reach, ListsOverlaps, ListsReasons}
-use Rattle.pv_report.specs.Said.{overlap_text, report_messages, unrepeatable_text, verdict}
+use Rattle.pv_report.specs.GivenMessages.{overlap_text, report_messages, unrepeatable_text, verdict}
 use Rattle.pv_report.proofs.ReportLaws.{one_list, one_report}
 
 -- ---- the order of paths is total and exact
@@ -121,8 +121,8 @@ pub one_overlaps : (lines : List Line) (xs ys : List Pair) → ListsOverlaps lin
 one_overlaps lines xs ys a b = one_list ComesBefore never_both xs ys a.ordered b.ordered (pair_there lines xs ys a b) (pair_there lines ys xs b a)
 
 -- two reports on the same lines say the same
-pub one_said : (lines : List Line) (a b : Report) → ListsOverlaps lines a.pairs → ListsReasons lines a.unrepeatable → ListsOverlaps lines b.pairs → ListsReasons lines b.unrepeatable
+pub one_message_said : (lines : List Line) (a b : Report) → ListsOverlaps lines a.pairs → ListsReasons lines a.unrepeatable → ListsOverlaps lines b.pairs → ListsReasons lines b.unrepeatable
     → report_messages lines a ≡ report_messages lines b
-one_said lines a b a_pairs a_reasons b_pairs b_reasons =
+one_message_said lines a b a_pairs a_reasons b_pairs b_reasons =
     ap (λ (ps : List Pair). map (overlap_text lines) ps ++ map (unrepeatable_text lines) a.unrepeatable ++ verdict a.unrepeatable ∷ []) (one_overlaps lines a.pairs b.pairs a_pairs b_pairs)
     ∙ ap (λ (us : List Unrepeatable). map (overlap_text lines) b.pairs ++ map (unrepeatable_text lines) us ++ verdict us ∷ []) (one_report lines a.unrepeatable b.unrepeatable a_reasons b_reasons)

@@ -6,12 +6,12 @@ use Rattle.std.proofs.lemmas.List.{map-append, take-map, take_more}
 use Rattle.std.proofs.lemmas.List.Elements.{All-from_get_or, All-from_recursion, filter_map-append}
 use Rattle.std.proofs.lemmas.Option.{get_or_from_slice_get, slice_get-map, slice_get_within}
 use Rattle.pv_path.specs.Paths.{Path, has_staging}
-use Rattle.pv_text.specs.Said.{SaidPart}
+use Rattle.pv_text.specs.GivenMessages.{MessagesPart}
 use Rattle.pv_lines.specs.declared.line.Line.{Line}
 use Rattle.pv_lines.specs.Lines.{IsLine}
-use Rattle.pv_table.specs.Asking.{asks}
+use Rattle.pv_table.specs.ActionTable.{action_of}
 use Rattle.pv_table.specs.Turns.{copied}
-use Rattle.pv_report.specs.Said.{line_text, standing_text}
+use Rattle.pv_report.specs.GivenMessages.{line_text, standing_text}
 use Rattle.pv_report.specs.Subjects.{sources_of}
 use Rattle.pv_report.proofs.CopyLaws.{source_unstaged}
 use Rattle.pv_report.proofs.MarkLaws.{source_of}
@@ -19,14 +19,14 @@ use Rattle.pv_report.proofs.MarkLaws.{source_of}
 map_more : {X Y : Type 0} (f : X → Y) (xs : List X) (i : ℕ) (d : X) → i < length xs → map f (take (i + 1) xs) ≡ map f (take i xs) ++ f (get_or xs i d) ∷ []
 map_more f xs i d l = ap (map f) (take_more xs i d l) ∙ map-append f (take i xs) (get_or xs i d ∷ [])
 
-pub said_more : {X : Type 0} (f : X → List ℕ) (xs : List X) (i : ℕ) (d : X) (start old new : List (List ℕ)) (text : List ℕ) → i < length xs → old ≡ start ++ map f (take i xs) → new ≡ old ++ text ∷ [] → text ≡ f (get_or xs i d) → new ≡ start ++ map f (take (i + 1) xs)
-said_more f xs i d start old new text l before added is =
+pub messages_more : {X : Type 0} (f : X → List ℕ) (xs : List X) (i : ℕ) (d : X) (start old new : List (List ℕ)) (text : List ℕ) → i < length xs → old ≡ start ++ map f (take i xs) → new ≡ old ++ text ∷ [] → text ≡ f (get_or xs i d) → new ≡ start ++ map f (take (i + 1) xs)
+messages_more f xs i d start old new text l before added is =
     added ∙ ap (λ (t : List ℕ). old ++ t ∷ []) is ∙ ap (λ (ms : List (List ℕ)). ms ++ f (get_or xs i d) ∷ []) before
     ∙ append_assoc start (map f (take i xs)) (f (get_or xs i d) ∷ []) ∙ ap (λ (ms : List (List ℕ)). start ++ ms) (sym (map_more f xs i d l))
 
 -- what a loop has said of the first of a list is a part of what is to be said of all
-pub said_upto : {X : Type 0} (f : X → List ℕ) (xs : List X) (i : ℕ) (start new : List (List ℕ)) → new ≡ start ++ map f (take i xs) → SaidPart (map f xs) start new
-said_upto f xs i start new e = (i, e ∙ ap (λ (ms : List (List ℕ)). start ++ ms) (sym (take-map f i xs)))
+pub messages_upto : {X : Type 0} (f : X → List ℕ) (xs : List X) (i : ℕ) (start new : List (List ℕ)) → new ≡ start ++ map f (take i xs) → MessagesPart (map f xs) start new
+messages_upto f xs i start new e = (i, e ∙ ap (λ (ms : List (List ℕ)). start ++ ms) (sym (take-map f i xs)))
 
 pub mapped_more : {X Y : Type 0} (f : X → Y) (xs : List X) (i : ℕ) (x : X) (y : Y) (old new : List Y) → i < length xs → x ≡ get_or xs i x → old ≡ map f (take i xs) → y ≡ f x → new ≡ old ++ y ∷ [] → new ≡ map f (take (i + 1) xs)
 mapped_more {X} {Y} f xs i x y old new l at before is added =
@@ -36,11 +36,11 @@ one_option : (o : Option Path) → cons_option o [] ≡ option_to_list o
 one_option None = refl
 one_option (Some path) = refl
 
-pub sources_more : (lines : List Line) (i : ℕ) (line : Line) (source : Option Path) (old new : List Path) → i < length lines → line ≡ get_or lines i line → old ≡ sources_of (take i lines) → source ≡ copied (asks line) → new ≡ old ++ option_to_list source → new ≡ sources_of (take (i + 1) lines)
+pub sources_more : (lines : List Line) (i : ℕ) (line : Line) (source : Option Path) (old new : List Path) → i < length lines → line ≡ get_or lines i line → old ≡ sources_of (take i lines) → source ≡ copied (action_of line) → new ≡ old ++ option_to_list source → new ≡ sources_of (take (i + 1) lines)
 sources_more lines i line source old new l at before is added =
-    added ∙ ap (λ (o : Option Path). old ++ option_to_list o) (is ∙ ap (λ (x : Line). copied (asks x)) at) ∙ ap (λ (ps : List Path). ps ++ option_to_list (copied (asks (get_or lines i line)))) before
-    ∙ ap (λ (ps : List Path). sources_of (take i lines) ++ ps) (sym (one_option (copied (asks (get_or lines i line)))))
-    ∙ sym (ap sources_of (take_more lines i line l) ∙ filter_map-append (λ (x : Line). copied (asks x)) (take i lines) (get_or lines i line ∷ []))
+    added ∙ ap (λ (o : Option Path). old ++ option_to_list o) (is ∙ ap (λ (x : Line). copied (action_of x)) at) ∙ ap (λ (ps : List Path). ps ++ option_to_list (copied (action_of (get_or lines i line)))) before
+    ∙ ap (λ (ps : List Path). sources_of (take i lines) ++ ps) (sym (one_option (copied (action_of (get_or lines i line)))))
+    ∙ sym (ap sources_of (take_more lines i line l) ∙ filter_map-append (λ (x : Line). copied (action_of x)) (take i lines) (get_or lines i line ∷ []))
 
 pub sources_clear : (lines : List Line) → AllByRecursion IsLine lines → (paths : List Path) → paths ≡ sources_of lines → All (λ path. has_staging path ≡ false) paths
 sources_clear lines are paths same = subst (All (λ path. has_staging path ≡ false)) (sym same) (All-from_get_or (λ path. has_staging path ≡ false) (sources_of lines) [] each)

@@ -20,7 +20,7 @@ use Rattle.pv_overlap.specs.declared.pair.Pair.{Pair}
 use Rattle.pv_overlap.specs.Answers.{ComesBefore, IsAnswered, IsTold}
 use Rattle.pv_table.specs.declared.reason.Reason.{Reason}
 use Rattle.pv_table.specs.declared.reason.Reason.TheVariants as reason
-use Rattle.pv_table.specs.Asking.{asks}
+use Rattle.pv_table.specs.ActionTable.{action_of}
 use Rattle.pv_table.specs.Reaching.{governs, is_creating, names, names_above, names_in, path_in, reaches, reaches_below}
 use Rattle.pv_layers.specs.Places.{inputs, is_input}
 use Rattle.pv_table.specs.Repeatable.{appends, changes_content, has_masked_mode, HasReason, IsAt, below as made_below, Overlap, sets_base}
@@ -42,16 +42,16 @@ copied_none o source e f = let no : None ≡ Some source = sym e ∙ f in cc
 
 -- a path that is copied, by the line that copies it
 abbrev pub IsSource : List Line → Path → Type 0
-IsSource lines source = (j : ℕ) × (other : Line) × IsAt lines j other × (copied (asks other) ≡ Some source)
+IsSource lines source = (j : ℕ) × (other : Line) × IsAt lines j other × (copied (action_of other) ≡ Some source)
 
 pub source_of : (lines : List Line) (k : ℕ) → k < length (sources_of lines) → IsSource lines (get_or (sources_of lines) k [])
 source_of [] k l = absurd (omega (arith, l))
-source_of (line ∷ lines) k l = by (copied (asks line)) refl k l (source_of lines)
+source_of (line ∷ lines) k l = by (copied (action_of line)) refl k l (source_of lines)
   where
     later : (source : Path) → IsSource lines source → IsSource (line ∷ lines) source
     later source found = (suc found.0, found.1, found.2, found.3)
 
-    by : (o : Option Path) → copied (asks line) ≡ o → (k : ℕ) → k < length (cons_option o (sources_of lines)) → ((m : ℕ) → m < length (sources_of lines) → IsSource lines (get_or (sources_of lines) m []))
+    by : (o : Option Path) → copied (action_of line) ≡ o → (k : ℕ) → k < length (cons_option o (sources_of lines)) → ((m : ℕ) → m < length (sources_of lines) → IsSource lines (get_or (sources_of lines) m []))
         → IsSource (line ∷ lines) (get_or (cons_option o (sources_of lines)) k [])
     by None e k l on = later (get_or (sources_of lines) k []) (on k l)
     by (Some source) e zero l on = (zero, line, refl, e)
@@ -61,17 +61,17 @@ source_of (line ∷ lines) k l = by (copied (asks line)) refl k l (source_of lin
 abbrev pub HasSource : List Line → Path → Type 0
 HasSource lines source = (k : ℕ) × (k < length (sources_of lines)) × (get_or (sources_of lines) k [] ≡ source)
 
-pub source_from : (lines : List Line) (j : ℕ) (other : Line) (source : Path) → IsAt lines j other → copied (asks other) ≡ Some source → HasSource lines source
+pub source_from : (lines : List Line) (j : ℕ) (other : Line) (source : Path) → IsAt lines j other → copied (action_of other) ≡ Some source → HasSource lines source
 source_from [] j other source at e = absurd (let no : None ≡ Some other = at in cc)
-source_from (line ∷ lines) zero other source at e = by (copied (asks line)) own
+source_from (line ∷ lines) zero other source at e = by (copied (action_of line)) own
   where
-    own : copied (asks line) ≡ Some source
-    own = let same : line ≡ other = (let some : Some line ≡ Some other = at in cc) in ap (λ (l : Line). copied (asks l)) same ∙ e
+    own : copied (action_of line) ≡ Some source
+    own = let same : line ≡ other = (let some : Some line ≡ Some other = at in cc) in ap (λ (l : Line). copied (action_of l)) same ∙ e
 
     by : (o : Option Path) → o ≡ Some source → (k : ℕ) × (k < length (cons_option o (sources_of lines))) × (get_or (cons_option o (sources_of lines)) k [] ≡ source)
     by None f = absurd (let no : None ≡ Some source = f in cc)
     by (Some path) f = (zero, omega arith, (let same : path ≡ source = cc in same))
-source_from (line ∷ lines) (suc j) other source at e = by (copied (asks line)) (source_from lines j other source at e)
+source_from (line ∷ lines) (suc j) other source at e = by (copied (action_of line)) (source_from lines j other source at e)
   where
     by : (o : Option Path) → HasSource lines source → (k : ℕ) × (k < length (cons_option o (sources_of lines))) × (get_or (cons_option o (sources_of lines)) k [] ≡ source)
     by None found = found
@@ -140,7 +140,7 @@ some_of (Some p) e = (p, refl)
 
 module _ (lines : List Line) (are : All IsLine lines) (pairs : List Pair)
     (listed : (pair : Pair) → Contains pairs pair → IsAnswered (MayAnswer (reaches_of lines) (length lines)) (length (reaches_of lines)) pair)
-    (told : (i j : ℕ) → i < j → j < length (reaches_of lines) → IsTold (MayAnswer (reaches_of lines) (length lines)) pairs i j) where
+    (recorded : (i j : ℕ) → i < j → j < length (reaches_of lines) → IsTold (MayAnswer (reaches_of lines) (length lines)) pairs i j) where
   abbrev count : ℕ
   count = length lines
 
@@ -218,7 +218,7 @@ module _ (lines : List Line) (are : All IsLine lines) (pairs : List Pair)
   HasPair i j = (path : Path) × Contains pairs (record { first = i; second = j; path = path })
 
   pair_of : (i j : ℕ) (a : Line) (b : Reach) (q : Path) → i < j → IsAt lines i a → j < length (reaches_of lines) → reach_at (reaches_of lines) j ≡ b → MetBefore (reach_of a) b q → HasPair i j
-  pair_of i j a b q less at l same met = by (told i j less l)
+  pair_of i j a b q less at l same met = by (recorded i j less l)
     where
       by : IsTold (MayAnswer (reaches_of lines) count) pairs i j → HasPair i j
       by (inl found) = found
@@ -290,10 +290,10 @@ module _ (lines : List Line) (are : All IsLine lines) (pairs : List Pair)
     where
       below_is : (i j : ℕ) (line other : Line) → IsAt lines i line → IsAt lines j other → is_below line other ≡ true → HasReason lines i reason.Below
       below_is i j line other at there e =
-          let w = and_parts (is_creating line && is_some (copied (asks other)) && is_prefix (path_in other.path) (path_in line.path)) (not (same_path (path_in other.path) (path_in line.path))) e in
-          let v = and_parts (is_creating line && is_some (copied (asks other))) (is_prefix (path_in other.path) (path_in line.path)) w.0 in
-          let u = and_parts (is_creating line) (is_some (copied (asks other))) v.0 in
-          let source = some_of (copied (asks other)) u.1 in
+          let w = and_parts (is_creating line && is_some (copied (action_of other)) && is_prefix (path_in other.path) (path_in line.path)) (not (same_path (path_in other.path) (path_in line.path))) e in
+          let v = and_parts (is_creating line && is_some (copied (action_of other))) (is_prefix (path_in other.path) (path_in line.path)) w.0 in
+          let u = and_parts (is_creating line) (is_some (copied (action_of other))) v.0 in
+          let source = some_of (copied (action_of other)) u.1 in
           made_below line other j source.0 at there u.0 source.1 v.1 (λ same. (let differ : Never = sym (ap not (same_path-self (path_in other.path) (path_in line.path) same)) ∙ w.1 in cc))
         where
           same_path-self : (p q : Path) → p ≡ q → same_path p q ≡ true
@@ -398,7 +398,7 @@ module _ (lines : List Line) (are : All IsLine lines) (pairs : List Pair)
       let li = inside i line at in
       pair_of i j line (reach_under path) found.0 (omega (arith, li, past)) at l same (under_met line (clear_of i line at) path clear found.0 found.1 found.2 found.3)
 
-  source_mark : (i : ℕ) (line other : Line) (j : ℕ) (path q : Path) → IsAt lines i line → IsAt lines j other → copied (asks other) ≡ Some path → is_prefix path q ≡ true → has_names q ≡ true → governs line q ≡ true → Contains (marks_of lines pairs) (i, 1)
+  source_mark : (i : ℕ) (line other : Line) (j : ℕ) (path q : Path) → IsAt lines i line → IsAt lines j other → copied (action_of other) ≡ Some path → is_prefix path q ≡ true → has_names q ≡ true → governs line q ≡ true → Contains (marks_of lines pairs) (i, 1)
   source_mark i line other j path q at there e above named g =
       let found = source_from lines j other path there e in
       let k = found.1 in
@@ -427,7 +427,7 @@ module _ (lines : List Line) (are : All IsLine lines) (pairs : List Pair)
       marked (record { first = i; second = n; path = pair.0 }) pair.1 (Some line) None at (slice_get_past lines n (omega arith)) (i, 3)
       (subst (λ (t : Bool). Contains (if t then (i, 1) ∷ [] else mark_if (changes_content line) i 3) (i, 3)) (sym test) (mark_in (changes_content line) i 3 changes))
 
-  below_mark : (i : ℕ) (line other : Line) (j : ℕ) (path : Path) → IsAt lines i line → IsAt lines j other → is_creating line ≡ true → copied (asks other) ≡ Some path
+  below_mark : (i : ℕ) (line other : Line) (j : ℕ) (path : Path) → IsAt lines i line → IsAt lines j other → is_creating line ≡ true → copied (action_of other) ≡ Some path
       → is_prefix (path_in other.path) (path_in line.path) ≡ true → path_in other.path ≢ path_in line.path → Contains (marks_of lines pairs) (i, 2)
   below_mark i line other j path at there creates e above differ = elim (cases_lt i j) [
     | inl less ↦ (
@@ -469,8 +469,8 @@ module _ (lines : List Line) (are : All IsLine lines) (pairs : List Pair)
           by false f = refl
 
       is : is_below line other ≡ true
-      is = and_from (is_creating line && is_some (copied (asks other)) && is_prefix (path_in other.path) p) (not (same_path (path_in other.path) p))
-          (and_from (is_creating line && is_some (copied (asks other))) (is_prefix (path_in other.path) p) (and_from (is_creating line) (is_some (copied (asks other))) creates (ap is_some e)) above) not_same
+      is = and_from (is_creating line && is_some (copied (action_of other)) && is_prefix (path_in other.path) p) (not (same_path (path_in other.path) p))
+          (and_from (is_creating line && is_some (copied (action_of other))) (is_prefix (path_in other.path) p) (and_from (is_creating line) (is_some (copied (action_of other))) creates (ap is_some e)) above) not_same
 
   mask_mark : (i : ℕ) (line other : Line) (j : ℕ) (q : Path) → IsAt lines i line → IsAt lines j other → j < i → has_names q ≡ true → (reaches other q ≡ true) × (reaches line q ≡ true)
       → ((has_masked_mode other ≡ true) × (sets_base line ≡ true)) ⊎ ((sets_base other ≡ true) × (has_masked_mode line ≡ true)) → Contains (marks_of lines pairs) (i, 4)

@@ -14,7 +14,7 @@ use Rattle.pv_table.specs.Repeatable.{IsRepeatable}
 use Rattle.pv_report.specs.declared.listing.Unrepeatable.{Unrepeatable}
 use Rattle.pv_report.specs.Marks.{marks_of, rank}
 use Rattle.pv_report.specs.Reporting.{ComesFirst, ListsOverlaps, ListsReasons}
-use Rattle.pv_report.specs.Said.{repeatable, SaysRepeatable, verdict}
+use Rattle.pv_report.specs.GivenMessages.{repeatable, SaysRepeatable, verdict}
 use Rattle.pv_report.specs.Subjects.{MayAnswer, reaches_of}
 use Rattle.pv_report.proofs.MarkLaws.{each_reason, lists_overlaps, mark_of}
 use Rattle.pv_report.proofs.Members.{first_in, in_cases, in_none, later_in}
@@ -37,8 +37,8 @@ last_pushed old text =
     slice_get-get_or (old ++ text ∷ []) (length (old ++ text ∷ []) - 1) [] (omega (arith, long)) ∙ ap Some (get_or_push old text [] (length (old ++ text ∷ []) - 1) (omega (arith, long)))
 
 -- the last message of a report is the verdict on its lines
-pub verdict_said : (lines : List Line) (list : List Unrepeatable) (old new : List (List ℕ)) → new ≡ old ++ verdict list ∷ [] → ListsReasons lines list → SaysRepeatable new ↔ IsRepeatable lines
-verdict_said lines list old new e lists = (
+pub verdict_message : (lines : List Line) (list : List Unrepeatable) (old new : List (List ℕ)) → new ≡ old ++ verdict list ∷ [] → ListsReasons lines list → SaysRepeatable new ↔ IsRepeatable lines
+verdict_message lines list old new e lists = (
   λ says. (none_listed lines list lists).0 ((verdict_none list).0 (same_Some (verdict list) repeatable (sym last ∙ says))),
   λ none. last ∙ ap Some ((verdict_none list).1 ((none_listed lines list lists).1 none)),
 )
@@ -95,7 +95,7 @@ one_report lines list other a b =
 
 module _ (lines : List Line) (are : AllByRecursion IsLine lines) (reaches : List Reach) (is : reaches ≡ reaches_of lines) (pairs : List Pair)
     (listed : (pair : Pair) → Contains pairs pair → IsAnswered (MayAnswer reaches (length lines)) (length reaches) pair)
-    (told : (i j : ℕ) → i < j → j < length reaches → IsTold (MayAnswer reaches (length lines)) pairs i j) where
+    (recorded : (i j : ℕ) → i < j → j < length reaches → IsTold (MayAnswer reaches (length lines)) pairs i j) where
   each_line : All IsLine lines
   each_line = All-from_recursion IsLine lines are
 
@@ -103,7 +103,7 @@ module _ (lines : List Line) (are : AllByRecursion IsLine lines) (reaches : List
   listed_there = subst (λ (rs : List Reach). (pair : Pair) → Contains pairs pair → IsAnswered (MayAnswer rs (length lines)) (length rs) pair) is listed
 
   told_there : (i j : ℕ) → i < j → j < length (reaches_of lines) → IsTold (MayAnswer (reaches_of lines) (length lines)) pairs i j
-  told_there = subst (λ (rs : List Reach). (i j : ℕ) → i < j → j < length rs → IsTold (MayAnswer rs (length lines)) pairs i j) is told
+  told_there = subst (λ (rs : List Reach). (i j : ℕ) → i < j → j < length rs → IsTold (MayAnswer rs (length lines)) pairs i j) is recorded
 
   pub report_overlaps : AllPairs ComesBefore pairs → (overlaps : List Pair) → overlaps ≡ filter (λ pair. nat_lt pair.second (length lines)) pairs → ListsOverlaps lines overlaps
   report_overlaps ordered overlaps e = subst (ListsOverlaps lines) (sym e) (lists_overlaps lines each_line pairs listed_there told_there ordered)
@@ -117,7 +117,7 @@ module _ (lines : List Line) (are : AllByRecursion IsLine lines) (reaches : List
 -- the same of what the calls have answered
 module _ (lines known : List Line) (same : known ≡ lines) (are : AllByRecursion IsLine lines) (reaches slice : List Reach) (is : reaches ≡ reaches_of known) (own : slice ≡ reaches) (count : ℕ) (counted : count ≡ length lines) (pairs : List Pair)
     (listed : (pair : Pair) → Contains pairs pair → IsAnswered (MayAnswer slice count) (length slice) pair)
-    (told : (i j : ℕ) → i < j → j < length slice → IsTold (MayAnswer slice count) pairs i j) where
+    (recorded : (i j : ℕ) → i < j → j < length slice → IsTold (MayAnswer slice count) pairs i j) where
   whole : slice ≡ reaches_of lines
   whole = own ∙ is ∙ ap reaches_of same
 
@@ -125,7 +125,7 @@ module _ (lines known : List Line) (same : known ≡ lines) (are : AllByRecursio
   listed_all = subst (λ (n : ℕ). (pair : Pair) → Contains pairs pair → IsAnswered (MayAnswer slice n) (length slice) pair) counted listed
 
   told_all : (i j : ℕ) → i < j → j < length slice → IsTold (MayAnswer slice (length lines)) pairs i j
-  told_all = subst (λ (n : ℕ). (i j : ℕ) → i < j → j < length slice → IsTold (MayAnswer slice n) pairs i j) counted told
+  told_all = subst (λ (n : ℕ). (i j : ℕ) → i < j → j < length slice → IsTold (MayAnswer slice n) pairs i j) counted recorded
 
   pub made_overlaps : AllPairs ComesBefore pairs → (number : ℕ) → number ≡ length lines → (overlaps : List Pair) → overlaps ≡ filter (λ pair. nat_lt pair.second number) pairs → ListsOverlaps lines overlaps
   made_overlaps ordered number e overlaps f = report_overlaps lines are slice whole pairs listed_all told_all ordered overlaps (f ∙ ap (λ (n : ℕ). filter (λ pair. nat_lt pair.second n) pairs) e)

@@ -2,4 +2,4 @@ pub mod Subjects
 pub mod Alike
 pub mod Marks
 pub mod Reporting
-pub mod Said
+pub mod GivenMessages

@@ -7,7 +7,7 @@ use Rattle.pv_overlap.specs.declared.pair.Pair.{Pair}
 use Rattle.pv_path.specs.Paths.{same_path, is_prefix}
 use Rattle.pv_table.specs.declared.reason.Reason.{Reason}
 use Rattle.pv_table.specs.declared.reason.Reason.TheVariants.{Append, Source, Below, Input, Mask}
-use Rattle.pv_table.specs.Asking.{asks}
+use Rattle.pv_table.specs.ActionTable.{action_of}
 use Rattle.pv_table.specs.Reaching.{is_creating, path_in}
 use Rattle.pv_table.specs.Repeatable.{appends, changes_content, has_masked_mode, sets_base}
 use Rattle.pv_table.specs.Turns.{copied}
@@ -52,7 +52,7 @@ traits_of line = record {
   masked = has_masked_mode line;
   base = sets_base line;
   changes = changes_content line;
-  copies = is_some (copied (asks line));
+  copies = is_some (copied (action_of line));
 }
 
 -- a mark, where a test holds
@@ -67,7 +67,7 @@ own_marks i (line ∷ lines) = mark_if (appends line) i 0 ++ own_marks (i + 1) l
 -- whether a line makes something properly below the path of one that copies
 abbrev pub is_below : Line → Line → Bool
 is_below line other =
-    is_creating line && is_some (copied (asks other)) && is_prefix (path_in other.path) (path_in line.path)
+    is_creating line && is_some (copied (action_of other)) && is_prefix (path_in other.path) (path_in line.path)
     && not (same_path (path_in other.path) (path_in line.path))
 
 -- whether one line has a masked mode and the other sets base entries of an ACL

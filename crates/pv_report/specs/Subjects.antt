@@ -12,7 +12,7 @@ use Rattle.pv_meet.specs.Meeting.{are_met}
 use Rattle.pv_meet.specs.Words.{Finds}
 use Rattle.pv_overlap.specs.Answers.{Answers}
 use Rattle.pv_overlap.specs.Heads.{head_of_all}
-use Rattle.pv_table.specs.Asking.{asks}
+use Rattle.pv_table.specs.ActionTable.{action_of}
 use Rattle.pv_table.specs.Reaching.{reaches_below}
 use Rattle.pv_layers.specs.Places.{inputs}
 use Rattle.pv_table.specs.Turns.{copied}
@@ -32,7 +32,7 @@ reach_under path = record { pattern = literal_of path ∷ []; below = true }
 
 -- what lines copy
 abbrev pub sources_of : List Line → List Path
-sources_of lines = filter_map (λ line. copied (asks line)) lines
+sources_of lines = filter_map (λ line. copied (action_of line)) lines
 
 -- all that is compared: the lines, then what they copy, then the paths from which lines are read
 abbrev pub reaches_of : List Line → List Reach

@@ -5,7 +5,7 @@ ghost use Rattle.pv_report.specs.declared.listing.Unrepeatable.{Unrepeatable as 
 ghost use Rattle.pv_report.specs.declared.listing.Report.{Report as ReportValue};
 ghost use Rattle.pv_overlap.specs.declared.pair.Pair.{Pair as PairValue};
 ghost use Rattle.pv_report.specs.Reporting.{ListsOverlaps, ListsReasons};
-ghost use Rattle.pv_report.specs.Said.{report_messages};
+ghost use Rattle.pv_report.specs.GivenMessages.{report_messages};
 
 /// Two reports on the same lines list the same reasons.
 pub fn the_reasons_are_one_list()

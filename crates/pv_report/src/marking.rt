@@ -6,7 +6,7 @@ ghost use Rattle.pv_report.specs.declared.listing.Unrepeatable.{Unrepeatable as 
 ghost use Rattle.std.specs.List.Sorted.{IsStrictlySortedBy};
 ghost use Rattle.pv_report.specs.Marks.{is_below, Mark as Place, mark_cmp, mark_if, marks_of, mixes, outer_marks, own_marks, pair_marks, rank, reason_at, reason_of, shared_marks, traits_of};
 ghost use Rattle.pv_report.specs.Reporting.{ComesFirst};
-ghost use Rattle.pv_table.specs.Asking.{asks};
+ghost use Rattle.pv_table.specs.ActionTable.{action_of};
 ghost use Rattle.pv_table.specs.Reaching.{path_in};
 ghost use Rattle.pv_table.specs.Turns.{copied};
 ghost use Rattle.pv_report.specs.Subjects.{sources_of};
@@ -89,7 +89,7 @@ fn begins(above: &[Name], path: &[Name]) -> bool
 
 /// Whether a line makes something properly below the path of one that copies.
 fn is_below(line: &Line, other: &Line, copies: bool) -> bool
-    requires { copies ≡ is_some (copied (asks other.now)) }
+    requires { copies ≡ is_some (copied (action_of other.now)) }
     ensures { result ≡ is_below line.now other.now }
 {
     let path = names_of(&line.path);

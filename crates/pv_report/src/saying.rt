@@ -2,10 +2,10 @@
 ghost use Rattle.std.specs.Prelude.{◌≡◌, ◌↔◌, ◌++◌, ◌∷◌, [], codes, map, true, unwrap_or, slice_get, IfOk, OnOk};
 ghost use Rattle.std.specs.Fmt.{decimal};
 ghost use Rattle.pv_text.specs.Lines.{is_line};
-ghost use Rattle.pv_text.specs.Said.{SaidPart};
+ghost use Rattle.pv_text.specs.GivenMessages.{MessagesPart};
 ghost use Rattle.pv_table.specs.Repeatable.{IsRepeatable};
 ghost use Rattle.pv_report.specs.Reporting.{ListsReasons};
-ghost use Rattle.pv_report.specs.Said.{line_text, overlap_text, reason_text, report_messages, SaysRepeatable, shared_text, standing_text, unrepeatable_text, verdict};
+ghost use Rattle.pv_report.specs.GivenMessages.{line_text, overlap_text, reason_text, report_messages, SaysRepeatable, shared_text, standing_text, unrepeatable_text, verdict};
 
 use crate::listing::{Report, Unrepeatable};
 use pv_lines::{Line, LineList};
@@ -133,8 +133,8 @@ fn say_overlaps(
     pairs: &[Pair],
     messages: &mut Messages,
 ) -> Result<(), AllocError>
-    ensures said { OnOk result (messages.new ≡ messages.old ++ map (overlap_text lines.now) pairs.now) }
-    ensures part { SaidPart (map (overlap_text lines.now) pairs.now) messages.old messages.new }
+    ensures new_messages { OnOk result (messages.new ≡ messages.old ++ map (overlap_text lines.now) pairs.now) }
+    ensures part { MessagesPart (map (overlap_text lines.now) pairs.now) messages.old messages.new }
 {
     let texts = line_texts(alloc, lines)?;
     for pair in pairs {
@@ -152,8 +152,8 @@ fn say_reasons(
     list: &[Unrepeatable],
     messages: &mut Messages,
 ) -> Result<(), AllocError>
-    ensures said { OnOk result (messages.new ≡ messages.old ++ map (unrepeatable_text lines.now) list.now) }
-    ensures part { SaidPart (map (unrepeatable_text lines.now) list.now) messages.old messages.new }
+    ensures new_messages { OnOk result (messages.new ≡ messages.old ++ map (unrepeatable_text lines.now) list.now) }
+    ensures part { MessagesPart (map (unrepeatable_text lines.now) list.now) messages.old messages.new }
 {
     for found in list {
         messages.push(&unrepeatable_text(alloc, lines, found)?)?;
@@ -170,8 +170,8 @@ pub fn say_report(
     report: &Report,
     messages: &mut Messages,
 ) -> Result<(), AllocError>
-    ensures said { OnOk result (messages.new ≡ messages.old ++ report_messages lines.now report.now) }
-    ensures part { SaidPart (report_messages lines.now report.now) messages.old messages.new }
+    ensures new_messages { OnOk result (messages.new ≡ messages.old ++ report_messages lines.now report.now) }
+    ensures part { MessagesPart (report_messages lines.now report.now) messages.old messages.new }
     ensures verdict { OnOk result (ListsReasons lines.now report.now.unrepeatable → SaysRepeatable messages.new ↔ IsRepeatable lines.now) }
 {
     say_overlaps(alloc, lines.as_slice(), report.pairs.as_slice(), messages)?;

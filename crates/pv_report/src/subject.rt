@@ -4,7 +4,7 @@ ghost use Rattle.std.specs.List.{AllByRecursion};
 ghost use Rattle.std.specs.Option.{option_to_list};
 ghost use Rattle.pv_path.specs.Paths.{has_staging};
 ghost use Rattle.pv_lines.specs.Lines.{IsLine};
-ghost use Rattle.pv_table.specs.Asking.{asks};
+ghost use Rattle.pv_table.specs.ActionTable.{action_of};
 ghost use Rattle.pv_table.specs.Turns.{copied};
 ghost use Rattle.pv_report.specs.Subjects.{reach_of, reach_under, reaches_of, sources_of};
 
@@ -13,15 +13,15 @@ use pv_layers::inputs;
 use pv_lines::Line;
 use pv_meet::Reach;
 use pv_path::{PathList, TreePath};
-use pv_table::{Deed, asks};
+use pv_table::{Action, action_of};
 use std::alloc::{AllocError, Global};
 
 /// What a line copies.
 fn source_of(alloc: Global, line: &Line) -> Result<Option<TreePath>, AllocError>
-    ensures { IfOk result (λ source. source ≡ copied (asks line.now)) }
+    ensures { IfOk result (λ source. source ≡ copied (action_of line.now)) }
 {
-    match asks(alloc, line)? {
-        Deed::Copy(copying) => Ok(Some(copying.source)),
+    match action_of(alloc, line)? {
+        Action::Copy(copying) => Ok(Some(copying.source)),
         _ => Ok(None),
     }
 }

@@ -1,15 +1,17 @@
 //! What is asked of a line besides where it stands.
 ghost use Rattle.std.specs.Prelude.{◌≡◌, IfOk};
 ghost use Rattle.std.specs.List.{list_any};
-ghost use Rattle.pv_dress.specs.Reasons.{is_adjusting, is_append, is_base, gives_base};
+ghost use Rattle.pv_metadata.specs.Reasons.{is_adjusting, is_append, is_base, gives_base};
 ghost use Rattle.pv_table.specs.Reaching.{is_deep, reaches_below, spares_below, takes_below};
 ghost use Rattle.pv_table.specs.Repeatable.{changes_content, has_masked_mode, sets_of, takes_named};
 ghost use Rattle.pv_report.specs.Marks.{traits_of};
 
 use pv_acl::{AclLine, Entry};
-use pv_dress::{Change, Operation};
 use pv_lines::Line;
-use pv_table::{Deed, Sparing, Taking, asks, is_creating, is_writing, sparing_of, taking_of};
+use pv_metadata::{Change, Operation};
+use pv_table::{
+    Action, Sparing, Taking, action_of, is_creating, is_writing, sparing_of, taking_of,
+};
 use std::alloc::{AllocError, Global};
 
 /// What is asked of a line besides where it stands.
@@ -28,14 +30,14 @@ pub(crate) struct Traits {
 }
 
 /// What a line sets of an object that is there.
-fn sets_of(deed: &Deed) -> &[Operation]
-    ensures { result.now ≡ sets_of deed.now }
+fn sets_of(action: &Action) -> &[Operation]
+    ensures { result.now ≡ sets_of action.now }
 {
-    match deed {
-        Deed::Create(making) => making.sets.as_slice(),
-        Deed::Copy(copying) => copying.sets.as_slice(),
-        Deed::Touch(touching) => touching.sets.as_slice(),
-        Deed::Idle => &[],
+    match action {
+        Action::Create(making) => making.sets.as_slice(),
+        Action::Copy(copying) => copying.sets.as_slice(),
+        Action::Adjust(adjustment) => adjustment.sets.as_slice(),
+        Action::Idle => &[],
     }
 }
 
@@ -44,7 +46,7 @@ fn is_append(operation: &Operation) -> bool
     ensures { result ≡ is_adjusting is_append operation.now }
 {
     match operation {
-        Operation::Adjust { change, .. } => matches!(change, Change::Append(_)),
+        Operation::Apply { change, .. } => matches!(change, Change::Append(_)),
         _ => false,
     }
 }
@@ -68,7 +70,7 @@ fn gives_base(operation: &Operation) -> bool
     ensures { result ≡ is_adjusting gives_base operation.now }
 {
     match operation {
-        Operation::Adjust { change, .. } => match change {
+        Operation::Apply { change, .. } => match change {
             Change::Entries { line, .. } => has_base(line),
             _ => false,
         },
@@ -118,25 +120,25 @@ fn changes_content(line: &Line) -> bool
 pub(crate) fn traits_of(alloc: Global, line: &Line) -> Result<Traits, AllocError>
     ensures { IfOk result (λ traits. traits ≡ traits_of line.now) }
 {
-    let deed = asks(alloc, line)?;
+    let action = action_of(alloc, line)?;
     Ok(Traits {
-        appends: appends(sets_of(&deed)),
+        appends: appends(sets_of(&action)),
         masked: has_masked_mode(line),
-        base: sets_base(sets_of(&deed)),
+        base: sets_base(sets_of(&action)),
         changes: changes_content(line),
-        copies: matches!(&deed, Deed::Copy(_)),
+        copies: matches!(&action, Action::Copy(_)),
     })
 }
 
 /// Whether what is done at a path reaches all below it.
-fn is_deep(deed: &Deed) -> bool
-    ensures { result ≡ is_deep deed.now }
+fn is_deep(action: &Action) -> bool
+    ensures { result ≡ is_deep action.now }
 {
-    match deed {
-        Deed::Create(making) => making.renew.is_some(),
-        Deed::Copy(_) => true,
-        Deed::Touch(touching) => touching.deep,
-        Deed::Idle => false,
+    match action {
+        Action::Create(making) => making.renew.is_some(),
+        Action::Copy(_) => true,
+        Action::Adjust(adjustment) => adjustment.deep,
+        Action::Idle => false,
     }
 }
 
@@ -151,7 +153,13 @@ fn takes_below(taking: Taking) -> bool
 pub(crate) fn reaches_below(alloc: Global, line: &Line) -> Result<bool, AllocError>
     ensures { IfOk result (λ below. below ≡ reaches_below line.now) }
 {
-    let deed = asks(alloc, line)?;
+    let action = action_of(alloc, line)?;
     let spares = matches!(sparing_of(line), Some(Sparing::Whole));
-    Ok(is_deep(&deed) || takes_below(taking_of(line)) || spares || line.age.is_some() || line.purge)
+    Ok(
+        is_deep(&action)
+            || takes_below(taking_of(line))
+            || spares
+            || line.age.is_some()
+            || line.purge,
+    )
 }

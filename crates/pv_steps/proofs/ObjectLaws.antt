@@ -13,7 +13,7 @@ use Rattle.pv_steps.specs.declared.node.Kind.{Kind}
 use Rattle.pv_steps.specs.declared.node.Kind.TheVariants.{Directory, File, Link, Fifo, CharDevice, BlockDevice}
 use Rattle.pv_steps.specs.declared.object.Object.{Object}
 use Rattle.pv_steps.specs.Trees.{kind_of}
-use Rattle.pv_steps.specs.Objects.{bare, is_directory, fresh, changed, modified, with_mode, with_owner, with_acl, with_attrs, with_letters, with_stamps, with_content, IsObject, IsId, AclFits, PayloadFits, NumbersFit, AttrsFit, LettersFit}
+use Rattle.pv_steps.specs.Objects.{object_state, is_directory, fresh, changed, modified, with_mode, with_owner, with_acl, with_attrs, with_letters, with_stamps, with_content, IsObject, IsId, AclFits, PayloadFits, NumbersFit, AttrsFit, LettersFit}
 use Rattle.pv_acl.proofs.Spelt.{is_perm-digit, is_acl-of_mode}
 
 pub small_special : (mode : ℕ) → mode ≤ 4095 → special_of mode ≤ 7
@@ -143,20 +143,20 @@ directory_is Fifo e = cc
 directory_is CharDevice e = cc
 directory_is BlockDevice e = cc
 
-pub kind_of-bare : (o : Option Object) → kind_of (option_map bare o) ≡ kind_of o
-kind_of-bare None = refl
-kind_of-bare (Some x) = refl
+pub kind_of-object_state : (o : Option Object) → kind_of (option_map object_state o) ≡ kind_of o
+kind_of-object_state None = refl
+kind_of-object_state (Some x) = refl
 
-pub is_some-bare : (o : Option Object) → is_some (option_map bare o) ≡ is_some o
-is_some-bare None = refl
-is_some-bare (Some x) = refl
+pub is_some-object_state : (o : Option Object) → is_some (option_map object_state o) ≡ is_some o
+is_some-object_state None = refl
+is_some-object_state (Some x) = refl
 
-pub none_from_bare : (o : Option Object) → option_map bare o ≡ None → o ≡ None
-none_from_bare None e = refl
-none_from_bare (Some x) e = absurd (let no : Some (bare x) ≡ None = e in cc)
+pub none_from_object_state : (o : Option Object) → option_map object_state o ≡ None → o ≡ None
+none_from_object_state None e = refl
+none_from_object_state (Some x) e = absurd (let no : Some (object_state x) ≡ None = e in cc)
 
-pub kind_of-same : (a b : Option Object) → option_map bare a ≡ option_map bare b → kind_of a ≡ kind_of b
-kind_of-same a b e = sym (kind_of-bare a) ∙ ap kind_of e ∙ kind_of-bare b
+pub kind_of-same : (a b : Option Object) → option_map object_state a ≡ option_map object_state b → kind_of a ≡ kind_of b
+kind_of-same a b e = sym (kind_of-object_state a) ∙ ap kind_of e ∙ kind_of-object_state b
 
-pub is_some-same : (a b : Option Object) → option_map bare a ≡ option_map bare b → is_some a ≡ is_some b
-is_some-same a b e = sym (is_some-bare a) ∙ ap is_some e ∙ is_some-bare b
+pub is_some-same : (a b : Option Object) → option_map object_state a ≡ option_map object_state b → is_some a ≡ is_some b
+is_some-same a b e = sym (is_some-object_state a) ∙ ap is_some e ∙ is_some-object_state b

@@ -54,12 +54,12 @@ all_weaken Q R f (x ∷ xs) h = (f x h.0, all_weaken Q R f xs h.1)
 module _ (P : Files → Type 0) (Q : Step → Type 0) (now : ℕ) where
   -- nothing was done
   pub ran_none : (t : Files) (h : List Step) (u : Files) (k : List Step) → P t → u ≡ t → k ≡ h → Ran P Q now t h u k
-  ran_none t h u k p same told = record { steps = []; recorded = told ∙ sym (append-nil h); reached = same; along = p; gives = tt }
+  ran_none t h u k p same stated = record { steps = []; recorded = stated ∙ sym (append-nil h); reached = same; along = p; gives = tt }
 
   -- one step was done
   pub ran_one : (t : Files) (h : List Step) (s : Step) (u : Files) (k : List Step) → P t → Legal t s now → P u → Q s → u ≡ after t s now → k ≡ h ++ s ∷ [] → Ran P Q now t h u k
-  ran_one t h s u k p legal p' q is told =
-      record { steps = s ∷ []; recorded = told; reached = is; along = (p, (legal, subst P is p')); gives = (q, tt) }
+  ran_one t h s u k p legal p' q is stated =
+      record { steps = s ∷ []; recorded = stated; reached = is; along = (p, (legal, subst P is p')); gives = (q, tt) }
 
   -- one run after another
   pub ran_then : {t : Files} {h : List Step} {u : Files} {k : List Step} {v : Files} {l : List Step} → Ran P Q now t h u k → Ran P Q now u k v l → Ran P Q now t h v l

@@ -165,10 +165,10 @@ module _ (P : Files → Type 0) (Q : Step → Type 0) (now : ℕ) where
             gives = ask_gives (tree.state a) t.done t.left parted;
           };
           bound =
-              let told = ap length t.recorded ∙ length-append (tree.steps a) t.done in
+              let stated = ap length t.recorded ∙ length-append (tree.steps a) t.done in
               let all = sym (ap length t.parts) ∙ length-append t.done t.left in
               let one = room r t.left t.short in
-              omega (arith, told, all, one);
+              omega (arith, stated, all, one);
           reaches = t.reaches;
           counted = t.counted;
           last = t.last;

@@ -23,8 +23,8 @@ abbrev pub stamped : ℕ → Stamps
 stamped now = record { access = now; birth = now; change = now; modify = now }
 
 -- an object with its four stamps left out of account
-abbrev pub bare : Object → Object
-bare o = record o { node = record o.node { stamps = stamped 0 } }
+abbrev pub object_state : Object → Object
+object_state o = record o { node = record o.node { stamps = stamped 0 } }
 
 -- a new object of a kind: owned by root, with a mode, a payload and a device's numbers, no extended attributes and
 -- no letters

@@ -14,11 +14,11 @@ abbrev pub owner_at : Places → Path → ℕ → ℕ → ℕ
 owner_at t path last k = option_map_or (λ o. o.node.uid) (t (take k path)) (if k == length path then last else 0)
 
 -- why a place that stands above the last cannot be passed
-abbrev pub why_blocked : Option Kind → Option Why
-why_blocked None = None
-why_blocked (Some Directory) = None
-why_blocked (Some Link) = Some why.Link
-why_blocked (Some kind) = Some why.NotDirectory
+abbrev pub why_unsafe : Option Kind → Option Why
+why_unsafe None = None
+why_unsafe (Some Directory) = None
+why_unsafe (Some Link) = Some why.Link
+why_unsafe (Some kind) = Some why.NotDirectory
 
 -- a place that root does not own the directory of has the owner of that directory
 abbrev pub is_unsafe : Places → Path → ℕ → ℕ → Bool
@@ -28,7 +28,7 @@ is_unsafe t path last k =
 -- why the place of the first k names is refused: link, not a directory, unsafe owner, in this order
 abbrev pub why_refused : Places → Path → ℕ → ℕ → Option Why
 why_refused t path last k = option_or
-    (if nat_lt k (length path) then why_blocked (kind_of (t (take k path))) else None)
+    (if nat_lt k (length path) then why_unsafe (kind_of (t (take k path))) else None)
     (if is_unsafe t path last k then Some why.UnsafeOwner else None)
 
 -- the first of some numbers at which there is a reason

@@ -54,7 +54,7 @@ impl Flags for Letters {
     }
 }
 
-/// A set of the letters `aAcCdDeijPsStTu`, which files and directories carry (chattr(1)). Clauses see a number
+/// File attributes (chattr(1)): a set of the letters `aAcCdDeijPsStTu` of files and directories. Clauses see a number
 /// below 2^15, in which a letter's bit is that of its place in byte order.
 #[derive(Clone, Copy)]
 pub struct LetterSet {

@@ -41,7 +41,7 @@ pub fn special_bits(mode: u16) -> u8
     (mode / 512) as u8
 }
 
-/// The four stamps of an object, in microseconds since 1970 (inode(7)).
+/// The four timestamps of an object, in microseconds since 1970 (inode(7)).
 #[derive(Clone, Copy)]
 pub struct Stamps {
     pub access: u64,

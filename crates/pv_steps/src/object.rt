@@ -17,8 +17,8 @@ pub struct Object {
 }
 
 impl Object {
-    /// A new object that root owns, with a device's numbers, all four stamps now, and neither extended attributes nor
-    /// letters. It takes no memory.
+    /// A new object that root owns, with a device's numbers, all four timestamps now, and neither extended attributes
+    /// nor letters. It takes no memory.
     pub fn fresh(
         alloc: Global,
         kind: Kind,

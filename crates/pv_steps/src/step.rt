@@ -67,7 +67,7 @@ pub enum Step {
         path: TreePath,
         letters: LetterSet,
     },
-    /// The stamps of access and modification change (utimensat(2)).
+    /// The timestamps of access and modification change (utimensat(2)).
     SetStamps {
         path: TreePath,
         access: u64,

@@ -1,5 +1,5 @@
 //! Why a walk along a path is refused.
-/// Why a walk along a path is refused at a place.
+/// Why a path is refused at one of its components: an unsafe path transition (tmpfiles.d(5)).
 #[derive(Clone, Copy, PartialEq, Eq)]
 pub enum Why {
     /// A place above the last is a symbolic link.

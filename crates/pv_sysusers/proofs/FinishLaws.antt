@@ -59,20 +59,20 @@ module _ (pooled : ℕ → Bool) (a b : Ids) (like : AreAlike a b) where
   choice_same users account = by account.uid refl
     where
       by : (o : Option ℕ) → account.uid ≡ o → user_choice pooled users a account ≡ user_choice pooled users b account
-      by None e = rw e (λ i. record { number = group_or_free_same users account.name i; said = [] })
+      by None e = rw e (λ i. record { number = group_or_free_same users account.name i; new_messages = [] })
       by (Some n) e = rw e (λ i.
-          if free_for_same users account.name n i then record { number = Some n; said = [] }
-          else record { number = group_or_free_same users account.name i; said = in_use_message account.place n account.name ∷ [] })
+          if free_for_same users account.name n i then record { number = Some n; new_messages = [] }
+          else record { number = group_or_free_same users account.name i; new_messages = in_use_message account.place n account.name ∷ [] })
 
   gid_same : (name : List ℕ) (m : Main) → gid_of a name m ≡ gid_of b name m
   gid_same name main.Own = λ i. unwrap_or (like.ids i name) 0
   gid_same name (main.Gid n) = refl
   gid_same name (main.Named group) = λ i. unwrap_or (like.ids i group) 0
 
-  chosen_same : (account : Account) (o : Option ℕ) (said : List (List ℕ)) (rest : ℕ → NewUsers)
-      → user_chosen a account (record { number = o; said = said }) rest ≡ user_chosen b account (record { number = o; said = said }) rest
-  chosen_same account None said rest = refl
-  chosen_same account (Some n) said rest = λ i. user_first (record { account = account; uid = n; gid = gid_same account.name account.main i }) said (rest n)
+  chosen_same : (account : Account) (o : Option ℕ) (new_messages : List (List ℕ)) (rest : ℕ → NewUsers)
+      → user_chosen a account (record { number = o; new_messages = new_messages }) rest ≡ user_chosen b account (record { number = o; new_messages = new_messages }) rest
+  chosen_same account None new_messages rest = refl
+  chosen_same account (Some n) new_messages rest = λ i. user_first (record { account = account; uid = n; gid = gid_same account.name account.main i }) new_messages (rest n)
 
   pub users_alike : (accounts : List Account) (users : Ids) → decided_users pooled a users accounts ≡ decided_users pooled b users accounts
   users_alike [] users = refl
@@ -80,7 +80,7 @@ module _ (pooled : ℕ → Bool) (a b : Ids) (like : AreAlike a b) where
       (λ i. if is_some (id_of users account.name) then users_alike accounts users i
       else user_chosen a account (choice_same users account i) (λ n. users_alike accounts (users ++ (account.name, n) ∷ []) i))
       ∙ ap (λ (c : NewUsers). if is_some (id_of users account.name) then decided_users pooled b users accounts else c)
-      (chosen_same account (user_choice pooled users b account).number (user_choice pooled users b account).said (λ n. decided_users pooled b (users ++ (account.name, n) ∷ []) accounts))
+      (chosen_same account (user_choice pooled users b account).number (user_choice pooled users b account).new_messages (λ n. decided_users pooled b (users ++ (account.name, n) ∷ []) accounts))
 
 -- ---- groups and users that are there
 

@@ -21,7 +21,7 @@ use Rattle.pv_accounts.proofs.Holding.{Fields}
 use Rattle.pv_accounts.proofs.Members.{HasMembers, file_named, group_members, gshadow_members}
 use Rattle.pv_accounts.proofs.Rereading.{IsPlain}
 use Rattle.pv_path.proofs.Tests.{option_or-none}
-use Rattle.pv_sysusers.specs.Members.{AreLines, IsPlaced, are_accounts, lines_held, pairs_of, place_of, place_told}
+use Rattle.pv_sysusers.specs.Members.{AreLines, IsPlaced, are_accounts, lines_held, pairs_of, place_of, place_found}
 use Rattle.pv_sysusers.specs.declared.members.MemberLines.{MemberLines}
 use Rattle.pv_sysusers.specs.Texts.{with_memberships}
 
@@ -188,11 +188,11 @@ all_at p (x ∷ xs) zero d h below = (and_parts (p x.now) (list_all p (map (λ s
 all_at p (x ∷ xs) (suc i) d h below = all_at p xs i d (and_parts (p x.now) (list_all p (map (λ s. s.now) xs)) h).1 (omega arith)
 
 -- places of lines, of which one is new
-pub placed_more : (test : Fields → Bool) (told after : List ℕ → Option ℕ) (lines more : List (List ℕ)) (line : List ℕ) (at : ℕ) → at ≡ length lines → more ≡ lines ++ line ∷ []
-    → ((name : List ℕ) → told name ≡ place_of test name lines)
-    → ((name : List ℕ) → after name ≡ option_or (told name) (cond (is_entry_named test name line) (Some at) None))
+pub placed_more : (test : Fields → Bool) (stated after : List ℕ → Option ℕ) (lines more : List (List ℕ)) (line : List ℕ) (at : ℕ) → at ≡ length lines → more ≡ lines ++ line ∷ []
+    → ((name : List ℕ) → stated name ≡ place_of test name lines)
+    → ((name : List ℕ) → after name ≡ option_or (stated name) (cond (is_entry_named test name line) (Some at) None))
     → (name : List ℕ) → after name ≡ place_of test name more
-placed_more test told after lines more line at e is before step name =
+placed_more test stated after lines more line at e is before step name =
     step name
     ∙ ap (λ (o : Option ℕ). option_or o (cond (is_entry_named test name line) (Some at) None)) (before name)
     ∙ ap (λ (n : ℕ). option_or (place_of test name lines) (cond (is_entry_named test name line) (Some n) None)) e
@@ -227,16 +227,16 @@ module _ (test : Fields → Bool) (members : List (Bor (List ℕ) × Bor (List �
 
 -- ---- places that are noted
 
-pub noted : (told after : List ℕ → Option ℕ) (name : List ℕ) (at : ℕ) → None ≡ told name
-    → ((other : List ℕ) → after other ≡ cond (bytes_eq name other) (Some at) (told other))
-    → (other : List ℕ) → after other ≡ option_or (told other) (cond (bytes_eq name other) (Some at) None)
-noted told after name at none step other = step other ∙ by (bytes_eq name other) refl
+pub noted : (stated after : List ℕ → Option ℕ) (name : List ℕ) (at : ℕ) → None ≡ stated name
+    → ((other : List ℕ) → after other ≡ cond (bytes_eq name other) (Some at) (stated other))
+    → (other : List ℕ) → after other ≡ option_or (stated other) (cond (bytes_eq name other) (Some at) None)
+noted stated after name at none step other = step other ∙ by (bytes_eq name other) refl
   where
-    by : (b : Bool) → bytes_eq name other ≡ b → cond b (Some at) (told other) ≡ option_or (told other) (cond b (Some at) None)
+    by : (b : Bool) → bytes_eq name other ≡ b → cond b (Some at) (stated other) ≡ option_or (stated other) (cond b (Some at) None)
     by true e =
         let same : name ≡ other = (bytes_eq-Decides name other).0 e in
-        ap (λ (o : Option ℕ). option_or o (Some at)) (none ∙ ap told same)
-    by false e = sym (option_or-none (told other))
+        ap (λ (o : Option ℕ). option_or o (Some at)) (none ∙ ap stated same)
+    by false e = sym (option_or-none (stated other))
 
 -- ---- texts
 
@@ -276,7 +276,7 @@ pub on_ok : {A E : Type 0} (r : Result A E) (P Q : Type 0) → (P → Q) → OnO
 on_ok (Ok x) P Q f h = f h
 on_ok (Err e) P Q f h = tt
 
-pub place_stays : (test : Fields → Bool) → HasMembers test → (group user : List ℕ) → IsPlain user → (old new : MemberLines) → AreLines (lines_held old) → ((name : List ℕ) → place_told new name ≡ place_told old name)
+pub place_stays : (test : Fields → Bool) → HasMembers test → (group user : List ℕ) → IsPlain user → (old new : MemberLines) → AreLines (lines_held old) → ((name : List ℕ) → place_found new name ≡ place_found old name)
     → lines_held new ≡ with_member test group user (lines_held old) → IsPlaced test old → IsPlaced test new
 place_stays test has group user plain old new whole places lines placed name =
     places name ∙ placed name

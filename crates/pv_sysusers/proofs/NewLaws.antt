@@ -93,16 +93,16 @@ module _ (pooled : ℕ → Bool) (users : Ids) (fixed : List ℕ → Option (ℕ
       by None e = λ h. free_is pooled users groups n h
       by (Some f) e = held (is_held groups f.0 || is_held_beside users f.0 name)
         where
-          held : (t : Bool) → (cond {A = Choice} t (record { number = free_number pooled users groups; said = in_use_message f.1 f.0 name ∷ [] }) (record { number = Some f.0; said = [] })).number ≡ Some n → is_id n ≡ true
+          held : (t : Bool) → (cond {A = Choice} t (record { number = free_number pooled users groups; new_messages = in_use_message f.1 f.0 name ∷ [] }) (record { number = Some f.0; new_messages = [] })).number ≡ Some n → is_id n ≡ true
           held true h = free_is pooled users groups n h
           held false h = same_id f.0 n (are name f e) h
 
   new_after : (groups : Ids) (need : Need) (needs : List Need) → AreApart groups → id_of groups need.name ≡ None → IsFitNeed need
       → ((g : Ids) → AreApart g → AreNewGroups g (decided_groups pooled users fixed g needs).made)
-      → (o : Option ℕ) (said : List (List ℕ)) → ((n : ℕ) → o ≡ Some n → is_id n ≡ true)
-      → AreNewGroups groups (group_chosen need.name (record { number = o; said = said }) (λ n. decided_groups pooled users fixed (groups ++ (need.name, n) ∷ []) needs)).made
-  new_after groups need needs apart none fit rest None said is = record { apart = subst AreApart (sym (append-nil groups)) apart; fit = tt }
-  new_after groups need needs apart none fit rest (Some n) said is =
+      → (o : Option ℕ) (new_messages : List (List ℕ)) → ((n : ℕ) → o ≡ Some n → is_id n ≡ true)
+      → AreNewGroups groups (group_chosen need.name (record { number = o; new_messages = new_messages }) (λ n. decided_groups pooled users fixed (groups ++ (need.name, n) ∷ []) needs)).made
+  new_after groups need needs apart none fit rest None new_messages is = record { apart = subst AreApart (sym (append-nil groups)) apart; fit = tt }
+  new_after groups need needs apart none fit rest (Some n) new_messages is =
       let later = rest (groups ++ (need.name, n) ∷ []) (apart_more groups need.name n apart none) in
       record {
         apart = subst AreApart (append_assoc groups ((need.name, n) ∷ []) (decided_groups pooled users fixed (groups ++ (need.name, n) ∷ []) needs).made) later.apart;
@@ -119,7 +119,7 @@ module _ (pooled : ℕ → Bool) (users : Ids) (fixed : List ℕ → Option (ℕ
       by true e rest = rest groups apart
       by false e rest =
           new_after groups need needs apart (none_of (id_of groups need.name) e) fit.0 rest (group_choice pooled users groups need.name (fixed need.name)).number
-          (group_choice pooled users groups need.name (fixed need.name)).said (group_number_is groups need.name)
+          (group_choice pooled users groups need.name (fixed need.name)).new_messages (group_number_is groups need.name)
 
 -- ---- users
 
@@ -172,10 +172,10 @@ module _ (pooled : ℕ → Bool) (groups : Ids) (are : AreIds groups) where
 
   user_after : (users : Ids) (account : Account) (accounts : List Account) → AreApart users → id_of users account.name ≡ None → IsFitAccount account
       → ((u : Ids) → AreApart u → AreNewUsers u (decided_users pooled groups u accounts).made)
-      → (o : Option ℕ) (said : List (List ℕ)) → ((n : ℕ) → o ≡ Some n → is_id n ≡ true)
-      → AreNewUsers users (user_chosen groups account (record { number = o; said = said }) (λ n. decided_users pooled groups (users ++ (account.name, n) ∷ []) accounts)).made
-  user_after users account accounts apart none fit rest None said is = record { apart = subst AreApart (sym (append-nil users)) apart; fit = tt }
-  user_after users account accounts apart none fit rest (Some n) said is =
+      → (o : Option ℕ) (new_messages : List (List ℕ)) → ((n : ℕ) → o ≡ Some n → is_id n ≡ true)
+      → AreNewUsers users (user_chosen groups account (record { number = o; new_messages = new_messages }) (λ n. decided_users pooled groups (users ++ (account.name, n) ∷ []) accounts)).made
+  user_after users account accounts apart none fit rest None new_messages is = record { apart = subst AreApart (sym (append-nil users)) apart; fit = tt }
+  user_after users account accounts apart none fit rest (Some n) new_messages is =
       let later = rest (users ++ (account.name, n) ∷ []) (apart_more users account.name n apart none) in
       record {
         apart = subst AreApart (append_assoc users ((account.name, n) ∷ []) (ids_made (decided_users pooled groups (users ++ (account.name, n) ∷ []) accounts).made)) later.apart;
@@ -192,7 +192,7 @@ module _ (pooled : ℕ → Bool) (groups : Ids) (are : AreIds groups) where
       by true e rest = rest users apart
       by false e rest =
           user_after users account accounts apart (none_of (id_of users account.name) e) fit.0 rest (user_choice pooled users groups account).number
-          (user_choice pooled users groups account).said (uid_is users account fit.0.uid)
+          (user_choice pooled users groups account).new_messages (uid_is users account fit.0.uid)
 
 -- ---- IDs of those that were there and the new
 

@@ -3,7 +3,7 @@ use Rattle.std.proofs.Common.{◌≡◌, ℕ, Bool, List, ◌++◌, Some, None, 
 use Rattle.pv_accounts.specs.Entries.{is_group, is_passwd}
 use Rattle.pv_accounts.specs.InUse.{Ids, ids_of}
 use Rattle.pv_sysusers.specs.Groups.{NewGroups}
-use Rattle.pv_sysusers.specs.Deciding.{Lacks, Told, ToldBy, pooled_by, users_by}
+use Rattle.pv_sysusers.specs.Deciding.{Lacks, UnlessMemory, UnlessMemoryBy, pooled_by, users_by}
 use Rattle.pv_sysusers.specs.Lines.{Line}
 use Rattle.pv_sysusers.specs.Needs.{fixed_for}
 use Rattle.pv_sysusers.specs.Planning.{IsWanted, Misses, numbers_in}
@@ -22,7 +22,7 @@ after_groups pooled users groups accounts new whole = rw whole refl
 
 -- the numbers where a group got none
 pub without_group : (pooled : ℕ → Bool) (users groups : Ids) (accounts : List Account) (new : NewGroups) (name : List ℕ) → new.lacking ≡ Some name
-    → ((numbers_after pooled users groups accounts new).lacking ≡ Some name) × ((numbers_after pooled users groups accounts new).said ≡ new.said)
+    → ((numbers_after pooled users groups accounts new).lacking ≡ Some name) × ((numbers_after pooled users groups accounts new).new_messages ≡ new.new_messages)
 without_group pooled users groups accounts new name none = (rw none refl, rw none refl)
 
 -- the users that are decided after them
@@ -42,17 +42,17 @@ users_lack numbers new decided users Memory is same lacks = lacks
 users_lack numbers new decided users (NoFreeId name) is same lacks = ap (λ (n : Numbers). n.lacking) is ∙ ap (λ (u : NewUsers). u.lacking) (sym same) ∙ lacks
 
 -- what was said of groups and then of users
-pub both_said : (numbers : Numbers) (groups new : NewGroups) (decided users : NewUsers) (said told heard : List (List ℕ)) → numbers ≡ with_users new users → groups ≡ new → decided ≡ users
-    → told ≡ said ++ groups.said → heard ≡ told ++ decided.said → heard ≡ said ++ numbers.said
-both_said numbers groups new decided users said told heard is same also first then_said =
-    then_said ∙ (λ j. first j ++ decided.said) ∙ append_assoc said groups.said decided.said
-    ∙ ap (λ (ms : List (List ℕ)). said ++ ms) ((λ j. (same j).said ++ (also j).said) ∙ ap (λ (n : Numbers). n.said) (sym is))
+pub both_messages : (numbers : Numbers) (groups new : NewGroups) (decided users : NewUsers) (new_messages stated heard : List (List ℕ)) → numbers ≡ with_users new users → groups ≡ new → decided ≡ users
+    → stated ≡ new_messages ++ groups.new_messages → heard ≡ stated ++ decided.new_messages → heard ≡ new_messages ++ numbers.new_messages
+both_messages numbers groups new decided users new_messages stated heard is same also first then_messages =
+    then_messages ∙ (λ j. first j ++ decided.new_messages) ∙ append_assoc new_messages groups.new_messages decided.new_messages
+    ∙ ap (λ (ms : List (List ℕ)). new_messages ++ ms) ((λ j. (same j).new_messages ++ (also j).new_messages) ∙ ap (λ (n : Numbers). n.new_messages) (sym is))
 
 -- and where a user got none
-pub users_told : (numbers : Numbers) (groups new : NewGroups) (decided users : NewUsers) (fault : PlanFault) (said told heard : List (List ℕ)) → numbers ≡ with_users new users → groups ≡ new → decided ≡ users
-    → told ≡ said ++ groups.said → ToldBy fault (heard ≡ told ++ decided.said) → ToldBy fault (heard ≡ said ++ numbers.said)
-users_told numbers groups new decided users Memory said told heard is same also first then_said = then_said
-users_told numbers groups new decided users (NoFreeId name) said told heard is same also first then_said = both_said numbers groups new decided users said told heard is same also first then_said
+pub users_told : (numbers : Numbers) (groups new : NewGroups) (decided users : NewUsers) (fault : PlanFault) (new_messages stated heard : List (List ℕ)) → numbers ≡ with_users new users → groups ≡ new → decided ≡ users
+    → stated ≡ new_messages ++ groups.new_messages → UnlessMemoryBy fault (heard ≡ stated ++ decided.new_messages) → UnlessMemoryBy fault (heard ≡ new_messages ++ numbers.new_messages)
+users_told numbers groups new decided users Memory new_messages stated heard is same also first then_messages = then_messages
+users_told numbers groups new decided users (NoFreeId name) new_messages stated heard is same also first then_messages = both_messages numbers groups new decided users new_messages stated heard is same also first then_messages
 
 -- the numbers by what lines ask for are those of the lines
 pub numbers_same : (files : AccountFiles) (lines : List Line) (wanted : Wanted) (users groups : Ids) → users ≡ ids_of is_passwd files.passwd → groups ≡ ids_of is_group files.group → IsWanted users lines wanted
@@ -76,12 +76,12 @@ plan_lacking files lines day numbers (NoFreeId name) is lacks =
     ap (texts_or (texts_of files lines day (numbers_of files lines))) (ap (λ (n : Numbers). n.lacking) (sym is) ∙ lacks)
 
 -- what was said, told by an equal list
-pub told_same : (fault : PlanFault) (heard said a b : List (List ℕ)) → a ≡ b → ToldBy fault (heard ≡ said ++ a) → ToldBy fault (heard ≡ said ++ b)
-told_same Memory heard said a b e told = told
-told_same (NoFreeId name) heard said a b e told = told ∙ ap (λ (ms : List (List ℕ)). said ++ ms) e
+pub told_same : (fault : PlanFault) (heard new_messages a b : List (List ℕ)) → a ≡ b → UnlessMemoryBy fault (heard ≡ new_messages ++ a) → UnlessMemoryBy fault (heard ≡ new_messages ++ b)
+told_same Memory heard new_messages a b e stated = stated
+told_same (NoFreeId name) heard new_messages a b e stated = stated ∙ ap (λ (ms : List (List ℕ)). new_messages ++ ms) e
 
 -- what was said before a part of a run
-pub told_after : {A : Type 0} (r : Result A PlanFault) (heard told said a b : List (List ℕ)) → told ≡ said ++ a → Told r (heard ≡ told ++ b) → Told r (heard ≡ said ++ (a ++ b))
-told_after (Ok x) heard told said a b first then_said = then_said ∙ ap (λ (ms : List (List ℕ)). ms ++ b) first ∙ append_assoc said a b
-told_after (Err Memory) heard told said a b first then_said = then_said
-told_after (Err (NoFreeId name)) heard told said a b first then_said = then_said ∙ ap (λ (ms : List (List ℕ)). ms ++ b) first ∙ append_assoc said a b
+pub told_after : {A : Type 0} (r : Result A PlanFault) (heard stated new_messages a b : List (List ℕ)) → stated ≡ new_messages ++ a → UnlessMemory r (heard ≡ stated ++ b) → UnlessMemory r (heard ≡ new_messages ++ (a ++ b))
+told_after (Ok x) heard stated new_messages a b first then_messages = then_messages ∙ ap (λ (ms : List (List ℕ)). ms ++ b) first ∙ append_assoc new_messages a b
+told_after (Err Memory) heard stated new_messages a b first then_messages = then_messages
+told_after (Err (NoFreeId name)) heard stated new_messages a b first then_messages = then_messages ∙ ap (λ (ms : List (List ℕ)). ms ++ b) first ∙ append_assoc new_messages a b

@@ -47,12 +47,12 @@ module _ (pooled : ℕ → Bool) (users : Ids) (fixed : List ℕ → Option (ℕ
   abbrev pub AreThere : Ids → List Need → Type 0
   AreThere groups needs = AllByRecursion (λ need. HasId groups need.name) needs
 
-  there_chosen : (groups : Ids) (need : Need) (needs : List Need) (m : Option ℕ) (said : List (List ℕ))
+  there_chosen : (groups : Ids) (need : Need) (needs : List Need) (m : Option ℕ) (new_messages : List (List ℕ))
       → ((g : Ids) → (decided g needs).lacking ≡ None → AreThere (g ++ (decided g needs).made) needs)
-      → (group_chosen need.name (record { number = m; said = said }) (λ n. decided (groups ++ (need.name, n) ∷ []) needs)).lacking ≡ None
-      → AreThere (groups ++ (group_chosen need.name (record { number = m; said = said }) (λ n. decided (groups ++ (need.name, n) ∷ []) needs)).made) (need ∷ needs)
-  there_chosen groups need needs None said others h = absurd (let no : Some need.name ≡ None = h in cc)
-  there_chosen groups need needs (Some n) said others h =
+      → (group_chosen need.name (record { number = m; new_messages = new_messages }) (λ n. decided (groups ++ (need.name, n) ∷ []) needs)).lacking ≡ None
+      → AreThere (groups ++ (group_chosen need.name (record { number = m; new_messages = new_messages }) (λ n. decided (groups ++ (need.name, n) ∷ []) needs)).made) (need ∷ needs)
+  there_chosen groups need needs None new_messages others h = absurd (let no : Some need.name ≡ None = h in cc)
+  there_chosen groups need needs (Some n) new_messages others h =
       let rest = (decided (groups ++ (need.name, n) ∷ []) needs).made in (
         has_right groups ((need.name, n) ∷ rest) need.name (has_first need.name n rest),
         subst (λ (g : Ids). AreThere g needs) (append_assoc groups ((need.name, n) ∷ []) rest) (others (groups ++ (need.name, n) ∷ []) h),
@@ -71,7 +71,7 @@ module _ (pooled : ℕ → Bool) (users : Ids) (fixed : List ℕ → Option (ℕ
           → AreThere (groups ++ (cond b (decided groups needs) (chosen groups need needs)).made) (need ∷ needs)
       by true e h others = (has_left groups (decided groups needs).made need.name e, others groups h)
       by false e h others =
-          there_chosen groups need needs (group_choice pooled users groups need.name (fixed need.name)).number (group_choice pooled users groups need.name (fixed need.name)).said others h
+          there_chosen groups need needs (group_choice pooled users groups need.name (fixed need.name)).number (group_choice pooled users groups need.name (fixed need.name)).new_messages others h
 
 pub none_new : (pooled : ℕ → Bool) (users : Ids) (fixed : List ℕ → Option (ℕ × Place)) (groups : Ids) (needs : List Need)
     → AllByRecursion (λ need. HasId groups need.name) needs → decided_groups pooled users fixed groups needs ≡ no_groups
@@ -96,12 +96,12 @@ module _ (pooled : ℕ → Bool) (groups : Ids) where
   abbrev pub AreMembers : Ids → List Account → Type 0
   AreMembers users accounts = AllByRecursion (λ account. HasId users account.name) accounts
 
-  members_chosen : (users : Ids) (account : Account) (accounts : List Account) (m : Option ℕ) (said : List (List ℕ))
+  members_chosen : (users : Ids) (account : Account) (accounts : List Account) (m : Option ℕ) (new_messages : List (List ℕ))
       → ((u : Ids) → (decided_by u accounts).lacking ≡ None → AreMembers (u ++ ids_made (decided_by u accounts).made) accounts)
-      → (user_chosen groups account (record { number = m; said = said }) (λ n. decided_by (users ++ (account.name, n) ∷ []) accounts)).lacking ≡ None
-      → AreMembers (users ++ ids_made (user_chosen groups account (record { number = m; said = said }) (λ n. decided_by (users ++ (account.name, n) ∷ []) accounts)).made) (account ∷ accounts)
-  members_chosen users account accounts None said others h = absurd (let no : Some account.name ≡ None = h in cc)
-  members_chosen users account accounts (Some n) said others h =
+      → (user_chosen groups account (record { number = m; new_messages = new_messages }) (λ n. decided_by (users ++ (account.name, n) ∷ []) accounts)).lacking ≡ None
+      → AreMembers (users ++ ids_made (user_chosen groups account (record { number = m; new_messages = new_messages }) (λ n. decided_by (users ++ (account.name, n) ∷ []) accounts)).made) (account ∷ accounts)
+  members_chosen users account accounts None new_messages others h = absurd (let no : Some account.name ≡ None = h in cc)
+  members_chosen users account accounts (Some n) new_messages others h =
       let rest = ids_made (decided_by (users ++ (account.name, n) ∷ []) accounts).made in (
         has_right users ((account.name, n) ∷ rest) account.name (has_first account.name n rest),
         subst (λ (u : Ids). AreMembers u accounts) (append_assoc users ((account.name, n) ∷ []) rest) (others (users ++ (account.name, n) ∷ []) h),
@@ -120,7 +120,7 @@ module _ (pooled : ℕ → Bool) (groups : Ids) where
           → AreMembers (users ++ ids_made (cond b (decided_by users accounts) (picked users account accounts)).made) (account ∷ accounts)
       by true e h others = (has_left users (ids_made (decided_by users accounts).made) account.name e, others users h)
       by false e h others =
-          members_chosen users account accounts (user_choice pooled users groups account).number (user_choice pooled users groups account).said others h
+          members_chosen users account accounts (user_choice pooled users groups account).number (user_choice pooled users groups account).new_messages others h
 
 pub no_new : (pooled : ℕ → Bool) (groups users : Ids) (accounts : List Account) → AllByRecursion (λ account. HasId users account.name) accounts → decided_users pooled groups users accounts ≡ no_users
 no_new pooled groups users [] all = refl

@@ -76,10 +76,10 @@ Lacks lacking Memory = Unit {0}
 Lacks lacking (NoFreeId name) = lacking ≡ Some name
 
 -- what holds unless memory ran out
-abbrev pub ToldBy : PlanFault → Type 0 → Type 0
-ToldBy Memory P = Unit {0}
-ToldBy (NoFreeId name) P = P
+abbrev pub UnlessMemoryBy : PlanFault → Type 0 → Type 0
+UnlessMemoryBy Memory P = Unit {0}
+UnlessMemoryBy (NoFreeId name) P = P
 
-abbrev pub Told : {A : Type 0} → Result A PlanFault → Type 0 → Type 0
-Told (Ok x) P = P
-Told (Err fault) P = ToldBy fault P
+abbrev pub UnlessMemory : {A : Type 0} → Result A PlanFault → Type 0 → Type 0
+UnlessMemory (Ok x) P = P
+UnlessMemory (Err fault) P = UnlessMemoryBy fault P

@@ -3,7 +3,7 @@ use Rattle.std.specs.Prelude.{ℕ, Bool, ◌||◌, List, [], ◌∷◌, ◌++◌
 use Rattle.std.specs.Fmt.{decimal}
 use Rattle.pv_accounts.specs.InUse.{Ids, id_of, is_held, is_held_beside}
 use Rattle.pv_path.specs.Printing.{printed}
-use Rattle.pv_text.specs.Said.{said_at}
+use Rattle.pv_text.specs.GivenMessages.{message_text_at}
 use Rattle.pv_text.specs.declared.place.Place.{Place}
 use Rattle.pv_sysusers.specs.Pools.{free_number}
 use Rattle.pv_sysusers.specs.declared.needs.Need.{Need}
@@ -11,41 +11,41 @@ use Rattle.pv_sysusers.specs.declared.needs.Need.{Need}
 -- a number that was chosen, if there is one, and what is said
 pub record Choice : Type 0 where
   pub number : Option ℕ
-  pub said : List (List ℕ)
+  pub new_messages : List (List ℕ)
 
 -- what is said of a fixed number that is in use
 abbrev pub in_use_message : Place → ℕ → List ℕ → List ℕ
-in_use_message place n name = said_at place (decimal n ++ codes " is in use for " ++ printed name)
+in_use_message place n name = message_text_at place (decimal n ++ codes " is in use for " ++ printed name)
 
 -- the fixed number of a group, where no other group has it and no user of another name, or else one of the pool
 abbrev pub group_choice : (ℕ → Bool) → Ids → Ids → List ℕ → Option (ℕ × Place) → Choice
-group_choice pooled users groups name None = record { number = free_number pooled users groups; said = [] }
+group_choice pooled users groups name None = record { number = free_number pooled users groups; new_messages = [] }
 group_choice pooled users groups name (Some fixed) =
     if is_held groups fixed.0 || is_held_beside users fixed.0 name
-    then record { number = free_number pooled users groups; said = in_use_message fixed.1 fixed.0 name ∷ [] }
-    else record { number = Some fixed.0; said = [] }
+    then record { number = free_number pooled users groups; new_messages = in_use_message fixed.1 fixed.0 name ∷ [] }
+    else record { number = Some fixed.0; new_messages = [] }
 
 -- the new groups with their numbers, what is said, and the group for which no number was left
 pub record NewGroups : Type 0 where
   pub made : Ids
-  pub said : List (List ℕ)
+  pub new_messages : List (List ℕ)
   pub lacking : Option (List ℕ)
 
 -- nothing is left to be decided
 abbrev pub no_groups : NewGroups
-no_groups = record { made = []; said = []; lacking = None }
+no_groups = record { made = []; new_messages = []; lacking = None }
 
 -- a group with its number, and then others
 abbrev pub group_first : List ℕ → ℕ → List (List ℕ) → NewGroups → NewGroups
-group_first name n said rest = record { made = (name, n) ∷ rest.made; said = said ++ rest.said; lacking = rest.lacking }
+group_first name n new_messages rest = record { made = (name, n) ∷ rest.made; new_messages = new_messages ++ rest.new_messages; lacking = rest.lacking }
 
 -- what comes of a choice for a group
 abbrev pub group_chosen : List ℕ → Choice → (ℕ → NewGroups) → NewGroups
 group_chosen name choice rest = by choice.number
   where
     by : Option ℕ → NewGroups
-    by (Some n) = group_first name n choice.said (rest n)
-    by None = record { made = []; said = choice.said; lacking = Some name }
+    by (Some n) = group_first name n choice.new_messages (rest n)
+    by None = record { made = []; new_messages = choice.new_messages; lacking = Some name }
 
 -- the groups that lines need, decided in order: one that is there keeps its number
 abbrev pub decided_groups : (ℕ → Bool) → Ids → (List ℕ → Option (ℕ × Place)) → Ids → List Need → NewGroups

@@ -6,7 +6,7 @@ use Rattle.pv_requests.specs.Same.{same_user}
 use Rattle.pv_requests.specs.declared.request.Request.{Request}
 use Rattle.pv_requests.specs.declared.request.Request.TheVariants as request
 use Rattle.pv_path.specs.Printing.{printed}
-use Rattle.pv_text.specs.Said.{said_at}
+use Rattle.pv_text.specs.GivenMessages.{message_text_at}
 use Rattle.pv_text.specs.declared.place.Place.{Place}
 use Rattle.pv_sysusers.specs.declared.path_ids.PathId.{PathId}
 
@@ -58,11 +58,11 @@ with_counting lines line = if is_some (earlier lines line) then lines else lines
 
 -- what is said of a u line that comes again and says something else
 abbrev pub duplicate_message : Place → List ℕ → List ℕ
-duplicate_message place name = said_at place (codes "duplicate line for " ++ printed name)
+duplicate_message place name = message_text_at place (codes "duplicate line for " ++ printed name)
 
 -- what is said of a u line of a user that has one already: nothing where they say the same
-abbrev pub said_again : List Line → Line → List (List ℕ)
-said_again lines line = by (earlier lines line) (user_of line.0)
+abbrev pub messages_again : List Line → Line → List (List ℕ)
+messages_again lines line = by (earlier lines line) (user_of line.0)
   where
     by : Option Request → Option (List ℕ) → List (List ℕ)
     by (Some first) (Some name) = if same_user first line.0 then [] else duplicate_message (place_of line.0) name ∷ []
@@ -74,6 +74,6 @@ counting kept [] = kept
 counting kept (line ∷ lines) = counting (with_counting kept line) lines
 
 -- what is said of lines that come again
-abbrev pub said_duplicates : List Line → List Line → List (List ℕ)
-said_duplicates kept [] = []
-said_duplicates kept (line ∷ lines) = said_again kept line ++ said_duplicates (with_counting kept line) lines
+abbrev pub duplicate_messages : List Line → List Line → List (List ℕ)
+duplicate_messages kept [] = []
+duplicate_messages kept (line ∷ lines) = messages_again kept line ++ duplicate_messages (with_counting kept line) lines

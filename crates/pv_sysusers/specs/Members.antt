@@ -31,12 +31,12 @@ place_of test name (line ∷ lines) = if is_entry_named test name line then Some
 abbrev pub lines_held : MemberLines → List (List ℕ)
 lines_held held = map (λ line. line.items) held.lines.items
 
-abbrev pub place_told : MemberLines → List ℕ → Option ℕ
-place_told held name = lookup (λ k. bytes_eq name k.now) held.places.entries
+abbrev pub place_found : MemberLines → List ℕ → Option ℕ
+place_found held name = lookup (λ k. bytes_eq name k.now) held.places.entries
 
 -- the first entry of each name is at the place that is told of it
 abbrev pub IsPlaced : (List (List ℕ) → Bool) → MemberLines → Type 0
-IsPlaced test held = (name : List ℕ) → place_told held name ≡ place_of test name (lines_held held)
+IsPlaced test held = (name : List ℕ) → place_found held name ≡ place_of test name (lines_held held)
 
 -- no line has a line end in it, so that their text has these lines
 abbrev pub AreLines : List (List ℕ) → Type 0

@@ -6,7 +6,7 @@ use Rattle.pv_accounts.specs.InUse.{Ids, ids_of}
 use Rattle.pv_requests.specs.declared.request.Request.{Request}
 use Rattle.pv_text.specs.declared.place.Place.{Place}
 use Rattle.pv_sysusers.specs.Groups.{NewGroups, decided_groups}
-use Rattle.pv_sysusers.specs.Lines.{Line, counting, lines_from, said_duplicates}
+use Rattle.pv_sysusers.specs.Lines.{Line, counting, lines_from, duplicate_messages}
 use Rattle.pv_sysusers.specs.Needs.{accounts_of, fixed_for, fixed_numbers, is_made, needs_of}
 use Rattle.pv_sysusers.specs.Pools.{is_pooled, range_of}
 use Rattle.pv_sysusers.specs.Texts.{group_text, gshadow_text, membership_of, passwd_text, shadow_text}
@@ -28,18 +28,18 @@ pub record AccountFiles : Type 0 where
 pub record Numbers : Type 0 where
   pub groups : Ids
   pub users : List NewUser
-  pub said : List (List ℕ)
+  pub new_messages : List (List ℕ)
   pub lacking : Option (List ℕ)
 
 -- the new users after new groups
 abbrev pub with_users : NewGroups → NewUsers → Numbers
-with_users groups users = record { groups = groups.made; users = users.made; said = groups.said ++ users.said; lacking = users.lacking }
+with_users groups users = record { groups = groups.made; users = users.made; new_messages = groups.new_messages ++ users.new_messages; lacking = users.lacking }
 
 -- all groups are decided first, and then the users by the groups that are there then; where no number was left for a
 -- group no user is decided
 abbrev pub numbers_or : NewGroups → Numbers → Option (List ℕ) → Numbers
 numbers_or new whole None = whole
-numbers_or new whole (Some name) = record { groups = new.made; users = []; said = new.said; lacking = Some name }
+numbers_or new whole (Some name) = record { groups = new.made; users = []; new_messages = new.new_messages; lacking = Some name }
 
 abbrev pub numbers_after : (ℕ → Bool) → Ids → Ids → List Account → NewGroups → Numbers
 numbers_after pooled users groups accounts new =
@@ -80,7 +80,7 @@ texts_of files lines day numbers =
 
 -- what a run says, and its texts, or the name for which no number was left
 pub record Planned : Type 0 where
-  pub said : List (List ℕ)
+  pub new_messages : List (List ℕ)
   pub texts : Result Texts (List ℕ)
 
 -- the texts, or the name for which no number was left
@@ -90,7 +90,7 @@ texts_or texts (Some name) = Err name
 
 -- a plan by its numbers
 abbrev pub plan_by : AccountFiles → List Line → ℕ → Numbers → Planned
-plan_by files lines day numbers = record { said = numbers.said; texts = texts_or (texts_of files lines day numbers) numbers.lacking }
+plan_by files lines day numbers = record { new_messages = numbers.new_messages; texts = texts_or (texts_of files lines day numbers) numbers.lacking }
 
 -- the plan of lines that count
 abbrev pub plan_of : AccountFiles → List Line → ℕ → Planned
@@ -100,6 +100,6 @@ plan_of files lines day = plan_by files lines day (numbers_of files lines)
 -- lines that come again comes first
 abbrev pub planned : List Request → List (Option PathId) → AccountFiles → ℕ → Planned
 planned requests taken files day = record {
-  said = said_duplicates [] (lines_from taken 0 requests) ++ (plan_of files (counting [] (lines_from taken 0 requests)) day).said;
+  new_messages = duplicate_messages [] (lines_from taken 0 requests) ++ (plan_of files (counting [] (lines_from taken 0 requests)) day).new_messages;
   texts = (plan_of files (counting [] (lines_from taken 0 requests)) day).texts;
 }

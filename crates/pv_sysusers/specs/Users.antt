@@ -25,10 +25,10 @@ abbrev pub user_choice : (ℕ → Bool) → Ids → Ids → Account → Choice
 user_choice pooled users groups account = by account.uid
   where
     by : Option ℕ → Choice
-    by None = record { number = group_or_free pooled users groups account.name; said = [] }
+    by None = record { number = group_or_free pooled users groups account.name; new_messages = [] }
     by (Some n) =
-        if is_free_for users groups account.name n then record { number = Some n; said = [] }
-        else record { number = group_or_free pooled users groups account.name; said = in_use_message account.place n account.name ∷ [] }
+        if is_free_for users groups account.name n then record { number = Some n; new_messages = [] }
+        else record { number = group_or_free pooled users groups account.name; new_messages = in_use_message account.place n account.name ∷ [] }
 
 -- the number of the primary group, which was decided before
 abbrev pub gid_of : Ids → List ℕ → Main → ℕ
@@ -39,16 +39,16 @@ gid_of groups name (main.Named group) = unwrap_or (id_of groups group) 0
 -- the new users, what is said, and the user for whom no number was left
 pub record NewUsers : Type 0 where
   pub made : List NewUser
-  pub said : List (List ℕ)
+  pub new_messages : List (List ℕ)
   pub lacking : Option (List ℕ)
 
 -- nothing is left to be decided
 abbrev pub no_users : NewUsers
-no_users = record { made = []; said = []; lacking = None }
+no_users = record { made = []; new_messages = []; lacking = None }
 
 -- a user, and then others
 abbrev pub user_first : NewUser → List (List ℕ) → NewUsers → NewUsers
-user_first user said rest = record { made = user ∷ rest.made; said = said ++ rest.said; lacking = rest.lacking }
+user_first user new_messages rest = record { made = user ∷ rest.made; new_messages = new_messages ++ rest.new_messages; lacking = rest.lacking }
 
 -- a new user with his numbers
 abbrev pub new_user : Ids → Account → ℕ → NewUser
@@ -59,8 +59,8 @@ abbrev pub user_chosen : Ids → Account → Choice → (ℕ → NewUsers) → N
 user_chosen groups account choice rest = by choice.number
   where
     by : Option ℕ → NewUsers
-    by (Some n) = user_first (new_user groups account n) choice.said (rest n)
-    by None = record { made = []; said = choice.said; lacking = Some account.name }
+    by (Some n) = user_first (new_user groups account n) choice.new_messages (rest n)
+    by None = record { made = []; new_messages = choice.new_messages; lacking = Some account.name }
 
 -- the users that lines need, decided in order: one that is there stays as he is
 abbrev pub decided_users : (ℕ → Bool) → Ids → Ids → List Account → NewUsers

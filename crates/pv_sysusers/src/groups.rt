@@ -1,7 +1,7 @@
 //! The numbers of new groups.
 ghost use Rattle.std.specs.Prelude.{◌≡◌, [], ◌∷◌, ◌++◌, None, Some, IfOk, IfErr, OnOk};
 ghost use Rattle.pv_accounts.specs.InUse.{id_of};
-ghost use Rattle.pv_sysusers.specs.Deciding.{IsMade, IsStocked, Lacks, Told, ToldBy, fixed_by, group_choice_by, groups_by};
+ghost use Rattle.pv_sysusers.specs.Deciding.{IsMade, IsStocked, Lacks, UnlessMemory, UnlessMemoryBy, fixed_by, group_choice_by, groups_by};
 ghost use Rattle.pv_sysusers.specs.Groups.{in_use_message};
 
 use crate::fixed::{Fixed, fixed_in};
@@ -28,15 +28,15 @@ pub(crate) fn say_in_use(
     place: &Place,
     n: u32,
     name: &[u8],
-    said: &mut Messages,
+    new_messages: &mut Messages,
 ) -> Result<(), AllocError>
-    ensures { OnOk result (said.new ≡ said.old ++ in_use_message place.now n name.now ∷ []) }
+    ensures { OnOk result (new_messages.new ≡ new_messages.old ++ in_use_message place.now n name.now ∷ []) }
 {
     let number = n.to_string(alloc)?;
     let mut text = Vec::from_slice(alloc, number.as_bytes())?;
     text.extend_from_slice(b" is in use for ")?;
     add_printed(&mut text, name)?;
-    said.push_at(place, &text)
+    new_messages.push_at(place, &text)
 }
 
 /// The number that a line fixes for a group, where the group may get it, or else the next one of the pool.
@@ -45,18 +45,18 @@ fn fixed_or_next(
     supply: &Supply<'_>,
     name: &[u8],
     fixed: (u32, &Place),
-    said: &mut Messages,
+    new_messages: &mut Messages,
 ) -> Result<Option<u32>, AllocError>
     requires { IsStocked supply.now }
     ensures number { let choice = group_choice_by supply.now name.now (Some (fixed.entry.0, fixed.entry.1.now)) in
         IfOk result (λ found. found ≡ choice.number) }
-    ensures said { let choice = group_choice_by supply.now name.now (Some (fixed.entry.0, fixed.entry.1.now)) in
-        OnOk result (said.new ≡ said.old ++ choice.said) }
+    ensures new_messages { let choice = group_choice_by supply.now name.now (Some (fixed.entry.0, fixed.entry.1.now)) in
+        OnOk result (new_messages.new ≡ new_messages.old ++ choice.new_messages) }
 {
     let (n, place) = fixed;
     let other = supply.users.is_held_beside(n, name);
     if supply.groups.is_held(n) || other {
-        say_in_use(alloc, place, n, name, said)?;
+        say_in_use(alloc, place, n, name, new_messages)?;
         Ok(supply.stock.next)
     } else {
         Ok(Some(n))
@@ -69,16 +69,16 @@ fn group_number(
     supply: &Supply<'_>,
     fixed: &Fixed<'_>,
     name: &[u8],
-    said: &mut Messages,
+    new_messages: &mut Messages,
 ) -> Result<Option<u32>, AllocError>
     requires { IsStocked supply.now }
     ensures number { let choice = group_choice_by supply.now name.now (fixed_by fixed.now name.now) in
         IfOk result (λ found. found ≡ choice.number) }
-    ensures said { let choice = group_choice_by supply.now name.now (fixed_by fixed.now name.now) in
-        OnOk result (said.new ≡ said.old ++ choice.said) }
+    ensures new_messages { let choice = group_choice_by supply.now name.now (fixed_by fixed.now name.now) in
+        OnOk result (new_messages.new ≡ new_messages.old ++ choice.new_messages) }
 {
     match fixed.of(name) {
-        Some(fixed) => fixed_or_next(alloc, supply, name, fixed, said),
+        Some(fixed) => fixed_or_next(alloc, supply, name, fixed, new_messages),
         None => Ok(supply.stock.next),
     }
 }
@@ -111,18 +111,18 @@ fn needed_number(
     supply: &Supply<'_>,
     fixed: &Fixed<'_>,
     name: &Bytes,
-    said: &mut Messages,
+    new_messages: &mut Messages,
 ) -> Result<u32, PlanFault>
     requires { IsStocked supply.now }
     ensures number { let choice = group_choice_by supply.now name.now (fixed_by fixed.now name.now) in
         IfOk result (λ n. Some n ≡ choice.number) }
     ensures none { let choice = group_choice_by supply.now name.now (fixed_by fixed.now name.now) in
-        IfErr result (λ fault. ToldBy fault (None ≡ choice.number)) }
+        IfErr result (λ fault. UnlessMemoryBy fault (None ≡ choice.number)) }
     ensures lacking { IfErr result (Lacks (Some name.now)) }
-    ensures said { let choice = group_choice_by supply.now name.now (fixed_by fixed.now name.now) in
-        Told result (said.new ≡ said.old ++ choice.said) }
+    ensures new_messages { let choice = group_choice_by supply.now name.now (fixed_by fixed.now name.now) in
+        UnlessMemory result (new_messages.new ≡ new_messages.old ++ choice.new_messages) }
 {
-    match group_number(alloc, supply, fixed, name.as_slice(), said)? {
+    match group_number(alloc, supply, fixed, name.as_slice(), new_messages)? {
         Some(n) => Ok(n),
         None => Err(PlanFault::NoFreeId(name.copy()?)),
     }
@@ -134,14 +134,14 @@ pub(crate) fn decided_groups<'a>(
     wanted: &'a Wanted,
     users: &InUse<'_>,
     groups: InUse<'a>,
-    said: &mut Messages,
+    new_messages: &mut Messages,
 ) -> Result<Groups<'a>, PlanFault>
     ensures made { let decided = groups_by wanted.entry.now users.now groups.entry in
         IfOk result (IsMade decided groups.entry) }
     ensures lacking { let decided = groups_by wanted.entry.now users.now groups.entry in
         IfErr result (Lacks decided.lacking) }
-    ensures said { let decided = groups_by wanted.entry.now users.now groups.entry in
-        Told result (said.new ≡ said.old ++ decided.said) }
+    ensures new_messages { let decided = groups_by wanted.entry.now users.now groups.entry in
+        UnlessMemory result (new_messages.new ≡ new_messages.old ++ decided.new_messages) }
 {
     let fixed = fixed_in(alloc, &wanted.needs)?;
     let mut groups = Groups {
@@ -158,7 +158,7 @@ pub(crate) fn decided_groups<'a>(
             users: &*users,
             groups: &groups.all,
         };
-        let n = needed_number(alloc, &supply, &fixed, &need.name, said)?;
+        let n = needed_number(alloc, &supply, &fixed, &need.name, new_messages)?;
         groups = groups.with(&need.name, n)?;
         stock = stock.further(users, &groups.all);
     }

@@ -1,7 +1,7 @@
 //! The lines that count, and what is said of those that do not.
 ghost use Rattle.std.specs.Prelude.{◌≡◌, [], ◌++◌, ◌∷◌, None, Some, IfOk, OnOk};
 ghost use Rattle.std.specs.Option.{option_map};
-ghost use Rattle.pv_sysusers.specs.Lines.{counting, duplicate_message, first_user, lines_from, owners_at, place_of, said_again, said_duplicates, user_of, with_counting};
+ghost use Rattle.pv_sysusers.specs.Lines.{counting, duplicate_message, first_user, lines_from, owners_at, place_of, messages_again, duplicate_messages, user_of, with_counting};
 ghost use Rattle.pv_sysusers.specs.Shown.{IsIndexed, shown, shown_line};
 
 use crate::path_ids::{PathId, PathIds};
@@ -60,13 +60,13 @@ fn say_duplicate(
     alloc: Global,
     line: &Request,
     name: &[u8],
-    said: &mut Messages,
+    new_messages: &mut Messages,
 ) -> Result<(), AllocError>
-    ensures { OnOk result (said.new ≡ said.old ++ duplicate_message (place_of line.now) name.now ∷ []) }
+    ensures { OnOk result (new_messages.new ≡ new_messages.old ++ duplicate_message (place_of line.now) name.now ∷ []) }
 {
     let mut text = Vec::from_slice(alloc, b"duplicate line for ")?;
     add_printed(&mut text, name)?;
-    said.push_at(place_of(line), &text)
+    new_messages.push_at(place_of(line), &text)
 }
 
 impl<'a> Lines<'a> {
@@ -114,11 +114,16 @@ impl<'a> Lines<'a> {
     }
 
     /// Adds a line, where it counts; says where it does not and differs from the one that does.
-    fn add(&mut self, alloc: Global, line: Line<'a>, said: &mut Messages) -> Result<(), AllocError>
+    fn add(
+        &mut self,
+        alloc: Global,
+        line: Line<'a>,
+        new_messages: &mut Messages,
+    ) -> Result<(), AllocError>
         requires { IsIndexed self.old }
         ensures kept { OnOk result (shown self.new.kept.items ≡ with_counting (shown self.old.kept.items) (shown_line line.entry)) }
         ensures index { OnOk result (IsIndexed self.new) }
-        ensures said { OnOk result (said.new ≡ said.old ++ said_again (shown self.old.kept.items) (shown_line line.entry)) }
+        ensures new_messages { OnOk result (new_messages.new ≡ new_messages.old ++ messages_again (shown self.old.kept.items) (shown_line line.entry)) }
     {
         let Some(name) = user_of(line.0) else {
             return self.add_other(line);
@@ -127,26 +132,26 @@ impl<'a> Lines<'a> {
             return self.add_user(name, line);
         };
         if !is_same_user(first, line.0) {
-            say_duplicate(alloc, line.0, name, said)?;
+            say_duplicate(alloc, line.0, name, new_messages)?;
         }
         Ok(())
     }
 }
 
 /// The lines of requests that count, and what is said of those that do not.
-pub(crate) fn counted<'a>(
+pub(crate) fn effective_lines<'a>(
     alloc: Global,
     requests: &'a RequestList,
     taken: &PathIds,
-    said: &mut Messages,
+    new_messages: &mut Messages,
 ) -> Result<Lines<'a>, AllocError>
     ensures kept { IfOk result (λ lines. shown lines.kept.items ≡ counting [] (lines_from taken.now 0 requests.entry.now)) }
     ensures index { IfOk result IsIndexed }
-    ensures said { OnOk result (said.new ≡ said.old ++ said_duplicates [] (lines_from taken.now 0 requests.entry.now)) }
+    ensures new_messages { OnOk result (new_messages.new ≡ new_messages.old ++ duplicate_messages [] (lines_from taken.now 0 requests.entry.now)) }
 {
     let mut lines = Lines::new(alloc);
     for (i, request) in requests.as_slice().iter().enumerate() {
-        lines.add(alloc, (request, owners_at(taken, i)), said)?;
+        lines.add(alloc, (request, owners_at(taken, i)), new_messages)?;
     }
     Ok(lines)
 }

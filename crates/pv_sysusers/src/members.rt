@@ -7,7 +7,7 @@ ghost use Rattle.pv_accounts.specs.Edits.{lacks_end, text_of, with_member};
 ghost use Rattle.pv_accounts.specs.Files.{lines_of};
 ghost use Rattle.pv_accounts.specs.Kinds.{has_members, is_entry_named, test_of};
 ghost use Rattle.pv_requests.specs.Names.{is_account_name};
-ghost use Rattle.pv_sysusers.specs.Members.{AreLines, IsPlaced, are_accounts, lines_held, pairs_of, place_of, place_told};
+ghost use Rattle.pv_sysusers.specs.Members.{AreLines, IsPlaced, are_accounts, lines_held, pairs_of, place_of, place_found};
 ghost use Rattle.pv_sysusers.specs.Shown.{shown, shown_line};
 ghost use Rattle.pv_sysusers.specs.Texts.{membership_of, with_memberships};
 
@@ -45,7 +45,7 @@ impl<'a> MemberLines<'a> {
     /// No lines.
     fn new(alloc: Global) -> Self
         ensures lines { lines_held result ≡ [] }
-        ensures places { (name : List ℕ) → place_told result name ≡ None }
+        ensures places { (name : List ℕ) → place_found result name ≡ None }
     {
         MemberLines {
             lines: Vec::new(alloc),
@@ -55,7 +55,7 @@ impl<'a> MemberLines<'a> {
 
     /// The place of the first entry of a name.
     fn place(&self, name: &[u8]) -> Option<usize>
-        ensures { result ≡ place_told self.now name.now }
+        ensures { result ≡ place_found self.now name.now }
     {
         self.places.get(name).copied()
     }
@@ -63,7 +63,7 @@ impl<'a> MemberLines<'a> {
     /// Notes the place of a name, where none is known.
     fn note(&mut self, name: &'a [u8], at: usize) -> Result<(), AllocError>
         ensures places { OnOk result ((other : List ℕ) →
-            place_told self.new other ≡ option_or (place_told self.old other) (cond (bytes_eq name.entry.now other) (Some at) None)) }
+            place_found self.new other ≡ option_or (place_found self.old other) (cond (bytes_eq name.entry.now other) (Some at) None)) }
         ensures lines { self.new.lines ≡ self.old.lines }
     {
         match self.place(name) {
@@ -79,8 +79,8 @@ impl<'a> MemberLines<'a> {
     fn note_line(&mut self, kind: Kind, line: &'a [u8], at: usize) -> Result<(), AllocError>
         requires members { has_members kind ≡ true }
         requires whole { lacks_end line.now ≡ true }
-        ensures places { OnOk result ((name : List ℕ) → place_told self.new name
-            ≡ option_or (place_told self.old name) (cond (is_entry_named (test_of kind) name line.entry.now) (Some at) None)) }
+        ensures places { OnOk result ((name : List ℕ) → place_found self.new name
+            ≡ option_or (place_found self.old name) (cond (is_entry_named (test_of kind) name line.entry.now) (Some at) None)) }
         ensures lines { self.new.lines ≡ self.old.lines }
     {
         match name_in(kind, line) {

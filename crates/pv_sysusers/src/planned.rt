@@ -1,16 +1,16 @@
 //! The plan of a run: the texts of the account files.
 ghost use Rattle.std.specs.Prelude.{◌≡◌, ◌++◌, [], Ok, option_map, slice_get, IfOk, IfErr, OnOk, OnErr};
 ghost use Rattle.std.specs.List.{flat_map};
-ghost use Rattle.pv_text.specs.Said.{SaidPart};
-ghost use Rattle.pv_sysusers.specs.Deciding.{Lacks, Told};
+ghost use Rattle.pv_text.specs.GivenMessages.{MessagesPart};
+ghost use Rattle.pv_sysusers.specs.Deciding.{Lacks, UnlessMemory};
 ghost use Rattle.pv_sysusers.specs.Texts.{gshadow_text, membership_of};
-ghost use Rattle.pv_sysusers.specs.Lines.{lines_from, said_duplicates};
+ghost use Rattle.pv_sysusers.specs.Lines.{lines_from, duplicate_messages};
 ghost use Rattle.pv_sysusers.specs.Plans.{plan_of, planned, texts_by};
 ghost use Rattle.pv_sysusers.specs.Planning.{AreNumbers, Misses, files_of, numbers_in};
 ghost use Rattle.pv_sysusers.specs.Shown.{IsIndexed, shown};
 
 use crate::groups::decided_groups;
-use crate::lines::{Line, Lines, counted};
+use crate::lines::{Line, Lines, effective_lines};
 use crate::needs::Need;
 use crate::path_ids::PathIds;
 use crate::plan_fault::PlanFault;
@@ -60,14 +60,14 @@ fn decided_numbers(
     wanted: &Wanted,
     users: InUse<'_>,
     groups: InUse<'_>,
-    said: &mut Messages,
+    new_messages: &mut Messages,
 ) -> Result<Numbers, PlanFault>
     ensures made { IfOk result (AreNumbers (numbers_in wanted.now users.entry groups.entry)) }
     ensures lacking { IfErr result (Lacks (numbers_in wanted.now users.entry groups.entry).lacking) }
-    ensures said { Told result (said.new ≡ said.old ++ (numbers_in wanted.now users.entry groups.entry).said) }
+    ensures new_messages { UnlessMemory result (new_messages.new ≡ new_messages.old ++ (numbers_in wanted.now users.entry groups.entry).new_messages) }
 {
-    let groups = decided_groups(alloc, wanted, &users, groups, said)?;
-    let users = decided_users(alloc, wanted, &groups.all, users, said)?;
+    let groups = decided_groups(alloc, wanted, &users, groups, new_messages)?;
+    let users = decided_users(alloc, wanted, &groups.all, users, new_messages)?;
     Ok(Numbers {
         groups: groups.made,
         users,
@@ -116,20 +116,20 @@ fn plan_of(
     files: &AccountFiles<'_>,
     lines: &Lines<'_>,
     day: u64,
-    said: &mut Messages,
+    new_messages: &mut Messages,
 ) -> Result<Texts, PlanFault>
     requires { IsIndexed lines.now }
     ensures texts { let plan = plan_of (files_of files.now) (shown lines.now.kept.items) day in
         IfOk result (λ texts. plan.texts ≡ Ok texts) }
     ensures lacking { let plan = plan_of (files_of files.now) (shown lines.now.kept.items) day in
         IfErr result (Misses plan.texts) }
-    ensures said { let plan = plan_of (files_of files.now) (shown lines.now.kept.items) day in
-        Told result (said.new ≡ said.old ++ plan.said) }
+    ensures new_messages { let plan = plan_of (files_of files.now) (shown lines.now.kept.items) day in
+        UnlessMemory result (new_messages.new ≡ new_messages.old ++ plan.new_messages) }
 {
     let users = InUse::of(alloc, Kind::Passwd, files.passwd)?;
     let wanted = wanted_by(alloc, &users, lines)?;
     let groups = InUse::of(alloc, Kind::Group, files.group)?;
-    let numbers = decided_numbers(alloc, &wanted, users, groups, said)?;
+    let numbers = decided_numbers(alloc, &wanted, users, groups, new_messages)?;
     let texts = texts_by(alloc, files, &wanted.needs, &lines.kept, day, &numbers)?;
     Ok(texts)
 }
@@ -141,26 +141,26 @@ fn planned_texts(
     taken: &PathIds,
     files: &AccountFiles<'_>,
     day: u64,
-    said: &mut Messages,
+    new_messages: &mut Messages,
 ) -> Result<Texts, PlanFault>
     ensures texts { let plan = planned requests.now taken.now (files_of files.now) day in
         IfOk result (λ texts. plan.texts ≡ Ok texts) }
     ensures lacking { let plan = planned requests.now taken.now (files_of files.now) day in
         IfErr result (Misses plan.texts) }
-    ensures said { let plan = planned requests.now taken.now (files_of files.now) day in
-        Told result (said.new ≡ said.old ++ plan.said) }
+    ensures new_messages { let plan = planned requests.now taken.now (files_of files.now) day in
+        UnlessMemory result (new_messages.new ≡ new_messages.old ++ plan.new_messages) }
 {
-    let lines = counted(alloc, requests, taken, said)?;
-    plan_of(alloc, files, &lines, day, said)
+    let lines = effective_lines(alloc, requests, taken, new_messages)?;
+    plan_of(alloc, files, &lines, day, new_messages)
 }
 
 /// What is said of lines that come again (sysusers.d(5)).
 pub fn duplicates(alloc: Global, requests: &RequestList) -> Result<Messages, AllocError>
-    ensures { IfOk result (λ said. said ≡ said_duplicates [] (lines_from [] 0 requests.now)) }
+    ensures { IfOk result (λ new_messages. new_messages ≡ duplicate_messages [] (lines_from [] 0 requests.now)) }
 {
-    let mut said = Messages::new(alloc);
-    let _lines = counted(alloc, requests, &PathIds::new(alloc), &mut said)?;
-    Ok(said)
+    let mut new_messages = Messages::new(alloc);
+    let _lines = effective_lines(alloc, requests, &PathIds::new(alloc), &mut new_messages)?;
+    Ok(new_messages)
 }
 
 /// What a run makes of the account files, by its requests, the owners of the objects at their paths and the day: the
@@ -179,19 +179,19 @@ pub fn plan(
         IfOk result (λ texts. plan.texts ≡ Ok texts) }
     ensures lacking { let plan = planned requests.now taken.now (files_of files.now) day in
         IfErr result (Misses plan.texts) }
-    ensures said { let plan = planned requests.now taken.now (files_of files.now) day in
-        Told result (messages.new ≡ messages.old ++ plan.said) }
+    ensures new_messages { let plan = planned requests.now taken.now (files_of files.now) day in
+        UnlessMemory result (messages.new ≡ messages.old ++ plan.new_messages) }
     ensures part { let plan = planned requests.now taken.now (files_of files.now) day in
-        SaidPart plan.said messages.old messages.new }
+        MessagesPart plan.new_messages messages.old messages.new }
 {
-    let mut said = Messages::new(alloc);
-    match planned_texts(alloc, requests, taken, files, day, &mut said) {
+    let mut new_messages = Messages::new(alloc);
+    match planned_texts(alloc, requests, taken, files, day, &mut new_messages) {
         Ok(texts) => {
-            say_all(&said, messages)?;
+            say_all(&new_messages, messages)?;
             Ok(texts)
         }
         Err(PlanFault::NoFreeId(name)) => {
-            say_all(&said, messages)?;
+            say_all(&new_messages, messages)?;
             Err(PlanFault::NoFreeId(name))
         }
         Err(PlanFault::Memory) => Err(PlanFault::Memory),

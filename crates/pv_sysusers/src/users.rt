@@ -1,7 +1,7 @@
 //! The numbers of new users.
 ghost use Rattle.std.specs.Prelude.{◌≡◌, [], ◌∷◌, ◌++◌, None, Some, IfOk, IfErr, OnOk};
 ghost use Rattle.pv_accounts.specs.InUse.{id_of};
-ghost use Rattle.pv_sysusers.specs.Deciding.{AreMade, IsStocked, Lacks, Told, ToldBy, pooled_by, user_choice_by, users_by};
+ghost use Rattle.pv_sysusers.specs.Deciding.{AreMade, IsStocked, Lacks, UnlessMemory, UnlessMemoryBy, pooled_by, user_choice_by, users_by};
 ghost use Rattle.pv_sysusers.specs.Users.{gid_of, group_or_free, is_free_for, new_user};
 
 use crate::groups::say_in_use;
@@ -48,13 +48,13 @@ fn user_number(
     alloc: Global,
     supply: &Supply<'_>,
     account: &Account,
-    said: &mut Messages,
+    new_messages: &mut Messages,
 ) -> Result<Option<u32>, AllocError>
     requires { IsStocked supply.now }
     ensures number { let choice = user_choice_by supply.now account.now in
         IfOk result (λ n. n ≡ choice.number) }
-    ensures said { let choice = user_choice_by supply.now account.now in
-        OnOk result (said.new ≡ said.old ++ choice.said) }
+    ensures new_messages { let choice = user_choice_by supply.now account.now in
+        OnOk result (new_messages.new ≡ new_messages.old ++ choice.new_messages) }
 {
     let name = account.name.as_slice();
     let Some(n) = account.uid else {
@@ -63,7 +63,7 @@ fn user_number(
     if is_free_for(supply.users, supply.groups, name, n) {
         return Ok(Some(n));
     }
-    say_in_use(alloc, &account.place, n, name, said)?;
+    say_in_use(alloc, &account.place, n, name, new_messages)?;
     Ok(group_or_next(supply, name))
 }
 
@@ -121,18 +121,18 @@ fn needed_number(
     alloc: Global,
     supply: &Supply<'_>,
     account: &Account,
-    said: &mut Messages,
+    new_messages: &mut Messages,
 ) -> Result<u32, PlanFault>
     requires { IsStocked supply.now }
     ensures number { let choice = user_choice_by supply.now account.now in
         IfOk result (λ n. Some n ≡ choice.number) }
     ensures none { let choice = user_choice_by supply.now account.now in
-        IfErr result (λ fault. ToldBy fault (None ≡ choice.number)) }
+        IfErr result (λ fault. UnlessMemoryBy fault (None ≡ choice.number)) }
     ensures lacking { IfErr result (Lacks (Some account.now.name)) }
-    ensures said { let choice = user_choice_by supply.now account.now in
-        Told result (said.new ≡ said.old ++ choice.said) }
+    ensures new_messages { let choice = user_choice_by supply.now account.now in
+        UnlessMemory result (new_messages.new ≡ new_messages.old ++ choice.new_messages) }
 {
-    match user_number(alloc, supply, account, said)? {
+    match user_number(alloc, supply, account, new_messages)? {
         Some(n) => Ok(n),
         None => Err(PlanFault::NoFreeId(account.name.copy()?)),
     }
@@ -144,14 +144,14 @@ pub(crate) fn decided_users<'a>(
     wanted: &'a Wanted,
     groups: &InUse<'_>,
     users: InUse<'a>,
-    said: &mut Messages,
+    new_messages: &mut Messages,
 ) -> Result<Vec<NewUser>, PlanFault>
     ensures made { let decided = users_by wanted.entry.now groups.now users.entry in
         IfOk result (λ made. AreMade decided made.items) }
     ensures lacking { let decided = users_by wanted.entry.now groups.now users.entry in
         IfErr result (Lacks decided.lacking) }
-    ensures said { let decided = users_by wanted.entry.now groups.now users.entry in
-        Told result (said.new ≡ said.old ++ decided.said) }
+    ensures new_messages { let decided = users_by wanted.entry.now groups.now users.entry in
+        UnlessMemory result (new_messages.new ≡ new_messages.old ++ decided.new_messages) }
 {
     let mut users = Users {
         all: users,
@@ -167,7 +167,7 @@ pub(crate) fn decided_users<'a>(
             users: &users.all,
             groups: &*groups,
         };
-        let uid = needed_number(alloc, &supply, account, said)?;
+        let uid = needed_number(alloc, &supply, account, new_messages)?;
         users = users.with(groups, account, uid)?;
         stock = stock.further(&users.all, groups);
     }

@@ -2,8 +2,8 @@
 use Rattle.std.specs.Prelude.{◌≡◌, ℕ, true, List, [], ◌∷◌, ◌++◌, map, filter_map, Option, Some, None, is_some, option_map}
 use Rattle.std.proofs.Common.{refl, sym, ap, subst, ◌∙◌, inl, inr, append-nil}
 use Rattle.std.specs.FinMap as fin
-use Rattle.pv_dress.specs.declared.bare.Bare.{Bare}
-use Rattle.pv_dress.specs.declared.operation.Operation.{Operation}
+use Rattle.pv_metadata.specs.declared.object_state.ObjectState.{ObjectState}
+use Rattle.pv_metadata.specs.declared.operation.Operation.{Operation}
 use Rattle.pv_path.specs.Paths.{Path, rest_under}
 use Rattle.pv_path.proofs.PathLaws.{rest_under-Some}
 use Rattle.pv_steps.specs.Steps.{on_at}
@@ -13,10 +13,10 @@ use Rattle.pv_walk.specs.Copying.{Subtree, object_of, standing, with_subtree, si
 use Rattle.pv_walk.specs.Preparing.{parents_of, prepared}
 use Rattle.pv_walk.proofs.CopiedLaws.{among_copied, copied_stands}
 use Rattle.pv_walk.proofs.PreparedLaws.{among_first, prepared_present}
-use Rattle.pv_table.specs.declared.deed.Copying.{Copying}
-use Rattle.pv_table.specs.declared.deed.Deed.{Deed}
-use Rattle.pv_table.specs.declared.deed.Deed.TheVariants.{Create, Copy}
-use Rattle.pv_table.specs.declared.deed.Making.{Making}
+use Rattle.pv_table.specs.declared.action.Copying.{Copying}
+use Rattle.pv_table.specs.declared.action.Action.{Action}
+use Rattle.pv_table.specs.declared.action.Action.TheVariants.{Create, Copy}
+use Rattle.pv_table.specs.declared.action.Making.{Making}
 use Rattle.pv_table.specs.Effects.{become, prepare, put_paths, turned}
 use Rattle.pv_table.specs.Turns.{Turn, copy_of, topped_by, view_of}
 
@@ -46,36 +46,36 @@ copy_keyed copying path u rest h =
     later_among path (path ++ rest) (map (λ r. path ++ r) (filter_map (rest_under copying.source) (fin.keys u))) (
     among_copied copying.source path rest (fin.keys u) (among_keys u (copying.source ++ rest) ∙ copied_stands (topped_by copying) copying.source u rest h)))
 
-pub single_keyed : (making : Making) (path : Path) (u : Files) (b : Bare) (rest : Path) → is_some (single b rest) ≡ true → is_among (path ++ rest) (put_paths (Create making) path u ++ fin.keys u) ≡ true
+pub single_keyed : (making : Making) (path : Path) (u : Files) (b : ObjectState) (rest : Path) → is_some (single b rest) ≡ true → is_among (path ++ rest) (put_paths (Create making) path u ++ fin.keys u) ≡ true
 single_keyed making path u b [] h = subst (λ (q : Path). is_among q (path ∷ fin.keys u) ≡ true) (sym (append-nil path)) (among_first path (fin.keys u))
 single_keyed making path u b (name ∷ rest) h = cc
 
-module _ (now : ℕ) (deed : Deed) (path : Path) (u : Files) (subtree : Subtree) (keyed : (rest : Path) → is_some (subtree rest) ≡ true → is_among (path ++ rest) (put_paths deed path u ++ fin.keys u) ≡ true) where
-  some_object : (o : Option Bare) → is_some (option_map (object_of now) o) ≡ true → is_some o ≡ true
+module _ (now : ℕ) (action : Action) (path : Path) (u : Files) (subtree : Subtree) (keyed : (rest : Path) → is_some (subtree rest) ≡ true → is_among (path ++ rest) (put_paths action path u ++ fin.keys u) ≡ true) where
+  some_object : (o : Option ObjectState) → is_some (option_map (object_of now) o) ≡ true → is_some o ≡ true
   some_object None h = h
   some_object (Some b) h = h
 
-  put_key : (q : Path) → is_some (with_subtree now path subtree (places u) q) ≡ true → is_among q (put_paths deed path u ++ fin.keys u) ≡ true
+  put_key : (q : Path) → is_some (with_subtree now path subtree (places u) q) ≡ true → is_among q (put_paths action path u ++ fin.keys u) ≡ true
   put_key q h = by (rest_under path q) refl (sym (is_some-touched now path (λ q. standing now subtree (places u q) (rest_under path q)) q) ∙ h)
     where
-      by : (r : Option Path) → rest_under path q ≡ r → is_some (standing now subtree (places u q) r) ≡ true → is_among q (put_paths deed path u ++ fin.keys u) ≡ true
-      by None e g = among_right q (put_paths deed path u) (fin.keys u) (among_keys u q ∙ g)
-      by (Some rest) e g = subst (λ (r : Path). is_among r (put_paths deed path u ++ fin.keys u) ≡ true) (sym (rest_under-Some path q rest e)) (keyed rest (some_object (subtree rest) g))
+      by : (r : Option Path) → rest_under path q ≡ r → is_some (standing now subtree (places u q) r) ≡ true → is_among q (put_paths action path u ++ fin.keys u) ≡ true
+      by None e g = among_right q (put_paths action path u) (fin.keys u) (among_keys u q ∙ g)
+      by (Some rest) e g = subst (λ (r : Path). is_among r (put_paths action path u ++ fin.keys u) ≡ true) (sym (rest_under-Some path q rest e)) (keyed rest (some_object (subtree rest) g))
 
-  pub place-put : (q : Path) → places (turned now deed path (Turn.Put subtree) u) q ≡ with_subtree now path subtree (places u) q
-  place-put q = places-tabulate (put_paths deed path u ++ fin.keys u) (with_subtree now path subtree (places u)) q (put_key q)
+  pub place-put : (q : Path) → places (turned now action path (Turn.Put subtree) u) q ≡ with_subtree now path subtree (places u) q
+  place-put q = places-tabulate (put_paths action path u ++ fin.keys u) (with_subtree now path subtree (places u)) q (put_key q)
 
   -- a tree that has what is put is the tree after the turn
-  pub put_is : (v : Files) → places v ≡ with_subtree now path subtree (places u) → v ≡ turned now deed path (Turn.Put subtree) u
-  put_is v is = same_files v (turned now deed path (Turn.Put subtree) u) (λ q. ap (λ (x : Places). x q) is ∙ sym (place-put q))
+  pub put_is : (v : Files) → places v ≡ with_subtree now path subtree (places u) → v ≡ turned now action path (Turn.Put subtree) u
+  put_is v is = same_files v (turned now action path (Turn.Put subtree) u) (λ q. ap (λ (x : Places). x q) is ∙ sym (place-put q))
 
 -- ---- what is adjusted
 
-module _ (now : ℕ) (deed : Deed) (path : Path) (u : Files) (operations : List Operation) where
-  pub place-become : (q : Path) → places (turned now deed path (Turn.Become operations) u) q ≡ on_at path (become now operations) (places u) q
+module _ (now : ℕ) (action : Action) (path : Path) (u : Files) (operations : List Operation) where
+  pub place-become : (q : Path) → places (turned now action path (Turn.Become operations) u) q ≡ on_at path (become now operations) (places u) q
   place-become q = places-tabulate (fin.keys u) (on_at path (become now operations) (places u)) q
       (λ h. among_keys u q ∙ (sym (is_some-on_at path (become now operations) (places u) q) ∙ h))
 
   -- so with one that has what is adjusted
-  pub become_is : (v : Files) → places v ≡ on_at path (become now operations) (places u) → v ≡ turned now deed path (Turn.Become operations) u
-  become_is v is = same_files v (turned now deed path (Turn.Become operations) u) (λ q. ap (λ (x : Places). x q) is ∙ sym (place-become q))
+  pub become_is : (v : Files) → places v ≡ on_at path (become now operations) (places u) → v ≡ turned now action path (Turn.Become operations) u
+  become_is v is = same_files v (turned now action path (Turn.Become operations) u) (λ q. ap (λ (x : Places). x q) is ∙ sym (place-become q))

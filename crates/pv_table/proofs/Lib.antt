@@ -6,7 +6,7 @@ mod FirstLaws
 pub mod KeepLaws
 mod BuildLaws
 pub mod OrderLaws
-pub mod AskingLaws
+pub mod ActionLaws
 pub mod QuietLaws
 pub mod SayingLaws
 pub mod EffectLaws

@@ -5,7 +5,7 @@ use Rattle.std.proofs.Common.{zero, suc, refl, sym, ap, ◌∙◌, arith}
 use Rattle.std.specs.List.{enumerate_from, AllByRecursion}
 use Rattle.pv_path.specs.Paths.{same_path, is_prefix}
 use Rattle.pv_lines.specs.declared.line.Line.{Line}
-use Rattle.pv_table.specs.Active.{Listed, placed, is_touching, ordered, in_create_order}
+use Rattle.pv_table.specs.Active.{Listed, placed, is_adjusting_line, ordered, in_create_order}
 use Rattle.pv_table.specs.Reaching.{path_in, is_creating}
 use Rattle.pv_table.specs.Repeatable.{IsAt}
 
@@ -54,13 +54,13 @@ module _ (P : Listed → Type 0) where
 
   -- and those that adjust what is there
   abbrev pub adjusters : List Listed → List Listed
-  adjusters lines = filter (λ line. is_touching line.1) lines
+  adjusters lines = filter (λ line. is_adjusting_line line.1) lines
 
   pub all_makers : (lines : List Listed) → AllByRecursion P lines → AllByRecursion P (makers lines)
   all_makers lines h = all_folded (filter (λ line. is_creating line.1) lines) [] tt (all_filter P (λ line. is_creating line.1) lines h)
 
   pub all_ordered : (lines : List Listed) → AllByRecursion P lines → AllByRecursion P (ordered lines)
-  all_ordered lines h = all_append P (makers lines) (adjusters lines) (all_makers lines h) (all_filter P (λ line. is_touching line.1) lines h)
+  all_ordered lines h = all_append P (makers lines) (adjusters lines) (all_makers lines h) (all_filter P (λ line. is_adjusting_line line.1) lines h)
 
 -- each of them makes an object
 pub makers_create : (lines : List Listed) → AllByRecursion (λ (line : Listed). is_creating line.1 ≡ true) (fold placed [] (filter (λ line. is_creating line.1) lines))

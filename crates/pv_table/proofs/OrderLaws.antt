@@ -8,7 +8,7 @@ use Rattle.std.proofs.lemmas.Bool.{and_parts, and_from, not-true}
 use Rattle.pv_lines.specs.declared.line.Line.{Line}
 use Rattle.pv_path.specs.Paths.{Path, is_prefix, same_path, same_path-decides}
 use Rattle.pv_path.proofs.PathLaws.{is_prefix-antisym, is_prefix-trans}
-use Rattle.pv_table.specs.Active.{Listed, in_create_order, is_touching, placed}
+use Rattle.pv_table.specs.Active.{Listed, in_create_order, is_adjusting_line, placed}
 use Rattle.pv_table.specs.Orders.{AboveFirst, IsCreateOrder, lies_under}
 use Rattle.pv_table.specs.Reaching.{is_creating, path_in}
 
@@ -124,8 +124,8 @@ order_is_create_order lines =
     let permuted = IsPermutation-map (λ (line : Listed). line.1) made (fold placed [] made) (all_placed-permute [] made) in
     record {
       making = lines_of (fold placed [] made);
-      parts = lines_of-append (fold placed [] made) (filter (λ line. is_touching line.1) (enumerate_from 0 lines))
-          ∙ ap (λ (ls : List Line). lines_of (fold placed [] made) ++ ls) (lines_of-filter is_touching 0 lines);
+      parts = lines_of-append (fold placed [] made) (filter (λ line. is_adjusting_line line.1) (enumerate_from 0 lines))
+          ∙ ap (λ (ls : List Line). lines_of (fold placed [] made) ++ ls) (lines_of-filter is_adjusting_line 0 lines);
       each_once = rw (lines_of-filter is_creating 0 lines) at permuted;
       above_first = all_placed-above [] made tt;
     }

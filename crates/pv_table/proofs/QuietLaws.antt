@@ -7,34 +7,34 @@ use Rattle.std.specs.FinMap.Entries as entries
 use Rattle.std.specs.List.{filter_map, range_with_len}
 use Rattle.std.specs.Option.{option_map_or, option_or}
 use Rattle.std.specs.Ordering.{eq_by_cmp, is_lt}
-use Rattle.pv_dress.specs.declared.bare.Bare.{Bare}
-use Rattle.pv_dress.specs.declared.operation.Operation.{Operation}
-use Rattle.pv_dress.specs.Edits.{all_taken, cut, taken}
-use Rattle.pv_dress.specs.Nodes.{bare_of, bares_of}
-use Rattle.pv_dress.specs.Operations.{done}
+use Rattle.pv_metadata.specs.declared.object_state.ObjectState.{ObjectState}
+use Rattle.pv_metadata.specs.declared.operation.Operation.{Operation}
+use Rattle.pv_metadata.specs.Edits.{all_taken, cut, taken}
+use Rattle.pv_metadata.specs.Nodes.{object_state_of, object_states_of}
+use Rattle.pv_metadata.specs.Operations.{done}
 use Rattle.pv_lines.specs.declared.line.Line.{Line}
 use Rattle.pv_path.specs.Names.{same_bytes}
 use Rattle.pv_path.specs.Paths.{Path, is_prefix, path_cmp, path_exact, path_total, rest_under, same_path}
 use Rattle.pv_steps.specs.declared.object.Object.{Object}
 use Rattle.pv_steps.specs.declared.why.Why.{Why}
 use Rattle.pv_steps.specs.declared.why.Why.TheVariants.{UnsafeOwner}
-use Rattle.pv_steps.specs.Objects.{bare, changed, modified}
-use Rattle.pv_steps.specs.Refusal.{first_refused, is_unsafe, owner_at, refusal, why_blocked, why_refused}
-use Rattle.pv_steps.specs.Same.{bares}
+use Rattle.pv_steps.specs.Objects.{object_state, changed, modified}
+use Rattle.pv_steps.specs.Refusal.{first_refused, is_unsafe, owner_at, refusal, why_unsafe, why_refused}
+use Rattle.pv_steps.specs.Same.{object_states}
 use Rattle.pv_steps.specs.Steps.{made, on_at, put_at, touched}
 use Rattle.pv_steps.specs.Trees.{Files, Places, kind_of, places, tabulate, entries_at}
 use Rattle.pv_steps.proofs.StepLaws.{find-entries_at, is_among}
 use Rattle.pv_walk.specs.Copying.{object_of, standing, with_subtree, Subtree}
 use Rattle.pv_walk.specs.Preparing.{parent_file, parents_of, prepared, with_parent}
 use Rattle.pv_walk.specs.Staging.{new_object, staging_names}
-use Rattle.pv_table.specs.declared.deed.Deed.{Deed}
-use Rattle.pv_table.specs.declared.deed.Deed.TheVariants.{Create, Copy, Touch, Idle}
-use Rattle.pv_table.specs.declared.deed.Touching.{Touching}
+use Rattle.pv_table.specs.declared.action.Action.{Action}
+use Rattle.pv_table.specs.declared.action.Action.TheVariants.{Create, Copy, Adjust, Idle}
+use Rattle.pv_table.specs.declared.action.Adjustment.{Adjustment}
 use Rattle.pv_table.specs.Active.{in_create_order}
-use Rattle.pv_table.specs.Asking.{asks, id_for_new}
-use Rattle.pv_text.specs.Said.{said_at}
-use Rattle.pv_table.specs.Created.{Doing, IsQuiet, after_each, by_line, by_turn, created, created_messages, one_is_refused, said_of_each}
-use Rattle.pv_table.specs.Effects.{adjusted, as_bare, become, carried_out, is_touched, prepare, put_paths, restamped, same_bare, touch, turn_after, turned, turns}
+use Rattle.pv_table.specs.ActionTable.{action_of, id_for_new}
+use Rattle.pv_text.specs.GivenMessages.{message_text_at}
+use Rattle.pv_table.specs.Created.{Doing, IsQuiet, after_each, by_line, by_turn, created, created_messages, one_is_refused, messages_for_each}
+use Rattle.pv_table.specs.Effects.{adjusted, as_object_state, become, carried_out, is_adjusted, prepare, put_paths, restamped, same_object_state, adjust_at, turn_after, turned, turns}
 use Rattle.pv_table.specs.Reaching.{names, path_in}
 use Rattle.pv_table.specs.Saying.{found, refused_text, texts, turn_texts}
 use Rattle.pv_table.specs.Turns.{Refused, Turn, View, copied, decide, has_something, named_refusal, owner_made, refused_at, source_refusal, view_of}
@@ -43,32 +43,32 @@ use Rattle.pv_steps.proofs.ObjectLaws.{is_some-same}
 -- ---- places that differ in stamps alone
 
 abbrev pub Alike : Places → Places → Type 0
-Alike t u = (q : Path) → bares t q ≡ bares u q
+Alike t u = (q : Path) → object_states t q ≡ object_states u q
 
-map_alike : (f g : Object → Object) → ((x y : Object) → bare x ≡ bare y → bare (f x) ≡ bare (g y)) → (o u : Option Object) → option_map bare o ≡ option_map bare u → option_map bare (option_map f o) ≡ option_map bare (option_map g u)
+map_alike : (f g : Object → Object) → ((x y : Object) → object_state x ≡ object_state y → object_state (f x) ≡ object_state (g y)) → (o u : Option Object) → option_map object_state o ≡ option_map object_state u → option_map object_state (option_map f o) ≡ option_map object_state (option_map g u)
 map_alike f g alike None None e = refl
 map_alike f g alike None (Some y) e = cc
 map_alike f g alike (Some x) None e = cc
-map_alike f g alike (Some x) (Some y) e = let same : bare x ≡ bare y = cc in ap (λ (o : Object). Some o) (alike x y same)
+map_alike f g alike (Some x) (Some y) e = let same : object_state x ≡ object_state y = cc in ap (λ (o : Object). Some o) (alike x y same)
 
-on_at_alike : (path : Path) (f g : Object → Object) → ((x y : Object) → bare x ≡ bare y → bare (f x) ≡ bare (g y)) → (t u : Places) → Alike t u → Alike (on_at path f t) (on_at path g u)
+on_at_alike : (path : Path) (f g : Object → Object) → ((x y : Object) → object_state x ≡ object_state y → object_state (f x) ≡ object_state (g y)) → (t u : Places) → Alike t u → Alike (on_at path f t) (on_at path g u)
 on_at_alike path f g step t u alike q = by_test (same_path path q)
   where
-    by_test : (b : Bool) → option_map bare (cond b (option_map f (t q)) (t q)) ≡ option_map bare (cond b (option_map g (u q)) (u q))
+    by_test : (b : Bool) → option_map object_state (cond b (option_map f (t q)) (t q)) ≡ option_map object_state (cond b (option_map g (u q)) (u q))
     by_test true = map_alike f g step (t q) (u q) (alike q)
     by_test false = alike q
 
 touched_alike : (now later : ℕ) (path : Path) (t u : Places) → Alike t u → Alike (touched now path t) (touched later path u)
 touched_alike now later path t u alike = on_at_alike _ (modified now) (modified later) (λ x y e. e) t u alike
 
-put_at_alike : (path : Path) (o p : Option Object) → option_map bare o ≡ option_map bare p → (t u : Places) → Alike t u → Alike (put_at path o t) (put_at path p u)
+put_at_alike : (path : Path) (o p : Option Object) → option_map object_state o ≡ option_map object_state p → (t u : Places) → Alike t u → Alike (put_at path o t) (put_at path p u)
 put_at_alike path o p same t u alike q = by_test (same_path path q)
   where
-    by_test : (b : Bool) → option_map bare (cond b o (t q)) ≡ option_map bare (cond b p (u q))
+    by_test : (b : Bool) → option_map object_state (cond b o (t q)) ≡ option_map object_state (cond b p (u q))
     by_test true = same
     by_test false = alike q
 
-made_alike : (now later : ℕ) (path : Path) (x y : Object) → bare x ≡ bare y → (t u : Places) → Alike t u → Alike (made now path x t) (made later path y u)
+made_alike : (now later : ℕ) (path : Path) (x y : Object) → object_state x ≡ object_state y → (t u : Places) → Alike t u → Alike (made now path x t) (made later path y u)
 made_alike now later path x y same t u alike =
     touched_alike now later path (put_at path (Some x) t) (put_at path (Some y) u) (put_at_alike path (Some x) (Some y) (ap (λ (o : Object). Some o) same) t u alike)
 
@@ -90,7 +90,7 @@ all_parents_alike now later (place ∷ places) t u alike = all_parents_alike now
 cut_alike : (path : Path) (t u : Places) → Alike t u → Alike (cut path t) (cut path u)
 cut_alike path t u alike q = by_test (is_prefix path q)
   where
-    by_test : (b : Bool) → option_map bare (cond b None (t q)) ≡ option_map bare (cond b None (u q))
+    by_test : (b : Bool) → option_map object_state (cond b None (t q)) ≡ option_map object_state (cond b None (u q))
     by_test true = refl
     by_test false = alike q
 
@@ -116,15 +116,15 @@ prepared_alike now later path t u alike =
 -- what a tree is made of
 tabulate_alike : (paths more : List Path) → paths ≡ more → (t u : Places) → Alike t u → Alike (places (tabulate paths t)) (places (tabulate more u))
 tabulate_alike paths more same t u alike q =
-    ap (option_map bare) (at paths t)
+    ap (option_map object_state) (at paths t)
     ∙ by_test (is_among q paths)
-    ∙ ap (λ (ps : List Path). option_map bare (cond (is_among q ps) (u q) None)) same
-    ∙ sym (ap (option_map bare) (at more u))
+    ∙ ap (λ (ps : List Path). option_map object_state (cond (is_among q ps) (u q) None)) same
+    ∙ sym (ap (option_map object_state) (at more u))
   where
     at : (ps : List Path) (v : Places) → places (tabulate ps v) q ≡ cond (is_among q ps) (v q) None
     at ps v = fin.get-from_entries path_total (entries_at ps v) q ∙ find-entries_at ps v q
 
-    by_test : (b : Bool) → option_map bare (cond b (t q) None) ≡ option_map bare (cond b (u q) None)
+    by_test : (b : Bool) → option_map object_state (cond b (t q) None) ≡ option_map object_state (cond b (u q) None)
     by_test true = alike q
     by_test false = refl
 
@@ -171,7 +171,7 @@ get_marked t q =
 keys_alike : (t u : Files) → Alike (places t) (places u) → fin.keys t ≡ fin.keys u
 keys_alike t u alike = sym (keys_marked t) ∙ ap fin.keys (fin.same_map path_total path_exact (marked t) (marked u) marks_alike) ∙ keys_marked u
   where
-    by_values : (o p : Option Object) → option_map bare o ≡ option_map bare p → option_map {U = ℕ} (λ (x : Object). 0) o ≡ option_map {U = ℕ} (λ (x : Object). 0) p
+    by_values : (o p : Option Object) → option_map object_state o ≡ option_map object_state p → option_map {U = ℕ} (λ (x : Object). 0) o ≡ option_map {U = ℕ} (λ (x : Object). 0) p
     by_values None None e = refl
     by_values None (Some y) e = cc
     by_values (Some x) None e = cc
@@ -180,14 +180,14 @@ keys_alike t u alike = sym (keys_marked t) ∙ ap fin.keys (fin.same_map path_to
     marks_alike : (q : Path) → fin.get (marked t) q ≡ fin.get (marked u) q
     marks_alike q = get_marked t q ∙ by_values (places t q) (places u q) (alike q) ∙ sym (get_marked u q)
 
-bare_of_bare : (o : Option Object) → option_map bare_of o ≡ option_map bare_of (option_map bare o)
-bare_of_bare None = refl
-bare_of_bare (Some x) = refl
+object_state_again : (o : Option Object) → option_map object_state_of o ≡ option_map object_state_of (option_map object_state o)
+object_state_again None = refl
+object_state_again (Some x) = refl
 
 view_alike : (t u : Files) → Alike (places t) (places u) → view_of t ≡ view_of u
 view_alike t u alike =
     let keys = keys_alike t u alike in
-    let at : (q : Path) → bares_of (places t) q ≡ bares_of (places u) q = λ q. bare_of_bare (places t q) ∙ ap (option_map bare_of) (alike q) ∙ sym (bare_of_bare (places u q)) in
+    let at : (q : Path) → object_states_of (places t) q ≡ object_states_of (places u) q = λ q. object_state_again (places t q) ∙ ap (option_map object_state_of) (alike q) ∙ sym (object_state_again (places u q)) in
     λ j. record { paths = keys j; at = λ q. at q j }
 
 prepare_alike : (now later : ℕ) (path : Path) (t u : Files) → Alike (places t) (places u) → Alike (places (prepare now path t)) (places (prepare later path u))
@@ -198,36 +198,36 @@ prepare_alike now later path t u alike =
 
 -- ---- objects that are adjusted
 
-restamped_alike : (now later : ℕ) (b : Bare) (x y : Object) → bare x ≡ bare y → bare (restamped now b x) ≡ bare (restamped later b y)
-restamped_alike now later b x y same = by_test (same_bare b (bare_of x)) (same_bare b (bare_of y)) (ap (λ (o : Object). same_bare b (bare_of o)) same)
+restamped_alike : (now later : ℕ) (b : ObjectState) (x y : Object) → object_state x ≡ object_state y → object_state (restamped now b x) ≡ object_state (restamped later b y)
+restamped_alike now later b x y same = by_test (same_object_state b (object_state_of x)) (same_object_state b (object_state_of y)) (ap (λ (o : Object). same_object_state b (object_state_of o)) same)
   where
-    new_bytes : (c : Bool) (o : Object) (at : ℕ) → bare (cond c (changed at (as_bare b o)) (modified at (as_bare b o))) ≡ bare (as_bare b o)
+    new_bytes : (c : Bool) (o : Object) (at : ℕ) → object_state (cond c (changed at (as_object_state b o)) (modified at (as_object_state b o))) ≡ object_state (as_object_state b o)
     new_bytes true o at = refl
     new_bytes false o at = refl
 
     by_test : (c d : Bool) → c ≡ d
-        → bare (cond c x (cond (same_bytes b.body.payload x.payload) (changed now (as_bare b x)) (modified now (as_bare b x))))
-        ≡ bare (cond d y (cond (same_bytes b.body.payload y.payload) (changed later (as_bare b y)) (modified later (as_bare b y))))
+        → object_state (cond c x (cond (same_bytes b.body.payload x.payload) (changed now (as_object_state b x)) (modified now (as_object_state b x))))
+        ≡ object_state (cond d y (cond (same_bytes b.body.payload y.payload) (changed later (as_object_state b y)) (modified later (as_object_state b y))))
     by_test true true e = same
     by_test true false e = cc
     by_test false true e = cc
     by_test false false e = new_bytes (same_bytes b.body.payload x.payload) x now ∙ sym (new_bytes (same_bytes b.body.payload y.payload) y later)
 
 -- what an operation leaves of an object
-abbrev left_of : ℕ → Object → Option Bare → Object
+abbrev left_of : ℕ → Object → Option ObjectState → Object
 left_of now o None = o
 left_of now o (Some b) = restamped now b o
 
-adjusted_alike : (now later : ℕ) (operation : Operation) (x y : Object) → bare x ≡ bare y → bare (adjusted now x operation) ≡ bare (adjusted later y operation)
-adjusted_alike now later operation x y same = by_value (done operation (Some (bare_of x))) (done operation (Some (bare_of y))) (ap (λ (o : Object). done operation (Some (bare_of o))) same)
+adjusted_alike : (now later : ℕ) (operation : Operation) (x y : Object) → object_state x ≡ object_state y → object_state (adjusted now x operation) ≡ object_state (adjusted later y operation)
+adjusted_alike now later operation x y same = by_value (done operation (Some (object_state_of x))) (done operation (Some (object_state_of y))) (ap (λ (o : Object). done operation (Some (object_state_of o))) same)
   where
-    by_value : (a b : Option Bare) → a ≡ b → bare (left_of now x a) ≡ bare (left_of later y b)
+    by_value : (a b : Option ObjectState) → a ≡ b → object_state (left_of now x a) ≡ object_state (left_of later y b)
     by_value None None e = same
     by_value None (Some b) e = cc
     by_value (Some a) None e = cc
-    by_value (Some a) (Some b) e = let one : a ≡ b = cc in restamped_alike now later a x y same ∙ ap (λ (c : Bare). bare (restamped later c y)) one
+    by_value (Some a) (Some b) e = let one : a ≡ b = cc in restamped_alike now later a x y same ∙ ap (λ (c : ObjectState). object_state (restamped later c y)) one
 
-become_alike : (now later : ℕ) (operations : List Operation) (x y : Object) → bare x ≡ bare y → bare (become now operations x) ≡ bare (become later operations y)
+become_alike : (now later : ℕ) (operations : List Operation) (x y : Object) → object_state x ≡ object_state y → object_state (become now operations x) ≡ object_state (become later operations y)
 become_alike now later [] x y same = same
 become_alike now later (operation ∷ operations) x y same = become_alike now later operations (adjusted now x operation) (adjusted later y operation) (adjusted_alike now later operation x y same)
 
@@ -237,132 +237,132 @@ put_alike : (now later : ℕ) (path : Path) (subtree : Subtree) (t u : Places) �
 put_alike now later path subtree t u alike =
     touched_alike now later path (λ q. standing now subtree (t q) (rest_under path q)) (λ q. standing later subtree (u q) (rest_under path q)) (λ q. by_rest q (rest_under path q))
   where
-    new : (o : Option Bare) → option_map bare (option_map (object_of now) o) ≡ option_map bare (option_map (object_of later) o)
+    new : (o : Option ObjectState) → option_map object_state (option_map (object_of now) o) ≡ option_map object_state (option_map (object_of later) o)
     new None = refl
     new (Some b) = refl
 
-    by_rest : (q : Path) (o : Option Path) → option_map bare (standing now subtree (t q) o) ≡ option_map bare (standing later subtree (u q) o)
+    by_rest : (q : Path) (o : Option Path) → option_map object_state (standing now subtree (t q) o) ≡ option_map object_state (standing later subtree (u q) o)
     by_rest q None = alike q
     by_rest q (Some rest) = new (subtree rest)
 
-put_paths_alike : (deed : Deed) (path : Path) (t u : Files) → fin.keys t ≡ fin.keys u → put_paths deed path t ≡ put_paths deed path u
+put_paths_alike : (action : Action) (path : Path) (t u : Files) → fin.keys t ≡ fin.keys u → put_paths action path t ≡ put_paths action path u
 put_paths_alike (Create making) path t u same = refl
 put_paths_alike (Copy copying) path t u same = ap (λ (ps : List Path). path ∷ map (λ rest. path ++ rest) (filter_map (rest_under copying.source) ps)) same
-put_paths_alike (Touch touching) path t u same = refl
+put_paths_alike (Adjust adjustment) path t u same = refl
 put_paths_alike Idle path t u same = refl
 
-turned_alike : (now later : ℕ) (deed : Deed) (path : Path) (turn : Turn) (t u : Files) → Alike (places t) (places u) → Alike (places (turned now deed path turn t)) (places (turned later deed path turn u))
-turned_alike now later deed path Turn.Nothing t u alike = alike
-turned_alike now later deed path (Turn.Left kind) t u alike = alike
-turned_alike now later deed path (Turn.Put subtree) t u alike =
+turned_alike : (now later : ℕ) (action : Action) (path : Path) (turn : Turn) (t u : Files) → Alike (places t) (places u) → Alike (places (turned now action path turn t)) (places (turned later action path turn u))
+turned_alike now later action path Turn.Nothing t u alike = alike
+turned_alike now later action path (Turn.Left kind) t u alike = alike
+turned_alike now later action path (Turn.Put subtree) t u alike =
     let keys = keys_alike t u alike in
-    let paths : put_paths deed path t ++ fin.keys t ≡ put_paths deed path u ++ fin.keys u =
-    ap (λ (ps : List Path). ps ++ fin.keys t) (put_paths_alike deed path t u keys) ∙ ap (λ (ps : List Path). put_paths deed path u ++ ps) keys
+    let paths : put_paths action path t ++ fin.keys t ≡ put_paths action path u ++ fin.keys u =
+    ap (λ (ps : List Path). ps ++ fin.keys t) (put_paths_alike action path t u keys) ∙ ap (λ (ps : List Path). put_paths action path u ++ ps) keys
     in
-    tabulate_alike (put_paths deed path t ++ fin.keys t) (put_paths deed path u ++ fin.keys u) paths (with_subtree now path subtree (places t)) (with_subtree later path subtree (places u)) (put_alike now later path subtree (places t) (places u) alike)
-turned_alike now later deed path (Turn.Become operations) t u alike =
+    tabulate_alike (put_paths action path t ++ fin.keys t) (put_paths action path u ++ fin.keys u) paths (with_subtree now path subtree (places t)) (with_subtree later path subtree (places u)) (put_alike now later path subtree (places t) (places u) alike)
+turned_alike now later action path (Turn.Become operations) t u alike =
     tabulate_alike (fin.keys t) (fin.keys u) (keys_alike t u alike) (on_at path (become now operations) (places t)) (on_at path (become later operations) (places u))
     (on_at_alike path (become now operations) (become later operations) (become_alike now later operations) (places t) (places u) alike)
 
-touch_alike : (now later : ℕ) (touching : Touching) (path : Path) (t u : Files) → Alike (places t) (places u) → Alike (places (touch now touching path t)) (places (touch later touching path u))
-touch_alike now later touching path t u alike =
+adjust_alike : (now later : ℕ) (adjustment : Adjustment) (path : Path) (t u : Files) → Alike (places t) (places u) → Alike (places (adjust_at now adjustment path t)) (places (adjust_at later adjustment path u))
+adjust_alike now later adjustment path t u alike =
     tabulate_alike (fin.keys t) (fin.keys u) (keys_alike t u alike)
-    (λ q. cond (is_touched touching path q) (option_map (become now touching.sets) (places t q)) (places t q))
-    (λ q. cond (is_touched touching path q) (option_map (become later touching.sets) (places u q)) (places u q)) (λ q. by_test q (is_touched touching path q))
+    (λ q. cond (is_adjusted adjustment path q) (option_map (become now adjustment.sets) (places t q)) (places t q))
+    (λ q. cond (is_adjusted adjustment path q) (option_map (become later adjustment.sets) (places u q)) (places u q)) (λ q. by_test q (is_adjusted adjustment path q))
   where
-    by_test : (q : Path) (b : Bool) → option_map bare (cond b (option_map (become now touching.sets) (places t q)) (places t q)) ≡ option_map bare (cond b (option_map (become later touching.sets) (places u q)) (places u q))
-    by_test q true = map_alike (become now touching.sets) (become later touching.sets) (become_alike now later touching.sets) (places t q) (places u q) (alike q)
+    by_test : (q : Path) (b : Bool) → option_map object_state (cond b (option_map (become now adjustment.sets) (places t q)) (places t q)) ≡ option_map object_state (cond b (option_map (become later adjustment.sets) (places u q)) (places u q))
+    by_test q true = map_alike (become now adjustment.sets) (become later adjustment.sets) (become_alike now later adjustment.sets) (places t q) (places u q) (alike q)
     by_test q false = alike q
 
-prepared_turn_alike : (now later : ℕ) (deed : Deed) (path : Path) (t u : Files) → Alike (places t) (places u)
-    → Alike (places (turned now deed path (decide deed (view_of (prepare now path t)) path) (prepare now path t))) (places (turned later deed path (decide deed (view_of (prepare later path u)) path) (prepare later path u)))
-prepared_turn_alike now later deed path t u alike =
+prepared_turn_alike : (now later : ℕ) (action : Action) (path : Path) (t u : Files) → Alike (places t) (places u)
+    → Alike (places (turned now action path (decide action (view_of (prepare now path t)) path) (prepare now path t))) (places (turned later action path (decide action (view_of (prepare later path u)) path) (prepare later path u)))
+prepared_turn_alike now later action path t u alike =
     let ready = prepare_alike now later path t u alike in
-    let turn : decide deed (view_of (prepare now path t)) path ≡ decide deed (view_of (prepare later path u)) path = ap (λ (v : View). decide deed v path) (view_alike (prepare now path t) (prepare later path u) ready) in
-    subst (λ (d : Turn). Alike (places (turned now deed path (decide deed (view_of (prepare now path t)) path) (prepare now path t))) (places (turned later deed path d (prepare later path u)))) turn
-    (turned_alike now later deed path (decide deed (view_of (prepare now path t)) path) (prepare now path t) (prepare later path u) ready)
+    let turn : decide action (view_of (prepare now path t)) path ≡ decide action (view_of (prepare later path u)) path = ap (λ (v : View). decide action v path) (view_alike (prepare now path t) (prepare later path u) ready) in
+    subst (λ (d : Turn). Alike (places (turned now action path (decide action (view_of (prepare now path t)) path) (prepare now path t))) (places (turned later action path d (prepare later path u)))) turn
+    (turned_alike now later action path (decide action (view_of (prepare now path t)) path) (prepare now path t) (prepare later path u) ready)
 
 -- ---- refusals
 
-pub kind_bare : (o : Option Object) → kind_of o ≡ kind_of (option_map bare o)
-kind_bare None = refl
-kind_bare (Some x) = refl
+pub kind_object_state : (o : Option Object) → kind_of o ≡ kind_of (option_map object_state o)
+kind_object_state None = refl
+kind_object_state (Some x) = refl
 
-uid_bare : (d : ℕ) (o : Option Object) → option_map_or (λ x. x.node.uid) o d ≡ option_map_or (λ x. x.node.uid) (option_map bare o) d
-uid_bare d None = refl
-uid_bare d (Some x) = refl
+uid_object_state : (d : ℕ) (o : Option Object) → option_map_or (λ x. x.node.uid) o d ≡ option_map_or (λ x. x.node.uid) (option_map object_state o) d
+uid_object_state d None = refl
+uid_object_state d (Some x) = refl
 
-owner_bare : (o : Option Object) → option_map (λ (x : Object). x.node.uid) o ≡ option_map (λ (x : Object). x.node.uid) (option_map bare o)
-owner_bare None = refl
-owner_bare (Some x) = refl
+owner_object_state : (o : Option Object) → option_map (λ (x : Object). x.node.uid) o ≡ option_map (λ (x : Object). x.node.uid) (option_map object_state o)
+owner_object_state None = refl
+owner_object_state (Some x) = refl
 
-pub present_bare : (o : Option Object) → is_some o ≡ is_some (option_map bare o)
-present_bare None = refl
-present_bare (Some x) = refl
+pub present_object_state : (o : Option Object) → is_some o ≡ is_some (option_map object_state o)
+present_object_state None = refl
+present_object_state (Some x) = refl
 
-unsafe_bare : (t : Places) (path : Path) (last k : ℕ) → is_unsafe t path last k ≡ is_unsafe (bares t) path last k
-unsafe_bare t path last k =
-    ap (λ (x : ℕ). nat_lt 0 k && not (x == 0) && not (owner_at t path last k == x)) (uid_bare (cond (k - 1 == length path) last 0) (t (take (k - 1) path)))
-    ∙ ap (λ (x : ℕ). nat_lt 0 k && not (owner_at (bares t) path last (k - 1) == 0) && not (x == owner_at (bares t) path last (k - 1))) (uid_bare (cond (k == length path) last 0) (t (take k path)))
+unsafe_object_state : (t : Places) (path : Path) (last k : ℕ) → is_unsafe t path last k ≡ is_unsafe (object_states t) path last k
+unsafe_object_state t path last k =
+    ap (λ (x : ℕ). nat_lt 0 k && not (x == 0) && not (owner_at t path last k == x)) (uid_object_state (cond (k - 1 == length path) last 0) (t (take (k - 1) path)))
+    ∙ ap (λ (x : ℕ). nat_lt 0 k && not (owner_at (object_states t) path last (k - 1) == 0) && not (x == owner_at (object_states t) path last (k - 1))) (uid_object_state (cond (k == length path) last 0) (t (take k path)))
 
-why_bare : (t : Places) (path : Path) (last k : ℕ) → why_refused t path last k ≡ why_refused (bares t) path last k
-why_bare t path last k =
-    ap (λ o. option_or (cond (nat_lt k (length path)) (why_blocked o) None) (cond (is_unsafe t path last k) (Some UnsafeOwner) None)) (kind_bare (t (take k path)))
-    ∙ ap (λ (b : Bool). option_or (cond (nat_lt k (length path)) (why_blocked (kind_of (bares t (take k path)))) None) (cond b (Some UnsafeOwner) None)) (unsafe_bare t path last k)
+why_object_state : (t : Places) (path : Path) (last k : ℕ) → why_refused t path last k ≡ why_refused (object_states t) path last k
+why_object_state t path last k =
+    ap (λ o. option_or (cond (nat_lt k (length path)) (why_unsafe o) None) (cond (is_unsafe t path last k) (Some UnsafeOwner) None)) (kind_object_state (t (take k path)))
+    ∙ ap (λ (b : Bool). option_or (cond (nat_lt k (length path)) (why_unsafe (kind_of (object_states t (take k path)))) None) (cond b (Some UnsafeOwner) None)) (unsafe_object_state t path last k)
 
-refusal_bare : (t : Places) (path : Path) (last : ℕ) → refusal t path last ≡ refusal (bares t) path last
-refusal_bare t path last = ap (λ (f : ℕ → Option Why). first_refused f (range_with_len 0 (length path + 1))) (λ j k. why_bare t path last k j)
+refusal_object_state : (t : Places) (path : Path) (last : ℕ) → refusal t path last ≡ refusal (object_states t) path last
+refusal_object_state t path last = ap (λ (f : ℕ → Option Why). first_refused f (range_with_len 0 (length path + 1))) (λ j k. why_object_state t path last k j)
 
-source_bare : (t : Places) (path : Path) → source_refusal t path ≡ source_refusal (bares t) path
-source_bare t path =
-    let blocked : (k : ℕ) → why_blocked (kind_of (t (take k path))) ≡ why_blocked (kind_of (bares t (take k path))) = λ k. ap why_blocked (kind_bare (t (take k path))) in
-    ap (λ (f : ℕ → Option Why). first_refused f (range_with_len 0 (length path))) (λ j k. blocked k j)
+source_object_state : (t : Places) (path : Path) → source_refusal t path ≡ source_refusal (object_states t) path
+source_object_state t path =
+    let unsafe_component : (k : ℕ) → why_unsafe (kind_of (t (take k path))) ≡ why_unsafe (kind_of (object_states t (take k path))) = λ k. ap why_unsafe (kind_object_state (t (take k path))) in
+    ap (λ (f : ℕ → Option Why). first_refused f (range_with_len 0 (length path))) (λ j k. unsafe_component k j)
 
-has_bare : (t : Places) (deed : Deed) → has_something t deed ≡ has_something (bares t) deed
-has_bare t deed = by_path (copied deed)
+has_object_state : (t : Places) (action : Action) → has_something t action ≡ has_something (object_states t) action
+has_object_state t action = by_path (copied action)
   where
-    by_path : (o : Option Path) → option_map_or (λ path. is_some (t path)) o true ≡ option_map_or (λ path. is_some (bares t path)) o true
+    by_path : (o : Option Path) → option_map_or (λ path. is_some (t path)) o true ≡ option_map_or (λ path. is_some (object_states t path)) o true
     by_path None = refl
-    by_path (Some path) = present_bare (t path)
+    by_path (Some path) = present_object_state (t path)
 
-made_bare : (line : Line) (t : Places) → owner_made line t ≡ owner_made line (bares t)
-made_bare line t = ap (λ (o : Option ℕ). unwrap_or (option_or (id_for_new line.user) o) 0) (by_path (copied (asks line)))
+made_object_state : (line : Line) (t : Places) → owner_made line t ≡ owner_made line (object_states t)
+made_object_state line t = ap (λ (o : Option ℕ). unwrap_or (option_or (id_for_new line.user) o) 0) (by_path (copied (action_of line)))
   where
-    by_path : (o : Option Path) → option_map (λ (x : Object). x.node.uid) (option_and_then t o) ≡ option_map (λ (x : Object). x.node.uid) (option_and_then (bares t) o)
+    by_path : (o : Option Path) → option_map (λ (x : Object). x.node.uid) (option_and_then t o) ≡ option_map (λ (x : Object). x.node.uid) (option_and_then (object_states t) o)
     by_path None = refl
-    by_path (Some path) = owner_bare (t path)
+    by_path (Some path) = owner_object_state (t path)
 
-named_bare : (line : Line) (path : Path) (t : Places) → named_refusal line path t ≡ named_refusal line path (bares t)
-named_bare line path t =
-    ap (option_map (λ (place : ℕ × Why). Refused.named path place.0 place.1)) (refusal_bare t path (owner_made line t) ∙ ap (refusal (bares t) path) (made_bare line t))
+named_object_state : (line : Line) (path : Path) (t : Places) → named_refusal line path t ≡ named_refusal line path (object_states t)
+named_object_state line path t =
+    ap (option_map (λ (place : ℕ × Why). Refused.named path place.0 place.1)) (refusal_object_state t path (owner_made line t) ∙ ap (refusal (object_states t) path) (made_object_state line t))
 
-refused_bare : (line : Line) (path : Path) (t : Places) → refused_at line path t ≡ refused_at line path (bares t)
-refused_bare line path t =
-    ap (λ (o : Option Refused). option_or o (cond (has_something t (asks line)) (named_refusal line path t) None)) (by_source (copied (asks line)))
-    ∙ ap (λ (b : Bool). option_or (refused_source (bares t)) (cond b (named_refusal line path t) None)) (has_bare t (asks line))
-    ∙ ap (λ (o : Option Refused). option_or (refused_source (bares t)) (cond (has_something (bares t) (asks line)) o None)) (named_bare line path t)
+refused_object_state : (line : Line) (path : Path) (t : Places) → refused_at line path t ≡ refused_at line path (object_states t)
+refused_object_state line path t =
+    ap (λ (o : Option Refused). option_or o (cond (has_something t (action_of line)) (named_refusal line path t) None)) (by_source (copied (action_of line)))
+    ∙ ap (λ (b : Bool). option_or (refused_source (object_states t)) (cond b (named_refusal line path t) None)) (has_object_state t (action_of line))
+    ∙ ap (λ (o : Option Refused). option_or (refused_source (object_states t)) (cond (has_something (object_states t) (action_of line)) o None)) (named_object_state line path t)
   where
     refused_source : Places → Option Refused
-    refused_source v = option_and_then (λ source. option_map (λ (place : ℕ × Why). Refused.source source place.0 place.1) (source_refusal v source)) (copied (asks line))
+    refused_source v = option_and_then (λ source. option_map (λ (place : ℕ × Why). Refused.source source place.0 place.1) (source_refusal v source)) (copied (action_of line))
 
     by_source : (o : Option Path)
         → option_and_then (λ source. option_map (λ (place : ℕ × Why). Refused.source source place.0 place.1) (source_refusal t source)) o
-        ≡ option_and_then (λ source. option_map (λ (place : ℕ × Why). Refused.source source place.0 place.1) (source_refusal (bares t) source)) o
+        ≡ option_and_then (λ source. option_map (λ (place : ℕ × Why). Refused.source source place.0 place.1) (source_refusal (object_states t) source)) o
     by_source None = refl
-    by_source (Some source) = ap (option_map (λ (place : ℕ × Why). Refused.source source place.0 place.1)) (source_bare t source)
+    by_source (Some source) = ap (option_map (λ (place : ℕ × Why). Refused.source source place.0 place.1)) (source_object_state t source)
 
 refused_alike : (line : Line) (path : Path) (t u : Places) → Alike t u → refused_at line path t ≡ refused_at line path u
 refused_alike line path t u alike =
-    let same : bares t ≡ bares u = λ j q. alike q j in
-    refused_bare line path t ∙ ap (refused_at line path) same ∙ sym (refused_bare line path u)
+    let same : object_states t ≡ object_states u = λ j q. alike q j in
+    refused_object_state line path t ∙ ap (refused_at line path) same ∙ sym (refused_object_state line path u)
 
 -- ---- a line
 
-carried_out_alike : (now later : ℕ) (deed : Deed) (path : Path) (t u : Files) → Alike (places t) (places u) → Alike (places (carried_out now deed path t)) (places (carried_out later deed path u))
+carried_out_alike : (now later : ℕ) (action : Action) (path : Path) (t u : Files) → Alike (places t) (places u) → Alike (places (carried_out now action path t)) (places (carried_out later action path u))
 carried_out_alike now later (Create making) path t u alike = prepared_turn_alike now later (Create making) path t u alike
 carried_out_alike now later (Copy copying) path t u alike =
     by_test (has_something (places t) (Copy copying)) (has_something (places u) (Copy copying))
-    (has_bare (places t) (Copy copying) ∙ ap (λ (v : Places). has_something v (Copy copying)) (λ j q. alike q j) ∙ sym (has_bare (places u) (Copy copying)))
+    (has_object_state (places t) (Copy copying) ∙ ap (λ (v : Places). has_something v (Copy copying)) (λ j q. alike q j) ∙ sym (has_object_state (places u) (Copy copying)))
   where
     by_test : (b c : Bool) → b ≡ c
         → Alike (places (cond b (turned now (Copy copying) path (decide (Copy copying) (view_of (prepare now path t)) path) (prepare now path t)) t))
@@ -371,58 +371,58 @@ carried_out_alike now later (Copy copying) path t u alike =
     by_test true false e = cc
     by_test false true e = cc
     by_test false false e = alike
-carried_out_alike now later (Touch touching) path t u alike = touch_alike now later touching path t u alike
+carried_out_alike now later (Adjust adjustment) path t u alike = adjust_alike now later adjustment path t u alike
 carried_out_alike now later Idle path t u alike = alike
 
 -- the tree after a line at a path, by whether it is refused
 abbrev after_refusal : ℕ → Line → Path → Files → Option Refused → Files
 after_refusal now line path t (Some place) = t
-after_refusal now line path t None = carried_out now (asks line) path t
+after_refusal now line path t None = carried_out now (action_of line) path t
 
 turn_alike : (now later : ℕ) (line : Line) (path : Path) (t u : Files) → Alike (places t) (places u) → Alike (places (turn_after now line path t)) (places (turn_after later line path u))
 turn_alike now later line path t u alike = by_refusal (refused_at line path (places t)) (refused_at line path (places u)) (refused_alike line path (places t) (places u) alike)
   where
     by_refusal : (a b : Option Refused) → a ≡ b → Alike (places (after_refusal now line path t a)) (places (after_refusal later line path u b))
-    by_refusal None None e = carried_out_alike now later (asks line) path t u alike
+    by_refusal None None e = carried_out_alike now later (action_of line) path t u alike
     by_refusal None (Some b) e = cc
     by_refusal (Some a) None e = cc
     by_refusal (Some a) (Some b) e = alike
 
 -- the paths at which a line is carried out, by what it asks for
-abbrev paths_of : Line → Files → Deed → List Path
+abbrev paths_of : Line → Files → Action → List Path
 paths_of line t (Create making) = path_in line.path ∷ []
 paths_of line t (Copy copying) = path_in line.path ∷ []
-paths_of line t (Touch touching) = filter (names line) (fin.keys t)
+paths_of line t (Adjust adjustment) = filter (names line) (fin.keys t)
 paths_of line t Idle = []
 
 turns_alike : (line : Line) (t u : Files) → fin.keys t ≡ fin.keys u → turns line t ≡ turns line u
-turns_alike line t u same = by_deed (asks line)
+turns_alike line t u same = by_action (action_of line)
   where
-    by_deed : (d : Deed) → paths_of line t d ≡ paths_of line u d
-    by_deed (Create making) = refl
-    by_deed (Copy copying) = refl
-    by_deed (Touch touching) = ap (filter (names line)) same
-    by_deed Idle = refl
+    by_action : (d : Action) → paths_of line t d ≡ paths_of line u d
+    by_action (Create making) = refl
+    by_action (Copy copying) = refl
+    by_action (Adjust adjustment) = ap (filter (names line)) same
+    by_action Idle = refl
 
 -- ---- what is said
 
-found_alike : (now later : ℕ) (deed : Deed) (path : Path) (t u : Files) → Alike (places t) (places u) → Alike (places (found now deed path t)) (places (found later deed path u))
+found_alike : (now later : ℕ) (action : Action) (path : Path) (t u : Files) → Alike (places t) (places u) → Alike (places (found now action path t)) (places (found later action path u))
 found_alike now later (Create making) path t u alike = prepare_alike now later path t u alike
 found_alike now later (Copy copying) path t u alike = prepare_alike now later path t u alike
-found_alike now later (Touch touching) path t u alike = alike
+found_alike now later (Adjust adjustment) path t u alike = alike
 found_alike now later Idle path t u alike = alike
 
 -- the texts of a line at a path, by whether it is refused
 abbrev texts_by : ℕ → Line → Path → Files → Option Refused → List (List ℕ)
 texts_by now line path t (Some place) = refused_text place ∷ []
-texts_by now line path t None = turn_texts path (decide (asks line) (view_of (found now (asks line) path t)) path)
+texts_by now line path t None = turn_texts path (decide (action_of line) (view_of (found now (action_of line) path t)) path)
 
 texts_alike : (now later : ℕ) (line : Line) (path : Path) (t u : Files) → Alike (places t) (places u) → texts now line path t ≡ texts later line path u
 texts_alike now later line path t u alike = by_refusal (refused_at line path (places t)) (refused_at line path (places u)) (refused_alike line path (places t) (places u) alike)
   where
     by_refusal : (a b : Option Refused) → a ≡ b → texts_by now line path t a ≡ texts_by later line path u b
     by_refusal None None e =
-        ap (λ (v : View). turn_texts path (decide (asks line) v path)) (view_alike (found now (asks line) path t) (found later (asks line) path u) (found_alike now later (asks line) path t u alike))
+        ap (λ (v : View). turn_texts path (decide (action_of line) v path)) (view_alike (found now (action_of line) path t) (found later (action_of line) path u) (found_alike now later (action_of line) path t u alike))
     by_refusal None (Some b) e = cc
     by_refusal (Some a) None e = cc
     by_refusal (Some a) (Some b) e = let one : a ≡ b = cc in ap (λ (place : Refused). refused_text place ∷ []) one
@@ -444,7 +444,7 @@ module _ {A : Type 0} (d e : Doing A) (timeless : IsTimeless d e) where
   each_refuses [] t u alike = refl
   each_refuses (x ∷ xs) t u alike = λ i. timeless.refuses x t u alike i || each_refuses xs (d.after x t) (e.after x u) (timeless.after x t u alike) i
 
-  each_says : (xs : List A) (t u : Files) → Alike (places t) (places u) → said_of_each d xs t ≡ said_of_each e xs u
+  each_says : (xs : List A) (t u : Files) → Alike (places t) (places u) → messages_for_each d xs t ≡ messages_for_each e xs u
   each_says [] t u alike = refl
   each_says (x ∷ xs) t u alike = λ i. timeless.says x t u alike i ++ each_says xs (d.after x t) (e.after x u) (timeless.after x t u alike) i
 
@@ -452,7 +452,7 @@ turn_timeless : (now later : ℕ) (line : Line) → IsTimeless (by_turn now line
 turn_timeless now later line = record {
   after = turn_alike now later line;
   refuses = λ path t u alike. ap is_some (refused_alike line path (places t) (places u) alike);
-  says = λ path t u alike. ap (map (said_at line.place)) (texts_alike now later line path t u alike);
+  says = λ path t u alike. ap (map (message_text_at line.place)) (texts_alike now later line path t u alike);
 }
 
 line_timeless : (now later : ℕ) → IsTimeless (by_line now) (by_line later)
@@ -465,7 +465,7 @@ line_timeless now later = record {
       ∙ ap (λ (paths : List Path). one_is_refused (by_turn later line) paths u) (turns_alike line t u (keys_alike t u alike));
   says = λ line t u alike.
       each_says (by_turn now line) (by_turn later line) (turn_timeless now later line) (turns line t) t u alike
-      ∙ ap (λ (paths : List Path). said_of_each (by_turn later line) paths u) (turns_alike line t u (keys_alike t u alike));
+      ∙ ap (λ (paths : List Path). messages_for_each (by_turn later line) paths u) (turns_alike line t u (keys_alike t u alike));
 }
 
 -- ---- all lines

@@ -2,9 +2,9 @@
 use Rattle.std.proofs.Common.{◌≡◌, refl}
 use Rattle.std.specs.Prelude.{ℕ, ◌*◌, Bool, true, false, List, [], ◌∷◌, ◌++◌, codes, find, map, Option, Some, None, option_map}
 use Rattle.pv_age.specs.declared.age.Age.{Age}
-use Rattle.pv_dress.specs.declared.bare.Bare.{Bare}
-use Rattle.pv_dress.specs.Nodes.{bare_of, bares_of}
-use Rattle.pv_dress.specs.Operations.{run}
+use Rattle.pv_metadata.specs.declared.object_state.ObjectState.{ObjectState}
+use Rattle.pv_metadata.specs.Nodes.{object_state_of, object_states_of}
+use Rattle.pv_metadata.specs.Operations.{run}
 use Rattle.pv_lines.specs.declared.line.Argument.{Argument}
 use Rattle.pv_lines.specs.declared.line.Argument.TheVariants as argument
 use Rattle.pv_lines.specs.declared.line.Line.{Line}
@@ -15,7 +15,7 @@ use Rattle.pv_steps.specs.declared.why.Why.TheVariants.{UnsafeOwner}
 use Rattle.pv_steps.specs.Objects.{fresh}
 use Rattle.pv_steps.specs.Trees.{Places}
 use Rattle.pv_table.specs.Asked.{operations}
-use Rattle.pv_table.specs.Asking.{asks}
+use Rattle.pv_table.specs.ActionTable.{action_of}
 use Rattle.pv_table.specs.Cleaned.{is_old_by}
 use Rattle.pv_table.specs.Pointwise.{after_turn}
 use Rattle.pv_table.specs.Saying.{refused_text, turn_texts}
@@ -30,7 +30,7 @@ abbrev at : List (Path × Object) → Places
 at entries = λ q. option_map (λ (e : Path × Object). e.1) (find (λ e. same_path e.0 q) entries)
 
 abbrev seen : List (Path × Object) → View
-seen entries = record { paths = map (λ e. e.0) entries; at = bares_of (at entries) }
+seen entries = record { paths = map (λ e. e.0) entries; at = object_states_of (at entries) }
 
 abbrev directory : ℕ → Object
 directory mode = fresh Directory mode [] 0 0 0
@@ -49,8 +49,8 @@ abbrev with_mode : ℕ → Bool → Line → Line
 with_mode value masked l = record l { mode = Some (record { value = value; masked = masked; new_only = false }) }
 
 -- what is left at a path that comes by a rest after that of a line, by what stands there
-abbrev left : Line → Path → List (Path × Object) → Path → Option Bare
-left l path entries rest = after_turn (decide (asks l) (seen entries) path) rest (bares_of (at entries) (path ++ rest))
+abbrev left : Line → Path → List (Path × Object) → Path → Option ObjectState
+left l path entries rest = after_turn (decide (action_of l) (seen entries) path) rest (object_states_of (at entries) (path ++ rest))
 
 abbrev a : List ℕ
 a = codes "a"
@@ -66,16 +66,16 @@ x = codes "x"
 abbrev text_line : Line
 text_line = with_argument (argument.FileBytes (Some (codes "text"))) (line 102 (a ∷ []))
 
-a_directory_in_the_way_is_left : decide (asks text_line) (seen ((a ∷ [], directory 0o755) ∷ [])) (a ∷ []) ≡ Turn.Left Directory
+a_directory_in_the_way_is_left : decide (action_of text_line) (seen ((a ∷ [], directory 0o755) ∷ [])) (a ∷ []) ≡ Turn.Left Directory
 a_directory_in_the_way_is_left = refl
 
 it_is_said : turn_texts (a ∷ []) (Turn.Left Directory) ≡ codes "/a is a directory, left" ∷ []
 it_is_said = refl
 
-an_absent_file_is_made : left text_line (a ∷ []) [] [] ≡ Some (bare_of (file 0o644 (codes "text")))
+an_absent_file_is_made : left text_line (a ∷ []) [] [] ≡ Some (object_state_of (file 0o644 (codes "text")))
 an_absent_file_is_made = refl
 
-a_file_that_is_there_keeps_its_bytes : left text_line (a ∷ []) ((a ∷ [], file 0o600 (codes "old")) ∷ []) [] ≡ Some (bare_of (file 0o600 (codes "old")))
+a_file_that_is_there_keeps_its_bytes : left text_line (a ∷ []) ((a ∷ [], file 0o600 (codes "old")) ∷ []) [] ≡ Some (object_state_of (file 0o600 (codes "old")))
 a_file_that_is_there_keeps_its_bytes = refl
 
 -- ---- links
@@ -89,7 +89,7 @@ link = fresh Link 0o777 (codes "/t") 0 0 0
 abbrev full : List (Path × Object)
 full = (a ∷ [], directory 0o755) ∷ (a ∷ x ∷ [], file 0o644 []) ∷ []
 
-a_link_takes_the_place_of_a_directory : left link_line (a ∷ []) full [] ≡ Some (bare_of link)
+a_link_takes_the_place_of_a_directory : left link_line (a ∷ []) full [] ≡ Some (object_state_of link)
 a_link_takes_the_place_of_a_directory = refl
 
 what_lay_below_is_gone : left link_line (a ∷ []) full (x ∷ []) ≡ None
@@ -122,19 +122,19 @@ the_same_owner_is_not = refl
 abbrev deep_line : Line
 deep_line = with_mode 0o2755 true (pattern_line 90 (d ∷ []))
 
-a_directory_keeps_what_it_grants : run (operations deep_line (d ∷ [])) (Some (bare_of (directory 0o700))) ≡ Some (bare_of (directory 0o2755))
+a_directory_keeps_what_it_grants : run (operations deep_line (d ∷ [])) (Some (object_state_of (directory 0o700))) ≡ Some (object_state_of (directory 0o2755))
 a_directory_keeps_what_it_grants = refl
 
-a_file_gets_no_bit_that_it_grants_to_nobody : run (operations deep_line (d ∷ x ∷ [])) (Some (bare_of (file 0o600 []))) ≡ Some (bare_of (file 0o644 []))
+a_file_gets_no_bit_that_it_grants_to_nobody : run (operations deep_line (d ∷ x ∷ [])) (Some (object_state_of (file 0o600 []))) ≡ Some (object_state_of (file 0o644 []))
 a_file_gets_no_bit_that_it_grants_to_nobody = refl
 
-nor_one_that_it_may_not_write : run (operations deep_line (d ∷ x ∷ [])) (Some (bare_of (file 0o500 []))) ≡ Some (bare_of (file 0o555 []))
+nor_one_that_it_may_not_write : run (operations deep_line (d ∷ x ∷ [])) (Some (object_state_of (file 0o500 []))) ≡ Some (object_state_of (file 0o555 []))
 nor_one_that_it_may_not_write = refl
 
-a_file_that_grants_nothing_stays : run (operations deep_line (d ∷ x ∷ [])) (Some (bare_of (file 0 []))) ≡ Some (bare_of (file 0 []))
+a_file_that_grants_nothing_stays : run (operations deep_line (d ∷ x ∷ [])) (Some (object_state_of (file 0 []))) ≡ Some (object_state_of (file 0 []))
 a_file_that_grants_nothing_stays = refl
 
-a_link_stays : run (operations deep_line (d ∷ x ∷ [])) (Some (bare_of link)) ≡ Some (bare_of link)
+a_link_stays : run (operations deep_line (d ∷ x ∷ [])) (Some (object_state_of link)) ≡ Some (object_state_of link)
 a_link_stays = refl
 
 -- ---- copies
@@ -145,22 +145,22 @@ copy_line = with_argument (argument.Source (a ∷ [])) (line 67 (d ∷ []))
 abbrev source : List (Path × Object)
 source = (a ∷ [], directory 0o750) ∷ (a ∷ x ∷ [], file 0o600 (codes "v")) ∷ []
 
-an_absent_destination_becomes_the_copy : left copy_line (d ∷ []) source [] ≡ Some (bare_of (directory 0o750))
+an_absent_destination_becomes_the_copy : left copy_line (d ∷ []) source [] ≡ Some (object_state_of (directory 0o750))
 an_absent_destination_becomes_the_copy = refl
 
-with_all_below : left copy_line (d ∷ []) source (x ∷ []) ≡ Some (bare_of (file 0o600 (codes "v")))
+with_all_below : left copy_line (d ∷ []) source (x ∷ []) ≡ Some (object_state_of (file 0o600 (codes "v")))
 with_all_below = refl
 
-so_does_an_empty_one : left copy_line (d ∷ []) ((d ∷ [], directory 0o700) ∷ source) [] ≡ Some (bare_of (directory 0o750))
+so_does_an_empty_one : left copy_line (d ∷ []) ((d ∷ [], directory 0o700) ∷ source) [] ≡ Some (object_state_of (directory 0o750))
 so_does_an_empty_one = refl
 
-a_full_one_stays : left copy_line (d ∷ []) ((d ∷ [], directory 0o700) ∷ (d ∷ a ∷ [], file 0o644 []) ∷ source) [] ≡ Some (bare_of (directory 0o700))
+a_full_one_stays : left copy_line (d ∷ []) ((d ∷ [], directory 0o700) ∷ (d ∷ a ∷ [], file 0o644 []) ∷ source) [] ≡ Some (object_state_of (directory 0o700))
 a_full_one_stays = refl
 
-a_file_in_the_way_is_left : decide (asks copy_line) (seen ((d ∷ [], file 0o644 []) ∷ source)) (d ∷ []) ≡ Turn.Left File
+a_file_in_the_way_is_left : decide (action_of copy_line) (seen ((d ∷ [], file 0o644 []) ∷ source)) (d ∷ []) ≡ Turn.Left File
 a_file_in_the_way_is_left = refl
 
-without_a_source_nothing_is_done : decide (asks copy_line) (seen []) (d ∷ []) ≡ Turn.Nothing
+without_a_source_nothing_is_done : decide (action_of copy_line) (seen []) (d ∷ []) ≡ Turn.Nothing
 without_a_source_nothing_is_done = refl
 
 -- ---- ages

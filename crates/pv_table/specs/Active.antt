@@ -12,12 +12,12 @@ use Rattle.pv_lines.specs.declared.line.LineMode.{LineMode}
 use Rattle.pv_path.specs.Names.{same_bytes}
 use Rattle.pv_path.specs.Paths.{Path, same_path, is_prefix}
 use Rattle.pv_path.specs.Printing.{printed_path}
-use Rattle.pv_text.specs.Said.{said_at}
-use Rattle.pv_table.specs.declared.deed.Deed.{Deed}
-use Rattle.pv_table.specs.declared.deed.Deed.TheVariants.{Create, Copy, Touch, Idle}
+use Rattle.pv_text.specs.GivenMessages.{message_text_at}
+use Rattle.pv_table.specs.declared.action.Action.{Action}
+use Rattle.pv_table.specs.declared.action.Action.TheVariants.{Create, Copy, Adjust, Idle}
 use Rattle.pv_table.specs.declared.taking.Taking.{Taking}
 use Rattle.pv_table.specs.declared.taking.Taking.TheVariants as taking
-use Rattle.pv_table.specs.Asking.{asks, taking_of}
+use Rattle.pv_table.specs.ActionTable.{action_of, taking_of}
 use Rattle.pv_table.specs.Reaching.{path_in, is_creating}
 
 -- ---- filters
@@ -95,7 +95,7 @@ ask_same a b = same_type a b && same_settings a b && same_argument a.argument b.
 
 -- a line is a duplicate
 abbrev pub duplicate_message : Line → List ℕ
-duplicate_message line = said_at line.place (codes "duplicate line for " ++ printed_path (path_in line.path))
+duplicate_message line = message_text_at line.place (codes "duplicate line for " ++ printed_path (path_in line.path))
 
 -- what is said of a line that is dropped: nothing where it asks for the same as the one that stays
 abbrev pub dropped_message : Line → Line → List (List ℕ)
@@ -133,19 +133,19 @@ placed (first ∷ lines) line =
     else first ∷ placed lines line
 
 -- whether a line adjusts what is there
-abbrev pub is_touching : Line → Bool
-is_touching line = by (asks line)
+abbrev pub is_adjusting_line : Line → Bool
+is_adjusting_line line = by (action_of line)
   where
-    by : Deed → Bool
+    by : Action → Bool
     by (Create making) = false
     by (Copy copying) = false
-    by (Touch touching) = true
+    by (Adjust adjustment) = true
     by Idle = false
 
 -- the order of the create phase: creating lines, what lies above before what lies below; then those that adjust
 abbrev pub ordered : List Listed → List Listed
 ordered lines =
-    fold placed [] (filter (λ line. is_creating line.1) lines) ++ filter (λ line. is_touching line.1) lines
+    fold placed [] (filter (λ line. is_creating line.1) lines) ++ filter (λ line. is_adjusting_line line.1) lines
 
 -- the places of the lines in that order
 abbrev pub create_order : List Line → List ℕ

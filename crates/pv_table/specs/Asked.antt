@@ -1,20 +1,20 @@
 -- What lines ask of the object at one path (tmpfiles.d(5)); copies, whose objects depend on other paths, are left out.
 use Rattle.std.specs.Prelude.{Bool, false, not, ◌&&◌, List, [], ◌∷◌, Option, Some, None, if◌then◌else◌}
 use Rattle.std.specs.List.{flat_map}
-use Rattle.pv_dress.specs.declared.operation.Operation.{Operation}
-use Rattle.pv_dress.specs.declared.operation.Operation.TheVariants.{Make, Renew, Erase}
-use Rattle.pv_dress.specs.declared.operation.Test.{Test}
-use Rattle.pv_dress.specs.Dividing.{parts}
-use Rattle.pv_dress.specs.Nodes.{bare_of}
+use Rattle.pv_metadata.specs.declared.operation.Operation.{Operation}
+use Rattle.pv_metadata.specs.declared.operation.Operation.TheVariants.{Make, Renew, Erase}
+use Rattle.pv_metadata.specs.declared.operation.Test.{Test}
+use Rattle.pv_metadata.specs.Dividing.{parts}
+use Rattle.pv_metadata.specs.Nodes.{object_state_of}
 use Rattle.pv_lines.specs.declared.line.Line.{Line}
 use Rattle.pv_path.specs.Paths.{Path, is_prefix, same_path}
 use Rattle.pv_steps.specs.Objects.{is_directory}
 use Rattle.pv_walk.specs.Staging.{new_object, new_kind}
-use Rattle.pv_table.specs.declared.deed.Deed.{Deed}
-use Rattle.pv_table.specs.declared.deed.Deed.TheVariants.{Create, Copy, Touch, Idle}
-use Rattle.pv_table.specs.declared.deed.Making.{Making}
-use Rattle.pv_table.specs.Asking.{asks}
-use Rattle.pv_table.specs.Pointwise.{parent_bare, touches}
+use Rattle.pv_table.specs.declared.action.Action.{Action}
+use Rattle.pv_table.specs.declared.action.Action.TheVariants.{Create, Copy, Adjust, Idle}
+use Rattle.pv_table.specs.declared.action.Making.{Making}
+use Rattle.pv_table.specs.ActionTable.{action_of}
+use Rattle.pv_table.specs.Pointwise.{parent_object_state, adjusts_path}
 use Rattle.pv_table.specs.Reaching.{path_in}
 
 -- what comes first at the path itself: the object is made where nothing stands, or in the place of what does not stay
@@ -22,8 +22,8 @@ abbrev pub first_of : Making → Operation
 first_of making = by making.renew
   where
     by : Option Test → Operation
-    by None = Make (bare_of (new_object making.new 0))
-    by (Some test) = Renew test (bare_of (new_object making.new 0))
+    by None = Make (object_state_of (new_object making.new 0))
+    by (Some test) = Renew test (object_state_of (new_object making.new 0))
 
 -- what lies below goes where the object that is put in its place is no directory, and no directory stays
 abbrev pub clears_below : Making → Bool
@@ -37,18 +37,18 @@ clears_below making = by making.renew
 abbrev pub made_at : Making → Path → Path → List Operation
 made_at making path q =
     if same_path path q then first_of making ∷ making.sets
-    else if is_prefix q path then Make parent_bare ∷ []
+    else if is_prefix q path then Make parent_object_state ∷ []
     else if is_prefix path q && clears_below making then Erase ∷ []
     else []
 
 -- what a line asks of the object at a path
 abbrev pub operations : Line → Path → List Operation
-operations line q = by (asks line)
+operations line q = by (action_of line)
   where
-    by : Deed → List Operation
+    by : Action → List Operation
     by (Create making) = made_at making (path_in line.path) q
     by (Copy copying) = []
-    by (Touch touching) = if touches line touching q then touching.sets else []
+    by (Adjust adjustment) = if adjusts_path line adjustment q then adjustment.sets else []
     by Idle = []
 
 -- what lines ask of it, one after the other, each operation in its parts

@@ -2,9 +2,9 @@
 -- steps that it takes (tmpfiles.d(5)).
 use Rattle.std.specs.Prelude.{◌≡◌, ℕ, ◌+◌, ◌*◌, Bool, false, not, ◌&&◌, ◌||◌, List, [], ◌∷◌, ◌++◌, map, filter, fold, sum, Option, Some, None, is_some, if◌then◌else◌}
 use Rattle.std.specs.FinMap as fin
-use Rattle.pv_dress.specs.declared.operation.Operation.{Operation}
-use Rattle.pv_dress.specs.Edits.{count_at}
-use Rattle.pv_dress.specs.Nodes.{bare_of}
+use Rattle.pv_metadata.specs.declared.operation.Operation.{Operation}
+use Rattle.pv_metadata.specs.Edits.{count_at}
+use Rattle.pv_metadata.specs.Nodes.{object_state_of}
 use Rattle.pv_lines.specs.declared.line.Line.{Line}
 use Rattle.pv_path.specs.Paths.{Path}
 use Rattle.pv_steps.specs.declared.object.Object.{Object}
@@ -12,12 +12,12 @@ use Rattle.pv_steps.specs.Trees.{Files, places}
 use Rattle.pv_walk.specs.Copying.{Subtree, copied_count}
 use Rattle.pv_walk.specs.Preparing.{parent_count}
 use Rattle.pv_walk.specs.Staging.{staging_names, count_at_all, most_new}
-use Rattle.pv_table.specs.declared.deed.Deed.{Deed}
-use Rattle.pv_table.specs.declared.deed.Deed.TheVariants.{Create, Copy, Touch, Idle}
-use Rattle.pv_table.specs.declared.deed.Touching.{Touching}
+use Rattle.pv_table.specs.declared.action.Action.{Action}
+use Rattle.pv_table.specs.declared.action.Action.TheVariants.{Create, Copy, Adjust, Idle}
+use Rattle.pv_table.specs.declared.action.Adjustment.{Adjustment}
 use Rattle.pv_table.specs.Active.{in_create_order}
-use Rattle.pv_table.specs.Asking.{asks}
-use Rattle.pv_table.specs.Effects.{same_bare, become, prepare, is_touched, turn_after, turns}
+use Rattle.pv_table.specs.ActionTable.{action_of}
+use Rattle.pv_table.specs.Effects.{same_object_state, become, prepare, is_adjusted, turn_after, turns}
 use Rattle.pv_table.specs.Saying.{turn_messages}
 use Rattle.pv_table.specs.Turns.{Turn, view_of, has_something, decide, refused_at}
 
@@ -35,9 +35,9 @@ pub record Doing (A : Type 0) : Type 0 where
 abbrev pub after_each : {A : Type 0} → Doing A → List A → Files → Files
 after_each d xs t = fold (λ u x. d.after x u) t xs
 
-abbrev pub said_of_each : {A : Type 0} → Doing A → List A → Files → List (List ℕ)
-said_of_each d [] t = []
-said_of_each d (x ∷ xs) t = d.says x t ++ said_of_each d xs (d.after x t)
+abbrev pub messages_for_each : {A : Type 0} → Doing A → List A → Files → List (List ℕ)
+messages_for_each d [] t = []
+messages_for_each d (x ∷ xs) t = d.says x t ++ messages_for_each d xs (d.after x t)
 
 abbrev pub one_is_refused : {A : Type 0} → Doing A → List A → Files → Bool
 one_is_refused d [] t = false
@@ -56,37 +56,37 @@ most_changed = 4
 -- the most of them for an object that operations change, none for another
 abbrev pub change_work : List Operation → Option Object → ℕ
 change_work operations None = 0
-change_work operations (Some o) = if same_bare (bare_of (become 0 operations o)) (bare_of o) then 0 else most_changed
+change_work operations (Some o) = if same_object_state (object_state_of (become 0 operations o)) (object_state_of o) then 0 else most_changed
 
 -- how many objects are put: those of the source that the copy has, each once, or the one that is made
-abbrev pub put_count : Deed → Subtree → Files → ℕ
+abbrev pub put_count : Action → Subtree → Files → ℕ
 put_count (Copy copying) subtree t = copied_count subtree copying.source t
-put_count deed subtree t = 1
+put_count action subtree t = 1
 
 -- one step for each object that gives way, the most for each new one; or the most for one that changes
-abbrev pub turn_work : Deed → Path → Turn → Files → ℕ
-turn_work deed path Turn.Nothing t = 0
-turn_work deed path (Turn.Left kind) t = 0
-turn_work deed path (Turn.Put subtree) t = count_at t path + most_new * put_count deed subtree t
-turn_work deed path (Turn.Become operations) t = change_work operations (places t path)
+abbrev pub turn_work : Action → Path → Turn → Files → ℕ
+turn_work action path Turn.Nothing t = 0
+turn_work action path (Turn.Left kind) t = 0
+turn_work action path (Turn.Put subtree) t = count_at t path + most_new * put_count action subtree t
+turn_work action path (Turn.Become operations) t = change_work operations (places t path)
 
 -- of a line that is not refused: one for each object that an earlier run has staged, the most for each new parent, and
 -- those of the turn
-abbrev pub prepared_work : ℕ → Deed → Path → Files → ℕ
-prepared_work now deed path t =
+abbrev pub prepared_work : ℕ → Action → Path → Files → ℕ
+prepared_work now action path t =
     count_at_all t (staging_names path) + most_new * parent_count path t
-    + turn_work deed path (decide deed (view_of (prepare now path t)) path) (prepare now path t)
+    + turn_work action path (decide action (view_of (prepare now path t)) path) (prepare now path t)
 
 -- the most for each touched object that changes
-abbrev pub touch_work : Touching → Path → Files → ℕ
-touch_work touching path t =
-    sum (map (λ q. change_work touching.sets (places t q)) (filter (is_touched touching path) (fin.keys t)))
+abbrev pub adjust_work : Adjustment → Path → Files → ℕ
+adjust_work adjustment path t =
+    sum (map (λ q. change_work adjustment.sets (places t q)) (filter (is_adjusted adjustment path) (fin.keys t)))
 
-abbrev pub deed_work : ℕ → Deed → Path → Files → ℕ
-deed_work now (Create making) path t = prepared_work now (Create making) path t
-deed_work now (Copy copying) path t = if has_something (places t) (Copy copying) then prepared_work now (Copy copying) path t else 0
-deed_work now (Touch touching) path t = touch_work touching path t
-deed_work now Idle path t = 0
+abbrev pub action_work : ℕ → Action → Path → Files → ℕ
+action_work now (Create making) path t = prepared_work now (Create making) path t
+action_work now (Copy copying) path t = if has_something (places t) (Copy copying) then prepared_work now (Copy copying) path t else 0
+action_work now (Adjust adjustment) path t = adjust_work adjustment path t
+action_work now Idle path t = 0
 
 -- ---- turns, lines, runs
 
@@ -96,14 +96,14 @@ by_turn now line = record {
   after = turn_after now line;
   says = turn_messages now line;
   is_refused = λ path t. is_some (refused_at line path (places t));
-  takes = λ path t. if is_some (refused_at line path (places t)) then 0 else deed_work now (asks line) path t;
+  takes = λ path t. if is_some (refused_at line path (places t)) then 0 else action_work now (action_of line) path t;
 }
 
 -- a line at each path that it names when its turn comes
 abbrev pub by_line : ℕ → Doing Line
 by_line now = record {
   after = λ line t. after_each (by_turn now line) (turns line t) t;
-  says = λ line t. said_of_each (by_turn now line) (turns line t) t;
+  says = λ line t. messages_for_each (by_turn now line) (turns line t) t;
   is_refused = λ line t. one_is_refused (by_turn now line) (turns line t) t;
   takes = λ line t. taken_by_each (by_turn now line) (turns line t) t;
 }
@@ -118,7 +118,7 @@ created lines now t = after_each (by_line now) (in_create_order lines) t
 
 -- what is said of them
 abbrev pub created_messages : List Line → ℕ → Files → List (List ℕ)
-created_messages lines now t = said_of_each (by_line now) (in_create_order lines) t
+created_messages lines now t = messages_for_each (by_line now) (in_create_order lines) t
 
 -- whether one is refused at some turn, but for lines with `-`
 abbrev pub some_refusal_counts : List Line → ℕ → Files → Bool

@@ -3,11 +3,11 @@ use Rattle.std.specs.Prelude.{ℕ, Bool, not, ◌&&◌, ◌||◌, ◌==◌, List
 use Rattle.std.specs.FinMap as fin
 use Rattle.std.specs.List.{filter_map}
 use Rattle.std.specs.Cmp.Lexicographic.{pointwise}
-use Rattle.pv_dress.specs.declared.bare.Bare.{Bare}
-use Rattle.pv_dress.specs.declared.operation.Operation.{Operation}
+use Rattle.pv_metadata.specs.declared.object_state.ObjectState.{ObjectState}
+use Rattle.pv_metadata.specs.declared.operation.Operation.{Operation}
 use Rattle.pv_acl.specs.contracts.part.AclPartialEq as acl_eq
-use Rattle.pv_dress.specs.Nodes.{bare_of, same_kind}
-use Rattle.pv_dress.specs.Operations.{done}
+use Rattle.pv_metadata.specs.Nodes.{object_state_of, same_kind}
+use Rattle.pv_metadata.specs.Operations.{done}
 use Rattle.pv_lines.specs.declared.line.Line.{Line}
 use Rattle.pv_path.specs.Names.{same_bytes}
 use Rattle.pv_path.specs.Paths.{Path, same_path, is_prefix, rest_under, has_staging}
@@ -18,10 +18,10 @@ use Rattle.pv_steps.specs.Steps.{on_at}
 use Rattle.pv_steps.specs.Trees.{Files, places, tabulate}
 use Rattle.pv_walk.specs.Copying.{with_stamps, with_subtree}
 use Rattle.pv_walk.specs.Preparing.{parents_of, prepared}
-use Rattle.pv_table.specs.declared.deed.Deed.{Deed}
-use Rattle.pv_table.specs.declared.deed.Deed.TheVariants.{Create, Copy, Touch, Idle}
-use Rattle.pv_table.specs.declared.deed.Touching.{Touching}
-use Rattle.pv_table.specs.Asking.{asks}
+use Rattle.pv_table.specs.declared.action.Action.{Action}
+use Rattle.pv_table.specs.declared.action.Action.TheVariants.{Create, Copy, Adjust, Idle}
+use Rattle.pv_table.specs.declared.action.Adjustment.{Adjustment}
+use Rattle.pv_table.specs.ActionTable.{action_of}
 use Rattle.pv_table.specs.Reaching.{names, path_in}
 use Rattle.pv_table.specs.Turns.{Refused, Turn, view_of, decide, has_something, refused_at}
 
@@ -32,29 +32,29 @@ abbrev pub same_attr : Attr → Attr → Bool
 same_attr a b = same_bytes a.name b.name && same_bytes a.value b.value
 
 -- whether two objects are the same but for stamps
-abbrev pub same_bare : Bare → Bare → Bool
-same_bare a b =
+abbrev pub same_object_state : ObjectState → ObjectState → Bool
+same_object_state a b =
     same_kind a.body.kind b.body.kind && same_bytes a.body.payload b.body.payload && a.body.major == b.body.major
-    && a.body.minor == b.body.minor && a.dress.uid == b.dress.uid && a.dress.gid == b.dress.gid
-    && a.dress.special == b.dress.special && (acl_eq.TheImpl.eq-value).it a.dress.acl b.dress.acl
-    && pointwise same_attr a.dress.attrs b.dress.attrs && a.dress.letters == b.dress.letters
+    && a.body.minor == b.body.minor && a.metadata.uid == b.metadata.uid && a.metadata.gid == b.metadata.gid
+    && a.metadata.special == b.metadata.special && (acl_eq.TheImpl.eq-value).it a.metadata.acl b.metadata.acl
+    && pointwise same_attr a.metadata.attrs b.metadata.attrs && a.metadata.letters == b.metadata.letters
 
 -- an object with its stamps, as one without says
-abbrev pub as_bare : Bare → Object → Object
-as_bare b o = with_stamps o.node.stamps b
+abbrev pub as_object_state : ObjectState → Object → Object
+as_object_state b o = with_stamps o.node.stamps b
 
 -- the change stamp is now where the object differs, that of modification where its bytes do
-abbrev pub restamped : ℕ → Bare → Object → Object
+abbrev pub restamped : ℕ → ObjectState → Object → Object
 restamped now b o =
-    if same_bare b (bare_of o) then o
-    else if same_bytes b.body.payload o.payload then changed now (as_bare b o)
-    else modified now (as_bare b o)
+    if same_object_state b (object_state_of o) then o
+    else if same_bytes b.body.payload o.payload then changed now (as_object_state b o)
+    else modified now (as_object_state b o)
 
 -- an object after an operation that leaves it there, stamps included
 abbrev pub adjusted : ℕ → Object → Operation → Object
-adjusted now o operation = by (done operation (Some (bare_of o)))
+adjusted now o operation = by (done operation (Some (object_state_of o)))
   where
-    by : Option Bare → Object
+    by : Option ObjectState → Object
     by None = o
     by (Some b) = restamped now b o
 
@@ -65,36 +65,36 @@ become now operations o = fold (adjusted now) o operations
 -- ---- a tree
 
 -- the paths at which a line may put something: its own, and one for each path below what it copies
-abbrev pub put_paths : Deed → Path → Files → List Path
+abbrev pub put_paths : Action → Path → Files → List Path
 put_paths (Copy copying) path t = path ∷ map (λ rest. path ++ rest) (filter_map (rest_under copying.source) (fin.keys t))
-put_paths deed path t = path ∷ []
+put_paths action path t = path ∷ []
 
 -- the tree after what is done at a path
-abbrev pub turned : ℕ → Deed → Path → Turn → Files → Files
-turned now deed path Turn.Nothing t = t
-turned now deed path (Turn.Left kind) t = t
-turned now deed path (Turn.Put subtree) t = tabulate (put_paths deed path t ++ fin.keys t) (with_subtree now path subtree (places t))
-turned now deed path (Turn.Become operations) t = tabulate (fin.keys t) (on_at path (become now operations) (places t))
+abbrev pub turned : ℕ → Action → Path → Turn → Files → Files
+turned now action path Turn.Nothing t = t
+turned now action path (Turn.Left kind) t = t
+turned now action path (Turn.Put subtree) t = tabulate (put_paths action path t ++ fin.keys t) (with_subtree now path subtree (places t))
+turned now action path (Turn.Become operations) t = tabulate (fin.keys t) (on_at path (become now operations) (places t))
 
 -- what an earlier run has staged along a path is taken away, and absent parents are put
 unfoldable pub prepare : ℕ → Path → Files → Files
 prepare now path t = tabulate (parents_of path ++ fin.keys t) (prepared now path (places t))
 
 -- whether what is done at a path reaches another: itself, and all below it that is not staged
-abbrev pub is_touched : Touching → Path → Path → Bool
-is_touched touching path q = same_path path q || (touching.deep && is_prefix path q && not (has_staging q))
+abbrev pub is_adjusted : Adjustment → Path → Path → Bool
+is_adjusted adjustment path q = same_path path q || (adjustment.deep && is_prefix path q && not (has_staging q))
 
 -- what stands at and below a path is adjusted
-abbrev pub touch : ℕ → Touching → Path → Files → Files
-touch now touching path t = tabulate (fin.keys t) (λ q. if is_touched touching path q then option_map (become now touching.sets) (places t q) else places t q)
+abbrev pub adjust_at : ℕ → Adjustment → Path → Files → Files
+adjust_at now adjustment path t = tabulate (fin.keys t) (λ q. if is_adjusted adjustment path q then option_map (become now adjustment.sets) (places t q) else places t q)
 
 -- a line that is not refused is carried out at a path: one that makes something prepares the path first
-abbrev pub carried_out : ℕ → Deed → Path → Files → Files
+abbrev pub carried_out : ℕ → Action → Path → Files → Files
 carried_out now (Create making) path t = turned now (Create making) path (decide (Create making) (view_of (prepare now path t)) path) (prepare now path t)
 carried_out now (Copy copying) path t =
     if has_something (places t) (Copy copying) then turned now (Copy copying) path (decide (Copy copying) (view_of (prepare now path t)) path) (prepare now path t)
     else t
-carried_out now (Touch touching) path t = touch now touching path t
+carried_out now (Adjust adjustment) path t = adjust_at now adjustment path t
 carried_out now Idle path t = t
 
 -- the tree after a line at a path that it names; a refused line does nothing
@@ -103,14 +103,14 @@ turn_after now line path t = by (refused_at line path (places t))
   where
     by : Option Refused → Files
     by (Some place) = t
-    by None = carried_out now (asks line) path t
+    by None = carried_out now (action_of line) path t
 
 -- the paths at which a line is carried out: its own, or those present that it names, in their order
 abbrev pub turns : Line → Files → List Path
-turns line t = by (asks line)
+turns line t = by (action_of line)
   where
-    by : Deed → List Path
+    by : Action → List Path
     by (Create making) = path_in line.path ∷ []
     by (Copy copying) = path_in line.path ∷ []
-    by (Touch touching) = filter (names line) (fin.keys t)
+    by (Adjust adjustment) = filter (names line) (fin.keys t)
     by Idle = []

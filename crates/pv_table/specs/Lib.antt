@@ -1,4 +1,4 @@
-pub mod Asking
+pub mod ActionTable
 pub mod Reaching
 pub mod Active
 pub mod Building

@@ -5,7 +5,7 @@ use Rattle.std.specs.List.{list_all}
 use Rattle.std.specs.List.Sorted.{IsPermutation}
 use Rattle.pv_lines.specs.declared.line.Line.{Line}
 use Rattle.pv_path.specs.Paths.{is_prefix, same_path}
-use Rattle.pv_table.specs.Active.{is_touching}
+use Rattle.pv_table.specs.Active.{is_adjusting_line}
 use Rattle.pv_table.specs.Reaching.{is_creating, path_in}
 
 -- whether the path of a line lies below that of another
@@ -21,6 +21,6 @@ AboveFirst (first ∷ lines) = (list_all (λ line. not (lies_under line first)) 
 -- that adjust what is there, as they are listed
 pub record IsCreateOrder (lines order : List Line) : Type 0 where
   pub making : List Line
-  pub parts : order ≡ making ++ filter is_touching lines
+  pub parts : order ≡ making ++ filter is_adjusting_line lines
   pub each_once : IsPermutation (filter is_creating lines) making
   pub above_first : AboveFirst making

@@ -4,38 +4,38 @@ use Rattle.std.specs.Prelude.{ℕ, Bool, not, ◌&&◌, ◌||◌, List, [], ◌�
 use Rattle.std.specs.FinMap as fin
 use Rattle.std.specs.List.{filter_map}
 use Rattle.std.specs.Option.{option_map_or}
-use Rattle.pv_dress.specs.declared.bare.Bare.{Bare}
-use Rattle.pv_dress.specs.Nodes.{bare_of}
-use Rattle.pv_dress.specs.Operations.{run}
+use Rattle.pv_metadata.specs.declared.object_state.ObjectState.{ObjectState}
+use Rattle.pv_metadata.specs.Nodes.{object_state_of}
+use Rattle.pv_metadata.specs.Operations.{run}
 use Rattle.pv_lines.specs.declared.line.Line.{Line}
 use Rattle.pv_path.specs.Paths.{Path, path_cmp, is_prefix, same_path, rest_under, has_staging}
 use Rattle.pv_walk.specs.Preparing.{parent_file, parents_of}
 use Rattle.pv_walk.specs.Staging.{new_object}
-use Rattle.pv_table.specs.declared.deed.Deed.{Deed}
-use Rattle.pv_table.specs.declared.deed.Deed.TheVariants.{Create, Copy, Touch, Idle}
-use Rattle.pv_table.specs.declared.deed.Touching.{Touching}
+use Rattle.pv_table.specs.declared.action.Action.{Action}
+use Rattle.pv_table.specs.declared.action.Action.TheVariants.{Create, Copy, Adjust, Idle}
+use Rattle.pv_table.specs.declared.action.Adjustment.{Adjustment}
 use Rattle.pv_table.specs.Active.{in_create_order}
-use Rattle.pv_table.specs.Asking.{asks}
+use Rattle.pv_table.specs.ActionTable.{action_of}
 use Rattle.pv_table.specs.Reaching.{names, names_above, path_in}
 use Rattle.pv_table.specs.Turns.{Turn, View, decide}
 
 -- what stands at each path, without stamps, as a finite map
-abbrev pub Bares : Type 0
-Bares = fin.FinMap path_cmp Bare
+abbrev pub ObjectStates : Type 0
+ObjectStates = fin.FinMap path_cmp ObjectState
 
-abbrev pub view : Bares → View
+abbrev pub view : ObjectStates → View
 view s = record { paths = fin.keys s; at = fin.get s }
 
 -- what a function has at some paths, as a finite map
-abbrev pub tabulated : List Path → (Path → Option Bare) → Bares
+abbrev pub tabulated : List Path → (Path → Option ObjectState) → ObjectStates
 tabulated paths t = fin.from_entries (filter_map (λ path. option_map (λ b. (path, b)) (t path)) paths)
 
 -- the parent that a line makes
-abbrev pub parent_bare : Bare
-parent_bare = bare_of (new_object parent_file 0)
+abbrev pub parent_object_state : ObjectState
+parent_object_state = object_state_of (new_object parent_file 0)
 
 -- at a path that comes by this rest after the path at which something is done
-abbrev pub after_turn : Turn → Path → Option Bare → Option Bare
+abbrev pub after_turn : Turn → Path → Option ObjectState → Option ObjectState
 after_turn Turn.Nothing rest b = b
 after_turn (Turn.Left kind) rest b = b
 after_turn (Turn.Put subtree) rest b = subtree rest
@@ -43,38 +43,38 @@ after_turn (Turn.Become operations) [] b = run operations b
 after_turn (Turn.Become operations) (name ∷ rest) b = b
 
 -- what a line that makes something leaves: above its path what was there, or a parent; at and below it what is done there
-abbrev pub at_made : Deed → Path → Bares → Path → Option Bare
-at_made deed path s q =
-    if is_prefix q path && not (same_path q path) then Some (unwrap_or (fin.get s q) parent_bare)
-    else option_map_or (λ rest. after_turn (decide deed (view s) path) rest (fin.get s q)) (rest_under path q) (fin.get s q)
+abbrev pub at_made : Action → Path → ObjectStates → Path → Option ObjectState
+at_made action path s q =
+    if is_prefix q path && not (same_path q path) then Some (unwrap_or (fin.get s q) parent_object_state)
+    else option_map_or (λ rest. after_turn (decide action (view s) path) rest (fin.get s q)) (rest_under path q) (fin.get s q)
 
 -- whether a line touches a path: it names it, or, going down, what it lies below
-abbrev pub touches : Line → Touching → Path → Bool
-touches line touching q = names line q || (touching.deep && names_above line q && not (has_staging q))
+abbrev pub adjusts_path : Line → Adjustment → Path → Bool
+adjusts_path line adjustment q = names line q || (adjustment.deep && names_above line q && not (has_staging q))
 
 -- what a line leaves at a path, from what stands at all
-abbrev pub point : Line → Bares → Path → Option Bare
-point line s q = by (asks line)
+abbrev pub point : Line → ObjectStates → Path → Option ObjectState
+point line s q = by (action_of line)
   where
-    by : Deed → Option Bare
+    by : Action → Option ObjectState
     by (Create making) = at_made (Create making) (path_in line.path) s q
     by (Copy copying) = if is_some (fin.get s copying.source) then at_made (Copy copying) (path_in line.path) s q else fin.get s q
-    by (Touch touching) = if touches line touching q then run touching.sets (fin.get s q) else fin.get s q
+    by (Adjust adjustment) = if adjusts_path line adjustment q then run adjustment.sets (fin.get s q) else fin.get s q
     by Idle = fin.get s q
 
 -- the paths at which a line may put something
-abbrev pub point_paths : Line → Bares → List Path
-point_paths line s = by (asks line)
+abbrev pub point_paths : Line → ObjectStates → List Path
+point_paths line s = by (action_of line)
   where
-    by : Deed → List Path
+    by : Action → List Path
     by (Create making) = path_in line.path ∷ parents_of (path_in line.path)
     by (Copy copying) = path_in line.path ∷ parents_of (path_in line.path) ++ map (λ rest. path_in line.path ++ rest) (filter_map (rest_under copying.source) (fin.keys s))
-    by deed = []
+    by action = []
 
 -- what a line leaves at all paths
-abbrev pub pointwise_after : Bares → Line → Bares
+abbrev pub pointwise_after : ObjectStates → Line → ObjectStates
 pointwise_after s line = tabulated (point_paths line s ++ fin.keys s) (point line s)
 
 -- what the first k lines leave, in the order of the create phase
-abbrev pub state : List Line → ℕ → Bares → Bares
+abbrev pub state : List Line → ℕ → ObjectStates → ObjectStates
 state lines k s = fold pointwise_after s (take k (in_create_order lines))

@@ -7,13 +7,13 @@ use Rattle.pv_lines.specs.declared.line.Line.{Line}
 use Rattle.pv_lines.specs.declared.line.LinePath.{LinePath}
 use Rattle.pv_lines.specs.declared.line.LinePath.TheVariants.{Literal, Glob}
 use Rattle.pv_path.specs.Paths.{Path, same_path, is_prefix}
-use Rattle.pv_table.specs.declared.deed.Deed.{Deed}
-use Rattle.pv_table.specs.declared.deed.Deed.TheVariants.{Create, Copy, Touch, Idle}
+use Rattle.pv_table.specs.declared.action.Action.{Action}
+use Rattle.pv_table.specs.declared.action.Action.TheVariants.{Create, Copy, Adjust, Idle}
 use Rattle.pv_table.specs.declared.taking.Taking.{Taking}
 use Rattle.pv_table.specs.declared.taking.Taking.TheVariants as taking
 use Rattle.pv_table.specs.declared.taking.Sparing.{Sparing}
 use Rattle.pv_table.specs.declared.taking.Sparing.TheVariants as sparing
-use Rattle.pv_table.specs.Asking.{asks, sparing_of, taking_of}
+use Rattle.pv_table.specs.ActionTable.{action_of, sparing_of, taking_of}
 
 -- ---- names
 
@@ -45,10 +45,10 @@ is_creating line = by line.path
     by (Glob pattern) = false
 
 -- whether what is done at a path reaches all below it: a replaced object goes with all below
-abbrev pub is_deep : Deed → Bool
+abbrev pub is_deep : Action → Bool
 is_deep (Create making) = is_some making.renew
 is_deep (Copy copying) = true
-is_deep (Touch touching) = touching.deep
+is_deep (Adjust adjustment) = adjustment.deep
 is_deep Idle = false
 
 abbrev pub takes_below : Taking → Bool
@@ -64,7 +64,7 @@ spares_below sparing.Itself = false
 -- whether a line reaches what lies below the paths that it names
 abbrev pub reaches_below : Line → Bool
 reaches_below line =
-    is_deep (asks line) || takes_below (taking_of line) || option_map_or spares_below (sparing_of line) false
+    is_deep (action_of line) || takes_below (taking_of line) || option_map_or spares_below (sparing_of line) false
     || is_some line.age || line.purge
 
 -- a line reaches a path

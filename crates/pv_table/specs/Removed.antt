@@ -14,11 +14,11 @@ use Rattle.pv_steps.specs.declared.why.Why.{Why}
 use Rattle.pv_steps.specs.Objects.{is_directory, modified}
 use Rattle.pv_steps.specs.Refusal.{refusal}
 use Rattle.pv_steps.specs.Trees.{Files, Places, places, kind_of, tabulate}
-use Rattle.pv_text.specs.Said.{said_at}
+use Rattle.pv_text.specs.GivenMessages.{message_text_at}
 use Rattle.pv_walk.specs.Removal.{without}
 use Rattle.pv_table.specs.declared.taking.Taking.{Taking}
 use Rattle.pv_table.specs.declared.taking.Taking.TheVariants as taking
-use Rattle.pv_table.specs.Asking.{id_for_new, taking_of}
+use Rattle.pv_table.specs.ActionTable.{id_for_new, taking_of}
 use Rattle.pv_table.specs.Reaching.{names, path_in}
 use Rattle.pv_table.specs.Saying.{place_text, left_text}
 
@@ -116,7 +116,7 @@ removal_texts lines line t path = by (refused_place line (places t) path)
 
 -- what is said after the remove phase, as the lines are listed
 abbrev pub removed_messages : List Line → Files → List (List ℕ)
-removed_messages lines t = flat_map (λ line. map (said_at line.place) (flat_map (removal_texts lines line t) (judged line t))) lines
+removed_messages lines t = flat_map (λ line. map (message_text_at line.place) (flat_map (removal_texts lines line t) (judged line t))) lines
 
 -- whether a line is refused at some path, or r leaves a directory
 abbrev pub is_unfinished : List Line → Files → Bool
@@ -148,7 +148,7 @@ purge_texts line t = by (purge_refusal line t)
     by (Some place) = place_text (path_in line.path) place.0 place.1 ∷ []
 
 abbrev pub purged_messages : List Line → Files → List (List ℕ)
-purged_messages lines t = flat_map (λ line. map (said_at line.place) (purge_texts line (places t))) lines
+purged_messages lines t = flat_map (λ line. map (message_text_at line.place) (purge_texts line (places t))) lines
 
 abbrev pub is_purge_unfinished : List Line → Files → Bool
 is_purge_unfinished lines t = list_any (λ line. is_some (purge_refusal line (places t))) lines

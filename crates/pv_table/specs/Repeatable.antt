@@ -2,19 +2,19 @@
 -- (this project's own).
 use Rattle.std.specs.Prelude.{◌≡◌, ◌≢◌, ◌⊎◌, ℕ, ◌<◌, Bool, true, false, ◌||◌, ◌==◌, List, [], Option, Some, None, is_some, slice_get}
 use Rattle.std.specs.List.{list_any}
-use Rattle.pv_dress.specs.declared.operation.Operation.{Operation}
-use Rattle.pv_dress.specs.Reasons.{is_adjusting, is_append, gives_base}
+use Rattle.pv_metadata.specs.declared.operation.Operation.{Operation}
+use Rattle.pv_metadata.specs.Reasons.{is_adjusting, is_append, gives_base}
 use Rattle.pv_layers.specs.Places.{is_input}
 use Rattle.pv_lines.specs.declared.line.Line.{Line}
 use Rattle.pv_lines.specs.declared.line.LineMode.{LineMode}
 use Rattle.pv_path.specs.Paths.{Path, has_names, is_prefix}
-use Rattle.pv_table.specs.declared.deed.Deed.{Deed}
-use Rattle.pv_table.specs.declared.deed.Deed.TheVariants.{Create, Copy, Touch, Idle}
+use Rattle.pv_table.specs.declared.action.Action.{Action}
+use Rattle.pv_table.specs.declared.action.Action.TheVariants.{Create, Copy, Adjust, Idle}
 use Rattle.pv_table.specs.declared.reason.Reason.{Reason}
 use Rattle.pv_table.specs.declared.reason.Reason.TheVariants as reason
 use Rattle.pv_table.specs.declared.taking.Taking.{Taking}
 use Rattle.pv_table.specs.declared.taking.Taking.TheVariants as taking
-use Rattle.pv_table.specs.Asking.{asks, is_writing, taking_of}
+use Rattle.pv_table.specs.ActionTable.{action_of, is_writing, taking_of}
 use Rattle.pv_table.specs.Reaching.{is_creating, path_in, reaches, governs}
 use Rattle.pv_table.specs.Turns.{copied}
 
@@ -42,19 +42,19 @@ pub record Overlap (lines : List Line) (i j : ℕ) : Type 0 where
 -- ---- what a line does
 
 -- what a line sets of an object that is there
-abbrev pub sets_of : Deed → List Operation
+abbrev pub sets_of : Action → List Operation
 sets_of (Create making) = making.sets
 sets_of (Copy copying) = copying.sets
-sets_of (Touch touching) = touching.sets
+sets_of (Adjust adjustment) = adjustment.sets
 sets_of Idle = []
 
 -- whether a line appends bytes
 abbrev pub appends : Line → Bool
-appends line = list_any (is_adjusting is_append) (sets_of (asks line))
+appends line = list_any (is_adjusting is_append) (sets_of (action_of line))
 
 -- whether a line sets base entries of an ACL
 abbrev pub sets_base : Line → Bool
-sets_base line = list_any (is_adjusting gives_base) (sets_of (asks line))
+sets_base line = list_any (is_adjusting gives_base) (sets_of (action_of line))
 
 -- whether a line has a masked mode, be it of use to its type or not
 abbrev pub has_masked_mode : Line → Bool
@@ -80,9 +80,9 @@ changes_content line = is_creating line || is_writing line || takes_named (takin
 pub data HasReason (lines : List Line) (i : ℕ) : Reason → Type 0 where
   append : (line : Line) → IsAt lines i line → appends line ≡ true → HasReason lines i reason.Append
   source : (line other : Line) (j : ℕ) (path q : Path) → IsAt lines i line → IsAt lines j other
-      → copied (asks other) ≡ Some path → is_prefix path q ≡ true → has_names q ≡ true → governs line q ≡ true → HasReason lines i reason.Source
+      → copied (action_of other) ≡ Some path → is_prefix path q ≡ true → has_names q ≡ true → governs line q ≡ true → HasReason lines i reason.Source
   below : (line other : Line) (j : ℕ) (path : Path) → IsAt lines i line → IsAt lines j other
-      → is_creating line ≡ true → copied (asks other) ≡ Some path
+      → is_creating line ≡ true → copied (action_of other) ≡ Some path
       → is_prefix (path_in other.path) (path_in line.path) ≡ true → path_in other.path ≢ path_in line.path → HasReason lines i reason.Below
   input : (line : Line) (q : Path) → IsAt lines i line → changes_content line ≡ true → is_input q ≡ true → has_names q ≡ true → governs line q ≡ true
       → HasReason lines i reason.Input

@@ -8,10 +8,10 @@ use Rattle.pv_steps.specs.declared.node.Kind.TheVariants.{Directory, File, Link,
 use Rattle.pv_steps.specs.declared.why.Why.{Why}
 use Rattle.pv_steps.specs.declared.why.Why.TheVariants as why
 use Rattle.pv_steps.specs.Trees.{Files, places}
-use Rattle.pv_text.specs.Said.{said_at}
-use Rattle.pv_table.specs.declared.deed.Deed.{Deed}
-use Rattle.pv_table.specs.declared.deed.Deed.TheVariants.{Create, Copy}
-use Rattle.pv_table.specs.Asking.{asks}
+use Rattle.pv_text.specs.GivenMessages.{message_text_at}
+use Rattle.pv_table.specs.declared.action.Action.{Action}
+use Rattle.pv_table.specs.declared.action.Action.TheVariants.{Create, Copy}
+use Rattle.pv_table.specs.ActionTable.{action_of}
 use Rattle.pv_table.specs.Effects.{prepare}
 use Rattle.pv_table.specs.Turns.{Refused, Turn, view_of, decide, refused_at}
 
@@ -48,10 +48,10 @@ turn_texts path (Turn.Left kind) = left_text path kind ∷ []
 turn_texts path turn = []
 
 -- the tree that a line finds at its turn: one that makes something has prepared its path
-abbrev pub found : ℕ → Deed → Path → Files → Files
+abbrev pub found : ℕ → Action → Path → Files → Files
 found now (Create making) path t = prepare now path t
 found now (Copy copying) path t = prepare now path t
-found now deed path t = t
+found now action path t = t
 
 -- what is said of a line at a path that it names
 abbrev pub texts : ℕ → Line → Path → Files → List (List ℕ)
@@ -59,7 +59,7 @@ texts now line path t = by (refused_at line path (places t))
   where
     by : Option Refused → List (List ℕ)
     by (Some place) = refused_text place ∷ []
-    by None = turn_texts path (decide (asks line) (view_of (found now (asks line) path t)) path)
+    by None = turn_texts path (decide (action_of line) (view_of (found now (action_of line) path t)) path)
 
 abbrev pub turn_messages : ℕ → Line → Path → Files → List (List ℕ)
-turn_messages now line path t = map (said_at line.place) (texts now line path t)
+turn_messages now line path t = map (message_text_at line.place) (texts now line path t)

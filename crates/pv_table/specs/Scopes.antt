@@ -8,7 +8,7 @@ use Rattle.pv_path.specs.Paths.{Path}
 use Rattle.pv_table.specs.declared.scope.Scope.{Scope}
 use Rattle.pv_table.specs.declared.taking.Sparing.{Sparing}
 use Rattle.pv_table.specs.declared.taking.Sparing.TheVariants as sparing
-use Rattle.pv_table.specs.Asking.{sparing_of}
+use Rattle.pv_table.specs.ActionTable.{sparing_of}
 use Rattle.pv_table.specs.Reaching.{names}
 
 -- whether a line spares all below what it names: x without an age

@@ -5,7 +5,7 @@ ghost use Rattle.std.specs.List.{list_all, list_any};
 ghost use Rattle.pv_table.specs.Reaching.{names};
 ghost use Rattle.pv_table.specs.Scopes.{first_age, gives_age, inherited, is_exempting, is_sparing_itself, scope, scope_at, scope_of_first};
 
-use crate::asking::sparing_of;
+use crate::action_table::sparing_of;
 use crate::reach::names_first;
 use crate::scope::Scope;
 use crate::table::Table;

@@ -2,7 +2,7 @@
 ghost use Rattle.std.specs.Prelude.{◌≡◌, [], ◌∷◌, ◌++◌, IfOk, OnOk, OnErr};
 ghost use Rattle.std.specs.Option.{option_copied};
 ghost use Rattle.pv_lines.specs.Lines.{IsLine};
-ghost use Rattle.pv_text.specs.Said.{SaidPart};
+ghost use Rattle.pv_text.specs.GivenMessages.{MessagesPart};
 ghost use Rattle.pv_table.specs.Active.{active, dropped_message, duplicate_message, duplicates, line_message, with_line};
 
 use crate::reach::path_of;
@@ -26,8 +26,8 @@ pub fn build(
     messages: &mut Messages,
 ) -> Result<Table, AllocError>
     ensures table { IfOk result (λ table. table ≡ active boot (option_copied prefix.entry) (option_copied exclude.entry) lines) }
-    ensures said { OnOk result (messages.new ≡ messages.old ++ duplicates boot (option_copied prefix.entry) (option_copied exclude.entry) lines) }
-    ensures part { SaidPart (duplicates boot (option_copied prefix.entry) (option_copied exclude.entry) lines) messages.old messages.new }
+    ensures new_messages { OnOk result (messages.new ≡ messages.old ++ duplicates boot (option_copied prefix.entry) (option_copied exclude.entry) lines) }
+    ensures part { MessagesPart (duplicates boot (option_copied prefix.entry) (option_copied exclude.entry) lines) messages.old messages.new }
 {
     let mut table = Table::new(alloc);
     for line in lines.into_vec() {
@@ -47,8 +47,8 @@ fn keep(
 ) -> Result<Table, AllocError>
     requires { IsLine line }
     ensures kept { IfOk result (λ more. more ≡ with_line table line) }
-    ensures said { OnOk result (messages.new ≡ messages.old ++ line_message table line) }
-    ensures unsaid { OnErr result (messages.new ≡ messages.old) }
+    ensures new_messages { OnOk result (messages.new ≡ messages.old ++ line_message table line) }
+    ensures messages_kept { OnErr result (messages.new ≡ messages.old) }
 {
     match table.like(&line) {
         Some(first) => {
@@ -66,8 +66,8 @@ fn say_dropped(
     line: &Line,
     messages: &mut Messages,
 ) -> Result<(), AllocError>
-    ensures said { OnOk result (messages.new ≡ messages.old ++ dropped_message first.now line.now) }
-    ensures unsaid { OnErr result (messages.new ≡ messages.old) }
+    ensures new_messages { OnOk result (messages.new ≡ messages.old ++ dropped_message first.now line.now) }
+    ensures messages_kept { OnErr result (messages.new ≡ messages.old) }
 {
     if ask_same(first, line) {
         Ok(())
@@ -78,8 +78,8 @@ fn say_dropped(
 
 /// Says that a line is a duplicate.
 fn say_duplicate(alloc: Global, line: &Line, messages: &mut Messages) -> Result<(), AllocError>
-    ensures said { OnOk result (messages.new ≡ messages.old ++ duplicate_message line.now ∷ []) }
-    ensures unsaid { OnErr result (messages.new ≡ messages.old) }
+    ensures new_messages { OnOk result (messages.new ≡ messages.old ++ duplicate_message line.now ∷ []) }
+    ensures messages_kept { OnErr result (messages.new ≡ messages.old) }
 {
     let mut text = Vec::from_slice(alloc, b"duplicate line for ")?;
     let path = print_path(alloc, &path_of(alloc, line)?)?;

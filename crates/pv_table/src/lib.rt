@@ -2,10 +2,10 @@
 //! a run of them leaves.
 #![tactic(auto)]
 
+mod action;
+mod action_table;
 mod age_scope;
-mod asking;
 mod building;
-mod deed;
 mod laws;
 mod message;
 mod order;
@@ -17,10 +17,10 @@ mod staying;
 mod table;
 mod taking;
 
+pub use action::{Action, Adjustment, Copying, Making, OperationList};
+pub use action_table::{action_of, is_writing, sparing_of, taking_of};
 pub use age_scope::scope_of;
-pub use asking::{asks, is_writing, sparing_of, taking_of};
 pub use building::build;
-pub use deed::{Copying, Deed, Making, OperationList, Touching};
 pub use laws::{
     a_line_asks_nothing_elsewhere, active_lines_make_different_paths,
     quiet_does_not_depend_on_the_moment, what_lies_above_comes_first,

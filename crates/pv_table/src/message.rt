@@ -1,7 +1,7 @@
 //! What is said of lines in the create phase.
 ghost use Rattle.std.specs.Prelude.{◌≡◌, ◌++◌, ◌∷◌, [], codes, take, IfOk, OnOk, OnErr};
 ghost use Rattle.pv_path.specs.Printing.{printed_path};
-ghost use Rattle.pv_text.specs.Said.{said_at};
+ghost use Rattle.pv_text.specs.GivenMessages.{message_text_at};
 ghost use Rattle.pv_table.specs.Saying.{kind_text, why_text, left_text, place_text, refused_text};
 ghost use Rattle.pv_table.specs.Turns.{Refused};
 
@@ -20,7 +20,7 @@ pub fn say_left(
     messages: &mut Messages,
 ) -> Result<(), AllocError>
     ensures ok { OnOk result (messages.new
-        ≡ messages.old ++ said_at place.now (left_text path.now kind) ∷ []) }
+        ≡ messages.old ++ message_text_at place.now (left_text path.now kind) ∷ []) }
     ensures err { OnErr result (messages.new ≡ messages.old) }
 {
     messages.push_at(place, &left_text(alloc, path, kind)?)
@@ -37,7 +37,7 @@ pub fn say_refused(
     messages: &mut Messages,
 ) -> Result<(), AllocError>
     ensures ok { OnOk result (messages.new
-        ≡ messages.old ++ said_at place.now (refused_text (Refused.named path.now count why)) ∷ []) }
+        ≡ messages.old ++ message_text_at place.now (refused_text (Refused.named path.now count why)) ∷ []) }
     ensures err { OnErr result (messages.new ≡ messages.old) }
 {
     messages.push_at(place, &place_text(alloc, path, count, why)?)
@@ -53,7 +53,7 @@ pub fn say_source_refused(
     messages: &mut Messages,
 ) -> Result<(), AllocError>
     ensures ok { OnOk result (messages.new
-        ≡ messages.old ++ said_at place.now (refused_text (Refused.source path.now count why)) ∷ []) }
+        ≡ messages.old ++ message_text_at place.now (refused_text (Refused.source path.now count why)) ∷ []) }
     ensures err { OnErr result (messages.new ≡ messages.old) }
 {
     messages.push_at(place, &source_text(alloc, path, count, why)?)

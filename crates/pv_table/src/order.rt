@@ -4,13 +4,13 @@ ghost use Rattle.std.specs.List.{enumerate_from};
 ghost use Rattle.std.specs.Option.{option_or};
 ghost use Rattle.indexmap.specs.IndexMap.{get};
 ghost use Rattle.pv_path.specs.Paths.{Path, is_prefix, same_path};
-ghost use Rattle.pv_table.specs.Active.{create_order, is_touching, placed, remove_order};
+ghost use Rattle.pv_table.specs.Active.{create_order, is_adjusting_line, placed, remove_order};
 ghost use Rattle.pv_table.specs.Building.{first_place, makes};
 ghost use Rattle.pv_table.specs.Ranking.{first_known, with_rank};
 ghost use Rattle.pv_table.specs.Reaching.{is_creating};
 
 use crate::IndexList;
-use crate::asking::is_touching;
+use crate::action_table::is_adjusting_line;
 use crate::reach::is_taking;
 use crate::table::Table;
 use indexmap::IndexMap;
@@ -25,7 +25,7 @@ pub fn create_order(alloc: Global, table: &Table) -> Result<IndexList, AllocErro
     ensures { IfOk result (λ order. order ≡ create_order table.now) }
 {
     let mut order = making_order(alloc, table)?;
-    add_touching(&mut order, table.lines())?;
+    add_adjustment(&mut order, table.lines())?;
     Ok(order)
 }
 
@@ -53,11 +53,11 @@ pub fn remove_order(alloc: Global, table: &Table) -> Result<IndexList, AllocErro
 }
 
 /// Adds the places of the lines that adjust what is there, as they are listed.
-fn add_touching(order: &mut IndexList, lines: &[Line]) -> Result<(), AllocError>
-    ensures { OnOk result (order.new ≡ order.old ++ map (λ line. line.0) (filter (λ line. is_touching line.1) (enumerate_from 0 lines.now))) }
+fn add_adjustment(order: &mut IndexList, lines: &[Line]) -> Result<(), AllocError>
+    ensures { OnOk result (order.new ≡ order.old ++ map (λ line. line.0) (filter (λ line. is_adjusting_line line.1) (enumerate_from 0 lines.now))) }
 {
     for (place, line) in lines.iter().enumerate() {
-        if is_touching(line) {
+        if is_adjusting_line(line) {
             order.push(place)?;
         }
     }

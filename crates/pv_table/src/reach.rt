@@ -3,7 +3,7 @@ ghost use Rattle.std.specs.Prelude.{◌≡◌, ◌≤◌, length, take, IfOk};
 ghost use Rattle.pv_table.specs.Active.{is_taking};
 ghost use Rattle.pv_table.specs.Reaching.{is_creating, names, path_in};
 
-use crate::asking::taking_of;
+use crate::action_table::taking_of;
 use crate::taking::Taking;
 use pv_glob::{matches, matches_first};
 use pv_lines::{Line, LinePath};

@@ -9,7 +9,7 @@ use Rattle.pv_path.specs.Paths.{Path}
 use Rattle.pv_path.specs.Printing.{hex_digit, is_plain, printed, printed_by, printed_byte_by, printed_path}
 use Rattle.pv_text.specs.declared.place.Place.{Place}
 use Rattle.pv_text.specs.Lines.{lacks, is_line, are_lines}
-use Rattle.pv_text.specs.Said.{said_at}
+use Rattle.pv_text.specs.GivenMessages.{message_text_at}
 
 -- ---- tests of all bytes
 
@@ -127,8 +127,8 @@ pub one_line-decimal : (n : ℕ) → n < 2 ^ 64 → is_line (decimal n) ≡ true
 one_line-decimal n = decimal_lacks 10 n refl
 
 -- what is said of a line has one line where the text has
-pub one_line-said : (place : Place) (text : List ℕ) → is_line place.file ≡ true → place.number < 2 ^ 64 → is_line text ≡ true → is_line (said_at place text) ≡ true
-one_line-said place text file small one =
+pub one_line-new_messages : (place : Place) (text : List ℕ) → is_line place.file ≡ true → place.number < 2 ^ 64 → is_line text ≡ true → is_line (message_text_at place text) ≡ true
+one_line-new_messages place text file small one =
     let front : is_line (place.file ++ codes ":") ≡ true = one_line-append place.file (codes ":") file refl in
     let number : is_line (place.file ++ codes ":" ++ decimal place.number) ≡ true = one_line-append (place.file ++ codes ":") (decimal place.number) front (one_line-decimal place.number small) in
     one_line-append (place.file ++ codes ":" ++ decimal place.number ++ codes ": ") text (one_line-append (place.file ++ codes ":" ++ decimal place.number) (codes ": ") number refl) one

@@ -3,4 +3,4 @@ pub mod FactLaws
 pub mod EscapeLaws
 pub mod SpecifierLaws
 pub mod FieldLaws
-pub mod SaidLaws
+pub mod MessagesLaws

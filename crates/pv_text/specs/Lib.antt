@@ -3,5 +3,5 @@ pub mod Escapes
 pub mod Specifiers
 pub mod Fields
 pub mod Lines
-pub mod Said
+pub mod GivenMessages
 pub mod FaultNames

@@ -25,13 +25,13 @@ fixed_for_tmpfiles letter = lookup (λ l. letter == l)
 -- a fact; where the image has none it is missing for the first letters, and empty for the others
 abbrev pub from_facts : Values → ℕ → Result (List ℕ) ExpandFault
 from_facts facts letter =
-    if is_one_of (codes "abHlmv") letter then told (Err MissingFact) (map.get facts letter)
-    else if is_one_of (codes "ABMowW") letter then told (Ok []) (map.get facts letter)
+    if is_one_of (codes "abHlmv") letter then stated (Err MissingFact) (map.get facts letter)
+    else if is_one_of (codes "ABMowW") letter then stated (Ok []) (map.get facts letter)
     else Err UnknownSpecifier
   where
-    told : Result (List ℕ) ExpandFault → Option (List ℕ) → Result (List ℕ) ExpandFault
-    told none (Some value) = Ok value
-    told none None = none
+    stated : Result (List ℕ) ExpandFault → Option (List ℕ) → Result (List ℕ) ExpandFault
+    stated none (Some value) = Ok value
+    stated none None = none
 
 -- what a letter after a percent sign stands for
 abbrev pub meaning_of : Tool → Values → ℕ → Result (List ℕ) ExpandFault

@@ -14,7 +14,7 @@ use std::marker::Model;
 /// The letters that a fact can have, in byte order.
 pub const FACT_LETTERS: [u8; 12] = *b"ABHMWablmovw";
 
-/// What an image says about the system: values for the specifiers whose answer it can't know.
+/// Values of specifiers (tmpfiles.d(5)) by their letters: what an image says about its system.
 /// Clauses see the finite map from letters to values.
 #[derive(Drop)]
 pub struct Facts {

@@ -2,7 +2,7 @@
 ghost use Rattle.std.specs.Prelude.{◌≡◌, ℕ, true, List, [], ◌∷◌, ◌++◌, length, IfOk, IfSome, OnOk, OnErr, slice_get};
 ghost use Rattle.std.specs.Option.{option_copied, option_to_list};
 ghost use Rattle.pv_text.specs.Lines.{are_lines, is_line};
-ghost use Rattle.pv_text.specs.Said.{SaidPart, said_at};
+ghost use Rattle.pv_text.specs.GivenMessages.{MessagesPart, message_text_at};
 
 use crate::one_line::OneLine;
 use crate::place::Place;
@@ -10,7 +10,7 @@ use pv_path::Bytes;
 use std::alloc::{AllocError, Global};
 use std::marker::Model;
 
-/// The lines that a run says, in their order, each without the `: ` before it and the line feed
+/// The messages (diagnostics) of a run, in their order, each without the `: ` before it and the line feed
 /// after it. No line feed stands in a line, so that each is read again as one. Clauses see the list of lines.
 #[derive(Drop)]
 pub struct Messages {
@@ -52,7 +52,7 @@ impl Messages {
     /// before.
     pub fn push_at(&mut self, place: &Place, text: &[u8]) -> Result<(), AllocError>
         requires line { is_line text.now ≡ true }
-        ensures ok { OnOk result (self.new ≡ self.old ++ said_at place.now text.now ∷ []) }
+        ensures ok { OnOk result (self.new ≡ self.old ++ message_text_at place.now text.now ∷ []) }
         ensures err { OnErr result (self.new ≡ self.old) }
     {
         let line = line_at(self.alloc, &place.file, place.number, text)?;
@@ -80,22 +80,22 @@ impl Messages {
 }
 
 /// Says all messages of a list. Where memory runs out nothing or a front part of it is said.
-pub fn say_all(said: &Messages, messages: &mut Messages) -> Result<(), AllocError>
-    ensures ok { OnOk result (messages.new ≡ messages.old ++ said.now) }
-    ensures part { SaidPart said.now messages.old messages.new }
+pub fn say_all(new_messages: &Messages, messages: &mut Messages) -> Result<(), AllocError>
+    ensures ok { OnOk result (messages.new ≡ messages.old ++ new_messages.now) }
+    ensures part { MessagesPart new_messages.now messages.old messages.new }
 {
-    for i in 0..said.len() {
-        say_one(said, i, messages)?;
+    for i in 0..new_messages.len() {
+        say_one(new_messages, i, messages)?;
     }
     Ok(())
 }
 
 /// Says the message at a place of a list, where there is one.
-fn say_one(said: &Messages, i: usize, messages: &mut Messages) -> Result<(), AllocError>
-    ensures ok { OnOk result (messages.new ≡ messages.old ++ option_to_list (slice_get said.now i)) }
+fn say_one(new_messages: &Messages, i: usize, messages: &mut Messages) -> Result<(), AllocError>
+    ensures ok { OnOk result (messages.new ≡ messages.old ++ option_to_list (slice_get new_messages.now i)) }
     ensures err { OnErr result (messages.new ≡ messages.old) }
 {
-    match said.line(i) {
+    match new_messages.line(i) {
         Some(line) => messages.push(line),
         None => Ok(()),
     }
@@ -104,7 +104,7 @@ fn say_one(said: &Messages, i: usize, messages: &mut Messages) -> Result<(), All
 /// `FILE:N: TEXT`.
 fn line_at(alloc: Global, file: &OneLine, number: u32, text: &[u8]) -> Result<Vec<u8>, AllocError>
     requires { is_line text.now ≡ true }
-    ensures text { IfOk result (λ line. line.items ≡ said_at (record { file = file.now; number = number }) text.now) }
+    ensures text { IfOk result (λ line. line.items ≡ message_text_at (record { file = file.now; number = number }) text.now) }
     ensures line { IfOk result (λ line. is_line line.items ≡ true) }
 {
     let mut line = Vec::from_slice(alloc, file.as_slice())?;

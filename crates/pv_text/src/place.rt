@@ -4,7 +4,7 @@ ghost use Rattle.std.specs.Prelude.{◌≡◌, IfOk};
 use crate::one_line::OneLine;
 use std::alloc::AllocError;
 
-/// Where a line of a configuration stands.
+/// The source location of a line of a configuration.
 #[derive(Drop)]
 pub struct Place {
     /// The printed path of the file.

@@ -139,12 +139,12 @@ path_cases p q = by (same_path p q) refl
     by false e = inr (λ is. let yes : same_path p q ≡ true = (same_path-decides p q).1 is in cc)
 
 module _ (g h : Edges) (d : Path) (k f : ℕ) (n : List ℕ) (change : IsSet k n (Some f) g h) (once : Once g) (at : led g 0 d ≡ Some k)
-    (bare : (m : List ℕ) → g f m ≡ None) (unreached : (p : Path) → led g 0 p ≢ Some f) (absent : led g 0 (d ++ n ∷ []) ≡ None) where
+    (object_state : (m : List ℕ) → g f m ≡ None) (unreached : (p : Path) → led g 0 p ≢ Some f) (absent : led g 0 (d ++ n ∷ []) ≡ None) where
   pub made_is : led h 0 (d ++ n ∷ []) ≡ Some f
   made_is = child_is g h d k n (Some f) change once at
 
-  still_bare : (m : List ℕ) → h f m ≡ None
-  still_bare m = change.else f m (λ x. unreached d (at ∙ ap Some (sym x.0))) ∙ bare m
+  still_object_state : (m : List ℕ) → h f m ≡ None
+  still_object_state m = change.else f m (λ x. unreached d (at ∙ ap Some (sym x.0))) ∙ object_state m
 
   pub made_else : (q : Path) → q ≢ d ++ n ∷ [] → led h 0 q ≡ led g 0 q
   made_else q other = by (is_prefix (d ++ n ∷ []) q) refl
@@ -152,7 +152,7 @@ module _ (g h : Edges) (d : Path) (k f : ℕ) (n : List ℕ) (change : IsSet k n
       below : (r : Path) → q ≡ (d ++ n ∷ []) ++ r → led h 0 q ≡ led g 0 q
       below [] is = absurd (other (is ∙ append-nil (d ++ n ∷ [])))
       below (m ∷ r) is =
-          ap (led h 0) is ∙ led-on h 0 f (d ++ n ∷ []) (m ∷ r) made_is ∙ ap (option_and_then (λ j. led h j r)) (still_bare m)
+          ap (led h 0) is ∙ led-on h 0 f (d ++ n ∷ []) (m ∷ r) made_is ∙ ap (option_and_then (λ j. led h j r)) (still_object_state m)
           ∙ sym (ap (led g 0) is ∙ led-off g 0 (d ++ n ∷ []) (m ∷ r) absent)
 
       by : (b : Bool) → is_prefix (d ++ n ∷ []) q ≡ b → led h 0 q ≡ led g 0 q

@@ -184,7 +184,7 @@ module _ (s s1 new : List Slot) (free rest : List ℕ) (k f : ℕ) (n : List ℕ
   }
     where
       by : (i : ℕ) (m : List ℕ) → ((i ≡ k) × (m ≡ n) → ⊥) → (i ≡ f) ⊎ (i ≢ f) → child_in new i m ≡ cleared f (child_in s) i m
-      by i m differ (inl same) = ap (λ v. child_in new v m) same ∙ placed.bare m ∙ sym (ap (λ v. cleared f (child_in s) v m) same ∙ cleared_here f (child_in s) m)
+      by i m differ (inl same) = ap (λ v. child_in new v m) same ∙ placed.object_state m ∙ sym (ap (λ v. cleared f (child_in s) v m) same ∙ cleared_here f (child_in s) m)
       by i m differ (inr apart_i) = (placed.else i apart_i).1 m ∙ edges.else i m differ ∙ sym (cleared_other f (child_in s) i m apart_i)
 
   at_cleared : led (cleared f (child_in s)) 0 d ≡ Some k

@@ -13,6 +13,6 @@ burnt_within limit (Some left) refused done b = let same : Some (left + done) �
 pub burnt_out : (limit : ℕ) (left : Option ℕ) (refused : ℕ) (done : ℕ) → Burnt (Some limit) 0 0 left refused done
     → capped (0 + refused) ≡ faults_after 1 (capped (0 + 0)) → done ≡ limit
 burnt_out limit left refused done b counted =
-    let none : left ≡ Some 0 = b.spent (λ h. absurd (let no : 0 < 0 = h in omega arith)) (omega (arith, counted)) in
+    let none : left ≡ Some 0 = b.used_up (λ h. absurd (let no : 0 < 0 = h in omega arith)) (omega (arith, counted)) in
     let same : whole_limit (Some 0) done ≡ Some (limit + 0) = rw none at b.limit in
     grind arith

@@ -45,7 +45,7 @@ places_unchanged path f t none = λ j q. at q j
 -- ---- a child comes
 
 module _ (g h : Edges) (a b : Objects) (d : Path) (k f : ℕ) (n : List ℕ) (o : Object) (change : IsSet k n (Some f) g h) (once : Once g) (at : led g 0 d ≡ Some k)
-    (bare : (m : List ℕ) → g f m ≡ None) (unreached : (p : Path) → led g 0 p ≢ Some f) (absent : led g 0 (d ++ n ∷ []) ≡ None)
+    (object_state : (m : List ℕ) → g f m ≡ None) (unreached : (p : Path) → led g 0 p ≢ Some f) (absent : led g 0 (d ++ n ∷ []) ≡ None)
     (new : b f ≡ Some o) (old : (i : ℕ) → i ≢ f → b i ≡ a i) where
   came_at : (q : Path) → places_by h b q ≡ put_at (d ++ n ∷ []) (Some o) (places_by g a) q
   came_at q = by (same_path (d ++ n ∷ []) q) refl
@@ -57,10 +57,10 @@ module _ (g h : Edges) (a b : Objects) (d : Path) (k f : ℕ) (n : List ℕ) (o 
       by : (t : Bool) → same_path (d ++ n ∷ []) q ≡ t → places_by h b q ≡ cond t (Some o) (places_by g a q)
       by true e =
           ap (places_by h b) (sym ((same_path-decides (d ++ n ∷ []) q).0 e))
-          ∙ ap (option_and_then b) (made_is g h d k f n change once at bare unreached absent) ∙ new
+          ∙ ap (option_and_then b) (made_is g h d k f n change once at object_state unreached absent) ∙ new
       by false e =
           let other : q ≢ d ++ n ∷ [] = λ same. (let yes : same_path (d ++ n ∷ []) q ≡ true = (same_path-decides (d ++ n ∷ []) q).1 (sym same) in let no : true ≡ false = sym yes ∙ e in cc) in
-          ap (option_and_then b) (made_else g h d k f n change once at bare unreached absent q other) ∙ elsewhere (led g 0 q) refl
+          ap (option_and_then b) (made_else g h d k f n change once at object_state unreached absent q other) ∙ elsewhere (led g 0 q) refl
 
   pub places_made : places_by h b ≡ put_at (d ++ n ∷ []) (Some o) (places_by g a)
   places_made = λ j q. came_at q j

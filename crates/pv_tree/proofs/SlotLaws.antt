@@ -126,12 +126,12 @@ module _ (slots : List Slot) (k : ℕ) (s new : Slot) (within : k < length slots
 
 pub placed_free : (slots : List Slot) (free rest : List ℕ) (k : ℕ) (new : Slot) → k < length slots → free ≡ rest ++ k ∷ [] → new.children ≡ fin.empty
     → IsPlaced (next_number slots free) new.object (child_in slots) (object_in slots) (child_in (set slots k new)) (object_in (set slots k new))
-placed_free slots free rest k new within is bare =
+placed_free slots free rest k new within is object_state =
     subst (λ i. IsPlaced i new.object (child_in slots) (object_in slots) (child_in (set slots k new)) (object_in (set slots k new)))
     (sym (ap (λ o. unwrap_or o (length slots)) (slice_get_last rest free k is)))
     (record {
       here = ap (option_map (λ (x : Slot). x.object)) (slice_get-set_same slots k new within);
-      bare = λ name. ap (option_and_then (λ (x : Slot). fin.get x.children name)) (slice_get-set_same slots k new within) ∙ ap (λ (c : Children). fin.get c name) bare ∙ fin.get-empty name_cmp name;
+      object_state = λ name. ap (option_and_then (λ (x : Slot). fin.get x.children name)) (slice_get-set_same slots k new within) ∙ ap (λ (c : Children). fin.get c name) object_state ∙ fin.get-empty name_cmp name;
       else = λ i other. (
         ap (option_map (λ (x : Slot). x.object)) (slice_get-set_other slots k i new other),
         λ name. ap (option_and_then (λ (x : Slot). fin.get x.children name)) (slice_get-set_other slots k i new other),
@@ -140,11 +140,11 @@ placed_free slots free rest k new within is bare =
 
 pub placed_new : (slots after : List Slot) (free : List ℕ) (new : Slot) → free ≡ [] → after ≡ slots ++ new ∷ [] → new.children ≡ fin.empty
     → IsPlaced (next_number slots free) new.object (child_in slots) (object_in slots) (child_in after) (object_in after)
-placed_new slots after free new none is bare =
+placed_new slots after free new none is object_state =
     subst (λ v. IsPlaced (next_number slots v) new.object (child_in slots) (object_in slots) (child_in after) (object_in after)) (sym none)
     (subst (λ v. IsPlaced (length slots) new.object (child_in slots) (object_in slots) (child_in v) (object_in v)) (sym is) (record {
       here = ap (option_map (λ (x : Slot). x.object)) (slice_get_push slots new);
-      bare = λ name. ap (option_and_then (λ (x : Slot). fin.get x.children name)) (slice_get_push slots new) ∙ ap (λ (c : Children). fin.get c name) bare ∙ fin.get-empty name_cmp name;
+      object_state = λ name. ap (option_and_then (λ (x : Slot). fin.get x.children name)) (slice_get_push slots new) ∙ ap (λ (c : Children). fin.get c name) object_state ∙ fin.get-empty name_cmp name;
       else = λ i other. (
         ap (option_map (λ (x : Slot). x.object)) (slice_get_before slots i new other),
         λ name. ap (option_and_then (λ (x : Slot). fin.get x.children name)) (slice_get_before slots i new other),

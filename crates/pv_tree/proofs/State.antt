@@ -228,8 +228,8 @@ pub added_held : (slots new : List Slot) (steps : List Step) (held : Held) (path
     → record { files = files_of new; steps = steps } ≡ record held { files = fin.insert held.files path o }
 added_held slots new steps held path o same forest kept ok =
     let files : files_of new ≡ fin.insert held.files path o = added_files slots new held.files path o (ap (λ (h : Held). h.files) same) forest kept ok in
-    let told : steps ≡ held.steps = ap (λ (h : Held). h.steps) same in
-    λ j. record { files = files j; steps = told j }
+    let stated : steps ≡ held.steps = ap (λ (h : Held). h.steps) same in
+    λ j. record { files = files j; steps = stated j }
 
 -- ---- a root alone
 
@@ -237,9 +237,9 @@ abbrev alone : Object → Places
 alone o [] = Some o
 alone o (n ∷ p) = None
 
-module _ (s : Slot) (bare : s.children ≡ fin.empty) where
+module _ (s : Slot) (object_state : s.children ≡ fin.empty) where
   no_child : (n : List ℕ) → child_in (s ∷ []) 0 n ≡ None
-  no_child n = ap (λ (c : Children). fin.get c n) bare ∙ fin.get-empty name_cmp n
+  no_child n = ap (λ (c : Children). fin.get c n) object_state ∙ fin.get-empty name_cmp n
 
   root_numbers : (q : Path) (i : ℕ) → number_in (s ∷ []) q ≡ Some i → (q ≡ []) × (i ≡ 0)
   root_numbers [] i e = (refl, let both : Some i ≡ Some 0 = sym e in cc)
@@ -308,11 +308,11 @@ done (Ok u) a b c is ok = ok ∙ is
 done (Err e) a b c is ok = tt
 
 pub new_tree : (s : Slot) (slots : List Slot) (free : List ℕ) (o : Object) → s.children ≡ fin.empty → s.object ≡ o → slots ≡ s ∷ [] → free ≡ [] → o.node.kind ≡ Directory → IsObject o → IsTreeOf slots free
-new_tree s slots free o bare is one none directory whole =
+new_tree s slots free o object_state is one none directory whole =
     subst (λ (v : List Slot). IsTreeOf v free) (sym one) (subst (λ (v : List ℕ). IsTreeOf (s ∷ []) v) (sym none)
-    (root_tree s bare (ap (λ (x : Object). x.node.kind) is ∙ directory) (subst IsObject (sym is) whole)))
+    (root_tree s object_state (ap (λ (x : Object). x.node.kind) is ∙ directory) (subst IsObject (sym is) whole)))
 
 pub new_files : (s : Slot) (slots : List Slot) (o : Object) → s.children ≡ fin.empty → s.object ≡ o → slots ≡ s ∷ [] → files_of slots ≡ fin.insert fin.empty [] o
-new_files s slots o bare is one = ap files_of one ∙ root_files s bare ∙ ap (fin.insert fin.empty []) is
+new_files s slots o object_state is one = ap files_of one ∙ root_files s object_state ∙ ap (fin.insert fin.empty []) is
 
 -- ---- the directory of a path

@@ -30,7 +30,7 @@ pub record IsChanged (k : ℕ) (f : Object → Object) (a b : Objects) : Type 0 
 -- a number has an object and no edges, and each other is as before
 pub record IsPlaced (k : ℕ) (o : Object) (g : Edges) (a : Objects) (h : Edges) (b : Objects) : Type 0 where
   pub here : b k ≡ Some o
-  pub bare : (name : List ℕ) → h k name ≡ None
+  pub object_state : (name : List ℕ) → h k name ≡ None
   pub else : (i : ℕ) → i ≢ k → (b i ≡ a i) × ((name : List ℕ) → h i name ≡ g i name)
 
 -- what stands at each path from the root, which has the number 0

@@ -28,23 +28,23 @@ whole_limit None _ = None
 whole_limit (Some left) done = Some (left + done)
 
 -- a fuse that has refused a step has nothing left
-abbrev pub IsSpent : Option ℕ → ℕ → Type 0
-IsSpent left refused = 0 < refused → left ≡ Some 0
+abbrev pub IsUsedUp : Option ℕ → ℕ → Type 0
+IsUsedUp left refused = 0 < refused → left ≡ Some 0
 
 -- how a fuse burns: only steps that were done use it up, and it refuses only where nothing is left
 pub record Burnt (left : Option ℕ) (refused : ℕ) (done : ℕ) (left' : Option ℕ) (refused' : ℕ) (done' : ℕ) : Type 0 where
   pub limit : whole_limit left' done' ≡ whole_limit left done
   pub refusals : refused ≤ refused'
-  pub spent : IsSpent left refused → IsSpent left' refused'
+  pub used_up : IsUsedUp left refused → IsUsedUp left' refused'
 
 -- over any number of calls: none, and one run of calls after another
 pub burnt_refl : (left : Option ℕ) (refused : ℕ) (done : ℕ) → Burnt left refused done left refused done
-burnt_refl left refused done = record { limit = refl; refusals = omega arith; spent = λ h. h }
+burnt_refl left refused done = record { limit = refl; refusals = omega arith; used_up = λ h. h }
 
 pub burnt_trans : (l : Option ℕ) (r : ℕ) (d : ℕ) (l' : Option ℕ) (r' : ℕ) (d' : ℕ) (l'' : Option ℕ) (r'' : ℕ) (d'' : ℕ) →
     Burnt l r d l' r' d' → Burnt l' r' d' l'' r'' d'' → Burnt l r d l'' r'' d''
 burnt_trans _ _ _ _ _ _ _ _ _ p q = record {
   limit = q.limit ∙ p.limit;
   refusals = omega (arith, p.refusals, q.refusals);
-  spent = λ h. q.spent (p.spent h);
+  used_up = λ h. q.used_up (p.used_up h);
 }

@@ -198,7 +198,7 @@ impl TreeBuilder {
         })
     }
 
-    /// Adds an object, with its stamps as they are, whose path and payload are taken over. After a fault the
+    /// Adds an object, with its timestamps as they are, whose path and payload are taken over. After a fault the
     /// tree is as before.
     pub fn add(&mut self, path: TreePath, object: Object) -> Result<(), BuildFault>
         requires { IsObject object }

@@ -19,4 +19,4 @@ pub use builder::{BuildFault, TreeBuilder};
 pub use fused::Fused;
 pub use mem_tree::MemTree;
 pub use pv_steps::{Kind, Node, Object, Stamps, Step, Tree, TreeFault, Why};
-pub use walk::{Place, Walk};
+pub use walk::{Walk, WalkEntry};

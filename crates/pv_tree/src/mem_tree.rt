@@ -71,8 +71,8 @@ impl MemTree {
         }
     }
 
-    /// Adds an object at an absent path in a directory, with its stamps as they are, and records no step. After running
-    /// out of memory the tree is as before.
+    /// Adds an object at an absent path in a directory, with its timestamps as they are, and records no step. After
+    /// running out of memory the tree is as before.
     pub fn add(&mut self, path: &TreePath, node: Node, payload: &[u8]) -> Result<(), AllocError>
         requires room { HasRoom (places self.old.files) path.now }
         requires object { IsObject (record { node = node; payload = payload.now }) }

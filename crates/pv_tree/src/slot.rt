@@ -52,7 +52,7 @@ fn set_owner(object: &mut Object, uid: u32, gid: u32, now: u64)
     node.stamps.change = now;
 }
 
-/// Sets the stamps of access and modification.
+/// Sets the timestamps of access and modification.
 fn set_stamps(object: &mut Object, access: u64, modify: u64, now: u64)
     ensures { object.new ≡ with_stamps access modify now object.old }
 {

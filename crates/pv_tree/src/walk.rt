@@ -13,7 +13,7 @@ use std::marker::Model;
 
 /// What stands at a path of a tree.
 #[derive(Clone, Copy)]
-pub struct Place<'a> {
+pub struct WalkEntry<'a> {
     /// The names of the path.
     pub names: &'a [Name],
     /// The node of the object.
@@ -62,14 +62,14 @@ impl<'a> Walk<'a> {
     }
 
     /// Where the walk stands, or nothing at its end. It takes no memory.
-    pub fn place(&self) -> Option<Place<'_>>
+    pub fn place(&self) -> Option<WalkEntry<'_>>
         ensures { option_map (λ p. (p.names.now, record { node = p.node.now; payload = p.payload.now })) result
             ≡ slice_get self.now 0 }
     {
         match self.opened.last() {
             Some(last) => {
                 let object = &self.slots[last.0].object;
-                Some(Place {
+                Some(WalkEntry {
                     names: self.names.as_slice(),
                     node: &object.node,
                     payload: object.payload.as_slice(),

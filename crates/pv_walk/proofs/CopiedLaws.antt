@@ -18,12 +18,12 @@ use Rattle.pv_steps.proofs.ObjectLaws.{IsObject-with_owner, IsObject-with_mode}
 use Rattle.pv_steps.proofs.NameLaws.{names_below-rise, names_below-are}
 use Rattle.pv_steps.proofs.StepLaws.{is_among, later_among}
 use Rattle.pv_steps.proofs.TreeLaws.{present_above, directory_above}
-use Rattle.pv_dress.specs.declared.bare.Bare.{Bare}
-use Rattle.pv_dress.specs.declared.bare.Body.{Body}
-use Rattle.pv_dress.specs.Dressing.{IsDress}
-use Rattle.pv_dress.specs.Nodes.{bare_of, bares_of, is_link}
-use Rattle.pv_dress.specs.Operations as operations
-use Rattle.pv_dress.proofs.EditLaws.{path_cases}
+use Rattle.pv_metadata.specs.declared.object_state.ObjectState.{ObjectState}
+use Rattle.pv_metadata.specs.declared.object_state.Body.{Body}
+use Rattle.pv_metadata.specs.SettingMetadata.{IsMetadata}
+use Rattle.pv_metadata.specs.Nodes.{object_state_of, object_states_of, is_link}
+use Rattle.pv_metadata.specs.Operations as operations
+use Rattle.pv_metadata.proofs.EditLaws.{path_cases}
 use Rattle.pv_walk.specs.declared.copying.TopNode.{TopNode}
 use Rattle.pv_walk.specs.Copying.{IsTopNode, moded, topped, copy_from}
 use Rattle.pv_walk.specs.Pieces.{what_of, plain, IsWhole, names_at}
@@ -59,7 +59,7 @@ body_of : (kind : Kind) (payload : List ℕ) (major minor : ℕ) → Body
 body_of kind payload major minor = record { kind = kind; payload = payload; major = major; minor = minor }
 
 -- what is first made of an object has all of its body
-body_is : (kind : Kind) (b : Bare) → b.body.kind ≡ kind → PayloadFits kind b.body.payload → NumbersFit kind b.body.major b.body.minor → (plain b).body ≡ b.body
+body_is : (kind : Kind) (b : ObjectState) → b.body.kind ≡ kind → PayloadFits kind b.body.payload → NumbersFit kind b.body.major b.body.minor → (plain b).body ≡ b.body
 body_is kind b e p n = by kind e p n
   where
     other : (k : Kind) → b.body.kind ≡ k → (plain (record b { body = record b.body { kind = k } })).body ≡ record b.body { kind = k } → (plain b).body ≡ b.body
@@ -73,7 +73,7 @@ body_is kind b e p n = by kind e p n
     by CharDevice e p n = other CharDevice e (λ i. record { kind = CharDevice; payload = sym p i; major = b.body.major; minor = b.body.minor })
     by BlockDevice e p n = other BlockDevice e (λ i. record { kind = BlockDevice; payload = sym p i; major = b.body.major; minor = b.body.minor })
 
-target_is : (kind : Kind) (b : Bare) → b.body.kind ≡ kind → PayloadFits kind b.body.payload → HasTarget (what_of b.body)
+target_is : (kind : Kind) (b : ObjectState) → b.body.kind ≡ kind → PayloadFits kind b.body.payload → HasTarget (what_of b.body)
 target_is kind b e p = by kind e p
   where
     other : (k : Kind) → b.body.kind ≡ k → HasTarget (what_of (record b.body { kind = k })) → HasTarget (what_of b.body)
@@ -87,13 +87,13 @@ target_is kind b e p = by kind e p
     by CharDevice e p = other CharDevice e tt
     by BlockDevice e p = other BlockDevice e tt
 
-pub whole_object : (o : Object) → IsObject o → IsWhole (bare_of o)
+pub whole_object : (o : Object) → IsObject o → IsWhole (object_state_of o)
 whole_object o is =
-    let dress : IsDress o.node.kind (bare_of o).dress = record { owner = is.owner; special = is.special; acl = is.acl; fits = is.kind_acl; attrs = is.attrs; letters = is.letters } in
+    let metadata : IsMetadata o.node.kind (object_state_of o).metadata = record { owner = is.owner; special = is.special; acl = is.acl; fits = is.kind_acl; attrs = is.attrs; letters = is.letters } in
     record {
-      target = target_is o.node.kind (bare_of o) refl is.payload;
-      body = body_is o.node.kind (bare_of o) refl is.payload is.numbers;
-      dress = dress;
+      target = target_is o.node.kind (object_state_of o) refl is.payload;
+      body = body_is o.node.kind (object_state_of o) refl is.payload is.numbers;
+      metadata = metadata;
     }
 
 -- ---- and with what the top gets
@@ -109,47 +109,47 @@ module _ (top : TopNode) (fits : IsTopNode top) (o : Object) (is : IsObject o) w
   owned_is : IsObject owned
   owned_is = IsObject-with_owner 0 (lit≤ tt) (unwrap_or top.uid o.node.uid) (unwrap_or top.gid o.node.gid) o (id_is top.uid o.node.uid fits.uid is.owner.0) (id_is top.gid o.node.gid fits.gid is.owner.1) is
 
-  pub whole_top : IsWhole (topped top (bare_of o))
+  pub whole_top : IsWhole (topped top (object_state_of o))
   whole_top = by top.mode fits.mode (is_link o.node.kind) refl
     where
       no_link : (kind : Kind) → is_link kind ≡ false → kind ≡ Link → ⊥
       no_link kind e s = let no : true ≡ false = sym (ap is_link s) ∙ e in cc
 
-      by : (mode : Option ℕ) → IfSome mode (λ m. m ≤ 0o7777) → (link : Bool) → is_link o.node.kind ≡ link → IsWhole (moded mode (bare_of owned))
+      by : (mode : Option ℕ) → IfSome mode (λ m. m ≤ 0o7777) → (link : Bool) → is_link o.node.kind ≡ link → IsWhole (moded mode (object_state_of owned))
       by None h link e = whole_object owned owned_is
-      by (Some m) h true e = subst (λ (c : Bool). IsWhole (cond c (bare_of owned) (record (bare_of owned) { dress = operations.with_mode o.node.kind m false (bare_of owned).dress }))) (sym e) (whole_object owned owned_is)
-      by (Some m) h false e = subst (λ (c : Bool). IsWhole (cond c (bare_of owned) (record (bare_of owned) { dress = operations.with_mode o.node.kind m false (bare_of owned).dress }))) (sym e)
+      by (Some m) h true e = subst (λ (c : Bool). IsWhole (cond c (object_state_of owned) (record (object_state_of owned) { metadata = operations.with_mode o.node.kind m false (object_state_of owned).metadata }))) (sym e) (whole_object owned owned_is)
+      by (Some m) h false e = subst (λ (c : Bool). IsWhole (cond c (object_state_of owned) (record (object_state_of owned) { metadata = operations.with_mode o.node.kind m false (object_state_of owned).metadata }))) (sym e)
           (whole_object (with_mode m 0 owned) (IsObject-with_mode 0 (lit≤ tt) m owned h (no_link o.node.kind e) owned_is))
 
-top_kind : (top : TopNode) (b : Bare) → (topped top b).body.kind ≡ b.body.kind
+top_kind : (top : TopNode) (b : ObjectState) → (topped top b).body.kind ≡ b.body.kind
 top_kind top b = by top.mode (is_link b.body.kind)
   where
-    either : (c : Bool) (x y : Bare) (kind : Kind) → x.body.kind ≡ kind → y.body.kind ≡ kind → (cond c x y).body.kind ≡ kind
+    either : (c : Bool) (x y : ObjectState) (kind : Kind) → x.body.kind ≡ kind → y.body.kind ≡ kind → (cond c x y).body.kind ≡ kind
     either true x y kind f g = f
     either false x y kind f g = g
 
-    by : (mode : Option ℕ) → Bool → (moded mode (record b { dress = record b.dress { uid = unwrap_or top.uid b.dress.uid; gid = unwrap_or top.gid b.dress.gid } })).body.kind ≡ b.body.kind
+    by : (mode : Option ℕ) → Bool → (moded mode (record b { metadata = record b.metadata { uid = unwrap_or top.uid b.metadata.uid; gid = unwrap_or top.gid b.metadata.gid } })).body.kind ≡ b.body.kind
     by None c = refl
     by (Some m) c = either (is_link b.body.kind) _ _ b.body.kind refl refl
 
 -- ---- the subtree
 
-some_bare : (o : Option Object) → is_some (option_map bare_of o) ≡ true → is_some o ≡ true
-some_bare None h = h
-some_bare (Some x) h = refl
+some_object_state : (o : Option Object) → is_some (option_map object_state_of o) ≡ true → is_some o ≡ true
+some_object_state None h = h
+some_object_state (Some x) h = refl
 
 -- what is copied is there
-pub copied_stands : (top : Bare → Bare) (source : Path) (t : Files) (q : Path) → is_some (copy_from top source (bares_of (places t)) q) ≡ true → is_some (places t (source ++ q)) ≡ true
-copied_stands top source t [] h = ap (λ (p : Path). is_some (places t p)) (append-nil source) ∙ some_bare (places t source) (some_top (bares_of (places t) source) h)
+pub copied_stands : (top : ObjectState → ObjectState) (source : Path) (t : Files) (q : Path) → is_some (copy_from top source (object_states_of (places t)) q) ≡ true → is_some (places t (source ++ q)) ≡ true
+copied_stands top source t [] h = ap (λ (p : Path). is_some (places t p)) (append-nil source) ∙ some_object_state (places t source) (some_top (object_states_of (places t) source) h)
   where
-    some_top : (o : Option Bare) → is_some (option_map top o) ≡ true → is_some o ≡ true
+    some_top : (o : Option ObjectState) → is_some (option_map top o) ≡ true → is_some o ≡ true
     some_top None h = h
     some_top (Some x) h = refl
 copied_stands top source t (n ∷ q) h = by (has_staging (n ∷ q)) h
   where
-    by : (c : Bool) → is_some (cond c None (bares_of (places t) (source ++ n ∷ q))) ≡ true → is_some (places t (source ++ n ∷ q)) ≡ true
+    by : (c : Bool) → is_some (cond c None (object_states_of (places t) (source ++ n ∷ q))) ≡ true → is_some (places t (source ++ n ∷ q)) ≡ true
     by true e = let no : false ≡ true = e in cc
-    by false e = some_bare (places t (source ++ n ∷ q)) e
+    by false e = some_object_state (places t (source ++ n ∷ q)) e
 
 -- what comes below the source is among those below the path to which it is copied
 pub among_copied : (source path rest : Path) (paths : List Path) → is_among (source ++ rest) paths ≡ true → is_among (path ++ rest) (map (λ r. path ++ r) (filter_map (rest_under source) paths)) ≡ true
@@ -167,50 +167,50 @@ among_copied source path rest (k ∷ paths) h = by (among_copied source path res
     by more (Some r) e (inr other) g = later_among (path ++ r) (path ++ rest) (map (λ r. path ++ r) (filter_map (rest_under source) paths)) (more (among_others (source ++ rest) k paths other g))
 
 module _ (top : TopNode) (fits : IsTopNode top) (source : Path) (t : Files) (tree : IsTree t) where
-  abbrev subtree : Path → Option Bare
-  subtree = copy_from (topped top) source (bares_of (places t))
+  abbrev subtree : Path → Option ObjectState
+  subtree = copy_from (topped top) source (object_states_of (places t))
 
   -- no name below the top is a staging name
-  visible : (q : Path) → is_some (copy_from (topped top) source (bares_of (places t)) q) ≡ true → has_staging q ≡ false
+  visible : (q : Path) → is_some (copy_from (topped top) source (object_states_of (places t)) q) ≡ true → has_staging q ≡ false
   visible [] h = refl
   visible (n ∷ q) h = by (has_staging (n ∷ q)) h
     where
-      by : (c : Bool) → is_some (cond c None (bares_of (places t) (source ++ n ∷ q))) ≡ true → c ≡ false
+      by : (c : Bool) → is_some (cond c None (object_states_of (places t) (source ++ n ∷ q))) ≡ true → c ≡ false
       by true e = let no : false ≡ true = e in cc
       by false e = refl
 
-  kind_bare : (o : Option Object) → option_map (λ (b : Bare). b.body.kind) (option_map bare_of o) ≡ kind_of o
-  kind_bare None = refl
-  kind_bare (Some x) = refl
+  kind_object_state : (o : Option Object) → option_map (λ (b : ObjectState). b.body.kind) (option_map object_state_of o) ≡ kind_of o
+  kind_object_state None = refl
+  kind_object_state (Some x) = refl
 
-  kind_top : (o : Option Object) → option_map (λ (b : Bare). b.body.kind) (option_map (topped top) (option_map bare_of o)) ≡ kind_of o
+  kind_top : (o : Option Object) → option_map (λ (b : ObjectState). b.body.kind) (option_map (topped top) (option_map object_state_of o)) ≡ kind_of o
   kind_top None = refl
-  kind_top (Some x) = ap Some (top_kind top (bare_of x))
+  kind_top (Some x) = ap Some (top_kind top (object_state_of x))
 
-  kind_copied : (q : Path) → has_staging q ≡ false → kind_in (copy_from (topped top) source (bares_of (places t))) q ≡ kind_of (places t (source ++ q))
+  kind_copied : (q : Path) → has_staging q ≡ false → kind_in (copy_from (topped top) source (object_states_of (places t))) q ≡ kind_of (places t (source ++ q))
   kind_copied [] h = kind_top (places t source) ∙ ap (λ (p : Path). kind_of (places t p)) (sym (append-nil source))
-  kind_copied (n ∷ q) h = ap (λ c. option_map (λ (b : Bare). b.body.kind) (cond c None (bares_of (places t) (source ++ n ∷ q)))) h ∙ kind_bare (places t (source ++ n ∷ q))
+  kind_copied (n ∷ q) h = ap (λ c. option_map (λ (b : ObjectState). b.body.kind) (cond c None (object_states_of (places t) (source ++ n ∷ q)))) h ∙ kind_object_state (places t (source ++ n ∷ q))
 
-  deeper : (r : Path) (n : List ℕ) (x : Path) → is_some (copy_from (topped top) source (bares_of (places t)) (r ++ n ∷ x)) ≡ true → IsPresentIn (places t) ((source ++ r) ++ n ∷ x)
+  deeper : (r : Path) (n : List ℕ) (x : Path) → is_some (copy_from (topped top) source (object_states_of (places t)) (r ++ n ∷ x)) ≡ true → IsPresentIn (places t) ((source ++ r) ++ n ∷ x)
   deeper r n x h = ap (λ (p : Path). is_some (places t p)) (append_assoc source r (n ∷ x)) ∙ copied_stands (topped top) source t (r ++ n ∷ x) h
 
-  above_visible : (r : Path) (n : List ℕ) (x : Path) → is_some (copy_from (topped top) source (bares_of (places t)) (r ++ n ∷ x)) ≡ true → has_staging r ≡ false
+  above_visible : (r : Path) (n : List ℕ) (x : Path) → is_some (copy_from (topped top) source (object_states_of (places t)) (r ++ n ∷ x)) ≡ true → has_staging r ≡ false
   above_visible r n x h = first_false (has_staging r) (has_staging (n ∷ x)) (sym (has_staging-append r (n ∷ x)) ∙ visible (r ++ n ∷ x) h)
 
-  object_fits : (q : Path) (b : Bare) → copy_from (topped top) source (bares_of (places t)) q ≡ Some b → IsWhole b
+  object_fits : (q : Path) (b : ObjectState) → copy_from (topped top) source (object_states_of (places t)) q ≡ Some b → IsWhole b
   object_fits [] b e = by (places t source) refl e
     where
-      by : (o : Option Object) → places t source ≡ o → option_map (topped top) (option_map bare_of o) ≡ Some b → IsWhole b
+      by : (o : Option Object) → places t source ≡ o → option_map (topped top) (option_map object_state_of o) ≡ Some b → IsWhole b
       by None there h = let no : None ≡ Some b = h in cc
-      by (Some x) there h = let same : topped top (bare_of x) ≡ b = (let both : Some (topped top (bare_of x)) ≡ Some b = h in cc) in subst IsWhole same (whole_top top fits x (tree.objects source x there))
+      by (Some x) there h = let same : topped top (object_state_of x) ≡ b = (let both : Some (topped top (object_state_of x)) ≡ Some b = h in cc) in subst IsWhole same (whole_top top fits x (tree.objects source x there))
   object_fits (n ∷ q) b e = by (has_staging (n ∷ q)) (places t (source ++ n ∷ q)) refl e
     where
-      by : (c : Bool) (o : Option Object) → places t (source ++ n ∷ q) ≡ o → cond c None (option_map bare_of o) ≡ Some b → IsWhole b
+      by : (c : Bool) (o : Option Object) → places t (source ++ n ∷ q) ≡ o → cond c None (option_map object_state_of o) ≡ Some b → IsWhole b
       by true o there h = let no : None ≡ Some b = h in cc
       by false None there h = let no : None ≡ Some b = h in cc
-      by false (Some x) there h = let same : bare_of x ≡ b = (let both : Some (bare_of x) ≡ Some b = h in cc) in subst IsWhole same (whole_object x (tree.objects (source ++ n ∷ q) x there))
+      by false (Some x) there h = let same : object_state_of x ≡ b = (let both : Some (object_state_of x) ≡ Some b = h in cc) in subst IsWhole same (whole_object x (tree.objects (source ++ n ∷ q) x there))
 
-  pub copied_subtree : IsSubtree (copy_from (topped top) source (bares_of (places t))) (names_at source t)
+  pub copied_subtree : IsSubtree (copy_from (topped top) source (object_states_of (places t))) (names_at source t)
   copied_subtree = record {
     closed = λ r n x h. kind_copied r (above_visible r n x h) ∙ directory_above (places t) tree (source ++ r) n x (deeper r n x h);
     fits = object_fits;
@@ -221,9 +221,9 @@ module _ (top : TopNode) (fits : IsTopNode top) (source : Path) (t : Files) (tre
   }
 
 -- the top of a copy of what is there
-pub top_present : (top : TopNode) (source : Path) (t : Files) → is_some (places t source) ≡ true → is_some (copy_from (topped top) source (bares_of (places t)) []) ≡ true
+pub top_present : (top : TopNode) (source : Path) (t : Files) → is_some (places t source) ≡ true → is_some (copy_from (topped top) source (object_states_of (places t)) []) ≡ true
 top_present top source t = by (places t source)
   where
-    by : (o : Option Object) → is_some o ≡ true → is_some (option_map (topped top) (option_map bare_of o)) ≡ true
+    by : (o : Option Object) → is_some o ≡ true → is_some (option_map (topped top) (option_map object_state_of o)) ≡ true
     by None h = h
     by (Some x) h = refl

@@ -6,7 +6,7 @@ use Rattle.std.proofs.lemmas.List.{append-nil}
 use Rattle.std.specs.List.{cons_option}
 use Rattle.std.specs.FinMap as fin
 use Rattle.std.proofs.lemmas.Bool.{cases_Bool}
-use Rattle.pv_dress.specs.declared.bare.Bare.{Bare}
+use Rattle.pv_metadata.specs.declared.object_state.ObjectState.{ObjectState}
 use Rattle.pv_path.specs.Paths.{Path, same_path, rest_under}
 use Rattle.pv_path.proofs.PathLaws.{rest_under-append, rest_under-Some, same_path-refl}
 use Rattle.pv_steps.specs.Trees.{Files, places}
@@ -20,7 +20,7 @@ use Rattle.pv_walk.specs.Pieces.{what_of, built, made_of, IsPlan, IsDoable, AreD
 use Rattle.pv_walk.specs.Staging.{most_staged}
 use Rattle.pv_walk.proofs.CountLaws.{times-filter, times-keys, length-times, same_or_not}
 use Rattle.pv_walk.proofs.BuildingLaws.{rest_same}
-use Rattle.pv_dress.specs.Nodes.{bare_of}
+use Rattle.pv_metadata.specs.Nodes.{object_state_of}
 use Rattle.pv_walk.specs.Making.{held_object}
 use Rattle.pv_walk.proofs.ListingLaws.{cond-one, cond-zero}
 use Rattle.pv_walk.proofs.RemovalLaws.{no_same}
@@ -40,12 +40,12 @@ cost-push xs x is = let all = ap cost_of is in let parts = cost-append xs (x ∷
 abbrev pub made_places : List Piece → List Path
 made_places [] = []
 made_places (Make rest what ∷ pieces) = rest ∷ made_places pieces
-made_places (Give rest dress ∷ pieces) = made_places pieces
+made_places (Give rest metadata ∷ pieces) = made_places pieces
 
 pub made_places-append : (xs ys : List Piece) → made_places (xs ++ ys) ≡ made_places xs ++ made_places ys
 made_places-append [] ys = refl
 made_places-append (Make rest what ∷ xs) ys = ap (λ ps. rest ∷ ps) (made_places-append xs ys)
-made_places-append (Give rest dress ∷ xs) ys = made_places-append xs ys
+made_places-append (Give rest metadata ∷ xs) ys = made_places-append xs ys
 
 -- seven steps at most for each object that is made
 abbrev pub IsPriced : List Piece → Type 0
@@ -58,7 +58,7 @@ priced-each : (f : Path → List Piece) → ((r : Path) → IsPriced (f r)) → 
 priced-each f h r [] = refl
 priced-each f h r (n ∷ ns) = priced-append (each_below f r ns) (f (r ++ n ∷ [])) (priced-each f h r ns) (h (r ++ n ∷ []))
 
-priced-around : (r : Path) (inner : List Piece) (o : Option Bare) → IsPriced inner → IsPriced (around r inner o)
+priced-around : (r : Path) (inner : List Piece) (o : Option ObjectState) → IsPriced inner → IsPriced (around r inner o)
 priced-around r inner None h = refl
 priced-around r inner (Some b) h =
     omega (arith, h, cost-append inner (Make r (what_of b.body) ∷ []), ap length (made_places-append inner (Make r (what_of b.body) ∷ [])), length-append (made_places inner) (r ∷ []))
@@ -80,20 +80,20 @@ made_once subtree (Make rest what ∷ pieces) h q = by (made_once subtree pieces
         → ((rest ≡ q) × (same_path rest q ≡ true)) ⊎ (same_path rest q ≡ false) → cond (same_path rest q) 1 0 + times q (made_places pieces) ≤ cond (is_some (made_of (Make rest what ∷ pieces) q)) 1 0
     by before (b, (there, (whole, (same, (none, place))))) (inl e) =
         let here : built pieces (λ q. None) q ≡ None = ap (built pieces (λ q. None)) (sym e.0) ∙ none in
-        let zero : times q (made_places pieces) ≤ 0 = subst (λ (v : Option Bare). times q (made_places pieces) ≤ cond (is_some v) 1 0) here before in
-        let after = cond-one (is_some (made_of (Make rest what ∷ pieces) q)) (ap (λ c. is_some (cond c (Some (bare_of (held_object what 0))) (built pieces (λ q. None) q))) e.1) in
+        let zero : times q (made_places pieces) ≤ 0 = subst (λ (v : Option ObjectState). times q (made_places pieces) ≤ cond (is_some v) 1 0) here before in
+        let after = cond-one (is_some (made_of (Make rest what ∷ pieces) q)) (ap (λ c. is_some (cond c (Some (object_state_of (held_object what 0))) (built pieces (λ q. None) q))) e.1) in
         let one = cond-one (same_path rest q) e.1 in
         omega (arith, zero, after, one)
     by before doable (inr d) =
-        let after = ap (λ c. one_if (is_some (cond c (Some (bare_of (held_object what 0))) (built pieces (λ q. None) q)))) d in
+        let after = ap (λ c. one_if (is_some (cond c (Some (object_state_of (held_object what 0))) (built pieces (λ q. None) q)))) d in
         let none = cond-zero (same_path rest q) d in
         omega (arith, before, after, none)
-made_once subtree (Give rest dress ∷ pieces) h q =
+made_once subtree (Give rest metadata ∷ pieces) h q =
     let before = made_once subtree pieces h.0 q in
     let after = ap one_if (still (same_path rest q) (built pieces (λ q. None) q)) in
     omega (arith, before, after)
   where
-    still : (c : Bool) (x : Option Bare) → is_some (cond c (option_map (λ (b : Bare). record b { dress = dress }) x) x) ≡ is_some x
+    still : (c : Bool) (x : Option ObjectState) → is_some (cond c (option_map (λ (b : ObjectState). record b { metadata = metadata }) x) x) ≡ is_some x
     still true None = refl
     still true (Some x) = refl
     still false x = refl
@@ -164,7 +164,7 @@ module _ (subtree : Subtree) (source : Path) (t : Files) (stands : (q : Path) �
 -- ---- tasks
 
 -- what an object counts, and what is below it
-abbrev pub heft_of : ℕ → Option Bare → ℕ
+abbrev pub heft_of : ℕ → Option ObjectState → ℕ
 heft_of below None = 1
 heft_of below (Some b) = 2 + below
 
@@ -238,19 +238,19 @@ module _ (subtree : Subtree) (names : Path → List (List ℕ)) where
       next_back (Close piece) = refl
       next_back (Open r) = by (subtree r) refl
         where
-          by : (o : Option Bare) → subtree r ≡ o → pieces_below subtree names (deep - length r) r ≡ last_piece r o ++ backs (tasks_before r (names r) o)
+          by : (o : Option ObjectState) → subtree r ≡ o → pieces_below subtree names (deep - length r) r ≡ last_piece r o ++ backs (tasks_before r (names r) o)
           by None e = absent_back (deep - length r) r e
           by (Some b) e =
               let depth = some_depth r (ap is_some e) in
               ap (λ d. pieces_below subtree names d r) depth
               ∙ ap (around r (each_below (pieces_below subtree names (deep - length r - 1)) r (names r))) e
-              ∙ ap (λ ps. Give r b.dress ∷ (ps ++ Make r (what_of b.body) ∷ [])) (sym (opened_backs (deep - length r - 1) r depth (names r)))
+              ∙ ap (λ ps. Give r b.metadata ∷ (ps ++ Make r (what_of b.body) ∷ [])) (sym (opened_backs (deep - length r - 1) r depth (names r)))
 
       pub next_heft : (task : Task) → task_heft task ≡ 1 + hefts (tasks_left subtree names task)
       next_heft (Close piece) = refl
       next_heft (Open r) = by (subtree r) refl
         where
-          by : (o : Option Bare) → subtree r ≡ o → heft (deep - length r) r ≡ 1 + hefts (tasks_before r (names r) o)
+          by : (o : Option ObjectState) → subtree r ≡ o → heft (deep - length r) r ≡ 1 + hefts (tasks_before r (names r) o)
           by None e = absent_heft (deep - length r) r e
           by (Some b) e =
               let depth = some_depth r (ap is_some e) in

@@ -4,14 +4,14 @@ use Rattle.std.proofs.Common.{refl, sym, ap, subst, ◌∙◌, inl, inr, ◌⊎�
 use Rattle.std.proofs.lemmas.List.{append-nil}
 use Rattle.std.specs.FinMap as fin
 use Rattle.std.proofs.lemmas.Bool.{cases_Bool}
-use Rattle.pv_dress.specs.declared.bare.Bare.{Bare}
-use Rattle.pv_dress.specs.declared.bare.Dress.{Dress}
-use Rattle.pv_dress.specs.Dressing.{GivesDress}
-use Rattle.pv_dress.specs.Edits.{SameOutside, count_at}
-use Rattle.pv_dress.specs.Nodes.{bare_of, bares_of}
-use Rattle.pv_dress.proofs.DressLaws.{outside_dressing}
-use Rattle.pv_dress.proofs.EditLaws.{path_cases, bares-stamped, bares-touched, staging_outside}
-use Rattle.pv_dress.proofs.OperationLaws.{bares_of-same}
+use Rattle.pv_metadata.specs.declared.object_state.ObjectState.{ObjectState}
+use Rattle.pv_metadata.specs.declared.object_state.Metadata.{Metadata}
+use Rattle.pv_metadata.specs.SettingMetadata.{GivesMetadata}
+use Rattle.pv_metadata.specs.Edits.{SameOutside, count_at}
+use Rattle.pv_metadata.specs.Nodes.{object_state_of, object_states_of}
+use Rattle.pv_metadata.proofs.MetadataLaws.{outside_setting_metadata}
+use Rattle.pv_metadata.proofs.EditLaws.{path_cases, object_states-stamped, object_states-touched, staging_outside}
+use Rattle.pv_metadata.proofs.OperationLaws.{object_states_of-same}
 use Rattle.pv_path.specs.Paths.{Path, is_prefix, same_path, parent_of, rest_under, has_staging, staging_of}
 use Rattle.pv_path.proofs.PathLaws.{same_path-refl, rest_under-Some, prefix_rest, is_some-rest_under, parent_of-staging_of, has_staging-staging_of}
 use Rattle.pv_steps.specs.declared.node.Kind.TheVariants.{Directory}
@@ -20,8 +20,8 @@ use Rattle.pv_steps.specs.declared.step.Step.{Step}
 use Rattle.pv_steps.specs.declared.tree.Tree.{Ghosts}
 use Rattle.pv_steps.specs.declared.tree.TreeFault.{TreeFault}
 use Rattle.pv_steps.specs.Acting.{Acted}
-use Rattle.pv_steps.specs.Objects.{bare, changed, modified}
-use Rattle.pv_steps.specs.Same.{bares}
+use Rattle.pv_steps.specs.Objects.{object_state, changed, modified}
+use Rattle.pv_steps.specs.Same.{object_states}
 use Rattle.pv_steps.specs.Steps.{touched, moved, moved_at, carried}
 use Rattle.pv_steps.specs.Trees.{Files, Places, places, IsKindIn, IsAbsentIn, IsTree}
 use Rattle.pv_steps.proofs.ActingLaws.{Moves, well, acted_then, acted_weaken, acted_within, acted_end}
@@ -37,7 +37,7 @@ use Rattle.pv_walk.specs.Removal.{Publishing}
 use Rattle.pv_walk.specs.Making.{held_object, BeginsNew}
 use Rattle.pv_walk.specs.Stages.{IsStage, IsAtStage, Staging}
 use Rattle.pv_walk.specs.Staging.{HasTarget, IsPublishing}
-use Rattle.pv_walk.proofs.BuildingLaws.{IsBuilt, built_start, built_outside, bares_built, built_end, not_empty, with_inside, with_outside, here_outside, here_else, room, made_built, stands_here, can_wear_here, worn_built, made_gives, dress_gives_bare}
+use Rattle.pv_walk.proofs.BuildingLaws.{IsBuilt, built_start, built_outside, object_states_built, built_end, not_empty, with_inside, with_outside, here_outside, here_else, room, made_built, stands_here, can_wear_here, worn_built, made_gives, metadata_gives_object_state}
 use Rattle.pv_walk.proofs.CountLaws.{count_same, times-filter, times-keys, length-times, same_or_not}
 use Rattle.pv_walk.proofs.CopyListing.{rests_of, cost-push}
 use Rattle.pv_walk.proofs.ListingLaws.{cond-one, cond-zero}
@@ -45,18 +45,18 @@ use Rattle.pv_walk.proofs.PlanLaws.{built-append, doable-last}
 use Rattle.pv_walk.proofs.PublishLaws.{staging_nonempty, staged_outside}
 use Rattle.pv_walk.proofs.PuttingLaws.{none_under}
 use Rattle.pv_walk.proofs.ReplacingLaws.{yields_same}
-use Rattle.pv_walk.proofs.StageLaws.{begun_start, begun_stage, dressing_stage}
+use Rattle.pv_walk.proofs.StageLaws.{begun_start, begun_stage, setting_metadata_stage}
 use Rattle.pv_walk.proofs.StagedLaws.{at_same}
 use Rattle.pv_path.proofs.Tests.{true_not_false}
 
 -- nothing of a piece is done
 pub way_start : (stage : Path) (p : Piece) (t : Files) → CanDo stage p t → PieceWay stage p t t
 way_start stage (Make rest what) t can = begun_start (stage ++ rest) can.0 0 t can.1.0 what
-way_start stage (Give rest dress) t can = (zero, λ q. sym (bares-stamped (stage ++ rest) (λ o. o) (λ o. refl) (places t) q))
+way_start stage (Give rest metadata) t can = (zero, λ q. sym (object_states-stamped (stage ++ rest) (λ o. o) (λ o. refl) (places t) q))
 
 -- some pieces of a list are done, and these are left
 pub record Doing (now : ℕ) (stage : Path) (t : Files) (all left : List Piece) (u : Files) : Type 0 where
-  pub objects : Path → Option Bare
+  pub objects : Path → Option ObjectState
   pub stands : IsBuilt now stage objects t u
   pub stages : (r : Path) → IsAtStage (made_of all r) (objects r)
   pub doable : AreDoable (made_of all) objects left
@@ -68,57 +68,57 @@ module _ (now : ℕ) (stage : Path) (nonempty : stage ≢ []) (t : Files) (paren
 
   -- while a piece is done nothing has changed elsewhere, stamps aside, and what stands is at its stage: but at its place, where a
   -- stage stands, all is as it was
-  way_staged : (left : List Piece) (u : Files) → Doing now stage t all left u → (rest : Path) (w : Files) → SameOutside (same_path (stage ++ rest)) u w → IsAtStage (made_of all rest) (bares_of (places w) (stage ++ rest)) → Staging stage (made_of all) t w
+  way_staged : (left : List Piece) (u : Files) → Doing now stage t all left u → (rest : Path) (w : Files) → SameOutside (same_path (stage ++ rest)) u w → IsAtStage (made_of all rest) (object_states_of (places w) (stage ++ rest)) → Staging stage (made_of all) t w
   way_staged left u e rest w h here = record {
     outside = λ q out. h q (here_outside now stage nonempty t parent e.objects u e.stands rest q out) ∙ built_outside now stage nonempty t parent e.objects u e.stands q out;
     stages = λ r. elim (path_cases rest r) [
-      | inl same ↦ subst (λ (p : Path). IsAtStage (made_of all p) (bares_of (places w) (stage ++ p))) same here
+      | inl same ↦ subst (λ (p : Path). IsAtStage (made_of all p) (object_states_of (places w) (stage ++ p))) same here
       | inr d ↦
-          at_same (e.stages r) (bares_of (places w) (stage ++ r))
-          (bares_of-same (places w) (places u) (stage ++ r) (h (stage ++ r) (here_else now stage nonempty t parent e.objects u e.stands rest r d)) ∙ bares_built now stage e.objects t u e.stands r)
+          at_same (e.stages r) (object_states_of (places w) (stage ++ r))
+          (object_states_of-same (places w) (places u) (stage ++ r) (h (stage ++ r) (here_else now stage nonempty t parent e.objects u e.stands rest r d)) ∙ object_states_built now stage e.objects t u e.stands r)
     ];
   }
 
   -- the last of those that are left is done next
   module _ (left : List Piece) (u : Files) where
-    can_by : (p : Piece) (s : Path → Option Bare) → IsBuilt now stage s t u → IsDoable (made_of all) s p → CanDo stage p u
+    can_by : (p : Piece) (s : Path → Option ObjectState) → IsBuilt now stage s t u → IsDoable (made_of all) s p → CanDo stage p u
     can_by (Make rest what) s b (o, (there, (whole, (same, (none, place))))) =
         (not_empty now stage nonempty t parent rest, (room now stage nonempty t parent s u b rest none place, subst HasTarget (sym same) whole.target))
-    can_by (Give rest dress) s b (o, (there, (whole, (same, here)))) = can_wear_here now stage nonempty t parent s u b rest o here dress whole same
+    can_by (Give rest metadata) s b (o, (there, (whole, (same, here)))) = can_wear_here now stage nonempty t parent s u b rest o here metadata whole same
 
     pub doing_can : (p : Piece) → Doing now stage t all (left ++ p ∷ []) u → CanDo stage p u
     doing_can p e = can_by p e.objects e.stands (doable-last (made_of all) e.objects left p e.doable).0
 
-    stands_by : (p : Piece) (s : Path → Option Bare) (v : Files) → IsBuilt now stage s t u → IsDoable (made_of all) s p → IsDone now stage p u v → IsBuilt now stage (after_piece p s) t v
+    stands_by : (p : Piece) (s : Path → Option ObjectState) (v : Files) → IsBuilt now stage s t u → IsDoable (made_of all) s p → IsDone now stage p u v → IsBuilt now stage (after_piece p s) t v
     stands_by (Make rest what) s v b (o, (there, (whole, (same, (none, place))))) h = made_built now stage nonempty t parent s u b rest none place what v h
-    stands_by (Give rest dress) s v b (o, (there, (whole, (same, here)))) h = worn_built now stage nonempty t parent s u b rest o here dress v h
+    stands_by (Give rest metadata) s v b (o, (there, (whole, (same, here)))) h = worn_built now stage nonempty t parent s u b rest o here metadata v h
 
-    way_by : (p : Piece) → Doing now stage t all (left ++ p ∷ []) u → (s : Path → Option Bare) → IsBuilt now stage s t u → IsDoable (made_of all) s p → (w : Files) → PieceWay stage p u w → Staging stage (made_of all) t w
+    way_by : (p : Piece) → Doing now stage t all (left ++ p ∷ []) u → (s : Path → Option ObjectState) → IsBuilt now stage s t u → IsDoable (made_of all) s p → (w : Files) → PieceWay stage p u w → Staging stage (made_of all) t w
     way_by (Make rest what) e s b (o, (there, (whole, (same, (none, place))))) w h =
         way_staged (left ++ Make rest what ∷ []) u e rest w h.outside
-        (subst (λ (v : Option Bare). IsAtStage v (bares_of (places w) (stage ++ rest))) (sym there) (begun_stage (stage ++ rest) what o u w same h))
-    way_by (Give rest dress) e s b (o, (there, (whole, (same, here)))) w h =
-        way_staged (left ++ Give rest dress ∷ []) u e rest w (outside_dressing (stage ++ rest) dress u w h)
-        (subst (λ (v : Option Bare). IsAtStage v (bares_of (places w) (stage ++ rest))) (sym there)
-        (dressing_stage (stage ++ rest) o dress (object_of now (plain o)) u w same (stands_here now stage nonempty t parent s u b rest o here) refl h))
+        (subst (λ (v : Option ObjectState). IsAtStage v (object_states_of (places w) (stage ++ rest))) (sym there) (begun_stage (stage ++ rest) what o u w same h))
+    way_by (Give rest metadata) e s b (o, (there, (whole, (same, here)))) w h =
+        way_staged (left ++ Give rest metadata ∷ []) u e rest w (outside_setting_metadata (stage ++ rest) metadata u w h)
+        (subst (λ (v : Option ObjectState). IsAtStage v (object_states_of (places w) (stage ++ rest))) (sym there)
+        (setting_metadata_stage (stage ++ rest) o metadata (object_of now (plain o)) u w same (stands_here now stage nonempty t parent s u b rest o here) refl h))
 
     pub doing_way : (p : Piece) → Doing now stage t all (left ++ p ∷ []) u → (w : Files) → PieceWay stage p u w → Staging stage (made_of all) t w
     doing_way p e w h = way_by p e e.objects e.stands (doable-last (made_of all) e.objects left p e.doable).0 w h
 
     -- what a piece leaves is at its stage
-    stage_by : (p : Piece) (s : Path → Option Bare) → ((r : Path) → IsAtStage (made_of all r) (s r)) → IsDoable (made_of all) s p → (r : Path) → IsAtStage (made_of all r) (after_piece p s r)
+    stage_by : (p : Piece) (s : Path → Option ObjectState) → ((r : Path) → IsAtStage (made_of all r) (s r)) → IsDoable (made_of all) s p → (r : Path) → IsAtStage (made_of all r) (after_piece p s r)
     stage_by (Make rest what) s h (o, (there, (whole, (same, (none, place))))) r = elim (path_cases rest r) [
       | inl e ↦ subst (λ (q : Path). IsAtStage (made_of all q) (after_piece (Make rest what) s q)) e
-          (IsAtStage.stage o (bare_of (held_object what 0)) there (ap (λ c. cond c (Some (bare_of (held_object what 0))) (s rest)) (same_path-refl rest))
-          (IsStage.begun (inr (ap (λ (w : NewKind). bare_of (held_object w 0)) same))))
-      | inr d ↦ at_same (h r) (after_piece (Make rest what) s r) (ap (λ c. cond c (Some (bare_of (held_object what 0))) (s r)) d)
+          (IsAtStage.stage o (object_state_of (held_object what 0)) there (ap (λ c. cond c (Some (object_state_of (held_object what 0))) (s rest)) (same_path-refl rest))
+          (IsStage.begun (inr (ap (λ (w : NewKind). object_state_of (held_object w 0)) same))))
+      | inr d ↦ at_same (h r) (after_piece (Make rest what) s r) (ap (λ c. cond c (Some (object_state_of (held_object what 0))) (s r)) d)
     ]
-    stage_by (Give rest dress) s h (o, (there, (whole, (same, here)))) r = elim (path_cases rest r) [
-      | inl e ↦ subst (λ (q : Path). IsAtStage (made_of all q) (after_piece (Give rest dress) s q)) e
-          (IsAtStage.stage o (record (plain o) { dress = dress }) there
-          (ap (λ c. cond c (option_map (λ (b : Bare). record b { dress = dress }) (s rest)) (s rest)) (same_path-refl rest) ∙ ap (option_map (λ (b : Bare). record b { dress = dress })) here)
-          (IsStage.dressing 5 (ap (λ (d : Dress). record (plain o) { dress = d }) same)))
-      | inr d ↦ at_same (h r) (after_piece (Give rest dress) s r) (ap (λ c. cond c (option_map (λ (b : Bare). record b { dress = dress }) (s r)) (s r)) d)
+    stage_by (Give rest metadata) s h (o, (there, (whole, (same, here)))) r = elim (path_cases rest r) [
+      | inl e ↦ subst (λ (q : Path). IsAtStage (made_of all q) (after_piece (Give rest metadata) s q)) e
+          (IsAtStage.stage o (record (plain o) { metadata = metadata }) there
+          (ap (λ c. cond c (option_map (λ (b : ObjectState). record b { metadata = metadata }) (s rest)) (s rest)) (same_path-refl rest) ∙ ap (option_map (λ (b : ObjectState). record b { metadata = metadata })) here)
+          (IsStage.setting_metadata 5 (ap (λ (d : Metadata). record (plain o) { metadata = d }) same)))
+      | inr d ↦ at_same (h r) (after_piece (Give rest metadata) s r) (ap (λ c. cond c (option_map (λ (b : ObjectState). record b { metadata = metadata }) (s r)) (s r)) d)
     ]
 
     pub doing_next : (p : Piece) (v : Files) → Doing now stage t all (left ++ p ∷ []) u → IsDone now stage p u v → Doing now stage t all left v
@@ -126,13 +126,13 @@ module _ (now : ℕ) (stage : Path) (nonempty : stage ≢ []) (t : Files) (paren
         let parts = doable-last (made_of all) e.objects left p e.doable in
         record { objects = after_piece p e.objects; stands = stands_by p e.objects v e.stands parts.0 h; stages = stage_by p e.objects e.stages parts.0; doable = parts.1; whole = sym (built-append left (p ∷ []) e.objects) ∙ e.whole }
 
-    gives_by : (p : Piece) (s : Path → Option Bare) (step : Step) → IsBuilt now stage s t u → IsDoable (made_of all) s p → GivesPiece stage p u step → GivesPart stage (made_of all) step
+    gives_by : (p : Piece) (s : Path → Option ObjectState) (step : Step) → IsBuilt now stage s t u → IsDoable (made_of all) s p → GivesPiece stage p u step → GivesPart stage (made_of all) step
     gives_by (Make rest what) s step b (o, (there, (whole, (same, e)))) h =
         let gives = made_gives o whole (stage ++ rest) step (subst (λ (w : NewKind). BeginsNew (stage ++ rest) w step) same h) in
         record { rest = rest; object = o; is = there; gives = gives.0; needed = gives.1 }
-    gives_by (Give rest dress) s step b (o, (there, (whole, (same, here)))) h =
+    gives_by (Give rest metadata) s step b (o, (there, (whole, (same, here)))) h =
         let gives =
-        dress_gives_bare o (stage ++ rest) now u (stands_here now stage nonempty t parent s u b rest o here) step (subst (λ (d : Dress). GivesDress (stage ++ rest) d u step) same h) in
+        metadata_gives_object_state o (stage ++ rest) now u (stands_here now stage nonempty t parent s u b rest o here) step (subst (λ (d : Metadata). GivesMetadata (stage ++ rest) d u step) same h) in
         record { rest = rest; object = o; is = there; gives = gives.0; needed = gives.1 }
 
     pub doing_gives : (p : Piece) → Doing now stage t all (left ++ p ∷ []) u → (step : Step) → GivesPiece stage p u step → GivesPart stage (made_of all) step
@@ -141,8 +141,8 @@ module _ (now : ℕ) (stage : Path) (nonempty : stage ≢ []) (t : Files) (paren
   -- when none is left, all stands
   pub doing_end : (u : Files) → Doing now stage t all [] u → is_some (made_of all []) ≡ true → places u ≡ with_subtree now stage (made_of all) (places t)
   doing_end u e top =
-      built_end now stage nonempty t parent e.objects u e.stands (ap (λ (s : Path → Option Bare). is_some (s [])) e.whole ∙ top)
-      ∙ ap (λ (s : Path → Option Bare). with_subtree now stage s (places t)) e.whole
+      built_end now stage nonempty t parent e.objects u e.stands (ap (λ (s : Path → Option ObjectState). is_some (s [])) e.whole ∙ top)
+      ∙ ap (λ (s : Path → Option ObjectState). with_subtree now stage s (places t)) e.whole
 
 -- one piece more is done
 pub one_more : {S A : Type 0} (tree : Ghosts S) → Moves tree → (stage : Path) → stage ≢ [] → (all left : List Piece) (p : Piece) {m now : ℕ} {a b c : S} {r : Result A TreeFault}
@@ -178,20 +178,20 @@ next_done tree moves now stage nonempty all left front p is a b c parent doing r
 
 -- a subtree stands the same, whatever the moment at which it was put
 module _ (path : Path) (s : Subtree) (t : Places) where
-  bare_standing : (now later : ℕ) (old : Option Object) (o : Option Path) → option_map bare (standing now s old o) ≡ option_map bare (standing later s old o)
-  bare_standing now later old None = refl
-  bare_standing now later old (Some rest) = by (s rest)
+  object_state_standing : (now later : ℕ) (old : Option Object) (o : Option Path) → option_map object_state (standing now s old o) ≡ option_map object_state (standing later s old o)
+  object_state_standing now later old None = refl
+  object_state_standing now later old (Some rest) = by (s rest)
     where
-      by : (v : Option Bare) → option_map bare (option_map (object_of now) v) ≡ option_map bare (option_map (object_of later) v)
+      by : (v : Option ObjectState) → option_map object_state (option_map (object_of now) v) ≡ option_map object_state (option_map (object_of later) v)
       by None = refl
       by (Some b) = refl
 
-  pub bares_with : (now later : ℕ) (q : Path) → bares (with_subtree now path s t) q ≡ bares (with_subtree later path s t) q
-  bares_with now later q =
-      bares-touched now path (λ q. standing now s (t q) (rest_under path q)) q ∙ bare_standing now later (t q) (rest_under path q)
-      ∙ sym (bares-touched later path (λ q. standing later s (t q) (rest_under path q)) q)
+  pub object_states_with : (now later : ℕ) (q : Path) → object_states (with_subtree now path s t) q ≡ object_states (with_subtree later path s t) q
+  object_states_with now later q =
+      object_states-touched now path (λ q. standing now s (t q) (rest_under path q)) q ∙ object_state_standing now later (t q) (rest_under path q)
+      ∙ sym (object_states-touched later path (λ q. standing later s (t q) (rest_under path q)) q)
 
-module _ (now : ℕ) (path : Path) (nonempty : path ≢ []) (s : Path → Option Bare) (t : Files) (tree : IsTree t) (free : IsAbsentIn (places t) (staging_of path)) where
+module _ (now : ℕ) (path : Path) (nonempty : path ≢ []) (s : Path → Option ObjectState) (t : Files) (tree : IsTree t) (free : IsAbsentIn (places t) (staging_of path)) where
   abbrev staged : Places
   staged = with_subtree now (staging_of path) s (places t)
 
@@ -200,7 +200,7 @@ module _ (now : ℕ) (path : Path) (nonempty : path ≢ []) (s : Path → Option
       ap (option_map (changed now)) (ap (with_subtree now (staging_of path) s (places t)) (sym (append-nil (staging_of path))) ∙ with_inside now (staging_of path) (staging_nonempty path nonempty) t s [])
       ∙ again (s [])
     where
-      again : (o : Option Bare) → option_map (changed now) (option_map (object_of now) o) ≡ option_map (object_of now) o
+      again : (o : Option ObjectState) → option_map (changed now) (option_map (object_of now) o) ≡ option_map (object_of now) o
       again None = refl
       again (Some b) = refl
   carried_is (n ∷ rest) = with_inside now (staging_of path) (staging_nonempty path nonempty) t s (n ∷ rest)
@@ -255,7 +255,7 @@ module _ (now : ℕ) (path : Path) (nonempty : path ≢ []) (s : Path → Option
       ap is_some (ap (with_subtree now (staging_of path) s (places t)) (sym (append-nil (staging_of path))) ∙ with_inside now (staging_of path) (staging_nonempty path nonempty) t s [])
       ∙ still (s []) top
     where
-      still : (o : Option Bare) → is_some o ≡ true → is_some (option_map (object_of now) o) ≡ true
+      still : (o : Option ObjectState) → is_some o ≡ true → is_some (option_map (object_of now) o) ≡ true
       still None h = h
       still (Some b) h = refl
 
@@ -287,7 +287,7 @@ module _ (now : ℕ) (path : Path) (nonempty : path ≢ []) (s : Path → Option
   -- while what stands at the path makes way, or the copy comes there
   pub copy_published : (u : Files) → places u ≡ with_subtree now (staging_of path) s (places t) → SameOutside (is_prefix (staging_of path)) t u → (w : Files) → Publishing now path u w → Replacing path s t w
   copy_published u is before w (inl c) = Replacing.making_way (record {
-    staged = λ rest. bares_of-same (places w) (places u) (staging_of path ++ rest) (c.pruned.outside (staging_of path ++ rest) (staged_outside path nonempty rest)) ∙ staged_bare rest;
+    staged = λ rest. object_states_of-same (places w) (places u) (staging_of path ++ rest) (c.pruned.outside (staging_of path ++ rest) (staged_outside path nonempty rest)) ∙ staged_object_state rest;
     needed = λ y q plain. sym (c.needed (yields_same (with_subtree 0 (staging_of path) s (places t)) (places u) staged_same (staging_of path) path y) q ∙ kept q plain);
     parts = λ q plain. elim (cases_Bool (is_prefix path q)) [
       | inl e ↦ elim (c.pruned.within q e) [
@@ -298,23 +298,23 @@ module _ (now : ℕ) (path : Path) (nonempty : path ≢ []) (s : Path → Option
     ];
   })
     where
-      kept : (q : Path) → has_staging q ≡ false → bares (places u) q ≡ bares (places t) q
+      kept : (q : Path) → has_staging q ≡ false → object_states (places u) q ≡ object_states (places t) q
       kept q plain = before q (staging_outside (staging_of path) (has_staging-staging_of path nonempty) q plain)
 
-      again : (o : Option Bare) → option_map bare_of (option_map (object_of now) o) ≡ o
+      again : (o : Option ObjectState) → option_map object_state_of (option_map (object_of now) o) ≡ o
       again None = refl
       again (Some b) = refl
 
-      staged_bare : (rest : Path) → bares_of (places u) (staging_of path ++ rest) ≡ s rest
-      staged_bare rest =
-          ap (λ (x : Places). bares_of x (staging_of path ++ rest)) is ∙ ap (option_map bare_of) (with_inside now (staging_of path) (staging_nonempty path nonempty) t s rest) ∙ again (s rest)
+      staged_object_state : (rest : Path) → object_states_of (places u) (staging_of path ++ rest) ≡ s rest
+      staged_object_state rest =
+          ap (λ (x : Places). object_states_of x (staging_of path ++ rest)) is ∙ ap (option_map object_state_of) (with_inside now (staging_of path) (staging_nonempty path nonempty) t s rest) ∙ again (s rest)
 
-      staged_same : (q : Path) → bares (with_subtree 0 (staging_of path) s (places t)) q ≡ bares (places u) q
-      staged_same q = bares_with (staging_of path) s (places t) 0 now q ∙ ap (λ (x : Places). bares x q) (sym is)
-  copy_published u is before w (inr e) = Replacing.come (λ q plain. e q ∙ ap (λ (x : Places). bares x q) (ap (moved now (staging_of path) path) is ∙ copy_moved) ∙ bares_with path s (places t) now 0 q)
+      staged_same : (q : Path) → object_states (with_subtree 0 (staging_of path) s (places t)) q ≡ object_states (places u) q
+      staged_same q = object_states_with (staging_of path) s (places t) 0 now q ∙ ap (λ (x : Places). object_states x q) (sym is)
+  copy_published u is before w (inr e) = Replacing.come (λ q plain. e q ∙ ap (λ (x : Places). object_states x q) (ap (moved now (staging_of path) path) is ∙ copy_moved) ∙ object_states_with path s (places t) now 0 q)
 
 -- a copy of what is there has an object
-pub copied_some : (s : Path → Option Bare) (source : Path) (t : Files) → is_some (s []) ≡ true → is_some (places t source) ≡ true → 1 ≤ copied_count s source t
+pub copied_some : (s : Path → Option ObjectState) (source : Path) (t : Files) → is_some (s []) ≡ true → is_some (places t source) ≡ true → 1 ≤ copied_count s source t
 copied_some s source t top there =
     length-times ([] ∷ []) (filter (λ rest. is_some (s rest)) (filter_map (rest_under source) (fin.keys t)))
     (λ q. by q (same_or_not [] q))
@@ -330,7 +330,7 @@ copied_some s source t top there =
     by q (inr d) = let none = cond-zero (same_path [] q) d in omega (arith, none)
 
 -- a subtree that is staged and comes to its path
-module _ {S : Type 0} (tree : Ghosts S) (now : ℕ) (path : Path) (nonempty : path ≢ []) (s : Path → Option Bare) (a b : S) (is_tree : IsTree (tree.state a)) (free : IsAbsentIn (places (tree.state a)) (staging_of path)) where
+module _ {S : Type 0} (tree : Ghosts S) (now : ℕ) (path : Path) (nonempty : path ≢ []) (s : Path → Option ObjectState) (a b : S) (is_tree : IsTree (tree.state a)) (free : IsAbsentIn (places (tree.state a)) (staging_of path)) where
   pub subtree_staging : {A : Type 0} {r : Result A TreeFault} {m : ℕ} (most : ℕ) → m ≤ most → Acted tree (Staging (staging_of path) s (tree.state a)) (IsStagingOf path s) m now a b r
       → Acted tree (Replacing path s (tree.state a)) (IsCopyStep path s) most now a b r
   subtree_staging {m = m} most le before =

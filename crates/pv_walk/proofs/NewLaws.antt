@@ -4,8 +4,8 @@ use Rattle.std.proofs.Common.{refl, sym, ap, subst, ◌∙◌, inl, inr, arith, 
 use Rattle.std.proofs.lemmas.List.{append-nil}
 use Rattle.std.specs.List.{IsDistinct}
 use Rattle.pv_acl.specs.Parts.{is_acl, acl_of_mode, special_of}
-use Rattle.pv_dress.specs.declared.bare.Bare.{Bare}
-use Rattle.pv_dress.specs.Nodes.{bare_of}
+use Rattle.pv_metadata.specs.declared.object_state.ObjectState.{ObjectState}
+use Rattle.pv_metadata.specs.Nodes.{object_state_of}
 use Rattle.pv_path.specs.Paths.{Path, staging_of}
 use Rattle.pv_steps.specs.declared.node.Kind.{Kind}
 use Rattle.pv_steps.specs.declared.node.Kind.TheVariants.{Directory, File, Link, Fifo, CharDevice, BlockDevice}
@@ -19,8 +19,8 @@ use Rattle.pv_walk.specs.declared.listing.Piece.TheVariants.{Make, Give}
 use Rattle.pv_walk.specs.declared.new_file.NewFile.{NewFile}
 use Rattle.pv_walk.specs.declared.new_file.NewKind.{NewKind}
 use Rattle.pv_walk.specs.declared.new_file.NewKind.TheVariants as new
-use Rattle.pv_walk.specs.Copying.{single, GivesBare, GivesPart, IsNeeded, IsCopyStep}
-use Rattle.pv_walk.specs.Making.{held_object, new_dress}
+use Rattle.pv_walk.specs.Copying.{single, GivesObjectState, GivesPart, IsNeeded, IsCopyStep}
+use Rattle.pv_walk.specs.Making.{held_object, new_metadata}
 use Rattle.pv_walk.specs.Pieces.{IsPlan, IsWhole, cost_of, made_of, what_of}
 use Rattle.pv_walk.specs.Putting.{IsPutStep}
 use Rattle.pv_walk.specs.Replacing.{new_subtree}
@@ -58,11 +58,11 @@ what_again new.Fifo = refl
 what_again (new.Device true major minor) = refl
 what_again (new.Device false major minor) = refl
 
-pub new_whole : (file : NewFile) → IsNewFile file → IsWhole (bare_of (new_object file 0))
+pub new_whole : (file : NewFile) → IsNewFile file → IsWhole (object_state_of (new_object file 0))
 new_whole file is_new = record {
   target = subst HasTarget (what_again file.what) is_new.target;
-  body = ap (λ (what : NewKind). (bare_of (held_object what 0)).body) (sym (what_again file.what));
-  dress = record {
+  body = ap (λ (what : NewKind). (object_state_of (held_object what 0)).body) (sym (what_again file.what));
+  metadata = record {
     owner = is_new.owner;
     special = small_special (new_mode file.what file.mode) (new_mode_bound file.what file.mode is_new.mode);
     acl = is_acl-of_mode (new_mode file.what file.mode) (new_mode_bound file.what file.mode is_new.mode);
@@ -75,12 +75,12 @@ new_whole file is_new = record {
 -- ---- its pieces of work
 
 -- one object with nothing below it
-module _ (b : Bare) (whole : IsWhole b) where
+module _ (b : ObjectState) (whole : IsWhole b) where
   nothing : (r : Path) (n : List ℕ) (x : Path) → is_some (single b (r ++ n ∷ x)) ≡ true → ⊥
   nothing [] n x h = let no : false ≡ true = h in cc
   nothing (m ∷ r) n x h = let no : false ≡ true = h in cc
 
-  alone : (r : Path) (c : Bare) → single b r ≡ Some c → IsWhole c
+  alone : (r : Path) (c : ObjectState) → single b r ≡ Some c → IsWhole c
   alone [] c e = let same : b ≡ c = (let both : Some b ≡ Some c = e in cc) in subst IsWhole same whole
   alone (n ∷ r) c e = let no : None ≡ Some c = e in cc
 
@@ -92,19 +92,19 @@ module _ (b : Bare) (whole : IsWhole b) where
   unfolding IsDistinct
   is_subtree = record { closed = λ r n x h. absurd (nothing r n x h); fits = alone; covers = λ r n x h. absurd (nothing r n x h); distinct = λ r. tt }
 
-  pub one_planned : (pieces : List Piece) → pieces ≡ Give [] b.dress ∷ Make [] (what_of b.body) ∷ [] → IsPlan pieces × (made_of pieces ≡ single b)
+  pub one_planned : (pieces : List Piece) → pieces ≡ Give [] b.metadata ∷ Make [] (what_of b.body) ∷ [] → IsPlan pieces × (made_of pieces ≡ single b)
   one_planned pieces is =
       let end = listed_end (single b) (λ r. []) 1 shallow is_subtree pieces (append-nil pieces ∙ is) in
       (end.0, end.1.0)
 
-module _ (file : NewFile) (is_new : IsNewFile file) (pieces : List Piece) (is : pieces ≡ Give [] (new_dress file) ∷ Make [] file.what ∷ []) where
+module _ (file : NewFile) (is_new : IsNewFile file) (pieces : List Piece) (is : pieces ≡ Give [] (new_metadata file) ∷ Make [] file.what ∷ []) where
   pub new_planned : IsPlan pieces × (made_of pieces ≡ new_subtree file)
   new_planned =
-      one_planned (bare_of (new_object file 0)) (new_whole file is_new) pieces
-      (is ∙ ap (λ (what : NewKind). Give [] (new_dress file) ∷ Make [] what ∷ []) (what_again file.what))
+      one_planned (object_state_of (new_object file 0)) (new_whole file is_new) pieces
+      (is ∙ ap (λ (what : NewKind). Give [] (new_metadata file) ∷ Make [] what ∷ []) (what_again file.what))
 
   pub new_top : is_some (made_of pieces []) ≡ true
-  new_top = ap (λ (s : Path → Option Bare). is_some (s [])) new_planned.1
+  new_top = ap (λ (s : Path → Option ObjectState). is_some (s [])) new_planned.1
 
   pub new_cost : cost_of pieces ≡ most_staged
   new_cost = ap cost_of is
@@ -113,38 +113,38 @@ module _ (file : NewFile) (is_new : IsNewFile file) (pieces : List Piece) (is : 
 
 module _ (file : NewFile) where
   -- what it is follows from its kind
-  what_by : (kind : Kind) → new_kind file.what ≡ kind → file.what ≡ what_of (record (bare_of (new_object file 0)).body { kind = kind })
-  what_by kind e = what_again file.what ∙ ap (λ (k : Kind). what_of (record (bare_of (new_object file 0)).body { kind = k })) e
+  what_by : (kind : Kind) → new_kind file.what ≡ kind → file.what ≡ what_of (record (object_state_of (new_object file 0)).body { kind = kind })
+  what_by kind e = what_again file.what ∙ ap (λ (k : Kind). what_of (record (object_state_of (new_object file 0)).body { kind = k })) e
 
   device_by : (block : Bool) → new_kind file.what ≡ device_kind block → file.what ≡ new.Device block (new_major file.what) (new_minor file.what)
   device_by true e = what_by BlockDevice e
   device_by false e = what_by CharDevice e
 
-  bare_new : (path : Path) (step : Step) → GivesBare path (bare_of (new_object file 0)) step → IsNeeded (bare_of (new_object file 0)) step → GivesNew path file step
-  bare_new path (MakeDir at) h n = (h.0, what_by Directory h.1)
-  bare_new path (MakeFile at) h n = h
-  bare_new path (MakeFifo at) h n = (h.0, what_by Fifo h.1)
-  bare_new path (MakeDevice at block major minor) h n = (h.0, device_by block h.1.0 ∙ (λ i. new.Device block (h.1.1.0 i) (h.1.1.1 i)))
-  bare_new path (MakeLink at target) h n = (h.0, what_by Link h.1.0 ∙ ap new.Link h.1.1)
-  bare_new path (Write at content) h n = (h.0, what_by File h.1.0 ∙ ap new.File h.1.1)
-  bare_new path (SetOwner at uid gid) h n = h
-  bare_new path (SetMode at mode) h n = (h.0, h.1 ∙ mode_again (new_mode file.what file.mode))
-  bare_new path (SetAcl at acl) h n = absurd (n (ap acl_of_mode (mode_again (new_mode file.what file.mode))))
-  bare_new path (SetAttrs at attrs) h n = absurd (n refl)
-  bare_new path (SetLetters at letters) h n = absurd (n refl)
-  bare_new path (SetStamps at access modify) h n = absurd h
-  bare_new path (Rename from to) h n = absurd h
-  bare_new path (Unlink at) h n = absurd h
-  bare_new path (RemoveDir at) h n = absurd h
+  object_state_new : (path : Path) (step : Step) → GivesObjectState path (object_state_of (new_object file 0)) step → IsNeeded (object_state_of (new_object file 0)) step → GivesNew path file step
+  object_state_new path (MakeDir at) h n = (h.0, what_by Directory h.1)
+  object_state_new path (MakeFile at) h n = h
+  object_state_new path (MakeFifo at) h n = (h.0, what_by Fifo h.1)
+  object_state_new path (MakeDevice at block major minor) h n = (h.0, device_by block h.1.0 ∙ (λ i. new.Device block (h.1.1.0 i) (h.1.1.1 i)))
+  object_state_new path (MakeLink at target) h n = (h.0, what_by Link h.1.0 ∙ ap new.Link h.1.1)
+  object_state_new path (Write at content) h n = (h.0, what_by File h.1.0 ∙ ap new.File h.1.1)
+  object_state_new path (SetOwner at uid gid) h n = h
+  object_state_new path (SetMode at mode) h n = (h.0, h.1 ∙ mode_again (new_mode file.what file.mode))
+  object_state_new path (SetAcl at acl) h n = absurd (n (ap acl_of_mode (mode_again (new_mode file.what file.mode))))
+  object_state_new path (SetAttrs at attrs) h n = absurd (n refl)
+  object_state_new path (SetLetters at letters) h n = absurd (n refl)
+  object_state_new path (SetStamps at access modify) h n = absurd h
+  object_state_new path (Rename from to) h n = absurd h
+  object_state_new path (Unlink at) h n = absurd h
+  object_state_new path (RemoveDir at) h n = absurd h
 
   -- what gives the subtree a part gives the new object one
   pub part_new : (path : Path) (step : Step) → GivesPart path (new_subtree file) step → GivesNew path file step
   part_new path step h = by h.rest h.object h.is h.gives h.needed
     where
-      by : (rest : Path) (object : Bare) → new_subtree file rest ≡ Some object → GivesBare (path ++ rest) object step → IsNeeded object step → GivesNew path file step
+      by : (rest : Path) (object : ObjectState) → new_subtree file rest ≡ Some object → GivesObjectState (path ++ rest) object step → IsNeeded object step → GivesNew path file step
       by [] object e gives needed =
-          let same : object ≡ bare_of (new_object file 0) = (let both : Some (bare_of (new_object file 0)) ≡ Some object = e in cc) in
-          bare_new path step (subst (λ (o : Bare). GivesBare path o step) same (subst (λ (p : Path). GivesBare p object step) (append-nil path) gives)) (subst (λ (o : Bare). IsNeeded o step) same needed)
+          let same : object ≡ object_state_of (new_object file 0) = (let both : Some (object_state_of (new_object file 0)) ≡ Some object = e in cc) in
+          object_state_new path step (subst (λ (o : ObjectState). GivesObjectState path o step) same (subst (λ (p : Path). GivesObjectState p object step) (append-nil path) gives)) (subst (λ (o : ObjectState). IsNeeded o step) same needed)
       by (n ∷ rest) object e gives needed = let no : None ≡ Some object = e in cc
 
   pub put_new_step : (path : Path) (step : Step) → IsCopyStep path (new_subtree file) step → IsPutStep path file step

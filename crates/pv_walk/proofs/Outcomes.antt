@@ -6,7 +6,7 @@ use Rattle.pv_steps.specs.declared.step.Step.{Step}
 use Rattle.pv_steps.specs.declared.object.Object.{Object}
 use Rattle.pv_steps.specs.declared.tree.Tree.{Ghosts}
 use Rattle.pv_steps.specs.declared.tree.TreeFault.{TreeFault}
-use Rattle.pv_steps.specs.Objects.{bare}
+use Rattle.pv_steps.specs.Objects.{object_state}
 use Rattle.pv_steps.specs.Trees.{Files, Places, places, IsPresent, IsTree}
 use Rattle.pv_steps.specs.Steps.{gone}
 use Rattle.pv_steps.specs.Acting.{Acted}
@@ -23,8 +23,8 @@ acted-tree tree P Q {now = now} {a = a} fits is acted =
 
 -- where an object is gone, more than stamps has changed
 pub gone_differs : (t v : Files) (path : Path) (now : ℕ) → IsPresent t path → places v ≡ gone now path (places t) → Differ t v
-gone_differs t v path now present is = (path, λ e. true_not_false (is_some (option_map bare (places v path))) (sym (ap is_some e) ∙ still (places t path) present) (ap (λ o. is_some (option_map bare o)) (ap (λ (x : Places). x path) is ∙ gone-here now path (places t))))
+gone_differs t v path now present is = (path, λ e. true_not_false (is_some (option_map object_state (places v path))) (sym (ap is_some e) ∙ still (places t path) present) (ap (λ o. is_some (option_map object_state o)) (ap (λ (x : Places). x path) is ∙ gone-here now path (places t))))
   where
-    still : (o : Option Object) → is_some o ≡ true → is_some (option_map bare o) ≡ true
+    still : (o : Option Object) → is_some o ≡ true → is_some (option_map object_state o) ≡ true
     still None h = h
     still (Some x) h = refl

@@ -7,8 +7,8 @@ use Rattle.std.proofs.lemmas.Map.Keys.{IsDistinct-head, IsDistinct-tail}
 use Rattle.std.specs.Ordering.{eq_by_cmp, is_eq, nat_cmp}
 use Rattle.std.specs.Cmp.Lexicographic.{slice_cmp}
 use Rattle.std.proofs.lemmas.Bool.{or_right, cases_Bool}
-use Rattle.pv_dress.specs.declared.bare.Bare.{Bare}
-use Rattle.pv_dress.proofs.EditLaws.{path_cases}
+use Rattle.pv_metadata.specs.declared.object_state.ObjectState.{ObjectState}
+use Rattle.pv_metadata.proofs.EditLaws.{path_cases}
 use Rattle.pv_path.specs.Names.{same_bytes}
 use Rattle.pv_path.specs.Paths.{Path, is_prefix, same_path}
 use Rattle.pv_path.proofs.PathLaws.{same_bytes-refl, same_bytes-decides, same_path-refl, name_cmp-refl, name_cmp-exact, parent_of-push, is_prefix-append, is_prefix-refl, is_prefix-trans, prefix_parts}
@@ -20,7 +20,7 @@ use Rattle.pv_walk.specs.Pieces.{what_of, plain, after_piece, built, HasPlace, I
 use Rattle.pv_path.proofs.Tests.{equal_of, true_not_false}
 
 abbrev pub Subtree : Type 0
-Subtree = Path → Option Bare
+Subtree = Path → Option ObjectState
 
 -- ---- one list after another
 
@@ -48,7 +48,7 @@ pub record Fills (subtree s : Subtree) (pieces : List Piece) (region : Path → 
 
 -- the kind of what stands at a place
 abbrev pub kind_in : Subtree → Path → Option Kind
-kind_in s q = option_map (λ (b : Bare). b.body.kind) (s q)
+kind_in s q = option_map (λ (b : ObjectState). b.body.kind) (s q)
 
 -- the directory at a place is as it is to be
 pub record Ready (subtree s : Subtree) (r : Path) : Type 0 where
@@ -132,7 +132,7 @@ under_child r (m ∷ ns) n x h =
 
 module _ (subtree : Subtree) (r : Path) (f : Path → List Piece)
     (one : (n : List ℕ) (s : Subtree) → Ready subtree s r → ((x : Path) → s (r ++ n ∷ x) ≡ None) → Fills subtree s (f (r ++ n ∷ [])) (is_prefix (r ++ n ∷ []))) where
-  either : (a b : Bool) (x y : Option Bare) → cond b x (cond a x y) ≡ cond (a || b) x y
+  either : (a b : Bool) (x y : Option ObjectState) → cond b x (cond a x y) ≡ cond (a || b) x y
   either true true x y = refl
   either true false x y = refl
   either false b x y = refl
@@ -146,7 +146,7 @@ module _ (subtree : Subtree) (r : Path) (f : Path → List Piece)
       let kept : (q : Path) → is_prefix (r ++ n ∷ []) q ≡ false → built (f (r ++ n ∷ [])) s q ≡ s q = λ q h. ap (λ (v : Subtree). v q) first.fills ∙ ap (λ b. cond b (subtree q) (s q)) h in
       let ready_next : Ready subtree (built (f (r ++ n ∷ [])) s) r = record {
         top = ap is_some (kept [] (no_child_root r n)) ∙ ready.top;
-        here = ap (option_map (λ (b : Bare). b.body.kind)) (kept r (no_child_above r n)) ∙ ready.here;
+        here = ap (option_map (λ (b : ObjectState). b.body.kind)) (kept r (no_child_above r n)) ∙ ready.here;
       } in
       let next = each_fills ns (built (f (r ++ n ∷ [])) s) (IsDistinct-tail (eq_by_cmp (slice_cmp nat_cmp)) n ns apart_names) ready_next
       (λ m x among. kept (r ++ m ∷ x) (child_apart r n m x (other_name n m ns (IsDistinct-head (eq_by_cmp (slice_cmp nat_cmp)) n ns apart_names) among)) ∙ empty m x (or_right (eq_by_cmp (slice_cmp nat_cmp) m n) (is_in m ns) among)) in
@@ -160,9 +160,9 @@ module _ (subtree : Subtree) (r : Path) (f : Path → List Piece)
 
 -- ---- the pieces of a whole subtree
 
-abbrev pub around : Path → List Piece → Option Bare → List Piece
+abbrev pub around : Path → List Piece → Option ObjectState → List Piece
 around r inner None = []
-around r inner (Some b) = Give r b.dress ∷ (inner ++ Make r (what_of b.body) ∷ [])
+around r inner (Some b) = Give r b.metadata ∷ (inner ++ Make r (what_of b.body) ∷ [])
 
 -- those of what stands at and below a place, as far down as a number of names
 abbrev pub pieces_below : Subtree → (Path → List (List ℕ)) → ℕ → Path → List Piece
@@ -172,11 +172,11 @@ pieces_below subtree names (suc k) r = around r (each_below (pieces_below subtre
 -- a subtree of objects that can be copied, each in a directory, with the names of all that stands in it
 pub record IsSubtree (subtree : Subtree) (names : Path → List (List ℕ)) : Type 0 where
   pub closed : (r : Path) (n : List ℕ) (x : Path) → is_some (subtree (r ++ n ∷ x)) ≡ true → kind_in subtree r ≡ Some Directory
-  pub fits : (r : Path) (b : Bare) → subtree r ≡ Some b → IsWhole b
+  pub fits : (r : Path) (b : ObjectState) → subtree r ≡ Some b → IsWhole b
   pub covers : (r : Path) (n : List ℕ) (x : Path) → is_some (subtree (r ++ n ∷ x)) ≡ true → is_in n (names r) ≡ true
   pub distinct : (r : Path) → IsDistinct (eq_by_cmp (slice_cmp nat_cmp)) (names r)
 
-no_some : (o : Option Bare) → (is_some o ≡ true → ⊥) → o ≡ None
+no_some : (o : Option ObjectState) → (is_some o ≡ true → ⊥) → o ≡ None
 no_some None h = refl
 no_some (Some b) h = absurd (h refl)
 
@@ -187,7 +187,7 @@ module _ (subtree : Subtree) (names : Path → List (List ℕ)) (is : IsSubtree 
   -- nothing stands at and below a place of which the subtree has nothing
   absent_below : (r : Path) → subtree r ≡ None → (x : Path) → subtree (r ++ x) ≡ None
   absent_below r e [] = ap subtree (append-nil r) ∙ e
-  absent_below r e (n ∷ x) = no_some (subtree (r ++ n ∷ x)) (λ some. (let no : None ≡ Some Directory = sym (ap (option_map (λ (b : Bare). b.body.kind)) e) ∙ is.closed r n x some in cc))
+  absent_below r e (n ∷ x) = no_some (subtree (r ++ n ∷ x)) (λ some. (let no : None ≡ Some Directory = sym (ap (option_map (λ (b : ObjectState). b.body.kind)) e) ∙ is.closed r n x some in cc))
 
   -- so nothing has to be done there
   nothing_fills : (r : Path) (s : Subtree) → subtree r ≡ None → nothing_below s r → Fills subtree s [] (is_prefix r)
@@ -203,7 +203,7 @@ module _ (subtree : Subtree) (names : Path → List (List ℕ)) (is : IsSubtree 
 
   -- ---- one object with all below it
 
-  module _ (r : Path) (s : Subtree) (b : Bare) (there : subtree r ≡ Some b) (empty : nothing_below s r) (place : HasPlace s r) (inner : List Piece) where
+  module _ (r : Path) (s : Subtree) (b : ObjectState) (there : subtree r ≡ Some b) (empty : nothing_below s r) (place : HasPlace s r) (inner : List Piece) where
     abbrev first : Subtree
     first = after_piece (Make r (what_of b.body)) s
 
@@ -233,7 +233,7 @@ module _ (subtree : Subtree) (names : Path → List (List ℕ)) (is : IsSubtree 
     pub first_ready : Ready subtree first r
     first_ready = record {
       top = first-top;
-      here = ap (option_map (λ (b : Bare). b.body.kind)) first-here ∙ ap (λ (v : _). Some v.kind) whole.body ∙ sym (ap (option_map (λ (b : Bare). b.body.kind)) there);
+      here = ap (option_map (λ (b : ObjectState). b.body.kind)) first-here ∙ ap (λ (v : _). Some v.kind) whole.body ∙ sym (ap (option_map (λ (b : ObjectState). b.body.kind)) there);
     }
 
     pub first_empty : (n : List ℕ) (x : Path) → first (r ++ n ∷ x) ≡ None
@@ -246,7 +246,7 @@ module _ (subtree : Subtree) (names : Path → List (List ℕ)) (is : IsSubtree 
         ]
 
     abbrev pieces : List Piece
-    pieces = Give r b.dress ∷ (inner ++ Make r (what_of b.body) ∷ [])
+    pieces = Give r b.metadata ∷ (inner ++ Make r (what_of b.body) ∷ [])
 
     module _ (ns : List (List ℕ)) (covers : (n : List ℕ) (x : Path) → is_some (subtree (r ++ n ∷ x)) ≡ true → is_in n ns ≡ true) (fills : Fills subtree first inner (is_under_child r ns)) where
       built_first : built (inner ++ Make r (what_of b.body) ∷ []) s ≡ (λ q. cond (is_under_child r ns q) (subtree q) (first q))
@@ -255,7 +255,7 @@ module _ (subtree : Subtree) (names : Path → List (List ℕ)) (is : IsSubtree 
       built-here : built (inner ++ Make r (what_of b.body) ∷ []) s r ≡ Some (plain b)
       built-here = ap (λ (v : Subtree). v r) built_first ∙ ap (λ c. cond c (subtree r) (first r)) (not_under_itself r ns) ∙ first-here
 
-      worn : Some (record (plain b) { dress = b.dress }) ≡ Some b
+      worn : Some (record (plain b) { metadata = b.metadata }) ≡ Some b
       worn = ap (λ (v : _). Some (record b { body = v })) whole.body
 
       below : (q : Path) → same_path r q ≡ false → (is_prefix r q ≡ true) ⊎ (is_prefix r q ≡ false) → cond (is_under_child r ns q) (subtree q) (first q) ≡ cond (is_prefix r q) (subtree q) (s q)
@@ -277,11 +277,11 @@ module _ (subtree : Subtree) (names : Path → List (List ℕ)) (is : IsSubtree 
 
       at_all : (q : Path) → (r ≡ q) ⊎ (same_path r q ≡ false) → built pieces s q ≡ cond (is_prefix r q) (subtree q) (s q)
       at_all q (inl e) = subst (λ (p : Path). built pieces s p ≡ cond (is_prefix r p) (subtree p) (s p)) e
-          (ap (λ c. cond c (option_map (λ (o : Bare). record o { dress = b.dress }) (built (inner ++ Make r (what_of b.body) ∷ []) s r)) (built (inner ++ Make r (what_of b.body) ∷ []) s r)) (same_path-refl r)
-          ∙ ap (option_map (λ (o : Bare). record o { dress = b.dress })) built-here ∙ worn ∙ sym there
+          (ap (λ c. cond c (option_map (λ (o : ObjectState). record o { metadata = b.metadata }) (built (inner ++ Make r (what_of b.body) ∷ []) s r)) (built (inner ++ Make r (what_of b.body) ∷ []) s r)) (same_path-refl r)
+          ∙ ap (option_map (λ (o : ObjectState). record o { metadata = b.metadata })) built-here ∙ worn ∙ sym there
           ∙ ap (λ c. cond c (subtree r) (s r)) (sym (is_prefix-refl r)))
       at_all q (inr d) =
-          ap (λ c. cond c (option_map (λ (o : Bare). record o { dress = b.dress }) (built (inner ++ Make r (what_of b.body) ∷ []) s q)) (built (inner ++ Make r (what_of b.body) ∷ []) s q)) d
+          ap (λ c. cond c (option_map (λ (o : ObjectState). record o { metadata = b.metadata }) (built (inner ++ Make r (what_of b.body) ∷ []) s q)) (built (inner ++ Make r (what_of b.body) ∷ []) s q)) d
           ∙ ap (λ (v : Subtree). v q) built_first ∙ below q d (cases_Bool (is_prefix r q))
 
       pub object_fills : Fills subtree s pieces (is_prefix r)
@@ -299,7 +299,7 @@ module _ (subtree : Subtree) (names : Path → List (List ℕ)) (is : IsSubtree 
       → Fills subtree s (around r (each_below f r (names r)) (subtree r)) (is_prefix r)
   some_fills r s empty place f one = by (subtree r) refl
     where
-      by : (o : Option Bare) → subtree r ≡ o → Fills subtree s (around r (each_below f r (names r)) o) (is_prefix r)
+      by : (o : Option ObjectState) → subtree r ≡ o → Fills subtree s (around r (each_below f r (names r)) o) (is_prefix r)
       by None e = nothing_fills r s e empty
       by (Some b) e =
           let here = place (ap is_some e) in

@@ -10,10 +10,10 @@ use Rattle.pv_steps.specs.declared.object.Object.{Object}
 use Rattle.pv_steps.specs.Steps.{touched, made, put_at}
 use Rattle.pv_steps.specs.Trees.{Places}
 use Rattle.pv_steps.proofs.StepLaws.{is_among, is_some-touched, later_among}
-use Rattle.pv_dress.specs.Edits.{cut, taken, all_taken}
-use Rattle.pv_dress.specs.Nodes.{bare_of, bares_of}
-use Rattle.pv_dress.proofs.EditLaws.{path_cases, bares-touched, staging_outside}
-use Rattle.pv_dress.proofs.OperationLaws.{bares_of-same}
+use Rattle.pv_metadata.specs.Edits.{cut, taken, all_taken}
+use Rattle.pv_metadata.specs.Nodes.{object_state_of, object_states_of}
+use Rattle.pv_metadata.proofs.EditLaws.{path_cases, object_states-touched, staging_outside}
+use Rattle.pv_metadata.proofs.OperationLaws.{object_states_of-same}
 use Rattle.pv_walk.specs.Preparing.{parents_of, parent_file, with_parent, prepared}
 use Rattle.pv_walk.specs.Staging.{prefixes, staging_names, is_under_any, new_object}
 
@@ -147,17 +147,17 @@ under_none q plain (p ∷ ps) h =
 pub under_no_stage : (path q : Path) → has_staging q ≡ false → is_under_any (staging_names path) q ≡ false
 under_no_stage path q plain = under_none q plain (prefixes path) (prefixes-nonempty path)
 
-pub bares_of-touched : (now : ℕ) (p : Path) (t : Places) (q : Path) → bares_of (touched now p t) q ≡ bares_of t q
-bares_of-touched now p t q = bares_of-same (touched now p t) t q (bares-touched now p t q)
+pub object_states_of-touched : (now : ℕ) (p : Path) (t : Places) (q : Path) → object_states_of (touched now p t) q ≡ object_states_of t q
+object_states_of-touched now p t q = object_states_of-same (touched now p t) t q (object_states-touched now p t q)
 
-pub bare_none : (o : Option Object) → option_map bare_of o ≡ None → o ≡ None
-bare_none None h = refl
-bare_none (Some x) h = cc
+pub object_state_none : (o : Option Object) → option_map object_state_of o ≡ None → o ≡ None
+object_state_none None h = refl
+object_state_none (Some x) h = cc
 
 module _ (now : ℕ) where
   taken-none : (p : Path) (t : Places) (q : Path) → t q ≡ None → taken now p t q ≡ None
   taken-none p t q h = elim (is_some (t p)) as (λ b. cond b (touched now p (cut p t)) t q ≡ None) [
-    | true ↦ bare_none _ (bares_of-touched now p (cut p t) q ∙ ap (option_map bare_of) (elim (is_prefix p q) as (λ b. cond b None (t q) ≡ None) [ true ↦ refl | false ↦ h ]))
+    | true ↦ object_state_none _ (object_states_of-touched now p (cut p t) q ∙ ap (option_map object_state_of) (elim (is_prefix p q) as (λ b. cond b None (t q) ≡ None) [ true ↦ refl | false ↦ h ]))
     | false ↦ h
   ]
 
@@ -173,7 +173,7 @@ module _ (now : ℕ) where
       by None e = taken-none p t p e
       by (Some x) e =
           ap (λ o. cond (is_some o) (touched now p (cut p t)) t p) e
-          ∙ bare_none _ (bares_of-touched now p (cut p t) p ∙ ap (λ b. option_map bare_of (cond b None (t p))) (is_prefix-refl p))
+          ∙ object_state_none _ (object_states_of-touched now p (cut p t) p ∙ ap (λ b. option_map object_state_of (cond b None (t p))) (is_prefix-refl p))
 
   -- what is taken is absent then
   pub all_taken-stage : (ps : List Path) (t : Places) (q : Path) → stands_in q ps ≡ true → all_taken now (map staging_of ps) t (staging_of q) ≡ None

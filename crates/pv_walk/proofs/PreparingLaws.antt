@@ -12,25 +12,25 @@ use Rattle.pv_path.specs.Paths.{Path, same_path, parent_of, has_staging, staging
 use Rattle.pv_path.proofs.PathLaws.{length-parent_of, has_staging-staging_of, length-prefix, is_prefix-take, has_some_names, has_staging-take}
 use Rattle.pv_steps.specs.declared.node.Kind.TheVariants.{Directory}
 use Rattle.pv_steps.specs.declared.object.Object.{Object}
-use Rattle.pv_steps.specs.Objects.{bare, modified}
+use Rattle.pv_steps.specs.Objects.{object_state, modified}
 use Rattle.pv_steps.specs.Trees.{Files, Places, places, kind_of, IsAbsentIn, IsKind}
 use Rattle.pv_steps.proofs.TreeLaws.{kind_of-touched}
 use Rattle.pv_steps.proofs.StepLaws.{is_some-touched}
 use Rattle.pv_steps.specs.Steps.{put_at, made}
-use Rattle.pv_steps.specs.Same.{bares}
+use Rattle.pv_steps.specs.Same.{object_states}
 use Rattle.pv_steps.specs.declared.tree.Tree.{Ghosts}
 use Rattle.pv_steps.specs.declared.tree.TreeFault.{TreeFault}
 use Rattle.pv_steps.specs.declared.step.Step.{Step}
 use Rattle.pv_steps.specs.Acting.{refused, Acted}
 use Rattle.pv_steps.proofs.ActingLaws.{Moves, acted_then, acted_weaken, acted_end}
-use Rattle.pv_dress.proofs.EditLaws.{path_cases, put_at-else, on_at-else, made-here}
+use Rattle.pv_metadata.proofs.EditLaws.{path_cases, put_at-else, on_at-else, made-here}
 use Rattle.pv_walk.specs.Staging.{new_object, can_stage}
 use Rattle.pv_walk.proofs.RemovalLaws.{no_same}
 use Rattle.pv_walk.specs.Putting as putting
 use Rattle.pv_walk.specs.Putting.{IsPutting, put, Putting, IsPutStep}
 use Rattle.pv_walk.specs.Preparing.{parent_file, parents_of, with_parent, IsAbove, CanPass, IsSwept, IsPreparing, parent, Preparing, parent_count, IsPrepareStep, puts}
 use Rattle.pv_walk.proofs.PuttingLaws.{made-none}
-use Rattle.pv_steps.proofs.ObjectLaws.{none_from_bare}
+use Rattle.pv_steps.proofs.ObjectLaws.{none_from_object_state}
 
 -- ---- the places above a path
 
@@ -229,8 +229,8 @@ acted_still tree P Q R n {now = now} {a = a} {b = b} {r = r} none acted = record
     few : length acted.ran.steps ≡ 0
     few = (
         let bound : (length (tree.steps b) - length (tree.steps a)) + refused r ≤ n = acted.bound in
-        let told : length (tree.steps b) ≡ length (tree.steps a) + length acted.ran.steps = ap length acted.ran.recorded ∙ length-append (tree.steps a) acted.ran.steps in
-        omega (arith, bound, told, none))
+        let stated : length (tree.steps b) ≡ length (tree.steps a) + length acted.ran.steps = ap length acted.ran.recorded ∙ length-append (tree.steps a) acted.ran.steps in
+        omega (arith, bound, stated, none))
 
     by : (steps : List Step) → length steps ≡ 0 → AllByRecursion R steps
     by [] e = tt
@@ -240,12 +240,12 @@ module _ (path p : Path) (over : IsAbove p path) where
   one_more : (q : Path) (a b c : Option Object) → IsPreparing path q a b → IsPutting p parent_file q b c → IsPreparing path q a c
   one_more q a b c x (putting.kept e) = subst (IsPreparing path q a) (sym e) x
   one_more q a b c (IsPreparing.kept e) (put s none new) = parent (subst (λ (r : Path). IsAbove r path) (sym s) over) (sym e ∙ none) new
-  one_more q a b c (parent high old is) (put s none new) = absurd (let no : Some (bare (new_object parent_file 0)) ≡ None = sym is ∙ none in cc)
+  one_more q a b c (parent high old is) (put s none new) = absurd (let no : Some (object_state (new_object parent_file 0)) ≡ None = sym is ∙ none in cc)
 
   -- a parent that is put on the way was absent at the start
-  absent_before : (a b : Option Object) → IsPreparing path p (option_map bare a) (option_map bare b) → b ≡ None → a ≡ None
-  absent_before a b (IsPreparing.kept e) none = none_from_bare a (sym e ∙ ap (option_map bare) none)
-  absent_before a b (parent high old is) none = none_from_bare a old
+  absent_before : (a b : Option Object) → IsPreparing path p (option_map object_state a) (option_map object_state b) → b ≡ None → a ≡ None
+  absent_before a b (IsPreparing.kept e) none = none_from_object_state a (sym e ∙ ap (option_map object_state) none)
+  absent_before a b (parent high old is) none = none_from_object_state a old
 
   pub parent_acted : {S A B : Type 0} (tree : Ghosts S) → Moves tree → has_staging p ≡ false → {m n now : ℕ} {a b c : S} {x : A} {r : Result B TreeFault} → (places (tree.state b) p ≡ None) ⊎ (n ≡ 0)
       → Acted tree (Preparing path (tree.state a)) (IsPrepareStep path (tree.state a)) m now a b (Ok x)
@@ -254,7 +254,7 @@ module _ (path p : Path) (over : IsAbove p path) where
       acted_then tree moves (Preparing path (tree.state a)) (IsPrepareStep path (tree.state a)) before (by there)
     where
       goes_on : (w : Files) → Putting p parent_file (tree.state b) w → Preparing path (tree.state a) w
-      goes_on w more q plain = one_more q (bares (places (tree.state a)) q) (bares (places (tree.state b)) q) (bares (places w) q) (acted_end tree (Preparing path (tree.state a)) (IsPrepareStep path (tree.state a)) before q plain) (more q plain)
+      goes_on w more q plain = one_more q (object_states (places (tree.state a)) q) (object_states (places (tree.state b)) q) (object_states (places w) q) (acted_end tree (Preparing path (tree.state a)) (IsPrepareStep path (tree.state a)) before q plain) (more q plain)
 
       by : (places (tree.state b) p ≡ None) ⊎ (n ≡ 0) → Acted tree (Preparing path (tree.state a)) (IsPrepareStep path (tree.state a)) n now b c r
       by (inl none) = acted_weaken tree (Putting p parent_file (tree.state b)) (Preparing path (tree.state a)) (IsPutStep p parent_file) (IsPrepareStep path (tree.state a)) n n goes_on

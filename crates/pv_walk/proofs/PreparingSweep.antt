@@ -12,18 +12,18 @@ use Rattle.pv_steps.specs.declared.node.Kind.{Kind}
 use Rattle.pv_steps.specs.declared.node.Kind.TheVariants.{Directory, File, Link, Fifo, CharDevice, BlockDevice}
 use Rattle.pv_steps.specs.declared.object.Object.{Object}
 use Rattle.pv_steps.specs.declared.why.Why.{Why}
-use Rattle.pv_steps.specs.Objects.{bare, modified}
+use Rattle.pv_steps.specs.Objects.{object_state, modified}
 use Rattle.pv_steps.specs.Trees.{Files, Places, places, kind_of, IsPresent, IsAbsentIn}
 use Rattle.pv_steps.specs.Steps.{touched}
-use Rattle.pv_steps.specs.Refusal.{why_blocked, why_refused, first_refused, refusal}
-use Rattle.pv_steps.specs.Same.{bares}
+use Rattle.pv_steps.specs.Refusal.{why_unsafe, why_refused, first_refused, refusal}
+use Rattle.pv_steps.specs.Same.{object_states}
 use Rattle.pv_steps.specs.declared.step.Step.{Step}
 use Rattle.pv_steps.specs.declared.tree.Tree.{Ghosts}
 use Rattle.pv_steps.specs.declared.tree.TreeFault.{TreeFault}
 use Rattle.pv_steps.specs.Acting.{Acted}
 use Rattle.pv_steps.proofs.ActingLaws.{Moves, acted_then, acted_weaken, acted_end}
-use Rattle.pv_dress.specs.Edits.{Pruned, cut, taken, all_taken}
-use Rattle.pv_dress.proofs.EditLaws.{staging_outside}
+use Rattle.pv_metadata.specs.Edits.{Pruned, cut, taken, all_taken}
+use Rattle.pv_metadata.proofs.EditLaws.{staging_outside}
 use Rattle.pv_steps.specs.Content.{Removes}
 use Rattle.pv_walk.specs.Staging.{staging_names, is_under_any}
 use Rattle.pv_walk.proofs.RemovalLaws.{zero_or_more, no_same}
@@ -31,7 +31,7 @@ use Rattle.pv_walk.proofs.SweepLaws.{length-staging_names, staging_name-at}
 use Rattle.pv_walk.specs.Preparing.{IsAbove, CanPass, IsSwept, IsPreparing, kept, Preparing, parent_count, IsPrepareStep, sweeps, puts}
 use Rattle.pv_walk.proofs.PreparingLaws.{nonempty_take}
 use Rattle.pv_path.proofs.Tests.{none_of}
-use Rattle.pv_steps.proofs.ObjectLaws.{kind_of-same, is_some-same, none_from_bare}
+use Rattle.pv_steps.proofs.ObjectLaws.{kind_of-same, is_some-same, none_from_object_state}
 
 -- ---- subtrees taken away
 
@@ -122,17 +122,17 @@ module _ (path q : Path) (plain : has_staging q ≡ false) where
   plain_outside = none_along 1 (length path) (omega arith) (omega arith)
 
 abbrev pub IsPlainSame : Files → Files → Type 0
-IsPlainSame t u = (q : Path) → has_staging q ≡ false → bares (places u) q ≡ bares (places t) q
+IsPlainSame t u = (q : Path) → has_staging q ≡ false → object_states (places u) q ≡ object_states (places t) q
 
 pub pruned_same : (path : Path) (t u : Files) → Pruned (is_under_any (staging_names path)) t u → IsPlainSame t u
 pruned_same path t u p = λ q plain. p.outside q (plain_outside path q plain)
 
-same_none : (a b : Option Object) → option_map bare a ≡ option_map bare b → is_none a ≡ is_none b
-same_none a b e = sym (bare_none a) ∙ ap is_none e ∙ bare_none b
+same_none : (a b : Option Object) → option_map object_state a ≡ option_map object_state b → is_none a ≡ is_none b
+same_none a b e = sym (object_state_none a) ∙ ap is_none e ∙ object_state_none b
   where
-    bare_none : (o : Option Object) → is_none (option_map bare o) ≡ is_none o
-    bare_none None = refl
-    bare_none (Some x) = refl
+    object_state_none : (o : Option Object) → is_none (option_map object_state o) ≡ is_none o
+    object_state_none None = refl
+    object_state_none (Some x) = refl
 
 -- ---- as many parents are absent
 
@@ -169,11 +169,11 @@ first_none : (a b : Option Why) → option_or a b ≡ None → a ≡ None
 first_none None b e = refl
 first_none (Some x) b e = let no : Some x ≡ None = e in cc
 
-passed : (o : Option Object) → why_blocked (kind_of o) ≡ None → is_some o ≡ true → kind_of o ≡ Some Directory
+passed : (o : Option Object) → why_unsafe (kind_of o) ≡ None → is_some o ≡ true → kind_of o ≡ Some Directory
 passed None e h = let no : false ≡ true = h in cc
 passed (Some x) e h = ap Some (by x.node.kind e)
   where
-    by : (kind : Kind) → why_blocked (Some kind) ≡ None → kind ≡ Directory
+    by : (kind : Kind) → why_unsafe (Some kind) ≡ None → kind ≡ Directory
     by Directory e = refl
     by File e = cc
     by Link e = cc
@@ -185,17 +185,17 @@ passed (Some x) e h = ap Some (by x.node.kind e)
 pub unrefused_pass : (path : Path) (last : ℕ) (t : Files) → refusal (places t) path last ≡ None → CanPass path t
 unrefused_pass path last t h = λ place high there. by place (prefix_parts place path high.0) high there
   where
-    at : (k : ℕ) → k < length path → why_blocked (kind_of (places t (take k path))) ≡ None
+    at : (k : ℕ) → k < length path → why_unsafe (kind_of (places t (take k path))) ≡ None
     at k lt =
         let none : why_refused (places t) path last k ≡ None = none_refused (why_refused (places t) path last) 0 (length path + 1) h k (omega arith) (omega arith) in
-        let first = first_none (cond (nat_lt k (length path)) (why_blocked (kind_of (places t (take k path)))) None) _ none in
+        let first = first_none (cond (nat_lt k (length path)) (why_unsafe (kind_of (places t (take k path)))) None) _ none in
         let test : nat_lt k (length path) ≡ true = grind (arith, nat_tests) in
-        sym (ap (λ b. cond b (why_blocked (kind_of (places t (take k path)))) None) test) ∙ first
+        sym (ap (λ b. cond b (why_unsafe (kind_of (places t (take k path)))) None) test) ∙ first
 
     by : (place : Path) → (rest : Path) × (path ≡ place ++ rest) → IsAbove place path → IsPresent t place → kind_of (places t place) ≡ Some Directory
     by place parts high there =
         let first : take (length place) path ≡ place = ap (take (length place)) parts.1 ∙ take-append_seam place parts.0 in
-        passed (places t place) (ap (λ (p : Path). why_blocked (kind_of (places t p))) (sym first) ∙ at (length place) (shorter place high)) there
+        passed (places t place) (ap (λ (p : Path). why_unsafe (kind_of (places t p))) (sym first) ∙ at (length place) (shorter place high)) there
       where
         shorter : (place : Path) → IsAbove place path → length place < length path
         shorter place high = by_length (length path - length place) refl
@@ -242,8 +242,8 @@ module _ {S : Type 0} (tree : Ghosts S) (path : Path) where
   prepared_acted {n = n} {a = a} {b = b} moves plain before last =
       acted_then tree moves (Preparing path (tree.state a)) (IsPrepareStep path (tree.state a)) (swept_acted before)
       (acted_weaken tree (Preparing path (tree.state b)) (Preparing path (tree.state a)) (IsPrepareStep path (tree.state b)) (IsPrepareStep path (tree.state a)) n n
-      (λ w more q unstaged. subst (λ o. IsPreparing path q o (bares (places w) q)) (swept_same before q unstaged) (more q unstaged)) step_from_start (omega arith) last)
+      (λ w more q unstaged. subst (λ o. IsPreparing path q o (object_states (places w) q)) (swept_same before q unstaged) (more q unstaged)) step_from_start (omega arith) last)
     where
       step_from_start : (step : Step) → IsPrepareStep path (tree.state b) step → IsPrepareStep path (tree.state a) step
       step_from_start step (sweeps removes) = sweeps removes
-      step_from_start step (puts place above none put) = puts place above (none_from_bare (places (tree.state a) place) (sym (swept_same before place (above_plain path place plain above.0)) ∙ ap (option_map bare) none)) put
+      step_from_start step (puts place above none put) = puts place above (none_from_object_state (places (tree.state a) place) (sym (swept_same before place (above_plain path place plain above.0)) ∙ ap (option_map object_state) none)) put

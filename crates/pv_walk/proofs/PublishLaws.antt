@@ -8,11 +8,11 @@ use Rattle.pv_path.specs.Paths.{Path, same_path, is_prefix, rest_under, parent_o
 use Rattle.pv_path.proofs.PathLaws.{is_prefix-refl, is_prefix-append, prefix_whole, prefixes_compare, parent_parts, parent_of-staging_of, parent_of-differs, length-parent_of, length-staging_of, staging_of-push, last_name-push, rest_under-None, is_some-rest_under}
 use Rattle.pv_steps.specs.declared.node.Kind.TheVariants.{Directory}
 use Rattle.pv_steps.specs.declared.object.Object.{Object}
-use Rattle.pv_steps.specs.Objects.{changed, modified, bare}
+use Rattle.pv_steps.specs.Objects.{changed, modified, object_state}
 use Rattle.pv_steps.specs.Trees.{Files, Places, places, kind_of, IsPresentIn, IsAbsentIn, IsKindIn, IsTreeIn, IsPresent, IsTree}
 use Rattle.pv_steps.specs.Steps.{touched, moved, moved_at, carried, Movable, Yields, absent, directories}
 use Rattle.pv_steps.specs.Same.{Differ}
-use Rattle.pv_dress.specs.Edits.{cut, taken, emptied}
+use Rattle.pv_metadata.specs.Edits.{cut, taken, emptied}
 use Rattle.pv_walk.proofs.RemovalLaws.{IsKept, modified_kept, kept-kind, no_same, is_below-append, not_below_itself}
 use Rattle.pv_walk.proofs.EmptyingLaws.{emptied-below, emptied-kept, emptied-outside, present-taken}
 use Rattle.pv_path.proofs.Tests.{true_not_false}
@@ -170,11 +170,11 @@ module _ (now : ℕ) (path : Path) (nonempty : path ≢ []) (t : Places) where
 pub moved_differs : (now : ℕ) (path : Path) → path ≢ [] → (t v : Files) → IsPresent t (staging_of path) → places v ≡ moved now (staging_of path) path (places t) → Differ t v
 moved_differs now path nonempty t v present is = (
   staging_of path,
-  λ e. true_not_false (is_some (option_map bare (places v (staging_of path)))) (sym (ap is_some e) ∙ still (places t (staging_of path)) present)
-      (ap (λ o. is_some (option_map bare o)) (ap (λ (x : Places). x (staging_of path)) is ∙ moved_away now path nonempty (places t))),
+  λ e. true_not_false (is_some (option_map object_state (places v (staging_of path)))) (sym (ap is_some e) ∙ still (places t (staging_of path)) present)
+      (ap (λ o. is_some (option_map object_state o)) (ap (λ (x : Places). x (staging_of path)) is ∙ moved_away now path nonempty (places t))),
 )
   where
-    still : (o : Option Object) → is_some o ≡ true → is_some (option_map bare o) ≡ true
+    still : (o : Option Object) → is_some o ≡ true → is_some (option_map object_state o) ≡ true
     still None h = h
     still (Some x) h = refl
 

@@ -8,17 +8,17 @@ use Rattle.pv_path.specs.Paths.{Path, same_path, is_prefix, parent_of, rest_unde
 use Rattle.pv_path.proofs.PathLaws.{is_some-rest_under, rest_under-Some, same_path-refl, not_prefix_not_same, has_staging-staging_of}
 use Rattle.pv_steps.specs.declared.node.Kind.TheVariants.{Directory}
 use Rattle.pv_steps.specs.declared.object.Object.{Object}
-use Rattle.pv_steps.specs.Objects.{bare, modified}
+use Rattle.pv_steps.specs.Objects.{object_state, modified}
 use Rattle.pv_steps.specs.Trees.{Files, Places, places, IsTree, IsAbsentIn, IsKindIn}
 use Rattle.pv_steps.specs.Steps.{put_at, made, moved}
-use Rattle.pv_steps.specs.Same.{bares}
+use Rattle.pv_steps.specs.Same.{object_states}
 use Rattle.pv_steps.specs.declared.tree.Tree.{Ghosts}
 use Rattle.pv_steps.specs.declared.tree.TreeFault.{TreeFault}
 use Rattle.pv_steps.specs.Acting.{Acted}
 use Rattle.pv_steps.proofs.ActingLaws.{Moves, acted_then, acted_weaken, acted_end}
-use Rattle.pv_dress.specs.Edits.{SameOutside, cut, count_at}
-use Rattle.pv_dress.specs.Nodes.{bare_of}
-use Rattle.pv_dress.proofs.EditLaws.{path_cases, put_at-else, put_at-here, bares-made, bares-put_else, staging_outside}
+use Rattle.pv_metadata.specs.Edits.{SameOutside, cut, count_at}
+use Rattle.pv_metadata.specs.Nodes.{object_state_of}
+use Rattle.pv_metadata.proofs.EditLaws.{path_cases, put_at-else, put_at-here, object_states-made, object_states-put_else, staging_outside}
 use Rattle.pv_walk.specs.declared.new_file.NewFile.{NewFile}
 use Rattle.pv_walk.specs.Staging.{new_object, GivesNew, IsPublishing}
 use Rattle.pv_walk.specs.Removal.{Publishing}
@@ -61,7 +61,7 @@ module _ (path : Path) (t : Files) (tree : IsTree t) (none : IsAbsentIn (places 
 
 -- what a call that puts a new object leaves is the subtree of one object put there
 module _ (now : ℕ) (path : Path) (file : NewFile) (t : Places) where
-  pub put_single : (q : Path) → with_subtree now path (single (bare_of (new_object file 0))) t q ≡ put_over now path file t q
+  pub put_single : (q : Path) → with_subtree now path (single (object_state_of (new_object file 0))) t q ≡ put_over now path file t q
   put_single q = by (rest_under path q) refl
     where
       over : (x y : Option Object) → x ≡ y → cond (same_path (parent_of path) q) (option_map (modified now) x) x ≡ cond (same_path (parent_of path) q) (option_map (modified now) y) y
@@ -85,7 +85,7 @@ module _ (now : ℕ) (path : Path) (file : NewFile) (t : Places) where
           shorter : path ≡ path ++ name ∷ rest → ⊥
           shorter l = let n = ap length l in omega (arith, n, length-append path (name ∷ rest))
 
-      by : (r : Option Path) → rest_under path q ≡ r → with_subtree now path (single (bare_of (new_object file 0))) t q ≡ put_over now path file t q
+      by : (r : Option Path) → rest_under path q ≡ r → with_subtree now path (single (object_state_of (new_object file 0))) t q ≡ put_over now path file t q
       by None e = rw e (over (t q) _ (sym (beside (sym (is_some-rest_under path q) ∙ ap is_some e))))
       by (Some []) e = rw e (over (Some (new_object file now)) _ (sym (here (rest_under-Some path q [] e ∙ append-nil path))))
       by (Some (name ∷ rest)) e = rw e (over None _ (sym (below (longer name rest (rest_under-Some path q (name ∷ rest) e)) (inside (ap is_some e)))))
@@ -133,20 +133,20 @@ module _ (path : Path) (t : Files) (tree : IsTree t) (none : IsAbsentIn (places 
   over_putting file u (Replacing.before same) = λ q plain. IsPutting.kept (sym (same q plain))
   over_putting file u (Replacing.making_way m) = λ q plain. by q (m.parts q plain)
     where
-      by : (q : Path) → (bares (places u) q ≡ bares (places t) q) ⊎ ((is_prefix path q ≡ true) × IsAbsentIn (places u) q) → IsPutting path file q (bares (places t) q) (bares (places u) q)
+      by : (q : Path) → (object_states (places u) q ≡ object_states (places t) q) ⊎ ((is_prefix path q ≡ true) × IsAbsentIn (places u) q) → IsPutting path file q (object_states (places t) q) (object_states (places u) q)
       by q (inl e) = IsPutting.kept e
-      by q (inr gone) = IsPutting.kept (ap (option_map bare) (gone.1 ∙ sym (none_under (places t) tree path q none gone.0)))
+      by q (inr gone) = IsPutting.kept (ap (option_map object_state) (gone.1 ∙ sym (none_under (places t) tree path q none gone.0)))
   over_putting file u (Replacing.come h) = λ q plain. by q (h q plain) (path_cases path q)
     where
-      whole : (q : Path) → bares (with_subtree 0 path (new_subtree file) (places t)) q ≡ bares (put_at path (Some (new_object file 0)) (places t)) q
+      whole : (q : Path) → object_states (with_subtree 0 path (new_subtree file) (places t)) q ≡ object_states (put_at path (Some (new_object file 0)) (places t)) q
       whole q =
-          ap (option_map bare) (put_single 0 path file (places t) q)
-          ∙ bares-made 0 path (new_object file 0) (cut path (places t)) q ∙ ap (λ (x : Places). bares (put_at path (Some (new_object file 0)) x) q) (cut_absent path t tree none)
+          ap (option_map object_state) (put_single 0 path file (places t) q)
+          ∙ object_states-made 0 path (new_object file 0) (cut path (places t)) q ∙ ap (λ (x : Places). object_states (put_at path (Some (new_object file 0)) x) q) (cut_absent path t tree none)
 
-      by : (q : Path) → bares (places u) q ≡ bares (with_subtree 0 path (new_subtree file) (places t)) q → (path ≡ q) ⊎ (same_path path q ≡ false) → IsPutting path file q (bares (places t) q) (bares (places u) q)
-      by q e (inl s) = IsPutting.put (sym s) (ap (λ (p : Path). bares (places t) p) (sym s) ∙ ap (option_map bare) none)
-          (e ∙ whole q ∙ ap (λ (p : Path). bares (put_at path (Some (new_object file 0)) (places t)) p) (sym s) ∙ ap (option_map bare) (put_at-here path (Some (new_object file 0)) (places t)))
-      by q e (inr d) = IsPutting.kept (e ∙ whole q ∙ bares-put_else path q (Some (new_object file 0)) (places t) d)
+      by : (q : Path) → object_states (places u) q ≡ object_states (with_subtree 0 path (new_subtree file) (places t)) q → (path ≡ q) ⊎ (same_path path q ≡ false) → IsPutting path file q (object_states (places t) q) (object_states (places u) q)
+      by q e (inl s) = IsPutting.put (sym s) (ap (λ (p : Path). object_states (places t) p) (sym s) ∙ ap (option_map object_state) none)
+          (e ∙ whole q ∙ ap (λ (p : Path). object_states (put_at path (Some (new_object file 0)) (places t)) p) (sym s) ∙ ap (option_map object_state) (put_at-here path (Some (new_object file 0)) (places t)))
+      by q e (inr d) = IsPutting.kept (e ∙ whole q ∙ object_states-put_else path q (Some (new_object file 0)) (places t) d)
 
 -- ---- calls that put it
 

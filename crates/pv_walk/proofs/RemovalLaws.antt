@@ -6,7 +6,7 @@ use Rattle.std.proofs.lemmas.Bool.{and_parts, and_from, not-true}
 use Rattle.pv_path.specs.Paths.{Path, same_path, is_prefix, parent_of, same_path-decides}
 use Rattle.pv_path.proofs.PathLaws.{same_path-refl, is_prefix-append, prefix_parts, is_prefix-parent_of, parent_of-push}
 use Rattle.pv_steps.specs.declared.object.Object.{Object}
-use Rattle.pv_steps.specs.Objects.{modified, bare}
+use Rattle.pv_steps.specs.Objects.{modified, object_state}
 use Rattle.pv_steps.specs.Trees.{Places, kind_of, IsPresentIn, IsTreeIn}
 use Rattle.pv_steps.proofs.TreeLaws.{present_above}
 use Rattle.pv_steps.specs.Steps.{put_at, gone}
@@ -146,9 +146,9 @@ pub kept-present : (now : ℕ) (old new : Option Object) → IsKept now old new 
 kept-present now old new (inl e) = ap is_some e
 kept-present now old new (inr e) = ap is_some e ∙ elim old as (λ o. is_some (option_map (modified now) o) ≡ is_some o) [ None ↦ refl | Some x ↦ refl ]
 
-pub kept-bare : (now : ℕ) (old new : Option Object) → IsKept now old new → option_map bare new ≡ option_map bare old
-kept-bare now old new (inl e) = ap (option_map bare) e
-kept-bare now old new (inr e) = ap (option_map bare) e ∙ elim old as (λ o. option_map bare (option_map (modified now) o) ≡ option_map bare o) [ None ↦ refl | Some x ↦ refl ]
+pub kept-object_state : (now : ℕ) (old new : Option Object) → IsKept now old new → option_map object_state new ≡ option_map object_state old
+kept-object_state now old new (inl e) = ap (option_map object_state) e
+kept-object_state now old new (inr e) = ap (option_map object_state) e ∙ elim old as (λ o. option_map object_state (option_map (modified now) o) ≡ option_map object_state o) [ None ↦ refl | Some x ↦ refl ]
 
 pub not_first : (p q : Path) (ps : List Path) → times q (p ∷ ps) ≡ 0 → (same_path p q ≡ false) × (times q ps ≡ 0)
 not_first p q ps h = by (same_path p q) refl

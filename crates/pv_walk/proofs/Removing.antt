@@ -3,7 +3,7 @@ use Rattle.std.specs.Prelude.{◌≡◌, ◌≢◌, ◌⊎◌, ◌↔◌, ℕ, �
 use Rattle.std.specs.Option.{option_map_or}
 use Rattle.std.proofs.Common.{refl, sym, ap, subst, ◌∙◌, inl, inr, arith}
 use Rattle.pv_path.specs.Paths.{Path, is_prefix, same_path, parent_of, same_path-decides}
-use Rattle.pv_steps.specs.Objects.{bare, is_directory, modified}
+use Rattle.pv_steps.specs.Objects.{object_state, is_directory, modified}
 use Rattle.pv_path.proofs.PathLaws.{same_path-refl}
 use Rattle.pv_steps.specs.declared.node.Kind.{Kind}
 use Rattle.pv_steps.specs.declared.node.Kind.TheVariants.{Directory, File, Link, Fifo, CharDevice, BlockDevice}
@@ -16,11 +16,11 @@ use Rattle.pv_steps.specs.declared.tree.Tree.{Ghosts}
 use Rattle.pv_steps.specs.declared.tree.TreeFault.{TreeFault}
 use Rattle.pv_steps.specs.Acting.{Acted}
 use Rattle.pv_steps.proofs.ActingLaws.{Moves, Asks, acted_then, acted_weaken, acted_end}
-use Rattle.pv_dress.specs.Edits.{Pruned}
+use Rattle.pv_metadata.specs.Edits.{Pruned}
 use Rattle.pv_steps.specs.Content.{Removes}
 use Rattle.pv_steps.proofs.ContentLaws.{removes-wider}
 use Rattle.pv_walk.specs.Removal.{is_below, removal, removal_at, MayHaveGone}
-use Rattle.pv_walk.proofs.RemovalLaws.{kept-bare, gone-here, gone-other, gone-parent}
+use Rattle.pv_walk.proofs.RemovalLaws.{kept-object_state, gone-here, gone-other, gone-parent}
 use Rattle.pv_walk.proofs.Outcomes.{gone_differs}
 use Rattle.pv_walk.proofs.SweepLaws.{pruned_then, pruned-none, pruned-wider, below_prefix}
 
@@ -28,7 +28,7 @@ use Rattle.pv_walk.proofs.SweepLaws.{pruned_then, pruned-none, pruned-wider, bel
 pub may_prune : (now : ℕ) (path : Path) (t u : Files) → MayHaveGone now path t u → Pruned (same_path path) t u
 may_prune now path t u (inl same) = subst (Pruned (same_path path) t) (sym same) (pruned-none (same_path path) t)
 may_prune now path t u (inr is) = record {
-  outside = λ q d. ap (option_map bare) (ap (λ (x : Places). x q) is) ∙ kept-bare now (places t q) (gone now path (places t) q) (by q d (same_path (parent_of path) q) refl);
+  outside = λ q d. ap (option_map object_state) (ap (λ (x : Places). x q) is) ∙ kept-object_state now (places t q) (gone now path (places t) q) (by q d (same_path (parent_of path) q) refl);
   within = λ q e. inl (ap (λ (x : Places). x q) is ∙ subst (λ r. gone now path (places t) r ≡ None) ((same_path-decides path q).0 e) (gone-here now path (places t)));
 }
   where

@@ -5,13 +5,13 @@ use Rattle.std.proofs.lemmas.Bool.{cases_Bool}
 use Rattle.pv_path.specs.Paths.{Path, is_prefix, staging_of}
 use Rattle.pv_steps.specs.declared.node.Kind.TheVariants.{Directory}
 use Rattle.pv_steps.specs.declared.object.Object.{Object}
-use Rattle.pv_steps.specs.Objects.{bare}
-use Rattle.pv_steps.specs.Same.{bares}
+use Rattle.pv_steps.specs.Objects.{object_state}
+use Rattle.pv_steps.specs.Same.{object_states}
 use Rattle.pv_steps.specs.Steps.{IsOther, Yields, absent, objects, directories}
 use Rattle.pv_steps.specs.Trees.{Files, Places, places, kind_of, IsKindIn, IsEmptyIn, IsKind, IsPresent, IsTree}
 use Rattle.pv_steps.proofs.ObjectLaws.{is_some-same}
 use Rattle.pv_steps.proofs.TreeLaws.{not_absent}
-use Rattle.pv_dress.specs.Edits.{Pruned}
+use Rattle.pv_metadata.specs.Edits.{Pruned}
 use Rattle.pv_walk.specs.Removal.{is_below, Clearing}
 use Rattle.pv_walk.proofs.PuttingLaws.{none_below}
 use Rattle.pv_walk.proofs.RemovalLaws.{below_parts}
@@ -19,19 +19,19 @@ use Rattle.pv_walk.proofs.SweepLaws.{below_prefix, pruned-none, pruned-wider}
 
 -- ---- stamps aside
 
-kind_bare : (o : Option Object) → kind_of (option_map bare o) ≡ kind_of o
-kind_bare None = refl
-kind_bare (Some x) = refl
+kind_object_state : (o : Option Object) → kind_of (option_map object_state o) ≡ kind_of o
+kind_object_state None = refl
+kind_object_state (Some x) = refl
 
-kind_same : (a b : Option Object) → option_map bare a ≡ option_map bare b → kind_of a ≡ kind_of b
-kind_same a b e = sym (kind_bare a) ∙ ap kind_of e ∙ kind_bare b
+kind_same : (a b : Option Object) → option_map object_state a ≡ option_map object_state b → kind_of a ≡ kind_of b
+kind_same a b e = sym (kind_object_state a) ∙ ap kind_of e ∙ kind_object_state b
 
-absent_same : (a b : Option Object) → option_map bare a ≡ option_map bare b → a ≡ None → b ≡ None
+absent_same : (a b : Option Object) → option_map object_state a ≡ option_map object_state b → a ≡ None → b ≡ None
 absent_same a None e none = refl
-absent_same a (Some y) e none = absurd (let no : None ≡ Some (bare y) = sym (ap (option_map bare) none) ∙ e in cc)
+absent_same a (Some y) e none = absurd (let no : None ≡ Some (object_state y) = sym (ap (option_map object_state) none) ∙ e in cc)
 
 -- what stands the same yields the same
-module _ (x y : Places) (same : (q : Path) → bares x q ≡ bares y q) (from to : Path) where
+module _ (x y : Places) (same : (q : Path) → object_states x q ≡ object_states y q) (from to : Path) where
   other_same : (p : Path) → IsOther Directory x p → IsOther Directory y p
   other_same p h = (sym (is_some-same (x p) (y p) (same p)) ∙ h.0, λ e. h.1 (kind_same (x p) (y p) (same p) ∙ e))
 
@@ -50,10 +50,10 @@ module _ (path : Path) (t : Files) where
   clearing_none = record { pruned = pruned-none (is_prefix path) t; needed = λ y q. refl }
 
   -- below an empty directory there is nothing that could go
-  nothing_goes : IsTree t → IsEmptyIn (places t) path → (u : Files) → Pruned (is_below path) t u → (q : Path) → bares (places u) q ≡ bares (places t) q
+  nothing_goes : IsTree t → IsEmptyIn (places t) path → (u : Files) → Pruned (is_below path) t u → (q : Path) → object_states (places u) q ≡ object_states (places t) q
   nothing_goes tree empty u p q = elim (cases_Bool (is_below path q)) [
     | inl e ↦ elim (p.within q e) [
-      | inl gone ↦ ap (option_map bare) (gone ∙ sym (none e))
+      | inl gone ↦ ap (option_map object_state) (gone ∙ sym (none e))
       | inr same ↦ same
     ]
     | inr e ↦ p.outside q e
@@ -68,7 +68,7 @@ module _ (path : Path) (t : Files) where
   pub clearing_below : IsTree t → IsKind Directory t path → (u : Files) → Pruned (is_below path) t u → Clearing path t u
   clearing_below tree here u p = record { pruned = pruned-wider (is_below path) (is_prefix path) (below_prefix path) t u p; needed = by }
     where
-      by : Yields (places t) (staging_of path) path → (q : Path) → bares (places u) q ≡ bares (places t) q
+      by : Yields (places t) (staging_of path) path → (q : Path) → object_states (places u) q ≡ object_states (places t) q
       by (absent h) = absurd (let no : None ≡ Some Directory = sym (ap kind_of h) ∙ here in cc)
       by (objects f g) = absurd (g.1 here)
       by (directories f g empty) = nothing_goes tree empty u p
@@ -78,7 +78,7 @@ module _ (path : Path) (t : Files) where
       → (u : Files) → Pruned (is_prefix path) t u → Clearing path t u
   clearing_taken present both neither u p = record { pruned = p; needed = by }
     where
-      by : Yields (places t) (staging_of path) path → (q : Path) → bares (places u) q ≡ bares (places t) q
+      by : Yields (places t) (staging_of path) path → (q : Path) → object_states (places u) q ≡ object_states (places t) q
       by (absent h) = absurd (not_absent (places t) path present h)
       by (objects f g) = absurd (neither f.1 g.1)
       by (directories f g empty) = absurd (both f g)

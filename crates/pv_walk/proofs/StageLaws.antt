@@ -14,20 +14,20 @@ use Rattle.pv_steps.specs.declared.object.Object.{Object}
 use Rattle.pv_steps.specs.declared.step.Step.{Step}
 use Rattle.pv_steps.specs.declared.step.Step.TheVariants.{Write}
 use Rattle.pv_steps.specs.declared.tree.TreeFault.{TreeFault}
-use Rattle.pv_steps.specs.Objects.{bare, with_content}
+use Rattle.pv_steps.specs.Objects.{object_state, with_content}
 use Rattle.pv_steps.specs.Trees.{Files, Places, places, kind_of, IsKindIn, IsAbsentIn}
 use Rattle.pv_steps.specs.Steps.{Can, HasRoom, after, after_at, on_at, made}
 use Rattle.pv_steps.proofs.StepLaws.{at_after}
-use Rattle.pv_steps.specs.Same.{bares, Differ}
+use Rattle.pv_steps.specs.Same.{object_states, Differ}
 use Rattle.pv_steps.specs.Runs.{IsNotIdle}
 use Rattle.pv_steps.proofs.ActingLaws.{Asks}
-use Rattle.pv_dress.specs.Edits.{SameOutside}
-use Rattle.pv_dress.specs.Dressing.{dressed, dressed_first, Dressing}
-use Rattle.pv_dress.specs.declared.bare.Bare.{Bare}
-use Rattle.pv_dress.specs.declared.bare.Dress.{Dress}
-use Rattle.pv_dress.specs.Nodes.{bare_of, bares_of}
-use Rattle.pv_dress.proofs.OperationLaws.{bare-same, bares_of-same}
-use Rattle.pv_dress.proofs.EditLaws.{on_at-here, on_at-else, made-here, on_at-made, bares-made, bares-put_else}
+use Rattle.pv_metadata.specs.Edits.{SameOutside}
+use Rattle.pv_metadata.specs.SettingMetadata.{with_metadata, with_first_changes, SettingMetadata}
+use Rattle.pv_metadata.specs.declared.object_state.ObjectState.{ObjectState}
+use Rattle.pv_metadata.specs.declared.object_state.Metadata.{Metadata}
+use Rattle.pv_metadata.specs.Nodes.{object_state_of, object_states_of}
+use Rattle.pv_metadata.proofs.OperationLaws.{object_state-same, object_states_of-same}
+use Rattle.pv_metadata.proofs.EditLaws.{on_at-here, on_at-else, made-here, on_at-made, object_states-made, object_states-put_else}
 use Rattle.pv_walk.specs.declared.new_file.NewFile.{NewFile}
 use Rattle.pv_walk.specs.declared.new_file.NewKind.{NewKind}
 use Rattle.pv_walk.specs.declared.new_file.NewKind.TheVariants as new
@@ -89,7 +89,7 @@ module _ (path : Path) (nonempty : path ≢ []) (now : ℕ) (t : Files) (room : 
   after_make what u is = ap places is ∙ at_after t (make_step path what) now ∙ make_leaves what
 
   made_differs : (what : NewKind) → Differ t (after t (make_step path what) now)
-  made_differs what = (path, λ e. (let no : None ≡ Some (bare (first_object what now)) = sym (ap (option_map bare) room.0) ∙ e ∙ ap (λ p. bares p path) (after_make what (after t (make_step path what) now) refl) ∙ ap (option_map bare) (made-here now path (places t) nonempty (first_object what now)) in cc))
+  made_differs what = (path, λ e. (let no : None ≡ Some (object_state (first_object what now)) = sym (ap (option_map object_state) room.0) ∙ e ∙ ap (λ p. object_states p path) (after_make what (after t (make_step path what) now) refl) ∙ ap (option_map object_state) (made-here now path (places t) nonempty (first_object what now)) in cc))
 
   make_busy : (what : NewKind) → IsNotIdle t (make_step path what) now
   make_busy new.Directory = made_differs new.Directory
@@ -99,16 +99,16 @@ module _ (path : Path) (nonempty : path ≢ []) (now : ℕ) (t : Files) (room : 
   make_busy (new.Device block major minor) = made_differs (new.Device block major minor)
 
   outside_made : (o : Object) (u : Files) → places u ≡ made now path o (places t) → SameOutside (same_path path) t u
-  outside_made o u is = λ q e. ap (λ p. bares p q) is ∙ bares-made now path o (places t) q ∙ bares-put_else path q (Some o) (places t) e
+  outside_made o u is = λ q e. ap (λ p. object_states p q) is ∙ object_states-made now path o (places t) q ∙ object_states-put_else path q (Some o) (places t) e
 
   -- nothing is made yet
   pub begun_start : (what : NewKind) → Beginning path what t t
-  begun_start what = record { outside = λ q e. refl; here = inl (ap (option_map bare_of) room.0) }
+  begun_start what = record { outside = λ q e. refl; here = inl (ap (option_map object_state_of) room.0) }
 
   begun_made : (what : NewKind) (u : Files) → places u ≡ made now path (first_object what now) (places t) → Beginning path what t u
   begun_made what u is = record {
     outside = outside_made (first_object what now) u is;
-    here = inr (bare_of (first_object what 0), (ap (λ (p : Places). bares_of p path) is ∙ ap (option_map bare_of) (made-here now path (places t) nonempty (first_object what now)), inl refl));
+    here = inr (object_state_of (first_object what 0), (ap (λ (p : Places). object_states_of p path) is ∙ ap (option_map object_state_of) (made-here now path (places t) nonempty (first_object what now)), inl refl));
   }
 
   can_make : (what : NewKind) → HasTarget what → Can (places t) (make_step path what)
@@ -151,22 +151,22 @@ module _ (path : Path) (nonempty : path ≢ []) (now : ℕ) (t : Files) (room : 
       write_busy = (
         path,
         λ e.
-            (let both : Some (bare first) ≡ Some (bare (with_content content now first)) =
-            sym (ap (option_map bare) there) ∙ e ∙ ap (λ p. bares p path) (at_after u (Write path content) now)
-            ∙ ap (option_map bare) (on_at-here path (with_content content now) (places u) ∙ ap (option_map (with_content content now)) there) in
-            let same : bare first ≡ bare (with_content content now first) = cc in
+            (let both : Some (object_state first) ≡ Some (object_state (with_content content now first)) =
+            sym (ap (option_map object_state) there) ∙ e ∙ ap (λ p. object_states p path) (at_after u (Write path content) now)
+            ∙ ap (option_map object_state) (on_at-here path (with_content content now) (places u) ∙ ap (option_map (with_content content now)) there) in
+            let same : object_state first ≡ object_state (with_content content now first) = cc in
             held.some (sym (sym held.empty ∙ ap (λ o. o.payload) same))),
       )
 
       written_outside : (v : Files) → v ≡ after u (Write path content) now → SameOutside (same_path path) t v
       written_outside v wrote = λ q e.
-          ap (λ p. bares p q) (ap places wrote ∙ at_after u (Write path content) now) ∙ ap (option_map bare) (on_at-else path q (with_content content now) (places u) e)
+          ap (λ p. object_states p q) (ap places wrote ∙ at_after u (Write path content) now) ∙ ap (option_map object_state) (on_at-else path q (with_content content now) (places u) e)
           ∙ outside_made first u (after_make what u is) q e
 
-      written_here : (v : Files) → v ≡ after u (Write path content) now → bares_of (places v) path ≡ Some (bare_of (held_object what 0))
+      written_here : (v : Files) → v ≡ after u (Write path content) now → object_states_of (places v) path ≡ Some (object_state_of (held_object what 0))
       written_here v wrote =
-          ap (λ (p : Places). bares_of p path) (ap places wrote ∙ at_after u (Write path content) now)
-          ∙ ap (option_map bare_of) (on_at-here path (with_content content now) (places u) ∙ ap (option_map (with_content content now)) there ∙ ap Some held.object)
+          ap (λ (p : Places). object_states_of p path) (ap places wrote ∙ at_after u (Write path content) now)
+          ∙ ap (option_map object_state_of) (on_at-here path (with_content content now) (places u) ∙ ap (option_map (with_content content now)) there ∙ ap Some held.object)
 
       -- after the step that makes the object
       pub write_asks : Asks (Beginning path what t) (BeginsNew path what) u (Write path content) now
@@ -174,7 +174,7 @@ module _ (path : Path) (nonempty : path ≢ []) (now : ℕ) (t : Files) (room : 
         start = begun_made what u (after_make what u is);
         can = can_write;
         busy = write_busy;
-        there = λ v wrote. record { outside = written_outside v wrote; here = inr (bare_of (held_object what 0), (written_here v wrote, inr refl)) };
+        there = λ v wrote. record { outside = written_outside v wrote; here = inr (object_state_of (held_object what 0), (written_here v wrote, inr refl)) };
         gives = inr (content, (refl, held.is));
       }
 
@@ -202,36 +202,36 @@ module _ (path : Path) (nonempty : path ≢ []) (now : ℕ) (t : Files) (room : 
 
 -- ---- stages
 
--- the changes of a dress do not look at stamps
-first_bare : (k : ℕ) (new : Dress) (o : Object) → bare (dressed_first k new o) ≡ dressed_first k new (bare o)
-first_bare zero new o = refl
-first_bare (suc zero) new o = refl
-first_bare (suc (suc zero)) new o = refl
-first_bare (suc (suc (suc zero))) new o = refl
-first_bare (suc (suc (suc (suc zero)))) new o = refl
-first_bare (suc (suc (suc (suc (suc k))))) new o =
-    ap (λ (changes : List (Object → Object)). bare (fold (λ x change. change x) (dressed new o) changes)) (take-nil k)
-    ∙ sym (ap (λ (changes : List (Object → Object)). fold (λ x change. change x) (dressed new (bare o)) changes) (take-nil k))
+-- the changes of metadata do not look at stamps
+first_object_state : (k : ℕ) (new : Metadata) (o : Object) → object_state (with_first_changes k new o) ≡ with_first_changes k new (object_state o)
+first_object_state zero new o = refl
+first_object_state (suc zero) new o = refl
+first_object_state (suc (suc zero)) new o = refl
+first_object_state (suc (suc (suc zero))) new o = refl
+first_object_state (suc (suc (suc (suc zero)))) new o = refl
+first_object_state (suc (suc (suc (suc (suc k))))) new o =
+    ap (λ (changes : List (Object → Object)). object_state (fold (λ x change. change x) (with_metadata new o) changes)) (take-nil k)
+    ∙ sym (ap (λ (changes : List (Object → Object)). fold (λ x change. change x) (with_metadata new (object_state o)) changes) (take-nil k))
 
-first_alike : (k : ℕ) (new : Dress) (a b : Object) → bare_of a ≡ bare_of b → bare_of (dressed_first k new a) ≡ bare_of (dressed_first k new b)
-first_alike k new a b e = ap bare_of (first_bare k new a ∙ ap (dressed_first k new) (bare-same a b e) ∙ sym (first_bare k new b))
+first_alike : (k : ℕ) (new : Metadata) (a b : Object) → object_state_of a ≡ object_state_of b → object_state_of (with_first_changes k new a) ≡ object_state_of (with_first_changes k new b)
+first_alike k new a b e = ap object_state_of (first_object_state k new a ∙ ap (with_first_changes k new) (object_state-same a b e) ∙ sym (first_object_state k new b))
 
--- an object with all it holds is dressed
-pub dressing_stage : (path : Path) (b : Bare) (new : Dress) (o : Object) (u v : Files) → new ≡ b.dress → places u path ≡ Some o → bare_of o ≡ bare_of (held_object (what_of b.body) 0)
-    → Dressing path new u v → IsAtStage (Some b) (bares_of (places v) path)
-dressing_stage path b new o u v same there plain h = IsAtStage.stage b (bare_of (dressed_first h.0 new o)) refl here
-    (IsStage.dressing h.0 (first_alike h.0 new o (held_object (what_of b.body) 0) plain ∙ ap (λ d. bare_of (dressed_first h.0 d (held_object (what_of b.body) 0))) same))
+-- an object with all it holds gets its metadata
+pub setting_metadata_stage : (path : Path) (b : ObjectState) (new : Metadata) (o : Object) (u v : Files) → new ≡ b.metadata → places u path ≡ Some o → object_state_of o ≡ object_state_of (held_object (what_of b.body) 0)
+    → SettingMetadata path new u v → IsAtStage (Some b) (object_states_of (places v) path)
+setting_metadata_stage path b new o u v same there plain h = IsAtStage.stage b (object_state_of (with_first_changes h.0 new o)) refl here
+    (IsStage.setting_metadata h.0 (first_alike h.0 new o (held_object (what_of b.body) 0) plain ∙ ap (λ d. object_state_of (with_first_changes h.0 d (held_object (what_of b.body) 0))) same))
   where
-    here : bares_of (places v) path ≡ Some (bare_of (dressed_first h.0 new o))
+    here : object_states_of (places v) path ≡ Some (object_state_of (with_first_changes h.0 new o))
     here =
-        bares_of-same (places v) (on_at path (dressed_first h.0 new) (places u)) path (h.1 path)
-        ∙ ap (option_map bare_of) (on_at-here path (dressed_first h.0 new) (places u) ∙ ap (option_map (dressed_first h.0 new)) there)
+        object_states_of-same (places v) (on_at path (with_first_changes h.0 new) (places u)) path (h.1 path)
+        ∙ ap (option_map object_state_of) (on_at-here path (with_first_changes h.0 new) (places u) ∙ ap (option_map (with_first_changes h.0 new)) there)
 
 -- what is begun is at a stage
-pub begun_stage : (path : Path) (what : NewKind) (b : Bare) (t u : Files) → what ≡ what_of b.body → Beginning path what t u → IsAtStage (Some b) (bares_of (places u) path)
+pub begun_stage : (path : Path) (what : NewKind) (b : ObjectState) (t u : Files) → what ≡ what_of b.body → Beginning path what t u → IsAtStage (Some b) (object_states_of (places u) path)
 begun_stage path what b t u same h = by h.here
   where
-    by : (bares_of (places u) path ≡ None) ⊎ ((there : Bare) × ((bares_of (places u) path ≡ Some there) × IsBegun what there)) → IsAtStage (Some b) (bares_of (places u) path)
+    by : (object_states_of (places u) path ≡ None) ⊎ ((there : ObjectState) × ((object_states_of (places u) path ≡ Some there) × IsBegun what there)) → IsAtStage (Some b) (object_states_of (places u) path)
     by (inl none) = IsAtStage.none none
     by (inr (there, (is, begun))) = IsAtStage.stage b there refl is (IsStage.begun (subst (λ (w : NewKind). IsBegun w there) same begun))
 

@@ -10,10 +10,10 @@ use Rattle.pv_steps.specs.Acting.{Acted}
 use Rattle.pv_steps.specs.Steps.{moved}
 use Rattle.pv_steps.specs.Trees.{Files, places, IsAbsentIn, IsTree}
 use Rattle.pv_steps.proofs.ActingLaws.{Moves, acted_then, acted_weaken, acted_within, acted_end}
-use Rattle.pv_dress.specs.declared.bare.Bare.{Bare}
-use Rattle.pv_dress.specs.Nodes.{bare_of, bares_of}
-use Rattle.pv_dress.proofs.EditLaws.{moved_away}
-use Rattle.pv_dress.proofs.OperationLaws.{bares_of-same}
+use Rattle.pv_metadata.specs.declared.object_state.ObjectState.{ObjectState}
+use Rattle.pv_metadata.specs.Nodes.{object_state_of, object_states_of}
+use Rattle.pv_metadata.proofs.EditLaws.{moved_away}
+use Rattle.pv_metadata.proofs.OperationLaws.{object_states_of-same}
 use Rattle.pv_walk.specs.Copying.{Subtree}
 use Rattle.pv_walk.specs.Removal.{Publishing}
 use Rattle.pv_walk.specs.Stages.{IsAtStage, InStages, Staging}
@@ -22,23 +22,23 @@ use Rattle.pv_walk.proofs.PublishLaws.{staged_outside}
 use Rattle.pv_walk.proofs.PuttingLaws.{none_under}
 
 -- what stands as it stood is at the stage at which it was
-pub at_same : {wanted old : Option Bare} → IsAtStage wanted old → (now : Option Bare) → now ≡ old → IsAtStage wanted now
-at_same {wanted = wanted} before now e = subst (λ (o : Option Bare). IsAtStage wanted o) (sym e) before
+pub at_same : {wanted old : Option ObjectState} → IsAtStage wanted old → (now : Option ObjectState) → now ≡ old → IsAtStage wanted now
+at_same {wanted = wanted} before now e = subst (λ (o : Option ObjectState). IsAtStage wanted o) (sym e) before
 
 -- nothing is made yet
 pub staged_start : (path : Path) (s : Subtree) (t : Files) → IsTree t → IsAbsentIn (places t) path → Staging path s t t
 staged_start path s t tree free = record {
   outside = λ q e. refl;
-  stages = λ rest. IsAtStage.none (ap (option_map bare_of) (none_under (places t) tree path (path ++ rest) free (is_prefix-append path rest)));
+  stages = λ rest. IsAtStage.none (ap (option_map object_state_of) (none_under (places t) tree path (path ++ rest) free (is_prefix-append path rest)));
 }
 
 module _ (path : Path) (nonempty : path ≢ []) (s : Subtree) where
   -- so it is while what stands at the path makes way, and then nothing is left
   pub published_stages : (now : ℕ) (u : Files) → InStages (staging_of path) s u → (w : Files) → Publishing now path u w → InStages (staging_of path) s w
   published_stages now u h w (inl c) = λ rest.
-      at_same (h rest) (bares_of (places w) (staging_of path ++ rest)) (bares_of-same (places w) (places u) (staging_of path ++ rest) (c.pruned.outside (staging_of path ++ rest) (staged_outside path nonempty rest)))
-  published_stages now u h w (inr e) = λ rest. IsAtStage.none (bares_of-same (places w) (moved now (staging_of path) path (places u)) (staging_of path ++ rest) (e (staging_of path ++ rest))
-      ∙ ap (option_map bare_of) (moved_away now (staging_of path) path (places u) (staging_of path ++ rest) (rest_under-None path (staging_of path ++ rest) (staged_outside path nonempty rest)) (is_prefix-append (staging_of path) rest)))
+      at_same (h rest) (object_states_of (places w) (staging_of path ++ rest)) (object_states_of-same (places w) (places u) (staging_of path ++ rest) (c.pruned.outside (staging_of path ++ rest) (staged_outside path nonempty rest)))
+  published_stages now u h w (inr e) = λ rest. IsAtStage.none (object_states_of-same (places w) (moved now (staging_of path) path (places u)) (staging_of path ++ rest) (e (staging_of path ++ rest))
+      ∙ ap (option_map object_state_of) (moved_away now (staging_of path) path (places u) (staging_of path ++ rest) (rest_under-None path (staging_of path ++ rest) (staged_outside path nonempty rest)) (is_prefix-append (staging_of path) rest)))
 
   module _ {S : Type 0} (tree : Ghosts S) (Gives Puts : Step → Type 0) (first : (step : Step) → Gives step → Puts step) {now : ℕ} {a b : S} where
     pub stages_staged : {A : Type 0} {m : ℕ} {r : Result A TreeFault} (n : ℕ) → m ≤ n → Acted tree (Staging (staging_of path) s (tree.state a)) Gives m now a b r

@@ -14,9 +14,9 @@ use Rattle.std.proofs.lemmas.Bool.{cases_Bool, and_parts}
 use Rattle.std.proofs.lemmas.Option.{same_Some}
 use Rattle.pv_path.proofs.PathLaws.{is_prefix-refl, last_name-push, path_parts}
 use Rattle.pv_steps.specs.declared.object.Object.{Object}
-use Rattle.pv_steps.specs.Objects.{bare}
+use Rattle.pv_steps.specs.Objects.{object_state}
 use Rattle.pv_steps.specs.Trees.{Files, Places, places, IsPresent}
-use Rattle.pv_dress.specs.Edits.{taken, all_taken, count_at, Pruned}
+use Rattle.pv_metadata.specs.Edits.{taken, all_taken, count_at, Pruned}
 use Rattle.pv_walk.specs.Staging.{prefixes, can_stage, staging_names, is_under_any, count_at_all}
 use Rattle.pv_walk.specs.Removal.{is_below, count_below}
 use Rattle.pv_walk.specs.Listing.{times, stands_below}
@@ -57,9 +57,9 @@ module _ (inside : Path → Bool) (t u : Files) (p : Pruned inside t u) where
     ];
   }
     where
-      absent : (x y : Option Object) → option_map bare y ≡ option_map bare x → x ≡ None → y ≡ None
+      absent : (x y : Option Object) → option_map object_state y ≡ option_map object_state x → x ≡ None → y ≡ None
       absent x None same gone = refl
-      absent x (Some y) same gone = let no : Some (bare y) ≡ None = same ∙ ap (option_map bare) gone in cc
+      absent x (Some y) same gone = let no : Some (object_state y) ≡ None = same ∙ ap (option_map object_state) gone in cc
 
   -- there are no more objects than before
   pub pruned_count : (path : Path) → count_at u path ≤ count_at t path

@@ -9,7 +9,7 @@ use Rattle.pv_path.proofs.PathLaws.{path_ends, parent_of-push, same_path-refl}
 use Rattle.pv_steps.specs.declared.step.Step.{Step}
 use Rattle.pv_steps.specs.declared.tree.Tree.{Ghosts}
 use Rattle.pv_steps.specs.declared.tree.TreeFault.{TreeFault}
-use Rattle.pv_steps.specs.Objects.{modified, bare}
+use Rattle.pv_steps.specs.Objects.{modified, object_state}
 use Rattle.pv_steps.specs.Trees.{Files, Places, places, names_below, IsEmptyIn, IsPresent}
 use Rattle.pv_steps.specs.Steps.{after, gone}
 use Rattle.pv_steps.specs.Runs.{after_all}
@@ -19,11 +19,11 @@ use Rattle.pv_steps.proofs.RunLaws.{after_all-append}
 use Rattle.pv_steps.proofs.ActingLaws.{Asks}
 use Rattle.pv_steps.proofs.TryingLaws.{AllAsk, ask_first, reverse-first}
 use Rattle.pv_steps.proofs.ContentLaws.{removes-wider}
-use Rattle.pv_dress.specs.Edits.{Pruned}
+use Rattle.pv_metadata.specs.Edits.{Pruned}
 use Rattle.pv_walk.specs.Removal.{is_below, is_one_of, loses_child, removal_at, without, DonePart, MayHaveGone}
 use Rattle.pv_walk.specs.Listing.{times, children_of, stands_below, IsListing, AreRemovable}
 use Rattle.pv_walk.proofs.CountLaws.{times-self, same_or_not, is_child-push}
-use Rattle.pv_walk.proofs.RemovalLaws.{zero_or_more, cond-true, no_same, unless, below_nonempty, all_gone, all_gone-none, all_gone-gone, all_gone-kept, all_gone-same, all_gone-touched, kept-kind, kept-present, kept-bare, IsKept}
+use Rattle.pv_walk.proofs.RemovalLaws.{zero_or_more, cond-true, no_same, unless, below_nonempty, all_gone, all_gone-none, all_gone-gone, all_gone-kept, all_gone-same, all_gone-touched, kept-kind, kept-present, kept-object_state, IsKept}
 use Rattle.pv_walk.proofs.ListingLaws.{cond-one, cond-le, child_counts}
 use Rattle.pv_walk.proofs.Removing.{after_removal, removal_asks}
 use Rattle.pv_walk.proofs.SweepLaws.{pruned-none}
@@ -112,8 +112,8 @@ module _ (now : ℕ) (files : Files) where
     removed_pruned : (paths : List Path) (u : Files) → ((q : Path) → is_one_of paths q ≡ true → inside q ≡ true) → places u ≡ all_gone now paths (places files) → Pruned inside files u
     removed_pruned paths u within is =
         let at : (q : Path) → places u q ≡ all_gone now paths (places files) q = λ q. ap (λ (t : Places). t q) is in
-        let kept : (q : Path) → times q paths ≡ 0 → option_map bare (places u q) ≡ option_map bare (places files q) =
-        λ q none. ap (option_map bare) (at q) ∙ kept-bare now (places files q) (all_gone now paths (places files) q) (all_gone-kept now (places files) q paths none) in
+        let kept : (q : Path) → times q paths ≡ 0 → option_map object_state (places u q) ≡ option_map object_state (places files q) =
+        λ q none. ap (option_map object_state) (at q) ∙ kept-object_state now (places files q) (all_gone now paths (places files) q) (all_gone-kept now (places files) q paths none) in
         record {
           outside = λ q h. kept q (one_of-none paths q (unless (is_one_of paths q) (inside q) (within q) h));
           within = λ q h. elim (zero_or_more (times q paths)) [

@@ -9,10 +9,10 @@ use Rattle.pv_steps.specs.declared.object.Object.{Object}
 use Rattle.pv_steps.specs.declared.why.Why.{Why}
 use Rattle.pv_steps.specs.declared.why.Why.TheVariants.{UnsafeOwner}
 use Rattle.pv_steps.specs.Trees.{Places, kind_of}
-use Rattle.pv_steps.specs.Refusal.{owner_at, why_blocked, why_refused, is_unsafe, first_refused, first_absent}
+use Rattle.pv_steps.specs.Refusal.{owner_at, why_unsafe, why_refused, is_unsafe, first_refused, first_absent}
 use Rattle.pv_walk.specs.declared.walking.Seen.{Seen}
 use Rattle.pv_walk.specs.declared.walking.Walked.TheVariants.{Refused}
-use Rattle.pv_walk.specs.Walking.{outcome, unrefused, blocked_from}
+use Rattle.pv_walk.specs.Walking.{outcome, unrefused, unsafe_component_from}
 use Rattle.pv_walk.specs.Seeing.{seen_of, seen_kind, seen_owner, why_owner, if_absent, owner_above, walked_from}
 
 -- ---- the places that are left
@@ -61,18 +61,18 @@ module _ (t : Places) (path : Path) (last : ℕ) where
       ap (λ b. cond (b && not (owner_at t path last (suc j - 1) == 0) && not (owner_at t path last (suc j) == owner_at t path last (suc j - 1))) (Some UnsafeOwner) None) below
       ∙ sym (ap (λ b. why_owner (cond b 0 (owner_at t path last (suc j - 1))) (owner_at t path last (suc j))) later)
 
-  pub why_before : (k : ℕ) → k < length path → why_refused t path last k ≡ option_or (why_blocked (seen_kind (seen_of (t (take k path))))) (why_owner (owner_above t path last k) (seen_owner (seen_of (t (take k path))) 0))
+  pub why_before : (k : ℕ) → k < length path → why_refused t path last k ≡ option_or (why_unsafe (seen_kind (seen_of (t (take k path))))) (why_owner (owner_above t path last k) (seen_owner (seen_of (t (take k path))) 0))
   why_before k h =
       let below : nat_lt k (length path) ≡ true = grind (arith, nat_tests) in
-      ap (λ b. option_or (cond b (why_blocked (kind_of (t (take k path)))) None) (cond (is_unsafe t path last k) (Some UnsafeOwner) None)) below
-      ∙ ap (option_or (why_blocked (kind_of (t (take k path))))) (unsafe_why k)
-      ∙ ap (λ v. option_or (why_blocked v) (why_owner (owner_above t path last k) (owner_at t path last k))) (sym (seen_kind-of (t (take k path))))
-      ∙ ap (λ v. option_or (why_blocked (seen_kind (seen_of (t (take k path))))) (why_owner (owner_above t path last k) v)) (sym (owner_before k h))
+      ap (λ b. option_or (cond b (why_unsafe (kind_of (t (take k path)))) None) (cond (is_unsafe t path last k) (Some UnsafeOwner) None)) below
+      ∙ ap (option_or (why_unsafe (kind_of (t (take k path))))) (unsafe_why k)
+      ∙ ap (λ v. option_or (why_unsafe v) (why_owner (owner_above t path last k) (owner_at t path last k))) (sym (seen_kind-of (t (take k path))))
+      ∙ ap (λ v. option_or (why_unsafe (seen_kind (seen_of (t (take k path))))) (why_owner (owner_above t path last k) v)) (sym (owner_before k h))
 
   pub why_last : (k : ℕ) → k ≡ length path → why_refused t path last k ≡ why_owner (owner_above t path last k) (seen_owner (seen_of (t (take k path))) last)
   why_last k h =
       let over : nat_lt k (length path) ≡ false = grind (arith, nat_tests) in
-      ap (λ b. option_or (cond b (why_blocked (kind_of (t (take k path)))) None) (cond (is_unsafe t path last k) (Some UnsafeOwner) None)) over
+      ap (λ b. option_or (cond b (why_unsafe (kind_of (t (take k path)))) None) (cond (is_unsafe t path last k) (Some UnsafeOwner) None)) over
       ∙ unsafe_why k
       ∙ ap (why_owner (owner_above t path last k)) (sym (owner_last k h))
 
@@ -102,10 +102,10 @@ module _ (t : Places) (path : Path) (last : ℕ) where
   -- ---- what the code has seen
 
   pub why_here : (k : ℕ) → k < length path → (place : Option Seen) (above owner : ℕ) (found : Option Why) → place ≡ seen_of (t (take k path)) → above ≡ owner_above t path last k
-      → owner ≡ seen_owner place 0 → found ≡ option_or (why_blocked (seen_kind place)) (why_owner above owner) → why_refused t path last k ≡ found
+      → owner ≡ seen_owner place 0 → found ≡ option_or (why_unsafe (seen_kind place)) (why_owner above owner) → why_refused t path last k ≡ found
   why_here k h place above owner found seen over own is =
       let own_there : owner ≡ seen_owner (seen_of (t (take k path))) 0 = own ∙ ap (λ v. seen_owner v 0) seen in
-      why_before k h ∙ sym (is ∙ (λ i. option_or (why_blocked (seen_kind (seen i))) (why_owner (over i) (own_there i))))
+      why_before k h ∙ sym (is ∙ (λ i. option_or (why_unsafe (seen_kind (seen i))) (why_owner (over i) (own_there i))))
 
   pub why_end : (k : ℕ) → k ≡ length path → (place : Option Seen) (above owner : ℕ) (found : Option Why) → place ≡ seen_of (t (take k path)) → above ≡ owner_above t path last k
       → owner ≡ seen_owner place last → found ≡ why_owner above owner → why_refused t path last k ≡ found
@@ -124,12 +124,12 @@ range_step k n h = let here : n - k ≡ suc (n - (k + 1)) = omega arith in ap (r
 pub range_none : (k n : ℕ) → k ≡ n → range_with_len k (n - k) ≡ []
 range_none k n e = let none : n - k ≡ zero = omega (arith, e) in ap (range_with_len k) none
 
-module _ (t : Places) (path : Path) (k : ℕ) (ks : List ℕ) (at : Path) (is : at ≡ take k path) (place : Option Seen) (why : Option Why) (seen : place ≡ seen_of (t at)) (found : why ≡ why_blocked (seen_kind place)) where
-  why_is : why_blocked (kind_of (t (take k path))) ≡ why
-  why_is = sym (found ∙ ap (λ p. why_blocked (seen_kind p)) seen ∙ ap why_blocked (seen_kind-of (t at)) ∙ ap (λ p. why_blocked (kind_of (t p))) is)
+module _ (t : Places) (path : Path) (k : ℕ) (ks : List ℕ) (at : Path) (is : at ≡ take k path) (place : Option Seen) (why : Option Why) (seen : place ≡ seen_of (t at)) (found : why ≡ why_unsafe (seen_kind place)) where
+  why_is : why_unsafe (kind_of (t (take k path))) ≡ why
+  why_is = sym (found ∙ ap (λ p. why_unsafe (seen_kind p)) seen ∙ ap why_unsafe (seen_kind-of (t at)) ∙ ap (λ p. why_unsafe (kind_of (t p))) is)
 
-  pub blocked_next : why ≡ None → blocked_from t path (k ∷ ks) ≡ blocked_from t path ks
-  blocked_next none = ap (λ r. option_or (option_map (λ reason. (k, reason)) r) (blocked_from t path ks)) (why_is ∙ none)
+  pub unsafe_component_next : why ≡ None → unsafe_component_from t path (k ∷ ks) ≡ unsafe_component_from t path ks
+  unsafe_component_next none = ap (λ r. option_or (option_map (λ reason. (k, reason)) r) (unsafe_component_from t path ks)) (why_is ∙ none)
 
-  pub blocked_here : (reason : Why) → why ≡ Some reason → blocked_from t path (k ∷ ks) ≡ Some (k, reason)
-  blocked_here reason some = ap (λ r. option_or (option_map (λ reason. (k, reason)) r) (blocked_from t path ks)) (why_is ∙ some)
+  pub unsafe_component_here : (reason : Why) → why ≡ Some reason → unsafe_component_from t path (k ∷ ks) ≡ Some (k, reason)
+  unsafe_component_here reason some = ap (λ r. option_or (option_map (λ reason. (k, reason)) r) (unsafe_component_from t path ks)) (why_is ∙ some)

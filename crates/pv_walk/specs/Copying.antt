@@ -3,10 +3,10 @@
 use Rattle.std.specs.Prelude.{◌≡◌, ◌≢◌, ◌⊎◌, ℕ, ◌≤◌, false, [], ◌∷◌, ◌++◌, length, filter, filter_map, Option, Some, None, IfSome, is_some, option_map, unwrap_or, if◌then◌else◌}
 use Rattle.std.specs.FinMap as fin
 use Rattle.pv_acl.specs.Parts.{acl_of_mode}
-use Rattle.pv_dress.specs.declared.bare.Bare.{Bare}
-use Rattle.pv_dress.specs.Dressing.{dress_mode}
-use Rattle.pv_dress.specs.Nodes.{is_link}
-use Rattle.pv_dress.specs.Operations.{with_mode}
+use Rattle.pv_metadata.specs.declared.object_state.ObjectState.{ObjectState}
+use Rattle.pv_metadata.specs.SettingMetadata.{metadata_mode}
+use Rattle.pv_metadata.specs.Nodes.{is_link}
+use Rattle.pv_metadata.specs.Operations.{with_mode}
 use Rattle.pv_path.specs.Paths.{Path, rest_under, has_staging, staging_of}
 use Rattle.pv_steps.specs.declared.node.Kind.TheVariants.{Directory, File, Link, Fifo}
 use Rattle.pv_steps.specs.declared.node.Stamps.{Stamps}
@@ -28,25 +28,25 @@ pub record IsTopNode (top : TopNode) : Type 0 where
   pub gid : IfSome top.gid IsId
 
 -- an object with this mode, where one is given; a link has none
-abbrev pub moded : Option ℕ → Bare → Bare
+abbrev pub moded : Option ℕ → ObjectState → ObjectState
 moded None b = b
-moded (Some mode) b = if is_link b.body.kind then b else record b { dress = with_mode b.body.kind mode false b.dress }
+moded (Some mode) b = if is_link b.body.kind then b else record b { metadata = with_mode b.body.kind mode false b.metadata }
 
 -- the top of a copy has the mode and the owners that are given
-abbrev pub topped : TopNode → Bare → Bare
-topped top b = moded top.mode (record b { dress = record b.dress { uid = unwrap_or top.uid b.dress.uid; gid = unwrap_or top.gid b.dress.gid } })
+abbrev pub topped : TopNode → ObjectState → ObjectState
+topped top b = moded top.mode (record b { metadata = record b.metadata { uid = unwrap_or top.uid b.metadata.uid; gid = unwrap_or top.gid b.metadata.gid } })
 
 -- what is to stand at and below a path, by what comes after it
 abbrev pub Subtree : Type 0
-Subtree = Path → Option Bare
+Subtree = Path → Option ObjectState
 
 -- one object with nothing below it
-abbrev pub single : Bare → Subtree
+abbrev pub single : ObjectState → Subtree
 single b [] = Some b
 single b (name ∷ rest) = None
 
 -- the copy of what stands at and below a path, with another top; staging names are left out
-abbrev pub copy_from : (Bare → Bare) → Path → (Path → Option Bare) → Subtree
+abbrev pub copy_from : (ObjectState → ObjectState) → Path → (Path → Option ObjectState) → Subtree
 copy_from top source at [] = option_map top (at source)
 copy_from top source at (name ∷ rest) = if has_staging (name ∷ rest) then None else at (source ++ name ∷ rest)
 
@@ -57,25 +57,25 @@ copied_count subtree source t = length (filter (λ rest. is_some (subtree rest))
 -- ---- what it leaves, stamps included
 
 -- an object with these stamps
-abbrev pub with_stamps : Stamps → Bare → Object
+abbrev pub with_stamps : Stamps → ObjectState → Object
 with_stamps stamps b = record {
   node = record {
     kind = b.body.kind;
-    special = b.dress.special;
-    uid = b.dress.uid;
-    gid = b.dress.gid;
-    acl = b.dress.acl;
+    special = b.metadata.special;
+    uid = b.metadata.uid;
+    gid = b.metadata.gid;
+    acl = b.metadata.acl;
     stamps = stamps;
     major = b.body.major;
     minor = b.body.minor;
-    attrs = b.dress.attrs;
-    letters = b.dress.letters;
+    attrs = b.metadata.attrs;
+    letters = b.metadata.letters;
   };
   payload = b.body.payload;
 }
 
 -- a new object, all four stamps now
-abbrev pub object_of : ℕ → Bare → Object
+abbrev pub object_of : ℕ → ObjectState → Object
 object_of now b = with_stamps (stamped now) b
 
 -- what stands at a path that has this rest below the place of a subtree of new objects; the old object elsewhere
@@ -90,33 +90,33 @@ with_subtree now path subtree t = touched now path (λ q. standing now subtree (
 -- ---- single steps
 
 -- a step makes an object without stamps at a path, of its kind, with its target or numbers, or gives it a part of what it has
-abbrev pub GivesBare : Path → Bare → Step → Type 0
-GivesBare path b (MakeDir at) = (at ≡ path) × (b.body.kind ≡ Directory)
-GivesBare path b (MakeFile at) = (at ≡ path) × (b.body.kind ≡ File)
-GivesBare path b (MakeFifo at) = (at ≡ path) × (b.body.kind ≡ Fifo)
-GivesBare path b (MakeDevice at block major minor) = (at ≡ path) × ((b.body.kind ≡ device_kind block) × ((b.body.major ≡ major) × (b.body.minor ≡ minor)))
-GivesBare path b (MakeLink at target) = (at ≡ path) × ((b.body.kind ≡ Link) × (b.body.payload ≡ target))
-GivesBare path b (Write at content) = (at ≡ path) × ((b.body.kind ≡ File) × (b.body.payload ≡ content))
-GivesBare path b (SetOwner at uid gid) = (at ≡ path) × ((uid ≡ b.dress.uid) × (gid ≡ b.dress.gid))
-GivesBare path b (SetMode at mode) = (at ≡ path) × (mode ≡ dress_mode b.dress)
-GivesBare path b (SetAcl at acl) = (at ≡ path) × (acl ≡ b.dress.acl)
-GivesBare path b (SetAttrs at attrs) = (at ≡ path) × (attrs ≡ b.dress.attrs)
-GivesBare path b (SetLetters at letters) = (at ≡ path) × (letters ≡ b.dress.letters)
-GivesBare path b step = ⊥
+abbrev pub GivesObjectState : Path → ObjectState → Step → Type 0
+GivesObjectState path b (MakeDir at) = (at ≡ path) × (b.body.kind ≡ Directory)
+GivesObjectState path b (MakeFile at) = (at ≡ path) × (b.body.kind ≡ File)
+GivesObjectState path b (MakeFifo at) = (at ≡ path) × (b.body.kind ≡ Fifo)
+GivesObjectState path b (MakeDevice at block major minor) = (at ≡ path) × ((b.body.kind ≡ device_kind block) × ((b.body.major ≡ major) × (b.body.minor ≡ minor)))
+GivesObjectState path b (MakeLink at target) = (at ≡ path) × ((b.body.kind ≡ Link) × (b.body.payload ≡ target))
+GivesObjectState path b (Write at content) = (at ≡ path) × ((b.body.kind ≡ File) × (b.body.payload ≡ content))
+GivesObjectState path b (SetOwner at uid gid) = (at ≡ path) × ((uid ≡ b.metadata.uid) × (gid ≡ b.metadata.gid))
+GivesObjectState path b (SetMode at mode) = (at ≡ path) × (mode ≡ metadata_mode b.metadata)
+GivesObjectState path b (SetAcl at acl) = (at ≡ path) × (acl ≡ b.metadata.acl)
+GivesObjectState path b (SetAttrs at attrs) = (at ≡ path) × (attrs ≡ b.metadata.attrs)
+GivesObjectState path b (SetLetters at letters) = (at ≡ path) × (letters ≡ b.metadata.letters)
+GivesObjectState path b step = ⊥
 
 -- an ACL, extended attributes and letters are given only where owners and mode do not leave them
-abbrev pub IsNeeded : Bare → Step → Type 0
-IsNeeded b (SetAcl at acl) = acl_of_mode (dress_mode b.dress) ≢ b.dress.acl
-IsNeeded b (SetAttrs at attrs) = [] ≢ b.dress.attrs
-IsNeeded b (SetLetters at letters) = 0 ≢ b.dress.letters
+abbrev pub IsNeeded : ObjectState → Step → Type 0
+IsNeeded b (SetAcl at acl) = acl_of_mode (metadata_mode b.metadata) ≢ b.metadata.acl
+IsNeeded b (SetAttrs at attrs) = [] ≢ b.metadata.attrs
+IsNeeded b (SetLetters at letters) = 0 ≢ b.metadata.letters
 IsNeeded b step = Unit {0}
 
 -- a step gives an object of a subtree that is made at a path what it has
-pub record GivesPart (path : Path) (subtree : Path → Option Bare) (step : Step) : Type 0 where
+pub record GivesPart (path : Path) (subtree : Path → Option ObjectState) (step : Step) : Type 0 where
   pub rest : Path
-  pub object : Bare
+  pub object : ObjectState
   pub is : subtree rest ≡ Some object
-  pub gives : GivesBare (path ++ rest) object step
+  pub gives : GivesObjectState (path ++ rest) object step
   pub needed : IsNeeded object step
 
 -- so under the staging name of a path

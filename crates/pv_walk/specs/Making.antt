@@ -1,5 +1,5 @@
--- How a new object comes to its staging name: the step that makes it, what it holds, and its dress (mkdir(2), mknod(2),
--- symlink(2)).
+-- How a new object comes to its staging name: the step that makes it, what it holds, and its metadata (mkdir(2),
+-- mknod(2), symlink(2)).
 use Rattle.std.specs.Prelude.{◌≡◌, ◌⊎◌, ℕ, List, [], ◌∷◌, Option, Some, None}
 use Rattle.pv_path.specs.Paths.{Path, same_path}
 use Rattle.pv_acl.specs.Parts.{special_of, acl_of_mode}
@@ -8,10 +8,10 @@ use Rattle.pv_steps.specs.declared.step.Step.{Step}
 use Rattle.pv_steps.specs.declared.step.Step.TheVariants.{MakeDir, MakeFile, MakeFifo, MakeDevice, MakeLink, Write}
 use Rattle.pv_steps.specs.Objects.{fresh}
 use Rattle.pv_steps.specs.Trees.{Files, places}
-use Rattle.pv_dress.specs.declared.bare.Bare.{Bare}
-use Rattle.pv_dress.specs.declared.bare.Dress.{Dress}
-use Rattle.pv_dress.specs.Edits.{SameOutside}
-use Rattle.pv_dress.specs.Nodes.{bare_of, bares_of}
+use Rattle.pv_metadata.specs.declared.object_state.ObjectState.{ObjectState}
+use Rattle.pv_metadata.specs.declared.object_state.Metadata.{Metadata}
+use Rattle.pv_metadata.specs.Edits.{SameOutside}
+use Rattle.pv_metadata.specs.Nodes.{object_state_of, object_states_of}
 use Rattle.pv_walk.specs.declared.new_file.NewFile.{NewFile}
 use Rattle.pv_walk.specs.declared.new_file.NewKind.{NewKind}
 use Rattle.pv_walk.specs.declared.new_file.NewKind.TheVariants as new
@@ -50,9 +50,9 @@ first_object what now = fresh (new_kind what) (made_mode what) (first_payload wh
 abbrev pub held_object : NewKind → ℕ → Object
 held_object what now = fresh (new_kind what) (made_mode what) (new_payload what) (new_major what) (new_minor what) now
 
--- what it is to dressed
-abbrev pub new_dress : NewFile → Dress
-new_dress file = record {
+-- what it is to get its metadata
+abbrev pub new_metadata : NewFile → Metadata
+new_metadata file = record {
   uid = file.uid;
   gid = file.gid;
   special = special_of (new_mode file.what file.mode);
@@ -62,8 +62,8 @@ new_dress file = record {
 }
 
 -- an object without stamps as its Make step leaves it, or with all it holds
-abbrev pub IsBegun : NewKind → Bare → Type 0
-IsBegun what there = (there ≡ bare_of (first_object what 0)) ⊎ (there ≡ bare_of (held_object what 0))
+abbrev pub IsBegun : NewKind → ObjectState → Type 0
+IsBegun what there = (there ≡ object_state_of (first_object what 0)) ⊎ (there ≡ object_state_of (held_object what 0))
 
 -- a step makes an object as it is first made, or writes its content
 abbrev pub BeginsNew : Path → NewKind → Step → Type 0
@@ -72,4 +72,4 @@ BeginsNew path what step = (step ≡ make_step path what) ⊎ ((content : List �
 -- on the way of making it where nothing stood: nothing has changed elsewhere, stamps aside, and it is not there yet, or only begun
 pub record Beginning (path : Path) (what : NewKind) (t u : Files) : Type 0 where
   pub outside : SameOutside (same_path path) t u
-  pub here : (bares_of (places u) path ≡ None) ⊎ ((there : Bare) × ((bares_of (places u) path ≡ Some there) × IsBegun what there))
+  pub here : (object_states_of (places u) path ≡ None) ⊎ ((there : ObjectState) × ((object_states_of (places u) path ≡ Some there) × IsBegun what there))

@@ -1,10 +1,10 @@
--- The pieces of work of which a copy is made: each object is made with what it holds, and gets its dress once all
+-- The pieces of work of which a copy is made: each object is made with what it holds, and gets its metadata once all
 -- below it is there (mkdir(2), mknod(2), symlink(2), chown(2), chmod(2)).
 use Rattle.std.specs.Prelude.{◌≡◌, ◌≢◌, ◌⊎◌, ℕ, ◌+◌, true, false, List, [], ◌∷◌, ◌++◌, map, Option, Some, None, is_some, option_map, if◌then◌else◌}
-use Rattle.pv_dress.specs.declared.bare.Bare.{Bare}
-use Rattle.pv_dress.specs.declared.bare.Body.{Body}
-use Rattle.pv_dress.specs.Dressing.{IsDress, CanDress, ChangedAt, Dressing, GivesDress, dressed}
-use Rattle.pv_dress.specs.Nodes.{bare_of}
+use Rattle.pv_metadata.specs.declared.object_state.ObjectState.{ObjectState}
+use Rattle.pv_metadata.specs.declared.object_state.Body.{Body}
+use Rattle.pv_metadata.specs.SettingMetadata.{IsMetadata, CanSetMetadata, ChangedAt, SettingMetadata, GivesMetadata, with_metadata}
+use Rattle.pv_metadata.specs.Nodes.{object_state_of}
 use Rattle.pv_path.specs.Paths.{Path, same_path, parent_of}
 use Rattle.pv_steps.specs.declared.node.Kind.{Kind}
 use Rattle.pv_steps.specs.declared.node.Kind.TheVariants.{Directory, File, Link, Fifo, CharDevice, BlockDevice}
@@ -36,39 +36,39 @@ what_of body = by body.kind
     by BlockDevice = new.Device true body.major body.minor
 
 -- an object as it is first made, with what it holds
-abbrev pub plain : Bare → Bare
-plain b = bare_of (held_object (what_of b.body) 0)
+abbrev pub plain : ObjectState → ObjectState
+plain b = object_state_of (held_object (what_of b.body) 0)
 
 -- an object of which a copy can be made
-pub record IsWhole (b : Bare) : Type 0 where
+pub record IsWhole (b : ObjectState) : Type 0 where
   pub target : HasTarget (what_of b.body)
   pub body : (plain b).body ≡ b.body
-  pub dress : IsDress b.body.kind b.dress
+  pub metadata : IsMetadata b.body.kind b.metadata
 
 -- what a piece needs of a tree, below a path
 abbrev pub CanDo : Path → Piece → Files → Type 0
 CanDo stage (Make rest what) t = (stage ++ rest ≢ []) × (HasRoom (places t) (stage ++ rest) × HasTarget what)
-CanDo stage (Give rest dress) t = CanDress t (stage ++ rest) dress
+CanDo stage (Give rest metadata) t = CanSetMetadata t (stage ++ rest) metadata
 
 -- what it leaves
 abbrev pub IsDone : ℕ → Path → Piece → Files → Files → Type 0
 IsDone now stage (Make rest what) t u = places u ≡ made now (stage ++ rest) (held_object what now) (places t)
-IsDone now stage (Give rest dress) t u = ChangedAt (dressed dress) (stage ++ rest) now t u
+IsDone now stage (Give rest metadata) t u = ChangedAt (with_metadata metadata) (stage ++ rest) now t u
 
 -- on the way
 abbrev pub PieceWay : Path → Piece → Files → Files → Type 0
 PieceWay stage (Make rest what) t u = Beginning (stage ++ rest) what t u
-PieceWay stage (Give rest dress) t u = Dressing (stage ++ rest) dress t u
+PieceWay stage (Give rest metadata) t u = SettingMetadata (stage ++ rest) metadata t u
 
 -- a step of it
 abbrev pub GivesPiece : Path → Piece → Files → Step → Type 0
 GivesPiece stage (Make rest what) t step = BeginsNew (stage ++ rest) what step
-GivesPiece stage (Give rest dress) t step = GivesDress (stage ++ rest) dress t step
+GivesPiece stage (Give rest metadata) t step = GivesMetadata (stage ++ rest) metadata t step
 
 -- at most how many steps it takes
 abbrev pub piece_cost : Piece → ℕ
 piece_cost (Make rest what) = 2
-piece_cost (Give rest dress) = 5
+piece_cost (Give rest metadata) = 5
 
 -- ---- lists of pieces, the last one first
 
@@ -79,8 +79,8 @@ cost_of (piece ∷ pieces) = cost_of pieces + piece_cost piece
 
 -- the objects that stand after a piece, where these stood before it
 abbrev pub after_piece : Piece → Subtree → Subtree
-after_piece (Make rest what) s q = if same_path rest q then Some (bare_of (held_object what 0)) else s q
-after_piece (Give rest dress) s q = if same_path rest q then option_map (λ (b : Bare). record b { dress = dress }) (s q) else s q
+after_piece (Make rest what) s q = if same_path rest q then Some (object_state_of (held_object what 0)) else s q
+after_piece (Give rest metadata) s q = if same_path rest q then option_map (λ (b : ObjectState). record b { metadata = metadata }) (s q) else s q
 
 -- the objects that stand after all of them
 abbrev pub built : List Piece → Subtree → Subtree
@@ -93,8 +93,8 @@ HasPlace s rest = (rest ≡ []) ⊎ ((is_some (s []) ≡ true) × (option_map (�
 
 -- a piece of a subtree that can be done where these objects stand
 abbrev pub IsDoable : Subtree → Subtree → Piece → Type 0
-IsDoable subtree s (Make rest what) = (b : Bare) × ((subtree rest ≡ Some b) × (IsWhole b × ((what ≡ what_of b.body) × ((s rest ≡ None) × HasPlace s rest))))
-IsDoable subtree s (Give rest dress) = (b : Bare) × ((subtree rest ≡ Some b) × (IsWhole b × ((dress ≡ b.dress) × (s rest ≡ Some (plain b)))))
+IsDoable subtree s (Make rest what) = (b : ObjectState) × ((subtree rest ≡ Some b) × (IsWhole b × ((what ≡ what_of b.body) × ((s rest ≡ None) × HasPlace s rest))))
+IsDoable subtree s (Give rest metadata) = (b : ObjectState) × ((subtree rest ≡ Some b) × (IsWhole b × ((metadata ≡ b.metadata) × (s rest ≡ Some (plain b)))))
 
 -- so each of them
 abbrev pub AreDoable : Subtree → Subtree → List Piece → Type 0
@@ -116,11 +116,11 @@ abbrev pub names_at : Path → Files → Path → List (List ℕ)
 names_at source t rest = names_below t (source ++ rest)
 
 -- the last piece of an object, and what comes before it: the first one, and the children
-abbrev pub last_piece : Path → Option Bare → List Piece
+abbrev pub last_piece : Path → Option ObjectState → List Piece
 last_piece rest None = []
-last_piece rest (Some b) = Give rest b.dress ∷ []
+last_piece rest (Some b) = Give rest b.metadata ∷ []
 
-abbrev pub tasks_before : Path → List (List ℕ) → Option Bare → List Task
+abbrev pub tasks_before : Path → List (List ℕ) → Option ObjectState → List Task
 tasks_before rest names None = []
 tasks_before rest names (Some b) = Close (Make rest (what_of b.body)) ∷ map (λ name. Open (rest ++ name ∷ [])) names
 

@@ -4,12 +4,12 @@ use Rattle.pv_path.specs.Paths.{Path, is_prefix, parent_of, has_staging, staging
 use Rattle.pv_steps.specs.declared.node.Kind.TheVariants.{Directory}
 use Rattle.pv_steps.specs.declared.object.Object.{Object}
 use Rattle.pv_steps.specs.declared.step.Step.{Step}
-use Rattle.pv_steps.specs.Objects.{bare}
+use Rattle.pv_steps.specs.Objects.{object_state}
 use Rattle.pv_steps.specs.Trees.{Files, Places, places, IsPresent, IsKind, IsAbsentIn}
 use Rattle.pv_steps.specs.Steps.{made}
-use Rattle.pv_steps.specs.Same.{bares}
+use Rattle.pv_steps.specs.Same.{object_states}
 use Rattle.pv_steps.specs.Content.{Removes}
-use Rattle.pv_dress.specs.Edits.{all_taken}
+use Rattle.pv_metadata.specs.Edits.{all_taken}
 use Rattle.pv_walk.specs.declared.new_file.NewFile.{NewFile}
 use Rattle.pv_walk.specs.declared.new_file.NewKind.TheVariants as new
 use Rattle.pv_walk.specs.Staging.{prefixes, staging_names, is_under_any, new_object}
@@ -60,11 +60,11 @@ IsSwept path t = (place : Path) → place ≢ [] → is_prefix place path ≡ tr
 -- at one path: what stood there, or a parent above the path where nothing stood
 pub data IsPreparing (path q : Path) (old new : Option Object) : Type 0 where
   kept : new ≡ old → IsPreparing path q old new
-  parent : IsAbove q path → old ≡ None → new ≡ Some (bare (new_object parent_file 0)) → IsPreparing path q old new
+  parent : IsAbove q path → old ≡ None → new ≡ Some (object_state (new_object parent_file 0)) → IsPreparing path q old new
 
 -- at each path without a staging name
 abbrev pub Preparing : Path → Files → Files → Type 0
-Preparing path t u = (q : Path) → has_staging q ≡ false → IsPreparing path q (bares (places t) q) (bares (places u) q)
+Preparing path t u = (q : Path) → has_staging q ≡ false → IsPreparing path q (object_states (places t) q) (object_states (places u) q)
 
 -- a step takes something away at or below a staging name along the path, or puts a parent above it where nothing stood
 pub data IsPrepareStep (path : Path) (t : Files) (step : Step) : Type 0 where

@@ -3,11 +3,11 @@ use Rattle.std.specs.Prelude.{◌≡◌, ◌⊎◌, ℕ, false, Option, Some, No
 use Rattle.pv_path.specs.Paths.{Path, has_staging, staging_of}
 use Rattle.pv_steps.specs.declared.object.Object.{Object}
 use Rattle.pv_steps.specs.declared.step.Step.{Step}
-use Rattle.pv_steps.specs.Objects.{bare}
+use Rattle.pv_steps.specs.Objects.{object_state}
 use Rattle.pv_steps.specs.Trees.{Files, Places, places}
 use Rattle.pv_steps.specs.Steps.{made}
-use Rattle.pv_steps.specs.Same.{bares}
-use Rattle.pv_dress.specs.Edits.{cut}
+use Rattle.pv_steps.specs.Same.{object_states}
+use Rattle.pv_metadata.specs.Edits.{cut}
 use Rattle.pv_walk.specs.declared.new_file.NewFile.{NewFile}
 use Rattle.pv_walk.specs.Staging.{new_object, GivesNew, IsPublishing}
 
@@ -16,11 +16,11 @@ use Rattle.pv_walk.specs.Staging.{new_object, GivesNew, IsPublishing}
 -- at one path: what stood there, or the new object at the path where nothing stood
 pub data IsPutting (path : Path) (file : NewFile) (q : Path) (old new : Option Object) : Type 0 where
   kept : new ≡ old → IsPutting path file q old new
-  put : q ≡ path → old ≡ None → new ≡ Some (bare (new_object file 0)) → IsPutting path file q old new
+  put : q ≡ path → old ≡ None → new ≡ Some (object_state (new_object file 0)) → IsPutting path file q old new
 
 -- on the way of putting a new object at a path, at each path without a staging name
 abbrev pub Putting : Path → NewFile → Files → Files → Type 0
-Putting path file t u = (q : Path) → has_staging q ≡ false → IsPutting path file q (bares (places t) q) (bares (places u) q)
+Putting path file t u = (q : Path) → has_staging q ≡ false → IsPutting path file q (object_states (places t) q) (object_states (places u) q)
 
 -- a step makes the new object under its staging name, gives it what it is to have, or publishes it
 abbrev pub IsPutStep : Path → NewFile → Step → Type 0

@@ -11,8 +11,8 @@ use Rattle.pv_steps.specs.declared.object.Object.{Object}
 use Rattle.pv_steps.specs.Objects.{is_directory}
 use Rattle.pv_steps.specs.Trees.{Files, Places, places, kind_of, names_below}
 use Rattle.pv_steps.specs.Steps.{Yields, gone, moved}
-use Rattle.pv_steps.specs.Same.{bares}
-use Rattle.pv_dress.specs.Edits.{Pruned}
+use Rattle.pv_steps.specs.Same.{object_states}
+use Rattle.pv_metadata.specs.Edits.{Pruned}
 
 -- whether the second path lies below the first
 abbrev pub is_below : Path → Path → Bool
@@ -52,12 +52,12 @@ without goes change files = λ q.
 -- stamps aside, objects at and below a path may be gone, but not where one Rename from the staging name can replace them
 pub record Clearing (path : Path) (t u : Files) : Type 0 where
   pub pruned : Pruned (is_prefix path) t u
-  pub needed : Yields (places t) (staging_of path) path → (q : Path) → bares (places u) q ≡ bares (places t) q
+  pub needed : Yields (places t) (staging_of path) path → (q : Path) → object_states (places u) q ≡ object_states (places t) q
 
 -- on the way, stamps aside: what stands at the path makes way, or what was staged for it has come to it
 abbrev pub Publishing : ℕ → Path → Files → Files → Type 0
 Publishing now path t u =
-    Clearing path t u ⊎ ((q : Path) → bares (places u) q ≡ bares (moved now (staging_of path) path (places t)) q)
+    Clearing path t u ⊎ ((q : Path) → object_states (places u) q ≡ object_states (moved now (staging_of path) path (places t)) q)
 
 -- nothing is done, or the object at a path is gone
 abbrev pub MayHaveGone : ℕ → Path → Files → Files → Type 0

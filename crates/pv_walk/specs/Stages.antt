@@ -2,29 +2,30 @@
 -- owners, its mode, its ACL, its extended attributes and its letters, in this order: no object is given its mode while it has other
 -- owners, and chown(2) would take set-user-ID bits away (write(2) does so, too).
 use Rattle.std.specs.Prelude.{◌≡◌, ℕ, ◌++◌, Option, Some, None}
-use Rattle.pv_dress.specs.declared.bare.Bare.{Bare}
-use Rattle.pv_dress.specs.Dressing.{dressed_first}
-use Rattle.pv_dress.specs.Edits.{SameOutside}
-use Rattle.pv_dress.specs.Nodes.{bare_of, bares_of}
+use Rattle.pv_metadata.specs.declared.object_state.ObjectState.{ObjectState}
+use Rattle.pv_metadata.specs.SettingMetadata.{with_first_changes}
+use Rattle.pv_metadata.specs.Edits.{SameOutside}
+use Rattle.pv_metadata.specs.Nodes.{object_state_of, object_states_of}
 use Rattle.pv_path.specs.Paths.{Path, is_prefix}
 use Rattle.pv_steps.specs.Trees.{Files, places}
 use Rattle.pv_walk.specs.Copying.{Subtree}
 use Rattle.pv_walk.specs.Making.{IsBegun, held_object}
 use Rattle.pv_walk.specs.Pieces.{what_of}
 
--- a stage of an object, stamps aside: it is only begun, or has all it holds and the first of the changes of its dress
-pub data IsStage (object there : Bare) : Type 0 where
+-- a stage of an object, stamps aside: it is only begun, or has all it holds and the first of the changes of its
+-- metadata
+pub data IsStage (object there : ObjectState) : Type 0 where
   begun : IsBegun (what_of object.body) there → IsStage object there
-  dressing : (k : ℕ) → there ≡ bare_of (dressed_first k object.dress (held_object (what_of object.body) 0)) → IsStage object there
+  setting_metadata : (k : ℕ) → there ≡ object_state_of (with_first_changes k object.metadata (held_object (what_of object.body) 0)) → IsStage object there
 
 -- at one place: nothing stands there, or a stage of the object that is to stand there
-pub data IsAtStage (wanted there : Option Bare) : Type 0 where
+pub data IsAtStage (wanted there : Option ObjectState) : Type 0 where
   none : there ≡ None → IsAtStage wanted there
-  stage : (object found : Bare) → wanted ≡ Some object → there ≡ Some found → IsStage object found → IsAtStage wanted there
+  stage : (object found : ObjectState) → wanted ≡ Some object → there ≡ Some found → IsStage object found → IsAtStage wanted there
 
 -- at and below a path stand stages of a subtree alone
 abbrev pub InStages : Path → Subtree → Files → Type 0
-InStages path subtree u = (rest : Path) → IsAtStage (subtree rest) (bares_of (places u) (path ++ rest))
+InStages path subtree u = (rest : Path) → IsAtStage (subtree rest) (object_states_of (places u) (path ++ rest))
 
 -- on the way of making a subtree at a path: nothing has changed elsewhere, stamps aside, and its stages stand there
 pub record Staging (path : Path) (subtree : Subtree) (t u : Files) : Type 0 where

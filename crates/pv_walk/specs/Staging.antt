@@ -10,7 +10,7 @@ use Rattle.pv_steps.specs.declared.step.Step.TheVariants.{MakeDir, MakeFile, Mak
 use Rattle.pv_steps.specs.Objects.{fresh, IsId, IsTarget}
 use Rattle.pv_steps.specs.Steps.{device_kind}
 use Rattle.pv_steps.specs.Trees.{Files}
-use Rattle.pv_dress.specs.Edits.{count_at}
+use Rattle.pv_metadata.specs.Edits.{count_at}
 use Rattle.pv_walk.specs.declared.new_file.NewFile.{NewFile}
 use Rattle.pv_walk.specs.declared.new_file.NewKind.{NewKind}
 use Rattle.pv_walk.specs.declared.new_file.NewKind.TheVariants as new
@@ -87,7 +87,7 @@ new_object file now =
 
 -- ---- steps
 
--- at most how many steps make a new object, with its content and its dress
+-- at most how many steps make a new object, with its content and its metadata
 abbrev pub most_staged : ℕ
 most_staged = 7
 

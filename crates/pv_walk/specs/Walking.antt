@@ -5,7 +5,7 @@ use Rattle.std.specs.List.{range_with_len}
 use Rattle.pv_path.specs.Paths.{Path}
 use Rattle.pv_steps.specs.declared.why.Why.{Why}
 use Rattle.pv_steps.specs.Trees.{Places, kind_of}
-use Rattle.pv_steps.specs.Refusal.{refusal, first_absent, first_refused, why_blocked}
+use Rattle.pv_steps.specs.Refusal.{refusal, first_absent, first_refused, why_unsafe}
 use Rattle.pv_walk.specs.declared.walking.Walked.{Walked}
 use Rattle.pv_walk.specs.declared.walking.Walked.TheVariants.{Present, Absent, Refused}
 
@@ -25,9 +25,9 @@ walked t path last = outcome (refusal t path last) (first_absent t path (range_w
 
 -- the first of some places of a path that cannot be passed, counted by the names that lead to it, and why; owners do not
 -- count
-abbrev pub blocked_from : Places → Path → List ℕ → Option (ℕ × Why)
-blocked_from t path ks = first_refused (λ k. why_blocked (kind_of (t (take k path)))) ks
+abbrev pub unsafe_component_from : Places → Path → List ℕ → Option (ℕ × Why)
+unsafe_component_from t path ks = first_refused (λ k. why_unsafe (kind_of (t (take k path)))) ks
 
 -- the first of the places above a path
-abbrev pub first_blocked : Places → Path → Option (ℕ × Why)
-first_blocked t path = blocked_from t path (range_with_len 0 (length path))
+abbrev pub first_unsafe_component : Places → Path → Option (ℕ × Why)
+first_unsafe_component t path = unsafe_component_from t path (range_with_len 0 (length path))

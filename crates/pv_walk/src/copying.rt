@@ -1,7 +1,7 @@
 //! Copies of all that stands at and below a path.
 ghost use Rattle.std.specs.Prelude.{◌≡◌, ◌≢◌, ◌+◌, ◌*◌, [], true, false, OnOk};
-ghost use Rattle.pv_dress.specs.Edits.{count_at};
-ghost use Rattle.pv_dress.specs.Nodes.{bares_of};
+ghost use Rattle.pv_metadata.specs.Edits.{count_at};
+ghost use Rattle.pv_metadata.specs.Nodes.{object_states_of};
 ghost use Rattle.pv_path.specs.Paths.{parent_of, has_staging, staging_of};
 ghost use Rattle.pv_steps.specs.declared.node.Kind.TheVariants.{Directory};
 ghost use Rattle.pv_steps.specs.Acting.{Acted};
@@ -29,9 +29,9 @@ pub struct TopNode {
 }
 
 /// Puts a copy of what stands at and below a source at a path in a directory, in the place of all that stands at and
-/// below the path, staging names left out: each object with all it has, all four stamps now, and the top with what it
-/// gets. It is made under the staging name, and comes to its path in one step with all below it, once what stands there
-/// has made way. What there is to copy is listed before the first step.
+/// below the path, staging names left out: each object with all it has, all four timestamps now, and the top with what
+/// it gets. It is made under the staging name, and comes to its path in one step with all below it, once what stands
+/// there has made way. What there is to copy is listed before the first step.
 pub fn copy_over<T: Tree>(
     alloc: Global,
     tree: &mut T,
@@ -48,14 +48,14 @@ pub fn copy_over<T: Tree>(
     requires source { IsPresent (T.state tree.old) source.now }
     requires top { IsTopNode top.now }
     ensures ok { OnOk result (places (T.state tree.new)
-        ≡ with_subtree now path.now (copy_from (topped top.now) source.now (bares_of (places (T.state tree.old))))
+        ≡ with_subtree now path.now (copy_from (topped top.now) source.now (object_states_of (places (T.state tree.old))))
         (places (T.state tree.old))) }
-    ensures acted { let subtree = copy_from (topped top.now) source.now (bares_of (places (T.state tree.old))) in
+    ensures acted { let subtree = copy_from (topped top.now) source.now (object_states_of (places (T.state tree.old))) in
         Acted T.Tree (Replacing path.now subtree (T.state tree.old)) (IsCopyStep path.now subtree)
         (count_at (T.state tree.old) path.now
         + most_new * copied_count subtree source.now (T.state tree.old)) now tree.old tree.new result }
     // Under the staging name nothing stands but stages of the copy.
-    ensures stages { let subtree = copy_from (topped top.now) source.now (bares_of (places (T.state tree.old))) in
+    ensures stages { let subtree = copy_from (topped top.now) source.now (object_states_of (places (T.state tree.old))) in
         Acted T.Tree (InStages (staging_of path.now) subtree) (IsCopyStep path.now subtree)
         (count_at (T.state tree.old) path.now
         + most_new * copied_count subtree source.now (T.state tree.old)) now tree.old tree.new result }

@@ -15,7 +15,7 @@ mod walking;
 
 pub use copying::{TopNode, copy_over};
 pub use listing::topped;
-pub use new_file::{NewFile, NewKind, new_bare};
+pub use new_file::{NewFile, NewKind, new_object_state};
 pub use preparing::prepare;
 pub use publishing::publish;
 pub use put::{put_over, stage_file};
@@ -23,4 +23,4 @@ pub use pv_steps::Why;
 pub use remove::{below, removal, remove_all, remove_below};
 pub use stage::put_held;
 pub use sweeping::sweep;
-pub use walking::{Walked, blocked, refusal_of, walk};
+pub use walking::{Walked, refusal_of, unsafe_component, walk};

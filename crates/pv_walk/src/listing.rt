@@ -1,6 +1,6 @@
 //! What there is to copy, listed in pieces of work before the first of them is done.
 ghost use Rattle.std.specs.Prelude.{◌≡◌, ◌≤◌, ◌*◌, ◌++◌, ◌∷◌, [], map, Some, IfOk, OnOk};
-ghost use Rattle.pv_dress.specs.Nodes.{bares_of};
+ghost use Rattle.pv_metadata.specs.Nodes.{object_states_of};
 ghost use Rattle.pv_steps.specs.Trees.{places, node_at, payload_at, IsTree};
 ghost use Rattle.pv_walk.specs.Copying.{copy_from, copied_count, topped, IsTopNode};
 ghost use Rattle.pv_walk.specs.Pieces.{IsPlan, made_of, cost_of, what_of, names_at, pieces_now, tasks_left};
@@ -10,7 +10,7 @@ ghost use Rattle.pv_walk.specs.declared.listing.Task.TheVariants.{Open, Close};
 
 use crate::copying::TopNode;
 use crate::new_file::NewKind;
-use pv_dress::{Bare, Body, Dress};
+use pv_metadata::{Body, Metadata, ObjectState};
 use pv_path::{TreePath, child, has_staging};
 use pv_steps::{Kind, Node, Tree, is_directory, special_bits};
 use std::alloc::{AllocError, Global};
@@ -20,8 +20,8 @@ use std::alloc::{AllocError, Global};
 pub(crate) enum Piece {
     /// The object is made, with what it holds.
     Make(TreePath, NewKind),
-    /// It gets its dress.
-    Give(TreePath, Dress),
+    /// It gets its metadata.
+    Give(TreePath, Metadata),
 }
 
 /// What is still to be listed.
@@ -34,7 +34,7 @@ enum Task {
 }
 
 /// The pieces of work of a copy, the last one first: each object is made before its children, which come in byte order,
-/// each with all below it; then it gets its dress.
+/// each with all below it; then it gets its metadata.
 pub(crate) fn pieces_of<T: Tree>(
     alloc: Global,
     tree: &T,
@@ -44,9 +44,9 @@ pub(crate) fn pieces_of<T: Tree>(
     requires top { IsTopNode top.now }
     ensures plan { IfOk result (λ pieces. IsPlan pieces.items) }
     ensures all { IfOk result (λ pieces. made_of pieces.items
-        ≡ copy_from (topped top.now) source.now (bares_of (places (T.state tree.now)))) }
+        ≡ copy_from (topped top.now) source.now (object_states_of (places (T.state tree.now)))) }
     ensures few { IfOk result (λ pieces. cost_of pieces.items ≤ most_staged
-        * copied_count (copy_from (topped top.now) source.now (bares_of (places (T.state tree.now)))) source.now
+        * copied_count (copy_from (topped top.now) source.now (object_states_of (places (T.state tree.now)))) source.now
         (T.state tree.now)) }
     ensures tree { IsTree (T.state tree.now) }
 {
@@ -73,10 +73,10 @@ fn list_next<T: Tree>(
 ) -> Result<(), AllocError>
     requires top { IsTopNode top.now }
     ensures left { OnOk result (work.new.items ≡ work.old.items ++ tasks_left
-        (copy_from (topped top.now) source.now (bares_of (places (T.state tree.now))))
+        (copy_from (topped top.now) source.now (object_states_of (places (T.state tree.now))))
         (names_at source.now (T.state tree.now)) task) }
     ensures listed { OnOk result (pieces.new.items ≡ pieces.old.items ++ pieces_now
-        (copy_from (topped top.now) source.now (bares_of (places (T.state tree.now)))) task) }
+        (copy_from (topped top.now) source.now (object_states_of (places (T.state tree.now)))) task) }
 {
     match task {
         Task::Open(rest) => open(alloc, tree, source, top, &rest, work, pieces),
@@ -96,10 +96,10 @@ fn open<T: Tree>(
 ) -> Result<(), AllocError>
     requires top { IsTopNode top.now }
     ensures left { OnOk result (work.new.items ≡ work.old.items ++ tasks_left
-        (copy_from (topped top.now) source.now (bares_of (places (T.state tree.now))))
+        (copy_from (topped top.now) source.now (object_states_of (places (T.state tree.now))))
         (names_at source.now (T.state tree.now)) (Open rest.now)) }
     ensures listed { OnOk result (pieces.new.items ≡ pieces.old.items ++ pieces_now
-        (copy_from (topped top.now) source.now (bares_of (places (T.state tree.now)))) (Open rest.now)) }
+        (copy_from (topped top.now) source.now (object_states_of (places (T.state tree.now)))) (Open rest.now)) }
 {
     match object_at(alloc, tree, source, top, rest)? {
         None => Ok(()),
@@ -113,17 +113,17 @@ fn open<T: Tree>(
 /// Adds the pieces of one object: the last one to those that are listed, the first one to what is left.
 fn add_object(
     rest: &TreePath,
-    object: Bare,
+    object: ObjectState,
     work: &mut Vec<Task>,
     pieces: &mut Vec<Piece>,
 ) -> Result<(), AllocError>
     ensures left { OnOk result (work.new.items
         ≡ work.old.items ++ Close (Make rest.now (what_of object.body)) ∷ []) }
     ensures listed { OnOk result (pieces.new.items
-        ≡ pieces.old.items ++ Give rest.now object.dress ∷ []) }
+        ≡ pieces.old.items ++ Give rest.now object.metadata ∷ []) }
 {
     work.push(Task::Close(Piece::Make(rest.copy()?, what_of(object.body))))?;
-    pieces.push(Piece::Give(rest.copy()?, object.dress))?;
+    pieces.push(Piece::Give(rest.copy()?, object.metadata))?;
     Ok(())
 }
 
@@ -179,9 +179,9 @@ fn object_at<T: Tree>(
     source: &TreePath,
     top: &TopNode,
     rest: &TreePath,
-) -> Result<Option<Bare>, AllocError>
+) -> Result<Option<ObjectState>, AllocError>
     ensures object { IfOk result (λ object. object
-        ≡ copy_from (topped top.now) source.now (bares_of (places (T.state tree.now))) rest.now) }
+        ≡ copy_from (topped top.now) source.now (object_states_of (places (T.state tree.now))) rest.now) }
     ensures tree { IsTree (T.state tree.now) }
 {
     // In a tree nothing is half made.
@@ -192,7 +192,7 @@ fn object_at<T: Tree>(
     if has_staging(rest) {
         return Ok(None);
     }
-    bare_at(alloc, tree, &source.followed_by(rest.names())?)
+    object_state_at(alloc, tree, &source.followed_by(rest.names())?)
 }
 
 /// The top of a copy, if any.
@@ -201,43 +201,47 @@ fn top_at<T: Tree>(
     tree: &T,
     source: &TreePath,
     top: &TopNode,
-) -> Result<Option<Bare>, AllocError>
+) -> Result<Option<ObjectState>, AllocError>
     ensures { IfOk result (λ object. object
-        ≡ copy_from (topped top.now) source.now (bares_of (places (T.state tree.now))) []) }
+        ≡ copy_from (topped top.now) source.now (object_states_of (places (T.state tree.now))) []) }
 {
-    match bare_at(alloc, tree, source)? {
+    match object_state_at(alloc, tree, source)? {
         None => Ok(None),
         Some(object) => Ok(Some(topped(top, object))),
     }
 }
 
 /// An object as the top of a copy: a link takes owners alone.
-pub fn topped(top: &TopNode, object: Bare) -> Bare
+pub fn topped(top: &TopNode, object: ObjectState) -> ObjectState
     ensures { result ≡ topped top.now object }
 {
     let mut new = object;
     if let Some(uid) = top.uid {
-        new.dress.uid = uid;
+        new.metadata.uid = uid;
     }
     if let Some(gid) = top.gid {
-        new.dress.gid = gid;
+        new.metadata.gid = gid;
     }
     if let Some(mode) = top.mode {
         if new.body.kind != Kind::Link {
-            new.dress.special = special_bits(mode);
-            new.dress.acl.access.set_base(mode);
+            new.metadata.special = special_bits(mode);
+            new.metadata.acl.access.set_base(mode);
         }
     }
     new
 }
 
-/// What stands at a path, without its stamps.
-fn bare_at<T: Tree>(alloc: Global, tree: &T, path: &TreePath) -> Result<Option<Bare>, AllocError>
-    ensures { IfOk result (λ object. object ≡ bares_of (places (T.state tree.now)) path.now) }
+/// What stands at a path, without its timestamps.
+fn object_state_at<T: Tree>(
+    alloc: Global,
+    tree: &T,
+    path: &TreePath,
+) -> Result<Option<ObjectState>, AllocError>
+    ensures { IfOk result (λ object. object ≡ object_states_of (places (T.state tree.now)) path.now) }
 {
     match tree.look(path) {
         None => Ok(None),
-        Some(node) => Ok(Some(Bare::of(alloc, node, payload_of(tree, path, node))?)),
+        Some(node) => Ok(Some(ObjectState::of(alloc, node, payload_of(tree, path, node))?)),
     }
 }
 

@@ -1,11 +1,11 @@
 //! New objects, as a caller asks for them.
 ghost use Rattle.std.specs.Prelude.{◌≡◌, IfOk};
-ghost use Rattle.pv_dress.specs.Nodes.{bare_of};
-ghost use Rattle.pv_walk.specs.Making.{new_dress};
+ghost use Rattle.pv_metadata.specs.Nodes.{object_state_of};
+ghost use Rattle.pv_walk.specs.Making.{new_metadata};
 ghost use Rattle.pv_walk.specs.Staging.{new_kind, new_payload, new_major, new_minor, new_mode, new_object};
 
 use pv_acl::Acl;
-use pv_dress::{Bare, Body, Dress};
+use pv_metadata::{Body, Metadata, ObjectState};
 use pv_path::Bytes;
 use pv_steps::{AttrList, Kind, LetterSet, special_bits};
 use std::alloc::{AllocError, Global};
@@ -83,28 +83,28 @@ impl NewKind {
     }
 }
 
-/// A new object without its stamps.
-pub fn new_bare(alloc: Global, new: &NewFile) -> Result<Bare, AllocError>
-    ensures { IfOk result (λ bare. bare ≡ bare_of (new_object new.now 0)) }
+/// A new object without its timestamps.
+pub fn new_object_state(alloc: Global, new: &NewFile) -> Result<ObjectState, AllocError>
+    ensures { IfOk result (λ object_state. object_state ≡ object_state_of (new_object new.now 0)) }
 {
     let (major, minor) = new.what.numbers();
-    Ok(Bare {
+    Ok(ObjectState {
         body: Body {
             kind: new.what.kind(),
             payload: Bytes::copy_of(alloc, new.what.payload())?,
             major,
             minor,
         },
-        dress: dress_of(alloc, new),
+        metadata: metadata_of(alloc, new),
     })
 }
 
-/// The dress of a new object: no more than its mode gives, no extended attributes and no letters.
-pub(crate) fn dress_of(alloc: Global, new: &NewFile) -> Dress
-    ensures { result ≡ new_dress new.now }
+/// The metadata of a new object: no more than its mode gives, no extended attributes and no letters.
+pub(crate) fn metadata_of(alloc: Global, new: &NewFile) -> Metadata
+    ensures { result ≡ new_metadata new.now }
 {
     let mode = mode_of(&new.what, new.mode);
-    Dress {
+    Metadata {
         uid: new.uid,
         gid: new.gid,
         special: special_bits(mode),

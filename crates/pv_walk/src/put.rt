@@ -4,17 +4,17 @@ ghost use Rattle.pv_path.specs.Paths.{parent_of, has_staging, staging_of};
 ghost use Rattle.pv_steps.specs.declared.node.Kind.TheVariants.{Directory};
 ghost use Rattle.pv_steps.specs.Trees.{places, IsKind, IsAbsentIn};
 ghost use Rattle.pv_steps.specs.Steps.{made};
-ghost use Rattle.pv_dress.specs.Edits.{count_at};
+ghost use Rattle.pv_metadata.specs.Edits.{count_at};
 ghost use Rattle.pv_steps.specs.Acting.{Acted};
 ghost use Rattle.pv_walk.specs.declared.listing.Piece.TheVariants.{Make, Give};
-ghost use Rattle.pv_walk.specs.Making.{new_dress};
+ghost use Rattle.pv_walk.specs.Making.{new_metadata};
 ghost use Rattle.pv_walk.specs.Staging.{IsNewFile, GivesNew, new_object, can_stage, most_staged, most_new};
 ghost use Rattle.pv_walk.specs.Putting.{IsPutStep, put_over};
 ghost use Rattle.pv_walk.specs.Replacing.{Replacing, new_subtree};
 ghost use Rattle.pv_walk.specs.Stages.{InStages, Staging};
 
 use crate::listing::Piece;
-use crate::new_file::{NewFile, dress_of};
+use crate::new_file::{NewFile, metadata_of};
 use crate::subtree::{put_subtree, stage_subtree};
 use pv_path::TreePath;
 use pv_steps::{Tree, TreeFault};
@@ -53,7 +53,7 @@ pub fn put_over<T: Tree>(
 }
 
 /// Makes a new object under the staging name of a path, with its content, owners and mode in this order, all four
-/// stamps now. After a fault some of these steps may be done; nothing but the staging name has changed.
+/// timestamps now. After a fault some of these steps may be done; nothing but the staging name has changed.
 pub fn stage_file<T: Tree>(
     alloc: Global,
     tree: &mut T,
@@ -80,10 +80,10 @@ pub fn stage_file<T: Tree>(
 /// The pieces of work of one new object, the last one first.
 fn pieces_of_new(alloc: Global, new: &NewFile) -> Result<Vec<Piece>, AllocError>
     ensures { IfOk result (λ pieces. pieces.items
-        ≡ Give [] (new_dress new.now) ∷ Make [] new.now.what ∷ []) }
+        ≡ Give [] (new_metadata new.now) ∷ Make [] new.now.what ∷ []) }
 {
     let mut pieces = Vec::new(alloc);
-    pieces.push(Piece::Give(TreePath::root(alloc), dress_of(alloc, new)))?;
+    pieces.push(Piece::Give(TreePath::root(alloc), metadata_of(alloc, new)))?;
     pieces.push(Piece::Make(TreePath::root(alloc), new.what.copy()?))?;
     Ok(pieces)
 }

@@ -1,6 +1,6 @@
 //! Subtrees of new objects, put at paths: made under a staging name, they come to their path in one step.
 ghost use Rattle.std.specs.Prelude.{◌≡◌, ◌≢◌, ◌+◌, [], true, is_some, OnOk};
-ghost use Rattle.pv_dress.specs.Edits.{count_at};
+ghost use Rattle.pv_metadata.specs.Edits.{count_at};
 ghost use Rattle.pv_path.specs.Paths.{parent_of, staging_of};
 ghost use Rattle.pv_steps.specs.declared.node.Kind.TheVariants.{Directory};
 ghost use Rattle.pv_steps.specs.Acting.{Acted};
@@ -14,7 +14,7 @@ ghost use Rattle.pv_walk.specs.Staging.{can_stage};
 use crate::listing::Piece;
 use crate::publishing::publish;
 use crate::stage::begin;
-use pv_dress::dress;
+use pv_metadata::set_metadata;
 use pv_path::{TreePath, staging};
 use pv_steps::{Tree, TreeFault};
 use std::alloc::Global;
@@ -97,6 +97,6 @@ fn put_piece<T: Tree>(
 {
     match piece {
         Piece::Make(rest, what) => begin(tree, &stage.followed_by(rest.names())?, what, now),
-        Piece::Give(rest, new) => dress(tree, &stage.followed_by(rest.names())?, &new, now),
+        Piece::Give(rest, new) => set_metadata(tree, &stage.followed_by(rest.names())?, &new, now),
     }
 }

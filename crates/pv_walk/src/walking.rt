@@ -2,8 +2,8 @@
 ghost use Rattle.std.specs.Prelude.{◌≡◌, ◌<◌, ◌≤◌, ◌^◌, [], ◌∷◌, ◌++◌, length, IfOk, OnOk};
 ghost use Rattle.std.specs.Option.{option_or};
 ghost use Rattle.pv_steps.specs.Trees.{places, IsTree};
-ghost use Rattle.pv_steps.specs.Refusal.{refusal, why_blocked};
-ghost use Rattle.pv_walk.specs.Walking.{walked, unrefused, first_blocked};
+ghost use Rattle.pv_steps.specs.Refusal.{refusal, why_unsafe};
+ghost use Rattle.pv_walk.specs.Walking.{walked, unrefused, first_unsafe_component};
 ghost use Rattle.pv_walk.specs.Seeing.{seen_of, seen_kind, seen_owner, why_owner, if_absent};
 
 use pv_path::{Name, TreePath};
@@ -82,13 +82,13 @@ pub fn refusal_of<T: Tree>(
 
 /// The first place above a path that cannot be passed, counted by the names that lead to it, and why: it is a link, or
 /// another object that is no directory. Owners do not count.
-pub fn blocked<T: Tree>(
+pub fn unsafe_component<T: Tree>(
     alloc: Global,
     tree: &T,
     path: &TreePath,
 ) -> Result<Option<(u32, Why)>, AllocError>
     requires { length path.now < 2 ^ 32 }
-    ensures place { IfOk result (λ place. place ≡ first_blocked (places (T.state tree.now)) path.now) }
+    ensures place { IfOk result (λ place. place ≡ first_unsafe_component (places (T.state tree.now)) path.now) }
     ensures tree { IsTree (T.state tree.now) }
 {
     let mut at = TreePath::root(alloc);
@@ -136,7 +136,7 @@ fn owner_of(place: Option<Seen>, absent: u32) -> u32
 
 /// Why a place above the last is refused: for what it is, or else for its owner.
 fn why_above(place: Option<Seen>, above: u32, owner: u32) -> Option<Why>
-    ensures { result ≡ option_or (why_blocked (seen_kind place)) (why_owner above owner) }
+    ensures { result ≡ option_or (why_unsafe (seen_kind place)) (why_owner above owner) }
 {
     match why_passed(place) {
         Some(why) => Some(why),
@@ -146,7 +146,7 @@ fn why_above(place: Option<Seen>, above: u32, owner: u32) -> Option<Why>
 
 /// Why a place above the last can't be passed.
 fn why_passed(place: Option<Seen>) -> Option<Why>
-    ensures { result ≡ why_blocked (seen_kind place) }
+    ensures { result ≡ why_unsafe (seen_kind place) }
 {
     match place {
         None => None,

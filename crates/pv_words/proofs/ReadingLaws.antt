@@ -35,7 +35,7 @@ use Rattle.pv_words.proofs.HoldingLaws.{Holds, Repeats, files_row, is_some-map, 
 use Rattle.pv_words.proofs.ParsingLaws.{free_parts, parts-free, short-none, undashed}
 use Rattle.pv_words.proofs.RowLaws.{defaults-no_use, defaults-other, seen, source_of}
 use Rattle.pv_words.proofs.RuleLaws.{app-simple, defaults-pass, each, files-free, files_id, name_of, stands_for, subs-none, top, top-table, valued, valued-free}
-use Rattle.pv_words.proofs.ToldLaws.{NoMeaning, Told, fails, passes, told}
+use Rattle.pv_words.proofs.ToldLaws.{NoMeaning, UnlessMemory, fails, passes, stated}
 use Rattle.pv_words.proofs.TurnLaws.{at, rows_from, walk_from_fault}
 use Rattle.pv_path.proofs.Tests.{list_any-find}
 
@@ -167,9 +167,9 @@ fault-is words =
 reads-matches : (words : List Text) (m : ArgMatches) → has_short words ≡ false → fault_of words_app words ≡ [] → HasMatchesOf words_app words m
     → (tool : Tool) → options_in tool (found_of m) ≡ meaning_for tool words
 reads-matches words m none passed has tool =
-    go (told top top-table words none) ∙ ap (option_and_then (options_from tool)) (sym (parts-free words stage.Options))
+    go (stated top top-table words none) ∙ ap (option_and_then (options_from tool)) (sym (parts-free words stage.Options))
   where
-    go : Told (walk_from_fault top (at nothing_held idle false) words) (rows_from top (at nothing_held idle false) words) (free_parts stage.Options words)
+    go : UnlessMemory (walk_from_fault top (at nothing_held idle false) words) (rows_from top (at nothing_held idle false) words) (free_parts stage.Options words)
         → options_in tool (found_of m) ≡ option_and_then (options_from tool) (undashed (free_parts stage.Options words))
     go (fails k ks fault twice) = absurd (cc (passed, fault-is words, fault))
     go (passes parts some fault holds) =
@@ -186,7 +186,7 @@ reads-fault : (words : List Text) (k : ErrorKind) → has_short words ≡ false 
     → Reads (Err (fault_for k)) words
 reads-fault words k none among = go (fault_for k) refl
   where
-    twice : Told (walk_from_fault top (at nothing_held idle false) words) (rows_from top (at nothing_held idle false) words) (free_parts stage.Options words)
+    twice : UnlessMemory (walk_from_fault top (at nothing_held idle false) words) (rows_from top (at nothing_held idle false) words) (free_parts stage.Options words)
         → IsAmong k (fault_of words_app words) → NoMeaning (free_parts stage.Options words)
     twice (fails _ _ fault repeats) here = repeats
     twice (passes parts some fault holds) here = absurd (subst (IsAmong k) (fault-is words ∙ fault) here)
@@ -199,7 +199,7 @@ reads-fault words k none among = go (fault_for k) refl
     go Memory e = tt
     go Usage e = λ tool.
         ap (option_and_then (options_from tool)) (parts-free words stage.Options)
-        ∙ refused tool (free_parts stage.Options words) (twice (told top top-table words none) (not_memory e among))
+        ∙ refused tool (free_parts stage.Options words) (twice (stated top top-table words none) (not_memory e among))
 
 -- and so do words with a word of one dash and more
 pub reads-short : (words : List Text) → has_short words ≡ true → (tool : Tool) → meaning_for tool words ≡ None

@@ -52,9 +52,9 @@ abbrev pub NoMeaning : Option Parts → Type 0
 NoMeaning meaning = (parts : Parts) → meaning ≡ Some parts → Repeats parts.given
 
 -- the words pass, and the rows hold their parts; or they fail, and have no parts without an option that stands twice
-pub data Told (fault : Kinds) (rows : List Row) (meaning : Option Parts) : Type 0 where
-  passes : (parts : Parts) → meaning ≡ Some parts → fault ≡ [] → Holds rows parts → Told fault rows meaning
-  fails : (k : ErrorKind) (ks : Kinds) → fault ≡ k ∷ ks → NoMeaning meaning → Told fault rows meaning
+pub data UnlessMemory (fault : Kinds) (rows : List Row) (meaning : Option Parts) : Type 0 where
+  passes : (parts : Parts) → meaning ≡ Some parts → fault ≡ [] → Holds rows parts → UnlessMemory fault rows meaning
+  fails : (k : ErrorKind) (ks : Kinds) → fault ≡ k ∷ ks → NoMeaning meaning → UnlessMemory fault rows meaning
 
 no_parts_mean : (meaning : Option Parts) → meaning ≡ None → NoMeaning meaning
 no_parts_mean meaning none parts some = absurd (true≢false (ap is_some (sym some ∙ none)))
@@ -69,15 +69,15 @@ repeats-mean parts (Some rest) repeats all some =
 abbrev Fails : Kinds → Type 0
 Fails fault = (k : ErrorKind) × (ks : Kinds) × (fault ≡ k ∷ ks)
 
-told-fails : (fault : Kinds) (rows : List Row) (meaning : Option Parts) → Fails fault → NoMeaning meaning → Told fault rows meaning
-told-fails fault rows meaning f none = fails f.0 f.1 f.2 none
+stated-fails : (fault : Kinds) (rows : List Row) (meaning : Option Parts) → Fails fault → NoMeaning meaning → UnlessMemory fault rows meaning
+stated-fails fault rows meaning f none = fails f.0 f.1 f.2 none
 
 or-fails : (a b : Kinds) → Fails a → Fails (or_else a b)
 or-fails a b f = (f.0, f.1, ap (λ x. or_else x b) f.2)
 
-told-as : (fault fault' : Kinds) (rows rows' : List Row) (meaning meaning' : Option Parts) → fault' ≡ fault → rows' ≡ rows → meaning' ≡ meaning
-    → Told fault rows meaning → Told fault' rows' meaning'
-told-as fault fault' rows rows' meaning meaning' e f g told = rw (e, f, g) told
+stated-as : (fault fault' : Kinds) (rows rows' : List Row) (meaning meaning' : Option Parts) → fault' ≡ fault → rows' ≡ rows → meaning' ≡ meaning
+    → UnlessMemory fault rows meaning → UnlessMemory fault' rows' meaning'
+stated-as fault fault' rows rows' meaning meaning' e f g stated = rw (e, f, g) stated
 
 -- ---- words by their dashes
 
@@ -99,26 +99,26 @@ module _ (s : Shape) (table : IsTable s) where
     pub passes : settle_fault s.rules false h ≡ []
     pub gives : settled_rows s.rules h.pending h.rows ≡ rows
 
-  abbrev ToldFrom : Held → Waiting → Bool → List Text → Option Parts → Type 0
-  ToldFrom h waiting t words meaning = Told (walk_from_fault s (at h waiting t) words) (rows_from s (at h waiting t) words) meaning
+  abbrev UnlessMemoryFrom : Held → Waiting → Bool → List Text → Option Parts → Type 0
+  UnlessMemoryFrom h waiting t words meaning = UnlessMemory (walk_from_fault s (at h waiting t) words) (rows_from s (at h waiting t) words) meaning
 
   -- one more word
-  told-next : (h after : Held) (waiting left : Waiting) (t u : Bool) (word : Text) (words : List Text) (meaning meaning' : Option Parts)
+  stated-next : (h after : Held) (waiting left : Waiting) (t u : Bool) (word : Text) (words : List Text) (meaning meaning' : Option Parts)
       → turn_fault s [] (at h waiting t) word ≡ [] → walked s.rules [] (at h waiting t) word ≡ at after left u
-      → meaning' ≡ meaning → ToldFrom after left u words meaning → ToldFrom h waiting t (word ∷ words) meaning'
-  told-next h after waiting left t u word words meaning meaning' pass leads same told =
-      told-as _ _ _ _ meaning meaning' (fault-next s (at h waiting t) (at after left u) word words pass leads) (rows-next s (at h waiting t) (at after left u) word words leads) same told
+      → meaning' ≡ meaning → UnlessMemoryFrom after left u words meaning → UnlessMemoryFrom h waiting t (word ∷ words) meaning'
+  stated-next h after waiting left t u word words meaning meaning' pass leads same stated =
+      stated-as _ _ _ _ meaning meaning' (fault-next s (at h waiting t) (at after left u) word words pass leads) (rows-next s (at h waiting t) (at after left u) word words leads) same stated
 
-  told-here : (h : Held) (waiting : Waiting) (t : Bool) (word : Text) (words : List Text) (meaning : Option Parts)
-      → Fails (turn_fault s [] (at h waiting t) word) → NoMeaning meaning → ToldFrom h waiting t (word ∷ words) meaning
-  told-here h waiting t word words meaning f none = fails f.0 f.1 (fault-here s (at h waiting t) word words f.0 f.1 f.2) none
+  stated-here : (h : Held) (waiting : Waiting) (t : Bool) (word : Text) (words : List Text) (meaning : Option Parts)
+      → Fails (turn_fault s [] (at h waiting t) word) → NoMeaning meaning → UnlessMemoryFrom h waiting t (word ∷ words) meaning
+  stated-here h waiting t word words meaning f none = fails f.0 f.1 (fault-here s (at h waiting t) word words f.0 f.1 f.2) none
 
   -- ---- the end of the words
 
-  told-end : (h : Held) (waiting : Waiting) (t : Bool) (rows : List Row) (parts : Parts) → Settles h rows → Holds rows parts
-      → ToldFrom h waiting t [] (option_map (joined parts) (Some no_parts))
+  stated-end : (h : Held) (waiting : Waiting) (t : Bool) (rows : List Row) (parts : Parts) → Settles h rows → Holds rows parts
+      → UnlessMemoryFrom h waiting t [] (option_map (joined parts) (Some no_parts))
   unfolding walk_fault
-  told-end h waiting t rows parts settles holds =
+  stated-end h waiting t rows parts settles holds =
       passes parts (ap (λ x. Some x) (joined-none parts)) (end_passes ∙ settles.passes) (subst (λ r. Holds r parts) (sym settles.gives) holds)
     where
       end_passes : walk_from_fault s (at h waiting t) [] ≡ settle_fault s.rules false h
@@ -138,14 +138,14 @@ module _ (s : Shape) (table : IsTable s) where
   }
 
   -- after the end of the options each word is a file word
-  told-files : (words : List Text) (h : Held) (waiting : Waiting) (rows : List Row) (parts : Parts) → Settles h rows → Holds rows parts
-      → ToldFrom h waiting true words (option_map (joined parts) (free_parts Files words))
-  told-files [] h waiting rows parts settles holds = told-end h waiting true rows parts settles holds
-  told-files (word ∷ words) h waiting rows parts settles holds =
-      told-next h (filed s word h) waiting positional true true word words
+  stated-files : (words : List Text) (h : Held) (waiting : Waiting) (rows : List Row) (parts : Parts) → Settles h rows → Holds rows parts
+      → UnlessMemoryFrom h waiting true words (option_map (joined parts) (free_parts Files words))
+  stated-files [] h waiting rows parts settles holds = stated-end h waiting true rows parts settles holds
+  stated-files (word ∷ words) h waiting rows parts settles holds =
+      stated-next h (filed s word h) waiting positional true true word words
       (option_map (joined (added parts (part.File word))) (free_parts Files words)) (option_map (joined parts) (free_parts Files (word ∷ words)))
       (turn-trailing s table h waiting word ∙ settles.passes) (walked-trailing s table h waiting word) (joined-more parts (part.File word) (free_parts Files words))
-      (told-files words (filed s word h) positional (with_values files_id AsWritten CommandLine (word ∷ []) rows) (added parts (part.File word))
+      (stated-files words (filed s word h) positional (with_values files_id AsWritten CommandLine (word ∷ []) rows) (added parts (part.File word))
       (settles-file h rows word settles) (holds-file rows parts word holds))
 
   -- ---- what is pending can't be used
@@ -205,32 +205,32 @@ module _ (s : Shape) (table : IsTable s) where
 
   record GoesOn (words : List Text) : Type 0 where
     pub options : (h : Held) (rows : List Row) (waiting : Waiting) (parts : Parts) → is_option waiting ≡ false → Settles h rows → Holds rows parts
-        → has_short words ≡ false → ToldFrom h waiting false words (option_map (joined parts) (free_parts Options words))
+        → has_short words ≡ false → UnlessMemoryFrom h waiting false words (option_map (joined parts) (free_parts Options words))
     pub value : (o : OptionName) (h : Held) (parts : Parts) → valued o ≡ true → Holds h.rows parts
-        → has_short words ≡ false → ToldFrom (awaiting o h) (option (name_of o)) false words (option_map (joined parts) (free_parts (ValueOf o) words))
+        → has_short words ≡ false → UnlessMemoryFrom (awaiting o h) (option (name_of o)) false words (option_map (joined parts) (free_parts (ValueOf o) words))
 
   abbrev with_next : Parts → Part → Option Parts → Option Parts
   with_next parts p rest = option_map (joined parts) (option_map (with_part p) rest)
 
   -- a file word
-  told-file : (words : List Text) (h : Held) (rows : List Row) (waiting : Waiting) (parts : Parts) (word : Text) → GoesOn words → IsLoose word
+  stated-file : (words : List Text) (h : Held) (rows : List Row) (waiting : Waiting) (parts : Parts) (word : Text) → GoesOn words → IsLoose word
       → is_option waiting ≡ false → Settles h rows → Holds rows parts → has_short words ≡ false
-      → ToldFrom h waiting false (word ∷ words) (with_next parts (part.File word) (free_parts Options words))
-  told-file words h rows waiting parts word more loose free settles holds none =
-      told-next h (filed s word h) waiting positional false false word words
+      → UnlessMemoryFrom h waiting false (word ∷ words) (with_next parts (part.File word) (free_parts Options words))
+  stated-file words h rows waiting parts word more loose free settles holds none =
+      stated-next h (filed s word h) waiting positional false false word words
       (option_map (joined (added parts (part.File word))) (free_parts Options words)) (with_next parts (part.File word) (free_parts Options words))
       (turn-file s table h waiting word loose free ∙ settles.passes) (walked-file s table h waiting word loose free) (joined-more parts (part.File word) (free_parts Options words))
       (more.options (filed s word h) (with_values files_id AsWritten CommandLine (word ∷ []) rows) positional (added parts (part.File word)) refl
       (settles-file h rows word settles) (holds-file rows parts word holds) none)
 
   -- the end of the options
-  told-ends : (words : List Text) (h : Held) (rows : List Row) (waiting : Waiting) (parts : Parts) → Settles h rows → Holds rows parts
-      → ToldFrom h waiting false ((45 ∷ 45 ∷ []) ∷ words) (with_next parts part.Nothing (free_parts Files words))
-  told-ends words h rows waiting parts settles holds =
-      told-next h h waiting waiting false true (45 ∷ 45 ∷ []) words
+  stated-ends : (words : List Text) (h : Held) (rows : List Row) (waiting : Waiting) (parts : Parts) → Settles h rows → Holds rows parts
+      → UnlessMemoryFrom h waiting false ((45 ∷ 45 ∷ []) ∷ words) (with_next parts part.Nothing (free_parts Files words))
+  stated-ends words h rows waiting parts settles holds =
+      stated-next h h waiting waiting false true (45 ∷ 45 ∷ []) words
       (option_map (joined parts) (free_parts Files words)) (with_next parts part.Nothing (free_parts Files words))
       (turn-ends s table h waiting) (walked-ends s table h waiting) (joined-more parts part.Nothing (free_parts Files words))
-      (told-files words h waiting rows parts settles holds)
+      (stated-files words h waiting rows parts settles holds)
 
   -- ---- an option word
 
@@ -242,40 +242,40 @@ module _ (s : Shape) (table : IsTable s) where
   settles-used h rows o values settles = record { passes = refl; gives = ap (used (option_made o) values) settles.gives }
 
   -- an option is used
-  told-used : (words : List Text) (h : Held) (rows : List Row) (waiting : Waiting) (parts : Parts) (b : ℕ) (bs : List ℕ) (o : OptionName) (value : List ℕ) → GoesOn words
+  stated-used : (words : List Text) (h : Held) (rows : List Row) (waiting : Waiting) (parts : Parts) (b : ℕ) (bs : List ℕ) (o : OptionName) (value : List ℕ) → GoesOn words
       → Settles h rows → Holds rows parts → has_short words ≡ false
       → named_fault s (named_by b bs) (value_by b bs) h ≡ react_fault s.rules false (option_made o) (uses (valued o) value) h
       → named_met s (named_by b bs) (value_by b bs) h ≡ (reacted s.rules (option_made o) (uses (valued o) value) h, done)
       → (again : Bool) → has_row (name_of o) rows ≡ again
-      → ToldFrom h waiting false (text_of b bs ∷ words) (with_next parts (one_use o value) (free_parts Options words))
-  told-used words h rows waiting parts b bs o value more settles holds none fault met false fresh =
+      → UnlessMemoryFrom h waiting false (text_of b bs ∷ words) (with_next parts (one_use o value) (free_parts Options words))
+  stated-used words h rows waiting parts b bs o value more settles holds none fault met false fresh =
       let passes' : named_fault s (named_by b bs) (value_by b bs) h ≡ [] =
       fault ∙ ap₂ (λ (x : Kinds) (r : List Row). or_else x (use_fault false (option_made o) (uses (valued o) value) r)) settles.passes settles.gives
       ∙ use-first (name_of o) (valued o) value rows fresh in
-      told-next h (reacted s.rules (option_made o) (uses (valued o) value) h) waiting idle false false (text_of b bs) words
+      stated-next h (reacted s.rules (option_made o) (uses (valued o) value) h) waiting idle false false (text_of b bs) words
       (option_map (joined (added parts (one_use o value))) (free_parts Options words)) (with_next parts (one_use o value) (free_parts Options words))
       (turn-long s table h (reacted s.rules (option_made o) (uses (valued o) value) h) waiting idle b bs done passes' met refl)
       (walked-long s table h (reacted s.rules (option_made o) (uses (valued o) value) h) waiting idle b bs done met refl)
       (joined-more parts (one_use o value) (free_parts Options words))
       (more.options (reacted s.rules (option_made o) (uses (valued o) value) h) (used (option_made o) (uses (valued o) value) rows) idle (added parts (one_use o value)) refl
       (settles-used h rows o (uses (valued o) value) settles) (holds-option rows parts o value holds fresh) none)
-  told-used words h rows waiting parts b bs o value more settles holds none fault met true again =
+  stated-used words h rows waiting parts b bs o value more settles holds none fault met true again =
       let fails' : named_fault s (named_by b bs) (value_by b bs) h ≡ ArgumentConflict ∷ [] =
       fault ∙ ap₂ (λ (x : Kinds) (r : List Row). or_else x (use_fault false (option_made o) (uses (valued o) value) r)) settles.passes settles.gives
       ∙ use-again (name_of o) (valued o) value rows again in
-      told-here h waiting false (text_of b bs) words (with_next parts (one_use o value) (free_parts Options words))
+      stated-here h waiting false (text_of b bs) words (with_next parts (one_use o value) (free_parts Options words))
       (ArgumentConflict, [], turn-long-fails s table h waiting b bs ArgumentConflict [] fails')
       (subst NoMeaning (sym (joined-more parts (one_use o value) (free_parts Options words)))
       (repeats-mean (added parts (one_use o value)) (free_parts Options words) (repeats-again rows parts o value holds again)))
 
   -- an option waits for its value
-  told-waits : (words : List Text) (h : Held) (rows : List Row) (waiting : Waiting) (parts : Parts) (b : ℕ) (bs : List ℕ) (o : OptionName) → GoesOn words
+  stated-waits : (words : List Text) (h : Held) (rows : List Row) (waiting : Waiting) (parts : Parts) (b : ℕ) (bs : List ℕ) (o : OptionName) → GoesOn words
       → Settles h rows → Holds rows parts → has_short words ≡ false → valued o ≡ true
       → named_fault s (named_by b bs) (value_by b bs) h ≡ settle_fault s.rules false h
       → named_met s (named_by b bs) (value_by b bs) h ≡ (awaiting o (settled s.rules h), waits (name_of o))
-      → ToldFrom h waiting false (text_of b bs ∷ words) (with_next parts part.Nothing (free_parts (ValueOf o) words))
-  told-waits words h rows waiting parts b bs o more settles holds none takes fault met =
-      told-next h (awaiting o (settled s.rules h)) waiting (option (name_of o)) false false (text_of b bs) words
+      → UnlessMemoryFrom h waiting false (text_of b bs ∷ words) (with_next parts part.Nothing (free_parts (ValueOf o) words))
+  stated-waits words h rows waiting parts b bs o more settles holds none takes fault met =
+      stated-next h (awaiting o (settled s.rules h)) waiting (option (name_of o)) false false (text_of b bs) words
       (option_map (joined parts) (free_parts (ValueOf o) words)) (with_next parts part.Nothing (free_parts (ValueOf o) words))
       (turn-long s table h (awaiting o (settled s.rules h)) waiting (option (name_of o)) b bs (waits (name_of o)) (fault ∙ settles.passes) met refl)
       (walked-long s table h (awaiting o (settled s.rules h)) waiting (option (name_of o)) b bs (waits (name_of o)) met refl)
@@ -285,59 +285,59 @@ module _ (s : Shape) (table : IsTable s) where
   abbrev then_free : List Text → Option Step → Option Parts
   then_free words = option_and_then (λ t. option_map (with_part t.part) (free_parts t.stage words))
 
-  told-refused : (words : List Text) (h : Held) (waiting : Waiting) (parts : Parts) (b : ℕ) (bs : List ℕ) (k : ErrorKind)
-      → named_fault s (named_by b bs) (value_by b bs) h ≡ k ∷ [] → ToldFrom h waiting false (text_of b bs ∷ words) (option_map (joined parts) None)
-  told-refused words h waiting parts b bs k fault =
-      told-here h waiting false (text_of b bs) words (option_map (joined parts) None) (k, [], turn-long-fails s table h waiting b bs k [] fault) (no_parts_mean None refl)
+  stated-refused : (words : List Text) (h : Held) (waiting : Waiting) (parts : Parts) (b : ℕ) (bs : List ℕ) (k : ErrorKind)
+      → named_fault s (named_by b bs) (value_by b bs) h ≡ k ∷ [] → UnlessMemoryFrom h waiting false (text_of b bs ∷ words) (option_map (joined parts) None)
+  stated-refused words h waiting parts b bs k fault =
+      stated-here h waiting false (text_of b bs) words (option_map (joined parts) None) (k, [], turn-long-fails s table h waiting b bs k [] fault) (no_parts_mean None refl)
 
   -- by whether the option takes a value, and whether one is in its word
-  told-named : (words : List Text) (h : Held) (rows : List Row) (waiting : Waiting) (parts : Parts) (b : ℕ) (bs : List ℕ) (o : OptionName) → GoesOn words
+  stated-named : (words : List Text) (h : Held) (rows : List Row) (waiting : Waiting) (parts : Parts) (b : ℕ) (bs : List ℕ) (o : OptionName) → GoesOn words
       → Settles h rows → Holds rows parts → has_short words ≡ false → named_by b bs ≡ Some o
       → (takes : Bool) → valued o ≡ takes → (v : Option Text) → value_by b bs ≡ v
-      → ToldFrom h waiting false (text_of b bs ∷ words) (option_map (joined parts) (then_free words (by_value takes o v)))
-  told-named words h rows waiting parts b bs o more settles holds none name true takes None v =
-      told-waits words h rows waiting parts b bs o more settles holds none takes
+      → UnlessMemoryFrom h waiting false (text_of b bs ∷ words) (option_map (joined parts) (then_free words (by_value takes o v)))
+  stated-named words h rows waiting parts b bs o more settles holds none name true takes None v =
+      stated-waits words h rows waiting parts b bs o more settles holds none takes
       (ap₂ (λ n x. named_fault s n x h) name v ∙ ap (λ (t : Bool). cond t (option_fault s.rules false (option_made o) None h) (react_fault s.rules false (option_made o) [] h)) (takes-is (name_of o) (valued o) ∙ takes))
       (ap₂ (λ n x. named_met s n x h) name v ∙ ap (λ (t : Bool). cond t (option_met s.rules (option_made o) None h) (flag_met s.rules (option_made o) None h)) (takes-is (name_of o) (valued o) ∙ takes))
-  told-named words h rows waiting parts b bs o more settles holds none name true takes (Some x) v =
-      told-used words h rows waiting parts b bs o x more settles holds none
+  stated-named words h rows waiting parts b bs o more settles holds none name true takes (Some x) v =
+      stated-used words h rows waiting parts b bs o x more settles holds none
       (ap₂ (λ n y. named_fault s n y h) name v ∙ ap (λ (t : Bool). cond t (option_fault s.rules false (option_made o) (Some x) h) (TooManyValues ∷ [])) (takes-is (name_of o) (valued o) ∙ takes)
       ∙ ap (λ (t : Bool). react_fault s.rules false (option_made o) (uses t x) h) (sym takes))
       (ap₂ (λ n y. named_met s n y h) name v ∙ ap (λ (t : Bool). cond t (option_met s.rules (option_made o) (Some x) h) (flag_met s.rules (option_made o) (Some x) h)) (takes-is (name_of o) (valued o) ∙ takes)
       ∙ ap (λ (t : Bool). (reacted s.rules (option_made o) (uses t x) h, done)) (sym takes))
       (has_row (name_of o) rows) refl
-  told-named words h rows waiting parts b bs o more settles holds none name false takes None v =
-      told-used words h rows waiting parts b bs o [] more settles holds none
+  stated-named words h rows waiting parts b bs o more settles holds none name false takes None v =
+      stated-used words h rows waiting parts b bs o [] more settles holds none
       (ap₂ (λ n y. named_fault s n y h) name v ∙ ap (λ (t : Bool). cond t (option_fault s.rules false (option_made o) None h) (react_fault s.rules false (option_made o) [] h)) (takes-is (name_of o) (valued o) ∙ takes)
       ∙ ap (λ (t : Bool). react_fault s.rules false (option_made o) (uses t []) h) (sym takes))
       (ap₂ (λ n y. named_met s n y h) name v ∙ ap (λ (t : Bool). cond t (option_met s.rules (option_made o) None h) (flag_met s.rules (option_made o) None h)) (takes-is (name_of o) (valued o) ∙ takes)
       ∙ ap (λ (t : Bool). (reacted s.rules (option_made o) (uses t []) h, done)) (sym takes))
       (has_row (name_of o) rows) refl
-  told-named words h rows waiting parts b bs o more settles holds none name false takes (Some x) v =
-      told-refused words h waiting parts b bs TooManyValues
+  stated-named words h rows waiting parts b bs o more settles holds none name false takes (Some x) v =
+      stated-refused words h waiting parts b bs TooManyValues
       (ap₂ (λ n y. named_fault s n y h) name v ∙ ap (λ (t : Bool). cond t (option_fault s.rules false (option_made o) (Some x) h) (TooManyValues ∷ [])) (takes-is (name_of o) (valued o) ∙ takes))
 
-  told-found : (words : List Text) (h : Held) (rows : List Row) (waiting : Waiting) (parts : Parts) (b : ℕ) (bs : List ℕ) → GoesOn words
+  stated-found : (words : List Text) (h : Held) (rows : List Row) (waiting : Waiting) (parts : Parts) (b : ℕ) (bs : List ℕ) → GoesOn words
       → Settles h rows → Holds rows parts → has_short words ≡ false → (found : Option OptionName) → named_by b bs ≡ found
-      → ToldFrom h waiting false (text_of b bs ∷ words) (option_map (joined parts) (then_free words (long_read found (value_by b bs))))
-  told-found words h rows waiting parts b bs more settles holds none None name =
-      told-refused words h waiting parts b bs UnknownArgument (ap (λ n. named_fault s n (value_by b bs) h) name)
-  told-found words h rows waiting parts b bs more settles holds none (Some o) name =
-      told-named words h rows waiting parts b bs o more settles holds none name (valued o) refl (value_by b bs) refl
+      → UnlessMemoryFrom h waiting false (text_of b bs ∷ words) (option_map (joined parts) (then_free words (long_read found (value_by b bs))))
+  stated-found words h rows waiting parts b bs more settles holds none None name =
+      stated-refused words h waiting parts b bs UnknownArgument (ap (λ n. named_fault s n (value_by b bs) h) name)
+  stated-found words h rows waiting parts b bs more settles holds none (Some o) name =
+      stated-named words h rows waiting parts b bs o more settles holds none name (valued o) refl (value_by b bs) refl
 
-  told-option : {word : List ℕ} (words : List Text) (h : Held) (rows : List Row) (waiting : Waiting) (parts : Parts) → View word → GoesOn words
+  stated-option : {word : List ℕ} (words : List Text) (h : Held) (rows : List Row) (waiting : Waiting) (parts : Parts) → View word → GoesOn words
       → is_option waiting ≡ false → Settles h rows → Holds rows parts → has_short (word ∷ words) ≡ false
-      → ToldFrom h waiting false (word ∷ words) (option_map (joined parts) (free_parts Options (word ∷ words)))
-  told-option words h rows waiting parts empty more free settles holds none = told-file words h rows waiting parts [] more loose-empty free settles holds none
-  told-option words h rows waiting parts dash more free settles holds none = told-file words h rows waiting parts (45 ∷ []) more loose-dash free settles holds none
-  told-option words h rows waiting parts ends more free settles holds none = told-ends words h rows waiting parts settles holds
-  told-option words h rows waiting parts (long b bs) more free settles holds none =
-      subst (λ (m : Option Step). ToldFrom h waiting false (text_of b bs ∷ words) (option_map (joined parts) (then_free words m))) (sym (long-is (b ∷ bs)))
-      (told-found words h rows waiting parts b bs more settles holds none (named_by b bs) refl)
-  told-option words h rows waiting parts (short b bs e f) more free settles holds none = absurd (short-here b bs words e f none)
-  told-option words h rows waiting parts (plain b bs e) more free settles holds none =
-      subst (λ (m : Option Parts). ToldFrom h waiting false ((b ∷ bs) ∷ words) (option_map (joined parts) m)) (sym file)
-      (told-file words h rows waiting parts (b ∷ bs) more (loose-plain b bs e) free settles holds (rw e at none))
+      → UnlessMemoryFrom h waiting false (word ∷ words) (option_map (joined parts) (free_parts Options (word ∷ words)))
+  stated-option words h rows waiting parts empty more free settles holds none = stated-file words h rows waiting parts [] more loose-empty free settles holds none
+  stated-option words h rows waiting parts dash more free settles holds none = stated-file words h rows waiting parts (45 ∷ []) more loose-dash free settles holds none
+  stated-option words h rows waiting parts ends more free settles holds none = stated-ends words h rows waiting parts settles holds
+  stated-option words h rows waiting parts (long b bs) more free settles holds none =
+      subst (λ (m : Option Step). UnlessMemoryFrom h waiting false (text_of b bs ∷ words) (option_map (joined parts) (then_free words m))) (sym (long-is (b ∷ bs)))
+      (stated-found words h rows waiting parts b bs more settles holds none (named_by b bs) refl)
+  stated-option words h rows waiting parts (short b bs e f) more free settles holds none = absurd (short-here b bs words e f none)
+  stated-option words h rows waiting parts (plain b bs e) more free settles holds none =
+      subst (λ (m : Option Parts). UnlessMemoryFrom h waiting false ((b ∷ bs) ∷ words) (option_map (joined parts) m)) (sym file)
+      (stated-file words h rows waiting parts (b ∷ bs) more (loose-plain b bs e) free settles holds (rw e at none))
     where
       file : free_parts Options ((b ∷ bs) ∷ words) ≡ option_map (with_part (part.File (b ∷ bs))) (free_parts Options words)
       file = rw e refl
@@ -366,55 +366,55 @@ module _ (s : Shape) (table : IsTable s) where
   }
 
   -- the option has its value
-  told-valued : (words : List Text) (o : OptionName) (h : Held) (parts : Parts) (word : Text) → GoesOn words → IsLoose word → valued o ≡ true → Holds h.rows parts
+  stated-valued : (words : List Text) (o : OptionName) (h : Held) (parts : Parts) (word : Text) → GoesOn words → IsLoose word → valued o ≡ true → Holds h.rows parts
       → has_short words ≡ false → (again : Bool) → has_row (name_of o) h.rows ≡ again
-      → ToldFrom (awaiting o h) (option (name_of o)) false (word ∷ words) (with_next parts (one_use o word) (free_parts Options words))
-  told-valued words o h parts word more loose takes holds none again row =
-      told-next (awaiting o h) (valued_by o word h) (option (name_of o)) idle false false word words
+      → UnlessMemoryFrom (awaiting o h) (option (name_of o)) false (word ∷ words) (with_next parts (one_use o word) (free_parts Options words))
+  stated-valued words o h parts word more loose takes holds none again row =
+      stated-next (awaiting o h) (valued_by o word h) (option (name_of o)) idle false false word words
       (option_map (joined (added parts (one_use o word))) (free_parts Options words)) (with_next parts (one_use o word) (free_parts Options words))
       (turn-option s table o word h loose takes) (walked-option s table o word h loose takes) (joined-more parts (one_use o word) (free_parts Options words))
       (go again row)
     where
-      go : (again : Bool) → has_row (name_of o) h.rows ≡ again → ToldFrom (valued_by o word h) idle false words (option_map (joined (added parts (one_use o word))) (free_parts Options words))
+      go : (again : Bool) → has_row (name_of o) h.rows ≡ again → UnlessMemoryFrom (valued_by o word h) idle false words (option_map (joined (added parts (one_use o word))) (free_parts Options words))
       go false fresh =
           more.options (valued_by o word h) (used (option_made o) (uses (valued o) word) h.rows) idle (added parts (one_use o word)) refl
           (settles-valued o word h takes fresh) (holds-option h.rows parts o word holds fresh) none
       go true twice =
-          told-fails _ _ _ (stuck words (valued_by o word h) idle refl
+          stated-fails _ _ _ (stuck words (valued_by o word h) idle refl
           (ArgumentConflict, [], valued-fault o word h takes ∙ use-again (name_of o) (valued o) word h.rows twice) none)
           (repeats-mean (added parts (one_use o word)) (free_parts Options words) (repeats-again h.rows parts o word holds twice))
 
-  told-value : {word : List ℕ} (words : List Text) (o : OptionName) (h : Held) (parts : Parts) → View word → GoesOn words → valued o ≡ true → Holds h.rows parts
+  stated-value : {word : List ℕ} (words : List Text) (o : OptionName) (h : Held) (parts : Parts) → View word → GoesOn words → valued o ≡ true → Holds h.rows parts
       → has_short (word ∷ words) ≡ false
-      → ToldFrom (awaiting o h) (option (name_of o)) false (word ∷ words) (option_map (joined parts) (free_parts (ValueOf o) (word ∷ words)))
-  told-value words o h parts empty more takes holds none = told-valued words o h parts [] more loose-empty takes holds none (has_row (name_of o) h.rows) refl
-  told-value words o h parts dash more takes holds none = told-valued words o h parts (45 ∷ []) more loose-dash takes holds none (has_row (name_of o) h.rows) refl
-  told-value words o h parts ends more takes holds none =
-      told-fails _ _ _ (stuck-ends words (awaiting o h) (option (name_of o)) (awaiting-fails o h takes)) (no_parts_mean None refl)
-  told-value words o h parts (long b bs) more takes holds none =
-      told-here (awaiting o h) (option (name_of o)) false (text_of b bs) words None (stuck-long (awaiting o h) (option (name_of o)) b bs (awaiting-fails o h takes)) (no_parts_mean None refl)
-  told-value words o h parts (short b bs e f) more takes holds none = absurd (short-here b bs words e f none)
-  told-value words o h parts (plain b bs e) more takes holds none =
-      subst (λ (m : Option Parts). ToldFrom (awaiting o h) (option (name_of o)) false ((b ∷ bs) ∷ words) (option_map (joined parts) m)) (sym value-is)
-      (told-valued words o h parts (b ∷ bs) more (loose-plain b bs e) takes holds (rw e at none) (has_row (name_of o) h.rows) refl)
+      → UnlessMemoryFrom (awaiting o h) (option (name_of o)) false (word ∷ words) (option_map (joined parts) (free_parts (ValueOf o) (word ∷ words)))
+  stated-value words o h parts empty more takes holds none = stated-valued words o h parts [] more loose-empty takes holds none (has_row (name_of o) h.rows) refl
+  stated-value words o h parts dash more takes holds none = stated-valued words o h parts (45 ∷ []) more loose-dash takes holds none (has_row (name_of o) h.rows) refl
+  stated-value words o h parts ends more takes holds none =
+      stated-fails _ _ _ (stuck-ends words (awaiting o h) (option (name_of o)) (awaiting-fails o h takes)) (no_parts_mean None refl)
+  stated-value words o h parts (long b bs) more takes holds none =
+      stated-here (awaiting o h) (option (name_of o)) false (text_of b bs) words None (stuck-long (awaiting o h) (option (name_of o)) b bs (awaiting-fails o h takes)) (no_parts_mean None refl)
+  stated-value words o h parts (short b bs e f) more takes holds none = absurd (short-here b bs words e f none)
+  stated-value words o h parts (plain b bs e) more takes holds none =
+      subst (λ (m : Option Parts). UnlessMemoryFrom (awaiting o h) (option (name_of o)) false ((b ∷ bs) ∷ words) (option_map (joined parts) m)) (sym value-is)
+      (stated-valued words o h parts (b ∷ bs) more (loose-plain b bs e) takes holds (rw e at none) (has_row (name_of o) h.rows) refl)
     where
       value-is : free_parts (ValueOf o) ((b ∷ bs) ∷ words) ≡ option_map (with_part (one_use o (b ∷ bs))) (free_parts Options words)
       value-is = rw e refl
 
   goes-on : (words : List Text) → GoesOn words
   goes-on [] = record {
-    options = λ h rows waiting parts free settles holds none. told-end h waiting false rows parts settles holds;
+    options = λ h rows waiting parts free settles holds none. stated-end h waiting false rows parts settles holds;
     value = λ o h parts takes holds none.
-        told-fails _ _ _ (fault-end (awaiting o h) (option (name_of o)) false (awaiting-fails o h takes)) (no_parts_mean None refl);
+        stated-fails _ _ _ (fault-end (awaiting o h) (option (name_of o)) false (awaiting-fails o h takes)) (no_parts_mean None refl);
   }
   goes-on (word ∷ words) = record {
-    options = λ h rows waiting parts free settles holds none. told-option words h rows waiting parts (view word) (goes-on words) free settles holds none;
-    value = λ o h parts takes holds none. told-value words o h parts (view word) (goes-on words) takes holds none;
+    options = λ h rows waiting parts free settles holds none. stated-option words h rows waiting parts (view word) (goes-on words) free settles holds none;
+    value = λ o h parts takes holds none. stated-value words o h parts (view word) (goes-on words) takes holds none;
   }
 
   -- from the first word on
-  pub told : (words : List Text) → has_short words ≡ false
-      → Told (walk_from_fault s (at nothing_held idle false) words) (rows_from s (at nothing_held idle false) words) (free_parts Options words)
-  told words none =
-      subst (λ (m : Option Parts). ToldFrom nothing_held idle false words m) (joined-first (free_parts Options words))
+  pub stated : (words : List Text) → has_short words ≡ false
+      → UnlessMemory (walk_from_fault s (at nothing_held idle false) words) (rows_from s (at nothing_held idle false) words) (free_parts Options words)
+  stated words none =
+      subst (λ (m : Option Parts). UnlessMemoryFrom nothing_held idle false words m) (joined-first (free_parts Options words))
       ((goes-on words).options nothing_held [] idle no_parts refl (record { passes = refl; gives = refl }) holds-none none)

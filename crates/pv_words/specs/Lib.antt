@@ -5,7 +5,7 @@ pub mod Part
 pub mod Stage
 pub mod Parts
 pub mod Meaning
-pub mod Asked
+pub mod Invocation
 pub mod Cut
 pub mod Rooted
 pub mod Answered

@@ -2,9 +2,9 @@
 //! and what.
 #![tactic(auto)]
 
-mod asked;
 mod checks;
 mod command;
+mod invocation;
 mod matches;
 mod option;
 mod options;
@@ -12,7 +12,7 @@ mod rooted;
 mod values;
 mod words_fault;
 
-pub use asked::{Asked, asked_of};
+pub use invocation::{Invocation, parse_args};
 pub use options::{Options, options_of};
 pub use rooted::{Rooted, rooted_of};
 pub use words_fault::WordsFault;

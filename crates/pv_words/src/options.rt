@@ -17,7 +17,7 @@ use pv_path::{TreePath, WordList};
 use pv_text::Tool;
 use std::alloc::Global;
 
-/// What the words of a command ask for.
+/// The parsed command-line options and operands of a tool.
 #[derive(Drop)]
 pub struct Options {
     /// The tool, which the first word names.

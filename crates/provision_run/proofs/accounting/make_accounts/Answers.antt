@@ -1,9 +1,9 @@
 use Rattle.std.proofs.Common.{List, drop, inl, length, refl, subst}
 use Rattle.pv_accounts_run.specs.Accounted.{edits_at}
-use Rattle.pv_accounts_run.specs.Carrying.{AccountWay, IsAccountStep}
+use Rattle.pv_accounts_run.specs.FileWriting.{AccountWay, IsAccountStep}
 use Rattle.pv_accounts_run.proofs.MendedLaws.{none_mended, run_mended}
 use Rattle.pv_accounts_run.proofs.SweptLaws.{accounts_leave_none}
-use Rattle.pv_dress.proofs.EditLaws.{same-refl}
+use Rattle.pv_metadata.proofs.EditLaws.{same-refl}
 use Rattle.pv_requests.specs.declared.request.Request.{Request}
 use Rattle.pv_steps.specs.Runs.{Ran}
 use Rattle.pv_steps.specs.Trees.{places}
@@ -11,13 +11,13 @@ use Rattle.pv_steps.proofs.ActingLaws.{Moves, acted_none, no_memory}
 use Rattle.provision_run.specs.Accounts.{accounts_work, account_messages, requests_messages, run_edits, run_requests}
 use Rattle.provision_run.proofs.FrameLaws.{none_stays, requests_framed}
 use Rattle.provision_run.proofs.AccountRereading.{accounts_mended_anew, no_requests_reread, requests_reread}
-use Rattle.provision_run.proofs.AccountLaws.{Finished, ended_acted, ended_end, ended_ok, ended_part, ended_said, ended_stopped}
-use Rattle.pv_text.proofs.SaidLaws.{said_first}
+use Rattle.provision_run.proofs.AccountLaws.{Finished, ended_acted, ended_end, ended_ok, ended_part, ended_messages, ended_stopped}
+use Rattle.pv_text.proofs.MessagesLaws.{messages_first}
 use Rattle.provision_run.proofs.accounting.make_accounts.Goals as goal
 
 pub returns-in_err-read-clause-part : goal.returns-in_err-read-clause-part
 returns-in_err-read-clause-part g c =
-    said_first (requests_messages c.args.options.now c.args.facts.now (g.T.Tree.state c.args.tree.now)) (account_messages c.args.options.now c.args.facts.now c.args.moment (g.T.Tree.state c.args.tree.now)) _ _ c.read_requests.ensures.part
+    messages_first (requests_messages c.args.options.now c.args.facts.now (g.T.Tree.state c.args.tree.now)) (account_messages c.args.options.now c.args.facts.now c.args.moment (g.T.Tree.state c.args.tree.now)) _ _ c.read_requests.ensures.part
 
 pub returns-in_err-read-clause-acted : goal.returns-in_err-read-clause-acted
 returns-in_err-read-clause-acted g c =
@@ -40,19 +40,19 @@ returns-clause-ok g c =
     let finished : Finished tree (run_requests c.args.options.now c.args.facts.now (tree.state a)) c.args.moment a b c.read_requests.new.messages c.accounts_run-answer.new.messages c.accounts_run-answer.result =
     subst (λ (rs : List Request). Finished tree rs c.args.moment a b c.read_requests.new.messages c.accounts_run-answer.new.messages c.accounts_run-answer.result) c.in_ok-read.ensures.lines (record {
       ok = c.accounts_run-answer.ensures.ok;
-      said = c.accounts_run-answer.ensures.said;
+      new_messages = c.accounts_run-answer.ensures.new_messages;
       carried = c.accounts_run-answer.ensures.carried;
       enough = c.accounts_run-answer.ensures.enough;
       lacking = c.accounts_run-answer.ensures.lacking;
-      lacking_said = c.accounts_run-answer.ensures.lacking_said;
+      lacking_messages = c.accounts_run-answer.ensures.lacking_messages;
       lacking_idle = c.accounts_run-answer.ensures.lacking_idle;
       failed_enough = c.accounts_run-answer.ensures.failed_enough;
-      failed_said = c.accounts_run-answer.ensures.failed_said;
+      failed_messages = c.accounts_run-answer.ensures.failed_messages;
       part = c.accounts_run-answer.ensures.part;
       acted = c.accounts_run-answer.ensures.acted;
     }) in
     ended_ok tree c.args.options.now c.args.facts.now c.args.moment a b c.args.messages.now c.read_requests.new.messages c.accounts_run-answer.new.messages c.ended.new.messages c.in_ok-read.read.missing c.in_ok-read.read.invalid
-    c.in_ok-read.ensures.said c.accounts_run-answer.result c.ended.result finished c.ended.ensures
+    c.in_ok-read.ensures.new_messages c.accounts_run-answer.result c.ended.result finished c.ended.ensures
 
 pub returns-clause-staged : goal.returns-clause-staged
 returns-clause-staged g c =
@@ -62,42 +62,42 @@ returns-clause-staged g c =
     let finished : Finished tree (run_requests c.args.options.now c.args.facts.now (tree.state a)) c.args.moment a b c.read_requests.new.messages c.accounts_run-answer.new.messages c.accounts_run-answer.result =
     subst (λ (rs : List Request). Finished tree rs c.args.moment a b c.read_requests.new.messages c.accounts_run-answer.new.messages c.accounts_run-answer.result) c.in_ok-read.ensures.lines (record {
       ok = c.accounts_run-answer.ensures.ok;
-      said = c.accounts_run-answer.ensures.said;
+      new_messages = c.accounts_run-answer.ensures.new_messages;
       carried = c.accounts_run-answer.ensures.carried;
       enough = c.accounts_run-answer.ensures.enough;
       lacking = c.accounts_run-answer.ensures.lacking;
-      lacking_said = c.accounts_run-answer.ensures.lacking_said;
+      lacking_messages = c.accounts_run-answer.ensures.lacking_messages;
       lacking_idle = c.accounts_run-answer.ensures.lacking_idle;
       failed_enough = c.accounts_run-answer.ensures.failed_enough;
-      failed_said = c.accounts_run-answer.ensures.failed_said;
+      failed_messages = c.accounts_run-answer.ensures.failed_messages;
       part = c.accounts_run-answer.ensures.part;
       acted = c.accounts_run-answer.ensures.acted;
     }) in
     accounts_leave_none (run_requests c.args.options.now c.args.facts.now (tree.state a)) c.args.moment (tree.state a) c.look-root.ensures.tree c.ended.result (tree.state b)
     (ended_ok tree c.args.options.now c.args.facts.now c.args.moment a b c.args.messages.now c.read_requests.new.messages c.accounts_run-answer.new.messages c.ended.new.messages c.in_ok-read.read.missing c.in_ok-read.read.invalid
-    c.in_ok-read.ensures.said c.accounts_run-answer.result c.ended.result finished c.ended.ensures)
+    c.in_ok-read.ensures.new_messages c.accounts_run-answer.result c.ended.result finished c.ended.ensures)
 
-pub returns-clause-said : goal.returns-clause-said
-returns-clause-said g c =
+pub returns-clause-new_messages : goal.returns-clause-new_messages
+returns-clause-new_messages g c =
     let tree = g.T.Tree in
     let a = c.args.tree.now in
     let b = c.accounts_run-answer.new.tree in
     let finished : Finished tree (run_requests c.args.options.now c.args.facts.now (tree.state a)) c.args.moment a b c.read_requests.new.messages c.accounts_run-answer.new.messages c.accounts_run-answer.result =
     subst (λ (rs : List Request). Finished tree rs c.args.moment a b c.read_requests.new.messages c.accounts_run-answer.new.messages c.accounts_run-answer.result) c.in_ok-read.ensures.lines (record {
       ok = c.accounts_run-answer.ensures.ok;
-      said = c.accounts_run-answer.ensures.said;
+      new_messages = c.accounts_run-answer.ensures.new_messages;
       carried = c.accounts_run-answer.ensures.carried;
       enough = c.accounts_run-answer.ensures.enough;
       lacking = c.accounts_run-answer.ensures.lacking;
-      lacking_said = c.accounts_run-answer.ensures.lacking_said;
+      lacking_messages = c.accounts_run-answer.ensures.lacking_messages;
       lacking_idle = c.accounts_run-answer.ensures.lacking_idle;
       failed_enough = c.accounts_run-answer.ensures.failed_enough;
-      failed_said = c.accounts_run-answer.ensures.failed_said;
+      failed_messages = c.accounts_run-answer.ensures.failed_messages;
       part = c.accounts_run-answer.ensures.part;
       acted = c.accounts_run-answer.ensures.acted;
     }) in
-    ended_said tree c.args.options.now c.args.facts.now c.args.moment a b c.args.messages.now c.read_requests.new.messages c.accounts_run-answer.new.messages c.ended.new.messages c.in_ok-read.read.missing c.in_ok-read.read.invalid
-    c.in_ok-read.ensures.said c.accounts_run-answer.result c.ended.result finished c.ended.ensures
+    ended_messages tree c.args.options.now c.args.facts.now c.args.moment a b c.args.messages.now c.read_requests.new.messages c.accounts_run-answer.new.messages c.ended.new.messages c.in_ok-read.read.missing c.in_ok-read.read.invalid
+    c.in_ok-read.ensures.new_messages c.accounts_run-answer.result c.ended.result finished c.ended.ensures
 
 pub returns-clause-end : goal.returns-clause-end
 returns-clause-end g c =
@@ -107,14 +107,14 @@ returns-clause-end g c =
     let finished : Finished tree (run_requests c.args.options.now c.args.facts.now (tree.state a)) c.args.moment a b c.read_requests.new.messages c.accounts_run-answer.new.messages c.accounts_run-answer.result =
     subst (λ (rs : List Request). Finished tree rs c.args.moment a b c.read_requests.new.messages c.accounts_run-answer.new.messages c.accounts_run-answer.result) c.in_ok-read.ensures.lines (record {
       ok = c.accounts_run-answer.ensures.ok;
-      said = c.accounts_run-answer.ensures.said;
+      new_messages = c.accounts_run-answer.ensures.new_messages;
       carried = c.accounts_run-answer.ensures.carried;
       enough = c.accounts_run-answer.ensures.enough;
       lacking = c.accounts_run-answer.ensures.lacking;
-      lacking_said = c.accounts_run-answer.ensures.lacking_said;
+      lacking_messages = c.accounts_run-answer.ensures.lacking_messages;
       lacking_idle = c.accounts_run-answer.ensures.lacking_idle;
       failed_enough = c.accounts_run-answer.ensures.failed_enough;
-      failed_said = c.accounts_run-answer.ensures.failed_said;
+      failed_messages = c.accounts_run-answer.ensures.failed_messages;
       part = c.accounts_run-answer.ensures.part;
       acted = c.accounts_run-answer.ensures.acted;
     }) in
@@ -129,19 +129,19 @@ returns-clause-part g c =
     let finished : Finished tree (run_requests c.args.options.now c.args.facts.now (tree.state a)) c.args.moment a b c.read_requests.new.messages c.accounts_run-answer.new.messages c.accounts_run-answer.result =
     subst (λ (rs : List Request). Finished tree rs c.args.moment a b c.read_requests.new.messages c.accounts_run-answer.new.messages c.accounts_run-answer.result) c.in_ok-read.ensures.lines (record {
       ok = c.accounts_run-answer.ensures.ok;
-      said = c.accounts_run-answer.ensures.said;
+      new_messages = c.accounts_run-answer.ensures.new_messages;
       carried = c.accounts_run-answer.ensures.carried;
       enough = c.accounts_run-answer.ensures.enough;
       lacking = c.accounts_run-answer.ensures.lacking;
-      lacking_said = c.accounts_run-answer.ensures.lacking_said;
+      lacking_messages = c.accounts_run-answer.ensures.lacking_messages;
       lacking_idle = c.accounts_run-answer.ensures.lacking_idle;
       failed_enough = c.accounts_run-answer.ensures.failed_enough;
-      failed_said = c.accounts_run-answer.ensures.failed_said;
+      failed_messages = c.accounts_run-answer.ensures.failed_messages;
       part = c.accounts_run-answer.ensures.part;
       acted = c.accounts_run-answer.ensures.acted;
     }) in
     ended_part tree c.args.options.now c.args.facts.now c.args.moment a b c.args.messages.now c.read_requests.new.messages c.accounts_run-answer.new.messages c.ended.new.messages c.in_ok-read.read.missing c.in_ok-read.read.invalid
-    c.in_ok-read.ensures.said c.accounts_run-answer.result c.ended.result finished c.ended.ensures
+    c.in_ok-read.ensures.new_messages c.accounts_run-answer.result c.ended.result finished c.ended.ensures
 
 pub returns-clause-stopped : goal.returns-clause-stopped
 returns-clause-stopped g c =
@@ -151,19 +151,19 @@ returns-clause-stopped g c =
     let finished : Finished tree (run_requests c.args.options.now c.args.facts.now (tree.state a)) c.args.moment a b c.read_requests.new.messages c.accounts_run-answer.new.messages c.accounts_run-answer.result =
     subst (λ (rs : List Request). Finished tree rs c.args.moment a b c.read_requests.new.messages c.accounts_run-answer.new.messages c.accounts_run-answer.result) c.in_ok-read.ensures.lines (record {
       ok = c.accounts_run-answer.ensures.ok;
-      said = c.accounts_run-answer.ensures.said;
+      new_messages = c.accounts_run-answer.ensures.new_messages;
       carried = c.accounts_run-answer.ensures.carried;
       enough = c.accounts_run-answer.ensures.enough;
       lacking = c.accounts_run-answer.ensures.lacking;
-      lacking_said = c.accounts_run-answer.ensures.lacking_said;
+      lacking_messages = c.accounts_run-answer.ensures.lacking_messages;
       lacking_idle = c.accounts_run-answer.ensures.lacking_idle;
       failed_enough = c.accounts_run-answer.ensures.failed_enough;
-      failed_said = c.accounts_run-answer.ensures.failed_said;
+      failed_messages = c.accounts_run-answer.ensures.failed_messages;
       part = c.accounts_run-answer.ensures.part;
       acted = c.accounts_run-answer.ensures.acted;
     }) in
     ended_stopped tree c.args.options.now c.args.facts.now c.args.moment a b c.args.messages.now c.read_requests.new.messages c.accounts_run-answer.new.messages c.ended.new.messages c.in_ok-read.read.missing c.in_ok-read.read.invalid
-    c.in_ok-read.ensures.said c.accounts_run-answer.result c.ended.result finished c.ended.ensures
+    c.in_ok-read.ensures.new_messages c.accounts_run-answer.result c.ended.result finished c.ended.ensures
 
 pub returns-clause-acted : goal.returns-clause-acted
 returns-clause-acted g c =
@@ -173,14 +173,14 @@ returns-clause-acted g c =
     let finished : Finished tree (run_requests c.args.options.now c.args.facts.now (tree.state a)) c.args.moment a b c.read_requests.new.messages c.accounts_run-answer.new.messages c.accounts_run-answer.result =
     subst (λ (rs : List Request). Finished tree rs c.args.moment a b c.read_requests.new.messages c.accounts_run-answer.new.messages c.accounts_run-answer.result) c.in_ok-read.ensures.lines (record {
       ok = c.accounts_run-answer.ensures.ok;
-      said = c.accounts_run-answer.ensures.said;
+      new_messages = c.accounts_run-answer.ensures.new_messages;
       carried = c.accounts_run-answer.ensures.carried;
       enough = c.accounts_run-answer.ensures.enough;
       lacking = c.accounts_run-answer.ensures.lacking;
-      lacking_said = c.accounts_run-answer.ensures.lacking_said;
+      lacking_messages = c.accounts_run-answer.ensures.lacking_messages;
       lacking_idle = c.accounts_run-answer.ensures.lacking_idle;
       failed_enough = c.accounts_run-answer.ensures.failed_enough;
-      failed_said = c.accounts_run-answer.ensures.failed_said;
+      failed_messages = c.accounts_run-answer.ensures.failed_messages;
       part = c.accounts_run-answer.ensures.part;
       acted = c.accounts_run-answer.ensures.acted;
     }) in
@@ -194,14 +194,14 @@ returns-clause-mended g c =
     let finished : Finished tree (run_requests c.args.options.now c.args.facts.now (tree.state a)) c.args.moment a b c.read_requests.new.messages c.accounts_run-answer.new.messages c.accounts_run-answer.result =
     subst (λ (rs : List Request). Finished tree rs c.args.moment a b c.read_requests.new.messages c.accounts_run-answer.new.messages c.accounts_run-answer.result) c.in_ok-read.ensures.lines (record {
       ok = c.accounts_run-answer.ensures.ok;
-      said = c.accounts_run-answer.ensures.said;
+      new_messages = c.accounts_run-answer.ensures.new_messages;
       carried = c.accounts_run-answer.ensures.carried;
       enough = c.accounts_run-answer.ensures.enough;
       lacking = c.accounts_run-answer.ensures.lacking;
-      lacking_said = c.accounts_run-answer.ensures.lacking_said;
+      lacking_messages = c.accounts_run-answer.ensures.lacking_messages;
       lacking_idle = c.accounts_run-answer.ensures.lacking_idle;
       failed_enough = c.accounts_run-answer.ensures.failed_enough;
-      failed_said = c.accounts_run-answer.ensures.failed_said;
+      failed_messages = c.accounts_run-answer.ensures.failed_messages;
       part = c.accounts_run-answer.ensures.part;
       acted = c.accounts_run-answer.ensures.acted;
     }) in
@@ -214,9 +214,9 @@ returns-in_err-read-clause-reread g c = no_requests_reread c.args.options.now c.
 pub returns-in_err-read-clause-anew : goal.returns-in_err-read-clause-anew
 returns-in_err-read-clause-anew g c =
     let t = g.T.Tree.state c.args.tree.now in
-    let told = g.T.Tree.steps c.args.tree.now in
-    accounts_mended_anew c.args.options.now c.args.facts.now c.args.moment t (drop (length told) told) (no_requests_reread c.args.options.now c.args.facts.now c.args.moment t told)
-    (none_mended (run_requests c.args.options.now c.args.facts.now t) c.args.moment c.ranges.moment.fits t told c.look-root.ensures.tree)
+    let stated = g.T.Tree.steps c.args.tree.now in
+    accounts_mended_anew c.args.options.now c.args.facts.now c.args.moment t (drop (length stated) stated) (no_requests_reread c.args.options.now c.args.facts.now c.args.moment t stated)
+    (none_mended (run_requests c.args.options.now c.args.facts.now t) c.args.moment c.ranges.moment.fits t stated c.look-root.ensures.tree)
 
 pub returns-clause-reread : goal.returns-clause-reread
 returns-clause-reread g c =
@@ -226,14 +226,14 @@ returns-clause-reread g c =
     let finished : Finished tree (run_requests c.args.options.now c.args.facts.now (tree.state a)) c.args.moment a b c.read_requests.new.messages c.accounts_run-answer.new.messages c.accounts_run-answer.result =
     subst (λ (rs : List Request). Finished tree rs c.args.moment a b c.read_requests.new.messages c.accounts_run-answer.new.messages c.accounts_run-answer.result) c.in_ok-read.ensures.lines (record {
       ok = c.accounts_run-answer.ensures.ok;
-      said = c.accounts_run-answer.ensures.said;
+      new_messages = c.accounts_run-answer.ensures.new_messages;
       carried = c.accounts_run-answer.ensures.carried;
       enough = c.accounts_run-answer.ensures.enough;
       lacking = c.accounts_run-answer.ensures.lacking;
-      lacking_said = c.accounts_run-answer.ensures.lacking_said;
+      lacking_messages = c.accounts_run-answer.ensures.lacking_messages;
       lacking_idle = c.accounts_run-answer.ensures.lacking_idle;
       failed_enough = c.accounts_run-answer.ensures.failed_enough;
-      failed_said = c.accounts_run-answer.ensures.failed_said;
+      failed_messages = c.accounts_run-answer.ensures.failed_messages;
       part = c.accounts_run-answer.ensures.part;
       acted = c.accounts_run-answer.ensures.acted;
     }) in
@@ -247,14 +247,14 @@ returns-clause-anew g c =
     let finished : Finished tree (run_requests c.args.options.now c.args.facts.now (tree.state a)) c.args.moment a b c.read_requests.new.messages c.accounts_run-answer.new.messages c.accounts_run-answer.result =
     subst (λ (rs : List Request). Finished tree rs c.args.moment a b c.read_requests.new.messages c.accounts_run-answer.new.messages c.accounts_run-answer.result) c.in_ok-read.ensures.lines (record {
       ok = c.accounts_run-answer.ensures.ok;
-      said = c.accounts_run-answer.ensures.said;
+      new_messages = c.accounts_run-answer.ensures.new_messages;
       carried = c.accounts_run-answer.ensures.carried;
       enough = c.accounts_run-answer.ensures.enough;
       lacking = c.accounts_run-answer.ensures.lacking;
-      lacking_said = c.accounts_run-answer.ensures.lacking_said;
+      lacking_messages = c.accounts_run-answer.ensures.lacking_messages;
       lacking_idle = c.accounts_run-answer.ensures.lacking_idle;
       failed_enough = c.accounts_run-answer.ensures.failed_enough;
-      failed_said = c.accounts_run-answer.ensures.failed_said;
+      failed_messages = c.accounts_run-answer.ensures.failed_messages;
       part = c.accounts_run-answer.ensures.part;
       acted = c.accounts_run-answer.ensures.acted;
     }) in

@@ -1,59 +1,59 @@
 use Rattle.std.proofs.Common.{◌∙◌, drop, length, refl, sym}
 use Rattle.pv_steps.proofs.ActingLaws.{Moves, no_memory}
-use Rattle.provision_run.proofs.TaskLaws.{accounts_acted, accounts_anew, accounts_between, accounts_ended, accounts_framed, accounts_left, accounts_mended, accounts_part, accounts_said, accounts_staged, accounts_gone, accounts_gone_ok, explain_acted, explain_anew, explain_between, explain_ended, explain_framed, explain_gone, explain_left, explain_mended, explain_part, explain_path, explain_said, explain_staged, phases_acted, phases_anew, phases_between, phases_ended, phases_framed, phases_left, phases_mended, phases_part, phases_said, phases_staged, phases_gone, phases_gone_ok, report_acted, report_anew, report_between, report_ended, report_framed, report_gone, report_left, report_mended, report_part, report_said, report_staged}
+use Rattle.provision_run.proofs.TaskLaws.{accounts_acted, accounts_anew, accounts_between, accounts_ended, accounts_framed, accounts_left, accounts_mended, accounts_part, accounts_new_messages, accounts_staged, accounts_gone, accounts_gone_ok, explain_acted, explain_anew, explain_between, explain_ended, explain_framed, explain_gone, explain_left, explain_mended, explain_part, explain_path, explain_messages, explain_staged, phases_acted, phases_anew, phases_between, phases_ended, phases_framed, phases_left, phases_mended, phases_part, phases_messages, phases_staged, phases_gone, phases_gone_ok, report_acted, report_anew, report_between, report_ended, report_framed, report_gone, report_left, report_mended, report_part, report_new_messages, report_staged}
 use Rattle.provision_run.proofs.run.do_task.Goals as goal
 
 pub returns-in-Phases-clause-ok : goal.returns-in-Phases-clause-ok
 returns-in-Phases-clause-ok g c =
-    phases_left c.args.options.now c.args.facts.now c.args.moment (g.T.Tree.state c.args.tree.now) c.args.task (sym c.in-Phases.is) c.carry_out.result (g.T.Tree.state c.carry_out.new.tree) c.carry_out.ensures.ok
+    phases_left c.args.options.now c.args.facts.now c.args.moment (g.T.Tree.state c.args.tree.now) c.args.task (sym c.in-Phases.is) c.run_configured_phases.result (g.T.Tree.state c.run_configured_phases.new.tree) c.run_configured_phases.ensures.ok
 
-pub returns-in-Phases-clause-said : goal.returns-in-Phases-clause-said
-returns-in-Phases-clause-said g c =
-    phases_said c.args.options.now c.args.facts.now c.args.moment (g.T.Tree.state c.args.tree.now) c.args.task (sym c.in-Phases.is) c.carry_out.result c.args.messages.now c.carry_out.new.messages c.carry_out.ensures.said
+pub returns-in-Phases-clause-new_messages : goal.returns-in-Phases-clause-new_messages
+returns-in-Phases-clause-new_messages g c =
+    phases_messages c.args.options.now c.args.facts.now c.args.moment (g.T.Tree.state c.args.tree.now) c.args.task (sym c.in-Phases.is) c.run_configured_phases.result c.args.messages.now c.run_configured_phases.new.messages c.run_configured_phases.ensures.new_messages
 
 pub returns-in-Phases-clause-end : goal.returns-in-Phases-clause-end
 returns-in-Phases-clause-end g c =
-    phases_ended c.args.options.now c.args.facts.now c.args.moment (g.T.Tree.state c.args.tree.now) c.args.task (sym c.in-Phases.is) c.carry_out.result c.carry_out.ensures.end
+    phases_ended c.args.options.now c.args.facts.now c.args.moment (g.T.Tree.state c.args.tree.now) c.args.task (sym c.in-Phases.is) c.run_configured_phases.result c.run_configured_phases.ensures.end
 
 pub returns-in-Phases-clause-staged : goal.returns-in-Phases-clause-staged
 returns-in-Phases-clause-staged g c =
-    phases_staged c.args.options.now c.args.facts.now c.args.moment (g.T.Tree.state c.args.tree.now) c.args.task (sym c.in-Phases.is) c.carry_out.result (g.T.Tree.state c.carry_out.new.tree) c.carry_out.ensures.staged
+    phases_staged c.args.options.now c.args.facts.now c.args.moment (g.T.Tree.state c.args.tree.now) c.args.task (sym c.in-Phases.is) c.run_configured_phases.result (g.T.Tree.state c.run_configured_phases.new.tree) c.run_configured_phases.ensures.staged
 
 pub returns-in-Phases-clause-part : goal.returns-in-Phases-clause-part
 returns-in-Phases-clause-part g c =
-    phases_part c.args.options.now c.args.facts.now c.args.moment (g.T.Tree.state c.args.tree.now) c.args.task (sym c.in-Phases.is) c.args.messages.now c.carry_out.new.messages c.carry_out.ensures.part
+    phases_part c.args.options.now c.args.facts.now c.args.moment (g.T.Tree.state c.args.tree.now) c.args.task (sym c.in-Phases.is) c.args.messages.now c.run_configured_phases.new.messages c.run_configured_phases.ensures.part
 
 pub returns-in-Phases-clause-stopped : goal.returns-in-Phases-clause-stopped
 returns-in-Phases-clause-stopped g c =
-    λ failed. phases_gone c.args.options.now c.args.facts.now c.args.moment (g.T.Tree.state c.args.tree.now) g.T.Tree c.args.task (sym c.in-Phases.is) 1 c.args.tree.now c.carry_out.new.tree c.args.messages.now c.carry_out.new.messages (c.carry_out.ensures.stopped failed)
+    λ failed. phases_gone c.args.options.now c.args.facts.now c.args.moment (g.T.Tree.state c.args.tree.now) g.T.Tree c.args.task (sym c.in-Phases.is) 1 c.args.tree.now c.run_configured_phases.new.tree c.args.messages.now c.run_configured_phases.new.messages (c.run_configured_phases.ensures.stopped failed)
 
 pub returns-in-Phases-clause-in_turn : goal.returns-in-Phases-clause-in_turn
 returns-in-Phases-clause-in_turn g c =
-    phases_gone_ok c.args.options.now c.args.facts.now c.args.moment (g.T.Tree.state c.args.tree.now) g.T.Tree c.args.task (sym c.in-Phases.is) c.carry_out.result c.args.tree.now c.carry_out.new.tree c.args.messages.now c.carry_out.new.messages c.carry_out.ensures.in_turn
+    phases_gone_ok c.args.options.now c.args.facts.now c.args.moment (g.T.Tree.state c.args.tree.now) g.T.Tree c.args.task (sym c.in-Phases.is) c.run_configured_phases.result c.args.tree.now c.run_configured_phases.new.tree c.args.messages.now c.run_configured_phases.new.messages c.run_configured_phases.ensures.in_turn
 
 pub returns-in-Phases-clause-acted : goal.returns-in-Phases-clause-acted
 returns-in-Phases-clause-acted g c =
-    phases_acted g.T.Tree c.args.options.now c.args.facts.now c.args.moment (g.T.Tree.state c.args.tree.now) c.args.task (sym c.in-Phases.is) c.args.tree.now c.carry_out.new.tree c.carry_out.result c.carry_out.ensures.acted
+    phases_acted g.T.Tree c.args.options.now c.args.facts.now c.args.moment (g.T.Tree.state c.args.tree.now) c.args.task (sym c.in-Phases.is) c.args.tree.now c.run_configured_phases.new.tree c.run_configured_phases.result c.run_configured_phases.ensures.acted
 
 pub returns-in-Phases-clause-mended : goal.returns-in-Phases-clause-mended
 returns-in-Phases-clause-mended g c =
-    phases_mended c.args.options.now c.args.facts.now c.args.moment (g.T.Tree.state c.args.tree.now) c.args.task (sym c.in-Phases.is) (drop (length (g.T.Tree.steps c.args.tree.now)) (g.T.Tree.steps c.carry_out.new.tree)) c.carry_out.ensures.mended
+    phases_mended c.args.options.now c.args.facts.now c.args.moment (g.T.Tree.state c.args.tree.now) c.args.task (sym c.in-Phases.is) (drop (length (g.T.Tree.steps c.args.tree.now)) (g.T.Tree.steps c.run_configured_phases.new.tree)) c.run_configured_phases.ensures.mended
 
 pub returns-in-Phases-clause-anew : goal.returns-in-Phases-clause-anew
 returns-in-Phases-clause-anew g c =
-    phases_anew c.args.options.now c.args.facts.now c.args.moment (g.T.Tree.state c.args.tree.now) c.args.task (sym c.in-Phases.is) (drop (length (g.T.Tree.steps c.args.tree.now)) (g.T.Tree.steps c.carry_out.new.tree)) c.carry_out.ensures.reread c.carry_out.ensures.anew
+    phases_anew c.args.options.now c.args.facts.now c.args.moment (g.T.Tree.state c.args.tree.now) c.args.task (sym c.in-Phases.is) (drop (length (g.T.Tree.steps c.args.tree.now)) (g.T.Tree.steps c.run_configured_phases.new.tree)) c.run_configured_phases.ensures.reread c.run_configured_phases.ensures.anew
 
 pub returns-in-Phases-clause-framed : goal.returns-in-Phases-clause-framed
 returns-in-Phases-clause-framed g c =
-    phases_framed c.args.options.now c.args.facts.now c.args.moment (g.T.Tree.state c.args.tree.now) c.args.task (sym c.in-Phases.is) (drop (length (g.T.Tree.steps c.args.tree.now)) (g.T.Tree.steps c.carry_out.new.tree)) c.carry_out.ensures.framed
+    phases_framed c.args.options.now c.args.facts.now c.args.moment (g.T.Tree.state c.args.tree.now) c.args.task (sym c.in-Phases.is) (drop (length (g.T.Tree.steps c.args.tree.now)) (g.T.Tree.steps c.run_configured_phases.new.tree)) c.run_configured_phases.ensures.framed
 
 pub returns-in-Accounts-clause-ok : goal.returns-in-Accounts-clause-ok
 returns-in-Accounts-clause-ok g c =
     accounts_left c.args.options.now c.args.facts.now c.args.moment (g.T.Tree.state c.args.tree.now) c.args.task (sym c.in-Accounts.is) c.make_accounts.result (g.T.Tree.state c.make_accounts.new.tree) c.make_accounts.ensures.ok
 
-pub returns-in-Accounts-clause-said : goal.returns-in-Accounts-clause-said
-returns-in-Accounts-clause-said g c =
-    accounts_said c.args.options.now c.args.facts.now c.args.moment (g.T.Tree.state c.args.tree.now) c.args.task (sym c.in-Accounts.is) c.make_accounts.result c.args.messages.now c.make_accounts.new.messages c.make_accounts.ensures.said
+pub returns-in-Accounts-clause-new_messages : goal.returns-in-Accounts-clause-new_messages
+returns-in-Accounts-clause-new_messages g c =
+    accounts_new_messages c.args.options.now c.args.facts.now c.args.moment (g.T.Tree.state c.args.tree.now) c.args.task (sym c.in-Accounts.is) c.make_accounts.result c.args.messages.now c.make_accounts.new.messages c.make_accounts.ensures.new_messages
 
 pub returns-in-Accounts-clause-end : goal.returns-in-Accounts-clause-end
 returns-in-Accounts-clause-end g c =
@@ -73,7 +73,7 @@ returns-in-Accounts-clause-stopped g c =
 
 pub returns-in-Accounts-clause-in_turn : goal.returns-in-Accounts-clause-in_turn
 returns-in-Accounts-clause-in_turn g c =
-    accounts_gone_ok c.args.options.now c.args.facts.now c.args.moment (g.T.Tree.state c.args.tree.now) c.args.task (sym c.in-Accounts.is) c.make_accounts.result (drop (length (g.T.Tree.steps c.args.tree.now)) (g.T.Tree.steps c.make_accounts.new.tree)) c.args.messages.now c.make_accounts.new.messages c.make_accounts.ensures.said
+    accounts_gone_ok c.args.options.now c.args.facts.now c.args.moment (g.T.Tree.state c.args.tree.now) c.args.task (sym c.in-Accounts.is) c.make_accounts.result (drop (length (g.T.Tree.steps c.args.tree.now)) (g.T.Tree.steps c.make_accounts.new.tree)) c.args.messages.now c.make_accounts.new.messages c.make_accounts.ensures.new_messages
 
 pub returns-in-Accounts-clause-acted : goal.returns-in-Accounts-clause-acted
 returns-in-Accounts-clause-acted g c =
@@ -116,13 +116,13 @@ pub returns-in_ok-report_run-in-Report-clause-ok : goal.returns-in_ok-report_run
 returns-in_ok-report_run-in-Report-clause-ok g c =
     report_left c.args.options.now c.args.facts.now c.args.moment (g.T.Tree.state c.args.tree.now) c.args.task (sym c.in-Report.is)
 
-pub returns-in_ok-report_run-in-Report-clause-said : goal.returns-in_ok-report_run-in-Report-clause-said
-returns-in_ok-report_run-in-Report-clause-said g c =
-    report_said c.args.options.now c.args.facts.now c.args.moment (g.T.Tree.state c.args.tree.now) c.args.task (sym c.in-Report.is) c.args.messages.now c.report_run.new.messages c.in_ok-report_run-in-Report.ensures.said
+pub returns-in_ok-report_run-in-Report-clause-new_messages : goal.returns-in_ok-report_run-in-Report-clause-new_messages
+returns-in_ok-report_run-in-Report-clause-new_messages g c =
+    report_new_messages c.args.options.now c.args.facts.now c.args.moment (g.T.Tree.state c.args.tree.now) c.args.task (sym c.in-Report.is) c.args.messages.now c.report_run.new.messages c.in_ok-report_run-in-Report.ensures.new_messages
 
 pub returns-in_ok-report_run-in-Report-clause-in_turn : goal.returns-in_ok-report_run-in-Report-clause-in_turn
 returns-in_ok-report_run-in-Report-clause-in_turn g c =
-    report_gone c.args.options.now c.args.facts.now c.args.moment (g.T.Tree.state c.args.tree.now) c.args.task (sym c.in-Report.is) (g.T.Tree.steps c.args.tree.now) c.args.messages.now c.report_run.new.messages c.in_ok-report_run-in-Report.ensures.said
+    report_gone c.args.options.now c.args.facts.now c.args.moment (g.T.Tree.state c.args.tree.now) c.args.task (sym c.in-Report.is) (g.T.Tree.steps c.args.tree.now) c.args.messages.now c.report_run.new.messages c.in_ok-report_run-in-Report.ensures.new_messages
 
 pub returns-in_ok-report_run-in-Report-clause-end : goal.returns-in_ok-report_run-in-Report-clause-end
 returns-in_ok-report_run-in-Report-clause-end g c =
@@ -155,7 +155,7 @@ returns-in_ok-report_run-in-Report-clause-framed g c =
 
 pub returns-in-Phases-clause-between : goal.returns-in-Phases-clause-between
 returns-in-Phases-clause-between g c =
-    phases_between c.args.options.now c.args.facts.now c.args.moment (g.T.Tree.state c.args.tree.now) c.args.task (sym c.in-Phases.is) (drop (length (g.T.Tree.steps c.args.tree.now)) (g.T.Tree.steps c.carry_out.new.tree)) c.carry_out.ensures.between c.carry_out.ensures.gives
+    phases_between c.args.options.now c.args.facts.now c.args.moment (g.T.Tree.state c.args.tree.now) c.args.task (sym c.in-Phases.is) (drop (length (g.T.Tree.steps c.args.tree.now)) (g.T.Tree.steps c.run_configured_phases.new.tree)) c.run_configured_phases.ensures.between c.run_configured_phases.ensures.gives
 
 pub returns-in-Accounts-clause-between : goal.returns-in-Accounts-clause-between
 returns-in-Accounts-clause-between g c =
@@ -194,13 +194,13 @@ pub returns-in_ok-explain_run-in-Explain-clause-ok : goal.returns-in_ok-explain_
 returns-in_ok-explain_run-in-Explain-clause-ok g c =
     explain_left c.args.options.now c.args.facts.now c.args.moment (g.T.Tree.state c.args.tree.now) c.args.task (sym c.in-Explain.is)
 
-pub returns-in_ok-explain_run-in-Explain-clause-said : goal.returns-in_ok-explain_run-in-Explain-clause-said
-returns-in_ok-explain_run-in-Explain-clause-said g c =
-    explain_said c.args.options.now c.args.facts.now c.args.moment (g.T.Tree.state c.args.tree.now) c.args.task (sym c.in-Explain.is) c.args.messages.now c.explain_run.new.messages c.in_ok-explain_run-in-Explain.ensures.said
+pub returns-in_ok-explain_run-in-Explain-clause-new_messages : goal.returns-in_ok-explain_run-in-Explain-clause-new_messages
+returns-in_ok-explain_run-in-Explain-clause-new_messages g c =
+    explain_messages c.args.options.now c.args.facts.now c.args.moment (g.T.Tree.state c.args.tree.now) c.args.task (sym c.in-Explain.is) c.args.messages.now c.explain_run.new.messages c.in_ok-explain_run-in-Explain.ensures.new_messages
 
 pub returns-in_ok-explain_run-in-Explain-clause-in_turn : goal.returns-in_ok-explain_run-in-Explain-clause-in_turn
 returns-in_ok-explain_run-in-Explain-clause-in_turn g c =
-    explain_gone c.args.options.now c.args.facts.now c.args.moment (g.T.Tree.state c.args.tree.now) c.args.task (sym c.in-Explain.is) (g.T.Tree.steps c.args.tree.now) c.args.messages.now c.explain_run.new.messages c.in_ok-explain_run-in-Explain.ensures.said
+    explain_gone c.args.options.now c.args.facts.now c.args.moment (g.T.Tree.state c.args.tree.now) c.args.task (sym c.in-Explain.is) (g.T.Tree.steps c.args.tree.now) c.args.messages.now c.explain_run.new.messages c.in_ok-explain_run-in-Explain.ensures.new_messages
 
 pub returns-in_ok-explain_run-in-Explain-clause-end : goal.returns-in_ok-explain_run-in-Explain-clause-end
 returns-in_ok-explain_run-in-Explain-clause-end g c =

@@ -3,7 +3,7 @@ use Rattle.pv_steps.specs.Counting.{refused, faults_after}
 use Rattle.provision_run.specs.OverTree.{HasFailed, HasRun, IsStopped}
 use Rattle.provision_run.specs.declared.ending.RunEnd.{RunEnd}
 use Rattle.provision_run.specs.Tasks.{task_of}
-use Rattle.provision_run.specs.Whole.{HasSaidBy, HasSaidPartBy, HasGoneBy, run_work}
+use Rattle.provision_run.specs.Whole.{HasMessagesBy, HasMessagesPartBy, HasGoneBy, run_work}
 use Rattle.provision_run.proofs.AnswerLaws.{burnt_stopped, failed_run, limited, none_refused, passed_counted, stopped_run, unlimited, whole_run}
 use Rattle.provision_run.proofs.running.run_limited.Goals as goal
 use Rattle.provision_run.proofs.running.run_limited.Goals.{in_default-via-in-Some+else-stopped, in_default-via-in-None-1}
@@ -11,50 +11,50 @@ use Rattle.provision_run.proofs.running.run_limited.Goals.{in_default-via-in-Som
 pub returns-in-Ok-clause-run : goal.returns-in-Ok-clause-run
 returns-in-Ok-clause-run g c =
     let start : g.T.Tree.steps c.new-fused.result.inner.tree.now ≡ [] = rw (c.new-fused.ensures, c.new.ensures.now) c.requires.fresh in
-    let told : HasRun c.args.options.now c.args.facts.now c.args.moment (g.T.Tree.state c.new-fused.result.inner.tree.now) c.outcome_of.result c.run_on_tree.new.messages (g.T.Tree.state c.run_on_tree.new.tree.inner.tree.now) =
+    let stated : HasRun c.args.options.now c.args.facts.now c.args.moment (g.T.Tree.state c.new-fused.result.inner.tree.now) c.outcome_of.result c.run_on_tree.new.messages (g.T.Tree.state c.run_on_tree.new.tree.inner.tree.now) =
     whole_run c.args.options.now c.args.facts.now c.args.moment (g.T.Tree.state c.new-fused.result.inner.tree.now) (g.T.Tree.state c.run_on_tree.new.tree.inner.tree.now)
     (g.T.Tree.steps c.new-fused.result.inner.tree.now) (g.T.Tree.steps c.run_on_tree.new.tree.inner.tree.now) start c.in-Ok.ensures.acted.ran
     c.in-Ok.ensures.mended c.in-Ok.ensures.anew c.in-Ok.ensures.framed c.in-Ok.ensures.between
     c.in-Ok.end c.outcome_of.result c.run_on_tree.new.messages c.outcome_of.ensures c.in-Ok.ensures.end c.in-Ok.ensures.ok c.in-Ok.ensures.staged
-    (subst (λ (old : List (List ℕ)). HasSaidBy (task_of c.args.options.now) c.args.options.now c.args.facts.now c.args.moment (g.T.Tree.state c.new-fused.result.inner.tree.now) old c.run_on_tree.new.messages) c.requires.unsaid c.in-Ok.ensures.said)
-    (subst (λ (old : List (List ℕ)). HasGoneBy (task_of c.args.options.now) c.args.options.now c.args.facts.now c.args.moment 0 (g.T.Tree.state c.new-fused.result.inner.tree.now) (drop (length (g.T.Tree.steps c.new-fused.result.inner.tree.now)) (g.T.Tree.steps c.run_on_tree.new.tree.inner.tree.now)) old c.run_on_tree.new.messages) c.requires.unsaid c.in-Ok.ensures.in_turn)
+    (subst (λ (old : List (List ℕ)). HasMessagesBy (task_of c.args.options.now) c.args.options.now c.args.facts.now c.args.moment (g.T.Tree.state c.new-fused.result.inner.tree.now) old c.run_on_tree.new.messages) c.requires.messages_kept c.in-Ok.ensures.new_messages)
+    (subst (λ (old : List (List ℕ)). HasGoneBy (task_of c.args.options.now) c.args.options.now c.args.facts.now c.args.moment 0 (g.T.Tree.state c.new-fused.result.inner.tree.now) (drop (length (g.T.Tree.steps c.new-fused.result.inner.tree.now)) (g.T.Tree.steps c.run_on_tree.new.tree.inner.tree.now)) old c.run_on_tree.new.messages) c.requires.messages_kept c.in-Ok.ensures.in_turn)
     (limited c.args.options.now.stop_after _ _ _ (rw (c.new-fused.ensures, c.new.ensures.now, c.requires.fresh) at c.in-Ok.ensures.acted.reaches.1)) in
-    search (rules, told)
+    search (rules, stated)
 
 pub returns-in_ok-say_stopped-in-Some-clause-run : goal.returns-in_ok-say_stopped-in-Some-clause-run
 returns-in_ok-say_stopped-in-Some-clause-run g c =
     let start : g.T.Tree.steps c.new-fused.result.inner.tree.now ≡ [] = rw (c.new-fused.ensures, c.new.ensures.now) c.requires.fresh in
     let bound : (length (g.T.Tree.steps c.run_on_tree.new.tree.inner.tree.now) - length (g.T.Tree.steps c.new-fused.result.inner.tree.now)) + 1 ≤ run_work c.args.options.now c.args.facts.now c.args.moment (g.T.Tree.state c.new-fused.result.inner.tree.now) =
     subst (λ f. (length (g.T.Tree.steps c.run_on_tree.new.tree.inner.tree.now) - length (g.T.Tree.steps c.new-fused.result.inner.tree.now)) + refused {A = RunEnd} (Err f) ≤ run_work c.args.options.now c.args.facts.now c.args.moment (g.T.Tree.state c.new-fused.result.inner.tree.now)) c.in-Err-Failed.field-0-is c.in-Err-Failed.ensures.acted.bound in
-    let part : HasSaidPartBy (task_of c.args.options.now) c.args.options.now c.args.facts.now c.args.moment (g.T.Tree.state c.new-fused.result.inner.tree.now) [] c.run_on_tree.new.messages =
-    subst (λ (old : List (List ℕ)). HasSaidPartBy (task_of c.args.options.now) c.args.options.now c.args.facts.now c.args.moment (g.T.Tree.state c.new-fused.result.inner.tree.now) old c.run_on_tree.new.messages) c.requires.unsaid c.in-Err-Failed.ensures.part in
-    let said : HasGoneBy (task_of c.args.options.now) c.args.options.now c.args.facts.now c.args.moment 1 (g.T.Tree.state c.new-fused.result.inner.tree.now) (drop (length (g.T.Tree.steps c.new-fused.result.inner.tree.now)) (g.T.Tree.steps c.run_on_tree.new.tree.inner.tree.now)) [] c.run_on_tree.new.messages =
-    subst (λ (old : List (List ℕ)). HasGoneBy (task_of c.args.options.now) c.args.options.now c.args.facts.now c.args.moment 1 (g.T.Tree.state c.new-fused.result.inner.tree.now) (drop (length (g.T.Tree.steps c.new-fused.result.inner.tree.now)) (g.T.Tree.steps c.run_on_tree.new.tree.inner.tree.now)) old c.run_on_tree.new.messages) c.requires.unsaid (c.in-Err-Failed.ensures.read (ap Err c.in-Err-Failed.field-0-is)) in
-    let told : IsStopped c.args.options.now c.args.facts.now c.args.moment (g.T.Tree.state c.new-fused.result.inner.tree.now) c.in-Some.limit c.say_stopped.new.messages (g.T.Tree.state c.run_on_tree.new.tree.inner.tree.now) =
+    let part : HasMessagesPartBy (task_of c.args.options.now) c.args.options.now c.args.facts.now c.args.moment (g.T.Tree.state c.new-fused.result.inner.tree.now) [] c.run_on_tree.new.messages =
+    subst (λ (old : List (List ℕ)). HasMessagesPartBy (task_of c.args.options.now) c.args.options.now c.args.facts.now c.args.moment (g.T.Tree.state c.new-fused.result.inner.tree.now) old c.run_on_tree.new.messages) c.requires.messages_kept c.in-Err-Failed.ensures.part in
+    let new_messages : HasGoneBy (task_of c.args.options.now) c.args.options.now c.args.facts.now c.args.moment 1 (g.T.Tree.state c.new-fused.result.inner.tree.now) (drop (length (g.T.Tree.steps c.new-fused.result.inner.tree.now)) (g.T.Tree.steps c.run_on_tree.new.tree.inner.tree.now)) [] c.run_on_tree.new.messages =
+    subst (λ (old : List (List ℕ)). HasGoneBy (task_of c.args.options.now) c.args.options.now c.args.facts.now c.args.moment 1 (g.T.Tree.state c.new-fused.result.inner.tree.now) (drop (length (g.T.Tree.steps c.new-fused.result.inner.tree.now)) (g.T.Tree.steps c.run_on_tree.new.tree.inner.tree.now)) old c.run_on_tree.new.messages) c.requires.messages_kept (c.in-Err-Failed.ensures.read (ap Err c.in-Err-Failed.field-0-is)) in
+    let stated : IsStopped c.args.options.now c.args.facts.now c.args.moment (g.T.Tree.state c.new-fused.result.inner.tree.now) c.in-Some.limit c.say_stopped.new.messages (g.T.Tree.state c.run_on_tree.new.tree.inner.tree.now) =
     stopped_run c.args.options.now c.args.facts.now c.args.moment (g.T.Tree.state c.new-fused.result.inner.tree.now) (g.T.Tree.state c.run_on_tree.new.tree.inner.tree.now)
     (g.T.Tree.steps c.new-fused.result.inner.tree.now) (g.T.Tree.steps c.run_on_tree.new.tree.inner.tree.now) start c.in-Err-Failed.ensures.acted.ran
     c.in-Err-Failed.ensures.mended c.in-Err-Failed.ensures.anew c.in-Err-Failed.ensures.framed c.in-Err-Failed.ensures.between
-    c.run_on_tree.new.messages bound part said
+    c.run_on_tree.new.messages bound part new_messages
     c.in-Some.limit c.say_stopped.new.messages c.in-Some.is
     (burnt_stopped c.in-Some.limit _ _ _ (rw (c.new-fused.ensures, c.new.ensures.now, c.requires.fresh, c.in-Some.is) at c.in-Err-Failed.ensures.acted.reaches.1) (search rules))
     c.in_ok-say_stopped-in-Some.ensures.ok in
-    search (rules, told)
+    search (rules, stated)
 
 pub returns-in_default-clause-failed : goal.returns-in_default-clause-failed
 returns-in_default-clause-failed g c = λ _.
     let start : g.T.Tree.steps c.new-fused.result.inner.tree.now ≡ [] = rw (c.new-fused.ensures, c.new.ensures.now) c.requires.fresh in
     let bound : (length (g.T.Tree.steps c.run_on_tree.new.tree.inner.tree.now) - length (g.T.Tree.steps c.new-fused.result.inner.tree.now)) + 1 ≤ run_work c.args.options.now c.args.facts.now c.args.moment (g.T.Tree.state c.new-fused.result.inner.tree.now) =
     subst (λ f. (length (g.T.Tree.steps c.run_on_tree.new.tree.inner.tree.now) - length (g.T.Tree.steps c.new-fused.result.inner.tree.now)) + refused {A = RunEnd} (Err f) ≤ run_work c.args.options.now c.args.facts.now c.args.moment (g.T.Tree.state c.new-fused.result.inner.tree.now)) c.in-Err-Failed.field-0-is c.in-Err-Failed.ensures.acted.bound in
-    let part : HasSaidPartBy (task_of c.args.options.now) c.args.options.now c.args.facts.now c.args.moment (g.T.Tree.state c.new-fused.result.inner.tree.now) [] c.run_on_tree.new.messages =
-    subst (λ (old : List (List ℕ)). HasSaidPartBy (task_of c.args.options.now) c.args.options.now c.args.facts.now c.args.moment (g.T.Tree.state c.new-fused.result.inner.tree.now) old c.run_on_tree.new.messages) c.requires.unsaid c.in-Err-Failed.ensures.part in
-    let said : HasGoneBy (task_of c.args.options.now) c.args.options.now c.args.facts.now c.args.moment 1 (g.T.Tree.state c.new-fused.result.inner.tree.now) (drop (length (g.T.Tree.steps c.new-fused.result.inner.tree.now)) (g.T.Tree.steps c.run_on_tree.new.tree.inner.tree.now)) [] c.run_on_tree.new.messages =
-    subst (λ (old : List (List ℕ)). HasGoneBy (task_of c.args.options.now) c.args.options.now c.args.facts.now c.args.moment 1 (g.T.Tree.state c.new-fused.result.inner.tree.now) (drop (length (g.T.Tree.steps c.new-fused.result.inner.tree.now)) (g.T.Tree.steps c.run_on_tree.new.tree.inner.tree.now)) old c.run_on_tree.new.messages) c.requires.unsaid (c.in-Err-Failed.ensures.read (ap Err c.in-Err-Failed.field-0-is)) in
-    let told : HasFailed c.args.options.now c.args.facts.now c.args.moment (g.T.Tree.state c.new-fused.result.inner.tree.now) c.run_on_tree.new.messages (g.T.Tree.state c.run_on_tree.new.tree.inner.tree.now) =
+    let part : HasMessagesPartBy (task_of c.args.options.now) c.args.options.now c.args.facts.now c.args.moment (g.T.Tree.state c.new-fused.result.inner.tree.now) [] c.run_on_tree.new.messages =
+    subst (λ (old : List (List ℕ)). HasMessagesPartBy (task_of c.args.options.now) c.args.options.now c.args.facts.now c.args.moment (g.T.Tree.state c.new-fused.result.inner.tree.now) old c.run_on_tree.new.messages) c.requires.messages_kept c.in-Err-Failed.ensures.part in
+    let new_messages : HasGoneBy (task_of c.args.options.now) c.args.options.now c.args.facts.now c.args.moment 1 (g.T.Tree.state c.new-fused.result.inner.tree.now) (drop (length (g.T.Tree.steps c.new-fused.result.inner.tree.now)) (g.T.Tree.steps c.run_on_tree.new.tree.inner.tree.now)) [] c.run_on_tree.new.messages =
+    subst (λ (old : List (List ℕ)). HasGoneBy (task_of c.args.options.now) c.args.options.now c.args.facts.now c.args.moment 1 (g.T.Tree.state c.new-fused.result.inner.tree.now) (drop (length (g.T.Tree.steps c.new-fused.result.inner.tree.now)) (g.T.Tree.steps c.run_on_tree.new.tree.inner.tree.now)) old c.run_on_tree.new.messages) c.requires.messages_kept (c.in-Err-Failed.ensures.read (ap Err c.in-Err-Failed.field-0-is)) in
+    let stated : HasFailed c.args.options.now c.args.facts.now c.args.moment (g.T.Tree.state c.new-fused.result.inner.tree.now) c.run_on_tree.new.messages (g.T.Tree.state c.run_on_tree.new.tree.inner.tree.now) =
     failed_run c.args.options.now c.args.facts.now c.args.moment (g.T.Tree.state c.new-fused.result.inner.tree.now) (g.T.Tree.state c.run_on_tree.new.tree.inner.tree.now)
     (g.T.Tree.steps c.new-fused.result.inner.tree.now) (g.T.Tree.steps c.run_on_tree.new.tree.inner.tree.now) start c.in-Err-Failed.ensures.acted.ran
     c.in-Err-Failed.ensures.mended c.in-Err-Failed.ensures.anew c.in-Err-Failed.ensures.framed c.in-Err-Failed.ensures.between
-    c.run_on_tree.new.messages bound part said in
-    search (rules, told)
+    c.run_on_tree.new.messages bound part new_messages in
+    search (rules, stated)
 
 pub returns-in_default-clause-counted : goal.returns-in_default-clause-counted
 returns-in_default-clause-counted g c =
@@ -65,8 +65,8 @@ returns-in_default-clause-counted g c =
           let none : c.args.options.now.stop_after ≡ None = search (rules, w) in
           unlimited _ _ _ (rw (c.new-fused.ensures, c.new.ensures.now, c.requires.fresh, none) at acted.reaches.1)
     ] in
-    let told : g.T.Tree.faults c.run_on_tree.new.tree.inner.tree.now ≡ faults_after 1 (g.T.Tree.faults c.new-fused.result.inner.tree.now) =
+    let stated : g.T.Tree.faults c.run_on_tree.new.tree.inner.tree.now ≡ faults_after 1 (g.T.Tree.faults c.new-fused.result.inner.tree.now) =
     passed_counted _ _ _ c.run_on_tree.new.tree.inner.failed _ c.run_on_tree.new.tree.refused acted.reaches.0.1.1
     (ap (λ f. f.inner.failed) c.new-fused.ensures ∙ c.new.ensures.none) (ap (λ f. f.refused) c.new-fused.ensures) (rw c.in-Err-Failed.field-0-is at acted.counted)
     passed in
-    search (rules, told)
+    search (rules, stated)

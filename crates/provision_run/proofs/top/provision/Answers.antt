@@ -1,6 +1,6 @@
 use Rattle.std.proofs.Common.{map, string_bytes}
 use Rattle.std.proofs.KnownBytes.{Appends-nil}
-use Rattle.pv_words.specs.Asked.{asked_of}
+use Rattle.pv_words.specs.Invocation.{parse_args}
 use Rattle.provision_run.proofs.WrittenLaws.{front_written, generated_front, generated_nothing, generated_wholly, own_unfolded}
 use Rattle.provision_run.proofs.AnswerLaws.{own_not_read, own_not_written}
 use Rattle.provision_run.proofs.top.provision.Goals as goal
@@ -17,11 +17,11 @@ returns-in-Err-clause-written g c =
 
 pub returns-in-Err-clause-generated : goal.returns-in-Err-clause-generated
 returns-in-Err-clause-generated g c = λ seed count e.
-    generated_front (asked_of (map string_bytes c.args.words.now)) seed count e c.in-Ok.answer.outcome c.in-Ok.answer.output.items c.deref.result.now _ _ c.deref.ensures.value c.in-Ok.ensures.generated c.in-Err.ensures.front
+    generated_front (parse_args (map string_bytes c.args.words.now)) seed count e c.in-Ok.answer.outcome c.in-Ok.answer.output.items c.deref.result.now _ _ c.deref.ensures.value c.in-Ok.ensures.generated c.in-Err.ensures.front
 
 pub returns-in-Ok-write_all_of-clause-generated : goal.returns-in-Ok-write_all_of-clause-generated
 returns-in-Ok-write_all_of-clause-generated g c = λ seed count e.
-    generated_wholly (asked_of (map string_bytes c.args.words.now)) seed count e c.in-Ok.answer.outcome c.in-Ok.answer.output.items c.deref.result.now _ _ c.deref.ensures.value c.in-Ok.ensures.generated c.in-Ok-write_all_of.ensures.ok
+    generated_wholly (parse_args (map string_bytes c.args.words.now)) seed count e c.in-Ok.answer.outcome c.in-Ok.answer.output.items c.deref.result.now _ _ c.deref.ensures.value c.in-Ok.ensures.generated c.in-Ok-write_all_of.ensures.ok
 
 pub returns-in-Err-Memory-clause-generated : goal.returns-in-Err-Memory-clause-generated
 returns-in-Err-Memory-clause-generated g c = λ seed count e. generated_nothing seed count _ _ (Appends-nil (g.K.Sink.written c.args.sink.now))

@@ -8,4 +8,4 @@ use Rattle.pv_path.proofs.Tests.{on_ok}
 pub returns : goal.returns
 returns g c =
     let s = places (g.T.Tree.state c.args.tree.now) in
-    on_ok c.judge.result (λ e. e ∙ ap (λ (p : Path). c.args.said.now ++ unusable_text s p) c.in_ok-path.ensures) c.judge.ensures
+    on_ok c.judge.result (λ e. e ∙ ap (λ (p : Path). c.args.new_messages.now ++ unusable_text s p) c.in_ok-path.ensures) c.judge.ensures

@@ -2,18 +2,18 @@ use Rattle.std.proofs.Common.{◌≡◌, ◌++◌, [], IfOk, IfErr, OnOk, None, 
 use Rattle.std.specs.Prelude.{nat_lt}
 use Rattle.pv_steps.specs.Acting.{Acted}
 use Rattle.pv_steps.specs.Trees.{places}
-use Rattle.pv_sysusers.specs.Lines.{lines_from, said_duplicates}
-use Rattle.pv_text.specs.Said.{SaidPart}
+use Rattle.pv_sysusers.specs.Lines.{lines_from, duplicate_messages}
+use Rattle.pv_text.specs.GivenMessages.{MessagesPart}
 use Rattle.pv_walk.specs.Staging.{count_at_all}
 use Rattle.pv_accounts_run.specs.declared.edit.Edit.{Edit}
 use Rattle.pv_doing.specs.Courses.{carried_of}
 use Rattle.pv_doing.specs.declared.carried.Carried.{Carried}
-use Rattle.pv_accounts_run.specs.Accounted.{edits_by, edits_unless, lacking_in, lacking_unless, plan_at, said_unless, unusable_texts}
-use Rattle.pv_accounts_run.specs.Carrying.{AccountWay, IsAccountStep, most_put, swept_names}
+use Rattle.pv_accounts_run.specs.Accounted.{edits_by, edits_unless, lacking_in, lacking_unless, plan_at, messages_unless, unusable_texts}
+use Rattle.pv_accounts_run.specs.FileWriting.{AccountWay, IsAccountStep, most_put, swept_names}
 use Rattle.pv_accounts_run.specs.Turns.{TurnWay}
 use Rattle.pv_accounts_run.specs.Running.{IfLacking, Lacks, in_steps}
 use Rattle.pv_accounts_run.proofs.MendedLaws.{none_mended, run_mended}
-use Rattle.pv_accounts_run.proofs.RunningLaws.{nil_of, ok_accounted, some_accounted, some_lacking, some_said}
+use Rattle.pv_accounts_run.proofs.RunningLaws.{nil_of, ok_accounted, some_accounted, some_lacking, some_messages}
 use Rattle.pv_accounts_run.proofs.SweptLaws.{accounts_leave_none}
 use Rattle.pv_accounts_run.proofs.running.accounts_run.Goals as goal
 
@@ -21,8 +21,8 @@ pub returns-in_err-say_unusable-clause-part : goal.returns-in_err-say_unusable-c
 returns-in_err-say_unusable-clause-part g c =
     let s = places (g.T.Tree.state c.args.tree.now) in
     let some : 1 ≤ length (unusable_texts s) = subst (λ ys. 1 ≤ length ys) c.in_ok-unusable.ensures (omega (arith, c.len.ensures, c.if-len-gt0.true)) in
-    let e = some_said c.args.requests.now (unusable_texts s) (plan_at c.args.requests.now c.args.now s).said some in
-    subst (λ ys. SaidPart ys c.args.messages.now c.say_unusable.new.messages) (ap (λ ys. said_duplicates [] (lines_from [] 0 c.args.requests.now) ++ ys) c.in_ok-unusable.ensures ∙ sym e) c.say_unusable.ensures.part
+    let e = some_messages c.args.requests.now (unusable_texts s) (plan_at c.args.requests.now c.args.now s).new_messages some in
+    subst (λ ys. MessagesPart ys c.args.messages.now c.say_unusable.new.messages) (ap (λ ys. duplicate_messages [] (lines_from [] 0 c.args.requests.now) ++ ys) c.in_ok-unusable.ensures ∙ sym e) c.say_unusable.ensures.part
 
 pub returns-then-len-gt0-clause-ok : goal.returns-then-len-gt0-clause-ok
 returns-then-len-gt0-clause-ok g c =
@@ -30,14 +30,14 @@ returns-then-len-gt0-clause-ok g c =
     let some : 1 ≤ length (unusable_texts (places t)) = subst (λ ys. 1 ≤ length ys) c.in_ok-unusable.ensures (omega (arith, c.len.ensures, c.if-len-gt0.true)) in
     some_accounted c.args.requests.now c.args.now t some
 
-pub returns-then-len-gt0-clause-said : goal.returns-then-len-gt0-clause-said
-returns-then-len-gt0-clause-said g c =
+pub returns-then-len-gt0-clause-new_messages : goal.returns-then-len-gt0-clause-new_messages
+returns-then-len-gt0-clause-new_messages g c =
     let s = places (g.T.Tree.state c.args.tree.now) in
     let some : 1 ≤ length (unusable_texts s) = subst (λ ys. 1 ≤ length ys) c.in_ok-unusable.ensures (omega (arith, c.len.ensures, c.if-len-gt0.true)) in
-    let e = some_said c.args.requests.now (unusable_texts s) (plan_at c.args.requests.now c.args.now s).said some in
+    let e = some_messages c.args.requests.now (unusable_texts s) (plan_at c.args.requests.now c.args.now s).new_messages some in
     c.in_ok-say_unusable.ensures.ok
-    ∙ append_assoc c.args.messages.now (said_duplicates [] (lines_from [] 0 c.args.requests.now)) c.in_ok-unusable.unusable
-    ∙ ap (λ ys. c.args.messages.now ++ ys) (ap (λ ys. said_duplicates [] (lines_from [] 0 c.args.requests.now) ++ ys) c.in_ok-unusable.ensures ∙ sym e)
+    ∙ append_assoc c.args.messages.now (duplicate_messages [] (lines_from [] 0 c.args.requests.now)) c.in_ok-unusable.unusable
+    ∙ ap (λ ys. c.args.messages.now ++ ys) (ap (λ ys. duplicate_messages [] (lines_from [] 0 c.args.requests.now) ++ ys) c.in_ok-unusable.ensures ∙ sym e)
 
 pub returns-then-len-gt0-clause-enough : goal.returns-then-len-gt0-clause-enough
 returns-then-len-gt0-clause-enough g c =
@@ -49,8 +49,8 @@ pub returns-then-len-gt0-clause-part : goal.returns-then-len-gt0-clause-part
 returns-then-len-gt0-clause-part g c =
     let s = places (g.T.Tree.state c.args.tree.now) in
     let some : 1 ≤ length (unusable_texts s) = subst (λ ys. 1 ≤ length ys) c.in_ok-unusable.ensures (omega (arith, c.len.ensures, c.if-len-gt0.true)) in
-    let e = some_said c.args.requests.now (unusable_texts s) (plan_at c.args.requests.now c.args.now s).said some in
-    subst (λ ys. SaidPart ys c.args.messages.now c.say_unusable.new.messages) (ap (λ ys. said_duplicates [] (lines_from [] 0 c.args.requests.now) ++ ys) c.in_ok-unusable.ensures ∙ sym e) c.say_unusable.ensures.part
+    let e = some_messages c.args.requests.now (unusable_texts s) (plan_at c.args.requests.now c.args.now s).new_messages some in
+    subst (λ ys. MessagesPart ys c.args.messages.now c.say_unusable.new.messages) (ap (λ ys. duplicate_messages [] (lines_from [] 0 c.args.requests.now) ++ ys) c.in_ok-unusable.ensures ∙ sym e) c.say_unusable.ensures.part
 
 pub returns-then-len-gt0-clause-staged : goal.returns-then-len-gt0-clause-staged
 returns-then-len-gt0-clause-staged g c =
@@ -103,17 +103,17 @@ returns-clause-mended g c =
     run_mended c.args.requests.now c.args.now c.ranges.now.fits (edits_by (places t) plan.texts) (IsAccountStep (edits_by (places t) plan.texts) t) t (g.T.Tree.steps c.args.tree.now)
     (g.T.Tree.state c.run_usable.new.tree) (g.T.Tree.steps c.run_usable.new.tree) c.is_present-rooted.ensures.tree (sym (ap (λ xs. edits_unless xs (edits_by (places t) plan.texts)) none)) c.run_usable.ensures.acted.ran
 
-pub returns-clause-said : goal.returns-clause-said
-returns-clause-said g c =
+pub returns-clause-new_messages : goal.returns-clause-new_messages
+returns-clause-new_messages g c =
     let t = g.T.Tree.state c.args.tree.now in
     let none : unusable_texts (places t) ≡ [] = nil_of (unusable_texts (places t)) (subst (λ ys. length ys ≤ 0) c.in_ok-unusable.ensures (omega (arith, c.len.ensures, c.if-len-gt0.false))) in
-    subst (λ (ys : List (List ℕ)). OnOk c.run_usable.result (c.run_usable.new.messages ≡ c.args.messages.now ++ said_unless c.args.requests.now ys (plan_at c.args.requests.now c.args.now (places t)).said)) (sym none) c.run_usable.ensures.said
+    subst (λ (ys : List (List ℕ)). OnOk c.run_usable.result (c.run_usable.new.messages ≡ c.args.messages.now ++ messages_unless c.args.requests.now ys (plan_at c.args.requests.now c.args.now (places t)).new_messages)) (sym none) c.run_usable.ensures.new_messages
 
-pub returns-clause-lacking_said : goal.returns-clause-lacking_said
-returns-clause-lacking_said g c =
+pub returns-clause-lacking_messages : goal.returns-clause-lacking_messages
+returns-clause-lacking_messages g c =
     let t = g.T.Tree.state c.args.tree.now in
     let none : unusable_texts (places t) ≡ [] = nil_of (unusable_texts (places t)) (subst (λ ys. length ys ≤ 0) c.in_ok-unusable.ensures (omega (arith, c.len.ensures, c.if-len-gt0.false))) in
-    subst (λ (ys : List (List ℕ)). IfLacking c.run_usable.result (c.run_usable.new.messages ≡ c.args.messages.now ++ said_unless c.args.requests.now ys (plan_at c.args.requests.now c.args.now (places t)).said)) (sym none) c.run_usable.ensures.lacking_said
+    subst (λ (ys : List (List ℕ)). IfLacking c.run_usable.result (c.run_usable.new.messages ≡ c.args.messages.now ++ messages_unless c.args.requests.now ys (plan_at c.args.requests.now c.args.now (places t)).new_messages)) (sym none) c.run_usable.ensures.lacking_messages
 
 pub returns-clause-failed_enough : goal.returns-clause-failed_enough
 returns-clause-failed_enough g c =
@@ -121,17 +121,17 @@ returns-clause-failed_enough g c =
     let none : unusable_texts (places t) ≡ [] = nil_of (unusable_texts (places t)) (subst (λ ys. length ys ≤ 0) c.in_ok-unusable.ensures (omega (arith, c.len.ensures, c.if-len-gt0.false))) in
     λ failed. ap (λ ys. lacking_unless ys (lacking_in (plan_at c.args.requests.now c.args.now (places t)).texts)) none ∙ c.run_usable.ensures.failed_enough failed
 
-pub returns-clause-failed_said : goal.returns-clause-failed_said
-returns-clause-failed_said g c =
+pub returns-clause-failed_messages : goal.returns-clause-failed_messages
+returns-clause-failed_messages g c =
     let t = g.T.Tree.state c.args.tree.now in
     let none : unusable_texts (places t) ≡ [] = nil_of (unusable_texts (places t)) (subst (λ ys. length ys ≤ 0) c.in_ok-unusable.ensures (omega (arith, c.len.ensures, c.if-len-gt0.false))) in
-    λ failed. c.run_usable.ensures.failed_said failed ∙ ap (λ ys. c.args.messages.now ++ said_unless c.args.requests.now ys (plan_at c.args.requests.now c.args.now (places t)).said) (sym none)
+    λ failed. c.run_usable.ensures.failed_messages failed ∙ ap (λ ys. c.args.messages.now ++ messages_unless c.args.requests.now ys (plan_at c.args.requests.now c.args.now (places t)).new_messages) (sym none)
 
 pub returns-clause-part : goal.returns-clause-part
 returns-clause-part g c =
     let t = g.T.Tree.state c.args.tree.now in
     let none : unusable_texts (places t) ≡ [] = nil_of (unusable_texts (places t)) (subst (λ ys. length ys ≤ 0) c.in_ok-unusable.ensures (omega (arith, c.len.ensures, c.if-len-gt0.false))) in
-    subst (λ (ys : List (List ℕ)). SaidPart (said_unless c.args.requests.now ys (plan_at c.args.requests.now c.args.now (places t)).said) c.args.messages.now c.run_usable.new.messages) (sym none) c.run_usable.ensures.part
+    subst (λ (ys : List (List ℕ)). MessagesPart (messages_unless c.args.requests.now ys (plan_at c.args.requests.now c.args.now (places t)).new_messages) c.args.messages.now c.run_usable.new.messages) (sym none) c.run_usable.ensures.part
 
 pub returns-clause-enough : goal.returns-clause-enough
 returns-clause-enough g c =

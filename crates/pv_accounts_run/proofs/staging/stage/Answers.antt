@@ -5,8 +5,8 @@ use Rattle.pv_steps.specs.Trees.{IsKindIn, places}
 use Rattle.pv_steps.specs.Steps.{HasRoom, made}
 use Rattle.pv_steps.specs.Acting.{Acted}
 use Rattle.pv_steps.proofs.ActingLaws.{Moves, acted_none, acted_passed, acted_within, no_memory}
-use Rattle.pv_dress.specs.Dressing.{CanDress, ChangedAt, Dressing, GivesDress, dressed}
-use Rattle.pv_dress.specs.Edits.{SameOutside}
+use Rattle.pv_metadata.specs.SettingMetadata.{CanSetMetadata, ChangedAt, SettingMetadata, GivesMetadata, with_metadata}
+use Rattle.pv_metadata.specs.Edits.{SameOutside}
 use Rattle.pv_walk.specs.declared.new_file.NewFile.{NewFile}
 use Rattle.pv_walk.specs.Making.{Beginning, held_object}
 use Rattle.pv_walk.specs.Staging.{GivesNew}
@@ -14,7 +14,7 @@ use Rattle.pv_walk.proofs.StageLaws.{staged_room}
 use Rattle.pv_walk.proofs.SweepLaws.{short_name}
 use Rattle.pv_accounts_run.specs.Edits.{most_staged, new_file, StagesEdit}
 use Rattle.pv_accounts_run.specs.Turns.{StagingOne}
-use Rattle.pv_accounts_run.proofs.ActedLaws.{can_dress, dressed_acted, made_acted, staged_gives}
+use Rattle.pv_accounts_run.proofs.ActedLaws.{can_set_metadata, with_metadata_acted, made_acted, staged_gives}
 use Rattle.pv_accounts_run.proofs.StagingLaws.{stage_some}
 use Rattle.pv_accounts_run.proofs.TurnLaws.{begun_acted, one_acted, one_start}
 use Rattle.pv_accounts_run.proofs.staging.stage.Goals as goal
@@ -42,16 +42,16 @@ returns-in_err-put_held-clause-acted g c =
     (subst (λ (n : NewFile). Acted g.T.Tree (SameOutside (is_prefix (staging_of edit.path)) t) (GivesNew (staging_of edit.path) n) 2 c.args.now c.args.tree.now c.put_held.new.tree c.put_held.result) c.in_ok-new.ensures
     (subst (λ (p : Path). Acted g.T.Tree (SameOutside (is_prefix p) t) (GivesNew p c.in_ok-new.new) 2 c.args.now c.args.tree.now c.put_held.new.tree c.put_held.result) c.in_ok-stage.ensures c.put_held.ensures.acted))))
 
-pub dress-requires : goal.dress-requires
-dress-requires g c =
+pub set_metadata-requires : goal.set_metadata-requires
+set_metadata-requires g c =
     let edit = c.args.edit.now in
     let t = g.T.Tree.state c.args.tree.now in
     let is =
     c.in_ok-put_held.ensures.ok ∙ ap (λ (n : NewFile). made c.args.now c.in_ok-stage.stage (held_object n.what c.args.now) (places t)) c.in_ok-new.ensures
     ∙ ap (λ (p : Path). made c.args.now p (held_object (new_file edit).what c.args.now) (places t)) c.in_ok-stage.ensures
     in
-    subst (λ (p : Path). CanDress (g.T.Tree.state c.put_held.new.tree) p edit.dress) (sym c.in_ok-stage.ensures)
-    (can_dress edit c.requires.edit c.args.now t (g.T.Tree.state c.put_held.new.tree) is)
+    subst (λ (p : Path). CanSetMetadata (g.T.Tree.state c.put_held.new.tree) p edit.metadata) (sym c.in_ok-stage.ensures)
+    (can_set_metadata edit c.requires.edit c.args.now t (g.T.Tree.state c.put_held.new.tree) is)
 
 pub returns-clause-ok : goal.returns-clause-ok
 returns-clause-ok g c =
@@ -62,8 +62,8 @@ returns-clause-ok g c =
     c.in_ok-put_held.ensures.ok ∙ ap (λ (n : NewFile). made c.args.now c.in_ok-stage.stage (held_object n.what c.args.now) (places t)) c.in_ok-new.ensures
     ∙ ap (λ (p : Path). made c.args.now p (held_object (new_file edit).what c.args.now) (places t)) c.in_ok-stage.ensures
     in
-    on_ok c.dress.result (λ h. staged_gives edit c.requires.edit c.args.now t u is (g.T.Tree.state c.dress.new.tree) h)
-    (subst (λ (p : Path). OnOk c.dress.result (ChangedAt (dressed edit.dress) p c.args.now u (g.T.Tree.state c.dress.new.tree))) c.in_ok-stage.ensures c.dress.ensures.ok)
+    on_ok c.set_metadata.result (λ h. staged_gives edit c.requires.edit c.args.now t u is (g.T.Tree.state c.set_metadata.new.tree) h)
+    (subst (λ (p : Path). OnOk c.set_metadata.result (ChangedAt (with_metadata edit.metadata) p c.args.now u (g.T.Tree.state c.set_metadata.new.tree))) c.in_ok-stage.ensures c.set_metadata.ensures.ok)
 
 pub returns-clause-acted : goal.returns-clause-acted
 returns-clause-acted g c =
@@ -71,10 +71,10 @@ returns-clause-acted g c =
     let edit = c.args.edit.now in
     let t = g.T.Tree.state c.args.tree.now in
     let u = g.T.Tree.state c.put_held.new.tree in
-    dressed_acted g.T.Tree edit c.requires.edit moves
+    with_metadata_acted g.T.Tree edit c.requires.edit moves
     (subst (λ (n : NewFile). Acted g.T.Tree (SameOutside (is_prefix (staging_of edit.path)) t) (GivesNew (staging_of edit.path) n) 2 c.args.now c.args.tree.now c.put_held.new.tree (Ok c.in_ok-put_held.field-0)) c.in_ok-new.ensures
     (subst (λ (p : Path). Acted g.T.Tree (SameOutside (is_prefix p) t) (GivesNew p c.in_ok-new.new) 2 c.args.now c.args.tree.now c.put_held.new.tree (Ok c.in_ok-put_held.field-0)) c.in_ok-stage.ensures c.in_ok-put_held.ensures.acted))
-    (subst (λ (p : Path). Acted g.T.Tree (Dressing p edit.dress u) (GivesDress p edit.dress u) 5 c.args.now c.put_held.new.tree c.dress.new.tree c.dress.result) c.in_ok-stage.ensures c.dress.ensures.acted)
+    (subst (λ (p : Path). Acted g.T.Tree (SettingMetadata p edit.metadata u) (GivesMetadata p edit.metadata u) 5 c.args.now c.put_held.new.tree c.set_metadata.new.tree c.set_metadata.result) c.in_ok-stage.ensures c.set_metadata.ensures.acted)
 
 pub returns-in_err-new-clause-stages : goal.returns-in_err-new-clause-stages
 returns-in_err-new-clause-stages g c =
@@ -110,4 +110,4 @@ returns-clause-stages g c =
     one_acted g.T.Tree edit c.requires.edit moves is
     (subst (λ (n : NewFile). Acted g.T.Tree (Beginning (staging_of edit.path) n.what t) (GivesNew (staging_of edit.path) n) 2 c.args.now c.args.tree.now c.put_held.new.tree (Ok c.in_ok-put_held.field-0)) c.in_ok-new.ensures
     (subst (λ (p : Path). Acted g.T.Tree (Beginning p c.in_ok-new.new.what t) (GivesNew p c.in_ok-new.new) 2 c.args.now c.args.tree.now c.put_held.new.tree (Ok c.in_ok-put_held.field-0)) c.in_ok-stage.ensures c.in_ok-put_held.ensures.begun))
-    (subst (λ (p : Path). Acted g.T.Tree (Dressing p edit.dress u) (GivesDress p edit.dress u) 5 c.args.now c.put_held.new.tree c.dress.new.tree c.dress.result) c.in_ok-stage.ensures c.dress.ensures.acted)
+    (subst (λ (p : Path). Acted g.T.Tree (SettingMetadata p edit.metadata u) (GivesMetadata p edit.metadata u) 5 c.args.now c.put_held.new.tree c.set_metadata.new.tree c.set_metadata.result) c.in_ok-stage.ensures c.set_metadata.ensures.acted)

@@ -4,10 +4,10 @@ use Rattle.pv_path.specs.Paths.{Path, staging_of}
 use Rattle.pv_steps.specs.Trees.{IsAbsentIn, places}
 use Rattle.pv_steps.specs.Content.{Removes}
 use Rattle.pv_steps.proofs.ActingLaws.{Moves, well, acted_none, acted_within, acted_passed, acted_end}
-use Rattle.pv_dress.specs.Edits.{Pruned, all_taken, count_at}
+use Rattle.pv_metadata.specs.Edits.{Pruned, all_taken, count_at}
 use Rattle.pv_walk.specs.Staging.{count_at_all, is_under_any}
 use Rattle.pv_walk.proofs.SweepLaws.{pruned-none}
-use Rattle.pv_accounts_run.specs.Carrying.{IsSweptPath, swept_names}
+use Rattle.pv_accounts_run.specs.FileWriting.{IsSweptPath, swept_names}
 use Rattle.pv_accounts_run.proofs.ActedLaws.{fewer, others, parted}
 use Rattle.pv_accounts_run.proofs.SweepingLaws.{absent_stays, count_fewer, count_first, swept_then}
 use Rattle.pv_accounts_run.proofs.sweeping.+sweep_files.Goals as goal

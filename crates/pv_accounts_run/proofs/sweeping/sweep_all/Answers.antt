@@ -5,12 +5,12 @@ use Rattle.pv_steps.specs.Trees.{IsAbsentIn, places}
 use Rattle.pv_steps.specs.Acting.{Acted}
 use Rattle.pv_steps.specs.Content.{Removes}
 use Rattle.pv_steps.proofs.ActingLaws.{Moves, acted_none, acted_within, acted_passed, acted_end, no_memory}
-use Rattle.pv_dress.specs.Edits.{Pruned, all_taken}
+use Rattle.pv_metadata.specs.Edits.{Pruned, all_taken}
 use Rattle.pv_walk.specs.Staging.{can_stage, count_at_all, is_under_any, staging_names}
 use Rattle.pv_walk.proofs.SweepLaws.{pruned-none}
 use Rattle.pv_walk.proofs.PreparingSweep.{swept_along}
 use Rattle.pv_accounts_run.specs.Edits.{etc}
-use Rattle.pv_accounts_run.specs.Carrying.{IsSweptPath, account_paths, swept_names}
+use Rattle.pv_accounts_run.specs.FileWriting.{IsSweptPath, account_paths, swept_names}
 use Rattle.pv_accounts_run.proofs.SweepingLaws.{all_swept, count_all, count_fewer, etc_among, swept_then, swept_within}
 use Rattle.pv_accounts_run.proofs.sweeping.sweep_all.Goals as goal
 use Rattle.pv_path.proofs.Tests.{on_ok}

@@ -1,7 +1,7 @@
 use Rattle.pv_path.proofs.PathLaws.{is_prefix-refl}
 use Rattle.pv_steps.proofs.ActingLaws.{Moves, acted_within}
 use Rattle.pv_path.specs.Paths.{staging_of}
-use Rattle.pv_dress.specs.Edits.{count_at}
+use Rattle.pv_metadata.specs.Edits.{count_at}
 use Rattle.pv_walk.specs.Staging.{count_at_all, is_under_any, staging_names}
 use Rattle.pv_walk.proofs.PreparingSweep.{swept_along}
 use Rattle.pv_accounts_run.proofs.SweepingLaws.{count_one, path_among, swept_within}

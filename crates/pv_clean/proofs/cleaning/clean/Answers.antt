@@ -6,7 +6,7 @@ use Rattle.pv_steps.specs.Acting.{Acted}
 use Rattle.pv_steps.specs.Objects.{changed}
 use Rattle.pv_steps.proofs.ActingLaws.{acted_within}
 use Rattle.pv_steps.proofs.TryingLaws.{acted_all, ask_can, tried_whole}
-use Rattle.pv_dress.specs.Edits.{Pruned}
+use Rattle.pv_metadata.specs.Edits.{Pruned}
 use Rattle.pv_steps.specs.Trees.{places}
 use Rattle.pv_walk.specs.Listing.{AreGathered, IsListing}
 use Rattle.pv_walk.specs.Removal.{is_one_of}
@@ -59,7 +59,7 @@ returns-clause-exact g c =
     let steps = c.in_ok-steps.steps.items in
     let same : goes ≡ is_aged c.args.table.now c.args.now t = λ i q. c.in_ok-aged.ensures q i in
     on_ok c.try_all.result
-    (λ told. ap length told ∙ length-reverse steps ∙ planned_exact goes t steps c.in_ok-steps.ensures ∙ ap (λ (f : Path → Bool). most_steps f t) same)
+    (λ stated. ap length stated ∙ length-reverse steps ∙ planned_exact goes t steps c.in_ok-steps.ensures ∙ ap (λ (f : Path → Bool). most_steps f t) same)
     (tried_told g.T.Tree (reverse steps) c.args.now c.args.tree.now c.try_all.new.tree c.try_all.result c.try_all.ensures)
 
 pub returns-clause-acted : goal.returns-clause-acted

@@ -1,5 +1,5 @@
 use Rattle.std.proofs.Common.{sym, ap, ◌∙◌}
-use Rattle.pv_table.specs.declared.deed.Deed.TheVariants.{Copy}
+use Rattle.pv_table.specs.declared.action.Action.TheVariants.{Copy}
 use Rattle.pv_table.specs.Turns.{view_of}
 use Rattle.pv_create.specs.Deciding.{meant}
 use Rattle.pv_create.proofs.DecidingLaws.{copy_over}

@@ -1,5 +1,5 @@
 use Rattle.std.proofs.Common.{ap, ◌∙◌}
-use Rattle.pv_table.specs.declared.deed.Deed.TheVariants.{Create}
+use Rattle.pv_table.specs.declared.action.Action.TheVariants.{Create}
 use Rattle.pv_table.specs.Turns.{view_of}
 use Rattle.pv_create.specs.declared.deciding.Turn.{Turn}
 use Rattle.pv_create.specs.Deciding.{meant, kept_turn}

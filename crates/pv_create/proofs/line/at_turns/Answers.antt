@@ -3,8 +3,8 @@ use Rattle.pv_steps.proofs.ActingLaws.{Moves}
 use Rattle.pv_create.proofs.LineLaws.{line_none, turns_start, turn_now, turns_failed, turns_next, turns_end, by_turns}
 use Rattle.pv_create.proofs.line.at_turns.Goals as goal
 
-pub returns-in_err-deed : goal.returns-in_err-deed
-returns-in_err-deed g c =
+pub returns-in_err-action : goal.returns-in_err-action
+returns-in_err-action g c =
     let moves : Moves g.T.Tree = record { stays = g.met.T.Tree.reaches_self; goes_on = g.met.T.Tree.reaches_on; never_falls = g.met.T.Tree.never_falls } in
     line_none g.T.Tree moves c.args.now c.args.line.now c.args.tree.now c.args.messages.now c.from_residual.result c.from_residual.ensures.1
 
@@ -17,7 +17,7 @@ pub loop-path-init : goal.loop-path-init
 loop-path-init g c =
     let moves : Moves g.T.Tree = record { stays = g.met.T.Tree.reaches_self; goes_on = g.met.T.Tree.reaches_on; never_falls = g.met.T.Tree.never_falls } in
     let are = c.deref-path-items.ensures.value ∙ c.in_ok-paths.ensures in
-    (sym c.in_ok-deed.ensures, turns_start g.T.Tree moves c.args.now c.args.line.now c.deref-path-items.result.now c.args.tree.now are c.args.messages.now)
+    (sym c.in_ok-action.ensures, turns_start g.T.Tree moves c.args.now c.args.line.now c.deref-path-items.result.now c.args.tree.now are c.args.messages.now)
 
 pub at_turn-requires : goal.at_turn-requires
 at_turn-requires g c =

@@ -5,8 +5,8 @@ use Rattle.pv_create.specs.Adjusting.{Adjusting, GivesSet}
 use Rattle.pv_create.proofs.AdjustLaws.{standing, adjusting_start, file_wanted, can_wear, adjusted_on, bytes_acted, all_acted}
 use Rattle.pv_create.proofs.object.adjust.Goals as goal
 
-pub give_dress-requires : goal.give_dress-requires
-give_dress-requires g c =
+pub give_metadata-requires : goal.give_metadata-requires
+give_metadata-requires g c =
     let t = g.T.Tree.state c.args.tree.now in
     let o = standing t c.args.path.now c.requires.present in
     can_wear c.args.path.now c.args.sets.now c.requires.sets t c.wanted_at.ensures.tree o.0 o.1 c.in_ok-new.new (c.in_ok-new.ensures.wanted o.0 o.1) c.args.now (g.T.Tree.state c.give_bytes.new.tree) c.in_ok-give_bytes.ensures.ok
@@ -25,7 +25,7 @@ returns-clause-ok g c =
     let t = g.T.Tree.state c.args.tree.now in
     let o = standing t c.args.path.now c.requires.present in
     adjusted_on c.args.path.now c.args.sets.now c.requires.sets t c.wanted_at.ensures.tree o.0 o.1 c.in_ok-new.new (c.in_ok-new.ensures.wanted o.0 o.1) c.args.now (g.T.Tree.state c.give_bytes.new.tree) c.in_ok-give_bytes.ensures.ok
-    c.give_dress.result (g.T.Tree.state c.give_dress.new.tree) c.give_dress.ensures.ok
+    c.give_metadata.result (g.T.Tree.state c.give_metadata.new.tree) c.give_metadata.ensures.ok
 
 pub returns-clause-acted : goal.returns-clause-acted
 returns-clause-acted g c =
@@ -33,7 +33,7 @@ returns-clause-acted g c =
     let t = g.T.Tree.state c.args.tree.now in
     let o = standing t c.args.path.now c.requires.present in
     all_acted g.T.Tree moves c.args.path.now c.args.sets.now c.requires.sets c.args.tree.now c.give_bytes.new.tree c.wanted_at.ensures.tree o.0 o.1 c.in_ok-new.new (c.in_ok-new.ensures.wanted o.0 o.1) c.args.now
-    c.give_dress.new.tree c.in_ok-give_bytes.ensures.ok tt c.in_ok-give_bytes.ensures.acted c.in_ok-give_bytes.ensures.idle c.give_dress.result c.give_dress.ensures.acted c.give_dress.ensures.few c.give_dress.ensures.two c.give_dress.ensures.idle
+    c.give_metadata.new.tree c.in_ok-give_bytes.ensures.ok tt c.in_ok-give_bytes.ensures.acted c.in_ok-give_bytes.ensures.idle c.give_metadata.result c.give_metadata.ensures.acted c.give_metadata.ensures.few c.give_metadata.ensures.two c.give_metadata.ensures.idle
 
 pub give_bytes-requires : goal.give_bytes-requires
 give_bytes-requires g c =

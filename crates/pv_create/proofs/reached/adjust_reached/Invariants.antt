@@ -11,7 +11,7 @@ use Rattle.pv_create.proofs.reached.adjust_reached.Given as goal
 
 abbrev pub invariant-loop-at : goal.invariant-loop-at
 invariant-loop-at g l = record {
-  here : places (g.T.Tree.state l.tree) ≡ each_at (become l.now l.touching.sets) (take l.at-index l.at-items) (places (g.T.Tree.state l.fn.tree));
-  acted : Acted g.T.Tree (AdjustingReached l.touching l.path (g.T.Tree.state l.fn.tree)) (GivesReached l.touching l.path (g.T.Tree.state l.fn.tree))
-      (sum (map (λ q. change_work l.touching.sets (places (g.T.Tree.state l.fn.tree) q)) (take l.at-index l.at-items))) l.now l.fn.tree l.tree well;
+  here : places (g.T.Tree.state l.tree) ≡ each_at (become l.now l.adjustment.sets) (take l.at-index l.at-items) (places (g.T.Tree.state l.fn.tree));
+  acted : Acted g.T.Tree (AdjustingReached l.adjustment l.path (g.T.Tree.state l.fn.tree)) (GivesReached l.adjustment l.path (g.T.Tree.state l.fn.tree))
+      (sum (map (λ q. change_work l.adjustment.sets (places (g.T.Tree.state l.fn.tree) q)) (take l.at-index l.at-items))) l.now l.fn.tree l.tree well;
 }

@@ -6,6 +6,6 @@ use Rattle.pv_create.proofs.reached.reached_below.Goals as goal
 
 pub returns : goal.returns
 returns g c =
-    let deep = c.if-not-touching.false in
+    let deep = c.if-not-adjustment.false in
     let kept = filter_from_retain _ (λ q. not (has_staging q)) (λ p x b q h. search rules) _ _ _ c.retain.ensures.filtered in
-    unstaged c.args.touching.now c.args.path.now (g.T.Tree.state c.args.tree.now) c.in_ok-paths.paths.items c.retain.new.self.items deep c.in_ok-paths.ensures.all kept
+    unstaged c.args.adjustment.now c.args.path.now (g.T.Tree.state c.args.tree.now) c.in_ok-paths.paths.items c.retain.new.self.items deep c.in_ok-paths.ensures.all kept

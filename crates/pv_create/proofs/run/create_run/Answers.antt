@@ -1,7 +1,7 @@
 use Rattle.std.proofs.Common.{◌≡◌, ◌++◌, List, ℕ, OnOk, subst}
 use Rattle.pv_doing.specs.Courses.{Partway, IsStepOfSome}
 use Rattle.pv_steps.specs.Acting.{Acted}
-use Rattle.pv_text.specs.Said.{SaidPart}
+use Rattle.pv_text.specs.GivenMessages.{MessagesPart}
 use Rattle.pv_table.specs.Active.{in_create_order}
 use Rattle.pv_create.specs.Ways.{lines_course}
 use Rattle.pv_create.proofs.RunLaws.{counting_says, counting_takes, none_staged}
@@ -14,10 +14,10 @@ use Rattle.pv_create.proofs.run.create_run.Goals as goal
 pub returns-clause-ok : goal.returns-clause-ok
 returns-clause-ok g c = c.run_in_order.ensures.ok
 
-pub returns-clause-said : goal.returns-clause-said
-returns-clause-said g c =
+pub returns-clause-new_messages : goal.returns-clause-new_messages
+returns-clause-new_messages g c =
     subst (λ (says : List (List ℕ)). OnOk c.run_in_order.result (c.run_in_order.new.messages ≡ c.args.messages.now ++ says))
-    (counting_says c.args.now (in_create_order c.args.table.now) (g.T.Tree.state c.args.tree.now)) c.run_in_order.ensures.said
+    (counting_says c.args.now (in_create_order c.args.table.now) (g.T.Tree.state c.args.tree.now)) c.run_in_order.ensures.new_messages
 
 pub returns-clause-carried : goal.returns-clause-carried
 returns-clause-carried g c = c.run_in_order.ensures.carried
@@ -30,7 +30,7 @@ returns-clause-staged g c =
 
 pub returns-clause-part : goal.returns-clause-part
 returns-clause-part g c =
-    subst (λ (says : List (List ℕ)). SaidPart says c.args.messages.now c.run_in_order.new.messages)
+    subst (λ (says : List (List ℕ)). MessagesPart says c.args.messages.now c.run_in_order.new.messages)
     (counting_says c.args.now (in_create_order c.args.table.now) (g.T.Tree.state c.args.tree.now)) c.run_in_order.ensures.part
 
 pub returns-clause-acted : goal.returns-clause-acted

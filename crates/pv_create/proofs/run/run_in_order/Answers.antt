@@ -35,8 +35,8 @@ line_at-requires g c =
     let is : place ≡ get_or (create_order c.args.table.now) i 0 = ap (λ v. get_or v i 0) items in
     is_there c.args.table.now i place within is
 
-pub carry_out-requires : goal.carry_out-requires
-carry_out-requires g c =
+pub create_line-requires : goal.create_line-requires
+create_line-requires g c =
     let place = get_or c.as_slice-place-items.result.now c.loop-place.place-index 0 in
     record { line = of_all IsLine c.args.table.now c.lines-lines.ensures.whole place c.line_at.result.now c.line_at.ensures }
 
@@ -52,7 +52,7 @@ returns-in_err-one g c =
     let line = c.line_at.result.now in
     let next = is_left c.args.table.now i place within is line c.line_at.ensures in
     underway_failed g.T.Tree moves (lines_course c.args.now) (line_start c.args.now) all c.args.now c.args.tree.now c.args.messages.now (drop i all) (drop (i + 1) all) line next
-    c.loop-place.carried c.loop-place.tree c.loop-place.messages c.loop-place.invariant.run c.carry_out.new.tree c.carry_out.new.messages c.carry_out.result c.from_residual-in_err-one.result c.in_err-one.was c.from_residual-in_err-one.ensures.1 c.carry_out.ensures
+    c.loop-place.carried c.loop-place.tree c.loop-place.messages c.loop-place.invariant.run c.create_line.new.tree c.create_line.new.messages c.create_line.result c.from_residual-in_err-one.result c.in_err-one.was c.from_residual-in_err-one.ensures.1 c.create_line.ensures
 
 pub loop-place-preserved : goal.loop-place-preserved
 loop-place-preserved g c =
@@ -69,7 +69,7 @@ loop-place-preserved g c =
       items = items;
       run =
           underway_next g.T.Tree moves (lines_course c.args.now) (line_start c.args.now) all c.args.now c.args.tree.now c.args.messages.now (drop i all) (drop (i + 1) all) line next
-          c.loop-place.carried c.loop-place.tree c.loop-place.messages c.loop-place.invariant.run c.carry_out.new.tree c.carry_out.new.messages c.in_ok-one.one c.and-carried.result c.in_ok-one.ensures c.and-carried.ensures;
+          c.loop-place.carried c.loop-place.tree c.loop-place.messages c.loop-place.invariant.run c.create_line.new.tree c.create_line.new.messages c.in_ok-one.one c.and-carried.result c.in_ok-one.ensures c.and-carried.ensures;
     }
 
 pub returns : goal.returns

@@ -1,16 +1,16 @@
 use Rattle.std.proofs.Common.{◌≡◌, ◌++◌, List, ℕ, None, Ok, is_some, option_map, refl, sym, ap, subst, ◌∙◌, append-nil}
 use Rattle.pv_doing.specs.Courses.{carried_of}
 use Rattle.pv_doing.specs.declared.carried.Carried.TheVariants.{Whole}
-use Rattle.pv_doing.proofs.CarryingLaws.{single_said, single_failed}
+use Rattle.pv_doing.proofs.CarryingLaws.{single_messages, single_failed}
 use Rattle.pv_doing.proofs.CourseLaws.{part_none, single_gone}
 use Rattle.pv_steps.specs.Trees.{places}
 use Rattle.pv_steps.proofs.ActingLaws.{Moves, acted_ended}
-use Rattle.pv_text.specs.Said.{SaidPart}
+use Rattle.pv_text.specs.GivenMessages.{MessagesPart}
 use Rattle.pv_table.specs.Saying.{turn_messages}
 use Rattle.pv_table.specs.Turns.{refused_at}
 use Rattle.pv_create.specs.OnWay.{turn_course}
 use Rattle.pv_create.specs.Refusing.{refused_as}
-use Rattle.pv_create.proofs.DeedLaws.{line_deed, line_short, copied_short}
+use Rattle.pv_create.proofs.ActionLaws.{line_action, line_short, copied_short}
 use Rattle.pv_create.proofs.RefusedLaws.{turn_none, turn_refused}
 use Rattle.pv_create.proofs.TurnLaws.{turn_start, nothing_after, nothing_says, ready_acted, settled_acted, settled_after, settled_says}
 use Rattle.pv_create.proofs.turning.at_turn.Goals as goal
@@ -19,16 +19,16 @@ use Rattle.pv_create.proofs.turning.at_turn.Goals as goal
 
 pub refusal-requires-clause-few : goal.refusal-requires-clause-few
 refusal-requires-clause-few g c =
-    line_short c.args.at.now.line.now c.args.at.now.deed.now c.args.at.now.path.now (g.T.Tree.state c.args.tree.now) c.requires.at.whole c.requires.at.asked c.requires.at.turn
+    line_short c.args.at.now.line.now c.args.at.now.action.now c.args.at.now.path.now (g.T.Tree.state c.args.tree.now) c.requires.at.whole c.requires.at.asked c.requires.at.turn
 
 pub refusal-requires-clause-source : goal.refusal-requires-clause-source
 refusal-requires-clause-source g c =
-    copied_short c.args.at.now.deed.now c.args.at.now.path.now
-    (line_deed c.args.at.now.line.now c.args.at.now.deed.now c.args.at.now.path.now (g.T.Tree.state c.args.tree.now) c.requires.at.whole c.requires.at.asked c.requires.at.turn)
+    copied_short c.args.at.now.action.now c.args.at.now.path.now
+    (line_action c.args.at.now.line.now c.args.at.now.action.now c.args.at.now.path.now (g.T.Tree.state c.args.tree.now) c.requires.at.whole c.requires.at.asked c.requires.at.turn)
 
-pub settle-requires-clause-deed : goal.settle-requires-clause-deed
-settle-requires-clause-deed g c =
-    line_deed c.args.at.now.line.now c.args.at.now.deed.now c.args.at.now.path.now (g.T.Tree.state c.args.tree.now) c.requires.at.whole c.requires.at.asked c.requires.at.turn
+pub settle-requires-clause-action : goal.settle-requires-clause-action
+settle-requires-clause-action g c =
+    line_action c.args.at.now.line.now c.args.at.now.action.now c.args.at.now.path.now (g.T.Tree.state c.args.tree.now) c.requires.at.whole c.requires.at.asked c.requires.at.turn
 
 -- ---- a refused line
 
@@ -66,15 +66,15 @@ returns-then-not-has_something g c =
     let now = c.args.at.now.now in
     let line = c.args.at.now.line.now in
     let path = c.args.at.now.path.now in
-    let deed = c.args.at.now.deed.now in
+    let action = c.args.at.now.action.now in
     let t = g.T.Tree.state c.args.tree.now in
     let free : refused_at line path (places t) ≡ None = sym c.in_ok-refused.ensures ∙ ap (option_map refused_as) c.in_default.is in
     let nothing = sym c.has_something.ensures.something ∙ c.if-not-has_something.true in
     record {
       run =
-          single_said g.T.Tree (turn_course now line) path now c.args.tree.now c.args.messages.now (λ moment refused x t done said work. work) moves (turn_start now line path t) c.args.messages.now Whole
-          (nothing_after now line path deed c.requires.at.asked t free nothing)
-          (sym (ap (λ (xs : List (List ℕ)). c.args.messages.now ++ xs) (nothing_says now line path deed c.requires.at.asked t free nothing (c.has_something.ensures.tree c.if-not-has_something.true)) ∙ append-nil c.args.messages.now))
+          single_messages g.T.Tree (turn_course now line) path now c.args.tree.now c.args.messages.now (λ moment refused x t done new_messages work. work) moves (turn_start now line path t) c.args.messages.now Whole
+          (nothing_after now line path action c.requires.at.asked t free nothing)
+          (sym (ap (λ (xs : List (List ℕ)). c.args.messages.now ++ xs) (nothing_says now line path action c.requires.at.asked t free nothing (c.has_something.ensures.tree c.if-not-has_something.true)) ∙ append-nil c.args.messages.now))
           (ap (λ r. carried_of (is_some r)) (sym free));
     }
 
@@ -92,15 +92,15 @@ returns-in_err-get_ready g c =
     let now = c.args.at.now.now in
     let line = c.args.at.now.line.now in
     let path = c.args.at.now.path.now in
-    let deed = c.args.at.now.deed.now in
+    let action = c.args.at.now.action.now in
     let t = g.T.Tree.state c.args.tree.now in
     let free : refused_at line path (places t) ≡ None = sym c.in_ok-refused.ensures ∙ ap (option_map refused_as) c.in_default.is in
     let something = sym c.has_something.ensures.something ∙ c.if-not-has_something.false in
     record {
       run =
-          single_failed g.T.Tree (turn_course now line) path now c.args.tree.now c.args.messages.now (λ moment refused x t done said work. work) c.get_ready.new.tree c.args.messages.now c.get_ready.result c.from_residual-in_err-get_ready.result c.in_err-get_ready.was c.from_residual-in_err-get_ready.ensures.1
+          single_failed g.T.Tree (turn_course now line) path now c.args.tree.now c.args.messages.now (λ moment refused x t done new_messages work. work) c.get_ready.new.tree c.args.messages.now c.get_ready.result c.from_residual-in_err-get_ready.result c.in_err-get_ready.was c.from_residual-in_err-get_ready.ensures.1
           (part_none (turn_messages now line path t) c.args.messages.now)
-          (ready_acted g.T.Tree now line path deed c.requires.at.asked c.args.tree.now c.get_ready.new.tree free something c.get_ready.ensures.acted);
+          (ready_acted g.T.Tree now line path action c.requires.at.asked c.args.tree.now c.get_ready.new.tree free something c.get_ready.ensures.acted);
     }
 
 pub returns-in_err-settle : goal.returns-in_err-settle
@@ -109,17 +109,17 @@ returns-in_err-settle g c =
     let now = c.args.at.now.now in
     let line = c.args.at.now.line.now in
     let path = c.args.at.now.path.now in
-    let deed = c.args.at.now.deed.now in
+    let action = c.args.at.now.action.now in
     let t = g.T.Tree.state c.args.tree.now in
     let u = g.T.Tree.state c.get_ready.new.tree in
     let free : refused_at line path (places t) ≡ None = sym c.in_ok-refused.ensures ∙ ap (option_map refused_as) c.in_default.is in
     let something = sym c.has_something.ensures.something ∙ c.if-not-has_something.false in
-    let says = sym (settled_says now line path deed c.requires.at.asked t free something u c.in_ok-get_ready.ensures.ok) in
+    let says = sym (settled_says now line path action c.requires.at.asked t free something u c.in_ok-get_ready.ensures.ok) in
     record {
       run =
-          single_failed g.T.Tree (turn_course now line) path now c.args.tree.now c.args.messages.now (λ moment refused x t done said work. work) c.settle.new.tree c.settle.new.messages c.settle.result c.from_residual-in_err-settle.result c.in_err-settle.was c.from_residual-in_err-settle.ensures.1
-          (subst (λ (v : List (List ℕ)). SaidPart v c.args.messages.now c.settle.new.messages) says c.settle.ensures.part)
-          (settled_acted g.T.Tree now line path deed c.requires.at.asked c.args.tree.now c.get_ready.new.tree free something moves c.in_ok-get_ready.ensures.ok c.in_ok-get_ready.ensures.acted c.settle.ensures.settles.acted);
+          single_failed g.T.Tree (turn_course now line) path now c.args.tree.now c.args.messages.now (λ moment refused x t done new_messages work. work) c.settle.new.tree c.settle.new.messages c.settle.result c.from_residual-in_err-settle.result c.in_err-settle.was c.from_residual-in_err-settle.ensures.1
+          (subst (λ (v : List (List ℕ)). MessagesPart v c.args.messages.now c.settle.new.messages) says c.settle.ensures.part)
+          (settled_acted g.T.Tree now line path action c.requires.at.asked c.args.tree.now c.get_ready.new.tree free something moves c.in_ok-get_ready.ensures.ok c.in_ok-get_ready.ensures.acted c.settle.ensures.settles.acted);
     }
 
 pub returns : goal.returns
@@ -128,21 +128,21 @@ returns g c =
     let now = c.args.at.now.now in
     let line = c.args.at.now.line.now in
     let path = c.args.at.now.path.now in
-    let deed = c.args.at.now.deed.now in
+    let action = c.args.at.now.action.now in
     let t = g.T.Tree.state c.args.tree.now in
     let u = g.T.Tree.state c.get_ready.new.tree in
     let free : refused_at line path (places t) ≡ None = sym c.in_ok-refused.ensures ∙ ap (option_map refused_as) c.in_default.is in
     let something = sym c.has_something.ensures.something ∙ c.if-not-has_something.false in
-    let says = sym (settled_says now line path deed c.requires.at.asked t free something u c.in_ok-get_ready.ensures.ok) in
-    let part = subst (λ (v : List (List ℕ)). SaidPart v c.args.messages.now c.settle.new.messages) says c.settle.ensures.part in
-    let acted = acted_ended g.T.Tree (Ok Whole) refl (settled_acted g.T.Tree now line path deed c.requires.at.asked c.args.tree.now c.get_ready.new.tree free something moves c.in_ok-get_ready.ensures.ok c.in_ok-get_ready.ensures.acted c.in_ok-settle.ensures.settles.acted) in
+    let says = sym (settled_says now line path action c.requires.at.asked t free something u c.in_ok-get_ready.ensures.ok) in
+    let part = subst (λ (v : List (List ℕ)). MessagesPart v c.args.messages.now c.settle.new.messages) says c.settle.ensures.part in
+    let acted = acted_ended g.T.Tree (Ok Whole) refl (settled_acted g.T.Tree now line path action c.requires.at.asked c.args.tree.now c.get_ready.new.tree free something moves c.in_ok-get_ready.ensures.ok c.in_ok-get_ready.ensures.acted c.in_ok-settle.ensures.settles.acted) in
     record {
       run = record {
-        ok = c.in_ok-settle.ensures.settles.ok ∙ sym (settled_after now line path deed c.requires.at.asked t free something u c.in_ok-get_ready.ensures.ok);
-        said = c.in_ok-settle.ensures.said ∙ ap (λ (v : List (List ℕ)). c.args.messages.now ++ v) says;
+        ok = c.in_ok-settle.ensures.settles.ok ∙ sym (settled_after now line path action c.requires.at.asked t free something u c.in_ok-get_ready.ensures.ok);
+        new_messages = c.in_ok-settle.ensures.new_messages ∙ ap (λ (v : List (List ℕ)). c.args.messages.now ++ v) says;
         carried = ap (λ r. carried_of (is_some r)) (sym free);
         part = part;
         acted = acted;
-        went = single_gone (turn_course now line) (λ moment refused x t done said work. work) g.T.Tree path now c.args.tree.now c.settle.new.tree c.args.messages.now c.settle.new.messages part acted;
+        went = single_gone (turn_course now line) (λ moment refused x t done new_messages work. work) g.T.Tree path now c.args.tree.now c.settle.new.tree c.args.messages.now c.settle.new.messages part acted;
       };
     }

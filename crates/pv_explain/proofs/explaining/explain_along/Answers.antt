@@ -1,10 +1,10 @@
 use Rattle.std.specs.Prelude.{◌≡◌, List, Option, Some}
 use Rattle.std.proofs.Common.{sym, ap, subst, ◌∙◌}
-use Rattle.pv_dress.specs.Nodes.{bares_of}
+use Rattle.pv_metadata.specs.Nodes.{object_states_of}
 use Rattle.pv_path.specs.Paths.{Path}
 use Rattle.pv_path.proofs.Tests.{if_ok}
 use Rattle.pv_steps.specs.Trees.{places}
-use Rattle.pv_table.specs.Pointwise.{Bares, tabulated}
+use Rattle.pv_table.specs.Pointwise.{ObjectStates, tabulated}
 use Rattle.pv_explain.specs.declared.explained.Explained.{Explained}
 use Rattle.pv_explain.specs.Acts.{standing}
 use Rattle.pv_explain.specs.Following.{IsAlong, Tells}
@@ -15,6 +15,6 @@ pub returns : goal.returns
 returns g c =
     let t = g.T.Tree.state c.args.tree.now in
     let path = c.args.path.now in
-    let start = c.in_ok-start.ensures ∙ ap (λ (ps : List Path). tabulated ps (bares_of (places t))) (c.deref.ensures.value ∙ c.in_ok-places.ensures) in
-    if_ok _ (λ (answer : Option Explained). (told : Explained) → answer ≡ Some told → Tells c.args.table.now (standing t) path told) c.follow.result
-    (λ answer h told e. h (standing t) told e (subst (λ (r : Bares). IsAlong path r (standing t)) (sym start) (stands_along t c.look-node.ensures.tree path))) c.follow.ensures.told
+    let start = c.in_ok-start.ensures ∙ ap (λ (ps : List Path). tabulated ps (object_states_of (places t))) (c.deref.ensures.value ∙ c.in_ok-places.ensures) in
+    if_ok _ (λ (answer : Option Explained). (explanation : Explained) → answer ≡ Some explanation → Tells c.args.table.now (standing t) path explanation) c.follow.result
+    (λ answer h explanation e. h (standing t) explanation e (subst (λ (r : ObjectStates). IsAlong path r (standing t)) (sym start) (stands_along t c.look-node.ensures.tree path))) c.follow.ensures.explanation

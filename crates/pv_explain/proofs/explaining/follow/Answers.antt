@@ -4,11 +4,11 @@ use Rattle.std.specs.FinMap as fin
 use Rattle.std.specs.Option.{option_copied}
 use Rattle.std.specs.List.{cons_option, filter_map, enumerate_from}
 use Rattle.pv_table.specs.Active.{create_order, in_create_order}
-use Rattle.pv_table.specs.Pointwise.{Bares, state}
+use Rattle.pv_table.specs.Pointwise.{ObjectStates, state}
 use Rattle.pv_explain.specs.declared.explained.Act.{Act}
 use Rattle.pv_explain.specs.declared.explained.LineAct.{LineAct}
 use Rattle.pv_explain.specs.declared.explained.Explained.{Explained}
-use Rattle.pv_explain.specs.Acts.{act_between, bare_in, line_act}
+use Rattle.pv_explain.specs.Acts.{act_between, object_state_in, line_act}
 use Rattle.pv_explain.specs.Following.{Follows}
 use Rattle.pv_explain.proofs.OrderLaws.{is_there, is_next, order-length, state_more, acts_more, state_end, acts_end, follows_path, suits_line}
 use Rattle.pv_explain.proofs.explaining.follow.Goals as goal
@@ -35,8 +35,8 @@ loop-place-preserved c =
     let is : place ≡ get_or (create_order lines) i 0 = ap (λ (ps : List ℕ). get_or ps i 0) items in
     let line = c.line_at-line.result.now in
     let at = is_next lines i place within is line c.line_at-line.ensures in
-    let follows : (s : Bares) → Follows scope path c.args.start s → Follows scope path c.in-Some.next (state lines (i + 1) s) = λ s f.
-    subst (λ (x : Bares). Follows scope path c.in-Some.next x) (sym (state_more lines s i line at))
+    let follows : (s : ObjectStates) → Follows scope path c.args.start s → Follows scope path c.in-Some.next (state lines (i + 1) s) = λ s f.
+    subst (λ (x : ObjectStates). Follows scope path c.in-Some.next x) (sym (state_more lines s i line at))
     (c.in_ok-next.ensures.follows (state lines i s) c.in-Some.next c.in-Some.is (c.loop-place.invariant.follows s f)) in
     record {
       items = items;
@@ -52,17 +52,17 @@ loop-place-preserved c =
           ∙ sym (acts_more lines s i line at path);
     }
 
-pub returns-clause-told : goal.returns-clause-told
-returns-clause-told c = λ s told e f.
+pub returns-clause-explanation : goal.returns-clause-explanation
+returns-clause-explanation c = λ s explanation e f.
     let lines = c.args.table.now in
     let path = c.args.path.now in
     let i = c.loop-place.place-index in
     let n = ap length c.loop-place.invariant.items in
     let m = order-length lines in
     let past : length (in_create_order lines) ≤ i = omega (arith, n, m, c.loop-place-test.false) in
-    let same : c.ended.result ≡ told = cc in
+    let same : c.ended.result ≡ explanation = cc in
     record {
       acts = ap (λ (t : Explained). t.acts) (sym same) ∙ c.ended.ensures.acts ∙ c.acts-2.view_is ∙ c.loop-place.invariant.acts s f ∙ acts_end lines s i past path;
-      node = ap (λ (t : Explained). option_map bare_in t.node) (sym same) ∙ c.ended.ensures.node ∙ c.in_ok-copy_at.ensures
+      node = ap (λ (t : Explained). option_map object_state_in t.node) (sym same) ∙ c.ended.ensures.node ∙ c.in_ok-copy_at.ensures
           ∙ follows_path lines c.args.scope.now path c.requires c.loop-place.standing (state lines i s) (c.loop-place.invariant.follows s f) ∙ state_end lines s i past path;
     }

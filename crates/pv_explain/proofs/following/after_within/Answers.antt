@@ -5,7 +5,7 @@ use Rattle.std.specs.FinMap as fin
 use Rattle.std.specs.List.{list_all}
 use Rattle.pv_path.specs.Paths.{Path}
 use Rattle.pv_path.proofs.Tests.{if_ok}
-use Rattle.pv_table.specs.Pointwise.{Bares, pointwise_after}
+use Rattle.pv_table.specs.Pointwise.{ObjectStates, pointwise_after}
 use Rattle.pv_walk.specs.Preparing.{parents_of}
 use Rattle.pv_explain.specs.Following.{holds, IsWithin}
 use Rattle.pv_explain.proofs.AlongLaws.{among_along}
@@ -25,7 +25,7 @@ pub returns-then-branch : goal.returns-then-branch
 returns-then-branch c = λ s within.
     let region = c.args.region.now in
     let own : Path = c.in-Literal.own in
-    let before : Bares = c.args.before in
+    let before : ObjectStates = c.args.before in
     let places : List Path = [] ∷ own ∷ parents_of own in
     let test : (Path → Bool) = λ q. not (holds region q) || is_some (fin.get before q) in
     let both = and_parts (not (holds region own)) (list_all test places) (sym c.in_ok-is_outside.ensures ∙ c.if-branch.true) in
@@ -36,9 +36,9 @@ pub returns : goal.returns
 returns c =
     let region = c.args.region.now in
     let line = c.args.line.now in
-    let before : Bares = c.args.before in
-    if_ok (λ (after : Bares). after ≡ pointwise_after before line)
-    (λ (left : Bares). (s : Bares) → IsWithin (holds region) before s → IsWithin (holds region) left (pointwise_after s line))
+    let before : ObjectStates = c.args.before in
+    if_ok (λ (after : ObjectStates). after ≡ pointwise_after before line)
+    (λ (left : ObjectStates). (s : ObjectStates) → IsWithin (holds region) before s → IsWithin (holds region) left (pointwise_after s line))
     c.after_line.result
-    (λ left e s within. subst (λ (r : Bares). IsWithin (holds region) r (pointwise_after s line)) (sym e) (region_after region line c.requires before s within))
+    (λ left e s within. subst (λ (r : ObjectStates). IsWithin (holds region) r (pointwise_after s line)) (sym e) (region_after region line c.requires before s within))
     c.after_line.ensures

@@ -8,14 +8,14 @@ use Rattle.pv_folder.specs.Merge.{merged_of}
 use Rattle.pv_folder.proofs.MergingLaws.{absent_of, may_have_at, merged_there}
 use Rattle.pv_folder.proofs.merged_object.merge_at.Goals as goal
 
-pub dress-requires-clause-fits : goal.dress-requires-clause-fits
-dress-requires-clause-fits c = λ same.
+pub set_metadata-requires-clause-fits : goal.set_metadata-requires-clause-fits
+set_metadata-requires-clause-fits c = λ same.
     may_have_at c.args.tree.now.files c.args.names.now c.args.node.now c.args.payload.now c.in-Some.kind c.in-Some.ensures.tree c.requires.object (sym c.in-Some.ensures.kind) same
 
 pub returns-in-Some-clause-places : goal.returns-in-Some-clause-places
 returns-in-Some-clause-places c =
     let m : Object = record { node = c.args.node.now; payload = c.args.payload.now } in
-    on_ok c.dress.result (λ e. e ∙ merged_there c.args.names.now m (places c.args.tree.now.files) c.in-Some.kind (sym c.in-Some.ensures.kind)) c.dress.ensures.places
+    on_ok c.set_metadata.result (λ e. e ∙ merged_there c.args.names.now m (places c.args.tree.now.files) c.in-Some.kind (sym c.in-Some.ensures.kind)) c.set_metadata.ensures.places
 
 pub add_unreal-requires-clause-absent : goal.add_unreal-requires-clause-absent
 add_unreal-requires-clause-absent c = absent_of (places c.args.tree.now.files c.args.names.now) (sym c.in-None.ensures.kind)

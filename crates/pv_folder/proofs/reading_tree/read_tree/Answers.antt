@@ -21,15 +21,15 @@ pub loop-found-init : goal.loop-found-init
 loop-found-init g c =
     let content = g.H.Host.content c.args.host.now in
     let r = c.in_ok-reading.reading in
-    let told = c.in_ok-reading.ensures in (
+    let from_content = c.in_ok-reading.ensures in (
       going_at content (spelled c.args.folder.now) 0 0 (root_alone (fresh node.Directory 0o755 [] 0 0 0).node) [] _ r.objects r.bytes r.builder r.pending.items
-          told.objects told.bytes told.builder told.pending
-          (going_first content (spelled c.args.folder.now) c.in_ok-items.items told.ordered c.in_ok-items.ensures.content c.in_ok-items.ensures.told),
-      omega (arith, told.objects),
-      omega (arith, told.bytes),
+          from_content.objects from_content.bytes from_content.builder from_content.pending
+          (going_first content (spelled c.args.folder.now) c.in_ok-items.items from_content.ordered c.in_ok-items.ensures.content c.in_ok-items.ensures.from_content),
+      omega (arith, from_content.objects),
+      omega (arith, from_content.bytes),
       c.items_in_tree.ensures.kept,
       c.items_in_tree.ensures.never_falls,
-      plain_first r.builder told.builder,
+      plain_first r.builder from_content.builder,
     )
 
 pub returns-in_err-path-clause-fault : goal.returns-in_err-path-clause-fault
@@ -54,7 +54,7 @@ returns-in_err-count-clause-fault g c =
     let going = subst (IsGoing content folder r.objects r.bytes r.builder.files r.builder.last) c.in-Some.ensures.items c.loop-found.invariant.0 in
     let at : IfSome content (λ k. Shows k (tree_path folder ++ path_of x) s) =
     subst (λ (p : Path). IfSome content (λ k. Shows k (tree_path folder ++ p) s)) c.in_ok-path.ensures.path
-    (subst (λ (o : Option Content). IfSome o (λ k. Shows k (tree_path folder ++ c.in_ok-path.path) s)) c.loop-found.invariant.3 c.in_ok-seen.ensures.told) in
+    (subst (λ (o : Option Content). IfSome o (λ k. Shows k (tree_path folder ++ c.in_ok-path.path) s)) c.loop-found.invariant.3 c.in_ok-seen.ensures.from_content) in
     let ordered : is_ordered (items_of s) ≡ true = c.size_of.ensures.ordered in
     let over : is_over (suc r.objects) (r.bytes + seen_size s) ≡ true = ap (λ n. is_over (suc r.objects) (r.bytes + n)) (sym c.size_of.ensures.size) ∙ c.in_err-count.ensures.over.1 in
     passed_on c.from_residual-in_err-count.result c.in_err-count.field-0.0 (λ e. is_outer e ≡ false → IfSome content (Faulty folder e)) c.from_residual-in_err-count.ensures.1
@@ -72,7 +72,7 @@ loop-found-preserved g c =
     let going = subst (IsGoing content folder r.objects r.bytes r.builder.files r.builder.last) c.in-Some.ensures.items c.loop-found.invariant.0 in
     let at : IfSome content (λ k. Shows k (tree_path folder ++ path_of x) s) =
     subst (λ (q : Path). IfSome content (λ k. Shows k (tree_path folder ++ q) s)) c.in_ok-path.ensures.path
-    (subst (λ (o : Option Content). IfSome o (λ k. Shows k (tree_path folder ++ p) s)) c.loop-found.invariant.3 c.in_ok-seen.ensures.told) in
+    (subst (λ (o : Option Content). IfSome o (λ k. Shows k (tree_path folder ++ p) s)) c.loop-found.invariant.3 c.in_ok-seen.ensures.from_content) in
     let few : is_over (suc r.objects) (r.bytes + seen_size s) ≡ false = ap (λ n. is_over (suc r.objects) (r.bytes + n)) (sym c.size_of.ensures.size) ∙ c.in_ok-count.ensures.ok in
     let within = not_over (suc r.objects) (r.bytes + seen_size s) few in
     let objects : c.take.new.self.objects ≡ suc r.objects = c.take.ensures.objects ∙ c.in_ok-count.ensures.objects in

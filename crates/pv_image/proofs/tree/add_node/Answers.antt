@@ -18,5 +18,5 @@ returns-in-Ok-clause-judged c = λ version. node_placed c.args.number c.args.tre
 
 pub returns-in-Err-NoParent-clause-refused : goal.returns-in-Err-NoParent-clause-refused
 returns-in-Err-NoParent-clause-refused c = λ version.
-    let told : c.add.result ≡ Err fault.NoParent = c.in-Err-NoParent.is ∙ ap (λ (f : BuildFault). Err f) c.in-Err-NoParent.field-0-is in
-    node_orphan c.args.number c.args.tree.now.files c.args.tree.now.last (c.args.path, c.args.object) c.requires.last version (c.add.ensures.late told) (c.add.ensures.orphan told)
+    let written_part : c.add.result ≡ Err fault.NoParent = c.in-Err-NoParent.is ∙ ap (λ (f : BuildFault). Err f) c.in-Err-NoParent.field-0-is in
+    node_orphan c.args.number c.args.tree.now.files c.args.tree.now.last (c.args.path, c.args.object) c.requires.last version (c.add.ensures.late written_part) (c.add.ensures.orphan written_part)

@@ -3,7 +3,7 @@ use Rattle.std.specs.List.{flat_map}
 use Rattle.std.specs.FinMap as fin
 use Rattle.pv_image.specs.Spelling.{line, end_text}
 use Rattle.pv_image.specs.Writing.{fact_line, node_line}
-use Rattle.pv_image.specs.Told.{told_tree}
+use Rattle.pv_image.specs.Written.{written_tree}
 use Rattle.pv_image.proofs.EmptyLaws.{tree_told}
 use Rattle.pv_image.proofs.ImageLaws.{text_image}
 use Rattle.pv_image.proofs.Wholes.{have_text, parts_of_text}
@@ -20,7 +20,7 @@ behind t a b c d e =
 pub returns-clause-text : goal.returns-clause-text
 returns-clause-text c =
     let facts = c.args.facts.now in
-    let files = told_tree c.args.extent c.args.tree.now.files in
+    let files = written_tree c.args.extent c.args.tree.now.files in
     let before = c.args.output.now.items in
     let header = c.header.result.now in
     let e1 = c.in_ok-add_facts.ensures.text ∙ ap (λ x. x ++ flat_map fact_line (fin.entries facts)) (c.in_ok-push.ensures.items ∙ ap (λ x. x ++ 10 ∷ []) c.in_ok-extend_from_slice.ensures.items) in
@@ -33,5 +33,5 @@ returns-clause-text c =
 pub returns-clause-image : goal.returns-clause-image
 returns-clause-image c =
     let facts = c.args.facts.now in
-    let files = told_tree c.args.extent c.args.tree.now.files in
+    let files = written_tree c.args.extent c.args.tree.now.files in
     text_image facts files (have_text facts files c.in_ok-add_facts.ensures.fit (tree_told c.args.extent c.args.tree.now.files c.in_ok-add_nodes.ensures.tree))

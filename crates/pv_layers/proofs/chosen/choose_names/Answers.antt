@@ -1,5 +1,5 @@
 use Rattle.std.proofs.Common.{◌∙◌}
-use Rattle.pv_layers.proofs.ChoiceLaws.{partly_start, partly_more, partly_said, next_name}
+use Rattle.pv_layers.proofs.ChoiceLaws.{partly_start, partly_more, partly_messages, next_name}
 use Rattle.pv_layers.proofs.chosen.choose_names.Goals as goal
 
 pub loop-name-init : goal.loop-name-init
@@ -11,7 +11,7 @@ loop-name-preserved g c =
     c.in_ok-take_name.ensures.made.0 c.in_ok-take_name.ensures.made.1 c.in_ok-take_name.ensures.made.2
 
 pub returns-in_err-take_name-clause-part : goal.returns-in_err-take_name-clause-part
-returns-in_err-take_name-clause-part g c = let said = partly_said c.loop-name.invariant in (said.0, c.in_err-take_name.ensures.err ∙ said.1)
+returns-in_err-take_name-clause-part g c = let new_messages = partly_messages c.loop-name.invariant in (new_messages.0, c.in_err-take_name.ensures.err ∙ new_messages.1)
 
 pub returns-clause-part : goal.returns-clause-part
-returns-clause-part g c = partly_said c.loop-name.invariant
+returns-clause-part g c = partly_messages c.loop-name.invariant

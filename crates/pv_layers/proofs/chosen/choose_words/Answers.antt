@@ -1,5 +1,5 @@
 use Rattle.std.proofs.Common.{◌∙◌}
-use Rattle.pv_layers.proofs.ChoiceLaws.{partly_start, partly_more, partly_said, next_word}
+use Rattle.pv_layers.proofs.ChoiceLaws.{partly_start, partly_more, partly_messages, next_word}
 use Rattle.pv_layers.proofs.chosen.choose_words.Goals as goal
 
 pub loop-i-init : goal.loop-i-init
@@ -11,7 +11,7 @@ loop-i-preserved g c =
     c.in_ok-take_next.ensures.made.0 c.in_ok-take_next.ensures.made.1 c.in_ok-take_next.ensures.made.2
 
 pub returns-in_err-take_next-clause-part : goal.returns-in_err-take_next-clause-part
-returns-in_err-take_next-clause-part g c = let said = partly_said c.loop-i.invariant in (said.0, c.in_err-take_next.ensures.err ∙ said.1)
+returns-in_err-take_next-clause-part g c = let new_messages = partly_messages c.loop-i.invariant in (new_messages.0, c.in_err-take_next.ensures.err ∙ new_messages.1)
 
 pub returns-clause-part : goal.returns-clause-part
-returns-clause-part g c = partly_said c.loop-i.invariant
+returns-clause-part g c = partly_messages c.loop-i.invariant

@@ -22,8 +22,8 @@ loop-i-preserved c =
     let old = c.loop-i.moves in
     let new = c.add_moves.new.moves in
     record {
-      told = λ byte.
-          one_more (λ i. each byte i (takers c.args.b.now spot.right)) items c.loop-i.i-index 0 (targets old byte) (targets new byte) c.loop-i-test.true (c.loop-i.invariant.told byte)
+      stated = λ byte.
+          one_more (λ i. each byte i (takers c.args.b.now spot.right)) items c.loop-i.i-index 0 (targets old byte) (targets new byte) c.loop-i-test.true (c.loop-i.invariant.stated byte)
           (subst (λ (js : List ℕ). targets new byte ≡ targets old byte ++ each byte (get_or items c.loop-i.i-index 0) js) rights (c.in_ok-add_moves.ensures.moves byte));
       inside = c.in_ok-add_moves.ensures.inside c.loop-i.invariant.inside;
     }
@@ -33,4 +33,4 @@ returns-clause-moves c byte =
     let spot = c.args.spot in
     let items = c.deref-i-items.result.now in
     let lefts = take_all c.loop-i.i-index items c.loop-i-test.false ∙ (c.deref-i-items.ensures.value ∙ c.in_ok-lefts.ensures.value) in
-    subst (λ (xs : List ℕ). targets c.loop-i.moves byte ≡ flat_map (λ i. flat_map (λ j. option_to_list (target c.args.a.now c.args.b.now spot.begun i j byte)) (takers c.args.b.now spot.right)) xs) lefts (c.loop-i.invariant.told byte)
+    subst (λ (xs : List ℕ). targets c.loop-i.moves byte ≡ flat_map (λ i. flat_map (λ j. option_to_list (target c.args.a.now c.args.b.now spot.begun i j byte)) (takers c.args.b.now spot.right)) xs) lefts (c.loop-i.invariant.stated byte)

@@ -7,14 +7,14 @@ use Rattle.pv_meet.proofs.Levels.{starts, none_read, first_read, unfound-start}
 use Rattle.pv_meet.proofs.search.least_word.Goals as goal
 
 -- the questions that are left are enough for the places without a word and those of the level
-spent_so_far : (all unfound level left places : ℕ) → (all + unfound) + level ≤ left + places → all ≤ left + places
-spent_so_far all unfound level left places h = omega arith
+cost_so_far : (all unfound level left places : ℕ) → (all + unfound) + level ≤ left + places → all ≤ left + places
+cost_so_far all unfound level left places h = omega arith
 
 enough_left : (all unfound level left places asked : ℕ) → (all + unfound) + level ≤ left + places → places ≤ all → asked ≡ level → asked ≤ left
 enough_left all unfound level left places asked h some same = omega arith
 
-spent_after : (all unfound level left places asked after : ℕ) → (all + unfound) + level ≤ left + places → asked ≡ level → left ≤ after + asked → all + unfound ≤ after + places
-spent_after all unfound level left places asked after h same spent = omega arith
+cost_after : (all unfound level left places asked after : ℕ) → (all + unfound) + level ≤ left + places → asked ≡ level → left ≤ after + asked → all + unfound ≤ after + places
+cost_after all unfound level left places asked after h same cost = omega arith
 
 all_within : (all unfound n : ℕ) → all + unfound ≤ n → all ≤ n
 all_within all unfound n h = omega arith
@@ -33,7 +33,7 @@ loop-alloc-init g c =
     record {
       searched = started;
       same = refl;
-      spent = (let n : unfound c.in_ok-found.found.items ≡ others = ap unfound c.in_ok-found.ensures ∙ unfound-start others in
+      cost = (let n : unfound c.in_ok-found.found.items ≡ others = ap unfound c.in_ok-found.ensures ∙ unfound-start others in
           let l : length c.in_ok-level.level.items ≡ 1 = ap length c.in_ok-level.ensures.items in omega (arith, n, l));
     }
 
@@ -53,17 +53,17 @@ next_level-requires-clause-searched g c =
 pub next_level-requires-clause-questions : goal.next_level-requires-clause-questions
 next_level-requires-clause-questions g c =
     enough_left (g.M.Moves.questions c.args.machine.now) (unfound c.loop-alloc.found.items) (length c.loop-alloc.level.items) (g.M.Moves.questions c.loop-alloc.machine) c.args.places (length c.as_slice-in-loop-alloc.result.now)
-    c.loop-alloc.invariant.spent c.requires.questions (ap length c.as_slice-in-loop-alloc.ensures.value)
+    c.loop-alloc.invariant.cost c.requires.questions (ap length c.as_slice-in-loop-alloc.ensures.value)
 
-pub returns-in_err-level-2-clause-spent : goal.returns-in_err-level-2-clause-spent
-returns-in_err-level-2-clause-spent g c =
+pub returns-in_err-level-2-clause-cost : goal.returns-in_err-level-2-clause-cost
+returns-in_err-level-2-clause-cost g c =
     all_within (g.M.Moves.questions c.args.machine.now) (unfound c.loop-alloc.found.items) _
-    (spent_after (g.M.Moves.questions c.args.machine.now) (unfound c.loop-alloc.found.items) (length c.loop-alloc.level.items) (g.M.Moves.questions c.loop-alloc.machine) c.args.places
-    (length c.as_slice-in-loop-alloc.result.now) (g.M.Moves.questions c.next_level.new.machine) c.loop-alloc.invariant.spent (ap length c.as_slice-in-loop-alloc.ensures.value) c.in_err-level-2.ensures.spent)
+    (cost_after (g.M.Moves.questions c.args.machine.now) (unfound c.loop-alloc.found.items) (length c.loop-alloc.level.items) (g.M.Moves.questions c.loop-alloc.machine) c.args.places
+    (length c.as_slice-in-loop-alloc.result.now) (g.M.Moves.questions c.next_level.new.machine) c.loop-alloc.invariant.cost (ap length c.as_slice-in-loop-alloc.ensures.value) c.in_err-level-2.ensures.cost)
 
-pub returns-in-Some-clause-spent : goal.returns-in-Some-clause-spent
-returns-in-Some-clause-spent g c =
-    spent_so_far (g.M.Moves.questions c.args.machine.now) (unfound c.loop-alloc.found.items) (length c.loop-alloc.level.items) (g.M.Moves.questions c.loop-alloc.machine) c.args.places c.loop-alloc.invariant.spent
+pub returns-in-Some-clause-cost : goal.returns-in-Some-clause-cost
+returns-in-Some-clause-cost g c =
+    cost_so_far (g.M.Moves.questions c.args.machine.now) (unfound c.loop-alloc.found.items) (length c.loop-alloc.level.items) (g.M.Moves.questions c.loop-alloc.machine) c.args.places c.loop-alloc.invariant.cost
 
 pub loop-alloc-preserved : goal.loop-alloc-preserved
 loop-alloc-preserved g c =
@@ -71,9 +71,9 @@ loop-alloc-preserved g c =
     record {
       searched = subst (λ (m : Machine). IsSearched m c.next_level.new.found.items c.in_ok-level-2.level.items) (sym next.same) next.searched;
       same = next.same ∙ c.loop-alloc.invariant.same;
-      spent = with_next (g.M.Moves.questions c.args.machine.now) (unfound c.loop-alloc.found.items) (unfound c.next_level.new.found.items) (length c.in_ok-level-2.level.items) _
-          (spent_after (g.M.Moves.questions c.args.machine.now) (unfound c.loop-alloc.found.items) (length c.loop-alloc.level.items) (g.M.Moves.questions c.loop-alloc.machine) c.args.places
-          (length c.as_slice-in-loop-alloc.result.now) (g.M.Moves.questions c.next_level.new.machine) c.loop-alloc.invariant.spent (ap length c.as_slice-in-loop-alloc.ensures.value) next.spent) next.count;
+      cost = with_next (g.M.Moves.questions c.args.machine.now) (unfound c.loop-alloc.found.items) (unfound c.next_level.new.found.items) (length c.in_ok-level-2.level.items) _
+          (cost_after (g.M.Moves.questions c.args.machine.now) (unfound c.loop-alloc.found.items) (length c.loop-alloc.level.items) (g.M.Moves.questions c.loop-alloc.machine) c.args.places
+          (length c.as_slice-in-loop-alloc.result.now) (g.M.Moves.questions c.next_level.new.machine) c.loop-alloc.invariant.cost (ap length c.as_slice-in-loop-alloc.ensures.value) next.cost) next.count;
     }
 
 pub returns-clause-none : goal.returns-clause-none
@@ -82,6 +82,6 @@ returns-clause-none g c _ word =
     subst (λ (m : Machine). reads m 0 word ≡ false) c.loop-alloc.invariant.same
     (none_read (g.M.Moves.machine c.loop-alloc.machine) c.loop-alloc.found.items c.loop-alloc.level.items c.loop-alloc.invariant.searched none word)
 
-pub returns-clause-spent : goal.returns-clause-spent
-returns-clause-spent g c =
-    spent_so_far (g.M.Moves.questions c.args.machine.now) (unfound c.loop-alloc.found.items) (length c.loop-alloc.level.items) (g.M.Moves.questions c.loop-alloc.machine) c.args.places c.loop-alloc.invariant.spent
+pub returns-clause-cost : goal.returns-clause-cost
+returns-clause-cost g c =
+    cost_so_far (g.M.Moves.questions c.args.machine.now) (unfound c.loop-alloc.found.items) (length c.loop-alloc.level.items) (g.M.Moves.questions c.loop-alloc.machine) c.args.places c.loop-alloc.invariant.cost

@@ -6,7 +6,7 @@ abbrev pub invariant-loop-alloc : goal.invariant-loop-alloc
 invariant-loop-alloc g l = record {
   searched : IsSearched (g.M.Moves.machine l.machine) l.found.items l.level.items;
   same : g.M.Moves.machine l.machine ≡ g.M.Moves.machine l.initial.machine;
-  spent : (g.M.Moves.questions l.initial.machine + unfound l.found.items) + length l.level.items ≤ g.M.Moves.questions l.machine + l.places;
+  cost : (g.M.Moves.questions l.initial.machine + unfound l.found.items) + length l.level.items ≤ g.M.Moves.questions l.machine + l.places;
 }
 
 abbrev pub decreases-loop-alloc : goal.decreases-loop-alloc

@@ -25,7 +25,7 @@ loop-place-preserved g c =
           (Contains-get_or c.args.level.now c.loop-place.place-index 0 c.loop-place-test.true) c.in_ok-word.ensures
           (λ b. c.in_ok-moves.ensures.moves b ∙ ap (λ (m : Machine). m.after at b) inv.same) (search rules));
       same = c.moves.ensures.same ∙ inv.same;
-      spent = (let e = c.moves.ensures.spent in let f = inv.spent in omega (arith, e, f));
+      cost = (let e = c.moves.ensures.cost in let f = inv.cost in omega (arith, e, f));
     }
 
 pub returns-clause-searched : goal.returns-clause-searched

@@ -6,5 +6,5 @@ abbrev pub invariant-loop-place : goal.invariant-loop-place
 invariant-loop-place g l = record {
   asked : Asked (g.M.Moves.machine l.initial.machine) l.initial.found.items l.level (take l.place-index l.level) l.found.items l.next.items;
   same : g.M.Moves.machine l.machine ≡ g.M.Moves.machine l.initial.machine;
-  spent : g.M.Moves.questions l.machine + l.place-index ≡ g.M.Moves.questions l.initial.machine;
+  cost : g.M.Moves.questions l.machine + l.place-index ≡ g.M.Moves.questions l.initial.machine;
 }

@@ -17,16 +17,16 @@ loop-q-preserved g c =
     let inv = c.loop-q.invariant in
     let q = get_or c.args.opened.now c.loop-q.q-index 0 in
     let one = take_more c.args.opened.now c.loop-q.q-index 0 c.loop-q-test.true in
-    let told = c.in_ok-ask_about.ensures in
+    let recorded = c.in_ok-ask_about.ensures in
     let grown : Grown answers (length heads) c.loop-q.found c.ask_about.new.found =
     grown_same (g.A.Asker.answers c.loop-q.asker) answers (length heads) c.loop-q.found c.ask_about.new.found inv.answers
-    (subst (λ (x : List Path). Grown (g.A.Asker.answers c.loop-q.asker) (length x) c.loop-q.found c.ask_about.new.found) inv.heads told.grown) in
+    (subst (λ (x : List Path). Grown (g.A.Asker.answers c.loop-q.asker) (length x) c.loop-q.found c.ask_about.new.found) inv.heads recorded.grown) in
     let left : c.index-order-q.result ≡ head_at order q = get_or_read order q c.index-order-q.result (search rules) c.index-order-q.is no_head in
     let right : c.index-order-at.result ≡ head_at order at = get_or_read order at c.index-order-at.result c.requires.inside c.index-order-at.is no_head in
     let noted : HasAnswer answers c.ask_about.new.found (head_at order q).index (head_at order at).index =
     has_same (g.A.Asker.answers c.loop-q.asker) answers c.ask_about.new.found inv.answers (head_at order q).index (head_at order at).index
     (subst (λ (x : Head). HasAnswer (g.A.Asker.answers c.loop-q.asker) c.ask_about.new.found x.index (head_at order at).index) left
-    (subst (λ (x : Head). HasAnswer (g.A.Asker.answers c.loop-q.asker) c.ask_about.new.found c.index-order-q.result.index x.index) right told.noted)) in
+    (subst (λ (x : Head). HasAnswer (g.A.Asker.answers c.loop-q.asker) c.ask_about.new.found c.index-order-q.result.index x.index) right recorded.noted)) in
     record {
       grown = grown_on answers (length heads) c.args.found.now c.loop-q.found c.ask_about.new.found inv.grown grown;
       noted = subst (λ (xs : List ℕ). All (λ q. HasAnswer answers c.ask_about.new.found (head_at order q).index (head_at order at).index) xs) (sym one)
@@ -37,7 +37,7 @@ loop-q-preserved g c =
       asked = subst (λ (xs : List Question). g.A.Asker.asked c.args.asker.now c.ask_about.new.asker xs) (sym (map_more (λ q. question_of (head_at order q) (head_at order at)) c.args.opened.now c.loop-q.q-index 0 c.loop-q-test.true))
           (g.met.A.Asker.asked_on c.args.asker.now c.loop-q.asker c.ask_about.new.asker (questions_at order at (take c.loop-q.q-index c.args.opened.now)) (question_of (head_at order q) (head_at order at) ∷ []) inv.asked
           (subst (λ (x : Head). g.A.Asker.asked c.loop-q.asker c.ask_about.new.asker (question_of x (head_at order at) ∷ [])) left
-          (subst (λ (x : Head). g.A.Asker.asked c.loop-q.asker c.ask_about.new.asker (question_of c.index-order-q.result x ∷ [])) right told.asked)));
+          (subst (λ (x : Head). g.A.Asker.asked c.loop-q.asker c.ask_about.new.asker (question_of c.index-order-q.result x ∷ [])) right recorded.asked)));
       heads = c.ask_about.ensures.heads ∙ inv.heads;
       answers = same_on (g.A.Asker.answers c.args.asker.now) (g.A.Asker.answers c.loop-q.asker) (g.A.Asker.answers c.ask_about.new.asker) inv.answers c.ask_about.ensures.answers;
     }

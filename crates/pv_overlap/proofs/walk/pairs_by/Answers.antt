@@ -34,7 +34,7 @@ loop-at-preserved g c =
     let at = c.loop-at.at in
     let open' = c.loop-at.opened.items in
     let inv = c.loop-at.invariant in
-    let told = c.in_ok-ask_open.ensures in
+    let recorded = c.in_ok-ask_open.ensures in
     let is_order : IsOrderOf heads order = subst (λ (x : List Path). IsOrderOf x order) c.as_slice.ensures c.in_ok-order.ensures in
     let begins = λ (q : ℕ). is_prefix (head_at order q).path (head_at order at).path in
     let kept : c.in_ok-kept.kept.items ≡ filter begins open' =
@@ -43,10 +43,10 @@ loop-at-preserved g c =
     ∙ ap (filter begins) c.as_slice-in-loop-at-2.ensures.value in
     let grown : Grown answers (length heads) c.loop-at.found c.ask_open.new.found =
     grown_same (g.A.Asker.answers c.loop-at.asker) answers (length heads) c.loop-at.found c.ask_open.new.found inv.answers
-    (subst (λ (x : List Path). Grown (g.A.Asker.answers c.loop-at.asker) (length x) c.loop-at.found c.ask_open.new.found) (inv.heads ∙ sym c.requires.heads) told.grown) in
+    (subst (λ (x : List Path). Grown (g.A.Asker.answers c.loop-at.asker) (length x) c.loop-at.found c.ask_open.new.found) (inv.heads ∙ sym c.requires.heads) recorded.grown) in
     let same : c.as_slice-in-loop-at-3.result.now ≡ order = c.as_slice-in-loop-at-3.ensures.value in
     let told_order : All (λ q. HasAnswer (g.A.Asker.answers c.loop-at.asker) c.ask_open.new.found (head_at order q).index (head_at order at).index) c.as_slice-in-loop-at-4.result.now =
-    subst (λ (o : List Head). All (λ q. HasAnswer (g.A.Asker.answers c.loop-at.asker) c.ask_open.new.found (head_at o q).index (head_at o at).index) c.as_slice-in-loop-at-4.result.now) same told.noted in
+    subst (λ (o : List Head). All (λ q. HasAnswer (g.A.Asker.answers c.loop-at.asker) c.ask_open.new.found (head_at o q).index (head_at o at).index) c.as_slice-in-loop-at-4.result.now) same recorded.noted in
     let noted : All (λ q. HasAnswer answers c.ask_open.new.found (head_at order q).index (head_at order at).index) (filter begins open') =
     All-weaker (λ q. HasAnswer (g.A.Asker.answers c.loop-at.asker) c.ask_open.new.found (head_at order q).index (head_at order at).index) (λ q. HasAnswer answers c.ask_open.new.found (head_at order q).index (head_at order at).index)
     (λ q has. has_same (g.A.Asker.answers c.loop-at.asker) answers c.ask_open.new.found inv.answers (head_at order q).index (head_at order at).index has) (filter begins open')
@@ -55,9 +55,9 @@ loop-at-preserved g c =
     record {
       walked = subst (λ (xs : List ℕ). Walked answers (length heads) order (at + 1) xs c.ask_open.new.found) (sym (c.in_ok-push.ensures.items ∙ ap (λ (xs : List ℕ). xs ++ at ∷ []) kept)) next;
       asked = asked_next heads order is_order at (search rules) open' inv.walked.is_open (g.A.Asker.asked c.args.asker.now c.loop-at.asker) (g.A.Asker.asked c.args.asker.now c.ask_open.new.asker) inv.asked
-          (g.met.A.Asker.asked_on c.args.asker.now c.loop-at.asker c.ask_open.new.asker inv.asked.questions (questions_at order at (filter begins open')) inv.asked.told
+          (g.met.A.Asker.asked_on c.args.asker.now c.loop-at.asker c.ask_open.new.asker inv.asked.questions (questions_at order at (filter begins open')) inv.asked.recorded
           (subst (λ (xs : List ℕ). g.A.Asker.asked c.loop-at.asker c.ask_open.new.asker (questions_at order at xs)) (c.as_slice-in-loop-at-4.ensures.value ∙ kept)
-          (subst (λ (o : List Head). g.A.Asker.asked c.loop-at.asker c.ask_open.new.asker (questions_at o at c.as_slice-in-loop-at-4.result.now)) same told.asked)));
+          (subst (λ (o : List Head). g.A.Asker.asked c.loop-at.asker c.ask_open.new.asker (questions_at o at c.as_slice-in-loop-at-4.result.now)) same recorded.asked)));
       heads = c.ask_open.ensures.heads ∙ inv.heads;
       answers = same_on answers (g.A.Asker.answers c.loop-at.asker) (g.A.Asker.answers c.ask_open.new.asker) inv.answers c.ask_open.ensures.answers;
     }
@@ -95,7 +95,7 @@ returns-in_err-kept-clause-asked g c =
     let is_order : IsOrderOf c.args.heads.now order = subst (λ (x : List Path). IsOrderOf x order) c.as_slice.ensures c.in_ok-order.ensures in
     let below = c.loop-at.invariant.asked in
     let inside : c.loop-at.at < length order = search rules in
-    was_some c.args.heads.now order is_order (g.A.Asker.asked c.args.asker.now c.loop-at.asker) c.loop-at.at (omega arith) below.questions below.told below.are c.from_residual-in_err-kept.result c.from_residual-in_err-kept.ensures.0
+    was_some c.args.heads.now order is_order (g.A.Asker.asked c.args.asker.now c.loop-at.asker) c.loop-at.at (omega arith) below.questions below.recorded below.are c.from_residual-in_err-kept.result c.from_residual-in_err-kept.ensures.0
 
 pub returns-in_err-ask_open-clause-asked : goal.returns-in_err-ask_open-clause-asked
 returns-in_err-ask_open-clause-asked g c =
@@ -115,7 +115,7 @@ returns-in_err-ask_open-clause-asked g c =
     let below = inv.asked in
     let some = c.ask_open.ensures.some in
     was_some c.args.heads.now order is_order (g.A.Asker.asked c.args.asker.now c.ask_open.new.asker) (at + 1) (omega arith) (below.questions ++ questions_at order at (take some.0 (filter begins open')))
-    (g.met.A.Asker.asked_on c.args.asker.now c.loop-at.asker c.ask_open.new.asker below.questions (questions_at order at (take some.0 (filter begins open'))) below.told
+    (g.met.A.Asker.asked_on c.args.asker.now c.loop-at.asker c.ask_open.new.asker below.questions (questions_at order at (take some.0 (filter begins open'))) below.recorded
     (subst (λ (xs : List ℕ). g.A.Asker.asked c.loop-at.asker c.ask_open.new.asker (questions_at order at (take some.0 xs))) kept
     (subst (λ (o : List Head). g.A.Asker.asked c.loop-at.asker c.ask_open.new.asker (questions_at o at (take some.0 c.as_slice-in-loop-at-4.result.now))) same some.1)))
     (asked_part c.args.heads.now order is_order at inside open' inv.walked.is_open below.questions below.are some.0) c.from_residual-in_err-ask_open.result c.from_residual-in_err-ask_open.ensures.0
@@ -136,7 +136,7 @@ returns-in_err-push-clause-asked g c =
     ∙ ap (filter begins) c.as_slice-in-loop-at-2.ensures.value in
     let same : c.as_slice-in-loop-at-3.result.now ≡ order = c.as_slice-in-loop-at-3.ensures.value in
     let next = asked_next c.args.heads.now order is_order at inside open' inv.walked.is_open (g.A.Asker.asked c.args.asker.now c.loop-at.asker) (g.A.Asker.asked c.args.asker.now c.ask_open.new.asker) inv.asked
-    (g.met.A.Asker.asked_on c.args.asker.now c.loop-at.asker c.ask_open.new.asker inv.asked.questions (questions_at order at (filter begins open')) inv.asked.told
+    (g.met.A.Asker.asked_on c.args.asker.now c.loop-at.asker c.ask_open.new.asker inv.asked.questions (questions_at order at (filter begins open')) inv.asked.recorded
     (subst (λ (xs : List ℕ). g.A.Asker.asked c.loop-at.asker c.ask_open.new.asker (questions_at order at xs)) kept
     (subst (λ (o : List Head). g.A.Asker.asked c.loop-at.asker c.ask_open.new.asker (questions_at o at c.as_slice-in-loop-at-4.result.now)) same c.in_ok-ask_open.ensures.asked))) in
-    was_some c.args.heads.now order is_order (g.A.Asker.asked c.args.asker.now c.ask_open.new.asker) (at + 1) (omega arith) next.questions next.told next.are c.from_residual-in_err-push.result c.from_residual-in_err-push.ensures.0
+    was_some c.args.heads.now order is_order (g.A.Asker.asked c.args.asker.now c.ask_open.new.asker) (at + 1) (omega arith) next.questions next.recorded next.are c.from_residual-in_err-push.result c.from_residual-in_err-push.ensures.0

@@ -20,7 +20,7 @@ returns-in_err-creating g c =
     (removing_out g.T.Tree lines now c.args.tree.now c.remove_run.new.tree c.args.messages.now c.remove_run.new.messages (Ok c.in_ok-removing.removing) c.in_ok-removing.ensures.run)
     c.create_run.new.tree c.create_run.new.messages c.create_run.result c.from_residual-in_err-creating.result c.in_err-creating.was c.from_residual-in_err-creating.ensures.1
     (creating_out g.T.Tree lines now c.remove_run.new.tree c.create_run.new.tree c.remove_run.new.messages c.create_run.new.messages c.create_run.result
-    c.create_run.ensures.ok c.create_run.ensures.said c.create_run.ensures.carried c.create_run.ensures.part c.create_run.ensures.acted c.create_run.ensures.went)
+    c.create_run.ensures.ok c.create_run.ensures.new_messages c.create_run.ensures.carried c.create_run.ensures.part c.create_run.ensures.acted c.create_run.ensures.went)
 
 pub returns : goal.returns
 returns g c =
@@ -31,5 +31,5 @@ returns g c =
     (removing_out g.T.Tree lines now c.args.tree.now c.remove_run.new.tree c.args.messages.now c.remove_run.new.messages (Ok c.in_ok-removing.removing) c.in_ok-removing.ensures.run)
     c.create_run.new.tree c.create_run.new.messages c.in_ok-creating.creating c.and.result
     (creating_out g.T.Tree lines now c.remove_run.new.tree c.create_run.new.tree c.remove_run.new.messages c.create_run.new.messages (Ok c.in_ok-creating.creating)
-    c.in_ok-creating.ensures.ok c.in_ok-creating.ensures.said c.in_ok-creating.ensures.carried c.in_ok-creating.ensures.part c.in_ok-creating.ensures.acted c.in_ok-creating.ensures.went)
+    c.in_ok-creating.ensures.ok c.in_ok-creating.ensures.new_messages c.in_ok-creating.ensures.carried c.in_ok-creating.ensures.part c.in_ok-creating.ensures.acted c.in_ok-creating.ensures.went)
     c.and.ensures

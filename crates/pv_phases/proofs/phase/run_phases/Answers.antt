@@ -10,7 +10,7 @@ use Rattle.pv_phases.specs.Swept.{IsSweptBy}
 use Rattle.pv_phases.specs.declared.phase.Phase.{Phase}
 use Rattle.pv_phases.specs.declared.phase.Phase.TheVariants.{Remove}
 use Rattle.pv_phases.proofs.FrameLaws.{phases_framed}
-use Rattle.pv_phases.proofs.PhaseLaws.{boot_is, phases_start, phases_part, phases_acted, phases_gone, phases_mended, phases_mend, phases_next, phases_whole, phases_said, phases_told, phases_ended, phases_done, phases_went}
+use Rattle.pv_phases.proofs.PhaseLaws.{boot_is, phases_start, phases_part, phases_acted, phases_gone, phases_mended, phases_mend, phases_next, phases_whole, phases_messages, phases_told, phases_ended, phases_done, phases_went}
 use Rattle.pv_phases.proofs.SweptLaws.{phases_swept}
 use Rattle.pv_phases.proofs.WayLaws.{phases_between, phases_give}
 use Rattle.pv_phases.proofs.phase.run_phases.Goals as goal
@@ -90,7 +90,7 @@ loop-phase-preserved g c =
     let phase : Phase = get_or c.args.phases.now i Remove in
     let is : phase ≡ get_or c.args.phases.now i phase = get_or_default c.args.phases.now i Remove phase c.loop-phase-test.true in
     phases_next g.T.Tree moves c.args.table.now c.args.now c.args.phases.now c.args.tree.now c.args.messages.now i phase c.loop-phase-test.true is c.loop-phase.carried c.loop-phase.tree c.loop-phase.messages c.loop-phase.invariant
-    c.do_phase.new.tree c.do_phase.new.messages c.and-carried.result c.in_ok-one.ensures.ok c.in_ok-one.ensures.said c.in_ok-one.ensures.acted c.in_ok-one.ensures.went c.in_ok-one.ensures.mended
+    c.do_phase.new.tree c.do_phase.new.messages c.and-carried.result c.in_ok-one.ensures.ok c.in_ok-one.ensures.new_messages c.in_ok-one.ensures.acted c.in_ok-one.ensures.went c.in_ok-one.ensures.mended
     (λ yet ended. c.and-carried.ensures yet (falls_short c.args.table.now c.args.now phase (g.T.Tree.state c.loop-phase.tree)) ended c.in_ok-one.ensures.carried)
 
 pub returns-clause-ok : goal.returns-clause-ok
@@ -99,11 +99,11 @@ returns-clause-ok g c =
     let past : length c.args.phases.now ≤ c.loop-phase.phase-index = omega (arith, c.loop-phase-test.false) in
     phases_whole g.T.Tree moves c.args.table.now c.args.now c.args.phases.now c.args.tree.now c.args.messages.now c.loop-phase.phase-index past c.loop-phase.carried c.loop-phase.tree c.loop-phase.messages c.loop-phase.invariant
 
-pub returns-clause-said : goal.returns-clause-said
-returns-clause-said g c =
+pub returns-clause-new_messages : goal.returns-clause-new_messages
+returns-clause-new_messages g c =
     let moves : Moves g.T.Tree = record { stays = g.met.T.Tree.reaches_self; goes_on = g.met.T.Tree.reaches_on; never_falls = g.met.T.Tree.never_falls } in
     let past : length c.args.phases.now ≤ c.loop-phase.phase-index = omega (arith, c.loop-phase-test.false) in
-    phases_said g.T.Tree moves c.args.table.now c.args.now c.args.phases.now c.args.tree.now c.args.messages.now c.loop-phase.phase-index past c.loop-phase.carried c.loop-phase.tree c.loop-phase.messages c.loop-phase.invariant
+    phases_messages g.T.Tree moves c.args.table.now c.args.now c.args.phases.now c.args.tree.now c.args.messages.now c.loop-phase.phase-index past c.loop-phase.carried c.loop-phase.tree c.loop-phase.messages c.loop-phase.invariant
 
 pub returns-clause-carried : goal.returns-clause-carried
 returns-clause-carried g c =

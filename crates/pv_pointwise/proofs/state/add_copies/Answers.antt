@@ -3,7 +3,7 @@ use Rattle.std.proofs.lemmas.List.{take_more}
 use Rattle.pv_path.specs.Paths.{Path}
 use Rattle.pv_pointwise.proofs.CopyLaws.{copies, copies_more, copies_stay}
 use Rattle.pv_pointwise.proofs.state.add_copies.Goals as goal
-use Rattle.pv_pointwise.proofs.state.add_copies.Goals.{then-is_prefix+in_ok-carry+in_ok-push, else-is_prefix}
+use Rattle.pv_pointwise.proofs.state.add_copies.Goals.{then-is_prefix+in_ok-rebase+in_ok-push, else-is_prefix}
 
 pub loop-other-preserved : goal.loop-other-preserved
 loop-other-preserved c =
@@ -13,9 +13,9 @@ loop-other-preserved c =
     let made : (List Path → List Path) = copies c.args.source.now c.args.path.now in
     let more = take_more ps i p c.loop-other-test.true ∙ ap (λ (q : Path). take i ps ++ q ∷ []) (sym c.other-item.is) in
     elim c.if-is_prefix.branch [
-      | then-is_prefix+in_ok-carry+in_ok-push w ↦
-          let moved = w.in_ok-carry.field-0 in
-          let next = ap made more ∙ copies_more c.args.source.now c.args.path.now (take i ps) p moved w.in_ok-carry.ensures in
+      | then-is_prefix+in_ok-rebase+in_ok-push w ↦
+          let moved = w.in_ok-rebase.field-0 in
+          let next = ap made more ∙ copies_more c.args.source.now c.args.path.now (take i ps) p moved w.in_ok-rebase.ensures in
           rw w.paths-is
           (w.in_ok-push.ensures.items ∙ ap (λ (xs : List Path). xs ++ moved ∷ []) c.loop-other.invariant
           ∙ append_assoc c.args.paths.now.items (made (take i ps)) (moved ∷ [])

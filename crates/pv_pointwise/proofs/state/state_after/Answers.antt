@@ -3,7 +3,7 @@ use Rattle.std.specs.Prelude.{slice_get}
 use Rattle.std.specs.Option.{option_copied}
 use Rattle.pv_lines.specs.declared.line.Line.{Line}
 use Rattle.pv_table.specs.Active.{create_order, in_create_order}
-use Rattle.pv_table.specs.Pointwise.{Bares, pointwise_after}
+use Rattle.pv_table.specs.Pointwise.{ObjectStates, pointwise_after}
 use Rattle.pv_pointwise.proofs.OrderLaws.{is_left, is_there, none_is_left}
 use Rattle.pv_pointwise.proofs.state.state_after.Goals as goal
 use Rattle.pv_pointwise.proofs.state.state_after.Goals.{in-Some+in_ok-standing, in_default}
@@ -26,7 +26,7 @@ loop-place-preserved c =
           let after : c.match-line.standing ≡ pointwise_after c.loop-place.standing line = w.standing-is ∙ w.in_ok-standing.ensures in
           record {
             items = items;
-            state = ap (λ (s : Bares). fold pointwise_after s left) after ∙ sym (ap (fold pointwise_after c.loop-place.standing) next) ∙ c.loop-place.invariant.state;
+            state = ap (λ (s : ObjectStates). fold pointwise_after s left) after ∙ sym (ap (fold pointwise_after c.loop-place.standing) next) ∙ c.loop-place.invariant.state;
           }
       | in_default w ↦
           let there = is_there lines count i place within is in

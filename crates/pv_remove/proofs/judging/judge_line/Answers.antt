@@ -3,7 +3,7 @@ use Rattle.std.specs.List.{list_any}
 use Rattle.std.proofs.lemmas.List.{take_all}
 use Rattle.pv_path.specs.Paths.{Path}
 use Rattle.pv_steps.specs.Trees.{places}
-use Rattle.pv_text.specs.Said.{said_at}
+use Rattle.pv_text.specs.GivenMessages.{message_text_at}
 use Rattle.pv_table.specs.Removed.{judged, keeps, refused_place, removal_texts}
 use Rattle.pv_find.proofs.FindingLaws.{any_more}
 use Rattle.pv_remove.proofs.JudgeLaws.{judged_short, map_more}
@@ -24,8 +24,8 @@ loop-path-preserved g c = λ lines same.
     let line = c.args.line.now in
     let before = c.loop-path.invariant lines same in
     let f = λ (path : Path). is_some (refused_place line (places t) path) || keeps lines line t path in (
-      map_more (said_at line.place) (removal_texts lines line t) c.deref-path-items.result.now c.loop-path.path-index c.path-item.result c.args.said.now c.loop-path.said c.judge_path.new.said
-          c.loop-path-test.true c.path-item.is before.0 (c.in_ok-unfinished.ensures.said lines same),
+      map_more (message_text_at line.place) (removal_texts lines line t) c.deref-path-items.result.now c.loop-path.path-index c.path-item.result c.args.new_messages.now c.loop-path.new_messages c.judge_path.new.new_messages
+          c.loop-path-test.true c.path-item.is before.0 (c.in_ok-unfinished.ensures.new_messages lines same),
       ap (λ b. b || c.in_ok-unfinished.field-0) before.1 ∙ ap (λ b. list_any f (take c.loop-path.path-index c.deref-path-items.result.now) || b) (c.in_ok-unfinished.ensures.unfinished lines same)
           ∙ any_more f c.deref-path-items.result.now c.loop-path.path-index c.path-item.result c.loop-path-test.true c.path-item.is,
     )

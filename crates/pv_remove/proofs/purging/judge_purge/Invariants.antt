@@ -1,12 +1,12 @@
 use Rattle.std.proofs.Common.{◌≡◌, ◌++◌, map, take, is_some}
 use Rattle.std.specs.List.{flat_map, list_any}
 use Rattle.pv_steps.specs.Trees.{places}
-use Rattle.pv_text.specs.Said.{said_at}
+use Rattle.pv_text.specs.GivenMessages.{message_text_at}
 use Rattle.pv_table.specs.Removed.{purge_refusal, purge_texts}
 use Rattle.pv_remove.proofs.purging.judge_purge.Given as goal
 
 abbrev pub invariant-loop-line : goal.invariant-loop-line
 invariant-loop-line g l = record {
-  said : l.said ≡ l.fn.said ++ flat_map (λ line. map (said_at line.place) (purge_texts line (places (g.T.Tree.state l.tree)))) (take l.line-index l.lines);
+  new_messages : l.new_messages ≡ l.fn.new_messages ++ flat_map (λ line. map (message_text_at line.place) (purge_texts line (places (g.T.Tree.state l.tree)))) (take l.line-index l.lines);
   unfinished : l.unfinished ≡ list_any (λ line. is_some (purge_refusal line (places (g.T.Tree.state l.tree)))) (take l.line-index l.lines);
 }

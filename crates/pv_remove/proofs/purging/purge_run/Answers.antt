@@ -21,17 +21,17 @@ returns-in_err-plan-clause-mended g c =
     let none = takes_nothing g.T.Tree moves (is_purged c.args.table.now t) (purged_messages c.args.table.now t) (is_purge_unfinished c.args.table.now t) c.args.now c.args.tree.now c.args.messages.now c.from_residual.result c.from_residual.ensures.1 in
     purge_mended c.args.table.now (Removes (is_purged c.args.table.now t)) c.args.now t h t h c.ranges.now.fits c.purge_plan.ensures.tree none.acted.ran
 
-pub carry_out-requires : goal.carry_out-requires
-carry_out-requires g c = record { whole = purged_together c.in_ok-plan.plan.paths.keys c.args.table.now (g.T.Tree.state c.args.tree.now) c.in_ok-plan.ensures.gone }
+pub apply_plan-requires : goal.apply_plan-requires
+apply_plan-requires g c = record { whole = purged_together c.in_ok-plan.plan.paths.keys c.args.table.now (g.T.Tree.state c.args.tree.now) c.in_ok-plan.ensures.gone }
 
 pub returns-clause-run : goal.returns-clause-run
 returns-clause-run g c =
     let same : is_one_of c.in_ok-plan.plan.paths.keys ≡ is_purged c.args.table.now (g.T.Tree.state c.args.tree.now) = λ i q. c.in_ok-plan.ensures.gone q i in
-    takes-same g.T.Tree same c.in_ok-plan.ensures.said c.in_ok-plan.ensures.unfinished c.carry_out.ensures
+    takes-same g.T.Tree same c.in_ok-plan.ensures.new_messages c.in_ok-plan.ensures.unfinished c.apply_plan.ensures
 
 pub returns-clause-mended : goal.returns-clause-mended
 returns-clause-mended g c =
     let t = g.T.Tree.state c.args.tree.now in
     let same : is_one_of c.in_ok-plan.plan.paths.keys ≡ is_purged c.args.table.now t = λ i q. c.in_ok-plan.ensures.gone q i in
-    let took = takes-same g.T.Tree same c.in_ok-plan.ensures.said c.in_ok-plan.ensures.unfinished c.carry_out.ensures in
-    purge_mended c.args.table.now (Removes (is_purged c.args.table.now t)) c.args.now t (g.T.Tree.steps c.args.tree.now) (g.T.Tree.state c.carry_out.new.tree) (g.T.Tree.steps c.carry_out.new.tree) c.ranges.now.fits c.purge_plan.ensures.tree took.acted.ran
+    let took = takes-same g.T.Tree same c.in_ok-plan.ensures.new_messages c.in_ok-plan.ensures.unfinished c.apply_plan.ensures in
+    purge_mended c.args.table.now (Removes (is_purged c.args.table.now t)) c.args.now t (g.T.Tree.steps c.args.tree.now) (g.T.Tree.state c.apply_plan.new.tree) (g.T.Tree.steps c.apply_plan.new.tree) c.ranges.now.fits c.purge_plan.ensures.tree took.acted.ran

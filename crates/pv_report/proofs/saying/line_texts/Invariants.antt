@@ -1,5 +1,5 @@
 use Rattle.std.proofs.Common.{◌≡◌, map, take}
-use Rattle.pv_report.specs.Said.{standing_text}
+use Rattle.pv_report.specs.GivenMessages.{standing_text}
 use Rattle.pv_report.proofs.saying.line_texts.Given as goal
 
 abbrev pub invariant-loop-line : goal.invariant-loop-line

@@ -1,5 +1,5 @@
 use Rattle.std.proofs.Common.{◌≡◌, ◌++◌, map, take}
-use Rattle.pv_report.specs.Said.{overlap_text}
+use Rattle.pv_report.specs.GivenMessages.{overlap_text}
 use Rattle.pv_report.proofs.saying.say_overlaps.Given as goal
 
 abbrev pub invariant-loop-pair : goal.invariant-loop-pair

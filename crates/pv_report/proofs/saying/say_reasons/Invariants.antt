@@ -1,5 +1,5 @@
 use Rattle.std.proofs.Common.{◌≡◌, ◌++◌, map, take}
-use Rattle.pv_report.specs.Said.{unrepeatable_text}
+use Rattle.pv_report.specs.GivenMessages.{unrepeatable_text}
 use Rattle.pv_report.proofs.saying.say_reasons.Given as goal
 
 abbrev pub invariant-loop-found : goal.invariant-loop-found

@@ -2,7 +2,7 @@ use Rattle.std.proofs.Common.{◌≡◌, ◌++◌, ◌<◌, ℕ, List, length, g
 use Rattle.std.proofs.lemmas.Result.{err_from_is_err_and}
 use Rattle.pv_accounts.specs.InUse.{Ids, id_of, is_held}
 use Rattle.pv_text.specs.declared.place.Place.{Place}
-use Rattle.pv_sysusers.specs.Deciding.{fixed_by, groups_by, pooled_by, ToldBy}
+use Rattle.pv_sysusers.specs.Deciding.{fixed_by, groups_by, pooled_by, UnlessMemoryBy}
 use Rattle.pv_sysusers.specs.Groups.{group_choice}
 use Rattle.pv_sysusers.specs.Needs.{fixed_for}
 use Rattle.pv_sysusers.specs.Pools.{free_number}
@@ -30,8 +30,8 @@ loop-need-preserved c =
     let next : c.further-stock.result.next ≡ free_number (pooled_by stock.pool.now) c.args.users.now new =
     given_next (pooled_by stock.pool.now) c.args.users.now old c.args.users.now new 4294967295 stock.next c.further-stock.result.next c.loop-need.invariant.1 (λ k h. h) more c.further-stock.ensures.some c.further-stock.ensures.none in (
       rw c.in_ok-groups.ensures.made (step_new (pooled_by c.args.wanted.now.pool) c.args.users.now (fixed_for c.args.wanted.now.needs.items) (groups_by c.args.wanted.now c.args.users.now c.args.groups)
-          c.args.groups c.loop-need.groups.all c.loop-need.groups.made.items c.in_ok-groups.groups.all c.args.said.now c.loop-need.said c.needed_number.new.said c.args.wanted.now.needs.items c.loop-need.need-index c.need-item.result c.in_ok-n.n
-          below is absent (subst (λ (o : Option (ℕ × Place)). Some c.in_ok-n.n ≡ (group_choice (pooled_by c.args.wanted.now.pool) c.args.users.now c.loop-need.groups.all c.need-item.result.name o).number) fixed (rw c.loop-need.invariant.2 at c.in_ok-n.ensures.number)) (subst (λ (o : Option (ℕ × Place)). c.needed_number.new.said ≡ c.loop-need.said ++ (group_choice (pooled_by c.args.wanted.now.pool) c.args.users.now c.loop-need.groups.all c.need-item.result.name o).said) fixed (rw c.loop-need.invariant.2 at c.in_ok-n.ensures.said)) c.in_ok-groups.ensures.all c.loop-need.invariant.0),
+          c.args.groups c.loop-need.groups.all c.loop-need.groups.made.items c.in_ok-groups.groups.all c.args.new_messages.now c.loop-need.new_messages c.needed_number.new.new_messages c.args.wanted.now.needs.items c.loop-need.need-index c.need-item.result c.in_ok-n.n
+          below is absent (subst (λ (o : Option (ℕ × Place)). Some c.in_ok-n.n ≡ (group_choice (pooled_by c.args.wanted.now.pool) c.args.users.now c.loop-need.groups.all c.need-item.result.name o).number) fixed (rw c.loop-need.invariant.2 at c.in_ok-n.ensures.number)) (subst (λ (o : Option (ℕ × Place)). c.needed_number.new.new_messages ≡ c.loop-need.new_messages ++ (group_choice (pooled_by c.args.wanted.now.pool) c.args.users.now c.loop-need.groups.all c.need-item.result.name o).new_messages) fixed (rw c.loop-need.invariant.2 at c.in_ok-n.ensures.new_messages)) c.in_ok-groups.ensures.all c.loop-need.invariant.0),
       next ∙ (λ j. free_number (pooled_by (sym c.further-stock.ensures.pool j).now) c.args.users.now new),
       (λ j. (c.further-stock.ensures.pool j).now) ∙ c.loop-need.invariant.2,
     )
@@ -43,7 +43,7 @@ loop-need-preserved-then-is_some c =
     let there : is_some (id_of c.loop-need.groups.all c.need-item.result.name) ≡ true =
     ap (λ name. is_some (id_of c.loop-need.groups.all name)) (sym c.as_slice.ensures) ∙ ap (λ id. is_some id) (sym c.id_of.ensures.value) ∙ sym c.is_some.ensures ∙ c.if-is_some.true in (
       step_there (pooled_by c.args.wanted.now.pool) c.args.users.now (fixed_for c.args.wanted.now.needs.items) (groups_by c.args.wanted.now c.args.users.now c.args.groups)
-          c.args.groups c.loop-need.groups.all c.loop-need.groups.made.items c.args.said.now c.loop-need.said c.args.wanted.now.needs.items c.loop-need.need-index c.need-item.result below is there c.loop-need.invariant.0,
+          c.args.groups c.loop-need.groups.all c.loop-need.groups.made.items c.args.new_messages.now c.loop-need.new_messages c.args.wanted.now.needs.items c.loop-need.need-index c.need-item.result below is there c.loop-need.invariant.0,
       c.loop-need.invariant.1,
       c.loop-need.invariant.2,
     )
@@ -58,11 +58,11 @@ returns-in_err-n-clause-lacking c =
     let absent : is_some (id_of c.loop-need.groups.all c.need-item.result.name) ≡ false =
     ap (λ name. is_some (id_of c.loop-need.groups.all name)) (sym c.as_slice.ensures) ∙ ap (λ id. is_some id) (sym c.id_of.ensures.value) ∙ sym c.is_some.ensures ∙ c.if-is_some.false in
     rw (p.1, p.2) (step_fault (pooled_by c.args.wanted.now.pool) c.args.users.now (fixed_for c.args.wanted.now.needs.items) (groups_by c.args.wanted.now c.args.users.now c.args.groups)
-    c.args.groups c.loop-need.groups.all c.loop-need.groups.made.items c.args.said.now c.loop-need.said c.needed_number.new.said c.args.wanted.now.needs.items c.loop-need.need-index c.need-item.result c.in_err-n.field-0.0
-    below is absent (subst (λ (o : Option (ℕ × Place)). ToldBy c.in_err-n.field-0.0 (None ≡ (group_choice (pooled_by c.args.wanted.now.pool) c.args.users.now c.loop-need.groups.all c.need-item.result.name o).number)) fixed (rw c.loop-need.invariant.2 at c.in_err-n.ensures.none)) c.in_err-n.ensures.lacking (subst (λ (o : Option (ℕ × Place)). ToldBy c.in_err-n.field-0.0 (c.needed_number.new.said ≡ c.loop-need.said ++ (group_choice (pooled_by c.args.wanted.now.pool) c.args.users.now c.loop-need.groups.all c.need-item.result.name o).said)) fixed (rw c.loop-need.invariant.2 at c.in_err-n.ensures.said)) c.loop-need.invariant.0).0
+    c.args.groups c.loop-need.groups.all c.loop-need.groups.made.items c.args.new_messages.now c.loop-need.new_messages c.needed_number.new.new_messages c.args.wanted.now.needs.items c.loop-need.need-index c.need-item.result c.in_err-n.field-0.0
+    below is absent (subst (λ (o : Option (ℕ × Place)). UnlessMemoryBy c.in_err-n.field-0.0 (None ≡ (group_choice (pooled_by c.args.wanted.now.pool) c.args.users.now c.loop-need.groups.all c.need-item.result.name o).number)) fixed (rw c.loop-need.invariant.2 at c.in_err-n.ensures.none)) c.in_err-n.ensures.lacking (subst (λ (o : Option (ℕ × Place)). UnlessMemoryBy c.in_err-n.field-0.0 (c.needed_number.new.new_messages ≡ c.loop-need.new_messages ++ (group_choice (pooled_by c.args.wanted.now.pool) c.args.users.now c.loop-need.groups.all c.need-item.result.name o).new_messages)) fixed (rw c.loop-need.invariant.2 at c.in_err-n.ensures.new_messages)) c.loop-need.invariant.0).0
 
-pub returns-in_err-n-clause-said : goal.returns-in_err-n-clause-said
-returns-in_err-n-clause-said c =
+pub returns-in_err-n-clause-new_messages : goal.returns-in_err-n-clause-new_messages
+returns-in_err-n-clause-new_messages c =
     let below : c.loop-need.need-index < length c.args.wanted.now.needs.items = subst (λ (ns : List Need). c.loop-need.need-index < length ns) c.deref-need-items.ensures.value c.loop-need-test.true in
     let is : c.need-item.result ≡ get_or c.args.wanted.now.needs.items c.loop-need.need-index c.need-item.result = c.need-item.is ∙ ap (λ (ns : List Need). get_or ns c.loop-need.need-index c.need-item.result) c.deref-need-items.ensures.value in
     let fixed : fixed_by c.in_ok-fixed.fixed c.need-item.result.name ≡ fixed_for c.args.wanted.now.needs.items c.need-item.result.name =
@@ -71,5 +71,5 @@ returns-in_err-n-clause-said c =
     let absent : is_some (id_of c.loop-need.groups.all c.need-item.result.name) ≡ false =
     ap (λ name. is_some (id_of c.loop-need.groups.all name)) (sym c.as_slice.ensures) ∙ ap (λ id. is_some id) (sym c.id_of.ensures.value) ∙ sym c.is_some.ensures ∙ c.if-is_some.false in
     rw (p.1, p.2) (step_fault (pooled_by c.args.wanted.now.pool) c.args.users.now (fixed_for c.args.wanted.now.needs.items) (groups_by c.args.wanted.now c.args.users.now c.args.groups)
-    c.args.groups c.loop-need.groups.all c.loop-need.groups.made.items c.args.said.now c.loop-need.said c.needed_number.new.said c.args.wanted.now.needs.items c.loop-need.need-index c.need-item.result c.in_err-n.field-0.0
-    below is absent (subst (λ (o : Option (ℕ × Place)). ToldBy c.in_err-n.field-0.0 (None ≡ (group_choice (pooled_by c.args.wanted.now.pool) c.args.users.now c.loop-need.groups.all c.need-item.result.name o).number)) fixed (rw c.loop-need.invariant.2 at c.in_err-n.ensures.none)) c.in_err-n.ensures.lacking (subst (λ (o : Option (ℕ × Place)). ToldBy c.in_err-n.field-0.0 (c.needed_number.new.said ≡ c.loop-need.said ++ (group_choice (pooled_by c.args.wanted.now.pool) c.args.users.now c.loop-need.groups.all c.need-item.result.name o).said)) fixed (rw c.loop-need.invariant.2 at c.in_err-n.ensures.said)) c.loop-need.invariant.0).1
+    c.args.groups c.loop-need.groups.all c.loop-need.groups.made.items c.args.new_messages.now c.loop-need.new_messages c.needed_number.new.new_messages c.args.wanted.now.needs.items c.loop-need.need-index c.need-item.result c.in_err-n.field-0.0
+    below is absent (subst (λ (o : Option (ℕ × Place)). UnlessMemoryBy c.in_err-n.field-0.0 (None ≡ (group_choice (pooled_by c.args.wanted.now.pool) c.args.users.now c.loop-need.groups.all c.need-item.result.name o).number)) fixed (rw c.loop-need.invariant.2 at c.in_err-n.ensures.none)) c.in_err-n.ensures.lacking (subst (λ (o : Option (ℕ × Place)). UnlessMemoryBy c.in_err-n.field-0.0 (c.needed_number.new.new_messages ≡ c.loop-need.new_messages ++ (group_choice (pooled_by c.args.wanted.now.pool) c.args.users.now c.loop-need.groups.all c.need-item.result.name o).new_messages)) fixed (rw c.loop-need.invariant.2 at c.in_err-n.ensures.new_messages)) c.loop-need.invariant.0).1

@@ -8,5 +8,5 @@ use Rattle.pv_sysusers.proofs.groups.decided_groups.Given as goal
 abbrev pub invariant-loop-need : goal.invariant-loop-need
 invariant-loop-need l =
     (Underway (groups_by l.wanted l.users l.fn.groups) (decided_groups (pooled_by l.wanted.pool) l.users (fixed_for l.wanted.needs.items) l.groups.all (drop l.need-index l.wanted.needs.items))
-    l.fn.groups l.groups.all l.groups.made.items l.fn.said l.said)
+    l.fn.groups l.groups.all l.groups.made.items l.fn.new_messages l.new_messages)
     × GivesNext l.stock l.users l.groups.all × (l.stock.pool.now ≡ l.wanted.pool)

@@ -6,7 +6,7 @@ use Rattle.pv_sysusers.specs.Planning.{numbers_in}
 use Rattle.pv_sysusers.specs.Plans.{Numbers}
 use Rattle.pv_sysusers.specs.Users.{NewUsers, decided_users}
 use Rattle.pv_sysusers.specs.declared.wanted.Wanted.{Wanted}
-use Rattle.pv_sysusers.proofs.PlanLaws.{after_groups, both_said, groups_lack, users_lack, users_same, users_told}
+use Rattle.pv_sysusers.proofs.PlanLaws.{after_groups, both_messages, groups_lack, users_lack, users_same, users_told}
 use Rattle.pv_sysusers.proofs.planned.decided_numbers.Goals as goal
 
 pub returns-in_err-groups-clause-lacking : goal.returns-in_err-groups-clause-lacking
@@ -26,8 +26,8 @@ returns-in_err-users-clause-lacking c =
     let users : NewUsers = decided_users (pooled_by w.pool) (c.args.groups ++ new.made) c.args.users w.accounts.items in
     rw (p.1, p.2) (users_lack (numbers_in w c.args.users c.args.groups) new (users_by w c.in_ok-groups.groups.all c.args.users) users c.in_err-users.field-0.0 whole also c.in_err-users.ensures.lacking)
 
-pub returns-in_err-users-clause-said : goal.returns-in_err-users-clause-said
-returns-in_err-users-clause-said c =
+pub returns-in_err-users-clause-new_messages : goal.returns-in_err-users-clause-new_messages
+returns-in_err-users-clause-new_messages c =
     let p = err_from_is_err_and c.from_residual-in_err-users.result c.from_residual-in_err-users.ensures.1 in
     let w : Wanted = c.args.wanted.now in
     let new : NewGroups = groups_by w c.args.users c.args.groups in
@@ -36,7 +36,7 @@ returns-in_err-users-clause-said c =
     let whole = after_groups (pooled_by w.pool) c.args.users c.args.groups w.accounts.items new made.whole in
     let users : NewUsers = decided_users (pooled_by w.pool) (c.args.groups ++ new.made) c.args.users w.accounts.items in
     rw (p.1, p.2) (users_told (numbers_in w c.args.users c.args.groups) new new (users_by w c.in_ok-groups.groups.all c.args.users) users
-    c.in_err-users.field-0.0 c.args.said.now c.decided_groups.new.said c.decided_users.new.said whole refl also c.in_ok-groups.ensures.said c.in_err-users.ensures.said)
+    c.in_err-users.field-0.0 c.args.new_messages.now c.decided_groups.new.new_messages c.decided_users.new.new_messages whole refl also c.in_ok-groups.ensures.new_messages c.in_err-users.ensures.new_messages)
 
 pub returns-clause-made : goal.returns-clause-made
 returns-clause-made c =
@@ -51,13 +51,13 @@ returns-clause-made c =
       whole = ap (λ (n : Numbers). n.lacking) whole ∙ ap (λ (u : NewUsers). u.lacking) (sym also) ∙ c.in_ok-users.ensures.made.whole;
     }
 
-pub returns-clause-said : goal.returns-clause-said
-returns-clause-said c =
+pub returns-clause-new_messages : goal.returns-clause-new_messages
+returns-clause-new_messages c =
     let w : Wanted = c.args.wanted.now in
     let new : NewGroups = groups_by w c.args.users c.args.groups in
     let made = c.in_ok-groups.ensures.made in
     let also = users_same w c.args.users c.args.groups c.in_ok-groups.groups.all new made.all in
     let whole = after_groups (pooled_by w.pool) c.args.users c.args.groups w.accounts.items new made.whole in
     let users : NewUsers = decided_users (pooled_by w.pool) (c.args.groups ++ new.made) c.args.users w.accounts.items in
-    both_said (numbers_in w c.args.users c.args.groups) new new (users_by w c.in_ok-groups.groups.all c.args.users) users
-    c.args.said.now c.decided_groups.new.said c.decided_users.new.said whole refl also c.in_ok-groups.ensures.said c.in_ok-users.ensures.said
+    both_messages (numbers_in w c.args.users c.args.groups) new new (users_by w c.in_ok-groups.groups.all c.args.users) users
+    c.args.new_messages.now c.decided_groups.new.new_messages c.decided_users.new.new_messages whole refl also c.in_ok-groups.ensures.new_messages c.in_ok-users.ensures.new_messages

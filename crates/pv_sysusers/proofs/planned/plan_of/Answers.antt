@@ -19,14 +19,14 @@ returns-in_err-numbers-clause-lacking c =
     let is = numbers_same files lines c.in_ok-wanted.wanted c.in_ok-users.users c.in_ok-groups.groups c.in_ok-users.ensures c.in_ok-groups.ensures c.in_ok-wanted.ensures in
     rw (p.1, p.2) (plan_lacking files lines c.args.day numbers c.in_err-numbers.field-0.0 is c.in_err-numbers.ensures.lacking)
 
-pub returns-in_err-numbers-clause-said : goal.returns-in_err-numbers-clause-said
-returns-in_err-numbers-clause-said c =
+pub returns-in_err-numbers-clause-new_messages : goal.returns-in_err-numbers-clause-new_messages
+returns-in_err-numbers-clause-new_messages c =
     let p = err_from_is_err_and c.from_residual-in_err-numbers.result c.from_residual-in_err-numbers.ensures.1 in
     let files : AccountFiles = files_of c.args.files.now in
     let lines : List Line = shown c.args.lines.now.kept.items in
     let numbers : Numbers = numbers_in c.in_ok-wanted.wanted c.in_ok-users.users c.in_ok-groups.groups in
     let is = numbers_same files lines c.in_ok-wanted.wanted c.in_ok-users.users c.in_ok-groups.groups c.in_ok-users.ensures c.in_ok-groups.ensures c.in_ok-wanted.ensures in
-    rw (p.1, p.2) (told_same c.in_err-numbers.field-0.0 c.decided_numbers.new.said c.args.said.now numbers.said (numbers_of files lines).said (ap (λ (n : Numbers). n.said) is) c.in_err-numbers.ensures.said)
+    rw (p.1, p.2) (told_same c.in_err-numbers.field-0.0 c.decided_numbers.new.new_messages c.args.new_messages.now numbers.new_messages (numbers_of files lines).new_messages (ap (λ (n : Numbers). n.new_messages) is) c.in_err-numbers.ensures.new_messages)
 
 pub returns-clause-texts : goal.returns-clause-texts
 returns-clause-texts c =
@@ -40,10 +40,10 @@ returns-clause-texts c =
     plan_whole files lines c.args.day numbers c.in_ok-texts.texts is made.whole
     (c.in_ok-texts.ensures ∙ (λ j. texts_by files (needs j) (flat_map membership_of (shown (kept j))) c.args.day (made.groups j) (made.users j)))
 
-pub returns-clause-said : goal.returns-clause-said
-returns-clause-said c =
+pub returns-clause-new_messages : goal.returns-clause-new_messages
+returns-clause-new_messages c =
     let files : AccountFiles = files_of c.args.files.now in
     let lines : List Line = shown c.args.lines.now.kept.items in
     let numbers : Numbers = numbers_in c.in_ok-wanted.wanted c.in_ok-users.users c.in_ok-groups.groups in
     let is = numbers_same files lines c.in_ok-wanted.wanted c.in_ok-users.users c.in_ok-groups.groups c.in_ok-users.ensures c.in_ok-groups.ensures c.in_ok-wanted.ensures in
-    c.in_ok-numbers.ensures.said ∙ ap (λ (ms : List (List ℕ)). c.args.said.now ++ ms) (ap (λ (n : Numbers). n.said) is)
+    c.in_ok-numbers.ensures.new_messages ∙ ap (λ (ms : List (List ℕ)). c.args.new_messages.now ++ ms) (ap (λ (n : Numbers). n.new_messages) is)

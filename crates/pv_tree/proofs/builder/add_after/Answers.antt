@@ -9,8 +9,8 @@ pub returns-in_err-depth-clause-orphan : goal.returns-in_err-depth-clause-orphan
 returns-in_err-depth-clause-orphan c = λ e kind.
     let p = err_from_is_err_and c.from_residual.result c.from_residual.ensures.1 in
     let same : ◌≡◌ {A = Result (Unit {0}) BuildFault} (Err p.0) (Err fault.NoParent) = sym p.1 ∙ e in
-    let told : p.0 ≡ fault.NoParent = cc in
-    let is : c.in_err-depth.field-0.0 ≡ fault.NoParent = sym p.2 ∙ told in
+    let stated : p.0 ≡ fault.NoParent = cc in
+    let is : c.in_err-depth.field-0.0 ≡ fault.NoParent = sym p.2 ∙ stated in
     c.in_err-depth.ensures.orphan (ap (λ (f : BuildFault). Err f) is) kind
 
 pub directory_depth-requires : goal.directory_depth-requires

@@ -10,8 +10,8 @@ pub returns-in_err-depth-clause-orphan : goal.returns-in_err-depth-clause-orphan
 returns-in_err-depth-clause-orphan c = λ e kind.
     let p = err_from_is_err_and c.from_residual.result c.from_residual.ensures.1 in
     let same : ◌≡◌ {A = Result ℕ BuildFault} (Err p.0) (Err fault.NoParent) = sym p.1 ∙ e in
-    let told : p.0 ≡ fault.NoParent = cc in
-    let is : c.in_err-depth.field-0.0 ≡ fault.NoParent = sym p.2 ∙ told in
+    let stated : p.0 ≡ fault.NoParent = cc in
+    let is : c.in_err-depth.field-0.0 ≡ fault.NoParent = sym p.2 ∙ stated in
     let apart : is_prefix (parent_of c.args.path.now) c.args.last.now ≡ false = c.in_err-depth.ensures.apart (ap (λ (f : BuildFault). Err f) is) in
     let before : is_prefix (parent_of c.args.path.now) c.args.last.now ≡ true =
     parent_before c.args.slots.now.items c.requires.0 c.args.last.now c.args.path.now c.args.way.now.items c.requires.1 (c.in_err-depth.ensures.late (ap (λ (f : BuildFault). Err f) is)) kind in

@@ -1,8 +1,8 @@
 -- copy_over
 use Rattle.std.proofs.Common.{◌+◌, ◌*◌, refl, ap, subst, ◌∙◌, arith}
 use Rattle.std.specs.Prelude.{[], is_some}
-use Rattle.pv_dress.specs.Edits.{count_at}
-use Rattle.pv_dress.specs.Nodes.{bares_of}
+use Rattle.pv_metadata.specs.Edits.{count_at}
+use Rattle.pv_metadata.specs.Nodes.{object_states_of}
 use Rattle.pv_path.specs.Paths.{staging_of}
 use Rattle.pv_steps.specs.Acting.{Acted}
 use Rattle.pv_steps.specs.Trees.{places}
@@ -23,7 +23,7 @@ returns-in_err-pieces-clause-acted g c =
     let moves : Moves g.T.Tree = record { stays = g.met.T.Tree.reaches_self; goes_on = g.met.T.Tree.reaches_on; never_falls = g.met.T.Tree.never_falls } in
     let t = g.T.Tree.state c.args.tree.now in
     let path = c.args.path.now in
-    let s = copy_from (topped c.args.top.now) c.args.source.now (bares_of (places t)) in
+    let s = copy_from (topped c.args.top.now) c.args.source.now (object_states_of (places t)) in
     let n = copied_count s c.args.source.now t in
     acted_none g.T.Tree moves (Replacing path s t) (IsCopyStep path s) (count_at t path + most_new * n) c.args.now c.args.tree.now
     c.from_residual.result (no_memory c.from_residual.result c.from_residual.ensures.1) (Replacing.before (λ q plain. refl))
@@ -33,7 +33,7 @@ returns-in_err-pieces-clause-stages g c =
     let moves : Moves g.T.Tree = record { stays = g.met.T.Tree.reaches_self; goes_on = g.met.T.Tree.reaches_on; never_falls = g.met.T.Tree.never_falls } in
     let t = g.T.Tree.state c.args.tree.now in
     let path = c.args.path.now in
-    let s = copy_from (topped c.args.top.now) c.args.source.now (bares_of (places t)) in
+    let s = copy_from (topped c.args.top.now) c.args.source.now (object_states_of (places t)) in
     let n = copied_count s c.args.source.now t in
     acted_none g.T.Tree moves (InStages (staging_of path) s) (IsCopyStep path s) (count_at t path + most_new * n) c.args.now c.args.tree.now
     c.from_residual.result (no_memory c.from_residual.result c.from_residual.ensures.1) (staged_start (staging_of path) s t c.look-there.ensures.tree c.requires.free).stages
@@ -54,7 +54,7 @@ pub returns-clause-acted : goal.returns-clause-acted
 returns-clause-acted g c =
     let t = g.T.Tree.state c.args.tree.now in
     let path = c.args.path.now in
-    let s = copy_from (topped c.args.top.now) c.args.source.now (bares_of (places t)) in
+    let s = copy_from (topped c.args.top.now) c.args.source.now (object_states_of (places t)) in
     let n = copied_count s c.args.source.now t in
     let one = copied_some s c.args.source.now t (top_present c.args.top.now c.args.source.now t c.requires.source) c.requires.source in
     let most = cost_of c.in_ok-pieces.pieces.items + (1 + count_at t path) in
@@ -65,7 +65,7 @@ pub returns-clause-stages : goal.returns-clause-stages
 returns-clause-stages g c =
     let t = g.T.Tree.state c.args.tree.now in
     let path = c.args.path.now in
-    let s = copy_from (topped c.args.top.now) c.args.source.now (bares_of (places t)) in
+    let s = copy_from (topped c.args.top.now) c.args.source.now (object_states_of (places t)) in
     let n = copied_count s c.args.source.now t in
     let one = copied_some s c.args.source.now t (top_present c.args.top.now c.args.source.now t c.requires.source) c.requires.source in
     let most = cost_of c.in_ok-pieces.pieces.items + (1 + count_at t path) in

@@ -1,7 +1,7 @@
 use Rattle.std.proofs.Common.{◌++◌, List, map, append_assoc, sym, ap, ◌∙◌, [], ◌∷◌}
 use Rattle.std.specs.Prelude.{Option}
 use Rattle.pv_path.proofs.Tests.{on_ok}
-use Rattle.pv_dress.specs.declared.bare.Bare.{Bare}
+use Rattle.pv_metadata.specs.declared.object_state.ObjectState.{ObjectState}
 use Rattle.pv_walk.specs.declared.listing.Task.{Task}
 use Rattle.pv_walk.specs.declared.listing.Task.TheVariants.{Open, Close}
 use Rattle.pv_walk.specs.declared.listing.Piece.TheVariants.{Make}
@@ -15,12 +15,12 @@ returns-in_ok-add_object-in-Some-clause-left g c =
     on_ok c.open_children.result
     (λ e. e ∙ ap (λ (work : List Task). work ++ below) c.in_ok-add_object-in-Some.ensures.left
     ∙ append_assoc c.args.work.now.items (Close (Make c.args.rest.now (what_of c.in-Some.object.body)) ∷ []) below
-    ∙ ap (λ (object : Option Bare). c.args.work.now.items ++ tasks_before c.args.rest.now names object) (sym c.in-Some.is ∙ c.in_ok-object_at.ensures.object))
+    ∙ ap (λ (object : Option ObjectState). c.args.work.now.items ++ tasks_before c.args.rest.now names object) (sym c.in-Some.is ∙ c.in_ok-object_at.ensures.object))
     c.open_children.ensures.left
 
 pub returns-in_ok-add_object-in-Some-clause-listed : goal.returns-in_ok-add_object-in-Some-clause-listed
 returns-in_ok-add_object-in-Some-clause-listed g c =
     on_ok c.open_children.result
     (λ e. c.in_ok-add_object-in-Some.ensures.listed
-    ∙ ap (λ (object : Option Bare). c.args.pieces.now.items ++ last_piece c.args.rest.now object) (sym c.in-Some.is ∙ c.in_ok-object_at.ensures.object))
+    ∙ ap (λ (object : Option ObjectState). c.args.pieces.now.items ++ last_piece c.args.rest.now object) (sym c.in-Some.is ∙ c.in_ok-object_at.ensures.object))
     c.open_children.ensures.left

@@ -4,7 +4,7 @@ use Rattle.pv_path.specs.Paths.{Path}
 use Rattle.pv_steps.specs.Trees.{places}
 use Rattle.pv_walk.specs.declared.listing.Task.{Task}
 use Rattle.pv_walk.specs.declared.listing.Task.TheVariants.{Open}
-use Rattle.pv_dress.specs.Nodes.{bares_of}
+use Rattle.pv_metadata.specs.Nodes.{object_states_of}
 use Rattle.pv_walk.specs.Copying.{copy_from, topped}
 use Rattle.pv_walk.specs.Pieces.{names_at}
 use Rattle.pv_walk.proofs.CopiedLaws.{copied_subtree, copied_stands}
@@ -14,14 +14,14 @@ use Rattle.pv_walk.proofs.listing.pieces_of.Goals as goal
 pub loop-task-init : goal.loop-task-init
 loop-task-init g c =
     let t = g.T.Tree.state c.args.tree.now in
-    let s = copy_from (topped c.args.top.now) c.args.source.now (bares_of (places t)) in
+    let s = copy_from (topped c.args.top.now) c.args.source.now (object_states_of (places t)) in
     listed_started s (names_at c.args.source.now t) (depth_of t) (within_depth s c.args.source.now t (copied_stands (topped c.args.top.now) c.args.source.now t)) c.new-pieces.ensures.items
     (c.in_ok-push.ensures.items ∙ ap (λ (ws : List Task). ws ++ Open c.root.result ∷ []) c.new-work.ensures.items ∙ ap (λ (r : Path). Open r ∷ []) c.root.ensures)
 
 pub loop-task-smaller : goal.loop-task-smaller
 loop-task-smaller g c =
     let t = g.T.Tree.state c.args.tree.now in
-    let s = copy_from (topped c.args.top.now) c.args.source.now (bares_of (places t)) in
+    let s = copy_from (topped c.args.top.now) c.args.source.now (object_states_of (places t)) in
     let fall =
     hefts_fall s (names_at c.args.source.now t) (depth_of t) (within_depth s c.args.source.now t (copied_stands (topped c.args.top.now) c.args.source.now t)) c.pop.new.self.items c.in-Some.task in
     rw (c.in_ok-list_next.ensures.left, c.in-Some.ensures.items) fall
@@ -29,7 +29,7 @@ loop-task-smaller g c =
 pub loop-task-preserved : goal.loop-task-preserved
 loop-task-preserved g c =
     let t = g.T.Tree.state c.args.tree.now in
-    let s = copy_from (topped c.args.top.now) c.args.source.now (bares_of (places t)) in
+    let s = copy_from (topped c.args.top.now) c.args.source.now (object_states_of (places t)) in
     let next =
     listed_next s (names_at c.args.source.now t) (depth_of t) (within_depth s c.args.source.now t (copied_stands (topped c.args.top.now) c.args.source.now t)) c.loop-task.pieces.items c.pop.new.self.items c.in-Some.task
     (rw c.in-Some.ensures.items at c.loop-task.invariant) in
@@ -38,7 +38,7 @@ loop-task-preserved g c =
 pub returns-clause-plan : goal.returns-clause-plan
 returns-clause-plan g c =
     let t = g.T.Tree.state c.args.tree.now in
-    let s = copy_from (topped c.args.top.now) c.args.source.now (bares_of (places t)) in
+    let s = copy_from (topped c.args.top.now) c.args.source.now (object_states_of (places t)) in
     let none : c.loop-task.work.items ≡ [] = nil_from_length c.loop-task.work.items (sym c.loop-task.work.ok.0 ∙ c.in_default.ensures.cases.0) in
     (listed_end s (names_at c.args.source.now t) (depth_of t) (within_depth s c.args.source.now t (copied_stands (topped c.args.top.now) c.args.source.now t))
     (copied_subtree c.args.top.now c.requires.top c.args.source.now t c.look-root.ensures.tree) c.loop-task.pieces.items (rw none at c.loop-task.invariant)).0
@@ -46,7 +46,7 @@ returns-clause-plan g c =
 pub returns-clause-all : goal.returns-clause-all
 returns-clause-all g c =
     let t = g.T.Tree.state c.args.tree.now in
-    let s = copy_from (topped c.args.top.now) c.args.source.now (bares_of (places t)) in
+    let s = copy_from (topped c.args.top.now) c.args.source.now (object_states_of (places t)) in
     let none : c.loop-task.work.items ≡ [] = nil_from_length c.loop-task.work.items (sym c.loop-task.work.ok.0 ∙ c.in_default.ensures.cases.0) in
     (listed_end s (names_at c.args.source.now t) (depth_of t) (within_depth s c.args.source.now t (copied_stands (topped c.args.top.now) c.args.source.now t))
     (copied_subtree c.args.top.now c.requires.top c.args.source.now t c.look-root.ensures.tree) c.loop-task.pieces.items (rw none at c.loop-task.invariant)).1.0
@@ -54,7 +54,7 @@ returns-clause-all g c =
 pub returns-clause-few : goal.returns-clause-few
 returns-clause-few g c =
     let t = g.T.Tree.state c.args.tree.now in
-    let s = copy_from (topped c.args.top.now) c.args.source.now (bares_of (places t)) in
+    let s = copy_from (topped c.args.top.now) c.args.source.now (object_states_of (places t)) in
     let there = copied_stands (topped c.args.top.now) c.args.source.now t in
     let none : c.loop-task.work.items ≡ [] = nil_from_length c.loop-task.work.items (sym c.loop-task.work.ok.0 ∙ c.in_default.ensures.cases.0) in
     let end =

@@ -1,5 +1,5 @@
 use Rattle.pv_steps.specs.Trees.{places}
-use Rattle.pv_dress.specs.Nodes.{bares_of}
+use Rattle.pv_metadata.specs.Nodes.{object_states_of}
 use Rattle.pv_walk.specs.Copying.{copy_from, topped}
 use Rattle.pv_walk.specs.Pieces.{names_at}
 use Rattle.pv_walk.proofs.CopyListing.{depth_of, IsListed, hefts}
@@ -7,8 +7,8 @@ use Rattle.pv_walk.proofs.listing.pieces_of.Given as goal
 
 abbrev pub invariant-loop-task : goal.invariant-loop-task
 invariant-loop-task g l =
-    IsListed (copy_from (topped l.top) l.source (bares_of (places (g.T.Tree.state l.tree)))) (names_at l.source (g.T.Tree.state l.tree)) (depth_of (g.T.Tree.state l.tree)) l.pieces.items l.work.items
+    IsListed (copy_from (topped l.top) l.source (object_states_of (places (g.T.Tree.state l.tree)))) (names_at l.source (g.T.Tree.state l.tree)) (depth_of (g.T.Tree.state l.tree)) l.pieces.items l.work.items
 
 abbrev pub decreases-loop-task : goal.decreases-loop-task
 decreases-loop-task g l =
-    hefts (copy_from (topped l.top) l.source (bares_of (places (g.T.Tree.state l.tree)))) (names_at l.source (g.T.Tree.state l.tree)) (depth_of (g.T.Tree.state l.tree)) l.work.items
+    hefts (copy_from (topped l.top) l.source (object_states_of (places (g.T.Tree.state l.tree)))) (names_at l.source (g.T.Tree.state l.tree)) (depth_of (g.T.Tree.state l.tree)) l.work.items

@@ -2,14 +2,14 @@ use Rattle.std.proofs.Common.{◌≡◌, ◌≢◌, ℕ, ◌+◌, ◌<◌, ◌�
 use Rattle.pv_path.specs.Paths.{Path, is_prefix, staging_of}
 use Rattle.pv_steps.specs.declared.step.Step.{Step}
 use Rattle.pv_steps.specs.declared.step.Step.TheVariants.{Unlink, RemoveDir}
-use Rattle.pv_steps.specs.Objects.{bare}
+use Rattle.pv_steps.specs.Objects.{object_state}
 use Rattle.pv_steps.specs.Trees.{Files, Places, places, IsTree, IsPresent}
 use Rattle.pv_steps.specs.Steps.{Movable, Yields, moved}
 use Rattle.pv_steps.specs.declared.tree.Tree.{Ghosts}
 use Rattle.pv_steps.specs.declared.tree.TreeFault.{TreeFault}
 use Rattle.pv_steps.specs.Acting.{Acted}
 use Rattle.pv_steps.proofs.ActingLaws.{Moves, no_memory, acted_none, acted_then, acted_weaken, acted_within, acted_passed, acted_ended, acted_end}
-use Rattle.pv_dress.specs.Edits.{count_at}
+use Rattle.pv_metadata.specs.Edits.{count_at}
 use Rattle.pv_steps.specs.Content.{Removes}
 use Rattle.pv_walk.specs.Staging.{IsPublishing}
 use Rattle.pv_walk.specs.Removal.{Clearing, Publishing, MayHaveMoved}
@@ -44,7 +44,7 @@ way_then tree moves path p {m = m} {n = n} {now = now} {a = a} {b = b} {c = c} {
   where
     on_way : (w : Files) → MayHaveMoved now path (tree.state b) w → Publishing now path (tree.state a) w
     on_way w (inl e) = inl (subst (Clearing path (tree.state a)) (sym e) (acted_end tree (Clearing path (tree.state a)) (Removes (is_prefix path)) before))
-    on_way w (inr e) = inr (λ q. ap (λ (x : Places). option_map bare (x q)) (e ∙ same))
+    on_way w (inr e) = inr (λ q. ap (λ (x : Places). option_map object_state (x q)) (e ∙ same))
 
 pub returns-in_err-make_way-clause-acted : goal.returns-in_err-make_way-clause-acted
 returns-in_err-make_way-clause-acted g c =

@@ -18,8 +18,8 @@ begin-requires-clause-target g c =
     let can = rw c.in-Make.is at c.requires in
     can.1.1
 
-pub dress-requires : goal.dress-requires
-dress-requires g c =
+pub set_metadata-requires : goal.set_metadata-requires
+set_metadata-requires g c =
     let can = rw c.in-Give.is at c.requires in
     rw (c.in_ok-followed_by-in-Give.ensures, c.names-in-Give.ensures.value) can
 
@@ -49,10 +49,10 @@ returns-in_ok-followed_by-in-Make-clause-ok g c =
 
 pub returns-in_ok-followed_by-in-Give-clause-acted : goal.returns-in_ok-followed_by-in-Give-clause-acted
 returns-in_ok-followed_by-in-Give-clause-acted g c =
-    let worn = rw (c.in_ok-followed_by-in-Give.ensures, c.names-in-Give.ensures.value) at c.dress-in-Give.ensures.acted in
+    let worn = rw (c.in_ok-followed_by-in-Give.ensures, c.names-in-Give.ensures.value) at c.set_metadata-in-Give.ensures.acted in
     rw c.in-Give.is worn
 
 pub returns-in_ok-followed_by-in-Give-clause-ok : goal.returns-in_ok-followed_by-in-Give-clause-ok
 returns-in_ok-followed_by-in-Give-clause-ok g c =
-    let worn = rw (c.in_ok-followed_by-in-Give.ensures, c.names-in-Give.ensures.value) at c.dress-in-Give.ensures.ok in
+    let worn = rw (c.in_ok-followed_by-in-Give.ensures, c.names-in-Give.ensures.value) at c.set_metadata-in-Give.ensures.ok in
     rw c.in-Give.is worn

@@ -16,8 +16,8 @@ returns-in_err-listing_of-in-Some-clause-content c = is_content c.args.self.now.
 pub returns-in_ok-listing_of-in-Some-clause-content : goal.returns-in_ok-listing_of-in-Some-clause-content
 returns-in_ok-listing_of-in-Some-clause-content c = is_content c.args.self.now.tree.files c.kind_at-tree.ensures.tree
 
-pub returns-in-None-clause-told : goal.returns-in-None-clause-told
-returns-in-None-clause-told c =
+pub returns-in-None-clause-from_content : goal.returns-in-None-clause-from_content
+returns-in-None-clause-from_content c =
     not_listed_there (content_of c.args.self.now.tree.files) (is_content c.args.self.now.tree.files c.kind_at-tree.ensures.tree) (spelled c.args.path.now) (c.in_ok-path.ensures.none (ap Ok c.in-None.is))
 
 pub returns-in-None-clause-content : goal.returns-in-None-clause-content

@@ -1,0 +1,70 @@
+//! A run that carries out lines: reading, then the phases that are asked for.
+ghost use Rattle.std.specs.Prelude.{◌≡◌, ◌++◌, drop, length, OnOk, IfOk, IsErrOf};
+ghost use Rattle.pv_text.specs.GivenMessages.{MessagesPart};
+ghost use Rattle.pv_steps.specs.declared.tree.TreeFault.TheVariants.{Failed};
+ghost use Rattle.pv_steps.specs.Acting.{Acted};
+ghost use Rattle.pv_create.specs.OnTheWay.{IsFramed};
+ghost use Rattle.pv_doing.specs.Courses.{HasGone};
+ghost use Rattle.pv_phases.specs.OnTheWay.{GiveBy, IsBetweenBy};
+ghost use Rattle.pv_phases.specs.Phases.{IsMendedBy, phases_of};
+ghost use Rattle.pv_phases.specs.Swept.{IsSweptBy};
+ghost use Rattle.provision_run.specs.Rereading.{IsMendedAnew, IsReread};
+ghost use Rattle.provision_run.specs.Phased.{is_phases_step, lines_messages, phase_messages, phased, phases_cut, phases_end, phases_way, phases_work, run_lines};
+
+use crate::ending::{RunEnd, end_of};
+use crate::run_input::read_run;
+use pv_path::TreePath;
+use pv_phases::{phases_of, run_phases};
+use pv_steps::{Tree, TreeFault};
+use pv_text::{Facts, Messages};
+use pv_words::Options;
+use std::alloc::Global;
+
+/// Reads the configuration of a tree and carries out the phases that the options ask for (systemd-tmpfiles(8)): removing,
+/// cleaning and creating in this order, or purging alone.
+pub(crate) fn run_configured_phases<T: Tree>(
+    alloc: Global,
+    options: &Options,
+    facts: &Facts,
+    moment: u64,
+    tree: &mut T,
+    messages: &mut Messages,
+) -> Result<RunEnd, TreeFault>
+    ensures ok { OnOk result (T.state tree.new ≡ phased options.entry.now facts.now moment (T.state tree.old)) }
+    ensures new_messages { OnOk result (messages.new
+        ≡ messages.old ++ lines_messages options.entry.now facts.now (T.state tree.old) ++ phase_messages options.entry.now facts.now moment (T.state tree.old)) }
+    ensures end { IfOk result (λ end. end ≡ phases_end options.entry.now facts.now moment (T.state tree.old)) }
+    ensures staged { OnOk result (IsSweptBy (phases_of options.entry.now) (run_lines options.entry.now facts.now (T.state tree.old)) moment
+        (T.state tree.old) (T.state tree.new)) }
+    ensures part { MessagesPart
+        (lines_messages options.entry.now facts.now (T.state tree.old) ++ phase_messages options.entry.now facts.now moment (T.state tree.old))
+        messages.old messages.new }
+    ensures stopped { IsErrOf result Failed → HasGone T.Tree (phases_cut options.entry.now facts.now moment 1 (T.state tree.old)) moment
+        tree.old tree.new (messages.old ++ lines_messages options.entry.now facts.now (T.state tree.old)) messages.new }
+    ensures in_turn { OnOk result (HasGone T.Tree (phases_cut options.entry.now facts.now moment 0 (T.state tree.old)) moment
+        tree.old tree.new (messages.old ++ lines_messages options.entry.now facts.now (T.state tree.old)) messages.new) }
+    ensures acted { Acted T.Tree
+        (phases_way options.entry.now facts.now moment (T.state tree.old))
+        (is_phases_step options.entry.now facts.now moment (T.state tree.old))
+        (phases_work options.entry.now facts.now moment (T.state tree.old))
+        moment tree.old tree.new result }
+    ensures mended { IsMendedBy (phases_of options.entry.now) (run_lines options.entry.now facts.now (T.state tree.old)) moment (T.state tree.old)
+        (drop (length (T.steps tree.old)) (T.steps tree.new)) }
+    ensures reread { IsReread options.entry.now facts.now moment (T.state tree.old)
+        (drop (length (T.steps tree.old)) (T.steps tree.new)) }
+    ensures anew { IsMendedAnew options.entry.now facts.now moment (T.state tree.old)
+        (drop (length (T.steps tree.old)) (T.steps tree.new)) }
+    ensures framed { IsFramed (run_lines options.entry.now facts.now (T.state tree.old)) moment (T.state tree.old)
+        (drop (length (T.steps tree.old)) (T.steps tree.new)) }
+    ensures between { IsBetweenBy (phases_of options.entry.now) (run_lines options.entry.now facts.now (T.state tree.old)) moment (T.state tree.old)
+        (drop (length (T.steps tree.old)) (T.steps tree.new)) }
+    ensures gives { GiveBy (phases_of options.entry.now) (run_lines options.entry.now facts.now (T.state tree.old)) moment (T.state tree.old)
+        (drop (length (T.steps tree.old)) (T.steps tree.new)) }
+{
+    // Whatever the run answers, it began with a tree.
+    let _root = tree.look(&TreePath::root(alloc));
+    let read = read_run(alloc, options, facts, tree, messages)?;
+    let phases = phases_of(alloc, options)?;
+    let carried = run_phases(alloc, tree, &phases, &read.table, moment, messages)?;
+    Ok(end_of(carried, read.missing, read.invalid))
+}

@@ -1,5 +1,0 @@
-use Rattle.pv_conf.proofs.InputLaws.{configured-outside}
-use Rattle.pv_conf.proofs.laws.a_run_outside_leaves_the_configuration.Goals as goal
-
-pub returns : goal.returns
-returns c = configured-outside

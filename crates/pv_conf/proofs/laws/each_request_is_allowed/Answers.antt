@@ -1,5 +1,0 @@
-use Rattle.pv_conf.proofs.AllowedLaws.{requested_allowed}
-use Rattle.pv_conf.proofs.laws.each_request_is_allowed.Goals as goal
-
-pub returns : goal.returns
-returns c = requested_allowed

@@ -1,5 +1,0 @@
-use Rattle.pv_conf.proofs.InputLaws.{configured-after_all}
-use Rattle.pv_conf.proofs.laws.steps_elsewhere_leave_the_configuration.Goals as goal
-
-pub returns : goal.returns
-returns c = configured-after_all

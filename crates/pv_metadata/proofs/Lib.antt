@@ -1,0 +1,14 @@
+pub mod ChangingLaws
+pub mod Settling
+pub mod Cutting
+pub mod Placing
+pub mod Puts
+pub mod LetterChanges
+pub mod PartChanges
+pub mod NodeChanges
+pub mod Absorbing
+pub mod Repeating
+pub mod Dividing
+pub mod OperationLaws
+pub mod MetadataLaws
+pub mod EditLaws

@@ -1,0 +1,19 @@
+//! Rows of runs on a folder, read from standard input: each is carried out over a host in memory, and those that come out
+//! otherwise are written.
+#![tactic(auto)]
+
+mod answers;
+mod hosts;
+mod runs;
+
+use crate::answers::Runs;
+use pv_io::{StdSource, read_all};
+use test_sheet::report;
+
+fn main(rt: HostRuntime) -> anyhow::Result<()> {
+    let alloc = rt.alloc();
+    let text = read_all(alloc, &mut StdSource::new(rt.stdin()))?;
+    let report = report(alloc, str::from_utf8(&text)?, &Runs)?;
+    print!(rt; "{report}")?;
+    Ok(())
+}

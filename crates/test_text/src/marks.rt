@@ -1,0 +1,89 @@
+//! The words of a call, and answers that many calls tell.
+use std::alloc::{AllocError, Global};
+use test_sheet::bytes_of;
+
+/// The words behind a call, each as the bytes that it spells.
+#[derive(Drop)]
+pub(crate) struct Arguments {
+    all: Vec<Vec<u8>>,
+}
+
+impl Arguments {
+    /// The arguments of words that have a blank between two of them.
+    pub(crate) fn of(alloc: Global, words: &str) -> Result<Arguments, AllocError> {
+        let mut all = Vec::new(alloc);
+        for word in words.split(' ') {
+            all.push(bytes_of(alloc, word)?)?;
+        }
+        Ok(Arguments { all })
+    }
+
+    /// The argument of a number, counted from 0; one that is not there is empty.
+    pub(crate) fn at(&self, i: usize) -> &[u8] {
+        match self.all.get(i) {
+            Some(argument) => argument.as_slice(),
+            None => b"",
+        }
+    }
+
+    /// The arguments from one of a number on.
+    pub(crate) fn from(&self, i: usize) -> &[Vec<u8>] {
+        if i <= self.all.len() {
+            &self.all[i..]
+        } else {
+            &[]
+        }
+    }
+}
+
+/// The number that some digits spell.
+pub(crate) fn number_in(digits: &[u8]) -> Option<u64> {
+    str::from_utf8(digits).ok()?.parse::<u64>().ok()
+}
+
+/// The number that some octal digits spell.
+pub(crate) fn octal_in(digits: &[u8]) -> Option<u16> {
+    let mut number = 0u16;
+    for byte in digits {
+        let digit = char::from(*byte).to_digit(8)?;
+        let digit = u16::try_from(digit).ok()?;
+        number = number.checked_mul(8)?.checked_add(digit)?;
+    }
+    Some(number)
+}
+
+/// The bytes of a text.
+pub(crate) fn new_messages(alloc: Global, text: &str) -> Result<Vec<u8>, AllocError> {
+    Vec::from_slice(alloc, text.as_bytes())
+}
+
+/// The name of a fault, and what is printed of it where that is another text.
+pub(crate) fn named(alloc: Global, name: &[u8], printed: &str) -> Result<Vec<u8>, AllocError> {
+    let mut answer_to = Vec::from_slice(alloc, name)?;
+    if printed.as_bytes() != name {
+        answer_to.extend_from_slice(b", printed as ")?;
+        answer_to.extend_from_slice(printed.as_bytes())?;
+    }
+    Ok(answer_to)
+}
+
+/// What is told of words that a call can't read.
+pub(crate) fn unread(alloc: Global) -> Result<Vec<u8>, AllocError> {
+    new_messages(alloc, "unread words")
+}
+
+/// Bytes that were found, or that there are none.
+pub(crate) fn or_none(alloc: Global, found: Option<&[u8]>) -> Result<Vec<u8>, AllocError> {
+    match found {
+        Some(bytes) => Vec::from_slice(alloc, bytes),
+        None => new_messages(alloc, "none"),
+    }
+}
+
+/// A number that was found, or that there is none.
+pub(crate) fn id_or_none(alloc: Global, found: Option<u32>) -> Result<Vec<u8>, AllocError> {
+    match found {
+        Some(id) => Ok(format!(in alloc; "{id}")?.into_bytes()),
+        None => new_messages(alloc, "none"),
+    }
+}
