@@ -1,30 +1,30 @@
 -- Laws of what is old enough to go.
-use Rattle.std.specs.Prelude.{◌≡◌, ◌⊎◌, ℕ, ◌+◌, ◌<◌, Bool, true, false, cond, not, ◌&&◌, ◌||◌, ◌==◌, List, [], ◌∷◌, ◌++◌, filter, length, take, Option, Some, None, is_some}
+use Rattle.std.specs.Prelude.{◌≡◌, ◌⊎◌, ℕ, ◌+◌, ◌<◌, Bool, true, false, cond, not, ◌&&◌, ◌||◌, ◌==◌, List, [], ◌∷◌, ◌++◌, length, take, Option, Some, None, is_some}
 use Rattle.std.proofs.Common.{refl, sym, ap, ◌∙◌, inl, inr, get_or}
 use Rattle.std.specs.List.{list_any}
+use Rattle.std.specs.Option.{option_map_or}
 use Rattle.std.specs.Ordering.{eq_by_cmp, is_eq}
-use Rattle.std.proofs.lemmas.List.Elements.{filter_more}
 use Rattle.std.proofs.lemmas.List.Folds.{list_any-append}
-use Rattle.std.proofs.Math.Bool.{and_comm, and-false}
+use Rattle.std.proofs.Math.Bool.{and-false}
 use Rattle.std.proofs.lemmas.Bool.{and_parts, and_from}
 use Rattle.pv_lines.specs.declared.line.Line.{Line}
-use Rattle.pv_path.specs.Paths.{Path, path_cmp, same_path, same_path-decides, parent_of}
-use Rattle.pv_path.proofs.PathLaws.{is_prefix-refl}
+use Rattle.pv_path.specs.Paths.{Path, path_cmp, same_path, is_prefix, parent_of}
+use Rattle.pv_path.proofs.PathLaws.{path_ends, parent_of-push, is_prefix-refl}
 use Rattle.pv_steps.specs.declared.object.Object.{Object}
 use Rattle.pv_steps.specs.Same.{object_states}
-use Rattle.pv_steps.specs.Trees.{Files, places, IsAbsentIn}
+use Rattle.pv_steps.specs.Trees.{Files, places, child_name, IsTree, IsAbsentIn}
+use Rattle.pv_steps.proofs.NameLaws.{child_name-Some}
+use Rattle.pv_steps.proofs.TreeLaws.{present_above}
 use Rattle.pv_metadata.specs.Edits.{Pruned}
-use Rattle.pv_walk.specs.Listing.{IsListing}
 use Rattle.pv_walk.specs.Removal.{is_one_of}
 use Rattle.pv_find.specs.Whole.{goes_whole}
-use Rattle.pv_find.proofs.FindingLaws.{one_of-tied, same_tied, any_more, listed_are}
-use Rattle.pv_find.proofs.WholeLaws.{goes_parts, goes_from, goes_whole-same, all_at-each}
+use Rattle.pv_find.proofs.FindingLaws.{one_of-tied, same_tied, one_above, root_no_child, none_there, any_more}
+use Rattle.pv_find.proofs.WholeLaws.{goes_parts, goes_from, goes_whole-same, all_at-each, push_length}
 use Rattle.pv_table.specs.declared.scope.Scope.{Scope}
 use Rattle.pv_table.specs.Cleaned.{is_aged, is_old_by, may_go}
 use Rattle.pv_table.specs.Reaching.{names}
 use Rattle.pv_table.specs.Removed.{all_at}
 use Rattle.pv_table.specs.Scopes.{scope}
-use Rattle.pv_clean.specs.Ages.{scope_around}
 use Rattle.pv_path.proofs.Tests.{same_tests}
 
 -- what was pruned goes and is gone, or is there as it was, stamps aside
@@ -78,58 +78,53 @@ named_more files lines i line q old more within is before here =
 
 -- ---- what may go by itself
 
--- one path more of those that pass a test
-pub kept_more : (f : Path → Bool) (now new paths : List Path) (i : ℕ) (p : Path) → i < length paths → p ≡ get_or paths i p → now ≡ filter f (take i paths)
-    → new ≡ now ++ cond (f p) (p ∷ []) [] → new ≡ filter f (take (i + 1) paths)
-kept_more f now new paths i p within is before after =
-    after ∙ ap (λ (xs : List Path). xs ++ cond (f p) (p ∷ []) []) before
-    ∙ sym (filter_more f paths i p within ∙ ap (λ (x : Path). filter f (take i paths) ++ cond (f x) (x ∷ []) []) (sym is))
-
--- a path of those that pass a test
-one_of_kept : (f : Path → Bool) (q : Path) (paths : List Path) → is_one_of (filter f paths) q ≡ (is_one_of paths q && f q)
-one_of_kept f q [] = refl
-one_of_kept f q (p ∷ ps) = by (f p) refl (same_path p q) refl (one_of_kept f q ps)
-  where
-    by : (b : Bool) → f p ≡ b → (s : Bool) → same_path p q ≡ s → is_one_of (filter f ps) q ≡ (is_one_of ps q && f q)
-        → is_one_of (cond b (p ∷ filter f ps) (filter f ps)) q ≡ ((s || is_one_of ps q) && f q)
-    by true e true h rest = ap (λ b. b || is_one_of (filter f ps) q) h ∙ sym (ap f (sym ((same_path-decides p q).0 h)) ∙ e)
-    by true e false h rest = ap (λ b. b || is_one_of (filter f ps) q) h ∙ rest
-    by false e true h rest =
-        rest ∙ ap (λ b. is_one_of ps q && b) fails ∙ and-false (is_one_of ps q) ∙ sym fails
-      where
-        fails : f q ≡ false
-        fails = ap f (sym ((same_path-decides p q).0 h)) ∙ e
-    by false e false h rest = rest
-
 module _ (lines : List Line) (now : ℕ) (files : Files) where
-  -- what is old by the age of its directory and is not named may go
-  pub one_may : (named : List Path) → ((q : Path) → is_one_of named q ≡ (is_some (places files q) && list_any (λ line. names line q) lines)) → (s : Option Scope) (path : Path) → s ≡ scope_around lines path
-      → (is_old_by s now (places files path) && not (is_one_of named path)) ≡ may_go lines now files path
-  one_may named are s path is =
-      ap (λ b. is_old_by s now (places files path) && not b) (are path)
-      ∙ ap (λ (v : Option Scope). is_old_by v now (places files path) && not (is_some (places files path) && list_any (λ line. names line path) lines)) is
-      ∙ by (length path == 0) (places files path) (scope lines (parent_of path))
+  -- what stands directly in a directory
+  pub one_may : (named : List Path) → ((q : Path) → is_one_of named q ≡ (is_some (places files q) && list_any (λ line. names line q) lines)) → (s : Option Scope) (path : Path) → s ≡ scope lines path → (n : List ℕ)
+      → (not (is_one_of named (path ++ n ∷ [])) && is_old_by s now (places files (path ++ n ∷ []))) ≡ may_go lines now files (path ++ n ∷ [])
+  one_may named are s path is n =
+      ap (λ b. not b && is_old_by s now (places files (path ++ n ∷ []))) (are (path ++ n ∷ []))
+      ∙ ap (λ (v : Option Scope). not (is_some (places files (path ++ n ∷ [])) && list_any (λ line. names line (path ++ n ∷ [])) lines) && is_old_by v now (places files (path ++ n ∷ []))) (is ∙ ap (scope lines) (sym (parent_of-push path n)))
+      ∙ by (places files (path ++ n ∷ [])) (scope lines (parent_of (path ++ n ∷ [])))
+      ∙ ap (λ b. (b && not (list_any (λ line. names line (path ++ n ∷ [])) lines)) && is_old_by (scope lines (parent_of (path ++ n ∷ []))) now (places files (path ++ n ∷ []))) (sym (ap not (push_length path n)))
     where
-      by : (b : Bool) (o : Option Object) (v : Option Scope)
-          → (is_old_by (cond b None v) now o && not (is_some o && list_any (λ line. names line path) lines)) ≡ ((not b && not (list_any (λ line. names line path) lines)) && is_old_by v now o)
-      by true o v = refl
-      by false None None = sym (and-false (not (list_any (λ line. names line path) lines)))
-      by false None (Some v) = sym (and-false (not (list_any (λ line. names line path) lines)))
-      by false (Some o) v = and_comm (is_old_by v now (Some o)) (not (list_any (λ line. names line path) lines))
+      by : (o : Option Object) (v : Option Scope)
+          → (not (is_some o && list_any (λ line. names line (path ++ n ∷ [])) lines) && is_old_by v now o) ≡ ((true && not (list_any (λ line. names line (path ++ n ∷ [])) lines)) && is_old_by v now o)
+      by None None = sym (and-false (not (list_any (λ line. names line (path ++ n ∷ [])) lines)))
+      by None (Some v) = sym (and-false (not (list_any (λ line. names line (path ++ n ∷ [])) lines)))
+      by (Some o) v = refl
 
-  -- of all below the root what may go by itself
-  pub may_go_listed : (listed : List Path) → IsListing files [] listed → (q : Path) → is_one_of (filter (may_go lines now files) listed) q ≡ (is_some (places files q) && may_go lines now files q)
-  may_go_listed listed l q =
-      one_of_kept (may_go lines now files) q listed
-      ∙ ap (λ b. b && may_go lines now files q) (listed_are files [] listed l q)
-      ∙ by (same_path [] q) (is_some (places files q)) refl
+  same_child : (d q : Path) → (is_some (places files q) && option_map_or (λ n. may_go lines now files (d ++ n ∷ [])) (child_name d q) false) ≡ (is_some (places files q) && option_map_or (λ n. may_go lines now files q) (child_name d q) false)
+  same_child d q = by (child_name d q) refl
     where
-      at_root : same_path [] q ≡ true → may_go lines now files q ≡ false
-      at_root e = sym (ap (may_go lines now files) ((same_path-decides [] q).0 e))
+      by : (o : Option (List ℕ)) → child_name d q ≡ o → (is_some (places files q) && option_map_or (λ n. may_go lines now files (d ++ n ∷ [])) o false) ≡ (is_some (places files q) && option_map_or (λ n. may_go lines now files q) o false)
+      by None e = refl
+      by (Some n) e = ap (λ (r : Path). is_some (places files q) && may_go lines now files r) (sym (child_name-Some d q n e))
 
-      by : (s i : Bool) → same_path [] q ≡ s → (((true && not s) && i) && may_go lines now files q) ≡ (i && may_go lines now files q)
-      by false i e = refl
-      by true i e = sym (ap (λ b. i && b) (at_root e) ∙ and-false i)
+  -- what may go by itself in some directory may go by itself
+  pub may_go_in : IsTree files → (all found : List Path) → ((q : Path) → is_one_of all q ≡ is_some (places files q))
+      → ((q : Path) → is_one_of found q ≡ list_any (λ d. is_some (places files q) && option_map_or (λ n. may_go lines now files (d ++ n ∷ [])) (child_name d q) false) all)
+      → (q : Path) → is_one_of found q ≡ (is_some (places files q) && may_go lines now files q)
+  may_go_in tree all found are in_some q =
+      in_some q ∙ ap (λ (f : Path → Bool). list_any f all) (λ i d. same_child d q i)
+      ∙ elim (path_ends q) [
+        | inl root ↦
+            ap (λ (r : Path). list_any (λ d. is_some (places files r) && option_map_or (λ n. may_go lines now files r) (child_name d r) false) all) root
+            ∙ none_there (λ n. may_go lines now files []) [] all root_no_child (is_some (places files []))
+            ∙ sym (and-false (is_some (places files [])))
+            ∙ sym (ap (λ (r : Path). is_some (places files r) && may_go lines now files r) root)
+        | inr (above, name, e) ↦
+            ap (λ (r : Path). list_any (λ d. is_some (places files r) && option_map_or (λ n. may_go lines now files r) (child_name d r) false) all) e
+            ∙ one_above (λ n. may_go lines now files (above ++ name ∷ [])) above name (is_some (places files (above ++ name ∷ []))) all
+            ∙ ap (λ b. b && (is_some (places files (above ++ name ∷ [])) && may_go lines now files (above ++ name ∷ []))) (are above)
+            ∙ merged (is_some (places files above)) (is_some (places files (above ++ name ∷ []))) (may_go lines now files (above ++ name ∷ [])) (λ there. present_above (places files) tree above (name ∷ []) there)
+            ∙ sym (ap (λ (r : Path). is_some (places files r) && may_go lines now files r) e)
+      ]
+    where
+      merged : (a b m : Bool) → (b ≡ true → a ≡ true) → (a && (b && m)) ≡ (b && m)
+      merged true b m f = refl
+      merged false true m f = absurd (let no : false ≡ true = f refl in cc)
+      merged false false m f = refl
 
   pub below_root : (q : Path) → may_go lines now files q ≡ true → not (length q == 0) ≡ true
   below_root q h = first (not (length q == 0)) (not (list_any (λ line. names line q) lines)) (is_old_by (scope lines (parent_of q)) now (places files q)) h

@@ -1,8 +1,7 @@
 pub mod AgeLaws
-pub mod ChildLaws
+pub mod RootLaws
 pub mod CleanLaws
 pub mod InputLaws
 pub mod CleanSteps
-pub mod LosingLaws
 pub mod TurnLaws
 pub mod SentenceLaws

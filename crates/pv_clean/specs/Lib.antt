@@ -1,3 +1,2 @@
-pub mod Ages
 pub mod Cleaning
 pub mod Sentences

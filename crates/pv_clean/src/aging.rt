@@ -1,37 +1,21 @@
 //! Which objects are old enough to go.
-ghost use Rattle.std.specs.Prelude.{◌≡◌, ◌&&◌, ◌++◌, [], ◌∷◌, is_some, if◌then◌else◌, IfOk, OnOk};
-ghost use Rattle.std.specs.List.{All, list_any};
+ghost use Rattle.std.specs.Prelude.{◌≡◌, ◌&&◌, ◌++◌, [], ◌∷◌, not, filter, is_some, map, if◌then◌else◌, IfOk, OnOk};
+ghost use Rattle.std.specs.List.{list_any};
 ghost use Rattle.pv_path.specs.Paths.{Path};
-ghost use Rattle.pv_steps.specs.Trees.{places, IsTree};
-ghost use Rattle.pv_walk.specs.Listing.{IsListing};
+ghost use Rattle.pv_steps.specs.Trees.{places, names_below, IsTree};
 ghost use Rattle.pv_walk.specs.Removal.{is_one_of};
 ghost use Rattle.pv_table.specs.Cleaned.{is_aged, is_old_by, may_go};
 ghost use Rattle.pv_table.specs.Reaching.{names};
-ghost use Rattle.pv_clean.specs.Ages.{scope_around, HasItsAge};
 
-use crate::ages::{DirectoryAge, scope_around};
 use crate::naming::all_named;
 use pv_age::is_old;
 use pv_find::{is_among, whole_of};
-use pv_path::TreePath;
-use pv_steps::Tree;
-use pv_table::{Scope, Table};
+use pv_path::{Name, TreePath, child};
+use pv_steps::{Tree, is_directory, is_present};
+use pv_table::{Scope, Table, scope_of};
 use pv_walk::below;
 use std::alloc::{AllocError, Global};
 use std::collections::BTreeSet;
-
-/// By what the objects of a tree are judged.
-#[derive(Drop)]
-struct Aging<'a, T: Tree> {
-    /// The tree in which they stand.
-    tree: &'a T,
-    /// The lines.
-    table: &'a Table,
-    /// The present paths that some line names.
-    named: &'a BTreeSet<TreePath>,
-    /// The time.
-    moment: u64,
-}
 
 /// The paths that the clean phase takes away (tmpfiles.d(5), "Age", x and X), as all of it is judged by the timestamps
 /// that stand when the phase begins. The age of a directory is looked for once.
@@ -45,66 +29,64 @@ pub fn aged_paths<T: Tree>(
     ensures tree { IsTree (T.state tree.now) }
 {
     let root = TreePath::root(alloc);
-    let listed = below(alloc, tree, &root)?;
-    aged_among(alloc, tree, table, now, &listed)
+    let _rooted = is_present(tree, &root);
+    let named = all_named(alloc, tree, table.lines())?;
+    let mut paths = below(alloc, tree, &root)?;
+    paths.push(root)?;
+    let mut may_go = Vec::new(alloc);
+    for path in &paths {
+        add_aged(alloc, tree, table, &named, now, path, &mut may_go)?;
+    }
+    let aged = whole_of(alloc, tree, may_go)?;
+    Ok(aged)
 }
 
-/// Those of all paths below the root that the clean phase takes away.
-pub(crate) fn aged_among<T: Tree>(
+/// Adds what may go by itself of what stands in the directory at a path.
+fn add_aged<T: Tree>(
     alloc: Global,
     tree: &T,
     table: &Table,
+    named: &BTreeSet<TreePath>,
     now: u64,
-    listed: &[TreePath],
-) -> Result<BTreeSet<TreePath>, AllocError>
-    requires { IsListing (T.state tree.now) [] listed.now }
-    ensures { IfOk result (λ paths. (q : Path) → is_one_of paths.keys q ≡ is_aged table.now now (T.state tree.now) q) }
-{
-    let named = all_named(alloc, tree, table.lines())?;
-    let aging = Aging {
-        tree,
-        table,
-        named: &named,
-        moment: now,
-    };
-    let mut ages = Vec::new(alloc);
-    let mut may_go = Vec::new(alloc);
-    for path in listed {
-        add_if_old(alloc, &aging, path, &mut ages, &mut may_go)?;
-    }
-    whole_of(alloc, tree, may_go)
-}
-
-/// Adds a path that may go by itself.
-fn add_if_old<T: Tree>(
-    alloc: Global,
-    aging: &Aging<'_, T>,
     path: &TreePath,
-    ages: &mut Vec<DirectoryAge>,
     found: &mut Vec<TreePath>,
 ) -> Result<(), AllocError>
-    requires named { (q : Path) → is_one_of aging.now.named.now.keys q
-        ≡ (is_some (places (T.state aging.now.tree.now) q) && list_any (λ line. names line q) aging.now.table.now) }
-    requires ages { All (HasItsAge aging.now.table.now) ages.old.items }
-    ensures found { OnOk result (found.new.items ≡ found.old.items
-        ++ (if may_go aging.now.table.now aging.now.moment (T.state aging.now.tree.now) path.now then path.now ∷ [] else [])) }
-    ensures ages { OnOk result (All (HasItsAge aging.now.table.now) ages.new.items) }
+    requires named { (q : Path) → is_one_of named.now.keys q
+        ≡ (is_some (places (T.state tree.now) q) && list_any (λ line. names line q) table.now) }
+    ensures { OnOk result (found.new.items ≡ found.old.items ++ map (λ n. path.now ++ n ∷ [])
+        (filter (λ n. may_go table.now now (T.state tree.now) (path.now ++ n ∷ [])) (names_below (T.state tree.now) path.now))) }
 {
-    let scope = scope_around(alloc, aging.table, path, ages)?;
-    if may_go(aging, scope, path) {
-        found.push(path.copy()?)?;
+    if !is_directory(tree, path) {
+        return Ok(());
+    }
+    let scope = scope_of(table, path);
+    let names = tree.list(alloc, path)?;
+    for name in names.as_slice() {
+        add_if_old(alloc, tree, scope, named, now, path, name, found)?;
     }
     Ok(())
 }
 
-/// Whether a path may go by itself: what stands there is old by the age of its directory, and no line names it.
-fn may_go<T: Tree>(aging: &Aging<'_, T>, scope: Option<Scope>, path: &TreePath) -> bool
-    requires named { (q : Path) → is_one_of aging.now.named.now.keys q
-        ≡ (is_some (places (T.state aging.now.tree.now) q) && list_any (λ line. names line q) aging.now.table.now) }
-    requires scope { scope ≡ scope_around aging.now.table.now path.now }
-    ensures { result ≡ may_go aging.now.table.now aging.now.moment (T.state aging.now.tree.now) path.now }
+/// Adds a path and one name more, where no line names it and it is old by an age.
+fn add_if_old<T: Tree>(
+    alloc: Global,
+    tree: &T,
+    scope: Option<Scope>,
+    named: &BTreeSet<TreePath>,
+    now: u64,
+    path: &TreePath,
+    name: &Name,
+    found: &mut Vec<TreePath>,
+) -> Result<(), AllocError>
+    ensures { OnOk result (found.new.items ≡ found.old.items
+        ++ (if not (is_one_of named.now.keys (path.now ++ name.now ∷ [])) && is_old_by scope now (places (T.state tree.now) (path.now ++ name.now ∷ []))
+        then (path.now ++ name.now ∷ []) ∷ [] else [])) }
 {
-    is_old_by(aging.tree, scope, aging.moment, path) && !is_among(aging.named, path)
+    let below = child(alloc, path, name.bytes())?;
+    if !is_among(named, &below) && is_old_by(tree, scope, now, &below) {
+        found.push(below)?;
+    }
+    Ok(())
 }
 
 /// Whether what stands at a path is old by an age, where that does not spare what stands directly in its directory.

@@ -5,12 +5,10 @@ ghost use Rattle.pv_metadata.specs.Edits.{Pruned};
 ghost use Rattle.pv_table.specs.Cleaned.{cleaned, is_aged};
 ghost use Rattle.pv_clean.specs.Cleaning.{most_steps, IsCleanStep, IsCleanedInTurn, TakesOnly};
 
-use crate::aging::aged_among;
+use crate::aging::aged_paths;
 use crate::steps::clean_steps;
-use pv_path::TreePath;
 use pv_steps::{Tree, TreeFault, try_all};
 use pv_table::Table;
-use pv_walk::below;
 use std::alloc::Global;
 
 /// Takes away what is old enough (tmpfiles.d(5), "Age", x and X), as all of it is judged by the timestamps that stand
@@ -54,9 +52,7 @@ fn clean<T: Tree>(alloc: Global, tree: &mut T, table: &Table, now: u64) -> Resul
         (most_steps (is_aged table.now now (T.state tree.old)) (T.state tree.old)) now tree.old tree.new result }
     ensures in_turn { IsCleanedInTurn now (T.state tree.old) (drop (length (T.steps tree.old)) (T.steps tree.new)) }
 {
-    let root = TreePath::root(alloc);
-    let listed = below(alloc, tree, &root)?;
-    let aged = aged_among(alloc, tree, table, now, &listed)?;
-    let steps = clean_steps(alloc, tree, &listed, &aged)?;
+    let aged = aged_paths(alloc, tree, table, now)?;
+    let steps = clean_steps(alloc, tree, &aged)?;
     try_all(tree, steps, now)
 }

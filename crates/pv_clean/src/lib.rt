@@ -1,7 +1,6 @@
 //! The clean phase: which objects are old enough to go, and taking them away.
 #![tactic(auto)]
 
-mod ages;
 mod aging;
 mod cleaning;
 mod laws;

@@ -1,5 +1,4 @@
-use Rattle.std.proofs.Common.{◌≡◌, Bool, List, [], is_some, ap, subst, sym, ◌∙◌, arith, length, reverse}
-use Rattle.std.proofs.lemmas.Bool.{and_parts}
+use Rattle.std.proofs.Common.{◌≡◌, Bool, ap, subst, ◌∙◌, arith, length, reverse}
 use Rattle.std.proofs.lemmas.List.{length-reverse}
 use Rattle.pv_path.specs.Paths.{Path}
 use Rattle.pv_steps.specs.Acting.{Acted}
@@ -7,11 +6,9 @@ use Rattle.pv_steps.specs.Objects.{changed}
 use Rattle.pv_steps.proofs.ActingLaws.{acted_within}
 use Rattle.pv_steps.proofs.TryingLaws.{acted_all, ask_can, tried_whole}
 use Rattle.pv_metadata.specs.Edits.{Pruned}
-use Rattle.pv_steps.specs.Trees.{places}
-use Rattle.pv_walk.specs.Listing.{AreGathered, IsListing}
 use Rattle.pv_walk.specs.Removal.{is_one_of}
-use Rattle.pv_table.specs.Cleaned.{is_aged, may_go}
-use Rattle.pv_table.specs.Removed.{all_at, files_without}
+use Rattle.pv_table.specs.Cleaned.{is_aged}
+use Rattle.pv_table.specs.Removed.{files_without}
 use Rattle.pv_clean.specs.Cleaning.{most_steps, IsCleanStep}
 use Rattle.pv_clean.proofs.CleanLaws.{aged_together, tried_told}
 use Rattle.pv_clean.proofs.TurnLaws.{none_in_turn, tried_in_turn}
@@ -19,37 +16,23 @@ use Rattle.pv_clean.proofs.CleanSteps.{planned_ask, planned_end, planned_exact}
 use Rattle.pv_clean.proofs.cleaning.clean.Goals as goal
 use Rattle.pv_path.proofs.Tests.{on_ok}
 
-pub aged_among-requires : goal.aged_among-requires
-aged_among-requires g c =
-    let t = g.T.Tree.state c.args.tree.now in
-    subst (λ (ps : List Path). IsListing t [] ps) (sym c.deref.ensures.value) (rw c.root-root.ensures at c.in_ok-listed.ensures.all)
-
-pub clean_steps-requires : goal.clean_steps-requires
-clean_steps-requires g c =
-    let t = g.T.Tree.state c.args.tree.now in record {
-      tree = c.below.ensures.tree;
-      listed = subst (λ (ps : List Path). IsListing t [] ps) (sym c.deref-2.ensures.value) (rw c.root-root.ensures at c.in_ok-listed.ensures.all);
-      gathered = subst AreGathered (sym c.deref-2.ensures.value) c.in_ok-listed.ensures.gathered;
-      present = λ q h. (and_parts (is_some (places t q)) (all_at (may_go c.args.table.now c.args.now t) t q) (sym (c.in_ok-aged.ensures q) ∙ h)).0;
-    }
-
 pub try_all-requires : goal.try_all-requires
 try_all-requires g c =
     let t = g.T.Tree.state c.args.tree.now in
     let goes = is_one_of c.in_ok-aged.aged.keys in
     let steps = c.in_ok-steps.steps.items in
     ask_can (Pruned goes t) (IsCleanStep goes t) c.args.now t (reverse steps)
-    (planned_ask goes t c.args.now steps c.in_ok-steps.ensures (aged_together c.in_ok-aged.aged.keys c.args.table.now c.args.now t c.in_ok-aged.ensures))
+    (planned_ask goes t c.args.now steps c.in_ok-steps.ensures (aged_together c.in_ok-aged.aged.keys c.args.table.now c.args.now t c.in_ok-aged.ensures.aged))
 
 pub returns-clause-ok : goal.returns-clause-ok
 returns-clause-ok g c =
     let t = g.T.Tree.state c.args.tree.now in
     let goes = is_one_of c.in_ok-aged.aged.keys in
     let steps = c.in_ok-steps.steps.items in
-    let whole = aged_together c.in_ok-aged.aged.keys c.args.table.now c.args.now t c.in_ok-aged.ensures in
+    let whole = aged_together c.in_ok-aged.aged.keys c.args.table.now c.args.now t c.in_ok-aged.ensures.aged in
     on_ok c.try_all.result
     (λ e. planned_end goes t c.args.now steps c.in_ok-steps.ensures whole (g.T.Tree.state c.try_all.new.tree) e
-    ∙ ap (λ (f : Path → Bool). files_without f (changed c.args.now) t) (λ i q. c.in_ok-aged.ensures q i))
+    ∙ ap (λ (f : Path → Bool). files_without f (changed c.args.now) t) (λ i q. c.in_ok-aged.ensures.aged q i))
     (tried_whole g.T.Tree (reverse steps) c.args.now c.args.tree.now c.try_all.new.tree c.try_all.result c.try_all.ensures)
 
 pub returns-clause-exact : goal.returns-clause-exact
@@ -57,7 +40,7 @@ returns-clause-exact g c =
     let t = g.T.Tree.state c.args.tree.now in
     let goes = is_one_of c.in_ok-aged.aged.keys in
     let steps = c.in_ok-steps.steps.items in
-    let same : goes ≡ is_aged c.args.table.now c.args.now t = λ i q. c.in_ok-aged.ensures q i in
+    let same : goes ≡ is_aged c.args.table.now c.args.now t = λ i q. c.in_ok-aged.ensures.aged q i in
     on_ok c.try_all.result
     (λ stated. ap length stated ∙ length-reverse steps ∙ planned_exact goes t steps c.in_ok-steps.ensures ∙ ap (λ (f : Path → Bool). most_steps f t) same)
     (tried_told g.T.Tree (reverse steps) c.args.now c.args.tree.now c.try_all.new.tree c.try_all.result c.try_all.ensures)
@@ -67,16 +50,13 @@ returns-clause-acted g c =
     let t = g.T.Tree.state c.args.tree.now in
     let goes = is_one_of c.in_ok-aged.aged.keys in
     let steps = c.in_ok-steps.steps.items in
-    let whole = aged_together c.in_ok-aged.aged.keys c.args.table.now c.args.now t c.in_ok-aged.ensures in
-    let same : goes ≡ is_aged c.args.table.now c.args.now t = λ i q. c.in_ok-aged.ensures q i in
+    let whole = aged_together c.in_ok-aged.aged.keys c.args.table.now c.args.now t c.in_ok-aged.ensures.aged in
+    let same : goes ≡ is_aged c.args.table.now c.args.now t = λ i q. c.in_ok-aged.ensures.aged q i in
     let number = planned_exact goes t steps c.in_ok-steps.ensures in
     subst (λ (f : Path → Bool). Acted g.T.Tree (Pruned f t) (IsCleanStep f t) (most_steps f t) c.args.now c.args.tree.now c.try_all.new.tree c.try_all.result) same
     (acted_within g.T.Tree (length (reverse steps)) (most_steps goes t) (omega (arith, length-reverse steps, number))
     (acted_all (Pruned goes t) (IsCleanStep goes t) c.args.now g.T.Tree (reverse steps) c.args.tree.now c.try_all.new.tree c.try_all.result c.try_all.ensures
     (planned_ask goes t c.args.now steps c.in_ok-steps.ensures whole)))
-
-pub returns-in_err-listed-clause-in_turn : goal.returns-in_err-listed-clause-in_turn
-returns-in_err-listed-clause-in_turn g c = none_in_turn c.args.now (g.T.Tree.state c.args.tree.now) (g.T.Tree.steps c.args.tree.now)
 
 pub returns-in_err-aged-clause-in_turn : goal.returns-in_err-aged-clause-in_turn
 returns-in_err-aged-clause-in_turn g c = none_in_turn c.args.now (g.T.Tree.state c.args.tree.now) (g.T.Tree.steps c.args.tree.now)
@@ -89,4 +69,4 @@ returns-clause-in_turn g c =
     let t = g.T.Tree.state c.args.tree.now in
     let goes = is_one_of c.in_ok-aged.aged.keys in
     tried_in_turn g.T.Tree goes c.args.now c.in_ok-steps.steps.items c.args.tree.now c.try_all.new.tree c.try_all.result c.in_ok-steps.ensures
-    (aged_together c.in_ok-aged.aged.keys c.args.table.now c.args.now t c.in_ok-aged.ensures) c.in_ok-steps.ensures.gathered c.try_all.ensures
+    (aged_together c.in_ok-aged.aged.keys c.args.table.now c.args.now t c.in_ok-aged.ensures.aged) c.in_ok-steps.ensures.gathered c.try_all.ensures

@@ -6,33 +6,26 @@ use Rattle.pv_walk.specs.Removal.{is_one_of}
 use Rattle.pv_find.proofs.FindingLaws.{matched_more}
 use Rattle.pv_clean.specs.Cleaning.{clean_step, is_task}
 use Rattle.pv_clean.proofs.CleanSteps.{planned_from, root_first}
-use Rattle.pv_clean.proofs.LosingLaws.{losing_are}
 use Rattle.pv_clean.proofs.steps.clean_steps.Goals as goal
-
-pub add_step-requires : goal.add_step-requires
-add_step-requires g c = λ q. c.in_ok-losing.ensures q ∙ losing_are (g.T.Tree.state c.args.tree.now) c.args.going.now.keys c.requires.present q
-
-pub add_step-requires-in-loop-path : goal.add_step-requires-in-loop-path
-add_step-requires-in-loop-path g c = λ q. c.in_ok-losing.ensures q ∙ losing_are (g.T.Tree.state c.args.tree.now) c.args.going.now.keys c.requires.present q
 
 pub loop-path-preserved : goal.loop-path-preserved
 loop-path-preserved g c =
     let t = g.T.Tree.state c.args.tree.now in
     let goes = is_one_of c.args.going.now.keys in
-    matched_more (is_task goes t) (clean_step goes t) c.add_step.new.steps.items _ _ c.args.listed.now c.loop-path.path-index c.path-item.result
+    matched_more (is_task goes t) (clean_step goes t) c.add_step.new.steps.items _ _ c.deref-path-items.result.now c.loop-path.path-index c.path-item.result
     c.loop-path-test.true c.path-item.is c.loop-path.invariant c.in_ok-add_step-2.ensures
 
 pub returns : goal.returns
 returns g c =
     let t = g.T.Tree.state c.args.tree.now in
     let goes = is_one_of c.args.going.now.keys in
-    let listed = c.args.listed.now in
+    let listed = c.in_ok-paths.paths.items in
     let first : c.add_step.new.steps.items ≡ cond (is_task goes t []) (clean_step goes t [] ∷ []) [] =
     c.in_ok-add_step.ensures
     ∙ ap (λ (ss : List Step). ss ++ cond (is_task goes t c.root-root.result) (clean_step goes t c.root-root.result ∷ []) []) c.new-steps.ensures.items
     ∙ ap (λ (p : Path). cond (is_task goes t p) (clean_step goes t p ∷ []) []) c.root-root.ensures in
-    planned_from goes t c.requires.tree listed c.loop-path.steps.items c.requires.listed c.requires.gathered
+    planned_from goes t c.below.ensures.tree listed c.loop-path.steps.items (rw c.root-root.ensures at c.in_ok-paths.ensures.all) c.in_ok-paths.ensures.gathered
     (c.loop-path.invariant
-    ∙ ap (λ (ps : List Path). c.add_step.new.steps.items ++ map (clean_step goes t) (filter (is_task goes t) ps)) (take_all c.loop-path.path-index listed c.loop-path-test.false)
+    ∙ ap (λ (ps : List Path). c.add_step.new.steps.items ++ map (clean_step goes t) (filter (is_task goes t) ps)) (take_all c.loop-path.path-index c.deref-path-items.result.now c.loop-path-test.false ∙ c.deref-path-items.ensures.value)
     ∙ ap (λ (ss : List Step). ss ++ map (clean_step goes t) (filter (is_task goes t) listed)) first
     ∙ root_first goes t listed)
