@@ -362,7 +362,7 @@ fn walks_have_their_answers(rt: HostRuntime) -> Result<(), Fail> {
     Ok(())
 }
 
-/// Dresses the directory at a path in owners, a mode and an ACL.
+/// Gives the directory at a path owners, a mode and an ACL.
 fn metadata_at(
     rt: &impl Abort,
     alloc: Global,
