@@ -1,28 +1,13 @@
--- The active lines of a configuration: no two make one object, each is one of the lines, and they have no reason where the
--- lines have none.
+-- The active lines of a configuration: each is one of the lines, and they have no reason where the lines have none.
 use Rattle.std.specs.Prelude.{◌≡◌, ℕ, ◌<◌, Bool, true, false, cond, List, [], ◌∷◌, ◌++◌, filter, fold, Option, Some, None}
 use Rattle.std.proofs.Common.{zero, suc, refl, sym, ap, subst, arith, append_assoc}
 use Rattle.std.specs.List.{list_any, AllByRecursion}
 use Rattle.pv_path.specs.Paths.{Path}
 use Rattle.pv_lines.specs.declared.line.Line.{Line}
 use Rattle.pv_table.specs.declared.reason.Reason.{Reason}
-use Rattle.pv_table.specs.Active.{stays, make_same, with_line, active, are_distinct}
+use Rattle.pv_table.specs.Active.{stays, make_same, with_line, active}
 use Rattle.pv_table.specs.Repeatable.{IsAt, HasReason, below as made_below, IsRepeatable}
 use Rattle.pv_table.proofs.ListedLaws.{all_append, all_filter}
-use Rattle.pv_table.proofs.KeepLaws.{apart-push}
-
--- ---- no two make one object
-
-with_distinct : (lines : List Line) (line : Line) → are_distinct lines ≡ true → are_distinct (with_line lines line) ≡ true
-with_distinct lines line h = by (list_any (λ first. make_same first line) lines) refl
-  where
-    by : (b : Bool) → list_any (λ first. make_same first line) lines ≡ b → are_distinct (cond b lines (lines ++ line ∷ [])) ≡ true
-    by true e = h
-    by false e = apart-push lines line h e
-
-fold_distinct : (lines kept : List Line) → are_distinct kept ≡ true → are_distinct (fold with_line kept lines) ≡ true
-fold_distinct [] kept h = h
-fold_distinct (line ∷ lines) kept h = fold_distinct lines (with_line kept line) (with_distinct kept line h)
 
 -- ---- each is one of the lines
 

@@ -149,6 +149,20 @@ any_range f a (suc n) k le lt h = by (zero_or_more (k - a)) (any_range f (a + 1)
     by (inl z) later = let same : a ≡ k = omega (arith, z, le) in ap (λ b. b || list_any f (range_with_len (a + 1) n)) (ap f same ∙ h)
     by (inr m) later = or_right (f a) (list_any f (range_with_len (a + 1) n)) (later (omega (arith, m)) (omega (arith, lt)) h)
 
+-- a path that a line names lies above another
+pub named_above : (line : Line) (p q : Path) → names line p ≡ true → is_prefix p q ≡ true → same_path p q ≡ false → names_above line q ≡ true
+named_above line p q named above other = any_range (λ k. names line (take k q)) 0 (length q) (length p) (omega arith) shorter (ap (names line) cut ∙ named)
+  where
+    cut : take (length p) q ≡ p
+    cut = let parted = prefix_parts p q above in ap (take (length p)) parted.1 ∙ take-append_seam p parted.0
+
+    shorter : length p < 0 + length q
+    shorter = at (zero_or_more (length q - length p))
+      where
+        at : (length q - length p ≡ 0) ⊎ (1 ≤ length q - length p) → length p < 0 + length q
+        at (inl z) = absurd (true_not_false (same_path p q) ((same_path-decides p q).1 (prefix_whole p q above (omega (arith, z)))) other)
+        at (inr m) = omega (arith, m)
+
 pub in_range : (f : ℕ → Bool) (a n : ℕ) → list_any f (range_with_len a n) ≡ true → (k : ℕ) × (a ≤ k) × (k < a + n) × (f k ≡ true)
 in_range f a zero h = impossible h
 in_range f a (suc n) h = by (f a) refl (in_range f (a + 1) n) h
@@ -215,21 +229,11 @@ module _ (now : ℕ) (line : Line) (adjustment : Adjustment) (e : action_of line
 
         by : (found.0 ≡ q) ⊎ (same_path found.0 q ≡ false) → adjusts_path line adjustment q ≡ true
         by (inl same) = ap (λ b. b || (adjustment.deep && names_above line q && not (has_staging q))) (sym (ap (names line) same) ∙ found.1)
-        by (inr d) = adjusts_below deeper.0 (any_range (λ k. names line (take k q)) 0 (length q) (length found.0) (omega arith) shorter (ap (names line) cut ∙ found.1))
+        by (inr d) = adjusts_below deeper.0 (named_above line found.0 q found.1 deeper.1 d)
           where
             deeper : (adjustment.deep ≡ true) × (is_prefix found.0 q ≡ true)
             deeper = and_parts adjustment.deep (is_prefix found.0 q) (
                 and_parts (adjustment.deep && is_prefix found.0 q) (not (has_staging q)) (sym (ap (λ b. b || (adjustment.deep && is_prefix found.0 q && not (has_staging q))) d) ∙ found.2)).0
-
-            cut : take (length found.0) q ≡ found.0
-            cut = let parts = prefix_parts found.0 q deeper.1 in ap (take (length found.0)) parts.1 ∙ take-append_seam found.0 parts.0
-
-            shorter : length found.0 < 0 + length q
-            shorter = at (zero_or_more (length q - length found.0))
-              where
-                at : (length q - length found.0 ≡ 0) ⊎ (1 ≤ length q - length found.0) → length found.0 < 0 + length q
-                at (inl z) = absurd (true_not_false (same_path found.0 q) ((same_path-decides found.0 q).1 (prefix_whole found.0 q deeper.1 (omega (arith, z)))) d)
-                at (inr m) = omega (arith, m)
 
   module _ (q : Path) (plain : has_staging q ≡ false) (there : is_some (object_states_of (places t) q) ≡ true) where
     module _ (deep : adjustment.deep ≡ true) where

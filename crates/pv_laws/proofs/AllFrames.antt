@@ -1,8 +1,8 @@
 -- What no line governs stays as it is, lines that copy among them, whatever is refused and wherever a run was cut short.
-use Rattle.std.specs.Prelude.{◌≡◌, ℕ, Bool, true, false, ◌&&◌, List, [], ◌∷◌, Option, Some, None, is_some}
+use Rattle.std.specs.Prelude.{◌≡◌, ℕ, true, false, ◌&&◌, List, [], ◌∷◌, Option, Some, None, is_some}
 use Rattle.std.proofs.Common.{refl, sym, ap, subst, ◌∙◌, inl, inr}
 use Rattle.std.specs.List.{list_any, list_all, AllByRecursion}
-use Rattle.std.proofs.lemmas.Bool.{or_parts}
+use Rattle.std.proofs.lemmas.Bool.{or_parts, false_from_ne_true}
 use Rattle.pv_path.specs.Paths.{Path, same_path, is_prefix, has_staging, same_path-decides}
 use Rattle.pv_path.proofs.PathLaws.{rest_under-None, same_path-refl}
 use Rattle.pv_steps.specs.Trees.{Files, places, IsTree}
@@ -14,7 +14,7 @@ use Rattle.pv_lines.specs.declared.line.LinePath.{LinePath}
 use Rattle.pv_lines.specs.Lines.{IsLine}
 use Rattle.pv_table.specs.declared.action.Copying.{Copying}
 use Rattle.pv_table.specs.declared.action.Action.{Action}
-use Rattle.pv_table.specs.declared.action.Action.TheVariants.{Create, Copy, Adjust, Idle}
+use Rattle.pv_table.specs.declared.action.Action.TheVariants.{Copy}
 use Rattle.pv_table.specs.Active.{in_create_order}
 use Rattle.pv_table.specs.ActionTable.{action_of}
 use Rattle.pv_table.specs.Created.{after_each, by_turn, by_line, created}
@@ -26,7 +26,7 @@ use Rattle.pv_laws.specs.Copying.{IsCopyMidway, kept, parent, some_set, gone, tu
 use Rattle.pv_laws.proofs.AllPoints.{turns_copy, copy_idle, copy_passes}
 use Rattle.pv_laws.proofs.CopyShapes.{at_outside, copied_shaped}
 use Rattle.pv_laws.proofs.Frames.{IsFree, ungoverned, not_reached, IsKept, kept_same, turn_kept, line_kept, midway_frame}
-use Rattle.pv_laws.proofs.Lines.{path_named, line_is_plain, copy_literal, copy_path, copy_source}
+use Rattle.pv_laws.proofs.Lines.{path_named, line_is_plain, copy_literal, copy_path, copy_source, copies_or_not}
 use Rattle.pv_laws.proofs.Making.{IsShaped}
 use Rattle.pv_laws.proofs.Prepared.{object_state_some, filled}
 use Rattle.pv_table.proofs.ListedLaws.{all_in_order}
@@ -49,11 +49,7 @@ module _ (line : Line) (is : IsLine line) (copying : Copying) (e : action_of lin
   not_above = sym (ap (λ b. b && is_prefix q (path_in line.path)) copy_creating) ∙ free.no_parent
 
   pub not_below : is_prefix (path_in line.path) q ≡ false
-  not_below = by (is_prefix (path_in line.path) q) refl
-    where
-      by : (b : Bool) → is_prefix (path_in line.path) q ≡ b → is_prefix (path_in line.path) q ≡ false
-      by true f = absurd (not_reached line is q free (path_in line.path) (Copy copying) e refl (copy_names (path_in line.path) ∙ same_path-refl (path_in line.path)) f not_at)
-      by false f = f
+  not_below = false_from_ne_true _ (λ f. not_reached line is q free (path_in line.path) (Copy copying) e refl (copy_names (path_in line.path) ∙ same_path-refl (path_in line.path)) f not_at)
 
 -- ---- a line
 
@@ -79,16 +75,10 @@ module _ (now : ℕ) (line : Line) (is : IsLine line) (t : Files) (shape : IsSha
 
   -- whatever it asks for
   pub each_kept : IsKept line t ((by_line now).after line t)
-  each_kept = by (action_of line) refl
+  each_kept = copies_or_not line (λ copying e. subst (λ paths. IsKept line t (after_each (by_turn now line) paths t)) (sym (turns_copy line copying t e)) (copy_kept copying e)) plain_line
     where
       plain_line : copied (action_of line) ≡ None → IsKept line t ((by_line now).after line t)
       plain_line none = line_kept now line is (line_is_plain line is none) t shape
-
-      by : (d : Action) → action_of line ≡ d → IsKept line t ((by_line now).after line t)
-      by (Create making) e = plain_line (ap copied e)
-      by (Copy copying) e = subst (λ paths. IsKept line t (after_each (by_turn now line) paths t)) (sym (turns_copy line copying t e)) (copy_kept copying e)
-      by (Adjust adjustment) e = plain_line (ap copied e)
-      by Idle e = plain_line (ap copied e)
 
   -- on its way
   pub way_frame : (u : Files) (q : Path) → has_staging q ≡ false → governs line q ≡ false → OnWayOf line now t u → object_states_of (places u) q ≡ object_states_of (places t) q

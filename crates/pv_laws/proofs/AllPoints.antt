@@ -1,23 +1,19 @@
 -- The definition of what lines leave at each path by itself gives what they leave, lines that copy among them.
-use Rattle.std.specs.Prelude.{◌≡◌, ◌≢◌, ℕ, ◌+◌, Bool, true, false, not, cond, ◌&&◌, List, [], ◌∷◌, ◌++◌, length, map, take, fold, Option, Some, None, is_some, option_map, unwrap_or, slice_get}
+use Rattle.std.specs.Prelude.{◌≡◌, ◌≢◌, ℕ, ◌+◌, Bool, true, false, not, cond, ◌&&◌, List, [], ◌∷◌, ◌++◌, length, map, take, fold, Option, Some, None, is_some, option_map, unwrap_or}
 use Rattle.std.proofs.Common.{refl, sym, arith, ap, subst, ◌∙◌, append_assoc}
 use Rattle.std.proofs.lemmas.List.{append-nil, take_all}
 use Rattle.std.specs.FinMap as fin
 use Rattle.std.specs.List.{list_all, filter_map, enumerate_from, AllByRecursion}
 use Rattle.std.specs.Option.{option_map_or, option_or}
-use Rattle.std.proofs.lemmas.Bool.{or_left, or_parts}
+use Rattle.std.proofs.lemmas.Bool.{or_left, or_parts, false_from_ne_true}
 use Rattle.pv_path.specs.Paths.{Path, same_path, is_prefix, rest_under, has_staging, same_path-decides}
 use Rattle.pv_path.proofs.PathLaws.{rest_under-Some, same_path-refl}
-use Rattle.pv_steps.specs.declared.node.Kind.{Kind}
-use Rattle.pv_steps.specs.declared.node.Kind.TheVariants.{Directory}
-use Rattle.pv_steps.specs.declared.object.Object.{Object}
 use Rattle.pv_steps.specs.declared.why.Why.{Why}
-use Rattle.pv_steps.specs.Objects.{is_directory}
 use Rattle.pv_steps.specs.Refusal.{refusal}
-use Rattle.pv_steps.specs.Trees.{Files, places, kind_of, IsTree}
+use Rattle.pv_steps.specs.Trees.{Files, places, IsTree}
 use Rattle.pv_steps.proofs.StepLaws.{is_among, among_right, among_left, later_among}
 use Rattle.pv_metadata.specs.declared.object_state.ObjectState.{ObjectState}
-use Rattle.pv_metadata.specs.Nodes.{object_state_of, object_states_of}
+use Rattle.pv_metadata.specs.Nodes.{object_states_of}
 use Rattle.pv_metadata.specs.Operations.{run}
 use Rattle.pv_lines.specs.declared.line.Line.{Line}
 use Rattle.pv_lines.specs.declared.line.LinePath.{LinePath}
@@ -26,7 +22,7 @@ use Rattle.pv_walk.proofs.PreparingSweep.{unrefused_pass}
 use Rattle.pv_walk.specs.Preparing.{parents_of}
 use Rattle.pv_table.specs.declared.action.Copying.{Copying}
 use Rattle.pv_table.specs.declared.action.Action.{Action}
-use Rattle.pv_table.specs.declared.action.Action.TheVariants.{Create, Copy, Adjust, Idle}
+use Rattle.pv_table.specs.declared.action.Action.TheVariants.{Copy}
 use Rattle.pv_table.specs.declared.reason.Reason.TheVariants as reason
 use Rattle.pv_table.specs.Active.{Listed, ordered, in_create_order}
 use Rattle.pv_table.specs.Asked.{operations}
@@ -35,21 +31,22 @@ use Rattle.pv_table.specs.Created.{after_each, one_is_refused, by_turn, by_line,
 use Rattle.pv_table.specs.Effects.{turned, prepare, carried_out, turn_after, turns}
 use Rattle.pv_table.specs.Pointwise.{ObjectStates, view, parent_object_state, after_turn, at_made, point, point_paths, pointwise_after, state}
 use Rattle.pv_table.specs.Reaching.{names, path_in, reaches, governs}
-use Rattle.pv_table.specs.Repeatable.{IsAt, HasReason, IsRepeatable, sets_of}
+use Rattle.pv_table.specs.Repeatable.{HasReason, IsRepeatable, sets_of}
 use Rattle.pv_table.specs.Turns.{Refused, Turn, view_of, source_refusal, copied, copy_of, copying_turn, owner_made, refused_at, decide}
 use Rattle.pv_laws.specs.Moments.{Agree}
 use Rattle.pv_laws.specs.Stopping.{CopiesNothing}
 use Rattle.pv_walk.proofs.CopiedLaws.{among_copied}
 use Rattle.pv_laws.proofs.Copies.{decide_some, copied_point}
 use Rattle.pv_laws.proofs.CopyShapes.{IsCopyTurn, puts, becomes, leaves, copy_turns, copied_shaped}
-use Rattle.pv_laws.proofs.Lines.{path_named, line_is_plain, line_point, copy_literal, copy_path, copy_source}
+use Rattle.pv_laws.proofs.Lines.{path_named, line_is_plain, line_point, copy_literal, copy_path, copy_source, copies_or_not}
 use Rattle.pv_laws.proofs.Making.{is_dir, IsShaped, dir_there}
-use Rattle.pv_table.proofs.ListedLaws.{all_ordered, all_listed, all_in_order, all_at}
+use Rattle.pv_table.proofs.ListedLaws.{all_ordered, all_in_order}
 use Rattle.pv_laws.proofs.Points.{get-tabulated, point_asked, listed, quiet_front}
 use Rattle.pv_laws.proofs.Prepared.{object_state_some}
 use Rattle.pv_walk.proofs.PreparedLaws.{has_some, in_parents, among_first, stands_among}
 use Rattle.pv_laws.proofs.Sets.{impossible, is_adjustment, asked, sets_adjust}
-use Rattle.pv_laws.proofs.Shapes.{shape_same, tree_shaped}
+use Rattle.pv_laws.proofs.Repeated.{IsListed, all_at_places}
+use Rattle.pv_laws.proofs.Shapes.{kind_dir, shape_same, tree_shaped}
 use Rattle.pv_laws.proofs.Adjustment.{turn_open, first_turn}
 use Rattle.pv_path.proofs.Tests.{true_not_false, all_take}
 
@@ -105,13 +102,6 @@ module _ (line : Line) (copying : Copying) (e : action_of line ≡ Copy copying)
 
   pub copy_passes : (p : Path) → is_prefix p (path_in line.path) ≡ true → p ≢ path_in line.path → is_some (object_states_of (places t) p) ≡ true → is_dir (object_states_of (places t) p) ≡ true
   copy_passes p high other h = kind_dir (places t p) (unrefused_pass (path_in line.path) (owner_made line (places t)) t copy_refusal p (high, other) (sym (object_state_some (places t p)) ∙ h))
-    where
-      kind_is : (k : Kind) → Some k ≡ Some Directory → k ≡ Directory
-      kind_is k g = cc
-
-      kind_dir : (o : Option Object) → kind_of o ≡ Some Directory → is_dir (option_map object_state_of o) ≡ true
-      kind_dir None g = absurd (let no : None ≡ Some Directory = g in cc)
-      kind_dir (Some x) g = let same : x.node.kind ≡ Directory = kind_is x.node.kind g in ap is_directory same
 
 module _ (now : ℕ) (line : Line) (safe : IsSafe line) (t : Files) (shape : IsShaped (object_states_of (places t))) where
   copy_pointed : (copying : Copying) → action_of line ≡ Copy copying → one_is_refused (by_turn now line) (path_in line.path ∷ []) t ≡ false → IsPointed line t (turn_after now line (path_in line.path) t)
@@ -154,7 +144,7 @@ module _ (now : ℕ) (line : Line) (safe : IsSafe line) (t : Files) (shape : IsS
 
   -- each line
   pub line_pointed : (by_line now).is_refused line t ≡ false → IsPointed line t ((by_line now).after line t)
-  line_pointed quiet = by (action_of line) refl
+  line_pointed quiet = copies_or_not line (λ copying e. subst (λ paths. IsPointed line t (after_each (by_turn now line) paths t)) (sym (turns_copy line copying t e)) (copy_pointed copying e (ap (λ paths. one_is_refused (by_turn now line) paths t) (sym (turns_copy line copying t e)) ∙ quiet))) plain_line
     where
       plain_line : copied (action_of line) ≡ None → IsPointed line t ((by_line now).after line t)
       plain_line none =
@@ -166,13 +156,6 @@ module _ (now : ℕ) (line : Line) (safe : IsSafe line) (t : Files) (shape : IsS
                 ∙ sym (point_asked line plain s (shape_same (object_states_of (places t)) (fin.get s) agree shape) q unstaged);
             shape = one.shape;
           }
-
-      by : (d : Action) → action_of line ≡ d → IsPointed line t ((by_line now).after line t)
-      by (Create making) e = plain_line (ap copied e)
-      by (Copy copying) e = subst (λ paths. IsPointed line t (after_each (by_turn now line) paths t)) (sym (turns_copy line copying t e))
-          (copy_pointed copying e (ap (λ paths. one_is_refused (by_turn now line) paths t) (sym (turns_copy line copying t e)) ∙ quiet))
-      by (Adjust adjustment) e = plain_line (ap copied e)
-      by Idle e = plain_line (ap copied e)
 
 -- ---- which paths are looked at
 
@@ -246,16 +229,10 @@ module _ (line : Line) (safe : IsSafe line) (s : ObjectStates) (shape : IsShaped
         by (Some b) f g = copied_listed b f (sym (ap (λ c. is_some (cond (is_some c) (at_made (Copy copying) path s q) (fin.get s q))) f) ∙ g)
 
   pub pointwise_is : fin.get (pointwise_after s line) q ≡ point line s q
-  pointwise_is = get-tabulated (point_paths line s ++ fin.keys s) (point line s) q (by (action_of line) refl)
+  pointwise_is = get-tabulated (point_paths line s ++ fin.keys s) (point line s) q (copies_or_not line copy_listed plain_line)
     where
       plain_line : copied (action_of line) ≡ None → is_some (point line s q) ≡ true → is_among q (point_paths line s ++ fin.keys s) ≡ true
       plain_line none h = let plain_one = line_is_plain line safe.is none in listed line plain_one s shape q plain (sym (ap is_some (point_asked line plain_one s shape q plain)) ∙ h)
-
-      by : (d : Action) → action_of line ≡ d → is_some (point line s q) ≡ true → is_among q (point_paths line s ++ fin.keys s) ≡ true
-      by (Create making) e h = plain_line (ap copied e) h
-      by (Copy copying) e h = copy_listed copying e h
-      by (Adjust adjustment) e h = plain_line (ap copied e) h
-      by Idle e h = plain_line (ap copied e) h
 
 -- ---- lines one after the other
 
@@ -291,19 +268,11 @@ plain_safe lines are none = all_in_order IsSafe lines (each lines are none)
 
 -- and where no line has a reason
 module _ (lines : List Line) (are : AllByRecursion IsLine lines) (repeatable : IsRepeatable lines) where
-  pub record IsPlaced (line : Listed) : Type 0 where
-    pub at : IsAt lines line.0 line.1
-    pub is : IsLine line.1
-
-  all_placed_so : (xs : List Listed) → AllByRecursion (λ (line : Listed). IsAt lines line.0 line.1) xs → AllByRecursion (λ (line : Listed). IsLine line.1) xs → AllByRecursion IsPlaced xs
-  all_placed_so [] h g = tt
-  all_placed_so (x ∷ xs) h g = (record { at = h.0; is = g.0 }, all_placed_so xs h.1 g.1)
-
-  pub safe_of : (line : Listed) → IsPlaced line → IsSafe line.1
+  pub safe_of : (line : Listed) → IsListed lines line → IsSafe line.1
   safe_of line placed = record { is = placed.is; away = away }
     where
       away : (copying : Copying) → action_of line.1 ≡ Copy copying → is_prefix copying.source (path_in line.1.path) ≡ false
-      away copying e = by (is_prefix copying.source (path_in line.1.path)) refl
+      away copying e = false_from_ne_true _ (λ g. repeatable line.0 reason.Source (HasReason.source line.1 line.1 line.0 copying.source (path_in line.1.path) placed.at placed.at (ap copied e) g (path_named line.1 placed.is) governed))
         where
           named : names line.1 (path_in line.1.path) ≡ true
           named = ap (λ (p : LinePath). names (record line.1 { path = p }) (path_in line.1.path)) (copy_literal line.1 placed.is copying e) ∙ same_path-refl (path_in line.1.path)
@@ -311,14 +280,9 @@ module _ (lines : List Line) (are : AllByRecursion IsLine lines) (repeatable : I
           governed : governs line.1 (path_in line.1.path) ≡ true
           governed = or_left (reaches line.1 (path_in line.1.path)) _ (or_left (names line.1 (path_in line.1.path)) _ named)
 
-          by : (c : Bool) → is_prefix copying.source (path_in line.1.path) ≡ c → is_prefix copying.source (path_in line.1.path) ≡ false
-          by true g = absurd (repeatable line.0 reason.Source (HasReason.source line.1 line.1 line.0 copying.source (path_in line.1.path) placed.at placed.at (ap copied e) g (path_named line.1 placed.is) governed))
-          by false g = g
-
-  all_safe_listed : (xs : List Listed) → AllByRecursion IsPlaced xs → AllByRecursion IsSafe (map (λ (line : Listed). line.1) xs)
+  all_safe_listed : (xs : List Listed) → AllByRecursion (IsListed lines) xs → AllByRecursion IsSafe (map (λ (line : Listed). line.1) xs)
   all_safe_listed [] h = tt
   all_safe_listed (x ∷ xs) h = (safe_of x h.0, all_safe_listed xs h.1)
 
   pub all_safe : AllByRecursion IsSafe (in_create_order lines)
-  all_safe = all_safe_listed (ordered (enumerate_from 0 lines)) (all_ordered IsPlaced (enumerate_from 0 lines) (
-      all_placed_so (enumerate_from 0 lines) (all_at lines lines 0 (λ i. (let same : 0 + i ≡ i = omega arith in ap (slice_get lines) same))) (all_listed IsLine 0 lines are)))
+  all_safe = all_safe_listed (ordered (enumerate_from 0 lines)) (all_ordered (IsListed lines) (enumerate_from 0 lines) (all_at_places lines are))

@@ -3,7 +3,7 @@ use Rattle.std.specs.Prelude.{◌≡◌, ℕ, Bool, true, false, ◌&&◌, ◌||
 use Rattle.std.proofs.Common.{refl, sym, ap, subst, ◌∙◌, inl, inr}
 use Rattle.std.proofs.lemmas.List.{append-nil}
 use Rattle.std.specs.List.{list_all}
-use Rattle.std.proofs.lemmas.Bool.{or_left, or_right, or_parts, and_parts}
+use Rattle.std.proofs.lemmas.Bool.{or_left, or_right, or_parts, and_parts, false_from_ne_true}
 use Rattle.pv_path.specs.Paths.{has_names, Path, same_path, is_prefix, rest_under, has_staging, same_path-decides}
 use Rattle.pv_path.proofs.PathLaws.{is_prefix-append, is_prefix-antisym, same_path-refl, rest_under-None, rest_under-Some, has_staging-append}
 use Rattle.pv_steps.specs.Same.{Same}
@@ -19,7 +19,7 @@ use Rattle.pv_lines.specs.declared.line.LinePath.TheVariants.{Literal, Glob}
 use Rattle.pv_lines.specs.Lines.{IsLine}
 use Rattle.pv_table.specs.declared.action.Copying.{Copying}
 use Rattle.pv_table.specs.declared.action.Action.{Action}
-use Rattle.pv_table.specs.declared.action.Action.TheVariants.{Create, Copy, Adjust, Idle}
+use Rattle.pv_table.specs.declared.action.Action.TheVariants.{Copy}
 use Rattle.pv_table.specs.declared.reason.Reason.TheVariants as reason
 use Rattle.pv_table.specs.Active.{is_adjusting_line}
 use Rattle.pv_table.specs.Asked.{clears_below, operations}
@@ -35,13 +35,13 @@ use Rattle.pv_laws.proofs.AllPoints.{IsSafe, line_pointed, turns_copy, copy_idle
 use Rattle.pv_laws.proofs.Copies.{turns_same, childless_less}
 use Rattle.pv_laws.proofs.CopyEnds.{inside_same, same_copy, turn_at, copy_inside, plain_path, plain_source}
 use Rattle.pv_laws.proofs.CopyShapes.{at_outside}
-use Rattle.pv_laws.proofs.Frames.{named_above, deep_reaches}
+use Rattle.pv_laws.proofs.Adjustment.{named_above}
 use Rattle.pv_laws.proofs.AllFrames.{each_kept}
-use Rattle.pv_laws.proofs.Lines.{line_is_plain, line_point, copy_literal, copy_path, copy_source, creating_row, creating_adjusts_none}
+use Rattle.pv_laws.proofs.Lines.{line_is_plain, line_point, copy_literal, copy_path, copy_source, creating_row, creating_adjusts_none, copies_or_not}
 use Rattle.pv_laws.proofs.Making.{same_unnamed, IsShaped}
 use Rattle.pv_laws.proofs.Prepared.{object_state_some, filled}
 use Rattle.pv_laws.proofs.Repeated as repeated
-use Rattle.pv_laws.proofs.Repeated.{IsAskedAt, asked_at, adjust_adjusts}
+use Rattle.pv_laws.proofs.Repeated.{IsAskedAt, asked_at, adjust_adjusts, deep_reaches}
 use Rattle.pv_laws.proofs.Sets.{impossible, is_adjustment, asked, sets_adjust}
 use Rattle.pv_laws.proofs.Shapes.{tree_shaped}
 use Rattle.pv_laws.proofs.Adjustment.{turn_open, first_turn}
@@ -145,32 +145,25 @@ module _ (line : Line) (safe : IsSafe line) (now later : ℕ) (v w : Files) (sha
         by (Some b) f = present_same copying e b f
 
     pub leaves_same : object_states_of (places ((by_line later).after line w)) q ≡ object_states_of (places ((by_line now).after line v)) q
-    leaves_same = by (action_of line) refl
+    leaves_same = copies_or_not line (λ copying e. copies_same copying e) plain_line
       where
         plain_line : copied (action_of line) ≡ None → object_states_of (places ((by_line later).after line w)) q ≡ object_states_of (places ((by_line now).after line v)) q
         plain_line none =
             (line_point later line (line_is_plain line safe.is none) w shape_w quiet_w).point q plain ∙ ap (run (operations line q)) here
             ∙ sym ((line_point now line (line_is_plain line safe.is none) v shape_v quiet_v).point q plain)
 
-        by : (d : Action) → action_of line ≡ d → object_states_of (places ((by_line later).after line w)) q ≡ object_states_of (places ((by_line now).after line v)) q
-        by (Create making) e = plain_line (ap copied e)
-        by (Copy copying) e = copies_same copying e
-        by (Adjust adjustment) e = plain_line (ap copied e)
-        by Idle e = plain_line (ap copied e)
-
   -- above its path it puts a parent, or nothing
   abbrev IsParentAlike : Type 0
   IsParentAlike = (c : Bool) × (object_states_of (places ((by_line now).after line v)) q ≡ filled c (object_states_of (places v) q)) × (object_states_of (places ((by_line later).after line w)) q ≡ filled c (object_states_of (places w) q))
 
   pub parents_alike : is_creating line ≡ true → is_prefix q p ≡ true → same_path p q ≡ false → IsParentAlike
-  parents_alike creates above other = by (action_of line) refl
+  parents_alike creates above other = copies_or_not line (λ copying e. by_source copying e (object_states_of (places v) copying.source) refl) plain_line
     where
       no_adjust : is_adjusting_line line ≡ false
       no_adjust = creating_adjusts_none line safe.is (creating_row line safe.is creates)
 
-      not_under : (b : Bool) → is_prefix p q ≡ b → is_prefix p q ≡ false
-      not_under true f = absurd (true_not_false (same_path p q) ((same_path-decides p q).1 (is_prefix-antisym p q f above)) other)
-      not_under false f = f
+      not_under : is_prefix p q ≡ false
+      not_under = false_from_ne_true _ (λ f. true_not_false (same_path p q) ((same_path-decides p q).1 (is_prefix-antisym p q f above)) other)
 
       asked_point : copied (action_of line) ≡ None → (c : Bool) → ((b : Option ObjectState) → run (operations line q) b ≡ filled c b) → IsParentAlike
       asked_point none c f = (
@@ -185,7 +178,7 @@ module _ (line : Line) (safe : IsSafe line) (now later : ℕ) (v w : Files) (sha
           at : IsAskedAt line q → IsParentAlike
           at (repeated.object making e s f) = absurd (true_not_false (same_path p q) ((same_path-decides p q).1 s) other)
           at (repeated.parent making e s f) = asked_point none true (λ b. ap (λ xs. run xs b) f)
-          at (repeated.below making e g d f) = absurd (true_not_false (is_prefix p q) (and_parts (is_prefix p q) (clears_below making) g).0 (not_under (is_prefix p q) refl))
+          at (repeated.below making e g d f) = absurd (true_not_false (is_prefix p q) (and_parts (is_prefix p q) (clears_below making) g).0 not_under)
           at (repeated.set adjustment e t f) = impossible (sym no_adjust ∙ adjust_adjusts q line adjustment e)
           at (repeated.nothing f) = asked_point none false (λ b. ap (λ xs. run xs b) f)
 
@@ -193,15 +186,9 @@ module _ (line : Line) (safe : IsSafe line) (now later : ℕ) (v w : Files) (sha
       by_source copying e None f = (false, idle_point now v copying e quiet_v f, idle_point later w copying e quiet_w (source_same copying e ∙ f))
       by_source copying e (Some b) f = (
         is_prefix q p,
-        outside_point now v shape_v copying e quiet_v b f (rest_under-None p q (not_under (is_prefix p q) refl)),
-        outside_point later w shape_w copying e quiet_w b (source_same copying e ∙ f) (rest_under-None p q (not_under (is_prefix p q) refl)),
+        outside_point now v shape_v copying e quiet_v b f (rest_under-None p q not_under),
+        outside_point later w shape_w copying e quiet_w b (source_same copying e ∙ f) (rest_under-None p q not_under),
       )
-
-      by : (d : Action) → action_of line ≡ d → IsParentAlike
-      by (Create making) e = plain_line (ap copied e)
-      by (Copy copying) e = by_source copying e (object_states_of (places v) copying.source) refl
-      by (Adjust adjustment) e = plain_line (ap copied e)
-      by Idle e = plain_line (ap copied e)
 
 -- ---- two lines
 
@@ -247,18 +234,10 @@ module _ (a b : Line) (is_a : IsLine a) (is_b : IsLine b) (repeatable : IsRepeat
 
   -- what is copied
   free_b : (copying : Copying) → action_of a ≡ Copy copying → (rest : Path) → has_names (copying.source ++ rest) ≡ true → governs b (copying.source ++ rest) ≡ false
-  free_b copying e rest named = by (governs b (copying.source ++ rest)) refl
-    where
-      by : (c : Bool) → governs b (copying.source ++ rest) ≡ c → governs b (copying.source ++ rest) ≡ false
-      by true f = absurd (repeatable 1 reason.Source (HasReason.source b a 0 copying.source (copying.source ++ rest) refl refl (ap copied e) (is_prefix-append copying.source rest) named f))
-      by false f = f
+  free_b copying e rest named = false_from_ne_true _ (λ f. repeatable 1 reason.Source (HasReason.source b a 0 copying.source (copying.source ++ rest) refl refl (ap copied e) (is_prefix-append copying.source rest) named f))
 
   free_a : (copying : Copying) → action_of b ≡ Copy copying → (rest : Path) → has_names (copying.source ++ rest) ≡ true → governs a (copying.source ++ rest) ≡ false
-  free_a copying e rest named = by (governs a (copying.source ++ rest)) refl
-    where
-      by : (c : Bool) → governs a (copying.source ++ rest) ≡ c → governs a (copying.source ++ rest) ≡ false
-      by true f = absurd (repeatable 0 reason.Source (HasReason.source a b 1 copying.source (copying.source ++ rest) refl refl (ap copied e) (is_prefix-append copying.source rest) named f))
-      by false f = f
+  free_a copying e rest named = false_from_ne_true _ (λ f. repeatable 0 reason.Source (HasReason.source a b 1 copying.source (copying.source ++ rest) refl refl (ap copied e) (is_prefix-append copying.source rest) named f))
 
   below_source : (source rest : Path) → has_staging source ≡ false → has_staging rest ≡ false → has_staging (source ++ rest) ≡ false
   below_source source rest h g = has_staging-append source rest ∙ ap (λ c. c || has_staging rest) h ∙ g

@@ -4,7 +4,7 @@ use Rattle.std.proofs.Common.{refl, sym, ap, subst, ◌∙◌, inl, inr}
 use Rattle.std.specs.FinMap as fin
 use Rattle.std.specs.List.{list_all}
 use Rattle.std.specs.Option.{option_map_or}
-use Rattle.std.proofs.lemmas.Bool.{not-true, or_from}
+use Rattle.std.proofs.lemmas.Bool.{not-true, or_from, false_from_ne_true}
 use Rattle.pv_path.specs.Names.{is_staging}
 use Rattle.pv_path.specs.Paths.{Path, same_path, is_prefix, rest_under, has_staging, same_path-decides}
 use Rattle.pv_path.proofs.PathLaws.{is_prefix-append, is_prefix-trans, is_prefix-antisym, rest_under-self, rest_under-append, is_some-rest_under, has_staging-append, same_path-no}
@@ -170,15 +170,11 @@ module _ (now : ℕ) (copying : Copying) (adjust : list_all is_adjustment copyin
     | inl same ↦ subst (λ (p : Path). object_states_of (places ready) p ≡ object_states_of (places t) p) same (ready_here now path unstaged t shape)
     | inr d ↦
         ready_else now path unstaged t shape q plain (λ same. true_not_false (same_path path q) ((same_path-decides path q).1 (sym same)) d)
-        ∙ ap (λ c. filled c (object_states_of (places t) q)) (by d (is_prefix q path) refl)
+        ∙ ap (λ c. filled c (object_states_of (places t) q)) (false_from_ne_true _ (λ f. true_not_false (same_path path q) ((same_path-decides path q).1 (is_prefix-antisym path q under f)) d))
   ]
     where
       under : is_prefix path q ≡ true
       under = sym (is_some-rest_under path q) ∙ ap is_some e
-
-      by : same_path path q ≡ false → (c : Bool) → is_prefix q path ≡ c → is_prefix q path ≡ false
-      by d true f = absurd (true_not_false (same_path path q) ((same_path-decides path q).1 (is_prefix-antisym path q under f)) d)
-      by d false f = f
 
   childless_before : is_childless (view_of ready) path ≡ is_childless (view_of t) path
   childless_before = childless_same (view_of ready) (view_of t) path (λ q visible. by q (child_plain path q unstaged visible))
@@ -197,11 +193,7 @@ module _ (now : ℕ) (copying : Copying) (adjust : list_all is_adjustment copyin
     source_there rest plain =
         ready_else now path unstaged t shape (copying.source ++ rest) (has_staging-append copying.source rest ∙ ap (λ c. c || has_staging rest) plain_source ∙ plain)
         (λ e. true_not_false (is_prefix copying.source path) (ap (is_prefix copying.source) (sym e) ∙ is_prefix-append copying.source rest) away)
-        ∙ ap (λ c. filled c (object_states_of (places t) (copying.source ++ rest))) (by (is_prefix (copying.source ++ rest) path) refl)
-      where
-        by : (c : Bool) → is_prefix (copying.source ++ rest) path ≡ c → is_prefix (copying.source ++ rest) path ≡ false
-        by true e = absurd (true_not_false (is_prefix copying.source path) (is_prefix-trans copying.source (copying.source ++ rest) path (is_prefix-append copying.source rest) e) away)
-        by false e = e
+        ∙ ap (λ c. filled c (object_states_of (places t) (copying.source ++ rest))) (false_from_ne_true _ (λ e. true_not_false (is_prefix copying.source path) (is_prefix-trans copying.source (copying.source ++ rest) path (is_prefix-append copying.source rest) e) away))
 
     pub copy_there : (rest : Path) → copy_of copying (view_of ready) rest ≡ copy_of copying (view_of t) rest
     copy_there [] = ap (option_map (topped_by copying)) source_ready

@@ -4,7 +4,7 @@ use Rattle.std.proofs.Common.{refl, sym, ap, subst, ◌∙◌, inl, inr, append_
 use Rattle.std.proofs.lemmas.List.{append-nil}
 use Rattle.std.specs.List.{list_all}
 use Rattle.std.proofs.lemmas.Option.{same_Some}
-use Rattle.std.proofs.lemmas.Bool.{or_parts, and_parts}
+use Rattle.std.proofs.lemmas.Bool.{or_parts, and_parts, false_from_ne_true}
 use Rattle.pv_path.specs.Paths.{has_names, Path, same_path, is_prefix, rest_under, has_staging, same_path-decides}
 use Rattle.pv_path.proofs.PathLaws.{has_names-append, has_names-both, has_names-prefix, is_prefix-append, is_prefix-trans, is_prefix-antisym, prefix_parts, prefixes_compare, rest_under-self, rest_under-append, rest_under-Some, rest_under-None, is_some-rest_under, has_staging-append}
 use Rattle.pv_steps.specs.declared.node.Kind.{Kind}
@@ -194,11 +194,7 @@ module _ (now : ℕ) (copying : Copying) (adjust : list_all is_adjustment copyin
   inside_dir turn (leaves kind e) front name back c d over h = ap (λ x. is_dir (after_turn x front c)) e ∙ over (sym (ap (λ x. is_some (after_turn x (front ++ name ∷ back) d)) e) ∙ h)
 
   dir_above : (p : Path) → has_staging p ≡ false → is_prefix p path ≡ true → p ≢ path → is_dir (left p) ≡ true
-  dir_above p plain high other = ap is_dir (at_outside p plain (rest_under-None path p (by (is_prefix path p) refl)) ∙ ap (λ c. filled c (old p)) high) ∙ high_dir p plain high other
-    where
-      by : (c : Bool) → is_prefix path p ≡ c → is_prefix path p ≡ false
-      by true e = absurd (other (is_prefix-antisym p path high e))
-      by false e = e
+  dir_above p plain high other = ap is_dir (at_outside p plain (rest_under-None path p (false_from_ne_true _ (λ e. other (is_prefix-antisym p path high e)))) ∙ ap (λ c. filled c (old p)) high) ∙ high_dir p plain high other
 
   over : (p q : Path) → has_staging q ≡ false → is_prefix p q ≡ true → p ≢ q → is_some (left q) ≡ true → is_dir (left p) ≡ true
   over p q plain above other there = by (rest_under path q) refl (rest_under path p) refl

@@ -1,10 +1,10 @@
 -- On the way of lines, of which some copy, each path has the kind and the owner that it has before the line at work or
 -- after it.
-use Rattle.std.specs.Prelude.{◌≡◌, ◌≢◌, ◌⊎◌, ℕ, Bool, true, false, List, [], ◌∷◌, take, Option, Some, None, is_some}
+use Rattle.std.specs.Prelude.{◌≡◌, ◌≢◌, ◌⊎◌, ℕ, true, false, List, [], ◌∷◌, take, Option, Some, None, is_some}
 use Rattle.std.proofs.Common.{zero, suc, refl, sym, ap, subst, ◌∙◌, inl, inr}
 use Rattle.std.specs.FinMap as fin
 use Rattle.std.specs.List.{list_all, AllByRecursion}
-use Rattle.std.proofs.lemmas.Bool.{or_parts}
+use Rattle.std.proofs.lemmas.Bool.{or_parts, false_from_ne_true}
 use Rattle.pv_path.specs.Paths.{Path, same_path, is_prefix, rest_under, has_staging, same_path-decides}
 use Rattle.pv_path.proofs.PathLaws.{is_prefix-antisym, rest_under-self, rest_under-None}
 use Rattle.pv_steps.specs.Same.{Same}
@@ -37,9 +37,9 @@ use Rattle.pv_laws.proofs.AllPoints.{IsSafe, line_pointed, turns_copy, copy_pass
 use Rattle.pv_laws.proofs.Copies.{left_before, decided_before, decide_agrees}
 use Rattle.pv_laws.proofs.CopyShapes.{at_outside}
 use Rattle.pv_laws.proofs.Lines.{line_is_plain, line_point, copy_path, copy_source}
-use Rattle.pv_laws.proofs.Making.{IsShaped, dir_there}
-use Rattle.pv_laws.proofs.Prepared.{object_state_some, filled}
-use Rattle.pv_laws.proofs.Sets.{impossible, is_adjustment, adjusted_none, asked, sets_adjust}
+use Rattle.pv_laws.proofs.Making.{is_dir, IsShaped, nothing_under}
+use Rattle.pv_laws.proofs.Prepared.{object_state_some, filled, with_some}
+use Rattle.pv_laws.proofs.Sets.{is_adjustment, adjusted_none, asked, sets_adjust}
 use Rattle.pv_laws.proofs.Shapes.{tree_shaped}
 use Rattle.pv_laws.proofs.Adjustment.{turn_open, first_turn}
 use Rattle.pv_laws.proofs.Ways.{SetsOwnerOnce, sets_once, all_take, parts_adjust, IsAmid, absent, gap, amid_between, at_start, at_end, set_between, midway_between}
@@ -88,24 +88,15 @@ module _ (now : ℕ) (line : Line) (safe : IsSafe line) (t : Files) (shape : IsS
     comes_above high differ =
         carried
         ∙ at_outside now copying adjust path unstaged plain_source t shape b present (copy_path line safe.is copying e).1
-        (copy_passes line copying e t open_path (sym (object_state_some (places t copying.source)) ∙ ap is_some present)) q plain (rest_under-None path q (by (is_prefix path q) refl))
+        (copy_passes line copying e t open_path (sym (object_state_some (places t copying.source)) ∙ ap is_some present)) q plain (rest_under-None path q (false_from_ne_true _ (λ f. differ (is_prefix-antisym q path high f))))
         ∙ ap (λ c. filled c old) high
-      where
-        by : (c : Bool) → is_prefix path q ≡ c → is_prefix path q ≡ false
-        by true f = absurd (differ (is_prefix-antisym q path high f))
-        by false f = f
 
     -- nothing stands at or below a path where nothing stands
     nothing_below : is_prefix path q ≡ true → object_states_of (places t) path ≡ None → old ≡ None
     nothing_below low none = elim (path_cases path q) [
       | inl same ↦ ap (object_states_of (places t)) (sym same) ∙ none
-      | inr d ↦ by d old refl
+      | inr d ↦ nothing_under (object_states_of (places t)) shape path q plain low (λ same. true_not_false (same_path path q) ((same_path-decides path q).1 same) d) (ap is_dir none)
     ]
-      where
-        by : same_path path q ≡ false → (o : Option ObjectState) → old ≡ o → o ≡ None
-        by d None f = refl
-        by d (Some x) f = impossible (sym (ap is_some none) ∙ dir_there (object_states_of (places t) path) (
-            shape.above path q plain low (λ same. true_not_false (same_path path q) ((same_path-decides path q).1 same) d) (ap is_some f)))
 
   module _ (s : ObjectStates) (agree : Agree s t) (u : Files) where
     abbrev here : Option ObjectState
@@ -140,11 +131,7 @@ module _ (now : ℕ) (line : Line) (safe : IsSafe line) (t : Files) (shape : IsS
         })
 
     pub way_amid : OnWayOf line now t u → IsAmid line s q old next here
-    way_amid (copy_before copying e before) = by (object_states_of (places t) copying.source) refl
-      where
-        by : (b : Option ObjectState) → object_states_of (places t) copying.source ≡ b → IsAmid line s q old next here
-        by None f = impossible (sym (ap is_some f) ∙ object_state_some (places t copying.source) ∙ before.0)
-        by (Some b) f = copy_amid copying e b f (before.1 q plain)
+    way_amid (copy_before copying e before) = with_some (object_states_of (places t) copying.source) (object_state_some (places t copying.source) ∙ before.0) (λ b f. copy_amid copying e b f (before.1 q plain))
     way_amid (copy_done copying e whole) = at_end line s q old next here (sym (object_states_of-same (places ((by_line now).after line t)) (places u) q (whole q plain)))
     way_amid (other none way) = subst (λ (c : Option ObjectState). IsAmid line s q old c here) (sym ((line_point now line (line_is_plain line safe.is none) t shape quiet).point q plain))
         (midway_between line s q old here (agree q plain) (way q plain))

@@ -1,12 +1,10 @@
 -- What a line that copies nothing does not govern stays as it is, whatever is refused, and on its way.
-use Rattle.std.specs.Prelude.{◌≡◌, ◌⊎◌, ℕ, ◌+◌, ◌-◌, ◌<◌, ◌≤◌, Bool, true, false, not, cond, ◌&&◌, ◌||◌, List, [], ◌∷◌, length, take, filter, Option, Some, None, is_some}
-use Rattle.std.proofs.Common.{zero, suc, refl, sym, ap, subst, ◌∙◌, arith, inl, inr}
-use Rattle.std.proofs.Math.Seq.{take-append_seam}
+use Rattle.std.specs.Prelude.{◌≡◌, ◌⊎◌, ℕ, ◌+◌, ◌-◌, ◌<◌, ◌≤◌, Bool, true, false, not, cond, ◌&&◌, ◌||◌, List, [], ◌∷◌, take, filter, Option, Some, None, is_some}
+use Rattle.std.proofs.Common.{zero, suc, refl, sym, ap, subst, ◌∙◌, inl, inr}
 use Rattle.std.specs.FinMap as fin
 use Rattle.std.specs.List.{list_all, AllByRecursion}
 use Rattle.std.proofs.lemmas.Bool.{or_parts, and_parts}
 use Rattle.pv_path.specs.Paths.{Path, same_path, is_prefix, has_staging, same_path-decides}
-use Rattle.pv_path.proofs.PathLaws.{prefix_parts, prefix_whole}
 use Rattle.pv_steps.specs.Trees.{Files, places}
 use Rattle.pv_metadata.specs.declared.object_state.ObjectState.{ObjectState}
 use Rattle.pv_metadata.specs.declared.operation.Test.{Test}
@@ -16,7 +14,6 @@ use Rattle.pv_metadata.specs.Operations.{run}
 use Rattle.pv_lines.specs.declared.line.Line.{Line}
 use Rattle.pv_lines.specs.declared.line.LinePath.{LinePath}
 use Rattle.pv_lines.specs.Lines.{IsLine}
-use Rattle.pv_walk.proofs.RemovalLaws.{zero_or_more}
 use Rattle.pv_table.specs.declared.action.Action.{Action}
 use Rattle.pv_table.specs.declared.action.Action.TheVariants.{Create, Copy, Adjust, Idle}
 use Rattle.pv_table.specs.declared.action.Making.{Making}
@@ -32,10 +29,10 @@ use Rattle.pv_laws.specs.Stopping.{IsMidway}
 use Rattle.pv_laws.proofs.Lines.{IsPlain, made_literal, made_passes, turns_made, turns_adjust, turns_idle, asked_made}
 use Rattle.pv_laws.proofs.Making.{IsShaped, clears_none, made_point}
 use Rattle.pv_table.proofs.ListedLaws.{all_tests}
-use Rattle.pv_laws.proofs.Repeated.{IsAskedAt, object, parent, below, set, nothing, asked_at}
+use Rattle.pv_laws.proofs.Repeated.{deep_reaches, IsAskedAt, object, parent, below, set, nothing, asked_at}
 use Rattle.pv_laws.proofs.Sets.{impossible, is_adjustment, IsMaking, line_is_making, adjusted_none}
 use Rattle.pv_laws.proofs.Shapes.{IsLike, adjusted_like, made_shaped, shape_same, shaped_like}
-use Rattle.pv_laws.proofs.Adjustment.{any_range, turn_open, adjust_point, adjusts}
+use Rattle.pv_laws.proofs.Adjustment.{named_above, turn_open, adjust_point, adjusts}
 use Rattle.pv_path.proofs.Tests.{true_not_false}
 
 -- ---- what a line does not govern it asks nothing of
@@ -51,28 +48,6 @@ ungoverned line q h =
     let two = or_parts (reaches line q) (is_creating line && is_prefix q (path_in line.path)) h in
     let one = or_parts (names line q) (reaches_below line && names_above line q) two.0 in
     record { unnamed = one.0; unreached = one.1; no_parent = two.1 }
-
--- a path that a line names lies above another
-pub named_above : (line : Line) (p q : Path) → names line p ≡ true → is_prefix p q ≡ true → same_path p q ≡ false → names_above line q ≡ true
-named_above line p q named above other = any_range (λ k. names line (take k q)) 0 (length q) (length p) (omega arith) shorter (ap (names line) cut ∙ named)
-  where
-    cut : take (length p) q ≡ p
-    cut = let parted = prefix_parts p q above in ap (take (length p)) parted.1 ∙ take-append_seam p parted.0
-
-    shorter : length p < 0 + length q
-    shorter = at (zero_or_more (length q - length p))
-      where
-        at : (length q - length p ≡ 0) ⊎ (1 ≤ length q - length p) → length p < 0 + length q
-        at (inl z) = absurd (true_not_false (same_path p q) ((same_path-decides p q).1 (prefix_whole p q above (omega (arith, z)))) other)
-        at (inr m) = omega (arith, m)
-
--- whether a line reaches below what it names, by what it asks for
-pub deep_reaches : (line : Line) (d : Action) → action_of line ≡ d → is_deep d ≡ true → reaches_below line ≡ true
-deep_reaches line d e h = or_four (is_deep (action_of line)) _ _ _ _ (ap is_deep e ∙ h)
-  where
-    or_four : (a b c x y : Bool) → a ≡ true → (a || b || c || x || y) ≡ true
-    or_four true b c x y i = refl
-    or_four false b c x y i = impossible i
 
 module _ (line : Line) (is : IsLine line) (q : Path) (free : IsFree line q) where
   pub names_literal : (making : Making) → action_of line ≡ Create making → (p : Path) → names line p ≡ same_path (path_in line.path) p

@@ -1,6 +1,7 @@
 -- Where no line has a reason, what lines copy stays as it is.
-use Rattle.std.specs.Prelude.{◌≡◌, ℕ, Bool, true, false, List, [], ◌∷◌, Some, map, slice_get, ◌+◌}
-use Rattle.std.proofs.Common.{refl, ap, arith}
+use Rattle.std.specs.Prelude.{◌≡◌, ℕ, true, false, List, [], ◌∷◌, Some, map, slice_get, ◌+◌}
+use Rattle.std.proofs.Common.{ap, arith}
+use Rattle.std.proofs.lemmas.Bool.{false_from_ne_true}
 use Rattle.std.specs.List.{AllByRecursion, enumerate_from}
 use Rattle.pv_path.specs.Paths.{Path, is_prefix, has_names, has_staging}
 use Rattle.pv_steps.specs.Trees.{Files, places, IsTree}
@@ -24,11 +25,7 @@ module _ (lines : List Line) (are : AllByRecursion IsLine lines) (repeatable : I
   not_governed : (j : ℕ) (copier : Line) → IsAt lines j copier → copied (action_of copier) ≡ Some source → (q : Path) → is_prefix source q ≡ true → has_names q ≡ true
       → (all : List Listed) → AllByRecursion (λ (line : Listed). IsAt lines line.0 line.1) all → AllByRecursion (λ (line : Line). governs line q ≡ false) (map (λ (line : Listed). line.1) all)
   not_governed j copier there copies q under named [] h = tt
-  not_governed j copier there copies q under named (line ∷ all) h = (by (governs line.1 q) refl, not_governed j copier there copies q under named all h.1)
-    where
-      by : (b : Bool) → governs line.1 q ≡ b → governs line.1 q ≡ false
-      by true e = absurd (repeatable line.0 reason.Source (HasReason.source line.1 copier j source q h.0 there copies under named e))
-      by false e = e
+  not_governed j copier there copies q under named (line ∷ all) h = (false_from_ne_true _ (λ e. repeatable line.0 reason.Source (HasReason.source line.1 copier j source q h.0 there copies under named e)), not_governed j copier there copies q under named all h.1)
 
   module _ (j : ℕ) (copier : Line) (there : IsAt lines j copier) (copies : copied (action_of copier) ≡ Some source) (q : Path) (under : is_prefix source q ≡ true) (named : has_names q ≡ true) where
     pub away_all : AllByRecursion (λ (line : Line). governs line q ≡ false) (in_create_order lines)

@@ -12,8 +12,6 @@ use Rattle.pv_metadata.specs.Operations.{run}
 use Rattle.pv_metadata.proofs.Dividing.{run-parts}
 use Rattle.pv_metadata.proofs.OperationLaws.{object_states_of-same, run-append}
 use Rattle.pv_lines.specs.declared.line.Line.{Line}
-use Rattle.pv_table.specs.declared.action.Action.{Action}
-use Rattle.pv_table.specs.declared.action.Action.TheVariants.{Create, Copy, Adjust, Idle}
 use Rattle.pv_table.specs.Active.{is_adjusting_line}
 use Rattle.pv_table.specs.Asked.{operations, operations_of}
 use Rattle.pv_table.specs.ActionTable.{action_of}
@@ -23,7 +21,7 @@ use Rattle.pv_table.specs.Turns.{copied}
 use Rattle.pv_laws.specs.Copying.{OnWayOf, copy_before, copy_done, other, PartwayOf}
 use Rattle.pv_laws.specs.Stopping.{IsMidway}
 use Rattle.pv_laws.proofs.AllPoints.{IsSafe, line_pointed}
-use Rattle.pv_laws.proofs.Lines.{line_is_plain, line_point}
+use Rattle.pv_laws.proofs.Lines.{copies_or_not, line_is_plain, line_point}
 use Rattle.pv_laws.proofs.Making.{IsShaped}
 use Rattle.pv_laws.proofs.Regions.{IsBeside, IsClearing, asks_there, beside_after, beside_way}
 use Rattle.pv_laws.proofs.Repeated.{adjuster_adjusts, create_adjusts_not, copy_adjusts_not}
@@ -39,14 +37,8 @@ pub data IsAfter (p : Path) (line : Line) : Type 0 where
   beside : IsBeside p line → is_prefix (path_in line.path) p ≡ false → IsAfter p line
 
 -- a line that adjusts copies nothing
-adjuster_plain : (line : Line) (q : Path) → is_adjusting_line line ≡ true → copied (action_of line) ≡ None
-adjuster_plain line q h = by (action_of line) refl
-  where
-    by : (d : Action) → action_of line ≡ d → copied (action_of line) ≡ None
-    by (Create making) e = ap copied e
-    by (Copy copying) e = impossible (sym (copy_adjusts_not q line copying e) ∙ h)
-    by (Adjust adjustment) e = ap copied e
-    by Idle e = ap copied e
+pub adjuster_plain : (line : Line) (q : Path) → is_adjusting_line line ≡ true → copied (action_of line) ≡ None
+adjuster_plain line q h = copies_or_not line (λ copying e. impossible (sym (copy_adjusts_not q line copying e) ∙ h)) (λ none. none)
 
 module _ (p : Path) (line : Line) (q : Path) (under : is_prefix p q ≡ true) where
   pub asks_none : IsBeside p line → is_prefix (path_in line.path) p ≡ false → operations line q ≡ []

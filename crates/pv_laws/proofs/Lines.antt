@@ -3,15 +3,13 @@ use Rattle.std.specs.Prelude.{◌≡◌, ◌≢◌, ◌⊎◌, ℕ, Bool, true, 
 use Rattle.std.proofs.Common.{refl, sym, ap, subst, ◌∙◌, inl, inr}
 use Rattle.std.specs.List.{list_all, AllByRecursion}
 use Rattle.std.specs.FinMap as fin
-use Rattle.std.proofs.lemmas.Bool.{or_parts}
+use Rattle.std.proofs.lemmas.Bool.{and_parts, not-false, or_parts}
 use Rattle.pv_path.specs.Paths.{has_names, Path, is_prefix, has_staging}
-use Rattle.pv_steps.specs.declared.node.Kind.{Kind}
-use Rattle.pv_steps.specs.declared.node.Kind.TheVariants.{Directory}
 use Rattle.pv_steps.specs.declared.object.Object.{Object}
 use Rattle.pv_steps.specs.declared.why.Why.{Why}
 use Rattle.pv_steps.specs.Objects.{is_directory}
 use Rattle.pv_steps.specs.Refusal.{refusal}
-use Rattle.pv_steps.specs.Trees.{Files, places, kind_of}
+use Rattle.pv_steps.specs.Trees.{Files, places}
 use Rattle.pv_metadata.specs.declared.object_state.ObjectState.{ObjectState}
 use Rattle.pv_metadata.specs.Dividing.{parts}
 use Rattle.pv_metadata.specs.Nodes.{object_state_of, object_states_of}
@@ -43,40 +41,16 @@ use Rattle.pv_table.specs.Reaching.{names, path_in, is_creating}
 use Rattle.pv_table.specs.Turns.{copied, owner_made, refused_at, Refused}
 use Rattle.pv_laws.proofs.Making.{is_dir, IsShaped, made_point}
 use Rattle.pv_laws.proofs.Sets.{impossible, is_adjustment, IsMaking, line_is_making, adjusted_none, IsAsked, makes, copies, adjusts as sets_owners, writes, sets, idle, asked}
-use Rattle.pv_laws.proofs.Shapes.{IsLike, adjusted_like, made_shaped, shape_same, shaped_like}
+use Rattle.pv_laws.proofs.Shapes.{IsLike, adjusted_like, made_shaped, shape_same, shaped_like, kind_dir}
 use Rattle.pv_laws.proofs.Adjustment.{turn_open, first_turn, set_point, adjusts}
 
 -- ---- lines as they are read
-
-find_holds : {A : Type 0} (test found : A → Bool) (xs : List A) → list_all test xs ≡ true → (x : A) → find found xs ≡ Some x → test x ≡ true
-find_holds test found [] all x e = absurd (let no : None ≡ Some x = e in cc)
-find_holds test found (y ∷ ys) all x e = by (test y) (found y) refl (find_holds test found ys) all e
-  where
-    same : (u : _) → Some u ≡ Some x → u ≡ x
-    same u h = cc
-
-    by : (t f : Bool) → test y ≡ t → (list_all test ys ≡ true → (z : _) → find found ys ≡ Some z → test z ≡ true) → (t && list_all test ys) ≡ true → cond f (Some y) (find found ys) ≡ Some x → test x ≡ true
-    by false f h later a g = impossible a
-    by true true h later a g = ap test (sym (same y g)) ∙ h
-    by true false h later a g = later a x g
 
 -- the same line with another letter
 abbrev lettered : Line → ℕ → Line
 lettered line letter = record line { letter = letter }
 
--- what holds of each row of a table holds of the row that is found
-module _ {A : Type 0} (rows : List (ℕ × A)) (test : A → Bool) (letter : ℕ) (row : A) where
-  last_is : (u : A) → Some u ≡ Some row → u ≡ row
-  last_is u h = cc
-
-  row_holds : option_map (λ (entry : ℕ × A). entry.1) (find (λ (entry : ℕ × A). entry.0 == letter) rows) ≡ Some row → list_all (λ (entry : ℕ × A). test entry.1) rows ≡ true → test row ≡ true
-  row_holds e all = by (find (λ (entry : ℕ × A). entry.0 == letter) rows) refl e
-    where
-      by : (found : Option (ℕ × A)) → find (λ (entry : ℕ × A). entry.0 == letter) rows ≡ found → option_map (λ (entry : ℕ × A). entry.1) found ≡ Some row → test row ≡ true
-      by None f g = absurd (let no : None ≡ Some row = g in cc)
-      by (Some entry) f g = ap test (sym (last_is entry.1 g)) ∙ find_holds (λ (x : ℕ × A). test x.1) (λ (x : ℕ × A). x.0 == letter) rows all entry f
-
--- the same of what is no test
+-- what holds of each of some things holds of the one that is found
 find_all : {A : Type 0} (P : A → Type 0) (found : A → Bool) (xs : List A) → AllByRecursion P xs → (x : A) → find found xs ≡ Some x → P x
 find_all P found [] all x e = absurd (let no : None ≡ Some x = e in cc)
 find_all P found (y ∷ ys) all x e = by (found y) (find_all P found ys all.1) e
@@ -99,6 +73,25 @@ module _ {A : Type 0} (P : A → Type 0) (rows : List (ℕ × A)) (letter : ℕ)
       by None f g = absurd (let no : None ≡ Some row = g in cc)
       by (Some entry) f g = subst P (last entry.1 g) (find_all (λ (x : ℕ × A). P x.1) (λ (x : ℕ × A). x.0 == letter) rows all entry f)
 
+-- so does a test
+each_holds : {A : Type 0} (test : A → Bool) (xs : List A) → list_all test xs ≡ true → AllByRecursion (λ x. test x ≡ true) xs
+each_holds test [] h = tt
+each_holds test (x ∷ xs) h = let two = and_parts (test x) (list_all test xs) h in (two.0, each_holds test xs two.1)
+
+row_holds : {A : Type 0} (rows : List (ℕ × A)) (test : A → Bool) (letter : ℕ) (row : A)
+    → option_map (λ (entry : ℕ × A). entry.1) (find (λ (entry : ℕ × A). entry.0 == letter) rows) ≡ Some row → list_all (λ (entry : ℕ × A). test entry.1) rows ≡ true → test row ≡ true
+row_holds {A} rows test letter row e all = row_has (λ r. test r ≡ true) rows letter row e (each_holds (λ (entry : ℕ × A). test entry.1) rows all)
+
+needs : (a b : Bool) → b ≡ true → (a || not b) ≡ true → a ≡ true
+needs true b h g = refl
+needs false true h g = impossible g
+needs false false h g = impossible h
+
+excludes : (a b : Bool) → a ≡ true → (not a || not b) ≡ true → b ≡ false
+excludes true false h g = refl
+excludes true true h g = impossible g
+excludes false b h g = impossible h
+
 -- whether an action copies
 abbrev is_copied : Action → Bool
 is_copied (Copy copying) = true
@@ -113,6 +106,16 @@ abbrev is_made_else : Action → Bool
 is_made_else (Create making) = not (is_directory (new_kind making.new.what))
 is_made_else action = false
 
+-- a line copies, or it copies nothing
+pub copies_or_not : {P : Type 0} (line : Line) → ((copying : Copying) → action_of line ≡ Copy copying → P) → (copied (action_of line) ≡ None → P) → P
+copies_or_not {P} line copy none = by (action_of line) refl
+  where
+    by : (d : Action) → action_of line ≡ d → P
+    by (Create making) e = none (ap copied e)
+    by (Copy copying) e = copy copying e
+    by (Adjust adjustment) e = none (ap copied e)
+    by Idle e = none (ap copied e)
+
 module _ (line : Line) (is : IsLine line) where
   own_letter : lettered line is.row.letter ≡ line
   own_letter = λ i. record line { letter = sym is.fits.letter i }
@@ -120,64 +123,48 @@ module _ (line : Line) (is : IsLine line) where
   -- only types that create make an object
   pub made_creates : (making : Making) → action_of line ≡ Create making → is.row.creates ≡ true
   made_creates making e =
-      by is.row.creates (is_made (action_of (lettered line is.row.letter))) (ap (λ (l : Line). is_made (action_of l)) own_letter ∙ ap is_made e)
+      needs is.row.creates (is_made (action_of (lettered line is.row.letter))) (ap (λ (l : Line). is_made (action_of l)) own_letter ∙ ap is_made e)
       (row_holds types (λ row. row.creates || not (is_made (action_of (lettered line row.letter)))) line.letter is.row is.is_type refl)
-    where
-      by : (creates made : Bool) → made ≡ true → (creates || not made) ≡ true → creates ≡ true
-      by true made m h = refl
-      by false true m h = impossible h
-      by false false m h = impossible m
 
   -- they adjust nothing that is there
   pub creating_adjusts_none : is.row.creates ≡ true → is_adjusting_line line ≡ false
   creating_adjusts_none c =
       sym (ap is_adjusting_line own_letter)
-      ∙ by is.row.creates (is_adjusting_line (lettered line is.row.letter)) c (row_holds types (λ row. not row.creates || not (is_adjusting_line (lettered line row.letter))) line.letter is.row is.is_type refl)
-    where
-      by : (creates adjustment : Bool) → creates ≡ true → (not creates || not adjustment) ≡ true → adjustment ≡ false
-      by true false c h = refl
-      by true true c h = impossible h
-      by false adjustment c h = impossible c
+      ∙ excludes is.row.creates (is_adjusting_line (lettered line is.row.letter)) c (row_holds types (λ row. not row.creates || not (is_adjusting_line (lettered line row.letter))) line.letter is.row is.is_type refl)
 
   -- and of those for which the root is allowed each makes a directory
   pub root_is_directory : (making : Making) → action_of line ≡ Create making → is.row.root ≡ true → is_directory (new_kind making.new.what) ≡ true
   root_is_directory making e r =
-      by is.row.root (is_directory (new_kind making.new.what)) r (
+      not-false (is_directory (new_kind making.new.what)) (excludes is.row.root (not (is_directory (new_kind making.new.what))) r (
       ap (λ (d : Action). not is.row.root || not (is_made_else d)) (sym e)
       ∙ ap (λ (l : Line). not is.row.root || not (is_made_else (action_of l))) (sym own_letter)
-      ∙ row_holds types (λ row. not row.root || not (is_made_else (action_of (lettered line row.letter)))) line.letter is.row is.is_type refl)
-    where
-      by : (root own : Bool) → root ≡ true → (not root || not (not own)) ≡ true → own ≡ true
-      by true true s h = refl
-      by true false s h = impossible h
-      by false own s h = impossible s
+      ∙ row_holds types (λ row. not row.root || not (is_made_else (action_of (lettered line row.letter)))) line.letter is.row is.is_type refl))
 
   -- so do those that copy, and they do not allow the root
   copy_creates : (copying : Copying) → action_of line ≡ Copy copying → (is.row.creates ≡ true) × (is.row.root ≡ false)
   copy_creates copying e = (
-    by is.row.creates (is_copied (action_of (lettered line is.row.letter))) is_one (row_holds types (λ row. row.creates || not (is_copied (action_of (lettered line row.letter)))) line.letter is.row is.is_type refl),
+    needs is.row.creates (is_copied (action_of (lettered line is.row.letter))) is_one (row_holds types (λ row. row.creates || not (is_copied (action_of (lettered line row.letter)))) line.letter is.row is.is_type refl),
     at is.row.root (is_copied (action_of (lettered line is.row.letter))) is_one (row_holds types (λ row. not row.root || not (is_copied (action_of (lettered line row.letter)))) line.letter is.row is.is_type refl),
   )
     where
       is_one : is_copied (action_of (lettered line is.row.letter)) ≡ true
       is_one = ap (λ (l : Line). is_copied (action_of l)) own_letter ∙ ap is_copied e
 
-      by : (creates copied_there : Bool) → copied_there ≡ true → (creates || not copied_there) ≡ true → creates ≡ true
-      by true c m h = refl
-      by false true m h = impossible h
-      by false false m h = impossible m
-
       at : (root copied_there : Bool) → copied_there ≡ true → (not root || not copied_there) ≡ true → root ≡ false
       at true true m h = impossible h
       at true false m h = impossible m
       at false c m h = refl
 
-  pub copy_literal : (copying : Copying) → action_of line ≡ Copy copying → line.path ≡ Literal (path_in line.path)
-  copy_literal copying e = by line.path is.fits.path (copy_creates copying e).0
+  -- what creates names one path
+  creates_literal : is.row.creates ≡ true → line.path ≡ Literal (path_in line.path)
+  creates_literal creates = by line.path is.fits.path creates
     where
       by : (p : LinePath) → IsLinePath is.row p → is.row.creates ≡ true → p ≡ Literal (path_in p)
       by (Literal path) fits c = refl
       by (Glob pattern) fits c = impossible (sym fits.0 ∙ c)
+
+  pub copy_literal : (copying : Copying) → action_of line ≡ Copy copying → line.path ≡ Literal (path_in line.path)
+  copy_literal copying e = creates_literal (copy_creates copying e).0
 
   -- the path that a line names, where it names one, has names
   pub path_named : has_names (path_in line.path) ≡ true
@@ -237,11 +224,7 @@ module _ (line : Line) (is : IsLine line) where
 
   -- and so the line that makes an object names one path
   pub made_literal : (making : Making) → action_of line ≡ Create making → line.path ≡ Literal (path_in line.path)
-  made_literal making e = by line.path is.fits.path (made_creates making e)
-    where
-      by : (p : LinePath) → IsLinePath is.row p → is.row.creates ≡ true → p ≡ Literal (path_in p)
-      by (Literal path) fits c = refl
-      by (Glob pattern) fits c = impossible (sym fits.0 ∙ c)
+  made_literal making e = creates_literal (made_creates making e)
 
   -- a line that names one path is of such a type
   pub creating_row : is_creating line ≡ true → is.row.creates ≡ true
@@ -296,13 +279,6 @@ pub made_passes : (line : Line) (making : Making) → action_of line ≡ Create 
 made_passes line making e path t free p high other h =
     kind_dir (places t p) (unrefused_pass path (owner_made line (places t)) t (made_refusal line making e path t free) p (high, other) (there (places t p) h))
   where
-    kind_is : (k : Kind) → Some k ≡ Some Directory → k ≡ Directory
-    kind_is k g = cc
-
-    kind_dir : (o : Option Object) → kind_of o ≡ Some Directory → is_dir (option_map object_state_of o) ≡ true
-    kind_dir None g = absurd (let no : None ≡ Some Directory = g in cc)
-    kind_dir (Some x) g = let same : x.node.kind ≡ Directory = kind_is x.node.kind g in ap is_directory same
-
     there : (o : Option Object) → is_some (option_map object_state_of o) ≡ true → is_some o ≡ true
     there None g = g
     there (Some x) g = refl

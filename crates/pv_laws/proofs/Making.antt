@@ -7,7 +7,7 @@ use Rattle.std.specs.FinMap as fin
 use Rattle.std.specs.List.{list_all}
 use Rattle.std.specs.Option.{option_map_or}
 use Rattle.std.specs.Str.{bytes_eq}
-use Rattle.std.proofs.lemmas.Bool.{and_from}
+use Rattle.std.proofs.lemmas.Bool.{and_from, false_from_ne_true}
 use Rattle.pv_path.specs.Paths.{has_names, Path, same_path, is_prefix, rest_under, parent_of, has_staging, same_path-decides}
 use Rattle.pv_path.proofs.PathLaws.{same_path-refl, is_prefix-antisym, rest_under-self, rest_under-None, rest_under-Some, prefix_rest, same_path-no}
 use Rattle.pv_steps.specs.declared.node.Kind.{Kind}
@@ -38,7 +38,7 @@ use Rattle.pv_laws.proofs.Comparing.{become-object_state}
 use Rattle.pv_table.proofs.EffectLaws.{place-become, place-prepare, place-put, single_keyed}
 use Rattle.pv_laws.proofs.Prepared.{filled, prepared-here, prepared-else}
 use Rattle.pv_laws.proofs.Sets.{impossible, is_adjustment, IsMaking, adjusted_none, only_adjusts, left_alone}
-use Rattle.pv_path.proofs.Tests.{true_not_false}
+use Rattle.pv_path.proofs.Tests.{none_of, true_not_false}
 
 -- ---- what the laws need of a tree, stamps aside
 
@@ -56,11 +56,11 @@ pub record IsShaped (b : Path → Option ObjectState) : Type 0 where
 
 -- so nothing stands at a path that has no names
 pub nothing_unnamed : (b : Path → Option ObjectState) → IsShaped b → (q : Path) → has_staging q ≡ false → has_names q ≡ false → b q ≡ None
-nothing_unnamed b shape q plain none = by (b q) refl
-  where
-    by : (o : Option ObjectState) → b q ≡ o → b q ≡ None
-    by None e = e
-    by (Some x) e = impossible (sym none ∙ shape.named q plain (ap is_some e))
+nothing_unnamed b shape q plain none = none_of (b q) (false_from_ne_true _ (λ there. true_not_false (has_names q) (shape.named q plain there) none))
+
+-- nor below what is no directory
+pub nothing_under : (b : Path → Option ObjectState) → IsShaped b → (p q : Path) → has_staging q ≡ false → is_prefix p q ≡ true → p ≢ q → is_dir (b p) ≡ false → b q ≡ None
+nothing_under b shape p q plain under other no_dir = none_of (b q) (false_from_ne_true _ (λ there. true_not_false (is_dir (b p)) (shape.above p q plain under other there) no_dir))
 
 -- and two that have the shape agree there
 pub same_unnamed : (a b : Path → Option ObjectState) → IsShaped a → IsShaped b → (q : Path) → has_staging q ≡ false → (has_names q ≡ true → a q ≡ b q) → a q ≡ b q
@@ -341,14 +341,10 @@ module _ (now : ℕ) (making : Making) (is : IsMaking making) (path : Path) (uns
   left_above : (q : Path) → has_staging q ≡ false → same_path path q ≡ false → is_prefix q path ≡ true → left q ≡ run (made_at making path q) (object_states_of (places t) q)
   left_above q plain d above =
       let other : q ≢ path = λ e. true_not_false (same_path path q) ((same_path-decides path q).1 (sym e)) d in
-      is_done.outside q (rest_under-None path q (by (is_prefix path q) refl other))
+      is_done.outside q (rest_under-None path q (false_from_ne_true _ (λ f. other (is_prefix-antisym q path above f))))
       ∙ ready_else now path unstaged t shape q plain other
       ∙ ap (λ b. filled b (object_states_of (places t) q)) above
       ∙ sym (ap (λ xs. run xs (object_states_of (places t) q)) (asked_above making path q d above))
-    where
-      by : (b : Bool) → is_prefix path q ≡ b → q ≢ path → is_prefix path q ≡ false
-      by true e other = absurd (other (is_prefix-antisym q path above e))
-      by false e other = e
 
   left_below : (q : Path) → has_staging q ≡ false → same_path path q ≡ false → is_prefix q path ≡ false → is_prefix path q ≡ true → left q ≡ run (made_at making path q) (object_states_of (places t) q)
   left_below q plain d above below = by (rest_under path q) refl
@@ -357,11 +353,7 @@ module _ (now : ℕ) (making : Making) (is : IsMaking making) (path : Path) (uns
       other e = true_not_false (same_path path q) ((same_path-decides path q).1 (sym e)) d
 
       none : is_dir (object_states_of (places t) path) ≡ false → object_states_of (places t) q ≡ None
-      none h = at (object_states_of (places t) q) refl
-        where
-          at : (b : Option ObjectState) → object_states_of (places t) q ≡ b → b ≡ None
-          at None e = refl
-          at (Some x) e = absurd (true_not_false (is_dir (object_states_of (places t) path)) (shape.above path q plain below (λ f. other (sym f)) (ap is_some e)) h)
+      none h = nothing_under (object_states_of (places t)) shape path q plain below (λ f. other (sym f)) h
 
       asks_there : made_at making path q ≡ cond (clears_below making) (Erase ∷ []) []
       asks_there = asked_else making path q d above ∙ ap (λ b. cond (b && clears_below making) (Erase ∷ []) []) below

@@ -2,7 +2,7 @@
 use Rattle.std.specs.Prelude.{⊤, ◌≡◌, ◌≢◌, ℕ, ◌+◌, Bool, true, false, not, cond, ◌&&◌, ◌||◌, List, [], ◌∷◌, filter, fold}
 use Rattle.std.proofs.Common.{refl, sym, ap, ◌∙◌}
 use Rattle.std.specs.List.{list_any, enumerate_from, AllByRecursion}
-use Rattle.std.proofs.lemmas.Bool.{not-true, and_parts}
+use Rattle.std.proofs.lemmas.Bool.{not-true, and_parts, false_from_ne_true}
 use Rattle.pv_path.specs.Paths.{Path, same_path, is_prefix, same_path-decides}
 use Rattle.pv_path.proofs.PathLaws.{is_prefix-trans, is_prefix-antisym}
 use Rattle.pv_lines.specs.declared.line.Line.{Line}
@@ -35,11 +35,7 @@ placed_ordered [] x h other = (tt, tt)
 placed_ordered (first ∷ xs) x h other = by (is_prefix (path_of x) (path_of first)) refl (same_path (path_of x) (path_of first)) refl (placed_ordered xs x h.1 other.1)
   where
     not_above : is_prefix (path_of x) (path_of first) ≡ true → (y : Listed) → (is_prefix (path_of y) (path_of x) ≡ true → ⊥) → ComesAfter x y
-    not_above below y never = at (is_prefix (path_of y) (path_of x)) refl
-      where
-        at : (b : Bool) → is_prefix (path_of y) (path_of x) ≡ b → is_prefix (path_of y) (path_of x) ≡ false
-        at true e = absurd (never e)
-        at false e = e
+    not_above below y never = false_from_ne_true _ (λ e. never e)
 
     before : is_prefix (path_of x) (path_of first) ≡ true → AllByRecursion (ComesAfter x) (first ∷ xs)
     before below = (

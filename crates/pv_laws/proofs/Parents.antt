@@ -17,7 +17,7 @@ use Rattle.pv_metadata.proofs.OperationLaws.{object_states_of-same, run-append}
 use Rattle.pv_lines.specs.declared.line.Line.{Line}
 use Rattle.pv_table.specs.declared.action.Copying.{Copying}
 use Rattle.pv_table.specs.declared.action.Action.{Action}
-use Rattle.pv_table.specs.declared.action.Action.TheVariants.{Create, Copy, Adjust, Idle}
+use Rattle.pv_table.specs.declared.action.Action.TheVariants.{Copy}
 use Rattle.pv_table.specs.Asked.{operations, operations_of}
 use Rattle.pv_table.specs.ActionTable.{action_of}
 use Rattle.pv_table.specs.Created.{after_each, one_is_refused, by_turn, by_line}
@@ -31,10 +31,10 @@ use Rattle.pv_laws.specs.Stopping.{IsMidway, IsPiece}
 use Rattle.pv_laws.proofs.AllPoints.{IsSafe, line_pointed, turns_copy, copy_idle, copy_passes}
 use Rattle.pv_laws.proofs.CopyShapes.{at_outside}
 use Rattle.pv_laws.proofs.AllFrames.{each_kept}
-use Rattle.pv_laws.proofs.Lines.{line_is_plain, line_point, copy_path, copy_source}
+use Rattle.pv_laws.proofs.Lines.{line_is_plain, line_point, copy_path, copy_source, copies_or_not}
 use Rattle.pv_laws.proofs.Making.{IsShaped}
 use Rattle.pv_laws.proofs.Orders.{Pairwise}
-use Rattle.pv_laws.proofs.Prepared.{object_state_some, filled}
+use Rattle.pv_laws.proofs.Prepared.{object_state_some, filled, with_some}
 use Rattle.pv_laws.proofs.Repeated.{asked_copy}
 use Rattle.pv_laws.proofs.Sets.{impossible, is_adjustment, asked, sets_adjust}
 use Rattle.pv_laws.proofs.Stops.{midway_piece, later_piece}
@@ -83,26 +83,19 @@ module _ (t : Files) (q : Path) (plain : has_staging q ≡ false) (now : ℕ) (l
       ap (λ (u : Files). object_states_of (places u) q) ((copy_opened copying e).1 ∙ copy_idle now copying (path_in line.path) v (sym (object_state_some (places v copying.source)) ∙ alike copying e ∙ none))
 
   present_point : (copying : Copying) → action_of line ≡ Copy copying → is_some (object_states_of (places t) copying.source) ≡ true → object_states_of (places ((by_line now).after line v)) q ≡ filled (is_prefix q (path_in line.path)) (object_states_of (places v) q)
-  present_point copying e there = by (object_states_of (places v) copying.source) refl
-    where
-      by : (b : Option ObjectState) → object_states_of (places v) copying.source ≡ b → object_states_of (places ((by_line now).after line v)) q ≡ filled (is_prefix q (path_in line.path)) (object_states_of (places v) q)
-      by None f = impossible (sym (ap is_some f) ∙ alike copying e ∙ there)
-      by (Some b) f =
-          ap (λ (u : Files). object_states_of (places u) q) (copy_opened copying e).1
-          ∙ at_outside now copying (subst (λ d. list_all is_adjustment (sets_of d) ≡ true) e (sets_adjust line (action_of line) (asked line))) (path_in line.path) (copy_path line safe.is copying e).0 (copy_source line safe.is copying e) v shape b f
-          (copy_path line safe.is copying e).1 (copy_passes line copying e v (copy_opened copying e).0 (sym (object_state_some (places v copying.source)) ∙ ap is_some f)) q plain (rest_under-None (path_in line.path) q (outside copying e there))
+  present_point copying e there = with_some (object_states_of (places v) copying.source) (alike copying e ∙ there) (λ b f.
+      ap (λ (u : Files). object_states_of (places u) q) (copy_opened copying e).1
+      ∙ at_outside now copying (subst (λ d. list_all is_adjustment (sets_of d) ≡ true) e (sets_adjust line (action_of line) (asked line))) (path_in line.path) (copy_path line safe.is copying e).0 (copy_source line safe.is copying e) v shape b f
+      (copy_path line safe.is copying e).1 (copy_passes line copying e v (copy_opened copying e).0 (sym (object_state_some (places v copying.source)) ∙ ap is_some f)) q plain (rest_under-None (path_in line.path) q (outside copying e there)))
 
   pub swap_point : object_states_of (places ((by_line now).after line v)) q ≡ run (operations (swapped t line) q) (object_states_of (places v) q)
   swap_point = by (swap t line)
     where
-      at : swapped t line ≡ line → copies_some t (action_of line) ≡ false → (d : Action) → action_of line ≡ d → object_states_of (places ((by_line now).after line v)) q ≡ run (operations (swapped t line) q) (object_states_of (places v) q)
-      at is f (Copy copying) e = absent_point copying e (sym (ap (copies_some t) e) ∙ f) ∙ sym (ap (λ (l : Line). run (operations l q) (object_states_of (places v) q)) is ∙ ap (λ xs. run xs (object_states_of (places v) q)) (asked_copy line copying q e))
-      at is f (Create making) e = (line_point now line (line_is_plain line safe.is (ap copied e)) v shape quiet).point q plain ∙ sym (ap (λ (l : Line). run (operations l q) (object_states_of (places v) q)) is)
-      at is f (Adjust adjustment) e = (line_point now line (line_is_plain line safe.is (ap copied e)) v shape quiet).point q plain ∙ sym (ap (λ (l : Line). run (operations l q) (object_states_of (places v) q)) is)
-      at is f Idle e = (line_point now line (line_is_plain line safe.is (ap copied e)) v shape quiet).point q plain ∙ sym (ap (λ (l : Line). run (operations l q) (object_states_of (places v) q)) is)
-
       by : IsSwap t line (swapped t line) → object_states_of (places ((by_line now).after line v)) q ≡ run (operations (swapped t line) q) (object_states_of (places v) q)
-      by (swaps.same is f) = at is f (action_of line) refl
+      by (swaps.same is f) = copies_or_not line
+          (λ copying e. absent_point copying e (sym (ap (copies_some t) e) ∙ f) ∙ sym (ap (λ xs. run xs (object_states_of (places v) q)) (asked_copy line copying q e)))
+          (λ none. (line_point now line (line_is_plain line safe.is none) v shape quiet).point q plain)
+          ∙ sym (ap (λ (l : Line). run (operations l q) (object_states_of (places v) q)) is)
       by (swaps.directory copying e there is) =
           present_point copying e there ∙ parent_done (is_prefix q (path_in line.path)) (object_states_of (places v) q)
           ∙ sym (ap (λ xs. run xs (object_states_of (places v) q)) (asked_there copying e there is))

@@ -31,10 +31,11 @@ use Rattle.pv_table.specs.Reaching.{path_in}
 use Rattle.pv_table.specs.Repeatable.{sets_of}
 use Rattle.pv_table.specs.Turns.{copied, making_turn}
 use Rattle.pv_laws.proofs.Lines.{IsPlain, asked_made, asked_adjustment, asked_idle}
-use Rattle.pv_laws.proofs.Making.{is_dir, IsShaped, dir_there, asked_here, asked_above, asked_else, object_after, below_after}
+use Rattle.pv_laws.proofs.Making.{is_dir, IsShaped, dir_there, nothing_under, asked_here, asked_above, asked_else, object_after, below_after}
 use Rattle.pv_walk.proofs.PreparedLaws.{has_some, in_parents, among_first, stands_among}
 use Rattle.pv_laws.proofs.Repeated.{IsAskedAt, object, parent, below, set, nothing, asked_at}
 use Rattle.pv_laws.proofs.Sets.{impossible, is_adjustment, IsMaking, line_is_making, adjusted_none, asked, sets_adjust}
+use Rattle.pv_laws.proofs.Prepared.{some_named}
 use Rattle.pv_path.proofs.Tests.{equal_of, true_not_false, hidden, shown}
 
 -- ---- maps from functions
@@ -125,11 +126,7 @@ module _ (line : Line) (is : IsPlain line) (s : ObjectStates) (shape : IsShaped 
         higher f = sym (is_some-rest_under path q) ∙ ap is_some f
 
         absent : is_prefix path q ≡ true → is_dir (fin.get s path) ≡ false → fin.get s q ≡ None
-        absent under no_dir = at (fin.get s q) refl
-          where
-            at : (b : Option ObjectState) → fin.get s q ≡ b → b ≡ None
-            at None f = refl
-            at (Some x) f = absurd (true_not_false (is_dir (fin.get s path)) (shape.above path q plain under (λ same. true_not_false (same_path path q) ((same_path-decides path q).1 same) d) (ap is_some f)) no_dir)
+        absent under no_dir = nothing_under (fin.get s) shape path q plain under (λ same. true_not_false (same_path path q) ((same_path-decides path q).1 same) d) no_dir
 
         by : (r : Option Path) → rest_under path q ≡ r → given false r ≡ run (cond (is_prefix path q && clears_below making) (Erase ∷ []) []) (fin.get s q)
         by None f = sym (ap (λ b. run (cond (b && clears_below making) (Erase ∷ []) []) (fin.get s q)) (higher f))
@@ -172,13 +169,6 @@ module _ (line : Line) (is : IsPlain line) (s : ObjectStates) (shape : IsShaped 
       among_made : (making : Making) → action_of line ≡ Create making → is_among q (path_in line.path ∷ (parents_of (path_in line.path) ++ fin.keys s)) ≡ true → is_among q (point_paths line s ++ fin.keys s) ≡ true
       among_made making e g = ap (λ ps. is_among q (ps ++ fin.keys s)) (paths_made line making s e) ∙ g
 
-      root : q ≢ [] → has_some q ≡ true
-      root some = at q some
-        where
-          at : (p : Path) → p ≢ [] → has_some p ≡ true
-          at [] k = absurd (k refl)
-          at (name ∷ p) k = refl
-
       new : fin.get s q ≡ None → IsAskedAt line q → is_among q (point_paths line s ++ fin.keys s) ≡ true
       new none (object making e same f) = among_made making e (subst (λ (p : Path). is_among p (path_in line.path ∷ (parents_of (path_in line.path) ++ fin.keys s)) ≡ true) same (among_first (path_in line.path) (parents_of (path_in line.path) ++ fin.keys s)))
       new none (parent making e high f) = elim (path_cases q (path_in line.path)) [
@@ -186,7 +176,7 @@ module _ (line : Line) (is : IsPlain line) (s : ObjectStates) (shape : IsShaped 
         | inr d ↦ among_made making e (later_among (path_in line.path) q (parents_of (path_in line.path) ++ fin.keys s) (among_left q (parents_of (path_in line.path)) (fin.keys s) (stands_among q (parents_of (path_in line.path)) (
             in_parents q (path_in line.path) (λ same. true_not_false (same_path q (path_in line.path)) ((same_path-decides q (path_in line.path)).1 same) d)
             ∙ ap (λ b. b && has_some q) high
-            ∙ root (λ at_root. true_not_false (is_some (fin.get s q)) (ap (λ (p : Path). is_some (fin.get s p)) at_root ∙ dir_there (fin.get s []) shape.root) (ap is_some none))))))
+            ∙ some_named q (λ at_root. true_not_false (is_some (fin.get s q)) (ap (λ (p : Path). is_some (fin.get s p)) at_root ∙ dir_there (fin.get s []) shape.root) (ap is_some none))))))
       ]
       new none (below making e g d f) = impossible (sym (ap (λ xs. is_some (run xs (fin.get s q))) f) ∙ h)
       new none (set adjustment e t f) = impossible (

@@ -43,10 +43,6 @@ swept now path t = all_taken now (staging_names path) t
 abbrev pub filled : Bool → Option ObjectState → Option ObjectState
 filled is_parent b = cond is_parent (done (Make parent_object_state) b) b
 
-filled_some : (x : Object) (b : Bool) → Some (object_state_of x) ≡ filled b (Some (object_state_of x))
-filled_some x true = refl
-filled_some x false = refl
-
 module _ (now : ℕ) where
   with_parent-at : (t : Places) (p q : Path) → object_states_of (with_parent now t p) q ≡ filled (same_path p q) (object_states_of t q)
   with_parent-at t p q = by (t p) refl
@@ -123,5 +119,13 @@ pub object_state_some : (o : Option Object) → is_some (option_map object_state
 object_state_some None = refl
 object_state_some (Some x) = refl
 
-pub present_same : (a b : Option Object) → option_map object_state_of a ≡ option_map object_state_of b → is_some a ≡ is_some b
-present_same a b e = sym (object_state_some a) ∙ ap is_some e ∙ object_state_some b
+-- what follows from each value that may be there follows where one is
+pub with_some : {A P : Type 0} (o : Option A) → is_some o ≡ true → ((x : A) → o ≡ Some x → P) → P
+with_some None h f = absurd (let no : false ≡ true = h in cc)
+with_some (Some x) h f = f x refl
+
+-- ---- paths
+
+pub some_named : (p : Path) → p ≢ [] → has_some p ≡ true
+some_named [] h = absurd (h refl)
+some_named (name ∷ p) h = refl

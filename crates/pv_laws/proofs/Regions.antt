@@ -2,7 +2,7 @@
 use Rattle.std.specs.Prelude.{◌≡◌, ◌≢◌, ◌⊎◌, ℕ, Bool, true, false, not, cond, ◌&&◌, ◌||◌, List, [], ◌∷◌, ◌++◌, take, Option, Some, None, is_some}
 use Rattle.std.proofs.Common.{zero, suc, refl, sym, ap, subst, ◌∙◌, inl, inr}
 use Rattle.std.specs.List.{list_all, AllByRecursion}
-use Rattle.std.proofs.lemmas.Bool.{or_parts, and_parts}
+use Rattle.std.proofs.lemmas.Bool.{or_parts, and_parts, false_from_ne_true}
 use Rattle.pv_path.specs.Paths.{Path, is_prefix, has_staging}
 use Rattle.pv_path.proofs.PathLaws.{same_path-refl, is_prefix-refl, is_prefix-trans, prefixes_compare, rest_under-None}
 use Rattle.pv_steps.specs.Trees.{Files, places}
@@ -18,7 +18,7 @@ use Rattle.pv_lines.specs.declared.line.Line.{Line}
 use Rattle.pv_walk.specs.Staging.{new_object, new_kind}
 use Rattle.pv_table.specs.declared.action.Copying.{Copying}
 use Rattle.pv_table.specs.declared.action.Action.{Action}
-use Rattle.pv_table.specs.declared.action.Action.TheVariants.{Create, Copy, Adjust, Idle}
+use Rattle.pv_table.specs.declared.action.Action.TheVariants.{Create, Copy, Adjust}
 use Rattle.pv_table.specs.declared.action.Making.{Making}
 use Rattle.pv_table.specs.declared.action.Adjustment.{Adjustment}
 use Rattle.pv_table.specs.Active.{is_adjusting_line}
@@ -34,7 +34,7 @@ use Rattle.pv_laws.specs.Copying.{IsCopyMidway, kept, parent, some_set, gone, tu
 use Rattle.pv_laws.specs.Stopping.{IsMidway}
 use Rattle.pv_laws.proofs.AllPoints.{IsSafe, line_pointed, turns_copy, copy_idle, copy_passes}
 use Rattle.pv_laws.proofs.CopyShapes.{at_outside}
-use Rattle.pv_laws.proofs.Lines.{line_is_plain, line_point, copy_path, copy_source, IsPlain, asked_made}
+use Rattle.pv_laws.proofs.Lines.{line_is_plain, line_point, copy_path, copy_source, IsPlain, asked_made, copies_or_not}
 use Rattle.pv_laws.proofs.Making.{is_dir, IsShaped, does_stay, clears_some, clears_none, first_on_none, first_on_some, asked_here}
 use Rattle.pv_laws.proofs.Prepared.{object_state_some, filled}
 use Rattle.pv_laws.proofs.Repeated as repeated
@@ -84,7 +84,7 @@ stuck_filled false b h = h
 -- a line that makes an object and is neither at a path nor above it leaves it there
 stuck_step : (now : ℕ) (line : Line) → IsSafe line → is_adjusting_line line ≡ false → (t : Files) → IsShaped (object_states_of (places t)) → (by_line now).is_refused line t ≡ false → (p : Path) → has_staging p ≡ false → is_prefix (path_in line.path) p ≡ false
     → IsStuck (object_states_of (places t) p) → IsStuck (object_states_of (places ((by_line now).after line t)) p)
-stuck_step now line safe makes t shape quiet p plain outside stuck = by (action_of line) refl
+stuck_step now line safe makes t shape quiet p plain outside stuck = copies_or_not line (λ copying e. by_copy (copy_leaves now line safe copying e t shape quiet p plain outside)) plain_line
   where
     by_copy : (object_states_of (places ((by_line now).after line t)) p ≡ object_states_of (places t) p) ⊎ (object_states_of (places ((by_line now).after line t)) p ≡ filled (is_prefix p (path_in line.path)) (object_states_of (places t) p)) → IsStuck (object_states_of (places ((by_line now).after line t)) p)
     by_copy (inl same) = subst IsStuck (sym same) stuck
@@ -106,12 +106,6 @@ stuck_step now line safe makes t shape quiet p plain outside stuck = by (action_
 
     plain_line : copied (action_of line) ≡ None → IsStuck (object_states_of (places ((by_line now).after line t)) p)
     plain_line none = subst IsStuck (sym ((line_point now line (line_is_plain line safe.is none) t shape quiet).point p plain ∙ asks_no_more (asked_at line p))) stuck
-
-    by : (d : Action) → action_of line ≡ d → IsStuck (object_states_of (places ((by_line now).after line t)) p)
-    by (Create making) e = plain_line (ap copied e)
-    by (Copy copying) e = by_copy (copy_leaves now line safe copying e t shape quiet p plain outside)
-    by (Adjust adjustment) e = plain_line (ap copied e)
-    by Idle e = plain_line (ap copied e)
 
 -- where what lies below is to go, no directory is left
 module _ (making : Making) (is : IsMaking making) (clears : clears_below making ≡ true) where
@@ -174,11 +168,7 @@ pub record IsClearing (p : Path) (line : Line) : Type 0 where
 
 module _ (p : Path) (line : Line) (beside : IsBeside p line) (q : Path) (under : is_prefix p q ≡ true) where
   pub not_lower : is_prefix q (path_in line.path) ≡ false
-  not_lower = by (is_prefix q (path_in line.path)) refl
-    where
-      by : (b : Bool) → is_prefix q (path_in line.path) ≡ b → is_prefix q (path_in line.path) ≡ false
-      by true e = absurd (true_not_false (is_prefix p (path_in line.path)) (is_prefix-trans p q (path_in line.path) under e) beside.low)
-      by false e = e
+  not_lower = false_from_ne_true _ (λ e. true_not_false (is_prefix p (path_in line.path)) (is_prefix-trans p q (path_in line.path) under e) beside.low)
 
   pub not_there : path_in line.path ≢ q
   not_there e = true_not_false (is_prefix p (path_in line.path)) (ap (is_prefix p) e ∙ under) beside.low
@@ -191,11 +181,7 @@ module _ (p : Path) (line : Line) (beside : IsBeside p line) (q : Path) (under :
       by (inr f) = f
 
   pub copy_outside : (copying : Copying) → action_of line ≡ Copy copying → is_prefix (path_in line.path) q ≡ false
-  copy_outside copying e = by (is_prefix (path_in line.path) q) refl
-    where
-      by : (b : Bool) → is_prefix (path_in line.path) q ≡ b → is_prefix (path_in line.path) q ≡ false
-      by true f = absurd (true_not_false (is_prefix (path_in line.path) p) (higher f) (beside.copies copying e))
-      by false f = f
+  copy_outside copying e = false_from_ne_true _ (λ f. true_not_false (is_prefix (path_in line.path) p) (higher f) (beside.copies copying e))
 
   adjust_makes : (adjustment : Adjustment) → action_of line ≡ Adjust adjustment → is_adjusting_line line ≡ true
   adjust_makes adjustment e = rw e
@@ -214,7 +200,7 @@ module _ (p : Path) (line : Line) (beside : IsBeside p line) (q : Path) (under :
 
 module _ (now : ℕ) (p : Path) (line : Line) (safe : IsSafe line) (beside : IsBeside p line) (t : Files) (shape : IsShaped (object_states_of (places t))) (quiet : (by_line now).is_refused line t ≡ false) (q : Path) (plain : has_staging q ≡ false) (under : is_prefix p q ≡ true) where
   pub beside_after : (object_states_of (places ((by_line now).after line t)) q ≡ object_states_of (places t) q) ⊎ IsClearing p line
-  beside_after = by (action_of line) refl
+  beside_after = copies_or_not line (λ copying e. of_copy (copy_leaves now line safe copying e t shape quiet q plain (copy_outside p line beside q under copying e))) plain_line
     where
       plain_line : copied (action_of line) ≡ None → (object_states_of (places ((by_line now).after line t)) q ≡ object_states_of (places t) q) ⊎ IsClearing p line
       plain_line none = at (asks_there p line beside q under)
@@ -226,12 +212,6 @@ module _ (now : ℕ) (p : Path) (line : Line) (safe : IsSafe line) (beside : IsB
       of_copy : (object_states_of (places ((by_line now).after line t)) q ≡ object_states_of (places t) q) ⊎ (object_states_of (places ((by_line now).after line t)) q ≡ filled (is_prefix q (path_in line.path)) (object_states_of (places t) q)) → (object_states_of (places ((by_line now).after line t)) q ≡ object_states_of (places t) q) ⊎ IsClearing p line
       of_copy (inl e) = inl e
       of_copy (inr e) = inl (e ∙ ap (λ b. filled b (object_states_of (places t) q)) (not_lower p line beside q under))
-
-      by : (d : Action) → action_of line ≡ d → (object_states_of (places ((by_line now).after line t)) q ≡ object_states_of (places t) q) ⊎ IsClearing p line
-      by (Create making) e = plain_line (ap copied e)
-      by (Copy copying) e = of_copy (copy_leaves now line safe copying e t shape quiet q plain (copy_outside p line beside q under copying e))
-      by (Adjust adjustment) e = plain_line (ap copied e)
-      by Idle e = plain_line (ap copied e)
 
   pub beside_way : (u : Files) → OnWayOf line now t u → (object_states_of (places u) q ≡ object_states_of (places t) q) ⊎ IsClearing p line
   beside_way u (copy_before copying e before) = inl (by (before.1 q plain))

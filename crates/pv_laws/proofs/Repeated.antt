@@ -88,6 +88,14 @@ first_makes making is = by making.renew refl
     by None e = (ap is_make (first_make making is e), λ test. ap (is_adjusting test) (first_make making is e))
     by (Some t) e = (ap is_make (first_renew making is t e), λ test. ap (is_adjusting test) (first_renew making is t e))
 
+-- whether a line reaches below what it names, by what it asks for
+pub deep_reaches : (line : Line) (d : Action) → action_of line ≡ d → is_deep d ≡ true → reaches_below line ≡ true
+deep_reaches line d e h = or_four (is_deep (action_of line)) _ _ _ _ (ap is_deep e ∙ h)
+  where
+    or_four : (a b c x y : Bool) → a ≡ true → (a || b || c || x || y) ≡ true
+    or_four true b c x y i = refl
+    or_four false b c x y i = impossible i
+
 -- what a line changes somewhere, it sets
 pub asked_sets : (test : Change → Bool) (line : Line) (q : Path) → list_any (is_adjusting test) (operations line q) ≡ true → list_any (is_adjusting test) (sets_of (action_of line)) ≡ true
 asked_sets test line q h = by (asked_at line q)
@@ -116,14 +124,7 @@ asked_reaches test line is q h = by (asked_at line q)
     touched : (adjustment : Adjustment) → action_of line ≡ Adjust adjustment → (a d n s : Bool) → names line q ≡ a → adjustment.deep ≡ d → names_above line q ≡ n → (a || (d && n && s)) ≡ true → reaches line q ≡ true
     touched adjustment e true d n s f g k t = named f
     touched adjustment e false true true s f g k t =
-        ap (λ b. names line q || (b && names_above line q)) (deep_below) ∙ ap (λ b. names line q || b) k ∙ elim (names line q) as (λ b. (b || true) ≡ true) [ true ↦ refl | false ↦ refl ]
-      where
-        or_four : (a b c x y : Bool) → a ≡ true → (a || b || c || x || y) ≡ true
-        or_four true b c x y i = refl
-        or_four false b c x y i = impossible i
-
-        deep_below : reaches_below line ≡ true
-        deep_below = or_four (is_deep (action_of line)) _ _ _ _ (ap is_deep e ∙ g)
+        ap (λ b. names line q || (b && names_above line q)) (deep_reaches line (Adjust adjustment) e g) ∙ ap (λ b. names line q || b) k ∙ elim (names line q) as (λ b. (b || true) ≡ true) [ true ↦ refl | false ↦ refl ]
     touched adjustment e false false n s f g k t = impossible t
     touched adjustment e false true false s f g k t = impossible t
 
@@ -267,26 +268,26 @@ module _ (q : Path) where
 
 -- ---- where no line has a reason
 
+-- a line at its place
+pub record IsListed (lines : List Line) (line : Listed) : Type 0 where
+  pub at : IsAt lines line.0 line.1
+  pub is : IsLine line.1
+
+pub all_at_places : (lines : List Line) → AllByRecursion IsLine lines → AllByRecursion (IsListed lines) (enumerate_from 0 lines)
+all_at_places lines are = both (enumerate_from 0 lines) (all_at lines lines 0 (λ i. (let same : 0 + i ≡ i = omega arith in ap (slice_get lines) same))) (all_listed IsLine 0 lines are)
+  where
+    both : (xs : List Listed) → AllByRecursion (λ (line : Listed). IsAt lines line.0 line.1) xs → AllByRecursion (λ (line : Listed). IsLine line.1) xs → AllByRecursion (IsListed lines) xs
+    both [] h g = tt
+    both (x ∷ xs) h g = (record { at = h.0; is = g.0 }, both xs h.1 g.1)
+
 module _ (lines : List Line) (are : AllByRecursion IsLine lines) (distinct : are_distinct lines ≡ true) (repeatable : IsRepeatable lines) (q : Path) where
-  -- a line at its place
-  pub record IsListed (line : Listed) : Type 0 where
-    pub at : IsAt lines line.0 line.1
-    pub is : IsLine line.1
-
-  all_are : (xs : List Listed) → AllByRecursion (λ (line : Listed). IsAt lines line.0 line.1) xs → AllByRecursion (λ (line : Listed). IsLine line.1) xs → AllByRecursion IsListed xs
-  all_are [] h g = tt
-  all_are (x ∷ xs) h g = (record { at = h.0; is = g.0 }, all_are xs h.1 g.1)
-
-  listed : AllByRecursion IsListed (enumerate_from 0 lines)
-  listed = all_are (enumerate_from 0 lines) (all_at lines lines 0 (λ i. (let same : 0 + i ≡ i = omega arith in ap (slice_get lines) same))) (all_listed IsLine 0 lines are)
-
-  in_order : AllByRecursion IsListed (ordered (enumerate_from 0 lines))
-  in_order = all_ordered IsListed (enumerate_from 0 lines) listed
+  in_order : AllByRecursion (IsListed lines) (ordered (enumerate_from 0 lines))
+  in_order = all_ordered (IsListed lines) (enumerate_from 0 lines) (all_at_places lines are)
 
   -- nothing is appended
   append_none : has_append (flat_map (λ (line : Listed). operations line.1 q) (ordered (enumerate_from 0 lines))) ≡ false
   append_none = false_from_ne_true _ (λ h. (
-      let found = some_line q IsListed (is_adjusting is_append) (ordered (enumerate_from 0 lines)) in_order h in
+      let found = some_line q (IsListed lines) (is_adjusting is_append) (ordered (enumerate_from 0 lines)) in_order h in
       repeatable found.0.0 reason.Append (HasReason.append found.0.1 found.1.at (asked_sets is_append found.0.1 q found.2))))
 
   -- masked modes and base entries do not meet
@@ -300,11 +301,11 @@ module _ (lines : List Line) (are : AllByRecursion IsLine lines) (distinct : are
       → list_any (is_adjusting gives_base) (flat_map (λ (line : Listed). operations line.1 q) (ordered (enumerate_from 0 lines))) ≡ true → ⊥
   mixed_none named m g = by (zero_or_more (a.0.0 - b.0.0)) (zero_or_more (b.0.0 - a.0.0))
     where
-      a : (line : Listed) × IsListed line × (list_any (is_adjusting is_masked) (operations line.1 q) ≡ true)
-      a = some_line q IsListed (is_adjusting is_masked) (ordered (enumerate_from 0 lines)) in_order m
+      a : (line : Listed) × IsListed lines line × (list_any (is_adjusting is_masked) (operations line.1 q) ≡ true)
+      a = some_line q (IsListed lines) (is_adjusting is_masked) (ordered (enumerate_from 0 lines)) in_order m
 
-      b : (line : Listed) × IsListed line × (list_any (is_adjusting gives_base) (operations line.1 q) ≡ true)
-      b = some_line q IsListed (is_adjusting gives_base) (ordered (enumerate_from 0 lines)) in_order g
+      b : (line : Listed) × IsListed lines line × (list_any (is_adjusting gives_base) (operations line.1 q) ≡ true)
+      b = some_line q (IsListed lines) (is_adjusting gives_base) (ordered (enumerate_from 0 lines)) in_order g
 
       masked : has_masked_mode a.0.1 ≡ true
       masked = sets_masked a.0.1 (action_of a.0.1) (asked a.0.1) (asked_sets is_masked a.0.1 q a.2)
@@ -333,9 +334,9 @@ module _ (lines : List Line) (are : AllByRecursion IsLine lines) (distinct : are
 
   -- no make comes late
   pub makers_adjust_none : AllByRecursion (λ (line : Listed). is_adjusting_line line.1 ≡ false) (fold placed [] (filter (λ (l : Listed). is_creating l.1) (enumerate_from 0 lines)))
-  makers_adjust_none = at (fold placed [] (filter (λ (l : Listed). is_creating l.1) (enumerate_from 0 lines))) (all_makers IsListed (enumerate_from 0 lines) listed) (makers_create (enumerate_from 0 lines))
+  makers_adjust_none = at (fold placed [] (filter (λ (l : Listed). is_creating l.1) (enumerate_from 0 lines))) (all_makers (IsListed lines) (enumerate_from 0 lines) (all_at_places lines are)) (makers_create (enumerate_from 0 lines))
     where
-      at : (ls : List Listed) → AllByRecursion IsListed ls → AllByRecursion (λ (line : Listed). is_creating line.1 ≡ true) ls → AllByRecursion (λ (line : Listed). is_adjusting_line line.1 ≡ false) ls
+      at : (ls : List Listed) → AllByRecursion (IsListed lines) ls → AllByRecursion (λ (line : Listed). is_creating line.1 ≡ true) ls → AllByRecursion (λ (line : Listed). is_adjusting_line line.1 ≡ false) ls
       at [] h g = tt
       at (l ∷ ls) h g = (creating_adjusts_none l.1 h.0.is (creating_row l.1 h.0.is g.0), at ls h.1 g.1)
 

@@ -197,13 +197,6 @@ adjustments_renew_none (Renew test b ∷ xs) h = impossible h
 adjustments_renew_none (Erase ∷ xs) h = impossible h
 adjustments_renew_none (Apply guard change ∷ xs) h = adjustments_renew_none xs h
 
-pub adjustments_erase_none : (xs : List Operation) → list_all is_adjustment xs ≡ true → list_any is_erasure xs ≡ false
-adjustments_erase_none [] h = refl
-adjustments_erase_none (Make b ∷ xs) h = impossible h
-adjustments_erase_none (Renew test b ∷ xs) h = impossible h
-adjustments_erase_none (Erase ∷ xs) h = impossible h
-adjustments_erase_none (Apply guard change ∷ xs) h = adjustments_erase_none xs h
-
 -- and none of them comes late
 pub adjustments_timely : (xs : List Operation) → list_all is_adjustment xs ≡ true → makes_late xs ≡ false
 adjustments_timely [] h = refl

@@ -1,6 +1,7 @@
 -- What lines leave has the shape that the laws need, as what they found had it.
 use Rattle.std.specs.Prelude.{◌≡◌, ◌≢◌, ◌⊎◌, ℕ, Bool, true, false, not, cond, ◌&&◌, List, [], ◌∷◌, ◌++◌, Option, Some, None, is_some, option_map}
 use Rattle.std.proofs.Common.{refl, sym, ap, subst, ◌∙◌, inl, inr}
+use Rattle.std.proofs.lemmas.Bool.{false_from_ne_true}
 use Rattle.std.specs.List.{list_all}
 use Rattle.std.proofs.lemmas.List.{append-nil}
 use Rattle.std.proofs.lemmas.Option.{same_Some}
@@ -58,11 +59,12 @@ adjusted_like (Apply guard change ∷ xs) h b =
 -- ---- paths
 
 pub plain_prefix : (p q : Path) → is_prefix p q ≡ true → has_staging q ≡ false → has_staging p ≡ false
-plain_prefix p q above plain = by (has_staging p) refl
-  where
-    by : (b : Bool) → has_staging p ≡ b → has_staging p ≡ false
-    by true e = absurd (true_not_false (has_staging q) (has_staging-extends p q above e) plain)
-    by false e = e
+plain_prefix p q above plain = false_from_ne_true _ (λ e. true_not_false (has_staging q) (has_staging-extends p q above e) plain)
+
+-- where nothing stands but a directory, one stands once a parent is put
+pub parent_dir : (b : Option ObjectState) → (is_some b ≡ true → is_dir b ≡ true) → is_dir (done (Make parent_object_state) b) ≡ true
+parent_dir None h = refl
+parent_dir (Some x) h = h refl
 
 -- ---- what a making leaves
 
@@ -105,11 +107,7 @@ module _ (making : Making) (is : IsMaking making) (path : Path) (unstaged : has_
       by (inr d) = d
 
   dir_above : (p : Path) → is_prefix p path ≡ true → p ≢ path → is_dir (made p) ≡ true
-  dir_above p high other = ap is_dir (above_made p high other) ∙ by (a p) (pass p high other)
-    where
-      by : (b : Option ObjectState) → (is_some b ≡ true → is_dir b ≡ true) → is_dir (done (Make parent_object_state) b) ≡ true
-      by None h = refl
-      by (Some x) h = h refl
+  dir_above p high other = ap is_dir (above_made p high other) ∙ parent_dir (a p) (pass p high other)
 
   -- elsewhere what stood there, where anything is left
   else_made : (q : Path) → same_path path q ≡ false → is_prefix q path ≡ false → made q ≡ run (cond (is_prefix path q && clears_below making) (Erase ∷ []) []) (a q)
@@ -256,17 +254,18 @@ shape_same a b same shape = shaped_like a b (λ q plain. inl (same q plain)) sha
 
 -- ---- trees
 
+-- what a tree holds as a directory is one
+pub kind_dir : (o : Option Object) → kind_of o ≡ Some Directory → is_dir (option_map object_state_of o) ≡ true
+kind_dir None h = absurd (let no : None ≡ Some Directory = h in cc)
+kind_dir (Some x) h = (let same : x.node.kind ≡ Directory = by x.node.kind h in ap is_directory same)
+  where
+    by : (k : Kind) → Some k ≡ Some Directory → k ≡ Directory
+    by k e = cc
+
 -- each tree has the shape
 pub tree_shaped : (t : Places) → IsTreeIn t → IsShaped (object_states_of t)
 tree_shaped t tree = record { root = kind_dir (t []) tree.root; above = above; plain = plain; named = λ q unstaged there. tree.names q (sym (object_state_some (t q)) ∙ there) }
   where
-    kind_dir : (o : Option Object) → kind_of o ≡ Some Directory → is_dir (object_states_of (λ (q : Path). o) []) ≡ true
-    kind_dir None h = absurd (let no : None ≡ Some Directory = h in cc)
-    kind_dir (Some x) h = (let same : x.node.kind ≡ Directory = by x.node.kind h in ap is_directory same)
-      where
-        by : (k : Kind) → Some k ≡ Some Directory → k ≡ Directory
-        by k e = cc
-
     above : (p q : Path) → has_staging q ≡ false → is_prefix p q ≡ true → p ≢ q → is_some (object_states_of t q) ≡ true → is_dir (object_states_of t p) ≡ true
     above p q plain high other there = by parts.0 parts.1
       where

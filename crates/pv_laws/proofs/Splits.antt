@@ -1,6 +1,7 @@
 -- The lines before and after one that copies, where no line has a reason and no two make one object.
 use Rattle.std.specs.Prelude.{◌≡◌, ◌≢◌, ◌⊎◌, ◌+◌, Bool, true, false, List, [], ◌∷◌, ◌++◌, map, filter, fold, slice_get}
 use Rattle.std.proofs.Common.{refl, sym, ap, subst, ◌∙◌, arith, inl, inr}
+use Rattle.std.proofs.lemmas.Bool.{false_from_ne_true}
 use Rattle.std.specs.List.{enumerate_from, AllByRecursion}
 use Rattle.std.proofs.lemmas.List.{map-append}
 use Rattle.pv_path.specs.Paths.{Path, is_prefix}
@@ -67,6 +68,11 @@ module _ {A : Type 0} (P Q R : A → Type 0) (f : (x : A) → P x → Q x → R 
   pub all_both : (xs : List A) → AllByRecursion P xs → AllByRecursion Q xs → AllByRecursion R xs
   all_both [] h g = tt
   all_both (x ∷ xs) h g = (f x h.0 g.0, all_both xs h.1 g.1)
+
+-- lines in their order beside a path come one before the other
+pub turns_before : (p : Path) (xs : List Line) → AllByRecursion (IsBeside p) xs → Pairwise GoesBefore xs → Pairwise Before xs
+turns_before p [] h g = tt
+turns_before p (x ∷ xs) h g = (all_both (IsBeside p) (GoesBefore x) (Before x) (λ y beside goes. (goes beside.makes).1) xs h.1 g.0, turns_before p xs h.1 g.1)
 
 -- the line of a listed one
 abbrev pub line_of : Listed → Line
@@ -140,18 +146,10 @@ module _ (lines : List Line) (are : AllByRecursion IsLine lines) (distinct : are
 
     -- no line makes an object below what is copied to, nor copies to what lies above it
     none_below : (l : Listed) → IsKnown l → is_creating l.1 ≡ true → p ≢ path_in l.1.path → is_prefix p (path_in l.1.path) ≡ false
-    none_below l known creates differ = by (is_prefix p (path_in l.1.path)) refl
-      where
-        by : (b : Bool) → is_prefix p (path_in l.1.path) ≡ b → is_prefix p (path_in l.1.path) ≡ false
-        by true f = absurd (repeatable l.0 reason.Below (below l.1 copier.1 copier.0 copying.source known.at known_one.at creates (ap copied e) f differ))
-        by false f = f
+    none_below l known creates differ = false_from_ne_true _ (λ f. repeatable l.0 reason.Below (below l.1 copier.1 copier.0 copying.source known.at known_one.at creates (ap copied e) f differ))
 
     none_above : (l : Listed) → IsKnown l → (other : Copying) → action_of l.1 ≡ Copy other → path_in l.1.path ≢ p → is_prefix (path_in l.1.path) p ≡ false
-    none_above l known other f differ = by (is_prefix (path_in l.1.path) p) refl
-      where
-        by : (b : Bool) → is_prefix (path_in l.1.path) p ≡ b → is_prefix (path_in l.1.path) p ≡ false
-        by true g = absurd (repeatable copier.0 reason.Below (below copier.1 l.1 l.0 other.source known_one.at known.at copier_creates (ap copied f) g differ))
-        by false g = g
+    none_above l known other f differ = false_from_ne_true _ (λ g. repeatable copier.0 reason.Below (below copier.1 l.1 l.0 other.source known_one.at known.at copier_creates (ap copied f) g differ))
 
     pub all_beside : AllByRecursion (IsBeside p) (map line_of before)
     all_beside = all_lines (IsBeside p) before (
@@ -164,15 +162,7 @@ module _ (lines : List Line) (are : AllByRecursion IsLine lines) (distinct : are
         })) before known_before (all_unlist (λ line. GoesBefore line copier.1) before (before_one GoesBefore (map line_of before) (map line_of after) copier.1 in_place)))
 
     pub all_in_turn : Pairwise Before (map line_of before)
-    all_in_turn = at (map line_of before) all_beside (front_pairs GoesBefore (map line_of before) (copier.1 ∷ map line_of after) in_place)
-      where
-        each : (x : Line) (xs : List Line) → AllByRecursion (IsBeside p) xs → AllByRecursion (GoesBefore x) xs → AllByRecursion (Before x) xs
-        each x [] h g = tt
-        each x (y ∷ xs) h g = ((g.0 h.0.makes).1, each x xs h.1 g.1)
-
-        at : (xs : List Line) → AllByRecursion (IsBeside p) xs → Pairwise GoesBefore xs → Pairwise Before xs
-        at [] h g = tt
-        at (x ∷ xs) h g = (each x xs h.1 g.0, at xs h.1 g.1)
+    all_in_turn = turns_before p (map line_of before) all_beside (front_pairs GoesBefore (map line_of before) (copier.1 ∷ map line_of after) in_place)
 
     pub later_listed : AllByRecursion (λ (l : Listed). IsAfter p l.1) after
     later_listed =

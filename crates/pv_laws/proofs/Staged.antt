@@ -1,6 +1,7 @@
 -- A run leaves nothing at the staging names along the path of a line that is carried out.
 use Rattle.std.specs.Prelude.{◌≡◌, ◌≢◌, ℕ, Bool, true, false, cond, ◌&&◌, List, [], ◌∷◌, filter, Option, Some, None, option_map, ◌++◌, is_some, ◌||◌}
 use Rattle.std.proofs.Common.{refl, sym, ap, subst, ◌∙◌, inl, inr}
+use Rattle.std.proofs.lemmas.Bool.{false_from_ne_true}
 use Rattle.std.proofs.lemmas.List.{append-nil}
 use Rattle.std.specs.FinMap as fin
 use Rattle.std.specs.List.{list_all, AllByRecursion}
@@ -32,7 +33,7 @@ use Rattle.pv_laws.proofs.Making.{IsDone, making_done, does_stay, turn_by}
 use Rattle.pv_walk.proofs.PreparedLaws.{object_state_none, has_some, in_prefixes, in_parents, all_taken-none, all_taken-stage}
 use Rattle.pv_table.proofs.EffectLaws.{place-prepare}
 use Rattle.pv_table.proofs.ListedLaws.{all_in_order}
-use Rattle.pv_laws.proofs.Prepared.{prepared-at, swept, filled}
+use Rattle.pv_laws.proofs.Prepared.{prepared-at, swept, filled, some_named}
 use Rattle.pv_laws.proofs.Sets.{is_adjustment, IsMaking, line_is_making, adjusted_none, asked, sets_adjust}
 use Rattle.pv_laws.proofs.Adjustment.{turn_open, first_turn, adjust_point}
 use Rattle.pv_laws.proofs.AllPoints.{turns_copy}
@@ -46,11 +47,7 @@ use Rattle.pv_path.proofs.Tests.{true_not_false}
 
 -- none is above a path without one
 staged_no_prefix : (path q : Path) → has_staging path ≡ false → has_staging q ≡ true → is_prefix q path ≡ false
-staged_no_prefix path q plain staged = by (is_prefix q path) refl
-  where
-    by : (b : Bool) → is_prefix q path ≡ b → is_prefix q path ≡ false
-    by true e = absurd (true_not_false (has_staging path) (has_staging-extends q path e staged) plain)
-    by false e = e
+staged_no_prefix path q plain staged = false_from_ne_true _ (λ e. true_not_false (has_staging path) (has_staging-extends q path e staged) plain)
 
 staged_differs : (path q : Path) → has_staging path ≡ false → has_staging q ≡ true → q ≢ path
 staged_differs path q plain staged e = true_not_false (has_staging path) (ap has_staging (sym e) ∙ staged) plain
@@ -64,11 +61,7 @@ ready_staged now path plain t q staged gone =
     ∙ ap (option_map object_state_of) gone
 
 swept_place : (now : ℕ) (path place : Path) (t : Files) → is_prefix place path ≡ true → place ≢ [] → swept now path (places t) (staging_of place) ≡ None
-swept_place now path place t high some = all_taken-stage now (prefixes path) (places t) place (in_prefixes place path ∙ ap (λ b. b && has_some place) high ∙ named place some)
-  where
-    named : (p : Path) → p ≢ [] → has_some p ≡ true
-    named [] h = absurd (h refl)
-    named (name ∷ p) h = refl
+swept_place now path place t high some = all_taken-stage now (prefixes path) (places t) place (in_prefixes place path ∙ ap (λ b. b && has_some place) high ∙ some_named place some)
 
 module _ (now : ℕ) (making : Making) (is : IsMaking making) (path : Path) (plain : has_staging path ≡ false) (t : Files) where
   abbrev ready : Files

@@ -7,7 +7,7 @@ use Rattle.std.specs.List.{list_any, list_all, enumerate_from, AllByRecursion}
 use Rattle.std.proofs.lemmas.List.{map-append, take_all}
 use Rattle.std.proofs.lemmas.List.Folds.{list_any-append, list_all-append}
 use Rattle.std.proofs.lemmas.Grind.{flat_map-append}
-use Rattle.std.proofs.lemmas.Bool.{or_parts, and_parts}
+use Rattle.std.proofs.lemmas.Bool.{or_parts, and_parts, false_from_ne_true}
 use Rattle.pv_path.specs.Paths.{Path, has_names, is_prefix, has_staging, same_path-decides}
 use Rattle.pv_path.proofs.PathLaws.{has_names-prefix, is_prefix-refl, is_prefix-trans, is_prefix-antisym, same_path-no}
 use Rattle.pv_path.proofs.Tests.{true_not_false}
@@ -57,8 +57,8 @@ use Rattle.pv_laws.proofs.Regions.{IsBeside, IsClearing, Before, Passes, never_c
 use Rattle.pv_laws.proofs.Repeated as repeated
 use Rattle.pv_laws.proofs.Repeated.{IsAskedAt, asked_at, adjuster_adjusts, create_adjusts_not, operations_repeatable}
 use Rattle.pv_laws.proofs.Sets.{impossible, is_adjustment, IsMaking, line_is_making, only_adjusts, asked, sets_adjust}
-use Rattle.pv_laws.proofs.Shapes.{IsLike, adjusted_like, plain_prefix, shape_same, tree_shaped}
-use Rattle.pv_laws.proofs.Splits.{IsKnown, all_known, all_before, all_behind, front_pairs, after_one, line_of, all_lines, all_both}
+use Rattle.pv_laws.proofs.Shapes.{IsLike, adjusted_like, parent_dir, plain_prefix, shape_same, tree_shaped}
+use Rattle.pv_laws.proofs.Splits.{IsKnown, turns_before, all_known, all_before, all_behind, front_pairs, after_one, line_of, all_lines, all_both}
 use Rattle.pv_laws.proofs.StateSteps.{PassesTo, IsOpen, IsAlikeIn, AllOpen, all_frame, all_swap, fold_one, open_one}
 use Rattle.pv_laws.proofs.Stops.{GoesBefore, all_in_place, before_one, nothing_before}
 use Rattle.pv_laws.proofs.Swapped.{swapped, swapped_path, object_state_directory, directory_asks, IsSwap, swap, all_swapped, swapped_distinct, swapped_repeatable, in_order_swapped}
@@ -89,6 +89,13 @@ gentle_all (Renew test new ∷ xs) h = impossible h
 gentle_all (Erase ∷ xs) h = impossible h
 gentle_all (Apply guard change ∷ xs) h = gentle_all xs h
 
+gentle_none : (xs : List Operation) → list_all is_gentle xs ≡ true → list_any is_erasure xs ≡ false
+gentle_none [] h = refl
+gentle_none (Make new ∷ xs) h = gentle_none xs h
+gentle_none (Renew test new ∷ xs) h = impossible h
+gentle_none (Erase ∷ xs) h = impossible h
+gentle_none (Apply guard change ∷ xs) h = gentle_none xs h
+
 gentle_keeps : (xs : List Operation) → list_all is_gentle xs ≡ true → (b : Option ObjectState) → is_dir b ≡ true → is_dir (run xs b) ≡ true
 gentle_keeps [] h b dir = dir
 gentle_keeps (x ∷ xs) h None dir = impossible dir
@@ -107,11 +114,7 @@ record IsCalm (line : Line) (a : Path) : Type 0 where
 
 -- what adjusts erases nothing, in parts either
 adjusts_calm : (xs : List Operation) → list_all is_adjustment xs ≡ true → list_any is_erasure xs ≡ false
-adjusts_calm [] h = refl
-adjusts_calm (Make new ∷ xs) h = impossible h
-adjusts_calm (Renew test new ∷ xs) h = impossible h
-adjusts_calm (Erase ∷ xs) h = impossible h
-adjusts_calm (Apply guard change ∷ xs) h = adjusts_calm xs h
+adjusts_calm xs h = gentle_none xs (gentle_all xs h)
 
 calm_of : (line : Line) (a : Path) (xs : List Operation) → operations line a ≡ xs → list_any is_erasure (parts xs) ≡ false
     → ((x : ObjectState) → IsDirectory x → (y : ObjectState) × (run xs (Some x) ≡ Some y) × IsDirectory y) → IsCalm line a
@@ -136,11 +139,7 @@ first_calm making is xs none = by making.renew refl
 
 module _ (p a : Path) (line : Line) (above : is_prefix a p ≡ true) (never : IsClearing p line → ⊥) where
   clears_not : (making : Making) → action_of line ≡ Create making → is_prefix (path_in line.path) a ≡ true → clears_below making ≡ false
-  clears_not making e high = by (clears_below making) refl
-    where
-      by : (b : Bool) → clears_below making ≡ b → clears_below making ≡ false
-      by true f = absurd (never (record { making = making; makes = e; clears = f; above = is_prefix-trans (path_in line.path) a p high above }))
-      by false f = f
+  clears_not making e high = false_from_ne_true _ (λ f. never (record { making = making; makes = e; clears = f; above = is_prefix-trans (path_in line.path) a p high above }))
 
   object_calm : (making : Making) → action_of line ≡ Create making → path_in line.path ≡ a → operations line a ≡ first_of making ∷ making.sets → IsCalm line a
   object_calm making e same f = calm_of line a (first_of making ∷ making.sets) f
@@ -244,11 +243,7 @@ module _ (lines : List Line) (are : AllByRecursion IsLine lines) (distinct : are
 
   -- no line governs what another copies
   free_of : (l k : Listed) → Known l → Known k → IsFreeOf l.1 k.1
-  free_of l k known copies copying e = by (governs l.1 copying.source) refl
-    where
-      by : (b : Bool) → governs l.1 copying.source ≡ b → governs l.1 copying.source ≡ false
-      by true f = absurd (repeatable l.0 reason.Source (HasReason.source l.1 k.1 k.0 copying.source copying.source known.at copies.at (ap copied e) (is_prefix-refl copying.source) (source_named k.1 copies.is copying e) f))
-      by false f = f
+  free_of l k known copies copying e = false_from_ne_true _ (λ f. repeatable l.0 reason.Source (HasReason.source l.1 k.1 k.0 copying.source copying.source known.at copies.at (ap copied e) (is_prefix-refl copying.source) (source_named k.1 copies.is copying e) f))
 
   free_each : (l : Listed) → Known l → (ls : List Listed) → AllByRecursion Known ls → AllByRecursion (IsFreeOf l.1) (map line_of ls)
   free_each l _ [] h = tt
@@ -316,11 +311,7 @@ module _ (lines : List Line) (are : AllByRecursion IsLine lines) (distinct : are
 
       -- no line copies to a path above it
       none_above : (l : Listed) → Known l → (copying : Copying) → action_of l.1 ≡ Copy copying → path_in l.1.path ≢ p → is_prefix (path_in l.1.path) p ≡ false
-      none_above l is copying e differ = by (is_prefix (path_in l.1.path) p) refl
-        where
-          by : (b : Bool) → is_prefix (path_in l.1.path) p ≡ b → is_prefix (path_in l.1.path) p ≡ false
-          by true g = absurd (repeatable one.0 reason.Below (below line l.1 l.0 copying.source known_one.at is.at creates (ap copied e) g differ))
-          by false g = g
+      none_above l is copying e differ = false_from_ne_true _ (λ g. repeatable one.0 reason.Below (below line l.1 l.0 copying.source known_one.at is.at creates (ap copied e) g differ))
 
       unlist : (P : Line → Type 0) (ls : List Listed) → AllByRecursion P (map line_of ls) → AllByRecursion (λ (l : Listed). P l.1) ls
       unlist P [] h = tt
@@ -337,15 +328,7 @@ module _ (lines : List Line) (are : AllByRecursion IsLine lines) (distinct : are
           })) before known_before (unlist (λ x. GoesBefore x line) before (before_one GoesBefore xs ys line in_place)))
 
       in_turn : Pairwise Before xs
-      in_turn = at xs besides (front_pairs GoesBefore xs (line ∷ ys) in_place)
-        where
-          each : (x : Line) (zs : List Line) → AllByRecursion (IsBeside p) zs → AllByRecursion (GoesBefore x) zs → AllByRecursion (Before x) zs
-          each x [] h g = tt
-          each x (z ∷ zs) h g = ((g.0 h.0.makes).1, each x zs h.1 g.1)
-
-          at : (zs : List Line) → AllByRecursion (IsBeside p) zs → Pairwise GoesBefore zs → Pairwise Before zs
-          at [] h g = tt
-          at (z ∷ zs) h g = (each z zs h.1 g.0, at zs h.1 g.1)
+      in_turn = turns_before p xs besides (front_pairs GoesBefore xs (line ∷ ys) in_place)
 
       safe_parts : AllByRecursion IsSafe (xs ++ line ∷ ys)
       safe_parts = subst (AllByRecursion IsSafe) in_parts (all_safe lines are repeatable)
@@ -382,12 +365,7 @@ module _ (lines : List Line) (are : AllByRecursion IsLine lines) (distinct : are
         named = has_names-prefix a p high (path_named line known_one.is)
 
         outside_one : (l : Listed) → Known l → IsOutside t a l.1
-        outside_one l is copying e present = by (is_prefix (path_in l.1.path) a) refl
-          where
-            by : (b : Bool) → is_prefix (path_in l.1.path) a ≡ b → is_prefix (path_in l.1.path) a ≡ false
-            by true f = absurd (true_not_false (is_prefix (path_in l.1.path) p) (is_prefix-trans (path_in l.1.path) a p f high) (
-                none_above l is copying e (λ same. other (is_prefix-antisym a p high (ap (λ (c : Path). is_prefix c a) (sym same) ∙ f)))))
-            by false f = f
+        outside_one l is copying e present = false_from_ne_true _ (λ f. true_not_false (is_prefix (path_in l.1.path) p) (is_prefix-trans (path_in l.1.path) a p f high) (none_above l is copying e (λ same. other (is_prefix-antisym a p high (ap (λ (c : Path). is_prefix c a) (sym same) ∙ f)))))
 
         outside_all : (ls : List Listed) → AllByRecursion Known ls → AllByRecursion (IsOutside t a) (map line_of ls)
         outside_all [] h = tt
@@ -439,11 +417,7 @@ module _ (lines : List Line) (are : AllByRecursion IsLine lines) (distinct : are
         gentle_one z goes = by (is_adjusting_line z) refl
           where
             higher : is_adjusting_line z ≡ false → is_prefix (path_in z.path) a ≡ false
-            higher none = at (is_prefix (path_in z.path) a) refl
-              where
-                at : (b : Bool) → is_prefix (path_in z.path) a ≡ b → is_prefix (path_in z.path) a ≡ false
-                at true f = absurd (true_not_false (is_prefix (path_in z.path) p) (is_prefix-trans (path_in z.path) a p f high) (sym (ap (λ (l : LinePath). is_prefix (path_in z.path) (path_in l)) (swapped_path t line)) ∙ (goes none).1))
-                at false f = f
+            higher none = false_from_ne_true _ (λ f. true_not_false (is_prefix (path_in z.path) p) (is_prefix-trans (path_in z.path) a p f high) (sym (ap (λ (l : LinePath). is_prefix (path_in z.path) (path_in l)) (swapped_path t line)) ∙ (goes none).1))
 
             lower : is_adjusting_line z ≡ false → IsAskedAt z a → list_all is_gentle (parts (operations z a)) ≡ true
             lower none (repeated.object making e same f) = absurd (true_not_false (is_prefix (path_in z.path) a) (ap (λ (c : Path). is_prefix c a) same ∙ is_prefix-refl a) (higher none))
@@ -474,14 +448,7 @@ module _ (lines : List Line) (are : AllByRecursion IsLine lines) (distinct : are
             ∙ ap (λ b. b || list_any is_erasure (operations_of (swapped t line ∷ map (swapped t) ys) a)) (all_quiet_there a mapped calm)
             ∙ list_any-append is_erasure (parts (operations (swapped t line) a)) (operations_of (map (swapped t) ys) a)
             ∙ ap (λ zs. list_any is_erasure (parts zs) || list_any is_erasure (operations_of (map (swapped t) ys) a)) (asks_parent a high other)
-            ∙ none (operations_of (map (swapped t) ys) a) (gentle_each (map (swapped t) ys) behind)
-          where
-            none : (zs : List Operation) → list_all is_gentle zs ≡ true → list_any is_erasure zs ≡ false
-            none [] h = refl
-            none (Make new ∷ zs) h = none zs h
-            none (Renew test new ∷ zs) h = impossible h
-            none (Erase ∷ zs) h = impossible h
-            none (Apply guard change ∷ zs) h = none zs h
+            ∙ gentle_none (operations_of (map (swapped t) ys) a) (gentle_each (map (swapped t) ys) behind)
 
         messages_none : reasons.IsRepeatable done_there
         messages_none = repeatable-front done_there (operations_of (swapped t line ∷ map (swapped t) ys) a) no_erasure (
@@ -534,11 +501,7 @@ module _ (lines : List Line) (are : AllByRecursion IsLine lines) (distinct : are
         -- ---- where it had come to the line, or past it
 
         parent_there : is_dir (done (Make parent_object_state) (object_states_of (places first) a)) ≡ true
-        parent_there = by (object_states_of (places first) a) (passes a high other)
-          where
-            by : (b : Option ObjectState) → (is_some b ≡ true → is_dir b ≡ true) → is_dir (done (Make parent_object_state) b) ≡ true
-            by None h = refl
-            by (Some x) h = h refl
+        parent_there = parent_dir (object_states_of (places first) a) (passes a high other)
 
         -- a directory stands there
         from_directory : is_dir (object_states_of (places u) a) ≡ true → is_dir (fin.get (fold pointwise_after r xs) a) ≡ true

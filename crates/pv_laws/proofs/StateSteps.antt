@@ -8,7 +8,7 @@ use Rattle.pv_path.specs.Paths.{Path, is_prefix, same_path, has_staging}
 use Rattle.pv_path.proofs.PathLaws.{is_prefix-refl, rest_under-None, rest_under-append, same_path-no}
 use Rattle.pv_path.proofs.Tests.{true_not_false}
 use Rattle.pv_steps.specs.Trees.{Files, Places, places, tabulate}
-use Rattle.pv_steps.proofs.StepLaws.{is_among, places-tabulate}
+use Rattle.pv_steps.proofs.StepLaws.{places-tabulate}
 use Rattle.pv_metadata.specs.declared.object_state.ObjectState.{ObjectState}
 use Rattle.pv_metadata.specs.declared.operation.Operation.TheVariants.{Make}
 use Rattle.pv_metadata.specs.Dividing.{parts}
@@ -30,23 +30,22 @@ use Rattle.pv_table.specs.Pointwise.{ObjectStates, parent_object_state, after_tu
 use Rattle.pv_table.specs.Reaching.{path_in, governs}
 use Rattle.pv_table.specs.Repeatable.{sets_of}
 use Rattle.pv_table.specs.Turns.{copied}
-use Rattle.pv_laws.specs.Moments.{Agree}
 use Rattle.pv_laws.proofs.AllFrames.{not_above, not_below}
 use Rattle.pv_laws.proofs.AllPoints.{IsSafe, pointwise_is}
 use Rattle.pv_laws.proofs.Copies.{copied_point, left_before}
 use Rattle.pv_laws.proofs.CopyEnds.{inside, inside_is, below_plain, turn_at}
 use Rattle.pv_laws.proofs.CopyShapes.{at_outside, copied_shaped}
 use Rattle.pv_laws.proofs.Frames.{ungoverned, asks_nothing}
-use Rattle.pv_laws.proofs.Lines.{IsPlain, line_is_plain, path_named, copy_path, copy_source, asked_made, asked_adjustment, asked_idle}
+use Rattle.pv_laws.proofs.Lines.{IsPlain, line_is_plain, path_named, copy_path, copy_source, asked_made, asked_adjustment, asked_idle, copies_or_not}
 use Rattle.pv_laws.proofs.Making.{is_dir, IsShaped}
 use Rattle.pv_laws.proofs.Orders.{Pairwise}
 use Rattle.pv_laws.proofs.Parents.{IsOutside, IsFreeOf}
 use Rattle.pv_laws.proofs.Points.{point_asked}
-use Rattle.pv_laws.proofs.Prepared.{filled}
+use Rattle.pv_laws.proofs.Prepared.{filled, with_some}
 use Rattle.pv_laws.proofs.Repeated.{asked_copy}
 use Rattle.pv_laws.proofs.Sets.{impossible, is_adjustment, line_is_making, adjusted_none, asked, sets_adjust}
 use Rattle.pv_laws.proofs.Shapes.{IsLike, adjusted_like, made_shaped, shaped_like, shape_same}
-use Rattle.pv_laws.proofs.Swapped.{copies_some, swapped, object_state_directory, directory_asks, IsSwap, swap}
+use Rattle.pv_laws.proofs.Swapped.{copies_some, swapped, directory_asks, IsSwap, swap}
 use Rattle.pv_laws.proofs.Swapped as swaps
 
 -- ---- a tree of a map
@@ -191,7 +190,7 @@ module _ (line : Line) (safe : IsSafe line) (s : ObjectStates) (shape : IsShaped
 
     -- what it does not govern stays
     pub frame_step : (q : Path) → has_staging q ≡ false → governs line q ≡ false → fin.get (pointwise_after s line) q ≡ fin.get s q
-    frame_step q plain away = by (action_of line) refl
+    frame_step q plain away = copies_or_not line (λ copying e. copy copying e (fin.get s copying.source) refl) plain_line
       where
         plain_line : copied (action_of line) ≡ None → fin.get (pointwise_after s line) q ≡ fin.get s q
         plain_line none = asked_after none q plain ∙ ap (λ xs. run xs (fin.get s q)) (asks_nothing line safe.is q (ungoverned line q away))
@@ -201,12 +200,6 @@ module _ (line : Line) (safe : IsSafe line) (s : ObjectStates) (shape : IsShaped
         copy copying e (Some b) f =
             outside_after copying e b f (opens.copies copying e (ap is_some f)) q plain (not_below line safe.is copying e q (ungoverned line q away))
             ∙ ap (λ c. filled c (fin.get s q)) (not_above line safe.is copying e q (ungoverned line q away))
-
-        by : (d : Action) → action_of line ≡ d → fin.get (pointwise_after s line) q ≡ fin.get s q
-        by (Create making) e = plain_line (ap copied e)
-        by (Copy copying) e = copy copying e (fin.get s copying.source) refl
-        by (Adjust adjustment) e = plain_line (ap copied e)
-        by Idle e = plain_line (ap copied e)
 
     -- beside what is copied it leaves what the line in its place asks for
     module _ (t : Files) (q : Path) (plain : has_staging q ≡ false) (outside : IsOutside t q line) (alike : IsAlikeIn t s line) where
@@ -221,11 +214,7 @@ module _ (line : Line) (safe : IsSafe line) (s : ObjectStates) (shape : IsShaped
           by (Some b) f = impossible (sym none ∙ sym (alike copying e) ∙ ap is_some f)
 
       present : (copying : Copying) → action_of line ≡ Copy copying → is_some (object_states_of (places t) copying.source) ≡ true → fin.get (pointwise_after s line) q ≡ filled (is_prefix q path) (fin.get s q)
-      present copying e there = by (fin.get s copying.source) refl
-        where
-          by : (o : Option ObjectState) → fin.get s copying.source ≡ o → fin.get (pointwise_after s line) q ≡ filled (is_prefix q path) (fin.get s q)
-          by None f = impossible (sym (ap is_some f) ∙ alike copying e ∙ there)
-          by (Some b) f = outside_after copying e b f (opens.copies copying e (ap is_some f)) q plain (outside copying e there)
+      present copying e there = with_some (fin.get s copying.source) (alike copying e ∙ there) (λ b f. outside_after copying e b f (opens.copies copying e (ap is_some f)) q plain (outside copying e there))
 
       pub swap_step : fin.get (pointwise_after s line) q ≡ run (operations (swapped t line) q) (fin.get s q)
       swap_step = by (swap t line)
@@ -233,14 +222,11 @@ module _ (line : Line) (safe : IsSafe line) (s : ObjectStates) (shape : IsShaped
           kept : swapped t line ≡ line → run (operations line q) (fin.get s q) ≡ run (operations (swapped t line) q) (fin.get s q)
           kept is = sym (ap (λ (l : Line). run (operations l q) (fin.get s q)) is)
 
-          at : swapped t line ≡ line → copies_some t (action_of line) ≡ false → (d : Action) → action_of line ≡ d → fin.get (pointwise_after s line) q ≡ run (operations (swapped t line) q) (fin.get s q)
-          at is f (Copy copying) e = absent copying e (sym (ap (copies_some t) e) ∙ f) ∙ sym (ap (λ xs. run xs (fin.get s q)) (asked_copy line copying q e)) ∙ kept is
-          at is f (Create making) e = asked_after (ap copied e) q plain ∙ kept is
-          at is f (Adjust adjustment) e = asked_after (ap copied e) q plain ∙ kept is
-          at is f Idle e = asked_after (ap copied e) q plain ∙ kept is
-
           by : IsSwap t line (swapped t line) → fin.get (pointwise_after s line) q ≡ run (operations (swapped t line) q) (fin.get s q)
-          by (swaps.same is f) = at is f (action_of line) refl
+          by (swaps.same is f) = copies_or_not line
+              (λ copying e. absent copying e (sym (ap (copies_some t) e) ∙ f) ∙ sym (ap (λ xs. run xs (fin.get s q)) (asked_copy line copying q e)))
+              (λ none. asked_after none q plain)
+              ∙ kept is
           by (swaps.directory copying e there is) =
               present copying e there ∙ parent_done (is_prefix q path) (fin.get s q)
               ∙ sym (ap (λ xs. run xs (fin.get s q)) (ap (λ (l : Line). operations l q) is ∙ directory_asks line q (other_path copying e there)))

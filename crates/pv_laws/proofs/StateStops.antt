@@ -39,15 +39,14 @@ use Rattle.pv_laws.proofs.CopyEnds.{inside, inside_same, below_plain, plain_path
 use Rattle.pv_laws.proofs.CopyMends.{IsBegun}
 use Rattle.pv_laws.proofs.CopyRuns.{middle_source, middle_present as first_there, passes as line_passes, way_there, run_end, quiet_parts}
 use Rattle.pv_laws.proofs.Frozen.{away_all, source_partway}
-use Rattle.pv_laws.proofs.Later.{IsAfter, adjusts, beside, asks_none, all_adjust, all_shaped}
-use Rattle.pv_laws.proofs.Lines.{path_named}
+use Rattle.pv_laws.proofs.Later.{IsAfter, adjusts, beside, adjuster_plain, asks_none, all_adjust, all_shaped}
+use Rattle.pv_laws.proofs.Lines.{path_named, copies_or_not}
 use Rattle.pv_laws.proofs.Making.{same_unnamed, IsShaped}
 use Rattle.pv_laws.proofs.Orders.{Pairwise}
 use Rattle.pv_laws.proofs.Parents.{IsOutside, swaps_point, swaps_way}
 use Rattle.pv_laws.proofs.Points.{get-tabulated}
-use Rattle.pv_laws.proofs.Prepared.{object_state_some, filled}
+use Rattle.pv_laws.proofs.Prepared.{object_state_some, filled, with_some}
 use Rattle.pv_laws.proofs.Regions.{IsBeside, IsClearing, Before, Passes, asks_there, copy_outside, not_lower}
-use Rattle.pv_laws.proofs.Repeated.{copy_adjusts_not}
 use Rattle.pv_laws.proofs.Sets.{impossible}
 use Rattle.pv_laws.proofs.Settings.{own_again, top_kind, later_repeatable, own_repeatable, both_repeatable}
 use Rattle.pv_laws.proofs.Shapes.{tree_shaped}
@@ -73,7 +72,7 @@ module _ (p : Path) (line : Line) (safe : IsSafe line) (s : ObjectStates) (shape
 
   -- a line beside it leaves what stands there, where it clears nothing above it
   beside_step : IsBeside p line → (IsClearing p line → ⊥) → next ≡ fin.get s q
-  beside_step is never = by (action_of line) refl
+  beside_step is never = copies_or_not line (λ copying e. copy copying e (fin.get s copying.source) refl) plain_line
     where
       plain_line : copied (action_of line) ≡ None → next ≡ fin.get s q
       plain_line none = asked_after line safe s shape none q plain ∙ at (asks_there p line is q under)
@@ -88,21 +87,9 @@ module _ (p : Path) (line : Line) (safe : IsSafe line) (s : ObjectStates) (shape
           outside_after line safe s shape copying e b f (opens.copies copying e (ap is_some f)) q plain (copy_outside p line is q under copying e)
           ∙ ap (λ c. filled c (fin.get s q)) (not_lower p line is q under)
 
-      by : (d : Action) → action_of line ≡ d → next ≡ fin.get s q
-      by (Create making) e = plain_line (ap copied e)
-      by (Copy copying) e = copy copying e (fin.get s copying.source) refl
-      by (Adjust adjustment) e = plain_line (ap copied e)
-      by Idle e = plain_line (ap copied e)
-
   -- a line that may come after it leaves what it asks for
   after_step : IsAfter p line → next ≡ run (operations line q) (fin.get s q)
-  after_step (adjusts h) = asked_after line safe s shape (by (action_of line) refl) q plain
-    where
-      by : (d : Action) → action_of line ≡ d → copied (action_of line) ≡ None
-      by (Create making) e = ap copied e
-      by (Copy copying) e = impossible (sym (copy_adjusts_not q line copying e) ∙ h)
-      by (Adjust adjustment) e = ap copied e
-      by Idle e = ap copied e
+  after_step (adjusts h) = asked_after line safe s shape (adjuster_plain line q h) q plain
   after_step (beside is low) =
       beside_step is (λ clearing. true_not_false (is_prefix (path_in line.path) p) clearing.above low)
       ∙ sym (ap (λ xs. run xs (fin.get s q)) (asks_none p line q under is low))
@@ -353,17 +340,13 @@ module _ (lines : List Line) (are : AllByRecursion IsLine lines) (distinct : are
     outside_each (l ∷ ls) h = (not_reached t q l.1 h.0, outside_each ls h.1)
 
     below : (found : IsSplit test (ordered (enumerate_from 0 lines))) (copying : Copying) → action_of found.one.1 ≡ Copy copying → is_some (object_states_of (places t) copying.source) ≡ true → is_prefix (path_in found.one.1.path) q ≡ true → IsMended
-    below found copying e present under = by (object_states_of (places t) copying.source) refl
+    below found copying e present under = with_some (object_states_of (places t) copying.source) present (let cut = prefix_parts (path_in found.one.1.path) q under in at cut.0 cut.1)
       where
         at : (rest : Path) → q ≡ path_in found.one.1.path ++ rest → (b : ObjectState) → object_states_of (places t) copying.source ≡ Some b → IsMended
         at rest is b f = subst (λ (p : Path). fin.get (fold pointwise_after r (in_create_order lines)) p ≡ object_states_of (places (created lines now t)) p) (sym is) (
             copy_state found.before found.after found.one found.whole copying e b f rest
             (or_parts (has_staging (path_in found.one.1.path)) (has_staging rest) (sym (has_staging-append (path_in found.one.1.path) rest) ∙ ap has_staging (sym is) ∙ plain)).1
             (ap has_names (sym is) ∙ named))
-
-        by : (b : Option ObjectState) → object_states_of (places t) copying.source ≡ b → IsMended
-        by None f = impossible (sym (ap is_some f) ∙ present)
-        by (Some b) f = let cut = prefix_parts (path_in found.one.1.path) q under in at cut.0 cut.1 b f
 
     mended_named : IsMended
     mended_named = by (split test (ordered (enumerate_from 0 lines)))

@@ -197,10 +197,6 @@ module _ (t : Files) where
       by None e g = absurd (let no : None ≡ Some new = g in cc)
       by (Some line) e g = (line, e, is (swapped t line) new g)
 
-  or_keeps : (a b c : Bool) → (b ≡ true → c ≡ true) → (a || b) ≡ true → (a || c) ≡ true
-  or_keeps true b c f g = refl
-  or_keeps false b c f g = f g
-
   named_alone : (line : Line) (q : Path) → reaches (object_state_directory line) q ≡ true → names line q ≡ true
   named_alone line q h = by (names line q) h
     where
@@ -208,12 +204,16 @@ module _ (t : Files) where
       by true g = refl
       by false g = impossible g
 
-  reaches_less : (line : Line) (q : Path) → reaches (swapped t line) q ≡ true → reaches line q ≡ true
-  reaches_less line q = by (swap t line)
+  -- a line has what the line in its place has, if it has what a directory in its place would have
+  fewer : (test : Line → Bool) (line : Line) → (test (object_state_directory line) ≡ true → test line ≡ true) → test (swapped t line) ≡ true → test line ≡ true
+  fewer test line there h = by (swap t line)
     where
-      by : IsSwap t line (swapped t line) → reaches (swapped t line) q ≡ true → reaches line q ≡ true
-      by (same e f) h = sym (ap (λ (l : Line). reaches l q) e) ∙ h
-      by (directory copying e f g) h = or_left (names line q) (reaches_below line && names_above line q) (named_alone line q (sym (ap (λ (l : Line). reaches l q) g) ∙ h))
+      by : IsSwap t line (swapped t line) → test line ≡ true
+      by (same e f) = sym (ap test e) ∙ h
+      by (directory copying e f g) = there (sym (ap test g) ∙ h)
+
+  reaches_less : (line : Line) (q : Path) → reaches (swapped t line) q ≡ true → reaches line q ≡ true
+  reaches_less line q = fewer (λ l. reaches l q) line (λ h. or_left (names line q) (reaches_below line && names_above line q) (named_alone line q h))
 
   governs_less : (line : Line) (q : Path) → governs (swapped t line) q ≡ true → governs line q ≡ true
   governs_less line q h = by (reaches (swapped t line) q) refl (ap (λ b. reaches (swapped t line) q || b) (sym parents) ∙ h)
@@ -226,25 +226,13 @@ module _ (t : Files) where
       by false e g = or_right (reaches line q) (is_creating line && is_prefix q (path_in line.path)) (sym (ap (λ b. b || (is_creating line && is_prefix q (path_in line.path))) e) ∙ g)
 
   appends_less : (line : Line) → appends (swapped t line) ≡ true → appends line ≡ true
-  appends_less line = by (swap t line)
-    where
-      by : IsSwap t line (swapped t line) → appends (swapped t line) ≡ true → appends line ≡ true
-      by (same e f) h = sym (ap appends e) ∙ h
-      by (directory copying e f g) h = impossible (sym (ap appends g) ∙ h)
+  appends_less line = fewer appends line (λ h. impossible h)
 
   bases_less : (line : Line) → sets_base (swapped t line) ≡ true → sets_base line ≡ true
-  bases_less line = by (swap t line)
-    where
-      by : IsSwap t line (swapped t line) → sets_base (swapped t line) ≡ true → sets_base line ≡ true
-      by (same e f) h = sym (ap sets_base e) ∙ h
-      by (directory copying e f g) h = impossible (sym (ap sets_base g) ∙ h)
+  bases_less line = fewer sets_base line (λ h. impossible h)
 
   masks_less : (line : Line) → has_masked_mode (swapped t line) ≡ true → has_masked_mode line ≡ true
-  masks_less line = by (swap t line)
-    where
-      by : IsSwap t line (swapped t line) → has_masked_mode (swapped t line) ≡ true → has_masked_mode line ≡ true
-      by (same e f) h = sym (ap has_masked_mode e) ∙ h
-      by (directory copying e f g) h = impossible (sym (ap has_masked_mode g) ∙ h)
+  masks_less line = fewer has_masked_mode line (λ h. impossible h)
 
   copies_less : (line : Line) (path : Path) → copied (action_of (swapped t line)) ≡ Some path → copied (action_of line) ≡ Some path
   copies_less line path = by (swap t line)
@@ -254,19 +242,15 @@ module _ (t : Files) where
       by (directory copying e f g) h = absurd (let no : None ≡ Some path = sym (ap (λ (l : Line). copied (action_of l)) g) ∙ h in cc)
 
   contents_less : (line : Line) → changes_content (swapped t line) ≡ true → changes_content line ≡ true
-  contents_less line = by (swap t line)
+  contents_less line = fewer changes_content line (λ h. or_four (is_creating line) _ _ _ (at (is_creating line) h))
     where
-      by : IsSwap t line (swapped t line) → changes_content (swapped t line) ≡ true → changes_content line ≡ true
-      by (same e f) h = sym (ap changes_content e) ∙ h
-      by (directory copying e f g) h = or_four (is_creating line) _ _ _ (at (is_creating line) (sym (ap changes_content g) ∙ h))
-        where
-          at : (b : Bool) → (b || false || false || false) ≡ true → b ≡ true
-          at true k = refl
-          at false k = impossible k
+      at : (b : Bool) → (b || false || false || false) ≡ true → b ≡ true
+      at true k = refl
+      at false k = impossible k
 
-          or_four : (a b c d : Bool) → a ≡ true → (a || b || c || d) ≡ true
-          or_four true b c d k = refl
-          or_four false b c d k = impossible k
+      or_four : (a b c d : Bool) → a ≡ true → (a || b || c || d) ≡ true
+      or_four true b c d k = refl
+      or_four false b c d k = impossible k
 
   pub swapped_repeatable : (lines : List Line) → IsRepeatable lines → IsRepeatable (map (swapped t) lines)
   swapped_repeatable lines repeatable i r reason = repeatable i r (by r reason)
