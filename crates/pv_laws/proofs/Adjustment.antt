@@ -57,9 +57,7 @@ module _ (now : ℕ) (adjustment : Adjustment) (adjust : list_all is_adjustment 
   set_if reached b = cond reached (run adjustment.sets b) b
 
   adjust_key : (reached : Bool) (o : Option Object) → is_some (cond reached (option_map (become now adjustment.sets) o) o) ≡ is_some o
-  adjust_key true None = refl
-  adjust_key true (Some x) = refl
-  adjust_key false o = refl
+  adjust_key reached o = grind arith
 
   touched_object_state : (reached : Bool) (o : Option Object) → option_map object_state_of (cond reached (option_map (become now adjustment.sets) o) o) ≡ set_if reached (option_map object_state_of o)
   touched_object_state true None = sym (adjusted_none adjustment.sets adjust)
@@ -116,8 +114,7 @@ module _ (now : ℕ) (adjustment : Adjustment) (adjust : list_all is_adjustment 
     own_path p q = ap (λ d. same_path p q || (d && is_prefix p q && not (has_staging q))) shallow ∙ by (same_path p q)
       where
         by : (b : Bool) → (b || (false && is_prefix p q && not (has_staging q))) ≡ b
-        by true = refl
-        by false = refl
+        by b = grind arith
 
     pub set_never : (q : Path) (paths : List Path) (b : Option ObjectState) → times q paths ≡ 0 → set_by_each q paths b ≡ b
     set_never q [] b e = refl
@@ -288,8 +285,7 @@ module _ (now : ℕ) (line : Line) (adjustment : Adjustment) (e : action_of line
       none false = refl
 
       same : (b : Bool) (c : Option ObjectState) → set_if now adjustment adjusts b c ≡ run (cond b adjustment.sets []) c
-      same true c = refl
-      same false c = refl
+      same b c = grind arith
 
       by : (b : Option ObjectState) → object_states_of (places t) q ≡ b → set_by_each now adjustment adjusts q named (object_states_of (places t) q) ≡ run (cond (adjusts_path line adjustment q) adjustment.sets []) (object_states_of (places t) q)
       by None f = ap (set_by_each now adjustment adjusts q named) f ∙ set_none now adjustment adjusts q named ∙ none (adjusts_path line adjustment q) ∙ sym (ap (run (cond (adjusts_path line adjustment q) adjustment.sets [])) f)

@@ -1,5 +1,5 @@
 -- The definition of what lines leave at each path by itself gives what they leave, lines that copy among them.
-use Rattle.std.specs.Prelude.{◌≡◌, ◌≢◌, ℕ, ◌+◌, Bool, true, false, not, cond, ◌&&◌, List, [], ◌∷◌, ◌++◌, length, map, take, fold, Option, Some, None, is_some, option_map, unwrap_or}
+use Rattle.std.specs.Prelude.{◌≡◌, ◌≢◌, ℕ, Bool, true, false, not, cond, ◌&&◌, List, [], ◌∷◌, ◌++◌, length, map, take, fold, Option, Some, None, is_some, option_map, unwrap_or}
 use Rattle.std.proofs.Common.{refl, sym, arith, ap, subst, ◌∙◌, append_assoc}
 use Rattle.std.proofs.lemmas.List.{append-nil, take_all}
 use Rattle.std.specs.FinMap as fin
@@ -77,8 +77,7 @@ pub copy_idle : (now : ℕ) (copying : Copying) (path : Path) (t : Files) → is
 copy_idle now copying path t none = ap (λ b. cond b (turned now (Copy copying) path (decide (Copy copying) (view_of (prepare now path t)) path) (prepare now path t)) t) none
 
 or_second : {A : Type 0} (a b : Option A) → option_or a b ≡ None → b ≡ None
-or_second None b e = e
-or_second (Some x) b e = absurd (let no : Some x ≡ None = e in cc)
+or_second a b e = grind arith
 
 module _ (line : Line) (copying : Copying) (e : action_of line ≡ Copy copying) (t : Files) (free : refused_at line (path_in line.path) (places t) ≡ None) (there : is_some (places t copying.source) ≡ true) where
   copy_refusal : refusal (places t) (path_in line.path) (owner_made line (places t)) ≡ None

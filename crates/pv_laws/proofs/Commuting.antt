@@ -1,6 +1,6 @@
 -- Two lines of which neither reaches what the other may change leave the same in either order.
 use Rattle.std.specs.Prelude.{◌≡◌, ℕ, Bool, true, false, ◌&&◌, ◌||◌, List, [], ◌∷◌, ◌++◌, Option, Some, None, is_some}
-use Rattle.std.proofs.Common.{refl, sym, ap, subst, ◌∙◌, inl, inr}
+use Rattle.std.proofs.Common.{refl, sym, ap, subst, ◌∙◌, inl, inr, arith}
 use Rattle.std.proofs.lemmas.List.{append-nil}
 use Rattle.std.specs.List.{list_all}
 use Rattle.std.proofs.lemmas.Bool.{or_left, or_right, or_parts, and_parts, false_from_ne_true}
@@ -193,9 +193,7 @@ module _ (line : Line) (safe : IsSafe line) (now later : ℕ) (v w : Files) (sha
 -- ---- two lines
 
 filled_swap : (c d : Bool) (b : Option ObjectState) → filled c (filled d b) ≡ filled d (filled c b)
-filled_swap true true b = refl
-filled_swap true false b = refl
-filled_swap false d b = refl
+filled_swap c d b = grind arith
 
 module _ (a b : Line) (is_a : IsLine a) (is_b : IsLine b) (repeatable : IsRepeatable (a ∷ b ∷ [])) (meet_none : AreApart a b) (now later : ℕ) (t : Files) (tree : IsTree t)
     (quiet : one_is_refused (by_line now) (a ∷ b ∷ []) t ≡ false) (again : one_is_refused (by_line later) (b ∷ a ∷ []) t ≡ false) where
@@ -253,12 +251,10 @@ module _ (a b : Line) (is_a : IsLine a) (is_b : IsLine b) (repeatable : IsRepeat
       same_unnamed (object_states_of (places after_a)) (object_states_of (places t)) shape_a shape (copying.source ++ rest) unstaged (λ named. a_leaves (copying.source ++ rest) unstaged (free_a copying e rest named))
 
   second_false : (c d : Bool) → c ≡ true → (c && d) ≡ false → d ≡ false
-  second_false true d e h = h
-  second_false false d e h = impossible e
+  second_false c d e h = grind arith
 
   first_false : (c d : Bool) → d ≡ true → (c && d) ≡ false → c ≡ false
-  first_false true d e h = sym e ∙ h
-  first_false false d e h = refl
+  first_false c d e h = grind arith
 
   -- what the one line reaches, the other leaves
   b_leaves_reached : (r : Path) → has_staging r ≡ false → reaches a r ≡ true → object_states_of (places after_b) r ≡ object_states_of (places t) r

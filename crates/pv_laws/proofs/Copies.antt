@@ -1,6 +1,6 @@
 -- What a line that copies, and is not refused, leaves at each path by itself, stamps and staging names aside.
 use Rattle.std.specs.Prelude.{◌≡◌, ◌≢◌, ◌⊎◌, ℕ, Bool, true, false, not, cond, ◌&&◌, ◌||◌, List, [], ◌∷◌, ◌++◌, Option, Some, None, is_some, option_map, unwrap_or, if◌then◌else◌}
-use Rattle.std.proofs.Common.{refl, sym, ap, subst, ◌∙◌, inl, inr}
+use Rattle.std.proofs.Common.{refl, sym, ap, subst, ◌∙◌, inl, inr, arith}
 use Rattle.std.specs.FinMap as fin
 use Rattle.std.specs.List.{list_all}
 use Rattle.std.specs.Option.{option_map_or}
@@ -144,8 +144,7 @@ module _ (now : ℕ) (copying : Copying) (adjust : list_all is_adjustment copyin
   ]
     where
       by : (c : Bool) → filled c (Some b) ≡ Some b
-      by true = refl
-      by false = refl
+      by c = grind arith
 
   abbrev copy_turn : Turn
   copy_turn = copying_turn copying (view_of ready) path b.body.kind (object_states_of (places ready) path)
@@ -275,12 +274,10 @@ module _ (now : ℕ) (copying : Copying) (adjust : list_all is_adjustment copyin
       copied_point q plain = by (rest_under path q) refl
         where
           filled_in : (c : Option ObjectState) → filled true c ≡ Some (unwrap_or c parent_object_state)
-          filled_in None = refl
-          filled_in (Some x) = refl
+          filled_in c = grind arith
 
           none_above : (a c : Bool) → a ≡ false → (a && not c) ≡ false
-          none_above true c e = impossible (sym e)
-          none_above false c e = refl
+          none_above a c e = grind arith
 
           outside : rest_under path q ≡ None → (a : Bool) → is_prefix q path ≡ a → object_states_of (places ready) q ≡ filled a (object_states_of (places t) q) → left q ≡ given q (is_prefix q path && not (same_path q path)) (rest_under path q)
           outside e true f g =

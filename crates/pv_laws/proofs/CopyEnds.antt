@@ -1,6 +1,6 @@
 -- What two runs leave at and below the path of a line that copies, where one began on what the other had left on its way.
 use Rattle.std.specs.Prelude.{◌≡◌, ℕ, Bool, true, false, cond, ◌&&◌, ◌||◌, List, [], ◌∷◌, ◌++◌, take, Option, Some, None, is_some, option_map, if◌then◌else◌}
-use Rattle.std.proofs.Common.{refl, sym, ap, subst, ◌∙◌}
+use Rattle.std.proofs.Common.{refl, sym, ap, subst, ◌∙◌, arith}
 use Rattle.std.proofs.lemmas.List.{append-nil}
 use Rattle.std.specs.List.{list_all}
 use Rattle.std.proofs.lemmas.Bool.{or_parts}
@@ -196,9 +196,7 @@ module _ (line : Line) (safe : IsSafe line) (copying : Copying) (e : action_of l
       still_full x f s empty = by (is_directory b.body.kind) (is_childless (view_of t) p) (is_childless (view_of u) p) (childless_less u t p plain_path (stay x f s empty)) empty
         where
           by : (d v w : Bool) → (w ≡ true → v ≡ true) → (d && v) ≡ false → (d && w) ≡ false
-          by false v w h g = refl
-          by true v true h g = impossible (sym (sym (h refl) ∙ g))
-          by true v false h g = refl
+          by d v w h g = grind arith
 
       pub done_ends : (rest : Path) → has_staging rest ≡ false → IsRepeatable (ys rest) → run (ys rest) (after_turn (turn_at u) rest (inside p u rest)) ≡ run (ys rest) (after_turn (turn_at t) rest (inside p t rest))
       done_ends rest plain repeatable_there =

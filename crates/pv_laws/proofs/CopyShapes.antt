@@ -1,6 +1,6 @@
 -- What a line that copies leaves has the shape that the laws need, as what it found had it.
 use Rattle.std.specs.Prelude.{◌≡◌, ◌≢◌, ◌⊎◌, ℕ, Bool, true, false, cond, ◌&&◌, ◌||◌, List, [], ◌∷◌, ◌++◌, Option, Some, None, is_some, option_map, unwrap_or, if◌then◌else◌}
-use Rattle.std.proofs.Common.{refl, sym, ap, subst, ◌∙◌, inl, inr, append_assoc}
+use Rattle.std.proofs.Common.{refl, sym, ap, subst, ◌∙◌, inl, inr, append_assoc, arith}
 use Rattle.std.proofs.lemmas.List.{append-nil}
 use Rattle.std.specs.List.{list_all}
 use Rattle.std.proofs.lemmas.Option.{same_Some}
@@ -86,9 +86,7 @@ module _ (now : ℕ) (copying : Copying) (adjust : list_all is_adjustment copyin
       ∙ ready_else now path unstaged t shape q plain (λ same. (let there : Some [] ≡ None = sym (rest_under-self path) ∙ ap (rest_under path) (sym same) ∙ e in cc))
 
   keeps_dir : (above : Bool) (c : Option ObjectState) → is_dir c ≡ true → is_dir (filled above c) ≡ true
-  keeps_dir true None h = impossible h
-  keeps_dir true (Some x) h = h
-  keeps_dir false c h = h
+  keeps_dir above c h = grind arith
 
   -- ---- the tree whose path is prepared
 
@@ -110,8 +108,7 @@ module _ (now : ℕ) (copying : Copying) (adjust : list_all is_adjustment copyin
   high_dir p plain high other = at (old p) (pass p high other)
     where
       at : (c : Option ObjectState) → (is_some c ≡ true → is_dir c ≡ true) → is_dir (filled true c) ≡ true
-      at None h = refl
-      at (Some x) h = h refl
+      at c h = grind arith
 
   ready_dir : (p : Path) → has_staging p ≡ false → is_dir (old p) ≡ true → is_dir (ready p) ≡ true
   ready_dir p plain h = by (ready_is p plain)
@@ -158,8 +155,7 @@ module _ (now : ℕ) (copying : Copying) (adjust : list_all is_adjustment copyin
   copied_there name rest h = by (has_staging (name ∷ rest)) refl (sym (ap is_some (copy_below name rest)) ∙ h)
     where
       by : (c : Bool) → has_staging (name ∷ rest) ≡ c → is_some (cond c None (ready (copying.source ++ name ∷ rest))) ≡ true → (has_staging (name ∷ rest) ≡ false) × (is_some (ready (copying.source ++ name ∷ rest)) ≡ true)
-      by true e g = impossible g
-      by false e g = (e, g)
+      by c e g = grind arith
 
   source_above : (front back : Path) → is_prefix (copying.source ++ front) (copying.source ++ (front ++ back)) ≡ true
   source_above front back = subst (λ (p : Path). is_prefix (copying.source ++ front) p ≡ true) (append_assoc copying.source front back) (is_prefix-append (copying.source ++ front) back)

@@ -1,6 +1,6 @@
 -- What lines that are refused at no turn leave at each path by itself, stamps and staging names aside.
-use Rattle.std.specs.Prelude.{◌≡◌, ◌≢◌, ◌⊎◌, ℕ, Bool, true, false, not, cond, ◌&&◌, ◌||◌, ◌==◌, List, [], ◌∷◌, filter, find, Option, Some, None, is_some, option_map, unwrap_or}
-use Rattle.std.proofs.Common.{refl, sym, ap, subst, ◌∙◌, inl, inr}
+use Rattle.std.specs.Prelude.{◌≡◌, ◌≢◌, ◌⊎◌, ℕ, Bool, true, false, not, cond, ◌||◌, ◌==◌, List, [], ◌∷◌, filter, find, Option, Some, None, is_some, option_map, unwrap_or}
+use Rattle.std.proofs.Common.{refl, sym, ap, subst, ◌∙◌, inl, inr, arith}
 use Rattle.std.specs.List.{list_all, AllByRecursion}
 use Rattle.std.specs.FinMap as fin
 use Rattle.std.proofs.lemmas.Bool.{and_parts, not-false, or_parts}
@@ -83,14 +83,10 @@ row_holds : {A : Type 0} (rows : List (ℕ × A)) (test : A → Bool) (letter : 
 row_holds {A} rows test letter row e all = row_has (λ r. test r ≡ true) rows letter row e (each_holds (λ (entry : ℕ × A). test entry.1) rows all)
 
 needs : (a b : Bool) → b ≡ true → (a || not b) ≡ true → a ≡ true
-needs true b h g = refl
-needs false true h g = impossible g
-needs false false h g = impossible h
+needs a b h g = grind arith
 
 excludes : (a b : Bool) → a ≡ true → (not a || not b) ≡ true → b ≡ false
-excludes true false h g = refl
-excludes true true h g = impossible g
-excludes false b h g = impossible h
+excludes a b h g = grind arith
 
 -- whether an action copies
 abbrev is_copied : Action → Bool
@@ -151,9 +147,7 @@ module _ (line : Line) (is : IsLine line) where
       is_one = ap (λ (l : Line). is_copied (action_of l)) own_letter ∙ ap is_copied e
 
       at : (root copied_there : Bool) → copied_there ≡ true → (not root || not copied_there) ≡ true → root ≡ false
-      at true true m h = impossible h
-      at true false m h = impossible m
-      at false c m h = refl
+      at root copied_there m h = grind arith
 
   -- what creates names one path
   creates_literal : is.row.creates ≡ true → line.path ≡ Literal (path_in line.path)
@@ -280,8 +274,7 @@ made_passes line making e path t free p high other h =
     kind_dir (places t p) (unrefused_pass path (owner_made line (places t)) t (made_refusal line making e path t free) p (high, other) (there (places t p) h))
   where
     there : (o : Option Object) → is_some (option_map object_state_of o) ≡ true → is_some o ≡ true
-    there None g = g
-    there (Some x) g = refl
+    there o g = grind arith
 
 pub turns_made : (line : Line) (making : Making) (t : Files) → action_of line ≡ Create making → turns line t ≡ path_in line.path ∷ []
 turns_made line making t e = rw e

@@ -11,7 +11,7 @@ use Rattle.std.proofs.lemmas.Bool.{and_from, false_from_ne_true}
 use Rattle.pv_path.specs.Paths.{has_names, Path, same_path, is_prefix, rest_under, parent_of, has_staging, same_path-decides}
 use Rattle.pv_path.proofs.PathLaws.{same_path-refl, is_prefix-antisym, rest_under-self, rest_under-None, rest_under-Some, prefix_rest, same_path-no}
 use Rattle.pv_steps.specs.declared.node.Kind.{Kind}
-use Rattle.pv_steps.specs.declared.node.Kind.TheVariants.{Directory, File, Link, Fifo, CharDevice, BlockDevice}
+use Rattle.pv_steps.specs.declared.node.Kind.TheVariants.{Directory}
 use Rattle.pv_steps.specs.declared.object.Object.{Object}
 use Rattle.pv_steps.specs.Objects.{is_directory, modified}
 use Rattle.pv_steps.specs.Trees.{Files, Places, places}
@@ -71,19 +71,15 @@ same_unnamed a b shape_a shape_b q plain same = by (has_names q) refl
     by false e = nothing_unnamed a shape_a q plain e ∙ sym (nothing_unnamed b shape_b q plain e)
 
 pub dir_there : (b : Option ObjectState) → is_dir b ≡ true → is_some b ≡ true
-dir_there None h = impossible h
-dir_there (Some x) h = refl
+dir_there b h = grind arith
 
 -- ---- a new object put in the place of all that stood at and below a path
 
 stamped : (now : ℕ) (b : Bool) (o : Option Object) → option_map object_state_of (cond b (option_map (modified now) o) o) ≡ option_map object_state_of o
-stamped now true None = refl
-stamped now true (Some x) = refl
-stamped now false o = refl
+stamped now b o = grind arith
 
-new_object_states : (now : ℕ) (o : Option ObjectState) → option_map object_state_of (option_map (object_of now) o) ≡ o
-new_object_states now None = refl
-new_object_states now (Some b) = refl
+pub new_object_states : (now : ℕ) (o : Option ObjectState) → option_map object_state_of (option_map (object_of now) o) ≡ o
+new_object_states now o = grind arith
 
 module _ (now : ℕ) (path : Path) (subtree : Subtree) (t : Places) (q : Path) where
   pub put-outside : rest_under path q ≡ None → object_states_of (with_subtree now path subtree t) q ≡ object_states_of t q
@@ -196,16 +192,10 @@ module _ (making : Making) (is : IsMaking making) where
   -- ---- what lies below the path
 
   directory_is : (kind : Kind) → is_directory kind ≡ true → kind ≡ Directory
-  directory_is Directory h = refl
-  directory_is kind h = impossible h
+  directory_is kind h = grind arith
 
   pub new_numbers : (what : NewKind) → is_directory (new_kind what) ≡ true → (new_major what ≡ 0) × (new_minor what ≡ 0)
-  new_numbers new.Directory h = (refl, refl)
-  new_numbers (new.File content) h = impossible h
-  new_numbers (new.Link target) h = impossible h
-  new_numbers new.Fifo h = impossible h
-  new_numbers (new.Device true major minor) h = impossible h
-  new_numbers (new.Device false major minor) h = impossible h
+  new_numbers what h = grind arith
 
   pub clears_none : making.renew ≡ None → clears_below making ≡ false
   clears_none e = rw e
@@ -224,12 +214,7 @@ module _ (making : Making) (is : IsMaking making) where
   kind_of_directory own kind h = ap (same_kind own) (directory_is kind h) ∙ by own
     where
       by : (k : Kind) → same_kind k Directory ≡ is_directory k
-      by Directory = refl
-      by File = refl
-      by Link = refl
-      by Fifo = refl
-      by CharDevice = refl
-      by BlockDevice = refl
+      by k = grind arith
 
   same_directory : (x : ObjectState) → IsPlainDirectory x → is_directory (new_kind making.new.what) ≡ true → same_substance new_object_state.body x.body ≡ true
   same_directory x dir own =
@@ -241,13 +226,7 @@ module _ (making : Making) (is : IsMaking making) where
       (eqb_zero new_object_state.body.minor x.body.minor numbers.1 dir.2)
 
   stays_or_cleared : (own exact same spares : Bool) → (own ≡ true → same ≡ true) → ((own && (not exact || same)) || (spares && true)) ≡ not (not spares && not own)
-  stays_or_cleared true true true true h = refl
-  stays_or_cleared true true true false h = refl
-  stays_or_cleared true true false spares h = impossible (h refl)
-  stays_or_cleared true false same true h = refl
-  stays_or_cleared true false same false h = refl
-  stays_or_cleared false exact same true h = refl
-  stays_or_cleared false exact same false h = refl
+  stays_or_cleared own exact same spares h = grind arith
 
   -- a directory stays where what lies below it is not cleared, and goes where it is
   pub directory_stays : (x : ObjectState) → IsPlainDirectory x → does_stay making.renew x ≡ not (clears_below making)

@@ -1,6 +1,6 @@
 -- A run that was cut short is mended at each path that lies neither at nor below a path to which a line copies what is there.
 use Rattle.std.specs.Prelude.{◌≡◌, ℕ, Bool, true, false, cond, List, [], ◌∷◌, map, take, Option, Some, None, is_some}
-use Rattle.std.proofs.Common.{suc, refl, sym, ap, subst, ◌∙◌, inl, inr}
+use Rattle.std.proofs.Common.{suc, refl, sym, ap, subst, ◌∙◌, inl, inr, arith}
 use Rattle.std.specs.List.{list_all, AllByRecursion}
 use Rattle.std.proofs.lemmas.Bool.{or_parts}
 use Rattle.pv_path.specs.Paths.{Path, same_path, is_prefix, has_staging}
@@ -55,9 +55,8 @@ IsThereAlike t u line = (copying : Copying) → action_of line ≡ Copy copying 
 abbrev pub IsFreeOf : Line → Line → Type 0
 IsFreeOf line copier = (copying : Copying) → action_of copier ≡ Copy copying → governs line copying.source ≡ false
 
-parent_done : (b : Bool) (c : Option ObjectState) → filled b c ≡ run (cond b (Make parent_object_state ∷ []) []) c
-parent_done true c = refl
-parent_done false c = refl
+pub parent_done : (b : Bool) (c : Option ObjectState) → filled b c ≡ run (cond b (Make parent_object_state ∷ []) []) c
+parent_done b c = grind arith
 
 -- ---- one line
 

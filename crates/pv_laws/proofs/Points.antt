@@ -1,6 +1,6 @@
 -- The definition of what lines leave at each path by itself gives what they leave, stamps and staging names aside.
-use Rattle.std.specs.Prelude.{◌≡◌, ◌≢◌, ℕ, Bool, true, false, not, cond, ◌&&◌, ◌||◌, List, [], ◌∷◌, ◌++◌, take, Option, Some, None, is_some, option_map, unwrap_or}
-use Rattle.std.proofs.Common.{zero, suc, refl, sym, ap, subst, ◌∙◌, inl, inr}
+use Rattle.std.specs.Prelude.{◌≡◌, ℕ, Bool, true, false, not, cond, ◌&&◌, ◌||◌, List, [], ◌∷◌, ◌++◌, take, Option, Some, None, is_some, option_map, unwrap_or}
+use Rattle.std.proofs.Common.{zero, suc, refl, sym, ap, subst, ◌∙◌, inl, inr, arith}
 use Rattle.std.proofs.lemmas.List.{append-nil}
 use Rattle.std.specs.FinMap as fin
 use Rattle.std.specs.FinMap.Entries as entries
@@ -57,9 +57,7 @@ find-object_states_at (path ∷ paths) f q = by (f path) refl (find-object_state
     by (Some x) e rest = ap (cond (eq_by_cmp path_cmp q path) (Some x)) rest ∙ shown (eq_by_cmp path_cmp q path) (is_among q paths) x (f q) (λ h. same h ∙ e)
 
 covered : (b : Bool) (o : Option ObjectState) → (is_some o ≡ true → b ≡ true) → cond b o None ≡ o
-covered true o h = refl
-covered false None h = refl
-covered false (Some x) h = impossible (h refl)
+covered b o h = grind arith
 
 pub get-tabulated : (paths : List Path) (f : Path → Option ObjectState) (q : Path) → (is_some (f q) ≡ true → is_among q paths ≡ true) → fin.get (tabulated paths f) q ≡ f q
 get-tabulated paths f q holds = fin.get-from_entries path_total (object_states_at paths f) q ∙ find-object_states_at paths f q ∙ covered (is_among q paths) (f q) holds
@@ -100,8 +98,7 @@ module _ (line : Line) (is : IsPlain line) (s : ObjectStates) (shape : IsShaped 
         ∙ sym (ap (λ xs. run xs (fin.get s q)) (asked_here making path q ((same_path-decides path q).1 same)))
       where
         none : (b : Bool) → (b && not true) ≡ false
-        none true = refl
-        none false = refl
+        none b = grind arith
 
     made_above : same_path path q ≡ false → same_path q path ≡ false → is_prefix q path ≡ true → given (is_prefix q path && not (same_path q path)) (rest_under path q) ≡ run (made_at making path q) (fin.get s q)
     made_above d c high =
@@ -111,8 +108,7 @@ module _ (line : Line) (is : IsPlain line) (s : ObjectStates) (shape : IsShaped 
         ∙ sym (ap (λ xs. run xs (fin.get s q)) (asked_above making path q d high))
       where
         filled : (b : Option ObjectState) → Some (unwrap_or b parent_object_state) ≡ done (Make parent_object_state) b
-        filled None = refl
-        filled (Some x) = refl
+        filled b = grind arith
 
     made_else : same_path path q ≡ false → is_prefix q path ≡ false → given (is_prefix q path && not (same_path q path)) (rest_under path q) ≡ run (made_at making path q) (fin.get s q)
     made_else d high =
@@ -150,8 +146,7 @@ module _ (line : Line) (is : IsPlain line) (s : ObjectStates) (shape : IsShaped 
   point_asked = by (action_of line) refl
     where
       either : (b : Bool) (xs : List Operation) → cond b (run xs (fin.get s q)) (fin.get s q) ≡ run (cond b xs []) (fin.get s q)
-      either true xs = refl
-      either false xs = refl
+      either b xs = grind arith
 
       by : (d : Action) → action_of line ≡ d → point line s q ≡ run (operations line q) (fin.get s q)
       by (Create making) e = point_made line making s q e ∙ made_given making e ∙ ap (λ xs. run xs (fin.get s q)) (sym (asked_made line making q e))

@@ -1,7 +1,7 @@
 -- What preparing a path leaves at each path, stamps and staging names aside: a parent above the path where nothing stood,
 -- and elsewhere what stood there.
 use Rattle.std.specs.Prelude.{◌≡◌, ◌≢◌, ℕ, Bool, true, false, cond, ◌&&◌, ◌||◌, List, [], ◌∷◌, fold, Option, Some, None, is_some, option_map}
-use Rattle.std.proofs.Common.{refl, sym, ap, ◌∙◌}
+use Rattle.std.proofs.Common.{refl, sym, ap, ◌∙◌, arith}
 use Rattle.std.proofs.lemmas.Bool.{or_parts}
 use Rattle.pv_path.specs.Paths.{Path, same_path, is_prefix, parent_of, has_staging, same_path-decides}
 use Rattle.pv_steps.specs.declared.object.Object.{Object}
@@ -65,10 +65,7 @@ module _ (now : ℕ) where
           ∙ present x e (same_path p q) refl
 
   twice : (a b : Bool) (o : Option ObjectState) → filled b (filled a o) ≡ filled (a || b) o
-  twice true true None = refl
-  twice true true (Some x) = refl
-  twice true false o = refl
-  twice false b o = refl
+  twice a b o = grind arith
 
   -- some places made where they are absent
   all_made-at : (ps : List Path) (t : Places) (q : Path) → object_states_of (fold (with_parent now) t ps) q ≡ filled (stands_in q ps) (object_states_of t q)
@@ -104,8 +101,7 @@ module _ (now : ℕ) (path : Path) (t : Places) where
       ∙ by q (is_prefix q path)
     where
       there : (b : Option ObjectState) → is_some b ≡ true → b ≡ done (Make parent_object_state) b
-      there None h = absurd (let no : false ≡ true = h in cc)
-      there (Some x) h = refl
+      there b h = grind arith
 
       by : (r : Path) (b : Bool) → filled (b && has_some r) (object_states_of t r) ≡ filled b (object_states_of t r)
       by [] true = there (object_states_of t []) root
@@ -116,8 +112,7 @@ module _ (now : ℕ) (path : Path) (t : Places) where
 -- ---- presence
 
 pub object_state_some : (o : Option Object) → is_some (option_map object_state_of o) ≡ is_some o
-object_state_some None = refl
-object_state_some (Some x) = refl
+object_state_some o = grind arith
 
 -- what follows from each value that may be there follows where one is
 pub with_some : {A P : Type 0} (o : Option A) → is_some o ≡ true → ((x : A) → o ≡ Some x → P) → P

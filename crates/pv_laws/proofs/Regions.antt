@@ -1,6 +1,6 @@
 -- Lines that are carried out before one that copies leave all at and below its path as it is.
 use Rattle.std.specs.Prelude.{◌≡◌, ◌≢◌, ◌⊎◌, ℕ, Bool, true, false, not, cond, ◌&&◌, ◌||◌, List, [], ◌∷◌, ◌++◌, take, Option, Some, None, is_some}
-use Rattle.std.proofs.Common.{zero, suc, refl, sym, ap, subst, ◌∙◌, inl, inr}
+use Rattle.std.proofs.Common.{zero, suc, refl, sym, ap, subst, ◌∙◌, inl, inr, arith}
 use Rattle.std.specs.List.{list_all, AllByRecursion}
 use Rattle.std.proofs.lemmas.Bool.{or_parts, and_parts, false_from_ne_true}
 use Rattle.pv_path.specs.Paths.{Path, is_prefix, has_staging}
@@ -113,9 +113,7 @@ module _ (making : Making) (is : IsMaking making) (clears : clears_below making 
   own_no_dir test e = by test.spares_directories (is_directory (new_kind making.new.what)) (sym (clears_some making is test e) ∙ clears)
     where
       by : (a b : Bool) → (not a && not b) ≡ true → (a ≡ false) × (b ≡ false)
-      by false false h = (refl, refl)
-      by false true h = impossible h
-      by true b h = impossible h
+      by a b h = grind arith
 
   same_no_dir : (own kind : Kind) → is_directory own ≡ false → same_kind own kind ≡ true → is_directory kind ≡ false
   same_no_dir own kind h s = sym (ap is_directory (same_kind-true own kind s)) ∙ h

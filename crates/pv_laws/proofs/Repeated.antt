@@ -93,8 +93,7 @@ pub deep_reaches : (line : Line) (d : Action) → action_of line ≡ d → is_de
 deep_reaches line d e h = or_four (is_deep (action_of line)) _ _ _ _ (ap is_deep e ∙ h)
   where
     or_four : (a b c x y : Bool) → a ≡ true → (a || b || c || x || y) ≡ true
-    or_four true b c x y i = refl
-    or_four false b c x y i = impossible i
+    or_four a b c x y i = grind arith
 
 -- what a line changes somewhere, it sets
 pub asked_sets : (test : Change → Bool) (line : Line) (q : Path) → list_any (is_adjusting test) (operations line q) ≡ true → list_any (is_adjusting test) (sets_of (action_of line)) ≡ true

@@ -7,7 +7,7 @@ use Rattle.std.specs.Option.{option_map_or}
 use Rattle.std.proofs.lemmas.List.Folds.{list_any-append, list_all-append}
 use Rattle.pv_acl.specs.Parts.{part_of_mode, special_of}
 use Rattle.pv_steps.specs.declared.node.Kind.{Kind}
-use Rattle.pv_steps.specs.declared.node.Kind.TheVariants.{Directory, File, Link, Fifo, CharDevice, BlockDevice}
+use Rattle.pv_steps.specs.declared.node.Kind.TheVariants.{Directory, File, Link, Fifo}
 use Rattle.pv_steps.specs.Objects.{is_directory}
 use Rattle.pv_metadata.specs.declared.object_state.ObjectState.{ObjectState}
 use Rattle.pv_metadata.specs.declared.operation.Change.TheVariants.{Write, Append, Owner, Mode}
@@ -62,19 +62,10 @@ find_row P line f (row ∷ rows) each none =
     ]
 
 link_is_no_file : (a : Argument) → is_file (new_kind (link_to a)) ≡ false
-link_is_no_file (argument.FileBytes bytes) = refl
-link_is_no_file (argument.WriteBytes bytes) = refl
-link_is_no_file (argument.Target target) = refl
-link_is_no_file (argument.Source source) = refl
-link_is_no_file (argument.Device major minor) = refl
-link_is_no_file (argument.Entries entries) = refl
-link_is_no_file (argument.Attrs attrs) = refl
-link_is_no_file (argument.Letters how letters) = refl
-link_is_no_file argument.Ignored = refl
+link_is_no_file a = grind arith
 
 numbered_is_no_file : (block : Bool) (major minor : ℕ) → is_file (new_kind (new.Device block major minor)) ≡ false
-numbered_is_no_file true major minor = refl
-numbered_is_no_file false major minor = refl
+numbered_is_no_file block major minor = grind arith
 
 device_is_no_file : (block : Bool) (a : Argument) → is_file (new_kind (device block a)) ≡ false
 device_is_no_file block (argument.FileBytes bytes) = numbered_is_no_file block 0 0
@@ -162,15 +153,7 @@ contents_adjust line kind =
     elim (line.plus && is_file kind) as (λ b. list_all is_adjustment (cond b (Apply (Only File) (Write (bytes_of line.argument)) ∷ []) []) ≡ true) [ true ↦ refl | false ↦ refl ]
 
 argument_adjusts : (plus : Bool) (a : Argument) → list_all is_adjustment (set_by plus a) ≡ true
-argument_adjusts plus (argument.FileBytes bytes) = refl
-argument_adjusts plus (argument.WriteBytes bytes) = refl
-argument_adjusts plus (argument.Target target) = refl
-argument_adjusts plus (argument.Source source) = refl
-argument_adjusts plus (argument.Device major minor) = refl
-argument_adjusts plus (argument.Entries entries) = refl
-argument_adjusts plus (argument.Attrs attrs) = refl
-argument_adjusts plus (argument.Letters how letters) = refl
-argument_adjusts plus argument.Ignored = refl
+argument_adjusts plus a = grind arith
 
 -- what a line sets, it adjusts
 pub sets_adjust : (line : Line) (action : Action) → IsAsked line action → list_all is_adjustment (sets_of action) ≡ true
@@ -258,13 +241,7 @@ only_contents : (line : Line) (what : NewKind) → AllByRecursion (IsOnly (new_k
 only_contents line what = by (new_kind what) line.plus
   where
     by : (kind : Kind) (plus : Bool) → AllByRecursion (IsOnly kind) (cond (plus && is_file kind) (Apply (Only File) (Write (bytes_of line.argument)) ∷ []) [])
-    by kind false = tt
-    by Directory true = tt
-    by File true = (refl, tt)
-    by Link true = tt
-    by Fifo true = tt
-    by CharDevice true = tt
-    by BlockDevice true = tt
+    by kind plus = grind arith
 
 only_mode : (mode : Option LineMode) (kind : Kind) → AllByRecursion (IsOnly kind) (mode_to_set mode (without_links (Only kind)))
 only_mode None kind = tt
@@ -463,15 +440,7 @@ owners_give_none : (guard : Guard) (line : Line) → list_any (is_adjusting give
 owners_give_none guard line = (mode_gives_none line.mode (without_links guard)).0
 
 argument_masks_none : (plus : Bool) (a : Argument) → (list_any (is_adjusting is_masked) (set_by plus a) ≡ false) × (has_append (set_by plus a) ≡ false)
-argument_masks_none plus (argument.FileBytes bytes) = (refl, refl)
-argument_masks_none plus (argument.WriteBytes bytes) = (refl, refl)
-argument_masks_none plus (argument.Target target) = (refl, refl)
-argument_masks_none plus (argument.Source source) = (refl, refl)
-argument_masks_none plus (argument.Device major minor) = (refl, refl)
-argument_masks_none plus (argument.Entries entries) = (refl, refl)
-argument_masks_none plus (argument.Attrs attrs) = (refl, refl)
-argument_masks_none plus (argument.Letters how letters) = (refl, refl)
-argument_masks_none plus argument.Ignored = (refl, refl)
+argument_masks_none plus a = grind arith
 
 unmixed_by_base : (xs : List Operation) → list_any (is_adjusting gives_base) xs ≡ false → has_mixed_mask xs ≡ false
 unmixed_by_base xs h = ap (λ b. list_any (is_adjusting is_masked) xs && b) h ∙ elim (list_any (is_adjusting is_masked) xs) as (λ b. (b && false) ≡ false) [ true ↦ refl | false ↦ refl ]

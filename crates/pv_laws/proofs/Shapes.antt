@@ -1,6 +1,6 @@
 -- What lines leave has the shape that the laws need, as what they found had it.
 use Rattle.std.specs.Prelude.{◌≡◌, ◌≢◌, ◌⊎◌, ℕ, Bool, true, false, not, cond, ◌&&◌, List, [], ◌∷◌, ◌++◌, Option, Some, None, is_some, option_map}
-use Rattle.std.proofs.Common.{refl, sym, ap, subst, ◌∙◌, inl, inr}
+use Rattle.std.proofs.Common.{refl, sym, ap, subst, ◌∙◌, inl, inr, arith}
 use Rattle.std.proofs.lemmas.Bool.{false_from_ne_true}
 use Rattle.std.specs.List.{list_all}
 use Rattle.std.proofs.lemmas.List.{append-nil}
@@ -63,8 +63,7 @@ plain_prefix p q above plain = false_from_ne_true _ (λ e. true_not_false (has_s
 
 -- where nothing stands but a directory, one stands once a parent is put
 pub parent_dir : (b : Option ObjectState) → (is_some b ≡ true → is_dir b ≡ true) → is_dir (done (Make parent_object_state) b) ≡ true
-parent_dir None h = refl
-parent_dir (Some x) h = h refl
+parent_dir b h = grind arith
 
 -- ---- what a making leaves
 
@@ -117,8 +116,7 @@ module _ (making : Making) (is : IsMaking making) (path : Path) (unstaged : has_
   still_there q d above there = by (is_prefix path q && clears_below making) refl (sym (ap is_some (else_made q d above)) ∙ there)
     where
       by : (b : Bool) → (is_prefix path q && clears_below making) ≡ b → is_some (run (cond b (Erase ∷ []) []) (a q)) ≡ true → ((is_prefix path q && clears_below making) ≡ false) × (is_some (a q) ≡ true)
-      by true e h = impossible h
-      by false e h = (e, h)
+      by b e h = grind arith
 
   -- a directory in which something is left stays
   dir_stays : (p q : Path) → is_prefix p q ≡ true → (is_prefix path q && clears_below making) ≡ false → has_staging p ≡ false → is_dir (a p) ≡ true → is_dir (made p) ≡ true
@@ -131,8 +129,7 @@ module _ (making : Making) (is : IsMaking making) (path : Path) (unstaged : has_
       clears_not below = sym (ap (λ b. b && clears_below making) below) ∙ keeps
 
       dir_some : (b : Option ObjectState) → is_dir b ≡ true → (x : ObjectState) × (b ≡ Some x) × (is_directory x.body.kind ≡ true)
-      dir_some None h = impossible h
-      dir_some (Some x) h = (x, refl, h)
+      dir_some b h = grind arith
 
       at_path : is_prefix path q ≡ true → is_dir (a path) ≡ true → path ≡ p → is_dir (made p) ≡ true
       at_path below h e = subst (λ (r : Path). is_dir (made r) ≡ true) e (
@@ -277,8 +274,7 @@ tree_shaped t tree = record { root = kind_dir (t []) tree.root; above = above; p
         by (name ∷ rest) e = kind_dir (t p) (directory_above t tree p name rest (ap (λ (x : Path). is_some (t x)) (sym e) ∙ sym (object_state_some (t q)) ∙ there))
 
     fitting : (kind : Kind) (major minor : ℕ) → is_directory kind ≡ true → NumbersFit kind major minor → (major ≡ 0) × (minor ≡ 0)
-    fitting Directory major minor h fit = fit
-    fitting kind major minor h fit = impossible h
+    fitting kind major minor h fit = grind arith
 
     plain : (q : Path) (x : ObjectState) → has_staging q ≡ false → object_states_of t q ≡ Some x → is_directory x.body.kind ≡ true → (x.body.major ≡ 0) × (x.body.minor ≡ 0)
     plain q x unstaged e h = by (t q) refl e

@@ -1,7 +1,7 @@
 -- What one line leaves by the definition of each path by itself, from any map that has the shape of a tree; no walk is asked
 -- for, so that nothing is refused.
 use Rattle.std.specs.Prelude.{⊤, ◌≡◌, ◌≢◌, ◌⊎◌, Bool, true, false, cond, List, [], ◌∷◌, ◌++◌, map, fold, Option, Some, None, is_some, option_map}
-use Rattle.std.proofs.Common.{refl, sym, ap, subst, ◌∙◌, inl, inr}
+use Rattle.std.proofs.Common.{refl, sym, ap, subst, ◌∙◌, inl, inr, arith}
 use Rattle.std.specs.FinMap as fin
 use Rattle.std.specs.List.{list_all, AllByRecursion}
 use Rattle.pv_path.specs.Paths.{Path, is_prefix, same_path, has_staging}
@@ -10,7 +10,6 @@ use Rattle.pv_path.proofs.Tests.{true_not_false}
 use Rattle.pv_steps.specs.Trees.{Files, Places, places, tabulate}
 use Rattle.pv_steps.proofs.StepLaws.{places-tabulate}
 use Rattle.pv_metadata.specs.declared.object_state.ObjectState.{ObjectState}
-use Rattle.pv_metadata.specs.declared.operation.Operation.TheVariants.{Make}
 use Rattle.pv_metadata.specs.Dividing.{parts}
 use Rattle.pv_metadata.specs.Nodes.{object_state_of, object_states_of}
 use Rattle.pv_metadata.specs.Operations.{run}
@@ -26,7 +25,7 @@ use Rattle.pv_table.specs.declared.action.Adjustment.{Adjustment}
 use Rattle.pv_table.specs.Asked.{made_at, operations, operations_of}
 use Rattle.pv_table.specs.ActionTable.{action_of}
 use Rattle.pv_table.specs.Effects.{carried_out}
-use Rattle.pv_table.specs.Pointwise.{ObjectStates, parent_object_state, after_turn, at_made, adjusts_path, point, pointwise_after}
+use Rattle.pv_table.specs.Pointwise.{ObjectStates, after_turn, at_made, adjusts_path, point, pointwise_after}
 use Rattle.pv_table.specs.Reaching.{path_in, governs}
 use Rattle.pv_table.specs.Repeatable.{sets_of}
 use Rattle.pv_table.specs.Turns.{copied}
@@ -37,9 +36,9 @@ use Rattle.pv_laws.proofs.CopyEnds.{inside, inside_is, below_plain, turn_at}
 use Rattle.pv_laws.proofs.CopyShapes.{at_outside, copied_shaped}
 use Rattle.pv_laws.proofs.Frames.{ungoverned, asks_nothing}
 use Rattle.pv_laws.proofs.Lines.{IsPlain, line_is_plain, path_named, copy_path, copy_source, asked_made, asked_adjustment, asked_idle, copies_or_not}
-use Rattle.pv_laws.proofs.Making.{is_dir, IsShaped}
+use Rattle.pv_laws.proofs.Making.{is_dir, IsShaped, new_object_states}
 use Rattle.pv_laws.proofs.Orders.{Pairwise}
-use Rattle.pv_laws.proofs.Parents.{IsOutside, IsFreeOf}
+use Rattle.pv_laws.proofs.Parents.{IsOutside, IsFreeOf, parent_done}
 use Rattle.pv_laws.proofs.Points.{point_asked}
 use Rattle.pv_laws.proofs.Prepared.{filled, with_some}
 use Rattle.pv_laws.proofs.Repeated.{asked_copy}
@@ -53,13 +52,8 @@ use Rattle.pv_laws.proofs.Swapped as swaps
 abbrev objects : ObjectStates → Places
 objects s q = option_map (object_of 0) (fin.get s q)
 
-state_of_object : (b : Option ObjectState) → option_map object_state_of (option_map (object_of 0) b) ≡ b
-state_of_object None = refl
-state_of_object (Some x) = refl
-
 object_some : (b : Option ObjectState) → is_some (option_map (object_of 0) b) ≡ is_some b
-object_some None = refl
-object_some (Some x) = refl
+object_some b = grind arith
 
 -- each map is what stands in some tree, stamps aside
 pub tree_of : (s : ObjectStates) → (v : Files) × ((q : Path) → fin.get s q ≡ object_states_of (places v) q)
@@ -67,7 +61,7 @@ tree_of s = (
   tabulate (fin.keys s) (objects s),
   λ q. sym (
       ap (option_map object_state_of) (places-tabulate (fin.keys s) (objects s) q (λ h. sym (fin.contains_key-keys s q) ∙ sym (object_some (fin.get s q)) ∙ h))
-      ∙ state_of_object (fin.get s q)),
+      ∙ new_object_states 0 (fin.get s q)),
 )
 
 -- ---- one line
@@ -87,10 +81,6 @@ IsAlikeIn t s line = (copying : Copying) → action_of line ≡ Copy copying →
 
 point_copied : (line : Line) (copying : Copying) (s : ObjectStates) (q : Path) → action_of line ≡ Copy copying → point line s q ≡ cond (is_some (fin.get s copying.source)) (at_made (Copy copying) (path_in line.path) s q) (fin.get s q)
 point_copied line copying s q e = rw e
-
-parent_done : (b : Bool) (c : Option ObjectState) → filled b c ≡ run (cond b (Make parent_object_state ∷ []) []) c
-parent_done true c = refl
-parent_done false c = refl
 
 module _ (line : Line) (safe : IsSafe line) (s : ObjectStates) (shape : IsShaped (fin.get s)) where
   abbrev path : Path

@@ -1,6 +1,6 @@
 -- Beside the paths to which lines copy what is there, such a line does what a line that makes a directory there does.
 use Rattle.std.specs.Prelude.{◌≡◌, ◌⊎◌, ℕ, ◌+◌, Bool, true, false, not, cond, ◌&&◌, ◌||◌, List, [], ◌∷◌, ◌++◌, map, filter, fold, Option, Some, None, is_some, option_map, slice_get}
-use Rattle.std.proofs.Common.{refl, sym, ap, subst, ◌∙◌, inl, inr}
+use Rattle.std.proofs.Common.{refl, sym, ap, subst, ◌∙◌, inl, inr, arith}
 use Rattle.std.proofs.lemmas.List.{map-append}
 use Rattle.std.proofs.lemmas.Option.{slice_get-map}
 use Rattle.std.specs.List.{list_any, enumerate_from, AllByRecursion}
@@ -53,8 +53,7 @@ directory_asks line q other = made _ refl
     clears action = false
 
     none_goes : (b : Bool) → cond (b && false) (Erase ∷ []) [] ≡ []
-    none_goes true = refl
-    none_goes false = refl
+    none_goes b = grind arith
 
     made : (making : Making) → action_of (object_state_directory line) ≡ Create making → operations (object_state_directory line) q ≡ cond (is_prefix q (path_in line.path)) (Make parent_object_state ∷ []) []
     made making e = asked_made (object_state_directory line) making q e ∙ at (is_prefix q (path_in line.path)) refl
@@ -201,8 +200,7 @@ module _ (t : Files) where
   named_alone line q h = by (names line q) h
     where
       by : (b : Bool) → (b || false) ≡ true → b ≡ true
-      by true g = refl
-      by false g = impossible g
+      by b g = grind arith
 
   -- a line has what the line in its place has, if it has what a directory in its place would have
   fewer : (test : Line → Bool) (line : Line) → (test (object_state_directory line) ≡ true → test line ≡ true) → test (swapped t line) ≡ true → test line ≡ true
@@ -245,12 +243,10 @@ module _ (t : Files) where
   contents_less line = fewer changes_content line (λ h. or_four (is_creating line) _ _ _ (at (is_creating line) h))
     where
       at : (b : Bool) → (b || false || false || false) ≡ true → b ≡ true
-      at true k = refl
-      at false k = impossible k
+      at b k = grind arith
 
       or_four : (a b c d : Bool) → a ≡ true → (a || b || c || d) ≡ true
-      or_four true b c d k = refl
-      or_four false b c d k = impossible k
+      or_four a b c d k = grind arith
 
   pub swapped_repeatable : (lines : List Line) → IsRepeatable lines → IsRepeatable (map (swapped t) lines)
   swapped_repeatable lines repeatable i r reason = repeatable i r (by r reason)

@@ -1,6 +1,6 @@
 -- What a line that copies sets of an object that stays changes nothing of its own copy.
 use Rattle.std.specs.Prelude.{◌≡◌, ℕ, ◌%◌, Bool, true, false, List, ◌∷◌, Option, Some, None, unwrap_or}
-use Rattle.std.proofs.Common.{refl, sym, ap, ◌∙◌}
+use Rattle.std.proofs.Common.{refl, sym, ap, ◌∙◌, arith}
 use Rattle.pv_acl.specs.declared.part.Part.{Part}
 use Rattle.pv_acl.specs.Parts as parts
 use Rattle.pv_acl.specs.Parts.{special_of}
@@ -90,13 +90,7 @@ mode_again line (Some mode) b kind = by kind mode.new_only mode.masked
     by BlockDevice false true = ap (λ (x : ObjectState). Some x) (low_special line b BlockDevice mode.value)
 
 top_owners : (line : Line) (mode : Option LineMode) (b : ObjectState) (kind : Kind) → ((topped_by (copied_by (record line { mode = mode })) (of_kind b kind)).metadata.uid ≡ unwrap_or (id_for_new line.user) b.metadata.uid) × ((topped_by (copied_by (record line { mode = mode })) (of_kind b kind)).metadata.gid ≡ unwrap_or (id_for_new line.group) b.metadata.gid)
-top_owners line None b kind = (refl, refl)
-top_owners line (Some mode) b Directory = (refl, refl)
-top_owners line (Some mode) b File = (refl, refl)
-top_owners line (Some mode) b Link = (refl, refl)
-top_owners line (Some mode) b Fifo = (refl, refl)
-top_owners line (Some mode) b CharDevice = (refl, refl)
-top_owners line (Some mode) b BlockDevice = (refl, refl)
+top_owners line mode b kind = grind arith
 
 -- so all that is set changes nothing of it
 pub top_again : (line : Line) (b : ObjectState) → run (copied_by line).sets (Some (topped_by (copied_by line) b)) ≡ Some (topped_by (copied_by line) b)
