@@ -15,7 +15,6 @@ use Rattle.pv_metadata.proofs.EditLaws.{path_cases}
 use Rattle.pv_metadata.proofs.OperationLaws.{object_states-same}
 use Rattle.pv_lines.specs.declared.line.Line.{Line}
 use Rattle.pv_lines.specs.declared.line.LinePath.{LinePath}
-use Rattle.pv_lines.specs.declared.line.LinePath.TheVariants.{Literal, Glob}
 use Rattle.pv_lines.specs.Lines.{IsLine}
 use Rattle.pv_table.specs.declared.action.Copying.{Copying}
 use Rattle.pv_table.specs.declared.action.Action.{Action}
@@ -52,8 +51,7 @@ own_name : (line : Line) → is_creating line ≡ true → (q : Path) → names 
 own_name line creates q = by line.path creates
   where
     by : (path : LinePath) → is_creating (record line { path = path }) ≡ true → names (record line { path = path }) q ≡ same_path (path_in path) q
-    by (Literal path) h = refl
-    by (Glob pattern) h = impossible h
+    by path h = grind arith
 
 -- a line that copies reaches its path and all below it
 copy_reaches : (line : Line) → IsLine line → (copying : Copying) → action_of line ≡ Copy copying → (q : Path) → is_prefix (path_in line.path) q ≡ true → reaches line q ≡ true

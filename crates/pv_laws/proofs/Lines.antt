@@ -154,8 +154,7 @@ module _ (line : Line) (is : IsLine line) where
   creates_literal creates = by line.path is.fits.path creates
     where
       by : (p : LinePath) → IsLinePath is.row p → is.row.creates ≡ true → p ≡ Literal (path_in p)
-      by (Literal path) fits c = refl
-      by (Glob pattern) fits c = impossible (sym fits.0 ∙ c)
+      by p fits c = grind arith
 
   pub copy_literal : (copying : Copying) → action_of line ≡ Copy copying → line.path ≡ Literal (path_in line.path)
   copy_literal copying e = creates_literal (copy_creates copying e).0
@@ -225,8 +224,7 @@ module _ (line : Line) (is : IsLine line) where
   creating_row h = by line.path is.fits.path h
     where
       by : (p : LinePath) → IsLinePath is.row p → is_creating (record line { path = p }) ≡ true → is.row.creates ≡ true
-      by (Literal path) fits g = fits.0
-      by (Glob pattern) fits g = impossible g
+      by p fits g = grind arith
 
 -- a line that copies nothing, as the laws need it: its path has names and no staging name, and at the root it makes a
 -- directory

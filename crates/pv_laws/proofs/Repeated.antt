@@ -9,7 +9,7 @@ use Rattle.pv_path.specs.Paths.{has_names, Path, same_path, is_prefix, has_stagi
 use Rattle.pv_path.proofs.PathLaws.{is_prefix-refl}
 use Rattle.pv_metadata.specs.declared.operation.Change.{Change}
 use Rattle.pv_metadata.specs.declared.operation.Operation.{Operation}
-use Rattle.pv_metadata.specs.declared.operation.Operation.TheVariants.{Make, Renew, Erase, Apply}
+use Rattle.pv_metadata.specs.declared.operation.Operation.TheVariants.{Make, Erase}
 use Rattle.pv_metadata.specs.declared.operation.Test.{Test}
 use Rattle.pv_metadata.specs.Dividing.{parts_of, parts}
 use Rattle.pv_metadata.specs.Reasons as reasons
@@ -242,10 +242,7 @@ module _ (q : Path) where
       ∙ adjusters_adjust lines h.1
 
   make_not_idle : (x : Operation) → is_make x ≡ true → is_adjusting is_idle x ≡ false
-  make_not_idle (Make b) h = refl
-  make_not_idle (Renew test b) h = refl
-  make_not_idle Erase h = refl
-  make_not_idle (Apply guard change) h = impossible h
+  make_not_idle x h = grind arith
 
   -- no make comes late
   timely : (xs ys : List Operation) → (list_any is_erasure xs ≡ false → BeginsWithMake xs) → list_all is_adjustment ys ≡ true → has_late_make (xs ++ ys) ≡ false

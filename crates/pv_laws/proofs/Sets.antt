@@ -168,17 +168,11 @@ sets_adjust line action (idle e) = subst (λ d. list_all is_adjustment (sets_of 
 -- adjustments make, renew and erase nothing
 pub adjustments_make_none : (xs : List Operation) → list_all is_adjustment xs ≡ true → list_any is_make xs ≡ false
 adjustments_make_none [] h = refl
-adjustments_make_none (Make b ∷ xs) h = impossible h
-adjustments_make_none (Renew test b ∷ xs) h = impossible h
-adjustments_make_none (Erase ∷ xs) h = impossible h
-adjustments_make_none (Apply guard change ∷ xs) h = adjustments_make_none xs h
+adjustments_make_none (x ∷ xs) h = grind (arith, adjustments_make_none xs)
 
 pub adjustments_renew_none : (xs : List Operation) → list_all is_adjustment xs ≡ true → list_any is_renewal xs ≡ false
 adjustments_renew_none [] h = refl
-adjustments_renew_none (Make b ∷ xs) h = impossible h
-adjustments_renew_none (Renew test b ∷ xs) h = impossible h
-adjustments_renew_none (Erase ∷ xs) h = impossible h
-adjustments_renew_none (Apply guard change ∷ xs) h = adjustments_renew_none xs h
+adjustments_renew_none (x ∷ xs) h = grind (arith, adjustments_renew_none xs)
 
 -- and none of them comes late
 pub adjustments_timely : (xs : List Operation) → list_all is_adjustment xs ≡ true → makes_late xs ≡ false
@@ -192,10 +186,7 @@ adjustments_timely (Apply guard change ∷ xs) h =
 -- nothing stays nothing
 pub adjusted_none : (xs : List Operation) → list_all is_adjustment xs ≡ true → run xs None ≡ None
 adjusted_none [] h = refl
-adjusted_none (Make b ∷ xs) h = impossible h
-adjusted_none (Renew test b ∷ xs) h = impossible h
-adjusted_none (Erase ∷ xs) h = impossible h
-adjusted_none (Apply guard change ∷ xs) h = adjusted_none xs h
+adjusted_none (x ∷ xs) h = grind (arith, adjusted_none xs)
 
 -- an object stays one
 pub adjusted_some : (xs : List Operation) → list_all is_adjustment xs ≡ true → (b : ObjectState) → (c : ObjectState) × (run xs (Some b) ≡ Some c)
@@ -230,12 +221,7 @@ left_alone kind (Apply (Only own) change ∷ xs) h b d =
 
 pub only_adjusts : (kind : Kind) (xs : List Operation) → AllByRecursion (IsOnly kind) xs → list_all is_adjustment xs ≡ true
 only_adjusts kind [] h = refl
-only_adjusts kind (Make n ∷ xs) h = absurd h.0
-only_adjusts kind (Renew test n ∷ xs) h = absurd h.0
-only_adjusts kind (Erase ∷ xs) h = absurd h.0
-only_adjusts kind (Apply Every change ∷ xs) h = absurd h.0
-only_adjusts kind (Apply NoLink change ∷ xs) h = absurd h.0
-only_adjusts kind (Apply (Only own) change ∷ xs) h = only_adjusts kind xs h.1
+only_adjusts kind (x ∷ xs) h = grind (arith, only_adjusts kind xs)
 
 only_contents : (line : Line) (what : NewKind) → AllByRecursion (IsOnly (new_kind what)) (contents_to_set line (new_kind what))
 only_contents line what = by (new_kind what) line.plus

@@ -84,17 +84,11 @@ is_gentle (Apply guard change) = true
 
 gentle_all : (xs : List Operation) → list_all is_adjustment xs ≡ true → list_all is_gentle xs ≡ true
 gentle_all [] h = refl
-gentle_all (Make new ∷ xs) h = impossible h
-gentle_all (Renew test new ∷ xs) h = impossible h
-gentle_all (Erase ∷ xs) h = impossible h
-gentle_all (Apply guard change ∷ xs) h = gentle_all xs h
+gentle_all (x ∷ xs) h = grind (arith, gentle_all xs)
 
 gentle_none : (xs : List Operation) → list_all is_gentle xs ≡ true → list_any is_erasure xs ≡ false
 gentle_none [] h = refl
-gentle_none (Make new ∷ xs) h = gentle_none xs h
-gentle_none (Renew test new ∷ xs) h = impossible h
-gentle_none (Erase ∷ xs) h = impossible h
-gentle_none (Apply guard change ∷ xs) h = gentle_none xs h
+gentle_none (x ∷ xs) h = grind (arith, gentle_none xs)
 
 gentle_keeps : (xs : List Operation) → list_all is_gentle xs ≡ true → (b : Option ObjectState) → is_dir b ≡ true → is_dir (run xs b) ≡ true
 gentle_keeps [] h b dir = dir

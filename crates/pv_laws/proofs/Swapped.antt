@@ -12,7 +12,7 @@ use Rattle.pv_metadata.specs.Nodes.{object_states_of}
 use Rattle.pv_lines.specs.declared.line.Argument.TheVariants as argument
 use Rattle.pv_lines.specs.declared.line.Line.{Line}
 use Rattle.pv_lines.specs.declared.line.LinePath.{LinePath}
-use Rattle.pv_lines.specs.declared.line.LinePath.TheVariants.{Literal, Glob}
+use Rattle.pv_lines.specs.declared.line.LinePath.TheVariants.{Literal}
 use Rattle.pv_lines.specs.Lines.{IsLine, IsLinePath}
 use Rattle.pv_lines.specs.Types.{creating, with_age, with_root}
 use Rattle.pv_table.specs.declared.action.Copying.{Copying}
@@ -100,8 +100,7 @@ module _ (t : Files) where
   swapped_is line is = by (swap t line)
     where
       fits : (p q : LinePath) → p ≡ Literal (path_in q) → IsLinePath is.row p → IsLinePath (with_root (with_age (creating 100))) p
-      fits (Literal path) q e h = (refl, h.1)
-      fits (Glob pattern) q e h = absurd (let no : Glob pattern ≡ Literal (path_in q) = e in cc)
+      fits p q e h = grind arith
 
       by : IsSwap t line (swapped t line) → IsLine (swapped t line)
       by (same e f) = subst IsLine (sym e) is

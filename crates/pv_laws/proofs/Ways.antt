@@ -1,6 +1,6 @@
 -- On the way of a line that copies nothing each path has the kind and the owner that it has before the line or after it.
 use Rattle.std.specs.Prelude.{⊤, ◌≡◌, ◌⊎◌, ℕ, Bool, true, false, not, cond, ◌&&◌, ◌||◌, List, [], ◌∷◌, ◌++◌, take, Option, Some, None, if◌then◌else◌}
-use Rattle.std.proofs.Common.{zero, suc, refl, sym, ap, subst, ◌∙◌, inl, inr}
+use Rattle.std.proofs.Common.{zero, suc, refl, sym, ap, subst, ◌∙◌, inl, inr, arith}
 use Rattle.std.specs.FinMap as fin
 use Rattle.std.specs.List.{list_any, list_all}
 use Rattle.std.specs.Option.{option_map_or}
@@ -224,10 +224,7 @@ module _ (line : Line) (s : ObjectStates) (q : Path) where
       by there (inr u) = akin y.0 last.0 (e ∙ y.1) (inr (after ∙ last.1)) (record { kind = y.2.kind ∙ sym last.2.kind; uid = u })
 
   make_alone : (x : Operation) → is_make x ≡ true → parts_of x ≡ x ∷ []
-  make_alone (Make n) h = refl
-  make_alone (Renew test n) h = refl
-  make_alone Erase h = impossible h
-  make_alone (Apply guard change) h = impossible h
+  make_alone x h = grind arith
 
   object_between : (making : Making) → action_of line ≡ Create making → operations line q ≡ first_of making ∷ making.sets → (k : ℕ) (old here : Option ObjectState) → here ≡ run (take k (parts (operations line q))) old → IsAmid line s q old (run (operations line q) old) here
   object_between making e f k old here g = by k (g ∙ ap (λ xs. run (take k xs) old) listed)
