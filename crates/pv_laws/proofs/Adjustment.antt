@@ -111,10 +111,7 @@ module _ (now : ℕ) (adjustment : Adjustment) (adjust : list_all is_adjustment 
   -- where each turn reaches its own path alone, it matters how often the path stands among them
   module _ (shallow : adjustment.deep ≡ false) where
     pub own_path : (p q : Path) → is_adjusted adjustment p q ≡ same_path p q
-    own_path p q = ap (λ d. same_path p q || (d && is_prefix p q && not (has_staging q))) shallow ∙ by (same_path p q)
-      where
-        by : (b : Bool) → (b || (false && is_prefix p q && not (has_staging q))) ≡ b
-        by b = grind arith
+    own_path p q = ap (λ d. same_path p q || (d && is_prefix p q && not (has_staging q))) shallow ∙ (grind arith)
 
     pub set_never : (q : Path) (paths : List Path) (b : Option ObjectState) → times q paths ≡ 0 → set_by_each q paths b ≡ b
     set_never q [] b e = refl

@@ -48,10 +48,7 @@ use Rattle.pv_path.proofs.Tests.{same_tests, true_not_false}
 
 -- the line names its own path alone
 own_name : (line : Line) → is_creating line ≡ true → (q : Path) → names line q ≡ same_path (path_in line.path) q
-own_name line creates q = by line.path creates
-  where
-    by : (path : LinePath) → is_creating (record line { path = path }) ≡ true → names (record line { path = path }) q ≡ same_path (path_in path) q
-    by path h = grind arith
+own_name line creates q = grind arith
 
 -- a line that copies reaches its path and all below it
 copy_reaches : (line : Line) → IsLine line → (copying : Copying) → action_of line ≡ Copy copying → (q : Path) → is_prefix (path_in line.path) q ≡ true → reaches line q ≡ true

@@ -105,10 +105,7 @@ module _ (now : ℕ) (copying : Copying) (adjust : list_all is_adjustment copyin
 
   -- above the path stand directories
   high_dir : (p : Path) → has_staging p ≡ false → is_prefix p path ≡ true → p ≢ path → is_dir (filled true (old p)) ≡ true
-  high_dir p plain high other = at (old p) (pass p high other)
-    where
-      at : (c : Option ObjectState) → (is_some c ≡ true → is_dir c ≡ true) → is_dir (filled true c) ≡ true
-      at c h = grind arith
+  high_dir p plain high other = grind arith
 
   ready_dir : (p : Path) → has_staging p ≡ false → is_dir (old p) ≡ true → is_dir (ready p) ≡ true
   ready_dir p plain h = by (ready_is p plain)

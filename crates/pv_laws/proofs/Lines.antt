@@ -5,14 +5,13 @@ use Rattle.std.specs.List.{list_all, AllByRecursion}
 use Rattle.std.specs.FinMap as fin
 use Rattle.std.proofs.lemmas.Bool.{and_parts, not-false, or_parts}
 use Rattle.pv_path.specs.Paths.{has_names, Path, is_prefix, has_staging}
-use Rattle.pv_steps.specs.declared.object.Object.{Object}
 use Rattle.pv_steps.specs.declared.why.Why.{Why}
 use Rattle.pv_steps.specs.Objects.{is_directory}
 use Rattle.pv_steps.specs.Refusal.{refusal}
 use Rattle.pv_steps.specs.Trees.{Files, places}
 use Rattle.pv_metadata.specs.declared.object_state.ObjectState.{ObjectState}
 use Rattle.pv_metadata.specs.Dividing.{parts}
-use Rattle.pv_metadata.specs.Nodes.{object_state_of, object_states_of}
+use Rattle.pv_metadata.specs.Nodes.{object_states_of}
 use Rattle.pv_metadata.specs.Operations.{run}
 use Rattle.pv_metadata.proofs.Dividing.{run-parts}
 use Rattle.pv_metadata.proofs.OperationLaws.{run-append}
@@ -151,10 +150,7 @@ module _ (line : Line) (is : IsLine line) where
 
   -- what creates names one path
   creates_literal : is.row.creates ≡ true → line.path ≡ Literal (path_in line.path)
-  creates_literal creates = by line.path is.fits.path creates
-    where
-      by : (p : LinePath) → IsLinePath is.row p → is.row.creates ≡ true → p ≡ Literal (path_in p)
-      by p fits c = grind arith
+  creates_literal creates = grind arith
 
   pub copy_literal : (copying : Copying) → action_of line ≡ Copy copying → line.path ≡ Literal (path_in line.path)
   copy_literal copying e = creates_literal (copy_creates copying e).0
@@ -221,10 +217,7 @@ module _ (line : Line) (is : IsLine line) where
 
   -- a line that names one path is of such a type
   pub creating_row : is_creating line ≡ true → is.row.creates ≡ true
-  creating_row h = by line.path is.fits.path h
-    where
-      by : (p : LinePath) → IsLinePath is.row p → is_creating (record line { path = p }) ≡ true → is.row.creates ≡ true
-      by p fits g = grind arith
+  creating_row h = grind arith
 
 -- a line that copies nothing, as the laws need it: its path has names and no staging name, and at the root it makes a
 -- directory
@@ -269,10 +262,7 @@ made_refusal line making e path t quiet = by (refusal (places t) path (owner_mad
 pub made_passes : (line : Line) (making : Making) → action_of line ≡ Create making → (path : Path) (t : Files) → refused_at line path (places t) ≡ None
     → (p : Path) → is_prefix p path ≡ true → p ≢ path → is_some (object_states_of (places t) p) ≡ true → is_dir (object_states_of (places t) p) ≡ true
 made_passes line making e path t free p high other h =
-    kind_dir (places t p) (unrefused_pass path (owner_made line (places t)) t (made_refusal line making e path t free) p (high, other) (there (places t p) h))
-  where
-    there : (o : Option Object) → is_some (option_map object_state_of o) ≡ true → is_some o ≡ true
-    there o g = grind arith
+    kind_dir (places t p) (unrefused_pass path (owner_made line (places t)) t (made_refusal line making e path t free) p (high, other) (grind arith))
 
 pub turns_made : (line : Line) (making : Making) (t : Files) → action_of line ≡ Create making → turns line t ≡ path_in line.path ∷ []
 turns_made line making t e = rw e

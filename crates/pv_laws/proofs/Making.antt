@@ -211,10 +211,7 @@ module _ (making : Making) (is : IsMaking making) where
   eqb_zero a b e f = grind (arith, nat_tests)
 
   kind_of_directory : (own kind : Kind) → is_directory kind ≡ true → same_kind own kind ≡ is_directory own
-  kind_of_directory own kind h = ap (same_kind own) (directory_is kind h) ∙ by own
-    where
-      by : (k : Kind) → same_kind k Directory ≡ is_directory k
-      by k = grind arith
+  kind_of_directory own kind h = ap (same_kind own) (directory_is kind h) ∙ (grind arith)
 
   same_directory : (x : ObjectState) → IsPlainDirectory x → is_directory (new_kind making.new.what) ≡ true → same_substance new_object_state.body x.body ≡ true
   same_directory x dir own =

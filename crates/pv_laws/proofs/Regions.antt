@@ -35,7 +35,7 @@ use Rattle.pv_laws.specs.Stopping.{IsMidway}
 use Rattle.pv_laws.proofs.AllPoints.{IsSafe, line_pointed, turns_copy, copy_idle, copy_passes}
 use Rattle.pv_laws.proofs.CopyShapes.{at_outside}
 use Rattle.pv_laws.proofs.Lines.{line_is_plain, line_point, copy_path, copy_source, IsPlain, asked_made, copies_or_not}
-use Rattle.pv_laws.proofs.Making.{is_dir, IsShaped, does_stay, clears_some, clears_none, first_on_none, first_on_some, asked_here}
+use Rattle.pv_laws.proofs.Making.{is_dir, IsShaped, does_stay, clears_none, first_on_none, first_on_some, asked_here}
 use Rattle.pv_laws.proofs.Prepared.{object_state_some, filled}
 use Rattle.pv_laws.proofs.Repeated as repeated
 use Rattle.pv_laws.proofs.Repeated.{IsAskedAt, asked_at}
@@ -110,10 +110,7 @@ stuck_step now line safe makes t shape quiet p plain outside stuck = copies_or_n
 -- where what lies below is to go, no directory is left
 module _ (making : Making) (is : IsMaking making) (clears : clears_below making ≡ true) where
   own_no_dir : (test : Test) → making.renew ≡ Some test → (test.spares_directories ≡ false) × (is_directory (new_kind making.new.what) ≡ false)
-  own_no_dir test e = by test.spares_directories (is_directory (new_kind making.new.what)) (sym (clears_some making is test e) ∙ clears)
-    where
-      by : (a b : Bool) → (not a && not b) ≡ true → (a ≡ false) × (b ≡ false)
-      by a b h = grind arith
+  own_no_dir test e = grind arith
 
   same_no_dir : (own kind : Kind) → is_directory own ≡ false → same_kind own kind ≡ true → is_directory kind ≡ false
   same_no_dir own kind h s = sym (ap is_directory (same_kind-true own kind s)) ∙ h

@@ -90,10 +90,7 @@ first_makes making is = by making.renew refl
 
 -- whether a line reaches below what it names, by what it asks for
 pub deep_reaches : (line : Line) (d : Action) → action_of line ≡ d → is_deep d ≡ true → reaches_below line ≡ true
-deep_reaches line d e h = or_four (is_deep (action_of line)) _ _ _ _ (ap is_deep e ∙ h)
-  where
-    or_four : (a b c x y : Bool) → a ≡ true → (a || b || c || x || y) ≡ true
-    or_four a b c x y i = grind arith
+deep_reaches line d e h = grind arith
 
 -- what a line changes somewhere, it sets
 pub asked_sets : (test : Change → Bool) (line : Line) (q : Path) → list_any (is_adjusting test) (operations line q) ≡ true → list_any (is_adjusting test) (sets_of (action_of line)) ≡ true

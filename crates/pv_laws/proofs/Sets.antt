@@ -224,10 +224,7 @@ only_adjusts kind [] h = refl
 only_adjusts kind (x ∷ xs) h = grind (arith, only_adjusts kind xs)
 
 only_contents : (line : Line) (what : NewKind) → AllByRecursion (IsOnly (new_kind what)) (contents_to_set line (new_kind what))
-only_contents line what = by (new_kind what) line.plus
-  where
-    by : (kind : Kind) (plus : Bool) → AllByRecursion (IsOnly kind) (cond (plus && is_file kind) (Apply (Only File) (Write (bytes_of line.argument)) ∷ []) [])
-    by kind plus = grind arith
+only_contents line what = grind arith
 
 only_mode : (mode : Option LineMode) (kind : Kind) → AllByRecursion (IsOnly kind) (mode_to_set mode (without_links (Only kind)))
 only_mode None kind = tt

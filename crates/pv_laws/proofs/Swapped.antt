@@ -196,10 +196,7 @@ module _ (t : Files) where
       by (Some line) e g = (line, e, is (swapped t line) new g)
 
   named_alone : (line : Line) (q : Path) → reaches (object_state_directory line) q ≡ true → names line q ≡ true
-  named_alone line q h = by (names line q) h
-    where
-      by : (b : Bool) → (b || false) ≡ true → b ≡ true
-      by b g = grind arith
+  named_alone line q h = grind arith
 
   -- a line has what the line in its place has, if it has what a directory in its place would have
   fewer : (test : Line → Bool) (line : Line) → (test (object_state_directory line) ≡ true → test line ≡ true) → test (swapped t line) ≡ true → test line ≡ true
