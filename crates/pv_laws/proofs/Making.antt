@@ -25,7 +25,6 @@ use Rattle.pv_metadata.specs.Operations.{stays, done, run}
 use Rattle.pv_metadata.proofs.EditLaws.{path_cases, on_at-here, on_at-else}
 use Rattle.pv_walk.specs.Copying.{Subtree, object_of, with_subtree, single}
 use Rattle.pv_walk.specs.declared.new_file.NewKind.{NewKind}
-use Rattle.pv_walk.specs.declared.new_file.NewKind.TheVariants as new
 use Rattle.pv_walk.specs.Staging.{new_object, new_kind, new_major, new_minor}
 use Rattle.pv_table.specs.declared.action.Action.{Action}
 use Rattle.pv_table.specs.declared.action.Action.TheVariants.{Create}
