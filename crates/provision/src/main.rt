@@ -1,9 +1,6 @@
 //! `provision`: runs over the image on standard input, or on a folder, and writes messages, and the image, to standard output.
 #![tactic(auto)]
 
-#[cfg(test)]
-mod tests;
-
 ghost use Rattle.std.specs.Prelude.{◌≡◌, ℕ, true, Some, None, is_some, drop, map, string_bytes};
 ghost use Rattle.std.specs.Process.{exit_status};
 ghost use Rattle.pv_io.specs.Faults.{HasRisen};

@@ -18,8 +18,6 @@ mod open_fault;
 mod plain;
 mod reading;
 mod reading_tree;
-#[cfg(test)]
-mod tests;
 
 pub use closing::close_folder;
 pub use folder_tree::FolderTree;

@@ -10,8 +10,6 @@ mod mem_host;
 mod plan;
 mod real_host;
 mod spelling;
-#[cfg(test)]
-mod tests;
 mod tree_host;
 
 pub use host::{Host, HostFault};

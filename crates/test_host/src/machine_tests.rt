@@ -1,7 +1,5 @@
 //! One test in a folder of its own below the machine's temporary one.
-use crate::host::Host;
-use crate::item::HostKind;
-use crate::real_host::RealHost;
+use pv_host::{Host, HostKind, RealHost};
 use std::test::Fail;
 use std::{env, fs};
 
