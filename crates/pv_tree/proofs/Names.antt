@@ -14,7 +14,7 @@ use Rattle.std.specs.Option.{option_copied, option_or}
 use Rattle.std.proofs.lemmas.Option.{slice_get-map, slice_get-get_or, slice_get_past, slice_get_within}
 use Rattle.pv_path.proofs.PathLaws.{name_cmp-exact}
 use Rattle.pv_tree.specs.Finding.{IsRising, IsFoundAt, IsGapAt}
-use Rattle.pv_tree.proofs.BinarySearch.{rising_found, rising_none, stands, length_rising, missed}
+use Rattle.pv_tree.proofs.BinarySearch.{found, rising_found, rising_none, stands, length_rising, missed}
 use Rattle.pv_path.specs.Names.{name_cmp}
 use Rattle.pv_tree.specs.Children.{Children, IsSorted, orders_of, without}
 use Rattle.pv_path.proofs.Tests.{less_of-T, each_T, both_T}
@@ -199,6 +199,15 @@ read_nowhere name es h none =
     let order : IsRising (orders_of name es) = rising name es h in
     sym (object_missed name es order.less (rising_none (orders_of name es) order (sym none)))
 
+-- an entry with the name that is sought is what stands there
+pub read_at : (name : List ℕ) (es : Entries) (i : ℕ) (e : List ℕ × ℕ) → IsSorted es → Some e ≡ slice_get es i → name_cmp e.0 name ≡ Equal → Some e.1 ≡ find name_cmp name es
+read_at name es i e h at same =
+    let order : Some Equal ≡ slice_get (orders_of name es) i =
+    ap Some (sym same) ∙ ap (option_map (λ (x : List ℕ × ℕ). name_cmp x.0 name)) at ∙ sym (slice_get-map (λ (x : List ℕ × ℕ). name_cmp x.0 name) es i) in
+    let is = object_found name es i e (found (orders_of name es) (rising name es h) i order) in
+    let within : i < length es = slice_get_within es i e (sym at) in
+    ap (option_map (λ (x : List ℕ × ℕ). x.1)) (at ∙ slice_get-get_or es i e within) ∙ sym is.1
+
 -- a name after the last one is after all
 pub after_last : (name : List ℕ) (es : Entries) (e : List ℕ × ℕ) → IsSorted es → Some e ≡ slice_get es (length es - 1) → name_cmp e.0 name ≡ Less → IsGapAt (orders_of name es) (length es)
 after_last name es e h at less =
@@ -308,6 +317,12 @@ pub name_before : (o : Ordering) (b : Bool) → b ≡ is_lt o → b ≡ true →
 name_before Less b e h = refl
 name_before Equal b e h = absurd (let no : false ≡ true = sym e ∙ h in cc)
 name_before Greater b e h = absurd (let no : false ≡ true = sym e ∙ h in cc)
+
+-- an order that is found equal
+pub equal_is : (o : Ordering) → is_eq o ≡ true → o ≡ Equal
+equal_is Less h = absurd (let no : false ≡ true = h in cc)
+equal_is Equal h = refl
+equal_is Greater h = absurd (let no : false ≡ true = h in cc)
 
 pub as_empty : (es : Entries) → es ≡ [] → fin.from_sorted es ≡ fin.empty {X = ℕ} {R = name_cmp}
 as_empty es is = fin.same_map nat_list_cmp_total name_exact (fin.from_sorted es) fin.empty

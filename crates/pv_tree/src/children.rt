@@ -10,6 +10,7 @@ use crate::binary_search::{Probe, find, place_of};
 use crate::keyed_name::{KeyedName, SoughtName};
 use pv_path::{Name, NameList};
 use std::alloc::{AllocError, Global};
+use std::cell::Cell;
 use std::cmp::Ordering;
 use std::collections::VecDeque;
 use std::marker::Model;
@@ -53,8 +54,25 @@ impl<'a> Probe for RowProbe<'a> {
     }
 }
 
+/// The number at a place of a row, where a name stands there.
+fn number_there(entries: &[(KeyedName, usize)], i: usize, name: &SoughtName<'_>) -> Option<usize>
+    requires { IsSorted entries.now }
+    ensures { IfSome result (λ number. Some number ≡ fin.find name_cmp name.now entries.now) }
+{
+    let entry = entries.get(i)?;
+    if entry.0.order(name).is_eq() {
+        Some(entry.1)
+    } else {
+        None
+    }
+}
+
 /// The number that stands at a name in a row, or nothing where it is absent. It asks at most 64 questions.
-fn number_in(entries: &[(KeyedName, usize)], name: &SoughtName<'_>) -> Option<usize>
+fn number_sought(
+    entries: &[(KeyedName, usize)],
+    last: &Cell<usize>,
+    name: &SoughtName<'_>,
+) -> Option<usize>
     requires { IsSorted entries.now }
     ensures { result ≡ fin.find name_cmp name.now entries.now }
 {
@@ -64,21 +82,50 @@ fn number_in(entries: &[(KeyedName, usize)], name: &SoughtName<'_>) -> Option<us
         left: 64,
     };
     match find(&mut probe, entries.len()) {
-        Some(i) => Some(entries[i].1),
+        Some(i) => {
+            last.set(i);
+            Some(entries[i].1)
+        }
         None => None,
     }
 }
 
+/// The number that stands at a name in a row, or nothing where it is absent. What is sought is mostly what was found
+/// last, or stands after it.
+fn number_in(
+    entries: &[(KeyedName, usize)],
+    last: &Cell<usize>,
+    name: &SoughtName<'_>,
+) -> Option<usize>
+    requires { IsSorted entries.now }
+    ensures { result ≡ fin.find name_cmp name.now entries.now }
+{
+    let at = last.get();
+    if let Some(number) = number_there(entries, at, name) {
+        return Some(number);
+    }
+    let next = at.wrapping_add(1);
+    if let Some(number) = number_there(entries, next, name) {
+        last.set(next);
+        return Some(number);
+    }
+    number_sought(entries, last, name)
+}
+
 /// The number that stands at a name, or nothing where it is absent. The entries lie in two rows, of which the second is
 /// mostly empty.
-fn number_of(entries: &VecDeque<(KeyedName, usize)>, name: &SoughtName<'_>) -> Option<usize>
+fn number_of(
+    entries: &VecDeque<(KeyedName, usize)>,
+    last: &Cell<usize>,
+    name: &SoughtName<'_>,
+) -> Option<usize>
     requires { IsSorted entries.now.items }
     ensures { result ≡ fin.find name_cmp name.now entries.now.items }
 {
     let (first, second) = entries.as_slices();
-    match number_in(first, name) {
+    match number_in(first, last, name) {
         Some(number) => Some(number),
-        None => number_in(second, name),
+        None => number_in(second, last, name),
     }
 }
 
@@ -164,6 +211,8 @@ fn take_out(entries: &mut VecDeque<(KeyedName, usize)>, name: &SoughtName<'_>) -
 pub(crate) struct Children {
     /// In byte order of the names, each name once.
     entries: VecDeque<(KeyedName, usize)>,
+    /// The place of what was found last.
+    last: Cell<usize>,
 }
 
 impl Model for Children {
@@ -187,6 +236,7 @@ impl Children {
     {
         Children {
             entries: VecDeque::new(alloc),
+            last: Cell::new(0),
         }
     }
 
@@ -194,7 +244,7 @@ impl Children {
     pub(crate) fn get(&self, name: &Name) -> Option<usize>
         ensures { result ≡ fin.get self.now name.now }
     {
-        number_of(&self.entries, &SoughtName::of(name))
+        number_of(&self.entries, &self.last, &SoughtName::of(name))
     }
 
     /// Puts a child at a name, and gives back the number of the one that it replaces. After running out of memory

@@ -1,5 +1,5 @@
 use Rattle.pv_tree.proofs.Names.{rising, read_there, read_nowhere}
-use Rattle.pv_tree.proofs.children.number_in.Goals as goal
+use Rattle.pv_tree.proofs.children.number_sought.Goals as goal
 
 pub find-requires-clause-rising : goal.find-requires-clause-rising
 find-requires-clause-rising c = rising c.args.name.now c.args.entries.now c.requires
