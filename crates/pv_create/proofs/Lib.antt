@@ -4,6 +4,7 @@ pub mod Unwritten
 pub mod Becoming
 pub mod WritingLaws
 pub mod AdjustLaws
+pub mod KeptLaws
 pub mod ReachedLaws
 pub mod AskedSets
 pub mod NamedLaws

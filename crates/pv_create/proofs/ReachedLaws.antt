@@ -1,5 +1,5 @@
 -- Laws of adjusting what stands at each path of a list.
-use Rattle.std.specs.Prelude.{◌≡◌, ◌⊎◌, ℕ, ◌+◌, ◌≤◌, ◌<◌, Bool, true, false, cond, not, ◌&&◌, ◌||◌, List, [], ◌∷◌, ◌++◌, map, filter, fold, sum, length, take, get_or, Option, Some, None, is_some, option_map, Result, if◌then◌else◌}
+use Rattle.std.specs.Prelude.{◌≡◌, ◌⊎◌, ℕ, ◌+◌, ◌≤◌, ◌<◌, Bool, true, false, cond, not, ◌&&◌, ◌||◌, List, [], ◌∷◌, ◌++◌, map, filter, fold, sum, length, take, get_or, Option, Some, None, is_some, option_map, Result, Ok, Err, OnOk, if◌then◌else◌}
 use Rattle.std.specs.FinMap as fin
 use Rattle.std.proofs.Common.{refl, sym, ap, subst, ◌∙◌, inl, inr, arith, zero, suc}
 use Rattle.std.proofs.lemmas.List.{take_all, take_more}
@@ -282,6 +282,19 @@ reached_with adjustment path t present paths all are longer q = longer q ∙ by 
         ∙ (λ j. cond (adjustment.deep && not (has_staging q)) (cond ((is_prefix path q && not (e j)) && is_some (places t q)) 1 0) 0 + cond (e j) 1 0)
         ∙ plain (is_prefix path q) adjustment.deep (has_staging q) (is_some (places t q))
         ∙ sym (ap {B = ℕ} (λ b. cond b 1 0) (λ j. (e j || adjustment.deep && is_prefix path q && not (has_staging q)) && is_some (places t q)))
+
+-- the path alone, for a line that goes no further
+pub reached_alone : (adjustment : Adjustment) (path : Path) (t : Files) → IsPresent t path → adjustment.deep ≡ false → IsReached adjustment path t (path ∷ [])
+reached_alone adjustment path t present shallow = reached_with adjustment path t present [] (path ∷ []) none (λ q. omega arith)
+  where
+    none : AreReachedBelow adjustment path t []
+    none q = ap (λ d. cond (d && not (has_staging q)) (cond {A = ℕ} (stands_below t path q) 1 0) 0) (sym shallow)
+
+-- and all is done when it is
+pub all_alone : (adjustment : Adjustment) (path : Path) (t : Files) → IsReached adjustment path t (path ∷ []) → (now : ℕ) → (r : Result (Unit {0}) TreeFault) (u : Files)
+    → OnOk r (places u ≡ on_at path (become now adjustment.sets) (places t)) → OnOk r (u ≡ adjust_at now adjustment path t)
+all_alone adjustment path t reached now (Ok x) u here = all_done adjustment path t (path ∷ []) reached now 1 (omega arith) u here
+all_alone adjustment path t reached now (Err e) u here = tt
 
 -- and so where the path comes first, and in another order
 pub reached_first : (adjustment : Adjustment) (path : Path) (t : Files) → IsPresent t path → (paths ordered more all : List Path) (copy : Path) → AreReachedBelow adjustment path t paths → IsPermutation paths ordered → more ≡ copy ∷ ordered

@@ -2,6 +2,7 @@
 #![tactic(auto)]
 
 mod deciding;
+mod kept;
 mod laws;
 mod line;
 mod line_at;

@@ -12,6 +12,7 @@ ghost use Rattle.pv_table.specs.Effects.{become};
 ghost use Rattle.pv_create.specs.Sets.{AreSets};
 ghost use Rattle.pv_create.specs.Adjusting.{Adjusting, GivesSet, GivesWanted, HasBase, Wears, holding, written};
 
+use crate::kept::are_kept;
 use crate::wanted::{node_of, wanted_at};
 use pv_metadata::{Metadata, Operation, set_metadata};
 use pv_path::{Bytes, TreePath};
@@ -20,7 +21,7 @@ use std::alloc::Global;
 
 /// Adjusts the object at a path: its bytes, owner, mode, ACL, extended attributes and letters, in this order, each
 /// only where that changes something (tmpfiles.d(5)). The bytes of a file are read only where bytes are among what is
-/// set.
+/// set. Of an object that has all of it one look mostly tells.
 pub(crate) fn adjust<T: Tree>(
     alloc: Global,
     tree: &mut T,
@@ -36,6 +37,28 @@ pub(crate) fn adjust<T: Tree>(
         ≡ on_at path.now (become now sets.now) (places (T.state tree.old))) }
 
     // What holds at each moment and of each step, whatever the answer; four steps at most, none where nothing changes.
+    ensures acted { Acted T.Tree (Adjusting path.now sets.now (T.state tree.old))
+        (GivesSet path.now sets.now (T.state tree.old))
+        (change_work sets.now (places (T.state tree.old) path.now)) now tree.old tree.new result }
+{
+    if are_kept(alloc, tree, path, sets)? {
+        return Ok(());
+    }
+    give_all(alloc, tree, path, sets, now)
+}
+
+/// Gives the object at a path all that is set, each where it lacks it.
+fn give_all<T: Tree>(
+    alloc: Global,
+    tree: &mut T,
+    path: &TreePath,
+    sets: &[Operation],
+    now: u64,
+) -> Result<(), TreeFault>
+    requires present { IsPresent (T.state tree.old) path.now }
+    requires sets { AreSets sets.now }
+    ensures ok { OnOk result (places (T.state tree.new)
+        ≡ on_at path.now (become now sets.now) (places (T.state tree.old))) }
     ensures acted { Acted T.Tree (Adjusting path.now sets.now (T.state tree.old))
         (GivesSet path.now sets.now (T.state tree.old))
         (change_work sets.now (places (T.state tree.old) path.now)) now tree.old tree.new result }

@@ -31,6 +31,28 @@ pub(crate) fn adjust_reached<T: Tree>(
         (GivesReached adjustment.now path.now (T.state tree.old))
         (adjust_work adjustment.now path.now (T.state tree.old)) now tree.old tree.new result }
 {
+    if adjustment.deep {
+        adjust_each(alloc, tree, adjustment, path, now)
+    } else {
+        adjust(alloc, tree, path, adjustment.sets.as_slice(), now)
+    }
+}
+
+/// Adjusts what stands at each path that a line reaches from one, in their order.
+fn adjust_each<T: Tree>(
+    alloc: Global,
+    tree: &mut T,
+    adjustment: &Adjustment,
+    path: &TreePath,
+    now: u64,
+) -> Result<(), TreeFault>
+    requires present { IsPresent (T.state tree.old) path.now }
+    requires sets { AreSets adjustment.now.sets }
+    ensures ok { OnOk result (T.state tree.new ≡ adjust_at now adjustment.now path.now (T.state tree.old)) }
+    ensures acted { Acted T.Tree (AdjustingReached adjustment.now path.now (T.state tree.old))
+        (GivesReached adjustment.now path.now (T.state tree.old))
+        (adjust_work adjustment.now path.now (T.state tree.old)) now tree.old tree.new result }
+{
     let paths = reached_paths(alloc, tree, adjustment, path)?;
     for at in &paths {
         adjust(alloc, tree, at, adjustment.sets.as_slice(), now)?;

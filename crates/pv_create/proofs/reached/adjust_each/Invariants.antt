@@ -7,7 +7,7 @@ use Rattle.pv_table.specs.Created.{change_work}
 use Rattle.pv_table.specs.Effects.{become}
 use Rattle.pv_create.specs.Reached.{AdjustingReached, GivesReached}
 use Rattle.pv_create.proofs.ReachedLaws.{each_at}
-use Rattle.pv_create.proofs.reached.adjust_reached.Given as goal
+use Rattle.pv_create.proofs.reached.adjust_each.Given as goal
 
 abbrev pub invariant-loop-at : goal.invariant-loop-at
 invariant-loop-at g l = record {

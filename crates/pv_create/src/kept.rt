@@ -1,0 +1,156 @@
+//! Whether an object has already what is set of it.
+ghost use Rattle.std.specs.Prelude.{◌≡◌, IsTrue, true, Some, IfOk, unwrap_or, if◌then◌else◌};
+ghost use Rattle.pv_acl.specs.Applying.{acl_after};
+ghost use Rattle.pv_acl.specs.Parts.{base_of, special_of, with_mode};
+ghost use Rattle.pv_metadata.specs.declared.operation.Change.TheVariants.{Write};
+ghost use Rattle.pv_metadata.specs.Changing.{SameBase};
+ghost use Rattle.pv_metadata.specs.Masks.{masked_special, with_masked};
+ghost use Rattle.pv_metadata.specs.Nodes.{object_state_of};
+ghost use Rattle.pv_metadata.specs.Operations.{changed, done, run};
+ghost use Rattle.pv_steps.specs.declared.object.Object.{Object as ObjectValue};
+ghost use Rattle.pv_steps.specs.Objects.{is_directory};
+ghost use Rattle.pv_steps.specs.Trees.{places, kind_of, node_at, IsPresent, IsTree};
+
+use crate::wanted::node_of;
+use pv_acl::{AclLine, How, Part, apply_entries};
+use pv_metadata::{Change, Operation, admits, masked_special, set_masked_base};
+use pv_path::{Bytes, TreePath};
+use pv_steps::{Kind, Node, Tree, special_bits};
+use std::alloc::{AllocError, Global};
+
+/// Whether all that is set leaves the object at a path as it is. Bytes added, extended attributes and letters are not
+/// looked at: they count as a change.
+pub(crate) fn are_kept<T: Tree>(
+    alloc: Global,
+    tree: &T,
+    path: &TreePath,
+    sets: &[Operation],
+) -> Result<bool, AllocError>
+    requires present { IsPresent (T.state tree.now) path.now }
+    ensures kept { IfOk result (λ kept. kept ≡ true → (o : ObjectValue) → places (T.state tree.now) path.now ≡ Some o
+        → run sets.now (Some (object_state_of o)) ≡ Some (object_state_of o)) }
+    ensures tree { IsTree (T.state tree.now) }
+{
+    let node = node_of(tree, path);
+    for operation in sets {
+        if !is_kept(alloc, tree, path, node, operation)? {
+            return Ok(false);
+        }
+    }
+    Ok(true)
+}
+
+/// Whether one operation leaves the object at a path as it is.
+fn is_kept<T: Tree>(
+    alloc: Global,
+    tree: &T,
+    path: &TreePath,
+    node: &Node,
+    operation: &Operation,
+) -> Result<bool, AllocError>
+    requires node { Some node.now ≡ node_at (T.state tree.now) path.now }
+    ensures { IfOk result (λ kept. kept ≡ true → (o : ObjectValue) → places (T.state tree.now) path.now ≡ Some o
+        → done operation.now (Some (object_state_of o)) ≡ Some (object_state_of o)) }
+{
+    match operation {
+        Operation::Apply { guard, change } => {
+            if admits(*guard, node.kind) {
+                keeps(alloc, tree, path, node, change)
+            } else {
+                Ok(true)
+            }
+        }
+        Operation::Make(_) | Operation::Renew { .. } | Operation::Erase => Ok(false),
+    }
+}
+
+/// Whether a change leaves the object at a path as it is.
+fn keeps<T: Tree>(
+    alloc: Global,
+    tree: &T,
+    path: &TreePath,
+    node: &Node,
+    change: &Change,
+) -> Result<bool, AllocError>
+    requires node { Some node.now ≡ node_at (T.state tree.now) path.now }
+    ensures { IfOk result (λ kept. kept ≡ true → (o : ObjectValue) → places (T.state tree.now) path.now ≡ Some o
+        → changed o.node.kind change.now (object_state_of o) ≡ object_state_of o) }
+{
+    match change {
+        Change::Write(bytes) => Ok(holds(tree, path, node.kind, bytes)),
+        Change::Owner { uid, gid } => Ok(has_owners(node, *uid, *gid)),
+        Change::Mode { mode, masked } => Ok(has_mode(alloc, node, *mode, *masked)),
+        Change::Entries { line, how } => has_entries(alloc, node, line, *how),
+        Change::Append(_) | Change::Attrs(_) | Change::Letters { .. } => Ok(false),
+    }
+}
+
+/// Whether a file at a path holds bytes; what is no file need not.
+fn holds<T: Tree>(tree: &T, path: &TreePath, kind: Kind, bytes: &Bytes) -> bool
+    requires kind { Some kind ≡ kind_of (places (T.state tree.now) path.now) }
+    ensures { IsTrue result → (o : ObjectValue) → places (T.state tree.now) path.now ≡ Some o
+        → changed o.node.kind (Write bytes.now) (object_state_of o) ≡ object_state_of o }
+{
+    match kind {
+        Kind::File => is_same(bytes.as_slice(), tree.bytes(path)),
+        _ => true,
+    }
+}
+
+/// Whether bytes are the same.
+fn is_same(a: &[u8], b: &[u8]) -> bool
+    ensures { IsTrue result → a.now ≡ b.now }
+{
+    a == b
+}
+
+/// Whether an object has an owner and an owning group, each where it is given.
+fn has_owners(node: &Node, uid: Option<u32>, gid: Option<u32>) -> bool
+    ensures { IsTrue result → (unwrap_or uid node.now.uid ≡ node.now.uid) × (unwrap_or gid node.now.gid ≡ node.now.gid) }
+{
+    uid.unwrap_or(node.uid) == node.uid && gid.unwrap_or(node.gid) == node.gid
+}
+
+/// Whether an object has a mode, masked or not.
+fn has_mode(alloc: Global, node: &Node, mode: u16, masked: bool) -> bool
+    ensures special { IsTrue result → (if masked then masked_special node.now.kind mode else special_of mode) ≡ node.now.special }
+    ensures base { IsTrue result → SameBase
+        (if masked then with_masked mode (base_of node.now.acl.access) else with_mode mode (base_of node.now.acl.access)) node.now.acl.access }
+{
+    let special = if masked {
+        masked_special(node.kind, mode)
+    } else {
+        special_bits(mode)
+    };
+    let base = base_after(alloc, &node.acl.access, mode, masked);
+    special == node.special && is_same_base(&base, &node.acl.access)
+}
+
+/// The base entries of a part after a mode, masked or not.
+fn base_after(alloc: Global, part: &Part, mode: u16, masked: bool) -> Part
+    ensures { result ≡ (if masked then with_masked mode (base_of part.now) else with_mode mode (base_of part.now)) }
+{
+    let mut base = part.base(alloc);
+    if masked {
+        set_masked_base(&mut base, mode);
+    } else {
+        base.set_base(mode);
+    }
+    base
+}
+
+/// Whether the base entries of two parts are the same.
+fn is_same_base(a: &Part, b: &Part) -> bool
+    ensures { IsTrue result → SameBase a.now b.now }
+{
+    a.owner == b.owner && a.group == b.group && a.other == b.other
+}
+
+/// Whether the entries of a line leave the ACL of an object as it is.
+fn has_entries(alloc: Global, node: &Node, line: &AclLine, how: How) -> Result<bool, AllocError>
+    ensures { IfOk result (λ kept. kept ≡ true → acl_after node.now.acl line.now how (is_directory node.now.kind) ≡ node.now.acl) }
+{
+    let acl = apply_entries(alloc, &node.acl, line, how, node.kind.is_directory())?;
+    let same = acl == node.acl;
+    Ok(same)
+}
