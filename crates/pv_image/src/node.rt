@@ -1,11 +1,11 @@
 //! Nodes, read from their lines.
-ghost use Rattle.std.specs.Prelude.{◌≡◌, ◌≤◌, ℕ, List, ◌∷◌, ◌++◌, [], Some, IfOk, option_map};
+ghost use Rattle.std.specs.Prelude.{◌≡◌, ◌≤◌, Some, IfOk, option_map};
 ghost use Rattle.pv_path.specs.Paths.{Path};
 ghost use Rattle.pv_path.specs.Printing.{printed_path};
 ghost use Rattle.pv_acl.specs.Texts.{acl_text};
 ghost use Rattle.pv_steps.specs.Objects.{StampsFit};
 ghost use Rattle.pv_image.specs.Spelling.{HasNames, IsEntry, columns, node_text, stamps_text};
-ghost use Rattle.pv_image.specs.Nodes.{IsAclOf, IsPlain, object_of, plain_texts};
+ghost use Rattle.pv_image.specs.Nodes.{IsAclOf, IsPlain, all_columns, object_of, plain_columns, plain_texts};
 ghost use Rattle.pv_image.specs.Reading.{Reads, texts};
 
 use crate::column::{read_id, read_kind, read_mode, read_stamps};
@@ -17,6 +17,29 @@ use pv_acl::{Acl, read_acl};
 use pv_path::{TreePath, pieces_of};
 use pv_steps::{Kind, Node, Object, Stamps, special_bits};
 use std::alloc::{AllocError, Global};
+
+/// The columns of a line, of which some are those that its version has more.
+#[derive(Clone, Copy)]
+pub struct LineTexts<'a, 'b> {
+    /// The kind of the object.
+    pub kind: &'a [u8],
+    /// Its path.
+    pub path: &'a [u8],
+    /// The special bits and the permissions.
+    pub mode: &'a [u8],
+    /// The ID of the owner.
+    pub uid: &'a [u8],
+    /// The ID of the owning group.
+    pub gid: &'a [u8],
+    /// The four timestamps.
+    pub stamps: &'a [u8],
+    /// The ACL.
+    pub acl: &'a [u8],
+    /// The columns that the version has more.
+    pub extras: &'a [&'b [u8]],
+    /// What the object holds.
+    pub payload: &'a [u8],
+}
 
 /// The columns of a node that are letters and digits alone.
 #[derive(Clone, Copy)]
@@ -34,40 +57,24 @@ pub struct Plain {
 }
 
 /// The plain columns, beside the timestamps.
-fn plain_with(
-    kind: &[u8],
-    mode: &[u8],
-    uid: &[u8],
-    gid: &[u8],
-    stamps: Option<Stamps>,
-) -> Option<Plain>
-    ensures { (text : List ℕ) → Reads stamps_text StampsFit text stamps →
-        let texts = kind.now ∷ mode.now ∷ uid.now ∷ gid.now ∷ text ∷ [] in
-        Reads plain_texts IsPlain texts result }
+fn plain_with(line: &LineTexts<'_, '_>, stamps: Option<Stamps>) -> Option<Plain>
+    ensures { Reads stamps_text StampsFit line.now.stamps.now stamps → Reads plain_texts IsPlain (plain_columns line.now) result }
 {
     Some(Plain {
-        kind: read_kind(kind)?,
-        mode: read_mode(mode)?,
-        uid: read_id(uid)?,
-        gid: read_id(gid)?,
+        kind: read_kind(line.kind)?,
+        mode: read_mode(line.mode)?,
+        uid: read_id(line.uid)?,
+        gid: read_id(line.gid)?,
         stamps: stamps?,
     })
 }
 
-/// The plain columns that texts spell.
-fn read_plain(
-    alloc: Global,
-    kind: &[u8],
-    mode: &[u8],
-    uid: &[u8],
-    gid: &[u8],
-    stamps: &[u8],
-) -> Result<Option<Plain>, AllocError>
-    ensures { let texts = kind.now ∷ mode.now ∷ uid.now ∷ gid.now ∷ stamps.now ∷ [] in
-        IfOk result (Reads plain_texts IsPlain texts) }
+/// The plain columns that the texts of a line spell.
+fn read_plain(alloc: Global, line: &LineTexts<'_, '_>) -> Result<Option<Plain>, AllocError>
+    ensures { IfOk result (Reads plain_texts IsPlain (plain_columns line.now)) }
 {
-    let stamps = read_stamps(alloc, stamps)?;
-    Ok(plain_with(kind, mode, uid, gid, stamps))
+    let stamps = read_stamps(alloc, line.stamps)?;
+    Ok(plain_with(line, stamps))
 }
 
 /// The ACL of a link, which says no more than its mode.
@@ -121,59 +128,45 @@ fn object_of(plain: Plain, acl: Acl, extras: Extras, payload: Payload) -> Object
     }
 }
 
-/// The object of plain columns and of what the other texts spell, beside the path.
+/// The object of the plain columns of a line and of what its other texts spell, beside the path.
 fn object_with(
     alloc: Global,
     version: Version,
     plain: Plain,
-    acl: &[u8],
-    extras: &[&[u8]],
-    payload: &[u8],
+    line: &LineTexts<'_, '_>,
 ) -> Result<Option<Object>, AllocError>
-    requires { plain.mode ≤ 4095 }
-    ensures { (kind mode uid gid stamps path : List ℕ) (names : Path) →
-        Reads plain_texts IsPlain (kind ∷ mode ∷ uid ∷ gid ∷ stamps ∷ []) (Some plain) →
-        Reads printed_path HasNames path (Some names) →
-        let spelled = kind ∷ path ∷ mode ∷ uid ∷ gid ∷ stamps ∷ acl.now ∷ texts extras.now ++ payload.now ∷ [] in
-        IfOk result (λ object. Reads (columns version) (IsEntry version) spelled (option_map (λ o. (names, o)) object)) }
+    requires mode { plain.mode ≤ 4095 }
+    requires plain { Reads plain_texts IsPlain (plain_columns line.now) (Some plain) }
+    ensures { (names : Path) → Reads printed_path HasNames line.now.path.now (Some names) →
+        IfOk result (λ object. Reads (columns version) (IsEntry version) (all_columns line.now) (option_map (λ o. (names, o)) object)) }
 {
-    let Some(acl) = read_acl_of(alloc, plain.kind, plain.mode, acl)? else {
+    let Some(acl) = read_acl_of(alloc, plain.kind, plain.mode, line.acl)? else {
         return Ok(None);
     };
-    let Some(extras) = read_extras(alloc, version, plain.kind, extras)? else {
+    let Some(extras) = read_extras(alloc, version, plain.kind, line.extras)? else {
         return Ok(None);
     };
-    let Some(payload) = read_payload(alloc, plain.kind, payload)? else {
+    let Some(payload) = read_payload(alloc, plain.kind, line.payload)? else {
         return Ok(None);
     };
     Ok(Some(object_of(plain, acl, extras, payload)))
 }
 
-/// The path and the object that texts spell, of which some are the columns that a version has more.
+/// The path and the object that the texts of a line spell.
 fn entry_with(
     alloc: Global,
     version: Version,
-    kind: &[u8],
-    path: &[u8],
-    mode: &[u8],
-    uid: &[u8],
-    gid: &[u8],
-    stamps: &[u8],
-    acl: &[u8],
-    extras: &[&[u8]],
-    payload: &[u8],
+    line: &LineTexts<'_, '_>,
 ) -> Result<Option<(TreePath, Object)>, AllocError>
-    ensures { let spelled = kind.now ∷ path.now ∷ mode.now ∷ uid.now ∷ gid.now
-        ∷ stamps.now ∷ acl.now ∷ texts extras.now ++ payload.now ∷ [] in
-        IfOk result (Reads (columns version) (IsEntry version) spelled) }
+    ensures { IfOk result (Reads (columns version) (IsEntry version) (all_columns line.now)) }
 {
-    let Some(plain) = read_plain(alloc, kind, mode, uid, gid, stamps)? else {
+    let Some(plain) = read_plain(alloc, line)? else {
         return Ok(None);
     };
-    let Some(path) = read_path(alloc, path)? else {
+    let Some(path) = read_path(alloc, line.path)? else {
         return Ok(None);
     };
-    let Some(object) = object_with(alloc, version, plain, acl, extras, payload)? else {
+    let Some(object) = object_with(alloc, version, plain, line)? else {
         return Ok(None);
     };
     Ok(Some((path, object)))
@@ -198,9 +191,20 @@ fn entry_of(
             acl,
             extras @ ..,
             payload,
-        ] => entry_with(
-            alloc, version, kind, path, mode, uid, gid, stamps, acl, extras, payload,
-        ),
+        ] => {
+            let line = LineTexts {
+                kind,
+                path,
+                mode,
+                uid,
+                gid,
+                stamps,
+                acl,
+                extras,
+                payload,
+            };
+            entry_with(alloc, version, &line)
+        }
         _ => Ok(None),
     }
 }
