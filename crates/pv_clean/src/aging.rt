@@ -17,6 +17,19 @@ use pv_walk::below;
 use std::alloc::{AllocError, Global};
 use std::collections::BTreeSet;
 
+/// By what the objects of a tree are judged.
+#[derive(Drop)]
+struct Aging<'a, T: Tree> {
+    /// The tree in which they stand.
+    tree: &'a T,
+    /// The lines.
+    table: &'a Table,
+    /// The present paths that some line names.
+    named: &'a BTreeSet<TreePath>,
+    /// The time of the run.
+    time: u64,
+}
+
 /// The paths that the clean phase takes away (tmpfiles.d(5), "Age", x and X), as all of it is judged by the timestamps
 /// that stand when the phase begins. The age of a directory is looked for once.
 pub fn aged_paths<T: Tree>(
@@ -33,9 +46,15 @@ pub fn aged_paths<T: Tree>(
     let named = all_named(alloc, tree, table.lines())?;
     let mut paths = below(alloc, tree, &root)?;
     paths.push(root)?;
+    let aging = Aging {
+        tree,
+        table,
+        named: &named,
+        time: now,
+    };
     let mut may_go = Vec::new(alloc);
     for path in &paths {
-        add_aged(alloc, tree, table, &named, now, path, &mut may_go)?;
+        add_aged(alloc, &aging, path, &mut may_go)?;
     }
     let aged = whole_of(alloc, tree, may_go)?;
     Ok(aged)
@@ -44,25 +63,23 @@ pub fn aged_paths<T: Tree>(
 /// Adds what may go by itself of what stands in the directory at a path.
 fn add_aged<T: Tree>(
     alloc: Global,
-    tree: &T,
-    table: &Table,
-    named: &BTreeSet<TreePath>,
-    now: u64,
+    aging: &Aging<'_, T>,
     path: &TreePath,
     found: &mut Vec<TreePath>,
 ) -> Result<(), AllocError>
-    requires named { (q : Path) → is_one_of named.now.keys q
-        ≡ (is_some (places (T.state tree.now) q) && list_any (λ line. names line q) table.now) }
+    requires named { (q : Path) → is_one_of aging.now.named.now.keys q
+        ≡ (is_some (places (T.state aging.now.tree.now) q) && list_any (λ line. names line q) aging.now.table.now) }
     ensures { OnOk result (found.new.items ≡ found.old.items ++ map (λ n. path.now ++ n ∷ [])
-        (filter (λ n. may_go table.now now (T.state tree.now) (path.now ++ n ∷ [])) (names_below (T.state tree.now) path.now))) }
+        (filter (λ n. may_go aging.now.table.now aging.now.time (T.state aging.now.tree.now) (path.now ++ n ∷ []))
+        (names_below (T.state aging.now.tree.now) path.now))) }
 {
-    if !is_directory(tree, path) {
+    if !is_directory(aging.tree, path) {
         return Ok(());
     }
-    let scope = scope_of(table, path);
-    let names = tree.list(alloc, path)?;
+    let scope = scope_of(aging.table, path);
+    let names = aging.tree.list(alloc, path)?;
     for name in names.as_slice() {
-        add_if_old(alloc, tree, scope, named, now, path, name, found)?;
+        add_if_old(alloc, aging, scope, path, name, found)?;
     }
     Ok(())
 }
@@ -70,20 +87,19 @@ fn add_aged<T: Tree>(
 /// Adds a path and one name more, where no line names it and it is old by an age.
 fn add_if_old<T: Tree>(
     alloc: Global,
-    tree: &T,
+    aging: &Aging<'_, T>,
     scope: Option<Scope>,
-    named: &BTreeSet<TreePath>,
-    now: u64,
     path: &TreePath,
     name: &Name,
     found: &mut Vec<TreePath>,
 ) -> Result<(), AllocError>
     ensures { OnOk result (found.new.items ≡ found.old.items
-        ++ (if not (is_one_of named.now.keys (path.now ++ name.now ∷ [])) && is_old_by scope now (places (T.state tree.now) (path.now ++ name.now ∷ []))
+        ++ (if not (is_one_of aging.now.named.now.keys (path.now ++ name.now ∷ []))
+        && is_old_by scope aging.now.time (places (T.state aging.now.tree.now) (path.now ++ name.now ∷ []))
         then (path.now ++ name.now ∷ []) ∷ [] else [])) }
 {
     let below = child(alloc, path, name.bytes())?;
-    if !is_among(named, &below) && is_old_by(tree, scope, now, &below) {
+    if !is_among(aging.named, &below) && is_old_by(aging.tree, scope, aging.time, &below) {
         found.push(below)?;
     }
     Ok(())
