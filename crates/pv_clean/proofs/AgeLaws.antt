@@ -1,5 +1,5 @@
 -- Laws of what is old enough to go.
-use Rattle.std.specs.Prelude.{◌≡◌, ◌⊎◌, ℕ, ◌+◌, ◌<◌, Bool, true, false, cond, not, ◌&&◌, ◌||◌, ◌==◌, List, [], ◌∷◌, ◌++◌, length, take, Option, Some, None, is_some}
+use Rattle.std.specs.Prelude.{◌≡◌, ◌≢◌, ◌⊎◌, ℕ, ◌+◌, ◌<◌, Bool, true, false, cond, not, ◌&&◌, ◌||◌, ◌==◌, List, [], ◌∷◌, ◌++◌, length, take, Option, Some, None, is_some}
 use Rattle.std.proofs.Common.{refl, sym, ap, ◌∙◌, inl, inr, get_or}
 use Rattle.std.specs.List.{list_any}
 use Rattle.std.specs.Option.{option_map_or}
@@ -9,7 +9,7 @@ use Rattle.std.proofs.Math.Bool.{and-false}
 use Rattle.std.proofs.lemmas.Bool.{and_parts, and_from}
 use Rattle.pv_lines.specs.declared.line.Line.{Line}
 use Rattle.pv_path.specs.Paths.{Path, path_cmp, same_path, is_prefix, parent_of}
-use Rattle.pv_path.proofs.PathLaws.{path_ends, parent_of-push, is_prefix-refl}
+use Rattle.pv_path.proofs.PathLaws.{parent_parts, is_prefix-refl}
 use Rattle.pv_steps.specs.declared.object.Object.{Object}
 use Rattle.pv_steps.specs.Same.{object_states}
 use Rattle.pv_steps.specs.Trees.{Files, places, child_name, IsTree, IsAbsentIn}
@@ -79,52 +79,23 @@ named_more files lines i line q old more within is before here =
 -- ---- what may go by itself
 
 module _ (lines : List Line) (now : ℕ) (files : Files) where
-  -- what stands directly in a directory
-  pub one_may : (named : List Path) → ((q : Path) → is_one_of named q ≡ (is_some (places files q) && list_any (λ line. names line q) lines)) → (s : Option Scope) (path : Path) → s ≡ scope lines path → (n : List ℕ)
-      → (not (is_one_of named (path ++ n ∷ [])) && is_old_by s now (places files (path ++ n ∷ []))) ≡ may_go lines now files (path ++ n ∷ [])
-  one_may named are s path is n =
-      ap (λ b. not b && is_old_by s now (places files (path ++ n ∷ []))) (are (path ++ n ∷ []))
-      ∙ ap (λ (v : Option Scope). not (is_some (places files (path ++ n ∷ [])) && list_any (λ line. names line (path ++ n ∷ [])) lines) && is_old_by v now (places files (path ++ n ∷ []))) (is ∙ ap (scope lines) (sym (parent_of-push path n)))
-      ∙ by (places files (path ++ n ∷ [])) (scope lines (parent_of (path ++ n ∷ [])))
-      ∙ ap (λ b. (b && not (list_any (λ line. names line (path ++ n ∷ [])) lines)) && is_old_by (scope lines (parent_of (path ++ n ∷ []))) now (places files (path ++ n ∷ []))) (sym (ap not (push_length path n)))
+  -- what no line names and is old by the age of its directory may go
+  pub one_may : (named : List Path) → ((q : Path) → is_one_of named q ≡ (is_some (places files q) && list_any (λ line. names line q) lines)) → (s : Option Scope) (path : Path) → path ≢ [] → s ≡ scope lines (parent_of path)
+      → (not (is_one_of named path) && is_old_by s now (places files path)) ≡ may_go lines now files path
+  one_may named are s path other is =
+      ap (λ b. not b && is_old_by s now (places files path)) (are path)
+      ∙ ap (λ (v : Option Scope). not (is_some (places files path) && list_any (λ line. names line path) lines) && is_old_by v now (places files path)) is
+      ∙ by (places files path) (scope lines (parent_of path))
+      ∙ ap (λ b. (b && not (list_any (λ line. names line path) lines)) && is_old_by (scope lines (parent_of path)) now (places files path)) (sym (ap not (no_root path other)))
     where
+      no_root : (p : Path) → p ≢ [] → (length p == 0) ≡ false
+      no_root p h = let parts = parent_parts p h in ap (λ (r : Path). length r == 0) parts.1 ∙ push_length (parent_of p) parts.0
+
       by : (o : Option Object) (v : Option Scope)
-          → (not (is_some o && list_any (λ line. names line (path ++ n ∷ [])) lines) && is_old_by v now o) ≡ ((true && not (list_any (λ line. names line (path ++ n ∷ [])) lines)) && is_old_by v now o)
-      by None None = sym (and-false (not (list_any (λ line. names line (path ++ n ∷ [])) lines)))
-      by None (Some v) = sym (and-false (not (list_any (λ line. names line (path ++ n ∷ [])) lines)))
+          → (not (is_some o && list_any (λ line. names line path) lines) && is_old_by v now o) ≡ ((true && not (list_any (λ line. names line path) lines)) && is_old_by v now o)
+      by None None = sym (and-false (not (list_any (λ line. names line path) lines)))
+      by None (Some v) = sym (and-false (not (list_any (λ line. names line path) lines)))
       by (Some o) v = refl
-
-  same_child : (d q : Path) → (is_some (places files q) && option_map_or (λ n. may_go lines now files (d ++ n ∷ [])) (child_name d q) false) ≡ (is_some (places files q) && option_map_or (λ n. may_go lines now files q) (child_name d q) false)
-  same_child d q = by (child_name d q) refl
-    where
-      by : (o : Option (List ℕ)) → child_name d q ≡ o → (is_some (places files q) && option_map_or (λ n. may_go lines now files (d ++ n ∷ [])) o false) ≡ (is_some (places files q) && option_map_or (λ n. may_go lines now files q) o false)
-      by None e = refl
-      by (Some n) e = ap (λ (r : Path). is_some (places files q) && may_go lines now files r) (sym (child_name-Some d q n e))
-
-  -- what may go by itself in some directory may go by itself
-  pub may_go_in : IsTree files → (all found : List Path) → ((q : Path) → is_one_of all q ≡ is_some (places files q))
-      → ((q : Path) → is_one_of found q ≡ list_any (λ d. is_some (places files q) && option_map_or (λ n. may_go lines now files (d ++ n ∷ [])) (child_name d q) false) all)
-      → (q : Path) → is_one_of found q ≡ (is_some (places files q) && may_go lines now files q)
-  may_go_in tree all found are in_some q =
-      in_some q ∙ ap (λ (f : Path → Bool). list_any f all) (λ i d. same_child d q i)
-      ∙ elim (path_ends q) [
-        | inl root ↦
-            ap (λ (r : Path). list_any (λ d. is_some (places files r) && option_map_or (λ n. may_go lines now files r) (child_name d r) false) all) root
-            ∙ none_there (λ n. may_go lines now files []) [] all root_no_child (is_some (places files []))
-            ∙ sym (and-false (is_some (places files [])))
-            ∙ sym (ap (λ (r : Path). is_some (places files r) && may_go lines now files r) root)
-        | inr (above, name, e) ↦
-            ap (λ (r : Path). list_any (λ d. is_some (places files r) && option_map_or (λ n. may_go lines now files r) (child_name d r) false) all) e
-            ∙ one_above (λ n. may_go lines now files (above ++ name ∷ [])) above name (is_some (places files (above ++ name ∷ []))) all
-            ∙ ap (λ b. b && (is_some (places files (above ++ name ∷ [])) && may_go lines now files (above ++ name ∷ []))) (are above)
-            ∙ merged (is_some (places files above)) (is_some (places files (above ++ name ∷ []))) (may_go lines now files (above ++ name ∷ [])) (λ there. present_above (places files) tree above (name ∷ []) there)
-            ∙ sym (ap (λ (r : Path). is_some (places files r) && may_go lines now files r) e)
-      ]
-    where
-      merged : (a b m : Bool) → (b ≡ true → a ≡ true) → (a && (b && m)) ≡ (b && m)
-      merged true b m f = refl
-      merged false true m f = absurd (let no : false ≡ true = f refl in cc)
-      merged false false m f = refl
 
   pub below_root : (q : Path) → may_go lines now files q ≡ true → not (length q == 0) ≡ true
   below_root q h = first (not (length q == 0)) (not (list_any (λ line. names line q) lines)) (is_old_by (scope lines (parent_of q)) now (places files q)) h
@@ -140,11 +111,3 @@ module _ (lines : List Line) (now : ℕ) (files : Files) where
       (λ h.
       let parts = and_parts (is_some (places files q)) (all_at (may_go lines now files) files q) h in
       goes_from (may_go lines now files) files q parts.0 (below_root q (all_at-each (may_go lines now files) files q parts.1 q parts.0 (is_prefix-refl q))) parts.1)
-
-  pub whole_aged : (found : List Path) → ((q : Path) → is_one_of found q ≡ (is_some (places files q) && may_go lines now files q)) → (q : Path) → goes_whole (is_one_of found) files q ≡ is_aged lines now files q
-  whole_aged found are q =
-      goes_whole-same (is_one_of found) (may_go lines now files) files (λ r there. are r ∙ ap (λ b. b && may_go lines now files r) there) q
-      ∙ goes_aged q
-
-  pub found_there : (found : List Path) → ((q : Path) → is_one_of found q ≡ (is_some (places files q) && may_go lines now files q)) → (q : Path) → is_one_of found q ≡ true → is_some (places files q) ≡ true
-  found_there found are q h = (and_parts (is_some (places files q)) (may_go lines now files q) (sym (are q) ∙ h)).0

@@ -12,17 +12,18 @@ use Rattle.pv_steps.specs.Runs.{Ran, after_all}
 use Rattle.pv_steps.specs.Trees.{Files}
 use Rattle.pv_steps.specs.Trying.{TriedAll}
 use Rattle.pv_metadata.specs.Edits.{Pruned}
-use Rattle.pv_walk.specs.Removal.{is_one_of}
 use Rattle.pv_find.specs.Whole.{goes_whole}
 use Rattle.pv_table.specs.Cleaned.{is_aged, may_go}
-use Rattle.pv_remove.proofs.RunLaws.{goes_together}
+use Rattle.pv_remove.proofs.RunLaws.{goes_again}
 use Rattle.pv_remove.proofs.StopLaws.{told_prefix}
 use Rattle.pv_clean.specs.Cleaning.{TakesOnly}
 use Rattle.pv_clean.proofs.AgeLaws.{goes_aged, took}
 
 -- what is aged goes whole with what is aged
-pub aged_together : (keys : List Path) (lines : List Line) (now : ℕ) (t : Files) → ((q : Path) → is_one_of keys q ≡ is_aged lines now t q) → (q : Path) → is_one_of keys q ≡ goes_whole (is_one_of keys) t q
-aged_together keys lines now t members = goes_together keys (may_go lines now t) t (λ q. members q ∙ sym (goes_aged lines now t q))
+pub aged_together : (lines : List Line) (now : ℕ) (t : Files) (q : Path) → is_aged lines now t q ≡ goes_whole (is_aged lines now t) t q
+aged_together lines now t q =
+    sym (goes_aged lines now t q) ∙ sym (goes_again (may_go lines now t) t q)
+    ∙ ap (λ (f : Path → Bool). goes_whole f t q) (λ i r. goes_aged lines now t r i)
 
 module _ (goes : Path → Bool) (t : Files) where
   -- the stop law

@@ -35,6 +35,7 @@ use Rattle.pv_find.proofs.WholeLaws.{all_at-each, goes_parts}
 use Rattle.pv_table.specs.Removed.{files_without}
 use Rattle.pv_remove.proofs.StopLaws.{places-without}
 use Rattle.pv_clean.specs.Cleaning.{clean_step, giving_back, is_task, most_steps, stays_and_loses, ArePlanned, GoAfter, IsCleanStep}
+use Rattle.pv_clean.proofs.AllListed.{IsWhole}
 use Rattle.pv_path.proofs.Tests.{true_not_false, none_of}
 
 -- ---- one path
@@ -448,22 +449,14 @@ module _ (goes : Path → Bool) (t : Files) where
       by true rest = (first, rest)
       by false rest = rest
 
-  -- all of a listing lies below the root
-  under_root : (ps : List Path) → ((q : Path) → 1 ≤ times q ps → is_below [] q ≡ true) → IsGatheredBelow [] ps
-  under_root [] under = tt
-  under_root (p ∷ ps) under = (
-    λ q b some. under p (let self = times-self p ps in omega (arith, self)),
-    under_root ps (λ q some. under q (let more : times q ps ≤ times q (p ∷ ps) = omega arith in omega (arith, some, more))),
-  )
-
-  -- the steps at the root and at a listing of all below it
-  pub planned_from : IsTree t → (listed : List Path) (steps : List Step) → IsListing t [] listed → AreGathered listed → steps ≡ map (clean_step goes t) (filter (is_task goes t) ([] ∷ listed)) → ArePlanned goes t steps
-  planned_from tree listed steps l gathered are = record {
-    paths = filter (is_task goes t) ([] ∷ listed);
+  -- the steps at a list of all that stands in the tree
+  pub planned_from : (all : List Path) (steps : List Step) → IsWhole t all → steps ≡ map (clean_step goes t) (filter (is_task goes t) all) → ArePlanned goes t steps
+  planned_from all steps w are = record {
+    paths = filter (is_task goes t) all;
     are = are;
-    once = λ q. times-filter (is_task goes t) q ([] ∷ listed) ∙ ap (λ (n : ℕ). cond (is_task goes t q) n 0) (all q) ∙ by (is_some (places t q)) (is_task goes t q);
-    gathered = gathered_filter (is_task goes t) ([] ∷ listed) (under_root listed (λ q some. (and_parts (is_below [] q) (is_some (places t q)) (cond-true (is_below [] q && is_some (places t q)) (let e = l.once q in omega (arith, e, some)))).0), gathered);
-    order = kept_order ([] ∷ listed) (λ q child there. let e = l.once q ∙ ap (λ b. cond {A = ℕ} b 1 0) (and_from (is_below [] q) (is_some (places t q)) (is_below-child [] q child) there) in omega (arith, e), l.order);
+    once = λ q. times-filter (is_task goes t) q all ∙ ap (λ (n : ℕ). cond (is_task goes t q) n 0) (w.once q) ∙ by (is_some (places t q)) (is_task goes t q);
+    gathered = gathered_filter (is_task goes t) all w.gathered;
+    order = kept_order all w.order;
   }
     where
       by : (i f : Bool) → ◌≡◌ {A = ℕ} (cond f (cond i 1 0) 0) (cond (i && f) 1 0)
@@ -471,22 +464,3 @@ module _ (goes : Path → Bool) (t : Files) where
       by true false = refl
       by false true = refl
       by false false = refl
-
-      root : (b i : Bool) → (b ≡ true → i ≡ true) → ◌≡◌ {A = ℕ} (cond b 1 0 + cond ((true && not b) && i) 1 0) (cond i 1 0)
-      root true true h = refl
-      root true false h = absurd (let no : false ≡ true = h refl in cc)
-      root false true h = refl
-      root false false h = refl
-
-      all : (q : Path) → times q ([] ∷ listed) ≡ cond (is_some (places t q)) 1 0
-      all q =
-          ap (λ (n : ℕ). cond {A = ℕ} (same_path [] q) 1 0 + n) (l.once q)
-          ∙ root (same_path [] q) (is_some (places t q)) (λ e. subst (IsPresent t) (((same_path-decides [] q).0 e)) (present_of_kind (places t) [] Directory tree.root))
-
--- the steps at the root and at what stands below it
-pub root_first : (goes : Path → Bool) (t : Files) (listed : List Path) → cond (is_task goes t []) (clean_step goes t [] ∷ []) [] ++ map (clean_step goes t) (filter (is_task goes t) listed) ≡ map (clean_step goes t) (filter (is_task goes t) ([] ∷ listed))
-root_first goes t listed = by (is_task goes t [])
-  where
-    by : (b : Bool) → cond b (clean_step goes t [] ∷ []) [] ++ map (clean_step goes t) (filter (is_task goes t) listed) ≡ map (clean_step goes t) (cond b ([] ∷ filter (is_task goes t) listed) (filter (is_task goes t) listed))
-    by true = refl
-    by false = refl

@@ -1,7 +1,9 @@
 pub mod AgeLaws
-pub mod RootLaws
+pub mod AllListed
 pub mod CleanLaws
 pub mod InputLaws
 pub mod CleanSteps
+pub mod LevelLaws
+pub mod OpenLaws
 pub mod TurnLaws
 pub mod SentenceLaws

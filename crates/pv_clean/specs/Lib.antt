@@ -1,2 +1,3 @@
 pub mod Cleaning
+pub mod Judging
 pub mod Sentences

@@ -1,16 +1,19 @@
-//! Which objects are old enough to go.
-ghost use Rattle.std.specs.Prelude.{◌≡◌, ◌&&◌, ◌++◌, [], ◌∷◌, not, filter, is_some, map, if◌then◌else◌, IfOk, OnOk};
+//! What may go by itself.
+ghost use Rattle.std.specs.Prelude.{◌≡◌, ◌≢◌, ◌&&◌, ◌++◌, ◌∷◌, [], length, map, slice_get, unwrap_or, Some, None, is_some, IfOk, OnOk};
 ghost use Rattle.std.specs.List.{list_any};
-ghost use Rattle.pv_path.specs.Paths.{Path};
-ghost use Rattle.pv_steps.specs.Trees.{places, names_below, IsTree};
+ghost use Rattle.pv_path.specs.Paths.{Path, parent_of};
+ghost use Rattle.pv_steps.specs.Trees.{places, IsTree};
+ghost use Rattle.pv_walk.specs.Listing.{AreGathered, IsListing};
 ghost use Rattle.pv_walk.specs.Removal.{is_one_of};
-ghost use Rattle.pv_table.specs.Cleaned.{is_aged, is_old_by, may_go};
+ghost use Rattle.pv_table.specs.Cleaned.{is_old_by, may_go};
 ghost use Rattle.pv_table.specs.Reaching.{names};
+ghost use Rattle.pv_table.specs.Scopes.{scope};
+ghost use Rattle.pv_clean.specs.Judging.{judged_at, AreJudged, AreNoted};
 
 use crate::naming::all_named;
 use pv_age::is_old;
-use pv_find::{is_among, whole_of};
-use pv_path::{Name, TreePath, child};
+use pv_find::is_among;
+use pv_path::TreePath;
 use pv_steps::{Tree, is_directory, is_present};
 use pv_table::{Scope, Table, scope_of};
 use pv_walk::below;
@@ -30,79 +33,112 @@ struct Aging<'a, T: Tree> {
     time: u64,
 }
 
-/// The paths that the clean phase takes away (tmpfiles.d(5), "Age", x and X), as all of it is judged by the timestamps
-/// that stand when the phase begins. The age of a directory is looked for once.
-pub fn aged_paths<T: Tree>(
+/// A path, and whether what stands there may go by itself.
+#[derive(Drop)]
+pub(crate) struct Judged {
+    pub(crate) path: TreePath,
+    pub(crate) may_go: bool,
+}
+
+/// All that stands in a tree, each directory before what is in it, and whether it may go by itself (tmpfiles.d(5), "Age",
+/// x and X). From its end on the list has the children of a directory in byte order, each with all below it first.
+pub(crate) fn all_judged<T: Tree>(
     alloc: Global,
     tree: &T,
     table: &Table,
     now: u64,
-) -> Result<BTreeSet<TreePath>, AllocError>
-    ensures aged { IfOk result (λ paths. (q : Path) → is_one_of paths.keys q ≡ is_aged table.now now (T.state tree.now) q) }
+) -> Result<Vec<Judged>, AllocError>
+    ensures judged { IfOk result (λ judged. AreJudged table.now now (T.state tree.now) judged.items) }
     ensures tree { IsTree (T.state tree.now) }
 {
     let root = TreePath::root(alloc);
     let _rooted = is_present(tree, &root);
     let named = all_named(alloc, tree, table.lines())?;
-    let mut paths = below(alloc, tree, &root)?;
-    paths.push(root)?;
+    let listed = below(alloc, tree, &root)?;
     let aging = Aging {
         tree,
         table,
         named: &named,
         time: now,
     };
-    let mut may_go = Vec::new(alloc);
-    for path in &paths {
-        add_aged(alloc, &aging, path, &mut may_go)?;
-    }
-    let aged = whole_of(alloc, tree, may_go)?;
-    Ok(aged)
+    judge_all(alloc, &aging, root, listed)
 }
 
-/// Adds what may go by itself of what stands in the directory at a path.
-fn add_aged<T: Tree>(
+/// Judges the root and a listing of what stands below it. The age for what stands in a directory is looked for once, and
+/// kept by the number of the directory's names as long as what follows lies in it.
+fn judge_all<T: Tree>(
     alloc: Global,
     aging: &Aging<'_, T>,
-    path: &TreePath,
-    found: &mut Vec<TreePath>,
-) -> Result<(), AllocError>
+    root: TreePath,
+    listed: Vec<TreePath>,
+) -> Result<Vec<Judged>, AllocError>
+    requires root { root ≡ [] }
+    requires tree { IsTree (T.state aging.now.tree.now) }
+    requires listing { IsListing (T.state aging.now.tree.now) [] listed.items }
+    requires gathered { AreGathered listed.items }
     requires named { (q : Path) → is_one_of aging.now.named.now.keys q
         ≡ (is_some (places (T.state aging.now.tree.now) q) && list_any (λ line. names line q) aging.now.table.now) }
-    ensures { OnOk result (found.new.items ≡ found.old.items ++ map (λ n. path.now ++ n ∷ [])
-        (filter (λ n. may_go aging.now.table.now aging.now.time (T.state aging.now.tree.now) (path.now ++ n ∷ []))
-        (names_below (T.state aging.now.tree.now) path.now))) }
+    ensures { IfOk result (λ judged. judged.items
+        ≡ map (judged_at aging.now.table.now aging.now.time (T.state aging.now.tree.now)) ([] ∷ listed.items)) }
 {
-    if !is_directory(aging.tree, path) {
-        return Ok(());
+    let mut ages = Vec::new(alloc);
+    ages.push(scope_of(aging.table, &root))?;
+    let mut judged = Vec::with_capacity(alloc, listed.len())?;
+    judged.push(Judged {
+        path: root,
+        may_go: false,
+    })?;
+    let mut left = listed;
+    left.reverse();
+    while let Some(path) = left.pop() {
+        judged.push(judge(aging, path, &mut ages)?)?;
     }
-    let scope = scope_of(aging.table, path);
-    let names = aging.tree.list(alloc, path)?;
-    for name in names.as_slice() {
-        add_if_old(alloc, aging, scope, path, name, found)?;
-    }
-    Ok(())
+    Ok(judged)
 }
 
-/// Adds a path and one name more, where no line names it and it is old by an age.
-fn add_if_old<T: Tree>(
-    alloc: Global,
+/// Judges a path below the root, and notes the age for what stands in it if it is a directory.
+fn judge<T: Tree>(
     aging: &Aging<'_, T>,
-    scope: Option<Scope>,
-    path: &TreePath,
-    name: &Name,
-    found: &mut Vec<TreePath>,
-) -> Result<(), AllocError>
-    ensures { OnOk result (found.new.items ≡ found.old.items
-        ++ (if not (is_one_of aging.now.named.now.keys (path.now ++ name.now ∷ []))
-        && is_old_by scope aging.now.time (places (T.state aging.now.tree.now) (path.now ++ name.now ∷ []))
-        then (path.now ++ name.now ∷ []) ∷ [] else [])) }
+    path: TreePath,
+    ages: &mut Vec<Option<Scope>>,
+) -> Result<Judged, AllocError>
+    requires named { (q : Path) → is_one_of aging.now.named.now.keys q
+        ≡ (is_some (places (T.state aging.now.tree.now) q) && list_any (λ line. names line q) aging.now.table.now) }
+    requires no_root { path ≢ [] }
+    requires age { slice_get ages.old.items (length (parent_of path)) ≡ Some (scope aging.now.table.now (parent_of path)) }
+    ensures judged { IfOk result (λ judged. judged
+        ≡ judged_at aging.now.table.now aging.now.time (T.state aging.now.tree.now) path) }
+    ensures noted { OnOk result (AreNoted aging.now.table.now (T.state aging.now.tree.now) path ages.old.items ages.new.items) }
 {
-    let below = child(alloc, path, name.bytes())?;
-    if !is_among(aging.named, &below) && is_old_by(aging.tree, scope, aging.time, &below) {
-        found.push(below)?;
+    let around = age_at(ages, path.len().saturating_sub(1));
+    if is_directory(aging.tree, &path) {
+        ages.truncate(path.len());
+        ages.push(scope_of(aging.table, &path))?;
     }
-    Ok(())
+    let may_go = may_go(aging, around, &path);
+    Ok(Judged { path, may_go })
+}
+
+/// The age that is kept at a number of names.
+fn age_at(ages: &Vec<Option<Scope>>, count: usize) -> Option<Scope>
+    ensures { result ≡ unwrap_or (slice_get ages.now.items count) None }
+{
+    match ages.get(count) {
+        Some(scope) => *scope,
+        None => None,
+    }
+}
+
+/// Whether a path below the root may go by itself: no line names it, and it is old by the age of its directory.
+#[tactic(auto, using(crate::proofs::AgeLaws::one_may))]
+fn may_go<T: Tree>(aging: &Aging<'_, T>, around: Option<Scope>, path: &TreePath) -> bool
+    requires named { (q : Path) → is_one_of aging.now.named.now.keys q
+        ≡ (is_some (places (T.state aging.now.tree.now) q) && list_any (λ line. names line q) aging.now.table.now) }
+    requires no_root { path.now ≢ [] }
+    requires scope { around ≡ scope aging.now.table.now (parent_of path.now) }
+    ensures { result ≡ may_go aging.now.table.now aging.now.time (T.state aging.now.tree.now) path.now }
+{
+    !is_among(aging.named, path) && is_old_by(aging.tree, around, aging.time, path)
 }
 
 /// Whether what stands at a path is old by an age, where that does not spare what stands directly in its directory.

@@ -5,7 +5,7 @@ ghost use Rattle.pv_metadata.specs.Edits.{Pruned};
 ghost use Rattle.pv_table.specs.Cleaned.{cleaned, is_aged};
 ghost use Rattle.pv_clean.specs.Cleaning.{most_steps, IsCleanStep, IsCleanedInTurn, TakesOnly};
 
-use crate::aging::aged_paths;
+use crate::aging::all_judged;
 use crate::steps::clean_steps;
 use pv_steps::{Tree, TreeFault, try_all};
 use pv_table::Table;
@@ -42,7 +42,7 @@ pub fn clean_run<T: Tree>(
     clean(alloc, tree, table, now)
 }
 
-/// Finds the paths that go and does the steps of the clean phase.
+/// Finds the steps of the clean phase and does them.
 fn clean<T: Tree>(alloc: Global, tree: &mut T, table: &Table, now: u64) -> Result<(), TreeFault>
     ensures ok { OnOk result (T.state tree.new ≡ cleaned table.now now (T.state tree.old)) }
     ensures exact { OnOk result (length (drop (length (T.steps tree.old)) (T.steps tree.new))
@@ -52,7 +52,7 @@ fn clean<T: Tree>(alloc: Global, tree: &mut T, table: &Table, now: u64) -> Resul
         (most_steps (is_aged table.now now (T.state tree.old)) (T.state tree.old)) now tree.old tree.new result }
     ensures in_turn { IsCleanedInTurn now (T.state tree.old) (drop (length (T.steps tree.old)) (T.steps tree.new)) }
 {
-    let aged = aged_paths(alloc, tree, table, now)?;
-    let steps = clean_steps(alloc, tree, &aged)?;
+    let judged = all_judged(alloc, tree, table, now)?;
+    let steps = clean_steps(alloc, tree, judged)?;
     try_all(tree, steps, now)
 }

@@ -7,7 +7,6 @@ mod laws;
 mod naming;
 mod steps;
 
-pub use aging::aged_paths;
 pub use cleaning::clean_run;
 pub use laws::{
     a_cleaning_leaves_what_lines_are_read_from, a_stopped_clean_took_what_is_aged,

@@ -1,74 +1,123 @@
 //! What a clean phase does at each path.
-ghost use Rattle.std.specs.Prelude.{◌≡◌, ◌++◌, [], ◌∷◌, if◌then◌else◌, IfOk, OnOk};
-ghost use Rattle.pv_walk.specs.Removal.{is_one_of, loses_child};
-ghost use Rattle.pv_clean.specs.Cleaning.{clean_step, giving_back, is_task, ArePlanned};
+ghost use Rattle.std.specs.Prelude.{◌≡◌, ℕ, List, ◌&&◌, not, length, unwrap_or, slice_get, reverse, if◌then◌else◌, [], ◌∷◌, ◌++◌, false, IfOk, OnOk};
+ghost use Rattle.pv_lines.specs.declared.line.Line.{Line as LineValue};
+ghost use Rattle.pv_steps.specs.Trees.{IsTree};
+ghost use Rattle.pv_table.specs.Cleaned.{is_aged};
+ghost use Rattle.pv_walk.specs.Removal.{removal_at};
+ghost use Rattle.pv_clean.specs.Cleaning.{giving_back, ArePlanned};
+ghost use Rattle.pv_clean.specs.Judging.{noted, AreJudged};
 
-use pv_find::is_among;
-use pv_path::{TreePath, child};
-use pv_steps::{Step, Tree, is_directory};
-use pv_walk::{below, removal};
+use crate::aging::Judged;
+use pv_path::TreePath;
+use pv_steps::{Step, Tree};
+use pv_walk::removal;
 use std::alloc::{AllocError, Global};
-use std::collections::BTreeSet;
 
-/// The steps of a clean phase in which some paths go: each is taken away, and a directory that stays and loses a child gets
-/// its timestamps back. From its end on the list has the steps of the children of a directory in byte order, each after
-/// those of all below it, and then that of the directory.
+/// What is known of the children of directories, by the number of a directory's names: of those of them that come after a
+/// path in a list that has all below a directory right after it.
+#[derive(Drop)]
+struct Levels {
+    /// Whether one of them stays.
+    staying: Vec<bool>,
+    /// Whether one of them goes.
+    going: Vec<bool>,
+}
+
+/// The steps of a clean phase by what may go by itself: what goes, with all below it, is taken away, and a directory that
+/// stays and loses a child gets its timestamps back. From its end on the list has the steps of the children of a directory
+/// in byte order, each after those of all below it, and then that of the directory. No path is looked up to learn of
+/// its children: they were judged right before it.
 pub(crate) fn clean_steps<T: Tree>(
     alloc: Global,
     tree: &T,
-    going: &BTreeSet<TreePath>,
+    judged: Vec<Judged>,
 ) -> Result<Vec<Step>, AllocError>
-    ensures { IfOk result (λ steps. ArePlanned (is_one_of going.now.keys) (T.state tree.now) steps.items) }
+    requires { IsTree (T.state tree.now) }
+    ensures { (lines : List LineValue) (now : ℕ) → AreJudged lines now (T.state tree.now) judged.items
+        → IfOk result (λ steps. ArePlanned (is_aged lines now (T.state tree.now)) (T.state tree.now) steps.items) }
 {
-    let root = TreePath::root(alloc);
-    let paths = below(alloc, tree, &root)?;
+    let mut left = judged;
+    let mut levels = Levels {
+        staying: Vec::new(alloc),
+        going: Vec::new(alloc),
+    };
     let mut steps = Vec::new(alloc);
-    add_step(alloc, tree, going, &root, &mut steps)?;
-    for path in &paths {
-        add_step(alloc, tree, going, path, &mut steps)?;
+    while let Some(next) = left.pop() {
+        add_step(tree, next, &mut levels, &mut steps)?;
     }
+    steps.reverse();
     Ok(steps)
 }
 
-/// Adds the step at a path that goes or loses a child.
+/// Adds the step at a path that goes or loses a child, as its children were judged before.
 fn add_step<T: Tree>(
-    alloc: Global,
     tree: &T,
-    going: &BTreeSet<TreePath>,
-    path: &TreePath,
+    next: Judged,
+    levels: &mut Levels,
+    steps: &mut Vec<Step>,
+) -> Result<(), AllocError>
+    ensures steps { OnOk result (steps.new.items ≡ steps.old.items
+        ++ (if next.may_go && not (unwrap_or (slice_get levels.old.staying.items (length next.path)) false)
+        then removal_at (T.state tree.now) next.path ∷ []
+        else if unwrap_or (slice_get levels.old.going.items (length next.path)) false
+        then giving_back (T.state tree.now) next.path ∷ [] else [])) }
+    ensures staying { OnOk result ((k : ℕ) → unwrap_or (slice_get levels.new.staying.items k) false
+        ≡ noted (length next.path) (not (next.may_go && not (unwrap_or (slice_get levels.old.staying.items (length next.path)) false)))
+        (λ j. unwrap_or (slice_get levels.old.staying.items j) false) k) }
+    ensures going { OnOk result ((k : ℕ) → unwrap_or (slice_get levels.new.going.items k) false
+        ≡ noted (length next.path) (next.may_go && not (unwrap_or (slice_get levels.old.staying.items (length next.path)) false))
+        (λ j. unwrap_or (slice_get levels.old.going.items j) false) k) }
+{
+    let Judged { path, may_go } = next;
+    let count = path.len();
+    let goes = may_go && !is_noted(&levels.staying, count);
+    let loses = is_noted(&levels.going, count);
+    note(&mut levels.staying, count, !goes)?;
+    note(&mut levels.going, count, goes)?;
+    add_due(tree, path, goes, loses, steps)
+}
+
+/// Adds the step at a path that goes or loses a child.
+fn add_due<T: Tree>(
+    tree: &T,
+    path: TreePath,
+    goes: bool,
+    loses: bool,
     steps: &mut Vec<Step>,
 ) -> Result<(), AllocError>
     ensures { OnOk result (steps.new.items ≡ steps.old.items
-        ++ (if is_task (is_one_of going.now.keys) (T.state tree.now) path.now
-        then clean_step (is_one_of going.now.keys) (T.state tree.now) path.now ∷ [] else [])) }
+        ++ (if goes then removal_at (T.state tree.now) path ∷ []
+        else if loses then giving_back (T.state tree.now) path ∷ [] else [])) }
 {
-    if is_among(going, path) {
-        steps.push(removal(tree, path.copy()?))?;
-    } else if loses(alloc, tree, going, path)? {
-        steps.push(giving_back(tree, path.copy()?))?;
+    if goes {
+        steps.push(removal(tree, path))?;
+    } else if loses {
+        steps.push(giving_back(tree, path))?;
     }
     Ok(())
 }
 
-/// Whether a child of a path goes.
-fn loses<T: Tree>(
-    alloc: Global,
-    tree: &T,
-    going: &BTreeSet<TreePath>,
-    path: &TreePath,
-) -> Result<bool, AllocError>
-    ensures { IfOk result (λ is. is ≡ loses_child (is_one_of going.now.keys) (T.state tree.now) path.now) }
+/// Whether something is noted at a number of names.
+fn is_noted(level: &Vec<bool>, count: usize) -> bool
+    ensures { result ≡ unwrap_or (slice_get level.now.items count) false }
 {
-    if !is_directory(tree, path) {
-        return Ok(false);
+    match level.get(count) {
+        Some(is) => *is,
+        None => false,
     }
-    let names = tree.list(alloc, path)?;
-    for name in names.as_slice() {
-        if is_among(going, &child(alloc, path, name.bytes())?) {
-            return Ok(true);
-        }
+}
+
+/// Notes something of a path of so many names at the number of its directory's names, and forgets what is noted at larger
+/// numbers.
+fn note(level: &mut Vec<bool>, count: usize, is: bool) -> Result<(), AllocError>
+    ensures { OnOk result ((k : ℕ) → unwrap_or (slice_get level.new.items k) false
+        ≡ noted count is (λ j. unwrap_or (slice_get level.old.items j) false) k) }
+{
+    level.resize(count, false)?;
+    if is && count > 0 {
+        level[count - 1] = true;
     }
-    Ok(false)
+    Ok(())
 }
 
 /// The step that gives a path the timestamps of access and modification that stand there now, 0 where nothing does

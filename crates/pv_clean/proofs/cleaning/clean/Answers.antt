@@ -19,47 +19,47 @@ use Rattle.pv_path.proofs.Tests.{on_ok}
 pub try_all-requires : goal.try_all-requires
 try_all-requires g c =
     let t = g.T.Tree.state c.args.tree.now in
-    let goes = is_one_of c.in_ok-aged.aged.keys in
+    let goes = is_aged c.args.table.now c.args.now t in
+    let plan = c.in_ok-steps.ensures c.args.table.now c.args.now c.in_ok-judged.ensures.judged in
     let steps = c.in_ok-steps.steps.items in
     ask_can (Pruned goes t) (IsCleanStep goes t) c.args.now t (reverse steps)
-    (planned_ask goes t c.args.now steps c.in_ok-steps.ensures (aged_together c.in_ok-aged.aged.keys c.args.table.now c.args.now t c.in_ok-aged.ensures.aged))
+    (planned_ask goes t c.args.now steps plan (aged_together c.args.table.now c.args.now t))
 
 pub returns-clause-ok : goal.returns-clause-ok
 returns-clause-ok g c =
     let t = g.T.Tree.state c.args.tree.now in
-    let goes = is_one_of c.in_ok-aged.aged.keys in
+    let goes = is_aged c.args.table.now c.args.now t in
+    let plan = c.in_ok-steps.ensures c.args.table.now c.args.now c.in_ok-judged.ensures.judged in
     let steps = c.in_ok-steps.steps.items in
-    let whole = aged_together c.in_ok-aged.aged.keys c.args.table.now c.args.now t c.in_ok-aged.ensures.aged in
+    let whole = aged_together c.args.table.now c.args.now t in
     on_ok c.try_all.result
-    (λ e. planned_end goes t c.args.now steps c.in_ok-steps.ensures whole (g.T.Tree.state c.try_all.new.tree) e
-    ∙ ap (λ (f : Path → Bool). files_without f (changed c.args.now) t) (λ i q. c.in_ok-aged.ensures.aged q i))
+    (λ e. planned_end goes t c.args.now steps plan whole (g.T.Tree.state c.try_all.new.tree) e)
     (tried_whole g.T.Tree (reverse steps) c.args.now c.args.tree.now c.try_all.new.tree c.try_all.result c.try_all.ensures)
 
 pub returns-clause-exact : goal.returns-clause-exact
 returns-clause-exact g c =
     let t = g.T.Tree.state c.args.tree.now in
-    let goes = is_one_of c.in_ok-aged.aged.keys in
+    let goes = is_aged c.args.table.now c.args.now t in
+    let plan = c.in_ok-steps.ensures c.args.table.now c.args.now c.in_ok-judged.ensures.judged in
     let steps = c.in_ok-steps.steps.items in
-    let same : goes ≡ is_aged c.args.table.now c.args.now t = λ i q. c.in_ok-aged.ensures.aged q i in
     on_ok c.try_all.result
-    (λ stated. ap length stated ∙ length-reverse steps ∙ planned_exact goes t steps c.in_ok-steps.ensures ∙ ap (λ (f : Path → Bool). most_steps f t) same)
+    (λ stated. ap length stated ∙ length-reverse steps ∙ planned_exact goes t steps plan)
     (tried_told g.T.Tree (reverse steps) c.args.now c.args.tree.now c.try_all.new.tree c.try_all.result c.try_all.ensures)
 
 pub returns-clause-acted : goal.returns-clause-acted
 returns-clause-acted g c =
     let t = g.T.Tree.state c.args.tree.now in
-    let goes = is_one_of c.in_ok-aged.aged.keys in
+    let goes = is_aged c.args.table.now c.args.now t in
+    let plan = c.in_ok-steps.ensures c.args.table.now c.args.now c.in_ok-judged.ensures.judged in
     let steps = c.in_ok-steps.steps.items in
-    let whole = aged_together c.in_ok-aged.aged.keys c.args.table.now c.args.now t c.in_ok-aged.ensures.aged in
-    let same : goes ≡ is_aged c.args.table.now c.args.now t = λ i q. c.in_ok-aged.ensures.aged q i in
-    let number = planned_exact goes t steps c.in_ok-steps.ensures in
-    subst (λ (f : Path → Bool). Acted g.T.Tree (Pruned f t) (IsCleanStep f t) (most_steps f t) c.args.now c.args.tree.now c.try_all.new.tree c.try_all.result) same
-    (acted_within g.T.Tree (length (reverse steps)) (most_steps goes t) (omega (arith, length-reverse steps, number))
+    let whole = aged_together c.args.table.now c.args.now t in
+    let number = planned_exact goes t steps plan in
+    acted_within g.T.Tree (length (reverse steps)) (most_steps goes t) (omega (arith, length-reverse steps, number))
     (acted_all (Pruned goes t) (IsCleanStep goes t) c.args.now g.T.Tree (reverse steps) c.args.tree.now c.try_all.new.tree c.try_all.result c.try_all.ensures
-    (planned_ask goes t c.args.now steps c.in_ok-steps.ensures whole)))
+    (planned_ask goes t c.args.now steps plan whole))
 
-pub returns-in_err-aged-clause-in_turn : goal.returns-in_err-aged-clause-in_turn
-returns-in_err-aged-clause-in_turn g c = none_in_turn c.args.now (g.T.Tree.state c.args.tree.now) (g.T.Tree.steps c.args.tree.now)
+pub returns-in_err-judged-clause-in_turn : goal.returns-in_err-judged-clause-in_turn
+returns-in_err-judged-clause-in_turn g c = none_in_turn c.args.now (g.T.Tree.state c.args.tree.now) (g.T.Tree.steps c.args.tree.now)
 
 pub returns-in_err-steps-clause-in_turn : goal.returns-in_err-steps-clause-in_turn
 returns-in_err-steps-clause-in_turn g c = none_in_turn c.args.now (g.T.Tree.state c.args.tree.now) (g.T.Tree.steps c.args.tree.now)
@@ -67,6 +67,7 @@ returns-in_err-steps-clause-in_turn g c = none_in_turn c.args.now (g.T.Tree.stat
 pub returns-clause-in_turn : goal.returns-clause-in_turn
 returns-clause-in_turn g c =
     let t = g.T.Tree.state c.args.tree.now in
-    let goes = is_one_of c.in_ok-aged.aged.keys in
-    tried_in_turn g.T.Tree goes c.args.now c.in_ok-steps.steps.items c.args.tree.now c.try_all.new.tree c.try_all.result c.in_ok-steps.ensures
-    (aged_together c.in_ok-aged.aged.keys c.args.table.now c.args.now t c.in_ok-aged.ensures.aged) c.in_ok-steps.ensures.gathered c.try_all.ensures
+    let goes = is_aged c.args.table.now c.args.now t in
+    let plan = c.in_ok-steps.ensures c.args.table.now c.args.now c.in_ok-judged.ensures.judged in
+    tried_in_turn g.T.Tree goes c.args.now c.in_ok-steps.steps.items c.args.tree.now c.try_all.new.tree c.try_all.result plan
+    (aged_together c.args.table.now c.args.now t) plan.gathered c.try_all.ensures
