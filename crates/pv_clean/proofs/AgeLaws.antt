@@ -2,24 +2,21 @@
 use Rattle.std.specs.Prelude.{◌≡◌, ◌≢◌, ◌⊎◌, ℕ, ◌+◌, ◌<◌, Bool, true, false, cond, not, ◌&&◌, ◌||◌, ◌==◌, List, [], ◌∷◌, ◌++◌, length, take, Option, Some, None, is_some}
 use Rattle.std.proofs.Common.{refl, sym, ap, ◌∙◌, inl, inr, get_or}
 use Rattle.std.specs.List.{list_any}
-use Rattle.std.specs.Option.{option_map_or}
 use Rattle.std.specs.Ordering.{eq_by_cmp, is_eq}
 use Rattle.std.proofs.lemmas.List.Folds.{list_any-append}
 use Rattle.std.proofs.Math.Bool.{and-false}
 use Rattle.std.proofs.lemmas.Bool.{and_parts, and_from}
 use Rattle.pv_lines.specs.declared.line.Line.{Line}
-use Rattle.pv_path.specs.Paths.{Path, path_cmp, same_path, is_prefix, parent_of}
+use Rattle.pv_path.specs.Paths.{Path, path_cmp, same_path, parent_of}
 use Rattle.pv_path.proofs.PathLaws.{parent_parts, is_prefix-refl}
 use Rattle.pv_steps.specs.declared.object.Object.{Object}
 use Rattle.pv_steps.specs.Same.{object_states}
-use Rattle.pv_steps.specs.Trees.{Files, places, child_name, IsTree, IsAbsentIn}
-use Rattle.pv_steps.proofs.NameLaws.{child_name-Some}
-use Rattle.pv_steps.proofs.TreeLaws.{present_above}
+use Rattle.pv_steps.specs.Trees.{Files, places, IsAbsentIn}
 use Rattle.pv_metadata.specs.Edits.{Pruned}
 use Rattle.pv_walk.specs.Removal.{is_one_of}
 use Rattle.pv_find.specs.Whole.{goes_whole}
-use Rattle.pv_find.proofs.FindingLaws.{one_of-tied, same_tied, one_above, root_no_child, none_there, any_more}
-use Rattle.pv_find.proofs.WholeLaws.{goes_parts, goes_from, goes_whole-same, all_at-each, push_length}
+use Rattle.pv_find.proofs.FindingLaws.{one_of-tied, same_tied, any_more}
+use Rattle.pv_find.proofs.WholeLaws.{goes_parts, goes_from, all_at-each, push_length}
 use Rattle.pv_table.specs.declared.scope.Scope.{Scope}
 use Rattle.pv_table.specs.Cleaned.{is_aged, is_old_by, may_go}
 use Rattle.pv_table.specs.Reaching.{names}

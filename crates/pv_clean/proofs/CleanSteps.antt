@@ -5,27 +5,25 @@ use Rattle.std.specs.FinMap as fin
 use Rattle.std.specs.List.{list_any}
 use Rattle.std.specs.Option.{option_map_or}
 use Rattle.std.proofs.lemmas.List.{length-map}
-use Rattle.std.proofs.lemmas.Bool.{cases_Bool, and_from, and_parts}
-use Rattle.pv_path.specs.Paths.{Path, same_path, same_path-decides, parent_of}
+use Rattle.std.proofs.lemmas.Bool.{cases_Bool, and_parts}
+use Rattle.pv_path.specs.Paths.{Path, same_path, parent_of}
 use Rattle.pv_path.proofs.PathLaws.{is_prefix-append, path_ends, parent_of-push, same_path-refl}
-use Rattle.pv_steps.specs.declared.node.Kind.TheVariants.{Directory}
 use Rattle.pv_steps.specs.declared.object.Object.{Object}
 use Rattle.pv_steps.specs.declared.step.Step.{Step}
 use Rattle.pv_steps.specs.Objects.{object_state, changed, with_stamps}
 use Rattle.pv_steps.specs.Runs.{after_all, IsNotIdle}
 use Rattle.pv_steps.specs.Steps.{Can, after, gone, on_at}
-use Rattle.pv_steps.specs.Trees.{Files, Places, places, child_name, names_below, IsEmptyIn, IsPresent, IsTree}
+use Rattle.pv_steps.specs.Trees.{Files, Places, places, child_name, names_below, IsEmptyIn, IsPresent}
 use Rattle.pv_steps.proofs.ActingLaws.{Asks}
 use Rattle.pv_steps.proofs.TryingLaws.{AllAsk, ask_first, reverse-first}
 use Rattle.pv_steps.proofs.RunLaws.{after_all-append}
 use Rattle.pv_steps.proofs.StepLaws.{at_after, same_files}
 use Rattle.pv_steps.proofs.NameLaws.{child_name-push}
-use Rattle.pv_steps.proofs.TreeLaws.{present_of_kind}
 use Rattle.pv_metadata.specs.Edits.{Pruned}
-use Rattle.pv_walk.specs.Listing.{times, is_child, AreGathered, IsGatheredBelow, IsListing, ParentsFirst}
-use Rattle.pv_walk.specs.Removal.{is_below, is_one_of, loses_child, removal, removal_at}
+use Rattle.pv_walk.specs.Listing.{times, is_child, ParentsFirst}
+use Rattle.pv_walk.specs.Removal.{is_one_of, loses_child, removal, removal_at}
 use Rattle.pv_walk.proofs.CountLaws.{is_child-push, length-times, same_or_not, taken_out, times-append, times-filter, times-keys, times-self}
-use Rattle.pv_walk.proofs.RemovalLaws.{cond-true, is_below-child, kept-object_state, kept-kind, kept-present, modified_kept, no_same, not_first, zero_or_more, gone-here, gone-none, gone-other, gone-parent, IsKept}
+use Rattle.pv_walk.proofs.RemovalLaws.{cond-true, kept-object_state, kept-kind, kept-present, modified_kept, no_same, not_first, zero_or_more, gone-here, gone-none, gone-other, gone-parent, IsKept}
 use Rattle.pv_walk.proofs.GatheredLaws.{gathered_filter}
 use Rattle.pv_walk.proofs.ListingLaws.{cond-le}
 use Rattle.pv_walk.proofs.Removing.{after_removal, removal_asks}

@@ -1,5 +1,5 @@
 -- Laws of what is known of the children of directories, when a list of all that stands in a tree is gone through from its end.
-use Rattle.std.specs.Prelude.{◌≡◌, ◌≢◌, ◌⊎◌, ℕ, ◌+◌, ◌-◌, ◌≤◌, ◌<◌, Bool, true, false, cond, not, ◌&&◌, ◌||◌, ◌==◌, nat_lt, List, [], ◌∷◌, ◌++◌, zero, suc, length, map, filter, replicate, reverse, set, take, Option, is_some, slice_get, unwrap_or}
+use Rattle.std.specs.Prelude.{◌≡◌, ◌≢◌, ◌⊎◌, ℕ, ◌+◌, ◌-◌, ◌≤◌, ◌<◌, Bool, true, false, cond, not, ◌&&◌, ◌||◌, ◌==◌, nat_lt, List, [], ◌∷◌, ◌++◌, zero, suc, length, map, filter, replicate, reverse, set, take, is_some, slice_get, unwrap_or}
 use Rattle.std.proofs.Common.{refl, sym, ap, subst, ◌∙◌, inl, inr, arith, append_assoc, get_or, length-append}
 use Rattle.std.proofs.lemmas.Bool.Decides.{nat_tests}
 use Rattle.std.specs.List.{list_all, list_any, AllClonesOf}
@@ -7,13 +7,13 @@ use Rattle.std.proofs.lemmas.List.{append-nil, get_or-set_other, get_or-set_same
 use Rattle.std.proofs.Math.Bool.{and-false, or-false}
 use Rattle.std.proofs.lemmas.Bool.{and_from, and_parts, cases_Bool, or_right}
 use Rattle.pv_lines.specs.declared.line.Line.{Line}
-use Rattle.pv_path.specs.Paths.{Path, same_path, same_path-decides, parent_of}
+use Rattle.pv_path.specs.Paths.{Path, parent_of}
 use Rattle.pv_path.proofs.PathLaws.{length-parent_of}
 use Rattle.pv_path.proofs.Tests.{same_tests, true_not_false}
 use Rattle.pv_steps.specs.declared.step.Step.{Step}
 use Rattle.pv_steps.specs.Trees.{Files, places, names_below, IsPresent, IsTree}
-use Rattle.pv_walk.specs.Listing.{times, is_child, children_of, IsGatheredBelow}
-use Rattle.pv_walk.specs.Removal.{is_below, loses_child, removal_at}
+use Rattle.pv_walk.specs.Listing.{times, is_child, IsGatheredBelow}
+use Rattle.pv_walk.specs.Removal.{loses_child, removal_at}
 use Rattle.pv_walk.proofs.CountLaws.{child_parts, is_child-push, same_or_not, times-append, times-children, times-push, times-self}
 use Rattle.pv_walk.proofs.RemovalLaws.{cond-true, is_below-child, zero_or_more}
 use Rattle.pv_table.specs.Cleaned.{is_aged, may_go}
@@ -21,7 +21,7 @@ use Rattle.pv_remove.proofs.SentenceLaws.{children_all}
 use Rattle.pv_clean.specs.declared.aging.Judged.{Judged}
 use Rattle.pv_clean.specs.Cleaning.{clean_step, giving_back, is_task, ArePlanned}
 use Rattle.pv_clean.specs.Judging.{judged_at, noted, AreJudged}
-use Rattle.pv_clean.proofs.AllListed.{IsWhole, behind_one, child_behind, child_of_parent, gathered_at, gathered_behind, has_names, longer, parent_before, there, whole_from}
+use Rattle.pv_clean.proofs.AllListed.{IsWhole, behind_one, child_behind, child_of_parent, gathered_at, gathered_behind, longer, parent_before, there, whole_from}
 use Rattle.pv_clean.proofs.CleanSteps.{child_lost, planned_from}
 use Rattle.pv_clean.proofs.SentenceLaws.{aged_by}
 

@@ -1,5 +1,5 @@
 -- Laws of the ages that are kept for the directories on the way down through a list of all that stands in a tree.
-use Rattle.std.specs.Prelude.{◌≡◌, ◌≢◌, ℕ, ◌+◌, ◌-◌, ◌≤◌, ◌<◌, Bool, true, false, cond, min, List, [], ◌∷◌, ◌++◌, length, map, reverse, take, Option, Some, slice_get, is_some}
+use Rattle.std.specs.Prelude.{◌≡◌, ◌≢◌, ℕ, ◌+◌, ◌≤◌, ◌<◌, true, false, cond, min, List, [], ◌∷◌, ◌++◌, length, map, reverse, take, Option, Some, slice_get, is_some}
 use Rattle.std.proofs.Common.{refl, sym, ap, subst, ◌∙◌, inl, inr, arith, append_assoc, get_or, length-append}
 use Rattle.std.proofs.lemmas.List.{append-nil, get_or-take, get_or_append_left, length-take, length-take-le, map-append, reverse-append, reverse-reverse}
 use Rattle.std.proofs.lemmas.Option.{get_or_from_slice_get, slice_get-get_or, slice_get_within}
@@ -16,7 +16,7 @@ use Rattle.pv_table.specs.declared.scope.Scope.{Scope}
 use Rattle.pv_table.specs.Scopes.{scope}
 use Rattle.pv_clean.specs.declared.aging.Judged.{Judged}
 use Rattle.pv_clean.specs.Judging.{judged_at, AreNoted}
-use Rattle.pv_clean.proofs.AllListed.{IsWhole, child_of_parent, gathered_at, has_names, here, longer, parent_before, there, whole_from}
+use Rattle.pv_clean.proofs.AllListed.{IsWhole, child_of_parent, gathered_at, here, longer, parent_before, whole_from}
 
 -- the age of each directory of which a child still follows is kept at its number of names
 abbrev pub AreOpen : List Line → List Path → List Path → List (Option Scope) → Type 0

@@ -1,4 +1,4 @@
-use Rattle.std.proofs.Common.{◌≡◌, ◌&&◌, [], List, subst, sym, is_some}
+use Rattle.std.proofs.Common.{◌≡◌, ◌&&◌, List, subst, is_some}
 use Rattle.std.specs.List.{list_any}
 use Rattle.pv_lines.specs.declared.line.Line.{Line}
 use Rattle.pv_path.specs.Paths.{Path}

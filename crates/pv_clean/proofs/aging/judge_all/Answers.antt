@@ -2,7 +2,6 @@ use Rattle.std.proofs.Common.{◌≡◌, [], ◌∷◌, ◌++◌, List, subst, s
 use Rattle.std.proofs.lemmas.List.{nil_from_length}
 use Rattle.pv_path.specs.Paths.{Path}
 use Rattle.pv_clean.specs.declared.aging.Judged.{Judged}
-use Rattle.pv_clean.specs.Judging.{judged_at}
 use Rattle.pv_clean.proofs.OpenLaws.{judging_end, judging_next, judging_start, next_age, next_no_root, Judging}
 use Rattle.pv_clean.proofs.aging.judge_all.Goals as goal
 
