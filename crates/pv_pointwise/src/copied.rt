@@ -1,15 +1,19 @@
 //! What a line that copies leaves at and below its path.
-ghost use Rattle.std.specs.Prelude.{◌≡◌, Some, IfOk};
+ghost use Rattle.std.specs.Prelude.{◌≡◌, ◌&&◌, true, Some, IfOk, if◌then◌else◌};
 ghost use Rattle.std.specs.FinMap as fin;
-ghost use Rattle.pv_path.specs.Paths.{Path, has_staging, rest_under};
+ghost use Rattle.pv_metadata.specs.Nodes.{same_kind};
+ghost use Rattle.pv_path.specs.Paths.{has_names, has_staging};
+ghost use Rattle.pv_steps.specs.Objects.{is_directory};
 ghost use Rattle.pv_table.specs.declared.action.Action.TheVariants.{Copy};
 ghost use Rattle.pv_table.specs.Pointwise.{after_turn, view};
-ghost use Rattle.pv_table.specs.Turns.{View, copy_of, copying_turn, decide, is_childless, topped_by};
+ghost use Rattle.pv_table.specs.Turns.{copy_of, decide, is_childless, topped_by};
 
+use crate::line_turn::LineTurn;
 use crate::made::adjusted;
 use crate::standing::Standing;
 use pv_metadata::ObjectState;
-use pv_path::{Name, TreePath, is_staging, rebase};
+use pv_path::{Name, is_staging};
+use pv_steps::Kind;
 use pv_table::Copying;
 use pv_walk::topped;
 use std::alloc::{AllocError, Global};
@@ -18,72 +22,52 @@ use std::alloc::{AllocError, Global};
 pub(crate) fn after_copying(
     alloc: Global,
     copying: &Copying,
-    path: &TreePath,
-    childless: bool,
-    before: &Standing,
-    other: &TreePath,
+    turn: &LineTurn<'_>,
     rest: &[Name],
     here: Option<ObjectState>,
 ) -> Result<Option<ObjectState>, AllocError>
-    requires childless { childless ≡ is_childless (view before.now) path.now }
-    requires rest { rest_under path.now other.now ≡ Some rest.now }
-    ensures { IfOk result (λ object_state. object_state ≡ after_turn (decide (Copy copying.now) (view before.now) path.now) rest.now here) }
+    requires childless { turn.now.childless ≡ is_childless (view turn.now.before.now) turn.now.path.now }
+    requires names { has_names rest.now ≡ true }
+    ensures { IfOk result (λ object_state. object_state
+        ≡ after_turn (decide (Copy copying.now) (view turn.now.before.now) turn.now.path.now) rest.now here) }
 {
-    match before.get(&copying.source) {
-        None => Ok(here),
-        Some(source) => {
-            let copy = copied(alloc, copying, path, before, source, other, rest)?;
-            match before.get(path) {
-                None => Ok(copy),
-                Some(old) => {
-                    let left = over(alloc, copying, childless, source, old, rest, copy, here)?;
-                    Ok(left)
-                }
-            }
-        }
-    }
-}
-
-/// What a line that copies leaves at a path, where something stands at the line's path.
-fn over(
-    alloc: Global,
-    copying: &Copying,
-    childless: bool,
-    source: &ObjectState,
-    old: &ObjectState,
-    rest: &[Name],
-    copy: Option<ObjectState>,
-    here: Option<ObjectState>,
-) -> Result<Option<ObjectState>, AllocError>
-    ensures { IfOk result (λ object_state. (view : View) (path : Path) → childless ≡ is_childless view path
-        → copy ≡ copy_of copying.now view rest.now
-        → object_state ≡ after_turn (copying_turn copying.now view path source.now.body.kind (Some old.now)) rest.now here) }
-{
-    if source.body.kind == old.body.kind {
-        if source.body.kind.is_directory() && childless {
-            Ok(copy)
-        } else {
-            adjusted(alloc, &copying.sets, rest, here)
-        }
-    } else if copying.renews {
-        Ok(copy)
+    let Some(source) = turn.before.get(&copying.source) else {
+        return Ok(here);
+    };
+    let Some(old) = turn.before.get(turn.path) else {
+        return copied(alloc, copying, turn.before, source, rest);
+    };
+    if is_replaced(copying, turn.childless, source.body.kind, old.body.kind) {
+        copied(alloc, copying, turn.before, source, rest)
+    } else if source.body.kind == old.body.kind {
+        adjusted(alloc, &copying.sets, rest, here)
     } else {
         Ok(here)
     }
 }
 
-/// The copy of what stands at and below a path, staging names left out.
+/// Whether a copy comes to stand in the place of an object: a directory over a childless one anew, over what is of another
+/// kind where the line renews it.
+fn is_replaced(copying: &Copying, childless: bool, source: Kind, old: Kind) -> bool
+    ensures { result ≡ (if same_kind source old then is_directory source && childless else copying.now.renews) }
+{
+    if source == old {
+        source.is_directory() && childless
+    } else {
+        copying.renews
+    }
+}
+
+/// The copy of what stands at and below a path, at a rest, staging names left out.
 fn copied(
     alloc: Global,
     copying: &Copying,
-    path: &TreePath,
     before: &Standing,
     source: &ObjectState,
-    other: &TreePath,
     rest: &[Name],
 ) -> Result<Option<ObjectState>, AllocError>
     requires source { fin.get before.now copying.now.source ≡ Some source.now }
-    requires rest { rest_under path.now other.now ≡ Some rest.now }
+    requires names { has_names rest.now ≡ true }
     ensures { IfOk result (λ copy. copy ≡ copy_of copying.now (view before.now) rest.now) }
 {
     match rest {
@@ -92,7 +76,7 @@ fn copied(
             if is_staged(rest) {
                 return Ok(None);
             }
-            before.copy_at(&rebase(alloc, other, path, &copying.source)?)
+            before.copy_at(&copying.source.followed_by(rest)?)
         }
     }
 }

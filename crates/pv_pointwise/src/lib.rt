@@ -3,6 +3,7 @@
 #![tactic(auto)]
 
 mod copied;
+mod line_turn;
 mod made;
 mod point;
 mod standing;

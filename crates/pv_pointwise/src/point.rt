@@ -4,12 +4,13 @@ ghost use Rattle.std.specs.FinMap as fin;
 ghost use Rattle.pv_metadata.specs.Operations.{run};
 ghost use Rattle.pv_path.specs.Paths.{is_prefix, same_path};
 ghost use Rattle.pv_table.specs.declared.action.Action.TheVariants.{Create, Copy};
-ghost use Rattle.pv_table.specs.ActionTable.{action_of};
 ghost use Rattle.pv_table.specs.Pointwise.{at_made, parent_object_state, point, adjusts_path, view};
-ghost use Rattle.pv_table.specs.Reaching.{names_above, path_in};
+ghost use Rattle.pv_table.specs.Reaching.{names_above};
 ghost use Rattle.pv_table.specs.Turns.{is_childless};
+ghost use Rattle.pv_pointwise.specs.LineTurns.{IsLineTurn};
 
 use crate::copied::after_copying;
+use crate::line_turn::LineTurn;
 use crate::made::{after_making, parent_object_state};
 use crate::standing::Standing;
 use pv_lines::Line;
@@ -18,26 +19,20 @@ use pv_path::{TreePath, has_staging, is_prefix, names_under};
 use pv_table::{Action, Adjustment, Copying, Making, names, names_first};
 use std::alloc::{AllocError, Global};
 
-/// What a line leaves at a path; the action is what it asks for, and the path its own.
+/// What a line leaves at a path.
 pub(crate) fn point(
     alloc: Global,
-    line: &Line,
-    action: &Action,
-    path: &TreePath,
-    childless: bool,
-    before: &Standing,
+    turn: &LineTurn<'_>,
     other: &TreePath,
 ) -> Result<Option<ObjectState>, AllocError>
-    requires action { action.now ≡ action_of line.now }
-    requires path { path.now ≡ path_in line.now.path }
-    requires childless { childless ≡ is_childless (view before.now) path.now }
-    ensures { IfOk result (λ object_state. object_state ≡ point line.now before.now other.now) }
+    requires { IsLineTurn turn.now }
+    ensures { IfOk result (λ object_state. object_state ≡ point turn.now.line.now turn.now.before.now other.now) }
 {
-    match action {
-        Action::Create(making) => made(alloc, making, path, before, other),
-        Action::Copy(copying) => copied(alloc, copying, path, childless, before, other),
-        Action::Adjust(adjustment) => touched(alloc, line, adjustment, before, other),
-        Action::Idle => before.copy_at(other),
+    match turn.action {
+        Action::Create(making) => made(alloc, making, turn.path, turn.before, other),
+        Action::Copy(copying) => copied(alloc, copying, turn, other),
+        Action::Adjust(adjustment) => touched(alloc, turn.line, adjustment, turn.before, other),
+        Action::Idle => turn.before.copy_at(other),
     }
 }
 
@@ -86,25 +81,23 @@ fn made(
 fn copied(
     alloc: Global,
     copying: &Copying,
-    path: &TreePath,
-    childless: bool,
-    before: &Standing,
+    turn: &LineTurn<'_>,
     other: &TreePath,
 ) -> Result<Option<ObjectState>, AllocError>
-    requires childless { childless ≡ is_childless (view before.now) path.now }
-    ensures { IfOk result (λ object_state. object_state
-        ≡ (if is_some (fin.get before.now copying.now.source) then at_made (Copy copying.now) path.now before.now other.now
-        else fin.get before.now other.now)) }
+    requires { turn.now.childless ≡ is_childless (view turn.now.before.now) turn.now.path.now }
+    ensures { let before = turn.now.before.now in IfOk result (λ object_state. object_state
+        ≡ (if is_some (fin.get before copying.now.source) then at_made (Copy copying.now) turn.now.path.now before other.now
+        else fin.get before other.now)) }
 {
-    let here = before.copy_at(other)?;
-    if before.get(&copying.source).is_none() {
+    let here = turn.before.copy_at(other)?;
+    if turn.before.get(&copying.source).is_none() {
         return Ok(here);
     }
-    if is_above(other, path) {
-        return above(alloc, before, other);
+    if is_above(other, turn.path) {
+        return above(alloc, turn.before, other);
     }
-    match names_under(path.names(), other.names()) {
-        Some(rest) => { after_copying(alloc, copying, path, childless, before, other, rest, here) }
+    match names_under(turn.path.names(), other.names()) {
+        Some(rest) => after_copying(alloc, copying, turn, rest, here),
         None => Ok(here),
     }
 }

@@ -8,7 +8,9 @@ ghost use Rattle.pv_table.specs.ActionTable.{action_of};
 ghost use Rattle.pv_table.specs.Pointwise.{point, point_paths, pointwise_after, state, tabulated};
 ghost use Rattle.pv_table.specs.Reaching.{path_in};
 ghost use Rattle.pv_walk.specs.Preparing.{parents_of};
+ghost use Rattle.pv_pointwise.specs.LineTurns.{IsLineTurn};
 
+use crate::line_turn::LineTurn;
 use crate::point::point;
 use crate::standing::Standing;
 use pv_lines::Line;
@@ -54,7 +56,8 @@ pub fn after_line(alloc: Global, line: &Line, before: &Standing) -> Result<Stand
     let action = action_of(alloc, line)?;
     let path = path_of(alloc, line)?;
     let paths = touched_paths(alloc, &action, &path, before)?;
-    tabulated(alloc, line, &action, &path, before, &paths)
+    let turn = LineTurn::of(line, &action, &path, before);
+    tabulated(alloc, &turn, &paths)
 }
 
 /// What a line leaves at some paths, from what stands at all that it looks at.
@@ -68,26 +71,18 @@ pub fn after_line_at(
 {
     let action = action_of(alloc, line)?;
     let path = path_of(alloc, line)?;
-    tabulated(alloc, line, &action, &path, before, paths)
+    let turn = LineTurn::of(line, &action, &path, before);
+    tabulated(alloc, &turn, paths)
 }
 
 /// What a line leaves at some paths.
-fn tabulated(
-    alloc: Global,
-    line: &Line,
-    action: &Action,
-    path: &TreePath,
-    before: &Standing,
-    paths: &[TreePath],
-) -> Result<Standing, AllocError>
-    requires action { action.now ≡ action_of line.now }
-    requires path { path.now ≡ path_in line.now.path }
-    ensures { IfOk result (λ after. after ≡ tabulated paths.now (point line.now before.now)) }
+fn tabulated(alloc: Global, turn: &LineTurn<'_>, paths: &[TreePath]) -> Result<Standing, AllocError>
+    requires { IsLineTurn turn.now }
+    ensures { IfOk result (λ after. after ≡ tabulated paths.now (point turn.now.line.now turn.now.before.now)) }
 {
-    let childless = before.is_childless(path);
     let mut after = Standing::new(alloc);
     for other in paths {
-        if let Some(object_state) = point(alloc, line, action, path, childless, before, other)? {
+        if let Some(object_state) = point(alloc, turn, other)? {
             after.put(other.copy()?, object_state)?;
         }
     }

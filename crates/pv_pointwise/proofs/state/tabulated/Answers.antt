@@ -13,7 +13,7 @@ loop-other-init c = λ q. ap (λ (m : ObjectStates). fin.get m q) c.new-after.en
 
 pub loop-other-preserved : goal.loop-other-preserved
 loop-other-preserved c =
-    let f : (Path → Option ObjectState) = point c.args.line.now c.args.before.now in
+    let f : (Path → Option ObjectState) = point c.args.turn.now.line.now c.args.turn.now.before.now in
     let i = c.loop-other.other-index in
     let ps = c.args.paths.now in
     let p = c.other-item.result in
@@ -36,6 +36,6 @@ loop-other-preserved c =
 
 pub returns : goal.returns
 returns c =
-    let f : (Path → Option ObjectState) = point c.args.line.now c.args.before.now in
+    let f : (Path → Option ObjectState) = point c.args.turn.now.line.now c.args.turn.now.before.now in
     let ps = c.args.paths.now in
     all_put f ps c.loop-other.after (λ q. c.loop-other.invariant q ∙ ap (λ (xs : List Path). within f xs q) (take_all c.loop-other.other-index ps c.loop-other-test.false))

@@ -6,4 +6,4 @@ use Rattle.pv_pointwise.proofs.TabulatedLaws.{within}
 use Rattle.pv_pointwise.proofs.state.tabulated.Given as goal
 
 abbrev pub invariant-loop-other : goal.invariant-loop-other
-invariant-loop-other l = (q : Path) → fin.get l.after q ≡ within (point l.line l.before) (take l.other-index l.paths) q
+invariant-loop-other l = (q : Path) → fin.get l.after q ≡ within (point l.turn.line.now l.turn.before.now) (take l.other-index l.paths) q
