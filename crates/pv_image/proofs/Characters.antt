@@ -1,5 +1,5 @@
 -- Which letters stand in the columns of a node.
-use Rattle.std.proofs.Common.{◌≡◌, ℕ, ◌<◌, ◌^◌, true, not, ◌&&◌, ◌||◌, ◌==◌, nat_le, nat_lt, List, [], ◌∷◌, ◌++◌, map, refl, sym, ap, arith, append-nil, length}
+use Rattle.std.proofs.Common.{◌≡◌, ℕ, ◌<◌, ◌^◌, true, not, ◌&&◌, ◌||◌, ◌==◌, nat_le, nat_lt, List, [], ◌∷◌, ◌++◌, map, refl, sym, ap, arith, append-nil, length, ◌≤◌}
 use Rattle.std.specs.List.{list_all, flat_map, slice_split, join_with_byte}
 use Rattle.std.specs.Fmt.{decimal}
 use Rattle.std.proofs.lemmas.Bool.{and_parts, and_from}
@@ -66,3 +66,7 @@ numbers_again numbers fit =
     let major : numbers.0 < 2 ^ 64 = let f = fit.0 in omega arith in
     let minor : numbers.1 < 2 ^ 64 = let f = fit.1 in omega arith in
     split_join 58 (decimal numbers.0) (decimal numbers.1 ∷ []) (rw (decimal_lacks 58 numbers.0 refl major, decimal_lacks 58 numbers.1 refl minor) refl)
+
+-- the timestamps are four
+pub four_stamps : (stamps : Stamps) → length (stamp_texts stamps) ≤ 4
+four_stamps stamps = omega arith

@@ -77,12 +77,12 @@ encoded_no_dash m e =
     cc
 
 -- the first bytes, some threes, are encoded, and then the others
-pub encoded_more : (whole old new rest front back : List ℕ) → 3072 ≤ length rest → whole ≡ old ++ encode_of standard rest → front ≡ take 3072 rest → back ≡ drop 3072 rest → new ≡ old ++ encode_of standard front → whole ≡ new ++ encode_of standard back
+pub encoded_more : (whole old new rest front back : List ℕ) → 768 ≤ length rest → whole ≡ old ++ encode_of standard rest → front ≡ take 768 rest → back ≡ drop 768 rest → new ≡ old ++ encode_of standard front → whole ≡ new ++ encode_of standard back
 encoded_more whole old new rest front back long so_far is others grown =
-    let threes : length (take 3072 rest) % 3 ≡ 0 = rw (length-take-le 3072 rest long) refl in
+    let threes : length (take 768 rest) % 3 ≡ 0 = rw (length-take-le 768 rest long) refl in
     let parts : encode_of standard rest ≡ encode_of standard front ++ encode_of standard back =
-    ap (encode_of standard) (sym (take-append-drop 3072 rest)) ∙ encode_of-append standard (take 3072 rest) (drop 3072 rest) threes
-    ∙ ap (λ (t : List ℕ). encode_of standard t ++ encode_of standard (drop 3072 rest)) (sym is) ∙ ap (λ (t : List ℕ). encode_of standard front ++ encode_of standard t) (sym others) in
+    ap (encode_of standard) (sym (take-append-drop 768 rest)) ∙ encode_of-append standard (take 768 rest) (drop 768 rest) threes
+    ∙ ap (λ (t : List ℕ). encode_of standard t ++ encode_of standard (drop 768 rest)) (sym is) ∙ ap (λ (t : List ℕ). encode_of standard front ++ encode_of standard t) (sym others) in
     so_far ∙ ap (λ (t : List ℕ). old ++ t) parts ∙ sym (append_assoc old (encode_of standard front) (encode_of standard back)) ∙ ap (λ (t : List ℕ). t ++ encode_of standard back) (sym grown)
 
 -- no text, and the dash, beside what Base64 reads

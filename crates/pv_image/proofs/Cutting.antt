@@ -1,5 +1,5 @@
 -- Texts that are cut at a byte, and texts that are joined by it.
-use Rattle.std.proofs.Common.{◌≡◌, ℕ, Bool, true, ◌==◌, List, [], ◌∷◌, Option, Some, None, sym, ap, ◌∙◌}
+use Rattle.std.proofs.Common.{◌≡◌, ℕ, Bool, true, ◌==◌, List, [], ◌∷◌, Option, Some, None, sym, ap, ◌∙◌, ◌≤◌, ◌<◌, length, arith}
 use Rattle.std.specs.List.{list_all, slice_split, join_with_byte}
 use Rattle.std.proofs.lemmas.List.Splits.{join_with_byte-slice_split}
 use Rattle.std.proofs.lemmas.Bool.{and_parts}
@@ -27,3 +27,12 @@ reads_joined c pieces Is text None again none = λ x is e. none x is (ap (slice_
 pub reads_same : {A B : Type 0} (f g : A → B) (Is : A → Type 0) (text : B) (o : Option A) → ((x : A) → f x ≡ g x) → Reads f Is text o → Reads g Is text o
 reads_same f g Is text (Some x) same (is, e) = (is, e ∙ same x)
 reads_same f g Is text None same none = λ x is e. none x is (e ∙ sym (same x))
+
+-- a text of more pieces than any spelling has
+pub reads_too_many : {A : Type 0} (c n : ℕ) (pieces : A → List (List ℕ)) (Is : A → Type 0) (text : List ℕ) → ((x : A) → Is x → slice_split (λ b. b == c) (join_with_byte c (pieces x)) ≡ pieces x) → ((x : A) → length (pieces x) ≤ n)
+    → n < length (slice_split (λ b. b == c) text) → Reads {A = A} (λ x. join_with_byte c (pieces x)) Is text None
+reads_too_many c n pieces Is text again few many = λ x is e.
+    let same : slice_split (λ b. b == c) text ≡ pieces x = ap (slice_split (λ b. b == c)) e ∙ again x is in
+    let fits = few x in
+    let more : n < length (pieces x) = rw same at many in
+    omega arith

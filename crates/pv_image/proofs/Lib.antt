@@ -6,7 +6,7 @@ pub mod Paths
 pub mod Contents
 pub mod Columns
 pub mod Solid
-pub mod Feeds
+pub mod Cuts
 pub mod Order
 pub mod Facts
 pub mod MappedLaws

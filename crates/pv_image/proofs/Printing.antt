@@ -5,8 +5,8 @@ use Rattle.std.proofs.lemmas.Bool.Decides.{nat_tests}
 use Rattle.std.proofs.lemmas.List.{take-append-drop}
 use Rattle.std.proofs.lemmas.List.Concat.{flat_map-append}
 use Rattle.std.proofs.lemmas.Bool.{and_parts, and_from}
-use Rattle.pv_path.specs.Printing.{hex_digit, is_plain, printed, printed_by, printed_byte_by}
-use Rattle.pv_path.proofs.Printed.{plain_front}
+use Rattle.pv_path.specs.Printing.{hex_digit, is_plain, is_plain_but, printed, printed_by, printed_byte_by}
+use Rattle.pv_path.proofs.Printed.{hidden_none, plain_front}
 use Rattle.pv_steps.specs.Attributes.{are_bytes}
 use Rattle.pv_image.specs.Reading.{IsFront}
 use Rattle.pv_text.proofs.Characters.{all_append, all_back, all_front}
@@ -123,3 +123,6 @@ plain_prints p [] plain = refl
 plain_prints p (b ∷ text) plain =
     let both = and_parts (p b) (list_all p text) plain in
     rw both.0 (ap (λ (t : List ℕ). b ∷ t) (plain_prints p text both.1))
+
+pub plain_itself : (text : List ℕ) → list_all (is_plain_but []) text ≡ true → printed text ≡ text
+plain_itself text plain = subst (λ (p : ℕ → Bool). printed_by p text ≡ text) hidden_none (plain_prints (is_plain_but []) text plain)

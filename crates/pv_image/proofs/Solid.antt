@@ -1,5 +1,5 @@
 -- No column of a node has a space or a line feed in it.
-use Rattle.std.proofs.Common.{◌≡◌, ℕ, ◌/◌, ◌%◌, Bool, true, false, not, ◌&&◌, ◌||◌, ◌==◌, nat_le, nat_lt, List, [], ◌∷◌, ◌++◌, ◌+◌, map, codes, refl, arith}
+use Rattle.std.proofs.Common.{◌≡◌, ℕ, ◌/◌, ◌%◌, Bool, true, false, not, ◌&&◌, ◌||◌, ◌==◌, nat_le, nat_lt, List, [], ◌∷◌, ◌++◌, ◌+◌, map, codes, refl, arith, ◌≤◌, length}
 use Rattle.std.specs.List.{list_all, flat_map, slice_split, join_with_byte}
 use Rattle.std.specs.Fmt.{decimal}
 use Rattle.std.proofs.lemmas.Bool.Decides.{nat_tests}
@@ -199,3 +199,8 @@ node_whole version e is = pieces_whole (columns version e) (columns_solid versio
 -- and so is an object without its path and its stamps
 pub object_whole : (o : Object) → lacks 10 (object_text o) ≡ true
 object_whole o = pieces_whole (object_texts o) (object_solid o)
+
+-- a node has at most ten columns
+pub few_columns : (version : Version) (e : Path × Object) → length (columns version e) ≤ 10
+few_columns One e = omega arith
+few_columns Two e = omega arith

@@ -2,6 +2,7 @@
 use Rattle.std.specs.Prelude.{◌≡◌, ◌≢◌, ℕ, ◌/◌, ◌%◌, ◌<◌, ◌^◌, true, false, List, [], ◌∷◌, ◌++◌, map, Option, Some, None}
 use Rattle.std.specs.Borrow.{Bor}
 use Rattle.pv_text.specs.Facts.{is_fact_value}
+use Rattle.pv_text.specs.Lines.{lacks}
 use Rattle.pv_steps.specs.declared.attr.Attr.{Attr}
 use Rattle.pv_steps.specs.Attributes.{are_bytes, are_attrs, is_attr}
 use Rattle.pv_steps.specs.Objects.{IsTarget}
@@ -16,6 +17,11 @@ Reads {A = A} spelling Is text None = (x : A) → Is x → text ≢ spelling x
 -- the texts that slices show
 abbrev pub texts : {A : Type 0} → List (Bor A) → List A
 texts slices = map (λ s. s.now) slices
+
+-- a text that is cut at the first place of a byte
+pub record IsCutAt (c : ℕ) (text front rest : List ℕ) : Type 0 where
+  pub whole : text ≡ front ++ c ∷ rest
+  pub before : lacks c front ≡ true
 
 -- the two hexadecimal digits of a byte
 abbrev pub hex_digits : ℕ → List ℕ

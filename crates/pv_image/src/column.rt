@@ -1,14 +1,13 @@
 //! The columns of a node that are spelled by letters and digits.
-ghost use Rattle.std.specs.Prelude.{◌≡◌, ◌+◌, ◌≤◌, ◌<◌, ◌^◌, [], ◌∷◌, IfOk};
+ghost use Rattle.std.specs.Prelude.{◌≡◌, ◌+◌, ◌≤◌, ◌<◌, ◌^◌, [], ◌∷◌};
 ghost use Rattle.std.specs.Fmt.{decimal};
 ghost use Rattle.pv_steps.specs.Objects.{StampsFit, IsId};
 ghost use Rattle.pv_image.specs.Spelling.{kind_text, mode_text, stamp_texts, stamps_text};
 ghost use Rattle.pv_image.specs.Reading.{Reads, texts};
 
+use crate::cut::cut_into;
 use pv_acl::number;
-use pv_path::pieces_of;
 use pv_steps::{Kind, Stamps};
-use std::alloc::{AllocError, Global};
 
 /// The kind that a text spells.
 pub(crate) fn read_kind(text: &[u8]) -> Option<Kind>
@@ -125,9 +124,12 @@ fn stamps_of(pieces: &[&[u8]]) -> Option<Stamps>
 }
 
 /// The timestamps that a text spells.
-pub(crate) fn read_stamps(alloc: Global, text: &[u8]) -> Result<Option<Stamps>, AllocError>
-    ensures { IfOk result (Reads stamps_text StampsFit text.now) }
+pub(crate) fn read_stamps(text: &[u8]) -> Option<Stamps>
+    ensures { Reads stamps_text StampsFit text.now result }
 {
-    let pieces = pieces_of(alloc, text, b',')?;
-    Ok(stamps_of(pieces.as_slice()))
+    let mut pieces = [text; 4];
+    match cut_into(text, b',', &mut pieces) {
+        Some(count) => stamps_of(&pieces[..count]),
+        None => None,
+    }
 }

@@ -3,6 +3,7 @@
 
 mod attrs;
 mod column;
+mod cut;
 mod extent;
 mod extras;
 mod image_fault;

@@ -1,6 +1,5 @@
 //! Lines, and the lines of an image that are no node.
-ghost use Rattle.std.specs.Prelude.{◌≡◌, ◌↔◌, ◌==◌, true, ◌∷◌, [], IsTrue, IfNone, IfSome, IfOk, codes};
-ghost use Rattle.std.specs.List.{position};
+ghost use Rattle.std.specs.Prelude.{◌≡◌, ◌↔◌, true, ◌∷◌, [], IsTrue, IfNone, IfSome, IfOk, codes};
 ghost use Rattle.pv_path.specs.Printing.{printed};
 ghost use Rattle.pv_image.specs.Spelling.{fact_text, fact_texts, header_text, end_text};
 ghost use Rattle.pv_image.specs.Images.{IsByteFact, IsCut, is_note};
@@ -8,26 +7,19 @@ ghost use Rattle.pv_text.specs.Lines.{is_line};
 ghost use Rattle.pv_text.specs.Facts.{is_fact_letter, is_fact_value};
 ghost use Rattle.pv_image.specs.Reading.{IsFactValue, Reads, texts};
 
+use crate::cut::cut_at;
 use crate::printed::read_printed;
 use crate::version::Version;
 use pv_path::{Bytes, pieces_of};
 use pv_text::FACT_LETTERS;
 use std::alloc::{AllocError, Global};
 
-/// The place of the first line feed.
-fn feed_at(bytes: &[u8]) -> Option<usize>
-    ensures { result ≡ position (λ b. b == 10) bytes.now }
-{
-    bytes.iter().position(|b| *b == b'\n')
-}
-
 /// The first line of bytes without its line feed, and what follows it.
 pub(crate) fn first_line(bytes: &[u8]) -> Option<(&[u8], &[u8])>
     ensures some { IfSome result (λ cut. IsCut bytes.now cut.0.now cut.1.now) }
     ensures none { IfNone result (is_line bytes.now ≡ true) }
 {
-    let at = feed_at(bytes)?;
-    Some((&bytes[..at], &bytes[at + 1..]))
+    cut_at(bytes, b'\n')
 }
 
 /// Whether a line is a note, which reading skips.

@@ -1,16 +1,17 @@
 //! Printed names and paths, read back.
-ghost use Rattle.std.specs.Prelude.{◌≡◌, ◌↔◌, IsTrue, true, List, [], ◌∷◌, map, IfOk};
-ghost use Rattle.std.specs.List.{list_all};
+ghost use Rattle.std.specs.Prelude.{◌≡◌, ◌==◌, [], map, IfOk};
+ghost use Rattle.std.specs.List.{list_all, slice_split};
 ghost use Rattle.pv_path.specs.Printing.{is_plain_but, printed, printed_path};
-ghost use Rattle.pv_image.specs.Spelling.{IsName, HasNames, path_texts};
-ghost use Rattle.pv_image.specs.Reading.{Reads, texts};
+ghost use Rattle.pv_image.specs.Spelling.{IsName, HasNames};
+ghost use Rattle.pv_image.specs.Reading.{Reads};
 
+use crate::cut::cut_at;
 use crate::printed::read_printed;
-use pv_path::{Name, TreePath, is_name, is_plain, pieces_of};
+use pv_path::{Name, TreePath, is_name, is_plain};
 use std::alloc::{AllocError, Global};
 
 /// Whether each byte of a text is printed as itself.
-fn is_plain_text(text: &[u8]) -> bool
+pub(crate) fn is_plain_text(text: &[u8]) -> bool
     ensures { result ≡ list_all (is_plain_but []) text.now }
 {
     text.iter().all(|b| is_plain(*b, b""))
@@ -39,47 +40,33 @@ fn read_printed_name(alloc: Global, text: &[u8]) -> Result<Option<Name>, AllocEr
     Ok(Some(Name::of(alloc, bytes.as_slice())?))
 }
 
-/// The path whose names the texts print.
-fn names_of(alloc: Global, pieces: &[&[u8]]) -> Result<Option<TreePath>, AllocError>
-    ensures { IfOk result (Reads (map printed) HasNames (texts pieces.now)) }
+/// The path whose names a text prints, with a slash between them.
+fn read_names(alloc: Global, text: &[u8]) -> Result<Option<TreePath>, AllocError>
+    ensures { IfOk result (Reads (map printed) HasNames (slice_split (λ b. b == 47) text.now)) }
 {
     let mut path = TreePath::root(alloc);
-    for piece in pieces {
-        match read_name(alloc, piece)? {
-            Some(name) => path.push(name)?,
-            None => return Ok(None),
-        }
+    let mut rest = text;
+    while let Some((piece, after)) = cut_at(rest, b'/') {
+        let Some(name) = read_name(alloc, piece)? else {
+            return Ok(None);
+        };
+        path.push(name)?;
+        rest = after;
     }
+    let Some(name) = read_name(alloc, rest)? else {
+        return Ok(None);
+    };
+    path.push(name)?;
     Ok(Some(path))
-}
-
-/// Whether nothing stands before and after one slash.
-fn is_slash(pieces: &[&[u8]]) -> bool
-    ensures { IsTrue result ↔ (texts pieces.now ≡ [] ∷ [] ∷ []) }
-{
-    match pieces {
-        [before, after] => before.is_empty() && after.is_empty(),
-        _ => false,
-    }
-}
-
-/// The path that texts between slashes print.
-fn path_of(alloc: Global, pieces: &[&[u8]]) -> Result<Option<TreePath>, AllocError>
-    ensures { IfOk result (Reads path_texts HasNames (texts pieces.now)) }
-{
-    if is_slash(pieces) {
-        return Ok(Some(TreePath::root(alloc)));
-    }
-    match pieces {
-        [before, names @ ..] if before.is_empty() && !names.is_empty() => names_of(alloc, names),
-        _ => Ok(None),
-    }
 }
 
 /// The path that a text prints.
 pub(crate) fn read_path(alloc: Global, text: &[u8]) -> Result<Option<TreePath>, AllocError>
     ensures { IfOk result (Reads printed_path HasNames text.now) }
 {
-    let pieces = pieces_of(alloc, text, b'/')?;
-    path_of(alloc, pieces.as_slice())
+    match text {
+        [b'/'] => Ok(Some(TreePath::root(alloc))),
+        [b'/', names @ ..] => read_names(alloc, names),
+        _ => Ok(None),
+    }
 }

@@ -3,20 +3,23 @@ ghost use Rattle.std.specs.Prelude.{◌≡◌, ◌≤◌, Some, IfOk, option_map
 ghost use Rattle.pv_path.specs.Paths.{Path};
 ghost use Rattle.pv_path.specs.Printing.{printed_path};
 ghost use Rattle.pv_acl.specs.Texts.{acl_text};
-ghost use Rattle.pv_steps.specs.Objects.{StampsFit};
-ghost use Rattle.pv_image.specs.Spelling.{HasNames, IsEntry, columns, node_text, stamps_text};
+ghost use Rattle.pv_image.specs.Spelling.{HasNames, IsEntry, columns, node_text};
 ghost use Rattle.pv_image.specs.Nodes.{IsAclOf, IsPlain, all_columns, object_of, plain_columns, plain_texts};
 ghost use Rattle.pv_image.specs.Reading.{Reads, texts};
 
 use crate::column::{read_id, read_kind, read_mode, read_stamps};
+use crate::cut::cut_into;
 use crate::extras::{Extras, read_extras};
 use crate::name::read_path;
 use crate::payload::{Payload, is_dash, read_payload};
 use crate::version::Version;
 use pv_acl::{Acl, read_acl};
-use pv_path::{TreePath, pieces_of};
+use pv_path::TreePath;
 use pv_steps::{Kind, Node, Object, Stamps, special_bits};
 use std::alloc::{AllocError, Global};
+
+/// The columns of a node in version 2, which has the most.
+const MOST_COLUMNS: usize = 10;
 
 /// The columns of a line, of which some are those that its version has more.
 #[derive(Clone, Copy)]
@@ -56,25 +59,17 @@ pub struct Plain {
     pub stamps: Stamps,
 }
 
-/// The plain columns, beside the timestamps.
-fn plain_with(line: &LineTexts<'_, '_>, stamps: Option<Stamps>) -> Option<Plain>
-    ensures { Reads stamps_text StampsFit line.now.stamps.now stamps → Reads plain_texts IsPlain (plain_columns line.now) result }
+/// The plain columns that the texts of a line spell.
+fn read_plain(line: &LineTexts<'_, '_>) -> Option<Plain>
+    ensures { Reads plain_texts IsPlain (plain_columns line.now) result }
 {
     Some(Plain {
         kind: read_kind(line.kind)?,
         mode: read_mode(line.mode)?,
         uid: read_id(line.uid)?,
         gid: read_id(line.gid)?,
-        stamps: stamps?,
+        stamps: read_stamps(line.stamps)?,
     })
-}
-
-/// The plain columns that the texts of a line spell.
-fn read_plain(alloc: Global, line: &LineTexts<'_, '_>) -> Result<Option<Plain>, AllocError>
-    ensures { IfOk result (Reads plain_texts IsPlain (plain_columns line.now)) }
-{
-    let stamps = read_stamps(alloc, line.stamps)?;
-    Ok(plain_with(line, stamps))
 }
 
 /// The ACL of a link, which says no more than its mode.
@@ -160,7 +155,7 @@ fn entry_with(
 ) -> Result<Option<(TreePath, Object)>, AllocError>
     ensures { IfOk result (Reads (columns version) (IsEntry version) (all_columns line.now)) }
 {
-    let Some(plain) = read_plain(alloc, line)? else {
+    let Some(plain) = read_plain(line) else {
         return Ok(None);
     };
     let Some(path) = read_path(alloc, line.path)? else {
@@ -217,6 +212,9 @@ pub(crate) fn read_node(
 ) -> Result<Option<(TreePath, Object)>, AllocError>
     ensures { IfOk result (Reads (node_text version) (IsEntry version) text.now) }
 {
-    let pieces = pieces_of(alloc, text, b' ')?;
-    entry_of(alloc, version, pieces.as_slice())
+    let mut pieces = [text; MOST_COLUMNS];
+    match cut_into(text, b' ', &mut pieces) {
+        Some(count) => entry_of(alloc, version, &pieces[..count]),
+        None => Ok(None),
+    }
 }

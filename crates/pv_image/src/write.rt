@@ -1,5 +1,5 @@
 //! Facts and nodes, written as an image spells them.
-ghost use Rattle.std.specs.Prelude.{◌≡◌, ◌<◌, ◌≤◌, ◌+◌, ◌∷◌, ◌++◌, [], true, IfOk, OnOk};
+ghost use Rattle.std.specs.Prelude.{◌≡◌, ◌<◌, ◌≤◌, ◌+◌, ◌∷◌, ◌++◌, [], true, codes, length, IfOk, OnOk};
 ghost use Rattle.std.specs.Fmt.{decimal};
 ghost use Rattle.std.specs.List.{flat_map};
 ghost use Rattle.base64.specs.GeneralPurpose.{encode_of};
@@ -13,6 +13,7 @@ ghost use Rattle.pv_steps.specs.Attributes.{are_bytes};
 ghost use Rattle.pv_image.specs.Spelling.{attr_text, attrs_text, content_text, fact_text, kind_text, letters_text, line, mode_text, node_text, numbers_text, object_text, payload_text, stamps_text};
 ghost use Rattle.pv_image.specs.Writing.{with_columns};
 
+use crate::name::is_plain_text;
 use base64::engine::general_purpose::STANDARD;
 use itoa::Buffer;
 use pv_acl::{Acl, Part, print_acl};
@@ -43,12 +44,21 @@ fn add_column(output: &mut Vec<u8>, text: &[u8]) -> Result<(), AllocError>
     Ok(())
 }
 
+/// Adds a space and a dash.
+fn add_dash(output: &mut Vec<u8>) -> Result<(), AllocError>
+    ensures { OnOk result (output.new.items ≡ output.old.items ++ 32 ∷ codes "-") }
+{
+    output.push(b' ')?;
+    output.push(b'-')?;
+    Ok(())
+}
+
 /// Adds a space and a text, or a dash for none.
 fn add_or_dash(output: &mut Vec<u8>, text: &[u8]) -> Result<(), AllocError>
     ensures { OnOk result (output.new.items ≡ output.old.items ++ 32 ∷ or_dash text.now) }
 {
     match text {
-        [] => add_column(output, b"-"),
+        [] => add_dash(output),
         text => add_column(output, text),
     }
 }
@@ -61,38 +71,42 @@ fn add_printed_column(output: &mut Vec<u8>, bytes: &[u8]) -> Result<(), AllocErr
     add_printed(output, bytes)
 }
 
-/// Adds some bytes in Base64.
-fn add_encoded(alloc: Global, output: &mut Vec<u8>, bytes: &[u8]) -> Result<(), AllocError>
+/// Adds a few bytes in Base64.
+fn add_encoded(output: &mut Vec<u8>, bytes: &[u8]) -> Result<(), AllocError>
+    requires { length bytes.now ≤ 768 }
     ensures { OnOk result (output.new.items ≡ output.old.items ++ encode_of standard bytes.now) }
 {
-    let text = STANDARD.encode(alloc, bytes)?;
-    output.extend_from_slice(text.as_bytes())?;
+    let mut text = [0; 1024];
+    let Ok(count) = STANDARD.encode_slice(bytes, &mut text) else {
+        unreachable!();
+    };
+    output.extend_from_slice(&text[..count])?;
     Ok(())
 }
 
 /// Adds bytes in Base64, so many at a time that no second text of their length is made.
-fn add_base64(alloc: Global, output: &mut Vec<u8>, content: &[u8]) -> Result<(), AllocError>
+fn add_base64(output: &mut Vec<u8>, content: &[u8]) -> Result<(), AllocError>
     ensures { OnOk result (output.new.items ≡ output.old.items ++ encode_of standard content.now) }
 {
     let mut rest = content;
-    while rest.len() > 3072 {
-        let (front, back) = rest.split_at(3072);
-        add_encoded(alloc, output, front)?;
+    while rest.len() > 768 {
+        let (front, back) = rest.split_at(768);
+        add_encoded(output, front)?;
         rest = back;
     }
-    add_encoded(alloc, output, rest)?;
+    add_encoded(output, rest)?;
     Ok(())
 }
 
 /// Adds a space and the bytes of a file in Base64, or a dash for none.
-fn add_content(alloc: Global, output: &mut Vec<u8>, content: &[u8]) -> Result<(), AllocError>
+fn add_content(output: &mut Vec<u8>, content: &[u8]) -> Result<(), AllocError>
     ensures { OnOk result (output.new.items ≡ output.old.items ++ 32 ∷ content_text content.now) }
 {
     match content {
-        [] => add_column(output, b"-"),
+        [] => add_dash(output),
         [_, ..] => {
             output.push(b' ')?;
-            add_base64(alloc, output, content)
+            add_base64(output, content)
         }
     }
 }
@@ -106,20 +120,15 @@ fn add_numbers(output: &mut Vec<u8>, major: u32, minor: u32) -> Result<(), Alloc
 }
 
 /// Adds a space and what an object keeps beside its attributes.
-fn add_payload(
-    alloc: Global,
-    output: &mut Vec<u8>,
-    node: &Node,
-    payload: &[u8],
-) -> Result<(), AllocError>
+fn add_payload(output: &mut Vec<u8>, node: &Node, payload: &[u8]) -> Result<(), AllocError>
     ensures { OnOk result (output.new.items ≡ output.old.items ++ 32 ∷ payload_text node.now.kind
         (record { bytes = payload.now; major = node.now.major; minor = node.now.minor })) }
 {
     match node.kind {
-        Kind::File => add_content(alloc, output, payload),
+        Kind::File => add_content(output, payload),
         Kind::Link => add_printed_column(output, payload),
         Kind::CharDevice | Kind::BlockDevice => { add_numbers(output, node.major, node.minor) }
-        Kind::Directory | Kind::Fifo => add_column(output, b"-"),
+        Kind::Directory | Kind::Fifo => add_dash(output),
     }
 }
 
@@ -135,13 +144,12 @@ fn octal(digit: u8) -> u8
 fn add_mode(output: &mut Vec<u8>, special: u8, access: &Part) -> Result<(), AllocError>
     ensures { OnOk result (output.new.items ≡ output.old.items ++ 32 ∷ mode_text (mode_of special access.now)) }
 {
-    let digits = [
-        octal(special % 8),
-        octal(access.owner.bits),
-        octal(access.group.bits),
-        octal(access.other.bits),
-    ];
-    add_column(output, &digits)
+    output.push(b' ')?;
+    output.push(octal(special % 8))?;
+    output.push(octal(access.owner.bits))?;
+    output.push(octal(access.group.bits))?;
+    output.push(octal(access.other.bits))?;
+    Ok(())
 }
 
 /// Adds a separator and a number of one digit.
@@ -149,7 +157,8 @@ fn add_digit(output: &mut Vec<u8>, separator: u8, number: u8) -> Result<(), Allo
     requires { number < 10 }
     ensures { OnOk result (output.new.items ≡ output.old.items ++ separator ∷ decimal number) }
 {
-    output.extend_from_slice(&[separator, b'0' + number])?;
+    output.push(separator)?;
+    output.push(b'0' + number)?;
     Ok(())
 }
 
@@ -181,8 +190,11 @@ fn add_name(output: &mut Vec<u8>, name: &[u8]) -> Result<(), AllocError>
     ensures { OnOk result (output.new.items ≡ output.old.items ++ 47 ∷ printed name.now) }
 {
     output.push(b'/')?;
-    add_printed(output, name)?;
-    Ok(())
+    if is_plain_text(name) {
+        output.extend_from_slice(name)?;
+        return Ok(());
+    }
+    add_printed(output, name)
 }
 
 /// Adds the printed names of a path, each after a slash.
@@ -212,7 +224,7 @@ fn add_acl(alloc: Global, output: &mut Vec<u8>, acl: &Acl) -> Result<(), AllocEr
     ensures { OnOk result (output.new.items ≡ output.old.items ++ 32 ∷ acl_text acl.now) }
 {
     if acl.is_minimal() {
-        return add_column(output, b"-");
+        return add_dash(output);
     }
     let text = print_acl(alloc, acl)?;
     add_column(output, text.as_slice())
@@ -244,7 +256,7 @@ fn add_attrs(output: &mut Vec<u8>, attrs: &[Attr]) -> Result<(), AllocError>
     ensures { OnOk result (output.new.items ≡ output.old.items ++ 32 ∷ attrs_text attrs.now) }
 {
     match attrs {
-        [] => add_column(output, b"-"),
+        [] => add_dash(output),
         [attr, attrs @ ..] => {
             output.push(b' ')?;
             add_attr(output, attr)?;
@@ -259,7 +271,7 @@ fn add_letters(alloc: Global, output: &mut Vec<u8>, letters: LetterSet) -> Resul
     ensures { OnOk result (output.new.items ≡ output.old.items ++ 32 ∷ letters_text letters) }
 {
     if letters.is_empty() {
-        return add_column(output, b"-");
+        return add_dash(output);
     }
     let text = letters.letters(alloc)?;
     add_or_dash(output, text.as_slice())
@@ -291,7 +303,7 @@ fn add_others(
     add_acl(alloc, output, &node.acl)?;
     add_attrs(output, node.attrs.as_slice())?;
     add_letters(alloc, output, node.letters)?;
-    add_payload(alloc, output, node, payload)
+    add_payload(output, node, payload)
 }
 
 /// Adds the line of a node.

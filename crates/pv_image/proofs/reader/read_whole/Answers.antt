@@ -1,7 +1,7 @@
-use Rattle.std.proofs.Common.{[], sym, ap, subst}
+use Rattle.std.proofs.Common.{[], sym, subst}
 use Rattle.std.specs.FinMap as fin
 use Rattle.std.proofs.lemmas.Result.{err_from_is_err_and}
-use Rattle.pv_tree.specs.Held.{Held}
+use Rattle.pv_steps.specs.Trees.{IsTree}
 use Rattle.pv_image.specs.Images.{Before, InFacts, IsImage}
 use Rattle.pv_image.proofs.Stages.{fails_later, whole_image}
 use Rattle.pv_image.proofs.reader.read_whole.Goals as goal
@@ -21,6 +21,6 @@ returns-in_err-tree-clause-err c =
 
 pub returns-clause-image : goal.returns-clause-image
 returns-clause-image c =
-    subst (IsImage c.args.bytes.now c.in_ok-facts.facts) (sym (ap (λ (h : Held). h.files) c.finish.ensures.value))
+    subst (IsImage c.args.bytes.now c.in_ok-facts.facts) (sym c.finish.ensures.files)
     (whole_image c.in_ok-version.version c.args.bytes.now c.in_ok-facts.facts c.read_nodes.new.tree.files c.in_ok-version.left.bytes.now c.in_ok-facts.left.bytes.now c.in_ok-left.left.bytes.now
-    c.in_ok-version.ensures.text c.in_ok-facts.ensures.text (c.in_ok-left.ensures.text c.in_ok-facts.left.bytes.now c.in_ok-tree.ensures.text) c.in_ok-check_end.ensures.ok c.finish.ensures.tree)
+    c.in_ok-version.ensures.text c.in_ok-facts.ensures.text (c.in_ok-left.ensures.text c.in_ok-facts.left.bytes.now c.in_ok-tree.ensures.text) c.in_ok-check_end.ensures.ok (subst IsTree c.finish.ensures.files c.finish.result.tree))

@@ -1,8 +1,7 @@
-use Rattle.std.proofs.Common.{List, ℕ, ◌∷◌, ◌++◌, ap, sym, ◌∙◌}
+use Rattle.std.proofs.Common.{◌+◌, ◌∷◌, [], append_assoc}
 use Rattle.std.proofs.lemmas.Fmt.{decimal_digit}
 use Rattle.pv_image.proofs.write.add_digit.Goals as goal
 
 pub returns : goal.returns
 returns c =
-    c.in_ok-extend_from_slice.ensures.items
-    ∙ ap (λ (text : List ℕ). c.args.output.now.items ++ c.args.separator ∷ text) (sym (decimal_digit c.args.number c.requires))
+    rw (decimal_digit c.args.number c.requires, c.in_ok-push-2.ensures.items, c.in_ok-push.ensures.items) (append_assoc c.args.output.now.items (c.args.separator ∷ []) ((48 + c.args.number) ∷ []))
