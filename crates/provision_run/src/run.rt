@@ -6,7 +6,7 @@ ghost use Rattle.provision_run.specs.Tasks.{task_of};
 ghost use Rattle.provision_run.specs.Framed.{IsFramedIn};
 ghost use Rattle.provision_run.specs.OnTheWay.{IsOnTheWayIn};
 ghost use Rattle.provision_run.specs.Swept.{IsSweptIn};
-ghost use Rattle.provision_run.specs.Whole.{end_by, final, final_by, HasMessagesBy, HasMessagesPartBy, HasGoneBy, IsMendedAnewIn, IsMendedIn, is_run_step, is_step_by, run_end, run_way, run_work, way_by, work_by};
+ghost use Rattle.provision_run.specs.Whole.{final, HasMessagesBy, HasMessagesPartBy, HasGoneBy, IsMendedAnewIn, IsMendedIn, is_run_step, run_end, run_way, run_work};
 
 use crate::accounting::make_accounts;
 use crate::configured_phases::run_configured_phases;
@@ -65,52 +65,7 @@ pub fn run_on_tree<T: Tree>(
     ensures between { IsOnTheWayIn (task_of options.entry.now) options.entry.now facts.now moment (T.state tree.old)
         (drop (length (T.steps tree.old)) (T.steps tree.new)) }
 {
-    do_task(
-        alloc,
-        task_of(options),
-        options,
-        facts,
-        moment,
-        tree,
-        messages,
-    )
-}
-
-/// Reads the configuration of a tree and does a task.
-fn do_task<T: Tree>(
-    alloc: Global,
-    task: Task,
-    options: &Options,
-    facts: &Facts,
-    moment: u64,
-    tree: &mut T,
-    messages: &mut Messages,
-) -> Result<RunEnd, TreeFault>
-    requires asked { task ≡ task_of options.now }
-    ensures ok { OnOk result (T.state tree.new ≡ final_by task options.entry.now facts.now moment (T.state tree.old)) }
-    ensures new_messages { OnOk result (HasMessagesBy task options.entry.now facts.now moment (T.state tree.old) messages.old messages.new) }
-    ensures end { IfOk result (λ end. end ≡ end_by task options.entry.now facts.now moment (T.state tree.old)) }
-    ensures staged { OnOk result (IsSweptIn task options.entry.now facts.now moment (T.state tree.old) (T.state tree.new)) }
-    ensures part { HasMessagesPartBy task options.entry.now facts.now moment (T.state tree.old) messages.old messages.new }
-    ensures stopped { IsErrOf result Failed → HasGoneBy task options.entry.now facts.now moment 1 (T.state tree.old)
-        (drop (length (T.steps tree.old)) (T.steps tree.new)) messages.old messages.new }
-    ensures in_turn { OnOk result (HasGoneBy task options.entry.now facts.now moment 0 (T.state tree.old)
-        (drop (length (T.steps tree.old)) (T.steps tree.new)) messages.old messages.new) }
-    ensures acted { Acted T.Tree
-        (way_by task options.entry.now facts.now moment (T.state tree.old))
-        (is_step_by task options.entry.now facts.now moment (T.state tree.old))
-        (work_by task options.entry.now facts.now moment (T.state tree.old))
-        moment tree.old tree.new result }
-    ensures mended { IsMendedIn task options.entry.now facts.now moment (T.state tree.old)
-        (drop (length (T.steps tree.old)) (T.steps tree.new)) }
-    ensures anew { IsMendedAnewIn task options.entry.now facts.now moment (T.state tree.old)
-        (drop (length (T.steps tree.old)) (T.steps tree.new)) }
-    ensures framed { IsFramedIn task options.entry.now facts.now moment (T.state tree.old)
-        (drop (length (T.steps tree.old)) (T.steps tree.new)) }
-    ensures between { IsOnTheWayIn task options.entry.now facts.now moment (T.state tree.old)
-        (drop (length (T.steps tree.old)) (T.steps tree.new)) }
-{
-    match task {
+    match task_of(options) {
         Task::Phases => run_configured_phases(alloc, options, facts, moment, tree, messages),
         Task::Report => Ok(report_run(alloc, options, facts, tree, messages)?),
         Task::Explain => Ok(explain_run(alloc, options, facts, tree, messages)?),

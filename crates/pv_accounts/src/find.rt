@@ -139,32 +139,38 @@ pub(crate) fn find_id(kind: Kind, file: &[u8], name: &[u8]) -> Option<u32>
     id_in(kind, line)
 }
 
-/// The name of the entry that a line is, where it has an ID and another name than `but`.
-fn name_beside<'a>(kind: Kind, line: &'a [u8], id: u32, but: &[u8]) -> Option<&'a [u8]>
-    ensures { let held = option_and_then (only_if (holds_beside id but.now)) (entry_of (test_of kind) line.now) in
+/// What an entry is looked for by: its ID, and a name that it does not have.
+#[derive(Clone, Copy)]
+struct Sought<'a> {
+    id: u32,
+    but: &'a [u8],
+}
+
+/// The name of the entry that a line is, where it is sought.
+fn name_beside<'a>(kind: Kind, line: &'a [u8], sought: Sought<'_>) -> Option<&'a [u8]>
+    ensures { let held = option_and_then (only_if (holds_beside sought.entry.id sought.entry.but.now)) (entry_of (test_of kind) line.now) in
         option_map (λ name. name.now) result ≡ option_map name_of held }
 {
     let name = name_in(kind, line)?;
-    if id_in(kind, line) == Some(id) && name != but {
+    if id_in(kind, line) == Some(sought.id) && name != sought.but {
         Some(name)
     } else {
         None
     }
 }
 
-/// The name of the entry at a place, where it has the ID, another name than `but`, and no earlier entry has its name.
+/// The name of the entry at a place, where it is sought and no earlier entry has its name.
 fn holder_at<'a>(
     kind: Kind,
     file: &[u8],
     place: usize,
     line: &'a [u8],
-    id: u32,
-    but: &[u8],
+    sought: Sought<'_>,
 ) -> Option<&'a [u8]>
-    ensures { let held = chosen_at (test_of kind) (lines_of file.now) place id but.now line.now in
+    ensures { let held = chosen_at (test_of kind) (lines_of file.now) place sought.entry.id sought.entry.but.now line.now in
         option_map (λ name. name.now) result ≡ option_map name_of held }
 {
-    let name = name_beside(kind, line, id, but)?;
+    let name = name_beside(kind, line, sought)?;
     if place_of(kind, file, name) == place {
         Some(name)
     } else {
@@ -176,14 +182,15 @@ fn holder_at<'a>(
 pub(crate) fn find_holder<'a>(kind: Kind, file: &'a [u8], id: u32, but: &[u8]) -> Option<&'a [u8]>
     ensures { option_map (λ name. name.now) result ≡ holder_of (test_of kind) file.now id but.now }
 {
+    let sought = Sought { id, but };
     let mut rest = file;
     let mut place = 0;
     while let Some((line, more)) = cut(rest, b'\n') {
-        if let Some(name) = holder_at(kind, file, place, line, id, but) {
+        if let Some(name) = holder_at(kind, file, place, line, sought) {
             return Some(name);
         }
         place += 1;
         rest = more;
     }
-    holder_at(kind, file, place, rest, id, but)
+    holder_at(kind, file, place, rest, sought)
 }

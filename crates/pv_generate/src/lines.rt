@@ -29,16 +29,53 @@ fn are_bytes(bytes: &[u8])
     let _count = bytes.len();
 }
 
+/// A form of lines over objects of their own: the letters of the type, the beginning of the object's name, and the fields
+/// behind the path.
+#[derive(Clone, Copy)]
+struct Form<'a> {
+    letters: &'a [u8],
+    name: &'a [u8],
+    fields: &'a [u8],
+}
+
+/// A directory.
+const DIRECTORY: Form<'static> = Form {
+    letters: b"d",
+    name: b"/d",
+    fields: b" 0700 0 0\n",
+};
+
+/// A file.
+const FILE: Form<'static> = Form {
+    letters: b"f",
+    name: b"/f",
+    fields: b" 0600 0 0 - text\n",
+};
+
+/// A link.
+const LINK: Form<'static> = Form {
+    letters: b"L",
+    name: b"/l",
+    fields: b" - - - - /data\n",
+};
+
+/// A file that is made anew.
+const EMPTIED: Form<'static> = Form {
+    letters: b"f+",
+    name: b"/e",
+    fields: b" - - - - more\n",
+};
+
 /// Adds the line that a number drawn for it gives.
 fn add_line(alloc: Global, text: &mut Vec<u8>, number: u64, i: u32) -> Result<(), AllocError>
     ensures { OnOk result (text.new.items ≡ text.old.items ++ line_of number i) }
 {
     let group = number % 8;
     match number / 8 % 8 {
-        0 => add_own(alloc, text, b"d", group, b"/d", i, b" 0700 0 0\n"),
-        1 => add_own(alloc, text, b"f", group, b"/f", i, b" 0600 0 0 - text\n"),
-        2 => add_own(alloc, text, b"L", group, b"/l", i, b" - - - - /data\n"),
-        3 => add_own(alloc, text, b"f+", group, b"/e", i, b" - - - - more\n"),
+        0 => add_own(alloc, text, DIRECTORY, group, i),
+        1 => add_own(alloc, text, FILE, group, i),
+        2 => add_own(alloc, text, LINK, group, i),
+        3 => add_own(alloc, text, EMPTIED, group, i),
         4 => add_shared(alloc, text, b"z", group, b"/e? 0640\n"),
         5 => add_shared(alloc, text, b"w", group, b"/e1* - - - - new\n"),
         6 => add_shared(alloc, text, b"a+", group, b"/e* - - - - u:1:r\n"),
@@ -46,24 +83,23 @@ fn add_line(alloc: Global, text: &mut Vec<u8>, number: u64, i: u32) -> Result<()
     }
 }
 
-/// Adds a line over an object of its own number in a directory.
+/// Adds a line of a form over an object of its own number in a directory.
 fn add_own(
     alloc: Global,
     text: &mut Vec<u8>,
-    letters: &[u8],
+    form: Form<'_>,
     group: u64,
-    name: &[u8],
     i: u32,
-    rest: &[u8],
 ) -> Result<(), AllocError>
-    ensures { OnOk result (text.new.items ≡ text.old.items ++ own_line letters.now group name.now i rest.now) }
+    ensures { OnOk result (text.new.items
+        ≡ text.old.items ++ own_line form.entry.letters.now group form.entry.name.now i form.entry.fields.now) }
 {
-    text.extend_from_slice(letters)?;
+    text.extend_from_slice(form.letters)?;
     text.extend_from_slice(b" /data/g")?;
     add_number(alloc, text, group)?;
-    text.extend_from_slice(name)?;
+    text.extend_from_slice(form.name)?;
     add_number(alloc, text, u64::from(i))?;
-    text.extend_from_slice(rest)?;
+    text.extend_from_slice(form.fields)?;
     Ok(())
 }
 

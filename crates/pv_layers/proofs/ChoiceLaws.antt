@@ -1,12 +1,14 @@
 -- Choices, made one after the other.
-use Rattle.std.proofs.Common.{◌≡◌, ℕ, ◌+◌, ◌<◌, Bool, true, false, ◌||◌, List, [], ◌++◌, take, drop, length, get_or, append_assoc, refl, sym, ap, ◌∙◌, add-one}
+use Rattle.std.proofs.Common.{◌≡◌, ℕ, ◌+◌, ◌<◌, Bool, true, false, ◌||◌, List, [], ◌++◌, take, drop, length, get_or, append_assoc, refl, sym, ap, ◌∙◌, add-one, if◌then◌else◌}
 use Rattle.std.proofs.lemmas.List.{append-nil, take_at}
 use Rattle.std.proofs.Math.Seq.{drop-cons, take-suc}
 use Rattle.std.proofs.Math.Bool.{or-false}
+use Rattle.std.specs.List.{list_any}
+use Rattle.pv_path.specs.Names.{same_bytes}
 use Rattle.pv_path.specs.Paths.{Path}
 use Rattle.pv_steps.specs.Trees.{Files}
 use Rattle.pv_layers.specs.Folders.{found_in}
-use Rattle.pv_layers.specs.Choices.{Choice, nothing, followed, choice_of, choice_of_names, choice_of_next, choice_of_words}
+use Rattle.pv_layers.specs.Choices.{Choice, nothing, followed, choice_of, choice_of_names, choice_of_next, choice_of_word, choice_of_words, found_word}
 use Rattle.pv_text.specs.GivenMessages.{MessagesPart}
 
 or_assoc : (a b c : Bool) → ((a || b) || c) ≡ (a || (b || c))
@@ -76,3 +78,21 @@ next_word files folders words i word below is =
     ≡ followed (choice_of_next files folders (take i words) (get_or words i word)) (choice_of_words files folders (take (i + 1) words) (drop (i + 1) words))
     = rw (drop-cons words i word below, add-one i, take-suc words i word below) refl in
     next ∙ ap (λ (w : List ℕ). followed (choice_of_next files folders (take i words) w) (choice_of_words files folders (take (i + 1) words) (drop (i + 1) words))) (sym is)
+
+module _ (files : Files) (folders : List Path) (words : List (List ℕ)) (i : ℕ) (word : List ℕ) (below : i < length words) (is : word ≡ get_or words i word) where
+  abbrev rest : Choice
+  rest = choice_of_words files folders (take (i + 1) words) (drop (i + 1) words)
+
+  next_by : (b : Bool) → list_any (λ w. same_bytes w word) (take i words) ≡ b
+      → choice_of_words files folders (take i words) (drop i words) ≡ followed (if b then nothing else choice_of_word word (found_word files folders word)) rest
+  next_by b e =
+      next_word files folders words i word below is
+      ∙ ap (λ (c : Bool). followed (if c then nothing else choice_of_word word (found_word files folders word)) rest) e
+
+  -- a word that stood before, and one that did not
+  pub word_passed : list_any (λ w. same_bytes w word) (take i words) ≡ true → choice_of_words files folders (take i words) (drop i words) ≡ rest
+  word_passed e = next_by true e
+
+  pub word_taken : list_any (λ w. same_bytes w word) (take i words) ≡ false
+      → choice_of_words files folders (take i words) (drop i words) ≡ followed (choice_of_word word (found_word files folders word)) rest
+  word_taken e = next_by false e

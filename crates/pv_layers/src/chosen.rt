@@ -2,7 +2,7 @@
 ghost use Rattle.std.specs.Prelude.{◌≡◌, ◌∷◌, ◌++◌, [], ◌||◌, codes, IfOk, OnOk, OnErr};
 ghost use Rattle.pv_path.specs.Printing.{printed, printed_path};
 ghost use Rattle.pv_layers.specs.Folders.{conf_names, found_in};
-ghost use Rattle.pv_layers.specs.Choices.{chosen, choice_of, choice_of_names, choice_of_word, choice_of_next, choice_of_words, IsMade};
+ghost use Rattle.pv_layers.specs.Choices.{chosen, choice_of, choice_of_names, choice_of_word, choice_of_words, found_word, IsMade};
 ghost use Rattle.pv_text.specs.GivenMessages.{MessagesPart};
 
 use crate::folders::{conf_names, folders};
@@ -101,23 +101,19 @@ fn take_name<T: Tree>(
     take_found(alloc, found, chosen, messages)
 }
 
-/// Takes the file that a word stands for, unless the word stood before.
+/// Takes the file that a word stands for.
 fn take_next<T: Tree>(
     alloc: Global,
     tree: &T,
     folders: &PathList,
-    before: &[Bytes],
     word: &Bytes,
     chosen: &mut Chosen,
     messages: &mut Messages,
 ) -> Result<(), AllocError>
-    ensures made { let choice = choice_of_next (T.state tree.now) folders.now before.now word.now in
+    ensures made { let choice = choice_of_word word.now (found_word (T.state tree.now) folders.now word.now) in
         OnOk result (IsMade choice chosen.old chosen.new messages.old messages.new) }
     ensures err { OnErr result (messages.new ≡ messages.old) }
 {
-    if before.contains(word) {
-        return Ok(());
-    }
     let found = found_word(alloc, tree, folders, word.as_slice())?;
     take_word(alloc, word.as_slice(), found, chosen, messages)
 }
@@ -171,15 +167,10 @@ fn choose_words<T: Tree>(
         missing: false,
     };
     for (i, word) in words.iter().enumerate() {
-        take_next(
-            alloc,
-            tree,
-            folders,
-            &words[..i],
-            word,
-            &mut chosen,
-            messages,
-        )?;
+        if words[..i].contains(word) {
+            continue;
+        }
+        take_next(alloc, tree, folders, word, &mut chosen, messages)?;
     }
     Ok(chosen)
 }

@@ -10,6 +10,7 @@ use crate::attributes::{attrs_of, letters_of};
 use crate::line::{Argument, LinePath};
 use crate::line_fault::LineFault;
 use crate::path_field::expansion;
+use crate::type_field::Typed;
 use crate::types::Wanted;
 use base64::DecodeAllocError;
 use base64::engine::general_purpose::STANDARD;
@@ -230,24 +231,23 @@ fn entries_of<N: Names>(
     Ok(Argument::Entries(parse_acl(alloc, text.as_slice(), names)?))
 }
 
-/// What the field Argument gives where the type wants this, or its first fault.
+/// What the field Argument gives, by what the type wants of it, or its first fault.
 pub(crate) fn argument_of<N: Names>(
     alloc: Global,
     field: Option<&[u8]>,
     facts: &Facts,
     names: &N,
     path: &LinePath,
-    encoded: bool,
-    wanted: Wanted,
+    typed: Typed,
 ) -> Result<Argument, LineFault>
     ensures read { Gives result (argument_of facts.now
         (record { uid_named = N.uid_named names.now; gid_named = N.gid_named names.now })
-        path.now encoded wanted (option_map (λ s. s.now) field.entry)) }
-    ensures fits { IfOk result (IsArgument wanted) }
+        path.now typed.encoded typed.row.wanted (option_map (λ s. s.now) field.entry)) }
+    ensures fits { IfOk result (IsArgument typed.row.wanted) }
 {
-    match wanted {
-        Wanted::Content => content_of(alloc, field, facts, encoded),
-        Wanted::Bytes => written_of(alloc, field, facts, encoded),
+    match typed.row.wanted {
+        Wanted::Content => content_of(alloc, field, facts, typed.encoded),
+        Wanted::Bytes => written_of(alloc, field, facts, typed.encoded),
         Wanted::Target => target_of(alloc, field, facts, path),
         Wanted::Source => source_of(alloc, field, facts, path),
         Wanted::Device => device_of(alloc, expanded_argument(alloc, field, facts)?.as_slice()),

@@ -103,15 +103,7 @@ fn line_with<N: Names>(
     let typed = typed_of(text(texts, 0))?;
     let named = named_of(alloc, text(texts, 1), facts, typed)?;
     let settings = settings_of(names, typed, texts)?;
-    let argument = argument_of(
-        alloc,
-        given(texts, 6),
-        facts,
-        names,
-        &named.path,
-        typed.encoded,
-        typed.row.wanted,
-    )?;
+    let argument = argument_of(alloc, given(texts, 6), facts, names, &named.path, typed)?;
     Ok(Line {
         letter: typed.row.letter,
         plus: typed.plus,

@@ -13,29 +13,33 @@ use crate::taker::{behind, past_stars, takers, takes_at};
 use pv_glob::{Component, Element, Plain};
 use std::alloc::{AllocError, Global};
 
-/// Where a byte leads that two elements may take.
-fn target(
-    a: &[Element],
-    b: &[Element],
-    begun: Beginning,
-    i: usize,
-    j: usize,
-    byte: u8,
-) -> Option<u32>
-    requires left { i < length a.now }
-    requires right { j < length b.now }
-    requires range { 7 * ((length a.now + 1) * (length b.now + 1)) < 2 ^ 32 }
-    ensures value { result ≡ target a.now b.now begun i j byte }
-    ensures inside { IfSome result (λ to. to < 7 * ((length a.now + 1) * (length b.now + 1))) }
+/// Two components of patterns.
+#[derive(Clone, Copy)]
+struct Components<'a> {
+    left: &'a [Element],
+    right: &'a [Element],
+}
+
+/// Where a byte leads that the two elements at a spot may take.
+fn target(components: Components<'_>, spot: Spot, byte: u8) -> Option<u32>
+    requires left { spot.left < length components.left.now }
+    requires right { spot.right < length components.right.now }
+    requires range { 7 * ((length components.left.now + 1) * (length components.right.now + 1)) < 2 ^ 32 }
+    ensures value { result ≡ target components.entry.left.now components.entry.right.now spot.begun spot.left spot.right byte }
+    ensures inside { IfSome result (λ to. to < 7 * ((length components.entry.left.now + 1) * (length components.entry.right.now + 1))) }
 {
-    let first = begun.is_nothing();
-    if begun.may_precede(byte) && takes_at(a, i, first, byte) && takes_at(b, j, first, byte) {
-        let spot = Spot {
-            left: behind(a, i),
-            right: behind(b, j),
-            begun: begun.followed_by(byte),
+    let Components { left, right } = components;
+    let first = spot.begun.is_nothing();
+    if spot.begun.may_precede(byte)
+        && takes_at(left, spot.left, first, byte)
+        && takes_at(right, spot.right, first, byte)
+    {
+        let next = Spot {
+            left: behind(left, spot.left),
+            right: behind(right, spot.right),
+            begun: spot.begun.followed_by(byte),
         };
-        Some(number_of(b.len() + 1, a.len(), spot))
+        Some(number_of(right.len() + 1, left.len(), next))
     } else {
         None
     }
@@ -75,25 +79,21 @@ fn with_byte(run: Option<Move>, byte: u8, to: Option<u32>) -> Option<Move>
     }
 }
 
-/// Adds the moves that go where two elements take the same byte, one for each run of bytes that lead to one place.
-fn add_runs(
-    moves: &mut MoveList,
-    a: &[Element],
-    b: &[Element],
-    begun: Beginning,
-    i: usize,
-    j: usize,
-) -> Result<(), AllocError>
-    requires left { i < length a.now }
-    requires right { j < length b.now }
-    requires range { 7 * ((length a.now + 1) * (length b.now + 1)) < 2 ^ 32 }
-    ensures moves { OnOk result ((byte : ℕ) → targets moves.new byte ≡ targets moves.old byte ++ option_to_list (target a.now b.now begun i j byte)) }
-    ensures inside { OnOk result (AllInside (7 * ((length a.now + 1) * (length b.now + 1))) moves.old → AllInside (7 * ((length a.now + 1) * (length b.now + 1))) moves.new) }
+/// Adds the moves that go where the two elements at a spot take the same byte, one for each run of bytes that lead to one
+/// place.
+fn add_runs(moves: &mut MoveList, components: Components<'_>, spot: Spot) -> Result<(), AllocError>
+    requires left { spot.left < length components.left.now }
+    requires right { spot.right < length components.right.now }
+    requires range { 7 * ((length components.left.now + 1) * (length components.right.now + 1)) < 2 ^ 32 }
+    ensures moves { OnOk result ((byte : ℕ) → targets moves.new byte
+        ≡ targets moves.old byte ++ option_to_list (target components.entry.left.now components.entry.right.now spot.begun spot.left spot.right byte)) }
+    ensures inside { let places = 7 * ((length components.entry.left.now + 1) * (length components.entry.right.now + 1)) in
+        OnOk result (AllInside places moves.old → AllInside places moves.new) }
 {
     let mut run: Option<Move> = None;
     for value in 1..256u16 {
         let byte = value as u8;
-        let to = target(a, b, begun, i, j, byte);
+        let to = target(components, spot, byte);
         match with_byte(run, byte, to) {
             Some(longer) => run = Some(longer),
             None => {
@@ -108,42 +108,43 @@ fn add_runs(
 /// Adds the moves that go where an element of the left component and any of some of the right one take a byte.
 fn add_moves(
     moves: &mut MoveList,
-    a: &[Element],
-    b: &[Element],
+    components: Components<'_>,
     begun: Beginning,
-    i: usize,
+    left: usize,
     rights: &[usize],
 ) -> Result<(), AllocError>
-    requires left { i < length a.now }
-    requires right { All (λ j. j < length b.now) rights.now }
-    requires range { 7 * ((length a.now + 1) * (length b.now + 1)) < 2 ^ 32 }
-    ensures moves { OnOk result ((byte : ℕ) → targets moves.new byte ≡ targets moves.old byte ++ flat_map (λ j. option_to_list (target a.now b.now begun i j byte)) rights.now) }
-    ensures inside { OnOk result (AllInside (7 * ((length a.now + 1) * (length b.now + 1))) moves.old → AllInside (7 * ((length a.now + 1) * (length b.now + 1))) moves.new) }
+    requires left { left < length components.left.now }
+    requires right { All (λ j. j < length components.right.now) rights.now }
+    requires range { 7 * ((length components.left.now + 1) * (length components.right.now + 1)) < 2 ^ 32 }
+    ensures moves { OnOk result ((byte : ℕ) → targets moves.new byte
+        ≡ targets moves.old byte ++ flat_map (λ j. option_to_list (target components.entry.left.now components.entry.right.now begun left j byte)) rights.now) }
+    ensures inside { let places = 7 * ((length components.entry.left.now + 1) * (length components.entry.right.now + 1)) in
+        OnOk result (AllInside places moves.old → AllInside places moves.new) }
 {
-    for j in rights {
-        add_runs(moves, a, b, begun, i, *j)?;
+    for right in rights {
+        let spot = Spot {
+            left,
+            right: *right,
+            begun,
+        };
+        add_runs(moves, components, spot)?;
     }
     Ok(())
 }
 
 /// The moves that go from a place of the machine of two components.
-fn moves_from(
-    alloc: Global,
-    a: &[Element],
-    b: &[Element],
-    spot: Spot,
-) -> Result<MoveList, AllocError>
-    requires left { spot.left ≤ length a.now }
-    requires right { spot.right ≤ length b.now }
-    requires range { 7 * ((length a.now + 1) * (length b.now + 1)) < 2 ^ 32 }
-    ensures moves { IfOk result (λ moves. (byte : ℕ) → targets moves byte ≡ spots_after a.now b.now spot byte) }
-    ensures inside { IfOk result (AllInside (7 * ((length a.now + 1) * (length b.now + 1)))) }
+fn moves_from(alloc: Global, components: Components<'_>, spot: Spot) -> Result<MoveList, AllocError>
+    requires left { spot.left ≤ length components.left.now }
+    requires right { spot.right ≤ length components.right.now }
+    requires range { 7 * ((length components.left.now + 1) * (length components.right.now + 1)) < 2 ^ 32 }
+    ensures moves { IfOk result (λ moves. (byte : ℕ) → targets moves byte ≡ spots_after components.entry.left.now components.entry.right.now spot byte) }
+    ensures inside { IfOk result (AllInside (7 * ((length components.entry.left.now + 1) * (length components.entry.right.now + 1)))) }
 {
-    let lefts = takers(alloc, a, spot.left)?;
-    let rights = takers(alloc, b, spot.right)?;
+    let lefts = takers(alloc, components.left, spot.left)?;
+    let rights = takers(alloc, components.right, spot.right)?;
     let mut moves = MoveList::new(alloc);
-    for i in &lefts {
-        add_moves(&mut moves, a, b, spot.begun, *i, rights.as_slice())?;
+    for left in &lefts {
+        add_moves(&mut moves, components, spot.begun, *left, rights.as_slice())?;
     }
     Ok(moves)
 }
@@ -233,6 +234,10 @@ impl Moves for PairMachine {
     fn moves(&mut self, alloc: Global, at: u32) -> Result<MoveList, AllocError> {
         self.questions -= 1;
         let spot = spot_at(self.second.len() + 1, self.first.len(), at);
-        moves_from(alloc, self.first.as_slice(), self.second.as_slice(), spot)
+        let components = Components {
+            left: self.first.as_slice(),
+            right: self.second.as_slice(),
+        };
+        moves_from(alloc, components, spot)
     }
 }

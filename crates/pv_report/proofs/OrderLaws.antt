@@ -17,9 +17,8 @@ use Rattle.pv_report.specs.declared.listing.Unrepeatable.{Unrepeatable}
 use Rattle.pv_report.specs.Marks.{is_below, Mark, mark_cmp, mark_if, marks_by, marks_of, mixes, outer_marks, own_marks, pair_marks, rank, reason_at, reason_of, shared_marks}
 use Rattle.pv_report.specs.Reporting.{ComesFirst}
 use Rattle.pv_report.specs.Subjects.{sources_of}
-use Rattle.std.specs.Prelude.{IfOk, Result, Ok, Err, ◌&&◌, ◌||◌, ◌≤◌}
+use Rattle.std.specs.Prelude.{IfOk, Result, Ok, Err, ◌&&◌, ◌||◌}
 use Rattle.std.specs.declared.alloc.AllocError.{AllocError}
-use Rattle.std.proofs.lemmas.Option.{slice_get_past, slice_get_read}
 use Rattle.pv_report.specs.declared.traits.Traits.{Traits}
 use Rattle.pv_report.specs.Marks.{traits_of}
 use Rattle.pv_report.proofs.MarkLaws.{in_mark, in_own, reason_at-rank}
@@ -156,18 +155,15 @@ pub mixes_is : (a b : Line) (x y : Traits) → x ≡ traits_of a → y ≡ trait
 mixes_is a b x y e f = ap (λ (t : Traits). (t.masked && y.base) || (t.base && y.masked)) e ∙ ap (λ (t : Traits). ((traits_of a).masked && t.base) || ((traits_of a).base && t.masked)) f
 
 module _ (lines : List Line) (sources : ℕ) (pair : Pair) where
-  pub pair_none : length lines ≤ pair.first → pair_marks lines sources pair ≡ []
-  pair_none l = ap (λ (o : Option Line). marks_by sources pair o (slice_get lines pair.second)) (slice_get_past lines pair.first l)
+  by_lines : (x y : Option Line) → x ≡ slice_get lines pair.first → y ≡ slice_get lines pair.second → marks_by sources pair x y ≡ pair_marks lines sources pair
+  by_lines x y e f = ap (λ (o : Option Line). marks_by sources pair o y) e ∙ ap (λ (o : Option Line). marks_by sources pair (slice_get lines pair.first) o) f
 
-  pub pair_one : (a : Line) → pair.first < length lines → a ≡ get_or lines pair.first a → length lines ≤ pair.second → outer_marks sources pair.first a pair.second ≡ pair_marks lines sources pair
-  pair_one a l is m =
-      sym (ap (λ (o : Option Line). marks_by sources pair o (slice_get lines pair.second)) (slice_get_read lines (length lines) pair.first a refl l is)
-      ∙ ap (λ (o : Option Line). marks_by sources pair (Some a) o) (slice_get_past lines pair.second m))
+  pub pair_none : None ≡ slice_get lines pair.first → [] ≡ pair_marks lines sources pair
+  pair_none e = by_lines None (slice_get lines pair.second) e refl
 
-  pub pair_two : (a b : Line) → pair.first < length lines → a ≡ get_or lines pair.first a → pair.second < length lines → b ≡ get_or lines pair.second b → shared_marks pair.first a pair.second b ≡ pair_marks lines sources pair
-  pair_two a b l is m is_second =
-      sym (ap (λ (o : Option Line). marks_by sources pair o (slice_get lines pair.second)) (slice_get_read lines (length lines) pair.first a refl l is)
-      ∙ ap (λ (o : Option Line). marks_by sources pair (Some a) o) (slice_get_read lines (length lines) pair.second b refl m is_second))
+  pub pair_one : (a : Line) (i : ℕ) → i ≡ pair.first → Some a ≡ slice_get lines pair.first → None ≡ slice_get lines pair.second
+      → outer_marks sources i a pair.second ≡ pair_marks lines sources pair
+  pair_one a i n e f = ap (λ (k : ℕ). outer_marks sources k a pair.second) n ∙ by_lines (Some a) None e f
 
 -- ---- the reasons that were listed
 

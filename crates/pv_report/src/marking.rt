@@ -1,5 +1,6 @@
 //! The reasons, found by marks of lines.
-ghost use Rattle.std.specs.Prelude.{◌≡◌, ◌↔◌, ℕ, ◌+◌, ◌<◌, ◌^◌, ◌++◌, ◌&&◌, ◌||◌, map, is_some, length, All, AllPairs, Contains, IfOk, OnOk};
+ghost use Rattle.std.specs.Prelude.{◌≡◌, ◌↔◌, ℕ, ◌+◌, ◌<◌, ◌^◌, ◌++◌, ◌&&◌, ◌||◌, map, is_some, length, slice_get, All, AllPairs, Contains, IfOk, IfSome, OnOk};
+ghost use Rattle.std.specs.Option.{option_map};
 ghost use Rattle.pv_path.specs.Paths.{is_prefix};
 ghost use Rattle.pv_lines.specs.declared.line.Line.{Line as LineValue};
 ghost use Rattle.pv_report.specs.declared.listing.Unrepeatable.{Unrepeatable as UnrepeatableValue};
@@ -104,42 +105,67 @@ fn mixes(a: &Traits, b: &Traits) -> bool
     (a.masked && b.base) || (a.base && b.masked)
 }
 
-/// Adds the marks of two lines that share a path.
-fn add_shared(
-    marks: &mut Vec<Mark>,
-    i: u32,
-    a: &Line,
-    a_traits: &Traits,
-    j: u32,
-    b: &Line,
-    b_traits: &Traits,
-) -> Result<(), AllocError>
-    requires a { a_traits.now ≡ traits_of a.now }
-    requires b { b_traits.now ≡ traits_of b.now }
-    ensures { OnOk result (marks.new.items ≡ marks.old.items ++ shared_marks i a.now j b.now) }
+/// A line with its number and what is asked of it.
+#[derive(Clone, Copy)]
+struct KnownLine<'a> {
+    number: u32,
+    line: &'a Line,
+    traits: Traits,
+}
+
+/// The line of a number, if there is one.
+fn known_line<'a>(lines: &'a [Line], traits: &[Traits], number: u32) -> Option<KnownLine<'a>>
+    requires { traits.now ≡ map traits_of lines.now }
+    ensures line { option_map (λ known. known.line.now) result ≡ slice_get lines.now number }
+    ensures number { IfSome result (λ known. known.number ≡ number) }
+    ensures traits { IfSome result (λ known. known.traits ≡ traits_of known.line.now) }
 {
-    mark_if(marks, is_below(b, a, a_traits.copies), j, 2)?;
-    mark_if(marks, is_below(a, b, b_traits.copies), i, 2)?;
-    mark_if(marks, mixes(a_traits, b_traits), j, 4)
+    let i = number as usize;
+    let line = lines.get(i)?;
+    Some(KnownLine {
+        number,
+        line,
+        traits: traits[i],
+    })
+}
+
+/// Adds the marks of two lines that share a path.
+fn add_shared(marks: &mut Vec<Mark>, a: KnownLine<'_>, b: KnownLine<'_>) -> Result<(), AllocError>
+    requires a { a.traits ≡ traits_of a.line.now }
+    requires b { b.traits ≡ traits_of b.line.now }
+    ensures { OnOk result (marks.new.items ≡ marks.old.items ++ shared_marks a.entry.number a.entry.line.now
+        b.entry.number b.entry.line.now) }
+{
+    mark_if(
+        marks,
+        is_below(b.line, a.line, a.traits.copies),
+        b.number,
+        2,
+    )?;
+    mark_if(
+        marks,
+        is_below(a.line, b.line, b.traits.copies),
+        a.number,
+        2,
+    )?;
+    mark_if(marks, mixes(&a.traits, &b.traits), b.number, 4)
 }
 
 /// Adds the marks of a line that shares a path with what is copied, or with a path from which lines are read.
 fn add_outer(
     marks: &mut Vec<Mark>,
     sources: usize,
-    i: u32,
-    line: &Line,
-    traits: &Traits,
-    j: u32,
+    known: KnownLine<'_>,
+    other: u32,
 ) -> Result<(), AllocError>
-    requires { traits.now ≡ traits_of line.now }
-    ensures { OnOk result (marks.new.items ≡ marks.old.items ++ outer_marks sources i line.now j) }
+    requires { known.traits ≡ traits_of known.line.now }
+    ensures { OnOk result (marks.new.items ≡ marks.old.items ++ outer_marks sources known.entry.number known.entry.line.now other) }
 {
-    if (j as usize) < sources {
-        marks.push((i, 1))?;
+    if (other as usize) < sources {
+        marks.push((known.number, 1))?;
         Ok(())
     } else {
-        mark_if(marks, traits.changes, i, 3)
+        mark_if(marks, known.traits.changes, known.number, 3)
     }
 }
 
@@ -154,29 +180,13 @@ fn add_pair(
     requires { traits.now ≡ map traits_of lines.now }
     ensures { OnOk result (marks.new.items ≡ marks.old.items ++ pair_marks lines.now sources pair.now) }
 {
-    let (i, j) = (pair.first as usize, pair.second as usize);
-    if i >= lines.len() {
+    let Some(first) = known_line(lines, traits, pair.first) else {
         return Ok(());
+    };
+    match known_line(lines, traits, pair.second) {
+        Some(second) => add_shared(marks, first, second),
+        None => add_outer(marks, sources, first, pair.second),
     }
-    if j >= lines.len() {
-        return add_outer(
-            marks,
-            sources,
-            pair.first,
-            &lines[i],
-            &traits[i],
-            pair.second,
-        );
-    }
-    add_shared(
-        marks,
-        pair.first,
-        &lines[i],
-        &traits[i],
-        pair.second,
-        &lines[j],
-        &traits[j],
-    )
 }
 
 /// The marks of lines with these pairs.

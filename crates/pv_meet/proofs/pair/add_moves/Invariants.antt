@@ -5,8 +5,8 @@ use Rattle.pv_meet.specs.Machines.{AllInside, targets}
 use Rattle.pv_meet.specs.Pairs.{target}
 use Rattle.pv_meet.proofs.pair.add_moves.Given as goal
 
-abbrev pub invariant-loop-j : goal.invariant-loop-j
-invariant-loop-j l = record {
-  stated : (byte : ℕ) → targets l.moves byte ≡ targets l.initial.moves byte ++ flat_map (λ j. option_to_list (target l.a l.b l.begun l.i j byte)) (take l.j-index l.rights);
-  inside : AllInside (7 * ((length l.a + 1) * (length l.b + 1))) l.initial.moves → AllInside (7 * ((length l.a + 1) * (length l.b + 1))) l.moves;
+abbrev pub invariant-loop-right : goal.invariant-loop-right
+invariant-loop-right l = record {
+  stated : (byte : ℕ) → targets l.moves byte ≡ targets l.initial.moves byte ++ flat_map (λ j. option_to_list (target l.components.left.now l.components.right.now l.begun l.left j byte)) (take l.right-index l.rights);
+  inside : AllInside (7 * ((length l.components.left.now + 1) * (length l.components.right.now + 1))) l.initial.moves → AllInside (7 * ((length l.components.left.now + 1) * (length l.components.right.now + 1))) l.moves;
 }

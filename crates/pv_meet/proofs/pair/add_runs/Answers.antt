@@ -8,8 +8,8 @@ use Rattle.pv_meet.proofs.pair.add_runs.Goals.{in-Some, in-None+in_ok-end_run-in
 
 pub loop-value-preserved : goal.loop-value-preserved
 loop-value-preserved c =
-    let a = c.args.a.now in let b = c.args.b.now in
-    let t = target a b c.args.begun c.args.i c.args.j in
+    let a = c.args.components.left.now in let b = c.args.components.right.now in
+    let t = target a b c.args.spot.begun c.args.spot.left c.args.spot.right in
     let places = 7 * ((length a + 1) * (length b + 1)) in
     let inv = c.loop-value.invariant in
     let below : (to : ℕ) → t c.loop-value.value ≡ Some to → to < places = λ to e. subst (λ (o : Option ℕ). IfSome o (λ to. to < places)) (c.target-to.ensures.value ∙ e) c.target-to.ensures.inside in

@@ -5,8 +5,8 @@ use Rattle.pv_meet.specs.Machines.{AllInside, targets}
 use Rattle.pv_meet.specs.Pairs.{target, takers}
 use Rattle.pv_meet.proofs.pair.moves_from.Given as goal
 
-abbrev pub invariant-loop-i : goal.invariant-loop-i
-invariant-loop-i l = record {
-  stated : (byte : ℕ) → targets l.moves byte ≡ flat_map (λ i. flat_map (λ j. option_to_list (target l.a l.b l.spot.begun i j byte)) (takers l.b l.spot.right)) (take l.i-index l.i-items);
-  inside : AllInside (7 * ((length l.a + 1) * (length l.b + 1))) l.moves;
+abbrev pub invariant-loop-left : goal.invariant-loop-left
+invariant-loop-left l = record {
+  stated : (byte : ℕ) → targets l.moves byte ≡ flat_map (λ i. flat_map (λ j. option_to_list (target l.components.left.now l.components.right.now l.spot.begun i j byte)) (takers l.components.right.now l.spot.right)) (take l.left-index l.left-items);
+  inside : AllInside (7 * ((length l.components.left.now + 1) * (length l.components.right.now + 1))) l.moves;
 }
