@@ -3,7 +3,6 @@ ghost use Rattle.std.specs.Prelude.{◌≡◌, ◌++◌, map, OnOk, OnErr};
 ghost use Rattle.pv_text.specs.GivenMessages.{MessagesPart, message_text_at};
 ghost use Rattle.pv_steps.specs.Trees.{IsTree};
 ghost use Rattle.pv_table.specs.declared.action.Action.{Action as ActionValue};
-ghost use Rattle.pv_table.specs.Repeatable.{sets_of};
 ghost use Rattle.pv_table.specs.Saying.{turn_texts};
 ghost use Rattle.pv_table.specs.Turns.{View, decide, view_of};
 ghost use Rattle.pv_create.specs.Deciding.{meant};
@@ -15,10 +14,9 @@ use crate::line_at::{LineAt, adjustment_of};
 use crate::object::adjust;
 use crate::putting::put;
 use crate::reached::adjust_reached;
-use pv_metadata::Operation;
 use pv_path::TreePath;
 use pv_steps::{Tree, TreeFault};
-use pv_table::{Action, say_left};
+use pv_table::say_left;
 use pv_text::{Messages, Place};
 use std::alloc::{AllocError, Global};
 
@@ -76,19 +74,7 @@ fn apply<T: Tree>(alloc: Global, tree: &mut T, at: &LineAt<'_>, turn: Turn) -> R
     }
     match turn {
         Turn::Put => put(alloc, tree, at),
-        Turn::Become => adjust(alloc, tree, at.path, sets_of(at.action), at.now),
+        Turn::Become => adjust(alloc, tree, at.path, at.action.sets(), at.now),
         Turn::Nothing | Turn::Left(_) => Ok(()),
-    }
-}
-
-/// What a line sets of an object that stays.
-fn sets_of(action: &Action) -> &[Operation]
-    ensures { result.now ≡ sets_of action.now }
-{
-    match action {
-        Action::Create(making) => making.sets.as_slice(),
-        Action::Copy(copying) => copying.sets.as_slice(),
-        Action::Adjust(adjustment) => adjustment.sets.as_slice(),
-        Action::Idle => &[],
     }
 }

@@ -3,7 +3,7 @@ ghost use Rattle.std.specs.Prelude.{◌≡◌, IfOk};
 ghost use Rattle.std.specs.List.{list_any};
 ghost use Rattle.pv_metadata.specs.Reasons.{is_adjusting, is_append, is_base, gives_base};
 ghost use Rattle.pv_table.specs.Reaching.{is_deep, reaches_below, spares_below, takes_below};
-ghost use Rattle.pv_table.specs.Repeatable.{changes_content, has_masked_mode, sets_of, takes_named};
+ghost use Rattle.pv_table.specs.Repeatable.{changes_content, has_masked_mode, takes_named};
 ghost use Rattle.pv_report.specs.Marks.{traits_of};
 
 use pv_acl::{AclLine, Entry};
@@ -27,18 +27,6 @@ pub(crate) struct Traits {
     pub(crate) changes: bool,
     /// It copies something.
     pub(crate) copies: bool,
-}
-
-/// What a line sets of an object that is there.
-fn sets_of(action: &Action) -> &[Operation]
-    ensures { result.now ≡ sets_of action.now }
-{
-    match action {
-        Action::Create(making) => making.sets.as_slice(),
-        Action::Copy(copying) => copying.sets.as_slice(),
-        Action::Adjust(adjustment) => adjustment.sets.as_slice(),
-        Action::Idle => &[],
-    }
 }
 
 /// Whether an operation appends bytes.
@@ -122,9 +110,9 @@ pub(crate) fn traits_of(alloc: Global, line: &Line) -> Result<Traits, AllocError
 {
     let action = action_of(alloc, line)?;
     Ok(Traits {
-        appends: appends(sets_of(&action)),
+        appends: appends(action.sets()),
         masked: has_masked_mode(line),
-        base: sets_base(sets_of(&action)),
+        base: sets_base(action.sets()),
         changes: changes_content(line),
         copies: matches!(&action, Action::Copy(_)),
     })

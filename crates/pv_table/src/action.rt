@@ -1,5 +1,6 @@
 //! What a line asks for in the create phase, whatever its letter.
 ghost use Rattle.std.specs.Prelude.{◌≡◌};
+ghost use Rattle.pv_table.specs.Repeatable.{sets_of};
 ghost use Rattle.pv_table.specs.Turns.{top_of};
 
 use crate::action_table::mode_for_new;
@@ -22,6 +23,20 @@ pub enum Action {
     Adjust(Adjustment),
     /// Nothing.
     Idle,
+}
+
+impl Action {
+    /// What is set of an object that is there and stays.
+    pub fn sets(&self) -> &[Operation]
+        ensures { result.now ≡ sets_of self.now }
+    {
+        match self {
+            Action::Create(making) => making.sets.as_slice(),
+            Action::Copy(copying) => copying.sets.as_slice(),
+            Action::Adjust(adjustment) => adjustment.sets.as_slice(),
+            Action::Idle => &[],
+        }
+    }
 }
 
 /// An object that is to stand at a path.

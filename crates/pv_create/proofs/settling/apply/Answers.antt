@@ -20,7 +20,7 @@ adjust-requires-clause-present g c =
     stands action c.args.at.now.path.now t (sets_of action) (sym (ap (λ (answer : Answer). meant action (view_of t) answer) (sym c.in-Become.is) ∙ c.requires.turn))
 
 pub adjust-requires-clause-sets : goal.adjust-requires-clause-sets
-adjust-requires-clause-sets g c = subst AreSets (sym c.sets_of.ensures) (sets_fit c.args.at.now.action.now c.args.at.now.path.now c.requires.action)
+adjust-requires-clause-sets g c = subst AreSets (sym c.sets.ensures) (sets_fit c.args.at.now.action.now c.args.at.now.path.now c.requires.action)
 
 -- ---- a line that only adjusts
 
@@ -49,7 +49,7 @@ returns-in-Become g c =
     let action = c.args.at.now.action.now in
     let path = c.args.at.now.path.now in
     subst (λ (answer : Answer). Settles g.T.Tree now action path (meant action (view_of (g.T.Tree.state c.args.tree.now)) answer) c.args.tree.now c.adjust.new.tree c.adjust.result) (sym c.in-Become.is)
-    (settles_become g.T.Tree now action path c.args.tree.now c.adjust.new.tree c.adjust.result e c.sets_of.result.now c.sets_of.ensures
+    (settles_become g.T.Tree now action path c.args.tree.now c.adjust.new.tree c.adjust.result e c.sets.result.now c.sets.ensures
     c.adjust.ensures.ok c.adjust.ensures.acted)
 
 pub returns-in-Nothing : goal.returns-in-Nothing
