@@ -14,7 +14,7 @@ ghost use Rattle.provision_run.specs.Accounts.{account_messages, accounts_end, a
 
 use crate::ending::{RunEnd, end_of};
 use pv_accounts_run::{AccountsFault, Carried, accounts_run};
-use pv_path::{TreePath, print_bytes};
+use pv_path::print_bytes;
 use pv_read_config::read_requests;
 use pv_steps::{Tree, TreeFault};
 use pv_text::{Facts, Messages};
@@ -55,8 +55,6 @@ pub(crate) fn make_accounts<T: Tree>(
     ensures framed { AreAccountsFramed moment (T.state tree.old)
         (drop (length (T.steps tree.old)) (T.steps tree.new)) }
 {
-    // Whatever the run answers, it began with a tree.
-    let _root = tree.look(&TreePath::root(alloc));
     let read = read_requests(alloc, tree, &options.words, facts, messages)?;
     let answer = accounts_run(alloc, tree, &read.lines, moment, messages);
     ended(alloc, answer, read.missing, read.invalid, messages)

@@ -13,7 +13,6 @@ ghost use Rattle.provision_run.specs.Phased.{is_phases_step, lines_messages, pha
 
 use crate::ending::{RunEnd, end_of};
 use crate::run_input::read_run;
-use pv_path::TreePath;
 use pv_phases::{phases_of, run_phases};
 use pv_steps::{Tree, TreeFault};
 use pv_text::{Facts, Messages};
@@ -61,8 +60,6 @@ pub(crate) fn run_configured_phases<T: Tree>(
     ensures gives { GiveBy (phases_of options.entry.now) (run_lines options.entry.now facts.now (T.state tree.old)) moment (T.state tree.old)
         (drop (length (T.steps tree.old)) (T.steps tree.new)) }
 {
-    // Whatever the run answers, it began with a tree.
-    let _root = tree.look(&TreePath::root(alloc));
     let read = read_run(alloc, options, facts, tree, messages)?;
     let phases = phases_of(alloc, options)?;
     let carried = run_phases(alloc, tree, &phases, &read.table, moment, messages)?;

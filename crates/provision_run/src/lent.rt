@@ -74,5 +74,7 @@ impl<'a, T: Tree> Tree for Lent<'a, T> {
       ),
     ) };
 
+    ghost is_tree = { λ l. T.is_tree l.tree.now };
+
     ghost never_falls = { λ a b p. p.1.1.rises };
 }

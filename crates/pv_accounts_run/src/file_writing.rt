@@ -61,8 +61,6 @@ fn put_all<T: Tree>(alloc: Global, tree: &mut T, edits: &[Edit], now: u64) -> Re
     ensures turn { Acted T.Tree (InTurn edits.now) (IsAccountStep edits.now (T.state tree.old))
         (directory_steps (places (T.state tree.old)) + most_edited * length edits.now) now tree.old tree.new result }
 {
-    // In a tree nothing stands below a file.
-    let _rooted = is_present(tree, &TreePath::root(alloc));
     put_directory(alloc, tree, now)?;
     stage_all(alloc, tree, edits, now)?;
     publish_all(alloc, tree, edits, now)
@@ -102,8 +100,6 @@ fn make_directory<T: Tree>(
     ensures below { Acted T.Tree (NoneComes (T.state tree.old)) (IsPutStep etc parent_file)
         most_directory now tree.old tree.new result }
 {
-    // In a tree the root is a directory.
-    let _rooted = is_present(tree, path);
     stage_directory(alloc, tree, path, now)?;
     publish(alloc, tree, path, now)
 }

@@ -8,8 +8,8 @@ ghost use Rattle.pv_walk.specs.Removal.{MayHaveMoved};
 ghost use Rattle.pv_accounts_run.specs.Edits.{AreEdits, IsEdit, IsOfSome, IsStaged, Published, PublishesEdit, etc, with_published};
 
 use crate::edit::Edit;
-use pv_path::{TreePath, staging};
-use pv_steps::{Step, Tree, TreeFault, is_present, try_step};
+use pv_path::staging;
+use pv_steps::{Step, Tree, TreeFault, try_step};
 use std::alloc::Global;
 
 /// Brings what is staged to its path, file by file in their order.
@@ -45,8 +45,6 @@ fn publish<T: Tree>(alloc: Global, tree: &mut T, edit: &Edit, now: u64) -> Resul
     ensures acted { Acted T.Tree (MayHaveMoved now edit.now.path (T.state tree.old)) (PublishesEdit edit.now)
         1 now tree.old tree.new result }
 {
-    // In a tree the root is a directory.
-    let _rooted = is_present(tree, &TreePath::root(alloc));
     let step = Step::Rename {
         from: staging(alloc, &edit.path)?,
         to: edit.path.copy()?,

@@ -22,9 +22,8 @@ use crate::file_writing::write_account_files;
 use crate::judging::unusable_texts;
 use crate::planning::planned_edits;
 use pv_doing::Carried;
-use pv_path::TreePath;
 use pv_requests::RequestList;
-use pv_steps::{Tree, TreeFault, is_present};
+use pv_steps::{Tree, TreeFault};
 use pv_sysusers::{PlanFault, duplicates};
 use pv_text::{Messages, say_all};
 use std::alloc::{AllocError, Global};
@@ -75,8 +74,6 @@ pub fn accounts_run<T: Tree>(
     // The stop law.
     ensures mended { IsMended requests.now now (T.state tree.old) (drop (length (T.steps tree.old)) (T.steps tree.new)) }
 {
-    // In a tree the root is a directory.
-    let _rooted = is_present(tree, &TreePath::root(alloc));
     let unusable = unusable_texts(alloc, tree)?;
     if unusable.len() > 0 {
         say_unusable(alloc, requests, &unusable, messages)?;

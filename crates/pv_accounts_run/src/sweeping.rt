@@ -12,7 +12,7 @@ ghost use Rattle.pv_accounts_run.specs.FileWriting.{IsSweptPath, account_paths, 
 
 use crate::paths::{account_paths, directory};
 use pv_path::TreePath;
-use pv_steps::{Tree, TreeFault, is_present};
+use pv_steps::{Tree, TreeFault};
 use pv_walk::sweep;
 use std::alloc::Global;
 
@@ -67,7 +67,5 @@ fn sweep_file<T: Tree>(
     ensures acted { Acted T.Tree (Pruned (is_under_any swept_names) (T.state tree.old)) (Removes (is_under_any swept_names))
         (count_at (T.state tree.old) (staging_of path.now)) now tree.old tree.new result }
 {
-    // In a tree nothing stands below an absent path.
-    let _rooted = is_present(tree, path);
     sweep(alloc, tree, path, now)
 }

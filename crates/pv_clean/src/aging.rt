@@ -14,7 +14,7 @@ use crate::naming::all_named;
 use pv_age::is_old;
 use pv_find::is_among;
 use pv_path::TreePath;
-use pv_steps::{Tree, is_directory, is_present};
+use pv_steps::{Tree, is_directory};
 use pv_table::{Scope, Table, scope_of};
 use pv_walk::below;
 use std::alloc::{AllocError, Global};
@@ -52,7 +52,6 @@ pub(crate) fn all_judged<T: Tree>(
     ensures tree { IsTree (T.state tree.now) }
 {
     let root = TreePath::root(alloc);
-    let _rooted = is_present(tree, &root);
     let named = all_named(alloc, tree, table.lines())?;
     let listed = below(alloc, tree, &root)?;
     let aging = Aging {

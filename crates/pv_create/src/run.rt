@@ -13,7 +13,6 @@ ghost use Rattle.pv_create.specs.Ways.{lines_course};
 use crate::line::create_line;
 use pv_doing::Carried;
 use pv_lines::Line;
-use pv_path::TreePath;
 use pv_steps::{Tree, TreeFault};
 use pv_table::{Table, create_order};
 use pv_text::Messages;
@@ -62,8 +61,7 @@ pub fn create_run<T: Tree>(
     ensures gives { GiveWhatLinesLeave table.now now (T.state tree.old)
         (drop (length (T.steps tree.old)) (T.steps tree.new)) }
 {
-    // In a tree the root is a directory; the lines of a table were read, and no two make what stands at one path.
-    let _root = tree.look(&TreePath::root(alloc));
+    // The lines of a table were read, and no two make what stands at one path.
     let _lines = table.lines();
     run_in_order(alloc, tree, table, now, messages)
 }

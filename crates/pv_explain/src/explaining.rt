@@ -47,8 +47,7 @@ pub fn explain<T: Tree>(
         → has_staging path.now ≡ false
         → option_map object_state_in explanation.node ≡ object_states_of (places (created table.now now (T.state tree.now))) path.now) }
 {
-    // In a tree the root is a directory, and the lines of a table were read.
-    let _node = tree.look(path);
+    // The lines of a table were read.
     let _lines = table.lines();
     match explain_along(alloc, tree, table, path)? {
         Some(explanation) => Ok(explanation),
@@ -66,8 +65,6 @@ fn explain_along<T: Tree>(
     ensures { IfOk result (λ answer. (explanation : ExplainedValue) → answer ≡ Some explanation
         → Tells table.now (standing (T.state tree.now)) path.now explanation) }
 {
-    // In a tree the root is a directory.
-    let _node = tree.look(path);
     let places = places_along(alloc, path)?;
     let start = standing_at(alloc, tree, &places)?;
     follow(alloc, table, path, &Scope::Along(places), start)
@@ -82,8 +79,6 @@ fn explain_within<T: Tree>(
 ) -> Result<Explained, AllocError>
     ensures { IfOk result (λ explanation. Tells table.now (standing (T.state tree.now)) path.now explanation) }
 {
-    // In a tree the root is a directory.
-    let _node = tree.look(path);
     let region = closed_region(alloc, table, path)?;
     let paths = paths_in(alloc, tree, &region)?;
     let start = standing_at(alloc, tree, &paths)?;

@@ -3,6 +3,7 @@ pub mod MergingLaws
 pub mod FactLaws
 pub mod Spelling
 pub mod Preorder
+pub mod AskingLaws
 pub mod FolderLaws
 pub mod ListingLaws
 pub mod ReadingLaws

@@ -37,13 +37,6 @@ pub struct FolderTree<'a, H: Host> {
     ghost agrees: { pending ≡ false → IfSome (H.content host.now) (λ c. Agrees (spelled folder.items) tree.files (held c)) } by { agrees_prop pending (spelled folder.items) tree.files (H.content host.now) },
 }
 
-/// What the type of a tree in memory says.
-fn is_tree(alloc: Global, tree: &MemTree)
-    ensures { IsTree tree.now.files }
-{
-    let _root = tree.node_at(&TreePath::root(alloc));
-}
-
 impl<'a, H: Host> FolderTree<'a, H> {
     /// A tree that a host has in a folder. It takes no memory.
     pub fn of(host: &'a mut H, folder: Vec<u8>, tree: MemTree) -> FolderTree<'a, H>
@@ -170,7 +163,6 @@ impl<'a, H: Host> Tree for FolderTree<'a, H> {
         }
         self.pending = true;
         let alloc = *self.folder.allocator();
-        is_tree(alloc, &self.tree);
         match ask_for(alloc, self.host, &self.folder, &self.tree, step) {
             Ok(()) => {}
             Err(HostFault::Memory) => return Err(TreeFault::Memory),
@@ -188,6 +180,8 @@ impl<'a, H: Host> Tree for FolderTree<'a, H> {
     ghost reaches_self = { λ a. (same _, moves_none _ _ _ _) };
 
     ghost reaches_on = { λ a b c p q. (same_on _ _ _ p.0 q.0, moves_on _ _ _ _ _ _ _ _ _ _ _ _ p.1 q.1) };
+
+    ghost is_tree = { λ t. t.tree.tree };
 
     ghost never_falls = { λ _ _ p. p.1.count };
 }

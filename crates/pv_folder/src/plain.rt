@@ -52,7 +52,8 @@ fn add_at(
 
 /// A tree once more, as if the manifest said nothing of it.
 pub(crate) fn plain_copy(alloc: Global, tree: &MemTree) -> Result<MemTree, AllocError>
-    ensures { IfOk result (λ copy. copy ≡ record { files = plained tree.now.files; steps = [] }) }
+    ensures files { IfOk result (λ copy. copy.files ≡ plained tree.now.files) }
+    ensures steps { IfOk result (λ copy. copy.steps ≡ []) }
 {
     let mut walk = tree.walk(alloc)?;
     let Some(first) = walk.place() else {

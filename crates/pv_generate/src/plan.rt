@@ -54,7 +54,8 @@ impl Plan {
     /// The tree as planned, with no step recorded.
     pub(crate) fn grow(self, alloc: Global) -> Result<MemTree, AllocError>
         requires { IsTree self }
-        ensures { IfOk result (λ tree. tree ≡ record { files = self; steps = [] }) }
+        ensures files { IfOk result (λ tree. tree.files ≡ self) }
+        ensures steps { IfOk result (λ tree. tree.steps ≡ []) }
     {
         let Plan { objects } = self;
         grow(alloc, objects)
@@ -64,7 +65,8 @@ impl Plan {
 /// The tree of objects at their paths.
 fn grow(alloc: Global, objects: BTreeMap<TreePath, Object>) -> Result<MemTree, AllocError>
     requires { IsTree (fin.from_entries objects.entries) }
-    ensures { IfOk result (λ tree. tree ≡ record { files = fin.from_entries objects.entries; steps = [] }) }
+    ensures files { IfOk result (λ tree. tree.files ≡ fin.from_entries objects.entries) }
+    ensures steps { IfOk result (λ tree. tree.steps ≡ []) }
 {
     let mut left = objects;
     let Some((_path, root)) = left.pop_first() else {

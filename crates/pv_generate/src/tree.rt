@@ -14,7 +14,8 @@ use std::alloc::{AllocError, Global};
 /// The tree of a seed and a number of lines: eight directories with as many old files, and the configuration of
 /// `systemd-tmpfiles` of so many lines over them. No step is recorded in it.
 pub fn generated_tree(alloc: Global, seed: u64, count: u32) -> Result<MemTree, AllocError>
-    ensures { IfOk result (λ tree. tree ≡ record { files = generated seed count; steps = [] }) }
+    ensures files { IfOk result (λ tree. tree.files ≡ generated seed count) }
+    ensures steps { IfOk result (λ tree. tree.steps ≡ []) }
 {
     let data = data_path(alloc)?;
     let mut plan = folders_alone(alloc)?;

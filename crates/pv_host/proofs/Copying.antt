@@ -16,7 +16,7 @@ use Rattle.pv_tree.specs.Held.{root_alone}
 use Rattle.pv_generate.proofs.PlanLaws.{Planned, held}
 use Rattle.pv_generate.proofs.GrowLaws.{IsGrowing, comes_after, root_directory, root_whole, some_planned, start}
 
-head : (es : Planned) (e : Path × Object) → Some e ≡ slice_get es 0 → es ≡ e ∷ drop 1 es
+pub head : (es : Planned) (e : Path × Object) → Some e ≡ slice_get es 0 → es ≡ e ∷ drop 1 es
 head [] e h = cc
 head (x ∷ es) e h = ap (λ (v : Path × Object). v ∷ es) (sym (same_Some e x h))
 

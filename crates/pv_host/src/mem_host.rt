@@ -5,7 +5,7 @@ ghost use Rattle.pv_io.specs.Faults.{HasRisen};
 ghost use Rattle.pv_io.specs.Memory.{fresh};
 ghost use Rattle.pv_path.specs.Paths.{has_names};
 ghost use Rattle.pv_host.specs.declared.host.HostFault.TheVariants.{Failed};
-ghost use Rattle.pv_host.specs.Content.{IsContent, IsPresent, May, bytes_of, held, listing, spelled};
+ghost use Rattle.pv_host.specs.Content.{IsContent, May, bytes_of, held, listing, spelled};
 ghost use Rattle.pv_host.specs.Counts.{count_after};
 ghost use Rattle.pv_host.specs.Content.Change.{MakeDir, RemoveDir, RemoveFile, Rename, WriteFile};
 ghost use Rattle.pv_host.specs.Memory.{Becomes, content_of};
@@ -15,7 +15,7 @@ use crate::item::HostList;
 use crate::plan::Plan;
 use crate::spelling::path_of;
 use crate::tree_host::{
-    file_bytes, kind_at, listing_of, make_dir, remove_dir, remove_file, rename, write_file,
+    file_bytes, listing_of, make_dir, remove_dir, remove_file, rename, write_file,
 };
 use pv_path::{Bytes, TreePath};
 use pv_tree::MemTree;
@@ -49,7 +49,7 @@ impl MemHost {
     }
 }
 
-/// The path of bytes that spell names.
+/// The path of bytes that spell names, as those of all that stands in a tree do.
 fn named_path(alloc: Global, bytes: &[u8]) -> Result<TreePath, AllocError>
     requires { has_names (spelled bytes.now) ≡ true }
     ensures { IfOk result (λ path. path ≡ spelled bytes.now) }
@@ -58,15 +58,6 @@ fn named_path(alloc: Global, bytes: &[u8]) -> Result<TreePath, AllocError>
         Some(path) => Ok(path),
         None => unreachable!(),
     }
-}
-
-/// The path of bytes at which something stands in a tree.
-fn present_path(alloc: Global, tree: &MemTree, bytes: &[u8]) -> Result<TreePath, AllocError>
-    requires { IsPresent (held (content_of tree.now.files)) (spelled bytes.now) }
-    ensures { IfOk result (λ path. path ≡ spelled bytes.now) }
-{
-    let _tree = kind_at(tree, &TreePath::root(alloc));
-    named_path(alloc, bytes)
 }
 
 impl Host for MemHost {
@@ -84,7 +75,6 @@ impl Host for MemHost {
         ensures planned { IsErrOf result Failed ↔ Contains self.old.plan.fails self.old.plan.calls }
         ensures counted { self.new.plan.calls ≡ call_after self.old.plan.calls }
     {
-        let _tree = kind_at(&self.tree, &TreePath::root(alloc));
         self.plan.begin_call()?;
         match path_of(alloc, path)? {
             Some(path) => Ok(listing_of(alloc, &self.tree, &path)?),
@@ -103,7 +93,6 @@ impl Host for MemHost {
         ensures planned { IsErrOf result Failed ↔ Contains self.old.plan.fails self.old.plan.calls }
         ensures counted { self.new.plan.calls ≡ call_after self.old.plan.calls }
     {
-        let _tree = kind_at(&self.tree, &TreePath::root(alloc));
         self.plan.begin_call()?;
         match path_of(alloc, path)? {
             Some(path) => Ok(file_bytes(alloc, &self.tree, &path)?),
@@ -154,7 +143,7 @@ impl Host for MemHost {
         ensures counted { self.new.plan.calls ≡ call_after self.old.plan.calls }
     {
         self.plan.begin_call()?;
-        let from = present_path(self.plan.alloc(), &self.tree, from)?;
+        let from = named_path(self.plan.alloc(), from)?;
         let to = named_path(self.plan.alloc(), to)?;
         rename(&mut self.tree, from, to)
     }
@@ -170,7 +159,7 @@ impl Host for MemHost {
         ensures counted { self.new.plan.calls ≡ call_after self.old.plan.calls }
     {
         self.plan.begin_call()?;
-        let path = present_path(self.plan.alloc(), &self.tree, path)?;
+        let path = named_path(self.plan.alloc(), path)?;
         remove_file(&mut self.tree, path)
     }
 
@@ -185,7 +174,7 @@ impl Host for MemHost {
         ensures counted { self.new.plan.calls ≡ call_after self.old.plan.calls }
     {
         self.plan.begin_call()?;
-        let path = present_path(self.plan.alloc(), &self.tree, path)?;
+        let path = named_path(self.plan.alloc(), path)?;
         remove_dir(&mut self.tree, path)
     }
 }

@@ -1,5 +1,5 @@
 -- Laws of the changes that metadata makes.
-use Rattle.std.specs.Prelude.{◌≡◌, ◌≢◌, ℕ, ◌/◌, ◌%◌, ◌≤◌, true, false, cond, ◌&&◌, Option, Some, None, is_some, option_map, Result, Ok, Err, OnOk, [], ◌⊎◌}
+use Rattle.std.specs.Prelude.{◌≡◌, ◌≢◌, ℕ, ◌/◌, ◌%◌, ◌≤◌, true, false, cond, ◌&&◌, Option, Some, None, is_some, option_map, Result, Ok, Err, IsErrAnd, OnOk, [], ◌⊎◌}
 use Rattle.std.proofs.Common.{refl, sym, ap, subst, ◌∙◌, inl, inr, arith}
 use Rattle.std.proofs.lemmas.Bool.{and_parts}
 use Rattle.std.proofs.lemmas.Option.{same_Some}
@@ -21,6 +21,7 @@ use Rattle.pv_steps.specs.Trees.{Files, Places, places, kind_of, node_at, IsPres
 use Rattle.pv_steps.specs.Steps.{Can, TakesAcl, after, after_at, put_at, on_at}
 use Rattle.pv_steps.specs.Runs.{IsNotIdle}
 use Rattle.pv_steps.specs.Acting.{Acted}
+use Rattle.pv_steps.specs.Counting.{refused}
 use Rattle.pv_steps.proofs.ActingLaws.{Moves, Asks, acted_then, acted_weaken}
 use Rattle.pv_steps.specs.declared.tree.Tree.{Ghosts}
 use Rattle.pv_steps.proofs.StepLaws.{at_after}
@@ -441,6 +442,32 @@ module _ (path : Path) (now : ℕ) (t u : Files) {A : Type 0} (part : Object →
   kept_after c wanted wears worn kept o e =
       let same : first.object ≡ o = same_Some first.object o (sym (after_change path change now t u first) ∙ e) in
       wears o (ap part (sym same) ∙ part_kept first.old first.object first.is ∙ worn first.old (kept first.old first.there))
+
+-- ---- what changes nothing leaves what is there
+
+-- where a change changes nothing of what stands at a path, that stands there after it
+pub kept_there : (change : Object → Object) (path : Path) (now : ℕ) (t u : Files) → ChangedAt change path now t u → IsKeptBy change path t → places u path ≡ places t path
+kept_there change path now t u a kept = after_change path change now t u a ∙ ap Some (same a.is) ∙ sym a.there
+  where
+    same : IsChanged change now a.old a.object → a.object ≡ a.old
+    same (inl h) = h.1
+    same (inr h) = absurd (h.0 (kept a.old a.there))
+
+-- what has all of owner, mode and ACL has each of them
+module _ (kind : Kind) (new : Metadata) (fits : IsMetadata kind new) (o : Object) (kept : with_access_of new o ≡ o) where
+  pub owner_kept : with_owner_of new o ≡ o
+  owner_kept = firm_owner new o (firm_mode kind new fits o kept)
+
+  pub mode_kept : with_mode_of new o ≡ o
+  mode_kept = ap (with_mode_of new) (sym owner_kept) ∙ firm_mode kind new fits o kept
+
+  pub acl_left : with_acl_of new o ≡ o
+  acl_left = sets_metadata_acl new o (sym (ap (λ x. x.node.acl) kept))
+
+-- an answer passed on refuses what the call before refused
+pub refused_passed : (q r : Result (Unit {0}) TreeFault) {e : TreeFault} → q ≡ Err e → IsErrAnd r (λ y. y ≡ e) → refused r ≡ refused q
+refused_passed q (Ok x) was h = absurd h
+refused_passed q (Err y) was h = ap (λ (f : TreeFault). refused {A = Unit {0}} (Err f)) h ∙ sym (ap (λ (v : Result (Unit {0}) TreeFault). refused v) was)
 
 -- ---- the changes one after another
 

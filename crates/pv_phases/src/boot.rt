@@ -13,7 +13,6 @@ ghost use Rattle.pv_phases.specs.Phases.{boot_phases, phases_course};
 
 use pv_create::create_run;
 use pv_doing::Carried;
-use pv_path::TreePath;
 use pv_remove::remove_run;
 use pv_steps::{Tree, TreeFault};
 use pv_table::Table;
@@ -62,8 +61,7 @@ pub fn boot_run<T: Tree>(
     ensures gives { GiveWhatLinesLeave table.now now (removed table.now now (T.state tree.old))
         (drop (length (T.steps tree.old)) (T.steps tree.new)) }
 {
-    // In a tree the root is a directory; the lines of a table were read, and no two make what stands at one path.
-    let _root = tree.look(&TreePath::root(alloc));
+    // The lines of a table were read, and no two make what stands at one path.
     let _lines = table.lines();
     remove_then_create(alloc, tree, table, now, messages)
 }

@@ -13,7 +13,6 @@ use crate::boot::boot_run;
 use pv_clean::clean_run;
 use pv_create::create_run;
 use pv_doing::Carried;
-use pv_path::TreePath;
 use pv_remove::{purge_run, remove_run};
 use pv_steps::{Tree, TreeFault};
 use pv_table::Table;
@@ -104,8 +103,6 @@ pub fn run_phases<T: Tree>(
     if is_boot(phases) {
         return boot_run(alloc, tree, table, now, messages);
     }
-    // Where nothing is asked for, too, it began with a tree.
-    let _root = tree.look(&TreePath::root(alloc));
     let mut carried = Carried::Whole;
     for phase in phases {
         let one = do_phase(alloc, tree, *phase, table, now, messages)?;

@@ -1,10 +1,10 @@
 -- Laws of a phase that takes away as a whole.
-use Rattle.std.specs.Prelude.{◌≡◌, ℕ, ◌^◌, ◌<◌, Bool, true, false, not, ◌&&◌, ◌||◌, ◌==◌, List, [], ◌∷◌, length, drop, Option, None, is_none, is_some}
+use Rattle.std.specs.Prelude.{◌≡◌, ℕ, ◌^◌, ◌<◌, Bool, true, false, not, ◌&&◌, ◌||◌, ◌==◌, List, [], ◌∷◌, length, drop, Option, Some, None, is_none, is_some}
 use Rattle.std.proofs.Common.{refl, sym, ap, ◌∙◌, suc}
 use Rattle.std.proofs.lemmas.Bool.Decides.{nat_tests}
 use Rattle.std.proofs.Common.{arith}
 use Rattle.std.specs.List.{list_any}
-use Rattle.std.proofs.Math.Bool.{and-true}
+use Rattle.std.proofs.Math.Bool.{and-false, and-true}
 use Rattle.pv_lines.specs.declared.line.Line.{Line}
 use Rattle.pv_path.specs.Paths.{Path, is_prefix}
 use Rattle.pv_path.proofs.PathLaws.{is_prefix-refl, is_prefix-trans}
@@ -99,6 +99,17 @@ purges_is line t path q purge is unrefused = sym (
     ∙ ap (λ (p : Path). is_prefix p q && is_none (refused_place line t p)) (sym is)
     ∙ ap (λ (r : Option (ℕ × Why)). is_prefix path q && is_none r) unrefused
     ∙ and-true (is_prefix path q))
+
+-- a line that is refused purges nothing
+pub purges_none : (line : Line) (t : Places) (path q : Path) (why : Option (ℕ × Why)) → is_some why ≡ true → path ≡ path_in line.path → why ≡ refused_place line t path → purges line t q ≡ false
+purges_none line t path q why some is refused =
+    ap (λ (p : Path). (line.purge && is_prefix p q) && is_none (refused_place line t p)) (sym is)
+    ∙ ap (λ (r : Option (ℕ × Why)). (line.purge && is_prefix path q) && is_none r) (sym refused)
+    ∙ by why some
+  where
+    by : (r : Option (ℕ × Why)) → is_some r ≡ true → ((line.purge && is_prefix path q) && is_none r) ≡ false
+    by (Some r) h = and-false (line.purge && is_prefix path q)
+    by None h = cc
 
 -- what is purged goes whole
 pub purges_whole : (lines : List Line) (t : Files) (q : Path) → goes_whole (λ r. list_any (λ line. purges line (places t) r) lines) t q ≡ is_purged lines t q

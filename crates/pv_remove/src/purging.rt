@@ -51,7 +51,6 @@ fn purge_plan<T: Tree>(alloc: Global, tree: &T, table: &Table) -> Result<Plan, A
     ensures tree { IsTree (T.state tree.now) }
 {
     let lines = table.lines();
-    let _rooted = is_present(tree, &TreePath::root(alloc));
     let purged = purged_paths(alloc, tree, lines)?;
     let paths = whole_of(alloc, tree, purged)?;
     let mut new_messages = Messages::new(alloc);

@@ -11,8 +11,7 @@ use crate::judging::judge;
 use crate::plan::{Plan, apply_plan};
 use pv_doing::Carried;
 use pv_find::whole_of;
-use pv_path::TreePath;
-use pv_steps::{Tree, TreeFault, is_present};
+use pv_steps::{Tree, TreeFault};
 use pv_table::Table;
 use pv_text::Messages;
 use std::alloc::{AllocError, Global};
@@ -46,7 +45,6 @@ fn removal_plan<T: Tree>(alloc: Global, tree: &T, table: &Table) -> Result<Plan,
     ensures tree { IsTree (T.state tree.now) }
 {
     let lines = table.lines();
-    let _rooted = is_present(tree, &TreePath::root(alloc));
     let covered = covered_paths(alloc, tree, lines)?;
     let paths = whole_of(alloc, tree, covered)?;
     let mut new_messages = Messages::new(alloc);

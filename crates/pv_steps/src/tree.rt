@@ -100,6 +100,9 @@ pub trait Tree {
 
     ghost reaches_on: { (a b c : Self) → reaches a b → reaches b c → reaches a c };
 
+    // Its state is a tree.
+    ghost is_tree: { (a : Self) → IsTree (state a) };
+
     // The count of faults never falls.
     ghost never_falls: { (a b : Self) → reaches a b → faults a ≤ faults b };
 }

@@ -30,7 +30,6 @@ use Rattle.pv_tree.specs.Changes.{IsRemovable, change_of}
 use Rattle.pv_path.specs.Names.{name_cmp}
 use Rattle.pv_tree.specs.Children.{Children}
 use Rattle.pv_tree.specs.Edges.{led}
-use Rattle.pv_tree.specs.Held.{Held}
 use Rattle.pv_tree.specs.Slots.{child_in, object_in, number_in, slot_in, places_in, files_of, IsForest, AreFree, IsTreeOf}
 use Rattle.pv_tree.proofs.EdgeLaws.{led-on}
 use Rattle.pv_tree.proofs.Files.{places_of}
@@ -222,14 +221,6 @@ module _ (slots new : List Slot) (t : Files) (path : Path) (o : Object) (same : 
     spare = spare;
     tree = subst (λ (v : List Slot). IsTree (files_of v)) (sym err) h.tree;
   }
-
-pub added_held : (slots new : List Slot) (steps : List Step) (held : Held) (path : Path) (o : Object) → record { files = files_of slots; steps = steps } ≡ held
-    → IsForest slots → IsForest new → places_in new ≡ put_at path (Some o) (places_in slots)
-    → record { files = files_of new; steps = steps } ≡ record held { files = fin.insert held.files path o }
-added_held slots new steps held path o same forest kept ok =
-    let files : files_of new ≡ fin.insert held.files path o = added_files slots new held.files path o (ap (λ (h : Held). h.files) same) forest kept ok in
-    let stated : steps ≡ held.steps = ap (λ (h : Held). h.steps) same in
-    λ j. record { files = files j; steps = stated j }
 
 -- ---- a root alone
 

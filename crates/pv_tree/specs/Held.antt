@@ -1,26 +1,38 @@
 -- The tree in memory as its callers see it.
-use Rattle.std.specs.Prelude.{List, [], refl}
-use Rattle.std.specs.Coded.{Coded, code_by, coded×, coded_list, coded_ℕ}
+use Rattle.std.specs.Prelude.{◌≡◌, List, []}
+use Rattle.std.specs.Coded.{Coded, coded×, coded_list, coded_ℕ}
+use Rattle.std.proofs.Common.{ap}
+use base.Stored.{coded_via}
+use mathlib.Core.HLevel.{is_prop→PathP}
 use Rattle.std.specs.FinMap as fin
 use Rattle.pv_steps.specs.contracts.object.Object as object
 use Rattle.pv_steps.specs.contracts.step.Step as step
 use Rattle.pv_steps.specs.declared.node.Node.{Node}
 use Rattle.pv_steps.specs.declared.step.Step.{Step}
-use Rattle.pv_steps.specs.Trees.{Files}
+use Rattle.pv_steps.specs.Trees.{Files, IsTree}
+use Rattle.pv_tree.specs.Sole.{tree_prop}
 
--- the tree, and the steps done since it was made
+-- the tree, the steps done since it was made, and that it is a tree
 pub record Held : Type 0 where
   pub files : Files
   pub steps : List Step
+  pub tree : IsTree files
+
+-- two are one that have the same tree and the same steps
+pub same_held : (a b : Held) → a.files ≡ b.files → a.steps ≡ b.steps → a ≡ b
+same_held a b files steps = λ j. record {
+  files = files j;
+  steps = steps j;
+  tree = is_prop→PathP (λ i. IsTree (files i)) (λ i. tree_prop (files i)) a.tree b.tree j;
+}
 
 -- a tree and its steps as data
 abbrev pub held_code : Coded Held
 held_code =
-    code_by (Files × List Step)
+    coded_via
     (coded× (fin.code (coded_list (coded_list coded_ℕ)) (object.the_row).coded) (coded_list (step.the_row).coded))
     (λ h. (h.files, h.steps))
-    (λ p. record { files = p.0; steps = p.1 })
-    (λ _. refl)
+    (λ a b e. same_held a b (ap (λ p. p.0) e) (ap (λ p. p.1) e))
 
 -- the tree that has a root alone
 abbrev pub root_alone : Node → Files

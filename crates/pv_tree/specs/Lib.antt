@@ -4,6 +4,7 @@ pub mod Keys
 pub mod Edges
 pub mod Slots
 pub mod Walks
+pub mod Sole
 pub mod Held
 pub mod Growth
 pub mod Changes

@@ -226,8 +226,8 @@ impl TreeBuilder {
 
     /// The tree as it is, with no step recorded. It takes no memory.
     pub fn finish(self) -> MemTree
-        ensures value { result ≡ record { files = self.files; steps = [] } }
-        ensures tree { IsTree self.files }
+        ensures files { result.files ≡ self.files }
+        ensures steps { result.steps ≡ [] }
     {
         let TreeBuilder {
             alloc,

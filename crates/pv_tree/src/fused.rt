@@ -139,5 +139,7 @@ impl<T: Tree> Tree for Fused<T> {
 
     ghost reaches_on = { λ _ _ _ p q. (T.reaches_on _ _ _ p.0 q.0, burnt_trans _ _ _ _ _ _ _ _ _ p.1 q.1) };
 
+    ghost is_tree = { λ f. T.is_tree f.inner };
+
     ghost never_falls = { λ _ _ p. Prim.omega (arith, T.never_falls _ _ p.0, p.1.refusals) };
 }

@@ -11,6 +11,7 @@ ghost use Rattle.pv_steps.specs.Steps.{Can, HasRoom, StepFits, after, on_at};
 ghost use Rattle.pv_steps.specs.Counting.{refused, faults_after};
 ghost use Rattle.pv_tree.specs.Changes.{MayHave, with_node};
 ghost use Rattle.pv_tree.specs.Held.{root_alone};
+ghost use Rattle.pv_tree.specs.Sole.{tree_prop};
 ghost use Rattle.pv_tree.specs.Slots.{files_of, IsTreeOf};
 
 use crate::apply::{do_told, parts_fit};
@@ -32,6 +33,7 @@ pub struct MemTree {
     /// The numbers of slots to which no path leads.
     free: Vec<usize>,
     steps: Vec<Step>,
+    ghost tree: { IsTree (files_of slots.items) } by { tree_prop (files_of slots.items) },
 }
 
 impl Model for MemTree {
@@ -42,7 +44,7 @@ impl Model for MemTree {
 
     ghost coded = { held_code };
 
-    ghost view = { λ t. record { files = files_of t.slots.items; steps = t.steps.items } };
+    ghost view = { λ t. record { files = files_of t.slots.items; steps = t.steps.items; tree = t.tree } };
 
     ghost invariant = { λ t. IsTreeOf t.slots.items t.free.items };
 }
@@ -52,7 +54,8 @@ impl MemTree {
     pub fn new(alloc: Global, root: Node) -> Result<MemTree, AllocError>
         requires kind { root.kind ≡ Directory }
         requires object { IsObject (record { node = root; payload = [] }) }
-        ensures { IfOk result (λ tree. tree ≡ record { files = root_alone root; steps = [] }) }
+        ensures files { IfOk result (λ tree. tree.files ≡ root_alone root) }
+        ensures steps { IfOk result (λ tree. tree.steps ≡ []) }
     {
         let slots = root_slots(alloc, root)?;
         Ok(MemTree::of(alloc, slots, Vec::new(alloc)))
@@ -61,7 +64,8 @@ impl MemTree {
     /// The tree of slots, with no step recorded. It takes no memory.
     pub(crate) fn of(alloc: Global, slots: Vec<Slot>, free: Vec<usize>) -> MemTree
         requires { IsTreeOf slots.items free.items }
-        ensures { result ≡ record { files = files_of slots.items; steps = [] } }
+        ensures files { result.files ≡ files_of slots.items }
+        ensures steps { result.steps ≡ [] }
     {
         MemTree {
             alloc,
@@ -76,9 +80,9 @@ impl MemTree {
     pub fn add(&mut self, path: &TreePath, node: Node, payload: &[u8]) -> Result<(), AllocError>
         requires room { HasRoom (places self.old.files) path.now }
         requires object { IsObject (record { node = node; payload = payload.now }) }
-        ensures ok { OnOk result (self.new ≡ record self.old {
-          files = fin.insert self.old.files path.now (record { node = node; payload = payload.now });
-        }) }
+        ensures ok { OnOk result (self.new.files
+            ≡ fin.insert self.old.files path.now (record { node = node; payload = payload.now })) }
+        ensures steps { self.new.steps ≡ self.old.steps }
         ensures err { OnErr result (self.new ≡ self.old) }
     {
         let payload = Bytes::copy_of(self.alloc, payload)?;
@@ -89,7 +93,8 @@ impl MemTree {
     fn add_object(&mut self, path: &TreePath, object: Object) -> Result<(), AllocError>
         requires room { HasRoom (places self.old.files) path.now }
         requires object { IsObject object }
-        ensures ok { OnOk result (self.new ≡ record self.old { files = fin.insert self.old.files path.now object }) }
+        ensures ok { OnOk result (self.new.files ≡ fin.insert self.old.files path.now object) }
+        ensures steps { self.new.steps ≡ self.old.steps }
         ensures err { OnErr result (self.new ≡ self.old) }
     {
         let _names = path.names();
@@ -229,6 +234,8 @@ impl Tree for MemTree {
     ghost reaches_self = { λ _. tt };
 
     ghost reaches_on = { λ _ _ _ _ _. tt };
+
+    ghost is_tree = { λ t. t.tree };
 
     ghost never_falls = { λ _ _ _. Prim.omega arith };
 }

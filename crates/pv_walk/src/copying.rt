@@ -60,8 +60,6 @@ pub fn copy_over<T: Tree>(
         (count_at (T.state tree.old) path.now
         + most_new * copied_count subtree source.now (T.state tree.old)) now tree.old tree.new result }
 {
-    // In a tree nothing stands below an absent path.
-    let _there = tree.look(path);
     let pieces = pieces_of(alloc, tree, source, top)?;
     put_subtree(alloc, tree, path, pieces, now)
 }

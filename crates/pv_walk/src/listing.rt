@@ -33,6 +33,15 @@ enum Task {
     Close(Piece),
 }
 
+/// What is listed of a copy.
+#[derive(Drop)]
+struct Listing {
+    /// What is still to be listed.
+    work: Vec<Task>,
+    /// The pieces that are listed.
+    pieces: Vec<Piece>,
+}
+
 /// The pieces of work of a copy, the last one first: each object is made before its children, which come in byte order,
 /// each with all below it; then it gets its metadata.
 pub(crate) fn pieces_of<T: Tree>(
@@ -50,15 +59,15 @@ pub(crate) fn pieces_of<T: Tree>(
         (T.state tree.now)) }
     ensures tree { IsTree (T.state tree.now) }
 {
-    // In a tree nothing stands below what is no directory.
-    let _root = tree.look(source);
-    let mut work = Vec::new(alloc);
-    work.push(Task::Open(TreePath::root(alloc)))?;
-    let mut pieces = Vec::new(alloc);
-    while let Some(task) = work.pop() {
-        list_next(alloc, tree, source, top, task, &mut work, &mut pieces)?;
+    let mut listing = Listing {
+        work: Vec::new(alloc),
+        pieces: Vec::new(alloc),
+    };
+    listing.work.push(Task::Open(TreePath::root(alloc)))?;
+    while let Some(task) = listing.work.pop() {
+        list_next(alloc, tree, source, top, task, &mut listing)?;
     }
-    Ok(pieces)
+    Ok(listing.pieces)
 }
 
 /// Lists the last pieces of a task, and leaves what comes before them.
@@ -68,19 +77,18 @@ fn list_next<T: Tree>(
     source: &TreePath,
     top: &TopNode,
     task: Task,
-    work: &mut Vec<Task>,
-    pieces: &mut Vec<Piece>,
+    listing: &mut Listing,
 ) -> Result<(), AllocError>
     requires top { IsTopNode top.now }
-    ensures left { OnOk result (work.new.items ≡ work.old.items ++ tasks_left
+    ensures left { OnOk result (listing.new.work.items ≡ listing.old.work.items ++ tasks_left
         (copy_from (topped top.now) source.now (object_states_of (places (T.state tree.now))))
         (names_at source.now (T.state tree.now)) task) }
-    ensures listed { OnOk result (pieces.new.items ≡ pieces.old.items ++ pieces_now
+    ensures listed { OnOk result (listing.new.pieces.items ≡ listing.old.pieces.items ++ pieces_now
         (copy_from (topped top.now) source.now (object_states_of (places (T.state tree.now)))) task) }
 {
     match task {
-        Task::Open(rest) => open(alloc, tree, source, top, &rest, work, pieces),
-        Task::Close(piece) => Ok(pieces.push(piece)?),
+        Task::Open(rest) => open(alloc, tree, source, top, &rest, listing),
+        Task::Close(piece) => Ok(listing.pieces.push(piece)?),
     }
 }
 
@@ -91,39 +99,35 @@ fn open<T: Tree>(
     source: &TreePath,
     top: &TopNode,
     rest: &TreePath,
-    work: &mut Vec<Task>,
-    pieces: &mut Vec<Piece>,
+    listing: &mut Listing,
 ) -> Result<(), AllocError>
     requires top { IsTopNode top.now }
-    ensures left { OnOk result (work.new.items ≡ work.old.items ++ tasks_left
+    ensures left { OnOk result (listing.new.work.items ≡ listing.old.work.items ++ tasks_left
         (copy_from (topped top.now) source.now (object_states_of (places (T.state tree.now))))
         (names_at source.now (T.state tree.now)) (Open rest.now)) }
-    ensures listed { OnOk result (pieces.new.items ≡ pieces.old.items ++ pieces_now
+    ensures listed { OnOk result (listing.new.pieces.items ≡ listing.old.pieces.items ++ pieces_now
         (copy_from (topped top.now) source.now (object_states_of (places (T.state tree.now)))) (Open rest.now)) }
 {
     match object_at(alloc, tree, source, top, rest)? {
         None => Ok(()),
         Some(object) => {
-            add_object(rest, object, work, pieces)?;
-            open_children(alloc, tree, source, rest, work)
+            add_object(rest, object, listing)?;
+            open_children(alloc, tree, source, rest, &mut listing.work)
         }
     }
 }
 
 /// Adds the pieces of one object: the last one to those that are listed, the first one to what is left.
-fn add_object(
-    rest: &TreePath,
-    object: ObjectState,
-    work: &mut Vec<Task>,
-    pieces: &mut Vec<Piece>,
-) -> Result<(), AllocError>
-    ensures left { OnOk result (work.new.items
-        ≡ work.old.items ++ Close (Make rest.now (what_of object.body)) ∷ []) }
-    ensures listed { OnOk result (pieces.new.items
-        ≡ pieces.old.items ++ Give rest.now object.metadata ∷ []) }
+fn add_object(rest: &TreePath, object: ObjectState, listing: &mut Listing) -> Result<(), AllocError>
+    ensures left { OnOk result (listing.new.work.items
+        ≡ listing.old.work.items ++ Close (Make rest.now (what_of object.body)) ∷ []) }
+    ensures listed { OnOk result (listing.new.pieces.items
+        ≡ listing.old.pieces.items ++ Give rest.now object.metadata ∷ []) }
 {
-    work.push(Task::Close(Piece::Make(rest.copy()?, what_of(object.body))))?;
-    pieces.push(Piece::Give(rest.copy()?, object.metadata))?;
+    listing.work.push(Task::Close(Piece::Make(rest.copy()?, what_of(object.body))))?;
+    listing
+        .pieces
+        .push(Piece::Give(rest.copy()?, object.metadata))?;
     Ok(())
 }
 
@@ -184,8 +188,6 @@ fn object_at<T: Tree>(
         ≡ copy_from (topped top.now) source.now (object_states_of (places (T.state tree.now))) rest.now) }
     ensures tree { IsTree (T.state tree.now) }
 {
-    // In a tree nothing is half made.
-    let _tree = tree.look(source);
     if rest.is_empty() {
         return top_at(alloc, tree, source, top);
     }

@@ -65,8 +65,6 @@ fn put_parents<T: Tree>(
         (most_new * parent_count path.now (T.state tree.old)) now tree.old tree.new result }
 {
     let mut place = TreePath::root(alloc);
-    // In a tree the root is a directory.
-    let _root = tree.look(&place);
     let names = path.names();
     for name in &names[..names.len().saturating_sub(1)] {
         go_down(&mut place, name)?;

@@ -46,8 +46,6 @@ pub fn put_over<T: Tree>(
         (IsPutStep path.now new.now) (count_at (T.state tree.old) path.now + most_new)
         now tree.old tree.new result }
 {
-    // In a tree nothing stands below an absent path.
-    let _there = tree.look(path);
     let pieces = pieces_of_new(alloc, new)?;
     put_subtree(alloc, tree, path, pieces, now)
 }
@@ -71,8 +69,6 @@ pub fn stage_file<T: Tree>(
     ensures ok { OnOk result (places (T.state tree.new)
         ≡ made now (staging_of path.now) (new_object new.now now) (places (T.state tree.old))) }
 {
-    // In a tree nothing stands below an absent path.
-    let _free = tree.look(path);
     let pieces = pieces_of_new(alloc, new)?;
     stage_subtree(alloc, tree, path, pieces, now)
 }

@@ -45,8 +45,6 @@ pub(crate) fn put_subtree<T: Tree>(
         (IsCopyStep path.now (made_of pieces.items))
         (cost_of pieces.items + (1 + count_at (T.state tree.old) path.now)) now tree.old tree.new result }
 {
-    // In a tree nothing stands below an absent path.
-    let _there = tree.look(path);
     stage_subtree(alloc, tree, path, pieces, now)?;
     publish(alloc, tree, path, now)
 }
@@ -71,8 +69,6 @@ pub(crate) fn stage_subtree<T: Tree>(
     ensures acted { Acted T.Tree (Staging (staging_of path.now) (made_of pieces.items) (T.state tree.old))
         (IsStagingOf path.now (made_of pieces.items)) (cost_of pieces.items) now tree.old tree.new result }
 {
-    // In a tree nothing stands below an absent path.
-    let _free = tree.look(path);
     let stage = staging(alloc, path)?;
     let mut left = pieces;
     while let Some(piece) = left.pop() {

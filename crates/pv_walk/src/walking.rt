@@ -92,8 +92,6 @@ pub fn unsafe_component<T: Tree>(
     ensures tree { IsTree (T.state tree.now) }
 {
     let mut at = TreePath::root(alloc);
-    // In a tree the root is a directory.
-    let _root = tree.look(&at);
     for (k, name) in path.names().iter().enumerate() {
         if let Some(why) = why_passed(seen_at(tree, &at)) {
             return Ok(Some((k as u32, why)));

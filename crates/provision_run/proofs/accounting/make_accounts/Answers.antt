@@ -30,7 +30,7 @@ returns-in_err-read-clause-acted g c =
 pub returns-in_err-read-clause-mended : goal.returns-in_err-read-clause-mended
 returns-in_err-read-clause-mended g c =
     let t = g.T.Tree.state c.args.tree.now in
-    none_mended (run_requests c.args.options.now c.args.facts.now t) c.args.moment c.ranges.moment.fits t (g.T.Tree.steps c.args.tree.now) c.look-root.ensures.tree
+    none_mended (run_requests c.args.options.now c.args.facts.now t) c.args.moment c.ranges.moment.fits t (g.T.Tree.steps c.args.tree.now) (g.met.T.Tree.is_tree c.args.tree.now)
 
 pub returns-clause-ok : goal.returns-clause-ok
 returns-clause-ok g c =
@@ -73,7 +73,7 @@ returns-clause-staged g c =
       part = c.accounts_run-answer.ensures.part;
       acted = c.accounts_run-answer.ensures.acted;
     }) in
-    accounts_leave_none (run_requests c.args.options.now c.args.facts.now (tree.state a)) c.args.moment (tree.state a) c.look-root.ensures.tree c.ended.result (tree.state b)
+    accounts_leave_none (run_requests c.args.options.now c.args.facts.now (tree.state a)) c.args.moment (tree.state a) (g.met.T.Tree.is_tree c.args.tree.now) c.ended.result (tree.state b)
     (ended_ok tree c.args.options.now c.args.facts.now c.args.moment a b c.args.messages.now c.read_requests.new.messages c.accounts_run-answer.new.messages c.ended.new.messages c.in_ok-read.read.missing c.in_ok-read.read.invalid
     c.in_ok-read.ensures.new_messages c.accounts_run-answer.result c.ended.result finished c.ended.ensures)
 
@@ -206,7 +206,7 @@ returns-clause-mended g c =
       acted = c.accounts_run-answer.ensures.acted;
     }) in
     run_mended (run_requests c.args.options.now c.args.facts.now (tree.state a)) c.args.moment c.ranges.moment.fits (run_edits c.args.options.now c.args.facts.now c.args.moment (tree.state a)) _ (tree.state a) (tree.steps a) (tree.state b) (tree.steps b)
-    c.look-root.ensures.tree refl finished.acted.ran
+    (g.met.T.Tree.is_tree c.args.tree.now) refl finished.acted.ran
 
 pub returns-in_err-read-clause-reread : goal.returns-in_err-read-clause-reread
 returns-in_err-read-clause-reread g c = no_requests_reread c.args.options.now c.args.facts.now c.args.moment (g.T.Tree.state c.args.tree.now) (g.T.Tree.steps c.args.tree.now)
@@ -216,7 +216,7 @@ returns-in_err-read-clause-anew g c =
     let t = g.T.Tree.state c.args.tree.now in
     let stated = g.T.Tree.steps c.args.tree.now in
     accounts_mended_anew c.args.options.now c.args.facts.now c.args.moment t (drop (length stated) stated) (no_requests_reread c.args.options.now c.args.facts.now c.args.moment t stated)
-    (none_mended (run_requests c.args.options.now c.args.facts.now t) c.args.moment c.ranges.moment.fits t stated c.look-root.ensures.tree)
+    (none_mended (run_requests c.args.options.now c.args.facts.now t) c.args.moment c.ranges.moment.fits t stated (g.met.T.Tree.is_tree c.args.tree.now))
 
 pub returns-clause-reread : goal.returns-clause-reread
 returns-clause-reread g c =
@@ -237,7 +237,7 @@ returns-clause-reread g c =
       part = c.accounts_run-answer.ensures.part;
       acted = c.accounts_run-answer.ensures.acted;
     }) in
-    requests_reread c.args.options.now c.args.facts.now c.args.moment (tree.state a) c.ranges.moment.fits c.look-root.ensures.tree (tree.steps a) (tree.state b) (tree.steps b) finished.acted.ran
+    requests_reread c.args.options.now c.args.facts.now c.args.moment (tree.state a) c.ranges.moment.fits (g.met.T.Tree.is_tree c.args.tree.now) (tree.steps a) (tree.state b) (tree.steps b) finished.acted.ran
 
 pub returns-clause-anew : goal.returns-clause-anew
 returns-clause-anew g c =
@@ -259,9 +259,9 @@ returns-clause-anew g c =
       acted = c.accounts_run-answer.ensures.acted;
     }) in
     accounts_mended_anew c.args.options.now c.args.facts.now c.args.moment (tree.state a) (drop (length (tree.steps a)) (tree.steps b))
-    (requests_reread c.args.options.now c.args.facts.now c.args.moment (tree.state a) c.ranges.moment.fits c.look-root.ensures.tree (tree.steps a) (tree.state b) (tree.steps b) finished.acted.ran)
+    (requests_reread c.args.options.now c.args.facts.now c.args.moment (tree.state a) c.ranges.moment.fits (g.met.T.Tree.is_tree c.args.tree.now) (tree.steps a) (tree.state b) (tree.steps b) finished.acted.ran)
     (run_mended (run_requests c.args.options.now c.args.facts.now (tree.state a)) c.args.moment c.ranges.moment.fits (run_edits c.args.options.now c.args.facts.now c.args.moment (tree.state a)) _ (tree.state a) (tree.steps a) (tree.state b) (tree.steps b)
-    c.look-root.ensures.tree refl finished.acted.ran)
+    (g.met.T.Tree.is_tree c.args.tree.now) refl finished.acted.ran)
 
 pub returns-in_err-read-clause-framed : goal.returns-in_err-read-clause-framed
 returns-in_err-read-clause-framed g c = λ n q plain off far. none_stays c.args.moment (g.T.Tree.state c.args.tree.now) (g.T.Tree.steps c.args.tree.now) n q
@@ -274,5 +274,5 @@ returns-clause-framed g c =
     let h = g.T.Tree.steps c.args.tree.now in
     let u = g.T.Tree.state c.accounts_run-answer.new.tree in
     let k = g.T.Tree.steps c.accounts_run-answer.new.tree in
-    requests_framed requests now (IsAccountStep (edits_at requests now (places t)) t) t h u k c.look-root.ensures.tree
+    requests_framed requests now (IsAccountStep (edits_at requests now (places t)) t) t h u k (g.met.T.Tree.is_tree c.args.tree.now)
     (subst (λ (rs : List Request). Ran (AccountWay (edits_at rs now (places t)) t) (IsAccountStep (edits_at rs now (places t)) t) now t h u k) c.in_ok-read.ensures.lines c.accounts_run-answer.ensures.acted.ran)

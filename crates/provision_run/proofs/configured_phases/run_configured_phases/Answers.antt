@@ -42,7 +42,7 @@ returns-in_err-read-clause-acted g c =
 pub returns-in_err-read-clause-mended : goal.returns-in_err-read-clause-mended
 returns-in_err-read-clause-mended g c =
     let t = g.T.Tree.state c.args.tree.now in
-    none_mended (run_lines c.args.options.now c.args.facts.now t) c.args.moment t (g.T.Tree.steps c.args.tree.now) c.ranges.moment.fits c.look-root.ensures.tree (phases_of c.args.options.now)
+    none_mended (run_lines c.args.options.now c.args.facts.now t) c.args.moment t (g.T.Tree.steps c.args.tree.now) c.ranges.moment.fits (g.met.T.Tree.is_tree c.args.tree.now) (phases_of c.args.options.now)
 
 pub returns-in_err-phases-clause-part : goal.returns-in_err-phases-clause-part
 returns-in_err-phases-clause-part g c =
@@ -61,7 +61,7 @@ returns-in_err-phases-clause-acted g c =
 pub returns-in_err-phases-clause-mended : goal.returns-in_err-phases-clause-mended
 returns-in_err-phases-clause-mended g c =
     let t = g.T.Tree.state c.args.tree.now in
-    none_mended (run_lines c.args.options.now c.args.facts.now t) c.args.moment t (g.T.Tree.steps c.args.tree.now) c.ranges.moment.fits c.look-root.ensures.tree (phases_of c.args.options.now)
+    none_mended (run_lines c.args.options.now c.args.facts.now t) c.args.moment t (g.T.Tree.steps c.args.tree.now) c.ranges.moment.fits (g.met.T.Tree.is_tree c.args.tree.now) (phases_of c.args.options.now)
 
 pub returns-in_err-carried-clause-part : goal.returns-in_err-carried-clause-part
 returns-in_err-carried-clause-part g c =
@@ -163,24 +163,24 @@ returns-in_err-read-clause-anew g c =
     let t = g.T.Tree.state c.args.tree.now in
     let stated = g.T.Tree.steps c.args.tree.now in
     mended_anew c.args.options.now c.args.facts.now c.args.moment t (drop (length stated) stated) (nothing_reread c.args.options.now c.args.facts.now c.args.moment t stated)
-    (none_mended (run_lines c.args.options.now c.args.facts.now t) c.args.moment t stated c.ranges.moment.fits c.look-root.ensures.tree (phases_of c.args.options.now))
+    (none_mended (run_lines c.args.options.now c.args.facts.now t) c.args.moment t stated c.ranges.moment.fits (g.met.T.Tree.is_tree c.args.tree.now) (phases_of c.args.options.now))
 
 pub returns-in_err-phases-clause-anew : goal.returns-in_err-phases-clause-anew
 returns-in_err-phases-clause-anew g c =
     let t = g.T.Tree.state c.args.tree.now in
     let stated = g.T.Tree.steps c.args.tree.now in
     mended_anew c.args.options.now c.args.facts.now c.args.moment t (drop (length stated) stated) (nothing_reread c.args.options.now c.args.facts.now c.args.moment t stated)
-    (none_mended (run_lines c.args.options.now c.args.facts.now t) c.args.moment t stated c.ranges.moment.fits c.look-root.ensures.tree (phases_of c.args.options.now))
+    (none_mended (run_lines c.args.options.now c.args.facts.now t) c.args.moment t stated c.ranges.moment.fits (g.met.T.Tree.is_tree c.args.tree.now) (phases_of c.args.options.now))
 
 pub returns-in_err-carried-clause-anew : goal.returns-in_err-carried-clause-anew
 returns-in_err-carried-clause-anew g c =
     run_anew c.args.options.now c.args.facts.now c.args.moment (g.T.Tree.state c.args.tree.now) c.ranges.moment.fits c.in_ok-read.read.table c.in_ok-read.ensures.lines c.deref.result.now (c.deref.ensures.value ∙ c.in_ok-phases.ensures)
-    c.in_ok-read.ensures.whole c.look-root.ensures.tree (g.T.Tree.steps c.args.tree.now) _ (g.T.Tree.steps c.run_phases.new.tree) c.run_phases.ensures.acted.ran c.run_phases.ensures.mended
+    c.in_ok-read.ensures.whole (g.met.T.Tree.is_tree c.args.tree.now) (g.T.Tree.steps c.args.tree.now) _ (g.T.Tree.steps c.run_phases.new.tree) c.run_phases.ensures.acted.ran c.run_phases.ensures.mended
 
 pub returns-clause-anew : goal.returns-clause-anew
 returns-clause-anew g c =
     run_anew c.args.options.now c.args.facts.now c.args.moment (g.T.Tree.state c.args.tree.now) c.ranges.moment.fits c.in_ok-read.read.table c.in_ok-read.ensures.lines c.deref.result.now (c.deref.ensures.value ∙ c.in_ok-phases.ensures)
-    c.in_ok-read.ensures.whole c.look-root.ensures.tree (g.T.Tree.steps c.args.tree.now) _ (g.T.Tree.steps c.run_phases.new.tree) c.run_phases.ensures.acted.ran c.run_phases.ensures.mended
+    c.in_ok-read.ensures.whole (g.met.T.Tree.is_tree c.args.tree.now) (g.T.Tree.steps c.args.tree.now) _ (g.T.Tree.steps c.run_phases.new.tree) c.run_phases.ensures.acted.ran c.run_phases.ensures.mended
 
 pub returns-in_err-read-clause-reread : goal.returns-in_err-read-clause-reread
 returns-in_err-read-clause-reread g c = nothing_reread c.args.options.now c.args.facts.now c.args.moment (g.T.Tree.state c.args.tree.now) (g.T.Tree.steps c.args.tree.now)
@@ -191,12 +191,12 @@ returns-in_err-phases-clause-reread g c = nothing_reread c.args.options.now c.ar
 pub returns-in_err-carried-clause-reread : goal.returns-in_err-carried-clause-reread
 returns-in_err-carried-clause-reread g c =
     run_reread c.args.options.now c.args.facts.now c.args.moment (g.T.Tree.state c.args.tree.now) c.ranges.moment.fits c.in_ok-read.read.table c.in_ok-read.ensures.lines c.deref.result.now (c.deref.ensures.value ∙ c.in_ok-phases.ensures)
-    c.in_ok-read.ensures.whole c.look-root.ensures.tree (g.T.Tree.steps c.args.tree.now) _ (g.T.Tree.steps c.run_phases.new.tree) c.run_phases.ensures.acted.ran
+    c.in_ok-read.ensures.whole (g.met.T.Tree.is_tree c.args.tree.now) (g.T.Tree.steps c.args.tree.now) _ (g.T.Tree.steps c.run_phases.new.tree) c.run_phases.ensures.acted.ran
 
 pub returns-clause-reread : goal.returns-clause-reread
 returns-clause-reread g c =
     run_reread c.args.options.now c.args.facts.now c.args.moment (g.T.Tree.state c.args.tree.now) c.ranges.moment.fits c.in_ok-read.read.table c.in_ok-read.ensures.lines c.deref.result.now (c.deref.ensures.value ∙ c.in_ok-phases.ensures)
-    c.in_ok-read.ensures.whole c.look-root.ensures.tree (g.T.Tree.steps c.args.tree.now) _ (g.T.Tree.steps c.run_phases.new.tree) c.run_phases.ensures.acted.ran
+    c.in_ok-read.ensures.whole (g.met.T.Tree.is_tree c.args.tree.now) (g.T.Tree.steps c.args.tree.now) _ (g.T.Tree.steps c.run_phases.new.tree) c.run_phases.ensures.acted.ran
 
 pub returns-in_err-read-clause-framed : goal.returns-in_err-read-clause-framed
 returns-in_err-read-clause-framed g c = λ n q plain free. none_stays c.args.moment (g.T.Tree.state c.args.tree.now) (g.T.Tree.steps c.args.tree.now) n q

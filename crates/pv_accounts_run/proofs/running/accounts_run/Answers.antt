@@ -68,7 +68,7 @@ pub returns-clause-staged : goal.returns-clause-staged
 returns-clause-staged g c =
     let t = g.T.Tree.state c.args.tree.now in
     let none : unusable_texts (places t) ≡ [] = nil_of (unusable_texts (places t)) (subst (λ ys. length ys ≤ 0) c.in_ok-unusable.ensures (omega (arith, c.len.ensures, c.if-len-gt0.false))) in
-    accounts_leave_none c.args.requests.now c.args.now t c.is_present-rooted.ensures.tree c.run_usable.result (g.T.Tree.state c.run_usable.new.tree)
+    accounts_leave_none c.args.requests.now c.args.now t (g.met.T.Tree.is_tree c.args.tree.now) c.run_usable.result (g.T.Tree.state c.run_usable.new.tree)
     (ok_accounted c.args.requests.now c.args.now t none c.run_usable.result (g.T.Tree.state c.run_usable.new.tree) c.run_usable.ensures.enough c.run_usable.ensures.ok)
 
 pub returns-clause-carried : goal.returns-clause-carried
@@ -85,15 +85,15 @@ returns-clause-lacking g c =
 
 pub returns-in_err-unusable-clause-mended : goal.returns-in_err-unusable-clause-mended
 returns-in_err-unusable-clause-mended g c =
-    none_mended c.args.requests.now c.args.now c.ranges.now.fits (g.T.Tree.state c.args.tree.now) (g.T.Tree.steps c.args.tree.now) c.is_present-rooted.ensures.tree
+    none_mended c.args.requests.now c.args.now c.ranges.now.fits (g.T.Tree.state c.args.tree.now) (g.T.Tree.steps c.args.tree.now) (g.met.T.Tree.is_tree c.args.tree.now)
 
 pub returns-in_err-say_unusable-clause-mended : goal.returns-in_err-say_unusable-clause-mended
 returns-in_err-say_unusable-clause-mended g c =
-    none_mended c.args.requests.now c.args.now c.ranges.now.fits (g.T.Tree.state c.args.tree.now) (g.T.Tree.steps c.args.tree.now) c.is_present-rooted.ensures.tree
+    none_mended c.args.requests.now c.args.now c.ranges.now.fits (g.T.Tree.state c.args.tree.now) (g.T.Tree.steps c.args.tree.now) (g.met.T.Tree.is_tree c.args.tree.now)
 
 pub returns-then-len-gt0-clause-mended : goal.returns-then-len-gt0-clause-mended
 returns-then-len-gt0-clause-mended g c =
-    none_mended c.args.requests.now c.args.now c.ranges.now.fits (g.T.Tree.state c.args.tree.now) (g.T.Tree.steps c.args.tree.now) c.is_present-rooted.ensures.tree
+    none_mended c.args.requests.now c.args.now c.ranges.now.fits (g.T.Tree.state c.args.tree.now) (g.T.Tree.steps c.args.tree.now) (g.met.T.Tree.is_tree c.args.tree.now)
 
 pub returns-clause-mended : goal.returns-clause-mended
 returns-clause-mended g c =
@@ -101,7 +101,7 @@ returns-clause-mended g c =
     let plan = plan_at c.args.requests.now c.args.now (places t) in
     let none : unusable_texts (places t) ≡ [] = nil_of (unusable_texts (places t)) (subst (λ ys. length ys ≤ 0) c.in_ok-unusable.ensures (omega (arith, c.len.ensures, c.if-len-gt0.false))) in
     run_mended c.args.requests.now c.args.now c.ranges.now.fits (edits_by (places t) plan.texts) (IsAccountStep (edits_by (places t) plan.texts) t) t (g.T.Tree.steps c.args.tree.now)
-    (g.T.Tree.state c.run_usable.new.tree) (g.T.Tree.steps c.run_usable.new.tree) c.is_present-rooted.ensures.tree (sym (ap (λ xs. edits_unless xs (edits_by (places t) plan.texts)) none)) c.run_usable.ensures.acted.ran
+    (g.T.Tree.state c.run_usable.new.tree) (g.T.Tree.steps c.run_usable.new.tree) (g.met.T.Tree.is_tree c.args.tree.now) (sym (ap (λ xs. edits_unless xs (edits_by (places t) plan.texts)) none)) c.run_usable.ensures.acted.ran
 
 pub returns-clause-new_messages : goal.returns-clause-new_messages
 returns-clause-new_messages g c =

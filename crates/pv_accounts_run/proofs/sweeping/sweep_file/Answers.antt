@@ -13,7 +13,7 @@ returns-clause-acted g c =
     let moves : Moves g.T.Tree = record { stays = g.met.T.Tree.reaches_self; goes_on = g.met.T.Tree.reaches_on; never_falls = g.met.T.Tree.never_falls } in
     let t = g.T.Tree.state c.args.tree.now in
     let path = c.args.path.now in
-    acted_within g.T.Tree (count_at_all t (staging_names path)) (count_at t (staging_of path)) (count_one path c.requires.path t c.is_present-rooted.ensures.tree c.requires.above)
+    acted_within g.T.Tree (count_at_all t (staging_names path)) (count_at t (staging_of path)) (count_one path c.requires.path t (g.met.T.Tree.is_tree c.args.tree.now) c.requires.above)
     (swept_within g.T.Tree moves (is_under_any (staging_names path)) (path_among path c.requires.path) c.sweep.ensures.acted)
 
 pub returns-clause-free : goal.returns-clause-free

@@ -12,7 +12,7 @@ use Rattle.pv_clean.proofs.aging.all_judged.Goals as goal
 pub judge_all-requires : goal.judge_all-requires
 judge_all-requires g c = record {
   root = c.root-root.ensures;
-  tree = c.is_present-rooted.ensures.tree;
+  tree = g.met.T.Tree.is_tree c.args.tree.now;
   listing = rw c.root-root.ensures at c.in_ok-listed.ensures.all;
   gathered = c.in_ok-listed.ensures.gathered;
   named = subst (λ (lines : List Line). (q : Path) → is_one_of c.in_ok-named.named.keys q ≡ (is_some (places (g.T.Tree.state c.args.tree.now) q) && list_any (λ line. names line q) lines))

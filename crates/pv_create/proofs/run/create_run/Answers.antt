@@ -51,7 +51,7 @@ returns-clause-mended g c =
     let now = c.args.now in
     let t = g.T.Tree.state c.args.tree.now in
     mended table c.lines-lines.ensures.whole (IsStepOfSome (lines_course now) (in_create_order table) t) now t (g.T.Tree.steps c.args.tree.now)
-    (g.T.Tree.state c.run_in_order.new.tree) (g.T.Tree.steps c.run_in_order.new.tree) c.ranges.now.fits c.look-root.ensures.tree c.run_in_order.ensures.acted.ran c.lines-lines.ensures.distinct
+    (g.T.Tree.state c.run_in_order.new.tree) (g.T.Tree.steps c.run_in_order.new.tree) c.ranges.now.fits (g.met.T.Tree.is_tree c.args.tree.now) c.run_in_order.ensures.acted.ran c.lines-lines.ensures.distinct
 
 pub returns-clause-again : goal.returns-clause-again
 returns-clause-again g c =
@@ -59,7 +59,7 @@ returns-clause-again g c =
     let now = c.args.now in
     let t = g.T.Tree.state c.args.tree.now in
     mended_again table c.lines-lines.ensures.whole (IsStepOfSome (lines_course now) (in_create_order table) t) now t (g.T.Tree.steps c.args.tree.now)
-    (g.T.Tree.state c.run_in_order.new.tree) (g.T.Tree.steps c.run_in_order.new.tree) c.ranges.now.fits c.look-root.ensures.tree c.run_in_order.ensures.acted.ran c.lines-lines.ensures.distinct
+    (g.T.Tree.state c.run_in_order.new.tree) (g.T.Tree.steps c.run_in_order.new.tree) c.ranges.now.fits (g.met.T.Tree.is_tree c.args.tree.now) c.run_in_order.ensures.acted.ran c.lines-lines.ensures.distinct
 
 pub returns-clause-stopped : goal.returns-clause-stopped
 returns-clause-stopped g c =
@@ -67,7 +67,7 @@ returns-clause-stopped g c =
     let now = c.args.now in
     let t = g.T.Tree.state c.args.tree.now in
     stopped table c.lines-lines.ensures.whole (IsStepOfSome (lines_course now) (in_create_order table) t) now t (g.T.Tree.steps c.args.tree.now)
-    (g.T.Tree.state c.run_in_order.new.tree) (g.T.Tree.steps c.run_in_order.new.tree) c.ranges.now.fits c.look-root.ensures.tree c.run_in_order.ensures.acted.ran
+    (g.T.Tree.state c.run_in_order.new.tree) (g.T.Tree.steps c.run_in_order.new.tree) c.ranges.now.fits (g.met.T.Tree.is_tree c.args.tree.now) c.run_in_order.ensures.acted.ran
 
 pub returns-clause-framed : goal.returns-clause-framed
 returns-clause-framed g c =
@@ -75,7 +75,7 @@ returns-clause-framed g c =
     let now = c.args.now in
     let t = g.T.Tree.state c.args.tree.now in
     framed table c.lines-lines.ensures.whole (IsStepOfSome (lines_course now) (in_create_order table) t) now t (g.T.Tree.steps c.args.tree.now)
-    (g.T.Tree.state c.run_in_order.new.tree) (g.T.Tree.steps c.run_in_order.new.tree) c.ranges.now.fits c.look-root.ensures.tree c.run_in_order.ensures.acted.ran
+    (g.T.Tree.state c.run_in_order.new.tree) (g.T.Tree.steps c.run_in_order.new.tree) c.ranges.now.fits (g.met.T.Tree.is_tree c.args.tree.now) c.run_in_order.ensures.acted.ran
 
 pub returns-clause-between : goal.returns-clause-between
 returns-clause-between g c =
@@ -83,7 +83,7 @@ returns-clause-between g c =
     let now = c.args.now in
     let t = g.T.Tree.state c.args.tree.now in
     between table c.lines-lines.ensures.whole (IsStepOfSome (lines_course now) (in_create_order table) t) now t (g.T.Tree.steps c.args.tree.now)
-    (g.T.Tree.state c.run_in_order.new.tree) (g.T.Tree.steps c.run_in_order.new.tree) c.ranges.now.fits c.look-root.ensures.tree c.run_in_order.ensures.acted.ran
+    (g.T.Tree.state c.run_in_order.new.tree) (g.T.Tree.steps c.run_in_order.new.tree) c.ranges.now.fits (g.met.T.Tree.is_tree c.args.tree.now) c.run_in_order.ensures.acted.ran
 
 pub returns-clause-gives : goal.returns-clause-gives
 returns-clause-gives g c =
@@ -91,4 +91,4 @@ returns-clause-gives g c =
     let now = c.args.now in
     let t = g.T.Tree.state c.args.tree.now in
     given table c.lines-lines.ensures.whole (Partway (lines_course now) (in_create_order table) t) now t (g.T.Tree.steps c.args.tree.now)
-    (g.T.Tree.state c.run_in_order.new.tree) (g.T.Tree.steps c.run_in_order.new.tree) c.look-root.ensures.tree c.run_in_order.ensures.acted.ran
+    (g.T.Tree.state c.run_in_order.new.tree) (g.T.Tree.steps c.run_in_order.new.tree) (g.met.T.Tree.is_tree c.args.tree.now) c.run_in_order.ensures.acted.ran

@@ -18,7 +18,7 @@ returns-in-Some-clause-acts g c = (c.in_ok-explanation.ensures c.in-Some.explana
 pub returns-in-Some-clause-leaves : goal.returns-in-Some-clause-leaves
 returns-in-Some-clause-leaves g c = λ now repeatable quiet plain.
     (c.in_ok-explanation.ensures c.in-Some.explanation c.in-Some.is).node
-    ∙ left_there (g.T.Tree.state c.args.tree.now) c.look-node.ensures.tree c.args.table.now c.lines-lines.ensures.whole now repeatable quiet c.args.path.now plain
+    ∙ left_there (g.T.Tree.state c.args.tree.now) (g.met.T.Tree.is_tree c.args.tree.now) c.args.table.now c.lines-lines.ensures.whole now repeatable quiet c.args.path.now plain
 
 pub returns-in-None-clause-leaves : goal.returns-in-None-clause-leaves
 returns-in-None-clause-leaves g c =
@@ -28,5 +28,5 @@ returns-in-None-clause-leaves g c =
     if_ok (λ (explanation : Explained). Tells lines (standing t) path explanation)
     (λ (explanation : Explained). (now : ℕ) → IsRepeatable lines → IsQuiet lines now t → has_staging path ≡ false → option_map object_state_in explanation.node ≡ object_states_of (places (created lines now t)) path)
     c.explain_within.result
-    (λ explanation tells now repeatable quiet plain. tells.node ∙ left_there t c.look-node.ensures.tree lines c.lines-lines.ensures.whole now repeatable quiet path plain)
+    (λ explanation tells now repeatable quiet plain. tells.node ∙ left_there t (g.met.T.Tree.is_tree c.args.tree.now) lines c.lines-lines.ensures.whole now repeatable quiet path plain)
     c.explain_within.ensures

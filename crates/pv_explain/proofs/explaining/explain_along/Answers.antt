@@ -17,4 +17,4 @@ returns g c =
     let path = c.args.path.now in
     let start = c.in_ok-start.ensures ∙ ap (λ (ps : List Path). tabulated ps (object_states_of (places t))) (c.deref.ensures.value ∙ c.in_ok-places.ensures) in
     if_ok _ (λ (answer : Option Explained). (explanation : Explained) → answer ≡ Some explanation → Tells c.args.table.now (standing t) path explanation) c.follow.result
-    (λ answer h explanation e. h (standing t) explanation e (subst (λ (r : ObjectStates). IsAlong path r (standing t)) (sym start) (stands_along t c.look-node.ensures.tree path))) c.follow.ensures.explanation
+    (λ answer h explanation e. h (standing t) explanation e (subst (λ (r : ObjectStates). IsAlong path r (standing t)) (sym start) (stands_along t (g.met.T.Tree.is_tree c.args.tree.now) path))) c.follow.ensures.explanation

@@ -16,5 +16,5 @@ returns g c =
     let region = c.in_ok-region.region in
     let paths : List Path = c.in_ok-paths.paths.items in
     let start = c.in_ok-start.ensures ∙ ap (λ (ps : List Path). tabulated ps (object_states_of (places t))) c.deref.ensures.value in
-    let within = stands_within t c.look-node.ensures.tree (holds region) (holds_root c.args.table.now c.args.path.now region c.in_ok-region.ensures) paths c.in_ok-paths.ensures in
+    let within = stands_within t (g.met.T.Tree.is_tree c.args.tree.now) (holds region) (holds_root c.args.table.now c.args.path.now region c.in_ok-region.ensures) paths c.in_ok-paths.ensures in
     c.in_ok-whole.ensures.explanation (standing t) c.in-Some.whole c.in-Some.is (subst (λ (r : ObjectStates). IsWithin (holds region) r (standing t)) (sym start) within)

@@ -6,7 +6,6 @@ use Rattle.pv_steps.specs.declared.node.Node.{Node}
 use Rattle.pv_steps.specs.declared.object.Object.{Object}
 use Rattle.pv_steps.specs.Steps.{put_at}
 use Rattle.pv_steps.specs.Trees.{kind_of, places}
-use Rattle.pv_tree.specs.Held.{Held}
 use Rattle.pv_folder.specs.Merge.{merged_of}
 use Rattle.pv_folder.proofs.MergingLaws.{dropped_above, dropped_real, put_inserted, put_same, unreal_there}
 use Rattle.pv_folder.proofs.merged_object.add_unreal.Goals as goal
@@ -34,7 +33,7 @@ returns-clause-places c =
     let yes : c.lies_in_directory.result ≡ true = (let no = c.if-not-lies_in_directory.false in cc) in
     let above : k ≡ Some Directory = c.lies_in_directory.ensures.0 yes in
     on_ok c.add.result (λ e.
-    ap (λ (h : Held). places h.files) e
+    ap places e
     ∙ put_inserted files c.in_ok-path.path (record { node = c.in_ok-copy.field-0; payload = c.args.payload.now })
     ∙ ap (λ (q : Path). put_at q (Some (record { node = c.in_ok-copy.field-0; payload = c.args.payload.now })) t) c.in_ok-path.ensures
     ∙ ap (λ (n : Node). put_at p (Some (record { node = n; payload = c.args.payload.now })) t) c.in_ok-copy.ensures

@@ -6,9 +6,9 @@ use Rattle.pv_folder.proofs.MergingLaws.{merged_plained, plained_plain}
 use Rattle.pv_folder.proofs.merging.merge.Goals as goal
 
 pub merge_into-requires : goal.merge_into-requires
-merge_into-requires c = subst IsPlain (sym (ap (λ (h : Held). h.files) c.in_ok-tree.ensures)) (plained_plain c.args.real.now.files)
+merge_into-requires c = subst IsPlain (sym c.in_ok-tree.ensures.files) (plained_plain c.args.real.now.files)
 
 pub returns-clause-tree : goal.returns-clause-tree
 returns-clause-tree c =
     let m = c.args.manifest.now.tree.files in
-    c.in_ok-merge_into.ensures.files ∙ ap (merged m) (ap (λ (h : Held). h.files) c.in_ok-tree.ensures) ∙ merged_plained m c.args.real.now.files
+    c.in_ok-merge_into.ensures.files ∙ ap (merged m) c.in_ok-tree.ensures.files ∙ merged_plained m c.args.real.now.files

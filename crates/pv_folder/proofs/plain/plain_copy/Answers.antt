@@ -66,9 +66,9 @@ loop-place-preserved c =
     let built = subst (λ (g : Grown). IsGrowing (plained t) g.files g.last (map (shown_by plain) (drop 1 w))) (sym c.in_ok-add_at.ensures) copied in
     (subst (λ (es : Planned). IsGrowing (plained t) c.add_at.new.builder.files c.add_at.new.builder.last (map (shown_by plain) es)) (sym c.in_ok-advance-2.ensures.ok) built, c.loop-place.invariant.1)
 
-pub returns : goal.returns
-returns c =
+pub returns-clause-files : goal.returns-clause-files
+returns-clause-files c =
     let t = c.args.tree.now.files in
     let b = c.loop-place.builder in
     let over = subst (λ (es : Planned). IsGrowing (plained t) b.files b.last (map (shown_by plain) es)) (walk_over c.loop-place.walk c.in_default-place.ensures) c.loop-place.invariant.0 in
-    c.finish.ensures.value ∙ ap (λ (f : Files). record { files = f; steps = [] }) (all_grown (plained t) b.files b.last over)
+    c.finish.ensures.files ∙ all_grown (plained t) b.files b.last over

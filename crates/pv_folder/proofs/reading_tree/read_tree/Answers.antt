@@ -103,7 +103,7 @@ returns-clause-real g c =
     let r = c.loop-found.reading in
     let none : r.pending.items ≡ [] = nil_from_length r.pending.items (sym r.pending.ok.0 ∙ c.in_default.ensures.cases.0) in
     let going = subst (IsGoing content folder r.objects r.bytes r.builder.files r.builder.last) none c.loop-found.invariant.0 in
-    rw c.finish.ensures.value (going_real content folder r.objects r.bytes r.builder.files r.builder.last going)
+    rw c.finish.ensures.files (going_real content folder r.objects r.bytes r.builder.files r.builder.last going)
 
 pub returns-clause-plain : goal.returns-clause-plain
-returns-clause-plain g c = rw c.finish.ensures.value c.loop-found.invariant.5
+returns-clause-plain g c = rw c.finish.ensures.files c.loop-found.invariant.5

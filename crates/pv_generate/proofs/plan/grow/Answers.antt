@@ -48,8 +48,8 @@ loop-path-preserved c =
     (grown (held c.args.objects.entries) c.loop-path.builder.files c.loop-path.builder.last c.in-Some-2.path c.in-Some-2.object c.next.new.self
     (subst (λ (es : Planned). IsGrowing (held c.args.objects.entries) c.loop-path.builder.files c.loop-path.builder.last es) c.in-Some-2.ensures.steps c.loop-path.invariant))
 
-pub returns : goal.returns
-returns c =
+pub returns-clause-files : goal.returns-clause-files
+returns-clause-files c =
     let none : c.loop-path.path-iterator ≡ [] = c.in-None.ensures.steps.0 in
     let all = subst (λ (es : Planned). IsGrowing (held c.args.objects.entries) c.loop-path.builder.files c.loop-path.builder.last es) none c.loop-path.invariant in
-    c.finish.ensures.value ∙ ap (λ (files : Files). record { files = files; steps = [] }) (all_grown (held c.args.objects.entries) c.loop-path.builder.files c.loop-path.builder.last all)
+    c.finish.ensures.files ∙ all_grown (held c.args.objects.entries) c.loop-path.builder.files c.loop-path.builder.last all

@@ -22,5 +22,5 @@ grow-requires c =
     let small : c.args.count < 2 ^ 32 = omega (arith, c.ranges.count.fits) in
     subst IsTree (sym (planned c)) (generated_is_tree c.args.seed c.args.count small bytes)
 
-pub returns : goal.returns
-returns c = subst (λ (files : Files). IfOk c.grow.result (λ tree. tree ≡ record { files = files; steps = [] })) (planned c.before.before) c.grow.ensures
+pub returns-clause-files : goal.returns-clause-files
+returns-clause-files c = subst (λ (files : Files). IfOk c.grow.result (λ tree. tree.files ≡ files)) (planned c.before.before) c.grow.ensures.files

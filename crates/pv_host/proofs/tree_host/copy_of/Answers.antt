@@ -1,14 +1,14 @@
-use Rattle.std.proofs.Common.{◌∙◌, [], drop, sym, ap, subst}
+use Rattle.std.proofs.Common.{◌∙◌, [], arith, drop, length, sym, ap, subst}
 use Rattle.std.specs.FinMap as fin
 use Rattle.pv_path.specs.Paths.{Path}
 use Rattle.pv_steps.specs.declared.node.Node.{Node}
 use Rattle.pv_steps.specs.declared.object.Object.{Object}
 use Rattle.pv_steps.specs.Objects.{IsObject}
 use Rattle.pv_tree.specs.Growth.{Grown}
-use Rattle.pv_tree.specs.Held.{Held, root_alone}
+use Rattle.pv_tree.specs.Held.{root_alone}
 use Rattle.pv_generate.proofs.PlanLaws.{Planned}
 use Rattle.pv_generate.proofs.GrowLaws.{IsGrowing, all_grown, grown, has_parent, is_after, is_object, walk_over}
-use Rattle.pv_host.proofs.Copying.{begun, first_kind, first_whole, next, next_named, some_entry}
+use Rattle.pv_host.proofs.Copying.{begun, first_kind, first_whole, head, next, next_named, some_entry}
 use Rattle.pv_host.proofs.tree_host.copy_of.Goals as goal
 
 pub unreachable-requires : goal.unreachable-requires
@@ -65,6 +65,13 @@ add_copy-requires-clause-parent c =
     let w = c.loop-place.walk in
     has_parent t b.files b.last p o (drop 1 w) (next t b.files b.last w p o c.in-Some-place.ensures c.loop-place.invariant.0) c.loop-place.invariant.1
 
+pub loop-place-smaller : goal.loop-place-smaller
+loop-place-smaller c =
+    let o : Object = record { node = c.in-Some-place.place.node.now; payload = c.in-Some-place.place.payload.now } in
+    let one = ap length (head c.loop-place.walk (c.in-Some-place.place.names.now, o) c.in-Some-place.ensures) in
+    let left = ap length c.in_ok-advance-2.ensures.ok in
+    omega (arith, one, left)
+
 pub loop-place-preserved : goal.loop-place-preserved
 loop-place-preserved c =
     let t = c.args.tree.now.files in
@@ -82,4 +89,4 @@ returns c =
     let t = c.args.tree.now.files in
     let b = c.loop-place.builder in
     let over = subst (λ (es : Planned). IsGrowing t b.files b.last es) (walk_over c.loop-place.walk c.in_default-place.ensures) c.loop-place.invariant.0 in
-    ap (λ (h : Held). h.files) c.finish.ensures.value ∙ all_grown t b.files b.last over
+    c.finish.ensures.files ∙ all_grown t b.files b.last over

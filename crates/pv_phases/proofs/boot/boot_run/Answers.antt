@@ -22,7 +22,7 @@ returns-clause-mended g c =
     let now = c.args.now in
     let t = g.T.Tree.state c.args.tree.now in
     boot_mended lines c.lines-lines.ensures.whole (IsStepOfSome (phases_course lines now) boot_phases t) now t (g.T.Tree.steps c.args.tree.now)
-    (g.T.Tree.state c.remove_then_create.new.tree) (g.T.Tree.steps c.remove_then_create.new.tree) c.ranges.now.fits c.look-root.ensures.tree c.remove_then_create.ensures.acted.ran c.lines-lines.ensures.distinct
+    (g.T.Tree.state c.remove_then_create.new.tree) (g.T.Tree.steps c.remove_then_create.new.tree) c.ranges.now.fits (g.met.T.Tree.is_tree c.args.tree.now) c.remove_then_create.ensures.acted.ran c.lines-lines.ensures.distinct
 
 pub returns-clause-again : goal.returns-clause-again
 returns-clause-again g c =
@@ -30,7 +30,7 @@ returns-clause-again g c =
     let now = c.args.now in
     let t = g.T.Tree.state c.args.tree.now in
     boot_mended_again lines c.lines-lines.ensures.whole (IsStepOfSome (phases_course lines now) boot_phases t) now t (g.T.Tree.steps c.args.tree.now)
-    (g.T.Tree.state c.remove_then_create.new.tree) (g.T.Tree.steps c.remove_then_create.new.tree) c.ranges.now.fits c.look-root.ensures.tree c.remove_then_create.ensures.acted.ran c.lines-lines.ensures.distinct
+    (g.T.Tree.state c.remove_then_create.new.tree) (g.T.Tree.steps c.remove_then_create.new.tree) c.ranges.now.fits (g.met.T.Tree.is_tree c.args.tree.now) c.remove_then_create.ensures.acted.ran c.lines-lines.ensures.distinct
 
 pub returns-clause-one_more : goal.returns-clause-one_more
 returns-clause-one_more g c =
@@ -38,7 +38,7 @@ returns-clause-one_more g c =
     let now = c.args.now in
     let t = g.T.Tree.state c.args.tree.now in
     boot_stopped lines c.lines-lines.ensures.whole (IsStepOfSome (phases_course lines now) boot_phases t) now t (g.T.Tree.steps c.args.tree.now)
-    (g.T.Tree.state c.remove_then_create.new.tree) (g.T.Tree.steps c.remove_then_create.new.tree) c.ranges.now.fits c.look-root.ensures.tree c.remove_then_create.ensures.acted.ran
+    (g.T.Tree.state c.remove_then_create.new.tree) (g.T.Tree.steps c.remove_then_create.new.tree) c.ranges.now.fits (g.met.T.Tree.is_tree c.args.tree.now) c.remove_then_create.ensures.acted.ran
 
 pub returns-clause-framed : goal.returns-clause-framed
 returns-clause-framed g c =
@@ -46,7 +46,7 @@ returns-clause-framed g c =
     let now = c.args.now in
     let t = g.T.Tree.state c.args.tree.now in
     phases_framed lines c.lines-lines.ensures.whole now boot_phases (IsStepOfSome (phases_course lines now) boot_phases t) t (g.T.Tree.steps c.args.tree.now)
-    (g.T.Tree.state c.remove_then_create.new.tree) (g.T.Tree.steps c.remove_then_create.new.tree) c.look-root.ensures.tree c.remove_then_create.ensures.acted.ran
+    (g.T.Tree.state c.remove_then_create.new.tree) (g.T.Tree.steps c.remove_then_create.new.tree) (g.met.T.Tree.is_tree c.args.tree.now) c.remove_then_create.ensures.acted.ran
 
 pub returns-clause-between : goal.returns-clause-between
 returns-clause-between g c =
@@ -54,7 +54,7 @@ returns-clause-between g c =
     let now = c.args.now in
     let t = g.T.Tree.state c.args.tree.now in
     boot_amid lines c.lines-lines.ensures.whole (IsStepOfSome (phases_course lines now) boot_phases t) now t (g.T.Tree.steps c.args.tree.now)
-    (g.T.Tree.state c.remove_then_create.new.tree) (g.T.Tree.steps c.remove_then_create.new.tree) c.ranges.now.fits c.look-root.ensures.tree c.remove_then_create.ensures.acted.ran
+    (g.T.Tree.state c.remove_then_create.new.tree) (g.T.Tree.steps c.remove_then_create.new.tree) c.ranges.now.fits (g.met.T.Tree.is_tree c.args.tree.now) c.remove_then_create.ensures.acted.ran
 
 pub returns-clause-gives : goal.returns-clause-gives
 returns-clause-gives g c =
@@ -62,9 +62,9 @@ returns-clause-gives g c =
     let now = c.args.now in
     let t = g.T.Tree.state c.args.tree.now in
     boot_given lines c.lines-lines.ensures.whole (Partway (phases_course lines now) boot_phases t) now t (g.T.Tree.steps c.args.tree.now)
-    (g.T.Tree.state c.remove_then_create.new.tree) (g.T.Tree.steps c.remove_then_create.new.tree) c.ranges.now.fits c.look-root.ensures.tree c.remove_then_create.ensures.acted.ran
+    (g.T.Tree.state c.remove_then_create.new.tree) (g.T.Tree.steps c.remove_then_create.new.tree) c.ranges.now.fits (g.met.T.Tree.is_tree c.args.tree.now) c.remove_then_create.ensures.acted.ran
 
 pub returns-clause-input : goal.returns-clause-input
 returns-clause-input g c =
-    phases_keep_input c.args.table.now c.lines-lines.ensures.whole c.args.now boot_phases c.ranges.now.fits (g.T.Tree.state c.args.tree.now) c.look-root.ensures.tree (g.T.Tree.steps c.args.tree.now)
+    phases_keep_input c.args.table.now c.lines-lines.ensures.whole c.args.now boot_phases c.ranges.now.fits (g.T.Tree.state c.args.tree.now) (g.met.T.Tree.is_tree c.args.tree.now) (g.T.Tree.steps c.args.tree.now)
     (g.T.Tree.state c.remove_then_create.new.tree) (g.T.Tree.steps c.remove_then_create.new.tree) c.remove_then_create.ensures.acted.ran

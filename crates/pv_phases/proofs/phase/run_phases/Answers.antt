@@ -33,7 +33,7 @@ returns-then-is_boot-clause-went g c =
 pub loop-phase-init : goal.loop-phase-init
 loop-phase-init g c =
     let moves : Moves g.T.Tree = record { stays = g.met.T.Tree.reaches_self; goes_on = g.met.T.Tree.reaches_on; never_falls = g.met.T.Tree.never_falls } in
-    phases_start g.T.Tree moves c.args.table.now c.args.now c.args.phases.now c.args.tree.now c.args.messages.now c.ranges.now.fits c.look-root.ensures.tree
+    phases_start g.T.Tree moves c.args.table.now c.args.now c.args.phases.now c.args.tree.now c.args.messages.now c.ranges.now.fits (g.met.T.Tree.is_tree c.args.tree.now)
 
 pub returns-in_err-one-clause-part : goal.returns-in_err-one-clause-part
 returns-in_err-one-clause-part g c =
@@ -80,7 +80,7 @@ returns-in_err-one-clause-framed g c =
     let is : phase ≡ get_or c.args.phases.now i phase = get_or_default c.args.phases.now i Remove phase c.loop-phase-test.true in
     let t = g.T.Tree.state c.args.tree.now in
     phases_framed c.args.table.now c.lines-lines.ensures.whole c.args.now c.args.phases.now (IsStepOfSome (phases_course c.args.table.now c.args.now) c.args.phases.now t) t
-    (g.T.Tree.steps c.args.tree.now) (g.T.Tree.state c.do_phase.new.tree) (g.T.Tree.steps c.do_phase.new.tree) c.look-root.ensures.tree
+    (g.T.Tree.steps c.args.tree.now) (g.T.Tree.state c.do_phase.new.tree) (g.T.Tree.steps c.do_phase.new.tree) (g.met.T.Tree.is_tree c.args.tree.now)
     (phases_acted g.T.Tree moves c.args.table.now c.args.now c.args.phases.now c.args.tree.now c.args.messages.now i phase c.loop-phase-test.true is c.loop-phase.carried c.loop-phase.tree c.loop-phase.messages c.loop-phase.invariant c.do_phase.ensures.acted).ran
 
 pub loop-phase-preserved : goal.loop-phase-preserved
@@ -146,7 +146,7 @@ pub returns-clause-framed : goal.returns-clause-framed
 returns-clause-framed g c =
     let t = g.T.Tree.state c.args.tree.now in
     phases_framed c.args.table.now c.lines-lines.ensures.whole c.args.now c.args.phases.now (IsStepOfSome (phases_course c.args.table.now c.args.now) c.args.phases.now t) t
-    (g.T.Tree.steps c.args.tree.now) (g.T.Tree.state c.loop-phase.tree) (g.T.Tree.steps c.loop-phase.tree) c.look-root.ensures.tree
+    (g.T.Tree.steps c.args.tree.now) (g.T.Tree.state c.loop-phase.tree) (g.T.Tree.steps c.loop-phase.tree) (g.met.T.Tree.is_tree c.args.tree.now)
     c.loop-phase.invariant.going.acted.ran
 
 pub returns-in_err-one-clause-between : goal.returns-in_err-one-clause-between
@@ -156,13 +156,13 @@ returns-in_err-one-clause-between g c =
     let phase : Phase = get_or c.args.phases.now i Remove in
     let is : phase ≡ get_or c.args.phases.now i phase = get_or_default c.args.phases.now i Remove phase c.loop-phase-test.true in
     phases_between c.args.table.now c.lines-lines.ensures.whole c.args.now (g.T.Tree.state c.args.tree.now)
-    (g.T.Tree.steps c.args.tree.now) (g.T.Tree.state c.do_phase.new.tree) (g.T.Tree.steps c.do_phase.new.tree) c.ranges.now.fits c.look-root.ensures.tree c.args.phases.now
+    (g.T.Tree.steps c.args.tree.now) (g.T.Tree.state c.do_phase.new.tree) (g.T.Tree.steps c.do_phase.new.tree) c.ranges.now.fits (g.met.T.Tree.is_tree c.args.tree.now) c.args.phases.now
     (phases_acted g.T.Tree moves c.args.table.now c.args.now c.args.phases.now c.args.tree.now c.args.messages.now i phase c.loop-phase-test.true is c.loop-phase.carried c.loop-phase.tree c.loop-phase.messages c.loop-phase.invariant c.do_phase.ensures.acted).ran
 
 pub returns-clause-between : goal.returns-clause-between
 returns-clause-between g c =
     phases_between c.args.table.now c.lines-lines.ensures.whole c.args.now (g.T.Tree.state c.args.tree.now)
-    (g.T.Tree.steps c.args.tree.now) (g.T.Tree.state c.loop-phase.tree) (g.T.Tree.steps c.loop-phase.tree) c.ranges.now.fits c.look-root.ensures.tree c.args.phases.now
+    (g.T.Tree.steps c.args.tree.now) (g.T.Tree.state c.loop-phase.tree) (g.T.Tree.steps c.loop-phase.tree) c.ranges.now.fits (g.met.T.Tree.is_tree c.args.tree.now) c.args.phases.now
     c.loop-phase.invariant.going.acted.ran
 
 pub returns-in_err-one-clause-gives : goal.returns-in_err-one-clause-gives
@@ -172,13 +172,13 @@ returns-in_err-one-clause-gives g c =
     let phase : Phase = get_or c.args.phases.now i Remove in
     let is : phase ≡ get_or c.args.phases.now i phase = get_or_default c.args.phases.now i Remove phase c.loop-phase-test.true in
     phases_give c.args.table.now c.lines-lines.ensures.whole c.args.now (g.T.Tree.state c.args.tree.now)
-    (g.T.Tree.steps c.args.tree.now) (g.T.Tree.state c.do_phase.new.tree) (g.T.Tree.steps c.do_phase.new.tree) c.ranges.now.fits c.look-root.ensures.tree c.args.phases.now
+    (g.T.Tree.steps c.args.tree.now) (g.T.Tree.state c.do_phase.new.tree) (g.T.Tree.steps c.do_phase.new.tree) c.ranges.now.fits (g.met.T.Tree.is_tree c.args.tree.now) c.args.phases.now
     (phases_acted g.T.Tree moves c.args.table.now c.args.now c.args.phases.now c.args.tree.now c.args.messages.now i phase c.loop-phase-test.true is c.loop-phase.carried c.loop-phase.tree c.loop-phase.messages c.loop-phase.invariant c.do_phase.ensures.acted).ran
 
 pub returns-clause-gives : goal.returns-clause-gives
 returns-clause-gives g c =
     phases_give c.args.table.now c.lines-lines.ensures.whole c.args.now (g.T.Tree.state c.args.tree.now)
-    (g.T.Tree.steps c.args.tree.now) (g.T.Tree.state c.loop-phase.tree) (g.T.Tree.steps c.loop-phase.tree) c.ranges.now.fits c.look-root.ensures.tree c.args.phases.now
+    (g.T.Tree.steps c.args.tree.now) (g.T.Tree.state c.loop-phase.tree) (g.T.Tree.steps c.loop-phase.tree) c.ranges.now.fits (g.met.T.Tree.is_tree c.args.tree.now) c.args.phases.now
     c.loop-phase.invariant.going.acted.ran
 
 pub returns-then-is_boot-clause-between : goal.returns-then-is_boot-clause-between

@@ -36,7 +36,7 @@ returns-in_err-pieces-clause-stages g c =
     let s = copy_from (topped c.args.top.now) c.args.source.now (object_states_of (places t)) in
     let n = copied_count s c.args.source.now t in
     acted_none g.T.Tree moves (InStages (staging_of path) s) (IsCopyStep path s) (count_at t path + most_new * n) c.args.now c.args.tree.now
-    c.from_residual.result (no_memory c.from_residual.result c.from_residual.ensures.1) (staged_start (staging_of path) s t c.look-there.ensures.tree c.requires.free).stages
+    c.from_residual.result (no_memory c.from_residual.result c.from_residual.ensures.1) (staged_start (staging_of path) s t (g.met.T.Tree.is_tree c.args.tree.now) c.requires.free).stages
 
 pub put_subtree-requires-clause-plan : goal.put_subtree-requires-clause-plan
 put_subtree-requires-clause-plan g c = c.in_ok-pieces.ensures.plan

@@ -14,13 +14,13 @@ returns-in_ok-add_object-in-Some-clause-left g c =
     let below = map (λ name. Open (c.args.rest.now ++ name ∷ [])) names in
     on_ok c.open_children.result
     (λ e. e ∙ ap (λ (work : List Task). work ++ below) c.in_ok-add_object-in-Some.ensures.left
-    ∙ append_assoc c.args.work.now.items (Close (Make c.args.rest.now (what_of c.in-Some.object.body)) ∷ []) below
-    ∙ ap (λ (object : Option ObjectState). c.args.work.now.items ++ tasks_before c.args.rest.now names object) (sym c.in-Some.is ∙ c.in_ok-object_at.ensures.object))
+    ∙ append_assoc c.args.listing.now.work.items (Close (Make c.args.rest.now (what_of c.in-Some.object.body)) ∷ []) below
+    ∙ ap (λ (object : Option ObjectState). c.args.listing.now.work.items ++ tasks_before c.args.rest.now names object) (sym c.in-Some.is ∙ c.in_ok-object_at.ensures.object))
     c.open_children.ensures.left
 
 pub returns-in_ok-add_object-in-Some-clause-listed : goal.returns-in_ok-add_object-in-Some-clause-listed
 returns-in_ok-add_object-in-Some-clause-listed g c =
     on_ok c.open_children.result
     (λ e. c.in_ok-add_object-in-Some.ensures.listed
-    ∙ ap (λ (object : Option ObjectState). c.args.pieces.now.items ++ last_piece c.args.rest.now object) (sym c.in-Some.is ∙ c.in_ok-object_at.ensures.object))
+    ∙ ap (λ (object : Option ObjectState). c.args.listing.now.pieces.items ++ last_piece c.args.rest.now object) (sym c.in-Some.is ∙ c.in_ok-object_at.ensures.object))
     c.open_children.ensures.left

@@ -15,8 +15,8 @@ pub loop-task-init : goal.loop-task-init
 loop-task-init g c =
     let t = g.T.Tree.state c.args.tree.now in
     let s = copy_from (topped c.args.top.now) c.args.source.now (object_states_of (places t)) in
-    listed_started s (names_at c.args.source.now t) (depth_of t) (within_depth s c.args.source.now t (copied_stands (topped c.args.top.now) c.args.source.now t)) c.new-pieces.ensures.items
-    (c.in_ok-push.ensures.items ∙ ap (λ (ws : List Task). ws ++ Open c.root.result ∷ []) c.new-work.ensures.items ∙ ap (λ (r : Path). Open r ∷ []) c.root.ensures)
+    listed_started s (names_at c.args.source.now t) (depth_of t) (within_depth s c.args.source.now t (copied_stands (topped c.args.top.now) c.args.source.now t)) c.new-2.ensures.items
+    (c.in_ok-push.ensures.items ∙ ap (λ (ws : List Task). ws ++ Open c.root.result ∷ []) c.new.ensures.items ∙ ap (λ (r : Path). Open r ∷ []) c.root.ensures)
 
 pub loop-task-smaller : goal.loop-task-smaller
 loop-task-smaller g c =
@@ -31,7 +31,7 @@ loop-task-preserved g c =
     let t = g.T.Tree.state c.args.tree.now in
     let s = copy_from (topped c.args.top.now) c.args.source.now (object_states_of (places t)) in
     let next =
-    listed_next s (names_at c.args.source.now t) (depth_of t) (within_depth s c.args.source.now t (copied_stands (topped c.args.top.now) c.args.source.now t)) c.loop-task.pieces.items c.pop.new.self.items c.in-Some.task
+    listed_next s (names_at c.args.source.now t) (depth_of t) (within_depth s c.args.source.now t (copied_stands (topped c.args.top.now) c.args.source.now t)) c.loop-task.listing.pieces.items c.pop.new.self.items c.in-Some.task
     (rw c.in-Some.ensures.items at c.loop-task.invariant) in
     rw (c.in_ok-list_next.ensures.left, c.in_ok-list_next.ensures.listed) next
 
@@ -39,25 +39,25 @@ pub returns-clause-plan : goal.returns-clause-plan
 returns-clause-plan g c =
     let t = g.T.Tree.state c.args.tree.now in
     let s = copy_from (topped c.args.top.now) c.args.source.now (object_states_of (places t)) in
-    let none : c.loop-task.work.items ≡ [] = nil_from_length c.loop-task.work.items (sym c.loop-task.work.ok.0 ∙ c.in_default.ensures.cases.0) in
+    let none : c.loop-task.listing.work.items ≡ [] = nil_from_length c.loop-task.listing.work.items (sym c.loop-task.listing.work.ok.0 ∙ c.in_default.ensures.cases.0) in
     (listed_end s (names_at c.args.source.now t) (depth_of t) (within_depth s c.args.source.now t (copied_stands (topped c.args.top.now) c.args.source.now t))
-    (copied_subtree c.args.top.now c.requires.top c.args.source.now t c.look-root.ensures.tree) c.loop-task.pieces.items (rw none at c.loop-task.invariant)).0
+    (copied_subtree c.args.top.now c.requires.top c.args.source.now t (g.met.T.Tree.is_tree c.args.tree.now)) c.loop-task.listing.pieces.items (rw none at c.loop-task.invariant)).0
 
 pub returns-clause-all : goal.returns-clause-all
 returns-clause-all g c =
     let t = g.T.Tree.state c.args.tree.now in
     let s = copy_from (topped c.args.top.now) c.args.source.now (object_states_of (places t)) in
-    let none : c.loop-task.work.items ≡ [] = nil_from_length c.loop-task.work.items (sym c.loop-task.work.ok.0 ∙ c.in_default.ensures.cases.0) in
+    let none : c.loop-task.listing.work.items ≡ [] = nil_from_length c.loop-task.listing.work.items (sym c.loop-task.listing.work.ok.0 ∙ c.in_default.ensures.cases.0) in
     (listed_end s (names_at c.args.source.now t) (depth_of t) (within_depth s c.args.source.now t (copied_stands (topped c.args.top.now) c.args.source.now t))
-    (copied_subtree c.args.top.now c.requires.top c.args.source.now t c.look-root.ensures.tree) c.loop-task.pieces.items (rw none at c.loop-task.invariant)).1.0
+    (copied_subtree c.args.top.now c.requires.top c.args.source.now t (g.met.T.Tree.is_tree c.args.tree.now)) c.loop-task.listing.pieces.items (rw none at c.loop-task.invariant)).1.0
 
 pub returns-clause-few : goal.returns-clause-few
 returns-clause-few g c =
     let t = g.T.Tree.state c.args.tree.now in
     let s = copy_from (topped c.args.top.now) c.args.source.now (object_states_of (places t)) in
     let there = copied_stands (topped c.args.top.now) c.args.source.now t in
-    let none : c.loop-task.work.items ≡ [] = nil_from_length c.loop-task.work.items (sym c.loop-task.work.ok.0 ∙ c.in_default.ensures.cases.0) in
+    let none : c.loop-task.listing.work.items ≡ [] = nil_from_length c.loop-task.listing.work.items (sym c.loop-task.listing.work.ok.0 ∙ c.in_default.ensures.cases.0) in
     let end =
     listed_end s (names_at c.args.source.now t) (depth_of t) (within_depth s c.args.source.now t there)
-    (copied_subtree c.args.top.now c.requires.top c.args.source.now t c.look-root.ensures.tree) c.loop-task.pieces.items (rw none at c.loop-task.invariant) in
-    cost_bound s c.args.source.now t there c.loop-task.pieces.items end.0 end.1.0 end.1.1
+    (copied_subtree c.args.top.now c.requires.top c.args.source.now t (g.met.T.Tree.is_tree c.args.tree.now)) c.loop-task.listing.pieces.items (rw none at c.loop-task.invariant) in
+    cost_bound s c.args.source.now t there c.loop-task.listing.pieces.items end.0 end.1.0 end.1.1

@@ -7,8 +7,8 @@ use Rattle.pv_walk.proofs.listing.pieces_of.Given as goal
 
 abbrev pub invariant-loop-task : goal.invariant-loop-task
 invariant-loop-task g l =
-    IsListed (copy_from (topped l.top) l.source (object_states_of (places (g.T.Tree.state l.tree)))) (names_at l.source (g.T.Tree.state l.tree)) (depth_of (g.T.Tree.state l.tree)) l.pieces.items l.work.items
+    IsListed (copy_from (topped l.top) l.source (object_states_of (places (g.T.Tree.state l.tree)))) (names_at l.source (g.T.Tree.state l.tree)) (depth_of (g.T.Tree.state l.tree)) l.listing.pieces.items l.listing.work.items
 
 abbrev pub decreases-loop-task : goal.decreases-loop-task
 decreases-loop-task g l =
-    hefts (copy_from (topped l.top) l.source (object_states_of (places (g.T.Tree.state l.tree)))) (names_at l.source (g.T.Tree.state l.tree)) (depth_of (g.T.Tree.state l.tree)) l.work.items
+    hefts (copy_from (topped l.top) l.source (object_states_of (places (g.T.Tree.state l.tree)))) (names_at l.source (g.T.Tree.state l.tree)) (depth_of (g.T.Tree.state l.tree)) l.listing.work.items

@@ -128,7 +128,7 @@ loop-name-init g c =
     record {
       items = rw (c.saturating_sub.ensures, c.names-names.ensures.value) refl;
       place = c.root-place.ensures;
-      parented = record { here = refl; directory = c.look-root.ensures.tree.root; at = refl; pass = c.requires.pass; swept = c.requires.swept; ahead = λ k lt le. refl };
+      parented = record { here = refl; directory = (g.met.T.Tree.is_tree c.args.tree.now).root; at = refl; pass = c.requires.pass; swept = c.requires.swept; ahead = λ k lt le. refl };
       acted = acted_none g.T.Tree moves (Preparing c.args.path.now t) (IsPrepareStep c.args.path.now t) 0 c.args.now c.args.tree.now well refl (λ q plain. kept refl);
     }
 

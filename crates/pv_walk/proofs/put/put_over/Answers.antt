@@ -35,7 +35,7 @@ returns-in_err-pieces-clause-stages g c =
     let file = c.args.new.now in
     let s = new_subtree file in
     acted_none g.T.Tree moves (InStages (staging_of path) s) (IsPutStep path file) (count_at t path + most_new) c.args.now c.args.tree.now
-    c.from_residual.result (no_memory c.from_residual.result c.from_residual.ensures.1) (staged_start (staging_of path) s t c.look-there.ensures.tree c.requires.free).stages
+    c.from_residual.result (no_memory c.from_residual.result c.from_residual.ensures.1) (staged_start (staging_of path) s t (g.met.T.Tree.is_tree c.args.tree.now) c.requires.free).stages
 
 pub put_subtree-requires-clause-plan : goal.put_subtree-requires-clause-plan
 put_subtree-requires-clause-plan g c = (new_planned c.args.new.now c.requires.new c.in_ok-pieces.pieces.items c.in_ok-pieces.ensures).0

@@ -24,7 +24,7 @@ returns-in_err-pieces-clause-acted g c =
     let file = c.args.new.now in
     let s = new_subtree file in
     acted_none g.T.Tree moves (Staging (staging_of path) s t) (GivesNew (staging_of path) file) most_staged c.args.now c.args.tree.now
-    c.from_residual.result (no_memory c.from_residual.result c.from_residual.ensures.1) (staged_start (staging_of path) s t c.look-free.ensures.tree c.requires.free)
+    c.from_residual.result (no_memory c.from_residual.result c.from_residual.ensures.1) (staged_start (staging_of path) s t (g.met.T.Tree.is_tree c.args.tree.now) c.requires.free)
 
 pub stage_subtree-requires-clause-plan : goal.stage_subtree-requires-clause-plan
 stage_subtree-requires-clause-plan g c = (new_planned c.args.new.now c.requires.new c.in_ok-pieces.pieces.items c.in_ok-pieces.ensures).0
@@ -42,7 +42,7 @@ returns-clause-ok g c =
     let plan = new_planned file c.requires.new c.in_ok-pieces.pieces.items c.in_ok-pieces.ensures in
     on_ok c.stage_subtree.result
     (λ e. e ∙ ap (λ (v : Subtree). with_subtree c.args.now stage v (places t)) plan.1 ∙ (λ i q. put_single c.args.now stage file (places t) q i)
-    ∙ ap (λ (x : Places). made c.args.now stage (new_object file c.args.now) x) (cut_absent stage t c.look-free.ensures.tree c.requires.free))
+    ∙ ap (λ (x : Places). made c.args.now stage (new_object file c.args.now) x) (cut_absent stage t (g.met.T.Tree.is_tree c.args.tree.now) c.requires.free))
     c.stage_subtree.ensures.ok
 
 pub returns-clause-acted : goal.returns-clause-acted

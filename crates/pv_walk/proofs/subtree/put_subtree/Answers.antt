@@ -19,7 +19,7 @@ publish-requires-clause-staged g c =
     let path = c.args.path.now in
     let s = made_of c.args.pieces.items in
     ap (λ (x : Places). is_some (x (staging_of path))) c.in_ok-stage_subtree.ensures.ok
-    ∙ copy_staged c.args.now path c.requires.not_root s t c.look-there.ensures.tree c.requires.free c.requires.top
+    ∙ copy_staged c.args.now path c.requires.not_root s t (g.met.T.Tree.is_tree c.args.tree.now) c.requires.free c.requires.top
 
 pub returns-clause-ok : goal.returns-clause-ok
 returns-clause-ok g c =
@@ -27,7 +27,7 @@ returns-clause-ok g c =
     let path = c.args.path.now in
     let s = made_of c.args.pieces.items in
     on_ok c.publish.result
-    (λ e. e ∙ ap (moved c.args.now (staging_of path) path) c.in_ok-stage_subtree.ensures.ok ∙ copy_moved c.args.now path c.requires.not_root s t c.look-there.ensures.tree c.requires.free)
+    (λ e. e ∙ ap (moved c.args.now (staging_of path) path) c.in_ok-stage_subtree.ensures.ok ∙ copy_moved c.args.now path c.requires.not_root s t (g.met.T.Tree.is_tree c.args.tree.now) c.requires.free)
     c.publish.ensures.moved
 
 pub returns-in_err-stage_subtree-clause-acted : goal.returns-in_err-stage_subtree-clause-acted
@@ -36,7 +36,7 @@ returns-in_err-stage_subtree-clause-acted g c =
     let path = c.args.path.now in
     let s = made_of c.args.pieces.items in
     acted_passed g.T.Tree c.stage_subtree.result c.from_residual.result c.in_err-stage_subtree.was c.from_residual.ensures.1
-    (subtree_staging g.T.Tree c.args.now path c.requires.not_root s c.args.tree.now c.stage_subtree.new.tree c.look-there.ensures.tree c.requires.free
+    (subtree_staging g.T.Tree c.args.now path c.requires.not_root s c.args.tree.now c.stage_subtree.new.tree (g.met.T.Tree.is_tree c.args.tree.now) c.requires.free
     (cost_of c.args.pieces.items + (1 + count_at t path)) (omega arith) c.stage_subtree.ensures.acted)
 
 pub returns-clause-acted : goal.returns-clause-acted
@@ -45,7 +45,7 @@ returns-clause-acted g c =
     let t = g.T.Tree.state c.args.tree.now in
     let path = c.args.path.now in
     let s = made_of c.args.pieces.items in
-    subtree_acted g.T.Tree c.args.now path c.requires.not_root s c.args.tree.now c.stage_subtree.new.tree c.look-there.ensures.tree c.requires.free c.in_ok-stage_subtree.ensures.ok moves
+    subtree_acted g.T.Tree c.args.now path c.requires.not_root s c.args.tree.now c.stage_subtree.new.tree (g.met.T.Tree.is_tree c.args.tree.now) c.requires.free c.in_ok-stage_subtree.ensures.ok moves
     c.in_ok-stage_subtree.ensures.acted c.publish.ensures.acted
 
 pub returns-in_err-stage_subtree-clause-stages : goal.returns-in_err-stage_subtree-clause-stages
@@ -63,6 +63,6 @@ returns-clause-stages g c =
     let path = c.args.path.now in
     let s = made_of c.args.pieces.items in
     let fewer =
-    subtree_count g.T.Tree c.args.now path c.requires.not_root s c.args.tree.now c.stage_subtree.new.tree c.look-there.ensures.tree c.requires.free c.in_ok-stage_subtree.ensures.ok in
+    subtree_count g.T.Tree c.args.now path c.requires.not_root s c.args.tree.now c.stage_subtree.new.tree (g.met.T.Tree.is_tree c.args.tree.now) c.requires.free c.in_ok-stage_subtree.ensures.ok in
     stages_published path c.requires.not_root s g.T.Tree (IsStagingOf path s) (IsCopyStep path s) (λ step k. inl k) moves (λ step k. inr k) (cost_of c.args.pieces.items + (1 + count_at t path)) (omega (arith, fewer))
     c.in_ok-stage_subtree.ensures.acted c.publish.ensures.acted

@@ -27,7 +27,7 @@ returns-in_err-stage-clause-acted g c =
     let path = c.args.path.now in
     let pieces = c.args.pieces.items in
     acted_none g.T.Tree moves (Staging (staging_of path) (made_of pieces) t) (IsStagingOf path (made_of pieces)) (cost_of pieces) c.args.now c.args.tree.now
-    c.from_residual.result (no_memory c.from_residual.result c.from_residual.ensures.1) (staged_start (staging_of path) (made_of pieces) t c.look-free.ensures.tree c.requires.free)
+    c.from_residual.result (no_memory c.from_residual.result c.from_residual.ensures.1) (staged_start (staging_of path) (made_of pieces) t (g.met.T.Tree.is_tree c.args.tree.now) c.requires.free)
 
 pub loop-piece-init : goal.loop-piece-init
 loop-piece-init g c =
@@ -37,13 +37,13 @@ loop-piece-init g c =
     let pieces = c.args.pieces.items in
     let up = ap (λ (p : Path). kind_of (places t p)) (parent_of-staging_of path) ∙ c.requires.parent in
     let some = staging_nonempty path c.requires.not_root in
-    let free = λ (rest : Path). none_under (places t) c.look-free.ensures.tree (staging_of path) (staging_of path ++ rest) c.requires.free (is_prefix-append (staging_of path) rest) in
+    let free = λ (rest : Path). none_under (places t) (g.met.T.Tree.is_tree c.args.tree.now) (staging_of path) (staging_of path ++ rest) c.requires.free (is_prefix-append (staging_of path) rest) in
     record {
       here = doing_start c.args.now (staging_of path) some t up pieces free c.requires.plan;
       room = omega arith;
       acted =
           acted_none g.T.Tree moves (Staging (staging_of path) (made_of pieces) t) (IsStagingOf path (made_of pieces)) (cost_of pieces - cost_of pieces) c.args.now c.args.tree.now well refl
-          (staged_start (staging_of path) (made_of pieces) t c.look-free.ensures.tree c.requires.free);
+          (staged_start (staging_of path) (made_of pieces) t (g.met.T.Tree.is_tree c.args.tree.now) c.requires.free);
     }
 
 pub put_piece-requires : goal.put_piece-requires

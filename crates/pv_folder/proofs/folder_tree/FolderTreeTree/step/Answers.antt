@@ -13,7 +13,7 @@ ask_for-requires g c =
     let folder = spelled c.args.self.now.folder.items in
     let old = g.H.Host.content c.args.self.now.host.now in
     subst (λ (f : Path). MayAskFor old (change_for (tree_path f) (places c.args.self.now.tree.files) c.args.step.now)) (sym (ap spelled c.deref.ensures.value))
-    (may_ask_for folder c.args.self.now.tree.files c.args.step.now c.args.now c.is_tree.ensures c.requires c.parts_fit.ensures old c.args.self.now.ready (c.args.self.now.agrees c.if-self.false))
+    (may_ask_for folder c.args.self.now.tree.files c.args.step.now c.args.now c.args.self.now.tree.tree c.requires c.parts_fit.ensures old c.args.self.now.ready (c.args.self.now.agrees c.if-self.false))
 
 pub invariant_of-self-in-Break-1 : goal.invariant_of-self-in-Break-1
 invariant_of-self-in-Break-1 g c =
@@ -23,7 +23,7 @@ invariant_of-self-in-Break-1 g c =
     let asked : IsChangedBy (change_for (tree_path folder) (places c.args.self.now.tree.files) c.args.step.now) old new =
     subst (λ (f : Path). IsChangedBy (change_for (tree_path f) (places c.args.self.now.tree.files) c.args.step.now) old new) (ap spelled c.deref.ensures.value) c.in-Ok.ensures.done in
     record {
-      ready = ready_step folder c.args.self.now.tree.files c.args.step.now c.args.now c.is_tree.ensures c.requires c.parts_fit.ensures old new asked c.ranges.now.fits c.args.self.now.ready (c.args.self.now.agrees c.if-self.false);
+      ready = ready_step folder c.args.self.now.tree.files c.args.step.now c.args.now c.args.self.now.tree.tree c.requires c.parts_fit.ensures old new asked c.ranges.now.fits c.args.self.now.ready (c.args.self.now.agrees c.if-self.false);
       agrees = λ e. absurd (let no : true ≡ false = e in cc);
     }
 
@@ -34,7 +34,7 @@ returns-in_err-step-clause-reaches g c =
     let new = g.H.Host.content c.ask_for.new.host in
     let asked : IsChangedBy (change_for (tree_path folder) (places c.args.self.now.tree.files) c.args.step.now) old new =
     subst (λ (f : Path). IsChangedBy (change_for (tree_path f) (places c.args.self.now.tree.files) c.args.step.now) old new) (ap spelled c.deref.ensures.value) c.in-Ok.ensures.done in
-    (refl, moves_asked folder old new _ _ c.args.self.now.pending true (outside_step folder c.args.self.now.tree.files c.args.step.now c.args.now c.is_tree.ensures c.requires c.parts_fit.ensures old new asked) c.ask_for.ensures.never_falls (λ h. refl))
+    (refl, moves_asked folder old new _ _ c.args.self.now.pending true (outside_step folder c.args.self.now.tree.files c.args.step.now c.args.now c.args.self.now.tree.tree c.requires c.parts_fit.ensures old new asked) c.ask_for.ensures.never_falls (λ h. refl))
 
 pub invariant_of-self-2 : goal.invariant_of-self-2
 invariant_of-self-2 g c =
@@ -44,10 +44,10 @@ invariant_of-self-2 g c =
     let asked : IsChangedBy (change_for (tree_path folder) (places c.args.self.now.tree.files) c.args.step.now) old new =
     subst (λ (f : Path). IsChangedBy (change_for (tree_path f) (places c.args.self.now.tree.files) c.args.step.now) old new) (ap spelled c.deref.ensures.value) c.in-Ok.ensures.done in
     record {
-      ready = ready_step folder c.args.self.now.tree.files c.args.step.now c.args.now c.is_tree.ensures c.requires c.parts_fit.ensures old new asked c.ranges.now.fits c.args.self.now.ready (c.args.self.now.agrees c.if-self.false);
+      ready = ready_step folder c.args.self.now.tree.files c.args.step.now c.args.now c.args.self.now.tree.tree c.requires c.parts_fit.ensures old new asked c.ranges.now.fits c.args.self.now.ready (c.args.self.now.agrees c.if-self.false);
       agrees = λ settled.
           subst (λ (t : Files). IfSome new (λ x. Agrees folder t (held x))) (sym c.in_ok-step.ensures.state)
-          (agrees_step folder c.args.self.now.tree.files c.args.step.now c.args.now c.is_tree.ensures c.requires c.parts_fit.ensures old new asked (c.args.self.now.agrees c.if-self.false));
+          (agrees_step folder c.args.self.now.tree.files c.args.step.now c.args.now c.args.self.now.tree.tree c.requires c.parts_fit.ensures old new asked (c.args.self.now.agrees c.if-self.false));
     }
 
 pub returns-clause-reaches : goal.returns-clause-reaches
@@ -57,7 +57,7 @@ returns-clause-reaches g c =
     let new = g.H.Host.content c.ask_for.new.host in
     let asked : IsChangedBy (change_for (tree_path folder) (places c.args.self.now.tree.files) c.args.step.now) old new =
     subst (λ (f : Path). IsChangedBy (change_for (tree_path f) (places c.args.self.now.tree.files) c.args.step.now) old new) (ap spelled c.deref.ensures.value) c.in-Ok.ensures.done in
-    (refl, moves_asked folder old new _ _ c.args.self.now.pending false (outside_step folder c.args.self.now.tree.files c.args.step.now c.args.now c.is_tree.ensures c.requires c.parts_fit.ensures old new asked) c.ask_for.ensures.never_falls (λ h. sym c.if-self.false ∙ h))
+    (refl, moves_asked folder old new _ _ c.args.self.now.pending false (outside_step folder c.args.self.now.tree.files c.args.step.now c.args.now c.args.self.now.tree.tree c.requires c.parts_fit.ensures old new asked) c.ask_for.ensures.never_falls (λ h. sym c.if-self.false ∙ h))
 
 pub returns-clause-changed : goal.returns-clause-changed
 returns-clause-changed g c =

@@ -2,13 +2,11 @@ use Rattle.std.proofs.Common.{sym, subst}
 use Rattle.pv_path.specs.Paths.{Path}
 use Rattle.pv_host.specs.Content.{May, Rename, held, spelled}
 use Rattle.pv_host.specs.Memory.{content_of}
+use Rattle.pv_host.proofs.Held.{is_content}
 use Rattle.pv_host.proofs.mem_host.MemHostHost.rename.Goals as goal
 
-pub present_path-requires : goal.present_path-requires
-present_path-requires c = c.requires.present
-
 pub named_path-requires : goal.named_path-requires
-named_path-requires c = c.requires.place.1
+named_path-requires c = (is_content c.args.self.now.tree.files c.args.self.now.tree.tree).names (spelled c.args.from.now) c.requires.present
 
 pub rename-requires : goal.rename-requires
 rename-requires c =

@@ -15,6 +15,13 @@ invariant_of-self c =
     told_tree c.do_told.result c.self.inside.slots.items c.do_told.new.slots.items c.self.inside.free.items c.do_told.new.free.items c.args.self.now.files c.args.step.now c.args.now
     (ap (λ (h : Held). h.files) c.self.view_is) c.self.invariant c.do_told.ensures.forest c.do_told.ensures.free c.do_told.ensures.ok c.do_told.ensures.err c.requires c.parts_fit.ensures c.ranges.now.fits
 
+pub invariant_of-self-inside : goal.invariant_of-self-inside
+invariant_of-self-inside c = (
+  (told_tree c.do_told.result c.self.inside.slots.items c.do_told.new.slots.items c.self.inside.free.items c.do_told.new.free.items c.args.self.now.files c.args.step.now c.args.now
+      (ap (λ (h : Held). h.files) c.self.view_is) c.self.invariant c.do_told.ensures.forest c.do_told.ensures.free c.do_told.ensures.ok c.do_told.ensures.err c.requires c.parts_fit.ensures c.ranges.now.fits).tree,
+  tt,
+)
+
 pub returns-clause-state : goal.returns-clause-state
 returns-clause-state c =
     told_state c.do_told.result c.self.inside.slots.items c.do_told.new.slots.items c.args.self.now.files c.args.step.now c.args.now (ap (λ (h : Held). h.files) c.self.view_is)
