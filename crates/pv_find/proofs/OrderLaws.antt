@@ -1,15 +1,16 @@
 -- Laws of paths in order: from the last on, and by depth after they stood in byte order.
-use Rattle.std.specs.Prelude.{◌≡◌, ℕ, ◌≤◌, ◌<◌, Bool, true, false, cond, not, ◌&&◌, ◌⊎◌, List, [], ◌∷◌, ◌++◌, length, filter, reverse}
+use Rattle.std.specs.Prelude.{◌≡◌, ℕ, ◌≤◌, ◌<◌, Bool, true, false, cond, not, ◌&&◌, ◌⊎◌, List, [], ◌∷◌, ◌++◌, length, filter, reverse, IsTrue}
 use Rattle.std.proofs.Common.{refl, sym, ap, subst, ◌∙◌, inl, inr, arith}
 use Rattle.std.proofs.lemmas.List.{reverse-append}
 use Rattle.std.proofs.lemmas.List.Kept.{IsStrictlySortedBy-filter}
-use Rattle.std.specs.List.{AllByRecursion}
+use Rattle.std.proofs.lemmas.Map.Keys.{sorted_from_all_adjacent}
+use Rattle.std.specs.List.{AllByRecursion, IsAllAdjacentAnswer}
 use Rattle.std.specs.List.Sorted.{IsStrictlySortedBy, IsNonDecreasingBy, IsStableByKey, ties}
 use Rattle.std.specs.Cmp.{nat_cmp_total, ranks}
 use Rattle.std.specs.Ordering.{MatchOrdering, nat_cmp, is_lt, ordering_reverse, ordering_then}
 use Rattle.std.specs.declared.cmp.Ordering.{Ordering}
 use Rattle.std.specs.declared.cmp.Ordering.TheVariants.{Less, Equal, Greater}
-use Rattle.pv_path.specs.Paths.{Path, path_cmp}
+use Rattle.pv_path.specs.Paths.{Path, path_cmp, path_total}
 use Rattle.pv_path.proofs.Tests.{all_append}
 use Rattle.pv_find.specs.Whole.{depth_cmp, AreDeepestFirst}
 use Rattle.pv_find.proofs.WholeLaws.{deepening, Deepening, length_behind}
@@ -122,3 +123,15 @@ deepest_first keys xs ys up is deep stable =
     sorted-reverse (λ p q. depth_cmp q p) ys (by_depth ys (deepening ys deep) (λ x.
     subst (IsStrictlySortedBy (λ p q. path_cmp q p)) (sym (stable x))
     (IsStrictlySortedBy-filter (λ p q. path_cmp q p) (level x) xs (subst (IsStrictlySortedBy (λ p q. path_cmp q p)) (sym is) (sorted-reverse path_cmp keys up)))))
+
+-- ---- paths that rise
+
+less : (o : Ordering) → true ≡ is_lt o → o ≡ Less
+less Less _ = refl
+less Equal h = cc
+less Greater h = cc
+
+-- what `is_sorted_by` answers of paths, asked whether each stands before the next one
+pub rising : (ps : List Path) (r : Bool) → IsAllAdjacentAnswer (λ p q b. b ≡ is_lt (path_cmp p q)) ps r → IsTrue r → IsStrictlySortedBy path_cmp ps
+rising ps true all _ = sorted_from_all_adjacent path_total ps [] (λ k short. less _ (all k [] short))
+rising ps false all h = cc

@@ -16,6 +16,22 @@ use std::cmp::Ordering;
 use std::hash::{Hash, Hasher};
 use std::marker::Model;
 
+/// A copy of names, with room for so many more.
+fn with_room(alloc: Global, names: &[Name], more: usize) -> Result<Vec<Name>, AllocError>
+    ensures { IfOk result (λ copy. copy.items ≡ names.now) }
+{
+    let mut copy = Vec::with_capacity(alloc, names.len().saturating_add(more))?;
+    add_copies(&mut copy, names)?;
+    Ok(copy)
+}
+
+/// Adds copies of names.
+fn add_copies(names: &mut Vec<Name>, more: &[Name]) -> Result<(), AllocError>
+    ensures { OnOk result (names.new.items ≡ names.old.items ++ more.now) }
+{
+    names.extend_with_clones(more)
+}
+
 /// A path of a tree: its names from the root, which is the empty list. Clauses see the list of names.
 #[derive(Clone, Drop)]
 pub struct TreePath {
@@ -97,6 +113,24 @@ impl TreePath {
         Ok(())
     }
 
+    /// The path of these names, copied, and a last one, which is taken over.
+    pub(crate) fn ending(alloc: Global, names: &[Name], last: Name) -> Result<TreePath, AllocError>
+        requires { has_names names.now ≡ true }
+        ensures { IfOk result (λ path. path ≡ names.now ++ last ∷ []) }
+    {
+        let _valid = last.bytes();
+        let mut names = with_room(alloc, names, 1)?;
+        names.push(last)?;
+        Ok(TreePath { names })
+    }
+
+    /// The path followed by a name, which is taken over.
+    pub fn join(&self, name: Name) -> Result<TreePath, AllocError>
+        ensures { IfOk result (λ path. path ≡ self.now ++ name ∷ []) }
+    {
+        TreePath::ending(*self.names.allocator(), &self.names, name)
+    }
+
     /// A copy of the path.
     pub fn copy(&self) -> Result<TreePath, AllocError>
         ensures { IfOk result (λ path. path ≡ self.now) }
@@ -109,11 +143,9 @@ impl TreePath {
         requires { has_names names.now ≡ true }
         ensures { IfOk result (λ path. path ≡ self.now ++ names.now) }
     {
-        let mut path = self.copy()?;
-        for name in names {
-            path.push(name.copy()?)?;
-        }
-        Ok(path)
+        let mut all = with_room(*self.names.allocator(), &self.names, names.len())?;
+        add_copies(&mut all, names)?;
+        Ok(TreePath { names: all })
     }
 
     /// How the path stands to another in the order of paths.

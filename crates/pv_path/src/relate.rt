@@ -24,9 +24,7 @@ pub fn child(alloc: Global, path: &TreePath, name: &[u8]) -> Result<TreePath, Al
     requires { is_name name.now ≡ true }
     ensures { IfOk result (λ below. below ≡ path.now ++ name.now ∷ []) }
 {
-    let mut below = path.copy()?;
-    below.push(Name::of(alloc, name)?)?;
-    Ok(below)
+    path.join(Name::of(alloc, name)?)
 }
 
 /// Whether the first path is a prefix of the second, which it is of itself too. It takes no memory.
@@ -72,11 +70,7 @@ pub fn staging(alloc: Global, path: &TreePath) -> Result<TreePath, AllocError>
 {
     match path.names() {
         [] => unreachable!(),
-        [names @ .., name] => {
-            let mut stage = TreePath::of(alloc, names)?;
-            stage.push(name.staging(alloc)?)?;
-            Ok(stage)
-        }
+        [names @ .., name] => TreePath::ending(alloc, names, name.staging(alloc)?),
     }
 }
 
