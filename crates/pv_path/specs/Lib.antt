@@ -3,3 +3,4 @@ pub mod Paths
 pub mod Printing
 pub mod Parsing
 pub mod Results
+pub mod ShortBytes

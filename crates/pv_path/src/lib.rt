@@ -9,6 +9,7 @@ mod path_fault;
 mod print;
 mod relate;
 mod sequence;
+mod short_bytes;
 
 pub use cutting::pieces_of;
 pub use name::{Name, is_name, is_staging};

@@ -8,7 +8,7 @@ ghost use Rattle.std.proofs.Common.{rules, refl};
 ghost use Rattle.std.specs.List.{list_all};
 ghost use Rattle.pv_path.specs.Names.{is_dots, is_name, is_name_byte, is_staging, staging_name, same_bytes};
 
-use smallvec::SmallVec;
+use crate::short_bytes::ShortBytes;
 use std::alloc::{AllocError, Global};
 use std::cmp::Ordering;
 use std::hash::{Hash, Hasher};
@@ -47,15 +47,15 @@ pub fn is_staging(name: &[u8]) -> bool
 /// One of up to 16 bytes takes no memory of its own. Clauses see its bytes.
 #[derive(Drop)]
 pub struct Name {
-    bytes: SmallVec<u8, 16>,
+    bytes: ShortBytes,
 }
 
 impl Model for Name {
     ghost Value = { List ℕ };
 
-    ghost view = { λ n. n.bytes.items };
+    ghost view = { λ n. n.bytes };
 
-    ghost invariant = { λ n. is_name n.bytes.items ≡ true };
+    ghost invariant = { λ n. is_name n.bytes ≡ true };
 }
 
 impl Name {
@@ -65,7 +65,7 @@ impl Name {
         ensures { IfOk result (λ name. name ≡ bytes.now) }
     {
         Ok(Name {
-            bytes: SmallVec::from_slice(alloc, bytes)?,
+            bytes: ShortBytes::of(alloc, bytes)?,
         })
     }
 
@@ -82,7 +82,7 @@ impl Name {
         ensures { IfOk result (λ name. name ≡ self.now) }
     {
         Ok(Name {
-            bytes: SmallVec::from_slice(*self.bytes.allocator(), self.bytes.as_slice())?,
+            bytes: self.bytes.copy()?,
         })
     }
 
@@ -91,9 +91,9 @@ impl Name {
         requires { length self.now ≤ 250 }
         ensures { IfOk result (λ name. name ≡ staging_name self.now) }
     {
-        let mut bytes = SmallVec::from_slice(alloc, b".#tf-")?;
+        let mut bytes = Vec::from_slice(alloc, b".#tf-")?;
         bytes.extend_from_slice(self.bytes.as_slice())?;
-        Ok(Name { bytes })
+        Name::of(alloc, &bytes)
     }
 }
 
@@ -111,7 +111,7 @@ impl PartialEq for Name {
     ghost laws = { partial_equiv_from_equiv nat_list_eq_equiv };
 
     fn eq(&self, other: &Name) -> bool {
-        self.bytes == other.bytes
+        self.bytes() == other.bytes()
     }
 }
 
@@ -129,7 +129,7 @@ impl Ord for Name {
     ghost matches_eq = { texts_ties };
 
     fn cmp(&self, other: &Name) -> Ordering {
-        self.bytes.cmp(&other.bytes)
+        self.bytes().cmp(other.bytes())
     }
 }
 
@@ -149,6 +149,6 @@ impl Hash for Name {
     ghost respects_eq = { Prim.search rules };
 
     fn hash<H: Hasher>(&self, state: &mut H) {
-        self.bytes.hash(state);
+        self.bytes().hash(state);
     }
 }
