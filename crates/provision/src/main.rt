@@ -1,7 +1,8 @@
 //! `provision`: runs over the image on standard input, or on a folder, and writes messages, and the image, to standard output.
 #![tactic(auto)]
 
-ghost use Rattle.std.specs.Prelude.{◌≡◌, ℕ, true, Some, None, is_some, drop, map, string_bytes};
+ghost use Rattle.std.specs.Prelude.{◌≡◌, ◌≢◌, ◌⊎◌, ℕ, true, Some, None, is_some, drop, map, string_bytes};
+ghost use Rattle.std.specs.IoError.{error_kind};
 ghost use Rattle.std.specs.Process.{exit_status};
 ghost use Rattle.pv_io.specs.Faults.{HasRisen};
 ghost use Rattle.pv_words.specs.Invocation.{parse_args};
@@ -30,7 +31,10 @@ fn clock_of(rt: &HostRuntime) -> u64 {
 }
 
 /// Ends where the words could not be had: a word that is no text has no meaning.
-fn end_without_words(rt: &HostRuntime, error: &io::Error) -> ExitCode {
+fn end_without_words(rt: &HostRuntime, error: &io::Error) -> ExitCode
+    ensures memory { error_kind error.now ≡ ErrorKind.OutOfMemory → exit_status result ≡ 71 }
+    ensures usage { error_kind error.now ≢ ErrorKind.OutOfMemory → (exit_status result ≡ 1) ⊎ (exit_status result ≡ 76) }
+{
     if error.kind() == ErrorKind::OutOfMemory {
         return ExitCode::from(71);
     }
