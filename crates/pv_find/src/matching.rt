@@ -192,24 +192,25 @@ fn add_listed<T: Tree>(
         return Ok(());
     }
     let names = tree.list(alloc, path)?;
-    for name in names.into_vec() {
-        add_matched(path, name, plain, found)?;
+    for name in names.as_slice() {
+        add_matched(alloc, path, name, plain, found)?;
     }
     Ok(())
 }
 
 /// Adds a path and one name more, where a pattern of one component matches the name.
 fn add_matched(
+    alloc: Global,
     path: &TreePath,
-    name: Name,
+    name: &Name,
     plain: &Plain,
     found: &mut Vec<TreePath>,
 ) -> Result<(), AllocError>
     ensures { OnOk result (found.new.items ≡ found.old.items
-        ++ (if matches plain.now (name ∷ []) then (path.now ++ name ∷ []) ∷ [] else [])) }
+        ++ (if matches plain.now (name.now ∷ []) then (path.now ++ name.now ∷ []) ∷ [] else [])) }
 {
-    if plain.matches(slice::from_ref(&name)) {
-        found.push(path.join(name)?)?;
+    if plain.matches(slice::from_ref(name)) {
+        found.push(child(alloc, path, name.bytes())?)?;
     }
     Ok(())
 }

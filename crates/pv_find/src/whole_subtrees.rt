@@ -10,7 +10,7 @@ ghost use Rattle.pv_walk.specs.Removal.{is_one_of};
 ghost use Rattle.pv_find.specs.Whole.{goes_whole, AreDeepestFirst};
 
 use crate::order::in_order;
-use pv_path::TreePath;
+use pv_path::{TreePath, child};
 use pv_steps::{Tree, is_directory};
 use std::alloc::{AllocError, Global};
 use std::collections::BTreeSet;
@@ -66,8 +66,8 @@ fn has_children_in<T: Tree>(
         return Ok(true);
     }
     let names = tree.list(alloc, path)?;
-    for name in names.into_vec() {
-        if !is_soon_among(whole, &path.join(name)?) {
+    for name in names.as_slice() {
+        if !is_soon_among(whole, &child(alloc, path, name.bytes())?) {
             return Ok(false);
         }
     }

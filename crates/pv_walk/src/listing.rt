@@ -11,7 +11,7 @@ ghost use Rattle.pv_walk.specs.declared.listing.Task.TheVariants.{Open, Close};
 use crate::copying::TopNode;
 use crate::new_file::NewKind;
 use pv_metadata::{Body, Metadata, ObjectState};
-use pv_path::{TreePath, has_staging};
+use pv_path::{TreePath, child, has_staging};
 use pv_steps::{Kind, Node, Tree, is_directory, special_bits};
 use std::alloc::{AllocError, Global};
 
@@ -170,8 +170,8 @@ fn open_children<T: Tree>(
         return Ok(());
     }
     let names = tree.list(alloc, &at)?;
-    for name in names.into_vec() {
-        work.push(Task::Open(rest.join(name)?))?;
+    for name in names.as_slice() {
+        work.push(Task::Open(child(alloc, rest, name.bytes())?))?;
     }
     Ok(())
 }

@@ -10,7 +10,7 @@ ghost use Rattle.pv_steps.specs.Acting.{Acted};
 ghost use Rattle.pv_walk.specs.Removal.{is_below, is_one_of, without, count_below, removal_at, DonePart, MayHaveGone};
 ghost use Rattle.pv_walk.specs.Listing.{children_of, IsListing, AreGathered, AreRemovable};
 
-use pv_path::TreePath;
+use pv_path::{TreePath, child};
 use pv_steps::{Step, Tree, TreeFault, is_directory, try_all, try_step};
 use std::alloc::{AllocError, Global};
 
@@ -30,8 +30,8 @@ fn push_children<T: Tree>(
         return Ok(());
     }
     let names = tree.list(alloc, path)?;
-    for name in names.into_vec() {
-        work.push(path.join(name)?)?;
+    for name in names.as_slice() {
+        work.push(child(alloc, path, name.bytes())?)?;
     }
     Ok(())
 }
