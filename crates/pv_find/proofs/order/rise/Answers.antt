@@ -1,4 +1,4 @@
-use Rattle.std.proofs.Common.{rules, true, sym}
+use Rattle.std.proofs.Common.{rules}
 use Rattle.std.proofs.lemmas.Fn.{always_returns_same}
 use Rattle.std.specs.Ordering.{is_lt}
 use Rattle.pv_path.specs.Paths.{path_cmp}
