@@ -28,10 +28,10 @@ further p name rest = ap (λ (q : Path). same_path q (p ++ name ∷ rest)) (sym 
 not_folder : (folder : Path) (name : List ℕ) → same_path (folder ++ name ∷ []) folder ≡ false
 not_folder folder name = not_prefix_not_same (folder ++ name ∷ []) folder (longer folder name)
 
-kept_at : (p q : Path) (o : Option HostObject) (t : Held) → same_path p q ≡ false → put_at p o t q ≡ t q
+pub kept_at : (p q : Path) (o : Option HostObject) (t : Held) → same_path p q ≡ false → put_at p o t q ≡ t q
 kept_at p q o t differ = ap (λ b. cond b o (t q)) differ
 
-put_here : (p : Path) (o : Option HostObject) (t : Held) → put_at p o t p ≡ o
+pub put_here : (p : Path) (o : Option HostObject) (t : Held) → put_at p o t p ≡ o
 put_here p o t = ap (λ b. cond b o (t p)) (same_path-refl p)
 
 none_either : (b : Bool) (o : Option HostObject) → o ≡ None → cond b None o ≡ None
@@ -55,7 +55,7 @@ module _ (folder : Path) (bytes : List ℕ) (t : Held) (ready : IsReady folder t
   )
 
   -- at what has another name in the folder all is as before
-  beside_new : (y : List ℕ) (s : Path) (o : Option HostObject) → same_bytes (codes "manifest.new") y ≡ false → put_at (new_manifest_path folder) o t (folder ++ y ∷ s) ≡ t (folder ++ y ∷ s)
+  pub beside_new : (y : List ℕ) (s : Path) (o : Option HostObject) → same_bytes (codes "manifest.new") y ≡ false → put_at (new_manifest_path folder) o t (folder ++ y ∷ s) ≡ t (folder ++ y ∷ s)
   beside_new y s o differ = kept_at (new_manifest_path folder) (folder ++ y ∷ s) o t (apart folder (codes "manifest.new") y [] s differ)
 
   place_new : (o : Option HostObject) → IsDirectory (put_at (new_manifest_path folder) o t) folder
@@ -161,7 +161,7 @@ module _ (folder : Path) (bytes : List ℕ) (t : Held) (ready : IsReady folder t
   -- ---- what is then there
 
   -- at what has another name than both all is as before
-  beside_both : (y : List ℕ) (s : Path) → same_bytes (codes "manifest") y ≡ false → same_bytes (codes "manifest.new") y ≡ false → with_manifest folder bytes t (folder ++ y ∷ s) ≡ t (folder ++ y ∷ s)
+  pub beside_both : (y : List ℕ) (s : Path) → same_bytes (codes "manifest") y ≡ false → same_bytes (codes "manifest.new") y ≡ false → with_manifest folder bytes t (folder ++ y ∷ s) ≡ t (folder ++ y ∷ s)
   beside_both y s one other =
       kept_at (manifest_path folder) (folder ++ y ∷ s) (Some (host.File bytes)) (put_at (new_manifest_path folder) None t) (apart folder (codes "manifest") y [] s one)
       ∙ beside_new y s None other
@@ -262,7 +262,7 @@ same_but_none folder (Some c) = λ path other. refl
 
 -- ---- the tree is there as before
 
-below_tree : (folder path : Path) (t u : Held) → ((y : List ℕ) (s : Path) → same_bytes (codes "manifest") y ≡ false → same_bytes (codes "manifest.new") y ≡ false → u (folder ++ y ∷ s) ≡ t (folder ++ y ∷ s))
+pub below_tree : (folder path : Path) (t u : Held) → ((y : List ℕ) (s : Path) → same_bytes (codes "manifest") y ≡ false → same_bytes (codes "manifest.new") y ≡ false → u (folder ++ y ∷ s) ≡ t (folder ++ y ∷ s))
     → u (tree_path folder ++ path) ≡ t (tree_path folder ++ path)
 below_tree folder path t u same =
     ap u (append_assoc folder (codes "tree" ∷ []) path) ∙ same (codes "tree") path refl refl ∙ ap t (sym (append_assoc folder (codes "tree" ∷ []) path))

@@ -16,3 +16,6 @@ pub mod AgreeLaws
 pub mod ReadyLaws
 pub mod ClosingLaws
 pub mod PlainGrowth
+pub mod RoomLaws
+pub mod MomentLaws
+pub mod KillLaws

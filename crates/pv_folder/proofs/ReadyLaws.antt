@@ -16,7 +16,7 @@ use Rattle.pv_host.specs.declared.item.HostKind.TheVariants as named
 use Rattle.pv_host.specs.Content as host
 use Rattle.pv_host.specs.Content.{Change, Content, Held, HostObject, IsAbsent, IsContent, IsDirectory, IsFile, IsPresent, changed, held}
 use Rattle.pv_folder.specs.Folders.{Agrees, IsFree, IsPrepared, IsSameElse, manifest_path, new_manifest_path, real_as, real_of, tree_path}
-use Rattle.pv_folder.specs.Keeping.{IsChangedBy, IsReady, IsSameOutside, Keeps, MayAskFor, Moves, change_for}
+use Rattle.pv_folder.specs.Keeping.{IsAtMostAhead, IsChangedBy, IsReady, IsSameOutside, Keeps, MayAskFor, Moves, ahead, change_for, level}
 use Rattle.pv_folder.proofs.AgreeLaws.{MayDo, agrees_after, done, may_ask, same_elsewhere}
 use Rattle.pv_folder.proofs.BelowLaws.{below_some, beside, longer}
 
@@ -86,7 +86,7 @@ free_as t u path same (inl h) = inl (same ∙ h)
 free_as t u path same (inr h) = inr (ap (option_map host.kind_of) same ∙ h)
 
 module _ (folder : Path) (t u : Held) (same : IsSameElse folder t u) (tree : IsDirectory u (tree_path folder)) (ready : IsReady folder t) where
-  stays_ready : IsReady folder u
+  pub stays_ready : IsReady folder u
   stays_ready = record {
     names = ready.names;
     place = ap (option_map host.kind_of) (same folder (longer folder (codes "tree"))) ∙ ready.place;
@@ -105,7 +105,7 @@ module _ (folder : Path) (t u : Held) (same : IsSameElse folder t u) (tree : IsD
 
 -- ---- steps
 
-directory_real : (files : Files) → IsTree files → option_map host.kind_of (real_of (places files [])) ≡ Some named.Directory
+pub directory_real : (files : Files) → IsTree files → option_map host.kind_of (real_of (places files [])) ≡ Some named.Directory
 directory_real files tree = by (places files []) tree.root
   where
     by : (o : Option Object) → kind_of o ≡ Some kind.Directory → option_map host.kind_of (real_of o) ≡ Some named.Directory
@@ -185,5 +185,18 @@ module _ (folder : Path) (files : Files) (s : Step) (now : ℕ) (tree : IsTree f
 -- ---- how a step moves a folder
 
 -- a step that asked the host for its change
-pub moves_asked : (folder : Path) (old new : Option Content) (n m : ℕ) (p q : Bool) → IsSameOutside folder old new → n ≤ m → (p ≡ true → q ≡ true) → Moves folder old n p folder new m q
-moves_asked folder old new n m p q outside le lasts = record { same = refl; outside = outside; count = le; lasts = lasts }
+pub moves_asked : (folder : Path) (t u : Files) (old new : Option Content) (n m : ℕ) (p q : Bool) → IsSameOutside folder old new → n ≤ m → (p ≡ true → q ≡ true)
+    → (q ≡ true → IfSome new (λ c. IsAtMostAhead folder u (held c)))
+    → Moves (record { folder = folder; files = t; content = old; faults = n; pending = p }) (record { folder = folder; files = u; content = new; faults = m; pending = q })
+moves_asked folder t u old new n m p q outside le lasts near = record { same = refl; outside = outside; count = le; lasts = lasts; near = λ h. inr (near h) }
+
+-- a host that has a tree is not ahead of it
+pub is_level : (folder : Path) (files : Files) (content : Option Content) → IfSome content (λ c. Agrees folder files (held c)) → IfSome content (λ c. IsAtMostAhead folder files (held c))
+is_level folder files None agrees = tt
+is_level folder files (Some c) agrees = level agrees
+
+-- and one that has it after a step is one step ahead
+pub is_ahead : (folder : Path) (files : Files) (step : Step) (now : ℕ) (content : Option Content) → Can (places files) step
+    → IfSome content (λ c. Agrees folder (after files step now) (held c)) → IfSome content (λ c. IsAtMostAhead folder files (held c))
+is_ahead folder files step now None can agrees = tt
+is_ahead folder files step now (Some c) can agrees = ahead step now can agrees

@@ -1,11 +1,12 @@
 -- A tree kept in memory and in a folder of a host: what each of its steps asks of the host, what stays as it is, and what
 -- closing the folder leaves there.
-use Rattle.std.specs.Prelude.{◌≡◌, ◌≢◌, ℕ, ◌≤◌, Bool, true, List, [], ◌∷◌, ◌++◌, Option, Some, None, option_map}
-use Rattle.std.proofs.Common.{refl, subst, ◌∙◌, arith}
+use Rattle.std.specs.Prelude.{◌≡◌, ◌≢◌, ◌⊎◌, ℕ, ◌≤◌, Bool, true, List, [], ◌∷◌, ◌++◌, Option, Some, None, option_map, IfSome}
+use Rattle.std.proofs.Common.{refl, subst, sym, ◌∙◌, arith, inl, inr}
 use Rattle.pv_path.specs.Paths.{Path, has_names}
 use Rattle.pv_steps.specs.declared.step.Step.{Step}
 use Rattle.pv_steps.specs.declared.step.Step.TheVariants.{MakeDir, MakeFile, Write, Rename, Unlink, RemoveDir}
-use Rattle.pv_steps.specs.Trees.{Files, Places}
+use Rattle.pv_steps.specs.Trees.{Files, Places, places}
+use Rattle.pv_steps.specs.Steps.{Can, after}
 use Rattle.pv_text.specs.Facts.{Values}
 use Rattle.pv_host.specs.Content.{Change, Content, Held, HostObject, IsAbsent, IsChanged, IsContent, IsDirectory, MayAsk, held, put_at}
 use Rattle.pv_host.specs.Content as host
@@ -69,13 +70,34 @@ IsSameOutside folder (Some old) (Some new) = IsSameElse folder (held old) (held 
 IsSameOutside folder (Some old) None = ⊥
 IsSameOutside folder None new = new ≡ None
 
+-- a host has in a folder a tree, or is one step ahead: it has that tree after one more step that could be done
+pub data IsAtMostAhead (folder : Path) (files : Files) (t : Held) : Type 0 where
+  level : Agrees folder files t → IsAtMostAhead folder files t
+  ahead : (step : Step) (now : ℕ) → Can (places files) step → Agrees folder (after files step now) t → IsAtMostAhead folder files t
+
+-- a tree in a folder of a host: the folder's path, the tree in memory, what the host tells of its content, its count of faults, and
+-- whether a step has run out of memory
+pub record FolderState : Type 0 where
+  pub folder : Path
+  pub files : Files
+  pub content : Option Content
+  pub faults : ℕ
+  pub pending : Bool
+
+-- nothing has changed since a step ran out of memory
+pub record IsAtRest (a b : FolderState) : Type 0 where
+  pub pending : a.pending ≡ true
+  pub files : b.files ≡ a.files
+  pub content : b.content ≡ a.content
+
 -- how steps move a tree in a folder of a host: the folder is the same and all outside of its `tree`, the host's count of faults
--- never falls, and a step that has run out of memory is never forgotten
-pub record Moves (folder : Path) (old : Option Content) (faults : ℕ) (pending : Bool) (folder' : Path) (new : Option Content) (faults' : ℕ) (pending' : Bool) : Type 0 where
-  pub same : folder' ≡ folder
-  pub outside : IsSameOutside folder old new
-  pub count : faults ≤ faults'
-  pub lasts : pending ≡ true → pending' ≡ true
+-- never falls, and a step that has run out of memory is never forgotten: the host is then at most one step ahead
+pub record Moves (a b : FolderState) : Type 0 where
+  pub same : b.folder ≡ a.folder
+  pub outside : IsSameOutside a.folder a.content b.content
+  pub count : a.faults ≤ b.faults
+  pub lasts : a.pending ≡ true → b.pending ≡ true
+  pub near : b.pending ≡ true → IsAtRest a b ⊎ IfSome b.content (λ c. IsAtMostAhead a.folder b.files (held c))
 
 -- over any number of steps: none, and one run of steps after another
 pub same_outside : (folder : Path) (old : Option Content) → IsSameOutside folder old old
@@ -88,17 +110,34 @@ outside_on folder (Some a) (Some b) None p q = absurd q
 outside_on folder (Some a) None c p q = absurd p
 outside_on folder None b c p q = subst (λ (o : Option Content). IsSameOutside folder o c) p q
 
-pub moves_none : (folder : Path) (old : Option Content) (faults : ℕ) (pending : Bool) → Moves folder old faults pending folder old faults pending
-moves_none folder old faults pending = record { same = refl; outside = same_outside folder old; count = omega arith; lasts = λ h. h }
+pub moves_none : (a : FolderState) → Moves a a
+moves_none a = record {
+  same = refl;
+  outside = same_outside a.folder a.content;
+  count = omega arith;
+  lasts = λ h. h;
+  near = λ h. inl (record { pending = h; files = refl; content = refl });
+}
 
-pub moves_on : (f : Path) (a : Option Content) (n : ℕ) (p : Bool) (f' : Path) (b : Option Content) (n' : ℕ) (p' : Bool) (f'' : Path) (c : Option Content) (n'' : ℕ) (p'' : Bool)
-    → Moves f a n p f' b n' p' → Moves f' b n' p' f'' c n'' p'' → Moves f a n p f'' c n'' p''
-moves_on f a n p f' b n' p' f'' c n'' p'' first last = record {
+near_on : (a b c : FolderState) → Moves a b → IsAtRest b c → IsAtRest a b ⊎ IfSome b.content (λ x. IsAtMostAhead a.folder b.files (held x))
+    → IsAtRest a c ⊎ IfSome c.content (λ x. IsAtMostAhead a.folder c.files (held x))
+near_on a b c first rest (inl before) = inl (record { pending = before.pending; files = rest.files ∙ before.files; content = rest.content ∙ before.content })
+near_on a b c first rest (inr near) =
+    inr (subst (λ (t : Files). IfSome c.content (λ x. IsAtMostAhead a.folder t (held x))) (sym rest.files)
+    (subst (λ (o : Option Content). IfSome o (λ x. IsAtMostAhead a.folder b.files (held x))) (sym rest.content) near))
+
+pub moves_on : (a b c : FolderState) → Moves a b → Moves b c → Moves a c
+moves_on a b c first last = record {
   same = last.same ∙ first.same;
-  outside = outside_on f a b c first.outside (subst (λ (x : Path). IsSameOutside x b c) first.same last.outside);
+  outside = outside_on a.folder a.content b.content c.content first.outside (subst (λ (x : Path). IsSameOutside x b.content c.content) first.same last.outside);
   count = omega (arith, first.count, last.count);
   lasts = λ h. last.lasts (first.lasts h);
+  near = λ h. by (last.near h);
 }
+  where
+    by : IsAtRest b c ⊎ IfSome c.content (λ x. IsAtMostAhead b.folder c.files (held x)) → IsAtRest a c ⊎ IfSome c.content (λ x. IsAtMostAhead a.folder c.files (held x))
+    by (inl rest) = near_on a b c first rest (first.near rest.pending)
+    by (inr near) = inr (subst (λ (f : Path). IfSome c.content (λ x. IsAtMostAhead f c.files (held x))) first.same near)
 
 -- a reference that is still the same, and one that is the same as before
 pub same : {X : Type 0} (a : X) → a ≡ a

@@ -5,3 +5,4 @@ pub mod Opening
 pub mod Reading
 pub mod Keeping
 pub mod Sole
+pub mod Moments

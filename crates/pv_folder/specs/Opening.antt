@@ -1,7 +1,7 @@
 -- Opening a folder: what is read of it, and why it is not opened. A folder is listed first, then its manifest is read, then
 -- `tree` is gone through, each object before those below it and each with all below it before the next; the first fault that
 -- is met decides.
-use Rattle.std.specs.Prelude.{◌≡◌, ◌||◌, ℕ, suc, ◌+◌, nat_lt, Bool, true, false, List, [], ◌∷◌, codes, length, drop, Option, Some, None, if◌then◌else◌}
+use Rattle.std.specs.Prelude.{◌≡◌, ◌≢◌, ◌⊎◌, ◌||◌, ℕ, suc, ◌+◌, nat_lt, Bool, true, false, List, [], ◌∷◌, codes, length, drop, Option, Some, None, if◌then◌else◌}
 use Rattle.std.specs.FinMap as fin
 use Rattle.pv_path.specs.Paths.{Path}
 use Rattle.pv_path.specs.Printing.{printed_path}
@@ -48,6 +48,11 @@ size o = 0
 -- whether there are more objects or bytes than a run takes
 abbrev pub is_over : ℕ → ℕ → Bool
 is_over objects bytes = nat_lt most_objects objects || nat_lt most_bytes bytes
+
+-- a file has more bytes than there is room for
+abbrev pub IsLonger : ℕ → Option (List ℕ) → Type 0
+IsLonger room (Some bytes) = nat_lt room (length bytes) ≡ true
+IsLonger room None = ⊥
 
 -- an odd object is named by its path in the folder
 abbrev pub odd : Path → OpenFault
@@ -99,3 +104,16 @@ abbrev pub is_outer : OpenFault → Bool
 is_outer HostFailed = true
 is_outer Memory = true
 is_outer fault = false
+
+-- ---- a manifest that was listed
+
+-- what a manifest that was listed says, of which this was read; where nothing was read, nothing
+abbrev pub SaysRead : Option (List ℕ) → Values → Files → Type 0
+SaysRead (Some bytes) facts files = IsImage bytes facts files
+SaysRead None facts files = ⊥
+
+-- why nothing is said by a manifest that was listed, of which this was read: it was gone, which makes it odd; or it is no image;
+-- or memory ran out
+abbrev pub IsUnsaid : Option (List ℕ) → OpenFault → Type 0
+IsUnsaid (Some bytes) fault = (f : ImageFault) × (fault ≡ of_image f) × (f ≢ image_fault.Memory → HasImageFault bytes f)
+IsUnsaid None fault = (fault ≡ OddObject (codes "/manifest")) ⊎ (fault ≡ Memory)

@@ -12,7 +12,8 @@ use pv_image::write_emptied;
 use pv_text::Facts;
 use std::alloc::Global;
 
-/// Writes a manifest as `manifest.new`, and then moves it to `manifest`.
+/// Writes a manifest as `manifest.new`, and then moves it to `manifest`, so that a loss of power leaves the old manifest or
+/// the new one, whole.
 pub(crate) fn replace_manifest<H: Host>(
     alloc: Global,
     host: &mut H,
@@ -29,7 +30,7 @@ pub(crate) fn replace_manifest<H: Host>(
     let new = below(alloc, folder, b"manifest.new")?;
     let manifest = below(alloc, folder, b"manifest")?;
     host.write_file(&new, text)?;
-    host.rename(&new, &manifest)
+    host.replace_file(&new, &manifest)
 }
 
 /// Writes the manifest of facts and the tree in memory, which takes the place of the old one. It may be called at any time, also

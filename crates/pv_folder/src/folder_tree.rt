@@ -114,8 +114,8 @@ impl<'a, H: Host> Tree for FolderTree<'a, H> {
     ghost refused_at = { λ t. t.refused_at };
 
     ghost reaches = { λ a b. (b.host.ghost_name ≡ a.host.ghost_name)
-        × Moves (spelled a.folder.items) (H.content a.host.now) (H.faults a.host.now) a.pending
-        (spelled b.folder.items) (H.content b.host.now) (H.faults b.host.now) b.pending };
+        × Moves (record { folder = spelled a.folder.items; files = a.tree.files; content = H.content a.host.now; faults = H.faults a.host.now; pending = a.pending })
+        (record { folder = spelled b.folder.items; files = b.tree.files; content = H.content b.host.now; faults = H.faults b.host.now; pending = b.pending }) };
 
     fn look(&self, path: &TreePath) -> Option<&Node> {
         self.tree.node_at(path)
@@ -141,8 +141,8 @@ impl<'a, H: Host> Tree for FolderTree<'a, H> {
         ensures unrecorded { OnErr result (self.new.tree.steps ≡ self.old.tree.steps) }
         ensures fits { StepFits step.now }
         ensures reaches { (self.new.host.ghost_name ≡ self.old.host.ghost_name)
-            × Moves (spelled self.old.folder.items) (H.content self.old.host.now) (H.faults self.old.host.now) self.old.pending
-            (spelled self.new.folder.items) (H.content self.new.host.now) (H.faults self.new.host.now) self.new.pending }
+            × Moves (record { folder = spelled self.old.folder.items; files = self.old.tree.files; content = H.content self.old.host.now; faults = H.faults self.old.host.now; pending = self.old.pending })
+            (record { folder = spelled self.new.folder.items; files = self.new.tree.files; content = H.content self.new.host.now; faults = H.faults self.new.host.now; pending = self.new.pending }) }
         ensures counted { H.faults self.new.host.now ≡ faults_after (refused result) (H.faults self.old.host.now) }
         ensures last { IsErrOf result Failed → self.new.refused_at ≡ length self.new.tree.steps }
 
@@ -177,9 +177,9 @@ impl<'a, H: Host> Tree for FolderTree<'a, H> {
         Ok(())
     }
 
-    ghost reaches_self = { λ a. (same _, moves_none _ _ _ _) };
+    ghost reaches_self = { λ a. (same _, moves_none _) };
 
-    ghost reaches_on = { λ a b c p q. (same_on _ _ _ p.0 q.0, moves_on _ _ _ _ _ _ _ _ _ _ _ _ p.1 q.1) };
+    ghost reaches_on = { λ a b c p q. (same_on _ _ _ p.0 q.0, moves_on _ _ _ p.1 q.1) };
 
     ghost is_tree = { λ t. t.tree.tree };
 

@@ -21,7 +21,10 @@ mod reading_tree;
 
 pub use closing::close_folder;
 pub use folder_tree::FolderTree;
-pub use laws::{a_closed_folder_is_opened_again, an_opened_folder_keeps_its_tree};
+pub use laws::{
+    a_closed_folder_is_opened_again, a_folder_always_holds_an_intermediate_tree,
+    an_interrupted_folder_is_opened_as_merged, an_opened_folder_keeps_its_tree,
+};
 pub use merging::merge;
 pub use open_fault::OpenFault;
 pub use reading::read_folder;

@@ -4,15 +4,15 @@ ghost use Rattle.pv_io.specs.Faults.{HasRisen};
 ghost use Rattle.pv_path.specs.Names.{is_name};
 ghost use Rattle.pv_host.specs.declared.item.HostKind.TheVariants as kind;
 ghost use Rattle.pv_host.specs.Content.{IsContent, bytes_of, held, kind_at, listing, spelled};
-ghost use Rattle.pv_folder.specs.declared.open_fault.OpenFault.TheVariants.{HostFailed};
+ghost use Rattle.pv_folder.specs.declared.open_fault.OpenFault.TheVariants.{HostFailed, TooLarge};
 ghost use Rattle.pv_folder.specs.Folders.{tree_path};
-ghost use Rattle.pv_folder.specs.Opening.{is_outer, odd};
+ghost use Rattle.pv_folder.specs.Opening.{IsLonger, is_outer, odd};
 ghost use Rattle.pv_folder.specs.Reading.{Shows, path_of};
 
 use crate::found::{Found, Seen, odd};
 use crate::host_path::host_path;
 use crate::open_fault::OpenFault;
-use pv_host::{Host, HostKind, HostList};
+use pv_host::{FileBytes, Host, HostKind, HostList};
 use pv_path::{Bytes, TreePath};
 use std::alloc::Global;
 
@@ -62,20 +62,45 @@ fn without_room(bytes: Vec<u8>) -> Bytes
     Bytes::from_vec(bytes)
 }
 
-/// What is seen of an object of a folder's tree, whose path is given too. It is odd where it is not what the listing says.
+/// The bytes of a file at a path of a host, or nothing where it is none. It is too large where it has more than there is room for.
+fn file_at<H: Host>(
+    alloc: Global,
+    host: &mut H,
+    place: &[u8],
+    room: usize,
+) -> Result<Option<Bytes>, OpenFault>
+    ensures from_content { IfOk result (λ bytes. IfSome (H.content host.old) (λ c. bytes ≡ bytes_of (held c (spelled place.now)))) }
+    ensures fault { IfErr result (λ fault. is_outer fault ≡ false → fault ≡ TooLarge) }
+    ensures large { IsErrOf result TooLarge → IfSome (H.content host.old) (λ c. IsLonger room (bytes_of (held c (spelled place.now)))) }
+    ensures kept { H.content host.new ≡ H.content host.old }
+    ensures cause { IsErrOf result HostFailed → HasRisen (H.faults host.old) (H.faults host.new) }
+    ensures never_falls { H.faults host.old ≤ H.faults host.new }
+{
+    match host.read_within(alloc, place, room)? {
+        Some(FileBytes::Whole(bytes)) => Ok(Some(without_room(bytes))),
+        Some(FileBytes::Longer) => Err(OpenFault::TooLarge),
+        None => Ok(None),
+    }
+}
+
+/// What is seen of an object of a folder's tree, whose path is given too. It is odd where it is not what the listing says, and
+/// too large where it is a file with more bytes than there is room for.
 pub(crate) fn look<H: Host>(
     alloc: Global,
     host: &mut H,
     folder: &[u8],
     found: &Found,
     path: &TreePath,
+    room: usize,
 ) -> Result<Seen, OpenFault>
     requires kind { found.now.kind ≢ kind.Other }
     requires path { path.now ≡ path_of found.now }
     ensures from_content { IfOk result (λ seen. IfSome (H.content host.old) (λ c. Shows c (tree_path (spelled folder.now) ++ path.now) seen)) }
-    ensures odd { IfErr result (λ fault. is_outer fault ≡ false → fault ≡ odd path.now) }
-    ensures other { IfErr result (λ fault. is_outer fault ≡ false → IfSome (H.content host.old) (λ c.
+    ensures odd { IfErr result (λ fault. is_outer fault ≡ false → fault ≢ TooLarge → fault ≡ odd path.now) }
+    ensures other { IfErr result (λ fault. is_outer fault ≡ false → fault ≢ TooLarge → IfSome (H.content host.old) (λ c.
         kind_at (held c) (tree_path (spelled folder.now) ++ path.now) ≢ Some found.now.kind)) }
+    ensures large { IsErrOf result TooLarge → IfSome (H.content host.old) (λ c.
+        IsLonger room (bytes_of (held c (tree_path (spelled folder.now) ++ path.now)))) }
     ensures kept { H.content host.new ≡ H.content host.old }
     ensures cause { IsErrOf result HostFailed → HasRisen (H.faults host.old) (H.faults host.new) }
     ensures never_falls { H.faults host.old ≤ H.faults host.new }
@@ -88,7 +113,7 @@ pub(crate) fn look<H: Host>(
         }
         HostKind::File => {
             let place = host_path(alloc, folder, path)?;
-            if let Some(bytes) = bytes_at(alloc, host, place.as_slice())? {
+            if let Some(bytes) = file_at(alloc, host, place.as_slice(), room)? {
                 return Ok(Seen::File(bytes));
             }
         }

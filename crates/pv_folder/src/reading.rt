@@ -9,7 +9,7 @@ ghost use Rattle.pv_host.specs.Content.{IsContent, held, spelled};
 ghost use Rattle.pv_folder.specs.declared.open_fault.OpenFault.TheVariants.{HostFailed, Memory};
 ghost use Rattle.pv_folder.specs.declared.open_fault.OpenFault.{OpenFault as Fault};
 ghost use Rattle.pv_folder.specs.Folders.{IsPrepared, manifest_path};
-ghost use Rattle.pv_folder.specs.Opening.{IsOpened, IsRefused, Says, is_outer};
+ghost use Rattle.pv_folder.specs.Opening.{IsOpened, IsRefused, IsUnsaid, Says, SaysRead, is_outer};
 ghost use Rattle.pv_folder.specs.Reading.{is_free, kind_named, lists_prepared};
 
 use crate::host_path::below;
@@ -74,6 +74,19 @@ fn has_manifest<H: Host>(alloc: Global, host: &mut H, folder: &[u8]) -> Result<b
     Ok(kind_named(items.as_slice(), b"manifest").is_some())
 }
 
+/// The facts and the tree that a listed manifest says, of which this was read. One that was gone by then is odd: it does not
+/// count as absent, so that no run writes over a manifest that it has not read.
+fn manifest_from(alloc: Global, read: Option<Bytes>) -> Result<Image, OpenFault>
+    ensures says { IfOk result (λ image. SaysRead read image.facts image.tree.files) }
+    ensures unsaid { IfErr result (λ fault. IsUnsaid read fault) }
+    ensures own { IsErrOf result HostFailed → ⊥ }
+{
+    match read {
+        Some(bytes) => Ok(read_image(alloc, bytes.as_slice())?),
+        None => Err(OpenFault::OddObject(Bytes::copy_of(alloc, b"/manifest")?)),
+    }
+}
+
 /// The facts and the tree that the manifest of a folder says, where it is there.
 fn read_manifest<H: Host>(alloc: Global, host: &mut H, folder: &[u8]) -> Result<Image, OpenFault>
     requires prepared { IfSome (H.content host.old) (λ c. IsPrepared (spelled folder.now) (held c)) }
@@ -87,10 +100,8 @@ fn read_manifest<H: Host>(alloc: Global, host: &mut H, folder: &[u8]) -> Result<
     ensures never_falls { H.faults host.old ≤ H.faults host.new }
 {
     let place = below(alloc, folder, b"manifest")?;
-    let Some(bytes) = bytes_at(alloc, host, place.as_slice())? else {
-        return Err(OpenFault::OddObject(Bytes::copy_of(alloc, b"/manifest")?));
-    };
-    Ok(read_image(alloc, bytes.as_slice())?)
+    let read = bytes_at(alloc, host, place.as_slice())?;
+    manifest_from(alloc, read)
 }
 
 /// What an absent manifest says: no facts and a root alone.

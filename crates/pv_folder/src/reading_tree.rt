@@ -199,7 +199,8 @@ pub(crate) fn read_tree<H: Host>(
     let mut reading = Reading::of(alloc, &items)?;
     while let Some(found) = reading.pending.pop() {
         let path = enter(alloc, &found)?;
-        let seen = look(alloc, host, folder, &found, &path)?;
+        let room = MOST_BYTES - reading.bytes;
+        let seen = look(alloc, host, folder, &found, &path, room)?;
         reading.count(size_of(&seen))?;
         reading.take(alloc, path, seen)?;
     }

@@ -5,6 +5,8 @@ use Rattle.std.specs.List.{filter_map, slice_split}
 use Rattle.std.specs.FinMap as fin
 use Rattle.pv_path.specs.Paths.{Path, path_cmp, same_path, is_prefix, rest_under, parent_of, has_names}
 use Rattle.pv_steps.specs.Trees.{child_name}
+use Rattle.pv_host.specs.declared.host.FileBytes.{FileBytes}
+use Rattle.pv_host.specs.declared.host.FileBytes.TheVariants.{Whole, Longer}
 use Rattle.pv_host.specs.declared.item.HostItem.{HostItem}
 use Rattle.pv_host.specs.declared.item.HostKind.{HostKind}
 use Rattle.pv_host.specs.declared.item.HostKind.TheVariants as kind
@@ -91,6 +93,15 @@ listing content path = listing_of content (held content path) path
 abbrev pub bytes_of : Option HostObject → Option (List ℕ)
 bytes_of (Some (File bytes)) = Some bytes
 bytes_of o = None
+
+-- the bytes of a file, unless they are more than so many
+abbrev pub within : ℕ → List ℕ → Option (List ℕ)
+within most bytes = if nat_lt most (length bytes) then None else Some bytes
+
+-- the bytes that a reader was given, if the file had no more than it takes
+abbrev pub given : FileBytes → Option (List ℕ)
+given (Whole bytes) = Some bytes.items
+given Longer = None
 
 -- ---- changes
 

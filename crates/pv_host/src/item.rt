@@ -1,5 +1,6 @@
 //! What stands in a directory of a host.
-ghost use Rattle.std.specs.Prelude.{◌≡◌, ◌↔◌, true, [], ◌∷◌, ◌++◌, IsTrue, OnOk, OnErr, IfOk, if◌then◌else◌};
+ghost use Rattle.std.specs.Prelude.{◌≡◌, ◌↔◌, true, [], ◌∷◌, ◌++◌, length, slice_get, IsTrue, OnOk, OnErr, IfOk, if◌then◌else◌};
+ghost use Rattle.std.specs.Option.{option_copied};
 ghost use Rattle.pv_host.specs.Lists.{all_before, comes_before, is_ordered};
 
 use pv_path::Bytes;
@@ -76,6 +77,20 @@ impl HostList {
         }
         self.push(item)?;
         Ok(true)
+    }
+
+    /// How many objects there are. It takes no memory.
+    pub fn len(&self) -> usize
+        ensures { result ≡ length self.now }
+    {
+        self.items.len()
+    }
+
+    /// The object at a place counted from 0, or nothing past the end. It takes no memory.
+    pub fn get(&self, i: usize) -> Option<&HostItem>
+        ensures { option_copied result ≡ slice_get self.now i }
+    {
+        self.items.get(i)
     }
 
     /// The objects as a slice.

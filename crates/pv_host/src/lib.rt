@@ -11,8 +11,9 @@ mod plan;
 mod real_host;
 mod spelling;
 mod tree_host;
+mod writing;
 
-pub use host::{Host, HostFault};
+pub use host::{FileBytes, Host, HostFault};
 pub use item::{HostItem, HostKind, HostList};
 pub use mem_host::MemHost;
 pub use real_host::RealHost;

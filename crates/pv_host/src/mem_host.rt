@@ -5,12 +5,12 @@ ghost use Rattle.pv_io.specs.Faults.{HasRisen};
 ghost use Rattle.pv_io.specs.Memory.{fresh};
 ghost use Rattle.pv_path.specs.Paths.{has_names};
 ghost use Rattle.pv_host.specs.declared.host.HostFault.TheVariants.{Failed};
-ghost use Rattle.pv_host.specs.Content.{IsContent, May, bytes_of, held, listing, spelled};
+ghost use Rattle.pv_host.specs.Content.{IsContent, May, bytes_of, given, held, listing, spelled, within};
 ghost use Rattle.pv_host.specs.Counts.{count_after};
 ghost use Rattle.pv_host.specs.Content.Change.{MakeDir, RemoveDir, RemoveFile, Rename, WriteFile};
 ghost use Rattle.pv_host.specs.Memory.{Becomes, content_of};
 
-use crate::host::{Host, HostFault};
+use crate::host::{FileBytes, Host, HostFault, limited};
 use crate::item::HostList;
 use crate::plan::Plan;
 use crate::spelling::path_of;
@@ -100,6 +100,29 @@ impl Host for MemHost {
         }
     }
 
+    fn read_within(
+        &mut self,
+        alloc: Global,
+        path: &[u8],
+        most: usize,
+    ) -> Result<Option<FileBytes>, HostFault>
+        ensures from_content { IfOk result (λ found.
+            option_map given found ≡ option_map (within most) (bytes_of (held (content_of self.old.tree.files) (spelled path.now)))) }
+        ensures content { IsContent (held (content_of self.old.tree.files)) }
+        ensures kept { self.new.tree.files ≡ self.old.tree.files }
+        ensures cause { IsErrOf result Failed → HasRisen self.old.plan.faults self.new.plan.faults }
+        ensures never_falls { self.old.plan.faults ≤ self.new.plan.faults }
+        ensures count { self.new.plan.faults ≡ count_after result self.old.plan.faults }
+        ensures planned { IsErrOf result Failed ↔ Contains self.old.plan.fails self.old.plan.calls }
+        ensures counted { self.new.plan.calls ≡ call_after self.old.plan.calls }
+    {
+        match self.read_file(alloc, path) {
+            Ok(Some(bytes)) => Ok(Some(limited(bytes, most))),
+            Ok(None) => Ok(None),
+            Err(fault) => Err(fault),
+        }
+    }
+
     fn write_file(&mut self, path: &[u8], bytes: &[u8]) -> Result<(), HostFault>
         requires { May (held (content_of self.old.tree.files)) (WriteFile (spelled path.now) bytes.now) }
         ensures done { OnOk result (Becomes (WriteFile (spelled path.now) bytes.now) self.old.tree.files self.new.tree.files) }
@@ -146,6 +169,19 @@ impl Host for MemHost {
         let from = named_path(self.plan.alloc(), from)?;
         let to = named_path(self.plan.alloc(), to)?;
         rename(&mut self.tree, from, to)
+    }
+
+    fn replace_file(&mut self, from: &[u8], to: &[u8]) -> Result<(), HostFault>
+        requires { May (held (content_of self.old.tree.files)) (Rename (spelled from.now) (spelled to.now)) }
+        ensures done { OnOk result (Becomes (Rename (spelled from.now) (spelled to.now)) self.old.tree.files self.new.tree.files) }
+        ensures kept { OnErr result (self.new.tree.files ≡ self.old.tree.files) }
+        ensures cause { IsErrOf result Failed → HasRisen self.old.plan.faults self.new.plan.faults }
+        ensures never_falls { self.old.plan.faults ≤ self.new.plan.faults }
+        ensures count { self.new.plan.faults ≡ count_after result self.old.plan.faults }
+        ensures planned { IsErrOf result Failed ↔ Contains self.old.plan.fails self.old.plan.calls }
+        ensures counted { self.new.plan.calls ≡ call_after self.old.plan.calls }
+    {
+        self.rename(from, to)
     }
 
     fn remove_file(&mut self, path: &[u8]) -> Result<(), HostFault>

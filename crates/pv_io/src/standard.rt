@@ -1,11 +1,47 @@
 //! The edge: a source and a sink over a reader and a writer of std.
-ghost use Rattle.std.specs.Prelude.{◌≡◌, None};
+ghost use Rattle.std.specs.Prelude.{◌≡◌, ◌<◌, ◌≤◌, None, length, take, IfOk, OnErr};
+ghost use Rattle.std.specs.Io.KnownBytes.{Appends, Consumes, IsAtEnd, Keeps};
 
 use crate::transfer::{Sink, Source};
 use crate::transfer_fault::Failed;
-use std::io::{Read, Write};
+use std::io::{self, ErrorKind, Read, Write};
 
-/// A source over any reader, with a count of its faults.
+/// How often a read or a write is tried that a signal interrupts (signal(7)).
+const MOST_TRIES: u32 = 1000;
+
+/// A read that is tried again as long as a signal interrupts it.
+fn read_again<R: Read>(reader: &mut R, buf: &mut [u8]) -> io::Result<usize>
+    requires { 0 < length buf.old }
+    ensures fits { IfOk result (λ n. n ≤ length buf.new) }
+    ensures takes { IfOk result (λ n. Consumes (R.remaining reader.old) (R.remaining reader.new) (take n buf.new)) }
+    ensures end { IfOk result (λ n. n ≡ 0 → IsAtEnd (R.remaining reader.new)) }
+    ensures kept { OnErr result (Keeps (R.remaining reader.old) (R.remaining reader.new)) }
+{
+    for _ in 1..MOST_TRIES {
+        match reader.read(buf) {
+            Err(error) if error.kind() == ErrorKind::Interrupted => {}
+            done => return done,
+        }
+    }
+    reader.read(buf)
+}
+
+/// A write that is tried again as long as a signal interrupts it.
+fn write_again<W: Write>(writer: &mut W, bytes: &[u8]) -> io::Result<usize>
+    ensures fits { IfOk result (λ n. n ≤ length bytes.now) }
+    ensures takes { IfOk result (λ n. Appends (W.contents writer.old) (W.contents writer.new) (take n bytes.now)) }
+    ensures kept { OnErr result (Keeps (W.contents writer.old) (W.contents writer.new)) }
+{
+    for _ in 1..MOST_TRIES {
+        match writer.write(bytes) {
+            Err(error) if error.kind() == ErrorKind::Interrupted => {}
+            done => return done,
+        }
+    }
+    writer.write(bytes)
+}
+
+/// A source over any reader, with a count of its faults. A read that a signal interrupts is tried again.
 ///
 /// It tells the bytes that the reader tells; standard input tells none.
 #[derive(Drop)]
@@ -32,7 +68,7 @@ impl<R: Read> Source for StdSource<R> {
     ghost calls = { λ _. None };
 
     fn read(&mut self, buf: &mut [u8]) -> Result<usize, Failed> {
-        match self.inner.read(buf) {
+        match read_again(&mut self.inner, buf) {
             Ok(count) => Ok(count),
             Err(_) => {
                 self.faults = self.faults.saturating_add(1);
@@ -42,7 +78,7 @@ impl<R: Read> Source for StdSource<R> {
     }
 }
 
-/// A sink over any writer, with a count of its faults.
+/// A sink over any writer, with a count of its faults. A write that a signal interrupts is tried again.
 ///
 /// It tells the bytes that the writer tells; standard output tells none.
 #[derive(Drop)]
@@ -69,7 +105,7 @@ impl<W: Write> Sink for StdSink<W> {
     ghost calls = { λ _. None };
 
     fn write(&mut self, bytes: &[u8]) -> Result<usize, Failed> {
-        match self.inner.write(bytes) {
+        match write_again(&mut self.inner, bytes) {
             Ok(count) if count > 0 => Ok(count),
             _ => {
                 self.faults = self.faults.saturating_add(1);

@@ -4,25 +4,25 @@ use Rattle.pv_host.specs.Content.{spelled}
 use Rattle.pv_folder.proofs.ClosingLaws.{has_manifest_as, kept_as, may_move_as, on_err, ready_as}
 use Rattle.pv_folder.proofs.closing.replace_manifest.Goals as goal
 
-pub rename-requires : goal.rename-requires
-rename-requires g c =
+pub replace_file-requires : goal.replace_file-requires
+replace_file-requires g c =
     may_move_as (spelled c.args.folder.now) (spelled c.deref.result.now) (spelled c.deref-2.result.now) (spelled c.deref-3.result.now) c.args.text.now (g.H.Host.content c.args.host.now) (g.H.Host.content c.write_file.new.self)
     (ap spelled c.deref.ensures.value ∙ c.in_ok-new.ensures) (ap spelled c.deref-2.ensures.value ∙ c.in_ok-new.ensures) (ap spelled c.deref-3.ensures.value ∙ c.in_ok-manifest.ensures) c.in_ok-write_file.ensures.done c.requires
 
 pub returns-clause-done : goal.returns-clause-done
 returns-clause-done g c =
-    on_ok c.rename.result (has_manifest_as (spelled c.args.folder.now) (spelled c.deref.result.now) (spelled c.deref-2.result.now) (spelled c.deref-3.result.now) c.args.text.now (g.H.Host.content c.args.host.now) (g.H.Host.content c.write_file.new.self)
+    on_ok c.replace_file.result (has_manifest_as (spelled c.args.folder.now) (spelled c.deref.result.now) (spelled c.deref-2.result.now) (spelled c.deref-3.result.now) c.args.text.now (g.H.Host.content c.args.host.now) (g.H.Host.content c.write_file.new.self)
     (ap spelled c.deref.ensures.value ∙ c.in_ok-new.ensures) (ap spelled c.deref-2.ensures.value ∙ c.in_ok-new.ensures) (ap spelled c.deref-3.ensures.value ∙ c.in_ok-manifest.ensures) c.in_ok-write_file.ensures.done c.requires
-    (g.H.Host.content c.rename.new.self)) c.rename.ensures.done
+    (g.H.Host.content c.replace_file.new.self)) c.replace_file.ensures.done
 
 pub returns-clause-kept : goal.returns-clause-kept
 returns-clause-kept g c =
-    on_err c.rename.result (kept_as (spelled c.args.folder.now) (spelled c.deref.result.now) (spelled c.deref-2.result.now) (spelled c.deref-3.result.now) c.args.text.now (g.H.Host.content c.args.host.now) (g.H.Host.content c.write_file.new.self)
+    on_err c.replace_file.result (kept_as (spelled c.args.folder.now) (spelled c.deref.result.now) (spelled c.deref-2.result.now) (spelled c.deref-3.result.now) c.args.text.now (g.H.Host.content c.args.host.now) (g.H.Host.content c.write_file.new.self)
     (ap spelled c.deref.ensures.value ∙ c.in_ok-new.ensures) (ap spelled c.deref-2.ensures.value ∙ c.in_ok-new.ensures) (ap spelled c.deref-3.ensures.value ∙ c.in_ok-manifest.ensures) c.in_ok-write_file.ensures.done c.requires
-    (g.H.Host.content c.rename.new.self)) c.rename.ensures.kept
+    (g.H.Host.content c.replace_file.new.self)) c.replace_file.ensures.kept
 
 pub returns-clause-ready : goal.returns-clause-ready
 returns-clause-ready g c =
     ready_as (spelled c.args.folder.now) (spelled c.deref.result.now) (spelled c.deref-2.result.now) (spelled c.deref-3.result.now) c.args.text.now (g.H.Host.content c.args.host.now) (g.H.Host.content c.write_file.new.self)
     (ap spelled c.deref.ensures.value ∙ c.in_ok-new.ensures) (ap spelled c.deref-2.ensures.value ∙ c.in_ok-new.ensures) (ap spelled c.deref-3.ensures.value ∙ c.in_ok-manifest.ensures) c.in_ok-write_file.ensures.done c.requires
-    (g.H.Host.content c.rename.new.self) c.rename.result c.rename.ensures.done c.rename.ensures.kept
+    (g.H.Host.content c.replace_file.new.self) c.replace_file.result c.replace_file.ensures.done c.replace_file.ensures.kept

@@ -15,6 +15,7 @@ use Rattle.pv_folder.specs.Opening.{is_outer, is_over}
 use Rattle.pv_folder.specs.Reading.{Shows, found_below, items_of, path_of, seen_object, seen_size}
 use Rattle.pv_folder.proofs.GoingLaws.{Faulty, IsGoing, going_at, going_first, going_odd, going_on, going_over, going_real, not_over, passed_on}
 use Rattle.pv_folder.proofs.MergingLaws.{plain_first, plain_on}
+use Rattle.pv_folder.proofs.RoomLaws.{going_unseen}
 use Rattle.pv_folder.proofs.reading_tree.read_tree.Goals as goal
 
 pub loop-found-init : goal.loop-found-init
@@ -43,6 +44,18 @@ returns-in_err-path-clause-fault g c =
     passed_on c.from_residual-in_err-path.result c.in_err-path.field-0.0 (λ e. is_outer e ≡ false → IfSome content (Faulty folder e)) c.from_residual-in_err-path.ensures.1
     (λ own. subst (λ (e : OpenFault). IfSome content (Faulty folder e)) (sym (found.odd own))
     (going_odd content folder r.objects r.bytes r.builder.files r.builder.last c.pop.new.self.items x going (found.cause own)))
+
+pub returns-in_err-seen-clause-fault : goal.returns-in_err-seen-clause-fault
+returns-in_err-seen-clause-fault g c =
+    let content = g.H.Host.content c.args.host.now in
+    let folder = spelled c.args.folder.now in
+    let r = c.loop-found.reading in
+    let x = c.in-Some.found in
+    let f = c.in_err-seen.field-0.0 in
+    let going = subst (IsGoing content folder r.objects r.bytes r.builder.files r.builder.last) c.in-Some.ensures.items c.loop-found.invariant.0 in
+    passed_on c.from_residual-in_err-seen.result f (λ e. is_outer e ≡ false → IfSome content (Faulty folder e)) c.from_residual-in_err-seen.ensures.1
+    (going_unseen content (g.H.Host.content c.loop-found.host) folder r.objects r.bytes r.builder.files r.builder.last c.pop.new.self.items x c.in_ok-path.path _ f
+    going c.loop-found.invariant.3 c.in_ok-path.ensures.path refl c.loop-found.invariant.2 c.in_err-seen.ensures.large c.in_err-seen.ensures.other)
 
 pub returns-in_err-count-clause-fault : goal.returns-in_err-count-clause-fault
 returns-in_err-count-clause-fault g c =
