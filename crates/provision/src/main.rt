@@ -1,7 +1,9 @@
 //! `provision`: runs over the image on standard input, or on a folder, and writes messages, and the image, to standard output.
 #![tactic(auto)]
 
-ghost use Rattle.std.specs.Prelude.{◌≡◌, ◌≢◌, ◌⊎◌, ℕ, true, Some, None, is_some, drop, map, string_bytes};
+ghost use Rattle.std.specs.Prelude.{◌≡◌, ◌≢◌, ◌⊎◌, ◌/◌, ◌^◌, ◌-◌, ℕ, min, [], true, Some, None, IfOk, OnErr, is_some, drop, map, string_bytes};
+ghost use Rattle.std.specs.Time.{system_time_nanos};
+ghost use Rattle.std.specs.Vec.Iter.{into_iter_items};
 ghost use Rattle.std.specs.IoError.{error_kind};
 ghost use Rattle.std.specs.Process.{exit_status};
 ghost use Rattle.pv_io.specs.Faults.{HasRisen};
@@ -13,41 +15,32 @@ ghost use Rattle.provision.specs.Ended.{IsStatusOf};
 use provision_run::{provision_all, status};
 use pv_host::{Host, RealHost};
 use pv_io::{Sink, Source, StdSink, StdSource};
-use std::alloc::Global;
-use std::env;
+use std::alloc::{AllocError, Global};
+use std::env::{self, Args};
 use std::io::{self, ErrorKind};
 use std::process::ExitCode;
 use std::time::SystemTime;
 
-/// The clock in microseconds since 1970; before that it counts as 0.
-fn clock_of(rt: &HostRuntime) -> u64 {
-    let Ok(now) = SystemTime::now(rt) else {
+/// The microseconds since 1970 of what a clock read, at most the last number of 64 bits; 0 where it read nothing, as before 1970.
+fn micros_of(read: io::Result<SystemTime>) -> u64
+    ensures read { IfOk read (λ time. result ≡ min (system_time_nanos time / 1000) (2 ^ 64 - 1)) }
+    ensures unread { OnErr read (result ≡ 0) }
+{
+    let Ok(time) = read else {
         return 0;
     };
-    match now.duration_since(SystemTime::UNIX_EPOCH) {
+    match time.duration_since(SystemTime::UNIX_EPOCH) {
         Ok(since) => u64::try_from(since.as_micros()).unwrap_or(u64::MAX),
         Err(_earlier) => 0,
     }
 }
 
-/// Ends where the words could not be had: a word that is no text has no meaning.
-fn end_without_words(rt: &HostRuntime, error: &io::Error) -> ExitCode
-    ensures memory { error_kind error.now ≡ ErrorKind.OutOfMemory → exit_status result ≡ 71 }
-    ensures usage { error_kind error.now ≢ ErrorKind.OutOfMemory → (exit_status result ≡ 1) ⊎ (exit_status result ≡ 76) }
+/// All arguments that the machine gave, in their order.
+fn all_of(alloc: Global, given: Args) -> Result<Vec<String>, AllocError>
+    ensures { IfOk result (λ arguments. arguments.items ≡ into_iter_items given) }
 {
-    if error.kind() == ErrorKind::OutOfMemory {
-        return ExitCode::from(71);
-    }
-    match println!(rt; ": usage") {
-        Ok(()) => ExitCode::from(1),
-        Err(_unwritten) => ExitCode::from(76),
-    }
-}
-
-/// The arguments, of which the first is the name of the program.
-fn arguments_of(rt: &HostRuntime) -> io::Result<Vec<String>> {
-    let mut arguments = Vec::new(rt.alloc());
-    for argument in env::args(rt)? {
+    let mut arguments = Vec::new(alloc);
+    for argument in given {
         arguments.push(argument)?;
     }
     Ok(arguments)
@@ -73,7 +66,9 @@ fn run<S: Source, K: Sink, H: Host>(
     host: &mut H,
 ) -> ExitCode
     ensures status { IsStatusOf (map string_bytes (drop 1 arguments.now)) clock_micros (S.left source.old)
-        (K.written sink.old) (K.written sink.new) (H.content host.old) (H.content host.new)
+        (K.written sink.old) (K.written sink.new)
+        (record { content = H.content host.old; faults = H.faults host.old })
+        (record { content = H.content host.new; faults = H.faults host.new })
         (HasRisen (S.faults source.old) (S.faults source.new)) (HasRisen (K.faults sink.old) (K.faults sink.new))
         (HasRisen (H.faults host.old) (H.faults host.new)) (exit_status result) }
     // The source is not read for words without a meaning, those that name a folder, and those of a generated tree.
@@ -86,18 +81,47 @@ fn run<S: Source, K: Sink, H: Host>(
     ExitCode::from(status(&outcome))
 }
 
+/// Ends where the arguments could not be had: with 71 for want of memory; else one is no text, and is a word without a meaning.
+fn end_without_words<S: Source, K: Sink, H: Host>(
+    alloc: Global,
+    error: &io::Error,
+    source: &mut S,
+    sink: &mut K,
+    host: &mut H,
+) -> ExitCode
+    ensures memory { error_kind error.now ≡ ErrorKind.OutOfMemory → exit_status result ≡ 71 }
+    ensures usage { error_kind error.now ≢ ErrorKind.OutOfMemory → IsStatusOf [] 0 (S.left source.old)
+        (K.written sink.old) (K.written sink.new)
+        (record { content = H.content host.old; faults = H.faults host.old })
+        (record { content = H.content host.new; faults = H.faults host.new })
+        (HasRisen (S.faults source.old) (S.faults source.new)) (HasRisen (K.faults sink.old) (K.faults sink.new))
+        (HasRisen (H.faults host.old) (H.faults host.new)) (exit_status result) }
+    ensures host_unused { host.new ≡ host.old }
+    ensures unread { source.new ≡ source.old }
+{
+    if error.kind() == ErrorKind::OutOfMemory {
+        return ExitCode::from(71);
+    }
+    run(alloc, &[], 0, source, sink, host)
+}
+
 fn main(rt: HostRuntime) -> ExitCode {
-    let arguments = match arguments_of(&rt) {
-        Ok(arguments) => arguments,
-        Err(error) => return end_without_words(&rt, &error),
-    };
+    let alloc = rt.alloc();
     let mut source = StdSource::new(rt.stdin());
     let mut sink = StdSink::new(rt.stdout());
     let mut host = RealHost::new(rt);
+    let given = match env::args(&rt) {
+        Ok(given) => given,
+        Err(error) => return end_without_words(alloc, &error, &mut source, &mut sink, &mut host),
+    };
+    let Ok(arguments) = all_of(alloc, given) else {
+        return ExitCode::from(71);
+    };
+    let clock_micros = micros_of(SystemTime::now(&rt));
     run(
-        rt.alloc(),
+        alloc,
         &arguments,
-        clock_of(&rt),
+        clock_micros,
         &mut source,
         &mut sink,
         &mut host,

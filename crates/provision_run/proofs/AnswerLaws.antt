@@ -179,6 +179,10 @@ module _ (options : Options) (facts : Values) (moment : ℕ) (t u : Files) (h k 
     between = subst (IsOnTheWayIn (task_of options) options facts moment t) added between;
   }
 
+  -- whatever it answered
+  pub left_run : HasLeft options facts moment t u
+  left_run = left_here
+
   pub whole_run : (e : RunEnd) (found : Outcome) (messages : List (List ℕ)) → found ≡ outcome_of e → e ≡ run_end options facts moment t
       → u ≡ final options facts moment t → IsSweptIn (task_of options) options facts moment t u
       → HasMessagesBy (task_of options) options facts moment t [] messages → HasGoneBy (task_of options) options facts moment 0 t (drop (length h) k) [] messages

@@ -1,96 +1,36 @@
 -- From a run over the tree of a folder to what belongs to the folder.
-use Rattle.std.specs.Prelude.{◌≡◌, ◌≢◌, ◌≤◌, ◌<◌, ◌+◌, ◌⊎◌, min, ℕ, true, false, List, [], ◌∷◌, ◌++◌, codes, take, Option, Some, None, Result, Ok, Err, IfOk, IfSome, IsErrOf, OnOk, Bool, if◌then◌else◌}
+use Rattle.std.specs.Prelude.{◌≡◌, ◌≤◌, ◌<◌, ◌+◌, ◌⊎◌, min, ℕ, true, false, List, [], ◌∷◌, take, Option, Some, None, Result, Ok, Err, IfOk, IfSome, IsErrOf, OnErr, OnOk, Bool}
 use Rattle.std.specs.Io.KnownBytes.{Appends}
-use Rattle.std.proofs.Common.{arith, inl, inr, refl, sym, ap, subst, ◌∙◌, append_assoc}
+use Rattle.std.proofs.Common.{arith, inl, inr, refl, sym, ap, subst, ◌∙◌}
 use Rattle.std.proofs.Math.Nat.{eq-or-lt_of_le, min-le_right}
 use Rattle.pv_io.specs.Faults.{HasRisen, fault_after, last_count}
 use Rattle.pv_io.specs.Transfers.{AppendsFront}
-use Rattle.pv_path.specs.Names.{same_bytes}
-use Rattle.pv_path.specs.Paths.{Path, is_prefix, same_path}
-use Rattle.pv_path.proofs.PathLaws.{not_prefix_not_same, same_path-no, same_path-refl}
+use Rattle.pv_path.specs.Paths.{Path}
 use Rattle.pv_steps.specs.declared.tree.TreeFault.{TreeFault}
 use Rattle.pv_steps.specs.declared.tree.TreeFault.TheVariants as step
 use Rattle.pv_steps.specs.Trees.{Files}
+use Rattle.pv_steps.specs.Counting.{faults_after, refused}
 use Rattle.pv_text.specs.Facts.{Values}
 use Rattle.pv_words.specs.declared.options.Options.{Options}
 use Rattle.pv_host.specs.Content.{Content, File, Held, IsContent, held}
 use Rattle.pv_host.specs.declared.host.HostFault.{HostFault}
 use Rattle.pv_host.specs.declared.host.HostFault.TheVariants as host
 use Rattle.pv_host.specs.Counts.{count_after}
-use Rattle.pv_folder.specs.Folders.{Agrees, IsSameElse, manifest_path, new_manifest_path, tree_path}
-use Rattle.pv_folder.specs.Keeping.{IsClosed, IsSameOutside, Keeps, Moves, with_manifest}
+use Rattle.pv_folder.specs.Folders.{Agrees, manifest_path}
+use Rattle.pv_folder.specs.Keeping.{IsAtMostAhead, IsClosed, IsSameButNew, Keeps, Moves, level}
 use Rattle.pv_folder.specs.Manifest.{IsManifest, manifest_of}
 use Rattle.pv_folder.specs.Opening.{IsOpened, IsRefused, is_outer}
 use Rattle.pv_folder.specs.declared.open_fault.OpenFault.{OpenFault}
-use Rattle.pv_folder.proofs.BelowLaws.{beside}
 use Rattle.pv_folder.proofs.KeepingLaws.{opened_keeps}
 use Rattle.provision_run.specs.declared.answer.Answer.{Answer}
 use Rattle.provision_run.specs.declared.outcome.Outcome.{Outcome}
 use Rattle.provision_run.specs.declared.outcome.Outcome.TheVariants.{Done, ConfigInvalid, NotCarriedOut, Usage, BadImage, NoFreeId, Memory, ReadFault, WriteFault, Stopped, BadFolder, FolderFailed}
 use Rattle.provision_run.specs.Messages.{messages_text}
-use Rattle.provision_run.specs.OnFolder.{EndsAs, as_run, step_failed, keeping_failed, bad_folder_text, in_opening, in_step, in_keeping, HasOutputOn, HasWrittenOn, IsAnswerOn, IsKept, IsLeftIn, IsRunOn, WasOpened}
-use Rattle.provision_run.specs.OverTree.{HasFailed, HasRun}
+use Rattle.provision_run.specs.OnFolder.{EndsAs, HostState, IfTold, IsCutOn, IsFailedOn, IsRefusedOn, IsShort, IsShortOn, IsUnclosed, as_run, step_failed, step_and_keeping_failed, keeping_failed, bad_folder_text, before_steps, in_opening, in_run, in_step, in_step_and_keeping, in_keeping, HasOutputOn, HasWrittenOn, IsAnswerOn, IsKept, IsRunOn, WasOpened}
+use Rattle.provision_run.specs.OverTree.{HasFailed, HasLeft, HasRun}
 use Rattle.provision_run.specs.Words.{moment_of}
-use Rattle.provision_run.proofs.AnswerLaws.{ends, IsEnd}
-
--- ---- what closing leaves
-
-module _ (folder : Path) (bytes : List ℕ) (t : Held) where
-  elsewhere : (q : Path) → same_path (manifest_path folder) q ≡ false → same_path (new_manifest_path folder) q ≡ false → with_manifest folder bytes t q ≡ t q
-  elsewhere q a b =
-      ap (λ c. if c then Some (File bytes) else if same_path (new_manifest_path folder) q then None else t q) a
-      ∙ ap (λ c. if c then None else t q) b
-
-  at_manifest : with_manifest folder bytes t (manifest_path folder) ≡ Some (File bytes)
-  at_manifest = ap (λ c. if c then Some (File bytes) else if same_path (new_manifest_path folder) (manifest_path folder) then None else t (manifest_path folder)) (same_path-refl (manifest_path folder))
-
--- what stands beside `tree` is not in it
-beside_tree : (folder : Path) (name : List ℕ) (path : Path) → same_bytes name (codes "tree") ≡ false → same_path (folder ++ name ∷ []) (tree_path folder ++ path) ≡ false
-beside_tree folder name path differs =
-    not_prefix_not_same (folder ++ name ∷ []) (tree_path folder ++ path)
-    (subst (λ (q : Path). is_prefix (folder ++ name ∷ []) q ≡ false) (sym (append_assoc folder (codes "tree" ∷ []) path))
-    (beside folder name (codes "tree") path differs))
-
-module _ (folder : Path) (facts : Values) (left : Files) where
-  kept_some : (x y z : Content) → IsSameElse folder (held x) (held y) → Agrees folder left (held y) → held z ≡ with_manifest folder (manifest_of facts left) (held y)
-      → IsManifest facts left → IsKept folder facts left (held x) (held z)
-  kept_some x y z out agrees is image = record {
-    agrees = λ path. at (tree_path folder ++ path)
-        ∙ elsewhere folder (manifest_of facts left) (held y) (tree_path folder ++ path) (beside_tree folder (codes "manifest") path refl) (beside_tree folder (codes "manifest.new") path refl)
-        ∙ agrees path;
-    manifest = at (manifest_path folder) ∙ at_manifest folder (manifest_of facts left) (held y);
-    image = image;
-    outside = λ path below no no_new. at path
-        ∙ elsewhere folder (manifest_of facts left) (held y) path (same_path-no (manifest_path folder) path (λ e. no (sym e))) (same_path-no (new_manifest_path folder) path (λ e. no_new (sym e)))
-        ∙ out path below;
-  }
-    where
-      at : (q : Path) → held z q ≡ with_manifest folder (manifest_of facts left) (held y) q
-      at q = ap (λ (t : Held). t q) is
-
-  untold : (new : Option Content) → IsClosed folder facts left None new → new ≡ None
-  untold None closed = refl
-  untold (Some z) closed = let no : Some (held z) ≡ None = closed in cc
-
-  -- steps that changed nothing outside of `tree`, and then a new manifest
-  left_in : (old mid new : Option Content) → IsSameOutside folder old mid → IfSome mid (λ c. Agrees folder left (held c)) → IsClosed folder facts left mid new
-      → IsManifest facts left → IsLeftIn folder old new facts left
-  left_in None mid new outside agrees closed image = untold new (subst (λ (o : Option Content). IsClosed folder facts left o new) outside closed)
-  left_in (Some x) None new outside agrees closed image = absurd outside
-  left_in (Some x) (Some y) None outside agrees closed image = absurd (let no : None ≡ Some (with_manifest folder (manifest_of facts left) (held y)) = closed in cc)
-  left_in (Some x) (Some y) (Some z) outside agrees closed image =
-      let both : Some (held z) ≡ Some (with_manifest folder (manifest_of facts left) (held y)) = closed in
-      kept_some x y z outside agrees (let same : held z ≡ with_manifest folder (manifest_of facts left) (held y) = (cc) in same) image
-
--- ---- a tree that steps have moved
-
-module _ (folder other : Path) (old mid : Option Content) (faults faults' : ℕ) (pending pending' : Bool)
-    (moves : Moves folder old faults pending other mid faults' pending') where
-  moved_agrees : (settled : Bool) (left : Files) → (settled ≡ false → IfSome mid (λ c. Agrees other left (held c))) → settled ≡ false → IfSome mid (λ c. Agrees folder left (held c))
-  moved_agrees settled left agrees h = subst (λ (f : Path). IfSome mid (λ c. Agrees f left (held c))) moves.same (agrees h)
-
-  moved_closed : (closed : Result (Unit {0}) HostFault) (facts : Values) (left : Files) (new : Option Content) → OnOk closed (IsClosed other facts left mid new) → OnOk closed (IsClosed folder facts left mid new)
-  moved_closed closed facts left new done = subst (λ (f : Path). OnOk closed (IsClosed f facts left mid new)) moves.same done
+use Rattle.provision_run.proofs.AnswerLaws.{ends, IsEnd, refused_risen}
+use Rattle.provision_run.proofs.ClosedLaws.{has_closed, kept_in, kept_short, short_in, unclosed_in, unclosed_is_short}
 
 -- a folder that is opened keeps its tree
 pub keeps_opened : (folder : Path) (content : Option Content) (facts : Values) (tree : Files) → IfSome content (λ c. IsOpened folder c facts tree)
@@ -104,11 +44,6 @@ pub keeps_after : (given folder : Path) (old new : Option Content) (facts : Valu
 keeps_after given folder old new facts tree at kept opened is_content =
     subst (λ (o : Option Content). IfSome o (λ c. Keeps folder tree c)) (sym kept)
     (subst (λ (p : Path). IfSome old (λ c. Keeps p tree c)) at (keeps_opened given old facts tree opened is_content))
-
--- its refusal does not blame the host
-pub refused_unblamed : (f : OpenFault) (X : Type 0) {E : Type 0} (r : Result Answer E) → IfOk r (λ a. a.outcome ≡ BadFolder f) → IfOk r (λ a. a.outcome ≡ FolderFailed → X)
-refused_unblamed f X (Ok a) is = λ e. absurd (let no : BadFolder f ≡ FolderFailed = sym is ∙ e in cc)
-refused_unblamed f X (Err e) is = tt
 
 -- ---- a host that failed
 
@@ -128,40 +63,65 @@ risen_closing (Err host.Failed) old mid new (inr h) up is =
     inr (let at : new ≡ min (mid + 1) last_count = is in let same : mid ≡ last_count = h in omega (arith, at, same))
 risen_closing (Err host.Memory) old mid new (inr h) up is = inr (is ∙ h)
 
--- a count that rose after others, in an answer
-pub blames_from : (old mid new : ℕ) → old ≤ mid → {A E : Type 0} (outcome : A → Outcome) (r : Result A E) → IfOk r (λ a. outcome a ≡ FolderFailed → HasRisen mid new)
-    → IfOk r (λ a. outcome a ≡ FolderFailed → HasRisen old new)
-blames_from old mid new up outcome (Ok a) blames = λ e. by (blames e)
-  where
-    by : HasRisen mid new → HasRisen old new
-    by (inl h) = inl (omega (arith, up, h))
-    by (inr h) = inr h
-blames_from old mid new up outcome (Err e) blames = tt
+-- a count that rose after others
+risen_from : (old mid new : ℕ) → old ≤ mid → HasRisen mid new → HasRisen old new
+risen_from old mid new up (inl h) = inl (omega (arith, up, h))
+risen_from old mid new up (inr h) = inr h
 
--- ---- an outcome with its messages
+fault_after_le : (old mid : ℕ) → old ≤ mid → fault_after old ≤ fault_after mid
+fault_after_le old mid up = let stated : min (old + 1) last_count ≤ min (mid + 1) last_count = omega (arith, up) in stated
 
--- an answer to a folder by its other name, and to what the host held and holds by other names
-pub told_output : (options : Options) (clock : ℕ) (own folder : Path) (stated old left new : Option Content) (found : Outcome) (messages : List (List ℕ)) → own ≡ folder → stated ≡ old → left ≡ new
-    → IsAnswerOn own options clock stated left found messages → {E : Type 0} (r : Result Answer E) → IfOk r (λ a. a.outcome ≡ found)
-    → IfOk r (λ a. a.output.items ≡ messages_text messages) → IfOk r (λ a. HasOutputOn folder options clock old new a.outcome a.output.items)
-told_output options clock own folder stated old left new found messages at same last answer (Ok a) is text =
-    let here = subst (λ (p : Path). IsAnswerOn p options clock stated left found messages) at answer in
-    let first = subst (λ (c : Option Content). IsAnswerOn folder options clock c left found messages) same here in
-    let whole = subst (λ (c : Option Content). IsAnswerOn folder options clock old c found messages) last first in
-    (messages, (subst (λ (o : Outcome). IsAnswerOn folder options clock old new o messages) (sym is) whole, text))
-told_output options clock own folder stated old left new found messages at same last answer (Err e) is text = tt
+-- ---- a run that has ended
 
-pub told_blames : (stated old left new : ℕ) (found : Outcome) → stated ≡ old → left ≡ new → (found ≡ FolderFailed → HasRisen stated left) → {E : Type 0} (r : Result Answer E)
-    → IfOk r (λ a. a.outcome ≡ found) → IfOk r (λ a. a.outcome ≡ FolderFailed → HasRisen old new)
-told_blames stated old left new found same last blames (Ok a) is = λ e.
-    subst (λ (n : ℕ). HasRisen old n) last (subst (λ (n : ℕ). HasRisen n left) same (blames (sym is ∙ e)))
-told_blames stated old left new found same last blames (Err e) is = tt
+module _ (options : Options) (facts : Values) (moment : ℕ) (t : Files) where
+  -- what it has left is what steps of it have left
+  run_left : (found : Outcome) (messages : List (List ℕ)) (left : Files) → HasRun options facts moment t found messages left → HasLeft options facts moment t left
+  run_left Done messages left h = h.gone
+  run_left ConfigInvalid messages left h = h.gone
+  run_left NotCarriedOut messages left h = h.gone
+  run_left Usage messages left h = h.gone
+  run_left (BadImage f) messages left h = h.gone
+  run_left (NoFreeId name) messages left h = h.gone
+  run_left Memory messages left h = h.gone
+  run_left ReadFault messages left h = h.gone
+  run_left WriteFault messages left h = h.gone
+  run_left (Stopped n) messages left h = h.cut.gone
+  run_left (BadFolder f) messages left h = h.gone
+  run_left FolderFailed messages left h = h.gone
+
+-- ---- how it ends
+
+-- by how the run over its tree ended
+module _ (pending : Bool) (closed : Result (Unit {0}) HostFault) where
+  abbrev IsKeptAs : Outcome → Outcome → Type 0
+  IsKeptAs outcome found = ((closed ≡ Ok tt) × (found ≡ outcome)) ⊎ ((closed ≡ Err host.Failed) × (found ≡ FolderFailed))
+
+  pub ends_run : (ran : Result Outcome TreeFault) (outcome : Outcome) → ran ≡ Ok outcome → {E : Type 0} (r : Result Outcome E) → IfOk r (λ _. pending ≡ false)
+      → IfOk r (λ found. IsKeptAs outcome found) → IfOk r (EndsAs ran pending closed)
+  ends_run ran outcome is (Ok found) still (inl (closing, same)) = subst (EndsAs ran pending closed) (sym same) (as_run outcome is still closing)
+  ends_run ran outcome is (Ok found) still (inr (closing, same)) = subst (EndsAs ran pending closed) (sym same) (keeping_failed outcome is still closing)
+  ends_run ran outcome is (Err f) still kept = tt
+
+  pub ends_failed : (ran : Result Outcome TreeFault) → ran ≡ Err step.Failed → {E : Type 0} (r : Result Outcome E) → IfOk r (λ _. pending ≡ false)
+      → IfOk r (λ found. IsKeptAs FolderFailed found) → IfOk r (EndsAs ran pending closed)
+  ends_failed ran is (Ok found) still (inl (closing, same)) = subst (EndsAs ran pending closed) (sym same) (step_failed is still closing)
+  ends_failed ran is (Ok found) still (inr (closing, same)) = subst (EndsAs ran pending closed) (sym same) (step_and_keeping_failed is still closing)
+  ends_failed ran is (Err f) still kept = tt
+
+-- nothing comes of a run that is half done
+pub ends_short : {E : Type 0} (r : Result Outcome E) (P : Outcome → Type 0) → IfOk r (λ _. true ≡ false) → IfOk r P
+ends_short (Ok found) P never = absurd (let wrong : true ≡ false = never in cc)
+ends_short (Err f) P never = tt
 
 -- ---- what belongs to an outcome
 
-module _ (folder : Path) (options : Options) (clock : ℕ) (old new : Option Content) where
+-- what a host tells
+abbrev pub told : {H : Type 0} → (H → Option Content) → (H → ℕ) → H → HostState
+told content faults h = record { content = content h; faults = faults h }
+
+module _ (folder : Path) (options : Options) (clock : ℕ) (old new : HostState) where
   abbrev RunOn : Outcome → List (List ℕ) → Type 0
-  RunOn found messages = IsRunOn folder options clock old new found messages
+  RunOn found messages = IsRunOn folder options clock old.content new.content found messages
 
   -- a run ends as a run does
   run_on : (found : Outcome) (messages : List (List ℕ)) → RunOn found messages → IsAnswerOn folder options clock old new found messages
@@ -178,54 +138,144 @@ module _ (folder : Path) (options : Options) (clock : ℕ) (old new : Option Con
   run_on (BadFolder f) messages h = absurd (subst IsEnd (sym h.run.end) (ends _))
   run_on FolderFailed messages h = absurd (subst IsEnd (sym h.run.end) (ends _))
 
+  -- an answer whose messages memory was too little for
+  short_run : (found : Outcome) (messages : List (List ℕ)) → RunOn found messages → IsShortOn folder options clock old new
+  short_run found messages h =
+      in_run h.facts h.tree h.left h.opened (run_left options h.facts (moment_of options clock) h.tree found messages h.left h.run)
+      (kept_short folder h.facts h.left old.content new.content h.kept)
+
+  short_failed : (messages : List (List ℕ)) → IsFailedOn folder options clock old new messages → IsShortOn folder options clock old new
+  short_failed messages (in_opening none same) = before_steps same
+  short_failed messages (in_step cut) =
+      in_run cut.facts cut.tree cut.left cut.opened cut.run.1.1.gone (kept_short folder cut.facts cut.left old.content new.content cut.kept)
+  short_failed messages (in_step_and_keeping facts tree left opened run again kept) =
+      in_run facts tree left opened run.1.1.gone (unclosed_is_short folder facts left old.content new.content kept)
+  short_failed messages (in_keeping facts tree left found opened run kept) =
+      in_run facts tree left opened (run_left options facts (moment_of options clock) tree found messages left run) (unclosed_is_short folder facts left old.content new.content kept)
+
+  short_answer : (found : Outcome) (messages : List (List ℕ)) → IsAnswerOn folder options clock old new found messages → IsShortOn folder options clock old new
+  short_answer Done messages h = short_run Done messages h
+  short_answer ConfigInvalid messages h = short_run ConfigInvalid messages h
+  short_answer NotCarriedOut messages h = short_run NotCarriedOut messages h
+  short_answer Usage messages h = short_run Usage messages h
+  short_answer (BadImage f) messages h = short_run (BadImage f) messages h
+  short_answer (NoFreeId name) messages h = short_run (NoFreeId name) messages h
+  short_answer Memory messages h = short_run Memory messages h
+  short_answer ReadFault messages h = short_run ReadFault messages h
+  short_answer WriteFault messages h = short_run WriteFault messages h
+  short_answer (Stopped n) messages h = short_run (Stopped n) messages h
+  short_answer (BadFolder f) messages h = before_steps h.kept
+  short_answer FolderFailed messages h = short_failed messages h.1
+
   -- a run over the tree of a folder at its moment, which moved the tree in its folder, and what was kept of it then
   module _ (facts : Values) (tree left : Files) (moment : ℕ) (ran : Result Outcome TreeFault) (pending : Bool) (closed : Result (Unit {0}) HostFault) (messages : List (List ℕ))
-      (other : Path) (mid : Option Content) (before between : ℕ) (was will : Bool)
+      (other : Path) (mid : Option Content) (between : ℕ) (was will : Bool)
       (at : moment ≡ moment_of options clock)
-      (opened : WasOpened folder old facts tree)
+      (opened : WasOpened folder old.content facts tree)
       (run : IfOk ran (λ found. HasRun options facts moment tree found messages left))
       (failed : IsErrOf ran step.Failed → HasFailed options facts moment tree messages left)
-      (moves : Moves folder old before was other mid between will)
+      (gone : HasLeft options facts moment tree left)
+      (counted : between ≡ faults_after (refused ran) old.faults)
+      (settled : was ≡ false)
+      (moves : Moves (record { folder = folder; files = tree; content = old.content; faults = old.faults; pending = was })
+      (record { folder = other; files = left; content = mid; faults = between; pending = will }))
+      (is_pending : pending ≡ will)
       (agrees : pending ≡ false → IfSome mid (λ c. Agrees other left (held c)))
-      (done : OnOk closed (IsClosed other facts left mid new))
-      (image : OnOk closed (IsManifest facts left)) where
+      (done : OnOk closed (IsClosed other facts left mid new.content))
+      (image : OnOk closed (IsManifest facts left))
+      (kept : OnErr closed (IsSameButNew other mid new.content))
+      (more : between ≤ new.faults)
+      (closing : new.faults ≡ count_after closed between) where
     run_as : (found : Outcome) → ran ≡ Ok found → HasRun options facts (moment_of options clock) tree found messages left
     run_as found is = subst (λ (m : ℕ). HasRun options facts m tree found messages left) at (subst (λ r. IfOk r (λ f. HasRun options facts moment tree f messages left)) is run)
 
     failed_as : ran ≡ Err step.Failed → HasFailed options facts (moment_of options clock) tree messages left
     failed_as is = subst (λ (m : ℕ). HasFailed options facts m tree messages left) at (failed is)
 
-    kept_in : pending ≡ false → closed ≡ Ok tt → IsLeftIn folder old new facts left
-    kept_in settled kept =
-        left_in folder facts left old mid new moves.outside (moved_agrees folder other old mid before between was will moves pending left agrees settled)
-        (subst (λ r. OnOk r (IsClosed folder facts left mid new)) kept (moved_closed folder other old mid before between was will moves closed facts left new done))
-        (subst (λ r. OnOk r (IsManifest facts left)) kept image)
+    agrees_here : pending ≡ false → IfSome mid (λ c. Agrees folder left (held c))
+    agrees_here still = subst (λ (f : Path). IfSome mid (λ c. Agrees f left (held c))) moves.same (agrees still)
+
+    done_here : OnOk closed (IsClosed folder facts left mid new.content)
+    done_here = subst (λ (f : Path). OnOk closed (IsClosed f facts left mid new.content)) moves.same done
+
+    same_here : OnErr closed (IsSameButNew folder mid new.content)
+    same_here = subst (λ (f : Path). OnErr closed (IsSameButNew f mid new.content)) moves.same kept
+
+    kept_here : pending ≡ false → closed ≡ Ok tt → IfTold (IsKept folder facts left) old.content new.content
+    kept_here still is =
+        kept_in folder facts left old.content mid new.content moves.outside (agrees_here still)
+        (subst (λ r. OnOk r (IsClosed folder facts left mid new.content)) is done_here)
+        (subst (λ r. OnOk r (IsManifest facts left)) is image)
+
+    unclosed_here : pending ≡ false → closed ≡ Err host.Failed → IfTold (IsUnclosed folder left) old.content new.content
+    unclosed_here still is =
+        unclosed_in folder facts left old.content mid new.content moves.outside (agrees_here still)
+        (subst (λ r. OnErr r (IsSameButNew folder mid new.content)) is same_here)
+
+    near_told : (o : Option Content) → IfSome o (λ c. Agrees folder left (held c)) → IfSome o (λ c. IsAtMostAhead folder left (held c))
+    near_told None agrees = tt
+    near_told (Some c) agrees = level agrees
+
+    near_here : IfSome mid (λ c. IsAtMostAhead folder left (held c))
+    near_here = by pending refl
+      where
+        moved : will ≡ true → IfSome mid (λ c. IsAtMostAhead folder left (held c))
+        moved is = elim (moves.near is) [
+          | inl rest ↦ absurd (let no : true ≡ false = sym rest.pending ∙ settled in cc)
+          | inr near ↦ near
+        ]
+
+        by : (b : Bool) → pending ≡ b → IfSome mid (λ c. IsAtMostAhead folder left (held c))
+        by false is = near_told mid (agrees_here is)
+        by true is = moved (sym is_pending ∙ is)
+
+    pub short_kept : IsShortOn folder options clock old new
+    short_kept =
+        in_run facts tree left opened (subst (λ (m : ℕ). HasLeft options facts m tree left) at gone)
+        (short_in folder facts left old.content mid new.content moves.outside closed near_here done_here image same_here)
+
+    -- the host is blamed where its count of faults rose, in a step or in keeping what was left, or in both
+    risen_in_step : ran ≡ Err step.Failed → HasRisen old.faults new.faults
+    risen_in_step is = risen_closing closed old.faults between new.faults (refused_risen ran old.faults between counted is) more closing
+
+    closing_failed : closed ≡ Err host.Failed → new.faults ≡ fault_after between
+    closing_failed is = closing ∙ ap (λ (r : Result (Unit {0}) HostFault). count_after r between) is
+
+    risen_again : ran ≡ Err step.Failed → closed ≡ Err host.Failed → HasRisen (fault_after old.faults) new.faults
+    risen_again is fault =
+        let first : between ≡ fault_after old.faults = counted ∙ ap (λ (r : Result Outcome TreeFault). faults_after (refused r) old.faults) is in
+        risen_by_fault (fault_after old.faults) between new.faults (omega (arith, first)) (closing_failed fault)
 
     ended_answer : (found : Outcome) → EndsAs ran pending closed found → IsAnswerOn folder options clock old new found messages
-    ended_answer found (as_run _ is settled kept) =
-        run_on found messages (record { facts = facts; tree = tree; opened = opened; left = left; run = run_as found is; kept = kept_in settled kept })
-    ended_answer found (step_failed is) = in_step facts tree left opened (failed_as is)
-    ended_answer found (keeping_failed end is fault) = in_keeping facts tree left end opened (run_as end is)
+    ended_answer found (as_run _ is still closing_is) =
+        run_on found messages (record { facts = facts; tree = tree; opened = opened; left = left; run = run_as found is; kept = kept_here still closing_is })
+    ended_answer found (step_failed is still closing_is) =
+        (risen_in_step is, in_step (record { facts = facts; tree = tree; opened = opened; left = left; run = failed_as is; kept = kept_here still closing_is }))
+    ended_answer found (step_and_keeping_failed is still fault) =
+        (risen_in_step is, in_step_and_keeping facts tree left opened (failed_as is) (risen_again is fault) (unclosed_here still fault))
+    ended_answer found (keeping_failed end is still fault) =
+        (risen_by_fault old.faults between new.faults moves.count (closing_failed fault), in_keeping facts tree left end opened (run_as end is) (unclosed_here still fault))
 
     pub kept_answer : {E : Type 0} (r : Result Outcome E) → IfOk r (EndsAs ran pending closed) → IfOk r (λ found. IsAnswerOn folder options clock old new found messages)
     kept_answer (Ok found) ends = ended_answer found ends
     kept_answer (Err f) ends = tt
 
-    -- the host is blamed where its count of faults rose, in a step or in keeping what was left
-    module _ (after : ℕ) (cause : IsErrOf ran step.Failed → HasRisen before between) (more : between ≤ after) (is : after ≡ count_after closed between) where
-      ended_blames : (found : Outcome) → EndsAs ran pending closed found → found ≡ FolderFailed → HasRisen before after
-      ended_blames found (as_run _ ran_is settled kept) e =
-          absurd (subst IsEnd (sym (subst (λ (o : Outcome). HasRun options facts (moment_of options clock) tree o messages left) e (run_as found ran_is)).end) (ends _))
-      ended_blames found (step_failed failed_is) e = risen_closing closed before between after (cause failed_is) more is
-      ended_blames found (keeping_failed end ran_is fault) e =
-          risen_by_fault before between after moves.count (is ∙ ap (λ (r : Result (Unit {0}) HostFault). count_after r between) fault)
+    pub kept_less : {A E : Type 0} (r : Result A E) → OnErr r (IsShortOn folder options clock old new)
+    kept_less (Ok x) = tt
+    kept_less (Err f) = short_kept
 
-      pub kept_blames : {E : Type 0} (r : Result Outcome E) → IfOk r (EndsAs ran pending closed) → IfOk r (λ found. found ≡ FolderFailed → HasRisen before after)
-      kept_blames (Ok found) ends = ended_blames found ends
-      kept_blames (Err f) ends = tt
+    -- where closing did not run out of memory
+    pub closed_less : (closed ≡ Err host.Memory → ⊥) → IfSome new.content (λ c. held c (manifest_path folder) ≡ Some (File (manifest_of facts left))) ⊎ HasRisen old.faults new.faults
+    closed_less never = by closed never refl
+      where
+        by : (r : Result (Unit {0}) HostFault) → (r ≡ Err host.Memory → ⊥) → closed ≡ r
+            → IfSome new.content (λ c. held c (manifest_path folder) ≡ Some (File (manifest_of facts left))) ⊎ HasRisen old.faults new.faults
+        by (Ok x) never is = inl (has_closed folder (manifest_of facts left) mid new.content (subst (λ r. OnOk r (IsClosed folder facts left mid new.content)) is done_here))
+        by (Err host.Failed) never is = inr (risen_by_fault old.faults between new.faults moves.count (closing_failed is))
+        by (Err host.Memory) never is = absurd (never refl)
 
   -- a folder that is not opened
-  pub refused_output : (f : OpenFault) → is_outer f ≡ false → IfSome old (λ c. IsRefused folder c f) → new ≡ old
+  pub refused_output : (f : OpenFault) → is_outer f ≡ false → IfSome old.content (λ c. IsRefused folder c f) → new.content ≡ old.content
       → {E : Type 0} (r : Result Answer E) → IfOk r (λ a. a.outcome ≡ BadFolder f) → IfOk r (λ a. a.output.items ≡ messages_text (bad_folder_text f ∷ []))
       → IfOk r (λ a. HasOutputOn folder options clock old new a.outcome a.output.items)
   refused_output f outer refused kept (Ok a) is text = (
@@ -238,8 +288,16 @@ module _ (folder : Path) (options : Options) (clock : ℕ) (old new : Option Con
   )
   refused_output f outer refused kept (Err e) is text = tt
 
-  pub failed_opening : (out : List ℕ) → out ≡ [] → new ≡ old → HasOutputOn folder options clock old new FolderFailed out
-  failed_opening out none kept = ([], (in_opening refl kept, none))
+  pub failed_opening : (out : List ℕ) → out ≡ [] → new.content ≡ old.content → HasRisen old.faults new.faults → HasOutputOn folder options clock old new FolderFailed out
+  failed_opening out none kept risen = ([], ((risen, in_opening refl kept), none))
+
+  pub short_opening : new.content ≡ old.content → {A E : Type 0} (r : Result A E) → OnErr r (IsShortOn folder options clock old new)
+  short_opening kept (Ok x) = tt
+  short_opening kept (Err f) = before_steps kept
+
+  -- the host is blamed where its count of faults rose
+  pub output_blames : (found : Outcome) (out : List ℕ) → HasOutputOn folder options clock old new found out → found ≡ FolderFailed → HasRisen old.faults new.faults
+  output_blames found out h e = (subst (λ (o : Outcome). IsAnswerOn folder options clock old new o h.0) e h.1.0).0
 
   -- what was written wholly
   pub folder_written : (found : Outcome) (out : List ℕ) (before after : Option (List ℕ)) → HasOutputOn folder options clock old new found out → Appends before after out
@@ -265,9 +323,9 @@ module _ (folder : Path) (options : Options) (clock : ℕ) (old new : Option Con
   folder_front found out bytes before after same h front = (found, out, h, (front.0, subst (λ (b : List ℕ). Appends before after (take front.0 b)) same front.2))
 
   -- nothing
-  pub folder_nothing : (before after : Option (List ℕ)) → Appends before after [] → HasWrittenOn folder options clock old new Memory before after
+  pub folder_nothing : (before after : Option (List ℕ)) → IsShortOn folder options clock old new → Appends before after [] → HasWrittenOn folder options clock old new Memory before after
   unfolding HasWrittenOn
-  folder_nothing before after none = none
+  folder_nothing before after short none = (short, none)
 
   -- it blames neither the words nor the source
   pub folder_not_usage : (found : Outcome) (before after : Option (List ℕ)) → HasWrittenOn folder options clock old new found before after → found ≡ Usage → ⊥
@@ -279,3 +337,77 @@ module _ (folder : Path) (options : Options) (clock : ℕ) (old new : Option Con
   pub folder_not_read : (found : Outcome) (before after : Option (List ℕ)) → HasWrittenOn folder options clock old new found before after → found ≡ ReadFault → ⊥
   unfolding HasWrittenOn
   folder_not_read found before after h e = subst (λ (o : Outcome). HasWrittenOn folder options clock old new o before after) e h
+
+-- ---- a folder and a host by other names
+
+-- the host's content is the same from an earlier count of faults
+module _ (folder : Path) (options : Options) (clock : ℕ) (old mid new : HostState) (same : mid.content ≡ old.content) (up : old.faults ≤ mid.faults) where
+  opened_from : (facts : Values) (tree : Files) → WasOpened folder mid.content facts tree → WasOpened folder old.content facts tree
+  opened_from facts tree opened = subst (λ (o : Option Content). WasOpened folder o facts tree) same opened
+
+  told_from : (P : Held → Held → Type 0) → IfTold P mid.content new.content → IfTold P old.content new.content
+  told_from P holds = subst (λ (o : Option Content). IfTold P o new.content) same holds
+
+  failed_from : (messages : List (List ℕ)) → IsFailedOn folder options clock mid new messages → IsFailedOn folder options clock old new messages
+  failed_from messages (in_opening none kept) = in_opening none (kept ∙ same)
+  failed_from messages (in_step cut) = in_step (subst (λ (o : Option Content). IsCutOn folder options clock o new.content messages) same cut)
+  failed_from messages (in_step_and_keeping facts tree left opened run again kept) =
+      in_step_and_keeping facts tree left (opened_from facts tree opened) run
+      (risen_from (fault_after old.faults) (fault_after mid.faults) new.faults (fault_after_le old.faults mid.faults up) again) (told_from (IsUnclosed folder left) kept)
+  failed_from messages (in_keeping facts tree left found opened run kept) =
+      in_keeping facts tree left found (opened_from facts tree opened) run (told_from (IsUnclosed folder left) kept)
+
+  run_from : (found : Outcome) (messages : List (List ℕ)) → IsRunOn folder options clock mid.content new.content found messages → IsRunOn folder options clock old.content new.content found messages
+  run_from found messages h = subst (λ (o : Option Content). IsRunOn folder options clock o new.content found messages) same h
+
+  answer_from : (found : Outcome) (messages : List (List ℕ)) → IsAnswerOn folder options clock mid new found messages → IsAnswerOn folder options clock old new found messages
+  answer_from Done messages h = run_from Done messages h
+  answer_from ConfigInvalid messages h = run_from ConfigInvalid messages h
+  answer_from NotCarriedOut messages h = run_from NotCarriedOut messages h
+  answer_from Usage messages h = run_from Usage messages h
+  answer_from (BadImage f) messages h = run_from (BadImage f) messages h
+  answer_from (NoFreeId name) messages h = run_from (NoFreeId name) messages h
+  answer_from Memory messages h = run_from Memory messages h
+  answer_from ReadFault messages h = run_from ReadFault messages h
+  answer_from WriteFault messages h = run_from WriteFault messages h
+  answer_from (Stopped n) messages h = run_from (Stopped n) messages h
+  answer_from (BadFolder f) messages h = subst (λ (o : Option Content). IsRefusedOn folder o new.content f messages) same h
+  answer_from FolderFailed messages h = (risen_from old.faults mid.faults new.faults up h.0, failed_from messages h.1)
+
+  pub output_from : {E : Type 0} (r : Result Answer E) → IfOk r (λ a. HasOutputOn folder options clock mid new a.outcome a.output.items)
+      → IfOk r (λ a. HasOutputOn folder options clock old new a.outcome a.output.items)
+  output_from (Ok a) h = (h.0, (answer_from a.outcome h.0 h.1.0, h.1.1))
+  output_from (Err f) h = tt
+
+  short_before : IsShortOn folder options clock mid new → IsShortOn folder options clock old new
+  short_before (before_steps kept) = before_steps (kept ∙ same)
+  short_before (in_run facts tree left opened gone kept) = in_run facts tree left (opened_from facts tree opened) gone (told_from (IsShort folder facts left) kept)
+
+  pub short_from : {A E : Type 0} (r : Result A E) → OnErr r (IsShortOn folder options clock mid new) → OnErr r (IsShortOn folder options clock old new)
+  short_from (Ok x) h = tt
+  short_from (Err f) h = short_before h
+
+-- an answer to a folder by its other name, and to what the host held and holds by other names
+module _ (options : Options) (clock : ℕ) (own folder : Path) (stated old left new : HostState) (at : own ≡ folder) (same : stated ≡ old) (last : left ≡ new) where
+  here_answer : (found : Outcome) (messages : List (List ℕ)) → IsAnswerOn own options clock stated left found messages → IsAnswerOn folder options clock old new found messages
+  here_answer found messages answer =
+      subst (λ (s : HostState). IsAnswerOn folder options clock old s found messages) last
+      (subst (λ (s : HostState). IsAnswerOn folder options clock s left found messages) same
+      (subst (λ (p : Path). IsAnswerOn p options clock stated left found messages) at answer))
+
+  pub here_short : IsShortOn own options clock stated left → IsShortOn folder options clock old new
+  here_short short =
+      subst (λ (s : HostState). IsShortOn folder options clock old s) last
+      (subst (λ (s : HostState). IsShortOn folder options clock s left) same
+      (subst (λ (p : Path). IsShortOn p options clock stated left) at short))
+
+  module _ (found : Outcome) (messages : List (List ℕ)) (answer : IsAnswerOn own options clock stated left found messages) where
+    pub told_output : {E : Type 0} (r : Result Answer E) → IfOk r (λ a. a.outcome ≡ found)
+        → IfOk r (λ a. a.output.items ≡ messages_text messages) → IfOk r (λ a. HasOutputOn folder options clock old new a.outcome a.output.items)
+    told_output (Ok a) is text =
+        (messages, (subst (λ (o : Outcome). IsAnswerOn folder options clock old new o messages) (sym is) (here_answer found messages answer), text))
+    told_output (Err e) is text = tt
+
+    pub told_short : {E : Type 0} (r : Result Answer E) → OnErr r (IsShortOn folder options clock old new)
+    told_short (Ok a) = tt
+    told_short (Err e) = short_answer folder options clock old new found messages (here_answer found messages answer)

@@ -1,17 +1,17 @@
--- Runs on a folder that were stopped, one or more, each on what the last one left there, are mended by a whole run.
-use Rattle.std.specs.Prelude.{◌≡◌, ◌≢◌, ℕ, false, List, [], ◌∷◌, Some, None}
+-- Runs on a folder that were broken off, one or more, each on what the last one left there, are mended by a whole run.
+use Rattle.std.specs.Prelude.{◌≡◌, ℕ, List, [], ◌∷◌, Some, None}
 use Rattle.std.proofs.Common.{refl, sym, ap, subst, ◌∙◌}
 use Rattle.pv_folder.proofs.OpeningLaws.{reopened}
-use Rattle.pv_folder.specs.Folders.{manifest_path, new_manifest_path, real_in, tree_path}
+use Rattle.pv_folder.specs.Folders.{real_in}
 use Rattle.pv_folder.specs.Manifest.{manifest_of}
 use Rattle.pv_folder.specs.Merge.{merged}
 use Rattle.pv_folder.specs.Opening.{IsOpened, Says, absent, present}
-use Rattle.pv_host.specs.Content.{Content, Held, held}
+use Rattle.pv_host.specs.Content.{Content, Held, held, spelled}
 use Rattle.pv_host.specs.Content as host
 use Rattle.pv_image.proofs.ImageLaws.{one_image}
 use Rattle.pv_image.specs.Emptied.{with_empty_files}
 use Rattle.pv_image.specs.Images.{IsImage}
-use Rattle.pv_path.specs.Paths.{Path, is_prefix}
+use Rattle.pv_path.specs.Paths.{Path}
 use Rattle.pv_phases.specs.Phases.{phases_of}
 use Rattle.pv_steps.specs.Same.{Same}
 use Rattle.pv_steps.specs.Trees.{Files}
@@ -19,16 +19,16 @@ use Rattle.pv_text.specs.Facts.{Values}
 use Rattle.pv_words.specs.declared.options.Options.{Options}
 use Rattle.provision_run.specs.declared.task.Task.{Task}
 use Rattle.provision_run.specs.declared.task.Task.TheVariants.{Accounts, Phases}
-use Rattle.provision_run.specs.FolderStops.{AreFolders, HasEndedOn, HasStoppedOn, HaveStoppedOn, IsCalmOn}
-use Rattle.provision_run.specs.OnFolder.{IsKept}
-use Rattle.provision_run.specs.OverTree.{HasRun, IsStopped, outcome_of}
+use Rattle.provision_run.specs.FolderStops.{AreFolders, HasEndedOn, HasStoppedOn, HaveStoppedOn, IsCalmOn, WasBrokenOff, failed, short, stopped}
+use Rattle.provision_run.specs.OnFolder.{IsKept, IsSameBeside}
+use Rattle.provision_run.specs.OverTree.{HasLeft, HasRun, outcome_of}
 use Rattle.provision_run.specs.Phased.{run_lines}
 use Rattle.provision_run.specs.Rereading.{ArePlain, ArePlainRequests, MayRepeat}
 use Rattle.provision_run.specs.Stops.{EndAlikeAfter, HasStopped, HaveStopped, unlimited}
 use Rattle.provision_run.specs.Tasks.{task_of}
 use Rattle.provision_run.specs.Whole.{final, final_by}
 use Rattle.provision_run.specs.Words.{moment_of}
-use Rattle.provision_run.proofs.StopsLaws.{accounts_alike, left_by, phases_mended, stopped_by}
+use Rattle.provision_run.proofs.StopsLaws.{accounts_alike, broken_by, left_by, phases_mended}
 
 -- ---- a folder is opened in one way
 
@@ -59,10 +59,6 @@ module _ (folder : Path) (c : Content) (facts : Values) (t : Files) where
   kept_opens old kept =
       same_opened (with_empty_files t) (present (manifest_of facts t) kept.manifest kept.image) (sym (reopened folder c t kept.image.fit.tree kept.agrees))
 
--- outside of `tree` and of the manifests one content is as another
-abbrev IsSameBeside : Path → Held → Held → Type 0
-IsSameBeside folder old new = (path : Path) → is_prefix (tree_path folder) path ≡ false → path ≢ manifest_path folder → path ≢ new_manifest_path folder → new path ≡ old path
-
 kept_from : (folder : Path) (facts : Values) (t : Files) (old mid new : Held) → IsSameBeside folder old mid → IsKept folder facts t mid new → IsKept folder facts t old new
 kept_from folder facts t old mid new same kept = record {
   agrees = kept.agrees;
@@ -73,7 +69,24 @@ kept_from folder facts t old mid new same kept = record {
 
 -- ---- runs on a folder
 
--- what stopped runs have left: a tree with which the folder is opened, and all else as it was
+-- what a run that was broken off has left, by steps of it, and that it is kept
+record HasGoneOn (folder : Path) (options : Options) (moment : ℕ) (old new : Content) : Type 0 where
+  facts : Values
+  tree : Files
+  left : Files
+  opened : IsOpened folder old facts tree
+  gone : HasLeft options facts moment tree left
+  kept : IsKept folder facts left (held old) (held new)
+
+gone_on : (folder : Path) (options : Options) (clock : ℕ) (old new : Content) → WasBrokenOff folder options clock old new → HasGoneOn folder options (moment_of options clock) old new
+gone_on folder options clock old new (stopped count messages run) =
+    record { facts = run.facts; tree = run.tree; left = run.left; opened = run.opened; gone = run.run.cut.gone; kept = run.kept }
+gone_on folder options clock old new (failed messages cut) =
+    record { facts = cut.facts; tree = cut.tree; left = cut.left; opened = cut.opened; gone = cut.run.1.1.gone; kept = cut.kept }
+gone_on folder options clock old new (short facts tree left opened gone kept) =
+    record { facts = facts; tree = tree; left = left; opened = opened; gone = gone; kept = kept }
+
+-- what runs that were broken off have left: a tree with which the folder is opened, and all else as it was
 record HasCome (options : Options) (folder : Path) (facts : Values) (moments : List ℕ) (t : Files) (old last : Content) : Type 0 where
   left : Files
   runs : HaveStopped (unlimited options) facts moments t left
@@ -82,35 +95,38 @@ record HasCome (options : Options) (folder : Path) (facts : Values) (moments : L
 
 module _ (options : Options) (folder : Path) where
   module _ (facts : Values) (t : Files) (old new : Content) (opens : OpensWith folder old facts t) (moment : ℕ) where
-    -- one that was stopped
+    -- one that was broken off
     module _ (stop : HasStoppedOn options folder moment old new) where
-      opened_there : IsOpened folder old stop.run.facts stop.run.tree
-      opened_there = subst (λ (f : Path). IsOpened f old stop.run.facts stop.run.tree) stop.like.named stop.run.opened
+      abbrev there : HasGoneOn (spelled stop.like.own.folder) stop.like.own.options (moment_of stop.like.own.options stop.clock) old new
+      there = gone_on (spelled stop.like.own.folder) stop.like.own.options stop.clock old new stop.broken
 
-      abbrev same_there : (stop.run.facts ≡ facts) × (stop.run.tree ≡ t)
-      same_there = opens stop.run.facts stop.run.tree opened_there
+      opened_there : IsOpened folder old there.facts there.tree
+      opened_there = subst (λ (f : Path). IsOpened f old there.facts there.tree) stop.like.named there.opened
+
+      abbrev same_there : (there.facts ≡ facts) × (there.tree ≡ t)
+      same_there = opens there.facts there.tree opened_there
 
       opened_here : IsOpened folder old facts t
       opened_here =
           subst (λ (s : Files). IsOpened folder old facts s) same_there.1
-          (subst (λ (f : Values). IsOpened folder old f stop.run.tree) same_there.0 opened_there)
+          (subst (λ (f : Values). IsOpened folder old f there.tree) same_there.0 opened_there)
 
-      stopped_here : IsStopped stop.like.own.options facts moment t stop.count stop.messages stop.run.left
-      stopped_here =
-          subst (λ (m : ℕ). IsStopped stop.like.own.options facts m t stop.count stop.messages stop.run.left) (sym stop.like.when)
-          (subst (λ (s : Files). IsStopped stop.like.own.options facts (moment_of stop.like.own.options stop.clock) s stop.count stop.messages stop.run.left) same_there.1
-          (subst (λ (f : Values). IsStopped stop.like.own.options f (moment_of stop.like.own.options stop.clock) stop.run.tree stop.count stop.messages stop.run.left) same_there.0 stop.run.run))
+      left_here : HasLeft stop.like.own.options facts moment t there.left
+      left_here =
+          subst (λ (m : ℕ). HasLeft stop.like.own.options facts m t there.left) (sym stop.like.when)
+          (subst (λ (s : Files). HasLeft stop.like.own.options facts (moment_of stop.like.own.options stop.clock) s there.left) same_there.1
+          (subst (λ (f : Values). HasLeft stop.like.own.options f (moment_of stop.like.own.options stop.clock) there.tree there.left) same_there.0 there.gone))
 
-      has_stopped : HasStopped (unlimited options) facts moment t stop.run.left
-      has_stopped = stopped_by options stop.like.own.options stop.like.alike facts moment t stop.count stop.messages stop.run.left stopped_here
+      has_stopped : HasStopped (unlimited options) facts moment t there.left
+      has_stopped = broken_by options stop.like.own.options stop.like.alike facts moment t there.left left_here
 
-      kept_here : IsKept folder facts stop.run.left (held old) (held new)
+      kept_here : IsKept folder facts there.left (held old) (held new)
       kept_here =
-          subst (λ (f : Values). IsKept folder f stop.run.left (held old) (held new)) same_there.0
-          (subst (λ (p : Path). IsKept p stop.run.facts stop.run.left (held old) (held new)) stop.like.named stop.run.kept)
+          subst (λ (f : Values). IsKept folder f there.left (held old) (held new)) same_there.0
+          (subst (λ (p : Path). IsKept p there.facts there.left (held old) (held new)) stop.like.named there.kept)
 
-      then_opens : OpensWith folder new facts stop.run.left
-      then_opens = kept_opens folder new facts stop.run.left (held old) kept_here
+      then_opens : OpensWith folder new facts there.left
+      then_opens = kept_opens folder new facts there.left (held old) kept_here
 
     -- one that was not stopped
     module _ (whole : HasEndedOn options folder moment old new) where
@@ -148,10 +164,11 @@ module _ (options : Options) (folder : Path) where
   }
   have_come (moment ∷ moments) facts t old last opens (calm, (next, (stop, more))) =
       let kept = kept_here facts t old next opens moment stop in
-      let rest = have_come moments facts stop.run.left next last (then_opens facts t old next opens moment stop) more in
+      let left = (there facts t old next opens moment stop).left in
+      let rest = have_come moments facts left next last (then_opens facts t old next opens moment stop) more in
       record {
         left = rest.left;
-        runs = (calm facts t (opened_here facts t old next opens moment stop), (stop.run.left, (has_stopped facts t old next opens moment stop, rest.runs)));
+        runs = (calm facts t (opened_here facts t old next opens moment stop), (left, (has_stopped facts t old next opens moment stop, rest.runs)));
         opens = rest.opens;
         outside = λ path out no no_new. rest.outside path out no no_new ∙ kept.outside path out no no_new;
       }

@@ -12,6 +12,7 @@ pub mod FolderMending
 pub mod TaskLaws
 pub mod WrittenLaws
 pub mod TopLaws
+pub mod ClosedLaws
 pub mod FolderLaws
 pub mod RootedLaws
 pub mod GeneratedLaws

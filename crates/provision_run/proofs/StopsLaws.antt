@@ -28,7 +28,7 @@ use Rattle.provision_run.specs.declared.task.Task.{Task}
 use Rattle.provision_run.specs.declared.task.Task.TheVariants.{Phases, Report, Explain, Accounts}
 use Rattle.provision_run.specs.Accounts.{run_requests}
 use Rattle.provision_run.specs.Answers.{HasOutputBy, IsAnswer, IsAnswered, IsRun}
-use Rattle.provision_run.specs.OverTree.{HasRun, IsStopped, IsWhole, outcome_of}
+use Rattle.provision_run.specs.OverTree.{HasLeft, HasRun, IsStopped, IsWhole, outcome_of}
 use Rattle.provision_run.specs.Phased.{phased, run_lines}
 use Rattle.provision_run.specs.Rereading.{AreAccountsMendedAnew, AreRequestsReread, ArePlain, ArePlainRequests, IsMendedAnew, IsQuietBy, IsReread, MayMend, MayRepeat}
 use Rattle.provision_run.specs.Stops.{AreImages, EndAlikeAfter, HasEndedOver, HasStopped, HasStoppedOver, HaveStopped, HaveStoppedOver, IsCalm, IsCalmOver, unlimited}
@@ -167,16 +167,21 @@ final_unlimited Report options facts moment t = refl
 final_unlimited Explain options facts moment t = refl
 final_unlimited Accounts options facts moment t = refl
 
--- a run that was stopped, by options that are these but for the limit and the moment
+-- a run that was broken off, by options that are these but for the limit and the moment
+pub broken_by : (options own : Options) → unlimited own ≡ unlimited options → (facts : Values) (moment : ℕ) (t left : Files)
+    → HasLeft own facts moment t left → HasStopped (unlimited options) facts moment t left
+broken_by options own alike facts moment t left gone = record {
+  steps = gone.steps;
+  anew = subst (λ (o : Options). IsMendedAnewIn (task_of o) o facts moment t gone.steps) alike
+      (anew_unlimited (task_of own) own facts moment t gone.steps gone.anew);
+  count = length gone.steps;
+  left = gone.reached ∙ ap (λ (steps : List Step). after_all t steps moment) (sym (take-length gone.steps));
+}
+
+-- one that was stopped
 pub stopped_by : (options own : Options) → unlimited own ≡ unlimited options → (facts : Values) (moment : ℕ) (t : Files) (n : ℕ) (messages : List (List ℕ)) (left : Files)
     → IsStopped own facts moment t n messages left → HasStopped (unlimited options) facts moment t left
-stopped_by options own alike facts moment t n messages left stopped = record {
-  steps = stopped.cut.gone.steps;
-  anew = subst (λ (o : Options). IsMendedAnewIn (task_of o) o facts moment t stopped.cut.gone.steps) alike
-      (anew_unlimited (task_of own) own facts moment t stopped.cut.gone.steps stopped.cut.gone.anew);
-  count = length stopped.cut.gone.steps;
-  left = stopped.cut.gone.reached ∙ ap (λ (steps : List Step). after_all t steps moment) (sym (take-length stopped.cut.gone.steps));
-}
+stopped_by options own alike facts moment t n messages left stopped = broken_by options own alike facts moment t left stopped.cut.gone
 
 -- a run that was not stopped
 whole_of : (options : Options) (facts : Values) (moment : ℕ) (t : Files) (e : RunEnd) (messages : List (List ℕ)) (left : Files)

@@ -1,11 +1,11 @@
 -- What belongs to words that name a folder, and to those that name none.
 use Rattle.std.specs.Prelude.{◌≡◌, ℕ, List, [], Option, Some, None, IfSome}
-use Rattle.std.proofs.Common.{sym, ◌∙◌}
+use Rattle.std.proofs.Common.{refl, sym, ◌∙◌}
 use Rattle.std.specs.Io.KnownBytes.{Appends}
-use Rattle.pv_host.specs.Content.{Content, spelled}
+use Rattle.pv_host.specs.Content.{spelled}
 use Rattle.pv_words.specs.declared.rooted.Rooted.{Rooted}
 use Rattle.provision_run.specs.declared.outcome.Outcome.TheVariants.{Memory}
-use Rattle.provision_run.specs.OnFolder.{HasWrittenOn}
+use Rattle.provision_run.specs.OnFolder.{HasWrittenOn, HostState, before_steps}
 use Rattle.provision_run.proofs.FolderLaws.{folder_nothing}
 
 -- words that name a folder do not name none
@@ -13,7 +13,7 @@ pub rooted_not_none : (o : Option Rooted) (rooted : Rooted) → o ≡ Some roote
 rooted_not_none o rooted is none = let no : Some rooted ≡ None = sym is ∙ none in cc
 
 -- a run that has run out of memory
-pub of_any : (o : Option Rooted) (clock : ℕ) (old new : Option Content) (before after : Option (List ℕ)) → Appends before after []
-    → IfSome o (λ rooted. HasWrittenOn (spelled rooted.folder) rooted.options clock old new Memory before after)
-of_any (Some rooted) clock old new before after none = folder_nothing (spelled rooted.folder) rooted.options clock old new before after none
-of_any None clock old new before after none = tt
+pub of_any : (o : Option Rooted) (clock : ℕ) (host : HostState) (before after : Option (List ℕ)) → Appends before after []
+    → IfSome o (λ rooted. HasWrittenOn (spelled rooted.folder) rooted.options clock host host Memory before after)
+of_any (Some rooted) clock host before after none = folder_nothing (spelled rooted.folder) rooted.options clock host host before after (before_steps refl) none
+of_any None clock host before after none = tt

@@ -1,4 +1,4 @@
--- Runs on a folder that were stopped, one or more, each on what the last one left there, and then a whole run: the folder then
+-- Runs on a folder that were broken off, one or more, each on what the last one left there, and then a whole run: the folder then
 -- holds what one whole run leaves (systemd-tmpfiles(8), systemd-sysusers(8), `--root`).
 use Rattle.std.specs.Prelude.{◌≡◌, ℕ, List, ◌∷◌, [], Some}
 use Rattle.pv_folder.specs.Opening.{IsOpened}
@@ -11,8 +11,8 @@ use Rattle.pv_words.specs.declared.rooted.Rooted.{Rooted}
 use Rattle.pv_words.specs.Rooted.{rooted_of}
 use Rattle.provision_run.specs.declared.ending.RunEnd.{RunEnd}
 use Rattle.provision_run.specs.declared.outcome.Outcome.TheVariants.{Stopped}
-use Rattle.provision_run.specs.OnFolder.{IsKept, IsRunOn}
-use Rattle.provision_run.specs.OverTree.{outcome_of}
+use Rattle.provision_run.specs.OnFolder.{IsCutOn, IsKept, IsRunOn}
+use Rattle.provision_run.specs.OverTree.{HasLeft, outcome_of}
 use Rattle.provision_run.specs.Stops.{IsCalm, unlimited}
 use Rattle.provision_run.specs.Words.{moment_of}
 
@@ -24,20 +24,27 @@ pub record AreLikeOn (options : Options) (folder : Path) (words : List (List ℕ
   pub alike : unlimited own.options ≡ unlimited options
   pub when : moment ≡ moment_of own.options clock
 
--- a run on a folder of a host that tells what it holds, by such words, was stopped
+-- a run on a folder of a host that tells what it holds was broken off, and what it has left is kept there: it was stopped at its
+-- limit, a step of it failed on the host, or memory ran out
+pub data WasBrokenOff (folder : Path) (options : Options) (clock : ℕ) (old new : Content) : Type 0 where
+  stopped : (count : ℕ) (messages : List (List ℕ)) → IsRunOn folder options clock (Some old) (Some new) (Stopped count) messages
+      → WasBrokenOff folder options clock old new
+  failed : (messages : List (List ℕ)) → IsCutOn folder options clock (Some old) (Some new) messages → WasBrokenOff folder options clock old new
+  short : (facts : Values) (tree left : Files) → IsOpened folder old facts tree → HasLeft options facts (moment_of options clock) tree left
+      → IsKept folder facts left (held old) (held new) → WasBrokenOff folder options clock old new
+
+-- such a run by such words
 pub record HasStoppedOn (options : Options) (folder : Path) (moment : ℕ) (old new : Content) : Type 0 where
   pub words : List (List ℕ)
   pub clock : ℕ
   pub like : AreLikeOn options folder words clock moment
-  pub count : ℕ
-  pub messages : List (List ℕ)
-  pub run : IsRunOn (spelled like.own.folder) like.own.options clock (Some old) (Some new) (Stopped count) messages
+  pub broken : WasBrokenOff (spelled like.own.folder) like.own.options clock old new
 
 -- the tree that a folder is opened with is calm
 abbrev pub IsCalmOn : Options → Path → Content → Type 0
 IsCalmOn options folder content = (facts : Values) (t : Files) → IsOpened folder content facts t → IsCalm options facts t
 
--- runs at some moments were stopped, each on what the last one left in the folder
+-- runs at some moments were broken off so, each on what the last one left in the folder
 abbrev pub HaveStoppedOn : Options → Path → List ℕ → Content → Content → Type 0
 HaveStoppedOn options folder [] old last = last ≡ old
 HaveStoppedOn options folder (moment ∷ moments) old last =

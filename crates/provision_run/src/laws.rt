@@ -53,9 +53,10 @@ pub fn outputs_of_stopped_runs_are_mended()
         → AreImages (EndAlikeAfter first (later ∷ moment ∷ moments)) out again }
 {}
 
-/// So it is with a folder of a host that tells what it holds: after one run or more on it that were stopped, each on what the last
+/// So it is with a folder of a host that tells what it holds: after one run or more on it that were broken off, each on what the last
 /// one left there, by words that mean the same but for the limit and the moment, a whole run leaves there the facts that a whole
-/// run leaves that was not stopped, and the same tree, timestamps and staging names aside, or a tree with such texts.
+/// run leaves that was not stopped, and the same tree, timestamps and staging names aside, or a tree with such texts. A run is
+/// broken off where it is stopped at its limit, a step of it fails on the host, or memory runs out, and the folder was closed.
 pub fn folders_of_stopped_runs_are_mended()
     ensures phases { (options : OptionsValue) (folder : Path) (moments : List ℕ) (moment first later : ℕ)
         (old last one again : Content) (facts : Values) (t : Files) → IsOpened folder old facts t

@@ -1,11 +1,14 @@
 //! A run on a folder of a host.
-ghost use Rattle.std.specs.Prelude.{◌≡◌, ◌∷◌, [], Ok, IfOk, IfSome};
+ghost use Rattle.std.specs.Prelude.{◌≡◌, ◌∷◌, ◌⊎◌, [], false, Ok, Err, Some, IfOk, IfSome, IsErrOf, OnErr};
 ghost use Rattle.pv_io.specs.Faults.{HasRisen};
-ghost use Rattle.pv_host.specs.Content.{spelled};
+ghost use Rattle.pv_host.specs.Content.{File, held, spelled};
+ghost use Rattle.pv_host.specs.declared.host.HostFault.TheVariants.{Failed, Memory};
+ghost use Rattle.pv_folder.specs.Folders.{manifest_path};
 ghost use Rattle.pv_folder.specs.Keeping.{Keeps};
+ghost use Rattle.pv_folder.specs.Manifest.{manifest_of};
 ghost use Rattle.pv_folder.specs.Opening.{IsOpened};
 ghost use Rattle.provision_run.specs.Messages.{messages_text};
-ghost use Rattle.provision_run.specs.OnFolder.{EndsAs, HasOutputOn, IsAnswerOn, WasOpened, bad_folder_text};
+ghost use Rattle.provision_run.specs.OnFolder.{EndsAs, HasOutputOn, IsAnswerOn, IsShortOn, WasOpened, bad_folder_text};
 
 use crate::answer::{Answer, one_message};
 use crate::message::{bad_folder, print_messages};
@@ -27,8 +30,11 @@ pub(crate) fn answer_folder<H: Host>(
     host: &mut H,
 ) -> Result<Answer, AllocError>
     ensures output { IfOk result (λ answer. HasOutputOn (spelled rooted.entry.now.folder) rooted.entry.now.options clock
-        (H.content host.old) (H.content host.new) answer.outcome answer.output.items) }
-    ensures cause { IfOk result (λ answer. answer.outcome ≡ Outcome.FolderFailed → HasRisen (H.faults host.old) (H.faults host.new)) }
+        (record { content = H.content host.old; faults = H.faults host.old })
+        (record { content = H.content host.new; faults = H.faults host.new }) answer.outcome answer.output.items) }
+    ensures short { OnErr result (IsShortOn (spelled rooted.entry.now.folder) rooted.entry.now.options clock
+        (record { content = H.content host.old; faults = H.faults host.old })
+        (record { content = H.content host.new; faults = H.faults host.new })) }
 {
     match read_folder(alloc, host, rooted.folder.as_slice()) {
         Ok(image) => run_opened(alloc, rooted, image, clock, host),
@@ -62,8 +68,11 @@ fn run_opened<H: Host>(
     requires opened { IfSome (H.content host.old) (λ c. IsOpened (spelled rooted.now.folder) c image.facts image.tree.files) }
     requires ready { IfSome (H.content host.old) (λ c. Keeps (spelled rooted.now.folder) image.tree.files c) }
     ensures output { IfOk result (λ answer. HasOutputOn (spelled rooted.entry.now.folder) rooted.entry.now.options clock
-        (H.content host.old) (H.content host.new) answer.outcome answer.output.items) }
-    ensures cause { IfOk result (λ answer. answer.outcome ≡ Outcome.FolderFailed → HasRisen (H.faults host.old) (H.faults host.new)) }
+        (record { content = H.content host.old; faults = H.faults host.old })
+        (record { content = H.content host.new; faults = H.faults host.new }) answer.outcome answer.output.items) }
+    ensures short { OnErr result (IsShortOn (spelled rooted.entry.now.folder) rooted.entry.now.options clock
+        (record { content = H.content host.old; faults = H.faults host.old })
+        (record { content = H.content host.new; faults = H.faults host.new })) }
 {
     let Image { tree, facts } = image;
     let folder = Vec::from_slice(alloc, rooted.folder.as_slice())?;
@@ -101,14 +110,22 @@ fn run_kept<H: Host>(
     clock: u64,
     tree: &mut FolderTree<'_, H>,
     messages: &mut Messages,
-) -> Result<Outcome, AllocError>
+) -> Result<Outcome, OutOfMemory>
     requires fresh { tree.old.tree.steps ≡ [] }
     requires messages_kept { messages.old ≡ [] }
     requires opened { WasOpened (spelled tree.old.folder.items) (H.content tree.old.host.now) facts.now tree.old.tree.files }
+    requires settled { tree.old.pending ≡ false }
     ensures answer { IfOk result (λ found. IsAnswerOn (spelled tree.old.folder.items) options.entry.now clock
-        (H.content tree.old.host.now) (H.content tree.new.host.now) found messages.new) }
-    ensures cause { IfOk result (λ found. found ≡ Outcome.FolderFailed →
-        HasRisen (H.faults tree.old.host.now) (H.faults tree.new.host.now)) }
+        (record { content = H.content tree.old.host.now; faults = H.faults tree.old.host.now })
+        (record { content = H.content tree.new.host.now; faults = H.faults tree.new.host.now }) found messages.new) }
+    ensures short { OnErr result (IsShortOn (spelled tree.old.folder.items) options.entry.now clock
+        (record { content = H.content tree.old.host.now; faults = H.faults tree.old.host.now })
+        (record { content = H.content tree.new.host.now; faults = H.faults tree.new.host.now })) }
+
+    // Where memory ran out in the run, and neither memory nor the host failed in closing, the manifest is that of what is left.
+    ensures closed { IsErrOf result OutOfMemory.InRun →
+        (IfSome (H.content tree.new.host.now) (λ c. held c (manifest_path (spelled tree.old.folder.items)) ≡ Some (File (manifest_of facts.now tree.new.tree.files))))
+        ⊎ HasRisen (H.faults tree.old.host.now) (H.faults tree.new.host.now) }
     ensures host { tree.new.host.ghost_name ≡ tree.old.host.ghost_name }
 {
     let moment = options.now.unwrap_or(clock);
@@ -118,38 +135,50 @@ fn run_kept<H: Host>(
     outcome_of(ran, pending, closed)
 }
 
-/// The outcome of a run, by whether the host has all that it did, and whether that is kept.
+/// Why a run on a folder has no outcome: memory ran out.
+#[derive(Clone, Copy, PartialEq, Eq)]
+enum OutOfMemory {
+    /// In the run, and the folder is closed then, where the host did not fail in that.
+    InRun,
+    /// In closing the folder.
+    InClosing,
+}
+
+/// The outcome of a run, by whether a step of it may be half done, and whether what it has left is kept.
 fn outcome_of(
     ran: Result<Outcome, TreeFault>,
     pending: bool,
     closed: Result<(), HostFault>,
-) -> Result<Outcome, AllocError>
-    ensures { IfOk result (EndsAs ran pending closed) }
+) -> Result<Outcome, OutOfMemory>
+    ensures ends { IfOk result (EndsAs ran pending closed) }
+    ensures in_run { IsErrOf result OutOfMemory.InRun → closed ≡ Err Memory → ⊥ }
 {
     match ran {
         Ok(outcome) => kept_outcome(outcome, pending, closed),
-        Err(TreeFault::Failed) => Ok(Outcome::FolderFailed),
-        Err(TreeFault::Memory) => Err(AllocError),
+        Err(TreeFault::Failed) => kept_outcome(Outcome::FolderFailed, pending, closed),
+        Err(TreeFault::Memory) => kept_outcome(Outcome::Memory, true, closed),
     }
 }
 
-/// The outcome of a run of which no step failed.
+/// An outcome where what a run has left is kept; else that of a host that failed.
 fn kept_outcome(
     outcome: Outcome,
     pending: bool,
     closed: Result<(), HostFault>,
-) -> Result<Outcome, AllocError>
-    ensures { IfOk result (EndsAs (Ok outcome) pending closed) }
+) -> Result<Outcome, OutOfMemory>
+    ensures settled { IfOk result (λ _. pending ≡ false) }
+    ensures outcome { IfOk result (λ found.
+        ((closed ≡ Ok tt) × (found ≡ outcome)) ⊎ ((closed ≡ Err Failed) × (found ≡ Outcome.FolderFailed))) }
+    ensures in_run { IsErrOf result OutOfMemory.InRun → closed ≡ Err Memory → ⊥ }
 {
-    match closed {
-        Ok(()) => {
-            if pending {
-                Err(AllocError)
-            } else {
-                Ok(outcome)
-            }
-        }
-        Err(HostFault::Failed) => Ok(Outcome::FolderFailed),
-        Err(HostFault::Memory) => Err(AllocError),
+    let kept = match closed {
+        Ok(()) => outcome,
+        Err(HostFault::Failed) => Outcome::FolderFailed,
+        Err(HostFault::Memory) => return Err(OutOfMemory::InClosing),
+    };
+    if pending {
+        Err(OutOfMemory::InRun)
+    } else {
+        Ok(kept)
     }
 }

@@ -2,7 +2,7 @@
 ghost use Rattle.std.specs.Prelude.{◌≡◌, [], IfOk, IsErrOf};
 ghost use Rattle.pv_steps.specs.Counting.{refused, faults_after};
 ghost use Rattle.pv_steps.specs.declared.tree.TreeFault.TheVariants.{Failed};
-ghost use Rattle.provision_run.specs.OverTree.{HasFailed, HasRun, outcome_of};
+ghost use Rattle.provision_run.specs.OverTree.{HasFailed, HasLeft, HasRun, outcome_of};
 
 use crate::ending::RunEnd;
 use crate::lent::Lent;
@@ -30,6 +30,9 @@ pub(crate) fn run_limited<T: Tree>(
 
     // A step failed, and not for the limit.
     ensures failed { IsErrOf result Failed → HasFailed options.entry.now facts.now moment (T.state tree.old) messages.new (T.state tree.new) }
+
+    // Whatever it answered, steps of it lead to the tree that it has left.
+    ensures left { HasLeft options.entry.now facts.now moment (T.state tree.old) (T.state tree.new) }
 
     // It counted one fault where a step failed so, else none.
     ensures counted { T.faults tree.new ≡ faults_after (refused result) (T.faults tree.old) }

@@ -71,7 +71,9 @@ pub fn provision_all<S: Source, K: Sink, H: Host>(
     // Words with a folder: what was written, and what the host then holds, belong to the folder, the other words, the clock, the
     // outcome, and what the host held.
     ensures on_folder { IfSome (rooted_of (map string_bytes words.now)) (λ rooted.
-        HasWrittenOn (spelled rooted.folder) rooted.options clock_micros (H.content host.old) (H.content host.new)
+        HasWrittenOn (spelled rooted.folder) rooted.options clock_micros
+        (record { content = H.content host.old; faults = H.faults host.old })
+        (record { content = H.content host.new; faults = H.faults host.new })
         result (K.written sink.old) (K.written sink.new)) }
     ensures source_unread { is_some (rooted_of (map string_bytes words.now)) ≡ true → source.new ≡ source.old }
 
@@ -110,7 +112,9 @@ fn provision_on<K: Sink, H: Host>(
     sink: &mut K,
     host: &mut H,
 ) -> Outcome
-    ensures written { HasWrittenOn (spelled rooted.now.folder) rooted.now.options clock_micros (H.content host.old) (H.content host.new)
+    ensures written { HasWrittenOn (spelled rooted.now.folder) rooted.now.options clock_micros
+        (record { content = H.content host.old; faults = H.faults host.old })
+        (record { content = H.content host.new; faults = H.faults host.new })
         result (K.written sink.old) (K.written sink.new) }
     ensures folder_failed { result ≡ Outcome.FolderFailed → HasRisen (H.faults host.old) (H.faults host.new) }
     ensures write_fault { result ≡ Outcome.WriteFault → HasRisen (K.faults sink.old) (K.faults sink.new) }
@@ -120,6 +124,6 @@ fn provision_on<K: Sink, H: Host>(
     };
     match write_all_of(sink, &answer.output) {
         Ok(()) => answer.outcome,
-        Err(_fault) => Outcome::WriteFault,
+        Err(_unwritten) => Outcome::WriteFault,
     }
 }

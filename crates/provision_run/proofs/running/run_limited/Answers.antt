@@ -1,10 +1,10 @@
 use Rattle.std.proofs.Common.{rules, ap, subst, ◌∙◌, ◌≡◌, ◌+◌, ◌-◌, ◌≤◌, [], Err, None, ℕ, List, drop, length}
 use Rattle.pv_steps.specs.Counting.{refused, faults_after}
-use Rattle.provision_run.specs.OverTree.{HasFailed, HasRun, IsStopped}
+use Rattle.provision_run.specs.OverTree.{HasFailed, HasLeft, HasRun, IsStopped}
 use Rattle.provision_run.specs.declared.ending.RunEnd.{RunEnd}
 use Rattle.provision_run.specs.Tasks.{task_of}
 use Rattle.provision_run.specs.Whole.{HasMessagesBy, HasMessagesPartBy, HasGoneBy, run_work}
-use Rattle.provision_run.proofs.AnswerLaws.{burnt_stopped, failed_run, limited, none_refused, passed_counted, stopped_run, unlimited, whole_run}
+use Rattle.provision_run.proofs.AnswerLaws.{burnt_stopped, failed_run, left_run, limited, none_refused, passed_counted, stopped_run, unlimited, whole_run}
 use Rattle.provision_run.proofs.running.run_limited.Goals as goal
 use Rattle.provision_run.proofs.running.run_limited.Goals.{in_default-via-in-Some+else-stopped, in_default-via-in-None-1}
 
@@ -69,4 +69,49 @@ returns-in_default-clause-counted g c =
     passed_counted _ _ _ c.run_on_tree.new.tree.inner.failed _ c.run_on_tree.new.tree.refused acted.reaches.0.1.1
     (ap (λ f. f.inner.failed) c.new-fused.ensures ∙ c.new.ensures.none) (ap (λ f. f.refused) c.new-fused.ensures) (rw c.in-Err-Failed.field-0-is at acted.counted)
     passed in
+    search (rules, stated)
+
+pub returns-in-Ok-clause-left : goal.returns-in-Ok-clause-left
+returns-in-Ok-clause-left g c =
+    let start : g.T.Tree.steps c.new-fused.result.inner.tree.now ≡ [] = rw (c.new-fused.ensures, c.new.ensures.now) c.requires.fresh in
+    let stated : HasLeft c.args.options.now c.args.facts.now c.args.moment (g.T.Tree.state c.new-fused.result.inner.tree.now) (g.T.Tree.state c.run_on_tree.new.tree.inner.tree.now) =
+    left_run c.args.options.now c.args.facts.now c.args.moment (g.T.Tree.state c.new-fused.result.inner.tree.now) (g.T.Tree.state c.run_on_tree.new.tree.inner.tree.now)
+    (g.T.Tree.steps c.new-fused.result.inner.tree.now) (g.T.Tree.steps c.run_on_tree.new.tree.inner.tree.now) start c.run_on_tree.ensures.acted.ran
+    c.run_on_tree.ensures.mended c.run_on_tree.ensures.anew c.run_on_tree.ensures.framed c.run_on_tree.ensures.between in
+    search (rules, stated)
+
+pub returns-in-Err-Memory-clause-left : goal.returns-in-Err-Memory-clause-left
+returns-in-Err-Memory-clause-left g c =
+    let start : g.T.Tree.steps c.new-fused.result.inner.tree.now ≡ [] = rw (c.new-fused.ensures, c.new.ensures.now) c.requires.fresh in
+    let stated : HasLeft c.args.options.now c.args.facts.now c.args.moment (g.T.Tree.state c.new-fused.result.inner.tree.now) (g.T.Tree.state c.run_on_tree.new.tree.inner.tree.now) =
+    left_run c.args.options.now c.args.facts.now c.args.moment (g.T.Tree.state c.new-fused.result.inner.tree.now) (g.T.Tree.state c.run_on_tree.new.tree.inner.tree.now)
+    (g.T.Tree.steps c.new-fused.result.inner.tree.now) (g.T.Tree.steps c.run_on_tree.new.tree.inner.tree.now) start c.run_on_tree.ensures.acted.ran
+    c.run_on_tree.ensures.mended c.run_on_tree.ensures.anew c.run_on_tree.ensures.framed c.run_on_tree.ensures.between in
+    search (rules, stated)
+
+pub returns-in_ok-say_stopped-in-Some-clause-left : goal.returns-in_ok-say_stopped-in-Some-clause-left
+returns-in_ok-say_stopped-in-Some-clause-left g c =
+    let start : g.T.Tree.steps c.new-fused.result.inner.tree.now ≡ [] = rw (c.new-fused.ensures, c.new.ensures.now) c.requires.fresh in
+    let stated : HasLeft c.args.options.now c.args.facts.now c.args.moment (g.T.Tree.state c.new-fused.result.inner.tree.now) (g.T.Tree.state c.run_on_tree.new.tree.inner.tree.now) =
+    left_run c.args.options.now c.args.facts.now c.args.moment (g.T.Tree.state c.new-fused.result.inner.tree.now) (g.T.Tree.state c.run_on_tree.new.tree.inner.tree.now)
+    (g.T.Tree.steps c.new-fused.result.inner.tree.now) (g.T.Tree.steps c.run_on_tree.new.tree.inner.tree.now) start c.run_on_tree.ensures.acted.ran
+    c.run_on_tree.ensures.mended c.run_on_tree.ensures.anew c.run_on_tree.ensures.framed c.run_on_tree.ensures.between in
+    search (rules, stated)
+
+pub returns-in_err-say_stopped-in-Some-clause-left : goal.returns-in_err-say_stopped-in-Some-clause-left
+returns-in_err-say_stopped-in-Some-clause-left g c =
+    let start : g.T.Tree.steps c.new-fused.result.inner.tree.now ≡ [] = rw (c.new-fused.ensures, c.new.ensures.now) c.requires.fresh in
+    let stated : HasLeft c.args.options.now c.args.facts.now c.args.moment (g.T.Tree.state c.new-fused.result.inner.tree.now) (g.T.Tree.state c.run_on_tree.new.tree.inner.tree.now) =
+    left_run c.args.options.now c.args.facts.now c.args.moment (g.T.Tree.state c.new-fused.result.inner.tree.now) (g.T.Tree.state c.run_on_tree.new.tree.inner.tree.now)
+    (g.T.Tree.steps c.new-fused.result.inner.tree.now) (g.T.Tree.steps c.run_on_tree.new.tree.inner.tree.now) start c.run_on_tree.ensures.acted.ran
+    c.run_on_tree.ensures.mended c.run_on_tree.ensures.anew c.run_on_tree.ensures.framed c.run_on_tree.ensures.between in
+    search (rules, stated)
+
+pub returns-in_default-clause-left : goal.returns-in_default-clause-left
+returns-in_default-clause-left g c =
+    let start : g.T.Tree.steps c.new-fused.result.inner.tree.now ≡ [] = rw (c.new-fused.ensures, c.new.ensures.now) c.requires.fresh in
+    let stated : HasLeft c.args.options.now c.args.facts.now c.args.moment (g.T.Tree.state c.new-fused.result.inner.tree.now) (g.T.Tree.state c.run_on_tree.new.tree.inner.tree.now) =
+    left_run c.args.options.now c.args.facts.now c.args.moment (g.T.Tree.state c.new-fused.result.inner.tree.now) (g.T.Tree.state c.run_on_tree.new.tree.inner.tree.now)
+    (g.T.Tree.steps c.new-fused.result.inner.tree.now) (g.T.Tree.steps c.run_on_tree.new.tree.inner.tree.now) start c.run_on_tree.ensures.acted.ran
+    c.run_on_tree.ensures.mended c.run_on_tree.ensures.anew c.run_on_tree.ensures.framed c.run_on_tree.ensures.between in
     search (rules, stated)
